@@ -1,0 +1,5 @@
+pub mod Constants
+mod Vectors
+mod Words
+mod Remainder
+mod Rounds

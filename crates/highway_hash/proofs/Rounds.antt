@@ -1,0 +1,9 @@
+-- The rounds of the finish, one after another.
+use Rattle.std.proofs.Common.{ℕ, zero, suc}
+use Rattle.highway_hash.specs.HighwayHash.{finishing_round}
+use Rattle.highway_hash.specs.declared.State.{State}
+
+-- the state after n finishing rounds
+abbrev pub after_rounds : State → ℕ → State
+after_rounds s zero = s
+after_rounds s (suc n) = finishing_round (after_rounds s n)

@@ -1,0 +1,2 @@
+pub mod HighwayHash
+pub mod Riegeli
