@@ -1,0 +1,7 @@
+pub mod Spellings
+pub mod Faults
+mod Feeding
+mod Bits
+mod Writing
+mod Steps
+mod Values
