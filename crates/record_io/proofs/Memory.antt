@@ -1,0 +1,35 @@
+-- Lemmas on what the outside in memory gives and takes.
+use Rattle.std.proofs.Common.{◌≡◌, ℕ, ◌+◌, ◌-◌, ◌<◌, ◌≤◌, Some, List, [], ◌∷◌, ◌++◌, length, take, drop, sym, ◌∙◌, refl, ap, arith, length-drop}
+use Rattle.std.proofs.lemmas.List.{length-take-le, drop-drop, take-append-drop, take_rest, take_at}
+use Rattle.record_io.specs.Outside.{Gives}
+use Rattle.record_io.specs.Memory.{cut_to}
+
+-- a cut call handles no more than it could
+pub cut_to-le : (cuts : List ℕ) (number most : ℕ) → cut_to cuts number most ≤ most
+cut_to-le [] number most = omega arith
+cut_to-le (cut ∷ cuts) number most = omega arith
+
+-- a cut call handles something where it could
+pub cut_to-some : (cuts : List ℕ) (number most : ℕ) → 0 < most → 0 < cut_to cuts number most
+cut_to-some [] number most some = some
+cut_to-some (cut ∷ cuts) number most some = omega arith
+
+-- a source gives a front of what is left, and the rest is left after it
+pub Gives-front : (left : List ℕ) (n : ℕ) (front : List ℕ) → front ≡ take n left → n ≤ length left
+    → Gives (Some left) (Some (drop n left)) front
+Gives-front left n front is fits =
+    let size : length front ≡ n = (rw is (length-take-le n left fits)) in
+    let all : take n left ++ drop n left ≡ left = take-append-drop n left in
+    rw (size, is) (sym all, refl)
+
+-- a source that copies from its place in its bytes gives a front of what is left, and the rest is left after it
+pub Gives-copied : (bytes copied rest : List ℕ) (at n : ℕ) → n ≤ length bytes - at
+    → copied ≡ take n (take (length bytes - at) (drop at bytes))
+    → Gives (Some (drop at bytes)) (Some (drop (at + n) bytes)) (take n (copied ++ rest))
+Gives-copied bytes copied rest at n fits is =
+    let left : take (length bytes - at) (drop at bytes) ≡ drop at bytes = take_rest bytes at in
+    let within : n ≤ length (drop at bytes) = omega (arith, length-drop {A = ℕ}) in
+    let size : length copied ≡ n = (rw (is, left) (length-take-le n (drop at bytes) within)) in
+    let front : take n (copied ++ rest) ≡ take n (drop at bytes) = take_at copied rest n size ∙ is ∙ ap (take n) left in
+    let after : drop (at + n) bytes ≡ drop n (drop at bytes) = sym (drop-drop n at bytes) in
+    rw after (Gives-front (drop at bytes) n (take n (copied ++ rest)) front within)

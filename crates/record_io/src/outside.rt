@@ -1,0 +1,116 @@
+ghost use Rattle.std.specs.Prelude.{◌≡◌, ℕ, ◌+◌, ◌-◌, ◌^◌, ◌<◌, ◌≤◌, ◌↔◌, Option, Some, List, [], length, take, min, slice_range, IfOk, IfSome, IsSomeAnd, OnOk, OnErr};
+ghost use Rattle.record_io.specs.Outside.{one_more, Rose, Gives, Takes, TakesFront};
+
+/// A call on the outside failed.
+#[derive(Clone, Copy, Debug, PartialEq, Eq)]
+pub struct Failed;
+
+/// Counts a fault, for the call that failed to answer. A count at its greatest stays there.
+pub(crate) fn fault(faults: &mut u64) -> Failed
+    ensures counted { faults.new ≡ one_more faults.old }
+    ensures never_falls { faults.old ≤ faults.new }
+    ensures small { faults.new < 2 ^ 64 }
+{
+    *faults = faults.saturating_add(1);
+    Failed
+}
+
+/// A stream of bytes that come in.
+pub trait Source {
+    /// The bytes still to come, where the source tells them.
+    ghost left: { Self → Option (List ℕ) };
+
+    /// How many faults there were.
+    ghost faults: { Self → ℕ };
+
+    /// Puts the next bytes into the front of the buffer, and answers how many: 0 exactly at the end.
+    fn take(&mut self, buf: &mut [u8]) -> Result<usize, Failed>
+        requires { 0 < length buf.old }
+        ensures fits { IfOk result (λ n. n ≤ length buf.old) }
+        ensures given { IfOk result (λ n. Gives (left self.old) (left self.new) (take n buf.new)) }
+        ensures at_end { IfOk result (λ n. IfSome (left self.old) (λ bytes. (n ≡ 0) ↔ (bytes ≡ []))) }
+        ensures kept { OnErr result (left self.new ≡ left self.old) }
+
+        ensures cause { OnErr result (Rose (faults self.old) (faults self.new)) }
+        ensures never_falls { faults self.old ≤ faults self.new }
+        ensures small { faults self.new < 2 ^ 64 };
+}
+
+/// A file that is read at any place. Its bytes never change.
+pub trait Store {
+    /// The bytes of the file, where the store tells them.
+    ghost bytes: { Self → Option (List ℕ) };
+
+    /// What `size` said the last time.
+    ghost told: { Self → Option ℕ };
+
+    /// How many bytes were handed out; at 2^64 - 1 it stays.
+    ghost handed: { Self → ℕ };
+
+    /// How many faults there were.
+    ghost faults: { Self → ℕ };
+
+    /// The number of bytes of the file.
+    fn size(&mut self) -> Result<u64, Failed>
+        ensures tells { IfOk result (λ n. told self.new ≡ Some n) }
+        ensures exact { IfOk result (λ n. IfSome (bytes self.old) (λ file. n ≡ length file)) }
+        ensures untold { OnErr result (told self.new ≡ told self.old) }
+        ensures same_bytes { bytes self.new ≡ bytes self.old }
+        ensures same_handed { handed self.new ≡ handed self.old }
+
+        ensures cause { OnErr result (Rose (faults self.old) (faults self.new)) }
+        ensures never_falls { faults self.old ≤ faults self.new }
+        ensures small { faults self.new < 2 ^ 64 };
+
+    /// Puts bytes that begin at a place into the front of the buffer, and answers how many: at least 1.
+    fn read_at(&mut self, at: u64, buf: &mut [u8]) -> Result<usize, Failed>
+        requires below { IsSomeAnd (told self.old) (λ size. at < size) }
+        requires room { 0 < length buf.old }
+        ensures some { IfOk result (λ n. 0 < n) }
+        ensures fits { IfOk result (λ n. n ≤ length buf.old) }
+        ensures within { IfOk result (λ n. IfSome (told self.old) (λ size. at + n ≤ size)) }
+        ensures given { IfOk result (λ n. IfSome (bytes self.old) (λ file. take n buf.new ≡ slice_range file at (at + n))) }
+        ensures handed_out { IfOk result (λ n. handed self.new ≡ min (handed self.old + n) (2 ^ 64 - 1)) }
+        ensures same_handed { OnErr result (handed self.new ≡ handed self.old) }
+        ensures same_bytes { bytes self.new ≡ bytes self.old }
+        ensures same_told { told self.new ≡ told self.old }
+
+        ensures cause { OnErr result (Rose (faults self.old) (faults self.new)) }
+        ensures never_falls { faults self.old ≤ faults self.new }
+        ensures small { faults self.new < 2 ^ 64 };
+}
+
+/// A stream of bytes that go out.
+pub trait Sink {
+    /// All bytes taken so far, where the sink tells them.
+    ghost taken: { Self → Option (List ℕ) };
+
+    /// How many faults there were.
+    ghost faults: { Self → ℕ };
+
+    /// Takes bytes from the front of the piece, and answers how many: at least 1.
+    fn put(&mut self, piece: &[u8]) -> Result<usize, Failed>
+        requires { 0 < length piece.now }
+        ensures some { IfOk result (λ n. 0 < n) }
+        ensures fits { IfOk result (λ n. n ≤ length piece.now) }
+        ensures takes { IfOk result (λ n. Takes (taken self.old) (taken self.new) (take n piece.now)) }
+        ensures kept { OnErr result (taken self.new ≡ taken self.old) }
+
+        ensures cause { OnErr result (Rose (faults self.old) (faults self.new)) }
+        ensures never_falls { faults self.old ≤ faults self.new }
+        ensures small { faults self.new < 2 ^ 64 };
+}
+
+/// Puts the whole piece. After a failure the sink took a front of it.
+pub fn put_all<M: Sink>(sink: &mut M, piece: &[u8]) -> Result<(), Failed>
+    ensures whole { OnOk result (Takes (M.taken sink.old) (M.taken sink.new) piece.now) }
+    ensures front { OnErr result (TakesFront (M.taken sink.old) (M.taken sink.new) piece.now) }
+    ensures cause { OnErr result (Rose (M.faults sink.old) (M.faults sink.new)) }
+    ensures never_falls { M.faults sink.old ≤ M.faults sink.new }
+{
+    let mut at = 0;
+    while at < piece.len() {
+        at += sink.put(&piece[at..])?;
+    }
+    Ok(())
+}
