@@ -1,0 +1,5 @@
+pub mod Room
+pub mod Ends
+pub mod ChunkEnds
+pub mod BlockHeaders
+mod Values

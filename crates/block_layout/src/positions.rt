@@ -1,0 +1,171 @@
+ghost use Rattle.std.specs.Prelude.{◌≡◌, ℕ, ◌+◌, ◌^◌, ◌<◌, ◌≤◌, ◌↔◌, IsTrue, IfSome, IfNone};
+ghost use Rattle.block_layout.specs.Layout.{IsBoundary, IsEnd, IsChunkEnd, usable_below, usable_at, end_of, boundary_from, chunk_end_of};
+
+const BLOCK_SIZE: u64 = 65_536;
+
+pub(crate) const BLOCK_HEADER_SIZE: u64 = 24;
+
+const USABLE_SIZE: u64 = BLOCK_SIZE - BLOCK_HEADER_SIZE;
+
+const CHUNK_HEADER_SIZE: u64 = 40;
+
+// the greatest position of a file
+pub(crate) const MAX_POSITION: u64 = 1 << 63;
+
+/// Whether a chunk may begin or end at the position: at a block, or past the first byte behind a block header.
+/// Own, after "File format".
+pub fn is_boundary(position: u64) -> bool
+    ensures { IsTrue result ↔ IsBoundary position }
+{
+    let within = position % BLOCK_SIZE;
+    within == 0 || within > BLOCK_HEADER_SIZE
+}
+
+/// Where `length` bytes end that begin at a boundary and leave room for the header of each block.
+/// `None` exactly where that is past 2^63. "File format".
+#[tactic(auto, using(crate::proofs::Ends::end_steps))]
+pub fn end_of(begin: u64, length: u64) -> Option<u64>
+    requires in_reach { begin ≤ 2 ^ 62 }
+    requires from_boundary { IsBoundary begin }
+    ensures end { IfSome result (IsEnd begin length) }
+    ensures number { IfSome result (λ e. e ≡ end_of begin length) }
+    ensures within { IfSome result (λ e. e ≤ 2 ^ 63) }
+    ensures past { IfNone result ((e : ℕ) → IsEnd begin length e → 2 ^ 63 < e) }
+    ensures past_number { IfNone result (2 ^ 63 < end_of begin length) }
+{
+    if length == 0 {
+        return Some(begin);
+    }
+    if length > MAX_POSITION {
+        return None;
+    }
+    let last = usable_at(usable_below(begin) + (length - 1));
+    if last < MAX_POSITION {
+        Some(last + 1)
+    } else {
+        None
+    }
+}
+
+/// Where a chunk ends that begins at a boundary: the first boundary at or past the end of its header and
+/// its `data_size` bytes, and at least `num_records` past its begin.
+/// `None` exactly where that is past 2^63. "Chunk".
+#[tactic(auto, using(crate::proofs::ChunkEnds::chunk_end_steps))]
+pub fn chunk_end(begin: u64, data_size: u64, num_records: u64) -> Option<u64>
+    requires in_reach { begin ≤ 2 ^ 62 }
+    requires from_boundary { IsBoundary begin }
+    requires few_records { num_records < 2 ^ 56 }
+    ensures end { IfSome result (IsChunkEnd begin (40 + data_size) num_records) }
+    ensures number { IfSome result (λ e. e ≡ chunk_end_of begin (40 + data_size) num_records) }
+    ensures within { IfSome result (λ e. e ≤ 2 ^ 63) }
+    ensures past { IfNone result ((e : ℕ) → IsChunkEnd begin (40 + data_size) num_records e → 2 ^ 63 < e) }
+    ensures past_number { IfNone result (2 ^ 63 < chunk_end_of begin (40 + data_size) num_records) }
+{
+    let size = data_size.checked_add(CHUNK_HEADER_SIZE)?;
+    let bytes_end = end_of(begin, size)?;
+    Some(boundary_from(bytes_end.max(begin + num_records)))
+}
+
+// How many positions below the position no block header takes.
+fn usable_below(position: u64) -> u64
+    ensures { result ≡ usable_below position }
+{
+    position / BLOCK_SIZE * USABLE_SIZE + (position % BLOCK_SIZE).saturating_sub(BLOCK_HEADER_SIZE)
+}
+
+// The position that no block header takes and that has `count` such positions below it.
+fn usable_at(count: u64) -> u64
+    requires { count < 2 ^ 62 + 2 ^ 63 }
+    ensures { result ≡ usable_at count }
+{
+    count / USABLE_SIZE * BLOCK_SIZE + (BLOCK_HEADER_SIZE + count % USABLE_SIZE)
+}
+
+// The first boundary at or past the position.
+fn boundary_from(position: u64) -> u64
+    requires { position ≤ 2 ^ 63 }
+    ensures { result ≡ boundary_from position }
+{
+    if is_boundary(position) {
+        position
+    } else {
+        position / BLOCK_SIZE * BLOCK_SIZE + BLOCK_HEADER_SIZE + 1
+    }
+}
+
+#[cfg(test)]
+mod tests {
+    use super::*;
+
+    #[test]
+    fn boundaries_are_blocks_and_what_is_past_one_byte_behind_their_headers(rt: HostRuntime) {
+        let rows = [
+            (0, true),
+            (1, false),
+            (23, false),
+            (24, false),
+            (25, true),
+            (65_535, true),
+            (65_536, true),
+            (65_560, false),
+            (65_561, true),
+        ];
+        for (position, want) in rows {
+            assert_eq!(rt; is_boundary(position), want, "at {position}");
+        }
+    }
+
+    #[test]
+    fn chunks_end_past_their_bytes_and_records(rt: HostRuntime) {
+        let rows = [
+            (0, 40, 0, 64),
+            (64, 48, 3, 112),
+            (64, 65_472, 1, 65_536),
+            (64, 65_473, 1, 65_561),
+            (64, 70_045, 1, 70_133),
+            (64, 50, 65_472, 65_536),
+            (64, 50, 65_473, 65_561),
+            (64, 50, 65_480, 65_561),
+            (64, 50, 65_498, 65_562),
+            (65_497, 65_551, 0, 131_072),
+            (65_530, 44, 1, 65_598),
+            (65_536, 44, 1, 65_604),
+            (60_154, 30_045, 1, 90_223),
+        ];
+        for (begin, length, num_records, want) in rows {
+            assert!(rt;
+                begin < 1 << 62
+                    && is_boundary(begin)
+                    && length >= CHUNK_HEADER_SIZE
+                    && num_records < 1 << 56
+            );
+            let end = chunk_end(begin, length - CHUNK_HEADER_SIZE, num_records);
+            assert_eq!(rt;
+                end,
+                Some(want),
+                "{length} bytes and {num_records} records from {begin}"
+            );
+        }
+    }
+
+    #[test]
+    fn ends_reach_2_to_the_63_and_not_past_it(rt: HostRuntime) {
+        let begin = 1 << 62;
+        let room = USABLE_SIZE << 46;
+        let rows = [
+            (0, Some(begin)),
+            (room, Some(MAX_POSITION)),
+            (room + 1, None),
+            (u64::MAX, None),
+        ];
+        for (length, want) in rows {
+            assert_eq!(rt; end_of(begin, length), want, "{length} bytes");
+        }
+        assert_eq!(rt;
+            chunk_end(begin, room - CHUNK_HEADER_SIZE, 0),
+            Some(MAX_POSITION)
+        );
+        assert_eq!(rt; chunk_end(begin, room - CHUNK_HEADER_SIZE + 1, 0), None);
+        assert_eq!(rt; chunk_end(begin, u64::MAX, 0), None);
+    }
+}
