@@ -1,0 +1,42 @@
+-- Chunks and their headers. Source: the Riegeli/records file format specification, "Chunk" and "Chunk header".
+use Rattle.std.specs.Prelude.{ℕ, ◌^◌, ◌<◌, List, ◌∷◌, ◌++◌, length, take}
+use Rattle.std.specs.List.{AllByRecursion}
+use Rattle.std.specs.Int.{w64, to_le_bytes}
+use Rattle.highway_hash.specs.Riegeli.{riegeli_hash, with_hash}
+
+-- a chunk: its kind, how many records it holds, their size once decoded, and its data
+pub record ChunkValue : Type 0 where
+  pub kind : ℕ
+  pub num_records : ℕ
+  pub decoded_size : ℕ
+  pub «data» : List ℕ
+
+-- each number is a byte
+abbrev pub AreBytes : List ℕ → Type 0
+AreBytes = AllByRecursion (λ b. b < 256)
+
+-- what a chunk header can hold
+pub record IsChunk (k : ChunkValue) : Type 0 where
+  pub kind : k.kind < 256
+  pub num_records : k.num_records < 2 ^ 56
+  pub decoded_size : k.decoded_size < 2 ^ 64
+  pub size : length k.«data» < 2 ^ 64
+  pub bytes : AreBytes k.«data»
+
+-- the 32 bytes behind a header's hash: the size of the data, the hash of the data, the kind, the number of
+-- records in seven bytes, and the decoded size
+abbrev pub header_fields : (data_size data_hash kind num_records decoded_size : ℕ) → List ℕ
+header_fields data_size data_hash kind num_records decoded_size =
+    to_le_bytes w64 data_size
+    ++ to_le_bytes w64 data_hash
+    ++ kind ∷ take 7 (to_le_bytes w64 num_records)
+    ++ to_le_bytes w64 decoded_size
+
+-- the 40 bytes of a chunk's header, of which both hashes are right
+abbrev pub header_bytes : ChunkValue → List ℕ
+header_bytes k =
+    with_hash (header_fields (length k.«data») (riegeli_hash k.«data») k.kind k.num_records k.decoded_size)
+
+-- the chunk's own bytes: header and data, with no block header between
+abbrev pub own_bytes : ChunkValue → List ℕ
+own_bytes k = header_bytes k ++ k.«data»

@@ -1,0 +1,35 @@
+-- Simple chunks without compression. Source: the Riegeli/records file format specification, "Simple chunk
+-- with records".
+use Rattle.std.specs.Prelude.{◌≡◌, ℕ, List, ◌∷◌, ◌++◌, length, map, sum}
+use Rattle.std.specs.List.{concat, flat_map}
+use Rattle.varint_wire.specs.Varint.{Spells, SpellsEach, shortest}
+use Rattle.chunk_header.specs.Chunks.{ChunkValue}
+
+-- the chunk holds these records: the data is a compression type of 0, a spelling of how many bytes the sizes
+-- take, a spelling of each record's size, and the records joined
+pub record IsSimple (k : ChunkValue) (records : List (List ℕ)) : Type 0 where
+  pub kind : k.kind ≡ 0x72
+  pub num_records : k.num_records ≡ length records
+  pub decoded_size : k.decoded_size ≡ sum (map length records)
+  pub spelled_size : List ℕ
+  pub sizes : List ℕ
+  pub spells_size : Spells (length sizes) spelled_size
+  pub spells_each : SpellsEach (map length records) sizes
+  pub «data» : k.«data» ≡ 0 ∷ spelled_size ++ sizes ++ concat records
+
+-- the sizes of records in their shortest spellings
+abbrev pub sizes_of : List (List ℕ) → List ℕ
+sizes_of records = flat_map (λ record_bytes. shortest (length record_bytes)) records
+
+-- the data of the simple chunk of records with shortest spellings
+abbrev pub simple_data : List (List ℕ) → List ℕ
+simple_data records = 0 ∷ shortest (length (sizes_of records)) ++ sizes_of records ++ concat records
+
+-- that chunk
+abbrev pub simple_chunk : List (List ℕ) → ChunkValue
+simple_chunk records = record {
+  kind = 0x72;
+  num_records = length records;
+  decoded_size = sum (map length records);
+  «data» = simple_data records;
+}

@@ -1,0 +1,34 @@
+-- What headers and chunks of the program stand for.
+use Rattle.std.specs.Prelude.{◌≡◌, ℕ, ◌<◌, ◌^◌, List}
+use Rattle.highway_hash.specs.Riegeli.{riegeli_hash, with_hash}
+use Rattle.chunk_header.specs.Chunks.{ChunkValue, header_fields}
+use Rattle.chunk_header.specs.declared.Header.{Header}
+use Rattle.chunk_header.specs.declared.Chunk.{Chunk}
+
+-- the 32 bytes of a header behind its hash
+abbrev pub fields_of_header : Header → List ℕ
+fields_of_header h = header_fields h.data_size h.data_hash h.kind h.num_records h.decoded_size
+
+-- the 40 bytes of a header, of which its own hash is right
+abbrev pub bytes_of_header : Header → List ℕ
+bytes_of_header h = with_hash (fields_of_header h)
+
+-- each field fits its type
+pub record IsHeader (h : Header) : Type 0 where
+  pub data_size : h.data_size < 2 ^ 64
+  pub data_hash : h.data_hash < 2 ^ 64
+  pub kind : h.kind < 2 ^ 8
+  pub decoded_size : h.decoded_size < 2 ^ 64
+
+-- the chunk that a chunk of the program stands for, whose header may have another hash
+abbrev pub value_of_chunk : Chunk → ChunkValue
+value_of_chunk c = record {
+  kind = c.header.kind;
+  num_records = c.header.num_records;
+  decoded_size = c.header.decoded_size;
+  «data» = c.bytes;
+}
+
+-- the header has the data's hash
+abbrev pub HasRightHash : Chunk → Type 0
+HasRightHash c = c.header.data_hash ≡ riegeli_hash c.bytes

@@ -1,0 +1,210 @@
+//! Chunks and their 40-byte headers, as the Riegeli/records file format specification has them under "Chunk"
+//! and "Chunk header".
+#![tactic(auto)]
+
+ghost use Rattle.std.specs.Prelude.{◌≡◌, ◌≢◌, ◌↔◌, ◌+◌, ◌≤◌, ◌^◌, ◌<◌, length, drop, slice_range, Some, IsNone, IfSome, IsTrue};
+ghost use Rattle.std.specs.Int.{w64, to_le_bytes, from_le_bytes};
+ghost use Rattle.highway_hash.specs.Riegeli.{riegeli_hash, with_hash};
+ghost use Rattle.chunk_header.specs.Chunks.{AreBytes, IsChunk};
+
+use highway_hash::{RIEGELI, hash};
+use record_io::Bytes;
+
+/// The header of a chunk. Sizes are in bytes.
+///
+/// Riegeli/records file format specification, "Chunk header".
+#[derive(Clone, Copy, Debug, PartialEq, Eq)]
+pub struct Header {
+    /// How many bytes of data the chunk has, block headers between them not counted.
+    pub data_size: u64,
+    /// The hash of the data.
+    pub data_hash: u64,
+    /// The kind of the chunk.
+    pub kind: u8,
+    /// How many records the chunk holds.
+    pub num_records: u64,
+    /// How many bytes the records have once they are decoded.
+    pub decoded_size: u64,
+    pub ghost few_records: { num_records < 2 ^ 56 },
+}
+
+impl Header {
+    ghost use Rattle.chunk_header.specs.declared.Header.{Header};
+    ghost use Rattle.chunk_header.specs.Views.{IsHeader, fields_of_header, bytes_of_header};
+
+    /// The header's 40 bytes: the hash of its fields, and the fields.
+    pub fn to_bytes(&self) -> [u8; 40]
+        ensures { result ≡ bytes_of_header self.now }
+    {
+        let fields = self.fields();
+        let mut bytes = [0; 40];
+        bytes[..8].copy_from_slice(&hash_of(&fields).to_le_bytes());
+        bytes[8..].copy_from_slice(&fields);
+        bytes
+    }
+
+    /// The header that the bytes are. None exactly where they do not begin with the hash of the others.
+    pub fn from_bytes(bytes: &[u8; 40]) -> Option<Header>
+        ensures refused { IsNone result ↔ (bytes.now ≢ with_hash (drop 8 bytes.now)) }
+        ensures read { IfSome result (λ h. bytes.now ≡ bytes_of_header h) }
+        ensures sole { (h : Header) → IsHeader h → bytes.now ≡ bytes_of_header h → result ≡ Some h }
+    {
+        let fields = &bytes[8..];
+        if word_at(bytes, 0) != hash_of(fields) {
+            return None;
+        }
+        Some(Header::of_fields(fields))
+    }
+
+    // The bytes behind the header's hash.
+    fn fields(&self) -> [u8; 32]
+        ensures { result ≡ fields_of_header self.now }
+    {
+        let mut bytes = [0; 32];
+        bytes[..8].copy_from_slice(&self.data_size.to_le_bytes());
+        bytes[8..16].copy_from_slice(&self.data_hash.to_le_bytes());
+        bytes[16] = self.kind;
+        bytes[17..24].copy_from_slice(&self.num_records.to_le_bytes()[..7]);
+        bytes[24..].copy_from_slice(&self.decoded_size.to_le_bytes());
+        bytes
+    }
+
+    // The header whose bytes behind its hash these are.
+    fn of_fields(bytes: &[u8]) -> Header
+        requires { length bytes.now ≡ 32 }
+        ensures fields { bytes.now ≡ fields_of_header result }
+        ensures sound { IsHeader result }
+    {
+        Header {
+            data_size: word_at(bytes, 0),
+            data_hash: word_at(bytes, 8),
+            kind: bytes[16],
+            num_records: word_at(bytes, 16) >> 8,
+            decoded_size: word_at(bytes, 24),
+        }
+    }
+}
+
+/// A chunk: its header and its data.
+///
+/// Riegeli/records file format specification, "Chunk".
+#[derive(Debug, Drop)]
+pub struct Chunk {
+    /// The header, which may have another hash than the data's.
+    pub header: Header,
+    /// The data.
+    pub bytes: Bytes,
+    pub ghost sized: { length bytes ≡ header.data_size },
+}
+
+impl Chunk {
+    ghost use Rattle.chunk_header.specs.Views.{HasRightHash, value_of_chunk};
+
+    /// The chunk of these fields and this data, whose hash is taken here. `decoded_size` is in bytes.
+    pub fn new(kind: u8, num_records: u64, decoded_size: u64, bytes: Bytes) -> Chunk
+        requires { num_records < 2 ^ 56 }
+        ensures value { value_of_chunk result ≡ record { kind = kind; num_records = num_records; decoded_size = decoded_size; «data» = bytes } }
+        ensures right { HasRightHash result }
+        ensures sound { IsChunk (value_of_chunk result) }
+    {
+        let header = Header {
+            data_size: bytes.len() as u64,
+            data_hash: hash_of(bytes.as_slice()),
+            kind,
+            num_records,
+            decoded_size,
+        };
+        Chunk { header, bytes }
+    }
+
+    /// The chunk of a header and as many bytes of data as the header says. The header's hash of the data may be
+    /// wrong.
+    pub fn read(header: Header, bytes: Bytes) -> Chunk
+        requires { length bytes ≡ header.data_size }
+        ensures header { result.header ≡ header }
+        ensures bytes { result.bytes ≡ bytes }
+    {
+        Chunk { header, bytes }
+    }
+
+    /// Whether the header has the data's hash.
+    pub fn hash_right(&self) -> bool
+        ensures answer { IsTrue result ↔ HasRightHash self.now }
+        ensures sound { IsChunk (value_of_chunk self.now) }
+    {
+        let header = self.header;
+        header.data_hash == hash_of(self.bytes.as_slice())
+    }
+}
+
+// The hash of the bytes, as both hashes of a header are taken.
+fn hash_of(bytes: &[u8]) -> u64
+    ensures value { result ≡ riegeli_hash bytes.now }
+    ensures are_bytes { AreBytes bytes.now }
+{
+    hash(&RIEGELI, bytes)
+}
+
+// The number that stands in the eight bytes from a place on.
+fn word_at(bytes: &[u8], at: usize) -> u64
+    requires { at + 8 ≤ length bytes.now }
+    ensures value { result ≡ from_le_bytes w64 (slice_range bytes.now at (at + 8)) }
+    ensures bytes { to_le_bytes w64 result ≡ slice_range bytes.now at (at + 8) }
+{
+    u64::from_le_bytes(bytes[at..at + 8].try_into().unwrap())
+}
+
+#[cfg(test)]
+mod tests {
+    use super::*;
+    use std::test::Fail;
+
+    // The header of the chunk that each file begins with.
+    const SIGNATURE: [u8; 40] = [
+        0x91, 0xba, 0xc2, 0x3c, 0x92, 0x87, 0xe1, 0xa9, 0, 0, 0, 0, 0, 0, 0, 0, 0xe1, 0x9f, 0x13,
+        0xc0, 0xe9, 0xb1, 0xc3, 0x72, 0x73, 0, 0, 0, 0, 0, 0, 0, 0, 0, 0, 0, 0, 0, 0, 0,
+    ];
+
+    #[test]
+    fn signature_has_the_published_bytes(rt: HostRuntime) -> Result<(), Fail> {
+        let chunk = Chunk::new(0x73, 0, 0, Bytes::new(rt.alloc()));
+        assert_eq!(rt; chunk.header.to_bytes(), SIGNATURE);
+        assert_eq!(rt; Header::from_bytes(&SIGNATURE), Some(chunk.header));
+        Ok(())
+    }
+
+    #[test]
+    fn a_changed_byte_is_refused(rt: HostRuntime) -> Result<(), Fail> {
+        for at in 0..40 {
+            let mut bytes = SIGNATURE;
+            bytes[at] ^= 1;
+            assert_eq!(rt; Header::from_bytes(&bytes), None);
+        }
+        Ok(())
+    }
+
+    #[test]
+    fn each_field_is_read_back(rt: HostRuntime) -> Result<(), Fail> {
+        let header = Header {
+            data_size: 0x0807_0605_0403_0201,
+            data_hash: 0x1817_1615_1413_1211,
+            kind: 0x72,
+            num_records: 0x00f7_f6f5_f4f3_f2f1,
+            decoded_size: 0x2827_2625_2423_2221,
+        };
+        assert_eq!(rt; Header::from_bytes(&header.to_bytes()), Some(header));
+        Ok(())
+    }
+
+    #[test]
+    fn data_under_another_hash_is_told(rt: HostRuntime) -> Result<(), Fail> {
+        let header = Chunk::new(0x72, 1, 2, Bytes::from([1, 2].to_vec(rt.alloc())?)).header;
+        let kept = Chunk::read(header, Bytes::from([1, 2].to_vec(rt.alloc())?));
+        assert!(rt; kept.hash_right());
+        let mut other = Bytes::new(rt.alloc());
+        other.push_all(&[1, 3])?;
+        assert_eq!(rt; other.len() as u64, header.data_size);
+        assert!(rt; !Chunk::read(header, other).hash_right());
+        Ok(())
+    }
+}
