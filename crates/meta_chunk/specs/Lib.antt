@@ -1,0 +1,4 @@
+pub mod Laid
+pub mod Files
+pub mod Kinds
+pub mod PaddingSizes
