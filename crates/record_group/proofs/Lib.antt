@@ -1,0 +1,5 @@
+pub mod OneChunk
+pub mod OneBlock
+pub mod Grouping
+pub mod RecordFiles
+mod Values
