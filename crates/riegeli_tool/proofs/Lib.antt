@@ -1,0 +1,6 @@
+pub mod Answered
+pub mod BlockFiles
+pub mod Filling
+pub mod Lines
+pub mod ToldInputs
+mod Values

@@ -1,0 +1,30 @@
+ghost use Rattle.std.specs.Prelude.{◌≡◌};
+ghost use Rattle.riegeli_tool.specs.Commands.{files_read};
+
+/// A command, with the places of its file words.
+#[derive(Clone, Copy, Debug, PartialEq, Eq)]
+pub(crate) enum Command {
+    Write { file: usize },
+}
+
+/// The files that words name, by their places among the words. Own.
+#[derive(Clone, Copy, Debug, PartialEq, Eq)]
+pub struct Names {
+    /// The file that is read, or 0 where none is.
+    pub first: usize,
+    /// How many files are read.
+    pub count: usize,
+    /// The file that is made.
+    pub made: Option<usize>,
+}
+
+impl Command {
+    /// How many files the command reads.
+    pub(crate) fn files_read(&self) -> usize
+        ensures { result ≡ files_read self.now }
+    {
+        match self {
+            Command::Write { .. } => 0,
+        }
+    }
+}
