@@ -1,0 +1,70 @@
+//! The program: makes the real files and streams, and hands them to the commands of `riegeli_tool`.
+#![tactic(auto)]
+
+use record_io::{FileSink, FileStore, StdErr, StdInput, StdOut};
+use riegeli_tool::{Names, Status, names, run};
+use std::alloc::AllocError;
+use std::env;
+use std::io::{self, ErrorKind};
+use std::process::ExitCode;
+
+fn main(rt: HostRuntime) -> ExitCode {
+    let words = match words(&rt) {
+        Ok(words) => words,
+        Err(error) => return exit_code(unread_words(&error)),
+    };
+    let names = names(&words);
+    let Ok(mut files) = files(&rt, &words, &names) else {
+        return exit_code(Status::Memory);
+    };
+    let mut made = FileSink::named(&rt, made_path(&words, &names));
+    let status = run(
+        &rt,
+        rt.alloc(),
+        &words,
+        &mut StdInput::new(rt.reader()),
+        &mut files,
+        &mut made,
+        &mut StdOut::new(io::writer(&rt)),
+        &mut StdErr::new(rt.stderr()),
+    );
+    exit_code(status)
+}
+
+fn exit_code(status: Status) -> ExitCode {
+    ExitCode::from(status.number())
+}
+
+/// The arguments alone.
+fn words(rt: &HostRuntime) -> io::Result<Vec<String>> {
+    Ok(env::args(rt)?.skip(1).collect(rt.alloc())?)
+}
+
+/// The status where the words could not be read.
+fn unread_words(error: &io::Error) -> Status {
+    match error.kind() {
+        ErrorKind::OutOfMemory => Status::Memory,
+        _ => Status::Usage,
+    }
+}
+
+/// The files that the words name to be read.
+fn files<'a>(
+    rt: &'a HostRuntime,
+    words: &'a [String],
+    names: &Names,
+) -> Result<Vec<FileStore<'a, HostRuntime>>, AllocError> {
+    let mut files = Vec::new(rt.alloc());
+    for word in words.iter().skip(names.first).take(names.count) {
+        files.push(FileStore::named(rt, word.as_str()))?;
+    }
+    Ok(files)
+}
+
+/// The path of the file that is made, or an empty one where none is.
+fn made_path<'a>(words: &'a [String], names: &Names) -> &'a str {
+    match names.made.and_then(|place| words.get(place)) {
+        Some(word) => word.as_str(),
+        None => "",
+    }
+}
