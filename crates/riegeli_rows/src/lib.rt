@@ -1,0 +1,6 @@
+//! Tests of the whole program, in memory and over a real file. Each expected byte is from the format's
+//! description or counted by hand; hashes are those of an independent program.
+#![tactic(auto)]
+
+#[cfg(test)]
+mod tests;
