@@ -5,7 +5,6 @@ use Rattle.std.proofs.lemmas.List.{take-append-le, take-take}
 use Rattle.std.proofs.Math.Seq.{take-append-add, drop-length}
 use borrow.Rule.Slice.PartMut.{put_mid, post_of}
 use Rattle.record_io.specs.Outside.{Gives}
-use Rattle.riegeli_tool.specs.Reading.{GivesFront}
 
 -- the front after a write: what stood before it, and the front of what was written
 pub front_put : (size k n : ℕ) (buf piece : List ℕ) → size ≤ length buf → n ≤ length piece → take (size + n) (put_mid size k buf piece) ≡ take size buf ++ take n piece
@@ -14,12 +13,6 @@ front_put size k n buf piece within fits =
     ap (λ m. take (m + n) (put_mid size k buf piece)) (sym len)
     ∙ take-append-add (take size buf) (piece ++ post_of size k buf) n
     ∙ ap (λ r. take size buf ++ r) (take-append-le n piece (post_of size k buf) fits)
-
--- what a source gave is a front of what it had left
-pub GivesFront-Gives : (a b : Option (List ℕ)) (bytes : List ℕ) (most : ℕ) → length bytes ≤ most → Gives a b bytes → GivesFront a b most
-GivesFront-Gives None b bytes most within given = given
-GivesFront-Gives (Some left) b bytes most within given =
-    (length bytes, within, omega (arith, ap length given.0, length-append bytes (drop (length bytes) left)), given.1)
 
 -- a source that has nothing left gave all that it had
 pub whole_at_end : (a b : Option (List ℕ)) (bytes : List ℕ) (n : ℕ) → n ≡ 0 → Gives a b bytes → IfSome b (λ left. (n ≡ 0) ↔ (left ≡ [])) → IfSome a (λ left. left ≡ bytes)

@@ -21,10 +21,6 @@ none_first b bs none = false_from_ne_true (ends_line b) (none 0 (omega arith))
 none_rest : (b : ℕ) (bs : List ℕ) → NoneEnds (b ∷ bs) → NoneEnds bs
 none_rest b bs none = λ k h. none (suc k) (omega arith)
 
--- no bytes have no line
-pub lines-none : lines [] ≡ []
-lines-none = refl
-
 -- a byte that ends no line goes onto the first line
 pub lines-cons : (b : ℕ) (bs : List ℕ) → ends_line b ≡ false → lines (b ∷ bs) ≡ onto_first b (lines bs)
 lines-cons b bs h = cond-false (ends_line b) ([] ∷ lines bs) (onto_first b (lines bs)) h

@@ -1,5 +1,5 @@
 -- What is known of the lines of an input whose bytes are told.
-use Rattle.std.proofs.Common.{◌≡◌, ℕ, ◌<◌, ◌≤◌, true, false, Option, Some, None, Result, Ok, Err, List, length, sym, ap, ◌∙◌, subst}
+use Rattle.std.proofs.Common.{◌≡◌, ℕ, ◌<◌, ◌≤◌, false, Option, Some, None, Result, Ok, Err, List, length, sym, ap, ◌∙◌, subst}
 use Rattle.std.specs.Option.{IfSome}
 use Rattle.std.specs.Result.{OnOk, OnErr, is_ok}
 use Rattle.record_io.specs.Outside.{Takes, TakesFront}
@@ -12,7 +12,7 @@ use Rattle.riegeli_tool.specs.Input.{lines}
 use Rattle.riegeli_tool.specs.Answers.{fits_one_block, default_chunk_size}
 use Rattle.riegeli_tool.specs.BlockFile.{block_file}
 use Rattle.riegeli_tool.proofs.Lines.{too_long_for_one_block}
-use Rattle.riegeli_tool.proofs.BlockFiles.{long-fits, chunk-long, chunk-short, block_file-chunk}
+use Rattle.riegeli_tool.proofs.BlockFiles.{long-fits, chunk-long, block_file-chunk}
 
 -- the chunk of a text that is the whole input is the chunk of the input's lines
 pub chunk-whole : (left : Option (List ℕ)) (k : ChunkValue) (text front : List ℕ) → k ≡ simple_chunk (lines text) → text ≡ front
@@ -30,12 +30,6 @@ pub long-told : (left : Option (List ℕ)) (c : Chunk) → IfSome left (λ bytes
     → IfSome left (λ bytes. fits_one_block (lines bytes) ≡ false)
 long-told None c is long = tt
 long-told (Some bytes) c is long = chunk-long c (lines bytes) is long
-
--- another fits
-pub short-told : (left : Option (List ℕ)) (c : Chunk) → IfSome left (λ bytes. value_of_chunk c ≡ simple_chunk (lines bytes)) → c.header.data_size ≤ 65432
-    → IfSome left (λ bytes. fits_one_block (lines bytes) ≡ true)
-short-told None c is short = tt
-short-told (Some bytes) c is short = chunk-short c (lines bytes) is short
 
 -- a sink that took the file of its chunk took the file of its lines, where the put succeeded
 pub file-told : {D E : Type 0} (left a b : Option (List ℕ)) (c : Chunk) (put : Result (Unit {0}) D) (result : Result (Unit {0}) E)
