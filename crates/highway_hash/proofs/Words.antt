@@ -1,17 +1,28 @@
--- Facts about the halves of words, and about the words and packets of a list of bytes.
-use Rattle.std.proofs.Common.{◌≡◌, ℕ, zero, suc, ◌+◌, ◌-◌, ◌*◌, ◌/◌, ◌%◌, ◌^◌, ◌<◌, ◌≤◌, List, take, drop, get_or, bit_or, refl, ap, ◌∙◌, arith}
-use Rattle.std.specs.Int.{w64, rotate_left}
+-- Facts about the halves of words, and about the chunks of a list.
+use Rattle.std.proofs.Common.{◌≡◌, ℕ, zero, suc, ◌+◌, ◌-◌, ◌*◌, ◌/◌, ◌%◌, ◌^◌, ◌<◌, List, take, drop, get_or, bit_and, bit_or, refl, ap, ◌∙◌, arith}
 use Rattle.std.specs.Simd.{first_chunks}
-use Rattle.std.proofs.lemmas.Nat.{or_shifted}
-use Rattle.std.proofs.lemmas.List.{drop-drop, drop-take, take-take}
+use Rattle.std.proofs.lemmas.Nat.{and_mask, mul-le, or_shifted}
+use Rattle.std.proofs.lemmas.List.{drop-drop}
 use Rattle.std.proofs.Math.Nat.{mul-suc, mul-zero}
-use Rattle.highway_hash.specs.HighwayHash.{swapped, lanes_of}
+use Rattle.highway_hash.specs.HighwayHash.{half_product, swapped}
 
--- a rotation by 32 exchanges the halves
-pub rotated_by_half : (n : ℕ) → n < 2 ^ 64 → rotate_left w64 n 32 ≡ swapped n
-rotated_by_half n h =
+-- two shifts by 32 exchange the halves, as a rotation by 32 does
+pub shifted_by_half : (n : ℕ) → n < 2 ^ 64 → bit_or (n * 2 ^ 32 % 2 ^ 64) (n / 2 ^ 32) ≡ swapped n
+shifted_by_half n h =
     let shifted : n * 2 ^ 32 % 2 ^ 64 ≡ n % 2 ^ 32 * 2 ^ 32 = omega arith in
     rw shifted (or_shifted (n % 2 ^ 32) 32 (n / 2 ^ 32) (omega arith))
+
+-- the halves exchanged are again a word
+pub swapped-lt : (n : ℕ) → n < 2 ^ 64 → swapped n < 2 ^ 64
+swapped-lt n h = omega arith
+
+-- a product of halves is a word
+pub half_product-lt : (x y : ℕ) → y < 2 ^ 64 → half_product x y < 2 ^ 64
+half_product-lt x y h = omega (arith, mul-le (x % 2 ^ 32) (y / 2 ^ 32) (2 ^ 32 - 1) (2 ^ 32 - 1) (omega arith) (omega arith))
+
+-- it is the product of the masked word and the shifted one
+pub masked_product : (x y : ℕ) → y < 2 ^ 64 → bit_and x (2 ^ 32 - 1) * (y / 2 ^ 32) % 2 ^ 64 ≡ half_product x y
+masked_product x y h = rw (and_mask x 32) (omega (arith, half_product-lt x y h))
 
 -- two numbers of 32 bits joined by a shift and `|`
 pub joined_halves : (a b : ℕ) → a < 2 ^ 32 → b < 2 ^ 32 → bit_or (a * 2 ^ 32 % 2 ^ 64) b ≡ a * 2 ^ 32 + b
@@ -27,20 +38,3 @@ chunk_at k (suc n) (suc i) xs d h =
     let next : k + k * i ≡ k * suc i = rw mul-suc (omega arith) in
     let rest : drop (k * i) (drop k xs) ≡ drop (k * suc i) xs = drop-drop (k * i) k xs ∙ ap (λ (m : ℕ). drop m xs) next in
     chunk_at k n i (drop k xs) d (omega arith) ∙ ap (λ (ys : List ℕ). take k ys) rest
-
--- a word of eight bytes that lies within the first 32 bytes
-pub word_of_front : (xs : List ℕ) (a : ℕ) → a + 8 ≤ 32 → take 8 (drop a (take 32 xs)) ≡ take 8 (drop a xs)
-word_of_front xs a h =
-    let whole : a + (32 - a) ≡ 32 = omega arith in
-    let rest : drop a (take (a + (32 - a)) xs) ≡ take (32 - a) (drop a xs) = drop-take a (32 - a) xs in
-    let rest' : drop a (take 32 xs) ≡ take (32 - a) (drop a xs) = rw whole at rest in
-    ap (λ (ys : List ℕ). take 8 ys) rest' ∙ take-take 8 (32 - a) (drop a xs) (omega arith)
-
--- the lanes of a packet are those of the bytes that begin with it
-pub lanes_of_front : (xs : List ℕ) → lanes_of (take 32 xs) ≡ lanes_of xs
-unfolding lanes_of
-lanes_of_front xs = cc (word_of_front xs 0 (omega arith), word_of_front xs 8 (omega arith), word_of_front xs 16 (omega arith), word_of_front xs 24 (omega arith))
-
--- the lanes of the chunk at a place
-pub lanes_of_chunk : (n i : ℕ) (xs : List ℕ) (d : List ℕ) → i < n → lanes_of (get_or (first_chunks 32 n xs) i d) ≡ lanes_of (drop (32 * i) xs)
-lanes_of_chunk n i xs d h = ap lanes_of (chunk_at 32 n i xs d h) ∙ lanes_of_front (drop (32 * i) xs)

@@ -1,10 +1,15 @@
 -- HighwayHash-64 of a whole list of bytes, by the paper "Fast keyed hash/pseudo-random function using
--- SIMD multiply and permute" and its 64-bit reference. Lanes are numbers below 2 ^ 64; sums wrap. A `State`
--- has four lanes each of two running values, v0 and v1, and of two multipliers, mul0 and mul1.
+-- SIMD multiply and permute" and its 64-bit reference. Lanes are numbers below 2 ^ 64; sums wrap.
 use Rattle.std.specs.Prelude.{ℕ, zero, suc, ◌+◌, ◌-◌, ◌*◌, ◌/◌, ◌%◌, ◌^◌, List, [], ◌∷◌, ◌++◌, length, map, take, drop, bit_xor, nat_le, nat_lt, ◌==◌, if◌then◌else◌, slice_index, slice_range}
 use Rattle.std.specs.List.{range_with_len}
 use Rattle.std.specs.Int.{w32, w64, to_le_bytes, from_le_bytes, rotate_left}
-use Rattle.highway_hash.specs.declared.State.{State}
+
+-- a state of the hash: four lanes each of two running values and of two multipliers
+pub record HashState : Type 0 where
+  pub v0 : List ℕ
+  pub v1 : List ℕ
+  pub mul0 : List ℕ
+  pub mul1 : List ℕ
 
 -- the sum of two lanes
 abbrev pub plus : ℕ → ℕ → ℕ
@@ -20,9 +25,24 @@ high32 x = x / 2 ^ 32
 abbrev pub swapped : ℕ → ℕ
 swapped x = low32 x * 2 ^ 32 + high32 x
 
+-- the lower half of a lane times the upper half of another
+abbrev pub half_product : ℕ → ℕ → ℕ
+half_product x y = low32 x * high32 y
+
+-- both halves rotated left, each by itself
+abbrev pub rotated_halves : ℕ → ℕ → ℕ
+rotated_halves m x = rotate_left w32 (high32 x) m * 2 ^ 32 + rotate_left w32 (low32 x) m
+
 -- the four lanes that f gives
 abbrev pub lanes : (ℕ → ℕ) → List ℕ
 lanes f = f 0 ∷ f 1 ∷ f 2 ∷ f 3 ∷ []
+
+-- f of each lane, and of each two lanes at one place
+abbrev pub by_lane : (ℕ → ℕ) → List ℕ → List ℕ
+by_lane f xs = lanes (λ i. f (slice_index xs i))
+
+abbrev pub by_lanes : (ℕ → ℕ → ℕ) → List ℕ → List ℕ → List ℕ
+by_lanes f xs ys = lanes (λ i. f (slice_index xs i) (slice_index ys i))
 
 -- the multipliers at the start
 abbrev pub first_mul0 : List ℕ
@@ -32,10 +52,10 @@ abbrev pub first_mul1 : List ℕ
 first_mul1 = 0x3bd39e10cb0ef593 ∷ 0xc0acf169b5f18a8c ∷ 0xbe5466cf34e90c6c ∷ 0x452821e638d01377 ∷ []
 
 -- the state before any input, of a key of four words
-unfoldable pub reset : List ℕ → State
+unfoldable pub reset : List ℕ → HashState
 reset key = record {
-  v0 = lanes (λ i. bit_xor (slice_index first_mul0 i) (slice_index key i));
-  v1 = lanes (λ i. bit_xor (slice_index first_mul1 i) (swapped (slice_index key i)));
+  v0 = by_lanes bit_xor first_mul0 key;
+  v1 = by_lanes bit_xor first_mul1 (by_lane swapped key);
   mul0 = first_mul0;
   mul1 = first_mul1;
 }
@@ -62,38 +82,39 @@ zipped xs =
     ++ zipped_pair (slice_index xs 2) (slice_index xs 3)
 
 -- the first part of an update: the input goes into v1, and the products into the multipliers
-unfoldable pub multiplied : State → List ℕ → State
+unfoldable pub multiplied : HashState → List ℕ → HashState
 multiplied s input =
-    let v1 = lanes (λ i. plus (plus (slice_index s.v1 i) (slice_index s.mul0 i)) (slice_index input i)) in
-    let v0 = lanes (λ i. plus (slice_index s.v0 i) (slice_index s.mul1 i)) in
+    let v1 = by_lanes plus (by_lanes plus s.v1 s.mul0) input in
+    let v0 = by_lanes plus s.v0 s.mul1 in
     record {
       v0 = v0;
       v1 = v1;
-      mul0 = lanes (λ i. bit_xor (slice_index s.mul0 i) (low32 (slice_index v1 i) * high32 (slice_index s.v0 i)));
-      mul1 = lanes (λ i. bit_xor (slice_index s.mul1 i) (low32 (slice_index v0 i) * high32 (slice_index v1 i)));
+      mul0 = by_lanes bit_xor s.mul0 (by_lanes half_product v1 s.v0);
+      mul1 = by_lanes bit_xor s.mul1 (by_lanes half_product v0 v1);
     }
 
 -- the second part: the zipper of v1 is added to v0, and then that of v0 to v1
-unfoldable pub mixed : State → State
+unfoldable pub mixed : HashState → HashState
 mixed s =
-    let v0 = lanes (λ i. plus (slice_index s.v0 i) (slice_index (zipped s.v1) i)) in
-    record s {
-      v0 = v0;
-      v1 = lanes (λ i. plus (slice_index s.v1 i) (slice_index (zipped v0) i));
-    }
+    let v0 = by_lanes plus s.v0 (zipped s.v1) in
+    record s { v0 = v0; v1 = by_lanes plus s.v1 (zipped v0) }
 
 -- the state after an update with four lanes
-unfoldable pub updated : State → List ℕ → State
+unfoldable pub updated : HashState → List ℕ → HashState
 updated s input = mixed (multiplied s input)
 
 -- the four lanes at the front of the bytes
 unfoldable pub lanes_of : List ℕ → List ℕ
 lanes_of bytes = lanes (λ i. from_le_bytes w64 (slice_range bytes (8 * i) (8 * i + 8)))
 
--- the state after the first n packets of 32 bytes
-unfoldable pub after_packets : List ℕ → List ℕ → ℕ → State
+-- the state after the packet of 32 bytes at the front of the bytes
+abbrev pub after_packet : HashState → List ℕ → HashState
+after_packet s bytes = updated s (lanes_of bytes)
+
+-- the state after the first n packets
+unfoldable pub after_packets : List ℕ → List ℕ → ℕ → HashState
 after_packets key bytes zero = reset key
-after_packets key bytes (suc n) = updated (after_packets key bytes n) (lanes_of (drop (32 * n) bytes))
+after_packets key bytes (suc n) = after_packet (after_packets key bytes n) (drop (32 * n) bytes)
 
 -- byte i of the packet that holds a remainder r of 1 to 31 bytes: its whole words of four bytes, and then
 -- either its last four bytes at the packet's end or the one to three bytes past its words
@@ -113,33 +134,31 @@ remainder_byte r i =
 unfoldable pub remainder_packet : List ℕ → List ℕ
 remainder_packet r = map (remainder_byte r) (range_with_len 0 32)
 
--- both 32-bit halves rotated left, each by itself
-abbrev pub rotated_halves : ℕ → ℕ → ℕ
-rotated_halves m x = rotate_left w32 (high32 x) m * 2 ^ 32 + rotate_left w32 (low32 x) m
-
 -- the state after a remainder of m bytes, where there is one
-unfoldable pub after_remainder : State → List ℕ → State
+unfoldable pub after_remainder : HashState → List ℕ → HashState
 after_remainder s r =
     let m = length r in
     if m == 0 then s
     else updated (record s {
-      v0 = lanes (λ i. plus (slice_index s.v0 i) (m * 2 ^ 32 + m));
-      v1 = lanes (λ i. rotated_halves m (slice_index s.v1 i));
+      v0 = by_lane (λ x. plus x (m * 2 ^ 32 + m)) s.v0;
+      v1 = by_lane (rotated_halves m) s.v1;
     }) (lanes_of (remainder_packet r))
 
--- a round of the finish: an update with v0, its pairs exchanged and the halves of each lane too
-unfoldable pub finishing_round : State → State
-finishing_round s =
-    updated s (
-    swapped (slice_index s.v0 2)
-    ∷ swapped (slice_index s.v0 3)
-    ∷ swapped (slice_index s.v0 0)
-    ∷ swapped (slice_index s.v0 1)
+-- the pairs of lanes exchanged, and the halves of each lane too
+abbrev pub permuted : List ℕ → List ℕ
+permuted xs =
+    swapped (slice_index xs 2)
+    ∷ swapped (slice_index xs 3)
+    ∷ swapped (slice_index xs 0)
+    ∷ swapped (slice_index xs 1)
     ∷ []
-    )
+
+-- a round of the finish: an update with the permuted v0
+unfoldable pub finishing_round : HashState → HashState
+finishing_round s = updated s (permuted s.v0)
 
 -- the hash of a state: four rounds, and the sum of the first lanes
-unfoldable pub finished : State → ℕ
+unfoldable pub finished : HashState → ℕ
 finished s =
     let t = finishing_round (finishing_round (finishing_round (finishing_round s))) in
     plus (plus (slice_index t.v0 0) (slice_index t.v1 0)) (plus (slice_index t.mul0 0) (slice_index t.mul1 0))

@@ -1,2 +1,4 @@
+pub mod Hashers
 pub mod HighwayHash
 pub mod Riegeli
+pub mod WholeLanes

@@ -1,6 +1,6 @@
 -- The hash as Riegeli/records files use it. Source: the Riegeli/records file format specification, "Block
 -- header" and "Chunk header", which name the hash and its key.
-use Rattle.std.specs.Prelude.{ℕ, List, [], ◌∷◌, ◌++◌}
+use Rattle.std.specs.Prelude.{◌≡◌, ℕ, List, [], ◌∷◌, ◌++◌, drop}
 use Rattle.std.specs.Int.{w64, to_le_bytes}
 use Rattle.highway_hash.specs.HighwayHash.{hash_of}
 
@@ -15,3 +15,7 @@ riegeli_hash bytes = hash_of riegeli_key bytes
 -- the bytes behind the eight bytes of their hash, as in both kinds of header
 abbrev pub with_hash : List ℕ → List ℕ
 with_hash bytes = to_le_bytes w64 (riegeli_hash bytes) ++ bytes
+
+-- the bytes begin with the hash of those behind it: a header whose own hash matches
+abbrev pub BeginsWithHash : List ℕ → Type 0
+BeginsWithHash bytes = bytes ≡ with_hash (drop 8 bytes)
