@@ -1,7 +1,8 @@
 pub mod Spellings
 pub mod Faults
+pub mod InARow
 mod Feeding
 mod Bits
 mod Writing
 mod Steps
-mod Values
+pub mod Values

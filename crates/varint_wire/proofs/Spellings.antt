@@ -60,6 +60,17 @@ continued_more : (b : ℕ) (bytes : List ℕ) → 128 ≤ b → b < 256 → ((i 
 continued_more b bytes low high each zero h = (low, high)
 continued_more b bytes low high each (suc i) h = each i (omega arith)
 
+-- each number below 128 is spelled by itself
+pub Spells-small : (v : ℕ) → v < 128 → Spells v (v ∷ [])
+Spells-small v small = record {
+  some = omega arith;
+  at_most_ten = omega arith;
+  continued = λ i h. let past : i + 1 < 1 = h in absurd (omega arith);
+  ended = small;
+  value_is = omega arith;
+  fits = omega arith;
+}
+
 -- the shortest spelling has a byte
 length-shortest_within-pos : (n v : ℕ) → 0 < length (shortest_within n v)
 length-shortest_within-pos zero v = omega arith

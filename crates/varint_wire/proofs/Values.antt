@@ -1,6 +1,7 @@
 -- Values counted by hand, computed from the definitions.
 use Rattle.std.proofs.Common.{◌≡◌, ℕ, zero, suc, ◌+◌, ◌<◌, ◌≤◌, [], ◌∷◌, ◌++◌, replicate, slice_index, lit<, lit≤, refl, arith}
 use Rattle.varint_wire.specs.Varint.{value_of, Spells, SpellsEach, shortest}
+use Rattle.varint_wire.proofs.Spellings.{Spells-small}
 
 -- a single byte, at both of its ends
 shortest_of_0 : shortest 0 ≡ 0x00 ∷ []
@@ -74,25 +75,14 @@ first_continues : (i : ℕ) → i + 1 < 2 → (128 ≤ slice_index (0x81 ∷ 0x0
 first_continues zero h = (lit≤ tt, lit< tt)
 first_continues (suc i) h = absurd (omega arith)
 
-spelling_of_1 : Spells 1 (0x81 ∷ 0x00 ∷ [])
-spelling_of_1 = record {
+pub longer_spelling_of_1 : Spells 1 (0x81 ∷ 0x00 ∷ [])
+longer_spelling_of_1 = record {
   some = lit< tt;
   at_most_ten = lit≤ tt;
   continued = first_continues;
   ended = lit< tt;
   value_is = refl;
   fits = lit< tt;
-}
-
--- each number below 128 is spelled by itself
-spelling_of_byte : (b : ℕ) → b < 128 → Spells b (b ∷ [])
-spelling_of_byte b small = record {
-  some = lit< tt;
-  at_most_ten = lit≤ tt;
-  continued = λ i h. let past : i + 1 < 1 = h in absurd (omega arith);
-  ended = small;
-  value_is = omega arith;
-  fits = omega arith;
 }
 
 -- a list that ends on a byte of 128 or more spells nothing
@@ -116,12 +106,12 @@ spellings_in_a_row = (
   0x81 ∷ 0x00 ∷ [],
   0x02 ∷ 0x00 ∷ [],
   refl,
-  spelling_of_1,
+  longer_spelling_of_1,
   (
     0x02 ∷ [],
     0x00 ∷ [],
     refl,
-    spelling_of_byte 2 (lit< tt),
-    (0x00 ∷ [], [], refl, spelling_of_byte 0 (lit< tt), refl),
+    Spells-small 2 (lit< tt),
+    (0x00 ∷ [], [], refl, Spells-small 0 (lit< tt), refl),
   ),
 )

@@ -2,7 +2,7 @@ ghost use Rattle.std.specs.Prelude.{◌≡◌, ◌≢◌, ℕ, ◌<◌, ◌≤�
 ghost use Rattle.varint_wire.specs.Varint.{Spells};
 ghost use Rattle.varint_wire.specs.Reading.{IsCut, IsLong};
 
-use crate::groups::{is_too_large, with_group};
+use crate::groups::{is_tenth_above_one, with_group};
 use std::marker::Model;
 
 /// What a byte makes of the varint so far. Own.
@@ -57,7 +57,7 @@ impl Feed {
         ensures as_new { result ≢ Step.More → self.new ≡ [] }
         ensures taken { IsCut self.new }
     {
-        if is_too_large(self.count, byte) {
+        if is_tenth_above_one(self.count, byte) {
             *self = Feed::new();
             return Step::Long;
         }

@@ -1,9 +1,9 @@
 ghost use Rattle.std.specs.Prelude.{◌≡◌, ◌+◌, ◌*◌, ◌%◌, ◌^◌, ◌<◌, ◌≤◌, ◌↔◌, IsTrue};
 
-/// Whether the byte at this place is more than the 64 bits of a value have room for: the tenth byte
-/// has room for one bit, and none may follow it.
+/// Whether the byte is the tenth and above 1, which no varint has: 64 bits leave the tenth byte one bit,
+/// and no byte may follow it.
 #[inline]
-pub(crate) fn is_too_large(at: usize, byte: u8) -> bool
+pub(crate) fn is_tenth_above_one(at: usize, byte: u8) -> bool
     ensures { IsTrue result ↔ ((at ≡ 9) × (1 < byte)) }
 {
     at == 9 && byte > 1

@@ -14,7 +14,7 @@ ghost use Rattle.varint_wire.specs.Varint.{Spells, IsShortest, shortest};
 ghost use Rattle.varint_wire.specs.Reading.{IsCut, IsLong};
 
 pub use feed::{Feed, Step};
-use groups::{is_too_large, with_group};
+use groups::{is_tenth_above_one, with_group};
 
 /// Why no varint was read. Own.
 #[derive(Clone, Copy, Debug, PartialEq, Eq)]
@@ -66,7 +66,7 @@ pub fn read(bytes: &[u8]) -> Result<(u64, usize), VarintFault>
 {
     let mut value = 0;
     for (at, byte) in bytes.iter().enumerate() {
-        if is_too_large(at, *byte) {
+        if is_tenth_above_one(at, *byte) {
             return Err(VarintFault::Long);
         }
         value = with_group(value, at, *byte);

@@ -6,17 +6,17 @@ use Rattle.varint_wire.proofs.Faults.{long_has_no_spelling, IsLong-at}
 use Rattle.varint_wire.proofs.Steps.{value_below, value_more, Spells-at, spelled_once, room_for_more}
 use Rattle.varint_wire.proofs.read.Goals as goal
 
-is_long : (c : goal.Then-is_too_large) → IsLong c.args.bytes.now
+is_long : (c : goal.Then-is_tenth_above_one) → IsLong c.args.bytes.now
 is_long c =
-    let big = c.is_too_large.ensures.0 c.if-is_too_large.true in
+    let big = c.is_tenth_above_one.ensures.0 c.if-is_tenth_above_one.true in
     IsLong-at c.args.bytes.now c.loop-at.at big.0 c.loop-at-test.true c.loop-at.invariant.high big.1
 
-pub returns-then-is_too_large-clause-accepted : goal.returns-then-is_too_large-clause-accepted
-returns-then-is_too_large-clause-accepted c = λ value front rest s e.
+pub returns-then-is_tenth_above_one-clause-accepted : goal.returns-then-is_tenth_above_one-clause-accepted
+returns-then-is_tenth_above_one-clause-accepted c = λ value front rest s e.
     absurd (long_has_no_spelling value c.args.bytes.now front rest (is_long c) s e)
 
-pub returns-then-is_too_large-clause-long : goal.returns-then-is_too_large-clause-long
-returns-then-is_too_large-clause-long c = (λ _. is_long c, λ _. refl)
+pub returns-then-is_tenth_above_one-clause-long : goal.returns-then-is_tenth_above_one-clause-long
+returns-then-is_tenth_above_one-clause-long c = (λ _. is_long c, λ _. refl)
 
 pub with_group-value-requires-clause-below : goal.with_group-value-requires-clause-below
 with_group-value-requires-clause-below c =
@@ -43,7 +43,7 @@ pub loop-at-preserved : goal.loop-at-preserved
 loop-at-preserved c =
     let value = value_more c.args.bytes.now c.loop-at.at c.loop-at-test.true in
     record {
-      few = room_for_more _ _ _ c.loop-at.invariant.few c.is_too_large.ensures c.if-is_too_large.false c.if-byte-lt128.false;
+      few = room_for_more _ _ _ c.loop-at.invariant.few c.is_tenth_above_one.ensures c.if-is_tenth_above_one.false c.if-byte-lt128.false;
       high = below_more _ _ c.loop-at.invariant.high c.if-byte-lt128.false;
       value = omega arith;
     }

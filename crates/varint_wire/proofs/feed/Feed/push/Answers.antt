@@ -7,22 +7,22 @@ use Rattle.varint_wire.proofs.Spellings.{spelling_is_one}
 use Rattle.varint_wire.proofs.Steps.{room_for_more}
 use Rattle.varint_wire.proofs.feed.Feed.push.Goals as goal
 
-pub returns-then-is_too_large-clause-more : goal.returns-then-is_too_large-clause-more
-returns-then-is_too_large-clause-more c =
+pub returns-then-is_tenth_above_one-clause-more : goal.returns-then-is_tenth_above_one-clause-more
+returns-then-is_tenth_above_one-clause-more c =
     let p = pushed c.args.self.now c.self.inside.count c.self.inside.value c.args.byte c.self.view_is c.self.invariant.1 (omega arith) in
-    let nine = (c.is_too_large.ensures.0 c.if-is_too_large.true).0 in
+    let nine = (c.is_tenth_above_one.ensures.0 c.if-is_tenth_above_one.true).0 in
     (λ e. absurd cc, λ h. absurd (omega (arith, h.1, p.many)))
 
-pub returns-then-is_too_large-clause-value : goal.returns-then-is_too_large-clause-value
-returns-then-is_too_large-clause-value c =
+pub returns-then-is_tenth_above_one-clause-value : goal.returns-then-is_tenth_above_one-clause-value
+returns-then-is_tenth_above_one-clause-value c =
     let p = pushed c.args.self.now c.self.inside.count c.self.inside.value c.args.byte c.self.view_is c.self.invariant.1 (omega arith) in
-    let long = pushed_long _ _ _ _ p (c.is_too_large.ensures.0 c.if-is_too_large.true) in
+    let long = pushed_long _ _ _ _ p (c.is_tenth_above_one.ensures.0 c.if-is_tenth_above_one.true) in
     λ v. (λ e. absurd cc, λ s. absurd (long_has_no_spelling v _ _ [] long s (sym (append-nil _))))
 
-pub returns-then-is_too_large-clause-long : goal.returns-then-is_too_large-clause-long
-returns-then-is_too_large-clause-long c =
+pub returns-then-is_tenth_above_one-clause-long : goal.returns-then-is_tenth_above_one-clause-long
+returns-then-is_tenth_above_one-clause-long c =
     let p = pushed c.args.self.now c.self.inside.count c.self.inside.value c.args.byte c.self.view_is c.self.invariant.1 (omega arith) in
-    (λ _. pushed_long _ _ _ _ p (c.is_too_large.ensures.0 c.if-is_too_large.true), λ _. refl)
+    (λ _. pushed_long _ _ _ _ p (c.is_tenth_above_one.ensures.0 c.if-is_tenth_above_one.true), λ _. refl)
 
 pub returns-then-byte-lt128-clause-value : goal.returns-then-byte-lt128-clause-value
 returns-then-byte-lt128-clause-value c =
@@ -42,13 +42,13 @@ returns-then-byte-lt128-clause-long c =
 pub returns-clause-more : goal.returns-clause-more
 returns-clause-more c =
     let p = pushed c.args.self.now c.self.inside.count c.self.inside.value c.args.byte c.self.view_is c.self.invariant.1 (omega arith) in
-    let room = room_for_more _ _ _ c.self.invariant.0 c.is_too_large.ensures c.if-is_too_large.false c.if-byte-lt128.false in
+    let room = room_for_more _ _ _ c.self.invariant.0 c.is_tenth_above_one.ensures c.if-is_tenth_above_one.false c.if-byte-lt128.false in
     (λ _. (omega arith, omega (arith, p.many)), λ _. refl)
 
 pub returns-clause-long : goal.returns-clause-long
 returns-clause-long c =
     let p = pushed c.args.self.now c.self.inside.count c.self.inside.value c.args.byte c.self.view_is c.self.invariant.1 (omega arith) in
-    let room = room_for_more _ _ _ c.self.invariant.0 c.is_too_large.ensures c.if-is_too_large.false c.if-byte-lt128.false in
+    let room = room_for_more _ _ _ c.self.invariant.0 c.is_tenth_above_one.ensures c.if-is_tenth_above_one.false c.if-byte-lt128.false in
     (λ e. absurd cc, λ h. absurd (omega (arith, h.0, p.many)))
 
 pub returns-clause-kept : goal.returns-clause-kept
@@ -58,6 +58,6 @@ returns-clause-kept c = λ _.
 
 pub returns-clause-taken : goal.returns-clause-taken
 returns-clause-taken c =
-    let room = room_for_more _ _ _ c.self.invariant.0 c.is_too_large.ensures c.if-is_too_large.false c.if-byte-lt128.false in
+    let room = room_for_more _ _ _ c.self.invariant.0 c.is_tenth_above_one.ensures c.if-is_tenth_above_one.false c.if-byte-lt128.false in
     let many = length-held_bytes (c.self.inside.count + 1) c.with_group-value.result in
     (omega arith, λ i h. (held_bytes-high (c.self.inside.count + 1) c.with_group-value.result i (omega arith)).0)
