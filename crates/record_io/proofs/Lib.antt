@@ -1,3 +1,5 @@
+pub mod ByteLists
 pub mod Memory
 pub mod Pieces
 pub mod Calls
+pub mod Buffered

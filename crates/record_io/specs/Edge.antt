@@ -1,10 +1,13 @@
--- What can be relied on of real files, of whose bytes nothing is told. Own.
-use Rattle.std.specs.Prelude.{ℕ, Option, List}
+-- What can be relied on of real files and streams, of whose bytes nothing is told to callers. Own.
+use Rattle.std.specs.Prelude.{◌≡◌, ℕ, ◌≤◌, Option, None, Some, Result, Ok, Err, Bool, List, length, take, IfSome}
+use Rattle.std.specs.Io.KnownBytes.{Appends, Consumes}
 
 -- a file that is read at any place
 pub record Reading : Type 0 where
   -- its name
   pub path : List ℕ
+  -- whether it could be opened, once that was tried
+  pub opened : Option Bool
   -- the size that was last told
   pub told : Option ℕ
   -- how many bytes were handed out
@@ -16,5 +19,38 @@ pub record Reading : Type 0 where
 pub record Writing : Type 0 where
   -- its name
   pub path : List ℕ
+  -- whether it could be made, once that was tried
+  pub opened : Option Bool
+  -- what the open file holds, where that is known
+  pub contents : Option (List ℕ)
   -- how many faults there were
   pub faults : ℕ
+
+-- a stream that is read
+pub record Incoming : Type 0 where
+  -- what its reader is still to give, where that is known
+  pub remaining : Option (List ℕ)
+  -- how many faults there were
+  pub faults : ℕ
+
+-- a stream that is written
+pub record Outgoing : Type 0 where
+  -- what its writer holds, where that is known
+  pub contents : Option (List ℕ)
+  -- how many faults there were
+  pub faults : ℕ
+
+-- what a file holds that is opened once: nothing is known of it before, and where it could not be opened
+abbrev pub written : {F E : Type 0} → (F → Option (List ℕ)) → Option (Result F E) → Option (List ℕ)
+written contents None = None
+written contents (Some (Ok file)) = contents file
+written contents (Some (Err error)) = None
+
+-- known bytes grew by a front of these
+abbrev pub AppendsFront : Option (List ℕ) → Option (List ℕ) → List ℕ → Type 0
+AppendsFront before after bytes = (n : ℕ) × (n ≤ length bytes) × Appends before after (take n bytes)
+
+-- a file gave these bytes after it was moved to a place, where its position is known
+abbrev pub ReadsAt : {F : Type 0} → (F → Option ℕ) → (F → Option (List ℕ)) → F → F → ℕ → List ℕ → Type 0
+ReadsAt {F} position remaining before after at bytes =
+    (moved : F) × IfSome (position before) (λ _. position moved ≡ Some at) × Consumes (remaining moved) (remaining after) bytes

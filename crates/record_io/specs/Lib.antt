@@ -1,3 +1,5 @@
+pub mod Bytes
 pub mod Outside
+pub mod Buffers
 pub mod Memory
 pub mod Edge

@@ -1,5 +1,5 @@
 -- What a source gives and a sink takes, and when a fault is told. Own.
-use Rattle.std.specs.Prelude.{◌≡◌, ℕ, ◌+◌, ◌-◌, ◌^◌, ◌<◌, ◌≤◌, ◌⊎◌, min, Option, Some, List, ◌++◌, length, take, drop, IfSome}
+use Rattle.std.specs.Prelude.{◌≡◌, ℕ, ◌+◌, ◌-◌, ◌^◌, ◌<◌, ◌≤◌, ◌⊎◌, min, Option, Some, Result, is_err, List, ◌++◌, length, take, drop, IfSome, if◌then◌else◌}
 
 -- a count of faults rose; one that stands at its greatest counts as risen
 abbrev pub Rose : ℕ → ℕ → Type 0
@@ -8,6 +8,10 @@ Rose before after = (before < after) ⊎ (after ≡ 2 ^ 64 - 1)
 -- a count after one more; at its greatest it stays
 abbrev pub one_more : ℕ → ℕ
 one_more count = min (count + 1) (2 ^ 64 - 1)
+
+-- a count of faults after a call that gave this result, and counts one fault where it failed
+abbrev pub faults_after : {X E : Type 0} → Result X E → ℕ → ℕ
+faults_after result before = if is_err result then one_more before else before
 
 -- where a source told what it had left, these bytes came from its front
 abbrev pub Gives : Option (List ℕ) → Option (List ℕ) → List ℕ → Type 0

@@ -1,4 +1,5 @@
 ghost use Rattle.std.specs.Prelude.{◌≡◌, ◌↔◌, [], ◌++◌, length, IsTrue, OnOk, OnErr};
+ghost use Rattle.record_io.specs.Bytes.{AreBytes};
 
 use std::alloc::{AllocError, Global};
 use std::marker::Model;
@@ -11,10 +12,13 @@ pub struct Bytes {
 
 impl Model for Bytes {
     ghost use Rattle.std.specs.Prelude.{List, ℕ};
+    ghost use Rattle.record_io.specs.Bytes.{AreBytes};
 
     ghost Value = { List ℕ };
 
     ghost view = { λ b. b.bytes.items };
+
+    ghost invariant = { λ b. AreBytes b.bytes.items };
 }
 
 impl Bytes {
@@ -32,12 +36,14 @@ impl Bytes {
         ensures appends { OnOk result (self.new ≡ self.old ++ piece.now) }
         ensures kept { OnErr result (self.new ≡ self.old) }
     {
-        self.bytes.extend_from_slice(piece)
+        self.bytes.extend_from_slice(piece)?;
+        Ok(())
     }
 
     /// The bytes.
     pub fn as_slice(&self) -> &[u8]
-        ensures { result.now ≡ self.now }
+        ensures value { result.now ≡ self.now }
+        ensures are_bytes { AreBytes self.now }
     {
         self.bytes.as_slice()
     }

@@ -1,5 +1,5 @@
-ghost use Rattle.std.specs.Prelude.{◌≡◌, ◌+◌, ◌-◌, ◌^◌, ◌<◌, ◌≤◌, ◌↔◌, ◌⊎◌, [], length, take, min, Contains, IsErr, IfOk, IfSome, Some, OnErr, is_err, if◌then◌else◌};
-ghost use Rattle.record_io.specs.Outside.{one_more, Rose, Gives};
+ghost use Rattle.std.specs.Prelude.{◌≡◌, ◌^◌, ◌<◌, ◌≤◌, ◌↔◌, [], length, take, min, Contains, IsErr, IfOk, Some, OnErr};
+ghost use Rattle.record_io.specs.Outside.{one_more, faults_after, Rose, Gives};
 ghost use Rattle.record_io.specs.Memory.{cut_to};
 
 use crate::outside::{Failed, Source};
@@ -64,7 +64,7 @@ impl Source for MemInput {
         ensures fails { IsErr result ↔ Contains self.old.fails self.old.number }
         ensures cut { IfOk result (λ n. n ≡ cut_to self.old.cuts self.old.number (min (length buf.old) (length self.old.left))) }
         ensures numbered { self.new.number ≡ one_more self.old.number }
-        ensures counted { self.new.faults ≡ (if is_err result then one_more self.old.faults else self.old.faults) }
+        ensures counted { self.new.faults ≡ faults_after result self.old.faults }
         ensures same_cuts { self.new.cuts ≡ self.old.cuts }
         ensures same_fails { self.new.fails ≡ self.old.fails }
     {

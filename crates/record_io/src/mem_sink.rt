@@ -1,5 +1,5 @@
-ghost use Rattle.std.specs.Prelude.{◌≡◌, ◌+◌, ◌-◌, ◌^◌, ◌<◌, ◌≤◌, ◌↔◌, ◌⊎◌, [], length, take, min, Contains, Some, IsErr, IfOk, IfSome, OnErr, is_err, if◌then◌else◌};
-ghost use Rattle.record_io.specs.Outside.{one_more, Rose, Takes};
+ghost use Rattle.std.specs.Prelude.{◌≡◌, ◌-◌, ◌^◌, ◌<◌, ◌≤◌, ◌↔◌, ◌⊎◌, [], length, take, min, Contains, Some, IsErr, IfOk, OnErr};
+ghost use Rattle.record_io.specs.Outside.{one_more, faults_after, Rose, Takes};
 ghost use Rattle.record_io.specs.Memory.{cut_to};
 
 use crate::outside::{Failed, Sink};
@@ -80,7 +80,7 @@ impl Sink for MemSink {
         ensures fails { IsErr result ↔ (Contains self.old.fails self.old.number ⊎ (length self.old.taken ≡ self.old.room)) }
         ensures cut { IfOk result (λ n. n ≡ cut_to self.old.cuts self.old.number (min (length piece.now) (self.old.room - length self.old.taken))) }
         ensures numbered { self.new.number ≡ one_more self.old.number }
-        ensures counted { self.new.faults ≡ (if is_err result then one_more self.old.faults else self.old.faults) }
+        ensures counted { self.new.faults ≡ faults_after result self.old.faults }
         ensures same_room { self.new.room ≡ self.old.room }
         ensures same_cuts { self.new.cuts ≡ self.old.cuts }
         ensures same_fails { self.new.fails ≡ self.old.fails }

@@ -1,4 +1,4 @@
-ghost use Rattle.std.specs.Prelude.{◌≡◌, ℕ, ◌+◌, ◌-◌, ◌^◌, ◌<◌, ◌≤◌, ◌↔◌, Option, Some, List, [], length, take, min, slice_range, IfOk, IfSome, IsSomeAnd, OnOk, OnErr};
+ghost use Rattle.std.specs.Prelude.{◌≡◌, ℕ, ◌+◌, ◌-◌, ◌^◌, ◌<◌, ◌≤◌, ◌↔◌, Option, Some, is_some, List, [], length, take, min, slice_range, IfOk, IfSome, IsSomeAnd, OnOk, OnErr};
 ghost use Rattle.record_io.specs.Outside.{one_more, Rose, Gives, Takes, TakesFront};
 
 /// A call on the outside failed.
@@ -29,6 +29,7 @@ pub trait Source {
         ensures fits { IfOk result (λ n. n ≤ length buf.old) }
         ensures given { IfOk result (λ n. Gives (left self.old) (left self.new) (take n buf.new)) }
         ensures at_end { IfOk result (λ n. IfSome (left self.old) (λ bytes. (n ≡ 0) ↔ (bytes ≡ []))) }
+        ensures told { is_some (left self.new) ≡ is_some (left self.old) }
         ensures kept { OnErr result (left self.new ≡ left self.old) }
 
         ensures cause { OnErr result (Rose (faults self.old) (faults self.new)) }
@@ -50,6 +51,9 @@ pub trait Store {
     /// How many faults there were.
     ghost faults: { Self → ℕ };
 
+    /// The name of what the store borrows, if it borrows what it reads.
+    ghost name: { Self → ℕ } = { λ _. 0 };
+
     /// The number of bytes of the file.
     fn size(&mut self) -> Result<u64, Failed>
         ensures tells { IfOk result (λ n. told self.new ≡ Some n) }
@@ -57,6 +61,7 @@ pub trait Store {
         ensures untold { OnErr result (told self.new ≡ told self.old) }
         ensures same_bytes { bytes self.new ≡ bytes self.old }
         ensures same_handed { handed self.new ≡ handed self.old }
+        ensures same_name { name self.new ≡ name self.old }
 
         ensures cause { OnErr result (Rose (faults self.old) (faults self.new)) }
         ensures never_falls { faults self.old ≤ faults self.new }
@@ -74,10 +79,15 @@ pub trait Store {
         ensures same_handed { OnErr result (handed self.new ≡ handed self.old) }
         ensures same_bytes { bytes self.new ≡ bytes self.old }
         ensures same_told { told self.new ≡ told self.old }
+        ensures told_small { IfSome (told self.old) (λ size. size < 2 ^ 64) }
+        ensures same_name { name self.new ≡ name self.old }
 
         ensures cause { OnErr result (Rose (faults self.old) (faults self.new)) }
         ensures never_falls { faults self.old ≤ faults self.new }
         ensures small { faults self.new < 2 ^ 64 };
+
+    /// Where the bytes and the size are told, the size is how many there are.
+    ghost sized: { (s : Self) → IfSome (bytes s) (λ file. IfSome (told s) (λ size. size ≡ length file)) };
 }
 
 /// A stream of bytes that go out.
@@ -88,6 +98,9 @@ pub trait Sink {
     /// How many faults there were.
     ghost faults: { Self → ℕ };
 
+    /// The name of what the sink borrows, if it borrows what it puts to.
+    ghost name: { Self → ℕ } = { λ _. 0 };
+
     /// Takes bytes from the front of the piece, and answers how many: at least 1.
     fn put(&mut self, piece: &[u8]) -> Result<usize, Failed>
         requires { 0 < length piece.now }
@@ -95,6 +108,7 @@ pub trait Sink {
         ensures fits { IfOk result (λ n. n ≤ length piece.now) }
         ensures takes { IfOk result (λ n. Takes (taken self.old) (taken self.new) (take n piece.now)) }
         ensures kept { OnErr result (taken self.new ≡ taken self.old) }
+        ensures same_name { name self.new ≡ name self.old }
 
         ensures cause { OnErr result (Rose (faults self.old) (faults self.new)) }
         ensures never_falls { faults self.old ≤ faults self.new }
@@ -107,6 +121,8 @@ pub fn put_all<M: Sink>(sink: &mut M, piece: &[u8]) -> Result<(), Failed>
     ensures front { OnErr result (TakesFront (M.taken sink.old) (M.taken sink.new) piece.now) }
     ensures cause { OnErr result (Rose (M.faults sink.old) (M.faults sink.new)) }
     ensures never_falls { M.faults sink.old ≤ M.faults sink.new }
+    ensures small { M.faults sink.old < 2 ^ 64 → M.faults sink.new < 2 ^ 64 }
+    ensures same_name { M.name sink.new ≡ M.name sink.old }
 {
     let mut at = 0;
     while at < piece.len() {

@@ -1,5 +1,5 @@
-ghost use Rattle.std.specs.Prelude.{◌≡◌, ◌+◌, ◌-◌, ◌^◌, ◌<◌, ◌≤◌, ◌↔◌, ◌⊎◌, Contains, IsTrue, IsErr, IfOk, OnOk, OnErr, is_err, if◌then◌else◌};
-ghost use Rattle.record_io.specs.Outside.{one_more};
+ghost use Rattle.std.specs.Prelude.{◌≡◌, ◌↔◌, Contains, IsTrue, IsErr, IfOk};
+ghost use Rattle.record_io.specs.Outside.{one_more, faults_after};
 ghost use Rattle.record_io.specs.Memory.{cut_to};
 
 use crate::outside::{Failed, fault};
@@ -33,7 +33,7 @@ impl Script {
         ensures fails { IsErr result ↔ Contains self.old.fails.items self.old.number }
         ensures cut { IfOk result (λ n. n ≡ cut_to self.old.cuts.items self.old.number most) }
         ensures numbered { self.new.number ≡ one_more self.old.number }
-        ensures counted { self.new.faults ≡ (if is_err result then one_more self.old.faults else self.old.faults) }
+        ensures counted { self.new.faults ≡ faults_after result self.old.faults }
         ensures same_cuts { self.new.cuts.items ≡ self.old.cuts.items }
         ensures same_fails { self.new.fails.items ≡ self.old.fails.items }
     {
@@ -42,7 +42,7 @@ impl Script {
         if stands_in(&self.fails, number) {
             return Err(self.fault());
         }
-        Ok(cut_short(&self.cuts, number, most))
+        Ok(cut_to(&self.cuts, number, most))
     }
 
     /// Counts a fault, for the call that failed to answer.
@@ -64,7 +64,7 @@ fn stands_in(numbers: &[u32], number: u64) -> bool
 }
 
 /// How many of so many bytes a call handles under these cuts.
-fn cut_short(cuts: &[u32], number: u64, most: usize) -> usize
+fn cut_to(cuts: &[u32], number: u64, most: usize) -> usize
     ensures { result ≡ cut_to cuts.now number most }
 {
     if cuts.is_empty() {

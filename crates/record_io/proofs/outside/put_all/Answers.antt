@@ -8,4 +8,6 @@ loop-at-preserved g c = record {
   within = omega (arith, c.in_ok-at.ensures.fits, length-take {A = ℕ}, length-drop {A = ℕ});
   taken = Takes-more _ _ _ c.args.piece.now c.loop-at.at c.in_ok-at.field-0 c.loop-at.invariant.taken c.in_ok-at.ensures.takes;
   counted = omega arith;
+  small = λ _. c.in_ok-at.ensures.small;
+  named = cc;
 }

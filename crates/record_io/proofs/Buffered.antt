@@ -1,0 +1,64 @@
+-- One call after another on a sink and the buffer beside it.
+use Rattle.std.proofs.Common.{◌≡◌, ℕ, ◌≤◌, Option, Some, None, List, [], ◌++◌, length, sym, ap, ◌∙◌, subst, arith, append_assoc}
+use Rattle.std.proofs.lemmas.List.{append-nil, nil_from_length}
+use Rattle.record_io.specs.Outside.{Takes, TakesFront}
+use Rattle.record_io.specs.Buffers.{TakesAndHolds}
+use Rattle.record_io.proofs.Calls.{Takes-append, TakesFront-append, TakesFront-longer}
+
+-- what is held goes out, and a piece behind it
+pub TakesAndHolds-through : (a b c : Option (List ℕ)) (held piece now : List ℕ)
+    → now ≡ [] → Takes a b held → Takes b c piece → TakesAndHolds a c (held ++ piece) now
+TakesAndHolds-through a b c held piece now none first then = record {
+  passed = held ++ piece;
+  parts = sym (ap (λ (xs : List ℕ). (held ++ piece) ++ xs) none ∙ append-nil (held ++ piece));
+  taken = Takes-append a b c held piece first then;
+}
+
+-- what went through and what is held, with more bytes behind it
+parts-append : (before between x y passed : List ℕ) → before ++ x ≡ passed ++ between → before ++ (x ++ y) ≡ passed ++ (between ++ y)
+parts-append before between x y passed parts =
+    sym (append_assoc before x y) ∙ ap (λ (xs : List ℕ). xs ++ y) parts ∙ append_assoc passed between y
+
+-- bytes x behind those that are held, and then y
+pub TakesAndHolds-append : (a b c : Option (List ℕ)) (before between after x y : List ℕ)
+    → TakesAndHolds a b (before ++ x) between → TakesAndHolds b c (between ++ y) after → TakesAndHolds a c (before ++ (x ++ y)) after
+TakesAndHolds-append a b c before between after x y first then = record {
+  passed = first.passed ++ then.passed;
+  parts = parts-append before between x y first.passed first.parts
+      ∙ ap (λ (xs : List ℕ). first.passed ++ xs) then.parts
+      ∙ sym (append_assoc first.passed then.passed after);
+  taken = Takes-append a b c first.passed then.passed first.taken then.taken;
+}
+
+-- bytes x behind those that are held, and then a front of what is held and y
+pub TakesFront-behind : (a b c : Option (List ℕ)) (before between x y : List ℕ)
+    → TakesAndHolds a b (before ++ x) between → TakesFront b c (between ++ y) → TakesFront a c (before ++ (x ++ y))
+TakesFront-behind a b c before between x y first then =
+    subst (λ (xs : List ℕ). TakesFront a c xs)
+    (sym (parts-append before between x y first.passed first.parts))
+    (TakesFront-append a b c first.passed (between ++ y) first.taken then)
+
+-- a front of what is held and x is one of what is held, x and y
+pub TakesFront-held_longer : (a b : Option (List ℕ)) (before x y : List ℕ) → TakesFront a b (before ++ x) → TakesFront a b (before ++ (x ++ y))
+TakesFront-held_longer a b before x y front =
+    subst (λ (xs : List ℕ). TakesFront a b xs) (append_assoc before x y) (TakesFront-longer a b (before ++ x) y front)
+
+-- where nothing is held, the sink took it all
+pub Takes-from_none_held : (a b : Option (List ℕ)) (bytes held : List ℕ) → length held ≤ 0 → TakesAndHolds a b bytes held → Takes a b bytes
+Takes-from_none_held a b bytes held none whole =
+    let nothing : held ≡ [] = nil_from_length held (omega (arith, none)) in
+    subst (λ (xs : List ℕ). Takes a b xs)
+    (sym (whole.parts ∙ ap (λ (xs : List ℕ). whole.passed ++ xs) nothing ∙ append-nil whole.passed))
+    whole.taken
+
+-- no bytes change nothing
+Takes-none : (a : Option (List ℕ)) → Takes a a []
+Takes-none None = tt
+Takes-none (Some taken) = ap Some (sym (append-nil taken))
+
+pub TakesAndHolds-none : (a : Option (List ℕ)) (held : List ℕ) → TakesAndHolds a a (held ++ []) held
+TakesAndHolds-none a held = record {
+  passed = [];
+  parts = append-nil held;
+  taken = Takes-none a;
+}

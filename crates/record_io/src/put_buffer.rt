@@ -1,0 +1,177 @@
+ghost use Rattle.std.specs.Prelude.{◌≡◌, ◌+◌, ◌^◌, ◌<◌, ◌≤◌, [], ◌++◌, length, OnOk, OnErr};
+ghost use Rattle.record_io.specs.Outside.{Rose, Takes, TakesFront};
+ghost use Rattle.record_io.specs.Buffers.{TakesAndHolds};
+
+use crate::outside::{Failed, Sink, put_all};
+use std::marker::Model;
+
+/// Bytes on their way to a sink, of which it holds up to `N`, so that small pieces cost no call of the sink.
+///
+/// It stands beside the sink, which each call is given: always the same one. It takes no memory. What is held when it
+/// is dropped is lost, so `flush` comes last. With `N` at 0 it holds nothing, and each piece goes straight through.
+#[derive(Debug, Drop)]
+pub struct PutBuffer<const N: usize> {
+    held: [u8; N],
+    count: usize,
+}
+
+impl<const N: usize> Model for PutBuffer<N> {
+    ghost use Rattle.std.specs.Prelude.{List, ℕ, ◌≤◌, take};
+
+    ghost Value = { List ℕ };
+
+    ghost view = { λ b. take b.count b.held };
+
+    ghost invariant = { λ b. b.count ≤ N };
+}
+
+impl<const N: usize> PutBuffer<N> {
+    /// A buffer that holds nothing.
+    pub fn new() -> PutBuffer<N>
+        ensures { result ≡ [] }
+    {
+        PutBuffer {
+            held: [0; N],
+            count: 0,
+        }
+    }
+
+    /// Puts the piece behind what is held: the sink takes it, or it is held.
+    ///
+    /// A piece of more than a quarter of `N` is never copied: what is held goes out, and then the piece. Any other
+    /// is held, once what is held went out where there was no room beside it.
+    ///
+    /// # Errors
+    ///
+    /// `Failed` only where the sink failed. It took a front of what was held and the piece, and nothing is held.
+    pub fn put<M: Sink>(&mut self, sink: &mut M, piece: &[u8]) -> Result<(), Failed>
+        ensures whole { OnOk result (TakesAndHolds (M.taken sink.old) (M.taken sink.new) (self.old ++ piece.now) self.new) }
+        ensures front { OnErr result (TakesFront (M.taken sink.old) (M.taken sink.new) (self.old ++ piece.now)) }
+        ensures emptied { OnErr result (self.new ≡ []) }
+        ensures fits { length self.new ≤ N }
+        ensures cause { OnErr result (Rose (M.faults sink.old) (M.faults sink.new)) }
+        ensures never_falls { M.faults sink.old ≤ M.faults sink.new }
+        ensures small { M.faults sink.old < 2 ^ 64 → M.faults sink.new < 2 ^ 64 }
+        ensures same_name { M.name sink.new ≡ M.name sink.old }
+    {
+        let large = piece.len() > N / 4;
+        if large || piece.len() > N - self.count {
+            self.flush(sink)?;
+        }
+        if large {
+            return put_all(sink, piece);
+        }
+        self.hold(piece);
+        Ok(())
+    }
+
+    /// Puts out what is held. Nothing is held then.
+    ///
+    /// # Errors
+    ///
+    /// `Failed` only where the sink failed. It took a front of what was held.
+    pub fn flush<M: Sink>(&mut self, sink: &mut M) -> Result<(), Failed>
+        ensures whole { OnOk result (Takes (M.taken sink.old) (M.taken sink.new) self.old) }
+        ensures front { OnErr result (TakesFront (M.taken sink.old) (M.taken sink.new) self.old) }
+        ensures emptied { self.new ≡ [] }
+        ensures cause { OnErr result (Rose (M.faults sink.old) (M.faults sink.new)) }
+        ensures never_falls { M.faults sink.old ≤ M.faults sink.new }
+        ensures small { M.faults sink.old < 2 ^ 64 → M.faults sink.new < 2 ^ 64 }
+        ensures same_name { M.name sink.new ≡ M.name sink.old }
+    {
+        let count = self.count;
+        self.count = 0;
+        put_all(sink, &self.held[..count])
+    }
+
+    // Holds a piece that has room behind what is held.
+    fn hold(&mut self, piece: &[u8])
+        requires { length self.old + length piece.now ≤ N }
+        ensures held { self.new ≡ self.old ++ piece.now }
+        ensures fits { length self.new ≤ N }
+    {
+        let end = self.count + piece.len();
+        let held = &mut self.held[..];
+        held[self.count..end].copy_from_slice(piece);
+        self.count = end;
+    }
+}
+
+#[cfg(test)]
+mod tests {
+    use super::*;
+    use crate::MemSink;
+    use std::alloc::{AllocError, Global};
+    use std::test::Fail;
+
+    fn cut_sink(alloc: Global, room: usize) -> Result<MemSink, AllocError> {
+        let cuts = [1, 3].to_vec(alloc)?;
+        MemSink::new(alloc, room, cuts, Vec::new(alloc))
+    }
+
+    // How many bytes the sink has taken after each piece, and after what was held went out.
+    fn taken_after_each<const N: usize>(
+        mut buffer: PutBuffer<N>,
+        sink: &mut MemSink,
+        pieces: [&str; 5],
+    ) -> Result<[usize; 6], Failed> {
+        let mut taken = [0; 6];
+        for (i, piece) in pieces.iter().enumerate() {
+            buffer.put(sink, piece.as_bytes())?;
+            taken[i] = sink.taken().len();
+        }
+        buffer.flush(sink)?;
+        taken[5] = sink.taken().len();
+        Ok(taken)
+    }
+
+    #[test]
+    fn small_pieces_are_gathered(rt: HostRuntime) -> Result<(), Fail> {
+        let mut sink = cut_sink(rt.alloc(), 9)?;
+        let taken = taken_after_each(
+            PutBuffer::<8>::new(),
+            &mut sink,
+            ["ab", "cd", "ef", "gh", "i"],
+        );
+        assert_eq!(rt; taken, Ok([0, 0, 0, 0, 8, 9]));
+        assert_eq!(rt; sink.taken(), b"abcdefghi".as_slice());
+        Ok(())
+    }
+
+    #[test]
+    fn large_pieces_go_through_behind_what_is_held(rt: HostRuntime) -> Result<(), Fail> {
+        let mut sink = cut_sink(rt.alloc(), 15)?;
+        let taken = taken_after_each(
+            PutBuffer::<8>::new(),
+            &mut sink,
+            ["a", "bcd", "e", "", "fghijklmno"],
+        );
+        assert_eq!(rt; taken, Ok([0, 4, 4, 4, 15, 15]));
+        assert_eq!(rt; sink.taken(), b"abcdefghijklmno".as_slice());
+        Ok(())
+    }
+
+    #[test]
+    fn without_room_nothing_is_held(rt: HostRuntime) -> Result<(), Fail> {
+        let mut sink = cut_sink(rt.alloc(), 6)?;
+        let taken = taken_after_each(PutBuffer::<0>::new(), &mut sink, ["a", "bc", "", "d", "ef"]);
+        assert_eq!(rt; taken, Ok([1, 3, 3, 4, 6, 6]));
+        assert_eq!(rt; sink.taken(), b"abcdef".as_slice());
+        Ok(())
+    }
+
+    #[test]
+    fn after_a_failure_nothing_is_held(rt: HostRuntime) -> Result<(), Fail> {
+        for piece in ["cdefgh", "c"] {
+            let mut sink = cut_sink(rt.alloc(), 2)?;
+            let mut buffer = PutBuffer::<8>::new();
+            for held in ["ab", "ab", "ab", "ab"] {
+                assert_eq!(rt; buffer.put(&mut sink, held.as_bytes()), Ok(()));
+            }
+            assert_eq!(rt; buffer.put(&mut sink, piece.as_bytes()), Err(Failed));
+            assert_eq!(rt; buffer.flush(&mut sink), Ok(()));
+            assert_eq!(rt; sink.taken(), b"ab".as_slice());
+        }
+        Ok(())
+    }
+}
