@@ -59,12 +59,6 @@ chunk_end_is_chunk_end_of begin size num_records e h =
     (chunk_end_of_past_records begin size num_records) in
     omega (arith, low, high)
 
--- a chunk has one end
-pub chunk_end_unique : (begin size num_records e f : ℕ)
-    → IsChunkEnd begin size num_records e → IsChunkEnd begin size num_records f → e ≡ f
-chunk_end_unique begin size num_records e f h g =
-    omega (arith, chunk_end_is_chunk_end_of begin size num_records e h, chunk_end_is_chunk_end_of begin size num_records f g)
-
 -- a number that is it is the chunk's end
 pub chunk_end_from_number : (begin size num_records e : ℕ)
     → e ≡ chunk_end_of begin size num_records → IsChunkEnd begin size num_records e

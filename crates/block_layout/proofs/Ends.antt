@@ -1,4 +1,4 @@
--- Lemmas on the ends of bytes and of chunks.
+-- Lemmas on the ends of bytes, and on the boundary at or past a position.
 use Rattle.std.proofs.Common.{◌≡◌, ℕ, zero, suc, ◌+◌, ◌-◌, ◌*◌, ◌%◌, ◌<◌, ◌≤◌, refl, sym, subst, arith}
 use Rattle.block_layout.specs.Layout.{IsBlock, IsUsable, IsBoundary, IsEnd, room, usable_below, usable_at, end_of, boundary_from}
 use Rattle.block_layout.proofs.Room.{room-closed}
@@ -121,14 +121,6 @@ end_of_in_block begin (suc n) h g = omega (arith, end_of-some begin (suc n) (ome
 -- bytes that begin at a block come behind its header
 pub end_of_from_block : (begin size : ℕ) → IsBlock begin → 1 ≤ size → size ≤ 65512 → end_of begin size ≡ begin + 24 + size
 end_of_from_block begin size h g k = omega (arith, end_of-some begin size g)
-
--- the signature ends at 64
-pub end_of_signature : end_of 0 40 ≡ 64
-end_of_signature = omega (arith, end_of-some 0 40 (omega arith))
-
--- bytes behind the signature in the first block
-pub end_of_first : (size : ℕ) → size ≤ 65472 → end_of 64 size ≡ 64 + size
-end_of_first size h = end_of_in_block 64 size (omega arith) (omega arith)
 
 -- a position right behind a usable one, with so much room before it, is the end
 pub end_of_at : (begin size e : ℕ) → begin ≤ e → 1 ≤ size → room begin e ≡ size → IsUsable (e - 1) → e ≡ end_of begin size

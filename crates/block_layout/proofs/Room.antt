@@ -52,14 +52,6 @@ room_in_block b a e h g k l = omega (arith, room-closed a e)
 pub room_from_block : (b e : ℕ) → IsBlock b → b + 24 ≤ e → e ≤ b + 65536 → room b e ≡ e - (b + 24)
 room_from_block b e h g l = omega (arith, room-closed b e)
 
--- room in the first block, from its begin
-pub room_from_zero : (p : ℕ) → 24 ≤ p → p ≤ 65536 → room 0 p ≡ p - 24
-room_from_zero p h g = omega (arith, room-closed 0 p)
-
--- room in the first block, from the end of the signature
-pub room_from_signature : (p : ℕ) → 64 ≤ p → p ≤ 65536 → room 64 p ≡ p - 64
-room_from_signature p h g = omega (arith, room-closed 64 p)
-
 -- room stays the same where both positions move by whole blocks
 pub room_shift : (a b k : ℕ) → room (a + k * 65536) (b + k * 65536) ≡ room a b
 room_shift a b k = omega (arith, room-closed a b, room-closed (a + k * 65536) (b + k * 65536))

@@ -1,9 +1,13 @@
 -- Values counted by hand, computed from the definitions.
 use Rattle.std.proofs.lemmas.Bool.{cases_lt}
-use Rattle.std.proofs.Common.{◌≡◌, ℕ, zero, suc, ◌%◌, ◌<◌, ◌≤◌, inl, inr, ⊎_elim, ap, le_of_eq, le_trans, le-add_right, eq-or-lt_of_le, take, drop, slice_index, [], ◌∷◌, ◌++◌, lit<, lit≤, refl, arith}
+use Rattle.std.proofs.Common.{◌≡◌, ℕ, suc, ◌%◌, ◌<◌, ◌≤◌, inl, inr, ⊎_elim, ap, take, drop, slice_index, List, [], ◌∷◌, ◌++◌, replicate, lit<, lit≤, refl, arith}
+use Rattle.std.specs.Prelude.{map}
+use Rattle.std.specs.List.{range_with_len}
 use Rattle.highway_hash.specs.HighwayHash.{hash_of, finished, after_remainder, after_packets, finishing_round, updated, mixed, multiplied, zipped, reset, lanes_of, remainder_packet}
-use Rattle.block_layout.specs.Layout.{IsUsable, IsBoundary, room, IsEnd, IsChunkEnd, end_of, chunk_end_of}
-use Rattle.block_layout.specs.BlockHeaders.{block_header, IsRight, IsSane}
+use Rattle.highway_hash.specs.Riegeli.{with_hash, BeginsWithHash}
+use Rattle.block_layout.specs.Layout.{block_of, IsUsable, IsBoundary, room, IsEnd, IsChunkEnd, end_of, chunk_end_of, usable_bytes, own_bytes_at}
+use Rattle.block_layout.specs.BlockHeaders.{block_header, IsRightBlockHeader, IsSane, StandsAt}
+use Rattle.block_layout.proofs.Room.{room_mono}
 
 -- the signature chunk
 signature : chunk_end_of 0 40 0 ≡ 64
@@ -102,6 +106,58 @@ room_across_a_block : room 65530 65598 ≡ 44
 unfolding room
 room_across_a_block = refl
 
+-- bytes that are the numbers of their positions: over a block header its 24 are left out
+usable_over_a_header : usable_bytes 65530 (range_with_len 65530 40) ≡ range_with_len 65530 6 ++ range_with_len 65560 10
+unfolding usable_bytes
+usable_over_a_header = refl
+
+-- from a block on
+usable_from_a_block : usable_bytes 65536 (range_with_len 65536 30) ≡ range_with_len 65560 6
+unfolding usable_bytes
+usable_from_a_block = refl
+
+-- from the middle of a block header, none before its end
+usable_in_a_header : usable_bytes 65540 (range_with_len 65540 20) ≡ []
+unfolding usable_bytes
+usable_in_a_header = refl
+
+usable_behind_a_header : usable_bytes 65540 (range_with_len 65540 21) ≡ 65560 ∷ []
+unfolding usable_bytes
+usable_behind_a_header = refl
+
+-- at the begin of a file, 40 own bytes stand behind the block header
+own_at_the_begin : own_bytes_at (range_with_len 0 100) 0 40 ≡ range_with_len 24 40
+unfolding usable_bytes
+own_at_the_begin = refl
+
+-- a file that ends early has fewer
+own_cut_off : own_bytes_at (range_with_len 0 100) 64 40 ≡ range_with_len 64 36
+unfolding usable_bytes
+own_cut_off = refl
+
+own_at_the_end : own_bytes_at (range_with_len 0 100) 100 40 ≡ []
+unfolding usable_bytes
+own_at_the_end = refl
+
+own_past_the_end : own_bytes_at (range_with_len 0 100) 101 40 ≡ []
+unfolding usable_bytes
+own_past_the_end = refl
+
+-- over a block header
+own_over_a_header : own_bytes_at (range_with_len 0 65580) 65530 16 ≡ range_with_len 65530 6 ++ range_with_len 65560 10
+unfolding usable_bytes
+own_over_a_header = refl
+
+-- in a file that ends within it
+own_before_a_header : own_bytes_at (range_with_len 0 65550) 65530 16 ≡ range_with_len 65530 6
+unfolding usable_bytes
+own_before_a_header = refl
+
+-- at a block
+own_at_a_block : own_bytes_at (range_with_len 0 65580) 65536 16 ≡ range_with_len 65560 16
+unfolding usable_bytes
+own_at_a_block = refl
+
 -- the first 24 positions of a block are not usable, and of the 24 behind its begin none is a boundary
 not_usable : (p : ℕ) → p % 65536 < 24 → IsUsable p → ⊥
 not_usable p in_header usable = omega arith
@@ -189,14 +245,29 @@ unfolding hash_of finished after_remainder after_packets finishing_round updated
 inner_block_header = refl
 
 -- it has the hash that it should have
-first_is_right : IsRight (block_header 0 64)
+first_is_right : IsRightBlockHeader (block_header 0 64)
 unfolding hash_of finished after_remainder after_packets finishing_round updated mixed multiplied zipped reset lanes_of remainder_packet
-first_is_right = refl
+first_is_right = (refl, refl)
 
 -- a header with another next chunk behind that hash is not right
-changed_is_not_right : IsRight (take 8 (block_header 0 64) ++ drop 8 (block_header 0 65)) → ⊥
+changed_is_not_right : IsRightBlockHeader (take 8 (block_header 0 64) ++ drop 8 (block_header 0 65)) → ⊥
 unfolding hash_of finished after_remainder after_packets finishing_round updated mixed multiplied zipped reset lanes_of remainder_packet
-changed_is_not_right right = let first : slice_index (block_header 0 64) 0 ≡ 240 = ap (λ xs. slice_index xs 0) right in omega arith
+changed_is_not_right right = let first : slice_index (block_header 0 64) 0 ≡ 240 = ap (λ xs. slice_index xs 0) right.1 in omega arith
+
+-- the hash of no bytes, alone, begins with the hash of those behind it, and is no block header
+abbrev hash_alone : List ℕ
+hash_alone = 0xe1 ∷ 0x9f ∷ 0x13 ∷ 0xc0 ∷ 0xe9 ∷ 0xb1 ∷ 0xc3 ∷ 0x72 ∷ []
+
+hash_alone_begins_with_it : BeginsWithHash hash_alone
+unfolding hash_of finished after_remainder after_packets finishing_round updated mixed multiplied zipped reset lanes_of remainder_packet
+hash_alone_begins_with_it = refl
+
+hash_alone_is_not_right : IsRightBlockHeader hash_alone → ⊥
+hash_alone_is_not_right right = omega (arith, right.0)
+
+-- nor are 25 bytes
+one_byte_more_is_not_right : IsRightBlockHeader (with_hash (replicate 17 0)) → ⊥
+one_byte_more_is_not_right right = omega (arith, right.0)
 
 -- a block header that could stand at the first block after the file's begin
 sane : IsSane 65536 5382 24687
@@ -215,23 +286,13 @@ not_below n below reaches = omega arith
 not_sane : IsSane 65536 0 24 → ⊥
 not_sane is = not_below 24 (lit< tt) is.past_itself
 
--- more positions leave no less room
-room_grows : (a b c : ℕ) → b ≤ c → room a b ≤ room a c
-unfolding room
-room_grows a b zero h = let same : b ≡ 0 = omega arith in le_of_eq (ap (room a) same)
-room_grows a b (suc c) h =
-    ⊎_elim
-    (λ (same : b ≡ suc c). le_of_eq (ap (room a) same))
-    (λ (less : b < suc c). le_trans (room_grows a b c (omega arith)) (le-add_right _ _))
-    (eq-or-lt_of_le h)
-
 -- an end is where the room is reached, and where one position before it is not
 end_where_reached : (begin size last : ℕ) → begin ≤ last → room begin (suc last) ≡ size → room begin last < size → IsEnd begin size (suc last)
 end_where_reached begin size last after reached before = record {
   after = omega arith;
   holds = reached;
   least = λ e at_or_after holds. ⊎_elim
-      (λ (below : e < suc last). let less : room begin e ≤ room begin last = room_grows begin e last (omega arith) in absurd (omega arith))
+      (λ (below : e < suc last). let less : room begin e ≤ room begin last = room_mono begin e last (omega arith) in absurd (omega arith))
       (λ (past : suc last ≤ e). past)
       (cases_lt e (suc last));
 }
@@ -269,4 +330,16 @@ end_of_many_records = record {
       (λ (at_block : e % 65536 ≡ 0). omega arith)
       (λ (past : 25 ≤ e % 65536). omega arith)
       at_boundary;
+}
+
+-- the block at or before a position
+blocks : map block_of (0 ∷ 65535 ∷ 65536 ∷ 131071 ∷ []) ≡ 0 ∷ 0 ∷ 65536 ∷ 65536 ∷ []
+blocks = refl
+
+-- the first block header of a file stands there
+first_stands : StandsAt (block_header 0 64) 0 0 64
+first_stands = record {
+  is_block = refl;
+  bytes = refl;
+  sane = record { back = lit≤ tt; past_itself = lit≤ tt; in_reach = lit≤ tt; from_boundary = inl refl; to_boundary = inr (lit≤ tt) };
 }

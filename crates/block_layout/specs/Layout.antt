@@ -1,23 +1,41 @@
 -- Positions of a file, and where bytes stand between block headers. Source: the Riegeli/records file format
--- specification, "File format": blocks of 65536 bytes, each of which begins with a header of 24 bytes.
-use Rattle.std.specs.Prelude.{◌≡◌, ℕ, zero, suc, ◌+◌, ◌-◌, ◌*◌, ◌/◌, ◌%◌, ◌≤◌, ◌&&◌, ◌⊎◌, nat_le, ◌==◌, if◌then◌else◌, max}
+-- specification, "File format", blocks of 65536 bytes, each of which begins with a header of 24 bytes; "Chunk",
+-- where chunks end.
+use Rattle.std.specs.Prelude.{◌≡◌, ℕ, zero, suc, ◌+◌, ◌-◌, ◌*◌, ◌/◌, ◌%◌, ◌<◌, ◌≤◌, Bool, ◌&&◌, ◌⊎◌, nat_le, ◌==◌, if◌then◌else◌, max, List, [], ◌∷◌, take, drop}
 
--- a block begins at each multiple of 65536
+-- how many bytes a block has, a block header, and a chunk header
+abbrev pub block_size : ℕ
+block_size = 65536
+
+abbrev pub block_header_size : ℕ
+block_header_size = 24
+
+abbrev pub chunk_header_size : ℕ
+chunk_header_size = 40
+
+-- a block begins at each multiple of its size
 abbrev pub IsBlock : ℕ → Type 0
-IsBlock p = p % 65536 ≡ 0
+IsBlock p = p % block_size ≡ 0
 
--- a position that no block header takes
+-- the block at or before a position
+abbrev pub block_of : ℕ → ℕ
+block_of p = p / block_size * block_size
+
+-- a position that no block header takes, and the test for it
 abbrev pub IsUsable : ℕ → Type 0
-IsUsable p = 24 ≤ p % 65536
+IsUsable p = block_header_size ≤ p % block_size
+
+abbrev pub is_usable : ℕ → Bool
+is_usable p = nat_le block_header_size (p % block_size)
 
 -- where chunks may begin and end: at a block, or past the first usable position behind it
 abbrev pub IsBoundary : ℕ → Type 0
-IsBoundary p = (p % 65536 ≡ 0) ⊎ (25 ≤ p % 65536)
+IsBoundary p = IsBlock p ⊎ (block_header_size < p % block_size)
 
 -- how many usable positions p have a ≤ p < b
 unfoldable pub room : ℕ → ℕ → ℕ
 room a zero = 0
-room a (suc b) = room a b + (if nat_le a b && nat_le 24 (b % 65536) then 1 else 0)
+room a (suc b) = room a b + (if nat_le a b && is_usable b then 1 else 0)
 
 -- the end of so many bytes that begin at a position: the least position at or after it with that room between
 pub record IsEnd (begin size end : ℕ) : Type 0 where
@@ -35,13 +53,27 @@ pub record IsChunkEnd (begin size num_records end : ℕ) : Type 0 where
   pub past_records : begin + num_records ≤ end
   pub least : (e : ℕ) → IsBoundary e → bytes_end ≤ e → begin + num_records ≤ e → end ≤ e
 
+-- the bytes that stand at usable positions, of bytes that stand from a position on
+unfoldable pub usable_bytes : ℕ → List ℕ → List ℕ
+usable_bytes p [] = []
+usable_bytes p (b ∷ bs) = if is_usable p then b ∷ usable_bytes (p + 1) bs else usable_bytes (p + 1) bs
+
+-- the own bytes at a place: of a file's bytes at usable positions from there on, the first so many, or all where
+-- there are fewer
+abbrev pub own_bytes_at : List ℕ → ℕ → ℕ → List ℕ
+own_bytes_at file begin size = take size (usable_bytes begin (drop begin file))
+
+-- how many usable positions a block has
+abbrev pub usable_size : ℕ
+usable_size = block_size - block_header_size
+
 -- how many usable positions lie below one
 abbrev pub usable_below : ℕ → ℕ
-usable_below p = p / 65536 * 65512 + (p % 65536 - 24)
+usable_below p = p / block_size * usable_size + (p % block_size - block_header_size)
 
 -- the usable position that has n usable ones below it
 abbrev pub usable_at : ℕ → ℕ
-usable_at n = n / 65512 * 65536 + (24 + n % 65512)
+usable_at n = n / usable_size * block_size + (block_header_size + n % usable_size)
 
 -- the end as a number: right behind the last of the bytes
 unfoldable pub end_of : ℕ → ℕ → ℕ
@@ -49,7 +81,8 @@ end_of begin size = if size == 0 then begin else usable_at (usable_below begin +
 
 -- the least boundary at or after a position
 abbrev pub boundary_from : ℕ → ℕ
-boundary_from p = if p % 65536 == 0 then p else max p (p / 65536 * 65536 + 25)
+boundary_from p =
+    if p % block_size == 0 then p else max p (p / block_size * block_size + (block_header_size + 1))
 
 -- a chunk's end as a number
 unfoldable pub chunk_end_of : ℕ → ℕ → ℕ → ℕ

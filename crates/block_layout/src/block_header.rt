@@ -1,10 +1,9 @@
-ghost use Rattle.std.specs.Prelude.{◌≡◌, ℕ, ◌+◌, ◌^◌, ◌<◌, ◌≤◌, ◌↔◌, slice_range, IsTrue, IfSome, IfNone};
-ghost use Rattle.std.specs.Int.{w64, from_le_bytes};
+ghost use Rattle.std.specs.Prelude.{◌≡◌, ◌^◌, ◌<◌, ◌≤◌, ◌↔◌, IsTrue, IsNone, IfSome};
 ghost use Rattle.block_layout.specs.Layout.{IsBlock};
-ghost use Rattle.block_layout.specs.BlockHeaders.{block_header, IsRight, IsSane};
+ghost use Rattle.block_layout.specs.BlockHeaders.{block_header, IsRightBlockHeader, IsSane};
 
 use crate::positions::{BLOCK_HEADER_SIZE, MAX_POSITION, is_boundary};
-use highway_hash::{RIEGELI, hash};
+use highway_hash::{RIEGELI, begins_with_hash, hash_lanes};
 
 /// The header that stands in the first 24 bytes of each block: where the chunk that it interrupts begins
 /// and ends. "Block header".
@@ -17,38 +16,40 @@ pub struct BlockHeader {
 }
 
 impl BlockHeader {
-    /// The 24 bytes: the hash of the other 16, then the two numbers.
+    ghost use Rattle.block_layout.specs.declared.block_header.BlockHeader.{BlockHeader};
+
+    /// The bytes: the hash of the other 16, then the two numbers as little-endian words. "Block header".
     pub fn to_bytes(&self) -> [u8; 24]
         ensures { result ≡ block_header self.now.previous self.now.next }
     {
-        let mut bytes = [0; 24];
+        let mut bytes = [0; BLOCK_HEADER_SIZE as usize];
         bytes[8..16].copy_from_slice(&self.previous.to_le_bytes());
         bytes[16..].copy_from_slice(&self.next.to_le_bytes());
-        let hash = hash(&RIEGELI, &bytes[8..]);
+        let hash = hash_lanes(&RIEGELI, &bytes[8..]);
         bytes[..8].copy_from_slice(&hash.to_le_bytes());
         bytes
     }
 
-    /// The block header that the bytes are; `None` exactly where the hash does not match.
-    #[tactic(auto, using(crate::proofs::BlockHeaders::reading))]
+    /// The block header that the bytes are; `None` exactly where they do not begin with the hash of the others.
+    /// "Block header".
     pub fn from_bytes(bytes: &[u8; 24]) -> Option<BlockHeader>
-        ensures wrong { IfNone result (¬ (IsRight bytes.now)) }
-        ensures right { IfSome result (λ h. IsRight bytes.now) }
-        ensures value { IfSome result (λ h. bytes.now ≡ block_header h.previous h.next) }
-        ensures read_back { (previous next : ℕ) → previous < 2 ^ 64 → next < 2 ^ 64 → bytes.now ≡ block_header previous next
-            → result ≡ Some (record { previous = previous; next = next }) }
+        ensures refused { IsNone result ↔ (¬ IsRightBlockHeader bytes.now) }
+        ensures read { IfSome result (λ h. bytes.now ≡ block_header h.previous h.next) }
+        ensures sole { (h : BlockHeader) → h.previous < 2 ^ 64 → h.next < 2 ^ 64
+            → bytes.now ≡ block_header h.previous h.next → result ≡ Some h }
     {
-        if !hash_matches(bytes) {
+        if !begins_with_hash(bytes) {
             return None;
         }
+        let (words, _) = bytes.as_chunks::<8>();
         Some(BlockHeader {
-            previous: word_at(bytes, 8),
-            next: word_at(bytes, 16),
+            previous: u64::from_le_bytes(words[1]),
+            next: u64::from_le_bytes(words[2]),
         })
     }
 
-    /// Whether it could stand at the block: it leads back to a boundary of the file, and on to one that is past
-    /// the header and at most 2^63. Own.
+    /// Whether it could stand at the block, which is at or below 2^62: it leads back to a boundary of the file,
+    /// and on to one that is past the header and at most 2^63. Own.
     pub fn sane(&self, block: u64) -> bool
         requires at_block { IsBlock block }
         requires in_reach { block ≤ 2 ^ 62 }
@@ -60,21 +61,6 @@ impl BlockHeader {
             && is_boundary(block - self.previous)
             && is_boundary(block + self.next)
     }
-}
-
-// Whether the first eight bytes are the hash of the others.
-fn hash_matches(bytes: &[u8; 24]) -> bool
-    ensures { IsTrue result ↔ IsRight bytes.now }
-{
-    word_at(bytes, 0) == hash(&RIEGELI, &bytes[8..])
-}
-
-// The eight bytes at a place as a number.
-fn word_at(bytes: &[u8; 24], at: usize) -> u64
-    requires { at ≤ 16 }
-    ensures { result ≡ from_le_bytes w64 (slice_range bytes.now at (at + 8)) }
-{
-    u64::from_le_bytes(bytes[at..at + 8].try_into().unwrap())
 }
 
 #[cfg(test)]

@@ -1,19 +1,23 @@
 ghost use Rattle.std.specs.Prelude.{◌≡◌, ℕ, ◌+◌, ◌^◌, ◌<◌, ◌≤◌, ◌↔◌, IsTrue, IfSome, IfNone};
-ghost use Rattle.block_layout.specs.Layout.{IsBoundary, IsEnd, IsChunkEnd, usable_below, usable_at, end_of, boundary_from, chunk_end_of};
+ghost use Rattle.block_layout.specs.Layout.{IsBoundary, chunk_header_size, IsEnd, IsChunkEnd, usable_below, usable_at, end_of, boundary_from, chunk_end_of};
 
-const BLOCK_SIZE: u64 = 65_536;
+/// How many bytes a block has: a block begins at each multiple of this. "File format".
+pub const BLOCK_SIZE: u64 = 65_536;
 
-pub(crate) const BLOCK_HEADER_SIZE: u64 = 24;
+/// How many bytes a block header has: the first of each block. "Block header".
+pub const BLOCK_HEADER_SIZE: u64 = 24;
 
-const USABLE_SIZE: u64 = BLOCK_SIZE - BLOCK_HEADER_SIZE;
+/// How many bytes the header of a chunk has. "Chunk header".
+pub const CHUNK_HEADER_SIZE: u64 = 40;
 
-const CHUNK_HEADER_SIZE: u64 = 40;
+/// How many positions of a block its header leaves. "File format".
+pub const USABLE_SIZE: u64 = BLOCK_SIZE - BLOCK_HEADER_SIZE;
 
-// the greatest position of a file
+// The greatest position that a call answers.
 pub(crate) const MAX_POSITION: u64 = 1 << 63;
 
 /// Whether a chunk may begin or end at the position: at a block, or past the first byte behind a block header.
-/// Own, after "File format".
+/// "File format".
 pub fn is_boundary(position: u64) -> bool
     ensures { IsTrue result ↔ IsBoundary position }
 {
@@ -21,8 +25,8 @@ pub fn is_boundary(position: u64) -> bool
     within == 0 || within > BLOCK_HEADER_SIZE
 }
 
-/// Where `length` bytes end that begin at a boundary and leave room for the header of each block.
-/// `None` exactly where that is past 2^63. "File format".
+/// Where `length` bytes end that begin at a boundary, at or below 2^62, and leave room for the header of each
+/// block. `None` exactly where that is past 2^63. "Chunk".
 #[tactic(auto, using(crate::proofs::Ends::end_steps))]
 pub fn end_of(begin: u64, length: u64) -> Option<u64>
     requires in_reach { begin ≤ 2 ^ 62 }
@@ -47,19 +51,19 @@ pub fn end_of(begin: u64, length: u64) -> Option<u64>
     }
 }
 
-/// Where a chunk ends that begins at a boundary: the first boundary at or past the end of its header and
-/// its `data_size` bytes, and at least `num_records` past its begin.
+/// Where a chunk ends that begins at a boundary, at or below 2^62: the first boundary at or past the end of its
+/// header and its `data_size` bytes, and at least `num_records` past its begin, which are fewer than 2^56.
 /// `None` exactly where that is past 2^63. "Chunk".
 #[tactic(auto, using(crate::proofs::ChunkEnds::chunk_end_steps))]
 pub fn chunk_end(begin: u64, data_size: u64, num_records: u64) -> Option<u64>
     requires in_reach { begin ≤ 2 ^ 62 }
     requires from_boundary { IsBoundary begin }
     requires few_records { num_records < 2 ^ 56 }
-    ensures end { IfSome result (IsChunkEnd begin (40 + data_size) num_records) }
-    ensures number { IfSome result (λ e. e ≡ chunk_end_of begin (40 + data_size) num_records) }
+    ensures end { IfSome result (IsChunkEnd begin (chunk_header_size + data_size) num_records) }
+    ensures number { IfSome result (λ e. e ≡ chunk_end_of begin (chunk_header_size + data_size) num_records) }
     ensures within { IfSome result (λ e. e ≤ 2 ^ 63) }
-    ensures past { IfNone result ((e : ℕ) → IsChunkEnd begin (40 + data_size) num_records e → 2 ^ 63 < e) }
-    ensures past_number { IfNone result (2 ^ 63 < chunk_end_of begin (40 + data_size) num_records) }
+    ensures past { IfNone result ((e : ℕ) → IsChunkEnd begin (chunk_header_size + data_size) num_records e → 2 ^ 63 < e) }
+    ensures past_number { IfNone result (2 ^ 63 < chunk_end_of begin (chunk_header_size + data_size) num_records) }
 {
     let size = data_size.checked_add(CHUNK_HEADER_SIZE)?;
     let bytes_end = end_of(begin, size)?;
