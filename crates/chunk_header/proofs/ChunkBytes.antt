@@ -1,26 +1,9 @@
 -- The bytes of chunks.
-use Rattle.std.proofs.Common.{◌≡◌, ℕ, List, ◌++◌, length, get_or, Fits, append_assoc, sym, ap, ◌∙◌}
-use Rattle.std.specs.Int.{w8, w64}
+use Rattle.std.proofs.Common.{◌≡◌, ℕ, List, ◌++◌, length, append_assoc, sym, ap, ◌∙◌}
 use Rattle.highway_hash.specs.Riegeli.{with_hash}
-use Rattle.chunk_header.specs.Chunks.{ChunkValue, IsChunk, AreBytes, header_fields, header_bytes, own_bytes}
+use Rattle.chunk_header.specs.Chunks.{ChunkValue, header_fields, header_bytes, own_bytes}
 use Rattle.chunk_header.specs.declared.Chunk.{Chunk}
-use Rattle.chunk_header.proofs.Bytes.{AreBytes-from_get_or}
 use Rattle.chunk_header.specs.Views.{bytes_of_header, value_of_chunk, HasRightHash}
-
--- what a slice of bytes holds
-pub AreBytes-each : (xs : List ℕ) → ((i : ℕ) → Fits w8 (get_or xs i 0)) → AreBytes xs
-AreBytes-each xs each = AreBytes-from_get_or xs (λ i. let byte : Fits w8 (get_or xs i 0) = each i in byte.fits)
-
--- a chunk whose numbers and bytes fit their types
-pub IsChunk-fits : (c : Chunk) → Fits w8 c.header.kind → Fits w64 c.header.decoded_size
-    → Fits w64 c.header.data_size → ((i : ℕ) → Fits w8 (get_or c.bytes i 0)) → IsChunk (value_of_chunk c)
-IsChunk-fits c kind decoded_size data_size each = record {
-  kind = kind.fits;
-  num_records = c.header.few_records;
-  decoded_size = decoded_size.fits;
-  size = let sized : length c.bytes ≡ c.header.data_size = c.sized in rw sized data_size.fits;
-  bytes = AreBytes-each c.bytes each;
-}
 
 -- where the data's hash is right, the header's bytes are those of the chunk that it stands for
 pub header_bytes-right : (c : Chunk) → HasRightHash c → bytes_of_header c.header ≡ header_bytes (value_of_chunk c)

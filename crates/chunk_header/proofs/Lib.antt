@@ -1,7 +1,7 @@
 pub mod Lengths
-pub mod Bytes
 pub mod ChunkBytes
 pub mod Fields
 pub mod Headers
+pub mod OneList
 pub mod SimpleChunks
 mod Values

@@ -1,20 +1,40 @@
 -- Values counted by hand, computed from the definitions. The hashes are those of an independent program.
 use Rattle.std.specs.List.{concat}
-use Rattle.std.proofs.Common.{◌≡◌, ℕ, zero, suc, sym, ◌∙◌, ◌+◌, ◌*◌, ◌%◌, ◌<◌, ◌≤◌, List, [], ◌∷◌, ◌++◌, length, replicate, slice_index, lit<, lit≤, refl, ap, subst, append-nil, length-append, arith}
+use Rattle.std.proofs.Common.{◌≡◌, ℕ, suc, sym, ◌∙◌, ◌+◌, ◌*◌, ◌%◌, ◌<◌, ◌≤◌, List, [], ◌∷◌, ◌++◌, length, replicate, slice_index, lit<, refl, ap, subst, append-nil, length-append, arith}
 use Rattle.highway_hash.specs.HighwayHash.{hash_of, finished, after_remainder, after_packets, finishing_round, updated, mixed, multiplied, zipped, reset, lanes_of, remainder_packet}
+use Rattle.highway_hash.specs.Riegeli.{with_hash}
 use Rattle.varint_wire.specs.Varint.{Spells, SpellsEach, shortest}
-use Rattle.chunk_header.specs.Chunks.{ChunkValue, IsChunk, header_fields, header_bytes, own_bytes}
+use Rattle.varint_wire.proofs.Spellings.{Spells-small}
+use Rattle.varint_wire.proofs.Values.{longer_spelling_of_1}
+use Rattle.chunk_header.specs.Chunks.{ChunkValue, IsChunk, IsRightChunkHeader, header_fields, header_bytes, own_bytes}
 use Rattle.chunk_header.specs.SimpleChunks.{IsSimple, simple_data, simple_chunk}
 
--- the header of the signature chunk
-signature_header : header_bytes (record { kind = 0x73; num_records = 0; decoded_size = 0; «data» = [] }) ≡
+-- a header of no data and no records, with the hash of no data
+empty_header : (kind : ℕ) → List ℕ
+empty_header kind =
     0x91 ∷ 0xba ∷ 0xc2 ∷ 0x3c ∷ 0x92 ∷ 0x87 ∷ 0xe1 ∷ 0xa9
     ∷ 0 ∷ 0 ∷ 0 ∷ 0 ∷ 0 ∷ 0 ∷ 0 ∷ 0
     ∷ 0xe1 ∷ 0x9f ∷ 0x13 ∷ 0xc0 ∷ 0xe9 ∷ 0xb1 ∷ 0xc3 ∷ 0x72
-    ∷ 0x73 ∷ 0 ∷ 0 ∷ 0 ∷ 0 ∷ 0 ∷ 0 ∷ 0
+    ∷ kind ∷ 0 ∷ 0 ∷ 0 ∷ 0 ∷ 0 ∷ 0 ∷ 0
     ∷ 0 ∷ 0 ∷ 0 ∷ 0 ∷ 0 ∷ 0 ∷ 0 ∷ 0 ∷ []
-unfolding hash_of finished after_remainder after_packets finishing_round updated mixed multiplied zipped reset lanes_of remainder_packet
+
+-- the header of the signature chunk
+signature_header : header_bytes (record { kind = 0x73; num_records = 0; decoded_size = 0; «data» = [] }) ≡ empty_header 0x73
+unfolding empty_header hash_of finished after_remainder after_packets finishing_round updated mixed multiplied zipped reset lanes_of remainder_packet
 signature_header = refl
+
+-- it is right, and with another kind it isn't
+signature_is_right : IsRightChunkHeader (empty_header 0x73)
+unfolding empty_header hash_of finished after_remainder after_packets finishing_round updated mixed multiplied zipped reset lanes_of remainder_packet
+signature_is_right = (refl, refl)
+
+changed_kind_is_not_right : IsRightChunkHeader (empty_header 0x72) → ⊥
+unfolding empty_header hash_of finished after_remainder after_packets finishing_round updated mixed multiplied zipped reset lanes_of remainder_packet
+changed_kind_is_not_right is = omega (arith, ap (λ xs. slice_index xs 0) is.1)
+
+-- the hash of nothing, and nothing behind it, is no header
+hash_alone_is_not_right : IsRightChunkHeader (with_hash []) → ⊥
+hash_alone_is_not_right is = omega (arith, is.0)
 
 -- each field in its place, the lowest byte first: 7 bytes hold the number of records
 fields_in_place : header_fields 0x0102030405060708 0x1112131415161718 0x72 0x21222324252627 0x3132333435363738 ≡
@@ -67,31 +87,6 @@ counts_of_three = refl
 sizes_of_three : (simple_chunk ((0x61 ∷ []) ∷ (0x62 ∷ 0x63 ∷ []) ∷ [] ∷ [])).decoded_size ≡ 3
 sizes_of_three = refl
 
--- each number below 128 is spelled by itself, and 1 also by 81 00
-spelling_of_byte : (b : ℕ) → b < 128 → Spells b (b ∷ [])
-spelling_of_byte b small = record {
-  some = lit< tt;
-  at_most_ten = lit≤ tt;
-  continued = λ i h. let past : i + 1 < 1 = h in absurd (omega arith);
-  ended = small;
-  value_is = omega arith;
-  fits = omega arith;
-}
-
-first_continues : (i : ℕ) → i + 1 < 2 → (128 ≤ slice_index (0x81 ∷ 0x00 ∷ []) i) × (slice_index (0x81 ∷ 0x00 ∷ []) i < 256)
-first_continues zero h = (lit≤ tt, lit< tt)
-first_continues (suc i) h = absurd (omega arith)
-
-longer_spelling_of_1 : Spells 1 (0x81 ∷ 0x00 ∷ [])
-longer_spelling_of_1 = record {
-  some = lit< tt;
-  at_most_ten = lit≤ tt;
-  continued = first_continues;
-  ended = lit< tt;
-  value_is = refl;
-  fits = lit< tt;
-}
-
 -- the record `a`, where the size of the sizes has a longer spelling
 simple_with_a_longer_spelling : IsSimple (record { kind = 0x72; num_records = 1; decoded_size = 1; «data» = 0x00 ∷ 0x81 ∷ 0x00 ∷ 0x01 ∷ 0x61 ∷ [] }) ((0x61 ∷ []) ∷ [])
 simple_with_a_longer_spelling = record {
@@ -101,7 +96,7 @@ simple_with_a_longer_spelling = record {
   spelled_size = 0x81 ∷ 0x00 ∷ [];
   sizes = 0x01 ∷ [];
   spells_size = longer_spelling_of_1;
-  spells_each = (0x01 ∷ [], [], refl, spelling_of_byte 1 (lit< tt), refl);
+  spells_each = (0x01 ∷ [], [], refl, Spells-small 1 (lit< tt), refl);
   «data» = refl;
 }
 
@@ -113,7 +108,7 @@ simple_of_none = record {
   decoded_size = refl;
   spelled_size = 0x00 ∷ [];
   sizes = [];
-  spells_size = spelling_of_byte 0 (lit< tt);
+  spells_size = Spells-small 0 (lit< tt);
   spells_each = refl;
   «data» = refl;
 }
@@ -185,18 +180,18 @@ simple_of bytes = record { kind = 0x72; num_records = 1; decoded_size = 1; «dat
 
 other_sum_is_not_simple : (records : List (List ℕ)) → IsSimple (simple_of (0x00 ∷ 0x01 ∷ 0x02 ∷ 0x61 ∷ [])) records → ⊥
 unfolding simple_of
-other_sum_is_not_simple [] is = let h : 1 ≡ 0 = is.num_records in omega arith
+other_sum_is_not_simple [] is = omega (arith, is.num_records)
 other_sum_is_not_simple (r ∷ []) is =
     let it = only_record _ r is in
     let whole : 1 ≡ 0 + length r = is.decoded_size in
     other_sum is.spelled_size is.sizes r is.spells_size it.0 (omega arith) it.1
-other_sum_is_not_simple (r ∷ s ∷ more) is = let h : 1 ≡ suc (suc (length more)) = is.num_records in omega arith
+other_sum_is_not_simple (r ∷ s ∷ more) is = omega (arith, is.num_records)
 
 byte_left_is_not_simple : (records : List (List ℕ)) → IsSimple (simple_of (0x00 ∷ 0x02 ∷ 0x01 ∷ 0x00 ∷ 0x61 ∷ [])) records → ⊥
 unfolding simple_of
-byte_left_is_not_simple [] is = let h : 1 ≡ 0 = is.num_records in omega arith
+byte_left_is_not_simple [] is = omega (arith, is.num_records)
 byte_left_is_not_simple (r ∷ []) is =
     let it = only_record _ r is in
     let whole : 1 ≡ 0 + length r = is.decoded_size in
     byte_left is.spelled_size is.sizes r is.spells_size it.0 (omega arith) it.1
-byte_left_is_not_simple (r ∷ s ∷ more) is = let h : 1 ≡ suc (suc (length more)) = is.num_records in omega arith
+byte_left_is_not_simple (r ∷ s ∷ more) is = omega (arith, is.num_records)

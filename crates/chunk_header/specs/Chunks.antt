@@ -1,8 +1,12 @@
 -- Chunks and their headers. Source: the Riegeli/records file format specification, "Chunk" and "Chunk header".
-use Rattle.std.specs.Prelude.{ℕ, ◌^◌, ◌<◌, List, ◌∷◌, ◌++◌, length, take}
-use Rattle.std.specs.List.{AllByRecursion}
+use Rattle.std.specs.Prelude.{◌≡◌, ℕ, ◌^◌, ◌<◌, List, ◌∷◌, ◌++◌, length, take}
 use Rattle.std.specs.Int.{w64, to_le_bytes}
-use Rattle.highway_hash.specs.Riegeli.{riegeli_hash, with_hash}
+use Rattle.highway_hash.specs.Riegeli.{riegeli_hash, with_hash, BeginsWithHash}
+use Rattle.record_io.specs.Bytes.{AreBytes}
+
+-- how many bytes a chunk header has
+abbrev pub header_size : ℕ
+header_size = 40
 
 -- a chunk: its kind, how many records it holds, their size once decoded, and its data
 pub record ChunkValue : Type 0 where
@@ -10,10 +14,6 @@ pub record ChunkValue : Type 0 where
   pub num_records : ℕ
   pub decoded_size : ℕ
   pub «data» : List ℕ
-
--- each number is a byte
-abbrev pub AreBytes : List ℕ → Type 0
-AreBytes = AllByRecursion (λ b. b < 256)
 
 -- what a chunk header can hold
 pub record IsChunk (k : ChunkValue) : Type 0 where
@@ -32,10 +32,14 @@ header_fields data_size data_hash kind num_records decoded_size =
     ++ kind ∷ take 7 (to_le_bytes w64 num_records)
     ++ to_le_bytes w64 decoded_size
 
--- the 40 bytes of a chunk's header, of which both hashes are right
+-- the bytes of a chunk's header, of which both hashes are right
 abbrev pub header_bytes : ChunkValue → List ℕ
 header_bytes k =
     with_hash (header_fields (length k.«data») (riegeli_hash k.«data») k.kind k.num_records k.decoded_size)
+
+-- a chunk header whose own hash matches: as many bytes as a header has, which begin with the hash of the others
+abbrev pub IsRightChunkHeader : List ℕ → Type 0
+IsRightChunkHeader bytes = (length bytes ≡ header_size) × BeginsWithHash bytes
 
 -- the chunk's own bytes: header and data, with no block header between
 abbrev pub own_bytes : ChunkValue → List ℕ

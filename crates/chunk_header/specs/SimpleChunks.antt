@@ -5,10 +5,14 @@ use Rattle.std.specs.List.{concat, flat_map}
 use Rattle.varint_wire.specs.Varint.{Spells, SpellsEach, shortest}
 use Rattle.chunk_header.specs.Chunks.{ChunkValue}
 
+-- the kind of a simple chunk
+abbrev pub simple_kind : ℕ
+simple_kind = 0x72
+
 -- the chunk holds these records: the data is a compression type of 0, a spelling of how many bytes the sizes
 -- take, a spelling of each record's size, and the records joined
 pub record IsSimple (k : ChunkValue) (records : List (List ℕ)) : Type 0 where
-  pub kind : k.kind ≡ 0x72
+  pub kind : k.kind ≡ simple_kind
   pub num_records : k.num_records ≡ length records
   pub decoded_size : k.decoded_size ≡ sum (map length records)
   pub spelled_size : List ℕ
@@ -28,7 +32,7 @@ simple_data records = 0 ∷ shortest (length (sizes_of records)) ++ sizes_of rec
 -- that chunk
 abbrev pub simple_chunk : List (List ℕ) → ChunkValue
 simple_chunk records = record {
-  kind = 0x72;
+  kind = simple_kind;
   num_records = length records;
   decoded_size = sum (map length records);
   «data» = simple_data records;

@@ -1,4 +1,5 @@
--- What headers and chunks of the program stand for.
+-- What headers and chunks of the program stand for. Source: the Riegeli/records file format specification, "Chunk
+-- header".
 use Rattle.std.specs.Prelude.{◌≡◌, ℕ, ◌<◌, ◌^◌, List}
 use Rattle.highway_hash.specs.Riegeli.{riegeli_hash, with_hash}
 use Rattle.chunk_header.specs.Chunks.{ChunkValue, header_fields}

@@ -2,13 +2,18 @@
 //! and "Chunk header".
 #![tactic(auto)]
 
-ghost use Rattle.std.specs.Prelude.{◌≡◌, ◌≢◌, ◌↔◌, ◌+◌, ◌≤◌, ◌^◌, ◌<◌, length, drop, slice_range, Some, IsNone, IfSome, IsTrue};
-ghost use Rattle.std.specs.Int.{w64, to_le_bytes, from_le_bytes};
-ghost use Rattle.highway_hash.specs.Riegeli.{riegeli_hash, with_hash};
-ghost use Rattle.chunk_header.specs.Chunks.{AreBytes, IsChunk};
+pub mod laws;
 
-use highway_hash::{RIEGELI, hash};
+ghost use Rattle.std.specs.Prelude.{◌≡◌, ◌↔◌, ◌^◌, ◌<◌, length, Some, IsNone, IfSome, IsTrue};
+ghost use Rattle.chunk_header.specs.Chunks.{IsChunk, IsRightChunkHeader};
+
+use highway_hash::{RIEGELI, begins_with_hash, hash_lanes};
 use record_io::Bytes;
+
+/// How many bytes the header of a chunk has.
+///
+/// Riegeli/records file format specification, "Chunk header".
+pub const HEADER_SIZE: usize = 40;
 
 /// The header of a chunk. Sizes are in bytes.
 ///
@@ -21,7 +26,7 @@ pub struct Header {
     pub data_hash: u64,
     /// The kind of the chunk.
     pub kind: u8,
-    /// How many records the chunk holds.
+    /// How many records the chunk holds: fewer than 2^56.
     pub num_records: u64,
     /// How many bytes the records have once they are decoded.
     pub decoded_size: u64,
@@ -30,58 +35,41 @@ pub struct Header {
 
 impl Header {
     ghost use Rattle.chunk_header.specs.declared.Header.{Header};
-    ghost use Rattle.chunk_header.specs.Views.{IsHeader, fields_of_header, bytes_of_header};
+    ghost use Rattle.chunk_header.specs.Views.{IsHeader, bytes_of_header};
 
-    /// The header's 40 bytes: the hash of its fields, and the fields.
-    pub fn to_bytes(&self) -> [u8; 40]
+    /// The 40 bytes: the hash of the other 32, then the fields.
+    pub fn to_bytes(&self) -> [u8; HEADER_SIZE]
         ensures { result ≡ bytes_of_header self.now }
     {
-        let fields = self.fields();
-        let mut bytes = [0; 40];
-        bytes[..8].copy_from_slice(&hash_of(&fields).to_le_bytes());
-        bytes[8..].copy_from_slice(&fields);
+        let mut bytes = [0; HEADER_SIZE];
+        bytes[8..16].copy_from_slice(&self.data_size.to_le_bytes());
+        bytes[16..24].copy_from_slice(&self.data_hash.to_le_bytes());
+        bytes[24] = self.kind;
+        bytes[25..32].copy_from_slice(&self.num_records.to_le_bytes()[..7]);
+        bytes[32..].copy_from_slice(&self.decoded_size.to_le_bytes());
+        let hash = hash_lanes(&RIEGELI, &bytes[8..]);
+        bytes[..8].copy_from_slice(&hash.to_le_bytes());
         bytes
     }
 
-    /// The header that the bytes are. None exactly where they do not begin with the hash of the others.
-    pub fn from_bytes(bytes: &[u8; 40]) -> Option<Header>
-        ensures refused { IsNone result ↔ (bytes.now ≢ with_hash (drop 8 bytes.now)) }
+    /// The header that the bytes are; `None` exactly where they do not begin with the hash of the others.
+    pub fn from_bytes(bytes: &[u8; HEADER_SIZE]) -> Option<Header>
+        ensures refused { IsNone result ↔ (¬ IsRightChunkHeader bytes.now) }
         ensures read { IfSome result (λ h. bytes.now ≡ bytes_of_header h) }
         ensures sole { (h : Header) → IsHeader h → bytes.now ≡ bytes_of_header h → result ≡ Some h }
     {
-        let fields = &bytes[8..];
-        if word_at(bytes, 0) != hash_of(fields) {
+        if !begins_with_hash(bytes) {
             return None;
         }
-        Some(Header::of_fields(fields))
-    }
-
-    // The bytes behind the header's hash.
-    fn fields(&self) -> [u8; 32]
-        ensures { result ≡ fields_of_header self.now }
-    {
-        let mut bytes = [0; 32];
-        bytes[..8].copy_from_slice(&self.data_size.to_le_bytes());
-        bytes[8..16].copy_from_slice(&self.data_hash.to_le_bytes());
-        bytes[16] = self.kind;
-        bytes[17..24].copy_from_slice(&self.num_records.to_le_bytes()[..7]);
-        bytes[24..].copy_from_slice(&self.decoded_size.to_le_bytes());
-        bytes
-    }
-
-    // The header whose bytes behind its hash these are.
-    fn of_fields(bytes: &[u8]) -> Header
-        requires { length bytes.now ≡ 32 }
-        ensures fields { bytes.now ≡ fields_of_header result }
-        ensures sound { IsHeader result }
-    {
-        Header {
-            data_size: word_at(bytes, 0),
-            data_hash: word_at(bytes, 8),
-            kind: bytes[16],
-            num_records: word_at(bytes, 16) >> 8,
-            decoded_size: word_at(bytes, 24),
-        }
+        let (words, _) = bytes.as_chunks::<8>();
+        // Word 3 is the kind's byte and the seven bytes of the number of records.
+        Some(Header {
+            data_size: u64::from_le_bytes(words[1]),
+            data_hash: u64::from_le_bytes(words[2]),
+            kind: bytes[24],
+            num_records: u64::from_le_bytes(words[3]) >> 8,
+            decoded_size: u64::from_le_bytes(words[4]),
+        })
     }
 }
 
@@ -103,18 +91,25 @@ impl Chunk {
     /// The chunk of these fields and this data, whose hash is taken here. `decoded_size` is in bytes.
     pub fn new(kind: u8, num_records: u64, decoded_size: u64, bytes: Bytes) -> Chunk
         requires { num_records < 2 ^ 56 }
-        ensures value { value_of_chunk result ≡ record { kind = kind; num_records = num_records; decoded_size = decoded_size; «data» = bytes } }
+        ensures value { value_of_chunk result ≡ record {
+          kind = kind;
+          num_records = num_records;
+          decoded_size = decoded_size;
+          «data» = bytes;
+        } }
         ensures right { HasRightHash result }
         ensures sound { IsChunk (value_of_chunk result) }
     {
-        let header = Header {
-            data_size: bytes.len() as u64,
-            data_hash: hash_of(bytes.as_slice()),
-            kind,
-            num_records,
-            decoded_size,
-        };
-        Chunk { header, bytes }
+        Chunk {
+            header: Header {
+                data_size: bytes.len() as u64,
+                data_hash: hash_lanes(&RIEGELI, bytes.as_slice()),
+                kind,
+                num_records,
+                decoded_size,
+            },
+            bytes,
+        }
     }
 
     /// The chunk of a header and as many bytes of data as the header says. The header's hash of the data may be
@@ -123,35 +118,17 @@ impl Chunk {
         requires { length bytes ≡ header.data_size }
         ensures header { result.header ≡ header }
         ensures bytes { result.bytes ≡ bytes }
+        ensures sound { IsChunk (value_of_chunk result) }
     {
         Chunk { header, bytes }
     }
 
     /// Whether the header has the data's hash.
     pub fn hash_right(&self) -> bool
-        ensures answer { IsTrue result ↔ HasRightHash self.now }
-        ensures sound { IsChunk (value_of_chunk self.now) }
+        ensures { IsTrue result ↔ HasRightHash self.now }
     {
-        let header = self.header;
-        header.data_hash == hash_of(self.bytes.as_slice())
+        self.header.data_hash == hash_lanes(&RIEGELI, self.bytes.as_slice())
     }
-}
-
-// The hash of the bytes, as both hashes of a header are taken.
-fn hash_of(bytes: &[u8]) -> u64
-    ensures value { result ≡ riegeli_hash bytes.now }
-    ensures are_bytes { AreBytes bytes.now }
-{
-    hash(&RIEGELI, bytes)
-}
-
-// The number that stands in the eight bytes from a place on.
-fn word_at(bytes: &[u8], at: usize) -> u64
-    requires { at + 8 ≤ length bytes.now }
-    ensures value { result ≡ from_le_bytes w64 (slice_range bytes.now at (at + 8)) }
-    ensures bytes { to_le_bytes w64 result ≡ slice_range bytes.now at (at + 8) }
-{
-    u64::from_le_bytes(bytes[at..at + 8].try_into().unwrap())
 }
 
 #[cfg(test)]
@@ -160,7 +137,7 @@ mod tests {
     use std::test::Fail;
 
     // The header of the chunk that each file begins with.
-    const SIGNATURE: [u8; 40] = [
+    const SIGNATURE: [u8; HEADER_SIZE] = [
         0x91, 0xba, 0xc2, 0x3c, 0x92, 0x87, 0xe1, 0xa9, 0, 0, 0, 0, 0, 0, 0, 0, 0xe1, 0x9f, 0x13,
         0xc0, 0xe9, 0xb1, 0xc3, 0x72, 0x73, 0, 0, 0, 0, 0, 0, 0, 0, 0, 0, 0, 0, 0, 0, 0,
     ];
@@ -175,7 +152,7 @@ mod tests {
 
     #[test]
     fn a_changed_byte_is_refused(rt: HostRuntime) -> Result<(), Fail> {
-        for at in 0..40 {
+        for at in 0..HEADER_SIZE {
             let mut bytes = SIGNATURE;
             bytes[at] ^= 1;
             assert_eq!(rt; Header::from_bytes(&bytes), None);
