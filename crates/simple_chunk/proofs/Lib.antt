@@ -1,0 +1,5 @@
+pub mod CostLemmas
+pub mod RecordLists
+mod Sizes
+pub mod SimpleChunks
+mod Values

@@ -1,0 +1,109 @@
+ghost use Rattle.std.specs.Prelude.{◌≡◌, ◌+◌, ◌^◌, ◌≤◌, ◌++◌, length, vec_len, vec_capacity, IfOk};
+ghost use Rattle.varint_wire.specs.Varint.{shortest};
+ghost use Rattle.chunk_header.specs.Chunks.{IsChunk};
+ghost use Rattle.chunk_header.specs.SimpleChunks.{IsSimple, simple_chunk, simple_data, sizes_of};
+ghost use Rattle.chunk_header.specs.Views.{value_of_chunk, HasRightHash};
+ghost use Rattle.simple_chunk.specs.Costs.{cost_of};
+
+use crate::record_list::Records;
+use chunk_header::Chunk;
+use record_io::Bytes;
+use std::alloc::{AllocError, Global};
+
+/// The kind of a simple chunk.
+const SIMPLE: u8 = b'r';
+
+/// The compression type of data that is not compressed.
+const UNCOMPRESSED: u8 = 0;
+
+/// The simple chunk of the records, with the shortest varints. The memory for its data is taken at once, before
+/// any of it is written, and nothing else here can fail.
+///
+/// Riegeli/records file format specification, "Simple chunk with records".
+pub fn encode(alloc: Global, records: &Records) -> Result<Chunk, AllocError>
+    requires { cost_of records.now ≤ 2 ^ 25 }
+    ensures value { IfOk result (λ chunk. value_of_chunk chunk ≡ simple_chunk records.now) }
+    ensures holds { IfOk result (λ chunk. IsSimple (value_of_chunk chunk) records.now) }
+    ensures right { IfOk result (λ chunk. HasRightHash chunk) }
+    ensures sound { IfOk result (λ chunk. IsChunk (value_of_chunk chunk)) }
+{
+    let data = encode_data(alloc, records)?;
+    let decoded_size = records.values().len() as u64;
+    Ok(Chunk::new(
+        SIMPLE,
+        records.len() as u64,
+        decoded_size,
+        Bytes::from(data),
+    ))
+}
+
+/// The data of that chunk.
+fn encode_data(alloc: Global, records: &Records) -> Result<Vec<u8>, AllocError>
+    requires { cost_of records.now ≤ 2 ^ 25 }
+    ensures { IfOk result (λ bytes. bytes.items ≡ simple_data records.now) }
+{
+    let values = records.values();
+    let sizes_len = sizes_len(records);
+    let len = 1 + varint_len(sizes_len) + sizes_len + values.len();
+    let mut data = Vec::with_capacity(alloc, len)?;
+    append(&mut data, &[UNCOMPRESSED]);
+    append_varint(&mut data, sizes_len);
+    append_sizes(&mut data, records);
+    append(&mut data, values);
+    Ok(data)
+}
+
+/// How many bytes the sizes of the records take.
+fn sizes_len(records: &Records) -> usize
+    requires { cost_of records.now ≤ 2 ^ 25 }
+    ensures { result ≡ length (sizes_of records.now) }
+{
+    let mut len = 0;
+    for i in 0..records.len() {
+        len += varint_len(records.get(i).len());
+    }
+    len
+}
+
+/// Appends the sizes of the records, for which there is room.
+fn append_sizes(out: &mut Vec<u8>, records: &Records)
+    requires { vec_len out.old + length (sizes_of records.now) ≤ vec_capacity out.old }
+    ensures items { out.new.items ≡ out.old.items ++ sizes_of records.now }
+    ensures room { vec_capacity out.old ≤ vec_capacity out.new }
+{
+    for i in 0..records.len() {
+        append_varint(out, records.get(i).len());
+    }
+}
+
+/// How many bytes the shortest varint of a number has.
+fn varint_len(value: usize) -> usize
+    ensures { result ≡ length (shortest value) }
+{
+    varint_wire::write(value as u64, &mut [0; 10])
+}
+
+/// Appends the shortest varint of a number, for which there is room.
+fn append_varint(out: &mut Vec<u8>, value: usize)
+    requires { vec_len out.old + length (shortest value) ≤ vec_capacity out.old }
+    ensures items { out.new.items ≡ out.old.items ++ shortest value }
+    ensures room { vec_capacity out.old ≤ vec_capacity out.new }
+{
+    // Most sizes take one byte.
+    if value < 0x80 {
+        out.push(value as u8).unwrap();
+        return;
+    }
+    let mut buf = [0; 10];
+    let len = varint_wire::write(value as u64, &mut buf);
+    append(out, &buf[..len]);
+}
+
+/// Appends bytes for which there is room.
+fn append(out: &mut Vec<u8>, piece: &[u8])
+    requires { vec_len out.old + length piece.now ≤ vec_capacity out.old }
+    ensures items { out.new.items ≡ out.old.items ++ piece.now }
+    ensures room { vec_capacity out.old ≤ vec_capacity out.new }
+{
+    out.extend_from_slice(piece).unwrap();
+}

@@ -1,0 +1,13 @@
+//! Lists of records, and the simple chunks without compression that hold them, as the Riegeli/records file
+//! format specification has them under "Simple chunk with records". Sizes are in bytes. "Own." stands where this
+//! project decided.
+#![tactic(auto)]
+
+mod encoding;
+mod record_list;
+
+pub use encoding::encode;
+pub use record_list::{RECORD_COST, Records};
+
+#[cfg(test)]
+mod tests;

@@ -1,0 +1,100 @@
+ghost use Rattle.std.specs.Prelude.{◌≡◌, ◌↔◌, ◌<◌, ◌≤◌, Some, [], ◌∷◌, ◌++◌, length, slice_get, IsTrue, OnOk, OnErr};
+ghost use Rattle.std.specs.List.{AllByRecursion, concat};
+ghost use Rattle.record_io.specs.Bytes.{AreBytes};
+ghost use Rattle.simple_chunk.specs.Costs.{cost_of};
+ghost use Rattle.simple_chunk.specs.Records.{record_begin};
+
+use record_io::Bytes;
+use std::alloc::{AllocError, Global};
+use std::marker::Model;
+
+/// What a record costs beside its bytes. Own.
+pub const RECORD_COST: u64 = 8;
+
+/// A growing list of records, which contracts see as that list. They lie joined in one piece of memory. Own.
+#[derive(Debug, Drop)]
+pub struct Records {
+    values: Bytes,
+    ends: Vec<usize>,
+}
+
+impl Model for Records {
+    ghost use Rattle.std.specs.Prelude.{ℕ, List, length};
+    ghost use Rattle.simple_chunk.specs.Records.{records_from, AreEnds};
+
+    ghost Value = { List (List ℕ) };
+
+    ghost view = { λ r. records_from 0 r.ends.items r.values };
+
+    ghost invariant = { λ r. AreEnds 0 r.ends.items (length r.values) };
+}
+
+impl Records {
+    /// No records. It takes no memory.
+    pub fn new(alloc: Global) -> Records
+        ensures { result ≡ [] }
+    {
+        Records {
+            values: Bytes::new(alloc),
+            ends: Vec::new(alloc),
+        }
+    }
+
+    /// Appends a record. After want of memory the records are as before.
+    pub fn push(&mut self, rec: &[u8]) -> Result<(), AllocError>
+        ensures appends { OnOk result (self.new ≡ self.old ++ rec.now ∷ []) }
+        ensures kept { OnErr result (self.new ≡ self.old) }
+    {
+        self.ends.reserve(1)?;
+        self.values.push_all(rec)?;
+        self.ends.push(self.values.len()).unwrap();
+        Ok(())
+    }
+
+    /// How many records there are.
+    pub fn len(&self) -> usize
+        ensures { result ≡ length self.now }
+    {
+        self.ends.len()
+    }
+
+    /// Whether there are no records.
+    pub fn is_empty(&self) -> bool
+        ensures { IsTrue result ↔ (self.now ≡ []) }
+    {
+        self.len() == 0
+    }
+
+    /// The record of this number, which counts from 0 and is below `len`.
+    pub fn get(&self, i: usize) -> &[u8]
+        requires { i < length self.now }
+        ensures { slice_get self.now i ≡ Some result.now }
+    {
+        let begin = record_begin(&self.ends, i);
+        let end = self.ends[i];
+        &self.values.as_slice()[begin..end]
+    }
+
+    /// All records joined.
+    pub fn values(&self) -> &[u8]
+        ensures value { result.now ≡ concat self.now }
+        ensures are_bytes { AllByRecursion AreBytes self.now }
+    {
+        self.values.as_slice()
+    }
+
+    /// What the records cost: for each its length and 8. Own.
+    pub fn cost(&self) -> u64
+        ensures { result ≡ cost_of self.now }
+    {
+        self.values.as_slice().len() as u64 + RECORD_COST * self.ends.as_slice().len() as u64
+    }
+}
+
+/// Where the record of this number begins, from the places where the records end.
+fn record_begin(ends: &[usize], i: usize) -> usize
+    requires { i ≤ length ends.now }
+    ensures { result ≡ record_begin 0 ends.now i }
+{
+    if i == 0 { 0 } else { ends[i - 1] }
+}
