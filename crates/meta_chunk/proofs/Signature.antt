@@ -5,11 +5,11 @@ use Rattle.highway_hash.specs.HighwayHash.{hash_of, finished, after_remainder, a
 use Rattle.block_layout.specs.Layout.{room, end_of, chunk_end_of}
 use Rattle.block_layout.specs.BlockHeaders.{block_header}
 use Rattle.chunk_header.specs.Chunks.{own_bytes}
-use Rattle.meta_chunk.specs.Laid.{laid}
+use Rattle.meta_chunk.specs.Laid.{laid, laid_bytes}
 use Rattle.meta_chunk.specs.Files.{signature}
 
 -- the block header that a file begins with: no chunk before it, and the signature's end 64 bytes on
-abbrev pub first_header : List ℕ
+abbrev first_header : List ℕ
 first_header = 0x83 ∷ 0xaf ∷ 0x70 ∷ 0xd1 ∷ 0x0d ∷ 0x88 ∷ 0x4a ∷ 0x3f ∷ replicate 8 0 ++ 0x40 ∷ replicate 7 0
 
 -- the header of the signature, which has no data
@@ -27,13 +27,13 @@ unfolding hash_of finished after_remainder after_packets finishing_round updated
 first_block_header = refl
 
 -- the signature's own bytes
-pub own_bytes-signature : own_bytes signature ≡ signature_header
+own_bytes-signature : own_bytes signature ≡ signature_header
 unfolding hash_of finished after_remainder after_packets finishing_round updated mixed multiplied zipped reset lanes_of remainder_packet
 own_bytes-signature = refl
 
 -- the signature stands behind the first block header
-pub laid-signature_parts : laid 0 signature ≡ block_header 0 64 ++ own_bytes signature
-unfolding laid room end_of chunk_end_of
+laid-signature_parts : laid 0 signature ≡ block_header 0 64 ++ own_bytes signature
+unfolding laid_bytes room end_of chunk_end_of
 laid-signature_parts = refl
 
 -- the 64 bytes that a file begins with

@@ -1,44 +1,42 @@
--- Files of chunks. Source: the Riegeli/records file format specification, "File format" and "Chunk types". Own:
--- which chunks are plain and which are unread, and the limit of 2 ^ 26 bytes of data.
+-- Files of chunks. Source: the Riegeli/records file format specification, "File format", "File signature" and "Chunk types". Own:
+-- which chunks are plain and which are unread, and the limit on their data.
 use Rattle.std.specs.Prelude.{◌≡◌, ◌≢◌, ℕ, ◌+◌, ◌^◌, ◌<◌, ◌≤◌, ◌⊎◌, List, [], ◌∷◌, ◌++◌, length, take, slice_index}
-use Rattle.std.specs.List.{AllByRecursion}
+use Rattle.std.specs.List.{AllByRecursion, flat_map, enumerate_from}
 use Rattle.chunk_header.specs.Chunks.{ChunkValue}
-use Rattle.chunk_header.specs.SimpleChunks.{IsSimple}
-use Rattle.meta_chunk.specs.Laid.{IsLaid, laid, end_from}
+use Rattle.chunk_header.specs.SimpleChunks.{simple_kind, IsSimple}
+use Rattle.meta_chunk.specs.Kinds.{signature_kind, transposed_kind, IsSignature, IsMetadata, IsPadding}
+use Rattle.meta_chunk.specs.Laid.{IsLaid, laid, end_of_chunk}
 
 -- the signature chunk
 abbrev pub signature : ChunkValue
-signature = record { kind = 0x73; num_records = 0; decoded_size = 0; «data» = [] }
+signature = record { kind = signature_kind; num_records = 0; decoded_size = 0; «data» = [] }
 
 -- the bytes that a file begins with
 abbrev pub signature_bytes : List ℕ
 signature_bytes = laid 0 signature
 
--- what a metadata or a padding chunk keeps to
-pub record IsMetadata (k : ChunkValue) : Type 0 where
-  pub kind : k.kind ≡ 0x6d
-  pub num_records : k.num_records ≡ 0
+-- how many bytes of data a chunk may have that is read
+abbrev pub max_data_size : ℕ
+max_data_size = 2 ^ 26
 
-pub record IsPadding (k : ChunkValue) : Type 0 where
-  pub kind : k.kind ≡ 0x70
-  pub num_records : k.num_records ≡ 0
-  pub decoded_size : k.decoded_size ≡ 0
+-- a simple chunk of some records, without compression
+abbrev pub HasRecords : ChunkValue → Type 0
+HasRecords k = (records : List (List ℕ)) × IsSimple k records
 
--- the records of a chunk that is read: those of a simple chunk, and none of the signature, of metadata and of
--- padding
-abbrev pub Reads : ChunkValue → List (List ℕ) → Type 0
-Reads k records =
-    IsSimple k records ⊎ (((k ≡ signature) ⊎ IsMetadata k ⊎ IsPadding k) × (records ≡ []))
-
--- a chunk that is read
+-- a chunk that is read: a simple chunk of records, or a signature, metadata or padding chunk that keeps its rule
 abbrev pub IsPlain : ChunkValue → Type 0
-IsPlain k = (length k.«data» ≤ 2 ^ 26) × (records : List (List ℕ)) × Reads k records
+IsPlain k = (length k.«data» ≤ max_data_size) × (HasRecords k ⊎ IsSignature k ⊎ IsMetadata k ⊎ IsPadding k)
 
--- a chunk whose content is left unread: transposed, or simple and compressed
+-- a transposed chunk, and a simple one whose first byte of data says that it is compressed
+abbrev pub IsTransposed : ChunkValue → Type 0
+IsTransposed k = k.kind ≡ transposed_kind
+
+abbrev pub IsCompressed : ChunkValue → Type 0
+IsCompressed k = (k.kind ≡ simple_kind) × (0 < length k.«data») × (slice_index k.«data» 0 ≢ 0)
+
+-- a chunk whose content is left unread
 abbrev pub IsUnread : ChunkValue → Type 0
-IsUnread k =
-    (length k.«data» ≤ 2 ^ 26)
-    × ((k.kind ≡ 0x74) ⊎ ((k.kind ≡ 0x72) × (0 < length k.«data») × (slice_index k.«data» 0 ≢ 0)))
+IsUnread k = (length k.«data» ≤ max_data_size) × (IsTransposed k ⊎ IsCompressed k)
 
 -- a chunk that is read or left unread
 abbrev pub IsFramed : ChunkValue → Type 0
@@ -70,32 +68,52 @@ IsChain = IsChainOf IsPlain
 abbrev pub IsFrameChain : List ChunkValue → List ℕ → ℕ → Type 0
 IsFrameChain = IsChainOf IsFramed
 
--- the whole file
+-- the whole file is those chunks, each of which meets P
+abbrev pub IsFileOf : (ChunkValue → Type 0) → List ChunkValue → List ℕ → Type 0
+IsFileOf P ks file = (ks ≢ []) × IsChainOf P ks file (length file)
+
+-- plain chunks alone
 abbrev pub IsFile : List ChunkValue → List ℕ → Type 0
-IsFile ks file = (ks ≢ []) × IsChain ks file (length file)
+IsFile = IsFileOf IsPlain
 
--- the whole file, unread chunks among its own
+-- plain and unread chunks
 abbrev pub IsFrame : List ChunkValue → List ℕ → Type 0
-IsFrame ks file = (ks ≢ []) × IsFrameChain ks file (length file)
+IsFrame = IsFileOf IsFramed
 
--- the records of plain and unread chunks: those of each plain one, in order, and none of an unread one
+-- the records that a chunk holds: a simple chunk its own, and every other chunk none
+abbrev pub Holds : ChunkValue → List (List ℕ) → Type 0
+Holds k records = IsSimple k records ⊎ ((¬ HasRecords k) × (records ≡ []))
+
+-- the lists of records that chunks hold, chunk by chunk
+abbrev pub HoldEach : List ChunkValue → List (List (List ℕ)) → Type 0
+HoldEach [] lists = lists ≡ []
+HoldEach (k ∷ ks) [] = ⊥
+HoldEach (k ∷ ks) (records ∷ lists) = Holds k records × HoldEach ks lists
+
+-- the records of chunks: those that the chunks hold, joined
 abbrev pub AreRecordsOf : List ChunkValue → List (List ℕ) → Type 0
-AreRecordsOf [] records = records ≡ []
-AreRecordsOf (k ∷ ks) records =
-    (front rest : List (List ℕ)) × (records ≡ front ++ rest)
-    × (Reads k front ⊎ (IsUnread k × (front ≡ [])))
-    × AreRecordsOf ks rest
+AreRecordsOf ks records = (lists : List (List (List ℕ))) × HoldEach ks lists × (records ≡ flat_map (λ held. held) lists)
 
--- where the chunks begin that follow a place, and where the last one ends
-abbrev pub begins_from : ℕ → List ChunkValue → List ℕ
-begins_from place [] = place ∷ []
-begins_from place (k ∷ ks) = place ∷ begins_from (end_from place k) ks
+-- where chunks end that are laid one after another from a place on
+abbrev pub end_of_chunks : ℕ → List ChunkValue → ℕ
+end_of_chunks place [] = place
+end_of_chunks place (k ∷ ks) = end_of_chunks (end_of_chunk place k) ks
 
--- where chunk j of a file begins; for j the number of chunks, where the last one ends
+-- where chunk j of a file begins; for j past the last chunk, where that one ends
 abbrev pub begin_of : List ChunkValue → ℕ → ℕ
-begin_of ks j = slice_index (begins_from 0 ks) j
+begin_of ks j = end_of_chunks 0 (take j ks)
 
--- the chunks laid one after another with zero padding
+-- the records of chunks that begin at a place, each with its position: its chunk's begin, and its number in the chunk
+abbrev pub placed_from : ℕ → List ChunkValue → List (List (List ℕ)) → List (ℕ × List ℕ)
+placed_from place [] lists = []
+placed_from place (k ∷ ks) [] = []
+placed_from place (k ∷ ks) (records ∷ lists) = enumerate_from place records ++ placed_from (end_of_chunk place k) ks lists
+
+-- the records of a file's chunks, each with its position
+abbrev pub ArePlaced : List ChunkValue → List (ℕ × List ℕ) → Type 0
+ArePlaced ks placed = (lists : List (List (List ℕ))) × HoldEach ks lists × (placed ≡ placed_from 0 ks lists)
+
+-- the bytes of chunks laid one after another from a place on, with zero padding
 unfoldable pub laid_each : ℕ → List ChunkValue → List ℕ
-laid_each begin [] = []
-laid_each begin (k ∷ ks) = laid begin k ++ laid_each (end_from begin k) ks
+laid_each place [] = []
+laid_each place (k ∷ ks) = laid place k ++ laid_each (end_of_chunk place k) ks

@@ -1,28 +1,62 @@
--- The kinds of chunks. Source: the Riegeli/records file format specification, "Chunk types".
-use Rattle.std.specs.Prelude.{◌≡◌, ◌≢◌, ℕ}
+-- The kinds of chunks. Source: the Riegeli/records file format specification, "Chunk types". Own: the rules on
+-- fields in their details.
+use Rattle.std.specs.Prelude.{◌≡◌, ◌≢◌, ℕ, length}
 use Rattle.chunk_header.specs.declared.Header.{Header}
+use Rattle.chunk_header.specs.Chunks.{ChunkValue}
+use Rattle.chunk_header.specs.SimpleChunks.{simple_kind}
 use Rattle.meta_chunk.specs.declared.chunk_kind.Kind.{Kind}
 use Rattle.meta_chunk.specs.declared.chunk_kind.Kind.TheVariants.{Signature, Metadata, Padding, Simple, Transposed, Unknown}
 
+-- the kinds with a name, beside that of simple chunks
+abbrev pub signature_kind : ℕ
+signature_kind = 0x73
+
+abbrev pub metadata_kind : ℕ
+metadata_kind = 0x6d
+
+abbrev pub padding_kind : ℕ
+padding_kind = 0x70
+
+abbrev pub transposed_kind : ℕ
+transposed_kind = 0x74
+
 -- the byte of a kind
 abbrev pub byte_of_kind : Kind → ℕ
-byte_of_kind Signature = 0x73
-byte_of_kind Metadata = 0x6d
-byte_of_kind Padding = 0x70
-byte_of_kind Simple = 0x72
-byte_of_kind Transposed = 0x74
+byte_of_kind Signature = signature_kind
+byte_of_kind Metadata = metadata_kind
+byte_of_kind Padding = padding_kind
+byte_of_kind Simple = simple_kind
+byte_of_kind Transposed = transposed_kind
 byte_of_kind (Unknown byte) = byte
 
 -- the byte is of none of the kinds with a name
 pub record IsOfNoName (byte : ℕ) : Type 0 where
-  pub signature : byte ≢ 0x73
-  pub metadata : byte ≢ 0x6d
-  pub padding : byte ≢ 0x70
-  pub simple : byte ≢ 0x72
-  pub transposed : byte ≢ 0x74
+  pub signature : byte ≢ signature_kind
+  pub metadata : byte ≢ metadata_kind
+  pub padding : byte ≢ padding_kind
+  pub simple : byte ≢ simple_kind
+  pub transposed : byte ≢ transposed_kind
 
--- the header keeps the rule that its kind has on its fields
-pub record KeepsRule (h : Header) : Type 0 where
-  pub signature : h.kind ≡ 0x73 → (h.data_size ≡ 0) × (h.num_records ≡ 0) × (h.decoded_size ≡ 0)
-  pub metadata : h.kind ≡ 0x6d → h.num_records ≡ 0
-  pub padding : h.kind ≡ 0x70 → (h.num_records ≡ 0) × (h.decoded_size ≡ 0)
+-- the rule that a kind has on the fields of its header: a signature has no data, no records and no decoded size,
+-- metadata has no records, padding no records and no decoded size, and other kinds have no rule
+pub record KeepsRule (kind data_size num_records decoded_size : ℕ) : Type 0 where
+  pub signature : kind ≡ signature_kind → (data_size ≡ 0) × (num_records ≡ 0) × (decoded_size ≡ 0)
+  pub metadata : kind ≡ metadata_kind → num_records ≡ 0
+  pub padding : kind ≡ padding_kind → (num_records ≡ 0) × (decoded_size ≡ 0)
+
+-- the rule of a header
+abbrev pub HeaderKeepsRule : Header → Type 0
+HeaderKeepsRule h = KeepsRule h.kind h.data_size h.num_records h.decoded_size
+
+-- a chunk of a kind that keeps the kind's rule
+abbrev pub IsOfKind : ℕ → ChunkValue → Type 0
+IsOfKind kind k = (k.kind ≡ kind) × KeepsRule kind (length k.«data») k.num_records k.decoded_size
+
+abbrev pub IsSignature : ChunkValue → Type 0
+IsSignature = IsOfKind signature_kind
+
+abbrev pub IsMetadata : ChunkValue → Type 0
+IsMetadata = IsOfKind metadata_kind
+
+abbrev pub IsPadding : ChunkValue → Type 0
+IsPadding = IsOfKind padding_kind

@@ -1,4 +1,5 @@
 pub mod Laid
-pub mod Files
 pub mod Kinds
+pub mod Files
+pub mod Counts
 pub mod PaddingSizes

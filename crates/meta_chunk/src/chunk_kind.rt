@@ -1,5 +1,5 @@
 ghost use Rattle.std.specs.Prelude.{◌≡◌, OnOk, OnErr};
-ghost use Rattle.meta_chunk.specs.Kinds.{byte_of_kind, IsOfNoName, KeepsRule};
+ghost use Rattle.meta_chunk.specs.Kinds.{byte_of_kind, IsOfNoName, HeaderKeepsRule};
 
 use chunk_header::Header;
 
@@ -46,10 +46,10 @@ pub struct BadFields;
 /// Checks the rule that the header's kind has on its fields: a signature has no data, records or decoded size,
 /// metadata has no records, and padding has no records or decoded size. Other kinds have no rule.
 ///
-/// Riegeli/records file format specification, "Chunk types".
+/// Riegeli/records file format specification, "Chunk types". Own: the rules in their details.
 pub fn check(header: &Header) -> Result<(), BadFields>
-    ensures kept { OnOk result (KeepsRule header.now) }
-    ensures broken { OnErr result (¬ KeepsRule header.now) }
+    ensures kept { OnOk result (HeaderKeepsRule header.now) }
+    ensures broken { OnErr result (¬ HeaderKeepsRule header.now) }
 {
     let kept = match kind_of(header.kind) {
         Kind::Signature => header.data_size == 0

@@ -1,8 +1,4 @@
-ghost use Rattle.std.specs.Prelude.{◌≡◌};
-ghost use Rattle.meta_chunk.specs.Files.{signature_bytes};
-ghost use Rattle.meta_chunk.specs.declared.file_signature.TheConstants.{SIGNATURE};
-
-/// The 64 bytes that each file begins with: the block header at 0, and a signature chunk.
+/// How each file begins: its first block header, and behind that the header of the signature chunk, which has no data.
 ///
 /// Riegeli/records file format specification, "File signature".
 #[rattlefmt::skip]
@@ -16,8 +12,3 @@ pub const SIGNATURE: [u8; 64] = [
     0x73, 0x00, 0x00, 0x00, 0x00, 0x00, 0x00, 0x00,
     0x00, 0x00, 0x00, 0x00, 0x00, 0x00, 0x00, 0x00,
 ];
-
-/// The signature is the signature chunk laid at 0. Nothing runs here. Own.
-pub fn signature_is_laid()
-    ensures { SIGNATURE ≡ signature_bytes }
-{}

@@ -8,7 +8,7 @@ pub mod laws;
 mod padding_chunk;
 
 pub use chunk_kind::{BadFields, Kind, check, kind_of};
-pub use file_signature::{SIGNATURE, signature_is_laid};
+pub use file_signature::SIGNATURE;
 pub use padding_chunk::padding_size;
 
 #[cfg(test)]
@@ -62,13 +62,6 @@ mod tests {
         assert_eq!(rt; padding_size(65_496), Some(0));
         assert_eq!(rt; padding_size(65_497), Some(65_511));
         assert_eq!(rt; padding_size(131_072), None);
-        Ok(())
-    }
-
-    #[test]
-    fn the_signature_has_64_bytes(rt: HostRuntime) -> Result<(), Fail> {
-        assert_eq!(rt; SIGNATURE.len(), 64);
-        signature_is_laid();
         Ok(())
     }
 }

@@ -1,14 +1,8 @@
-ghost use Rattle.std.specs.Prelude.{◌≡◌, ◌↔◌, ◌+◌, ◌-◌, nat_le, if◌then◌else◌, IsNone, IfSome};
+ghost use Rattle.std.specs.Prelude.{◌≡◌, ◌↔◌, IsNone, IfSome};
 ghost use Rattle.block_layout.specs.Layout.{IsBlock, IsBoundary};
-ghost use Rattle.meta_chunk.specs.PaddingSizes.{IsPaddingSize, to_block};
+ghost use Rattle.meta_chunk.specs.PaddingSizes.{IsPaddingSize, padding_size_of};
 
-// How many bytes a block has, and how many of them are its header.
-const BLOCK: u64 = 65_536;
-
-const BLOCK_HEADER: u64 = 24;
-
-// How many bytes the header of a chunk has.
-const CHUNK_HEADER: u64 = 40;
+use block_layout::{BLOCK_SIZE, CHUNK_HEADER_SIZE, USABLE_SIZE};
 
 /// How many bytes of data the padding chunk has that is written at a position of a file, so that the next chunk
 /// begins at a block. None at a block. Where the rest of the block is too short for a chunk's header, the padding
@@ -19,16 +13,16 @@ pub fn padding_size(at: u64) -> Option<u64>
     requires { IsBoundary at }
     ensures none { IsNone result ↔ IsBlock at }
     ensures meets { IfSome result (λ size. IsPaddingSize at size) }
-    ensures size { IfSome result (λ size. size ≡ (if nat_le 40 (to_block at) then to_block at - 40 else to_block at + 65472)) }
+    ensures size { IfSome result (λ size. size ≡ padding_size_of at) }
 {
-    let past_block = at % BLOCK;
+    let past_block = at % BLOCK_SIZE;
     if past_block == 0 {
         return None;
     }
-    let rest = BLOCK - past_block;
-    if rest >= CHUNK_HEADER {
-        Some(rest - CHUNK_HEADER)
+    let rest = BLOCK_SIZE - past_block;
+    if rest >= CHUNK_HEADER_SIZE {
+        Some(rest - CHUNK_HEADER_SIZE)
     } else {
-        Some(rest + (BLOCK - BLOCK_HEADER - CHUNK_HEADER))
+        Some(rest + (USABLE_SIZE - CHUNK_HEADER_SIZE))
     }
 }
