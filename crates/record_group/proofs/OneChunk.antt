@@ -1,21 +1,18 @@
--- Records that make one chunk, and a file of one block.
-use Rattle.std.proofs.Common.{◌≡◌, ◌∙◌, ℕ, ◌+◌, ◌*◌, ◌<◌, ◌≤◌, List, [], ◌∷◌, ◌++◌, length, eqb, refl, sym, ap, subst, arith}
-use Rattle.std.specs.List.{concat}
-use Rattle.std.proofs.lemmas.Bool.{cond-false, le-ltb, ne_eqb, and_right}
-use Rattle.std.proofs.lemmas.List.{length-append, append_assoc, append-nil}
+-- Records that make one chunk.
+use Rattle.std.proofs.Common.{◌≡◌, ◌∙◌, ℕ, ◌+◌, ◌<◌, ◌≤◌, None, List, [], ◌∷◌, ◌++◌, length, eqb, refl, sym, ap, subst, arith}
+use Rattle.std.proofs.lemmas.Bool.{cond-false, le-ltb, ne_eqb, and_right, or_from}
+use Rattle.std.proofs.lemmas.List.{append_assoc, append-nil}
 use Rattle.std.proofs.lemmas.List.Sums.{sum_by-cons, sum_by-append}
 use Rattle.chunk_header.specs.SimpleChunks.{simple_data}
 use Rattle.chunk_header.proofs.SimpleChunks.{length-sizes_of, length-simple_data}
-use Rattle.record_group.specs.Groups.{cost, cost_of, closes_before, groups_after, groups}
+use Rattle.simple_chunk.specs.Costs.{cost, cost_of}
+use Rattle.simple_chunk.proofs.CostLemmas.{cost_of-is}
+use Rattle.record_group.specs.Groups.{closes_before, groups_after, groups}
 
--- no records make no group
-pub groups-none : (size : ℕ) → groups [] size ≡ []
-unfolding groups
-groups-none size = refl
-
--- records that go with an open group into one group, where all of it costs no more than the size
+-- records that go with an open group into one group, where all of it costs no more than the size and no number of
+-- records is wanted
 groups_after-fits : (size : ℕ) (group records : List (List ℕ)) → cost_of (group ++ records) ≤ size → 0 < length (group ++ records)
-    → groups_after size group records ≡ (group ++ records) ∷ []
+    → groups_after size None group records ≡ (group ++ records) ∷ []
 groups_after-fits size group [] fits some =
     let same : group ++ [] ≡ group = append-nil group in
     let filled : 0 < length group = omega (arith, ap length same) in
@@ -26,22 +23,16 @@ groups_after-fits size group (record_bytes ∷ records) fits some =
     let same : next ++ records ≡ group ++ record_bytes ∷ records = append_assoc group (record_bytes ∷ []) records in
     let within : cost_of group + cost record_bytes ≤ size =
     omega (arith, sum_by-append cost group (record_bytes ∷ records), sum_by-cons cost record_bytes records) in
-    cond-false (closes_before size group record_bytes) _ _ (and_right _ _ (le-ltb _ _ within))
+    cond-false (closes_before size None group record_bytes) _ _ (and_right _ _ (or_from _ _ (le-ltb _ _ within) refl))
     ∙ groups_after-fits size next records
     (subst (λ (l : List (List ℕ)). cost_of l ≤ size) (sym same) fits)
     (subst (λ (l : List (List ℕ)). 0 < length l) (sym same) some)
     ∙ ap (λ (g : List (List ℕ)). g ∷ []) same
 
 -- records that cost no more than the size make one group
-pub groups-one : (records : List (List ℕ)) (size : ℕ) → cost_of records ≤ size → 0 < length records → groups records size ≡ records ∷ []
+pub groups-one : (records : List (List ℕ)) (size : ℕ) → cost_of records ≤ size → 0 < length records → groups records size None ≡ records ∷ []
 unfolding groups
 groups-one records size fits some = groups_after-fits size [] records fits some
-
--- what records cost is their bytes, and 8 for each
-pub cost_of-is : (records : List (List ℕ)) → cost_of records ≡ length (concat records) + 8 * length records
-cost_of-is [] = refl
-cost_of-is (record_bytes ∷ records) =
-    omega (arith, cost_of-is records, sum_by-cons cost record_bytes records, length-append record_bytes (concat records))
 
 -- records whose data fits into a file of one block cost less than the usual size
 pub cost_of-bound : (records : List (List ℕ)) → length (simple_data records) ≤ 65432 → cost_of records ≤ 1048576
