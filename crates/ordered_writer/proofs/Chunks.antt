@@ -1,0 +1,123 @@
+-- Whole chunks: their header, their data and the padding behind it.
+use Rattle.std.proofs.Common.{◌≡◌, ◌∙◌, ℕ, ◌+◌, ◌≤◌, Option, List, [], ◌++◌, length, drop, inl, inr, refl, sym, ap, subst, arith}
+use Rattle.std.proofs.lemmas.List.{drop_at, drop_all, length-append}
+use Rattle.block_layout.specs.Layout.{IsBoundary, room, end_of, chunk_end_of}
+use Rattle.block_layout.proofs.Ends.{end_of_after, end_of-more}
+use Rattle.record_io.specs.Outside.{TakesFront}
+use Rattle.record_io.specs.Buffers.{TakesAndHolds}
+use Rattle.meta_chunk.specs.Laid.{end_of_chunk, laid_bytes}
+use Rattle.meta_chunk.specs.Files.{signature}
+use Rattle.ordered_writer.specs.Writers.{IsOnBoundary}
+use Rattle.ordered_writer.specs.Layings.{laid_between}
+use Rattle.ordered_writer.proofs.Runs.{room-end_of, laid_between-front}
+use Rattle.ordered_writer.proofs.RunCalls.{TakesFront-laid_longer, TakesAndHolds-more, TakesFront-more}
+
+-- the signature ends at 64
+pub end_of_chunk-signature : end_of_chunk 0 signature ≡ 64
+unfolding end_of chunk_end_of
+end_of_chunk-signature = refl
+
+-- a boundary, in both forms
+pub IsOnBoundary-from_boundary : (p : ℕ) → IsBoundary p → IsOnBoundary p
+IsOnBoundary-from_boundary p (inl block) = λ inside. absurd (omega arith)
+IsOnBoundary-from_boundary p (inr inside) = λ _. inside
+
+-- laid bytes are those from the begin to the end
+pub laid_bytes-between : (begin end : ℕ) (own : List ℕ) → laid_bytes begin end own ≡ laid_between begin end begin end own
+unfolding laid_bytes laid_between
+laid_bytes-between begin end own = refl
+
+-- where the header of a chunk ends, and the data behind it
+abbrev pub header_end : ℕ → List ℕ → ℕ
+header_end begin header = end_of begin (length header)
+
+abbrev pub data_end : ℕ → List ℕ → List ℕ → ℕ
+data_end begin header content = end_of (header_end begin header) (length content)
+
+-- its header is laid
+header_laid : (begin end : ℕ) (header content : List ℕ)
+    → laid_between begin end begin (header_end begin header) header
+    ≡ laid_between begin end begin (header_end begin header) (header ++ content)
+header_laid begin end header content =
+    sym (laid_between-front begin end begin (header_end begin header) header content (omega (arith, room-end_of begin (length header))))
+
+-- behind it its data
+data_laid : (begin end : ℕ) (header content : List ℕ)
+    → laid_between begin end (header_end begin header) (data_end begin header content) content
+    ≡ laid_between begin end (header_end begin header) (data_end begin header content) (drop (room begin (header_end begin header)) (header ++ content))
+data_laid begin end header content =
+    ap (laid_between begin end (header_end begin header) (data_end begin header content))
+    (sym (ap (λ (n : ℕ). drop n (header ++ content)) (room-end_of begin (length header)) ∙ drop_at header content (length header) refl))
+
+-- and behind these nothing more
+rest_laid : (begin end : ℕ) (header content : List ℕ)
+    → laid_between begin end (data_end begin header content) end []
+    ≡ laid_between begin end (data_end begin header content) end (drop (room begin (data_end begin header content)) (header ++ content))
+rest_laid begin end header content =
+    let all : room begin (data_end begin header content) ≡ length header + length content =
+    ap (room begin) (end_of-more begin (length header) (length content)) ∙ room-end_of begin (length header + length content) in
+    ap (laid_between begin end (data_end begin header content) end)
+    (sym (drop_all (room begin (data_end begin header content)) (header ++ content) (omega (arith, length-append header content))))
+
+-- where the header failed
+pub TakesFront-chunk_header : (a b : Option (List ℕ)) (held : List ℕ) (begin end : ℕ) (header content : List ℕ)
+    → header_end begin header ≤ end
+    → TakesFront a b (held ++ laid_between begin end begin (header_end begin header) header)
+    → TakesFront a b (held ++ laid_bytes begin end (header ++ content))
+TakesFront-chunk_header a b held begin end header content within front =
+    rw (laid_bytes-between begin end (header ++ content))
+    (TakesFront-laid_longer a b held begin end begin (header_end begin header) end (header ++ content)
+    (end_of_after begin (length header)) within
+    (subst (λ (xs : List ℕ). TakesFront a b (held ++ xs)) (header_laid begin end header content) front))
+
+-- where header and data went well
+pub TakesAndHolds-data : (a b c : Option (List ℕ)) (held between after : List ℕ) (begin end : ℕ) (header content : List ℕ)
+    → TakesAndHolds a b (held ++ laid_between begin end begin (header_end begin header) header) between
+    → TakesAndHolds b c (between ++ laid_between begin end (header_end begin header) (data_end begin header content) content) after
+    → TakesAndHolds a c (held ++ laid_between begin end begin (data_end begin header content) (header ++ content)) after
+TakesAndHolds-data a b c held between after begin end header content first then =
+    TakesAndHolds-more a b c held between after begin end begin (header_end begin header) (data_end begin header content) (header ++ content) content
+    (end_of_after begin (length header)) (end_of_after (header_end begin header) (length content))
+    (data_laid begin end header content)
+    (subst (λ (xs : List ℕ). TakesAndHolds a b (held ++ xs) between) (header_laid begin end header content) first)
+    then
+
+-- where the data failed
+pub TakesFront-data : (a b c : Option (List ℕ)) (held between : List ℕ) (begin end : ℕ) (header content : List ℕ)
+    → data_end begin header content ≤ end
+    → TakesAndHolds a b (held ++ laid_between begin end begin (header_end begin header) header) between
+    → TakesFront b c (between ++ laid_between begin end (header_end begin header) (data_end begin header content) content)
+    → TakesFront a c (held ++ laid_bytes begin end (header ++ content))
+TakesFront-data a b c held between begin end header content within first then =
+    rw (laid_bytes-between begin end (header ++ content))
+    (TakesFront-laid_longer a c held begin end begin (data_end begin header content) end (header ++ content)
+    (omega (arith, end_of_after begin (length header), end_of_after (header_end begin header) (length content))) within
+    (TakesFront-more a b c held between begin end begin (header_end begin header) (data_end begin header content) (header ++ content) content
+    (end_of_after begin (length header)) (end_of_after (header_end begin header) (length content))
+    (data_laid begin end header content)
+    (subst (λ (xs : List ℕ). TakesAndHolds a b (held ++ xs) between) (header_laid begin end header content) first)
+    then))
+
+-- where the padding behind them went well
+pub TakesAndHolds-padding : (a b c : Option (List ℕ)) (held between after : List ℕ) (begin end : ℕ) (header content : List ℕ)
+    → data_end begin header content ≤ end
+    → TakesAndHolds a b (held ++ laid_between begin end begin (data_end begin header content) (header ++ content)) between
+    → TakesAndHolds b c (between ++ laid_between begin end (data_end begin header content) end []) after
+    → TakesAndHolds a c (held ++ laid_bytes begin end (header ++ content)) after
+TakesAndHolds-padding a b c held between after begin end header content within first then =
+    rw (laid_bytes-between begin end (header ++ content))
+    (TakesAndHolds-more a b c held between after begin end begin (data_end begin header content) end (header ++ content) []
+    (omega (arith, end_of_after begin (length header), end_of_after (header_end begin header) (length content))) within
+    (rest_laid begin end header content) first then)
+
+-- and where it failed
+pub TakesFront-padding : (a b c : Option (List ℕ)) (held between : List ℕ) (begin end : ℕ) (header content : List ℕ)
+    → data_end begin header content ≤ end
+    → TakesAndHolds a b (held ++ laid_between begin end begin (data_end begin header content) (header ++ content)) between
+    → TakesFront b c (between ++ laid_between begin end (data_end begin header content) end [])
+    → TakesFront a c (held ++ laid_bytes begin end (header ++ content))
+TakesFront-padding a b c held between begin end header content within first then =
+    rw (laid_bytes-between begin end (header ++ content))
+    (TakesFront-more a b c held between begin end begin (data_end begin header content) end (header ++ content) []
+    (omega (arith, end_of_after begin (length header), end_of_after (header_end begin header) (length content))) within
+    (rest_laid begin end header content) first then)

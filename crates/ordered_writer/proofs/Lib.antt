@@ -1,0 +1,6 @@
+pub mod Between
+pub mod Runs
+pub mod RunCalls
+pub mod Chunks
+pub mod Paddings
+pub mod RightChunks

@@ -1,0 +1,94 @@
+use Rattle.std.proofs.Common.{◌≡◌, ◌∙◌, ℕ, ◌+◌, ◌%◌, ◌<◌, List, [], ◌++◌, inl, inr, refl, sym, ap, subst, arith, rules}
+use Rattle.std.proofs.lemmas.Bool.{cases_eq}
+use Rattle.std.proofs.lemmas.Result.{on_ok_weaker, on_err_weaker}
+use Rattle.block_layout.specs.Layout.{IsBlock, chunk_end_of}
+use Rattle.record_io.specs.Outside.{TakesFront}
+use Rattle.record_io.specs.Buffers.{TakesAndHolds}
+use Rattle.record_io.proofs.Buffered.{TakesAndHolds-none}
+use Rattle.chunk_header.specs.Views.{bytes_of_header}
+use Rattle.meta_chunk.specs.Laid.{laid_bytes}
+use Rattle.meta_chunk.specs.Files.{laid_each}
+use Rattle.meta_chunk.specs.PaddingSizes.{padding_size_of, padding_at}
+use Rattle.ordered_writer.specs.Writers.{Writer, writer_at}
+use Rattle.ordered_writer.proofs.Paddings.{end_of_padding-block, laid_padding-block, end_of_padding-inside, laid_padding-inside, end_of_padding_near, going_on}
+use Rattle.ordered_writer.proofs.writer.OrderedWriter.pad_into.Goals as goal
+use Rattle.ordered_writer.proofs.writer.OrderedWriter.pad_into.Goals.{In_default, After-padding_header}
+
+at_block : (g : _) (c : In_default g) → IsBlock c.args.self.now.position
+at_block g c =
+    subst IsBlock (ap (λ (w : Writer). w.position) c.self.view_is) (c.in_default.ensures.none.0 refl)
+
+pub returns-in_default-clause-moved : goal.returns-in_default-clause-moved
+returns-in_default-clause-moved g c =
+    going_on c.args.self.now c.requires.unspent
+    ∙ ap writer_at (sym (end_of_padding-block c.args.self.now.position (at_block g c)))
+
+pub returns-in_default-clause-whole : goal.returns-in_default-clause-whole
+returns-in_default-clause-whole g c =
+    rw (laid_padding-block c.args.self.now.position (at_block g c)) (TakesAndHolds-none (g.M.Sink.taken c.args.sink.now) c.args.buffer.now)
+
+-- within a block the padding is one chunk of this size
+is_inside : (g : _) (c : After-padding_header g) → 24 < c.args.self.now.position % 65536
+is_inside g c =
+    subst (λ (p : ℕ). 24 < p % 65536) (ap (λ (w : Writer). w.position) c.self.view_is)
+    (elim (cases_eq (c.self.inside.position % 65536) 0) [
+      | inl block ↦ let none = c.in-Some.ensures.none.1 block in cc
+      | inr some ↦ c.self.invariant.1 (omega arith)
+    ])
+
+size_is : (g : _) (c : After-padding_header g) → c.in-Some.size ≡ padding_size_of c.args.self.now.position
+size_is g c = c.in-Some.ensures.size ∙ ap (λ (w : Writer). padding_size_of w.position) c.self.view_is
+
+-- it ends where the padding does
+end_is : (g : _) (c : After-padding_header g)
+    → chunk_end_of c.args.self.now.position (40 + c.padding_header.result.data_size) c.padding_header.result.num_records
+    ≡ chunk_end_of c.args.self.now.position (40 + c.in-Some.size) 0
+end_is g c =
+    ap (λ (n : ℕ). chunk_end_of c.args.self.now.position (40 + n) c.padding_header.result.num_records) c.padding_header.ensures.size
+    ∙ ap (chunk_end_of c.args.self.now.position (40 + c.in-Some.size)) c.padding_header.ensures.no_records
+
+-- and its bytes are those of the padding
+bytes_are : (g : _) (c : After-padding_header g)
+    → laid_bytes c.args.self.now.position
+    (chunk_end_of c.args.self.now.position (40 + c.padding_header.result.data_size) c.padding_header.result.num_records)
+    (bytes_of_header c.padding_header.result ++ [])
+    ≡ laid_each c.args.self.now.position (padding_at c.args.self.now.position)
+bytes_are g c =
+    ap (λ (end : ℕ). laid_bytes c.args.self.now.position end (bytes_of_header c.padding_header.result ++ [])) (end_is g c)
+    ∙ ap (λ (header : List ℕ). laid_bytes c.args.self.now.position (chunk_end_of c.args.self.now.position (40 + c.in-Some.size) 0) (header ++ []))
+    c.padding_header.ensures.bytes
+    ∙ sym (laid_padding-inside c.args.self.now.position c.in-Some.size (is_inside g c) (size_is g c))
+
+pub lay-requires : goal.lay-requires
+lay-requires g c =
+    let k = (goal.at.lay-requires g c).After-padding_header in (
+      search rules,
+      (
+        c.requires.unspent,
+        (
+          omega arith,
+          omega (arith, end_is g k, end_of_padding_near c.args.self.now.position c.in-Some.size (is_inside g k) (size_is g k) c.requires.in_reach),
+        ),
+      ),
+    )
+
+pub returns-clause-moved : goal.returns-clause-moved
+returns-clause-moved g c =
+    let k = (goal.at.returns-clause-moved g c).After-padding_header in
+    on_ok_weaker c.lay.result
+    (λ moved. moved ∙ ap writer_at (end_is g k ∙ sym (end_of_padding-inside c.args.self.now.position c.in-Some.size (is_inside g k) (size_is g k))))
+    c.lay.ensures.moved
+
+pub returns-clause-whole : goal.returns-clause-whole
+returns-clause-whole g c =
+    let k = (goal.at.returns-clause-whole g c).After-padding_header in
+    on_ok_weaker c.lay.result
+    (subst (λ (xs : List ℕ). TakesAndHolds (g.M.Sink.taken c.args.sink.now) (g.M.Sink.taken c.lay.new.sink) (c.args.buffer.now ++ xs) c.lay.new.buffer) (bytes_are g k))
+    c.lay.ensures.whole
+
+pub returns-clause-front : goal.returns-clause-front
+returns-clause-front g c =
+    let k = (goal.at.returns-clause-front g c).After-padding_header in
+    on_err_weaker c.lay.result
+    (subst (λ (xs : List ℕ). TakesFront (g.M.Sink.taken c.args.sink.now) (g.M.Sink.taken c.lay.new.sink) (c.args.buffer.now ++ xs)) (bytes_are g k))
+    c.lay.ensures.front

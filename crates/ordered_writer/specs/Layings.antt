@@ -1,0 +1,25 @@
+-- Parts of a chunk that is laid piece by piece. Own.
+use Rattle.std.specs.Prelude.{ℕ, ◌+◌, ◌-◌, ◌%◌, ◌<◌, ◌≤◌, max, List, map, nat_lt, if◌then◌else◌, slice_index}
+use Rattle.std.specs.List.{range_with_len}
+use Rattle.block_layout.specs.Layout.{block_size, block_header_size, block_of, room}
+use Rattle.block_layout.specs.BlockHeaders.{block_header}
+
+-- where the next byte of a chunk can go: a block, behind whose header it comes, or a usable position
+abbrev pub IsNextPlace : ℕ → Type 0
+IsNextPlace p = 0 < p % block_size → block_header_size ≤ p % block_size
+
+-- the least usable position at or past a position
+abbrev pub usable_from : ℕ → ℕ
+usable_from p = max p (block_of p + block_header_size)
+
+-- the byte at a position of a chunk that is laid from a begin to an end, where own bytes go on at a place: a block
+-- header's byte, the next of these bytes, or zero past them
+abbrev pub byte_from : (begin end place : ℕ) → List ℕ → ℕ → ℕ
+byte_from begin end place own p =
+    if nat_lt (p % block_size) block_header_size
+    then (let b = p - p % block_size in slice_index (block_header (b - begin) (end - b)) (p % block_size))
+    else slice_index own (room place p)
+
+-- the bytes of such a chunk from that place up to another position
+unfoldable pub laid_between : (begin end place until : ℕ) → List ℕ → List ℕ
+laid_between begin end place until own = map (byte_from begin end place own) (range_with_len place (until - place))

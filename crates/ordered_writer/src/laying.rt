@@ -1,0 +1,186 @@
+// A chunk laid piece by piece.
+
+ghost use Rattle.std.specs.Prelude.{◌≡◌, ◌+◌, ◌^◌, ◌<◌, ◌≤◌, [], ◌++◌, min, length, IfOk, OnOk, OnErr};
+ghost use Rattle.block_layout.specs.Layout.{end_of};
+ghost use Rattle.record_io.specs.Outside.{Rose, TakesFront};
+ghost use Rattle.record_io.specs.Buffers.{TakesAndHolds};
+ghost use Rattle.meta_chunk.specs.Laid.{laid_bytes};
+ghost use Rattle.ordered_writer.specs.Writers.{IsOnBoundary};
+ghost use Rattle.ordered_writer.specs.Layings.{IsNextPlace, usable_from, laid_between};
+
+use block_layout::{BLOCK_HEADER_SIZE, BLOCK_SIZE, BlockHeader};
+use record_io::{Failed, PutBuffer, Sink};
+
+// Zero bytes, for padding.
+pub(crate) const ZEROS: [u8; 4096] = [0; 4096];
+
+// Lays a chunk from its begin to its end: its header, its data, and zero bytes behind them.
+pub(crate) fn lay_chunk<const N: usize, M: Sink>(
+    buffer: &mut PutBuffer<N>,
+    sink: &mut M,
+    begin: u64,
+    end: u64,
+    header: &[u8],
+    content: &[u8],
+) -> Result<(), Failed>
+    requires room { end_of begin (length header.now + length content.now) ≤ end }
+    requires from_boundary { IsOnBoundary begin }
+    requires to_boundary { IsOnBoundary end }
+    requires in_reach { end ≤ 2 ^ 62 }
+    ensures whole { OnOk result (TakesAndHolds (M.taken sink.old) (M.taken sink.new)
+        (buffer.old ++ laid_bytes begin end (header.now ++ content.now)) buffer.new) }
+    ensures front { OnErr result (TakesFront (M.taken sink.old) (M.taken sink.new)
+        (buffer.old ++ laid_bytes begin end (header.now ++ content.now))) }
+    ensures emptied { OnErr result (buffer.new ≡ []) }
+    ensures fits { length buffer.old ≤ N → length buffer.new ≤ N }
+    ensures cause { OnErr result (Rose (M.faults sink.old) (M.faults sink.new)) }
+    ensures never_falls { M.faults sink.old ≤ M.faults sink.new }
+    ensures small { M.faults sink.old < 2 ^ 64 → M.faults sink.new < 2 ^ 64 }
+    ensures same_name { M.name sink.new ≡ M.name sink.old }
+{
+    let mut laying = Laying {
+        begin,
+        end,
+        place: begin,
+    };
+    laying.put(buffer, sink, header)?;
+    laying.put(buffer, sink, content)?;
+    laying.finish(buffer, sink)
+}
+
+// A chunk that is laid from its begin to its end, and where its next byte goes.
+#[derive(Drop)]
+struct Laying {
+    begin: u64,
+    end: u64,
+    place: u64,
+    ghost begun: { begin ≤ place },
+    ghost within: { place ≤ end },
+    ghost next_place: { IsNextPlace place },
+    ghost to_boundary: { IsOnBoundary end },
+    ghost in_reach: { end ≤ 2 ^ 62 },
+}
+
+impl Laying {
+    // Lays the next of the chunk's own bytes.
+    fn put<const N: usize, M: Sink>(
+        &mut self,
+        buffer: &mut PutBuffer<N>,
+        sink: &mut M,
+        bytes: &[u8],
+    ) -> Result<(), Failed>
+        requires room { end_of self.old.place (length bytes.now) ≤ self.old.end }
+        ensures moved { OnOk result (self.new.place ≡ end_of self.old.place (length bytes.now)) }
+        ensures same_begin { self.new.begin ≡ self.old.begin }
+        ensures same_end { self.new.end ≡ self.old.end }
+        ensures whole { OnOk result (TakesAndHolds (M.taken sink.old) (M.taken sink.new)
+            (buffer.old ++ laid_between self.old.begin self.old.end self.old.place (end_of self.old.place (length bytes.now)) bytes.now)
+            buffer.new) }
+        ensures front { OnErr result (TakesFront (M.taken sink.old) (M.taken sink.new)
+            (buffer.old ++ laid_between self.old.begin self.old.end self.old.place (end_of self.old.place (length bytes.now)) bytes.now)) }
+        ensures emptied { OnErr result (buffer.new ≡ []) }
+        ensures fits { length buffer.old ≤ N → length buffer.new ≤ N }
+        ensures cause { OnErr result (Rose (M.faults sink.old) (M.faults sink.new)) }
+        ensures never_falls { M.faults sink.old ≤ M.faults sink.new }
+        ensures small { M.faults sink.old < 2 ^ 64 → M.faults sink.new < 2 ^ 64 }
+        ensures same_name { M.name sink.new ≡ M.name sink.old }
+    {
+        let mut at = 0;
+        while at < bytes.len() {
+            at += self.put_run(buffer, sink, &bytes[at..])?;
+        }
+        Ok(())
+    }
+
+    // Lays zero bytes up to the end.
+    fn finish<const N: usize, M: Sink>(
+        &mut self,
+        buffer: &mut PutBuffer<N>,
+        sink: &mut M,
+    ) -> Result<(), Failed>
+        ensures whole { OnOk result (TakesAndHolds (M.taken sink.old) (M.taken sink.new)
+            (buffer.old ++ laid_between self.old.begin self.old.end self.old.place self.old.end []) buffer.new) }
+        ensures front { OnErr result (TakesFront (M.taken sink.old) (M.taken sink.new)
+            (buffer.old ++ laid_between self.old.begin self.old.end self.old.place self.old.end [])) }
+        ensures emptied { OnErr result (buffer.new ≡ []) }
+        ensures fits { length buffer.old ≤ N → length buffer.new ≤ N }
+        ensures cause { OnErr result (Rose (M.faults sink.old) (M.faults sink.new)) }
+        ensures never_falls { M.faults sink.old ≤ M.faults sink.new }
+        ensures small { M.faults sink.old < 2 ^ 64 → M.faults sink.new < 2 ^ 64 }
+        ensures same_name { M.name sink.new ≡ M.name sink.old }
+    {
+        while self.place < self.end {
+            self.put_run(buffer, sink, &ZEROS)?;
+        }
+        Ok(())
+    }
+
+    // Lays as many of the bytes as stand before the next block and before the end, behind the block header where one
+    // stands at the place, and answers how many these are.
+    fn put_run<const N: usize, M: Sink>(
+        &mut self,
+        buffer: &mut PutBuffer<N>,
+        sink: &mut M,
+        bytes: &[u8],
+    ) -> Result<usize, Failed>
+        requires some { 0 < length bytes.now }
+        requires before_end { self.old.place < self.old.end }
+        ensures some_put { IfOk result (λ n. 0 < n) }
+        ensures within { IfOk result (λ n. n ≤ length bytes.now) }
+        ensures moved { IfOk result (λ n. self.new.place ≡ end_of self.old.place n) }
+        ensures same_begin { self.new.begin ≡ self.old.begin }
+        ensures same_end { self.new.end ≡ self.old.end }
+        ensures whole { OnOk result (TakesAndHolds (M.taken sink.old) (M.taken sink.new)
+            (buffer.old ++ laid_between self.old.begin self.old.end self.old.place self.new.place bytes.now) buffer.new) }
+        ensures front { OnErr result (TakesFront (M.taken sink.old) (M.taken sink.new)
+            (buffer.old ++ laid_between self.old.begin self.old.end self.old.place
+            (min (end_of self.old.place (length bytes.now)) self.old.end) bytes.now)) }
+        ensures emptied { OnErr result (buffer.new ≡ []) }
+        ensures fits { length buffer.new ≤ N }
+        ensures cause { OnErr result (Rose (M.faults sink.old) (M.faults sink.new)) }
+        ensures never_falls { M.faults sink.old ≤ M.faults sink.new }
+        ensures small { M.faults sink.old < 2 ^ 64 → M.faults sink.new < 2 ^ 64 }
+        ensures same_name { M.name sink.new ≡ M.name sink.old }
+    {
+        self.put_block_header(buffer, sink)?;
+        let room = (BLOCK_SIZE - self.place % BLOCK_SIZE).min(self.end - self.place);
+        let count = bytes.len().min(room as usize);
+        buffer.put(sink, &bytes[..count])?;
+        self.place += count as u64;
+        Ok(count)
+    }
+
+    // Lays the block header that stands at the place, where one does.
+    fn put_block_header<const N: usize, M: Sink>(
+        &mut self,
+        buffer: &mut PutBuffer<N>,
+        sink: &mut M,
+    ) -> Result<(), Failed>
+        requires before_end { self.old.place < self.old.end }
+        ensures moved { OnOk result (self.new.place ≡ usable_from self.old.place) }
+        ensures before_end { OnOk result (self.new.place < self.new.end) }
+        ensures same_begin { self.new.begin ≡ self.old.begin }
+        ensures same_end { self.new.end ≡ self.old.end }
+        ensures whole { OnOk result (TakesAndHolds (M.taken sink.old) (M.taken sink.new)
+            (buffer.old ++ laid_between self.old.begin self.old.end self.old.place (usable_from self.old.place) [])
+            buffer.new) }
+        ensures front { OnErr result (TakesFront (M.taken sink.old) (M.taken sink.new)
+            (buffer.old ++ laid_between self.old.begin self.old.end self.old.place (usable_from self.old.place) [])) }
+        ensures emptied { OnErr result (buffer.new ≡ []) }
+        ensures cause { OnErr result (Rose (M.faults sink.old) (M.faults sink.new)) }
+        ensures never_falls { M.faults sink.old ≤ M.faults sink.new }
+        ensures small { M.faults sink.old < 2 ^ 64 → M.faults sink.new < 2 ^ 64 }
+        ensures same_name { M.name sink.new ≡ M.name sink.old }
+    {
+        if self.place % BLOCK_SIZE != 0 {
+            return Ok(());
+        }
+        let header = BlockHeader {
+            previous: self.place - self.begin,
+            next: self.end - self.place,
+        };
+        buffer.put(sink, &header.to_bytes())?;
+        self.place += BLOCK_HEADER_SIZE;
+        Ok(())
+    }
+}

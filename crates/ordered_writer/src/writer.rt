@@ -1,0 +1,302 @@
+ghost use Rattle.std.specs.Prelude.{◌≡◌, ◌+◌, ◌^◌, ◌<◌, ◌≤◌, ◌↔◌, false, [], ◌++◌, replicate, length, IsTrue, IfOk, OnOk, OnErr};
+ghost use Rattle.highway_hash.specs.Riegeli.{riegeli_hash};
+ghost use Rattle.block_layout.specs.Layout.{IsBoundary, chunk_header_size, chunk_end_of};
+ghost use Rattle.record_io.specs.Outside.{Rose, Takes, TakesFront};
+ghost use Rattle.record_io.specs.Buffers.{TakesAndHolds};
+ghost use Rattle.chunk_header.specs.Chunks.{header_bytes};
+ghost use Rattle.chunk_header.specs.Views.{bytes_of_header, value_of_chunk};
+ghost use Rattle.meta_chunk.specs.Laid.{laid_bytes, end_of_chunk};
+ghost use Rattle.meta_chunk.specs.Files.{signature, signature_bytes, end_of_chunks, laid_each};
+ghost use Rattle.meta_chunk.specs.PaddingSizes.{padding, padding_at};
+ghost use Rattle.ordered_writer.specs.Writers.{writer_at, spent_writer_at, laid_as};
+
+use crate::laying::{ZEROS, lay_chunk};
+use block_layout::chunk_end;
+use chunk_header::{Chunk, Header};
+use highway_hash::{Hasher, RIEGELI};
+use meta_chunk::{SIGNATURE, padding_size};
+use record_io::{Failed, PutBuffer, Sink};
+use std::marker::Model;
+
+/// Lays chunks one after another, each where the one before it ended: with the block headers that interrupt it, and
+/// with zero padding. "File format", "Block header", "Chunk".
+///
+/// It stands beside its sink, which each call is given: always the same one. No call takes memory, and no chunk is
+/// copied: what lies between two block headers goes out as one piece. Each call has a second form that puts through a
+/// `PutBuffer`, with which small chunks cost no call of the sink. What that holds goes out by its own `flush`, of whose
+/// failure the writer isn't told.
+///
+/// After a call that failed the writer is spent, and must not be asked to write any more. Of that call's bytes the sink
+/// took a front. Own.
+#[derive(Debug, Drop)]
+pub struct OrderedWriter {
+    position: u64,
+    spent: bool,
+}
+
+impl Model for OrderedWriter {
+    ghost use Rattle.std.specs.Prelude.{◌≤◌, ◌^◌};
+    ghost use Rattle.ordered_writer.specs.Writers.{Writer, IsOnBoundary};
+
+    ghost Value = { Writer };
+
+    ghost view = { λ w. record { position = w.position; spent = w.spent } };
+
+    ghost invariant = { λ w. (w.position ≤ 2 ^ 62) × IsOnBoundary w.position };
+}
+
+impl OrderedWriter {
+    /// A writer at position 0.
+    pub fn new() -> OrderedWriter
+        ensures { result ≡ writer_at 0 }
+    {
+        OrderedWriter {
+            position: 0,
+            spent: false,
+        }
+    }
+
+    /// Where the next chunk begins.
+    pub fn position(&self) -> u64
+        ensures value { result ≡ self.now.position }
+        ensures boundary { IsBoundary self.now.position }
+        ensures in_reach { self.now.position ≤ 2 ^ 62 }
+    {
+        self.position
+    }
+
+    /// Whether a call failed.
+    pub fn is_spent(&self) -> bool
+        ensures { IsTrue result ↔ IsTrue self.now.spent }
+    {
+        self.spent
+    }
+
+    /// Writes the 64 bytes that a file begins with, at position 0. "File signature".
+    ///
+    /// # Errors
+    ///
+    /// `Failed` only where the sink failed.
+    pub fn start<M: Sink>(&mut self, sink: &mut M) -> Result<(), Failed>
+        requires unspent { self.old.spent ≡ false }
+        requires at_front { self.old.position ≡ 0 }
+        ensures moved { OnOk result (self.new ≡ writer_at (end_of_chunk 0 signature)) }
+        ensures at_64 { OnOk result (self.new.position ≡ 64) }
+        ensures spent { OnErr result (self.new ≡ spent_writer_at self.old.position) }
+        ensures whole { OnOk result (Takes (M.taken sink.old) (M.taken sink.new) signature_bytes) }
+        ensures front { OnErr result (TakesFront (M.taken sink.old) (M.taken sink.new) signature_bytes) }
+        ensures cause { OnErr result (Rose (M.faults sink.old) (M.faults sink.new)) }
+        ensures never_falls { M.faults sink.old ≤ M.faults sink.new }
+        ensures small { M.faults sink.old < 2 ^ 64 → M.faults sink.new < 2 ^ 64 }
+        ensures same_name { M.name sink.new ≡ M.name sink.old }
+    {
+        self.start_into(&mut PutBuffer::<0>::new(), sink)
+    }
+
+    /// Writes a chunk with the header that it has, and answers where it begins. It must end at or below 2^62. "Chunk".
+    ///
+    /// # Errors
+    ///
+    /// `Failed` only where the sink failed.
+    pub fn put<M: Sink>(&mut self, sink: &mut M, chunk: &Chunk) -> Result<u64, Failed>
+        requires unspent { self.old.spent ≡ false }
+        requires in_reach { end_of_chunk self.old.position (value_of_chunk chunk.now) ≤ 2 ^ 62 }
+        ensures begin { IfOk result (λ begin. begin ≡ self.old.position) }
+        ensures moved { OnOk result (self.new ≡ writer_at (end_of_chunk self.old.position (value_of_chunk chunk.now))) }
+        ensures spent { OnErr result (self.new ≡ spent_writer_at self.old.position) }
+        ensures whole { OnOk result (Takes (M.taken sink.old) (M.taken sink.new) (laid_as self.old.position chunk.now)) }
+        ensures front { OnErr result (TakesFront (M.taken sink.old) (M.taken sink.new) (laid_as self.old.position chunk.now)) }
+        ensures cause { OnErr result (Rose (M.faults sink.old) (M.faults sink.new)) }
+        ensures never_falls { M.faults sink.old ≤ M.faults sink.new }
+        ensures small { M.faults sink.old < 2 ^ 64 → M.faults sink.new < 2 ^ 64 }
+        ensures same_name { M.name sink.new ≡ M.name sink.old }
+    {
+        self.put_into(&mut PutBuffer::<0>::new(), sink, chunk)
+    }
+
+    /// Writes the padding that makes the next chunk begin at a block, or nothing at a block. The position must be at
+    /// most 2^61. "Padding chunk".
+    ///
+    /// # Errors
+    ///
+    /// `Failed` only where the sink failed.
+    pub fn pad<M: Sink>(&mut self, sink: &mut M) -> Result<(), Failed>
+        requires unspent { self.old.spent ≡ false }
+        requires in_reach { self.old.position ≤ 2 ^ 61 }
+        ensures moved { OnOk result (self.new ≡ writer_at (end_of_chunks self.old.position (padding_at self.old.position))) }
+        ensures spent { OnErr result (self.new ≡ spent_writer_at self.old.position) }
+        ensures whole { OnOk result (Takes (M.taken sink.old) (M.taken sink.new)
+            (laid_each self.old.position (padding_at self.old.position))) }
+        ensures front { OnErr result (TakesFront (M.taken sink.old) (M.taken sink.new)
+            (laid_each self.old.position (padding_at self.old.position))) }
+        ensures cause { OnErr result (Rose (M.faults sink.old) (M.faults sink.new)) }
+        ensures never_falls { M.faults sink.old ≤ M.faults sink.new }
+        ensures small { M.faults sink.old < 2 ^ 64 → M.faults sink.new < 2 ^ 64 }
+        ensures same_name { M.name sink.new ≡ M.name sink.old }
+    {
+        self.pad_into(&mut PutBuffer::<0>::new(), sink)
+    }
+
+    /// As `start`, through a buffer.
+    ///
+    /// # Errors
+    ///
+    /// `Failed` only where the sink failed. Nothing is held then.
+    pub fn start_into<const N: usize, M: Sink>(
+        &mut self,
+        buffer: &mut PutBuffer<N>,
+        sink: &mut M,
+    ) -> Result<(), Failed>
+        requires unspent { self.old.spent ≡ false }
+        requires at_front { self.old.position ≡ 0 }
+        ensures moved { OnOk result (self.new ≡ writer_at (end_of_chunk 0 signature)) }
+        ensures at_64 { OnOk result (self.new.position ≡ 64) }
+        ensures spent { OnErr result (self.new ≡ spent_writer_at self.old.position) }
+        ensures whole { OnOk result (TakesAndHolds (M.taken sink.old) (M.taken sink.new) (buffer.old ++ signature_bytes) buffer.new) }
+        ensures front { OnErr result (TakesFront (M.taken sink.old) (M.taken sink.new) (buffer.old ++ signature_bytes)) }
+        ensures emptied { OnErr result (buffer.new ≡ []) }
+        ensures fits { length buffer.old ≤ N → length buffer.new ≤ N }
+        ensures cause { OnErr result (Rose (M.faults sink.old) (M.faults sink.new)) }
+        ensures never_falls { M.faults sink.old ≤ M.faults sink.new }
+        ensures small { M.faults sink.old < 2 ^ 64 → M.faults sink.new < 2 ^ 64 }
+        ensures same_name { M.name sink.new ≡ M.name sink.old }
+    {
+        self.spent = true;
+        buffer.put(sink, &SIGNATURE)?;
+        self.position = SIGNATURE.len() as u64;
+        self.spent = false;
+        Ok(())
+    }
+
+    /// As `put`, through a buffer.
+    ///
+    /// # Errors
+    ///
+    /// `Failed` only where the sink failed. Nothing is held then.
+    pub fn put_into<const N: usize, M: Sink>(
+        &mut self,
+        buffer: &mut PutBuffer<N>,
+        sink: &mut M,
+        chunk: &Chunk,
+    ) -> Result<u64, Failed>
+        requires unspent { self.old.spent ≡ false }
+        requires in_reach { end_of_chunk self.old.position (value_of_chunk chunk.now) ≤ 2 ^ 62 }
+        ensures begin { IfOk result (λ begin. begin ≡ self.old.position) }
+        ensures moved { OnOk result (self.new ≡ writer_at (end_of_chunk self.old.position (value_of_chunk chunk.now))) }
+        ensures spent { OnErr result (self.new ≡ spent_writer_at self.old.position) }
+        ensures whole { OnOk result (TakesAndHolds (M.taken sink.old) (M.taken sink.new)
+            (buffer.old ++ laid_as self.old.position chunk.now) buffer.new) }
+        ensures front { OnErr result (TakesFront (M.taken sink.old) (M.taken sink.new)
+            (buffer.old ++ laid_as self.old.position chunk.now)) }
+        ensures emptied { OnErr result (buffer.new ≡ []) }
+        ensures fits { length buffer.old ≤ N → length buffer.new ≤ N }
+        ensures cause { OnErr result (Rose (M.faults sink.old) (M.faults sink.new)) }
+        ensures never_falls { M.faults sink.old ≤ M.faults sink.new }
+        ensures small { M.faults sink.old < 2 ^ 64 → M.faults sink.new < 2 ^ 64 }
+        ensures same_name { M.name sink.new ≡ M.name sink.old }
+    {
+        let begin = self.position;
+        self.lay(buffer, sink, &chunk.header, chunk.bytes.as_slice())?;
+        Ok(begin)
+    }
+
+    /// As `pad`, through a buffer.
+    ///
+    /// # Errors
+    ///
+    /// `Failed` only where the sink failed. Nothing is held then.
+    pub fn pad_into<const N: usize, M: Sink>(
+        &mut self,
+        buffer: &mut PutBuffer<N>,
+        sink: &mut M,
+    ) -> Result<(), Failed>
+        requires unspent { self.old.spent ≡ false }
+        requires in_reach { self.old.position ≤ 2 ^ 61 }
+        ensures moved { OnOk result (self.new ≡ writer_at (end_of_chunks self.old.position (padding_at self.old.position))) }
+        ensures spent { OnErr result (self.new ≡ spent_writer_at self.old.position) }
+        ensures whole { OnOk result (TakesAndHolds (M.taken sink.old) (M.taken sink.new)
+            (buffer.old ++ laid_each self.old.position (padding_at self.old.position)) buffer.new) }
+        ensures front { OnErr result (TakesFront (M.taken sink.old) (M.taken sink.new)
+            (buffer.old ++ laid_each self.old.position (padding_at self.old.position))) }
+        ensures emptied { OnErr result (buffer.new ≡ []) }
+        ensures fits { length buffer.old ≤ N → length buffer.new ≤ N }
+        ensures cause { OnErr result (Rose (M.faults sink.old) (M.faults sink.new)) }
+        ensures never_falls { M.faults sink.old ≤ M.faults sink.new }
+        ensures small { M.faults sink.old < 2 ^ 64 → M.faults sink.new < 2 ^ 64 }
+        ensures same_name { M.name sink.new ≡ M.name sink.old }
+    {
+        let Some(size) = padding_size(self.position) else {
+            return Ok(());
+        };
+        self.lay(buffer, sink, &padding_header(size), &[])
+    }
+
+    // Lays a chunk of this header and of data that begins with these bytes and goes on with zero bytes.
+    fn lay<const N: usize, M: Sink>(
+        &mut self,
+        buffer: &mut PutBuffer<N>,
+        sink: &mut M,
+        header: &Header,
+        front: &[u8],
+    ) -> Result<(), Failed>
+        requires unspent { self.old.spent ≡ false }
+        requires is_front { length front.now ≤ header.now.data_size }
+        requires in_reach { chunk_end_of self.old.position (chunk_header_size + header.now.data_size) header.now.num_records ≤ 2 ^ 62 }
+        ensures moved { OnOk result (self.new
+            ≡ writer_at (chunk_end_of self.old.position (chunk_header_size + header.now.data_size) header.now.num_records)) }
+        ensures spent { OnErr result (self.new ≡ spent_writer_at self.old.position) }
+        ensures whole { OnOk result (TakesAndHolds (M.taken sink.old) (M.taken sink.new)
+            (buffer.old ++ laid_bytes self.old.position
+            (chunk_end_of self.old.position (chunk_header_size + header.now.data_size) header.now.num_records)
+            (bytes_of_header header.now ++ front.now)) buffer.new) }
+        ensures front { OnErr result (TakesFront (M.taken sink.old) (M.taken sink.new)
+            (buffer.old ++ laid_bytes self.old.position
+            (chunk_end_of self.old.position (chunk_header_size + header.now.data_size) header.now.num_records)
+            (bytes_of_header header.now ++ front.now))) }
+        ensures emptied { OnErr result (buffer.new ≡ []) }
+        ensures fits { length buffer.old ≤ N → length buffer.new ≤ N }
+        ensures cause { OnErr result (Rose (M.faults sink.old) (M.faults sink.new)) }
+        ensures never_falls { M.faults sink.old ≤ M.faults sink.new }
+        ensures small { M.faults sink.old < 2 ^ 64 → M.faults sink.new < 2 ^ 64 }
+        ensures same_name { M.name sink.new ≡ M.name sink.old }
+    {
+        let Some(end) = chunk_end(self.position, header.data_size, header.num_records) else {
+            unreachable!();
+        };
+        self.spent = true;
+        lay_chunk(buffer, sink, self.position, end, &header.to_bytes(), front)?;
+        self.position = end;
+        self.spent = false;
+        Ok(())
+    }
+}
+
+// The header of a padding chunk of so many zero bytes.
+fn padding_header(size: u64) -> Header
+    requires { size < 2 ^ 64 }
+    ensures bytes { bytes_of_header result ≡ header_bytes (padding size) }
+    ensures size { result.data_size ≡ size }
+    ensures no_records { result.num_records ≡ 0 }
+{
+    Header {
+        data_size: size,
+        data_hash: hash_of_zeros(size),
+        kind: b'p',
+        num_records: 0,
+        decoded_size: 0,
+    }
+}
+
+// The hash of so many zero bytes.
+fn hash_of_zeros(count: u64) -> u64
+    ensures { result ≡ riegeli_hash (replicate count 0) }
+{
+    let mut hasher = Hasher::new(RIEGELI);
+    let mut left = count;
+    while left > 0 {
+        let piece = left.min(ZEROS.len() as u64);
+        hasher.update(&ZEROS[..piece as usize]);
+        left -= piece;
+    }
+    hasher.finish()
+}
