@@ -1,0 +1,115 @@
+-- Chunks that are laid behind others.
+use Rattle.std.proofs.Common.{◌≡◌, ◌∙◌, ℕ, ◌+◌, ◌<◌, ◌≤◌, ◌⊎◌, Option, List, [], ◌∷◌, ◌++◌, false, sym, ap, subst, length-append, arith}
+use Rattle.std.proofs.lemmas.List.{append-nil}
+use Rattle.std.proofs.lemmas.List.Sums.{sum_by-cons, sum_by-append}
+use Rattle.record_io.specs.Outside.{TakesFront}
+use Rattle.record_io.specs.Buffers.{TakesAndHolds}
+use Rattle.record_io.proofs.Buffered.{TakesAndHolds-append}
+use Rattle.chunk_header.specs.Chunks.{ChunkValue}
+use Rattle.chunk_header.specs.declared.Chunk.{Chunk}
+use Rattle.chunk_header.specs.Views.{value_of_chunk, HasRightHash}
+use Rattle.chunk_header.proofs.ChunkBytes.{header_bytes-right}
+use Rattle.meta_chunk.specs.Laid.{laid, laid_bytes, end_of_chunk}
+use Rattle.meta_chunk.specs.Files.{end_of_chunks, laid_each}
+use Rattle.meta_chunk.specs.PaddingSizes.{padding_at}
+use Rattle.meta_chunk.proofs.Joins.{end_of_chunks-append, laid_each-append}
+use Rattle.ordered_writer.specs.Writers.{laid_as}
+use Rattle.record_writer.specs.Progresses.{Progress, Lays, LaysFront, TakesAndHoldsFront}
+use Rattle.record_writer.proofs.Counted.{records_in-padding_at, length-padding_at}
+use Rattle.record_writer.proofs.Fronts.{TakesAndHolds-none, TakesAndHoldsFront-none, TakesAndHoldsFront-failed, TakesAndHoldsFront-longer, TakesAndHoldsFront-behind}
+
+-- no chunks are laid where nothing is done
+pub Lays-none : (a : Option (List ℕ)) (s : Progress) → s.spent ≡ false → Lays a a s s []
+unfolding laid_each
+Lays-none a s going =
+    record { bytes = TakesAndHolds-none a s.held; place = omega arith; going = going; chunks = omega arith; records = omega arith }
+
+-- the bytes of chunks, and of those that are laid behind them
+bytes-append : (s t : Progress) (ks more : List ChunkValue) → t.place ≡ end_of_chunks s.place ks
+    → laid_each s.place ks ++ laid_each t.place more ≡ laid_each s.place (ks ++ more)
+bytes-append s t ks more next =
+    ap (λ (place : ℕ). laid_each s.place ks ++ laid_each place more) next ∙ sym (laid_each-append s.place ks more)
+
+-- chunks, and behind them more chunks
+pub Lays-append : (a b c : Option (List ℕ)) (s t u : Progress) (ks more : List ChunkValue)
+    → Lays a b s t ks → Lays b c t u more → Lays a c s u (ks ++ more)
+Lays-append a b c s t u ks more first then = record {
+  bytes = subst (λ (xs : List ℕ). TakesAndHolds a c (s.held ++ xs) u.held)
+      (bytes-append s t ks more first.place)
+      (TakesAndHolds-append a b c s.held t.held u.held (laid_each s.place ks) (laid_each t.place more) first.bytes then.bytes);
+  place = then.place
+      ∙ ap (λ (place : ℕ). end_of_chunks place more) first.place
+      ∙ sym (end_of_chunks-append s.place ks more);
+  going = then.going;
+  chunks = omega (arith, first.chunks, then.chunks, length-append ks more);
+  records = omega (arith, first.records, then.records, sum_by-append (λ (k : ChunkValue). k.num_records) ks more);
+}
+
+-- chunks, and behind them a front of more
+pub LaysFront-behind : (a b c : Option (List ℕ)) (s t u : Progress) (ks more : List ChunkValue)
+    → Lays a b s t ks → LaysFront b c t u more → LaysFront a c s u (ks ++ more)
+LaysFront-behind a b c s t u ks more first then = record {
+  bytes = subst (λ (xs : List ℕ). TakesAndHoldsFront a c (s.held ++ xs) u.held)
+      (bytes-append s t ks more first.place)
+      (TakesAndHoldsFront-behind a b c s.held t.held u.held (laid_each s.place ks) (laid_each t.place more) first.bytes then.bytes);
+}
+
+-- a front of chunks is a front of these and more
+pub LaysFront-longer : (a b : Option (List ℕ)) (s t : Progress) (ks more : List ChunkValue) → LaysFront a b s t ks → LaysFront a b s t (ks ++ more)
+LaysFront-longer a b s t ks more front = record {
+  bytes = subst (λ (xs : List ℕ). TakesAndHoldsFront a b (s.held ++ xs) t.held)
+      (sym (laid_each-append s.place ks more))
+      (TakesAndHoldsFront-longer a b s.held (laid_each s.place ks) (laid_each (end_of_chunks s.place ks) more) t.held front.bytes);
+}
+
+-- where nothing is done, it is a front of any chunks
+pub LaysFront-none : (a : Option (List ℕ)) (s : Progress) (ks : List ChunkValue) → LaysFront a a s s ks
+LaysFront-none a s ks = record { bytes = TakesAndHoldsFront-none a s.held (laid_each s.place ks) }
+
+-- where a put failed, the sink took a front of them and nothing is held
+pub LaysFront-failed : (a b : Option (List ℕ)) (s t : Progress) (ks : List ChunkValue) → t.held ≡ [] → TakesFront a b (s.held ++ laid_each s.place ks)
+    → LaysFront a b s t ks
+LaysFront-failed a b s t ks emptied front =
+    record { bytes = TakesAndHoldsFront-failed a b (s.held ++ laid_each s.place ks) t.held emptied front }
+
+-- the bytes of one chunk
+laid_each-one : (place : ℕ) (k : ChunkValue) → laid_each place (k ∷ []) ≡ laid place k
+unfolding laid_each
+laid_each-one place k = append-nil (laid place k)
+
+-- one chunk that was laid
+pub Lays-one : (a b : Option (List ℕ)) (s t : Progress) (k : ChunkValue) → TakesAndHolds a b (s.held ++ laid s.place k) t.held
+    → t.place ≡ end_of_chunk s.place k → t.spent ≡ false → t.chunks ≡ s.chunks + 1 → t.records ≡ s.records + k.num_records
+    → Lays a b s t (k ∷ [])
+Lays-one a b s t k bytes place going chunks records = record {
+  bytes = subst (λ (xs : List ℕ). TakesAndHolds a b (s.held ++ xs) t.held) (sym (laid_each-one s.place k)) bytes;
+  place = place;
+  going = going;
+  chunks = chunks;
+  records = omega (arith, records, sum_by-cons (λ (x : ChunkValue). x.num_records) k []);
+}
+
+-- and one of which a front was put, where that failed
+pub LaysFront-one : (a b : Option (List ℕ)) (s t : Progress) (k : ChunkValue) → t.held ≡ [] → TakesFront a b (s.held ++ laid s.place k)
+    → LaysFront a b s t (k ∷ [])
+LaysFront-one a b s t k emptied front =
+    LaysFront-failed a b s t (k ∷ []) emptied
+    (subst (λ (xs : List ℕ). TakesFront a b (s.held ++ xs)) (sym (laid_each-one s.place k)) front)
+
+-- a chunk with the hash of its data has the bytes of the chunk that it stands for
+pub laid_as-right : (begin : ℕ) (c : Chunk) → HasRightHash c → laid_as begin c ≡ laid begin (value_of_chunk c)
+laid_as-right begin c right =
+    ap (λ (front : List ℕ). laid_bytes begin (end_of_chunk begin (value_of_chunk c)) (front ++ c.bytes)) (header_bytes-right c right)
+
+-- padding up to a block, which counts as a chunk where it ends further on
+pub Lays-padding : (a b : Option (List ℕ)) (s t : Progress) → TakesAndHolds a b (s.held ++ laid_each s.place (padding_at s.place)) t.held
+    → t.place ≡ end_of_chunks s.place (padding_at s.place) → t.spent ≡ false → t.records ≡ s.records
+    → ((s.place < t.place) × (t.chunks ≡ s.chunks + 1)) ⊎ ((t.place ≤ s.place) × (t.chunks ≡ s.chunks))
+    → Lays a b s t (padding_at s.place)
+Lays-padding a b s t bytes place going records counted = record {
+  bytes = bytes;
+  place = place;
+  going = going;
+  chunks = omega (arith, place, counted, length-padding_at s.place);
+  records = omega (arith, records, records_in-padding_at s.place);
+}

@@ -1,0 +1,39 @@
+use Rattle.std.proofs.Common.{refl, ap, inl, inr, arith}
+use Rattle.std.proofs.lemmas.Result.{err_from_is_err_and}
+use Rattle.meta_chunk.specs.PaddingSizes.{padding_at}
+use Rattle.meta_chunk.proofs.Joins.{end_of_chunks_past}
+use Rattle.ordered_writer.specs.Writers.{Writer}
+use Rattle.record_writer.proofs.Layings.{LaysFront-failed, Lays-padding}
+use Rattle.record_writer.proofs.made_file.MadeFile.pad.Goals as goal
+
+pub returns-in_err-pad_into-clause-front : goal.returns-in_err-pad_into-clause-front
+returns-in_err-pad_into-clause-front g c =
+    let p = err_from_is_err_and c.from_residual.result c.from_residual.ensures.1 in
+    rw (p.1, ← c.self.view_is)
+    (LaysFront-failed _ _ _ _ _ c.in_err-pad_into.ensures.emptied c.in_err-pad_into.ensures.front)
+
+pub invariant_of-self-else-begin-position : goal.invariant_of-self-else-begin-position
+invariant_of-self-else-begin-position g c =
+    omega (
+      arith,
+      ap (λ (w : Writer). w.position) c.in_ok-pad_into.ensures.moved,
+      end_of_chunks_past c.self.inside.writer.position (padding_at c.self.inside.writer.position),
+    )
+
+pub returns-then-begin-position-clause-whole : goal.returns-then-begin-position-clause-whole
+returns-then-begin-position-clause-whole g c =
+    rw (← c.self.view_is)
+    (Lays-padding _ _ _ _ c.in_ok-pad_into.ensures.whole
+    (ap (λ (w : Writer). w.position) c.in_ok-pad_into.ensures.moved)
+    (ap (λ (w : Writer). w.spent) c.in_ok-pad_into.ensures.moved)
+    refl
+    (inl (omega arith, refl)))
+
+pub returns-else-begin-position-clause-whole : goal.returns-else-begin-position-clause-whole
+returns-else-begin-position-clause-whole g c =
+    rw (← c.self.view_is)
+    (Lays-padding _ _ _ _ c.in_ok-pad_into.ensures.whole
+    (ap (λ (w : Writer). w.position) c.in_ok-pad_into.ensures.moved)
+    (ap (λ (w : Writer). w.spent) c.in_ok-pad_into.ensures.moved)
+    refl
+    (inr (omega arith, refl)))

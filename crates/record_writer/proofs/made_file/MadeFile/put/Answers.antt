@@ -1,0 +1,54 @@
+use Rattle.std.proofs.Common.{ℕ, ◌+◌, ◌≤◌, length, ap, arith}
+use Rattle.std.proofs.lemmas.Result.{err_from_is_err_and}
+use Rattle.block_layout.proofs.ChunkEnds.{chunk_end_of_past_records}
+use Rattle.chunk_header.specs.Chunks.{ChunkValue}
+use Rattle.chunk_header.specs.Views.{value_of_chunk}
+use Rattle.meta_chunk.specs.Laid.{end_of_chunk}
+use Rattle.meta_chunk.proofs.LaidChunks.{end_of_chunk_after}
+use Rattle.ordered_writer.specs.Writers.{Writer}
+use Rattle.record_writer.proofs.Layings.{Lays-one, LaysFront-one, laid_as-right}
+use Rattle.record_writer.proofs.made_file.MadeFile.put.Goals as goal
+
+pub returns-in_err-put_into-clause-front : goal.returns-in_err-put_into-clause-front
+returns-in_err-put_into-clause-front g c =
+    let p = err_from_is_err_and c.from_residual.result c.from_residual.ensures.1 in
+    let right = laid_as-right c.self.inside.writer.position c.args.chunk.now c.requires.right in
+    rw (p.1, ← c.self.view_is)
+    (LaysFront-one _ _ _ _ (value_of_chunk c.args.chunk.now) c.in_err-put_into.ensures.emptied
+    (rw right at c.in_err-put_into.ensures.front))
+
+-- the counts stay below where the chunk ends
+ends : (place records : ℕ) (k : ChunkValue) → records ≤ place → (place + 40 ≤ end_of_chunk place k) × (records + k.num_records ≤ end_of_chunk place k)
+ends place records k few = (
+  end_of_chunk_after place k,
+  omega (arith, chunk_end_of_past_records place (40 + length k.«data») k.num_records),
+)
+
+pub overflow_add-self : goal.overflow_add-self
+overflow_add-self g c =
+    let reach = rw (← c.self.view_is) at c.requires.in_reach in
+    omega (arith, reach, ends c.self.inside.writer.position c.self.inside.records (value_of_chunk c.args.chunk.now) c.self.invariant.1)
+
+pub overflow_add-self-2 : goal.overflow_add-self-2
+overflow_add-self-2 g c =
+    let reach = rw (← c.self.view_is) at c.requires.in_reach in
+    omega (arith, reach, ends c.self.inside.writer.position c.self.inside.records (value_of_chunk c.args.chunk.now) c.self.invariant.1)
+
+pub invariant_of-self-2 : goal.invariant_of-self-2
+invariant_of-self-2 g c =
+    omega (
+      arith,
+      ap (λ (w : Writer). w.position) c.in_ok-put_into.ensures.moved,
+      ends c.self.inside.writer.position c.self.inside.records (value_of_chunk c.args.chunk.now) c.self.invariant.1,
+    )
+
+pub returns-clause-whole : goal.returns-clause-whole
+returns-clause-whole g c =
+    let right = laid_as-right c.self.inside.writer.position c.args.chunk.now c.requires.right in
+    rw (← c.self.view_is)
+    (Lays-one _ _ _ _ (value_of_chunk c.args.chunk.now)
+    (rw right at c.in_ok-put_into.ensures.whole)
+    (ap (λ (w : Writer). w.position) c.in_ok-put_into.ensures.moved)
+    (ap (λ (w : Writer). w.spent) c.in_ok-put_into.ensures.moved)
+    (omega arith)
+    (omega arith))

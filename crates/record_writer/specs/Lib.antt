@@ -1,0 +1,4 @@
+pub mod Feeds
+pub mod Written
+pub mod Progresses
+pub mod Ends

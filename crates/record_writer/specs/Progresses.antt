@@ -1,0 +1,69 @@
+-- How far a file is that is being made. Own.
+use Rattle.std.specs.Prelude.{◌≡◌, ℕ, ◌+◌, ◌*◌, Bool, false, Option, Some, List, [], ◌++◌, length, map, IfSome}
+use Rattle.std.specs.List.{sum_by}
+use Rattle.record_io.specs.Outside.{Takes}
+use Rattle.record_io.specs.Buffers.{TakesAndHolds}
+use Rattle.record_io.specs.declared.file_totals.Totals.{Totals}
+use Rattle.chunk_header.specs.Chunks.{ChunkValue}
+use Rattle.chunk_header.specs.SimpleChunks.{simple_chunk}
+use Rattle.meta_chunk.specs.Files.{end_of_chunks, laid_each}
+use Rattle.simple_chunk.specs.Costs.{cost_of}
+use Rattle.record_group.specs.Groupings.{Grouping, groups_from}
+use Rattle.record_writer.specs.Feeds.{Rest}
+
+-- where the next chunk begins, whether a put failed, the bytes on their way to the sink, and how many chunks and
+-- records there are
+pub record Progress : Type 0 where
+  pub place : ℕ
+  pub spent : Bool
+  pub held : List ℕ
+  pub chunks : ℕ
+  pub records : ℕ
+
+-- nothing is written yet
+abbrev pub nothing_made : Progress
+nothing_made = record { place = 0; spent = false; held = []; chunks = 0; records = 0 }
+
+-- what was counted
+abbrev pub totals_made : Progress → Totals
+totals_made p = record { chunks = p.chunks; records = p.records; bytes = p.place; unread = 0 }
+
+-- how many records chunks have by their headers
+abbrev pub records_in : List ChunkValue → ℕ
+records_in = sum_by (λ k. k.num_records)
+
+-- chunks were laid behind those that were there
+pub record Lays (before after : Option (List ℕ)) (old new : Progress) (ks : List ChunkValue) : Type 0 where
+  pub bytes : TakesAndHolds before after (old.held ++ laid_each old.place ks) new.held
+  pub place : new.place ≡ end_of_chunks old.place ks
+  pub going : new.spent ≡ false
+  pub chunks : new.chunks ≡ old.chunks + length ks
+  pub records : new.records ≡ old.records + records_in ks
+
+-- of these bytes a sink took a front, where it tells what it takes, and what is held follows it
+pub record TakesAndHoldsFront (before after : Option (List ℕ)) (bytes held : List ℕ) : Type 0 where
+  pub passed : List ℕ
+  pub rest : List ℕ
+  pub parts : bytes ≡ passed ++ (held ++ rest)
+  pub taken : Takes before after passed
+
+-- a front of the bytes of chunks was laid behind those that were there
+pub record LaysFront (before after : Option (List ℕ)) (old new : Progress) (ks : List ChunkValue) : Type 0 where
+  pub bytes : TakesAndHoldsFront before after (old.held ++ laid_each old.place ks) new.held
+
+-- the chunks of groups
+abbrev pub chunks_of_groups : List (List (List ℕ)) → List ChunkValue
+chunks_of_groups = map simple_chunk
+
+-- where a feed told what was to come: the groups of its records are those that were given and those still to come
+pub record AreGivenOf (all rest : Rest) (old new : Grouping) (given : List (List (List ℕ))) : Type 0 where
+  pub stop : all.stop ≡ rest.stop
+  pub groups : groups_from old all.records ≡ given ++ groups_from new rest.records
+
+abbrev pub AreGiven : Option Rest → Option Rest → Grouping → Grouping → List (List (List ℕ)) → Type 0
+AreGiven before after old new given = IfSome before (λ all. (rest : Rest) × (after ≡ Some rest) × AreGivenOf all rest old new given)
+
+-- a place that no chunk of an open group and of the records below a feed's bound reaches past: a group's chunk ends
+-- within 23 times what the group costs, and a record of n bytes, which costs n + 8, lowers the bound by n + 1 or more
+abbrev pub reach_of : Progress → Grouping → ℕ → ℕ
+reach_of p grouping bound = p.place + 23 * cost_of grouping.group + 184 * bound

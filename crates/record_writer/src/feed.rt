@@ -1,0 +1,78 @@
+ghost use Rattle.std.specs.Prelude.{◌≡◌, ℕ, ◌+◌, ◌^◌, ◌≤◌, true, false, Option, length, IfSome};
+ghost use Rattle.record_io.specs.Outside.{Rose};
+ghost use Rattle.record_writer.specs.Feeds.{Rest, GivesRecord, nothing_left, stop_alone};
+
+use record_io::{Bytes, Failed};
+use std::alloc::{AllocError, Global};
+
+/// Why no more records are taken. Own.
+#[derive(Clone, Copy, Debug, PartialEq, Eq)]
+pub enum Stop {
+    /// A record has more than 2^24 bytes.
+    TooLong,
+    /// The input goes past its limit.
+    InputTooLong,
+    /// A line is not in the form that it should have.
+    BadLine,
+}
+
+/// Why a feed gives no record. Own.
+#[derive(Clone, Copy, Debug, PartialEq, Eq)]
+pub enum FeedEnd {
+    /// It is at its end, which is this stop.
+    Stop(Stop),
+    /// What the feed reads failed.
+    Failed,
+    /// There was not enough memory.
+    Memory,
+}
+
+impl From<AllocError> for FeedEnd {
+    ghost use Rattle.record_writer.specs.declared.feed.FeedEnd.TheVariants.{Memory};
+
+    ghost from_gives = { λ _ end. end ≡ Memory };
+
+    fn from(_: AllocError) -> FeedEnd {
+        FeedEnd::Memory
+    }
+}
+
+impl From<Failed> for FeedEnd {
+    ghost use Rattle.record_writer.specs.declared.feed.FeedEnd.TheVariants.{Failed as failed};
+
+    ghost from_gives = { λ _ end. end ≡ failed };
+
+    fn from(_: Failed) -> FeedEnd {
+        FeedEnd::Failed
+    }
+}
+
+/// Records that come one after another. Own.
+pub trait RecordFeed {
+    /// What the feed has not given yet: records, and a stop where one ends them. A feed need not tell it.
+    ghost rest: { Self → Option Rest };
+
+    /// A number that each record lowers by more than its length, and that no call raises.
+    ghost bound: { Self → ℕ };
+
+    /// How many faults there were.
+    ghost faults: { Self → ℕ };
+
+    /// The name of what the feed borrows, if it borrows what it reads.
+    ghost name: { Self → ℕ } = { λ _. 0 };
+
+    /// Gives one record: `into` then has its bytes alone, 2^24 or fewer, and the answer is true. False says that the feed
+    /// is at its end without a stop. A call that fails is the feed's last.
+    fn pull(&mut self, alloc: Global, into: &mut Bytes) -> Result<bool, FeedEnd>
+        ensures next { result ≡ Ok true → GivesRecord (rest self.old) (rest self.new) into.new }
+        ensures at_most { result ≡ Ok true → length into.new ≤ 2 ^ 24 }
+        ensures lowers { result ≡ Ok true → bound self.new + length into.new + 1 ≤ bound self.old }
+        ensures at_end { result ≡ Ok false → IfSome (rest self.old) (λ r. r ≡ nothing_left) }
+        ensures end_kept { result ≡ Ok false → rest self.new ≡ rest self.old }
+        ensures stop { (s : Stop) → result ≡ Err (FeedEnd.Stop s) → IfSome (rest self.old) (λ r. r ≡ stop_alone s) }
+        ensures never_rises { bound self.new ≤ bound self.old }
+        ensures same_name { name self.new ≡ name self.old }
+
+        ensures cause { result ≡ Err FeedEnd.Failed → Rose (faults self.old) (faults self.new) }
+        ensures never_falls { faults self.old ≤ faults self.new };
+}

@@ -1,0 +1,14 @@
+//! The write engine: a feed of records to the file of them.
+#![tactic(auto)]
+
+mod engine;
+mod feed;
+mod made_file;
+mod options;
+
+pub use engine::{WriteEnd, write_records};
+pub use feed::{FeedEnd, RecordFeed, Stop};
+pub use options::WriteOptions;
+
+#[cfg(test)]
+mod tests;

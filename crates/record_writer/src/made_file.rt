@@ -1,0 +1,134 @@
+ghost use Rattle.std.specs.Prelude.{◌≡◌, ◌^◌, ◌≤◌, false, [], ◌∷◌, OnOk, OnErr};
+ghost use Rattle.record_io.specs.Outside.{Rose, Takes, TakesFront};
+ghost use Rattle.chunk_header.specs.Views.{value_of_chunk, HasRightHash};
+ghost use Rattle.meta_chunk.specs.Files.{signature};
+ghost use Rattle.meta_chunk.specs.Laid.{end_of_chunk};
+ghost use Rattle.meta_chunk.specs.PaddingSizes.{padding_at};
+ghost use Rattle.record_group.specs.Groups.{padding_if};
+ghost use Rattle.record_writer.specs.Progresses.{Lays, LaysFront, nothing_made, totals_made};
+
+use chunk_header::Chunk;
+use ordered_writer::OrderedWriter;
+use record_io::{Failed, PutBuffer, Sink, Totals};
+use std::marker::Model;
+
+/// A file that is being made, chunk by chunk. Small chunks gather before they go to the sink, so `flush` comes last.
+/// After a failure nothing more is put.
+#[derive(Drop)]
+pub(crate) struct MadeFile {
+    writer: OrderedWriter,
+    buffer: PutBuffer<65_536>,
+    chunks: u64,
+    records: u64,
+}
+
+impl Model for MadeFile {
+    ghost use Rattle.std.specs.Prelude.{◌≤◌};
+    ghost use Rattle.record_writer.specs.Progresses.{Progress};
+
+    ghost Value = { Progress };
+
+    ghost view = { λ f. record { place = f.writer.position; spent = f.writer.spent; held = f.buffer; chunks = f.chunks; records = f.records } };
+
+    ghost invariant = { λ f. (f.chunks ≤ f.writer.position) × (f.records ≤ f.writer.position) };
+}
+
+impl MadeFile {
+    /// A file without a byte.
+    pub(crate) fn new() -> MadeFile
+        ensures { result ≡ nothing_made }
+    {
+        MadeFile {
+            writer: OrderedWriter::new(),
+            buffer: PutBuffer::new(),
+            chunks: 0,
+            records: 0,
+        }
+    }
+
+    /// Puts the signature, which is the first chunk.
+    pub(crate) fn start<M: Sink>(&mut self, made: &mut M) -> Result<(), Failed>
+        requires at_front { self.old ≡ nothing_made }
+        ensures whole { OnOk result (Lays (M.taken made.old) (M.taken made.new) self.old self.new (signature ∷ [])) }
+        ensures front { OnErr result (LaysFront (M.taken made.old) (M.taken made.new) self.old self.new (signature ∷ [])) }
+        ensures cause { OnErr result (Rose (M.faults made.old) (M.faults made.new)) }
+        ensures never_falls { M.faults made.old ≤ M.faults made.new }
+        ensures same_name { M.name made.new ≡ M.name made.old }
+    {
+        self.writer.start_into(&mut self.buffer, made)?;
+        self.chunks = 1;
+        Ok(())
+    }
+
+    /// Puts a chunk that has the hash of its data.
+    pub(crate) fn put<M: Sink>(&mut self, made: &mut M, chunk: &Chunk) -> Result<(), Failed>
+        requires going { self.old.spent ≡ false }
+        requires in_reach { end_of_chunk self.old.place (value_of_chunk chunk.now) ≤ 2 ^ 62 }
+        requires right { HasRightHash chunk.now }
+        ensures whole { OnOk result (Lays (M.taken made.old) (M.taken made.new) self.old self.new (value_of_chunk chunk.now ∷ [])) }
+        ensures front { OnErr result (LaysFront (M.taken made.old) (M.taken made.new) self.old self.new (value_of_chunk chunk.now ∷ [])) }
+        ensures cause { OnErr result (Rose (M.faults made.old) (M.faults made.new)) }
+        ensures never_falls { M.faults made.old ≤ M.faults made.new }
+        ensures same_name { M.name made.new ≡ M.name made.old }
+    {
+        self.writer.put_into(&mut self.buffer, made, chunk)?;
+        self.chunks += 1;
+        self.records += chunk.header.num_records;
+        Ok(())
+    }
+
+    /// Puts the padding up to a block, where it is wanted.
+    pub(crate) fn pad_if<M: Sink>(&mut self, wanted: bool, made: &mut M) -> Result<(), Failed>
+        requires going { self.old.spent ≡ false }
+        requires in_reach { self.old.place ≤ 2 ^ 61 }
+        ensures whole { OnOk result (Lays (M.taken made.old) (M.taken made.new) self.old self.new (padding_if wanted self.old.place)) }
+        ensures front { OnErr result (LaysFront (M.taken made.old) (M.taken made.new) self.old self.new (padding_if wanted self.old.place)) }
+        ensures cause { OnErr result (Rose (M.faults made.old) (M.faults made.new)) }
+        ensures never_falls { M.faults made.old ≤ M.faults made.new }
+        ensures same_name { M.name made.new ≡ M.name made.old }
+    {
+        if wanted { self.pad(made) } else { Ok(()) }
+    }
+
+    // Puts the padding up to a block, which at a block is none.
+    fn pad<M: Sink>(&mut self, made: &mut M) -> Result<(), Failed>
+        requires going { self.old.spent ≡ false }
+        requires in_reach { self.old.place ≤ 2 ^ 61 }
+        ensures whole { OnOk result (Lays (M.taken made.old) (M.taken made.new) self.old self.new (padding_at self.old.place)) }
+        ensures front { OnErr result (LaysFront (M.taken made.old) (M.taken made.new) self.old self.new (padding_at self.old.place)) }
+        ensures cause { OnErr result (Rose (M.faults made.old) (M.faults made.new)) }
+        ensures never_falls { M.faults made.old ≤ M.faults made.new }
+        ensures same_name { M.name made.new ≡ M.name made.old }
+    {
+        let begin = self.writer.position();
+        self.writer.pad_into(&mut self.buffer, made)?;
+        if begin < self.writer.position() {
+            self.chunks += 1;
+        }
+        Ok(())
+    }
+
+    /// Puts out what is held.
+    pub(crate) fn flush<M: Sink>(&mut self, made: &mut M) -> Result<(), Failed>
+        ensures whole { OnOk result (Takes (M.taken made.old) (M.taken made.new) self.old.held) }
+        ensures front { OnErr result (TakesFront (M.taken made.old) (M.taken made.new) self.old.held) }
+        ensures same_totals { totals_made self.new ≡ totals_made self.old }
+        ensures cause { OnErr result (Rose (M.faults made.old) (M.faults made.new)) }
+        ensures never_falls { M.faults made.old ≤ M.faults made.new }
+        ensures same_name { M.name made.new ≡ M.name made.old }
+    {
+        self.buffer.flush(made)
+    }
+
+    /// What was counted.
+    pub(crate) fn totals(&self) -> Totals
+        ensures { result ≡ totals_made self.now }
+    {
+        Totals {
+            chunks: self.chunks,
+            records: self.records,
+            bytes: self.writer.position(),
+            unread: 0,
+        }
+    }
+}
