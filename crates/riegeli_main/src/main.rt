@@ -4,11 +4,13 @@
 use record_io::{FileSink, FileStore, StdErr, StdInput, StdOut};
 use riegeli_tool::{Names, Status, names, run};
 use std::alloc::AllocError;
-use std::env;
 use std::io::{self, ErrorKind};
+use std::os::fd::{AsRawFd, IntoRawFd};
 use std::process::ExitCode;
+use std::{env, fs};
 
 fn main(rt: HostRuntime) -> ExitCode {
+    occupy_closed_streams(&rt);
     let words = match words(&rt) {
         Ok(words) => words,
         Err(error) => return exit_code(unread_words(&error)),
@@ -29,6 +31,19 @@ fn main(rt: HostRuntime) -> ExitCode {
         &mut StdErr::new(rt.stderr()),
     );
     exit_code(status)
+}
+
+/// Puts a folder in the place of each standard stream that the caller closed, so that no file comes to stand there. A folder
+/// can be opened by anyone, and its reads and writes fail as those of a closed stream do.
+fn occupy_closed_streams(rt: &HostRuntime) {
+    for _ in 0..3 {
+        match fs::open(rt, "/") {
+            Ok(folder) if folder.as_raw_fd() < 3 => {
+                folder.into_raw_fd();
+            }
+            _ => return,
+        }
+    }
 }
 
 fn exit_code(status: Status) -> ExitCode {

@@ -3,4 +3,6 @@
 #![tactic(auto)]
 
 #[cfg(test)]
+mod feed_tests;
+#[cfg(test)]
 mod tests;

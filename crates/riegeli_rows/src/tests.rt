@@ -1,3 +1,4 @@
+use highway_hash::{RIEGELI, hash};
 use record_io::{FileSink, FileStore, MemInput, MemSink, Store};
 use riegeli_tool::{Status, run};
 use std::alloc::{AllocError, Global};
@@ -21,9 +22,9 @@ const THREE: [u8; 112] = [
 /// The input of these lines.
 const THREE_LINES: &[u8] = b"a\nbc\n\n";
 
-/// What is said where the words are no command, of 244 bytes.
+/// What is said where the words are no command, of 279 bytes.
 const USAGE: &str = "usage:
-write [--chunk=N] [--workers=N] [--hex] FILE
+write [--chunk=N] [--every=N] [--workers=N] [--pad=start|end|both] [--hex] FILE
 show [--recover] [--most=N] [--hex] [--positions] FILE
 verify FILE
 seek (--at=N | --key=TEXT) [--hex] FILE
@@ -99,7 +100,7 @@ impl Left {
 
 /// A sink with room for all that is written here.
 fn sink(alloc: Global, cuts: &[u32], fails: &[u32]) -> Result<MemSink, AllocError> {
-    MemSink::new(alloc, 1 << 17, cuts.to_vec(alloc)?, fails.to_vec(alloc)?)
+    MemSink::new(alloc, 1 << 25, cuts.to_vec(alloc)?, fails.to_vec(alloc)?)
 }
 
 /// The words as the program gets them.
@@ -173,65 +174,215 @@ fn ample_memory_makes_the_file_however_calls_are_cut(rt: HostRuntime) -> Result<
 /// One record of 65,427 bytes, and 65,428 empty records: 65,432 bytes of data, and no block header behind them.
 #[test]
 fn the_largest_files_of_one_block_end_with_it(rt: HostRuntime) -> Result<(), Fail> {
-    for (byte, count, from_kind_on, rest) in [
+    let alloc = rt.alloc();
+    for (byte, count, header, sizes, rest) in [
         (
             b'x',
             65427,
-            b"r\x01\0\0\0\0\0\0\x93\xff\0\0\0\0\0\0\0\x03\x93\xff\x03".as_slice(),
+            b"\x24\x82\x52\xb3\xdd\x16\x70\xf7\x98\xff\0\0\0\0\0\0\
+              \x8e\x18\x26\x12\xd4\xe5\x17\xe3r\x01\0\0\0\0\0\0\x93\xff\0\0\0\0\0\0",
+            b"\0\x03\x93\xff\x03".as_slice(),
             b'x',
         ),
         (
             b'\n',
             65428,
-            b"r\x94\xff\0\0\0\0\0\0\0\0\0\0\0\0\0\0\x94\xff\x03".as_slice(),
+            b"\x86\x86\xac\xb3\x42\xfe\x92\x3a\x98\xff\0\0\0\0\0\0\
+              \x4e\xd9\xfc\x17\x5d\x81\x90\xebr\x94\xff\0\0\0\0\0\0\0\0\0\0\0\0\0",
+            b"\0\x94\xff\x03",
             0,
         ),
     ] {
-        let input = vec![in rt.alloc(); byte; count]?;
+        let mut whole = part(&THREE, 0, 64).to_vec(alloc)?;
+        whole.extend_from_slice(header)?;
+        whole.extend_from_slice(sizes)?;
+        whole.resize(65536, rest)?;
+        let input = vec![in alloc; byte; count]?;
         let left = run_over(
             &rt,
-            rt.alloc(),
+            alloc,
             &["write", "F"],
             &input,
             &SOUND,
             &mut no_files(&rt),
         )?;
-        let made = left.made.taken();
-        left.is(&rt, Status::Ok, made, "");
-        assert_eq!(rt; made.len(), 65536);
-        assert_eq!(rt; part(made, 72, 80), b"\x98\xff\0\0\0\0\0\0".as_slice());
-        let (fixed, values) = made.split_at(65536 - count);
-        assert!(rt; fixed.ends_with(from_kind_on), "{count}");
-        assert!(rt; values.iter().all(|value| *value == rest), "{count}");
+        left.is(&rt, Status::Ok, &whole, "");
+    }
+    Ok(())
+}
+
+/// So many bytes, and a newline.
+fn line_of(alloc: Global, byte: u8, count: usize) -> Result<Vec<u8>, AllocError> {
+    let mut line = vec![in alloc; byte; count]?;
+    line.push(b'\n')?;
+    Ok(line)
+}
+
+/// The lines of so many bytes each.
+fn lines_of(alloc: Global, lines: &[(u8, usize)]) -> Result<Vec<u8>, AllocError> {
+    let mut input = Vec::new(alloc);
+    for (byte, count) in lines {
+        input.extend_from_slice(&line_of(alloc, *byte, *count)?)?;
+    }
+    Ok(input)
+}
+
+/// Asserts that the words make a file of so many bytes, with this hash under the key of files. The hashes are those of
+/// files that another program laid byte by byte.
+fn makes<R: Threads + Sync + Files + Abort>(
+    rt: &R,
+    alloc: Global,
+    words: &[&str],
+    input: &[u8],
+    (size, sum): (usize, u64),
+) -> Result<(), AllocError> {
+    let left = run_over(rt, alloc, words, input, &SOUND, &mut no_files(rt))?;
+    assert_eq!(rt; left.status, Status::Ok);
+    assert_eq!(rt; left.notes.taken(), b"".as_slice());
+    assert_eq!(rt; left.made.taken().len(), size);
+    assert_eq!(rt; hash(&RIEGELI, left.made.taken()), sum, "{size} bytes");
+    Ok(())
+}
+
+#[test]
+fn files_go_over_blocks(rt: HostRuntime) -> Result<(), Fail> {
+    let alloc = rt.alloc();
+    for (words, lines, want) in [
+        (
+            ["write", "F"].as_slice(),
+            [(b'x', 70_000)].as_slice(),
+            (70_133, 0xaa28_6e33_54ae_74c1),
+        ),
+        (
+            &["write", "F"],
+            &[(b'x', 65_427)],
+            (65_536, 0xd03f_78f2_9011_c24a),
+        ),
+        (
+            &["write", "F"],
+            &[(b'x', 65_428)],
+            (65_561, 0x191a_05c7_c9ab_aff9),
+        ),
+        (
+            &["write", "--chunk=1", "F"],
+            &[(b'y', 65_427), (b'x', 1)],
+            (65_604, 0x9519_ca17_6f48_1c58),
+        ),
+        (
+            &["write", "--chunk=1", "F"],
+            &[
+                (b'x', 30_000),
+                (b'x', 30_000),
+                (b'x', 30_000),
+                (b'x', 30_000),
+            ],
+            (120_268, 0x018e_9020_3742_0b25),
+        ),
+        (
+            &["write", "F", "--chunk=1"],
+            &[(b'x', 65_421), (b'x', 1), (b'y', 1)],
+            (65_642, 0xe055_550e_ede8_fa45),
+        ),
+    ] {
+        makes(&rt, alloc, words, &lines_of(alloc, lines)?, want)?;
     }
     Ok(())
 }
 
 #[test]
-fn lines_past_one_block_are_refused_unwritten(rt: HostRuntime) -> Result<(), Fail> {
-    for (byte, count) in [
-        (b'x', 65428),
-        (b'\n', 65429),
-        (b'x', 1 << 20),
-        (b'\n', 1 << 20),
+fn lines_go_in_groups_and_padding_goes_to_blocks(rt: HostRuntime) -> Result<(), Fail> {
+    let alloc = rt.alloc();
+    let letters = b"a\nb\nc\n".as_slice();
+    let long = line_of(alloc, b'x', 65_388)?;
+    for (words, input, want) in [
+        (
+            ["write", "--chunk=1", "F"].as_slice(),
+            letters,
+            (196, 0xde13_2d11_2d71_59e7),
+        ),
+        (
+            &["write", "--chunk=20", "F"],
+            letters,
+            (154, 0x465a_c781_6fd8_5511),
+        ),
+        (
+            &["write", "--every=2", "F"],
+            letters,
+            (154, 0x465a_c781_6fd8_5511),
+        ),
+        (
+            &["write", "--every=1", "--chunk=16777216", "F"],
+            letters,
+            (196, 0xde13_2d11_2d71_59e7),
+        ),
+        (
+            &["write", "--pad=end", "F"],
+            long.as_slice(),
+            (131_072, 0x5f28_0ac8_89e8_462a),
+        ),
+        (
+            &["write", "--pad=both", "F"],
+            b"a",
+            (131_072, 0x0e2c_41cb_bede_8834),
+        ),
+        (
+            &["write", "--pad=start", "F"],
+            b"a\n",
+            (65_604, 0xd8b5_02be_25d1_853b),
+        ),
+        (
+            &["write", "--pad=both", "F"],
+            b"",
+            (65_536, 0xbf41_a69b_81e7_1c74),
+        ),
     ] {
-        let input = vec![in rt.alloc(); byte; count]?;
-        let left = run_over(
-            &rt,
-            rt.alloc(),
-            &["write", "F"],
-            &input,
-            &SOUND,
-            &mut no_files(&rt),
-        )?;
-        left.is(&rt, Status::Limit, b"", "limit file\n");
+        makes(&rt, alloc, words, input, want)?;
     }
+    Ok(())
+}
+
+/// A line of 2^24 bytes is a record, and one more byte is too many: the file of the lines before it is made.
+#[test]
+fn lines_of_more_than_2_to_the_24_bytes_are_refused(rt: HostRuntime) -> Result<(), Fail> {
+    let alloc = rt.alloc();
+    let mut input = vec![in alloc; b'x'; (1 << 24) + 1]?;
+    let left = run_over(
+        &rt,
+        alloc,
+        &["write", "F"],
+        &input,
+        &SOUND,
+        &mut no_files(&rt),
+    )?;
+    left.is(&rt, Status::Limit, part(&THREE, 0, 64), "limit record 0\n");
+    let _ = input.pop();
+    let left = run_over(
+        &rt,
+        alloc,
+        &["write", "F"],
+        &input,
+        &SOUND,
+        &mut no_files(&rt),
+    )?;
+    assert_eq!(rt; left.status, Status::Ok);
+    assert_eq!(rt; left.notes.taken(), b"".as_slice());
+    let mut three = THREE_LINES.to_vec(alloc)?;
+    three.extend_from_slice(&vec![in alloc; b'x'; (1 << 24) + 1]?)?;
+    let left = run_over(
+        &rt,
+        alloc,
+        &["write", "F"],
+        &three,
+        &SOUND,
+        &mut no_files(&rt),
+    )?;
+    left.is(&rt, Status::Limit, &THREE, "limit record 3\n");
     Ok(())
 }
 
 #[test]
 fn words_that_are_no_command_get_the_usage_text(rt: HostRuntime) -> Result<(), Fail> {
-    assert_eq!(rt; USAGE.len(), 244);
+    assert_eq!(rt; USAGE.len(), 279);
     for words in [
         [].as_slice(),
         &["Show", "F"],
@@ -241,6 +392,12 @@ fn words_that_are_no_command_get_the_usage_text(rt: HostRuntime) -> Result<(), F
         &["write", "-"],
         &["write", "F", "G"],
         &["write", "--hex", "F"],
+        &["write", "--workers=1", "F"],
+        &["write", "--chunk=0", "F"],
+        &["write", "--chunk=16777217", "F"],
+        &["write", "--chunk=1", "--chunk=1", "F"],
+        &["write", "--every=0", "F"],
+        &["write", "--pad=no", "F"],
         &["Write", "F"],
         &["F", "write"],
         &["verify", "F"],
@@ -270,16 +427,17 @@ fn words_that_are_no_command_get_the_usage_text(rt: HostRuntime) -> Result<(), F
     Ok(())
 }
 
-/// Runs the words with each call of the object failing in turn, until a run calls it less often and ends with its answer. Where notes
-/// fail they take a front of the text, and else the whole.
+/// Runs the words with each call of the object failing in turn, until a run calls it less often and ends with its
+/// answer, which makes this file and tells this text. A failing run makes a front of the file. Where notes fail they
+/// take a front of what is told, and else the whole.
 fn fail_in_turn<R: Threads + Sync + Files + Abort>(
     rt: &R,
     alloc: Global,
     words: &[&str],
     input: &[u8],
     object: Object,
-    (fault, answer): (Status, Status),
-    text: &str,
+    (fault, fault_text): (Status, &str),
+    (answer, made_whole, text): (Status, &[u8], &str),
 ) -> Result<(), AllocError> {
     for call in 0..100 {
         let left = run_over(
@@ -292,7 +450,7 @@ fn fail_in_turn<R: Threads + Sync + Files + Abort>(
         )?;
         let (made, notes) = (left.made.taken(), left.notes.taken());
         if left.status != fault {
-            assert_eq!(rt; left.status, answer);
+            left.is(rt, answer, made_whole, text);
             assert!(rt; call > 1, "the first calls fail");
             return Ok(());
         }
@@ -300,13 +458,9 @@ fn fail_in_turn<R: Threads + Sync + Files + Abort>(
             THREE.starts_with(made) && made.len() < THREE.len(),
             "at {call}"
         );
+        assert!(rt; fault_text.as_bytes().starts_with(notes), "at {call}");
         assert!(rt;
-            made.is_empty() || (object == Object::Made && call > 0),
-            "at {call}"
-        );
-        assert!(rt; text.as_bytes().starts_with(notes), "at {call}");
-        assert!(rt;
-            (notes.len() < text.len()) == (object == Object::Notes),
+            (notes.len() < fault_text.len()) == (object == Object::Notes),
             "at {call}"
         );
     }
@@ -316,38 +470,30 @@ fn fail_in_turn<R: Threads + Sync + Files + Abort>(
 
 #[test]
 fn each_call_of_each_object_fails_in_turn(rt: HostRuntime) -> Result<(), Fail> {
-    let large = vec![in rt.alloc(); b'x'; 65428]?;
-    for (words, input, object, ends, text) in [
+    for (words, input, object, ends_at_fault, ends) in [
         (
             ["write", "F"].as_slice(),
             THREE_LINES,
             Object::Input,
-            (Status::Input, Status::Ok),
-            "input fault\n",
+            (Status::Input, "input fault\n"),
+            (Status::Ok, THREE.as_slice(), ""),
         ),
         (
             &["write", "F"],
             THREE_LINES,
             Object::Made,
-            (Status::Made, Status::Ok),
-            "made fault\n",
-        ),
-        (
-            &["write", "F"],
-            large.as_slice(),
-            Object::Notes,
-            (Status::Notes, Status::Limit),
-            "limit file\n",
+            (Status::Made, "made fault\n"),
+            (Status::Ok, THREE.as_slice(), ""),
         ),
         (
             &["write"],
             THREE_LINES,
             Object::Notes,
-            (Status::Notes, Status::Usage),
-            USAGE,
+            (Status::Notes, USAGE),
+            (Status::Usage, b"", USAGE),
         ),
     ] {
-        fail_in_turn(&rt, rt.alloc(), words, input, object, ends, text)?;
+        fail_in_turn(&rt, rt.alloc(), words, input, object, ends_at_fault, ends)?;
     }
     Ok(())
 }
@@ -374,10 +520,10 @@ fn notes_that_fail_after_another_fault_change_no_status(rt: HostRuntime) -> Resu
 }
 
 #[test]
-fn an_existing_file_is_kept_until_lines_are_written(rt: HostRuntime) -> Result<(), Fail> {
+fn an_existing_file_is_kept_until_something_is_written(rt: HostRuntime) -> Result<(), Fail> {
     let alloc = rt.alloc();
     let (path, absent) = ("riegeli_rows_made", "no_such_folder/F");
-    let large = vec![in alloc; b'x'; 65428]?;
+    let large = vec![in alloc; b'x'; (1 << 24) + 1]?;
     fs::write(&rt, path, USAGE)?;
     for (words, input, path_made, answer, told, kept) in [
         (
@@ -389,20 +535,20 @@ fn an_existing_file_is_kept_until_lines_are_written(rt: HostRuntime) -> Result<(
             USAGE.as_bytes(),
         ),
         (
-            &["write", path],
-            large.as_slice(),
-            path,
-            Status::Limit,
-            "limit file\n",
-            USAGE.as_bytes(),
-        ),
-        (
             &["write", absent],
             THREE_LINES,
             absent,
             Status::Made,
             "made fault\n",
             USAGE.as_bytes(),
+        ),
+        (
+            &["write", path],
+            large.as_slice(),
+            path,
+            Status::Limit,
+            "limit record 0\n",
+            part(&THREE, 0, 64),
         ),
         (
             &["write", path],

@@ -1,7 +1,11 @@
 pub mod Statuses
 pub mod Input
-pub mod Reading
+pub mod LineFeeds
+pub mod Numbers
+pub mod Options
+pub mod WriteWords
 pub mod Commands
 pub mod Answers
-pub mod BlockFile
+pub mod WriteCommand
+pub mod CommandAnswers
 pub mod Runs

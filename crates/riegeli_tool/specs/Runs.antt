@@ -1,8 +1,34 @@
--- How a run may end, beside giving its whole answer. Own.
-use Rattle.std.specs.Prelude.{◌≡◌, ℕ, ◌⊎◌, Option, Some, List, map}
+-- How a run goes: what its status and its objects tell, of every command. Own.
+use Rattle.std.specs.Prelude.{◌≡◌, ◌≢◌, ℕ, ◌≤◌, ◌⊎◌, true, Option, Some, None, List, [], ◌++◌, map, take, slice_get, IfSome}
+use Rattle.std.specs.List.{flat_map}
 use Rattle.record_io.specs.Outside.{Rose, Takes, TakesFront}
+use Rattle.riegeli_tool.specs.declared.command.Command.{Command}
 use Rattle.riegeli_tool.specs.declared.status.Status.{Status}
 use Rattle.riegeli_tool.specs.declared.status.Status.TheVariants as status
+use Rattle.riegeli_tool.specs.Statuses.{fault_text}
+use Rattle.riegeli_tool.specs.Input.{lines}
+use Rattle.riegeli_tool.specs.Answers.{Answer, line}
+use Rattle.riegeli_tool.specs.CommandAnswers.{Uses, uses_of, IsAnswer, MayEnd, MaySay}
+
+-- what an object shows: the bytes that an input has left, that a file has or that a sink took, where it tells
+-- them, and its count of faults
+pub record Shown : Type 0 where
+  pub bytes : Option (List ℕ)
+  pub faults : ℕ
+
+abbrev pub shown : Option (List ℕ) → ℕ → Shown
+shown bytes faults = record { bytes = bytes; faults = faults }
+
+-- what the objects of a run show
+pub record Seen : Type 0 where
+  pub input : Shown
+  pub files : List Shown
+  pub made : Shown
+  pub out : Shown
+  pub notes : Shown
+
+abbrev pub seen : Shown → List Shown → Shown → Shown → Shown → Seen
+seen input files made out notes = record { input = input; files = files; made = made; out = out; notes = notes }
 
 -- the statuses with which a run gives its whole answer: no fault, and no want of memory
 abbrev pub IsWhole : Status → Type 0
@@ -23,23 +49,100 @@ IsCutOff status.Out = Unit {0}
 IsCutOff status.Memory = Unit {0}
 IsCutOff other = ⊥
 
--- the statuses of the commands that are built
-abbrev pub IsGiven : Status → Type 0
-IsGiven status.Ok = Unit {0}
-IsGiven status.Usage = Unit {0}
-IsGiven status.Input = Unit {0}
-IsGiven status.Made = Unit {0}
-IsGiven status.Memory = Unit {0}
-IsGiven status.Limit = Unit {0}
-IsGiven status.Notes = Unit {0}
-IsGiven other = ⊥
+-- the count of faults of one of the files rose
+abbrev pub OneRose : List Shown → List Shown → Type 0
+OneRose before after =
+    (place : ℕ) × (a : Shown) × (b : Shown)
+    × (slice_get before place ≡ Some a) × (slice_get after place ≡ Some b) × Rose a.faults b.faults
 
--- P holds of the input's bytes and of the files', where these are told
-abbrev pub IfTold : Option (List ℕ) → List (Option (List ℕ)) → (List ℕ → List (List ℕ) → Type 0) → Type 0
-IfTold left contents P =
-    (input : List ℕ) (files : List (List ℕ)) → left ≡ Some input → contents ≡ map Some files → P input files
+-- no object that is used had a fault
+pub record IsSound (uses : Uses) (before after : Seen) : Type 0 where
+  pub input : uses.input ≡ true → ¬ Rose before.input.faults after.input.faults
+  pub files : uses.files ≡ true → ¬ OneRose before.files after.files
+  pub made : uses.made ≡ true → ¬ Rose before.made.faults after.made.faults
+  pub out : uses.out ≡ true → ¬ Rose before.out.faults after.out.faults
+  pub notes : ¬ Rose before.notes.faults after.notes.faults
 
--- a sink took a text, or a front of it where its count of faults rose
-abbrev pub TakesOrFails : Option (List ℕ) → Option (List ℕ) → ℕ → ℕ → List ℕ → Type 0
-TakesOrFails before after faults_before faults_after text =
-    Takes before after text ⊎ (Rose faults_before faults_after × TakesFront before after text)
+-- P holds of an answer to the command, where the input and the files tell their bytes that it uses
+abbrev pub IfTold : Option Command → Seen → (Answer → Type 0) → Type 0
+IfTold command before P =
+    (input : List ℕ) (files : List (List ℕ))
+    → ((uses_of command).input ≡ true → before.input.bytes ≡ Some input)
+    → ((uses_of command).files ≡ true → map (λ file. file.bytes) before.files ≡ map Some files)
+    → (answer : Answer) × IsAnswer command input files answer × P answer
+
+-- a run gave a whole answer: its status, and all its bytes went out
+pub record Gave (ended : Status) (before after : Seen) (answer : Answer) : Type 0 where
+  pub same_status : ended ≡ answer.status
+  pub made : Takes before.made.bytes after.made.bytes answer.made
+  pub out : Takes before.out.bytes after.out.bytes answer.out
+  pub notes : Takes before.notes.bytes after.notes.bytes answer.notes
+
+-- the first lines of a text
+abbrev pub first_lines : ℕ → List ℕ → List ℕ
+first_lines count text = flat_map line (take count (lines text))
+
+-- a sink took a text and then a line, or where its count of faults rose a front of that line
+abbrev pub TakesThen : Shown → Shown → List ℕ → List ℕ → Type 0
+TakesThen before after text last =
+    (part : List ℕ) × Takes before.bytes after.bytes (text ++ part)
+    × ((part ≡ last) ⊎ (Rose before.faults after.faults × (n : ℕ) × (part ≡ take n last)))
+
+-- the work ended with a status and its text, or with that of a fault of notes, which took a front of the text
+abbrev pub SaysAtEnd : Status → Status → Shown → Shown → List ℕ → Type 0
+SaysAtEnd ended wanted before after text =
+    ((ended ≡ wanted) × Takes before.bytes after.bytes text)
+    ⊎ ((ended ≡ status.Notes) × Rose before.faults after.faults × TakesFront before.bytes after.bytes text)
+
+-- a run was cut off: of an answer the made file and standard output took fronts, and notes the first lines and
+-- then the line that tells what cut it off
+pub record WasCutOff (ended : Status) (before after : Seen) (answer : Answer) : Type 0 where
+  pub made : TakesFront before.made.bytes after.made.bytes answer.made
+  pub out : TakesFront before.out.bytes after.out.bytes answer.out
+  pub notes : (count : ℕ) × TakesThen before.notes after.notes (first_lines count answer.notes) (fault_text ended)
+
+-- notes failed to take what an answer says: of its bytes each sink took a front
+pub record FailedToSay (before after : Seen) (answer : Answer) : Type 0 where
+  pub some : answer.notes ≢ []
+  pub made : TakesFront before.made.bytes after.made.bytes answer.made
+  pub out : TakesFront before.out.bytes after.out.bytes answer.out
+  pub notes : TakesFront before.notes.bytes after.notes.bytes answer.notes
+
+-- what is behind a status: no command, or an object that the command uses and that had a fault
+abbrev pub HasCause : Status → Option Command → Seen → Seen → Type 0
+HasCause status.Usage command before after = command ≡ None
+HasCause status.Input command before after = ((uses_of command).input ≡ true) × Rose before.input.faults after.input.faults
+HasCause status.File command before after = ((uses_of command).files ≡ true) × OneRose before.files after.files
+HasCause status.Made command before after = ((uses_of command).made ≡ true) × Rose before.made.faults after.made.faults
+HasCause status.Out command before after = ((uses_of command).out ≡ true) × Rose before.out.faults after.out.faults
+HasCause status.Memory command before after = (uses_of command).memory ≡ true
+HasCause status.Notes command before after = Rose before.notes.faults after.notes.faults
+HasCause other command before after = Unit {0}
+
+-- no count of faults fell
+pub record NoneFell (before after : Seen) : Type 0 where
+  pub input : before.input.faults ≤ after.input.faults
+  pub files : (place : ℕ) (a b : Shown) → slice_get before.files place ≡ Some a → slice_get after.files place ≡ Some b → a.faults ≤ b.faults
+  pub made : before.made.faults ≤ after.made.faults
+  pub out : before.out.faults ≤ after.out.faults
+  pub notes : before.notes.faults ≤ after.notes.faults
+
+-- a run of a command ended with a status, of what its objects showed before and after
+pub record Runs (command : Option Command) (before after : Seen) (ended : Status) : Type 0 where
+  -- unless a fault or want of memory ended the work, the status and all that went out are an answer's
+  pub whole : IsWhole ended → IfTold command before (Gave ended before after)
+  pub read_to_end : ended ≡ status.Ok → (uses_of command).input ≡ true → IfSome before.input.bytes (λ _. after.input.bytes ≡ Some [])
+  -- where nothing that is used had a fault, the status is an answer's, or tells want of memory
+  pub complete : IsSound (uses_of command) before after
+      → IfTold command before (λ answer. (ended ≡ answer.status) ⊎ (ended ≡ status.Memory))
+  pub usage : command ≡ None → (ended ≡ status.Usage) ⊎ (ended ≡ status.Notes)
+  pub cause : HasCause ended command before after
+  -- where the work was cut off, or notes failed, fronts of an answer's bytes went out
+  pub cut_off : IsCutOff ended → IfTold command before (WasCutOff ended before after)
+  pub failed_to_say : ended ≡ status.Notes → IfTold command before (FailedToSay before after)
+  -- what notes took, also where nobody tells what was read
+  pub end_said : IsWhole ended → (text : List ℕ) × MayEnd command ended text × Takes before.notes.bytes after.notes.bytes text
+  pub cut_off_said : IsCutOff ended → (text : List ℕ) × MaySay command text × TakesThen before.notes after.notes text (fault_text ended)
+  pub front_said : ended ≡ status.Notes
+      → (wanted : Status) × (text : List ℕ) × MayEnd command wanted text × TakesFront before.notes.bytes after.notes.bytes text
+  pub counts : NoneFell before after

@@ -1,10 +1,12 @@
 ghost use Rattle.std.specs.Prelude.{◌≡◌};
-ghost use Rattle.riegeli_tool.specs.Commands.{files_read};
+ghost use Rattle.riegeli_tool.specs.Commands.{files_read, names_of};
 
-/// A command, with the places of its file words.
+use crate::write_words::WriteWords;
+
+/// A command, with what its words say.
 #[derive(Clone, Copy, Debug, PartialEq, Eq)]
 pub(crate) enum Command {
-    Write { file: usize },
+    Write(WriteWords),
 }
 
 /// The files that words name, by their places among the words. Own.
@@ -24,7 +26,7 @@ impl Command {
         ensures { result ≡ files_read self.now }
     {
         match self {
-            Command::Write { .. } => 0,
+            Command::Write(_) => 0,
         }
     }
 }

@@ -2,15 +2,20 @@
 #![tactic(auto)]
 
 mod command;
-mod input;
-mod line_chunk;
+pub mod laws;
+mod line_feed;
 mod notes;
+mod numbers;
+mod options;
 mod program;
 mod status;
+mod window;
 mod words;
 mod write;
+mod write_words;
 
 pub use command::Names;
+pub use line_feed::LineFeed;
 pub use program::run;
 pub use status::Status;
 pub use words::names;

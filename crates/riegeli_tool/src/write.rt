@@ -1,113 +1,88 @@
-ghost use Rattle.std.specs.Prelude.{◌≡◌, ◌≢◌, ◌≤◌, true, false, Some, [], IfOk, IfSome, OnOk, OnErr, IsErrOf};
-ghost use Rattle.record_io.specs.Outside.{Rose, Takes, TakesFront};
-ghost use Rattle.chunk_header.specs.SimpleChunks.{simple_chunk};
-ghost use Rattle.chunk_header.specs.Views.{value_of_chunk, HasRightHash};
-ghost use Rattle.record_group.specs.Groups.{file_of};
-ghost use Rattle.riegeli_tool.specs.Input.{lines};
-ghost use Rattle.riegeli_tool.specs.BlockFile.{block_file};
-ghost use Rattle.riegeli_tool.specs.Reading.{GivesFront};
-ghost use Rattle.riegeli_tool.specs.Answers.{default_chunk_size, fits_one_block};
+ghost use Rattle.std.specs.Prelude.{◌≡◌, ◌^◌, ◌≤◌, List, Some, [], false, IfSome, OnOk};
+ghost use Rattle.record_io.specs.Outside.{Rose};
+ghost use Rattle.record_writer.specs.Written.{AreInLimits, Answers, TakesFile, file_under};
+ghost use Rattle.riegeli_tool.specs.Input.{taken_from};
+ghost use Rattle.riegeli_tool.specs.WriteCommand.{options_of};
+ghost use Rattle.riegeli_tool.specs.Runs.{Runs, Shown, seen, shown};
 
-use crate::input::fill;
-use crate::line_chunk::line_chunk;
-use chunk_header::Chunk;
-use meta_chunk::SIGNATURE;
-use record_io::{Failed, Sink, Source, put_all};
-use std::alloc::{AllocError, Global};
+use crate::command::Command;
+use crate::line_feed::LineFeed;
+use crate::notes::{cut_off, end, end_with_number};
+use crate::status::Status;
+use crate::write_words::WriteWords;
+use record_io::{Sink, Source, Totals};
+use record_writer::{WriteEnd, WriteOptions, write_records};
+use std::alloc::Global;
+use std::thread::Threads;
 
-/// The size of a block.
-const BLOCK: usize = 65536;
+/// The most bytes of the input that are read.
+const MOST_INPUT: u64 = 1 << 40;
 
-/// The most bytes of data that a chunk behind the signature has within the first block.
-const MOST_DATA: u64 = 65432;
-
-/// Why `write` ended early.
-#[derive(Clone, Copy, Debug, PartialEq, Eq)]
-pub(crate) enum WriteEnd {
-    /// The input failed.
-    Input,
-    /// The made file failed.
-    Made,
-    /// There was not enough memory.
-    Memory,
-    /// The lines don't fit into one block.
-    Limit,
-}
-
-impl From<AllocError> for WriteEnd {
-    ghost use Rattle.riegeli_tool.specs.declared.write.WriteEnd.TheVariants.{Memory};
-
-    ghost from_gives = { λ _ e. e ≡ Memory };
-
-    fn from(_: AllocError) -> WriteEnd {
-        WriteEnd::Memory
-    }
-}
-
-/// Writes the file of the input's lines, once the whole input is read.
-pub(crate) fn write<I: Source, M: Sink>(
+/// Writes the file of the input's lines, and says in notes why it ended before the input did.
+pub(crate) fn write<R: Threads + Sync, I: Source, M: Sink + Send, E: Sink>(
+    rt: &R,
     alloc: Global,
+    words: &WriteWords,
     input: &mut I,
     made: &mut M,
-) -> Result<(), WriteEnd>
-    ensures ok { OnOk result (IfSome (I.left input.old) (λ bytes.
-        Takes (M.taken made.old) (M.taken made.new) (file_of (lines bytes) default_chunk_size))) }
-    ensures fits { OnOk result (IfSome (I.left input.old) (λ bytes. fits_one_block (lines bytes) ≡ true)) }
-    ensures read { OnOk result (IfSome (I.left input.old) (λ _. I.left input.new ≡ Some [])) }
-    ensures limit { IsErrOf result WriteEnd.Limit → IfSome (I.left input.old) (λ bytes. fits_one_block (lines bytes) ≡ false) }
+    notes: &mut E,
+) -> Status
+    requires { AreInLimits (options_of words.now) }
+    ensures runs { (files : List Shown) (out : Shown) → Runs (Some (Command.Write words.now))
+        (seen (shown (I.left input.old) (I.faults input.old)) files
+        (shown (M.taken made.old) (M.faults made.old)) out (shown (E.taken notes.old) (E.faults notes.old)))
+        (seen (shown (I.left input.new) (I.faults input.new)) files
+        (shown (M.taken made.new) (M.faults made.new)) out (shown (E.taken notes.new) (E.faults notes.new)))
+        result }
+    ensures notes_kept { result ≡ Status.Ok → notes.new ≡ notes.old }
+{
+    match write_lines(rt, alloc, &options(words), input, made) {
+        Ok(_) => Status::Ok,
+        Err(WriteEnd::TooLong(line)) => end_with_number(
+            notes,
+            "limit record ",
+            line,
+            Status::Limit,
+        ),
+        Err(WriteEnd::InputTooLong) => end(notes, "limit input\n", Status::Limit),
+        Err(WriteEnd::BadLine(line)) => end_with_number(notes, "bad line ", line, Status::BadLine),
+        Err(WriteEnd::Input) => cut_off(notes, Status::Input),
+        Err(WriteEnd::Made) => cut_off(notes, Status::Made),
+        Err(WriteEnd::Memory) => cut_off(notes, Status::Memory),
+    }
+}
 
-    ensures input_cause { IsErrOf result WriteEnd.Input → Rose (I.faults input.old) (I.faults input.new) }
-    ensures made_cause { IsErrOf result WriteEnd.Made → Rose (M.faults made.old) (M.faults made.new) }
-    ensures input_front { GivesFront (I.left input.old) (I.left input.new) 65537 }
-    ensures made_front { IsErrOf result WriteEnd.Made → IfSome (I.left input.old) (λ bytes.
-        TakesFront (M.taken made.old) (M.taken made.new) (file_of (lines bytes) default_chunk_size)) }
-    ensures made_fits { IsErrOf result WriteEnd.Made → IfSome (I.left input.old) (λ bytes. fits_one_block (lines bytes) ≡ true) }
+/// Writes the file of the input's lines.
+fn write_lines<R: Threads + Sync, I: Source, M: Sink + Send>(
+    rt: &R,
+    alloc: Global,
+    options: &WriteOptions,
+    input: &mut I,
+    made: &mut M,
+) -> Result<Totals, WriteEnd>
+    requires in_limits { AreInLimits options.now }
+    requires one_worker { options.now.workers ≡ 1 }
+    ensures answer { IfSome (I.left input.old) (λ bytes. Answers result options.now (taken_from bytes false (2 ^ 40))) }
+    ensures made { IfSome (I.left input.old) (λ bytes. TakesFile result (M.taken made.old) (M.taken made.new)
+        (file_under options.now (taken_from bytes false (2 ^ 40)).records)) }
+    ensures read_to_end { OnOk result (IfSome (I.left input.old) (λ _. I.left input.new ≡ Some [])) }
+    ensures input_cause { result ≡ Err WriteEnd.Input → Rose (I.faults input.old) (I.faults input.new) }
+    ensures made_cause { result ≡ Err WriteEnd.Made → Rose (M.faults made.old) (M.faults made.new) }
     ensures input_count { I.faults input.old ≤ I.faults input.new }
     ensures made_count { M.faults made.old ≤ M.faults made.new }
-    ensures made_untouched { OnErr result (result ≢ Err WriteEnd.Made → made.new ≡ made.old) }
 {
-    let chunk = read_chunk(alloc, input)?;
-    put_file(made, &chunk).map_err(|_| WriteEnd::Made)
+    let mut lines = LineFeed::new(alloc, input, false, MOST_INPUT);
+    write_records(rt, alloc, options, &mut lines, made)
 }
 
-/// Reads the whole input, and makes the simple chunk of its lines.
-fn read_chunk<I: Source>(alloc: Global, input: &mut I) -> Result<Chunk, WriteEnd>
-    ensures value { IfOk result (λ chunk. IfSome (I.left input.old) (λ bytes. value_of_chunk chunk ≡ simple_chunk (lines bytes))) }
-    ensures right { IfOk result (λ chunk. HasRightHash chunk) }
-    ensures fits { IfOk result (λ chunk. chunk.header.data_size ≤ 65432) }
-    ensures read { OnOk result (IfSome (I.left input.old) (λ _. I.left input.new ≡ Some [])) }
-    ensures limit { IsErrOf result WriteEnd.Limit → IfSome (I.left input.old) (λ bytes. fits_one_block (lines bytes) ≡ false) }
-    ensures cause { IsErrOf result WriteEnd.Input → Rose (I.faults input.old) (I.faults input.new) }
-    ensures front { GivesFront (I.left input.old) (I.left input.new) 65537 }
-    ensures never_falls { I.faults input.old ≤ I.faults input.new }
-    ensures not_made { result ≢ Err WriteEnd.Made }
+/// The options that the words give. One thread encodes.
+fn options(words: &WriteWords) -> WriteOptions
+    ensures { result ≡ options_of words.now }
 {
-    let mut buf = vec![in alloc; 0u8; BLOCK + 1]?;
-    let Ok(size) = fill(input, &mut buf) else {
-        return Err(WriteEnd::Input);
-    };
-    if size > BLOCK {
-        return Err(WriteEnd::Limit);
+    WriteOptions {
+        size: words.chunk_size,
+        workers: 1,
+        every: words.every,
+        pad: words.pad,
     }
-    let chunk = line_chunk(alloc, &buf[..size])?;
-    if chunk.header.data_size > MOST_DATA {
-        return Err(WriteEnd::Limit);
-    }
-    Ok(chunk)
-}
-
-/// Puts the signature, and behind it the chunk where it has records. All of it lies in one block.
-fn put_file<M: Sink>(made: &mut M, chunk: &Chunk) -> Result<(), Failed>
-    requires right { HasRightHash chunk.now }
-    ensures whole { OnOk result (Takes (M.taken made.old) (M.taken made.new) (block_file (value_of_chunk chunk.now))) }
-    ensures front { OnErr result (TakesFront (M.taken made.old) (M.taken made.new) (block_file (value_of_chunk chunk.now))) }
-    ensures cause { OnErr result (Rose (M.faults made.old) (M.faults made.new)) }
-    ensures never_falls { M.faults made.old ≤ M.faults made.new }
-{
-    put_all(made, &SIGNATURE)?;
-    if chunk.header.num_records > 0 {
-        put_all(made, &chunk.header.to_bytes())?;
-        put_all(made, chunk.bytes.as_slice())?;
-    }
-    Ok(())
 }

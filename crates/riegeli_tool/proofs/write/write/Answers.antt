@@ -1,12 +1,69 @@
-use Rattle.riegeli_tool.proofs.ToldInputs.{file-told, front-told}
+use Rattle.std.proofs.Common.{Err, ap, arith}
+use Rattle.record_writer.specs.declared.engine.WriteEnd.{WriteEnd}
+use Rattle.record_writer.specs.declared.engine.WriteEnd.TheVariants.{TooLong, InputTooLong, BadLine, Input, Made, Memory}
+use Rattle.riegeli_tool.proofs.RunEnds.{none-fell}
+use Rattle.riegeli_tool.proofs.WriteEnds.{wrote, wrote-err, write-ok, write-too_long, write-input_too_long, write-bad_line, write-input, write-made, write-memory}
 use Rattle.riegeli_tool.proofs.write.write.Goals as goal
 
-pub returns-clause-ok : goal.returns-clause-ok
-returns-clause-ok g c =
-    file-told _ _ _ c.in_ok-chunk.chunk c.put_file.result _ c.map_err.ensures.variant
-    c.in_ok-chunk.ensures.value c.in_ok-chunk.ensures.fits c.put_file.ensures.whole
+pub returns-in-Ok-clause-runs : goal.returns-in-Ok-clause-runs
+returns-in-Ok-clause-runs g c = λ files out.
+    write-ok c.args.words.now _ _ files _ _ out _ c.in-Ok.field-0
+    (wrote c.args.words.now c.options.result _ _ _ _ c.options.ensures c.in-Ok.ensures.answer c.in-Ok.ensures.made)
+    c.in-Ok.ensures.read_to_end
+    (none-fell _ _ files _ _ out _ _ c.in-Ok.ensures.input_count c.in-Ok.ensures.made_count (omega arith))
 
-pub returns-clause-made_front : goal.returns-clause-made_front
-returns-clause-made_front g c failed =
-    front-told _ _ _ c.in_ok-chunk.chunk c.put_file.result _ _ c.map_err.ensures.variant failed
-    c.in_ok-chunk.ensures.value c.in_ok-chunk.ensures.fits c.put_file.ensures.front
+pub returns-in-Err-TooLong-clause-runs : goal.returns-in-Err-TooLong-clause-runs
+returns-in-Err-TooLong-clause-runs g c = λ files out.
+    write-too_long c.args.words.now _ _ files _ _ out _ _
+    (none-fell _ _ files _ _ out _ _ c.in-Err-TooLong.ensures.input_count c.in-Err-TooLong.ensures.made_count c.end_with_number.ensures.never_falls)
+    c.in-Err-TooLong.line _
+    (wrote-err c.args.words.now _ _ _ (TooLong c.in-Err-TooLong.line) _ c.in-Err-TooLong.field-0-is
+    (wrote c.args.words.now c.options.result _ _ _ _ c.options.ensures c.in-Err-TooLong.ensures.answer c.in-Err-TooLong.ensures.made))
+    c.end_with_number.ensures.told
+
+pub returns-in-Err-InputTooLong-clause-runs : goal.returns-in-Err-InputTooLong-clause-runs
+returns-in-Err-InputTooLong-clause-runs g c = λ files out.
+    write-input_too_long c.args.words.now _ _ files _ _ out _ _
+    (none-fell _ _ files _ _ out _ _ c.in-Err-InputTooLong.ensures.input_count c.in-Err-InputTooLong.ensures.made_count c.end.ensures.never_falls)
+    _
+    (wrote-err c.args.words.now _ _ _ InputTooLong _ c.in-Err-InputTooLong.field-0-is
+    (wrote c.args.words.now c.options.result _ _ _ _ c.options.ensures c.in-Err-InputTooLong.ensures.answer c.in-Err-InputTooLong.ensures.made))
+    c.end.ensures.told
+
+pub returns-in-Err-BadLine-clause-runs : goal.returns-in-Err-BadLine-clause-runs
+returns-in-Err-BadLine-clause-runs g c = λ files out.
+    write-bad_line c.args.words.now _ _ files _ _ out _ _
+    (none-fell _ _ files _ _ out _ _ c.in-Err-BadLine.ensures.input_count c.in-Err-BadLine.ensures.made_count c.end_with_number-in-Err-BadLine.ensures.never_falls)
+    c.in-Err-BadLine.line _
+    (wrote-err c.args.words.now _ _ _ (BadLine c.in-Err-BadLine.line) _ c.in-Err-BadLine.field-0-is
+    (wrote c.args.words.now c.options.result _ _ _ _ c.options.ensures c.in-Err-BadLine.ensures.answer c.in-Err-BadLine.ensures.made))
+    c.end_with_number-in-Err-BadLine.ensures.told
+
+pub returns-in-Err-Input-clause-runs : goal.returns-in-Err-Input-clause-runs
+returns-in-Err-Input-clause-runs g c = λ files out.
+    write-input c.args.words.now _ _ files _ _ out _ _
+    (none-fell _ _ files _ _ out _ _ c.in-Err-Input.ensures.input_count c.in-Err-Input.ensures.made_count c.cut_off.ensures.never_falls)
+    _ c.cut_off.ensures.status
+    (wrote-err c.args.words.now _ _ _ Input _ c.in-Err-Input.field-0-is
+    (wrote c.args.words.now c.options.result _ _ _ _ c.options.ensures c.in-Err-Input.ensures.answer c.in-Err-Input.ensures.made))
+    (c.in-Err-Input.ensures.input_cause (ap (λ (e : WriteEnd). Err e) c.in-Err-Input.field-0-is))
+    c.cut_off.ensures.told
+
+pub returns-in-Err-Made-clause-runs : goal.returns-in-Err-Made-clause-runs
+returns-in-Err-Made-clause-runs g c = λ files out.
+    write-made c.args.words.now _ _ files _ _ out _ _
+    (none-fell _ _ files _ _ out _ _ c.in-Err-Made.ensures.input_count c.in-Err-Made.ensures.made_count c.cut_off-in-Err-Made.ensures.never_falls)
+    _ c.cut_off-in-Err-Made.ensures.status
+    (wrote-err c.args.words.now _ _ _ Made _ c.in-Err-Made.field-0-is
+    (wrote c.args.words.now c.options.result _ _ _ _ c.options.ensures c.in-Err-Made.ensures.answer c.in-Err-Made.ensures.made))
+    (c.in-Err-Made.ensures.made_cause (ap (λ (e : WriteEnd). Err e) c.in-Err-Made.field-0-is))
+    c.cut_off-in-Err-Made.ensures.told
+
+pub returns-in-Err-Memory-clause-runs : goal.returns-in-Err-Memory-clause-runs
+returns-in-Err-Memory-clause-runs g c = λ files out.
+    write-memory c.args.words.now _ _ files _ _ out _ _
+    (none-fell _ _ files _ _ out _ _ c.in-Err-Memory.ensures.input_count c.in-Err-Memory.ensures.made_count c.cut_off-in-Err-Memory.ensures.never_falls)
+    _ c.cut_off-in-Err-Memory.ensures.status
+    (wrote-err c.args.words.now _ _ _ Memory _ c.in-Err-Memory.field-0-is
+    (wrote c.args.words.now c.options.result _ _ _ _ c.options.ensures c.in-Err-Memory.ensures.answer c.in-Err-Memory.ensures.made))
+    c.cut_off-in-Err-Memory.ensures.told

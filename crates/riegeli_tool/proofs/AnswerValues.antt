@@ -1,0 +1,139 @@
+-- Commands and their answers, judged by hand, computed from the definitions.
+use Rattle.std.proofs.Common.{◌≡◌, ℕ, Some, None, List, [], ◌∷◌, ◌++◌, length, take, drop, codes, refl}
+use Rattle.std.specs.Fmt.{digits}
+use Rattle.record_group.specs.declared.pad.Pad.TheVariants.{No, Both}
+use Rattle.record_group.specs.Groups.{file_of}
+use Rattle.record_writer.specs.declared.feed.Stop.TheVariants.{TooLong, InputTooLong, BadLine}
+use Rattle.riegeli_tool.specs.declared.command.Command.TheVariants.{Write}
+use Rattle.riegeli_tool.specs.declared.status.Status.TheVariants as status
+use Rattle.riegeli_tool.specs.declared.write_words.WriteWords.{WriteWords}
+use Rattle.riegeli_tool.specs.Input.{lines, taken_from}
+use Rattle.riegeli_tool.specs.WriteWords.{write_words_of}
+use Rattle.riegeli_tool.specs.Commands.{command_of, accepted, names_of}
+use Rattle.riegeli_tool.specs.Answers.{usage_text, usage}
+use Rattle.riegeli_tool.specs.WriteCommand.{answer_to}
+use Rattle.riegeli_tool.specs.CommandAnswers.{IsAnswer}
+use Rattle.riegeli_tool.specs.Runs.{first_lines}
+
+-- what the words `write F` say
+abbrev plain : WriteWords
+plain = record { chunk_size = 1048576; every = None; pad = No; file = 1 }
+
+-- the one command of now, where no file is handed in, and words that are none
+write_file : accepted (codes "write" ∷ codes "F" ∷ []) 0 ≡ Some (Write plain)
+unfolding write_words_of
+write_file = refl
+
+write_of_a_file : accepted (codes "write" ∷ codes "F" ∷ []) 1 ≡ None
+unfolding write_words_of
+write_of_a_file = refl
+
+no_words : command_of [] ≡ None
+no_words = refl
+
+write_alone : command_of (codes "write" ∷ []) ≡ None
+unfolding write_words_of
+write_alone = refl
+
+file_alone : command_of (codes "F" ∷ []) ≡ None
+file_alone = refl
+
+write_capital : command_of (codes "Write" ∷ codes "F" ∷ []) ≡ None
+write_capital = refl
+
+write_longer : command_of (codes "writes" ∷ codes "F" ∷ []) ≡ None
+write_longer = refl
+
+write_shorter : command_of (codes "writ" ∷ codes "F" ∷ []) ≡ None
+write_shorter = refl
+
+write_behind : command_of (codes "F" ∷ codes "write" ∷ []) ≡ None
+write_behind = refl
+
+-- the file that is made is named by its place
+named_behind_options : names_of (command_of (codes "write" ∷ codes "--pad=both" ∷ codes "--every=2" ∷ codes "F" ∷ [])) ≡ record { first = 0; count = 0; made = Some 3 }
+unfolding write_words_of
+named_behind_options = refl
+
+-- the usage text: seven lines of 7, 80, 55, 12, 40, 26 and 59 bytes
+usage_length : length usage_text ≡ 279
+usage_length = refl
+
+usage_begin : take 7 usage_text ≡ codes "usage:\n"
+usage_begin = refl
+
+usage_of_write : take 80 (drop 7 usage_text) ≡ codes "write [--chunk=N] [--every=N] [--workers=N] [--pad=start|end|both] [--hex] FILE\n"
+usage_of_write = refl
+
+usage_end : drop 220 usage_text ≡ codes "sample --seed=N --records=N [--chunk=N] [--workers=N] FILE\n"
+usage_end = refl
+
+usage_lines : length (lines usage_text) ≡ 7
+usage_lines = refl
+
+-- words that are no command are answered by that text, whatever is handed in
+answer_of_no_words : IsAnswer (accepted [] 0) (0x61 ∷ []) [] (record { made = []; out = []; notes = usage_text; status = status.Usage })
+answer_of_no_words = refl
+
+answer_with_a_file : IsAnswer (accepted (codes "write" ∷ codes "F" ∷ []) 1) (0x61 ∷ []) ([] ∷ []) usage
+unfolding write_words_of
+answer_with_a_file = refl
+
+answer_of_every_zero : IsAnswer (accepted (codes "write" ∷ codes "--every=0" ∷ codes "F" ∷ []) 0) (0x61 ∷ []) [] usage
+unfolding write_words_of
+answer_of_every_zero = refl
+
+answer_of_pad_no : IsAnswer (accepted (codes "write" ∷ codes "--pad=no" ∷ codes "F" ∷ []) 0) (0x61 ∷ []) [] usage
+unfolding write_words_of
+answer_of_pad_no = refl
+
+-- `write F` makes the file of the lines and says nothing
+answer_of_nothing : IsAnswer (accepted (codes "write" ∷ codes "F" ∷ []) 0) [] [] (record { made = file_of [] 1048576 None No; out = []; notes = []; status = status.Ok })
+unfolding write_words_of taken_from
+answer_of_nothing = refl
+
+answer_of_three : IsAnswer (accepted (codes "write" ∷ codes "F" ∷ []) 0) (0x61 ∷ 10 ∷ 0x62 ∷ 0x63 ∷ 10 ∷ 10 ∷ []) []
+    (record { made = file_of ((0x61 ∷ []) ∷ (0x62 ∷ 0x63 ∷ []) ∷ [] ∷ []) 1048576 None No; out = []; notes = []; status = status.Ok })
+unfolding write_words_of taken_from
+answer_of_three = refl
+
+-- with the chunk size, the number of records and the padding that are named
+answer_of_chunk : IsAnswer (accepted (codes "write" ∷ codes "--chunk=20" ∷ codes "F" ∷ []) 0) (0x61 ∷ 10 ∷ 0x62 ∷ 10 ∷ 0x63 ∷ []) []
+    (record { made = file_of ((0x61 ∷ []) ∷ (0x62 ∷ []) ∷ (0x63 ∷ []) ∷ []) 20 None No; out = []; notes = []; status = status.Ok })
+unfolding write_words_of taken_from
+answer_of_chunk = refl
+
+answer_of_all_options : IsAnswer (accepted (codes "write" ∷ codes "--pad=both" ∷ codes "F" ∷ codes "--every=2" ∷ codes "--chunk=1" ∷ []) 0) (0x61 ∷ 10 ∷ []) []
+    (record { made = file_of ((0x61 ∷ []) ∷ []) 1 (Some 2) Both; out = []; notes = []; status = status.Ok })
+unfolding write_words_of taken_from
+answer_of_all_options = refl
+
+-- what is said of a stop behind two records, and its status; the file is that of these records
+too_long_a_line : answer_to plain (record { records = (0x61 ∷ []) ∷ [] ∷ []; stop = Some TooLong })
+    ≡ record { made = file_of ((0x61 ∷ []) ∷ [] ∷ []) 1048576 None No; out = []; notes = codes "limit record 2\n"; status = status.Limit }
+unfolding digits
+too_long_a_line = refl
+
+too_long_an_input : answer_to plain (record { records = (0x61 ∷ []) ∷ [] ∷ []; stop = Some InputTooLong })
+    ≡ record { made = file_of ((0x61 ∷ []) ∷ [] ∷ []) 1048576 None No; out = []; notes = codes "limit input\n"; status = status.Limit }
+too_long_an_input = refl
+
+bad_line : answer_to plain (record { records = (0x61 ∷ []) ∷ [] ∷ []; stop = Some BadLine })
+    ≡ record { made = file_of ((0x61 ∷ []) ∷ [] ∷ []) 1048576 None No; out = []; notes = codes "bad line 2\n"; status = status.BadLine }
+unfolding digits
+bad_line = refl
+
+-- also behind none
+first_line_too_long : (answer_to plain (record { records = []; stop = Some TooLong })).notes ≡ codes "limit record 0\n"
+unfolding digits
+first_line_too_long = refl
+
+-- the first lines of two
+no_line : first_lines 0 (codes "a\nbc\n") ≡ []
+no_line = refl
+
+one_line : first_lines 1 (codes "a\nbc\n") ≡ codes "a\n"
+one_line = refl
+
+all_lines : first_lines 9 (codes "a\nbc\n") ≡ codes "a\nbc\n"
+all_lines = refl

@@ -1,0 +1,39 @@
+-- What notes took of a line, by how its puts ended.
+use Rattle.std.proofs.Common.{◌≡◌, ℕ, Option, Some, None, Result, Ok, Err, List, [], ◌∷◌, ◌++◌, take, refl, sym, subst, inl, inr, decimal}
+use Rattle.std.specs.Result.{OnOk, OnErr}
+use Rattle.record_io.specs.Outside.{Rose, Takes, TakesFront}
+use Rattle.record_io.specs.Buffers.{TakesAndHolds}
+use Rattle.record_io.proofs.Calls.{Takes-append, TakesFront-append, TakesFront-longer}
+use Rattle.record_io.proofs.Buffered.{TakesAndHolds-append, TakesFront-behind}
+use Rattle.riegeli_tool.specs.Answers.{line}
+use Rattle.riegeli_tool.specs.Runs.{TakesThen, shown}
+
+-- a line that was put, or of which a front was put
+pub TakesThen-put : {X E : Type 0} (put : Result X E) (a b : Option (List ℕ)) (m n : ℕ) (last : List ℕ)
+    → OnOk put (Takes a b last) → OnErr put (TakesFront a b last) → OnErr put (Rose m n) → TakesThen (shown a m) (shown b n) [] last
+TakesThen-put (Ok x) a b m n last whole front cause = (last, whole, inl refl)
+TakesThen-put (Err e) None b m n last whole front cause = (last, tt, inl refl)
+TakesThen-put (Err e) (Some bytes) b m n last whole front cause = (take front.0 last, front.2, inr (cause, front.0, refl))
+
+-- what holds anyway holds where a call failed
+pub OnErr-any : {X E : Type 0} {P : Type 0} (result : Result X E) → P → OnErr result P
+OnErr-any (Ok x) h = tt
+OnErr-any (Err e) h = h
+
+pub OnErr-map : {X E : Type 0} {P Q : Type 0} (result : Result X E) → (P → Q) → OnErr result P → OnErr result Q
+OnErr-map (Ok x) f h = tt
+OnErr-map (Err e) f h = f h
+
+-- bytes behind those of a buffer that held none at first: they were put, or a front of what was held and them
+pub held-more : (a b c : Option (List ℕ)) (text more held held_then : List ℕ)
+    → TakesAndHolds a b text held → TakesAndHolds b c (held ++ more) held_then → TakesAndHolds a c (text ++ more) held_then
+held-more a b c text more held held_then first then = TakesAndHolds-append a b c [] held held_then text more first then
+
+pub front-more : (a b c : Option (List ℕ)) (text more held : List ℕ)
+    → TakesAndHolds a b text held → TakesFront b c (held ++ more) → TakesFront a c (text ++ more)
+front-more a b c text more held first then = TakesFront-behind a b c [] held text more first then
+
+-- a front of what was held at the end
+pub front-flushed : (a b c : Option (List ℕ)) (text held : List ℕ) → TakesAndHolds a b text held → TakesFront b c held → TakesFront a c text
+front-flushed a b c text held first then =
+    subst (λ (xs : List ℕ). TakesFront a c xs) (sym first.parts) (TakesFront-append a b c first.passed held first.taken then)

@@ -1,0 +1,171 @@
+-- How a run of any command ends: what all its clauses follow from.
+use Rattle.std.proofs.Common.{◌≡◌, ◌≢◌, ℕ, ◌≤◌, ◌⊎◌, true, Option, Some, None, List, [], ◌++◌, length, take, refl, sym, ap, subst, ◌∙◌, inl, inr, slice_get, arith, append-nil}
+use Rattle.std.specs.Option.{IfSome}
+use Rattle.record_io.specs.Outside.{Rose, Takes, TakesFront}
+use Rattle.record_io.proofs.Calls.{TakesFront-whole}
+use Rattle.riegeli_tool.specs.declared.command.Command.{Command}
+use Rattle.riegeli_tool.specs.declared.status.Status.{Status}
+use Rattle.riegeli_tool.specs.declared.status.Status.TheVariants as status
+use Rattle.riegeli_tool.specs.Statuses.{fault_text}
+use Rattle.riegeli_tool.specs.Answers.{Answer, usage_text, usage}
+use Rattle.riegeli_tool.specs.CommandAnswers.{uses_of, MayEnd, MaySay}
+use Rattle.riegeli_tool.specs.Runs.{Shown, Seen, seen, IsWhole, IsCutOff, IsSound, IfTold, Gave, TakesThen, SaysAtEnd, WasCutOff, FailedToSay, HasCause, NoneFell, Runs}
+
+-- a sink that isn't used took nothing
+pub Takes-nothing : (taken : Option (List ℕ)) → Takes taken taken []
+Takes-nothing None = tt
+Takes-nothing (Some bytes) = ap Some (sym (append-nil bytes))
+
+-- no count fell where those of the used objects didn't
+pub none-fell : (input input_then : Shown) (files : List Shown) (made made_then out notes notes_then : Shown)
+    → input.faults ≤ input_then.faults → made.faults ≤ made_then.faults → notes.faults ≤ notes_then.faults
+    → NoneFell (seen input files made out notes) (seen input_then files made_then out notes_then)
+none-fell input input_then files made made_then out notes notes_then i m n = record {
+  input = i;
+  files = λ place a b was is. let same : a ≡ b = cc in omega (arith, ap (λ (s : Shown). s.faults) same);
+  made = m;
+  out = omega arith;
+  notes = n;
+}
+
+-- a command by another name
+pub runs-of : (known command : Option Command) (before after : Seen) (ended : Status)
+    → known ≡ command → Runs known before after ended → Runs command before after ended
+runs-of known command before after ended same ran = subst (λ (c : Option Command). Runs c before after ended) same ran
+
+-- no status is both whole and cut off
+whole-cut_off : (ended : Status) → IsWhole ended → IsCutOff ended → ⊥
+whole-cut_off status.Input whole cut = whole
+whole-cut_off status.File whole cut = whole
+whole-cut_off status.Made whole cut = whole
+whole-cut_off status.Out whole cut = whole
+whole-cut_off status.Memory whole cut = whole
+whole-cut_off status.Notes whole cut = whole
+whole-cut_off other whole cut = cut
+
+-- without a fault the status is an answer's, or tells want of memory
+complete : (command : Option Command) (before after : Seen) (ended : Status)
+    → (IsWhole ended → IfTold command before (Gave ended before after))
+    → (IsCutOff ended → IfTold command before (WasCutOff ended before after))
+    → HasCause ended command before after → IsSound (uses_of command) before after
+    → IfTold command before (λ answer. (ended ≡ answer.status) ⊎ (ended ≡ status.Memory))
+complete command before after status.Input whole cut cause sound = absurd (sound.input cause.0 cause.1)
+complete command before after status.File whole cut cause sound = absurd (sound.files cause.0 cause.1)
+complete command before after status.Made whole cut cause sound = absurd (sound.made cause.0 cause.1)
+complete command before after status.Out whole cut cause sound = absurd (sound.out cause.0 cause.1)
+complete command before after status.Notes whole cut cause sound = absurd (sound.notes cause)
+complete command before after status.Memory whole cut cause sound = λ input files told_input told_files.
+    let a = cut tt input files told_input told_files in (a.0, a.1, inr refl)
+complete command before after ended whole cut cause sound = λ input files told_input told_files.
+    let a = whole tt input files told_input told_files in (a.0, a.1, inl a.2.same_status)
+
+-- the work was done, and notes took what there was to say
+pub runs-whole : (command : Option Command) (before after : Seen) (ended : Status) (text : List ℕ)
+    → IsWhole ended → MayEnd command ended text → Takes before.notes.bytes after.notes.bytes text
+    → IfTold command before (Gave ended before after)
+    → (ended ≡ status.Ok → (uses_of command).input ≡ true → IfSome before.input.bytes (λ _. after.input.bytes ≡ Some []))
+    → (command ≡ None → ended ≡ status.Usage) → HasCause ended command before after → NoneFell before after
+    → Runs command before after ended
+runs-whole command before after ended text whole may_end said gave read usage cause counts = record {
+  whole = λ _. gave;
+  read_to_end = read;
+  complete = complete command before after ended (λ _. gave) (λ cut. absurd (whole-cut_off ended whole cut)) cause;
+  usage = λ none. inl (usage none);
+  cause = cause;
+  cut_off = λ cut. absurd (whole-cut_off ended whole cut);
+  failed_to_say = λ e. absurd (subst IsWhole e whole);
+  end_said = λ _. (text, may_end, said);
+  cut_off_said = λ cut. absurd (whole-cut_off ended whole cut);
+  front_said = λ e. absurd (subst IsWhole e whole);
+  counts = counts;
+}
+
+-- notes failed to take what there was to say at the end
+pub runs-notes : (command : Option Command) (before after : Seen) (wanted : Status) (text : List ℕ)
+    → MayEnd command wanted text → TakesFront before.notes.bytes after.notes.bytes text
+    → IfTold command before (FailedToSay before after)
+    → Rose before.notes.faults after.notes.faults → NoneFell before after
+    → Runs command before after status.Notes
+runs-notes command before after wanted text may_end said failed rose counts = record {
+  whole = λ whole. absurd whole;
+  read_to_end = λ e. absurd (cc e);
+  complete = λ sound. absurd (sound.notes rose);
+  usage = λ _. inr refl;
+  cause = rose;
+  cut_off = λ cut. absurd cut;
+  failed_to_say = λ _. failed;
+  end_said = λ whole. absurd whole;
+  cut_off_said = λ cut. absurd cut;
+  front_said = λ _. (wanted, text, may_end, said);
+  counts = counts;
+}
+
+-- a fault or want of memory cut the work off
+pub runs-cut_off : (command : Option Command) (before after : Seen) (ended : Status) (text : List ℕ)
+    → IsCutOff ended → MaySay command text → TakesThen before.notes after.notes text (fault_text ended)
+    → IfTold command before (WasCutOff ended before after)
+    → command ≢ None → HasCause ended command before after → NoneFell before after
+    → Runs command before after ended
+runs-cut_off command before after ended text cut may_say said was some cause counts = record {
+  whole = λ whole. absurd (whole-cut_off ended whole cut);
+  read_to_end = λ e. absurd (subst IsCutOff e cut);
+  complete = complete command before after ended (λ whole. absurd (whole-cut_off ended whole cut)) (λ _. was) cause;
+  usage = λ none. absurd (some none);
+  cause = cause;
+  cut_off = λ _. was;
+  failed_to_say = λ e. absurd (subst IsCutOff e cut);
+  end_said = λ whole. absurd (whole-cut_off ended whole cut);
+  cut_off_said = λ _. (text, may_say, said);
+  front_said = λ e. absurd (subst IsCutOff e cut);
+  counts = counts;
+}
+
+-- what made and standard output took where the work was done, and what notes were to take, of an answer
+pub record GaveButNotes (wanted : Status) (before after : Seen) (text : List ℕ) (answer : Answer) : Type 0 where
+  pub same_status : wanted ≡ answer.status
+  pub made : Takes before.made.bytes after.made.bytes answer.made
+  pub out : Takes before.out.bytes after.out.bytes answer.out
+  pub notes : answer.notes ≡ text
+
+-- the work was done, and there was something to say: it was said, or notes failed
+pub runs-said : (command : Option Command) (before after : Seen) (ended wanted : Status) (text : List ℕ)
+    → SaysAtEnd ended wanted before.notes after.notes text
+    → text ≢ [] → IsWhole wanted → wanted ≢ status.Ok → MayEnd command wanted text
+    → IfTold command before (GaveButNotes wanted before after text)
+    → (command ≡ None → wanted ≡ status.Usage) → HasCause wanted command before after → NoneFell before after
+    → Runs command before after ended
+runs-said command before after ended wanted text says some whole not_ok may_end gave usage cause counts = elim says [
+  | inl said ↦ subst (λ (s : Status). Runs command before after s) (sym said.0) (runs-whole command before after wanted text whole may_end said.1
+      (λ input files told_input told_files. let a = gave input files told_input told_files in (
+        a.0,
+        a.1,
+        record {
+          same_status = a.2.same_status;
+          made = a.2.made;
+          out = a.2.out;
+          notes = subst (λ (t : List ℕ). Takes before.notes.bytes after.notes.bytes t) (sym a.2.notes) said.1;
+        },
+      ))
+      (λ e. absurd (not_ok e)) usage cause counts)
+  | inr failed ↦ subst (λ (s : Status). Runs command before after s) (sym failed.0) (runs-notes command before after wanted text may_end failed.2
+      (λ input files told_input told_files. let a = gave input files told_input told_files in (
+        a.0,
+        a.1,
+        record {
+          some = λ e. some (sym a.2.notes ∙ e);
+          made = TakesFront-whole _ _ _ a.2.made;
+          out = TakesFront-whole _ _ _ a.2.out;
+          notes = subst (λ (t : List ℕ). TakesFront before.notes.bytes after.notes.bytes t) (sym a.2.notes) failed.2;
+        },
+      ))
+      failed.1 counts)
+]
+
+-- words that are no command: the usage text was said, or notes failed
+pub runs-usage : (input : Shown) (files : List Shown) (made out notes notes_then : Shown) (ended : Status)
+    → SaysAtEnd ended status.Usage notes notes_then usage_text → notes.faults ≤ notes_then.faults
+    → Runs None (seen input files made out notes) (seen input files made out notes_then) ended
+runs-usage input files made out notes notes_then ended says counts =
+    runs-said None _ _ ended status.Usage usage_text says (λ e. cc e) tt (λ e. cc e) (refl, refl)
+    (λ _ _ _ _. (usage, refl, record { same_status = refl; made = Takes-nothing made.bytes; out = Takes-nothing out.bytes; notes = refl }))
+    (λ _. refl) refl (none-fell input input files made made out notes notes_then (omega arith) (omega arith) counts)

@@ -1,0 +1,58 @@
+-- The words of a command: its options and its files. The word at place 0 is the command's name. Own.
+use Rattle.std.specs.Prelude.{ℕ, ◌-◌, Bool, false, not, ◌&&◌, ◌||◌, Option, Some, None, List, [], ◌∷◌, length, drop, filter, slice_index, slice_get, is_some, option_map, option_and_then, nat_eq, nat_le, ◌==◌}
+use Rattle.std.specs.Bool.{then_some}
+use Rattle.std.specs.Option.{option_map_or}
+use Rattle.std.specs.List.{filter_map, list_all, list_any, range_with_len, starts_with}
+
+-- a word that names a file: not empty, and not beginning with a dash
+abbrev pub is_file_word : List ℕ → Bool
+is_file_word word = not (length word == 0) && not (slice_index word 0 == 45)
+
+-- whether an option has a value. Options are told by how they begin: a flag as `--hex`, and one with a value as `--chunk=`
+abbrev pub has_value : List ℕ → Bool
+has_value option = slice_index option (length option - 1) == 61
+
+-- the value that a word gives an option: what stands behind the equals sign, and nothing for a flag. None for another word
+abbrev pub value_in : List ℕ → List ℕ → Option (List ℕ)
+value_in option word =
+    then_some (starts_with nat_eq word option && (has_value option || length word == length option)) (drop (length option) word)
+
+-- the values that words give an option, one each time that it stands there
+abbrev pub values_of : List ℕ → List (List ℕ) → List (List ℕ)
+values_of option words = filter_map (value_in option) words
+
+-- the option's value, where it stands
+abbrev pub value_of : List ℕ → List (List ℕ) → Option (List ℕ)
+value_of option words = slice_get (values_of option words) 0
+
+-- whether a word may stand in a command of these options: it names a file, or is one of them
+abbrev pub is_word_of : List (List ℕ) → List ℕ → Bool
+is_word_of options word = is_file_word word || list_any (λ option. is_some (value_in option word)) options
+
+-- whether words are those of a command of these options: each may stand there, and no option stands twice
+abbrev pub are_words_of : List (List ℕ) → List (List ℕ) → Bool
+are_words_of options words =
+    list_all (is_word_of options) words && list_all (λ option. nat_le (length (values_of option words)) 1) options
+
+-- whether the word at a place names a file
+abbrev pub is_file_at : List (List ℕ) → ℕ → Bool
+is_file_at words place = option_map_or is_file_word (slice_get words place) false
+
+-- the places of the files, which stand behind the command's name
+abbrev pub file_places : List (List ℕ) → List ℕ
+file_places words = filter (is_file_at words) (range_with_len 1 (length words - 1))
+
+-- the one element of a list
+abbrev pub only : {X : Type 0} → List X → Option X
+only (x ∷ []) = Some x
+only xs = None
+
+-- what a value that may be left out is read as: None where it is there and can't be read
+abbrev pub optional_value : {X : Type 0} → (List ℕ → Option X) → Option (List ℕ) → Option (Option X)
+optional_value read None = Some None
+optional_value read (Some value) = option_map Some (read value)
+
+-- what follows from an answer, if there is one
+infixl 10 ◌>>=◌
+abbrev pub ◌>>=◌ : {X Y : Type 0} → Option X → (X → Option Y) → Option Y
+answer >>= next = option_and_then next answer
