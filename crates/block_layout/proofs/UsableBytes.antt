@@ -1,12 +1,14 @@
 -- Lemmas on `usable_bytes`, the bytes that stand at usable positions, and on `own_bytes_at`, so many of a file's.
-use Rattle.std.proofs.Common.{◌≡◌, ℕ, Some, suc, ◌+◌, ◌-◌, ◌%◌, ◌<◌, ◌≤◌, min, inl, inr, List, [], ◌∷◌, ◌++◌, length, get_or, take, drop, refl, sym, ap, ◌∙◌, arith}
+use Rattle.std.proofs.Common.{◌≡◌, ℕ, Some, suc, ◌+◌, ◌-◌, ◌%◌, ◌<◌, ◌≤◌, min, inl, inr, List, [], ◌∷◌, ◌++◌, length, get_or, take, drop, take-add, refl, sym, ap, ◌∙◌, arith}
 use Rattle.std.specs.Prelude.{◌↔◌, slice_get, slice_range}
 use Rattle.std.proofs.lemmas.Bool.{cases_lt}
-use Rattle.std.proofs.lemmas.List.{nil_from_length, take-append-drop, take_at, drop_more, get_or_at, get_or-take, get_or-drop, length-take, length-take-le, length-drop}
+use Rattle.std.proofs.lemmas.List.{nil_from_length, take-append-drop, take_at, drop_more, get_or_at, get_or-take, get_or-drop, length-take, length-take-le, length-drop, drop-drop}
+use Rattle.std.proofs.Math.Seq.{take-append-add}
 use Rattle.std.proofs.lemmas.Option.{slice_get-get_or, slice_get_past}
-use Rattle.block_layout.specs.Layout.{IsBlock, IsUsable, room, usable_below, usable_at, end_of, usable_bytes, own_bytes_at}
+use Rattle.block_layout.specs.Layout.{IsBlock, IsUsable, IsNextPlace, usable_from, room, usable_below, usable_at, end_of, usable_bytes, own_bytes_at}
 use Rattle.block_layout.proofs.Room.{room-closed, room_mono, room_below}
 use Rattle.block_layout.proofs.Ends.{end_of_after, end_of_least, end_of_is_end}
+use Rattle.block_layout.proofs.Runs.{room-usable_from, end_of-run}
 
 -- of no bytes there are none
 pub usable_bytes-nil : (p : ℕ) → usable_bytes p [] ≡ []
@@ -153,3 +155,53 @@ own_bytes_at-to_end file begin size h =
     ∙ ap (take size) (usable_bytes-append begin (take count bytes) (drop count bytes))
     ∙ take_at (usable_bytes begin (take count bytes)) (usable_bytes (begin + length (take count bytes)) (drop count bytes)) size
     (length-usable_bytes begin (take count bytes) ∙ ap (room begin) (omega arith) ∙ (end_of_is_end begin size).holds)
+
+-- more own bytes go on where the first of them end
+pub own_bytes_at-more : (file : List ℕ) (begin m n : ℕ) → end_of begin m ≤ length file
+    → own_bytes_at file begin (m + n) ≡ own_bytes_at file begin m ++ own_bytes_at file (end_of begin m) n
+own_bytes_at-more file begin m n h =
+    let end = end_of begin m in
+    let bytes = drop begin file in
+    let after = end_of_after begin m in
+    let front = slice_range file begin end in
+    let rest = drop end file in
+    let count : length front ≡ end - begin = length-take-le (end - begin) bytes (omega (arith, length-drop begin file)) in
+    let split : front ++ rest ≡ bytes =
+    ap (λ xs. front ++ xs) (sym (drop-drop (end - begin) begin file ∙ ap (λ k. drop k file) (omega arith)))
+    ∙ take-append-drop (end - begin) bytes in
+    let own : usable_bytes begin front ≡ own_bytes_at file begin m = sym (own_bytes_at-to_end file begin m h) in
+    let size : length (own_bytes_at file begin m) ≡ m = (own_bytes_at_whole file begin m (omega arith)).1 h in
+    ap (λ xs. take (m + n) (usable_bytes begin xs)) (sym split)
+    ∙ ap (take (m + n)) (usable_bytes-append begin front rest)
+    ∙ ap (λ k. take (m + n) (usable_bytes begin front ++ usable_bytes k rest)) (omega arith)
+    ∙ ap (λ xs. take (m + n) (xs ++ usable_bytes end rest)) own
+    ∙ ap (λ k. take (k + n) (own_bytes_at file begin m ++ usable_bytes end rest)) (sym size)
+    ∙ take-append-add (own_bytes_at file begin m) (usable_bytes end rest) n
+
+-- own bytes up to the next block stand in a row behind the block header, where there is one
+pub own_bytes_at-run : (file : List ℕ) (p n : ℕ) → 1 ≤ n → IsNextPlace p → usable_from p % 65536 + n ≤ 65536
+    → usable_from p + n ≤ length file → own_bytes_at file p n ≡ slice_range file (usable_from p) (usable_from p + n)
+own_bytes_at-run file p n some next fits within =
+    let first = usable_from p in
+    let end : end_of p n ≡ first + n = end_of-run p n some next fits in
+    let bytes = drop p file in
+    let header = take (first - p) bytes in
+    let run = slice_range file first (first + n) in
+    let behind : drop (first - p) bytes ≡ drop first file = drop-drop (first - p) p file ∙ ap (λ k. drop k file) (omega arith) in
+    let header_size : length header ≡ first - p = length-take-le (first - p) bytes (omega (arith, length-drop p file)) in
+    let run_size : length run ≡ n = length-take-le (first + n - first) (drop first file) (omega (arith, length-drop first file)) ∙ omega arith in
+    let split : slice_range file p (end_of p n) ≡ header ++ run =
+    ap (λ e. take (e - p) bytes) end
+    ∙ ap (λ k. take k bytes) (omega arith)
+    ∙ take-add (first - p) n bytes
+    ∙ ap (λ xs. header ++ take n xs) behind
+    ∙ ap (λ k. header ++ take k (drop first file)) (omega arith) in
+    let none : usable_bytes p header ≡ [] =
+    nil_from_length (usable_bytes p header) (length-usable_bytes p header ∙ ap (λ k. room p (p + k)) header_size
+    ∙ ap (room p) (omega arith) ∙ room-usable_from p) in
+    own_bytes_at-to_end file p n (omega arith)
+    ∙ ap (usable_bytes p) split
+    ∙ usable_bytes-append p header run
+    ∙ ap (λ xs. xs ++ usable_bytes (p + length header) run) none
+    ∙ ap (λ k. usable_bytes k run) (omega arith)
+    ∙ usable_bytes-within first run (omega arith) (omega arith)

@@ -21,6 +21,10 @@ IsBlock p = p % block_size ≡ 0
 abbrev pub block_of : ℕ → ℕ
 block_of p = p / block_size * block_size
 
+-- how many blocks begin below a position
+abbrev pub blocks_below : ℕ → ℕ
+blocks_below p = (p + (block_size - 1)) / block_size
+
 -- a position that no block header takes, and the test for it
 abbrev pub IsUsable : ℕ → Type 0
 IsUsable p = block_header_size ≤ p % block_size
@@ -31,6 +35,18 @@ is_usable p = nat_le block_header_size (p % block_size)
 -- where chunks may begin and end: at a block, or past the first usable position behind it
 abbrev pub IsBoundary : ℕ → Type 0
 IsBoundary p = IsBlock p ⊎ (block_header_size < p % block_size)
+
+-- the same, said so that a field can keep it
+abbrev pub IsOnBoundary : ℕ → Type 0
+IsOnBoundary p = 0 < p % block_size → block_header_size < p % block_size
+
+-- where the next byte of a chunk can stand: a block, behind whose header it comes, or a usable position
+abbrev pub IsNextPlace : ℕ → Type 0
+IsNextPlace p = 0 < p % block_size → block_header_size ≤ p % block_size
+
+-- the least usable position at or past a position
+abbrev pub usable_from : ℕ → ℕ
+usable_from p = max p (block_of p + block_header_size)
 
 -- how many usable positions p have a ≤ p < b
 unfoldable pub room : ℕ → ℕ → ℕ

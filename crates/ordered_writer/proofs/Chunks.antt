@@ -1,15 +1,15 @@
 -- Whole chunks: their header, their data and the padding behind it.
 use Rattle.std.proofs.Common.{◌≡◌, ◌∙◌, ℕ, ◌+◌, ◌≤◌, Option, List, [], ◌++◌, length, drop, inl, inr, refl, sym, ap, subst, arith}
 use Rattle.std.proofs.lemmas.List.{drop_at, drop_all, length-append}
-use Rattle.block_layout.specs.Layout.{IsBoundary, room, end_of, chunk_end_of}
+use Rattle.block_layout.specs.Layout.{IsBoundary, room, end_of, chunk_end_of, IsOnBoundary}
 use Rattle.block_layout.proofs.Ends.{end_of_after, end_of-more}
 use Rattle.record_io.specs.Outside.{TakesFront}
 use Rattle.record_io.specs.Buffers.{TakesAndHolds}
 use Rattle.meta_chunk.specs.Laid.{end_of_chunk, laid_bytes}
 use Rattle.meta_chunk.specs.Files.{signature}
-use Rattle.ordered_writer.specs.Writers.{IsOnBoundary}
 use Rattle.ordered_writer.specs.Layings.{laid_between}
-use Rattle.ordered_writer.proofs.Runs.{room-end_of, laid_between-front}
+use Rattle.block_layout.proofs.Runs.{room-end_of}
+use Rattle.ordered_writer.proofs.Runs.{laid_between-front}
 use Rattle.ordered_writer.proofs.RunCalls.{TakesFront-laid_longer, TakesAndHolds-more, TakesFront-more}
 
 -- the signature ends at 64

@@ -1,15 +1,15 @@
 -- What the steps in which a chunk is laid hand to a buffer and a sink.
 use Rattle.std.proofs.Common.{◌≡◌, ◌∙◌, ℕ, ◌+◌, ◌-◌, ◌%◌, ◌<◌, ◌≤◌, min, Option, List, [], ◌++◌, length, take, drop, replicate, sym, ap, subst, arith}
 use Rattle.std.proofs.lemmas.List.{take_rest, drop_all, length-drop}
-use Rattle.block_layout.specs.Layout.{room, end_of}
+use Rattle.block_layout.specs.Layout.{room, end_of, IsNextPlace, IsOnBoundary, usable_from}
 use Rattle.block_layout.proofs.Ends.{end_of_mono}
 use Rattle.record_io.specs.Outside.{TakesFront}
 use Rattle.record_io.specs.Buffers.{TakesAndHolds}
 use Rattle.record_io.proofs.Buffered.{TakesAndHolds-none, TakesAndHolds-append, TakesFront-behind, TakesFront-held_longer}
-use Rattle.ordered_writer.specs.Writers.{IsOnBoundary}
-use Rattle.ordered_writer.specs.Layings.{IsNextPlace, usable_from, laid_between}
+use Rattle.ordered_writer.specs.Layings.{laid_between}
 use Rattle.ordered_writer.proofs.Between.{laid_between-none, laid_between-split}
-use Rattle.ordered_writer.proofs.Runs.{room-usable_from, usable_from-before, usable_from-le-end_of, end_of-run, end_of-rest, laid_between-zeros, laid_between-no_room, laid_between-header_and_run}
+use Rattle.block_layout.proofs.Runs.{room-usable_from, usable_from-before, usable_from-le-end_of, end_of-run, end_of-rest}
+use Rattle.ordered_writer.proofs.Runs.{laid_between-zeros, laid_between-no_room, laid_between-header_and_run}
 
 -- a front of what is held and the bytes up to a place is one of what is held and the bytes up to a later place
 pub TakesFront-laid_longer : (a b : Option (List ℕ)) (held : List ℕ) (begin end place until later : ℕ) (own : List ℕ)

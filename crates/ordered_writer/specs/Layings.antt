@@ -1,16 +1,8 @@
 -- Parts of a chunk that is laid piece by piece. Own.
-use Rattle.std.specs.Prelude.{ℕ, ◌+◌, ◌-◌, ◌%◌, ◌<◌, ◌≤◌, max, List, map, nat_lt, if◌then◌else◌, slice_index}
+use Rattle.std.specs.Prelude.{ℕ, ◌-◌, ◌%◌, List, map, nat_lt, if◌then◌else◌, slice_index}
 use Rattle.std.specs.List.{range_with_len}
-use Rattle.block_layout.specs.Layout.{block_size, block_header_size, block_of, room}
+use Rattle.block_layout.specs.Layout.{block_size, block_header_size, room}
 use Rattle.block_layout.specs.BlockHeaders.{block_header}
-
--- where the next byte of a chunk can go: a block, behind whose header it comes, or a usable position
-abbrev pub IsNextPlace : ℕ → Type 0
-IsNextPlace p = 0 < p % block_size → block_header_size ≤ p % block_size
-
--- the least usable position at or past a position
-abbrev pub usable_from : ℕ → ℕ
-usable_from p = max p (block_of p + block_header_size)
 
 -- the byte at a position of a chunk that is laid from a begin to an end, where own bytes go on at a place: a block
 -- header's byte, the next of these bytes, or zero past them

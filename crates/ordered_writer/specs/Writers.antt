@@ -1,6 +1,5 @@
 -- Chunks that are written one after another, with zero padding. Own.
-use Rattle.std.specs.Prelude.{ℕ, ◌%◌, ◌<◌, Bool, true, false, List, ◌++◌}
-use Rattle.block_layout.specs.Layout.{block_size, block_header_size}
+use Rattle.std.specs.Prelude.{ℕ, Bool, true, false, List, ◌++◌}
 use Rattle.chunk_header.specs.declared.Chunk.{Chunk}
 use Rattle.chunk_header.specs.Views.{bytes_of_header, value_of_chunk}
 use Rattle.meta_chunk.specs.Laid.{laid_bytes, end_of_chunk}
@@ -16,10 +15,6 @@ writer_at position = record { position = position; spent = false }
 
 abbrev pub spent_writer_at : ℕ → Writer
 spent_writer_at position = record { position = position; spent = true }
-
--- a boundary, said so that a field can keep it
-abbrev pub IsOnBoundary : ℕ → Type 0
-IsOnBoundary p = 0 < p % block_size → block_header_size < p % block_size
 
 -- the bytes of a chunk of the program from its begin to its end, with zero padding and with the header that it has,
 -- whose hash of the data may be another than the data's

@@ -1,12 +1,11 @@
 // A chunk laid piece by piece.
 
 ghost use Rattle.std.specs.Prelude.{◌≡◌, ◌+◌, ◌^◌, ◌<◌, ◌≤◌, [], ◌++◌, min, length, IfOk, OnOk, OnErr};
-ghost use Rattle.block_layout.specs.Layout.{end_of};
+ghost use Rattle.block_layout.specs.Layout.{end_of, IsNextPlace, IsOnBoundary, usable_from};
 ghost use Rattle.record_io.specs.Outside.{Rose, TakesFront};
 ghost use Rattle.record_io.specs.Buffers.{TakesAndHolds};
 ghost use Rattle.meta_chunk.specs.Laid.{laid_bytes};
-ghost use Rattle.ordered_writer.specs.Writers.{IsOnBoundary};
-ghost use Rattle.ordered_writer.specs.Layings.{IsNextPlace, usable_from, laid_between};
+ghost use Rattle.ordered_writer.specs.Layings.{laid_between};
 
 use block_layout::{BLOCK_HEADER_SIZE, BLOCK_SIZE, BlockHeader};
 use record_io::{Failed, PutBuffer, Sink};

@@ -36,7 +36,8 @@ pub struct OrderedWriter {
 
 impl Model for OrderedWriter {
     ghost use Rattle.std.specs.Prelude.{◌≤◌, ◌^◌};
-    ghost use Rattle.ordered_writer.specs.Writers.{Writer, IsOnBoundary};
+    ghost use Rattle.block_layout.specs.Layout.{IsOnBoundary};
+    ghost use Rattle.ordered_writer.specs.Writers.{Writer};
 
     ghost Value = { Writer };
 
@@ -56,7 +57,7 @@ impl OrderedWriter {
         }
     }
 
-    /// Where the next chunk begins.
+    /// Where the next chunk begins: a boundary, at most 2^62.
     pub fn position(&self) -> u64
         ensures value { result ≡ self.now.position }
         ensures boundary { IsBoundary self.now.position }

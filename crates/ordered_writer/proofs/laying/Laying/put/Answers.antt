@@ -4,7 +4,7 @@ use Rattle.std.proofs.lemmas.Result.{err_from_is_err_and}
 use Rattle.block_layout.specs.Layout.{room, end_of}
 use Rattle.block_layout.proofs.Ends.{end_of-zero, end_of_after, end_of_mono, end_of-more}
 use Rattle.ordered_writer.specs.Layings.{laid_between}
-use Rattle.ordered_writer.proofs.Runs.{end_of_strict, room-end_of}
+use Rattle.block_layout.proofs.Runs.{end_of_strict, room-end_of}
 use Rattle.ordered_writer.proofs.RunCalls.{run_end, run_end-rest, TakesAndHolds-more, TakesFront-more, TakesAndHolds-nothing_laid}
 use Rattle.ordered_writer.proofs.laying.Laying.put.Goals as goal
 

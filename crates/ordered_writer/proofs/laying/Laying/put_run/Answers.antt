@@ -1,7 +1,7 @@
 use Rattle.std.proofs.Common.{◌≡◌, ℕ, ◌+◌, ◌%◌, ◌<◌, ◌≤◌, length, arith}
+use Rattle.block_layout.specs.Layout.{usable_from}
 use Rattle.std.proofs.lemmas.Result.{err_from_is_err_and}
-use Rattle.ordered_writer.specs.Layings.{usable_from}
-use Rattle.ordered_writer.proofs.Runs.{end_of-run}
+use Rattle.block_layout.proofs.Runs.{end_of-run}
 use Rattle.ordered_writer.proofs.RunCalls.{TakesFront-header, TakesFront-run, TakesAndHolds-run}
 use Rattle.ordered_writer.proofs.laying.Laying.put_run.Goals as goal
 use Rattle.ordered_writer.proofs.laying.Laying.put_run.Goals.{After-min-count}

@@ -1,13 +1,13 @@
 use Rattle.std.proofs.Common.{◌≡◌, ◌∙◌, ℕ, ◌+◌, List, ◌++◌, length, sym, ap, subst, arith, rules}
 use Rattle.std.proofs.lemmas.Result.{err_from_is_err_and}
-use Rattle.block_layout.specs.Layout.{chunk_end_of}
+use Rattle.block_layout.specs.Layout.{chunk_end_of, IsOnBoundary}
 use Rattle.block_layout.proofs.Ends.{end_of_mono}
 use Rattle.block_layout.proofs.ChunkEnds.{chunk_end_of_past_bytes, chunk_end_of_boundary}
 use Rattle.record_io.specs.Outside.{TakesFront}
 use Rattle.record_io.specs.Buffers.{TakesAndHolds}
 use Rattle.chunk_header.specs.Views.{bytes_of_header}
 use Rattle.meta_chunk.specs.Laid.{laid_bytes}
-use Rattle.ordered_writer.specs.Writers.{Writer, IsOnBoundary}
+use Rattle.ordered_writer.specs.Writers.{Writer}
 use Rattle.ordered_writer.proofs.Chunks.{IsOnBoundary-from_boundary}
 use Rattle.ordered_writer.proofs.writer.OrderedWriter.lay.Goals as goal
 use Rattle.ordered_writer.proofs.writer.OrderedWriter.lay.Goals.{After-to_bytes}
