@@ -1,7 +1,7 @@
 -- Where bytes are cut or too long, they begin with no spelling.
 use Rattle.std.proofs.Common.{◌≡◌, ℕ, ◌-◌, ◌*◌, ◌%◌, ◌^◌, ◌<◌, ◌≤◌, List, [], ◌∷◌, ◌++◌, length, take, get_or, arith, ap, ◌∙◌, inl, inr, ⊎_elim}
 use Rattle.std.proofs.lemmas.Bool.{cases_lt}
-use Rattle.std.proofs.lemmas.List.{length-append, length-take-le, get_or_append_left, get_or-take, take_more, take_at}
+use Rattle.std.proofs.lemmas.List.{length-append, length-take-le, get_or_append_left, get_or-take, take_more, take_at, take-append-le}
 use Rattle.varint_wire.specs.Varint.{value_of, Spells}
 use Rattle.varint_wire.specs.Reading.{AllContinue, IsCut, IsTooLarge, IsLong}
 use Rattle.varint_wire.proofs.Spellings.{value_of-push}
@@ -68,3 +68,15 @@ IsLong-from_tenth bytes many high room =
 pub IsLong-at : (bytes : List ℕ) (at : ℕ) → at ≡ 9 → at < length bytes → ((i : ℕ) → i < at → 128 ≤ get_or bytes i 0) → 1 < get_or bytes at 0 → IsLong bytes
 IsLong-at bytes at nine many high room =
     IsLong-from_tenth bytes (omega arith) (λ i h. high i (omega arith)) (rw nine at room)
+
+-- bytes that are too long are so whatever follows
+IsLong-append : (bytes more : List ℕ) → IsLong bytes → IsLong (bytes ++ more)
+IsLong-append bytes more h =
+    let ten : take 10 (bytes ++ more) ≡ take 10 bytes = take-append-le 10 bytes more h.0 in
+    let nine : take 9 (bytes ++ more) ≡ take 9 bytes = take-append-le 9 bytes more (omega (arith, h.0)) in
+    let tenth : get_or (bytes ++ more) 9 0 ≡ get_or bytes 9 0 = get_or_append_left bytes more 0 9 (omega (arith, h.0)) in
+    (omega (arith, h.0, length-append bytes more), rw (ten, nine, tenth) h.1)
+
+-- so no spelling begins them
+pub long_begins_none : (v : ℕ) (bytes more front rest : List ℕ) → IsLong bytes → Spells v front → bytes ++ more ≡ front ++ rest → ⊥
+long_begins_none v bytes more front rest h s e = long_has_no_spelling v (bytes ++ more) front rest (IsLong-append bytes more h) s e

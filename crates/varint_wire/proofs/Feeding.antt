@@ -1,10 +1,11 @@
 -- Facts of the bytes that a feed holds.
 use Rattle.std.proofs.Common.{◌≡◌, ℕ, zero, suc, ◌+◌, ◌*◌, ◌/◌, ◌%◌, ◌^◌, ◌<◌, ◌≤◌, List, [], ◌∷◌, ◌++◌, length, take, get_or, refl, arith, sym, ap, ◌∙◌, subst, ⊎_elim}
+use Rattle.std.specs.Prelude.{◌↔◌}
 use Rattle.std.proofs.lemmas.Bool.{cases_lt}
 use Rattle.std.proofs.lemmas.List.{length_push, get_or_push, get_or_append_left, get_or_past, take_all}
 use Rattle.std.proofs.Math.Nat.{pow-succ'}
 use Rattle.varint_wire.specs.Varint.{value_of, Spells}
-use Rattle.varint_wire.specs.Reading.{IsLong}
+use Rattle.varint_wire.specs.Reading.{IsCut, IsLong}
 use Rattle.varint_wire.specs.Held.{held_bytes}
 use Rattle.varint_wire.proofs.Faults.{IsLong-at}
 use Rattle.varint_wire.proofs.Spellings.{value_of-push}
@@ -22,6 +23,18 @@ unfolding held_bytes
 held_bytes-high zero groups i h = absurd (omega arith)
 held_bytes-high (suc n) groups zero h = (omega arith, omega arith)
 held_bytes-high (suc n) groups (suc i) h = held_bytes-high n (groups / 128) i (omega arith)
+
+-- so they begin a varint that has more bytes
+pub IsCut-held_bytes : (n groups : ℕ) (held : List ℕ) → held_bytes n groups ≡ held → n ≤ 9 → IsCut held
+IsCut-held_bytes n groups held is few =
+    subst IsCut is
+    (let many = length-held_bytes n groups in (omega arith, λ i h. (held_bytes-high n groups i (omega arith)).0))
+
+-- and there are none where there are no groups
+pub held_bytes-none : (n groups : ℕ) (held : List ℕ) → held_bytes n groups ≡ held → (n ≡ 0) ↔ (held ≡ [])
+unfolding held_bytes
+held_bytes-none zero groups held is = (λ _. sym is, λ _. refl)
+held_bytes-none (suc n) groups held is = (λ none. absurd (omega (arith, none)), λ none. absurd (omega (arith, ap length (is ∙ none))))
 
 -- their value is that of the groups
 pub value_of-held_bytes : (n groups : ℕ) → groups < 128 ^ n → value_of (held_bytes n groups) ≡ groups

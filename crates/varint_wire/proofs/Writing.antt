@@ -31,3 +31,29 @@ write_last buf whole at rest inside small h =
 pub behind_more : (buf old : List ℕ) (at x : ℕ) → drop at buf ≡ drop at old → drop (at + 1) (set buf at x) ≡ drop (at + 1) old
 behind_more buf old at x h =
     drop-set-lt (at + 1) buf at x (omega arith) ∙ sym (drop-drop 1 at buf) ∙ ap (drop 1) h ∙ drop-drop 1 at old
+
+-- what holds of the length of the shortest spelling where groups are counted
+pub record Counting (len groups whole : ℕ) : Type 0 where
+  pub room : len ≤ 10
+  pub below : groups < 128 ^ (11 - len)
+  pub counted : len + length (shortest_within (10 - len) groups) ≡ 1 + whole
+
+-- a group more is counted, a group less is left
+pub Counting-more : (len groups whole : ℕ) → Counting len groups whole → 128 ≤ groups → Counting (len + 1) (groups / 128) whole
+Counting-more len groups whole h large =
+    let left : 11 - len ≡ suc (11 - (len + 1)) = omega (arith, h.room) in
+    let less = div-lt-pow groups (11 - (len + 1)) (rw left at h.below) in
+    ⊎_elim
+    (λ (more : len < 10).
+    let inner : 10 - len ≡ suc (10 - (len + 1)) = omega arith in
+    let group = ap length (ap (λ n. shortest_within n groups) inner ∙ shortest_within-large (10 - (len + 1)) groups large) in
+    record { room = omega arith; below = less; counted = omega (arith, h.counted) })
+    (λ (last : 10 ≤ len). absurd
+    (let one : 11 - len ≡ 1 = omega (arith, h.room) in
+    let small : groups < 128 ^ 1 = rw one at h.below in
+    omega arith))
+    (cases_lt len 10)
+
+-- the last group is counted
+pub Counting-last : (len groups whole : ℕ) → Counting len groups whole → groups < 128 → len ≡ whole
+Counting-last len groups whole h small = omega (arith, h.counted, ap length (shortest_within-small (10 - len) groups small))

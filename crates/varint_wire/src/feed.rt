@@ -1,4 +1,4 @@
-ghost use Rattle.std.specs.Prelude.{◌≡◌, ◌≢◌, ℕ, ◌<◌, ◌≤◌, ◌↔◌, List, [], ◌∷◌, ◌++◌, length};
+ghost use Rattle.std.specs.Prelude.{◌≡◌, ◌≢◌, ℕ, ◌<◌, ◌≤◌, ◌↔◌, List, [], ◌∷◌, ◌++◌, length, IsTrue};
 ghost use Rattle.varint_wire.specs.Varint.{Spells};
 ghost use Rattle.varint_wire.specs.Reading.{IsCut, IsLong};
 
@@ -41,6 +41,15 @@ impl Feed {
         ensures { result ≡ [] }
     {
         Feed { value: 0, count: 0 }
+    }
+
+    /// Whether no varint has begun since the feed was new, or since the last one ended. Own.
+    #[inline]
+    pub fn is_new(&self) -> bool
+        ensures new { IsTrue result ↔ (self.now ≡ []) }
+        ensures taken { IsCut self.now }
+    {
+        self.count == 0
     }
 
     /// Takes the next byte: `More` exactly where it is at least 128 and the varint has fewer than ten

@@ -47,6 +47,20 @@ pub fn write(value: u64, buf: &mut [u8; 10]) -> usize
     at + 1
 }
 
+/// How many bytes the shortest varint of the value has: from 1 to 10. Standard: "Conventions".
+#[inline]
+pub fn len(value: u64) -> usize
+    ensures { result ≡ length (shortest value) }
+{
+    let mut groups = value;
+    let mut len = 1;
+    while groups >= 0x80 {
+        groups >>= 7;
+        len += 1;
+    }
+    len
+}
+
 /// Reads the varint that the bytes begin with: its value and its length in bytes. Other bytes may
 /// follow. Every spelling of up to ten bytes is read, also one that isn't the shortest. Standard:
 /// "Conventions".
@@ -118,6 +132,7 @@ mod tests {
             let length = write(value, &mut buf);
             assert_eq!(rt; &buf[..length], bytes, "{value}");
             assert_eq!(rt; read(&buf), Ok((value, length)), "{value}");
+            assert_eq!(rt; len(value), bytes.len(), "{value}");
         }
     }
 
@@ -150,8 +165,11 @@ mod tests {
     #[test]
     fn a_feed_is_as_new_after_a_value_and_after_long(rt: HostRuntime) {
         let mut feed = Feed::new();
+        assert!(rt; feed.is_new());
         assert_eq!(rt; feed.push(0xed), Step::More);
+        assert!(rt; !feed.is_new());
         assert_eq!(rt; feed.push(0x4b), Step::Value(9709));
+        assert!(rt; feed.is_new());
         for _ in 0..9 {
             assert_eq!(rt; feed.push(0x80), Step::More);
         }

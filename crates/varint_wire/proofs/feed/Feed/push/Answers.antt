@@ -2,7 +2,7 @@ use Rattle.std.proofs.Common.{◌≡◌, ◌+◌, [], ◌∷◌, ◌++◌, refl,
 use Rattle.std.proofs.lemmas.List.{append-nil}
 use Rattle.varint_wire.specs.Varint.{Spells}
 use Rattle.varint_wire.proofs.Faults.{long_has_no_spelling}
-use Rattle.varint_wire.proofs.Feeding.{pushed, pushed_long, pushed_spelled, held_bytes-push, length-held_bytes, held_bytes-high}
+use Rattle.varint_wire.proofs.Feeding.{pushed, pushed_long, pushed_spelled, held_bytes-push, IsCut-held_bytes}
 use Rattle.varint_wire.proofs.Spellings.{spelling_is_one}
 use Rattle.varint_wire.proofs.Steps.{room_for_more}
 use Rattle.varint_wire.proofs.feed.Feed.push.Goals as goal
@@ -59,5 +59,4 @@ returns-clause-kept c = λ _.
 pub returns-clause-taken : goal.returns-clause-taken
 returns-clause-taken c =
     let room = room_for_more _ _ _ c.self.invariant.0 c.is_tenth_above_one.ensures c.if-is_tenth_above_one.false c.if-byte-lt128.false in
-    let many = length-held_bytes (c.self.inside.count + 1) c.with_group-value.result in
-    (omega arith, λ i h. (held_bytes-high (c.self.inside.count + 1) c.with_group-value.result i (omega arith)).0)
+    IsCut-held_bytes (c.self.inside.count + 1) c.with_group-value.result _ refl (omega arith)
