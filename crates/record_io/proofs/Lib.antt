@@ -3,3 +3,4 @@ pub mod Memory
 pub mod Pieces
 pub mod Calls
 pub mod Buffered
+pub mod Readings

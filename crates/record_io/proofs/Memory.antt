@@ -1,6 +1,6 @@
 -- Lemmas on what the outside in memory gives and takes.
 use Rattle.std.proofs.Common.{◌≡◌, ℕ, ◌+◌, ◌-◌, ◌<◌, ◌≤◌, Some, List, [], ◌∷◌, ◌++◌, length, take, drop, sym, ◌∙◌, refl, ap, arith, length-drop}
-use Rattle.std.proofs.lemmas.List.{length-take-le, drop-drop, take-append-drop, take_rest, take_at}
+use Rattle.std.proofs.lemmas.List.{length-take-le, drop-drop, take-append-drop, take_rest}
 use Rattle.record_io.specs.Outside.{Gives}
 use Rattle.record_io.specs.Memory.{cut_to}
 
@@ -22,14 +22,12 @@ Gives-front left n front is fits =
     let all : take n left ++ drop n left ≡ left = take-append-drop n left in
     rw (size, is) (sym all, refl)
 
--- a source that copies from its place in its bytes gives a front of what is left, and the rest is left after it
-pub Gives-copied : (bytes copied rest : List ℕ) (at n : ℕ) → n ≤ length bytes - at
-    → copied ≡ take n (take (length bytes - at) (drop at bytes))
-    → Gives (Some (drop at bytes)) (Some (drop (at + n) bytes)) (take n (copied ++ rest))
-Gives-copied bytes copied rest at n fits is =
+-- a source that gives a front of its bytes from its place on, and the rest is left after it
+pub Gives-from_place : (bytes front : List ℕ) (at n : ℕ) → n ≤ length bytes - at
+    → front ≡ take n (take (length bytes - at) (drop at bytes))
+    → Gives (Some (drop at bytes)) (Some (drop (at + n) bytes)) front
+Gives-from_place bytes front at n fits is =
     let left : take (length bytes - at) (drop at bytes) ≡ drop at bytes = take_rest bytes at in
     let within : n ≤ length (drop at bytes) = omega (arith, length-drop {A = ℕ}) in
-    let size : length copied ≡ n = (rw (is, left) (length-take-le n (drop at bytes) within)) in
-    let front : take n (copied ++ rest) ≡ take n (drop at bytes) = take_at copied rest n size ∙ is ∙ ap (take n) left in
     let after : drop (at + n) bytes ≡ drop n (drop at bytes) = sym (drop-drop n at bytes) in
-    rw after (Gives-front (drop at bytes) n (take n (copied ++ rest)) front within)
+    rw after (Gives-front (drop at bytes) n front (is ∙ ap (take n) left) within)

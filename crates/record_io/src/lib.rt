@@ -5,22 +5,31 @@
 mod byte_list;
 mod file_totals;
 mod files;
+mod held_part;
 mod mem_input;
 mod mem_sink;
+mod mem_store;
 mod outside;
 mod put_buffer;
+mod read_ahead;
 mod script;
 mod std_calls;
 mod streams;
+mod sure_input;
+mod sure_store;
 
 pub use byte_list::Bytes;
 pub use file_totals::Totals;
 pub use files::{FileSink, FileStore};
 pub use mem_input::MemInput;
 pub use mem_sink::MemSink;
-pub use outside::{Failed, Sink, Source, Store, put_all};
+pub use mem_store::MemStore;
+pub use outside::{Failed, Sink, Source, Store, get_exact, put_all};
 pub use put_buffer::PutBuffer;
+pub use read_ahead::{ReadAhead, ReadAheadBy};
 pub use streams::{StdErr, StdInput, StdOut};
+pub use sure_input::SureInput;
+pub use sure_store::SureStore;
 
 #[cfg(test)]
 mod tests;

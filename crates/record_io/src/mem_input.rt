@@ -68,9 +68,7 @@ impl Source for MemInput {
         ensures same_cuts { self.new.cuts ≡ self.old.cuts }
         ensures same_fails { self.new.fails ≡ self.old.fails }
     {
-        let left = &self.bytes[self.at..];
-        let given = self.script.begin(buf.len().min(left.len()))?;
-        buf[..given].copy_from_slice(&left[..given]);
+        let given = self.script.copy(&self.bytes[self.at..], buf)?;
         self.at += given;
         Ok(given)
     }

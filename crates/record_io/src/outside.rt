@@ -1,5 +1,5 @@
-ghost use Rattle.std.specs.Prelude.{◌≡◌, ℕ, ◌+◌, ◌-◌, ◌^◌, ◌<◌, ◌≤◌, ◌↔◌, Option, Some, is_some, List, [], length, take, min, slice_range, IfOk, IfSome, IsSomeAnd, OnOk, OnErr};
-ghost use Rattle.record_io.specs.Outside.{one_more, Rose, Gives, Takes, TakesFront};
+ghost use Rattle.std.specs.Prelude.{◌≡◌, ℕ, ◌+◌, ◌-◌, ◌^◌, ◌<◌, ◌≤◌, ◌↔◌, Option, Some, is_some, List, [], length, take, min, slice_range, IsErr, IfOk, IfSome, IsSomeAnd, OnOk, OnErr};
+ghost use Rattle.record_io.specs.Outside.{one_more, faults_after, Rose, Gives, Takes, TakesFront};
 
 /// A call on the outside failed.
 #[derive(Clone, Copy, Debug, PartialEq, Eq)]
@@ -13,6 +13,18 @@ pub(crate) fn fault(faults: &mut u64) -> Failed
 {
     *faults = faults.saturating_add(1);
     Failed
+}
+
+/// What the call answered, whose failure is counted.
+pub(crate) fn counted<X: Drop, E: Drop>(answer: Result<X, E>, faults: &mut u64) -> Result<X, Failed>
+    ensures same { IfOk answer (λ value. result ≡ Ok value) }
+    ensures failed { OnErr answer (IsErr result) }
+    ensures counted { faults.new ≡ faults_after result faults.old }
+{
+    match answer {
+        Ok(value) => Ok(value),
+        Err(_) => Err(fault(faults)),
+    }
 }
 
 /// A stream of bytes that come in.
@@ -127,6 +139,32 @@ pub fn put_all<M: Sink>(sink: &mut M, piece: &[u8]) -> Result<(), Failed>
     let mut at = 0;
     while at < piece.len() {
         at += sink.put(&piece[at..])?;
+    }
+    Ok(())
+}
+
+/// Reads exactly the bytes that begin at a place, as many as the buffer has room for. An empty buffer asks nothing.
+///
+/// # Errors
+///
+/// `Failed` only where the store failed. A front of the buffer may hold bytes then.
+pub fn get_exact<S: Store>(store: &mut S, at: u64, buf: &mut [u8]) -> Result<(), Failed>
+    requires within { 0 < length buf.old → IsSomeAnd (S.told store.old) (λ size. at + length buf.old ≤ size) }
+    ensures exact { OnOk result (IfSome (S.bytes store.old) (λ file. buf.new ≡ slice_range file at (at + length buf.old))) }
+    ensures handed_out { OnOk result (S.handed store.old < 2 ^ 64 → S.handed store.new ≡ min (S.handed store.old + length buf.old) (2 ^ 64 - 1)) }
+    ensures handed_most { S.handed store.new ≤ S.handed store.old + length buf.old }
+    ensures handed_small { S.handed store.old < 2 ^ 64 → (S.handed store.old ≤ S.handed store.new) × (S.handed store.new < 2 ^ 64) }
+    ensures same_bytes { S.bytes store.new ≡ S.bytes store.old }
+    ensures same_told { S.told store.new ≡ S.told store.old }
+    ensures same_name { S.name store.new ≡ S.name store.old }
+
+    ensures cause { OnErr result (Rose (S.faults store.old) (S.faults store.new)) }
+    ensures never_falls { S.faults store.old ≤ S.faults store.new }
+    ensures small { S.faults store.old < 2 ^ 64 → S.faults store.new < 2 ^ 64 }
+{
+    let mut got = 0;
+    while got < buf.len() {
+        got += store.read_at(at + got as u64, &mut buf[got..])?;
     }
     Ok(())
 }

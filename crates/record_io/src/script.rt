@@ -1,4 +1,4 @@
-ghost use Rattle.std.specs.Prelude.{◌≡◌, ◌↔◌, Contains, IsTrue, IsErr, IfOk};
+ghost use Rattle.std.specs.Prelude.{◌≡◌, ◌^◌, ◌<◌, ◌≤◌, ◌↔◌, length, take, min, Contains, IsTrue, IsErr, IfOk};
 ghost use Rattle.record_io.specs.Outside.{one_more, faults_after};
 ghost use Rattle.record_io.specs.Memory.{cut_to};
 
@@ -11,6 +11,7 @@ pub(crate) struct Script {
     fails: Vec<u32>,
     number: u64,
     faults: u64,
+    ghost small: { faults < 2 ^ 64 },
 }
 
 impl Script {
@@ -43,6 +44,21 @@ impl Script {
             return Err(self.fault());
         }
         Ok(cut_to(&self.cuts, number, most))
+    }
+
+    /// Begins the next call, which copies from the front of these bytes into that of the buffer, and answers how many.
+    pub(crate) fn copy(&mut self, from: &[u8], buf: &mut [u8]) -> Result<usize, Failed>
+        ensures given { IfOk result (λ n. take n buf.new ≡ take n from.now) }
+        ensures fails { IsErr result ↔ Contains self.old.fails.items self.old.number }
+        ensures cut { IfOk result (λ n. n ≡ cut_to self.old.cuts.items self.old.number (min (length buf.old) (length from.now))) }
+        ensures numbered { self.new.number ≡ one_more self.old.number }
+        ensures counted { self.new.faults ≡ faults_after result self.old.faults }
+        ensures same_cuts { self.new.cuts.items ≡ self.old.cuts.items }
+        ensures same_fails { self.new.fails.items ≡ self.old.fails.items }
+    {
+        let given = self.begin(buf.len().min(from.len()))?;
+        buf[..given].copy_from_slice(&from[..given]);
+        Ok(given)
     }
 
     /// Counts a fault, for the call that failed to answer.

@@ -1,24 +1,12 @@
 //! Calls on the readers, writers and files of std, each of whose failures counts one fault.
-ghost use Rattle.std.specs.Prelude.{◌≡◌, ◌<◌, ◌≤◌, length, take, IsErr, IfOk, OnErr};
+ghost use Rattle.std.specs.Prelude.{◌≡◌, ◌<◌, ◌≤◌, length, take, IfOk, OnErr};
 ghost use Rattle.std.specs.Io.KnownBytes.{Appends, Keeps, ReadConsumes};
 ghost use Rattle.record_io.specs.Outside.{faults_after};
 ghost use Rattle.record_io.specs.Edge.{AppendsFront, ReadsAt};
 
-use crate::outside::{Failed, fault};
+use crate::outside::{Failed, counted, fault};
 use std::fs::OpenFile;
-use std::io::{self, Read, Seek, SeekFrom, Write};
-
-/// What the call answered, whose failure is counted.
-fn counted<X: Drop>(answer: io::Result<X>, faults: &mut u64) -> Result<X, Failed>
-    ensures same { IfOk answer (λ value. result ≡ Ok value) }
-    ensures failed { OnErr answer (IsErr result) }
-    ensures counted { faults.new ≡ faults_after result faults.old }
-{
-    match answer {
-        Ok(value) => Ok(value),
-        Err(_) => Err(fault(faults)),
-    }
-}
+use std::io::{Read, Seek, SeekFrom, Write};
 
 /// Reads into the front of the buffer, and answers how many bytes: 0 at the end.
 pub(crate) fn take_from<T: Read>(

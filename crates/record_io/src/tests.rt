@@ -3,6 +3,8 @@ use std::test::Fail;
 
 mod fakes;
 mod files;
+mod memory;
+mod reading;
 mod streams;
 
 #[test]

@@ -1,0 +1,19 @@
+use Rattle.std.proofs.Common.{◌≡◌, length, ◌+◌, ◌-◌, ◌^◌, ◌<◌, ◌≤◌, take, min, slice_range, IfSome}
+use Rattle.record_io.proofs.outside.get_exact.Given as goal
+
+abbrev pub invariant-loop-got : goal.invariant-loop-got
+invariant-loop-got g l = record {
+  within : l.got ≤ length l.buf;
+  fits : l.at + l.got < 2 ^ 64;
+  given : IfSome (g.S.Store.bytes l.fn.store) (λ file. take l.got l.buf ≡ slice_range file l.at (l.at + l.got));
+  handed : g.S.Store.handed l.fn.store < 2 ^ 64 → g.S.Store.handed l.store ≡ min (g.S.Store.handed l.fn.store + l.got) (2 ^ 64 - 1);
+  handed_most : g.S.Store.handed l.store ≤ g.S.Store.handed l.fn.store + l.got;
+  bytes : g.S.Store.bytes l.store ≡ g.S.Store.bytes l.fn.store;
+  told : g.S.Store.told l.store ≡ g.S.Store.told l.fn.store;
+  named : g.S.Store.name l.store ≡ g.S.Store.name l.fn.store;
+  counted : g.S.Store.faults l.fn.store ≤ g.S.Store.faults l.store;
+  small : g.S.Store.faults l.fn.store < 2 ^ 64 → g.S.Store.faults l.store < 2 ^ 64;
+}
+
+abbrev pub decreases-loop-got : goal.decreases-loop-got
+decreases-loop-got g l = length l.buf - l.got

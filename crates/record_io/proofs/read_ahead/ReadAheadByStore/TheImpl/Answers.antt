@@ -1,0 +1,16 @@
+use Rattle.std.proofs.lemmas.Result.{on_err_weaker}
+use Rattle.record_io.specs.Buffers.{told_by}
+use Rattle.record_io.proofs.read_ahead.ReadAheadByStore.TheImpl.Goals as goal
+
+pub size-tells : goal.size-tells
+size-tells g c = record {
+  tells = c.ensures.tells;
+  exact = c.ensures.exact;
+  untold = on_err_weaker c.result (λ said i. told_by (said i) (c.ensures.same_bytes i)) c.ensures.untold;
+  same_bytes = c.ensures.same_bytes;
+  same_handed = c.ensures.same_handed;
+  same_name = c.ensures.same_name;
+  cause = c.ensures.cause;
+  never_falls = c.ensures.never_falls;
+  small = c.ensures.small;
+}

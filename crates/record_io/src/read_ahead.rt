@@ -1,0 +1,121 @@
+//! A store that reads ahead of another one.
+ghost use Rattle.std.specs.Prelude.{◌≡◌, ◌+◌, ◌-◌, ◌^◌, ◌<◌, ◌≤◌, ◌↔◌, [], length, take, min, slice_range, None, Some, IsTrue, IfOk, IfSome, IsSomeAnd, OnErr};
+ghost use Rattle.record_io.specs.Outside.{Rose, faults_after};
+ghost use Rattle.record_io.specs.Buffers.{IsPartOf, told_by};
+
+use crate::held_part::HeldPart;
+use crate::outside::{Failed, Store, counted, fault};
+use std::marker::Model;
+
+/// A store over another one, of which it holds up to 64 KiB.
+pub type ReadAhead<S> = ReadAheadBy<S, 65536>;
+
+/// A store over another one that it owns, of whose bytes it holds up to `N`, so that small requests cost no call of the
+/// other one. It takes no memory.
+///
+/// A request for bytes that are held is served from there. A request of at least half of `N` that isn't goes straight
+/// through. Any other is served once up to `N` bytes from there on, and none past the told size, were read ahead.
+#[derive(Drop)]
+pub struct ReadAheadBy<S: Store, const N: usize> {
+    inner: S,
+    told: Option<u64>,
+    held: HeldPart<N>,
+    handed: u64,
+    faults: u64,
+}
+
+impl<S: Store, const N: usize> Model for ReadAheadBy<S, N> {
+    ghost use Rattle.record_io.specs.Buffers.{ReadingAhead, IsReadingAhead};
+
+    ghost Value = { ReadingAhead };
+
+    ghost view = { λ s. record { bytes = S.bytes s.inner; said = s.told; handed = s.handed; faults = s.faults; inner_faults = S.faults s.inner; name = S.name s.inner } };
+
+    ghost invariant = { λ s. IsReadingAhead (S.bytes s.inner) (S.told s.inner) s.told s.held s.faults };
+}
+
+impl<S: Store + Drop, const N: usize> ReadAheadBy<S, N> {
+    /// The bytes of this store, none of them held, and its size not told yet.
+    pub fn new(inner: S) -> ReadAheadBy<S, N>
+        ensures bytes { result.bytes ≡ S.bytes inner }
+        ensures said { result.said ≡ None }
+        ensures handed { result.handed ≡ 0 }
+        ensures faults { result.faults ≡ 0 }
+        ensures inner_faults { result.inner_faults ≡ S.faults inner }
+        ensures name { result.name ≡ S.name inner }
+    {
+        ReadAheadBy {
+            inner,
+            told: None,
+            held: HeldPart::new(),
+            handed: 0,
+            faults: 0,
+        }
+    }
+}
+
+impl<S: Store + Drop, const N: usize> Store for ReadAheadBy<S, N> {
+    ghost use Rattle.record_io.specs.Buffers.{told_by-sized};
+
+    ghost bytes = { λ s. s.bytes };
+
+    ghost told = { λ s. told_by s.said s.bytes };
+
+    ghost handed = { λ s. s.handed };
+
+    ghost faults = { λ s. s.faults };
+
+    ghost name = { λ s. s.name };
+
+    ghost sized = { λ s. told_by-sized s.said s.bytes };
+
+    fn size(&mut self) -> Result<u64, Failed>
+        ensures tells { IfOk result (λ n. told_by self.new.said self.new.bytes ≡ Some n) }
+        ensures exact { IfOk result (λ n. IfSome self.old.bytes (λ file. n ≡ length file)) }
+        ensures untold { OnErr result (self.new.said ≡ self.old.said) }
+        ensures same_bytes { self.new.bytes ≡ self.old.bytes }
+        ensures same_handed { self.new.handed ≡ self.old.handed }
+        ensures same_name { self.new.name ≡ self.old.name }
+
+        ensures cause { OnErr result (Rose self.old.faults self.new.faults) }
+        ensures never_falls { self.old.faults ≤ self.new.faults }
+        ensures small { self.new.faults < 2 ^ 64 }
+        ensures counted { self.new.faults ≡ faults_after result self.old.faults }
+        ensures inner_cause { OnErr result (Rose self.old.inner_faults self.new.inner_faults) }
+    {
+        let size = counted(self.inner.size(), &mut self.faults)?;
+        self.told = Some(size);
+        Ok(size)
+    }
+
+    fn read_at(&mut self, at: u64, buf: &mut [u8]) -> Result<usize, Failed>
+        requires below { IsSomeAnd (told_by self.old.said self.old.bytes) (λ size. at < size) }
+        requires room { 0 < length buf.old }
+        ensures some { IfOk result (λ n. 0 < n) }
+        ensures fits { IfOk result (λ n. n ≤ length buf.old) }
+        ensures within { IfOk result (λ n. IfSome (told_by self.old.said self.old.bytes) (λ size. at + n ≤ size)) }
+        ensures given { IfOk result (λ n. IfSome self.old.bytes (λ file. take n buf.new ≡ slice_range file at (at + n))) }
+        ensures handed_out { IfOk result (λ n. self.new.handed ≡ min (self.old.handed + n) (2 ^ 64 - 1)) }
+        ensures same_handed { OnErr result (self.new.handed ≡ self.old.handed) }
+        ensures same_bytes { self.new.bytes ≡ self.old.bytes }
+        ensures same_said { self.new.said ≡ self.old.said }
+        ensures told_small { IfSome (told_by self.old.said self.old.bytes) (λ size. size < 2 ^ 64) }
+        ensures same_name { self.new.name ≡ self.old.name }
+
+        ensures cause { OnErr result (Rose self.old.faults self.new.faults) }
+        ensures never_falls { self.old.faults ≤ self.new.faults }
+        ensures small { self.new.faults < 2 ^ 64 }
+        ensures counted { self.new.faults ≡ faults_after result self.old.faults }
+        ensures inner_cause { OnErr result (Rose self.old.inner_faults self.new.inner_faults) }
+    {
+        let Some(size) = self.told else {
+            return Err(fault(&mut self.faults));
+        };
+        let most = (size - at).min(buf.len() as u64) as usize;
+        let front = &mut buf[..most];
+        let given = self.held.serve(&mut self.inner, at, size, front);
+        let count = counted(given, &mut self.faults)?;
+        self.handed = self.handed.saturating_add(count as u64);
+        Ok(count)
+    }
+}
