@@ -1,6 +1,6 @@
 -- Chunks and their headers. Source: the Riegeli/records file format specification, "Chunk" and "Chunk header".
-use Rattle.std.specs.Prelude.{◌≡◌, ℕ, ◌^◌, ◌<◌, List, ◌∷◌, ◌++◌, length, take}
-use Rattle.std.specs.Int.{w64, to_le_bytes}
+use Rattle.std.specs.Prelude.{◌≡◌, ℕ, ◌^◌, ◌<◌, List, ◌∷◌, ◌++◌, length, take, slice_index, slice_range}
+use Rattle.std.specs.Int.{w64, to_le_bytes, from_le_bytes}
 use Rattle.highway_hash.specs.Riegeli.{riegeli_hash, with_hash, BeginsWithHash}
 use Rattle.record_io.specs.Bytes.{AreBytes}
 
@@ -44,3 +44,21 @@ IsRightChunkHeader bytes = (length bytes ≡ header_size) × BeginsWithHash byte
 -- the chunk's own bytes: header and data, with no block header between
 abbrev pub own_bytes : ChunkValue → List ℕ
 own_bytes k = header_bytes k ++ k.«data»
+
+-- what a chunk header says: the size and the hash of the data, the kind, the number of records and the decoded size
+pub record HeaderValue : Type 0 where
+  pub data_size : ℕ
+  pub data_hash : ℕ
+  pub kind : ℕ
+  pub num_records : ℕ
+  pub decoded_size : ℕ
+
+-- what bytes say as a chunk header, whatever their hash: each field at its place, numbers lowest byte first
+abbrev pub header_in : List ℕ → HeaderValue
+header_in bytes = record {
+  data_size = from_le_bytes w64 (slice_range bytes 8 16);
+  data_hash = from_le_bytes w64 (slice_range bytes 16 24);
+  kind = slice_index bytes 24;
+  num_records = from_le_bytes w64 (slice_range bytes 25 32);
+  decoded_size = from_le_bytes w64 (slice_range bytes 32 40);
+}

@@ -1,6 +1,6 @@
 -- Simple chunks without compression. Source: the Riegeli/records file format specification, "Simple chunk
 -- with records".
-use Rattle.std.specs.Prelude.{◌≡◌, ℕ, List, ◌∷◌, ◌++◌, length, map, sum}
+use Rattle.std.specs.Prelude.{◌≡◌, ◌≢◌, ℕ, ◌<◌, List, ◌∷◌, ◌++◌, length, map, sum, slice_index}
 use Rattle.std.specs.List.{concat, flat_map}
 use Rattle.varint_wire.specs.Varint.{Spells, SpellsEach, shortest}
 use Rattle.chunk_header.specs.Chunks.{ChunkValue}
@@ -20,6 +20,14 @@ pub record IsSimple (k : ChunkValue) (records : List (List ℕ)) : Type 0 where
   pub spells_size : Spells (length sizes) spelled_size
   pub spells_each : SpellsEach (map length records) sizes
   pub «data» : k.«data» ≡ 0 ∷ spelled_size ++ sizes ++ concat records
+
+-- a simple chunk of some records, without compression
+abbrev pub HasRecords : ChunkValue → Type 0
+HasRecords k = (records : List (List ℕ)) × IsSimple k records
+
+-- a simple chunk whose first byte of data says that it is compressed
+abbrev pub IsCompressed : ChunkValue → Type 0
+IsCompressed k = (k.kind ≡ simple_kind) × (0 < length k.«data») × (slice_index k.«data» 0 ≢ 0)
 
 -- the sizes of records in their shortest spellings
 abbrev pub sizes_of : List (List ℕ) → List ℕ

@@ -2,7 +2,7 @@
 -- header".
 use Rattle.std.specs.Prelude.{◌≡◌, ℕ, ◌<◌, ◌^◌, List}
 use Rattle.highway_hash.specs.Riegeli.{riegeli_hash, with_hash}
-use Rattle.chunk_header.specs.Chunks.{ChunkValue, header_fields}
+use Rattle.chunk_header.specs.Chunks.{ChunkValue, HeaderValue, header_fields}
 use Rattle.chunk_header.specs.declared.Header.{Header}
 use Rattle.chunk_header.specs.declared.Chunk.{Chunk}
 
@@ -14,6 +14,16 @@ fields_of_header h = header_fields h.data_size h.data_hash h.kind h.num_records 
 abbrev pub bytes_of_header : Header → List ℕ
 bytes_of_header h = with_hash (fields_of_header h)
 
+-- what a header says
+abbrev pub value_of_header : Header → HeaderValue
+value_of_header h = record {
+  data_size = h.data_size;
+  data_hash = h.data_hash;
+  kind = h.kind;
+  num_records = h.num_records;
+  decoded_size = h.decoded_size;
+}
+
 -- each field fits its type
 pub record IsHeader (h : Header) : Type 0 where
   pub data_size : h.data_size < 2 ^ 64
@@ -21,14 +31,18 @@ pub record IsHeader (h : Header) : Type 0 where
   pub kind : h.kind < 2 ^ 8
   pub decoded_size : h.decoded_size < 2 ^ 64
 
+-- the chunk that a header and data stand for
+abbrev pub value_of : Header → List ℕ → ChunkValue
+value_of h bytes = record {
+  kind = h.kind;
+  num_records = h.num_records;
+  decoded_size = h.decoded_size;
+  «data» = bytes;
+}
+
 -- the chunk that a chunk of the program stands for, whose header may have another hash
 abbrev pub value_of_chunk : Chunk → ChunkValue
-value_of_chunk c = record {
-  kind = c.header.kind;
-  num_records = c.header.num_records;
-  decoded_size = c.header.decoded_size;
-  «data» = c.bytes;
-}
+value_of_chunk c = value_of c.header c.bytes
 
 -- the header has the data's hash
 abbrev pub HasRightHash : Chunk → Type 0

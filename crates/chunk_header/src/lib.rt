@@ -56,6 +56,7 @@ impl Header {
     pub fn from_bytes(bytes: &[u8; HEADER_SIZE]) -> Option<Header>
         ensures refused { IsNone result ↔ (¬ IsRightChunkHeader bytes.now) }
         ensures read { IfSome result (λ h. bytes.now ≡ bytes_of_header h) }
+        ensures fits { IfSome result IsHeader }
         ensures sole { (h : Header) → IsHeader h → bytes.now ≡ bytes_of_header h → result ≡ Some h }
     {
         if !begins_with_hash(bytes) {

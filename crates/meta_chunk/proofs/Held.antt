@@ -4,10 +4,10 @@ use Rattle.std.specs.List.{AllByRecursion, flat_map}
 use Rattle.std.proofs.lemmas.List.{nil_from_length}
 use Rattle.std.proofs.lemmas.Grind.{flat_map-append}
 use Rattle.chunk_header.specs.Chunks.{ChunkValue}
-use Rattle.chunk_header.specs.SimpleChunks.{simple_kind}
+use Rattle.chunk_header.specs.SimpleChunks.{simple_kind, HasRecords}
 use Rattle.chunk_header.proofs.OneList.{records_are_one}
 use Rattle.meta_chunk.specs.Kinds.{IsSignature}
-use Rattle.meta_chunk.specs.Files.{signature, HasRecords, IsPlain, IsUnread, IsFramed, Holds, HoldEach, AreRecordsOf}
+use Rattle.meta_chunk.specs.Files.{signature, IsPlain, IsUnread, IsFramed, Holds, HoldEach, AreRecordsOf}
 use Rattle.meta_chunk.proofs.OneChunk.{same_chunk}
 
 -- the signature has the kind and keeps its rule

@@ -6,7 +6,8 @@ use Rattle.std.proofs.lemmas.Bool.{cases_Bool, cases_eq, or_cases, and_parts, an
 use Rattle.std.proofs.lemmas.List.{length-append, get_or_past}
 use Rattle.std.proofs.lemmas.List.Sums.{sum_by-cons}
 use Rattle.chunk_header.specs.Chunks.{ChunkValue}
-use Rattle.meta_chunk.specs.Files.{IsPlain, IsTransposed, IsCompressed, IsUnread, IsFramed, Holds, HoldEach, AreRecordsOf}
+use Rattle.chunk_header.specs.SimpleChunks.{IsCompressed}
+use Rattle.meta_chunk.specs.Files.{IsPlain, IsTransposed, IsUnread, IsFramed, Holds, HoldEach, AreRecordsOf}
 use Rattle.meta_chunk.specs.Counts.{is_unread, totals_of}
 use Rattle.meta_chunk.proofs.Held.{plain_or_unread, Holds-counted, unread_records}
 

@@ -6,11 +6,11 @@ use Rattle.highway_hash.specs.HighwayHash.{hash_of, finished, after_remainder, a
 use Rattle.varint_wire.specs.Varint.{shortest}
 use Rattle.block_layout.specs.Layout.{room, end_of, chunk_end_of}
 use Rattle.chunk_header.specs.Chunks.{ChunkValue, own_bytes}
-use Rattle.chunk_header.specs.SimpleChunks.{simple_chunk, IsSimple}
+use Rattle.chunk_header.specs.SimpleChunks.{simple_chunk, IsSimple, HasRecords}
 use Rattle.chunk_header.proofs.SimpleChunks.{IsSimple-simple_chunk}
 use Rattle.meta_chunk.specs.Kinds.{KeepsRule}
 use Rattle.meta_chunk.specs.Laid.{end_of_chunk, byte_at, laid_bytes, laid}
-use Rattle.meta_chunk.specs.Files.{signature, signature_bytes, HasRecords, IsPlain, IsUnread, Holds, HoldEach, AreRecordsOf, end_of_chunks, begin_of, placed_from}
+use Rattle.meta_chunk.specs.Files.{signature, signature_bytes, IsPlain, IsUnread, Holds, HoldEach, AreRecordsOf, end_of_chunks, begin_of, placed_from}
 use Rattle.meta_chunk.specs.Counts.{totals_of}
 use Rattle.meta_chunk.specs.PaddingSizes.{padding, padding_size_of, padding_at}
 

@@ -1,9 +1,9 @@
 -- Files of chunks. Source: the Riegeli/records file format specification, "File format", "File signature" and "Chunk types". Own:
 -- which chunks are plain and which are unread, and the limit on their data.
-use Rattle.std.specs.Prelude.{◌≡◌, ◌≢◌, ℕ, ◌+◌, ◌^◌, ◌<◌, ◌≤◌, ◌⊎◌, List, [], ◌∷◌, ◌++◌, length, take, slice_index}
+use Rattle.std.specs.Prelude.{◌≡◌, ◌≢◌, ℕ, ◌+◌, ◌^◌, ◌≤◌, ◌⊎◌, List, [], ◌∷◌, ◌++◌, length, take}
 use Rattle.std.specs.List.{AllByRecursion, flat_map, enumerate_from}
 use Rattle.chunk_header.specs.Chunks.{ChunkValue}
-use Rattle.chunk_header.specs.SimpleChunks.{simple_kind, IsSimple}
+use Rattle.chunk_header.specs.SimpleChunks.{IsSimple, HasRecords, IsCompressed}
 use Rattle.meta_chunk.specs.Kinds.{signature_kind, transposed_kind, IsSignature, IsMetadata, IsPadding}
 use Rattle.meta_chunk.specs.Laid.{IsLaid, laid, end_of_chunk}
 
@@ -19,20 +19,13 @@ signature_bytes = laid 0 signature
 abbrev pub max_data_size : ℕ
 max_data_size = 2 ^ 26
 
--- a simple chunk of some records, without compression
-abbrev pub HasRecords : ChunkValue → Type 0
-HasRecords k = (records : List (List ℕ)) × IsSimple k records
-
 -- a chunk that is read: a simple chunk of records, or a signature, metadata or padding chunk that keeps its rule
 abbrev pub IsPlain : ChunkValue → Type 0
 IsPlain k = (length k.«data» ≤ max_data_size) × (HasRecords k ⊎ IsSignature k ⊎ IsMetadata k ⊎ IsPadding k)
 
--- a transposed chunk, and a simple one whose first byte of data says that it is compressed
+-- a transposed chunk
 abbrev pub IsTransposed : ChunkValue → Type 0
 IsTransposed k = k.kind ≡ transposed_kind
-
-abbrev pub IsCompressed : ChunkValue → Type 0
-IsCompressed k = (k.kind ≡ simple_kind) × (0 < length k.«data») × (slice_index k.«data» 0 ≢ 0)
 
 -- a chunk whose content is left unread
 abbrev pub IsUnread : ChunkValue → Type 0
