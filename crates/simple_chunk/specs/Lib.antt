@@ -1,2 +1,5 @@
 pub mod Costs
 pub mod Records
+pub mod Sizes
+pub mod SizesLeft
+pub mod Checkers

@@ -80,7 +80,7 @@ fn append_sizes(out: &mut Vec<u8>, records: &Records)
 fn varint_len(value: usize) -> usize
     ensures { result ≡ length (shortest value) }
 {
-    varint_wire::write(value as u64, &mut [0; 10])
+    varint_wire::len(value as u64)
 }
 
 /// Appends the shortest varint of a number, for which there is room.

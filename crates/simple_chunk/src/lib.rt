@@ -3,9 +3,14 @@
 //! project decided.
 #![tactic(auto)]
 
+mod checker;
+mod decoding;
 mod encoding;
 mod record_list;
+mod sizes_left;
 
+pub use checker::Checker;
+pub use decoding::{SimpleFault, decode};
 pub use encoding::encode;
 pub use record_list::{RECORD_COST, Records};
 

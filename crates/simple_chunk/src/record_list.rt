@@ -2,7 +2,7 @@ ghost use Rattle.std.specs.Prelude.{◌≡◌, ◌↔◌, ◌<◌, ◌≤◌, So
 ghost use Rattle.std.specs.List.{AllByRecursion, concat};
 ghost use Rattle.record_io.specs.Bytes.{AreBytes};
 ghost use Rattle.simple_chunk.specs.Costs.{cost_of};
-ghost use Rattle.simple_chunk.specs.Records.{record_begin};
+ghost use Rattle.simple_chunk.specs.Records.{records_from, record_begin, AreEnds};
 
 use record_io::Bytes;
 use std::alloc::{AllocError, Global};
@@ -38,6 +38,14 @@ impl Records {
             values: Bytes::new(alloc),
             ends: Vec::new(alloc),
         }
+    }
+
+    /// The records that end at these places of the values.
+    pub(crate) fn joined(values: Bytes, ends: Vec<usize>) -> Records
+        requires { AreEnds 0 ends.items (length values) }
+        ensures { result ≡ records_from 0 ends.items values }
+    {
+        Records { values, ends }
     }
 
     /// Appends a record. After want of memory the records are as before.

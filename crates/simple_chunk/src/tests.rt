@@ -1,4 +1,8 @@
+ghost use Rattle.std.specs.Prelude.{◌≡◌, ◌^◌, ◌<◌, length};
+ghost use Rattle.chunk_header.specs.SimpleChunks.{simple_kind};
+
 use super::*;
+use chunk_header::Header;
 use std::alloc::{AllocError, Global};
 use std::test::Fail;
 
@@ -96,5 +100,126 @@ fn spells_how_many_bytes_of_sizes_there_are(rt: HostRuntime) -> Result<(), Fail>
             .as_slice()
             .starts_with(&[0x00, 0x94, 0xff, 0x03, 0x00])
     );
+    Ok(())
+}
+
+/// A chunk by its header's counts and its data, and the records or the fault that reading it answers.
+type Case = (
+    u64,
+    u64,
+    &'static [u8],
+    Result<&'static [&'static [u8]], SimpleFault>,
+);
+
+/// Data counted by hand.
+const CASES: [Case; 12] = [
+    (0, 0, &[0x00, 0x00], Ok(&[])),
+    (1, 1, &[0x00, 0x81, 0x00, 0x01, 0x61], Ok(&[b"a"])),
+    (
+        3,
+        3,
+        &[0x00, 0x03, 0x01, 0x02, 0x00, 0x61, 0x62, 0x63],
+        Ok(&[b"a", b"bc", b""]),
+    ),
+    (1, 1, &[0x00, 0x01, 0x02, 0x61], Err(SimpleFault::Contents)),
+    (
+        1,
+        1,
+        &[0x00, 0x02, 0x01, 0x00, 0x61],
+        Err(SimpleFault::Contents),
+    ),
+    (0, 0, &[], Err(SimpleFault::Contents)),
+    (0, 0, &[0x00], Err(SimpleFault::Contents)),
+    (0, 0, &[0x62, 0x00], Err(SimpleFault::Compressed)),
+    (
+        2,
+        0,
+        &[
+            0x00, 0x0b, 0x01, 0xff, 0xff, 0xff, 0xff, 0xff, 0xff, 0xff, 0xff, 0xff, 0x01,
+        ],
+        Err(SimpleFault::Contents),
+    ),
+    (
+        (1 << 56) - 1,
+        u64::MAX,
+        &[0x00, 0x01, 0x00],
+        Err(SimpleFault::Contents),
+    ),
+    (
+        1,
+        0,
+        &[
+            0x00, 0xff, 0xff, 0xff, 0xff, 0xff, 0xff, 0xff, 0xff, 0xff, 0x01, 0x00,
+        ],
+        Err(SimpleFault::Contents),
+    ),
+    (1, 0, &[0x00, 0x01, 0x80], Err(SimpleFault::Contents)),
+];
+
+/// The header of a simple chunk with these counts and this data, whose hash plays no part.
+fn header_of(num_records: u64, decoded_size: u64, bytes: &[u8]) -> Header
+    requires { num_records < 2 ^ 56 }
+    ensures kind { result.kind ≡ simple_kind }
+    ensures whole { result.data_size ≡ length bytes.now }
+{
+    Header {
+        data_size: bytes.len() as u64,
+        data_hash: 0,
+        kind: b'r',
+        num_records,
+        decoded_size,
+    }
+}
+
+#[test]
+fn decodes_what_the_counts_fit(rt: HostRuntime) -> Result<(), Fail> {
+    for (num_records, decoded_size, bytes, want) in CASES {
+        assert!(rt; num_records < 1 << 56);
+        let header = header_of(num_records, decoded_size, bytes);
+        match (decode(rt.alloc(), &header, bytes), want) {
+            (Ok(records), Ok(list)) => {
+                assert_eq!(rt; records.len(), list.len(), "{bytes:?}");
+                for (i, rec) in list.iter().enumerate() {
+                    assert!(rt; i < records.len());
+                    assert_eq!(rt; records.get(i), *rec, "{bytes:?}");
+                }
+            }
+            (Err(SimpleFault::Memory), _) => Err(SimpleFault::Memory)?,
+            (Err(fault), Err(other)) => assert_eq!(rt; fault, other, "{bytes:?}"),
+            (_, _) => assert!(rt; false, "{bytes:?}"),
+        }
+    }
+    Ok(())
+}
+
+/// What a checker answers that is given the data in pieces of at most so many bytes.
+fn check(header: &Header, bytes: &[u8], size: usize) -> Result<(), SimpleFault>
+    requires kind { header.now.kind ≡ simple_kind }
+    requires whole { header.now.data_size ≡ length bytes.now }
+    requires some { 0 < size }
+{
+    let mut checker = Checker::new(header);
+    let mut rest = bytes;
+    while !rest.is_empty() {
+        let (piece, behind) = rest.split_at(rest.len().min(size));
+        checker.feed(piece);
+        rest = behind;
+    }
+    checker.finish()
+}
+
+#[test]
+fn checks_pieces_as_decode_reads_all(rt: HostRuntime) -> Result<(), Fail> {
+    for (num_records, decoded_size, bytes, want) in CASES {
+        assert!(rt; num_records < 1 << 56);
+        let header = header_of(num_records, decoded_size, bytes);
+        for size in [1, 2, 3, 13] {
+            assert_eq!(rt;
+                check(&header, bytes, size),
+                want.map(|_| ()),
+                "{bytes:?} by {size}"
+            );
+        }
+    }
     Ok(())
 }

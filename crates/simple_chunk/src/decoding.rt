@@ -1,0 +1,139 @@
+ghost use Rattle.std.specs.Prelude.{◌≡◌, ◌≢◌, ◌↔◌, ℕ, ◌<◌, List, length, slice_index, IfOk, IsNone, IfSome, IsOkUnless};
+ghost use Rattle.varint_wire.specs.Varint.{SpellsEach};
+ghost use Rattle.chunk_header.specs.SimpleChunks.{simple_kind, IsSimple, HasRecords, IsCompressed};
+ghost use Rattle.chunk_header.specs.Views.{value_of};
+ghost use Rattle.simple_chunk.specs.Records.{AreEnds, sizes_between};
+ghost use Rattle.simple_chunk.specs.Sizes.{AreParts, AreSizes, IsSplit};
+
+use crate::record_list::Records;
+use chunk_header::Header;
+use record_io::Bytes;
+use std::alloc::{AllocError, Global};
+
+/// Why no records were read from the data of a simple chunk. Own.
+#[derive(Clone, Copy, Debug, PartialEq, Eq)]
+pub enum SimpleFault {
+    /// The data is compressed: it has a first byte, which isn't 0.
+    Compressed,
+    /// The data isn't compressed, and is not that of any records as the header counts them.
+    Contents,
+    /// There was no memory for the records.
+    Memory,
+}
+
+impl From<AllocError> for SimpleFault {
+    ghost use Rattle.simple_chunk.specs.declared.decoding.SimpleFault.TheVariants.{Memory};
+
+    ghost from_gives = { λ _ fault. fault ≡ Memory };
+
+    fn from(_: AllocError) -> SimpleFault {
+        SimpleFault::Memory
+    }
+}
+
+/// The records of a simple chunk, by its header and its data. Every spelling of the sizes is read, and no memory is
+/// taken by a number that as many bytes of data don't back.
+///
+/// Riegeli/records file format specification, "Simple chunk with records".
+///
+/// # Errors
+///
+/// `Compressed` exactly where the data has a first byte that isn't 0. `Contents` only where the data isn't compressed
+/// and no records stand in it, and there always, unless memory is wanting first.
+pub fn decode(alloc: Global, header: &Header, bytes: &[u8]) -> Result<Records, SimpleFault>
+    requires simple { header.now.kind ≡ simple_kind }
+    requires whole { length bytes.now ≡ header.now.data_size }
+    ensures holds { IfOk result (λ records. IsSimple (value_of header.now bytes.now) records) }
+    ensures compressed { (result ≡ Err SimpleFault.Compressed) ↔ IsCompressed (value_of header.now bytes.now) }
+    ensures contents { result ≡ Err SimpleFault.Contents
+        → (¬ IsCompressed (value_of header.now bytes.now)) × (¬ HasRecords (value_of header.now bytes.now)) }
+    ensures accepted { HasRecords (value_of header.now bytes.now) → IsOkUnless result SimpleFault.Memory }
+{
+    let (sizes, values) = split_data(bytes)?;
+    if values.len() as u64 != header.decoded_size {
+        return Err(SimpleFault::Contents);
+    }
+    let ends = read_ends(alloc, header.num_records, sizes, values.len())?;
+    let values = values.to_vec(alloc)?;
+    Ok(Records::joined(Bytes::from(values), ends))
+}
+
+/// The sizes and the values of data that isn't compressed.
+fn split_data(bytes: &[u8]) -> Result<(&[u8], &[u8]), SimpleFault>
+    ensures parts { IfOk result (λ parts. AreParts bytes.now parts.0.now parts.1.now) }
+    ensures compressed { (result ≡ Err SimpleFault.Compressed) ↔ ((0 < length bytes.now) × (slice_index bytes.now 0 ≢ 0)) }
+    ensures contents { result ≡ Err SimpleFault.Contents → (sizes values : List ℕ) → ¬ AreParts bytes.now sizes values }
+    ensures no_memory { result ≢ Err SimpleFault.Memory }
+{
+    let Some((compression, rest)) = bytes.split_first() else {
+        return Err(SimpleFault::Contents);
+    };
+    if *compression != 0 {
+        return Err(SimpleFault::Compressed);
+    }
+    let Some((sizes_len, rest)) = split_varint(rest) else {
+        return Err(SimpleFault::Contents);
+    };
+    if sizes_len > rest.len() as u64 {
+        return Err(SimpleFault::Contents);
+    }
+    Ok(rest.split_at(sizes_len as usize))
+}
+
+/// The places where so many records end whose sizes these are and which have so many bytes together. Memory is taken
+/// for as many places as there are bytes of sizes at most.
+#[inline(never)]
+fn read_ends(
+    alloc: Global,
+    count: u64,
+    sizes: &[u8],
+    whole: usize,
+) -> Result<Vec<usize>, SimpleFault>
+    ensures ends { IfOk result (λ ends. AreEnds 0 ends.items whole) }
+    ensures counted { IfOk result (λ ends. length ends.items ≡ count) }
+    ensures spelled { IfOk result (λ ends. SpellsEach (sizes_between 0 ends.items) sizes.now) }
+    ensures contents { result ≡ Err SimpleFault.Contents → ¬ AreSizes count whole sizes.now }
+    ensures uncompressed { result ≢ Err SimpleFault.Compressed }
+{
+    if count > sizes.len() as u64 {
+        return Err(SimpleFault::Contents);
+    }
+    let mut ends = Vec::with_capacity(alloc, count as usize)?;
+    let mut rest = sizes;
+    let mut end = 0;
+    for number in 0..count {
+        let Some((size, behind)) = split_varint(rest) else {
+            return Err(SimpleFault::Contents);
+        };
+        if size > (whole - end) as u64 {
+            return Err(SimpleFault::Contents);
+        }
+        end += size as usize;
+        ends.push(end).unwrap();
+        rest = behind;
+    }
+    if !rest.is_empty() || end != whole {
+        return Err(SimpleFault::Contents);
+    }
+    Ok(ends)
+}
+
+/// The value of the varint that the bytes begin with, and the bytes behind it; `None` exactly where no varint begins
+/// them.
+#[inline]
+fn split_varint(bytes: &[u8]) -> Option<(u64, &[u8])>
+    ensures found { IfSome result (λ x. IsSplit x.0 x.1.now bytes.now) }
+    ensures none { IsNone result → (value : ℕ) (rest : List ℕ) → ¬ IsSplit value rest bytes.now }
+{
+    // Most sizes take one byte.
+    if let Some((byte, rest)) = bytes.split_first()
+        && *byte < 0x80
+    {
+        return Some((u64::from(*byte), rest));
+    }
+    let Ok((value, len)) = varint_wire::read(bytes) else {
+        return None;
+    };
+    let (_, rest) = bytes.split_at(len);
+    Some((value, rest))
+}
