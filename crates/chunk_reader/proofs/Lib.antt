@@ -1,0 +1,22 @@
+pub mod BadContents
+pub mod HeaderEnds
+pub mod Rooms
+pub mod Passes
+pub mod LaidAt
+pub mod PassedChunks
+pub mod AllowedChunks
+pub mod NoReason
+pub mod SignedFiles
+pub mod ChainSteps
+pub mod FileFaults
+pub mod Frames
+pub mod NoReasonLaid
+pub mod WholeHeads
+pub mod Loads
+pub mod StrictSteps
+pub mod FaultsDecided
+pub mod ReadingSteps
+pub mod Verdicts
+pub mod ChainReads
+pub mod VerifySteps
+mod Values

@@ -1,0 +1,111 @@
+-- The steps of judging a chunk at a place, where the bytes of the file may be told.
+use Rattle.std.proofs.Common.{◌≡◌, ◌≢◌, ◌∙◌, ℕ, ◌+◌, ◌≤◌, Bool, true, false, inl, inr, Option, Some, None, IfSome, List, refl, sym, ap, subst, arith}
+use Rattle.std.proofs.lemmas.Bool.{cases_eq}
+use Rattle.highway_hash.specs.Riegeli.{riegeli_hash}
+use Rattle.chunk_header.specs.Chunks.{IsChunk}
+use Rattle.chunk_header.specs.declared.Header.{Header}
+use Rattle.chunk_header.specs.declared.Chunk.{Chunk}
+use Rattle.chunk_header.specs.Views.{IsHeader, HasRightHash, bytes_of_header, value_of_header, value_of_chunk}
+use Rattle.chunk_reader.specs.Contents.{IsJudgedIn}
+use Rattle.chunk_reader.specs.Faults.{IsVerdict}
+use Rattle.chunk_reader.specs.Places.{header_bytes_at, end_by, end_at, data_at, HaveHeadersOf, IsFirstWrong}
+use Rattle.chunk_reader.specs.Reasons.{Applies, ContentApplies, NoneOf, IsFirstOf, passing_reasons, loading_reasons, content_reasons}
+use Rattle.chunk_reader.specs.declared.judging.Judged.{Judged}
+use Rattle.chunk_reader.specs.declared.reasons.Fault.{Fault}
+use Rattle.chunk_reader.specs.declared.reasons.Why.{Why}
+use Rattle.chunk_reader.specs.declared.reasons.Why.TheVariants as why
+use Rattle.chunk_reader.proofs.PassedChunks.{end_at_after}
+use Rattle.chunk_reader.proofs.Rooms.{IsSized}
+use Rattle.chunk_reader.proofs.Verdicts.{verdict_loading, verdict_block, verdict_content, value_of-at, end_by-at, hash_of-at, none_at, laid_at}
+
+-- what is known of a chunk whose header is read, and which the file has
+pub record IsFound (bytes : Option (List ℕ)) (at end : ℕ) (h : Header) : Type 0 where
+  pub fits : IsHeader h
+  pub end_is : end ≡ end_by at (value_of_header h)
+  pub header : IfSome bytes (λ file. header_bytes_at file at ≡ bytes_of_header h)
+  pub none : IfSome bytes (λ file. NoneOf (Applies file at) loading_reasons)
+
+-- a reason by which its data isn't read is the verdict
+pub refused_early : (bytes : Option (List ℕ)) (frame : Bool) (at : ℕ) (fault : Fault) → fault.at ≡ at
+    → IfSome bytes (λ file. IsFirstOf (Applies file at) loading_reasons fault.why)
+    → IfSome bytes (λ file. IsVerdict frame file at fault)
+refused_early None frame at fault place first = tt
+refused_early (Some file) frame at fault place first = verdict_loading frame file at fault first place
+
+-- no more is handed out than the chunk's header has
+pub handed_early : (bytes : Option (List ℕ)) (at before after : ℕ) → after ≤ before + 40
+    → IfSome bytes (λ file. NoneOf (Applies file at) passing_reasons → after + at ≤ before + end_at file at)
+handed_early None at before after h = tt
+handed_early (Some file) at before after h = λ _. omega (arith, end_at_after file at)
+
+-- a wrong block is the verdict
+pub refused_block : (bytes now : Option (List ℕ)) (frame : Bool) (at end : ℕ) (h : Header) (fault : Fault) → now ≡ bytes
+    → IsFound bytes at end h → fault.why ≡ why.BlockHeader
+    → IfSome now (λ file. IsFirstWrong file at end at end fault.at)
+    → IfSome bytes (λ file. IsVerdict frame file at fault)
+refused_block None now frame at end h fault same found is wrong = tt
+refused_block (Some file) now frame at end h fault same found is wrong =
+    let P : Option (List ℕ) → Type 0 = λ o. IfSome o (λ bytes. IsFirstWrong bytes at end at end fault.at) in
+    verdict_block frame file at end fault found.none (found.end_is ∙ end_by-at file at h found.fits found.header) (subst P same wrong) is
+
+-- what is known of a chunk whose data is read, and of its blocks
+pub record IsLoaded (bytes : Option (List ℕ)) (at end : ℕ) (c : Chunk) : Type 0 where
+  pub found : IsFound bytes at end c.header
+  pub sound : IsChunk (value_of_chunk c)
+  pub given : IfSome bytes (λ file. c.bytes ≡ data_at file at c.header.data_size)
+  pub right : IfSome bytes (λ file. HaveHeadersOf file at end at end)
+
+-- the blocks have their headers up to the end of the chunk there
+right_at : (file : List ℕ) (at end : ℕ) → end ≡ end_at file at → HaveHeadersOf file at end at end
+    → HaveHeadersOf file at (end_at file at) at (end_at file at)
+right_at file at end same right = subst (λ e. HaveHeadersOf file at e at e) same right
+
+-- a reason of its content is the verdict
+pub refused_content : (bytes : Option (List ℕ)) (frame : Bool) (at end : ℕ) (c : Chunk) (w : Why) (fault : Fault) → IsLoaded bytes at end c
+    → record { at = at; why = w } ≡ fault
+    → IsFirstOf (ContentApplies c.header.data_hash (value_of_chunk c)) (content_reasons frame) w
+    → IfSome bytes (λ file. IsVerdict frame file at fault)
+refused_content None frame at end c w fault loaded is first = tt
+refused_content (Some file) frame at end c w fault loaded is first =
+    let h = c.header in
+    let found = loaded.found in
+    let same_end : end ≡ end_at file at = found.end_is ∙ end_by-at file at h found.fits found.header in
+    let P : Fault → Type 0 = λ f. IsVerdict frame file at f in
+    subst P is (
+    verdict_content frame file at h.data_hash (value_of_chunk c) (record { at = at; why = w }) found.none
+    (right_at file at end same_end loaded.right) (hash_of-at file at h found.fits found.header)
+    (value_of-at file at h c.bytes found.fits found.header loaded.given) first refl)
+
+-- numbers that aren't different are the same
+hash_same : (a b : ℕ) → ¬ (a ≢ b) → b ≡ a
+hash_same a b same = elim (cases_eq a b) [ inl is ↦ sym is | inr other ↦ absurd (same other) ]
+
+-- where no reason of its content applies, the hash of its data is right
+pub right_hash : (frame : Bool) (c : Chunk) → NoneOf (ContentApplies c.header.data_hash (value_of_chunk c)) (content_reasons frame) → HasRightHash c
+right_hash true c none = hash_same (riegeli_hash c.bytes) c.header.data_hash none.0
+right_hash false c none = hash_same (riegeli_hash c.bytes) c.header.data_hash none.0
+
+-- and the chunk is judged
+pub judged_in : (bytes : Option (List ℕ)) (frame : Bool) (size at end : ℕ) (c : Chunk) (j : Judged) → IsSized bytes (Some size)
+    → IsLoaded bytes at end c → end ≤ size → j.end ≡ end → j.chunk ≡ c
+    → NoneOf (ContentApplies c.header.data_hash (value_of_chunk c)) (content_reasons frame)
+    → IfSome bytes (λ file. IsJudgedIn frame file at j)
+judged_in None frame size at end c j sized loaded within is_end is_chunk none = tt
+judged_in (Some file) frame size at end c j sized loaded within is_end is_chunk none =
+    let h = c.header in
+    let found = loaded.found in
+    let same_end : end ≡ end_at file at = found.end_is ∙ end_by-at file at h found.fits found.header in
+    let right = right_at file at end same_end loaded.right in
+    record {
+      chunk = ap value_of_chunk is_chunk ∙ value_of-at file at h c.bytes found.fits found.header loaded.given;
+      end = is_end ∙ same_end;
+      laid = laid_at file at h c.bytes found.fits found.header loaded.given loaded.sound (omega (arith, same_end, within)) right (right_hash frame c none);
+      none = none_at frame file at h c.bytes found.fits found.header loaded.given found.none right none;
+    }
+
+-- no more was handed out than the chunk has bytes
+pub handed_whole : (bytes : Option (List ℕ)) (at end before after : ℕ) (h : Header) → IsFound bytes at end h → after + at ≤ before + end
+    → IfSome bytes (λ file. NoneOf (Applies file at) passing_reasons → after + at ≤ before + end_at file at)
+handed_whole None at end before after h found few = tt
+handed_whole (Some file) at end before after h found few =
+    λ _. omega (arith, few, found.end_is, end_by-at file at h found.fits found.header)

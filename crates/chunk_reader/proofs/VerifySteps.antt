@@ -1,0 +1,224 @@
+-- A chunk that is judged while its data comes in pieces.
+use Rattle.std.proofs.Common.{◌≡◌, ◌∙◌, ◌+◌, ◌<◌, ◌≤◌, ℕ, Bool, true, false, Result, Option, Some, None, IfSome, IsSomeAnd, Ok, Err, List, [], ◌∷◌, ◌++◌, length, refl, sym, ap, subst, inl, inr, arith}
+use Rattle.highway_hash.specs.Riegeli.{riegeli_hash}
+use Rattle.std.proofs.lemmas.Bool.{cases_eq}
+use Rattle.record_io.specs.Bytes.{AreBytes}
+use Rattle.block_layout.specs.Layout.{IsBoundary, end_of, chunk_end_of, own_bytes_at}
+use Rattle.block_layout.proofs.ChunkEnds.{chunk_end_of_boundary, chunk_end_of_past_records}
+use Rattle.block_layout.proofs.Ends.{end_of_after, end_of_room}
+use Rattle.block_layout.proofs.UsableBytes.{own_bytes_at-more}
+use Rattle.chunk_header.specs.Chunks.{ChunkValue}
+use Rattle.chunk_header.specs.declared.Header.{Header}
+use Rattle.chunk_header.specs.Views.{IsHeader, bytes_of_header, value_of_header, value_of}
+use Rattle.meta_chunk.specs.Files.{IsPlain, IsUnread}
+use Rattle.chunk_reader.specs.Reasons.{HasBadContents, Applies, NoneOf, IsFirstOf, loading_reasons}
+use Rattle.chunk_reader.specs.Faults.{IsVerdict, BeginsWithSignature}
+use Rattle.chunk_reader.specs.Pieces.{HasTaken, TellsUnread, IsVerifiedIn}
+use Rattle.chunk_reader.specs.declared.piece_judge.PieceJudge.{PieceJudge}
+use Rattle.chunk_reader.specs.declared.reasons.Why.TheVariants as why
+use Rattle.chunk_reader.proofs.AllowedChunks.{allowed_good, allowed_named}
+use Rattle.chunk_reader.specs.declared.verifying.Verified.{Verified}
+use Rattle.chunk_reader.specs.declared.reasons.Why.{Why}
+use Rattle.chunk_reader.specs.declared.reasons.Fault.{Fault}
+use Rattle.meta_chunk.specs.Counts.{is_unread, totals_of}
+use Rattle.record_io.specs.declared.file_totals.Totals.{Totals}
+use Rattle.chunk_reader.specs.Places.{header_bytes_at, end_by, end_at, data_at, chunk_at, HaveHeadersOf, IsFirstWrong}
+use Rattle.chunk_reader.proofs.PassedChunks.{length-data_at, IsLaid-right}
+use Rattle.chunk_reader.proofs.Loads.{data_given, header_within, IsOnBoundary-of}
+use Rattle.chunk_reader.proofs.ReadingSteps.{next_read, next-le, unread-le}
+use Rattle.chunk_reader.specs.Progress.{counted, AreTotals, AreReadFrom}
+use Rattle.chunk_reader.proofs.Rooms.{IsSized}
+use Rattle.chunk_reader.proofs.Verdicts.{verdict_loading, verdict_block, verdict_content, value_of-at, end_by-at, hash_of-at, none_at, is_unread-plain, is_unread-unread}
+
+-- what is told of a chunk by what it is
+pub tells_plain : (hash : ℕ) (k : ChunkValue) → riegeli_hash k.«data» ≡ hash → IsPlain k → TellsUnread hash k (Ok false)
+tells_plain hash k right plain =
+    (sym (is_unread-plain k plain), (λ wrong. wrong right, (allowed_good true k (inl plain), (allowed_named true k (inl plain), tt))))
+
+pub tells_unread : (hash : ℕ) (k : ChunkValue) → riegeli_hash k.«data» ≡ hash → IsUnread k → TellsUnread hash k (Ok true)
+tells_unread hash k right unread =
+    (sym (is_unread-unread k unread), (λ wrong. wrong right, (allowed_good true k (inr unread), (allowed_named true k (inr unread), tt))))
+
+pub tells_contents : (hash : ℕ) (k : ChunkValue) → riegeli_hash k.«data» ≡ hash → HasBadContents k → TellsUnread hash k (Err why.Contents)
+tells_contents hash k right bad = inr (λ wrong. wrong right, inl (bad, refl))
+
+-- a judge that has taken no bytes has taken the first none at a place
+pub taken-none : (bytes : Option (List ℕ)) (judge : PieceJudge) (place n : ℕ) → n ≡ 0 → HasTaken judge []
+    → IfSome bytes (λ file. HasTaken judge (own_bytes_at file place n))
+taken-none None judge place n none taken = tt
+taken-none (Some file) judge place n none taken = subst (λ (m : ℕ). HasTaken judge (own_bytes_at file place m)) (sym none) taken
+
+-- one that has taken own bytes from a place has, with those behind them, taken more of these
+pub taken_on : (bytes now : Option (List ℕ)) (told : Option ℕ) (judge next : PieceJudge) (place i n whole end : ℕ) (piece : List ℕ)
+    → now ≡ bytes → IsSized bytes told → IsSomeAnd told (λ size. end ≤ size) → end_of place i ≤ end → whole ≡ i + n
+    → ((taken : List ℕ) → HasTaken judge taken → HasTaken next (taken ++ piece))
+    → IfSome bytes (λ file. HasTaken judge (own_bytes_at file place i))
+    → IfSome now (λ file. piece ≡ own_bytes_at file (end_of place i) n)
+    → IfSome bytes (λ file. HasTaken next (own_bytes_at file place whole))
+taken_on None now told judge next place i n whole end piece same sized within fits sum on taken given = tt
+taken_on (Some file) None told judge next place i n whole end piece same sized within fits sum on taken given = cc
+taken_on (Some file) (Some other) None judge next place i n whole end piece same sized within fits sum on taken given = elim within [ ]
+taken_on (Some file) (Some other) (Some size) judge next place i n whole end piece same sized within fits sum on taken given =
+    let is : other ≡ file = cc in
+    let here : piece ≡ own_bytes_at file (end_of place i) n =
+    given ∙ ap (λ (bytes : List ℕ). own_bytes_at bytes (end_of place i) n) is in
+    let joined : own_bytes_at file place i ++ piece ≡ own_bytes_at file place whole =
+    ap (λ (xs : List ℕ). own_bytes_at file place i ++ xs) here
+    ∙ sym (own_bytes_at-more file place i n (omega (arith, fits, within, sized)))
+    ∙ ap (own_bytes_at file place) (sym sum) in
+    subst (HasTaken next) joined (on (own_bytes_at file place i) taken)
+
+-- own bytes behind the header at a place are its data
+pub taken_data : (bytes now : Option (List ℕ)) (told : Option ℕ) (at size end : ℕ) (judge : PieceJudge) → now ≡ bytes → IsSized bytes told
+    → IsSomeAnd told (λ whole. end ≤ whole) → end_of at 40 ≤ end
+    → IfSome now (λ file. HasTaken judge (own_bytes_at file (end_of at 40) size))
+    → IfSome bytes (λ file. HasTaken judge (data_at file at size))
+taken_data None now told at size end judge same sized within header taken = tt
+taken_data (Some file) None told at size end judge same sized within header taken = cc
+taken_data (Some file) (Some other) told at size end judge same sized within header taken =
+    let is : other ≡ file = cc in
+    let given : own_bytes_at file (end_of at 40) size ≡ data_at file at size =
+    data_given (Some file) told at size end (own_bytes_at file (end_of at 40) size) sized within header refl in
+    subst (HasTaken judge) given (subst (λ (f : List ℕ). HasTaken judge (own_bytes_at f (end_of at 40) size)) is taken)
+
+-- the header of a chunk that the file has was found at a place
+pub record IsFound (bytes : Option (List ℕ)) (size at end : ℕ) (h : Header) : Type 0 where
+  pub sized : IsSized bytes (Some size)
+  pub sound : IsHeader h
+  pub ends : end ≡ end_by at (value_of_header h)
+  pub within : end ≤ size
+  pub header : IfSome bytes (λ file. header_bytes_at file at ≡ bytes_of_header h)
+  pub none : IfSome bytes (λ file. NoneOf (Applies file at) loading_reasons)
+
+-- the chunk there is refused where its header can't be found, and at its first wrong block
+pub refused_loading : (bytes : Option (List ℕ)) (at : ℕ) (fault : Fault) → fault.at ≡ at
+    → IfSome bytes (λ file. IsFirstOf (Applies file at) loading_reasons fault.why) → IfSome bytes (λ file. IsVerdict true file at fault)
+refused_loading None at fault here first = tt
+refused_loading (Some file) at fault here first = verdict_loading true file at fault first here
+
+pub refused_block : (bytes now : Option (List ℕ)) (size at end : ℕ) (h : Header) (fault : Fault) → IsFound bytes size at end h → now ≡ bytes
+    → fault.why ≡ why.BlockHeader → IfSome now (λ file. IsFirstWrong file at end at end fault.at)
+    → IfSome bytes (λ file. IsVerdict true file at fault)
+refused_block None now size at end h fault found same reason wrong = tt
+refused_block (Some file) None size at end h fault found same reason wrong = cc
+refused_block (Some file) (Some other) size at end h fault found same reason wrong =
+    let is : other ≡ file = cc in
+    verdict_block true file at end fault found.none (found.ends ∙ end_by-at file at h found.sound found.header)
+    (subst (λ (f : List ℕ). IsFirstWrong f at end at end fault.at) is wrong) reason
+
+-- the data of that chunk was judged, and the headers of its blocks are right
+pub record IsThrough (bytes : Option (List ℕ)) (at end : ℕ) (h : Header) (judge : PieceJudge) (told : Result Bool Why) : Type 0 where
+  pub header : judge.header ≡ h
+  pub taken : IfSome bytes (λ file. HasTaken judge (data_at file at h.data_size))
+  pub right : IfSome bytes (λ file. HaveHeadersOf file at end at end)
+  pub tells : (taken : List ℕ) → HasTaken judge taken → length taken ≡ judge.header.data_size
+      → TellsUnread judge.header.data_hash (value_of judge.header taken) told
+
+-- so it is told of the chunk
+tells_data : (file : List ℕ) (size at end : ℕ) (h : Header) (judge : PieceJudge) (told : Result Bool Why)
+    → IsFound (Some file) size at end h → IsThrough (Some file) at end h judge told
+    → TellsUnread h.data_hash (value_of h (data_at file at h.data_size)) told
+tells_data file size at end h judge told found through =
+    let whole : length (data_at file at h.data_size) ≡ h.data_size =
+    length-data_at file at h.data_size h.num_records (omega (arith, found.ends, found.within, found.sized)) in
+    let P : Header → Type 0 = λ x. (taken : List ℕ) → HasTaken judge taken → length taken ≡ x.data_size
+    → TellsUnread x.data_hash (value_of x taken) told in
+    let tells : P h = subst P through.header through.tells in
+    tells (data_at file at h.data_size) through.taken whole
+
+blocks_at : (file : List ℕ) (size at end : ℕ) (h : Header) → IsFound (Some file) size at end h → HaveHeadersOf file at end at end
+    → HaveHeadersOf file at (end_at file at) at (end_at file at)
+blocks_at file size at end h found right =
+    subst (λ (e : ℕ). HaveHeadersOf file at e at e) (found.ends ∙ end_by-at file at h found.sound found.header) right
+
+pub passed : (bytes : Option (List ℕ)) (size at : ℕ) (h : Header) (judge : PieceJudge) (v : Verified)
+    → IsFound bytes size at v.end h → IsThrough bytes at v.end h judge (Ok v.unread) → v.num_records ≡ h.num_records
+    → IfSome bytes (λ file. IsVerifiedIn file at v)
+passed None size at h judge v found through records = tt
+passed (Some file) size at h judge v found through records =
+    let told = tells_data file size at v.end h judge (Ok v.unread) found through in
+    let bytes : List ℕ = data_at file at h.data_size in
+    let is : value_of h bytes ≡ chunk_at file at = value_of-at file at h bytes found.sound found.header refl in
+    let «data» : bytes ≡ (chunk_at file at).«data» = ap (λ (c : ChunkValue). c.«data») is in
+    let ends : v.end ≡ end_at file at = found.ends ∙ end_by-at file at h found.sound found.header in
+    let blocks : HaveHeadersOf file at (end_at file at) at (end_at file at) = blocks_at file size at v.end h found through.right in
+    let hash : riegeli_hash bytes ≡ h.data_hash =
+    elim (cases_eq (riegeli_hash bytes) h.data_hash) [ inl same ↦ same | inr differs ↦ absurd (told.1.0 differs) ] in
+    record {
+      laid = IsLaid-right file at h (record {
+        sound = found.sound;
+        header = found.header;
+        whole = omega (arith, sym ends, found.within, found.sized);
+        bytes = subst AreBytes «data» through.taken.are_bytes;
+        hash = ap riegeli_hash (sym «data») ∙ hash ∙ hash_of-at file at h found.sound found.header;
+        blocks = blocks;
+      });
+      none = none_at true file at h bytes found.sound found.header refl found.none blocks told.1;
+      end = ends;
+      num_records = records ∙ ap (λ (c : ChunkValue). c.num_records) is;
+      unread = told.0 ∙ ap is_unread is;
+    }
+
+pub refused_content : (bytes : Option (List ℕ)) (size at end : ℕ) (h : Header) (judge : PieceJudge) (fault : Fault)
+    → IsFound bytes size at end h → IsThrough bytes at end h judge (Err fault.why) → fault.at ≡ at
+    → IfSome bytes (λ file. IsVerdict true file at fault)
+refused_content None size at end h judge fault found through here = tt
+refused_content (Some file) size at end h judge fault found through here =
+    verdict_content true file at h.data_hash (value_of h (data_at file at h.data_size)) fault found.none
+    (blocks_at file size at end h found through.right)
+    (hash_of-at file at h found.sound found.header)
+    (value_of-at file at h (data_at file at h.data_size) found.sound found.header refl)
+    (tells_data file size at end h judge (Err fault.why) found through) here
+
+-- where such a chunk ends
+pub verified_end : (size at end data_size records : ℕ) → end ≡ chunk_end_of at (40 + data_size) records → end ≤ size
+    → IsBoundary end × (end_of at 40 ≤ end) × (end ≤ size) × (at + records ≤ end)
+verified_end size at end data_size records ends within = (
+  subst IsBoundary (sym ends) (chunk_end_of_boundary at (40 + data_size) records),
+  omega (arith, header_within at data_size records),
+  within,
+  omega (arith, chunk_end_of_past_records at (40 + data_size) records),
+)
+
+-- the first chunk ends at 64 or further on, and so does each behind it
+first_header_end : end_of 0 40 ≡ 64
+unfolding end_of
+first_header_end = refl
+
+signed_end : (at end : ℕ) → (0 < at → 64 ≤ at) → end_of at 40 ≤ end → 64 ≤ end
+signed_end at end signed behind =
+    elim (cases_eq at 0) [
+      | inl front ↦ omega (arith, first_header_end, subst (λ (p : ℕ). end_of p 40 ≤ end) front behind)
+      | inr further ↦ omega (arith, signed (omega arith), end_of_after at 40)
+    ]
+
+-- so totals stay in their bounds with one chunk more
+pub verified_totals : (size : ℕ) (totals : Totals) (v : Verified) → AreTotals size totals
+    → IsBoundary v.end × (end_of totals.bytes 40 ≤ v.end) × (v.end ≤ size) × (totals.bytes + v.num_records ≤ v.end)
+    → AreTotals size (counted totals v.end v.num_records v.unread)
+verified_totals size totals v h (boundary, behind, within, room) =
+    let past : totals.bytes + 40 ≤ v.end = omega (arith, end_of_room totals.bytes 40) in record {
+      within = within;
+      boundary = IsOnBoundary-of v.end boundary;
+      signed = λ some. signed_end totals.bytes v.end h.signed behind;
+      chunks = omega (arith, h.chunks);
+      records = next-le totals.bytes v.end totals.records v.num_records v.unread room h.records;
+      unread = unread-le totals.bytes v.end totals.unread v.unread past h.unread;
+    }
+
+-- and are those of the chunks with that one more
+pub verified_on : (bytes now : Option (List ℕ)) (totals : Totals) (v : Verified) → now ≡ bytes → IfSome bytes BeginsWithSignature
+    → IfSome now (λ file. IsVerifiedIn file totals.bytes v) → IfSome bytes (λ file. AreReadFrom true file totals)
+    → IfSome bytes (λ file. AreReadFrom true file (counted totals v.end v.num_records v.unread))
+verified_on None now totals v same begins there read = tt
+verified_on (Some file) None totals v same begins there read = cc
+verified_on (Some file) (Some other) totals v same begins there (ks, chain, counts) =
+    let is : other ≡ file = cc in
+    let here : IsVerifiedIn file totals.bytes v = subst (λ (f : List ℕ). IsVerifiedIn f totals.bytes v) is there in
+    let next = next_read true ks file totals.bytes v.end (chunk_at file totals.bytes) v.unread begins chain refl here.end here.laid here.none here.unread in (
+      ks ++ chunk_at file totals.bytes ∷ [],
+      next.0,
+      ap (λ (t : Totals). counted t v.end v.num_records v.unread) counts
+          ∙ ap (λ (records : ℕ). counted (totals_of ks) v.end records v.unread) here.num_records
+          ∙ next.1,
+    )

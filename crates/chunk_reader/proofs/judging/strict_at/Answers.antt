@@ -1,0 +1,89 @@
+use Rattle.std.proofs.Common.{◌≡◌, ◌∙◌, ◌+◌, Some, Err, length, refl, sym, ap, subst, arith}
+use Rattle.block_layout.proofs.ChunkEnds.{chunk_end_of_boundary, chunk_end_of_above}
+use Rattle.chunk_header.specs.Views.{value_of_chunk}
+use Rattle.meta_chunk.specs.Laid.{end_of_chunk}
+use Rattle.chunk_reader.proofs.Loads.{refused_before}
+use Rattle.chunk_reader.proofs.Rooms.{IsSized}
+use Rattle.chunk_reader.proofs.StrictSteps.{IsFound, IsLoaded, refused_early, handed_early, refused_block, refused_content, right_hash, judged_in, handed_whole}
+use Rattle.chunk_reader.proofs.judging.strict_at.Goals as goal
+use Rattle.chunk_reader.proofs.judging.strict_at.Goals.{In_ok-header, In_ok-chunk}
+
+-- the header that was found, and the chunk that was loaded
+found : (g : _) (c : In_ok-header g) → IsFound (g.S.Store.bytes c.args.store.now) c.args.at c.in_ok-header.end c.in_ok-header.header
+found g c = record {
+  fits = c.in_ok-header.ensures.fits;
+  end_is = c.in_ok-header.ensures.end;
+  header = c.in_ok-header.ensures.header;
+  none = c.in_ok-header.ensures.sound;
+}
+
+loaded : (g : _) (c : In_ok-chunk g) → IsFound (g.S.Store.bytes c.args.store.now) c.args.at c.in_ok-header.end c.in_ok-header.header
+    → IsLoaded (g.S.Store.bytes c.args.store.now) c.args.at c.in_ok-header.end c.in_ok-chunk.chunk
+loaded g c header =
+    let h = c.in_ok-chunk.ensures.header in
+    let same = c.in_ok-header.ensures.same_bytes in
+    record {
+      found = rw h header;
+      sound = c.in_ok-chunk.ensures.sound;
+      given = rw h (rw same at c.in_ok-chunk.ensures.given);
+      right = rw same at c.in_ok-chunk.ensures.right;
+    }
+
+pub returns-in_err-header-clause-refused : goal.returns-in_err-header-clause-refused
+returns-in_err-header-clause-refused g c =
+    λ fault e.
+    let r = c.in_err-header.ensures.refused fault (ap Err (refused_before c.in_err-header.field-0.0 fault (rw e at c.from_residual.ensures.1))) in
+    refused_early _ c.args.frame c.args.at fault r.0 r.1
+
+pub returns-in_err-header-clause-handed : goal.returns-in_err-header-clause-handed
+returns-in_err-header-clause-handed g c = handed_early _ c.args.at _ _ c.in_err-header.ensures.handed
+
+pub returns-in_err-chunk-clause-refused : goal.returns-in_err-chunk-clause-refused
+returns-in_err-chunk-clause-refused g c =
+    λ fault e.
+    let at = (goal.at.returns-in_err-chunk-clause-refused g c).In_ok-header in
+    let wrong = c.in_err-chunk.ensures.wrong fault (ap Err (sym (rw e at c.from_residual-in_err-chunk.ensures.1))) in
+    refused_block _ _ c.args.frame c.args.at c.in_ok-header.end c.in_ok-header.header fault c.in_ok-header.ensures.same_bytes (found g at) wrong.0 wrong.1
+
+pub returns-in-Ok-clause-judged : goal.returns-in-Ok-clause-judged
+returns-in-Ok-clause-judged g c =
+    let k = value_of_chunk c.in_ok-chunk.chunk in
+    let h = c.in_ok-header.header in
+    let size : length c.in_ok-chunk.chunk.bytes ≡ h.data_size =
+    c.in_ok-chunk.chunk.sized ∙ ap (λ x. x.data_size) c.in_ok-chunk.ensures.header in
+    let records : k.num_records ≡ h.num_records = ap (λ x. x.num_records) c.in_ok-chunk.ensures.header in
+    let end : c.in_ok-header.end ≡ end_of_chunk c.args.at k =
+    rw (size, records) c.in_ok-header.ensures.end in
+    record {
+      begin = refl;
+      end = end;
+      to_boundary = rw end (chunk_end_of_boundary c.args.at (40 + length c.in_ok-chunk.chunk.bytes) k.num_records);
+      after = omega (arith, end, chunk_end_of_above c.args.at (40 + length c.in_ok-chunk.chunk.bytes) k.num_records (omega arith));
+      within = c.in_ok-header.ensures.within;
+      small = omega (arith, size, c.in_ok-header.ensures.small);
+      right = right_hash c.args.frame c.in_ok-chunk.chunk c.in-Ok.ensures.sound;
+      sound = c.in_ok-chunk.ensures.sound;
+      what = c.in-Ok.ensures.what;
+    }
+
+pub returns-in-Ok-clause-sound : goal.returns-in-Ok-clause-sound
+returns-in-Ok-clause-sound g c =
+    let header = found g (goal.at.returns-in-Ok-clause-sound g c).In_ok-header in
+    let sized : IsSized (g.S.Store.bytes c.args.store.now) (Some c.args.size) =
+    subst (IsSized (g.S.Store.bytes c.args.store.now)) c.requires.told (g.met.S.Store.sized c.args.store.now) in
+    judged_in _ c.args.frame c.args.size c.args.at c.in_ok-header.end c.in_ok-chunk.chunk _ sized
+    (loaded g (goal.at.returns-in-Ok-clause-sound g c).In_ok-chunk header) c.in_ok-header.ensures.within refl refl c.in-Ok.ensures.sound
+
+pub returns-in-Ok-clause-handed : goal.returns-in-Ok-clause-handed
+returns-in-Ok-clause-handed g c =
+    let header = found g (goal.at.returns-in-Ok-clause-handed g c).In_ok-header in
+    handed_whole _ c.args.at c.in_ok-header.end _ _ c.in_ok-header.header header
+    (omega (arith, c.in_ok-header.ensures.handed, c.in_ok-chunk.ensures.handed))
+
+pub returns-in-Err-Fault-clause-refused : goal.returns-in-Err-Fault-clause-refused
+returns-in-Err-Fault-clause-refused g c =
+    λ fault e.
+    let header = found g (goal.at.returns-in-Err-Fault-clause-refused g c).In_ok-header in
+    refused_content _ c.args.frame c.args.at c.in_ok-header.end c.in_ok-chunk.chunk c.in-Err-Fault.why fault
+    (loaded g (goal.at.returns-in-Err-Fault-clause-refused g c).In_ok-chunk header) (cc)
+    (c.in-Err-Fault.ensures.refused c.in-Err-Fault.why (cc))

@@ -1,0 +1,48 @@
+-- What strict reading makes of chunks that are well formed. Own.
+use Rattle.std.specs.Prelude.{◌≡◌, ℕ, ◌<◌, ◌≤◌, ◌⊎◌, Bool, true, List, length, slice_range}
+use Rattle.block_layout.specs.Layout.{IsBoundary}
+use Rattle.chunk_header.specs.Chunks.{ChunkValue, IsChunk}
+use Rattle.chunk_header.specs.SimpleChunks.{IsSimple, IsCompressed}
+use Rattle.chunk_header.specs.Views.{value_of_chunk, HasRightHash}
+use Rattle.meta_chunk.specs.Kinds.{IsSignature, IsMetadata, IsPadding}
+use Rattle.meta_chunk.specs.Files.{max_data_size, IsTransposed}
+use Rattle.meta_chunk.specs.Laid.{IsLaid, end_of_chunk}
+use Rattle.chunk_reader.specs.Places.{end_at, chunk_at}
+use Rattle.chunk_reader.specs.Reasons.{Applies, NoneOf, strict_reasons}
+use Rattle.chunk_reader.specs.declared.chunk_content.Content.{Content}
+use Rattle.chunk_reader.specs.declared.chunk_content.Content.TheVariants as content
+use Rattle.chunk_reader.specs.declared.judging.Judged.{Judged}
+use Rattle.chunk_reader.specs.declared.judging.What.{What}
+use Rattle.chunk_reader.specs.declared.judging.What.TheVariants.{Records, Passive, Unread}
+
+-- what a chunk that is read holds
+abbrev pub IsContent : ChunkValue → Content → Type 0
+IsContent k content.Signature = IsSignature k
+IsContent k content.Metadata = IsMetadata k
+IsContent k content.Padding = IsPadding k
+IsContent k (content.Records records) = IsSimple k records
+
+-- the same in short, where in a frame other chunks are left unread
+abbrev pub IsWhat : Bool → ChunkValue → What → Type 0
+IsWhat frame k (Records records) = IsSimple k records
+IsWhat frame k Passive = IsSignature k ⊎ IsMetadata k ⊎ IsPadding k
+IsWhat frame k Unread = (frame ≡ true) × (IsCompressed k ⊎ IsTransposed k)
+
+-- a chunk given from a place of a file of so many bytes
+pub record IsJudged (frame : Bool) (size place : ℕ) (j : Judged) : Type 0 where
+  pub begin : j.begin ≡ place
+  pub end : j.end ≡ end_of_chunk place (value_of_chunk j.chunk)
+  pub to_boundary : IsBoundary j.end
+  pub after : place < j.end
+  pub within : j.end ≤ size
+  pub small : length j.chunk.bytes ≤ max_data_size
+  pub right : HasRightHash j.chunk
+  pub sound : IsChunk (value_of_chunk j.chunk)
+  pub what : IsWhat frame (value_of_chunk j.chunk) j.what
+
+-- it is the chunk at a place of a file, which is laid there, and which no reason refuses
+pub record IsJudgedIn (frame : Bool) (file : List ℕ) (place : ℕ) (j : Judged) : Type 0 where
+  pub chunk : value_of_chunk j.chunk ≡ chunk_at file place
+  pub end : j.end ≡ end_at file place
+  pub laid : IsLaid place (chunk_at file place) (slice_range file place (end_at file place))
+  pub none : NoneOf (Applies file place) (strict_reasons frame)

@@ -1,0 +1,45 @@
+-- The fault of a file: the longest front of well-formed chunks, and why no further chunk follows. Own.
+use Rattle.std.specs.Prelude.{◌≡◌, ℕ, ◌<◌, ◌≤◌, Bool, true, false, ◌⊎◌, List, length, take}
+use Rattle.chunk_header.specs.Chunks.{ChunkValue}
+use Rattle.meta_chunk.specs.Files.{signature_bytes, IsPlain, IsFramed, IsChainOf, IsFileOf}
+use Rattle.chunk_reader.specs.Reasons.{IsWrongBlock, Applies, IsFirstOf, strict_reasons}
+use Rattle.chunk_reader.specs.declared.reasons.Why.{Why}
+use Rattle.chunk_reader.specs.declared.reasons.Why.TheVariants as why
+use Rattle.chunk_reader.specs.declared.reasons.Fault.{Fault}
+
+-- the chunks that reading passes: those that are read, and in a frame also those that are left unread
+abbrev pub IsAllowed : Bool → ChunkValue → Type 0
+IsAllowed false = IsPlain
+IsAllowed true = IsFramed
+
+-- the place of a fault: the first wrong block, or else the chunk's begin
+abbrev pub IsPlaceOf : List ℕ → ℕ → Why → ℕ → Type 0
+IsPlaceOf file place why.BlockHeader at =
+    IsWrongBlock file place at × ((block : ℕ) → IsWrongBlock file place block → at ≤ block)
+IsPlaceOf file place other at = at ≡ place
+
+-- the strict verdict on the chunk at a place is this fault
+abbrev pub IsVerdict : Bool → List ℕ → ℕ → Fault → Type 0
+IsVerdict frame file place fault =
+    IsFirstOf (Applies file place) (strict_reasons frame) fault.why × IsPlaceOf file place fault.why fault.at
+
+-- the chunks are the longest front of the file in which each meets P, and end at the place
+pub record IsLongest (P : ChunkValue → Type 0) (ks : List ChunkValue) (file : List ℕ) (place : ℕ) : Type 0 where
+  pub chain : IsChainOf P ks file place
+  pub greatest : (others : List ChunkValue) (other : ℕ) → IsChainOf P others file other → other ≤ place
+
+-- the file begins with the bytes that each file begins with
+abbrev pub BeginsWithSignature : List ℕ → Type 0
+BeginsWithSignature file = take (length signature_bytes) file ≡ signature_bytes
+
+-- the file has no fault: it is well-formed chunks from its front to its end
+abbrev pub HasNoFault : Bool → List ℕ → Type 0
+HasNoFault frame file = (ks : List ChunkValue) × IsFileOf (IsAllowed frame) ks file
+
+-- the fault of a file that has one: that it doesn't begin as files do, or else the verdict where its longest front of
+-- well-formed chunks ends
+abbrev pub IsFault : Bool → List ℕ → Fault → Type 0
+IsFault frame file fault =
+    ((¬ BeginsWithSignature file) × (fault ≡ record { at = 0; why = why.NoSignature }))
+    ⊎ (BeginsWithSignature file × ((ks : List ChunkValue) × (place : ℕ) × IsLongest (IsAllowed frame) ks file place
+    × (place < length file) × IsVerdict frame file place fault))

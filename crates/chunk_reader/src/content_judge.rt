@@ -1,0 +1,57 @@
+ghost use Rattle.std.specs.Prelude.{◌≡◌, false, IfOk, OnOk, OnErr};
+ghost use Rattle.meta_chunk.specs.Kinds.{HeaderKeepsRule};
+ghost use Rattle.chunk_header.specs.Views.{value_of_chunk};
+ghost use Rattle.chunk_reader.specs.Contents.{IsContent};
+ghost use Rattle.chunk_reader.specs.Reasons.{ContentApplies, NoneOf, IsFirstOf, content_reasons};
+ghost use Rattle.chunk_reader.specs.declared.reasons.Why.{Why};
+
+use crate::chunk_content::{Content, ContentEnd};
+use crate::reasons::Why;
+use chunk_header::{Chunk, Header};
+use meta_chunk::{BadFields, Kind, check, kind_of};
+use simple_chunk::{SimpleFault, decode};
+use std::alloc::Global;
+
+/// What a chunk holds, judged by the hash of its data, the rule of its kind and the grammar of simple chunks.
+///
+/// Riegeli/records file format specification, "Chunk types". Own: the reasons and their order.
+///
+/// # Errors
+///
+/// `Fault` exactly with the first of these that applies: `DataHash`, `Contents`, `Compressed`, `Transposed`,
+/// `UnknownKind`; unless memory is wanting first.
+pub fn content(alloc: Global, chunk: &Chunk) -> Result<Content, ContentEnd>
+    ensures content { IfOk result (λ content. IsContent (value_of_chunk chunk.now) content) }
+    ensures sound { IfOk result (λ _. NoneOf (ContentApplies chunk.now.header.data_hash (value_of_chunk chunk.now)) (content_reasons false)) }
+    ensures refused { (why : Why) → result ≡ Err (ContentEnd.Fault why)
+        → IsFirstOf (ContentApplies chunk.now.header.data_hash (value_of_chunk chunk.now)) (content_reasons false) why }
+{
+    if !chunk.hash_right() {
+        return Err(ContentEnd::Fault(Why::DataHash));
+    }
+    match kind_of(chunk.header.kind) {
+        Kind::Simple => match decode(alloc, &chunk.header, chunk.bytes.as_slice()) {
+            Ok(records) => Ok(Content::Records(records)),
+            Err(SimpleFault::Compressed) => Err(ContentEnd::Fault(Why::Compressed)),
+            Err(SimpleFault::Contents) => Err(ContentEnd::Fault(Why::Contents)),
+            Err(SimpleFault::Memory) => Err(ContentEnd::Memory),
+        },
+        Kind::Transposed => Err(ContentEnd::Fault(Why::Transposed)),
+        Kind::Unknown(_) => Err(ContentEnd::Fault(Why::UnknownKind)),
+        Kind::Signature => checked(&chunk.header, Content::Signature),
+        Kind::Metadata => checked(&chunk.header, Content::Metadata),
+        Kind::Padding => checked(&chunk.header, Content::Padding),
+    }
+}
+
+/// The content, where the header keeps the rule of its kind.
+fn checked(header: &Header, content: Content) -> Result<Content, ContentEnd>
+    ensures kept { OnOk result (HeaderKeepsRule header.now) }
+    ensures same { IfOk result (λ kept. kept ≡ content) }
+    ensures broken { OnErr result ((¬ HeaderKeepsRule header.now) × (result ≡ Err (ContentEnd.Fault Why.Contents))) }
+{
+    match check(header) {
+        Ok(()) => Ok(content),
+        Err(BadFields) => Err(ContentEnd::Fault(Why::Contents)),
+    }
+}

@@ -1,0 +1,76 @@
+ghost use Rattle.std.specs.Prelude.{◌≡◌, ◌+◌, ◌^◌, ◌<◌, ◌≤◌, Option, ℕ, Some, IfOk, IfSome, OnErr, MatchOption};
+ghost use Rattle.record_io.specs.Outside.{Rose};
+ghost use Rattle.block_layout.specs.Layout.{chunk_header_size, IsBoundary, end_of};
+ghost use Rattle.chunk_header.specs.Views.{IsHeader, value_of_header};
+ghost use Rattle.chunk_reader.specs.Places.{end_by};
+ghost use Rattle.chunk_reader.specs.Heads.{IsHead};
+ghost use Rattle.chunk_header.specs.declared.Header.{Header};
+
+use crate::own_bytes::OwnBytes;
+use block_layout::{chunk_end, end_of};
+use chunk_header::{HEADER_SIZE, Header};
+use record_io::{Failed, Store};
+
+/// What stands at a place of a file where a chunk may begin. Own.
+#[derive(Clone, Copy, Debug, PartialEq, Eq)]
+pub enum Head {
+    /// The file ends within the header.
+    Short,
+    /// The header doesn't have its own hash.
+    BadHash,
+    /// A chunk header.
+    Right {
+        /// The header, whose own hash is right.
+        header: Header,
+        /// Where the chunk ends by its header; `None` where that is past 2^63.
+        end: Option<u64>,
+    },
+}
+
+/// Reads the chunk header at a place of a file of `size` bytes, which were told, at most 2^60. The place is a boundary
+/// below `size`. At most 64 bytes are handed out. It takes no memory.
+///
+/// Riegeli/records file format specification, "Chunk header".
+///
+/// # Errors
+///
+/// `Failed` only where the store failed.
+pub fn head_at<S: Store>(store: &mut S, size: u64, at: u64) -> Result<Head, Failed>
+    requires told { S.told store.old ≡ Some size }
+    requires in_reach { size ≤ 2 ^ 60 }
+    requires from_boundary { IsBoundary at }
+    requires below { at < size }
+    ensures head { IfOk result (λ head. IfSome (S.bytes store.old) (λ file. IsHead file at head)) }
+    ensures fits { (header : Header) (end : Option ℕ) → result ≡ Ok (Head.Right header end) → IsHeader header }
+    ensures end { (header : Header) (end : Option ℕ) → result ≡ Ok (Head.Right header end)
+        → MatchOption end (2 ^ 63 < end_by at (value_of_header header)) (λ e. e ≡ end_by at (value_of_header header)) }
+    ensures within { (header : Header) (end : Option ℕ) → result ≡ Ok (Head.Right header end) → end_of at chunk_header_size ≤ size }
+    ensures handed { S.handed store.new ≤ S.handed store.old + chunk_header_size }
+    ensures same_bytes { S.bytes store.new ≡ S.bytes store.old }
+    ensures same_told { S.told store.new ≡ S.told store.old }
+    ensures same_name { S.name store.new ≡ S.name store.old }
+    ensures cause { OnErr result (Rose (S.faults store.old) (S.faults store.new)) }
+    ensures never_falls { S.faults store.old ≤ S.faults store.new }
+{
+    if header_end(at) > size {
+        return Ok(Head::Short);
+    }
+    let mut bytes = [0; HEADER_SIZE];
+    OwnBytes::from(at).fill(store, &mut bytes)?;
+    Ok(match Header::from_bytes(&bytes) {
+        Some(header) => Head::Right {
+            header,
+            end: chunk_end(at, header.data_size, header.num_records),
+        },
+        None => Head::BadHash,
+    })
+}
+
+/// Where the header of a chunk ends that begins at a boundary.
+pub(crate) fn header_end(at: u64) -> u64
+    requires in_reach { at ≤ 2 ^ 60 }
+    requires from_boundary { IsBoundary at }
+    ensures { result ≡ end_of at chunk_header_size }
+{
+    end_of(at, HEADER_SIZE as u64).unwrap()
+}

@@ -1,0 +1,261 @@
+ghost use Rattle.std.specs.Prelude.{◌≡◌, ◌+◌, ◌^◌, ◌<◌, ◌≤◌, ◌⊎◌, Some, IfOk, IfSome, IsSomeAnd};
+ghost use Rattle.record_io.specs.Outside.{Rose};
+ghost use Rattle.block_layout.specs.Layout.{chunk_header_size, IsBoundary};
+ghost use Rattle.chunk_header.specs.Chunks.{IsChunk};
+ghost use Rattle.chunk_header.specs.Views.{IsHeader, bytes_of_header, value_of_chunk, value_of_header};
+ghost use Rattle.meta_chunk.specs.Files.{max_data_size};
+ghost use Rattle.chunk_reader.specs.Contents.{IsWhat, IsJudged, IsJudgedIn};
+ghost use Rattle.chunk_reader.specs.Faults.{IsVerdict};
+ghost use Rattle.chunk_reader.specs.Places.{header_bytes_at, end_by, end_at, data_at, HaveHeadersOf, IsFirstWrong};
+ghost use Rattle.chunk_reader.specs.Reasons.{Applies, ContentApplies, NoneOf, IsFirstOf, passing_reasons, loading_reasons, content_reasons};
+ghost use Rattle.chunk_reader.specs.declared.reasons.Fault.{Fault};
+ghost use Rattle.chunk_reader.specs.declared.reasons.Why.{Why};
+
+use crate::chunk_content::{Content, ContentEnd};
+use crate::chunk_pass::ChunkPass;
+use crate::content_judge::content;
+use crate::heads::{Head, head_at, header_end};
+use crate::own_bytes::OwnBytes;
+use crate::reasons::{Fault, ReadEnd, VerifyEnd, Why};
+use chunk_header::{Chunk, Header};
+use record_io::{Bytes, Failed, Store};
+use simple_chunk::Records;
+use std::alloc::{AllocError, Global};
+
+/// The most bytes of data of a chunk that is read. Own.
+pub(crate) const MAX_DATA_SIZE: u64 = 1 << 26;
+
+/// A well-formed chunk of a file. Own.
+#[derive(Debug, Drop)]
+pub struct Judged {
+    /// Where it begins.
+    pub begin: u64,
+    /// Where it ends.
+    pub end: u64,
+    /// The chunk, with at most 2^26 bytes of data.
+    pub chunk: Chunk,
+    /// What it holds.
+    pub what: What,
+}
+
+/// What strict reading makes of a chunk. Own.
+#[derive(Debug, Drop)]
+pub enum What {
+    /// The records of a simple chunk.
+    Records(Records),
+    /// A signature, metadata or padding chunk.
+    Passive,
+    /// A compressed or transposed chunk, which is left unread.
+    Unread,
+}
+
+/// Why the data of a chunk was not read. Own.
+#[derive(Clone, Copy, Debug, PartialEq, Eq)]
+pub enum LoadEnd {
+    /// The store failed.
+    Store,
+    /// There was no memory for the data.
+    Memory,
+}
+
+impl From<Failed> for LoadEnd {
+    ghost use Rattle.std.specs.Prelude.{◌≡◌};
+    ghost use Rattle.chunk_reader.specs.declared.judging.LoadEnd.TheVariants.{Store};
+
+    ghost from_gives = { λ _ end. end ≡ Store };
+
+    fn from(_: Failed) -> LoadEnd {
+        LoadEnd::Store
+    }
+}
+
+impl From<AllocError> for LoadEnd {
+    ghost use Rattle.std.specs.Prelude.{◌≡◌};
+    ghost use Rattle.chunk_reader.specs.declared.judging.LoadEnd.TheVariants.{Memory};
+
+    ghost from_gives = { λ _ end. end ≡ Memory };
+
+    fn from(_: AllocError) -> LoadEnd {
+        LoadEnd::Memory
+    }
+}
+
+/// Reads the data of a chunk whose header stands at a place of a file, past the headers of blocks, which are not judged. The
+/// file has the chunk to its end, and the data is at most 2^26 bytes.
+///
+/// Riegeli/records file format specification, "Chunk".
+///
+/// # Errors
+///
+/// `Store` only where the store failed.
+pub fn data_at<S: Store>(
+    alloc: Global,
+    store: &mut S,
+    at: u64,
+    header: &Header,
+) -> Result<Chunk, LoadEnd>
+    requires told { IsSomeAnd (S.told store.old) (λ size. (size ≤ 2 ^ 60) × (end_by at (value_of_header header.now) ≤ size)) }
+    requires from_boundary { IsBoundary at }
+    requires small { header.now.data_size ≤ 2 ^ 26 }
+    ensures header { IfOk result (λ chunk. chunk.header ≡ header.now) }
+    ensures sound { IfOk result (λ chunk. IsChunk (value_of_chunk chunk)) }
+    ensures given { IfOk result (λ chunk. IfSome (S.bytes store.old) (λ file. chunk.bytes ≡ data_at file at header.now.data_size)) }
+    ensures handed { S.handed store.new ≤ S.handed store.old + header.now.data_size }
+    ensures same_bytes { S.bytes store.new ≡ S.bytes store.old }
+    ensures same_told { S.told store.new ≡ S.told store.old }
+    ensures same_name { S.name store.new ≡ S.name store.old }
+    ensures cause { result ≡ Err LoadEnd.Store → Rose (S.faults store.old) (S.faults store.new) }
+    ensures never_falls { S.faults store.old ≤ S.faults store.new }
+{
+    let mut data = vec![in alloc; 0; header.data_size as usize]?;
+    OwnBytes::from(header_end(at)).fill(store, &mut data)?;
+    Ok(Chunk::read(*header, Bytes::from(data)))
+}
+
+/// Judges the chunk at a place of a file of `size` bytes, which were told, at most 2^60. The place is a boundary below
+/// `size`. With `frame`, compressed and transposed chunks are left unread in place of being refused. Each byte of the
+/// chunk is read once, and its data held.
+///
+/// Riegeli/records file format specification, "Chunk". Own: the reasons and their order.
+///
+/// # Errors
+///
+/// `Refused` exactly where a reason applies, with the first: `Short`, `HeaderHash`, `Truncated`, `TooLarge`,
+/// `BlockHeader` (at the first wrong block), `DataHash`, `Contents`, `Compressed`, `Transposed`, `UnknownKind`. `Store` only
+/// where the store failed. `Memory` only where none of the first four applies.
+pub fn strict_at<S: Store>(
+    alloc: Global,
+    store: &mut S,
+    size: u64,
+    at: u64,
+    frame: bool,
+) -> Result<Judged, ReadEnd>
+    requires told { S.told store.old ≡ Some size }
+    requires in_reach { size ≤ 2 ^ 60 }
+    requires from_boundary { IsBoundary at }
+    requires below { at < size }
+    ensures judged { IfOk result (λ judged. IsJudged frame size at judged) }
+    ensures sound { IfOk result (λ judged. IfSome (S.bytes store.old) (λ file. IsJudgedIn frame file at judged)) }
+    ensures refused { (fault : Fault) → result ≡ Err (ReadEnd.Refused fault)
+        → IfSome (S.bytes store.old) (λ file. IsVerdict frame file at fault) }
+    ensures early { IfSome (S.bytes store.old) (λ file. NoneOf (Applies file at) passing_reasons
+        ⊎ (S.handed store.new ≤ S.handed store.old + 64)) }
+    ensures handed { IfSome (S.bytes store.old) (λ file. NoneOf (Applies file at) passing_reasons
+        → S.handed store.new + at ≤ S.handed store.old + end_at file at) }
+    ensures memory { result ≡ Err ReadEnd.Memory → IfSome (S.bytes store.old) (λ file. NoneOf (Applies file at) loading_reasons) }
+    ensures same_bytes { S.bytes store.new ≡ S.bytes store.old }
+    ensures same_told { S.told store.new ≡ S.told store.old }
+    ensures same_name { S.name store.new ≡ S.name store.old }
+    ensures cause { result ≡ Err ReadEnd.Store → Rose (S.faults store.old) (S.faults store.new) }
+    ensures never_falls { S.faults store.old ≤ S.faults store.new }
+{
+    let (header, end) = whole_head_at(store, size, at)?;
+    let chunk = load(alloc, store, at, end, header)?;
+    match what_of(alloc, &chunk, frame) {
+        Ok(what) => Ok(Judged {
+            begin: at,
+            end,
+            chunk,
+            what,
+        }),
+        Err(ContentEnd::Fault(why)) => Err(ReadEnd::Refused(Fault { at, why })),
+        Err(ContentEnd::Memory) => Err(ReadEnd::Memory),
+    }
+}
+
+/// What a chunk holds. In a frame, compressed and transposed chunks are left unread in place of being refused.
+fn what_of(alloc: Global, chunk: &Chunk, frame: bool) -> Result<What, ContentEnd>
+    ensures what { IfOk result (λ what. IsWhat frame (value_of_chunk chunk.now) what) }
+    ensures sound { IfOk result (λ _. NoneOf (ContentApplies chunk.now.header.data_hash (value_of_chunk chunk.now)) (content_reasons frame)) }
+    ensures refused { (why : Why) → result ≡ Err (ContentEnd.Fault why)
+        → IsFirstOf (ContentApplies chunk.now.header.data_hash (value_of_chunk chunk.now)) (content_reasons frame) why }
+{
+    match content(alloc, chunk) {
+        Ok(Content::Records(records)) => Ok(What::Records(records)),
+        Ok(_) => Ok(What::Passive),
+        Err(ContentEnd::Fault(Why::Compressed | Why::Transposed)) if frame => Ok(What::Unread),
+        Err(end) => Err(end),
+    }
+}
+
+/// The header at a place, and where its chunk ends, where the file has the whole chunk and its data isn't too large.
+pub(crate) fn whole_head_at<S: Store>(
+    store: &mut S,
+    size: u64,
+    at: u64,
+) -> Result<(Header, u64), VerifyEnd>
+    requires told { S.told store.old ≡ Some size }
+    requires in_reach { size ≤ 2 ^ 60 }
+    requires from_boundary { IsBoundary at }
+    requires below { at < size }
+    ensures end { IfOk result (λ found. found.1 ≡ end_by at (value_of_header found.0)) }
+    ensures within { IfOk result (λ found. found.1 ≤ size) }
+    ensures small { IfOk result (λ found. found.0.data_size ≤ max_data_size) }
+    ensures fits { IfOk result (λ found. IsHeader found.0) }
+    ensures header { IfOk result (λ found. IfSome (S.bytes store.old) (λ file. header_bytes_at file at ≡ bytes_of_header found.0)) }
+    ensures sound { IfOk result (λ _. IfSome (S.bytes store.old) (λ file. NoneOf (Applies file at) loading_reasons)) }
+    ensures refused { (fault : Fault) → result ≡ Err (VerifyEnd.Refused fault) → (fault.at ≡ at)
+        × IfSome (S.bytes store.old) (λ file. IsFirstOf (Applies file at) loading_reasons fault.why) }
+    ensures handed { S.handed store.new ≤ S.handed store.old + chunk_header_size }
+    ensures same_bytes { S.bytes store.new ≡ S.bytes store.old }
+    ensures same_told { S.told store.new ≡ S.told store.old }
+    ensures same_name { S.name store.new ≡ S.name store.old }
+    ensures cause { result ≡ Err VerifyEnd.Store → Rose (S.faults store.old) (S.faults store.new) }
+    ensures never_falls { S.faults store.old ≤ S.faults store.new }
+{
+    let (header, end) = match head_at(store, size, at)? {
+        Head::Short => return Err(refused(at, Why::Short)),
+        Head::BadHash => return Err(refused(at, Why::HeaderHash)),
+        Head::Right { header, end } => (header, end),
+    };
+    let Some(end) = end else {
+        return Err(refused(at, Why::Truncated));
+    };
+    if end > size {
+        return Err(refused(at, Why::Truncated));
+    }
+    if header.data_size > MAX_DATA_SIZE {
+        return Err(refused(at, Why::TooLarge));
+    }
+    Ok((header, end))
+}
+
+/// The end of reading at a chunk that is refused.
+pub(crate) fn refused(at: u64, why: Why) -> VerifyEnd
+    ensures { result ≡ VerifyEnd.Refused (record { at = at; why = why }) }
+{
+    VerifyEnd::Refused(Fault { at, why })
+}
+
+/// Reads the data of a chunk, and judges the block headers within the chunk.
+fn load<S: Store>(
+    alloc: Global,
+    store: &mut S,
+    at: u64,
+    end: u64,
+    header: Header,
+) -> Result<Chunk, ReadEnd>
+    requires told { IsSomeAnd (S.told store.old) (λ size. end ≤ size) }
+    requires in_reach { end ≤ 2 ^ 60 }
+    requires from_boundary { IsBoundary at }
+    requires end { end ≡ end_by at (value_of_header header) }
+    requires small { header.data_size ≤ max_data_size }
+    ensures header { IfOk result (λ chunk. chunk.header ≡ header) }
+    ensures sound { IfOk result (λ chunk. IsChunk (value_of_chunk chunk)) }
+    ensures given { IfOk result (λ chunk. IfSome (S.bytes store.old) (λ file. chunk.bytes ≡ data_at file at header.data_size)) }
+    ensures right { IfOk result (λ _. IfSome (S.bytes store.old) (λ file. HaveHeadersOf file at end at end)) }
+    ensures wrong { (fault : Fault) → result ≡ Err (ReadEnd.Refused fault) → (fault.why ≡ Why.BlockHeader)
+        × IfSome (S.bytes store.old) (λ file. IsFirstWrong file at end at end fault.at) }
+    ensures handed { S.handed store.new + (at + chunk_header_size) ≤ S.handed store.old + end }
+    ensures same_bytes { S.bytes store.new ≡ S.bytes store.old }
+    ensures same_told { S.told store.new ≡ S.told store.old }
+    ensures same_name { S.name store.new ≡ S.name store.old }
+    ensures cause { result ≡ Err ReadEnd.Store → Rose (S.faults store.old) (S.faults store.new) }
+    ensures never_falls { S.faults store.old ≤ S.faults store.new }
+{
+    let mut pass = ChunkPass::start(store, at, header_end(at), end)?;
+    let mut data = vec![in alloc; 0; header.data_size as usize]?;
+    pass.fill(store, &mut data)?;
+    pass.finish(store)?;
+    Ok(Chunk::read(header, Bytes::from(data)))
+}

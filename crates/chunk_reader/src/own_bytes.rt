@@ -1,0 +1,83 @@
+ghost use Rattle.std.specs.Prelude.{◌≡◌, ◌+◌, ◌^◌, ◌<◌, ◌≤◌, length, take, IfOk, IfSome, OnOk, OnErr};
+ghost use Rattle.record_io.specs.Outside.{Rose};
+ghost use Rattle.chunk_reader.specs.Places.{HasRoom};
+ghost use Rattle.block_layout.specs.Layout.{IsNextPlace, block_of, block_size, usable_from, end_of, own_bytes_at};
+
+use block_layout::{BLOCK_HEADER_SIZE, BLOCK_SIZE};
+use record_io::{Failed, Store, get_exact};
+
+/// The own bytes of a file from a place on, which are read in order past the headers of blocks.
+#[derive(Debug, Drop)]
+pub(crate) struct OwnBytes {
+    pub place: u64,
+    pub ghost next_place: { IsNextPlace place },
+}
+
+impl OwnBytes {
+    /// Those from a place on where a chunk's next byte can stand.
+    pub(crate) fn from(place: u64) -> OwnBytes
+        requires { IsNextPlace place }
+        ensures { result.place ≡ place }
+    {
+        OwnBytes { place }
+    }
+
+    /// Fills the buffer with the next own bytes.
+    pub(crate) fn fill<S: Store>(&mut self, store: &mut S, buf: &mut [u8]) -> Result<(), Failed>
+        requires told { HasRoom (S.told store.old) self.old.place (length buf.old) }
+        ensures moved { OnOk result (self.new.place ≡ end_of self.old.place (length buf.old)) }
+        ensures given { OnOk result (IfSome (S.bytes store.old) (λ file. buf.new ≡ own_bytes_at file self.old.place (length buf.old))) }
+        ensures handed { S.handed store.new ≤ S.handed store.old + length buf.old }
+        ensures same_bytes { S.bytes store.new ≡ S.bytes store.old }
+        ensures same_told { S.told store.new ≡ S.told store.old }
+        ensures same_name { S.name store.new ≡ S.name store.old }
+        ensures cause { OnErr result (Rose (S.faults store.old) (S.faults store.new)) }
+        ensures never_falls { S.faults store.old ≤ S.faults store.new }
+        ensures small { S.faults store.old < 2 ^ 64 → S.faults store.new < 2 ^ 64 }
+    {
+        let mut filled = 0;
+        while filled < buf.len() {
+            filled += self.take(store, &mut buf[filled..])?;
+        }
+        Ok(())
+    }
+
+    /// Puts the next own bytes into the front of the buffer, at most those before the next block, and answers how many.
+    pub(crate) fn take<S: Store>(&mut self, store: &mut S, buf: &mut [u8]) -> Result<usize, Failed>
+        requires room { 0 < length buf.old }
+        requires told { HasRoom (S.told store.old) self.old.place (length buf.old) }
+        ensures some { IfOk result (λ n. 0 < n) }
+        ensures fits { IfOk result (λ n. n ≤ length buf.old) }
+        ensures moved { IfOk result (λ n. self.new.place ≡ end_of self.old.place n) }
+        ensures stays { OnErr result (self.new.place ≡ self.old.place) }
+        ensures in_block { IfOk result (λ n. self.new.place ≤ block_of self.old.place + block_size) }
+        ensures given { IfOk result (λ n. IfSome (S.bytes store.old) (λ file. take n buf.new ≡ own_bytes_at file self.old.place n)) }
+        ensures handed { IfOk result (λ n. S.handed store.new ≤ S.handed store.old + n) }
+        ensures handed_at_most { S.handed store.new ≤ S.handed store.old + length buf.old }
+        ensures same_bytes { S.bytes store.new ≡ S.bytes store.old }
+        ensures same_told { S.told store.new ≡ S.told store.old }
+        ensures same_name { S.name store.new ≡ S.name store.old }
+        ensures cause { OnErr result (Rose (S.faults store.old) (S.faults store.new)) }
+        ensures never_falls { S.faults store.old ≤ S.faults store.new }
+        ensures small { S.faults store.old < 2 ^ 64 → S.faults store.new < 2 ^ 64 }
+    {
+        let first = usable_from(self.place);
+        let run = buf.len().min((BLOCK_SIZE - first % BLOCK_SIZE) as usize);
+        get_exact(store, first, &mut buf[..run])?;
+        self.place = first + run as u64;
+        Ok(run)
+    }
+}
+
+/// The place itself, or behind the block header where the place is a block.
+fn usable_from(place: u64) -> u64
+    requires small { place ≤ 2 ^ 62 }
+    requires next_place { IsNextPlace place }
+    ensures { result ≡ usable_from place }
+{
+    if place % BLOCK_SIZE == 0 {
+        place + BLOCK_HEADER_SIZE
+    } else {
+        place
+    }
+}

@@ -1,0 +1,60 @@
+ghost use Rattle.std.specs.Prelude.{◌≡◌, ◌+◌, ◌^◌, ◌<◌, ◌≤◌, Some, IfSome, OnOk};
+ghost use Rattle.record_io.specs.Outside.{Rose};
+ghost use Rattle.chunk_reader.specs.Faults.{BeginsWithSignature};
+ghost use Rattle.chunk_reader.specs.Progress.{counted, AreTotals};
+ghost use Rattle.chunk_reader.specs.declared.reasons.Fault.{Fault};
+
+use crate::reasons::{Fault, VerifyEnd, Why};
+use meta_chunk::SIGNATURE;
+use record_io::{Store, Totals, get_exact};
+
+/// Checks that a file of so many bytes begins with those that each file begins with.
+pub(crate) fn check_signature<S: Store>(store: &mut S, size: u64) -> Result<(), VerifyEnd>
+    requires told { S.told store.old ≡ Some size }
+    ensures signed { OnOk result (IfSome (S.bytes store.old) BeginsWithSignature) }
+    ensures long { OnOk result (64 ≤ size) }
+    ensures refused { (fault : Fault) → result ≡ Err (VerifyEnd.Refused fault) → (fault.at ≡ 0) × (fault.why ≡ Why.NoSignature)
+        × IfSome (S.bytes store.old) (λ file. ¬ BeginsWithSignature file) }
+    ensures same_bytes { S.bytes store.new ≡ S.bytes store.old }
+    ensures same_told { S.told store.new ≡ S.told store.old }
+    ensures same_name { S.name store.new ≡ S.name store.old }
+    ensures cause { result ≡ Err VerifyEnd.Store → Rose (S.faults store.old) (S.faults store.new) }
+    ensures never_falls { S.faults store.old ≤ S.faults store.new }
+{
+    let mut bytes = [0; SIGNATURE.len()];
+    if size >= bytes.len() as u64 {
+        get_exact(store, 0, &mut bytes)?;
+        if bytes == SIGNATURE {
+            return Ok(());
+        }
+    }
+    Err(VerifyEnd::Refused(Fault {
+        at: 0,
+        why: Why::NoSignature,
+    }))
+}
+
+/// No chunks.
+pub(crate) const NO_CHUNKS: Totals = Totals {
+    chunks: 0,
+    records: 0,
+    bytes: 0,
+    unread: 0,
+};
+
+/// The totals with one chunk more, which ends at a place and has so many records.
+pub(crate) fn counted(totals: &Totals, end: u64, records: u64, unread: bool) -> Totals
+    requires room { totals.now.bytes + records ≤ end }
+    requires small { end ≤ 2 ^ 60 }
+    requires chunks { totals.now.chunks ≤ totals.now.bytes }
+    requires counts { totals.now.records ≤ totals.now.bytes }
+    requires unread { totals.now.unread ≤ totals.now.bytes }
+    ensures { result ≡ counted totals.now end records unread }
+{
+    Totals {
+        chunks: totals.chunks + 1,
+        records: totals.records + if unread { 0 } else { records },
+        bytes: end,
+        unread: totals.unread + u64::from(unread),
+    }
+}
