@@ -1,0 +1,7 @@
+pub mod Counting
+pub mod Machines
+pub mod Rising
+pub mod Runs
+pub mod SeatLists
+pub mod Tables
+mod Values

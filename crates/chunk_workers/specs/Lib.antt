@@ -1,0 +1,3 @@
+pub mod DrawMachine
+pub mod DrawRule
+pub mod Seats

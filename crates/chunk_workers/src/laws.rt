@@ -1,0 +1,52 @@
+//! Laws of the definitions that contracts cite. Nothing runs here.
+
+ghost use Rattle.std.specs.Prelude.{◌≡◌, ◌≢◌, ℕ, ◌+◌, ◌%◌, ◌^◌, ◌≤◌, List, [], ◌∷◌, length, slice_index};
+ghost use Rattle.std.specs.List.{AllByRecursion, flat_map};
+ghost use mathlib.Core.Option.{some, none};
+ghost use lib.ListN.{get_elem?};
+ghost use Rattle.atomic_table.specs.Table.{State, Me, Allows, Joins, Splits, keeps, opening, step, stepped};
+ghost use Rattle.chunk_workers.specs.declared.table.SeatView.{SeatView};
+ghost use Rattle.chunk_workers.specs.declared.table.Terms.{Terms};
+ghost use Rattle.chunk_workers.specs.DrawMachine.{AreDraws, HasEachBelow, IsCounted, IsDraw, Machine, drawn, start_of, times};
+ghost use Rattle.chunk_workers.specs.DrawRule.{IsKept, TellsDraw, first_view, hand_of, joined_view, machine_of, spent_view, view_less_one, view_of_one, with_hand};
+
+/// After any run of draws each number below the one that comes next stands in the seats' lists once, and no other;
+/// `mine` has those below n, `past` those that are not, and at most one. Where each seat has ended, and there is one,
+/// the lists `mine` together hold each number below n once, and no other. Own.
+pub fn runs_draw_each_once()
+    ensures counted { (n seats : ℕ) (run : List ℕ) (state : Machine)
+        → AreDraws n (start_of seats) run state → IsCounted n state }
+    ensures one_past { (n seats : ℕ) (run : List ℕ) (state : Machine)
+        → AreDraws n (start_of seats) run state → AllByRecursion (λ hand. length hand.past ≤ 1) state.hands }
+    ensures ended { (n seats : ℕ) (run : List ℕ) (state : Machine)
+        → AreDraws n (start_of seats) run state → 1 ≤ seats → AllByRecursion (λ hand. hand.past ≢ []) state.hands
+        → HasEachBelow n (flat_map (λ hand. hand.mine) state.hands) }
+{}
+
+/// Numbers of which each below n is there once, and no other, are n numbers, and none is there twice. Own.
+pub fn each_below_is_so_many()
+    ensures count { (n : ℕ) (numbers : List ℕ) → HasEachBelow n numbers → length numbers ≡ n }
+    ensures no_more { (n p : ℕ) (numbers : List ℕ) → HasEachBelow n numbers → times p numbers ≤ 1 }
+{}
+
+/// The table that numbers are drawn from is made under its rule, as the machine's start with one seat. Each step goes from
+/// any state that meets the rule to one that does: a seat is split off before any draw, a number is drawn, a seat takes in
+/// another. A draw is the machine's event of the seat that draws. Where the table is closed with a seat that took in all
+/// others, and has ended, that seat has each number below n once, and no other. The word never passes n + 16. Own.
+pub fn steps_keep_the_rule()
+    ensures opens { (terms : Terms) → terms.n ≤ 2 ^ 32 → 1 ≤ terms.workers → terms.workers ≤ 16
+        → IsKept terms (opening (0 ∷ []) [] (first_view terms)) }
+    ensures start { (terms : Terms) → machine_of (opening (0 ∷ []) [] (first_view terms)) ≡ start_of 1 }
+    ensures splits { (terms : Terms) (id : ℕ) (v : SeatView) → 2 ≤ v.weight → v.past ≡ []
+        → Splits (IsKept terms) id v (view_less_one v) (view_of_one v) }
+    ensures draws { (terms : Terms) (slots id : ℕ) (me : Me (Unit {0}) SeatView) → 1 ≤ me.0.weight → me.0.past ≡ []
+        → Allows (IsKept terms) slots id me 0 (λ word. (word + 1) % 2 ^ 64) (TellsDraw (step slots 0 1 0 none) me) }
+    ensures event { (terms : Terms) (s : State (Unit {0}) SeatView) (id : ℕ) (v : SeatView)
+        → IsKept terms s → get_elem? s.views id ≡ some v → 1 ≤ v.weight → v.past ≡ []
+        → IsDraw terms.n (machine_of s) id (machine_of (stepped s 0 ((slice_index s.words 0 + 1) % 2 ^ 64) id [] (with_hand v (drawn v.n (slice_index s.words 0) (hand_of v))) keeps)) }
+    ensures joins { (terms : Terms) (id : ℕ) (v : SeatView) (other : ℕ) (w : SeatView) → 1 ≤ v.weight → 1 ≤ w.weight
+        → Joins (IsKept terms) id v other w (joined_view v w) spent_view }
+    ensures closes { (terms : Terms) (s : State (Unit {0}) SeatView) (id : ℕ) (v : SeatView)
+        → IsKept terms s → get_elem? s.views id ≡ some v → v.weight ≡ terms.workers → v.past ≢ [] → HasEachBelow terms.n v.mine }
+    ensures word { (terms : Terms) (s : State (Unit {0}) SeatView) → IsKept terms s → slice_index s.words 0 ≤ terms.n + 16 }
+{}
