@@ -1,5 +1,5 @@
 ghost use Rattle.std.specs.Option.{option_to_list};
-ghost use Rattle.std.specs.Prelude.{◌≡◌, ◌≢◌, ℕ, ◌+◌, ◌*◌, ◌^◌, ◌≤◌, false, Some, None, Option, List, [], ◌∷◌, ◌++◌, length, IfOk, IfSome, OnOk, OnErr};
+ghost use Rattle.std.specs.Prelude.{◌≡◌, ◌≢◌, ℕ, ◌+◌, ◌*◌, ◌^◌, ◌≤◌, true, false, Some, None, Option, List, [], ◌∷◌, ◌++◌, length, IfOk, IfSome, OnOk, OnErr};
 ghost use Rattle.record_io.specs.Outside.{Rose, Takes, TakesFront};
 ghost use Rattle.chunk_header.specs.SimpleChunks.{simple_chunk};
 ghost use Rattle.meta_chunk.specs.Counts.{totals_of};
@@ -97,6 +97,7 @@ pub fn write_records<R: Threads + Sync, L: RecordFeed, M: Sink + Send>(
     feed: &mut L,
     made: &mut M,
 ) -> Result<Totals, WriteEnd>
+    requires feed_going { L.going feed.old ≡ true }
     requires in_reach { L.bound feed.old ≤ 2 ^ 41 }
     requires in_limits { AreInLimits options.now }
     requires one_worker { options.now.workers ≡ 1 }
@@ -138,6 +139,7 @@ fn write_feed<L: RecordFeed, M: Sink>(
     made: &mut M,
 ) -> Result<Option<Stop>, CutOff>
     requires at_front { file.old ≡ nothing_made }
+    requires feed_going { L.going feed.old ≡ true }
     requires in_reach { L.bound feed.old ≤ 2 ^ 41 }
     requires in_limits { AreInLimits options.now }
     ensures stop { IfOk result (λ stop. IfSome (L.rest feed.old) (λ rest. rest.stop ≡ stop)) }
@@ -170,6 +172,7 @@ fn put_chunks<L: RecordFeed, M: Sink>(
     made: &mut M,
 ) -> Result<Option<Stop>, CutOff>
     requires at_front { file.old ≡ nothing_made }
+    requires feed_going { L.going feed.old ≡ true }
     requires in_reach { L.bound feed.old ≤ 2 ^ 41 }
     requires in_limits { AreInLimits options.now }
     ensures stop { IfOk result (λ stop. IfSome (L.rest feed.old) (λ rest. rest.stop ≡ stop)) }
@@ -215,6 +218,7 @@ fn put_groups<L: RecordFeed, M: Sink>(
     made: &mut M,
 ) -> Result<Option<Stop>, CutOff>
     requires going { file.old.spent ≡ false }
+    requires feed_going { L.going feed.old ≡ true }
     requires in_reach { file.old.place + 184 * L.bound feed.old ≤ 2 ^ 60 }
     requires in_limits { AreInLimits options.now }
     ensures stop { IfOk result (λ stop. IfSome (L.rest feed.old) (λ rest. rest.stop ≡ stop)) }
@@ -251,6 +255,7 @@ fn put_closed_groups<L: RecordFeed, M: Sink>(
     made: &mut M,
 ) -> Result<Option<Stop>, CutOff>
     requires going { file.old.spent ≡ false }
+    requires feed_going { L.going feed.old ≡ true }
     requires in_reach { reach_of file.old grouper.old (L.bound feed.old) ≤ 2 ^ 60 }
     ensures whole { IfOk result (λ stop. (given : List (List (List ℕ)))
         × Lays (M.taken made.old) (M.taken made.new) file.old file.new (chunks_of_groups given)

@@ -1,4 +1,4 @@
-ghost use Rattle.std.specs.Prelude.{◌≡◌, ℕ, ◌+◌, ◌^◌, ◌≤◌, true, false, Option, length, IfSome};
+ghost use Rattle.std.specs.Prelude.{◌≡◌, ℕ, ◌+◌, ◌^◌, ◌≤◌, true, false, Bool, Option, length, IfSome, OnOk};
 ghost use Rattle.record_io.specs.Outside.{Rose};
 ghost use Rattle.record_writer.specs.Feeds.{Rest, GivesRecord, nothing_left, stop_alone};
 
@@ -61,9 +61,14 @@ pub trait RecordFeed {
     /// The name of what the feed borrows, if it borrows what it reads.
     ghost name: { Self → ℕ } = { λ _. 0 };
 
+    /// Whether the feed may be asked for a record: no call of it failed. One that may always be asked need not say so.
+    ghost going: { Self → Bool } = { λ _. true };
+
     /// Gives one record: `into` then has its bytes alone, 2^24 or fewer, and the answer is true. False says that the feed
     /// is at its end without a stop. A call that fails is the feed's last.
     fn pull(&mut self, alloc: Global, into: &mut Bytes) -> Result<bool, FeedEnd>
+        requires { going self.old ≡ true }
+        ensures going { OnOk result (going self.new ≡ true) }
         ensures next { result ≡ Ok true → GivesRecord (rest self.old) (rest self.new) into.new }
         ensures at_most { result ≡ Ok true → length into.new ≤ 2 ^ 24 }
         ensures lowers { result ≡ Ok true → bound self.new + length into.new + 1 ≤ bound self.old }

@@ -8,6 +8,7 @@ use Rattle.record_writer.proofs.engine.put_closed_groups.Goals as goal
 pub loop-file-init : goal.loop-file-init
 loop-file-init g c = record {
   laid = ([], Lays-none _ c.args.file.now c.requires.going, AreGiven-none _ c.args.grouper.now);
+  feed_going = c.requires.feed_going;
   in_reach = c.requires.in_reach;
   input_count = omega arith;
   made_count = omega arith;
@@ -26,6 +27,7 @@ loop-file-preserved g c =
         Lays-all _ _ _ _ _ _ _ before.0 (option_to_list after.0) refl before.1 after.2,
         AreGiven-push _ _ _ _ c.loop-file.grouper _ before.0 _ after.0 before.2 gives after.1,
       );
+      feed_going = c.in-Ok-true.ensures.going;
       in_reach = omega (
         arith,
         c.in_ok-put_record-in-Ok-true.ensures.in_reach,

@@ -1,4 +1,4 @@
-use Rattle.std.proofs.Common.{◌≡◌, ℕ, ◌^◌, ◌≤◌, List}
+use Rattle.std.proofs.Common.{◌≡◌, ℕ, ◌^◌, ◌≤◌, true, List}
 use Rattle.record_writer.specs.Progresses.{Lays, AreGiven, chunks_of_groups, reach_of}
 use Rattle.record_writer.proofs.engine.put_closed_groups.Given as goal
 
@@ -7,6 +7,7 @@ invariant-loop-file g l = record {
   laid : (given : List (List (List ℕ)))
       × Lays (g.M.Sink.taken l.fn.made) (g.M.Sink.taken l.made) l.fn.file l.file (chunks_of_groups given)
       × AreGiven (g.L.RecordFeed.rest l.fn.feed) (g.L.RecordFeed.rest l.feed) l.fn.grouper l.grouper given;
+  feed_going : g.L.RecordFeed.going l.feed ≡ true;
   in_reach : reach_of l.file l.grouper (g.L.RecordFeed.bound l.feed) ≤ 2 ^ 60;
   input_count : g.L.RecordFeed.faults l.fn.feed ≤ g.L.RecordFeed.faults l.feed;
   made_count : g.M.Sink.faults l.fn.made ≤ g.M.Sink.faults l.made;
