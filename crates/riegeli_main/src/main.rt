@@ -1,7 +1,7 @@
 //! The program: makes the real files and streams, and hands them to the commands of `riegeli_tool`.
 #![tactic(auto)]
 
-use record_io::{FileSink, FileStore, StdErr, StdInput, StdOut};
+use record_io::{FileSink, FileStore, ReadAhead, StdErr, StdInput, StdOut};
 use riegeli_tool::{Names, Status, names, run};
 use std::alloc::AllocError;
 use std::io::{self, ErrorKind};
@@ -63,15 +63,15 @@ fn unread_words(error: &io::Error) -> Status {
     }
 }
 
-/// The files that the words name to be read.
+/// The files that the words name to be read, each in pieces of up to 64 KiB.
 fn files<'a>(
     rt: &'a HostRuntime,
     words: &'a [String],
     names: &Names,
-) -> Result<Vec<FileStore<'a, HostRuntime>>, AllocError> {
+) -> Result<Vec<ReadAhead<FileStore<'a, HostRuntime>>>, AllocError> {
     let mut files = Vec::new(rt.alloc());
     for word in words.iter().skip(names.first).take(names.count) {
-        files.push(FileStore::named(rt, word.as_str()))?;
+        files.push(ReadAhead::new(FileStore::named(rt, word.as_str())))?;
     }
     Ok(files)
 }

@@ -1,24 +1,100 @@
 -- What the answers to commands keep, command by command.
-use Rattle.std.proofs.Common.{◌≡◌, ℕ, false, Option, Some, None, List, sym, ◌∙◌}
+use Rattle.std.proofs.Common.{◌≡◌, ◌⊎◌, ℕ, true, false, Option, Some, None, List, [], ◌∷◌, sym, ◌∙◌, ap, subst, inl, inr, arith}
+use Rattle.std.specs.List.{flat_map}
+use Rattle.chunk_header.specs.Chunks.{ChunkValue}
+use Rattle.meta_chunk.specs.Counts.{totals_of}
+use Rattle.meta_chunk.specs.Files.{IsPlain, IsChainOf, ArePlaced}
+use Rattle.meta_chunk.proofs.Placed.{ArePlaced-one}
+use Rattle.chunk_reader.specs.Faults.{HasNoFault, IsFault}
+use Rattle.chunk_reader.specs.declared.reasons.Fault.{Fault}
+use Rattle.chunk_reader.proofs.FileFaults.{longest_is_one, fault_is_one, fault_or_none}
+use Rattle.chunk_reader.proofs.Frames.{frame_is_one, chain_is_one}
 use Rattle.riegeli_tool.specs.declared.command.Command.{Command}
-use Rattle.riegeli_tool.specs.declared.command.Command.TheVariants.{Write}
-use Rattle.riegeli_tool.specs.Answers.{Answer}
+use Rattle.riegeli_tool.specs.declared.command.Command.TheVariants.{Write, Show, Verify}
+use Rattle.riegeli_tool.specs.declared.show_words.ShowWords.{ShowWords}
+use Rattle.riegeli_tool.specs.declared.status.Status.{Status}
+use Rattle.riegeli_tool.specs.declared.status.Status.TheVariants as status
+use Rattle.riegeli_tool.specs.Answers.{Answer, noted}
+use Rattle.riegeli_tool.specs.FileAnswers.{refused_text, report, record_line, OfFile}
+use Rattle.riegeli_tool.specs.ShowCommand.{IsShown}
+use Rattle.riegeli_tool.specs.VerifyCommand.{IsVerified}
 use Rattle.riegeli_tool.specs.CommandAnswers.{IsAnswer, uses_of}
+
+-- answers of the same parts are one
+pub same_answer : (a b : Answer) → a.made ≡ b.made → a.out ≡ b.out → a.notes ≡ b.notes → a.status ≡ b.status → a ≡ b
+same_answer a b made out notes ended =
+    ap (λ (x : List ℕ). record { made = x; out = a.out; notes = a.notes; status = a.status }) made
+    ∙ ap (λ (x : List ℕ). record { made = b.made; out = x; notes = a.notes; status = a.status }) out
+    ∙ ap (λ (x : List ℕ). record { made = b.made; out = b.out; notes = x; status = a.status }) notes
+    ∙ ap (λ (x : Status). record { made = b.made; out = b.out; notes = b.notes; status = x }) ended
+
+-- how strict reading of a file ends, with what is said then
+abbrev pub EndsReading : List ℕ → Answer → Type 0
+EndsReading file answer =
+    (HasNoFault false file × (answer.notes ≡ []) × (answer.status ≡ status.Ok))
+    ⊎ ((fault : Fault) × IsFault false file fault × (answer.notes ≡ refused_text fault) × (answer.status ≡ status.Refused))
+
+one_end : (file : List ℕ) (a b : Answer) → EndsReading file a → EndsReading file b → (a.notes ≡ b.notes) × (a.status ≡ b.status)
+one_end file a b (inl (none, said, ended)) (inl (faultless, told, stopped)) = (said ∙ sym told, ended ∙ sym stopped)
+one_end file a b (inl (none, said, ended)) (inr (fault, faulty, told, stopped)) = absurd (fault_or_none false file fault faulty none)
+one_end file a b (inr (fault, faulty, said, ended)) (inl (none, told, stopped)) = absurd (fault_or_none false file fault faulty none)
+one_end file a b (inr (fault, faulty, said, ended)) (inr (other, too, told, stopped)) =
+    (said ∙ ap refused_text (fault_is_one false file fault other faulty too) ∙ sym told, ended ∙ sym stopped)
+
+-- `show` has one answer to a file
+one_shown : (words : ShowWords) (file : List ℕ) (a b : Answer) → IsShown words file a → IsShown words file b → a ≡ b
+one_shown words file a b h g =
+    let end : h.place ≡ g.place = longest_is_one h.ks g.ks file h.place g.place h.longest g.longest in
+    let chunks : h.ks ≡ g.ks =
+    chain_is_one h.ks g.ks file g.place (subst (λ (p : ℕ). IsChainOf IsPlain h.ks file p) end h.longest.chain) g.longest.chain in
+    let records : h.placed ≡ g.placed =
+    ArePlaced-one g.ks h.placed g.placed (subst (λ (ks : List ChunkValue). ArePlaced ks h.placed) chunks h.records) g.records in
+    let said = one_end file a b h.ended g.ended in
+    same_answer a b (h.made ∙ sym g.made)
+    (h.out ∙ ap (flat_map (record_line words.positions)) records ∙ sym g.out)
+    said.0 said.1
+
+-- so has `verify`
+one_verified : (file : List ℕ) (a b : Answer) → IsVerified file a → IsVerified file b → a ≡ b
+one_verified file a b (inl (ks, frame, is)) (inl (ls, other, also)) =
+    is
+    ∙ ap (λ (xs : List ChunkValue). record { made = []; out = report (totals_of xs); notes = []; status = status.Ok }) (frame_is_one ks ls file frame other)
+    ∙ sym also
+one_verified file a b (inl (ks, frame, is)) (inr (fault, faulty, also)) = absurd (fault_or_none true file fault faulty (ks, frame))
+one_verified file a b (inr (fault, faulty, is)) (inl (ks, frame, also)) = absurd (fault_or_none true file fault faulty (ks, frame))
+one_verified file a b (inr (fault, faulty, is)) (inr (other, too, also)) =
+    is ∙ ap (λ (f : Fault). noted status.Refused (refused_text f)) (fault_is_one true file fault other faulty too) ∙ sym also
+
+-- so has a command that reads one file
+one_of_file : (P : List ℕ → Answer → Type 0) → ((file : List ℕ) (a b : Answer) → P file a → P file b → a ≡ b)
+    → (files : List (List ℕ)) (a b : Answer) → OfFile P files a → OfFile P files b → a ≡ b
+one_of_file P one [] a b h g = absurd h
+one_of_file P one (file ∷ []) a b (inl (long, is)) (inl (too, also)) = is ∙ sym also
+one_of_file P one (file ∷ []) a b (inl (long, is)) (inr (short, g)) = absurd (omega arith)
+one_of_file P one (file ∷ []) a b (inr (short, h)) (inl (long, also)) = absurd (omega arith)
+one_of_file P one (file ∷ []) a b (inr (short, h)) (inr (also, g)) = one file a b h g
+one_of_file P one (file ∷ other ∷ files) a b h g = absurd h
 
 -- there is one answer at most
 pub one_answer : (command : Option Command) (input : List ℕ) (files : List (List ℕ)) (a b : Answer)
     → IsAnswer command input files a → IsAnswer command input files b → a ≡ b
 one_answer None input files a b first second = first ∙ sym second
 one_answer (Some (Write words)) input files a b first second = first ∙ sym second
+one_answer (Some (Show words)) input files a b first second = one_of_file (IsShown words) (one_shown words) files a b first second
+one_answer (Some (Verify words)) input files a b first second = one_of_file IsVerified one_verified files a b first second
 
 -- an input that isn't used may be any
 pub any_input : (command : Option Command) (input other : List ℕ) (files : List (List ℕ)) (a : Answer)
     → (uses_of command).input ≡ false → IsAnswer command input files a → IsAnswer command other files a
 any_input None input other files a unused is = is
 any_input (Some (Write words)) input other files a unused is = absurd (cc unused)
+any_input (Some (Show words)) input other files a unused is = is
+any_input (Some (Verify words)) input other files a unused is = is
 
 -- so may files
 pub any_files : (command : Option Command) (input : List ℕ) (files others : List (List ℕ)) (a : Answer)
     → (uses_of command).files ≡ false → IsAnswer command input files a → IsAnswer command input others a
 any_files None input files others a unused is = is
 any_files (Some (Write words)) input files others a unused is = is
+any_files (Some (Show words)) input files others a unused is = absurd (cc unused)
+any_files (Some (Verify words)) input files others a unused is = absurd (cc unused)

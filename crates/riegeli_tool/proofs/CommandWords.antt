@@ -5,10 +5,19 @@ use Rattle.std.proofs.lemmas.Slice.Eq.{bytes_eq-Decides}
 use Rattle.std.specs.Str.{bytes_eq}
 use Rattle.riegeli_tool.specs.Commands.{command_of}
 
+-- a word that isn't this one
+other_word : (word name known : List ℕ) → word ≡ name → name ≢ known → bytes_eq word known ≡ false
+other_word word name known same other =
+    false_from_ne_true _ (λ yes. other (sym same ∙ (bytes_eq-Decides word known).0 yes))
+
 -- words of which the first is the name of no command
-pub command_of-other : (words : List (List ℕ)) (name : List ℕ) → slice_get words 0 ≡ Some name → name ≢ codes "write" → command_of words ≡ None
-command_of-other [] name first other = absurd (cc first)
-command_of-other (word ∷ words) name first other =
+pub command_of-other : (words : List (List ℕ)) (name : List ℕ) → slice_get words 0 ≡ Some name
+    → name ≢ codes "write" → name ≢ codes "show" → name ≢ codes "verify" → command_of words ≡ None
+command_of-other [] name first no_write no_show no_verify = absurd (cc first)
+command_of-other (word ∷ words) name first no_write no_show no_verify =
     let same : word ≡ name = cc first in
-    let no : bytes_eq word (codes "write") ≡ false = false_from_ne_true _ (λ yes. other (sym same ∙ (bytes_eq-Decides word (codes "write")).0 yes)) in
-    rw no refl
+    rw (
+      other_word word name (codes "write") same no_write,
+      other_word word name (codes "show") same no_show,
+      other_word word name (codes "verify") same no_verify,
+    ) refl

@@ -2,16 +2,26 @@ pub mod CommandLaws
 pub mod CommandWords
 pub mod Decimals
 pub mod FeedSteps
+pub mod FileAnswersExist
+pub mod LinePuts
 pub mod Lines
 pub mod NoteLines
 pub mod OptionWords
+pub mod ReadBack
+pub mod ReadingRuns
 pub mod RunEnds
+pub mod ShowSteps
 pub mod TakenLines
+pub mod TakenRecords
+pub mod VerifyEnds
 pub mod WriteEnds
 pub mod WriteLimits
 pub mod WrittenLines
+pub mod WrittenSizes
 mod AnswerValues
 mod NumberValues
 mod OptionValues
+mod ReadTextValues
+mod ReadWordValues
 mod Values
 mod WriteValues

@@ -1,13 +1,7 @@
 -- The lines of an input: the first of them, and how many bytes they take.
-use Rattle.std.proofs.Common.{◌≡◌, ◌∙◌, ℕ, suc, ◌+◌, ◌<◌, ◌≤◌, false, List, [], ◌∷◌, ◌++◌, Some, None, length, get_or, take, drop, refl, sym, ap, inl, inr, arith}
+use Rattle.std.proofs.Common.{◌≡◌, ◌∙◌, ℕ, suc, ◌+◌, ◌<◌, ◌≤◌, false, List, [], ◌∷◌, ◌++◌, length, refl, ap, inl, inr, arith}
 use Rattle.std.specs.List.{concat, onto_first}
-use Rattle.std.proofs.lemmas.Bool.{cond-true, cond-false, eqb-true, false_from_ne_true, cases_Bool}
-use Rattle.std.proofs.Math.Seq.{drop-length}
-use Rattle.std.proofs.lemmas.List.{take_all, drop_more, get_or-take, length-take-le, take-append-drop}
-use Rattle.memchr.specs.Find.{IsFirstByte, is_byte}
-use Rattle.chunk_header.specs.SimpleChunks.{sizes_of, simple_data}
-use Rattle.varint_wire.proofs.Spellings.{length-shortest}
-use Rattle.chunk_header.proofs.SimpleChunks.{length-sizes_of, length-simple_data}
+use Rattle.std.proofs.lemmas.Bool.{cond-true, cond-false, false_from_ne_true, cases_Bool}
 use Rattle.riegeli_tool.specs.Input.{ends_line, lines, NoneEnds}
 
 -- the first byte doesn't, and none behind it does

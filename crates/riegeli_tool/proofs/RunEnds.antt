@@ -1,5 +1,5 @@
 -- How a run of any command ends: what all its clauses follow from.
-use Rattle.std.proofs.Common.{◌≡◌, ◌≢◌, ℕ, ◌≤◌, ◌⊎◌, true, Option, Some, None, List, [], ◌++◌, length, take, refl, sym, ap, subst, ◌∙◌, inl, inr, slice_get, arith, append-nil}
+use Rattle.std.proofs.Common.{◌≡◌, ◌≢◌, ℕ, ◌≤◌, ◌⊎◌, true, Option, Some, None, List, [], ◌∷◌, ◌++◌, length, get_or, set, map, take, refl, sym, ap, subst, ◌∙◌, inl, inr, slice_get, arith, append-nil}
 use Rattle.std.specs.Option.{IfSome}
 use Rattle.record_io.specs.Outside.{Rose, Takes, TakesFront}
 use Rattle.record_io.proofs.Calls.{TakesFront-whole}
@@ -160,6 +160,15 @@ runs-said command before after ended wanted text says some whole not_ok may_end 
       ))
       failed.1 counts)
 ]
+
+-- a run over the one file that was handed in
+pub runs-one_file : {X : Type 0} (show : X → Shown) (files : List X) (x then : X) (command : Option Command)
+    (input made out out_then notes notes_then : Shown) (ended : Status) → 1 ≡ length files
+    → Runs command (seen input (show (get_or files 0 x) ∷ []) made out notes) (seen input (show then ∷ []) made out_then notes_then) ended
+    → Runs command (seen input (map show files) made out notes) (seen input (map show (set files 0 then)) made out_then notes_then) ended
+runs-one_file show [] x then command input made out out_then notes notes_then ended one ran = absurd (omega arith)
+runs-one_file show (file ∷ []) x then command input made out out_then notes notes_then ended one ran = ran
+runs-one_file show (file ∷ other ∷ files) x then command input made out out_then notes notes_then ended one ran = absurd (omega (arith, one))
 
 -- words that are no command: the usage text was said, or notes failed
 pub runs-usage : (input : Shown) (files : List Shown) (made out notes notes_then : Shown) (ended : Status)

@@ -103,12 +103,12 @@ up_to_last_end-none line none =
     ap (λ (m : ℕ). take m line) at
 
 -- the two cases of a limit
-taken_from-within : (input : List ℕ) (hex : Bool) (limit : ℕ) → length input ≤ limit
+pub taken_from-within : (input : List ℕ) (hex : Bool) (limit : ℕ) → length input ≤ limit
     → taken_from input hex limit ≡ taken_lines hex (lines input) None
 unfolding taken_from
 taken_from-within input hex limit h = cond-true (nat_le (length input) limit) _ _ (le-leb (length input) limit h)
 
-taken_from-past : (input : List ℕ) (hex : Bool) (limit : ℕ) → limit < length input
+pub taken_from-past : (input : List ℕ) (hex : Bool) (limit : ℕ) → limit < length input
     → taken_from input hex limit
     ≡ taken_lines hex (lines (up_to_last_end (take limit input))) (Some (stop_past_limit hex (running (take limit input))))
 unfolding taken_from
@@ -167,7 +167,7 @@ pub short-record : (line : List ℕ) → length line ≤ line_limit false → re
 short-record line short = cond-false (nat_lt (line_limit false) (length line)) _ _ (le-ltb (line_limit false) (length line) short)
 
 -- a line that is too long is refused, and so is one that runs at the limit
-long-refused : (line : List ℕ) (hex : Bool) (rest : Rest) → line_limit hex < length line → taken_before (record_of_line hex line) rest ≡ stop_alone TooLong
+pub long-refused : (line : List ℕ) (hex : Bool) (rest : Rest) → line_limit hex < length line → taken_before (record_of_line hex line) rest ≡ stop_alone TooLong
 long-refused line hex rest long =
     ap (λ (r : Result (List ℕ) Stop). taken_before r rest) (cond-true (nat_lt (line_limit hex) (length line)) _ _ (lt-ltb (line_limit hex) (length line) long))
 
@@ -216,7 +216,7 @@ taken_lines-spent : (hex : Bool) (parts : List (List ℕ)) (stop : Option Stop) 
 taken_lines-spent hex [] stop e = (refl, ap (λ (r : Rest). r.stop) e)
 taken_lines-spent hex (line ∷ parts) stop e = absurd (taken_before-some (record_of_line hex line) (taken_lines hex parts stop) e)
 
-no_lines : (input : List ℕ) → lines input ≡ [] → input ≡ []
+pub no_lines : (input : List ℕ) → lines input ≡ [] → input ≡ []
 no_lines [] e = refl
 no_lines (b ∷ bs) e =
     let none : length (b ∷ bs) ≤ 0 =

@@ -8,8 +8,12 @@ use Rattle.std.proofs.lemmas.Bool.{and_parts, leb-true}
 use Rattle.record_group.specs.declared.pad.Pad.{Pad}
 use Rattle.record_writer.specs.Written.{AreInLimits}
 use Rattle.riegeli_tool.specs.declared.command.Command.{Command}
-use Rattle.riegeli_tool.specs.declared.command.Command.TheVariants.{Write}
+use Rattle.riegeli_tool.specs.declared.command.Command.TheVariants.{Write, Show, Verify}
 use Rattle.riegeli_tool.specs.declared.write_words.WriteWords.{WriteWords}
+use Rattle.riegeli_tool.specs.declared.show_words.ShowWords.{ShowWords}
+use Rattle.riegeli_tool.specs.declared.verify_words.VerifyWords.{VerifyWords}
+use Rattle.riegeli_tool.specs.ShowWords.{show_words_of}
+use Rattle.riegeli_tool.specs.VerifyWords.{verify_words_of}
 use Rattle.riegeli_tool.specs.Numbers.{number_in, number_within}
 use Rattle.riegeli_tool.specs.Options.{◌>>=◌, value_of, optional_value, are_words_of, file_places, only}
 use Rattle.riegeli_tool.specs.WriteWords.{default_chunk_size, chunk_size_of, every_of, pad_of, write_options, write_words_of}
@@ -94,17 +98,25 @@ write_words_of-within words w is =
       every = λ n e. (in_every n e).most_bound;
     }
 
--- a command is `write` with some words
-pub as_write : (command : Command) → (w : WriteWords) × (command ≡ Write w)
-as_write (Write w) = (w, refl)
+-- a command that is `write` is so by its name
+if_write : (write show verify : Bool) (written : Option WriteWords) (shown : Option ShowWords) (verified : Option VerifyWords) (w : WriteWords)
+    → (if write then option_map Write written else if show then option_map Show shown else if verify then option_map Verify verified else None) ≡ Some (Write w)
+    → written ≡ Some w
+if_write true show verify None shown verified w is = absurd (cc is)
+if_write true show verify (Some x) shown verified w is = cc is
+if_write false true verify written None verified w is = absurd (cc is)
+if_write false true verify written (Some x) verified w is = absurd (cc is)
+if_write false false true written shown None w is = absurd (cc is)
+if_write false false true written shown (Some x) w is = absurd (cc is)
+if_write false false false written shown verified w is = absurd (cc is)
 
 -- so are the options of an accepted command
 command_of-within : (words : List (List ℕ)) (w : WriteWords) → command_of words ≡ Some (Write w) → AreInLimits (options_of w)
 command_of-within [] w is = absurd (cc is)
 command_of-within (name ∷ words) w is =
-    let command = map_some (write_words_of (name ∷ words)) Write (Write w) (if_some (bytes_eq name (codes "write")) _ (Write w) is) in
-    let same : command.0 ≡ w = cc in
-    subst (λ (x : WriteWords). AreInLimits (options_of x)) same (write_words_of-within (name ∷ words) command.0 command.1)
+    write_words_of-within (name ∷ words) w
+    (if_write (bytes_eq name (codes "write")) (bytes_eq name (codes "show")) (bytes_eq name (codes "verify"))
+    (write_words_of (name ∷ words)) (show_words_of (name ∷ words)) (verify_words_of (name ∷ words)) w is)
 
 accepted_of-is : (command : Option Command) (count : ℕ) (known : Command) → accepted_of command count ≡ Some known → command ≡ Some known
 accepted_of-is None count known is = absurd (cc is)

@@ -26,6 +26,10 @@ usage_text =
     ++ line (codes "repair [--most=N] FROM TO")
     ++ line (codes "sample --seed=N --records=N [--chunk=N] [--workers=N] FILE")
 
+-- an answer that is said in notes alone
+abbrev pub noted : Status → List ℕ → Answer
+noted ended text = record { made = []; out = []; notes = text; status = ended }
+
 -- the answer to words that are no command
 abbrev pub usage : Answer
-usage = record { made = []; out = []; notes = usage_text; status = status.Usage }
+usage = noted status.Usage usage_text

@@ -1,11 +1,14 @@
 -- What each command uses, answers and may say: one case a command, and one for words that are none. Own.
 use Rattle.std.specs.Prelude.{◌≡◌, ℕ, Bool, true, false, Option, Some, None, List, []}
 use Rattle.riegeli_tool.specs.declared.command.Command.{Command}
-use Rattle.riegeli_tool.specs.declared.command.Command.TheVariants.{Write}
+use Rattle.riegeli_tool.specs.declared.command.Command.TheVariants.{Write, Show, Verify}
 use Rattle.riegeli_tool.specs.declared.status.Status.{Status}
 use Rattle.riegeli_tool.specs.declared.status.Status.TheVariants as status
 use Rattle.riegeli_tool.specs.Answers.{Answer, usage_text, usage}
 use Rattle.riegeli_tool.specs.WriteCommand.{write_answer, MayEndWrite}
+use Rattle.riegeli_tool.specs.FileAnswers.{OfFile, MayEndReading}
+use Rattle.riegeli_tool.specs.ShowCommand.{IsShown}
+use Rattle.riegeli_tool.specs.VerifyCommand.{IsVerified}
 
 -- what a command uses beside notes: the input, the files, the made file, standard output, and memory
 pub record Uses : Type 0 where
@@ -18,18 +21,26 @@ pub record Uses : Type 0 where
 abbrev pub uses_of : Option Command → Uses
 uses_of None = record { input = false; files = false; made = false; out = false; memory = false }
 uses_of (Some (Write words)) = record { input = true; files = false; made = true; out = false; memory = true }
+uses_of (Some (Show words)) = record { input = false; files = true; made = false; out = true; memory = true }
+uses_of (Some (Verify words)) = record { input = false; files = true; made = false; out = true; memory = false }
 
 -- an answer to a command, of the bytes of the input and of the files that it reads
 abbrev pub IsAnswer : Option Command → List ℕ → List (List ℕ) → Answer → Type 0
 IsAnswer None input files answer = answer ≡ usage
 IsAnswer (Some (Write words)) input files answer = answer ≡ write_answer words input
+IsAnswer (Some (Show words)) input files answer = OfFile (IsShown words) files answer
+IsAnswer (Some (Verify words)) input files answer = OfFile IsVerified files answer
 
 -- the status that a command may end with and what notes then say, whatever it reads
 abbrev pub MayEnd : Option Command → Status → List ℕ → Type 0
 MayEnd None ended text = (ended ≡ status.Usage) × (text ≡ usage_text)
 MayEnd (Some (Write words)) ended text = MayEndWrite ended text
+MayEnd (Some (Show words)) ended text = MayEndReading ended text
+MayEnd (Some (Verify words)) ended text = MayEndReading ended text
 
 -- what a command may say in notes before its end, whatever it reads
 abbrev pub MaySay : Option Command → List ℕ → Type 0
 MaySay None text = text ≡ []
 MaySay (Some (Write words)) text = text ≡ []
+MaySay (Some (Show words)) text = text ≡ []
+MaySay (Some (Verify words)) text = text ≡ []

@@ -4,8 +4,15 @@ pub mod LineFeeds
 pub mod Numbers
 pub mod Options
 pub mod WriteWords
+pub mod ShowWords
+pub mod VerifyWords
 pub mod Commands
 pub mod Answers
 pub mod WriteCommand
+pub mod FileAnswers
+pub mod ShowCommand
+pub mod VerifyCommand
 pub mod CommandAnswers
 pub mod Runs
+pub mod ReadingEnds
+pub mod ShowProgress

@@ -1,6 +1,7 @@
 -- How a run goes: what its status and its objects tell, of every command. Own.
 use Rattle.std.specs.Prelude.{◌≡◌, ◌≢◌, ℕ, ◌≤◌, ◌⊎◌, true, Option, Some, None, List, [], ◌++◌, map, take, slice_get, IfSome}
-use Rattle.std.specs.List.{flat_map}
+use Rattle.std.specs.List.{AllByRecursion, flat_map}
+use Rattle.record_io.specs.Bytes.{AreBytes}
 use Rattle.record_io.specs.Outside.{Rose, Takes, TakesFront}
 use Rattle.riegeli_tool.specs.declared.command.Command.{Command}
 use Rattle.riegeli_tool.specs.declared.status.Status.{Status}
@@ -63,12 +64,13 @@ pub record IsSound (uses : Uses) (before after : Seen) : Type 0 where
   pub out : uses.out ≡ true → ¬ Rose before.out.faults after.out.faults
   pub notes : ¬ Rose before.notes.faults after.notes.faults
 
--- P holds of an answer to the command, where the input and the files tell their bytes that it uses
+-- P holds of an answer to the command, where the input tells its bytes that it uses, and so do the files theirs, which are
+-- bytes
 abbrev pub IfTold : Option Command → Seen → (Answer → Type 0) → Type 0
 IfTold command before P =
     (input : List ℕ) (files : List (List ℕ))
     → ((uses_of command).input ≡ true → before.input.bytes ≡ Some input)
-    → ((uses_of command).files ≡ true → map (λ file. file.bytes) before.files ≡ map Some files)
+    → ((uses_of command).files ≡ true → (map (λ file. file.bytes) before.files ≡ map Some files) × AllByRecursion AreBytes files)
     → (answer : Answer) × IsAnswer command input files answer × P answer
 
 -- a run gave a whole answer: its status, and all its bytes went out

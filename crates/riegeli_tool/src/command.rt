@@ -1,12 +1,16 @@
 ghost use Rattle.std.specs.Prelude.{◌≡◌};
 ghost use Rattle.riegeli_tool.specs.Commands.{files_read, names_of};
 
+use crate::show_words::ShowWords;
+use crate::verify_words::VerifyWords;
 use crate::write_words::WriteWords;
 
 /// A command, with what its words say.
 #[derive(Clone, Copy, Debug, PartialEq, Eq)]
 pub(crate) enum Command {
     Write(WriteWords),
+    Show(ShowWords),
+    Verify(VerifyWords),
 }
 
 /// The files that words name, by their places among the words. Own.
@@ -27,6 +31,7 @@ impl Command {
     {
         match self {
             Command::Write(_) => 0,
+            Command::Show(_) | Command::Verify(_) => 1,
         }
     }
 }

@@ -1,9 +1,27 @@
 //! Laws of the definitions that contracts cite. Nothing runs here.
 
-ghost use Rattle.std.specs.Prelude.{◌≡◌, false, List, ℕ, length};
-ghost use Rattle.riegeli_tool.specs.Answers.{Answer};
+ghost use Rattle.std.specs.List.{AllByRecursion, flat_map};
+ghost use Rattle.std.specs.List.Sorted.{IsStrictlyIncreasing};
+ghost use Rattle.std.specs.Prelude.{◌≡◌, ◌^◌, ◌≤◌, false, List, [], ℕ, length, map};
+ghost use Rattle.chunk_header.specs.Chunks.{ChunkValue};
+ghost use Rattle.chunk_reader.specs.Faults.{HasNoFault};
+ghost use Rattle.meta_chunk.specs.Files.{IsFile, AreRecordsOf, ArePlaced};
+ghost use Rattle.record_io.specs.Bytes.{AreBytes};
+ghost use Rattle.record_writer.specs.Written.{AreInLimits, file_under};
+ghost use Rattle.riegeli_tool.specs.Answers.{Answer, line};
 ghost use Rattle.riegeli_tool.specs.Commands.{accepted};
 ghost use Rattle.riegeli_tool.specs.CommandAnswers.{IsAnswer, uses_of};
+ghost use Rattle.riegeli_tool.specs.FileAnswers.{most_file_bytes};
+ghost use Rattle.riegeli_tool.specs.Input.{taken_from, with_last_end};
+ghost use Rattle.riegeli_tool.specs.ShowCommand.{IsShown};
+ghost use Rattle.riegeli_tool.specs.VerifyCommand.{IsVerified};
+ghost use Rattle.riegeli_tool.specs.WriteCommand.{options_of, write_answer};
+ghost use Rattle.riegeli_tool.specs.declared.show_words.ShowWords.{ShowWords};
+ghost use Rattle.riegeli_tool.specs.declared.status.Status.TheVariants as status;
+ghost use Rattle.riegeli_tool.specs.declared.write_words.WriteWords.{WriteWords};
+
+use record_writer::WriteOptions;
+use simple_chunk::Records;
 
 /// All words have one answer at most, of the bytes of the input and of the files. Own.
 pub fn answers_are_one()
@@ -20,4 +38,48 @@ pub fn answers_stand_on_what_is_used()
     ensures files { (words : List (List ℕ)) (count : ℕ) (input : List ℕ) (files others : List (List ℕ)) (a : Answer)
         → (uses_of (accepted words count)).files ≡ false
         → IsAnswer (accepted words count) input files a → IsAnswer (accepted words count) input others a }
+{}
+
+/// Each file of bytes has an answer of `show`, whatever its words, and one of `verify`. So all words have an answer, of
+/// the bytes of any input and files. Own.
+pub fn file_answers_exist()
+    ensures show { (words : ShowWords) (file : List ℕ) → AreBytes file → (answer : Answer) × IsShown words file answer }
+    ensures verify { (file : List ℕ) → AreBytes file → (answer : Answer) × IsVerified file answer }
+    ensures all { (words : List (List ℕ)) (input : List ℕ) (files : List (List ℕ))
+        → AllByRecursion AreBytes files → (answer : Answer) × IsAnswer (accepted words (length files)) input files answer }
+{}
+
+/// Records of at most 2^24 bytes each, written under a size of at most 2^24, read back: their file has no fault, and
+/// its records are these, at positions that rise. Own.
+pub fn read_back(records: &Records, options: &WriteOptions)
+    requires short { AllByRecursion (λ bytes. length bytes ≤ 2 ^ 24) records.now }
+    requires size { options.now.size ≤ 2 ^ 24 }
+    ensures faultless { HasNoFault false (file_under options.now records.now) }
+    ensures records { (ks : List ChunkValue) → IsFile ks (file_under options.now records.now) → AreRecordsOf ks records.now }
+    ensures placed { (ks : List ChunkValue) (placed : List (ℕ × List ℕ))
+        → IsFile ks (file_under options.now records.now) → ArePlaced ks placed
+        → (map (λ p. p.1) placed ≡ records.now) × IsStrictlyIncreasing (map (λ p. p.0) placed) }
+{
+    let _values = records.values();
+}
+
+/// `show` of the file that `write` made, which is never too large to be read, prints the records that `write` took, each
+/// as a line, and says nothing. Where nothing stopped `write`, it prints the input, with a byte 10 behind the last line
+/// too. Own.
+pub fn show_prints_what_was_written()
+    ensures fits { (write : WriteWords) (input : List ℕ) → length (write_answer write input).made ≤ most_file_bytes }
+    ensures records { (write : WriteWords) (words : ShowWords) (input : List ℕ) (answer : Answer)
+        → AreInLimits (options_of write) → AreBytes input → words.positions ≡ false
+        → IsShown words (write_answer write input).made answer
+        → answer ≡ record {
+          made = [];
+          out = flat_map line (taken_from input false (2 ^ 40)).records;
+          notes = [];
+          status = status.Ok;
+        } }
+    ensures input { (write : WriteWords) (words : ShowWords) (input : List ℕ) (answer : Answer)
+        → AreInLimits (options_of write) → AreBytes input → words.positions ≡ false
+        → (write_answer write input).status ≡ status.Ok
+        → IsShown words (write_answer write input).made answer
+        → answer ≡ record { made = []; out = with_last_end input; notes = []; status = status.Ok } }
 {}

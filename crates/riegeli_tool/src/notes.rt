@@ -1,10 +1,13 @@
 ghost use Rattle.std.specs.Prelude.{◌≡◌, ◌≤◌, ◌++◌, [], decimal, OnOk, OnErr};
 ghost use Rattle.record_io.specs.Outside.{Rose, Takes, TakesFront};
 ghost use Rattle.riegeli_tool.specs.Answers.{line};
+ghost use Rattle.riegeli_tool.specs.FileAnswers.{name_of, refused_text};
 ghost use Rattle.riegeli_tool.specs.Runs.{SaysAtEnd, TakesThen, shown};
 ghost use Rattle.riegeli_tool.specs.Statuses.{fault_text};
 
+use crate::pieces::put_pieces;
 use crate::status::Status;
+use chunk_reader::{Fault, Why};
 use itoa::Buffer;
 use record_io::{Failed, PutBuffer, Sink, put_all};
 
@@ -52,6 +55,58 @@ fn put_number<E: Sink>(notes: &mut E, text: &str, number: u64) -> Result<(), Fai
     line.put(notes, Buffer::new().format(number).as_bytes())?;
     line.put(notes, b"\n")?;
     line.flush(notes)
+}
+
+/// The same with the line of a fault of a file, which is refused.
+pub(crate) fn end_with_fault<E: Sink>(notes: &mut E, fault: &Fault) -> Status
+    ensures told { SaysAtEnd result Status.Refused (shown (E.taken notes.old) (E.faults notes.old))
+        (shown (E.taken notes.new) (E.faults notes.new)) (refused_text fault.now) }
+    ensures never_falls { E.faults notes.old ≤ E.faults notes.new }
+{
+    match put_fault(notes, fault) {
+        Ok(()) => Status::Refused,
+        Err(Failed) => Status::Notes,
+    }
+}
+
+/// Puts the line of a fault of a file.
+fn put_fault<E: Sink>(notes: &mut E, fault: &Fault) -> Result<(), Failed>
+    ensures whole { OnOk result (Takes (E.taken notes.old) (E.taken notes.new) (refused_text fault.now)) }
+    ensures front { OnErr result (TakesFront (E.taken notes.old) (E.taken notes.new) (refused_text fault.now)) }
+    ensures cause { OnErr result (Rose (E.faults notes.old) (E.faults notes.new)) }
+    ensures never_falls { E.faults notes.old ≤ E.faults notes.new }
+{
+    let mut line = PutBuffer::<LINE>::new();
+    let mut at = Buffer::new();
+    let pieces = [
+        "refused ".as_bytes(),
+        at.format(fault.at).as_bytes(),
+        " ".as_bytes(),
+        name(fault.why).as_bytes(),
+        "\n".as_bytes(),
+    ];
+    put_pieces(&mut line, notes, &pieces)?;
+    line.flush(notes)
+}
+
+/// The name of a reason.
+fn name(why: Why) -> &'static str
+    ensures { result.now ≡ name_of why }
+{
+    match why {
+        Why::NoSignature => "NoSignature",
+        Why::Short => "Short",
+        Why::HeaderHash => "HeaderHash",
+        Why::Truncated => "Truncated",
+        Why::TooLarge => "TooLarge",
+        Why::BlockHeader => "BlockHeader",
+        Why::DataHash => "DataHash",
+        Why::Contents => "Contents",
+        Why::Compressed => "Compressed",
+        Why::Transposed => "Transposed",
+        Why::UnknownKind => "UnknownKind",
+        Why::Contradicted => "Contradicted",
+    }
 }
 
 /// Ends the work that a fault or want of memory cut off. The status stays where notes fail too.

@@ -6,7 +6,9 @@ ghost use Rattle.riegeli_tool.specs.Runs.{Runs, seen, shown};
 
 use crate::command::Command;
 use crate::notes::end;
+use crate::show::show;
 use crate::status::Status;
+use crate::verify::verify;
 use crate::words::accept;
 use crate::write::write;
 use record_io::{Sink, Source, Store};
@@ -26,14 +28,14 @@ sample --seed=N --records=N [--chunk=N] [--workers=N] FILE
 /// Does what the words say, which are the arguments alone.
 ///
 /// `files` are the files that the command reads, as `names` tells them, and `made` is the file that it makes.
-/// Text goes to `out` and messages go to `notes`. For now the one command is `write`, of lines, with `--chunk`,
-/// `--every` and `--pad`.
+/// Text goes to `out` and messages go to `notes`. For now the commands are `write`, of lines, with `--chunk`, `--every`
+/// and `--pad`; `show`, with `--positions`; and `verify`, which takes no memory.
 ///
 /// # Errors
 ///
-/// `Usage` where the words are no command that reads so many files, `Limit` where a line has more than 2^24 bytes or
-/// the input more than 2^40, `Input`, `Made` and `Notes` where that object failed, `Memory` where there wasn't
-/// enough. Own.
+/// `Usage` where the words are no command that reads so many files, `Refused` where the file is not well formed, `Limit`
+/// where a line has more than 2^24 bytes, the input more than 2^40 or the file more than 2^60, `Input`, `File`, `Made`,
+/// `Out` and `Notes` where that object failed, `Memory` where there wasn't enough. Own.
 pub fn run<R: Threads + Sync, I: Source, S: Store, M: Sink + Send, O: Sink, E: Sink>(
     rt: &R,
     alloc: Global,
@@ -63,6 +65,8 @@ pub fn run<R: Threads + Sync, I: Source, S: Store, M: Sink + Send, O: Sink, E: S
 {
     match accept(words, files.len()) {
         Some(Command::Write(words)) => write(rt, alloc, &words, input, made, notes),
+        Some(Command::Show(words)) => show(alloc, &words, &mut files[0], out, notes),
+        Some(Command::Verify(_)) => verify(&mut files[0], out, notes),
         None => end(notes, USAGE, Status::Usage),
     }
 }

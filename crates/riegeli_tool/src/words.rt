@@ -3,21 +3,21 @@ ghost use Rattle.std.specs.String.{string_bytes};
 ghost use Rattle.riegeli_tool.specs.Commands.{command_of, names_of, accepted};
 
 use crate::command::{Command, Names};
+use crate::show_words::show_words;
+use crate::verify_words::verify_words;
 use crate::write_words::write_words;
 
 /// The files that the words name. None for words that are no command. Own.
 pub fn names(words: &[String]) -> Names
     ensures { result ≡ names_of (command_of (map string_bytes words.now)) }
 {
-    let made = match parse(words) {
-        Some(Command::Write(write)) => Some(write.file),
-        None => None,
+    let (first, count, made) = match parse(words) {
+        Some(Command::Write(write)) => (0, 0, Some(write.file)),
+        Some(Command::Show(show)) => (show.file, 1, None),
+        Some(Command::Verify(verify)) => (verify.file, 1, None),
+        None => (0, 0, None),
     };
-    Names {
-        first: 0,
-        count: 0,
-        made,
-    }
+    Names { first, count, made }
 }
 
 /// The command that the words are.
@@ -26,6 +26,8 @@ fn parse(words: &[String]) -> Option<Command>
 {
     match words.first()?.as_str() {
         "write" => Some(Command::Write(write_words(words)?)),
+        "show" => Some(Command::Show(show_words(words)?)),
+        "verify" => Some(Command::Verify(verify_words(words)?)),
         _ => None,
     }
 }

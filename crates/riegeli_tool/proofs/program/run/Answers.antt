@@ -1,26 +1,47 @@
 use Rattle.std.proofs.Common.{Option, Some, None, ap, sym, map, ◌∙◌, subst, length}
 use Rattle.std.specs.String.{string_bytes}
 use Rattle.riegeli_tool.specs.declared.command.Command.{Command}
-use Rattle.riegeli_tool.specs.declared.command.Command.TheVariants.{Write}
-use Rattle.riegeli_tool.specs.Runs.{Runs, shown}
-use Rattle.riegeli_tool.proofs.RunEnds.{runs-of, runs-usage}
-use Rattle.riegeli_tool.proofs.WriteLimits.{accepted-within, as_write}
+use Rattle.riegeli_tool.specs.declared.command.Command.TheVariants.{Write, Show, Verify}
+use Rattle.riegeli_tool.specs.Commands.{command_of}
+use Rattle.riegeli_tool.specs.Runs.{Runs, Shown, shown}
+use Rattle.riegeli_tool.proofs.RunEnds.{runs-of, runs-one_file, runs-usage}
+use Rattle.riegeli_tool.proofs.FileAnswersExist.{accepted-reads}
+use Rattle.riegeli_tool.proofs.WriteLimits.{accepted-within}
 use Rattle.riegeli_tool.proofs.program.run.Goals as goal
 
 pub write-requires-after_bounds : goal.write-requires-after_bounds
 write-requires-after_bounds g c κs within =
-    let write = as_write c.in-Some-Write.field-0 in
-    rw write.1 (accepted-within (map string_bytes c.args.words.now) (length c.args.files.now) write.0 (ap Some (sym write.1) ∙ c.in-Some-Write.ensures))
+    accepted-within (map string_bytes c.args.words.now) (length c.args.files.now) c.in-Some-Write.words
+    (ap Some (sym c.in-Some-Write.field-0-is) ∙ c.in-Some-Write.ensures)
 
 pub returns-in-Some-Write-clause-runs : goal.returns-in-Some-Write-clause-runs
 returns-in-Some-Write-clause-runs g c =
-    let write = as_write c.in-Some-Write.field-0 in
-    runs-of (Some (Write write.0)) _ _ _ _ (ap Some (sym write.1) ∙ c.in-Some-Write.ensures)
-    (rw write.1 at (c.write.ensures.runs
+    runs-of (Some (Write c.in-Some-Write.words)) _ _ _ _ (ap Some (sym c.in-Some-Write.field-0-is) ∙ c.in-Some-Write.ensures)
+    (c.write.ensures.runs
     (map (λ file. shown (g.S.Store.bytes file) (g.S.Store.faults file)) c.args.files.now)
-    (shown (g.O.Sink.taken c.args.out.now) (g.O.Sink.faults c.args.out.now))))
+    (shown (g.O.Sink.taken c.args.out.now) (g.O.Sink.faults c.args.out.now)))
 
 pub returns-in-None-clause-runs : goal.returns-in-None-clause-runs
 returns-in-None-clause-runs g c =
     runs-of None _ _ _ _ c.in-None.ensures
     (runs-usage _ _ _ _ _ _ _ c.end.ensures.told c.end.ensures.never_falls)
+
+pub returns-in-Some-Show-clause-runs : goal.returns-in-Some-Show-clause-runs
+returns-in-Some-Show-clause-runs g c =
+    let input : Shown = shown (g.I.Source.left c.args.input.now) (g.I.Source.faults c.args.input.now) in
+    let made : Shown = shown (g.M.Sink.taken c.args.made.now) (g.M.Sink.faults c.args.made.now) in
+    let is = ap Some (sym c.in-Some-Show.field-0-is) ∙ c.in-Some-Show.ensures in
+    runs-of (Some (Show c.in-Some-Show.words)) _ _ _ _ is
+    (runs-one_file (λ file. shown (g.S.Store.bytes file) (g.S.Store.faults file)) c.args.files.now _ c.show.new.file _ input made _ _ _ _ _
+    (accepted-reads (command_of (map string_bytes c.args.words.now)) (length c.args.files.now) (Show c.in-Some-Show.words) (sym is))
+    (c.show.ensures.runs input made))
+
+pub returns-in-Some-Verify-clause-runs : goal.returns-in-Some-Verify-clause-runs
+returns-in-Some-Verify-clause-runs g c =
+    let input : Shown = shown (g.I.Source.left c.args.input.now) (g.I.Source.faults c.args.input.now) in
+    let made : Shown = shown (g.M.Sink.taken c.args.made.now) (g.M.Sink.faults c.args.made.now) in
+    let is = ap Some (sym c.in-Some-Verify.field-0-is) ∙ c.in-Some-Verify.ensures in
+    runs-of (Some (Verify c.in-Some-Verify.field-0-0)) _ _ _ _ is
+    (runs-one_file (λ file. shown (g.S.Store.bytes file) (g.S.Store.faults file)) c.args.files.now _ c.verify.new.file _ input made _ _ _ _ _
+    (accepted-reads (command_of (map string_bytes c.args.words.now)) (length c.args.files.now) (Verify c.in-Some-Verify.field-0-0) (sym is))
+    (c.verify.ensures.runs c.in-Some-Verify.field-0-0 input made))

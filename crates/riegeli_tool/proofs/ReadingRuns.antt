@@ -1,0 +1,312 @@
+-- How a run of a command ends that reads one file and prints, by how its work ended.
+use Rattle.std.proofs.Common.{◌≡◌, ◌≢◌, ◌∙◌, ℕ, zero, suc, ◌≤◌, true, false, Option, Some, None, Result, Ok, Err, List, [], ◌∷◌, ◌++◌, length, take, drop, slice_get, map, refl, sym, ap, subst, inl, inr, arith, IfSome}
+use Rattle.std.specs.Result.{IsErr, IsErrAnd}
+use Rattle.std.specs.List.{AllByRecursion}
+use Rattle.std.proofs.lemmas.List.{append-nil, append_assoc, take-append-drop}
+use Rattle.std.proofs.lemmas.Option.{MatchOption-at_some}
+use Rattle.record_io.specs.Bytes.{AreBytes}
+use Rattle.record_io.specs.Outside.{Rose, Takes, TakesFront}
+use Rattle.record_io.specs.Buffers.{TakesAndHolds}
+use Rattle.record_io.proofs.Calls.{Takes-append, TakesFront-append, TakesFront-longer, TakesFront-none, TakesFront-whole}
+use Rattle.record_io.proofs.Buffered.{Takes-from_none_held}
+use Rattle.riegeli_tool.specs.declared.command.Command.{Command}
+use Rattle.riegeli_tool.specs.declared.command.Command.TheVariants.{Show, Verify}
+use Rattle.riegeli_tool.specs.declared.reading.ReadingEnd.{ReadingEnd}
+use Rattle.riegeli_tool.specs.declared.reading.ReadingEnd.TheVariants as end
+use Rattle.riegeli_tool.specs.declared.show_words.ShowWords.{ShowWords}
+use Rattle.riegeli_tool.specs.declared.verify_words.VerifyWords.{VerifyWords}
+use Rattle.riegeli_tool.specs.declared.status.Status.{Status}
+use Rattle.riegeli_tool.specs.declared.status.Status.TheVariants as status
+use Rattle.riegeli_tool.specs.Answers.{Answer, noted}
+use Rattle.riegeli_tool.specs.FileAnswers.{OfFile, MayEndReading, most_file_bytes, limit_text, refused_text}
+use Rattle.riegeli_tool.specs.ShowCommand.{IsShown}
+use Rattle.riegeli_tool.specs.VerifyCommand.{IsVerified}
+use Rattle.riegeli_tool.specs.CommandAnswers.{uses_of, IsAnswer, MayEnd, MaySay}
+use Rattle.riegeli_tool.specs.Statuses.{fault_text}
+use Rattle.riegeli_tool.specs.Runs.{Shown, Seen, seen, IfTold, IsWhole, IsCutOff, OneRose, TakesThen, SaysAtEnd, WasCutOff, HasCause, NoneFell, Runs, Gave}
+use Rattle.riegeli_tool.specs.ReadingEnds.{IsUnsized, end_unprinted, HasPrinted, HasPrintedFront, Prints, SaysEnd}
+use Rattle.riegeli_tool.proofs.FileAnswersExist.{of_file_exists, shown_exists, verified_exists}
+use Rattle.riegeli_tool.proofs.RunEnds.{Takes-nothing, runs-whole, runs-said, runs-cut_off, GaveButNotes}
+
+-- nothing was printed yet
+pub TakesAndHolds-nothing : (taken : Option (List ℕ)) → TakesAndHolds taken taken [] []
+TakesAndHolds-nothing taken = record { passed = []; parts = refl; taken = Takes-nothing taken }
+
+-- no size was told of a file that may be read
+pub prints-unsized : {X : Type 0} (P : List ℕ → Answer → Type 0) (bytes : Option (List ℕ)) (m n : ℕ) (taken : Option (List ℕ)) (e : ReadingEnd)
+    (result : Result X ReadingEnd) → IsErr result → IsErrAnd result (λ made. made ≡ e) → IsUnsized e bytes m n
+    → IfSome bytes (λ f. Prints P result f taken taken [])
+prints-unsized P None m n taken e result err is why = tt
+prints-unsized P (Some f) m n taken e (Ok x) err is why = absurd (cc err)
+prints-unsized P (Some f) m n taken end.Limit (Err made) err is why =
+    subst (λ (x : ReadingEnd). Prints {X = ℕ} P (Err x) f taken taken []) (sym is) (record {
+      answer = noted status.Limit limit_text;
+      is = inl (why, refl);
+      made = refl;
+      out = TakesAndHolds-nothing taken;
+      notes = refl;
+      status = refl;
+    })
+prints-unsized P (Some f) m n taken end.File (Err made) err is why =
+    subst (λ (x : ReadingEnd). Prints {X = ℕ} P (Err x) f taken taken []) (sym is)
+    (λ answer _. record { text = []; rest = answer.out; parts = refl; out = TakesAndHolds-nothing taken })
+prints-unsized P (Some f) m n taken (end.Refused fault) (Err made) err is why = absurd why
+prints-unsized P (Some f) m n taken end.Out (Err made) err is why = absurd why
+prints-unsized P (Some f) m n taken end.Memory (Err made) err is why = absurd why
+
+-- what was held goes out
+flushed : (a b c : Option (List ℕ)) (text held : List ℕ) → TakesAndHolds a b text held → Takes b c held → TakesAndHolds a c text []
+flushed a b c text held whole out = record {
+  passed = whole.passed ++ held;
+  parts = whole.parts ∙ sym (append-nil (whole.passed ++ held));
+  taken = Takes-append a b c whole.passed held whole.taken out;
+}
+
+whole-flushed : (P : List ℕ → Answer → Type 0) (f : List ℕ) (a b c : Option (List ℕ)) (held text : List ℕ) (ended : Status)
+    → HasPrinted P f a b held text ended → Takes b c held → HasPrinted P f a c [] text ended
+whole-flushed P f a b c held text ended h out = record {
+  answer = h.answer;
+  is = h.is;
+  made = h.made;
+  out = flushed a b c h.answer.out held h.out out;
+  notes = h.notes;
+  status = h.status;
+}
+
+front-flushed : (a b c : Option (List ℕ)) (held : List ℕ) (answer : Answer)
+    → HasPrintedFront a b held answer → Takes b c held → HasPrintedFront a c [] answer
+front-flushed a b c held answer h out =
+    record { text = h.text; rest = h.rest; parts = h.parts; out = flushed a b c h.text held h.out out }
+
+flushed-at : {X : Type 0} (P : List ℕ → Answer → Type 0) (result : Result X ReadingEnd) (f : List ℕ) (a b c : Option (List ℕ)) (held : List ℕ)
+    → Prints P result f a b held → Takes b c held → Prints P result f a c []
+flushed-at P (Ok x) f a b c held h out = whole-flushed P f a b c held [] status.Ok h out
+flushed-at P (Err end.Limit) f a b c held h out = whole-flushed P f a b c held limit_text status.Limit h out
+flushed-at P (Err (end.Refused fault)) f a b c held h out = whole-flushed P f a b c held (refused_text fault) status.Refused h out
+flushed-at P (Err end.File) f a b c held h out = λ answer is. front-flushed a b c held answer (h answer is) out
+flushed-at P (Err end.Out) f a b c held h out = λ answer is. front-flushed a b c held answer (h answer is) out
+flushed-at P (Err end.Memory) f a b c held h out = λ answer is. front-flushed a b c held answer (h answer is) out
+
+pub prints-flushed : {X : Type 0} (P : List ℕ → Answer → Type 0) (result : Result X ReadingEnd) (told bytes : Option (List ℕ)) (a b c : Option (List ℕ)) (held : List ℕ)
+    → told ≡ bytes → IfSome told (λ f. Prints P result f a b held) → Takes b c held → IfSome bytes (λ f. Prints P result f a c [])
+prints-flushed P result told None a b c held same h out = tt
+prints-flushed P result told (Some f) a b c held same h out =
+    flushed-at P result f a b c held (MatchOption-at_some _ (λ (x : List ℕ). Prints P result x a b held) f same h) out
+
+-- a front of more lines
+pub front-of_front : (before after : Option (List ℕ)) (text rest : List ℕ) (answer : Answer) → answer.out ≡ text ++ rest
+    → TakesFront before after text → HasPrintedFront before after [] answer
+front-of_front None after text rest answer parts front =
+    record { text = []; rest = answer.out; parts = refl; out = record { passed = []; parts = refl; taken = tt } }
+front-of_front (Some taken) after text rest answer parts (n, within, took) = record {
+  text = take n text;
+  rest = drop n text ++ rest;
+  parts = parts ∙ ap (λ (t : List ℕ). t ++ rest) (sym (take-append-drop n text)) ∙ append_assoc (take n text) (drop n text) rest;
+  out = record { passed = take n text; parts = sym (append-nil (take n text)); taken = took };
+}
+
+-- a front of what was held goes out
+front-unflushed : (a b c : Option (List ℕ)) (held : List ℕ) (answer : Answer)
+    → HasPrintedFront a b held answer → TakesFront b c held → HasPrintedFront a c [] answer
+front-unflushed a b c held answer h out =
+    let front : TakesFront a c h.text =
+    subst (λ (t : List ℕ). TakesFront a c t) (sym h.out.parts) (TakesFront-append a b c h.out.passed held h.out.taken out) in
+    front-of_front a c h.text h.rest answer h.parts front
+
+whole-unflushed : (P : List ℕ → Answer → Type 0) → ((f : List ℕ) (x y : Answer) → OfFile P (f ∷ []) x → OfFile P (f ∷ []) y → x ≡ y)
+    → (f : List ℕ) (a b c : Option (List ℕ)) (held text : List ℕ) (ended : Status)
+    → HasPrinted P f a b held text ended → TakesFront b c held
+    → (answer : Answer) → OfFile P (f ∷ []) answer → HasPrintedFront a c [] answer
+whole-unflushed P one f a b c held text ended h out answer is =
+    front-unflushed a b c held answer
+    (record {
+      text = h.answer.out;
+      rest = [];
+      parts = ap (λ (x : Answer). x.out) (one f answer h.answer is h.is) ∙ sym (append-nil h.answer.out);
+      out = h.out;
+    })
+    out
+
+unflushed-at : {X : Type 0} (Y : Type 0) (P : List ℕ → Answer → Type 0) → ((f : List ℕ) (x y : Answer) → OfFile P (f ∷ []) x → OfFile P (f ∷ []) y → x ≡ y)
+    → (result : Result X ReadingEnd) (f : List ℕ) (a b c : Option (List ℕ)) (held : List ℕ)
+    → Prints P result f a b held → TakesFront b c held → Prints {X = Y} P (Err (end_unprinted result)) f a c []
+unflushed-at Y P one (Ok x) f a b c held h out = whole-unflushed P one f a b c held [] status.Ok h out
+unflushed-at Y P one (Err end.Limit) f a b c held h out = whole-unflushed P one f a b c held limit_text status.Limit h out
+unflushed-at Y P one (Err (end.Refused fault)) f a b c held h out = whole-unflushed P one f a b c held (refused_text fault) status.Refused h out
+unflushed-at Y P one (Err end.File) f a b c held h out = λ answer is. front-unflushed a b c held answer (h answer is) out
+unflushed-at Y P one (Err end.Out) f a b c held h out = λ answer is. front-unflushed a b c held answer (h answer is) out
+unflushed-at Y P one (Err end.Memory) f a b c held h out = λ answer is. front-unflushed a b c held answer (h answer is) out
+
+pub prints-unflushed : {X : Type 0} (Y : Type 0) (P : List ℕ → Answer → Type 0) → ((f : List ℕ) (x y : Answer) → OfFile P (f ∷ []) x → OfFile P (f ∷ []) y → x ≡ y)
+    → (result : Result X ReadingEnd) (end : ReadingEnd) → end ≡ end_unprinted result → (told bytes : Option (List ℕ)) (a b c : Option (List ℕ)) (held : List ℕ)
+    → told ≡ bytes → IfSome told (λ f. Prints P result f a b held) → TakesFront b c held → IfSome bytes (λ f. Prints {X = Y} P (Err end) f a c [])
+prints-unflushed Y P one result end is told None a b c held same h out = tt
+prints-unflushed Y P one result end is told (Some f) a b c held same h out =
+    subst (λ (x : ReadingEnd). Prints {X = ℕ} P (Err x) f a c []) (sym is)
+    (unflushed-at ℕ P one result f a b c held (MatchOption-at_some _ (λ (x : List ℕ). Prints P result x a b held) f same h) out)
+
+-- what holds of a command that reads one file, of which P are the answers, and prints
+pub record IsReading (command : Command) (P : List ℕ → Answer → Type 0) : Type 0 where
+  pub input : (uses_of (Some command)).input ≡ false
+  pub files : (uses_of (Some command)).files ≡ true
+  pub out : (uses_of (Some command)).out ≡ true
+  pub answers : (input : List ℕ) (files : List (List ℕ)) (answer : Answer) → OfFile P files answer → IsAnswer (Some command) input files answer
+  pub may_end : (ended : Status) (text : List ℕ) → MayEndReading ended text → MayEnd (Some command) ended text
+  pub may_say : MaySay (Some command) []
+  pub exists : (file : List ℕ) → AreBytes file → (answer : Answer) × OfFile P (file ∷ []) answer
+
+pub show_reads : (words : ShowWords) → IsReading (Show words) (IsShown words)
+show_reads words = record {
+  input = refl;
+  files = refl;
+  out = refl;
+  answers = λ input files answer is. is;
+  may_end = λ ended text may. may;
+  may_say = refl;
+  exists = λ file bytes. of_file_exists (IsShown words) (shown_exists words) (file ∷ []) refl (bytes, tt);
+}
+
+pub verify_reads : (words : VerifyWords) → IsReading (Verify words) IsVerified
+verify_reads words = record {
+  input = refl;
+  files = refl;
+  out = refl;
+  answers = λ input files answer is. is;
+  may_end = λ ended text may. may;
+  may_say = refl;
+  exists = λ file bytes. of_file_exists IsVerified verified_exists (file ∷ []) refl (bytes, tt);
+}
+
+-- the one file that tells its bytes
+one_told : (told : Option (List ℕ)) (files : List (List ℕ)) → told ∷ [] ≡ map Some files
+    → (file : List ℕ) × (files ≡ file ∷ []) × (told ≡ Some file)
+one_told told [] same = absurd (cc same)
+one_told told (file ∷ []) same = (file, refl, cc same)
+one_told told (file ∷ other ∷ files) same = absurd (cc same)
+
+-- the one that rose or not
+file_fell : (file file_then : Shown) → file.faults ≤ file_then.faults → (place : ℕ) (a b : Shown)
+    → slice_get (file ∷ []) place ≡ Some a → slice_get (file_then ∷ []) place ≡ Some b → a.faults ≤ b.faults
+file_fell file file_then less zero a b was is =
+    let same : file ≡ a = cc was in
+    let also : file_then ≡ b = cc is in
+    omega (arith, less, ap (λ (s : Shown). s.faults) same, ap (λ (s : Shown). s.faults) also)
+file_fell file file_then less (suc place) a b was is = absurd (cc was)
+
+module _ (command : Command) (P : List ℕ → Answer → Type 0) (reads : IsReading command P)
+    (input made file file_then out out_then notes notes_then : Shown) (counts : NoneFell (seen input (file ∷ []) made out notes) (seen input (file_then ∷ []) made out_then notes_then)) where
+  abbrev Before : Seen
+  Before = seen input (file ∷ []) made out notes
+
+  abbrev After : Seen
+  After = seen input (file_then ∷ []) made out_then notes_then
+
+  abbrev Ended : Status → Type 0
+  Ended = Runs (Some command) Before After
+
+  -- what follows from the bytes of the file
+  if_told : (Q : Answer → Type 0)
+      → ((bytes : List ℕ) → AreBytes bytes → file.bytes ≡ Some bytes → (answer : Answer) × OfFile P (bytes ∷ []) answer × Q answer)
+      → IfTold (Some command) Before Q
+  if_told Q known = λ ins files told_input told_files.
+      let told = told_files reads.files in
+      let one = one_told file.bytes files told.0 in
+      let bytes : AllByRecursion AreBytes (one.0 ∷ []) = subst (λ (fs : List (List ℕ)). AllByRecursion AreBytes fs) one.1 told.1 in
+      let found = known one.0 bytes.0 one.2 in (
+        found.0,
+        reads.answers ins files found.0 (subst (λ (fs : List (List ℕ)). OfFile P fs found.0) (sym one.1) found.1),
+        found.2,
+      )
+
+  -- all of an answer was printed, and nothing is left to say
+  done : IfSome file.bytes (λ bytes. HasPrinted P bytes out.bytes out_then.bytes [] [] status.Ok) → notes_then ≡ notes → Ended status.Ok
+  done printed same =
+      runs-whole (Some command) Before After status.Ok [] tt (reads.may_end status.Ok [] (inl (refl, refl)))
+      (subst (λ (s : Shown). Takes notes.bytes s.bytes []) (sym same) (Takes-nothing notes.bytes))
+      (if_told (Gave status.Ok Before After) (λ bytes are told.
+      let h = MatchOption-at_some _ (λ (b : List ℕ). HasPrinted P b out.bytes out_then.bytes [] [] status.Ok) bytes told printed in (
+        h.answer,
+        h.is,
+        record {
+          same_status = h.status;
+          made = subst (λ (t : List ℕ). Takes made.bytes made.bytes t) (sym h.made) (Takes-nothing made.bytes);
+          out = Takes-from_none_held out.bytes out_then.bytes h.answer.out [] (omega arith) h.out;
+          notes = subst (λ (t : List ℕ). Takes notes.bytes notes_then.bytes t) (sym h.notes)
+              (subst (λ (s : Shown). Takes notes.bytes s.bytes []) (sym same) (Takes-nothing notes.bytes));
+        },
+      )))
+      (λ _ uses. absurd (cc (sym uses ∙ reads.input))) (λ none. absurd (cc none)) tt counts
+
+  -- all of an answer was printed, and it says why it ends there
+  said : (ended wanted : Status) (text : List ℕ) → IfSome file.bytes (λ bytes. HasPrinted P bytes out.bytes out_then.bytes [] text wanted)
+      → SaysAtEnd ended wanted notes notes_then text → text ≢ [] → IsWhole wanted → wanted ≢ status.Ok → MayEndReading wanted text
+      → HasCause wanted (Some command) Before After
+      → Ended ended
+  said ended wanted text printed says some whole not_ok may cause =
+      runs-said (Some command) Before After ended wanted text says some whole not_ok (reads.may_end wanted text may)
+      (if_told (GaveButNotes wanted Before After text) (λ bytes are told.
+      let h = MatchOption-at_some _ (λ (b : List ℕ). HasPrinted P b out.bytes out_then.bytes [] text wanted) bytes told printed in (
+        h.answer,
+        h.is,
+        record {
+          same_status = h.status;
+          made = subst (λ (t : List ℕ). Takes made.bytes made.bytes t) (sym h.made) (Takes-nothing made.bytes);
+          out = Takes-from_none_held out.bytes out_then.bytes h.answer.out [] (omega arith) h.out;
+          notes = h.notes;
+        },
+      )))
+      (λ none. absurd (cc none)) cause counts
+
+  -- it was cut off
+  cut : (ended known : Status) → ended ≡ known → IsCutOff known
+      → IfSome file.bytes (λ bytes. (answer : Answer) → OfFile P (bytes ∷ []) answer → HasPrintedFront out.bytes out_then.bytes [] answer)
+      → TakesThen notes notes_then [] (fault_text known) → HasCause known (Some command) Before After
+      → Ended ended
+  cut ended known is cuts printed says cause =
+      subst Ended (sym is) (runs-cut_off (Some command) Before After known [] cuts reads.may_say says
+      (if_told (WasCutOff known Before After) (λ bytes are told.
+      let found = reads.exists bytes are in
+      let h = MatchOption-at_some _ (λ (b : List ℕ). (answer : Answer) → OfFile P (b ∷ []) answer → HasPrintedFront out.bytes out_then.bytes [] answer)
+      bytes told printed found.0 found.1 in (
+        found.0,
+        found.1,
+        record {
+          made = TakesFront-none made.bytes found.0.made;
+          out = subst (λ (t : List ℕ). TakesFront out.bytes out_then.bytes t) (sym h.parts)
+              (TakesFront-longer out.bytes out_then.bytes h.text h.rest
+              (TakesFront-whole out.bytes out_then.bytes h.text (Takes-from_none_held out.bytes out_then.bytes h.text [] (omega arith) h.out)));
+          notes = (0, says);
+        },
+      )))
+      (λ none. cc none) cause counts)
+
+  pub runs-reading : (result : Result (Unit {0}) ReadingEnd) (ended : Status)
+      → IfSome file.bytes (λ bytes. Prints P result bytes out.bytes out_then.bytes [])
+      → SaysEnd result ended notes notes_then
+      → (result ≡ Err end.File → Rose file.faults file_then.faults)
+      → (result ≡ Err end.Out → Rose out.faults out_then.faults)
+      → (result ≡ Err end.Memory → (uses_of (Some command)).memory ≡ true)
+      → Ended ended
+  runs-reading (Ok x) ended printed says file_rose out_rose memory = subst Ended (sym says.0) (done printed says.1)
+  runs-reading (Err end.Limit) ended printed says file_rose out_rose memory =
+      said ended status.Limit limit_text printed says (λ e. cc e) tt (λ e. cc e) (inr (inr (refl, refl))) tt
+  runs-reading (Err (end.Refused fault)) ended printed says file_rose out_rose memory =
+      said ended status.Refused (refused_text fault) printed says (λ e. cc e) tt (λ e. cc e) (inr (inl (fault, refl, refl))) tt
+  runs-reading (Err end.File) ended printed says file_rose out_rose memory =
+      cut ended status.File says.0 tt printed says.1 (reads.files, (0, file, file_then, refl, refl, file_rose refl))
+  runs-reading (Err end.Out) ended printed says file_rose out_rose memory =
+      cut ended status.Out says.0 tt printed says.1 (reads.out, out_rose refl)
+  runs-reading (Err end.Memory) ended printed says file_rose out_rose memory =
+      cut ended status.Memory says.0 tt printed says.1 (memory refl)
+
+-- no count fell of what such a command uses
+pub reading-counts : (input made file file_then out out_then notes notes_then : Shown)
+    → file.faults ≤ file_then.faults → out.faults ≤ out_then.faults → notes.faults ≤ notes_then.faults
+    → NoneFell (seen input (file ∷ []) made out notes) (seen input (file_then ∷ []) made out_then notes_then)
+reading-counts input made file file_then out out_then notes notes_then f o n = record {
+  input = omega arith;
+  files = file_fell file file_then f;
+  made = omega arith;
+  out = o;
+  notes = n;
+}

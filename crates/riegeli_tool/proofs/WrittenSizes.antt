@@ -1,0 +1,132 @@
+-- How large the file of an input is: small enough to be read.
+use Rattle.std.proofs.Common.{ℕ, ◌+◌, ◌-◌, ◌*◌, ◌^◌, ◌≤◌, Bool, true, false, List, [], ◌∷◌, Option, Some, None, length, take, map, refl, ap, inl, inr, arith}
+use Rattle.std.specs.List.{AllByRecursion, onto_first}
+use Rattle.std.proofs.lemmas.Bool.{cond-true, cases_Bool, cases_lt}
+use Rattle.std.proofs.lemmas.List.{length-take}
+use Rattle.std.proofs.lemmas.List.Sums.{sum_by-append, sum_by-cons}
+use Rattle.block_layout.specs.Layout.{IsBoundary}
+use Rattle.chunk_header.specs.SimpleChunks.{simple_chunk}
+use Rattle.simple_chunk.specs.Costs.{cost, cost_of}
+use Rattle.meta_chunk.specs.Laid.{end_of_chunk}
+use Rattle.meta_chunk.specs.Files.{signature, end_of_chunks}
+use Rattle.meta_chunk.proofs.Begins.{end_of_chunks_boundary}
+use Rattle.meta_chunk.proofs.Joins.{end_of_chunks-append, end-laid_each}
+use Rattle.meta_chunk.proofs.PaddingLemmas.{padding_at_near}
+use Rattle.record_group.specs.declared.pad.Pad.{Pad}
+use Rattle.record_group.specs.Groups.{KeepsLimits, groups, pads_start, pads_end, padding_if, front_padding, front_chunks, end_padding, record_chunks}
+use Rattle.record_group.proofs.Grouping.{joined, joined-groups, groups-keep}
+use Rattle.record_group.proofs.Signed.{end_of_chunk-signature, length-file_of-signed}
+use Rattle.record_writer.specs.Feeds.{Rest}
+use Rattle.record_writer.specs.declared.feed.Stop.{Stop}
+use Rattle.record_writer.proofs.Reaches.{group-near}
+use Rattle.riegeli_tool.specs.declared.write_words.WriteWords.{WriteWords}
+use Rattle.riegeli_tool.specs.Input.{ends_line, lines, running, up_to_last_end, line_limit, taken_lines, stop_past_limit, taken_from}
+use Rattle.riegeli_tool.specs.WriteCommand.{write_answer}
+use Rattle.riegeli_tool.proofs.Lines.{lines-cons}
+use Rattle.riegeli_tool.proofs.TakenLines.{taken_from-within, taken_from-past, long-refused}
+use Rattle.riegeli_tool.proofs.TakenRecords.{short-before}
+
+-- lines cost their bytes, and 8 more for each, of which each has a byte or an end
+cost-onto_first : (b : ℕ) (parts : List (List ℕ)) → cost_of (onto_first b parts) ≤ cost_of parts + 9
+cost-onto_first b [] = omega (arith, sum_by-cons cost (b ∷ []) [])
+cost-onto_first b (part ∷ parts) = omega (arith, sum_by-cons cost (b ∷ part) parts, sum_by-cons cost part parts)
+
+cost-lines : (bytes : List ℕ) → cost_of (lines bytes) ≤ 9 * length bytes
+cost-lines [] = omega arith
+cost-lines (b ∷ bs) = elim (cases_Bool (ends_line b)) [
+  | inl at_end ↦
+      omega (
+        arith,
+        ap cost_of (cond-true (ends_line b) ([] ∷ lines bs) (onto_first b (lines bs)) at_end),
+        sum_by-cons cost [] (lines bs),
+        cost-lines bs,
+      )
+  | inr within ↦ omega (arith, ap cost_of (lines-cons b bs within), cost-onto_first b (lines bs), cost-lines bs)
+]
+
+-- the records that are taken cost no more
+cost-taken_lines : (parts : List (List ℕ)) (stop : Option Stop) → cost_of (taken_lines false parts stop).records ≤ cost_of parts
+cost-taken_lines [] stop = omega arith
+cost-taken_lines (part ∷ parts) stop = elim (cases_lt (line_limit false) (length part)) [
+  | inl long ↦
+      omega (arith, ap (λ (r : Rest). cost_of r.records) (long-refused part false (taken_lines false parts stop) long))
+  | inr short ↦
+      omega (
+        arith,
+        ap (λ (r : Rest). cost_of r.records) (short-before part (taken_lines false parts stop) short),
+        sum_by-cons cost part (taken_lines false parts stop).records,
+        sum_by-cons cost part parts,
+        cost-taken_lines parts stop,
+      )
+]
+
+-- so do those of an input
+cost-taken_from : (input : List ℕ) (limit : ℕ) → cost_of (taken_from input false limit).records ≤ 9 * limit
+cost-taken_from input limit = elim (cases_lt limit (length input)) [
+  | inl past ↦
+      let front : List ℕ = take limit input in
+      let kept : List ℕ = up_to_last_end front in
+      omega (
+        arith,
+        ap (λ (r : Rest). cost_of r.records) (taken_from-past input false limit past),
+        cost-taken_lines (lines kept) (Some (stop_past_limit false (running front))),
+        cost-lines kept,
+        length-take (length front - length (running front)) front,
+        length-take limit input,
+      )
+  | inr within ↦
+      omega (
+        arith,
+        ap (λ (r : Rest). cost_of r.records) (taken_from-within input false limit within),
+        cost-taken_lines (lines input) None,
+        cost-lines input,
+      )
+]
+
+-- the chunks of groups end near their begin, by what the groups cost
+groups-near : (place : ℕ) (gs : List (List (List ℕ))) (size : ℕ) (every : Option ℕ) → AllByRecursion (KeepsLimits size every) gs
+    → end_of_chunks place (map simple_chunk gs) ≤ place + 23 * cost_of (joined gs)
+groups-near place [] size every h = omega arith
+groups-near place (group ∷ gs) size every h =
+    omega (
+      arith,
+      group-near place group h.0.some,
+      groups-near (end_of_chunk place (simple_chunk group)) gs size every h.1,
+      sum_by-append cost group (joined gs),
+    )
+
+-- padding that is wanted ends near its begin too
+padding-near : (wanted : Bool) (place : ℕ) → IsBoundary place → end_of_chunks place (padding_if wanted place) ≤ place + 131072
+padding-near true place boundary = omega (arith, padding_at_near place boundary)
+padding-near false place boundary = omega arith
+
+-- so do the chunks of records
+records-near : (place : ℕ) (records : List (List ℕ)) (size : ℕ) (every : Option ℕ) (pad : Pad) → IsBoundary place
+    → end_of_chunks place (record_chunks place records size every pad) ≤ place + 23 * cost_of records + 262144
+records-near place records size every pad boundary =
+    let gs : List (List (List ℕ)) = groups records size every in
+    let first : ℕ = end_of_chunks place (front_padding place pad) in
+    let last : ℕ = end_of_chunks place (front_chunks place records size every pad) in
+    omega (
+      arith,
+      padding-near (pads_start pad) place boundary,
+      end_of_chunks-append place (front_padding place pad) (map simple_chunk gs),
+      groups-near first gs size every (groups-keep records size every),
+      ap cost_of (joined-groups records size every),
+      padding-near (pads_end pad) last (end_of_chunks_boundary place (front_chunks place records size every pad) boundary),
+      end_of_chunks-append place (front_chunks place records size every pad) (end_padding place records size every pad),
+    )
+
+-- so the file of an input can be read
+pub written-fits : (write : WriteWords) (input : List ℕ) → length (write_answer write input).made ≤ 2 ^ 60
+written-fits write input =
+    let records : List (List ℕ) = (taken_from input false (2 ^ 40)).records in
+    let place : ℕ = end_of_chunk 0 signature in
+    omega (
+      arith,
+      length-file_of-signed records write.chunk_size write.every write.pad,
+      end-laid_each place (record_chunks place records write.chunk_size write.every write.pad),
+      records-near place records write.chunk_size write.every write.pad (end_of_chunks_boundary 0 (signature ∷ []) (inl refl)),
+      cost-taken_from input (2 ^ 40),
+      end_of_chunk-signature,
+    )

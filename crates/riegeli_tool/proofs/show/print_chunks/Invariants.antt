@@ -1,0 +1,20 @@
+use Rattle.std.proofs.Common.{◌≡◌, ◌-◌, ◌≤◌, false, Some, IfSome}
+use Rattle.chunk_reader.specs.Progress.{AreReadFrom}
+use Rattle.riegeli_tool.specs.ShowProgress.{IsPrinted}
+use Rattle.riegeli_tool.proofs.show.print_chunks.Given as goal
+
+abbrev pub invariant-loop : goal.invariant-loop
+invariant-loop g l = record {
+  same_size : l.reader.size ≡ l.fn.size;
+  strict : l.reader.frame ≡ false;
+  within : l.reader.totals.bytes ≤ l.reader.size;
+  same_bytes : g.S.Store.bytes l.file ≡ g.S.Store.bytes l.fn.file;
+  told : g.S.Store.told l.file ≡ Some l.fn.size;
+  read : IfSome (g.S.Store.bytes l.fn.file) (λ bytes. AreReadFrom false bytes l.reader.totals);
+  printed : IfSome (g.S.Store.bytes l.fn.file) (λ bytes. IsPrinted l.words bytes l.reader.totals (g.O.Sink.taken l.fn.out) (g.O.Sink.taken l.out) l.lines);
+  file_count : g.S.Store.faults l.fn.file ≤ g.S.Store.faults l.file;
+  out_count : g.O.Sink.faults l.fn.out ≤ g.O.Sink.faults l.out;
+}
+
+abbrev pub decreases-loop : goal.decreases-loop
+decreases-loop g l = l.reader.size - l.reader.totals.bytes

@@ -1,0 +1,67 @@
+-- What the commands that read a record file print and say of it. Own.
+use Rattle.std.specs.Prelude.{◌≡◌, ℕ, ◌^◌, ◌<◌, ◌≤◌, ◌⊎◌, Bool, List, [], ◌∷◌, ◌++◌, length, decimal, if◌then◌else◌}
+use lib.Chars.{codes}
+use Rattle.record_io.specs.declared.file_totals.Totals.{Totals}
+use Rattle.chunk_reader.specs.declared.reasons.Fault.{Fault}
+use Rattle.chunk_reader.specs.declared.reasons.Why.{Why}
+use Rattle.chunk_reader.specs.declared.reasons.Why.TheVariants as why
+use Rattle.riegeli_tool.specs.declared.status.Status.{Status}
+use Rattle.riegeli_tool.specs.declared.status.Status.TheVariants as status
+use Rattle.riegeli_tool.specs.Answers.{Answer, line, noted}
+
+-- the name of a reason
+abbrev pub name_of : Why → List ℕ
+name_of why.NoSignature = codes "NoSignature"
+name_of why.Short = codes "Short"
+name_of why.HeaderHash = codes "HeaderHash"
+name_of why.Truncated = codes "Truncated"
+name_of why.TooLarge = codes "TooLarge"
+name_of why.BlockHeader = codes "BlockHeader"
+name_of why.DataHash = codes "DataHash"
+name_of why.Contents = codes "Contents"
+name_of why.Compressed = codes "Compressed"
+name_of why.Transposed = codes "Transposed"
+name_of why.UnknownKind = codes "UnknownKind"
+name_of why.Contradicted = codes "Contradicted"
+
+-- a number behind a name, as a line
+abbrev pub count_line : List ℕ → ℕ → List ℕ
+count_line name number = line (name ++ 32 ∷ decimal number)
+
+-- the line that tells a fault
+abbrev pub refused_text : Fault → List ℕ
+refused_text fault = line (codes "refused " ++ decimal fault.at ++ 32 ∷ name_of fault.why)
+
+-- the report of a file's totals
+abbrev pub report : Totals → List ℕ
+report totals =
+    count_line (codes "chunks") totals.chunks
+    ++ count_line (codes "records") totals.records
+    ++ count_line (codes "bytes") totals.bytes
+    ++ count_line (codes "unread") totals.unread
+
+-- a record as a line, behind its position where that is wanted
+abbrev pub record_line : Bool → ℕ × List ℕ → List ℕ
+record_line positions placed = line (if positions then decimal placed.0 ++ 32 ∷ placed.1 else placed.1)
+
+-- how many bytes a record file may have that is read
+abbrev pub most_file_bytes : ℕ
+most_file_bytes = 2 ^ 60
+
+-- the line that tells that a file has more
+abbrev pub limit_text : List ℕ
+limit_text = line (codes "limit file")
+
+-- an answer to the one file that is read, by its size first
+abbrev pub OfFile : (List ℕ → Answer → Type 0) → List (List ℕ) → Answer → Type 0
+OfFile P (file ∷ []) answer =
+    ((most_file_bytes < length file) × (answer ≡ noted status.Limit limit_text))
+    ⊎ ((length file ≤ most_file_bytes) × P file answer)
+OfFile P files answer = ⊥
+
+-- how strict reading of a file may end, whatever the file holds: with its work done, with a fault, or as it is too long
+abbrev pub MayEndReading : Status → List ℕ → Type 0
+MayEndReading ended text =
+    ((ended ≡ status.Ok) × (text ≡ []))
+    ⊎ ((fault : Fault) × (ended ≡ status.Refused) × (text ≡ refused_text fault))
+    ⊎ ((ended ≡ status.Limit) × (text ≡ limit_text))

@@ -1,0 +1,70 @@
+-- How the work of a command that reads a record file ends, and what it has printed and says then. Own.
+use Rattle.std.specs.Prelude.{◌≡◌, ℕ, ◌<◌, Option, Result, Ok, Err, List, [], ◌∷◌, ◌++◌, length, IfSome}
+use Rattle.record_io.specs.Outside.{Rose}
+use Rattle.record_io.specs.Buffers.{TakesAndHolds}
+use Rattle.chunk_reader.specs.declared.reasons.VerifyEnd.{VerifyEnd}
+use Rattle.chunk_reader.specs.declared.reasons.VerifyEnd.TheVariants as verify
+use Rattle.chunk_reader.specs.declared.reasons.ReadEnd.{ReadEnd}
+use Rattle.chunk_reader.specs.declared.reasons.ReadEnd.TheVariants as read
+use Rattle.riegeli_tool.specs.declared.reading.ReadingEnd.{ReadingEnd}
+use Rattle.riegeli_tool.specs.declared.reading.ReadingEnd.TheVariants as end
+use Rattle.riegeli_tool.specs.declared.status.Status.{Status}
+use Rattle.riegeli_tool.specs.declared.status.Status.TheVariants as status
+use Rattle.riegeli_tool.specs.Answers.{Answer}
+use Rattle.riegeli_tool.specs.FileAnswers.{OfFile, most_file_bytes, limit_text, refused_text}
+use Rattle.riegeli_tool.specs.Statuses.{fault_text}
+use Rattle.riegeli_tool.specs.Runs.{Shown, SaysAtEnd, TakesThen}
+
+-- the ends of the reader's calls
+abbrev pub end_of_verify : VerifyEnd → ReadingEnd
+end_of_verify (verify.Refused fault) = end.Refused fault
+end_of_verify verify.Store = end.File
+
+abbrev pub end_of_read : ReadEnd → ReadingEnd
+end_of_read (read.Refused fault) = end.Refused fault
+end_of_read read.Store = end.File
+end_of_read read.Memory = end.Memory
+
+-- why no size was told of a file that may be read: it has too many bytes, or it failed
+abbrev pub IsUnsized : ReadingEnd → Option (List ℕ) → ℕ → ℕ → Type 0
+IsUnsized end.Limit file before after = IfSome file (λ bytes. most_file_bytes < length bytes)
+IsUnsized end.File file before after = Rose before after
+IsUnsized other file before after = ⊥
+
+-- why work ended whose lines standard output then failed to take: work that was done or refused ended by that
+abbrev pub end_unprinted : {X : Type 0} → Result X ReadingEnd → ReadingEnd
+end_unprinted (Err end.File) = end.File
+end_unprinted (Err end.Memory) = end.Memory
+end_unprinted other = end.Out
+
+-- all that an answer to a file prints was taken, or is held; behind it notes say a text, and it ends with a status
+pub record HasPrinted (P : List ℕ → Answer → Type 0) (file : List ℕ) (before after : Option (List ℕ)) (held text : List ℕ) (ended : Status) : Type 0 where
+  pub answer : Answer
+  pub is : OfFile P (file ∷ []) answer
+  pub made : answer.made ≡ []
+  pub out : TakesAndHolds before after answer.out held
+  pub notes : answer.notes ≡ text
+  pub status : ended ≡ answer.status
+
+-- a front of what an answer prints was taken, or is held
+pub record HasPrintedFront (before after : Option (List ℕ)) (held : List ℕ) (answer : Answer) : Type 0 where
+  pub text : List ℕ
+  pub rest : List ℕ
+  pub parts : answer.out ≡ text ++ rest
+  pub out : TakesAndHolds before after text held
+
+-- what was printed of a file when the work ended: where it was not cut off all of an answer, and else a front of it
+abbrev pub Prints : {X : Type 0} → (List ℕ → Answer → Type 0) → Result X ReadingEnd → List ℕ → Option (List ℕ) → Option (List ℕ) → List ℕ → Type 0
+Prints P (Ok _) file before after held = HasPrinted P file before after held [] status.Ok
+Prints P (Err end.Limit) file before after held = HasPrinted P file before after held limit_text status.Limit
+Prints P (Err (end.Refused fault)) file before after held = HasPrinted P file before after held (refused_text fault) status.Refused
+Prints P (Err other) file before after held = (answer : Answer) → OfFile P (file ∷ []) answer → HasPrintedFront before after held answer
+
+-- what is said of the end in notes, and the status
+abbrev pub SaysEnd : {X : Type 0} → Result X ReadingEnd → Status → Shown → Shown → Type 0
+SaysEnd (Ok _) ended before after = (ended ≡ status.Ok) × (after ≡ before)
+SaysEnd (Err end.Limit) ended before after = SaysAtEnd ended status.Limit before after limit_text
+SaysEnd (Err (end.Refused fault)) ended before after = SaysAtEnd ended status.Refused before after (refused_text fault)
+SaysEnd (Err end.File) ended before after = (ended ≡ status.File) × TakesThen before after [] (fault_text status.File)
+SaysEnd (Err end.Out) ended before after = (ended ≡ status.Out) × TakesThen before after [] (fault_text status.Out)
+SaysEnd (Err end.Memory) ended before after = (ended ≡ status.Memory) × TakesThen before after [] (fault_text status.Memory)

@@ -1,0 +1,103 @@
+ghost use Rattle.std.specs.Prelude.{◌≡◌, ◌≤◌, ◌++◌, ◌∷◌, [], Some, length, IfOk, IfSome, IfErr};
+ghost use Rattle.record_io.specs.Outside.{Rose, Takes, TakesFront};
+ghost use Rattle.riegeli_tool.specs.FileAnswers.{most_file_bytes, name_of, refused_text};
+ghost use Rattle.riegeli_tool.specs.ReadingEnds.{IsUnsized, SaysEnd, end_unprinted};
+ghost use Rattle.riegeli_tool.specs.Runs.{SaysAtEnd, shown};
+
+use crate::notes::{cut_off, end, end_with_fault};
+use crate::status::Status;
+use chunk_reader::{Fault, ReadEnd, VerifyEnd};
+use record_io::{Failed, Sink, Store};
+
+/// The most bytes that a record file may have that is read.
+const MOST_FILE_BYTES: u64 = 1 << 60;
+
+/// Why the work of a command that reads a record file ended before it was done.
+#[derive(Clone, Copy, Debug, PartialEq, Eq)]
+pub(crate) enum ReadingEnd {
+    /// The file has more bytes than are read.
+    Limit,
+    /// The file is refused.
+    Refused(Fault),
+    /// The file failed.
+    File,
+    /// Standard output failed.
+    Out,
+    /// There was not enough memory.
+    Memory,
+}
+
+impl From<VerifyEnd> for ReadingEnd {
+    ghost use Rattle.std.specs.Prelude.{◌≡◌};
+    ghost use Rattle.riegeli_tool.specs.ReadingEnds.{end_of_verify};
+
+    ghost from_gives = { λ end reading_end. reading_end ≡ end_of_verify end };
+
+    fn from(end: VerifyEnd) -> ReadingEnd {
+        match end {
+            VerifyEnd::Refused(fault) => ReadingEnd::Refused(fault),
+            VerifyEnd::Store => ReadingEnd::File,
+        }
+    }
+}
+
+impl From<ReadEnd> for ReadingEnd {
+    ghost use Rattle.std.specs.Prelude.{◌≡◌};
+    ghost use Rattle.riegeli_tool.specs.ReadingEnds.{end_of_read};
+
+    ghost from_gives = { λ end reading_end. reading_end ≡ end_of_read end };
+
+    fn from(end: ReadEnd) -> ReadingEnd {
+        match end {
+            ReadEnd::Refused(fault) => ReadingEnd::Refused(fault),
+            ReadEnd::Store => ReadingEnd::File,
+            ReadEnd::Memory => ReadingEnd::Memory,
+        }
+    }
+}
+
+/// The size of a file that may be read.
+pub(crate) fn size_of<S: Store>(file: &mut S) -> Result<u64, ReadingEnd>
+    ensures told { IfOk result (λ size. S.told file.new ≡ Some size) }
+    ensures in_reach { IfOk result (λ size. size ≤ most_file_bytes) }
+    ensures exact { IfOk result (λ size. IfSome (S.bytes file.old) (λ bytes. size ≡ length bytes)) }
+    ensures unread { IfErr result (λ ended. IsUnsized ended (S.bytes file.old) (S.faults file.old) (S.faults file.new)) }
+    ensures same_bytes { S.bytes file.new ≡ S.bytes file.old }
+    ensures never_falls { S.faults file.old ≤ S.faults file.new }
+{
+    let Ok(size) = file.size() else {
+        return Err(ReadingEnd::File);
+    };
+    if size > MOST_FILE_BYTES {
+        return Err(ReadingEnd::Limit);
+    }
+    Ok(size)
+}
+
+/// Why work ended whose lines standard output then failed to take.
+pub(crate) fn unprinted(ended: &Result<(), ReadingEnd>) -> ReadingEnd
+    ensures { result ≡ end_unprinted ended.now }
+{
+    match ended {
+        Err(ReadingEnd::File) => ReadingEnd::File,
+        Err(ReadingEnd::Memory) => ReadingEnd::Memory,
+        _ => ReadingEnd::Out,
+    }
+}
+
+/// Says in notes why the work ended before it was done.
+pub(crate) fn end_reading<E: Sink>(ended: Result<(), ReadingEnd>, notes: &mut E) -> Status
+    ensures told { SaysEnd ended result (shown (E.taken notes.old) (E.faults notes.old))
+        (shown (E.taken notes.new) (E.faults notes.new)) }
+    ensures notes_kept { result ≡ Status.Ok → notes.new ≡ notes.old }
+    ensures never_falls { E.faults notes.old ≤ E.faults notes.new }
+{
+    match ended {
+        Ok(()) => Status::Ok,
+        Err(ReadingEnd::Limit) => end(notes, "limit file\n", Status::Limit),
+        Err(ReadingEnd::Refused(fault)) => end_with_fault(notes, &fault),
+        Err(ReadingEnd::File) => cut_off(notes, Status::File),
+        Err(ReadingEnd::Out) => cut_off(notes, Status::Out),
+        Err(ReadingEnd::Memory) => cut_off(notes, Status::Memory),
+    }
+}
