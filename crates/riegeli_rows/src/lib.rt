@@ -5,4 +5,6 @@
 #[cfg(test)]
 mod feed_tests;
 #[cfg(test)]
+mod layout_tests;
+#[cfg(test)]
 mod tests;

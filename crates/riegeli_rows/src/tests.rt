@@ -1,5 +1,5 @@
 use highway_hash::{RIEGELI, hash};
-use record_io::{FileSink, FileStore, MemInput, MemSink, Store};
+use record_io::{Failed, FileSink, FileStore, MemInput, MemSink, Sink, Store};
 use riegeli_tool::{Status, run};
 use std::alloc::{AllocError, Global};
 use std::fs;
@@ -34,7 +34,7 @@ sample --seed=N --records=N [--chunk=N] [--workers=N] FILE
 
 /// Which calls of each object fail, and how many bytes a call moves at most.
 #[derive(Clone, Copy)]
-struct Script<'a> {
+pub(crate) struct Script<'a> {
     input_fails: &'a [u32],
     made_fails: &'a [u32],
     notes_fails: &'a [u32],
@@ -42,7 +42,7 @@ struct Script<'a> {
 }
 
 /// No call fails, and none is cut.
-const SOUND: Script<'static> = Script {
+pub(crate) const SOUND: Script<'static> = Script {
     input_fails: &[],
     made_fails: &[],
     notes_fails: &[],
@@ -81,11 +81,11 @@ fn failing<'a>(object: Object, call: &'a [u32]) -> Script<'a> {
 
 /// What a run left.
 #[derive(Drop)]
-struct Left {
-    status: Status,
-    made: MemSink,
+pub(crate) struct Left {
+    pub status: Status,
+    pub made: MemSink,
     out: MemSink,
-    notes: MemSink,
+    pub notes: MemSink,
 }
 
 impl Left {
@@ -113,12 +113,12 @@ fn owned(alloc: Global, words: &[&str]) -> Result<Vec<String>, AllocError> {
 }
 
 /// No file that is read.
-fn no_files<'a, R: Files>(_: &'a R) -> [FileStore<'a, R>; 0] {
+pub(crate) fn no_files<'a, R: Files>(_: &'a R) -> [FileStore<'a, R>; 0] {
     []
 }
 
 /// Runs the words over objects in memory.
-fn run_over<R: Threads + Sync, S: Store>(
+pub(crate) fn run_over<R: Threads + Sync, S: Store>(
     rt: &R,
     alloc: Global,
     words: &[&str],
@@ -219,7 +219,7 @@ fn line_of(alloc: Global, byte: u8, count: usize) -> Result<Vec<u8>, AllocError>
 }
 
 /// The lines of so many bytes each.
-fn lines_of(alloc: Global, lines: &[(u8, usize)]) -> Result<Vec<u8>, AllocError> {
+pub(crate) fn lines_of(alloc: Global, lines: &[(u8, usize)]) -> Result<Vec<u8>, AllocError> {
     let mut input = Vec::new(alloc);
     for (byte, count) in lines {
         input.extend_from_slice(&line_of(alloc, *byte, *count)?)?;
@@ -400,7 +400,13 @@ fn words_that_are_no_command_get_the_usage_text(rt: HostRuntime) -> Result<(), F
         &["write", "--pad=no", "F"],
         &["Write", "F"],
         &["F", "write"],
+        &["write", "--workers=0", "F"],
+        &["show"],
+        &["show", "A", "B"],
         &["verify", "F"],
+        &["verify", "--hex", "F"],
+        &["seek", "F"],
+        &["repair", "A", "A"],
         &["--help"],
         &["--version"],
     ] {
@@ -516,6 +522,14 @@ fn notes_that_fail_after_another_fault_change_no_status(rt: HostRuntime) -> Resu
         )?;
         left.is(&rt, Status::Made, b"", told);
     }
+    Ok(())
+}
+
+#[test]
+fn a_sink_without_room_fails_at_its_first_put(rt: HostRuntime) -> Result<(), Fail> {
+    let mut made = MemSink::new(rt.alloc(), 0, Vec::new(rt.alloc()), Vec::new(rt.alloc()))?;
+    assert_eq!(rt; made.put(b"a"), Err(Failed));
+    assert_eq!(rt; made.taken(), b"".as_slice());
     Ok(())
 }
 
