@@ -1,15 +1,15 @@
 -- Each step keeps the rule of the table that numbers are drawn from.
-use Rattle.std.proofs.Common.{◌≡◌, ◌∙◌, ℕ, zero, suc, ◌+◌, ◌^◌, ◌%◌, ◌<◌, ◌≤◌, Some, List, [], ◌∷◌, ◌++◌, length, set, map, refl, sym, ap, subst, inl, inr, arith}
+use Rattle.std.proofs.Common.{◌≡◌, ◌∙◌, ℕ, zero, suc, ◌+◌, ◌^◌, ◌%◌, ◌<◌, ◌≤◌, Some, List, [], ◌∷◌, ◌++◌, length, set, map, replicate, refl, sym, ap, subst, inl, inr, arith}
 use Rattle.std.specs.List.{AllByRecursion, flat_map, sum_by, slice_get, slice_index}
 use Rattle.std.proofs.lemmas.Bool.{cases_lt}
-use Rattle.std.proofs.lemmas.List.{length-append, length-set}
+use Rattle.std.proofs.lemmas.List.{length-append, length-set, replicate_more}
 use Rattle.std.proofs.lemmas.List.Sums.{sum_by-append, sum_by-cons}
 use mathlib.Core.Option.{some, none}
 use lib.ListN.{get_elem?}
 use Rattle.atomic_table.specs.Table.{State, Me, step, stepped, opening, keeps, Allows, Splits, Joins}
 use Rattle.chunk_workers.specs.declared.table.SeatView.{SeatView}
 use Rattle.chunk_workers.specs.declared.table.Terms.{Terms}
-use Rattle.chunk_workers.specs.DrawMachine.{Hand, IsDraw, IsHand, HasEachBelow, times, drawn, numbers_in, empty_hand}
+use Rattle.chunk_workers.specs.DrawMachine.{Hand, Machine, start_of, IsDraw, IsHand, HasEachBelow, times, drawn, numbers_in, empty_hand}
 use Rattle.chunk_workers.specs.DrawRule.{first_view, view_less_one, view_of_one, joined_view, spent_view, hand_of, with_hand, TellsDraw, IsAtWork, IsView, machine_of, IsKept}
 use Rattle.chunk_workers.proofs.Counting.{once_below, times-append, times-flat_map, times-each_below, each_below_from_times, times-none, all_from_times}
 use Rattle.chunk_workers.proofs.Machines.{all_at, all_set, all_push, all_append, sum_by-set_at, drawn-both, IsHand-drawn, counted_after_draw, word_at_most}
@@ -215,6 +215,33 @@ splits terms id v stands going s h at =
       some_worker = h.some_worker;
       workers_at_most = h.workers_at_most;
     }
+
+-- an empty hand behind others
+hands_behind : (views : List SeatView) (v : SeatView) → map hand_of (views ++ view_of_one v ∷ []) ≡ map hand_of views ++ empty_hand ∷ []
+hands_behind [] v = refl
+hands_behind (w ∷ ws) v = ap (λ hs. hand_of w ∷ hs) (hands_behind ws v)
+
+-- the hands of views of which one is cut in two: as before, and an empty one behind them
+hands_of_split : (views : List SeatView) (id : ℕ) (v : SeatView) → slice_get views id ≡ Some v
+    → map hand_of (set views id (view_less_one v) ++ view_of_one v ∷ []) ≡ map hand_of views ++ empty_hand ∷ []
+hands_of_split [] id v at = cc
+hands_of_split (w ∷ ws) zero v at =
+    let same : w ≡ v = cc in
+    ap (λ (u : SeatView). hand_of u ∷ map hand_of (ws ++ view_of_one v ∷ [])) (sym same) ∙ ap (λ hs. hand_of w ∷ hs) (hands_behind ws v)
+hands_of_split (w ∷ ws) (suc id) v at = ap (λ hs. hand_of w ∷ hs) (hands_of_split ws id v at)
+
+-- so a seat split off before any draw makes the machine's start for one seat more
+pub split_starts : (seats : ℕ) (s : State (Unit {0}) SeatView) (id : ℕ) (v : SeatView) → machine_of s ≡ start_of seats
+    → get_elem? s.views id ≡ some v
+    → machine_of (record { words = s.words; homes = s.homes; views = set s.views id (view_less_one v) ++ view_of_one v ∷ [] })
+    ≡ start_of (seats + 1)
+split_starts seats s id v start at =
+    let hands : map hand_of (set s.views id (view_less_one v) ++ view_of_one v ∷ []) ≡ replicate (seats + 1) empty_hand =
+    hands_of_split s.views id v (slice_get_at s.views id v at)
+    ∙ ap (λ (m : Machine). m.hands ++ empty_hand ∷ []) start
+    ∙ replicate_more seats empty_hand in
+    ap (λ (m : Machine). record { word = m.word; hands = map hand_of (set s.views id (view_less_one v) ++ view_of_one v ∷ []) }) start
+    ∙ ap (λ (hs : List Hand). let m : Machine = record { word = 0; hands = hs } in m) hands
 
 -- what the seat has that took in another
 at_work_joined : (terms : Terms) (v w : SeatView) → IsAtWork terms v → IsAtWork terms w → IsAtWork terms (joined_view v w)

@@ -1,6 +1,6 @@
 //! Laws of the definitions that contracts cite. Nothing runs here.
 
-ghost use Rattle.std.specs.Prelude.{◌≡◌, ◌≢◌, ℕ, ◌+◌, ◌%◌, ◌^◌, ◌≤◌, List, [], ◌∷◌, length, slice_index};
+ghost use Rattle.std.specs.Prelude.{◌≡◌, ◌≢◌, ℕ, ◌+◌, ◌%◌, ◌^◌, ◌≤◌, List, [], ◌∷◌, ◌++◌, length, slice_index, slice_set};
 ghost use Rattle.std.specs.List.{AllByRecursion, flat_map};
 ghost use mathlib.Core.Option.{some, none};
 ghost use lib.ListN.{get_elem?};
@@ -29,16 +29,21 @@ pub fn each_below_is_so_many()
     ensures no_more { (n p : ℕ) (numbers : List ℕ) → HasEachBelow n numbers → times p numbers ≤ 1 }
 {}
 
-/// The table that numbers are drawn from is made under its rule, as the machine's start with one seat. Each step goes from
-/// any state that meets the rule to one that does: a seat is split off before any draw, a number is drawn, a seat takes in
-/// another. A draw is the machine's event of the seat that draws. Where the table is closed with a seat that took in all
-/// others, and has ended, that seat has each number below n once, and no other. The word never passes n + 16. Own.
+/// The table that numbers are drawn from is made under its rule, as the machine's start with one seat, and a seat split
+/// off makes it the start with one more. Each step goes from any state that meets the rule to one that does: a seat is
+/// split off before any draw, a number is drawn, a seat takes in another. A draw is the machine's event of the seat that
+/// draws. Where the table is closed with a seat that took in all others, and has ended, that seat has each number below n
+/// once, and no other. The word never passes n + 16. Own.
 pub fn steps_keep_the_rule()
     ensures opens { (terms : Terms) → terms.n ≤ 2 ^ 32 → 1 ≤ terms.workers → terms.workers ≤ 16
         → IsKept terms (opening (0 ∷ []) [] (first_view terms)) }
     ensures start { (terms : Terms) → machine_of (opening (0 ∷ []) [] (first_view terms)) ≡ start_of 1 }
     ensures splits { (terms : Terms) (id : ℕ) (v : SeatView) → 2 ≤ v.weight → v.past ≡ []
         → Splits (IsKept terms) id v (view_less_one v) (view_of_one v) }
+    ensures split_starts { (seats : ℕ) (s : State (Unit {0}) SeatView) (id : ℕ) (v : SeatView) → machine_of s ≡ start_of seats
+        → get_elem? s.views id ≡ some v
+        → machine_of (record { words = s.words; homes = s.homes; views = slice_set s.views id (view_less_one v) ++ view_of_one v ∷ [] })
+        ≡ start_of (seats + 1) }
     ensures draws { (terms : Terms) (slots id : ℕ) (me : Me (Unit {0}) SeatView) → 1 ≤ me.0.weight → me.0.past ≡ []
         → Allows (IsKept terms) slots id me 0 (λ word. (word + 1) % 2 ^ 64) (TellsDraw (step slots 0 1 0 none) me) }
     ensures event { (terms : Terms) (s : State (Unit {0}) SeatView) (id : ℕ) (v : SeatView)

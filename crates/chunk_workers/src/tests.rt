@@ -59,12 +59,23 @@ fn two_seats_draw_three_numbers_in_turns(rt: HostRuntime) -> Result<(), Fail> {
     Ok(())
 }
 
+/// One seat ends where there is no number. Its list is empty.
+fn none_at_once(rt: &impl Abort, alloc: Global) -> Result<(Draws, Vec<DrawSeat>), AllocError>
+    ensures draws { IfOk result (λ d. (d.0.n ≡ 0) × (d.0.workers ≡ 1)) }
+    ensures seats { IfOk result (λ d. All (λ seat. BelongsTo d.0 seat × (seat.hand.past ≢ [])) d.1.items) }
+    ensures lists { IfOk result (λ d. map (λ seat. seat.hand.mine) d.1.items ≡ [] ∷ []) }
+{
+    let (draws, mut seats) = Draws::new(alloc, 0, 1)?;
+    let mut only = seats.pop().expect(rt, "one seat");
+    end_at(rt, &draws, &mut only, 0);
+    let mut seats = Vec::with_capacity(alloc, 1)?;
+    seats.push_reserved(only);
+    Ok((draws, seats))
+}
+
 #[test]
 fn a_seat_ends_at_once_where_there_is_no_number(rt: HostRuntime) -> Result<(), Fail> {
-    let (draws, mut seats) = Draws::new(rt.alloc(), 0, 1)?;
-    let mut seat = seats.pop().expect(&rt, "one seat");
-    end_at(&rt, &draws, &mut seat, 0);
-    seats.push_reserved(seat);
+    let (draws, seats) = none_at_once(&rt, rt.alloc())?;
     draws.finish(seats);
     Ok(())
 }

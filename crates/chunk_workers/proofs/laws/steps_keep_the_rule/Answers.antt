@@ -1,9 +1,12 @@
 use Rattle.std.proofs.Common.{arith}
-use Rattle.chunk_workers.proofs.Tables.{splits, draws, draw_is_event, joins, closes, word_small}
+use Rattle.chunk_workers.proofs.Tables.{splits, split_starts, draws, draw_is_event, joins, closes, word_small}
 use Rattle.chunk_workers.proofs.laws.steps_keep_the_rule.Goals as goal
 
 pub returns-clause-splits : goal.returns-clause-splits
 returns-clause-splits c = splits
+
+pub returns-clause-split_starts : goal.returns-clause-split_starts
+returns-clause-split_starts c = split_starts
 
 pub returns-clause-draws : goal.returns-clause-draws
 returns-clause-draws c = draws
