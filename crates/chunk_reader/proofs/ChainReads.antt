@@ -107,9 +107,9 @@ is_left_other (Records records) other = refl
 is_left_other Passive other = refl
 is_left_other Unread other = absurd (other refl)
 
--- what a chunk is that was given: plain or left unread
-given_plain : (k : ChunkValue) → length k.«data» ≤ max_data_size → IsPlain k → is_unread k ≡ false
-given_plain k small plain =
+-- of a chunk that was given it is so exactly where its records aren't counted
+given_plain : (k : ChunkValue) → IsPlain k → is_unread k ≡ false
+given_plain k plain =
     elim (cases_Bool (is_unread k)) [
       | inl unread ↦ absurd (plain_or_unread k plain ((is_unread-iff k (inl plain)).0 unread))
       | inr read ↦ read
@@ -117,8 +117,8 @@ given_plain k small plain =
 
 pub left_unread : (frame : Bool) (k : ChunkValue) (what : What) → length k.«data» ≤ max_data_size → IsWhat frame k what
     → is_left what ≡ is_unread k
-left_unread frame k (Records records) small is = sym (given_plain k small (small, inl (records, is)))
-left_unread frame k Passive small is = sym (given_plain k small (small, inr is))
+left_unread frame k (Records records) small is = sym (given_plain k (small, inl (records, is)))
+left_unread frame k Passive small is = sym (given_plain k (small, inr is))
 left_unread frame k Unread small (framed, inl compressed) =
     let unread : IsUnread k = (small, inr compressed) in sym ((is_unread-iff k (inr unread)).1 unread)
 left_unread frame k Unread small (framed, inr transposed) =
@@ -143,7 +143,7 @@ pub room_given : (frame : Bool) (size place : ℕ) (j : Judged) → IsJudged fra
 room_given frame size place j h =
     omega (arith, h.end, chunk_end_of_past_records place (40 + length j.chunk.bytes) j.chunk.header.num_records)
 
--- the first ends behind its header, which has one of a block before it
+-- the first chunk ends behind a block header and its own header
 first_end : (k : ChunkValue) → 64 ≤ end_of_chunk 0 k
 unfolding end_of
 first_end k =

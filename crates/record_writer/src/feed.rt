@@ -66,6 +66,11 @@ pub trait RecordFeed {
 
     /// Gives one record: `into` then has its bytes alone, 2^24 or fewer, and the answer is true. False says that the feed
     /// is at its end without a stop. A call that fails is the feed's last.
+    ///
+    /// # Errors
+    ///
+    /// `Stop` where no record is left and this stop follows, `Failed` only where what the feed reads failed, and
+    /// `Memory`.
     fn pull(&mut self, alloc: Global, into: &mut Bytes) -> Result<bool, FeedEnd>
         requires { going self.old ≡ true }
         ensures going { OnOk result (going self.new ≡ true) }
