@@ -28,7 +28,8 @@ pub struct LineFeed<'a, I: Source> {
 }
 
 impl<'a, I: Source> LineFeed<'a, I> {
-    /// The lines of what the input has left. It takes no memory.
+    /// The lines of what the input has left, of which `limit` bytes are read, 2^40 or fewer. For now `hex` is false: the
+    /// hexadecimal form isn't read yet. It takes no memory.
     pub fn new(_alloc: Global, input: &'a mut I, hex: bool, limit: u64) -> LineFeed<'a, I>
         requires limit { limit ≤ 2 ^ 40 }
         requires plain { hex ≡ false }
