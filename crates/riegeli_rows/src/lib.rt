@@ -7,4 +7,14 @@ mod feed_tests;
 #[cfg(test)]
 mod layout_tests;
 #[cfg(test)]
+mod read_back_tests;
+#[cfg(test)]
+mod reading;
+#[cfg(test)]
+mod reading_fault_tests;
+#[cfg(test)]
+mod reading_tests;
+#[cfg(test)]
+mod refusal_tests;
+#[cfg(test)]
 mod tests;

@@ -9,7 +9,7 @@ use std::test::Fail;
 use std::thread::Threads;
 
 /// The file of the lines `a`, `bc` and an empty one: the 64 bytes that begin each file, and one chunk.
-const THREE: [u8; 112] = [
+pub(crate) const THREE: [u8; 112] = [
     0x83, 0xaf, 0x70, 0xd1, 0x0d, 0x88, 0x4a, 0x3f, 0, 0, 0, 0, 0, 0, 0, 0, //
     0x40, 0, 0, 0, 0, 0, 0, 0, 0x91, 0xba, 0xc2, 0x3c, 0x92, 0x87, 0xe1, 0xa9, //
     0, 0, 0, 0, 0, 0, 0, 0, 0xe1, 0x9f, 0x13, 0xc0, 0xe9, 0xb1, 0xc3, 0x72, //
@@ -20,10 +20,10 @@ const THREE: [u8; 112] = [
 ];
 
 /// The input of these lines.
-const THREE_LINES: &[u8] = b"a\nbc\n\n";
+pub(crate) const THREE_LINES: &[u8] = b"a\nbc\n\n";
 
 /// What is said where the words are no command, of 279 bytes.
-const USAGE: &str = "usage:
+pub(crate) const USAGE: &str = "usage:
 write [--chunk=N] [--every=N] [--workers=N] [--pad=start|end|both] [--hex] FILE
 show [--recover] [--most=N] [--hex] [--positions] FILE
 verify FILE
@@ -84,7 +84,7 @@ fn failing<'a>(object: Object, call: &'a [u32]) -> Script<'a> {
 pub(crate) struct Left {
     pub status: Status,
     pub made: MemSink,
-    out: MemSink,
+    pub out: MemSink,
     pub notes: MemSink,
 }
 
@@ -104,7 +104,7 @@ fn sink(alloc: Global, cuts: &[u32], fails: &[u32]) -> Result<MemSink, AllocErro
 }
 
 /// The words as the program gets them.
-fn owned(alloc: Global, words: &[&str]) -> Result<Vec<String>, AllocError> {
+pub(crate) fn owned(alloc: Global, words: &[&str]) -> Result<Vec<String>, AllocError> {
     let mut owned = Vec::new(alloc);
     for word in words {
         owned.push(String::from_str(alloc, word)?)?;
@@ -148,7 +148,7 @@ pub(crate) fn run_over<R: Threads + Sync, S: Store>(
 }
 
 /// Some of the bytes, or none where there are fewer.
-fn part(bytes: &[u8], from: usize, to: usize) -> &[u8] {
+pub(crate) fn part(bytes: &[u8], from: usize, to: usize) -> &[u8] {
     bytes.get(from..to).unwrap_or(b"")
 }
 
