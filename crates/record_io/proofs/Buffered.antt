@@ -1,6 +1,9 @@
 -- One call after another on a sink and the buffer beside it.
-use Rattle.std.proofs.Common.{◌≡◌, ℕ, ◌≤◌, Option, Some, None, List, [], ◌++◌, length, sym, ap, ◌∙◌, subst, arith, append_assoc}
-use Rattle.std.proofs.lemmas.List.{append-nil, nil_from_length}
+use Rattle.std.proofs.Common.{◌≡◌, ℕ, ◌+◌, ◌<◌, ◌≤◌, Option, Some, None, List, [], ◌∷◌, ◌++◌, length, get_or, take, drop, sym, ap, ◌∙◌, subst, arith, add-one, append_assoc}
+use Rattle.std.specs.List.{concat}
+use Rattle.std.proofs.Math.Seq.{take-suc}
+use Rattle.std.proofs.lemmas.List.{append-nil, nil_from_length, take-append-drop}
+use Rattle.std.proofs.lemmas.List.Folds.{concat-append}
 use Rattle.record_io.specs.Outside.{Takes, TakesFront}
 use Rattle.record_io.specs.Buffers.{TakesAndHolds}
 use Rattle.record_io.proofs.Calls.{Takes-append, TakesFront-append, TakesFront-longer}
@@ -62,3 +65,37 @@ TakesAndHolds-none a held = record {
   parts = append-nil held;
   taken = Takes-none a;
 }
+
+-- the pieces up to the next one
+concat-next : (xs : List (List ℕ)) (i : ℕ) (d : List ℕ) → i < length xs
+    → concat (take (i + 1) xs) ≡ concat (take i xs) ++ get_or xs i d
+concat-next xs i d within =
+    ap (λ (n : ℕ). concat (take n xs)) (add-one i)
+    ∙ ap concat (take-suc xs i d within)
+    ∙ concat-append (take i xs) (get_or xs i d ∷ [])
+    ∙ ap (λ (ys : List ℕ). concat (take i xs) ++ ys) (append-nil (get_or xs i d))
+
+concat-front : (xs : List (List ℕ)) (n : ℕ) → concat xs ≡ concat (take n xs) ++ concat (drop n xs)
+concat-front xs n = ap concat (sym (take-append-drop n xs)) ∙ concat-append (take n xs) (drop n xs)
+
+-- one piece more
+pub pieces-next : (a b c : Option (List ℕ)) (before held then : List ℕ) (xs : List (List ℕ)) (i : ℕ) (piece : List ℕ) → i < length xs
+    → get_or xs i [] ≡ piece
+    → TakesAndHolds a b (before ++ concat (take i xs)) held → TakesAndHolds b c (held ++ piece) then
+    → TakesAndHolds a c (before ++ concat (take (i + 1) xs)) then
+pieces-next a b c before held then xs i piece within is first next =
+    subst (λ (ys : List ℕ). TakesAndHolds a c (before ++ ys) then)
+    (ap (λ (p : List ℕ). concat (take i xs) ++ p) (sym is) ∙ sym (concat-next xs i [] within))
+    (TakesAndHolds-append a b c before held then (concat (take i xs)) piece first next)
+
+-- a piece more failed
+pub pieces-failed : (a b c : Option (List ℕ)) (before held : List ℕ) (xs : List (List ℕ)) (i : ℕ) (piece : List ℕ) → i < length xs
+    → get_or xs i [] ≡ piece
+    → TakesAndHolds a b (before ++ concat (take i xs)) held → TakesFront b c (held ++ piece)
+    → TakesFront a c (before ++ concat xs)
+pieces-failed a b c before held xs i piece within is first next =
+    subst (λ (ys : List ℕ). TakesFront a c (before ++ ys)) (sym (concat-front xs (i + 1)))
+    (TakesFront-held_longer a c before (concat (take (i + 1) xs)) (concat (drop (i + 1) xs))
+    (subst (λ (ys : List ℕ). TakesFront a c (before ++ ys))
+    (ap (λ (p : List ℕ). concat (take i xs) ++ p) (sym is) ∙ sym (concat-next xs i [] within))
+    (TakesFront-behind a b c before held (concat (take i xs)) piece first next)))

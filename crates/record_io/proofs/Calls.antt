@@ -1,5 +1,6 @@
 -- One call after another: what a source gives and a sink takes in two.
-use Rattle.std.proofs.Common.{◌≡◌, ℕ, ◌+◌, Option, Some, None, List, ◌++◌, length, take, drop, sym, ap, ◌∙◌, subst, arith, append_assoc, length-append}
+use Rattle.std.proofs.Common.{◌≡◌, ℕ, ◌+◌, Option, Some, None, Result, Ok, Err, List, ◌++◌, length, take, drop, sym, ap, ◌∙◌, subst, arith, append_assoc, length-append}
+use Rattle.std.specs.Result.{OnErr}
 use Rattle.std.proofs.lemmas.List.{drop-drop}
 use Rattle.std.proofs.lemmas.Grind.{common_steps}
 use Rattle.std.proofs.Math.Seq.{take-append-add}
@@ -48,3 +49,8 @@ TakesFront-whole (Some taken) b x h = (length x, omega arith, h ∙ ap (λ r. So
 pub TakesFront-none : (a : Option (List ℕ)) (x : List ℕ) → TakesFront a a x
 TakesFront-none None x = tt
 TakesFront-none (Some taken) x = (0, omega arith, ap Some (grind (arith, common_steps)))
+
+-- what holds anyway holds where a call failed
+pub OnErr-any : {X E : Type 0} {P : Type 0} (result : Result X E) → P → OnErr result P
+OnErr-any (Ok x) h = tt
+OnErr-any (Err e) h = h

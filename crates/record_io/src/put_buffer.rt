@@ -1,4 +1,5 @@
-ghost use Rattle.std.specs.Prelude.{◌≡◌, ◌+◌, ◌^◌, ◌<◌, ◌≤◌, [], ◌++◌, length, OnOk, OnErr};
+ghost use Rattle.std.specs.Prelude.{◌≡◌, ◌+◌, ◌^◌, ◌<◌, ◌≤◌, [], ◌++◌, length, map, OnOk, OnErr};
+ghost use Rattle.std.specs.List.{concat};
 ghost use Rattle.record_io.specs.Outside.{Rose, Takes, TakesFront};
 ghost use Rattle.record_io.specs.Buffers.{TakesAndHolds};
 
@@ -62,6 +63,28 @@ impl<const N: usize> PutBuffer<N> {
             return put_all(sink, piece);
         }
         self.hold(piece);
+        Ok(())
+    }
+
+    /// Puts pieces one behind another, each as `put` does.
+    ///
+    /// # Errors
+    ///
+    /// `Failed` only where the sink failed. It took a front of what was held and the pieces, and nothing is held.
+    pub fn put_each<M: Sink>(&mut self, sink: &mut M, pieces: &[&[u8]]) -> Result<(), Failed>
+        ensures whole { OnOk result (TakesAndHolds (M.taken sink.old) (M.taken sink.new)
+            (self.old ++ concat (map (λ piece. piece.now) pieces.now)) self.new) }
+        ensures front { OnErr result (TakesFront (M.taken sink.old) (M.taken sink.new)
+            (self.old ++ concat (map (λ piece. piece.now) pieces.now))) }
+        ensures emptied { OnErr result (self.new ≡ []) }
+        ensures cause { OnErr result (Rose (M.faults sink.old) (M.faults sink.new)) }
+        ensures never_falls { M.faults sink.old ≤ M.faults sink.new }
+        ensures small { M.faults sink.old < 2 ^ 64 → M.faults sink.new < 2 ^ 64 }
+        ensures same_name { M.name sink.new ≡ M.name sink.old }
+    {
+        for piece in pieces {
+            self.put(sink, piece)?;
+        }
         Ok(())
     }
 
