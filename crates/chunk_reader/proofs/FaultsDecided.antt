@@ -26,7 +26,7 @@ use Rattle.chunk_reader.proofs.FileFaults.{first_applies, fault_or_none}
 use Rattle.chunk_reader.proofs.NoReasonLaid.{laid_where_none, allowed_where_none}
 
 -- either of two things, where each is decided, and what follows from one
-either_decided : (A B : Type 0) → IsDecided A → IsDecided B → IsDecided (A ⊎ B)
+pub either_decided : (A B : Type 0) → IsDecided A → IsDecided B → IsDecided (A ⊎ B)
 either_decided A B (inl a) b = inl (inl a)
 either_decided A B (inr not) (inl b) = inl (inr b)
 either_decided A B (inr not) (inr nor) = inr (λ e. elim e [ inl a ↦ not a | inr b ↦ nor b ])
@@ -108,7 +108,7 @@ content_decided hash k why.Transposed = equal_decided k.kind transposed_kind
 content_decided hash k why.UnknownKind = name_decided k.kind
 content_decided hash k other = inr (λ never. never)
 
-reason_decided : (file : List ℕ) (place : ℕ) (w : Why) → IsDecided (Applies file place w)
+pub reason_decided : (file : List ℕ) (place : ℕ) (w : Why) → IsDecided (Applies file place w)
 reason_decided file place why.Short = less_decided (length file) (end_of place 40)
 reason_decided file place why.HeaderHash = not_decided _ (header_decided (header_bytes_at file place))
 reason_decided file place why.Truncated = less_decided (length file) (end_at file place)
@@ -117,7 +117,7 @@ reason_decided file place why.BlockHeader = block_decided file place
 reason_decided file place other = content_decided (header_at file place).data_hash (chunk_at file place) other
 
 -- the first reason that applies, or that none does
-first_or_none : (P : Why → Type 0) → ((w : Why) → IsDecided (P w)) → (reasons : List Why)
+pub first_or_none : (P : Why → Type 0) → ((w : Why) → IsDecided (P w)) → (reasons : List Why)
     → ((first : Why) × IsFirstOf P reasons first) ⊎ NoneOf P reasons
 first_or_none P decided [] = inr tt
 first_or_none P decided (w ∷ reasons) =
@@ -130,7 +130,7 @@ first_or_none P decided (w ∷ reasons) =
     ]
 
 -- the least number of which something holds
-least_below : (P : ℕ → Type 0) → ((i : ℕ) → IsDecided (P i)) → (most i : ℕ) → i ≤ most → P i
+pub least_below : (P : ℕ → Type 0) → ((i : ℕ) → IsDecided (P i)) → (most i : ℕ) → i ≤ most → P i
     → (least : ℕ) × P least × ((j : ℕ) → P j → least ≤ j)
 least_below P decided zero i few here =
     let first : i ≡ 0 = omega arith in (i, here, λ j there. omega arith)

@@ -145,7 +145,7 @@ content_of k good named =
     ]
 
 -- and it is allowed
-content_where_none : (frame : Bool) (file : List ℕ) (place : ℕ) → NoneOf (Applies file place) (content_reasons frame) → IsPassed frame (chunk_at file place)
+pub content_where_none : (frame : Bool) (file : List ℕ) (place : ℕ) → NoneOf (Applies file place) (content_reasons frame) → IsPassed frame (chunk_at file place)
 content_where_none false file place (hash, (contents, (compressed, (transposed, (named, end))))) =
     elim (content_of (chunk_at file place) contents named) [
       | inl plain ↦ plain

@@ -69,3 +69,29 @@ own_filled (Some file) now (Some told) place i n xs ys same sized room whole fit
 pub own_filled-none : (bytes : Option (List ℕ)) → IfSome bytes (λ file. let none : List ℕ = [] in none ≡ [])
 own_filled-none None = tt
 own_filled-none (Some file) = refl
+
+-- what holds of no bytes holds of the first none at a place
+pub own_none : (bytes : Option (List ℕ)) (P : List ℕ → Type 0) (place n : ℕ) → n ≡ 0 → P []
+    → IfSome bytes (λ file. P (own_bytes_at file place n))
+own_none None P place n none holds = tt
+own_none (Some file) P place n none holds = subst (λ (m : ℕ). P (own_bytes_at file place m)) (sym none) holds
+
+-- what holds of own bytes from a place gives, with a piece of those behind them, what holds of more of these
+pub own_more : (bytes now : Option (List ℕ)) (told : Option ℕ) (P Q : List ℕ → Type 0) (place i n whole end : ℕ) (piece : List ℕ)
+    → now ≡ bytes → IsSized bytes told → IsSomeAnd told (λ size. end ≤ size) → end_of place i ≤ end → whole ≡ i + n
+    → ((taken : List ℕ) → P taken → Q (taken ++ piece))
+    → IfSome bytes (λ file. P (own_bytes_at file place i))
+    → IfSome now (λ file. piece ≡ own_bytes_at file (end_of place i) n)
+    → IfSome bytes (λ file. Q (own_bytes_at file place whole))
+own_more None now told P Q place i n whole end piece same sized within fits sum on taken given = tt
+own_more (Some file) None told P Q place i n whole end piece same sized within fits sum on taken given = cc
+own_more (Some file) (Some other) None P Q place i n whole end piece same sized within fits sum on taken given = elim within [ ]
+own_more (Some file) (Some other) (Some size) P Q place i n whole end piece same sized within fits sum on taken given =
+    let is : other ≡ file = cc in
+    let here : piece ≡ own_bytes_at file (end_of place i) n =
+    given ∙ ap (λ (bytes : List ℕ). own_bytes_at bytes (end_of place i) n) is in
+    let joined : own_bytes_at file place i ++ piece ≡ own_bytes_at file place whole =
+    ap (λ (xs : List ℕ). own_bytes_at file place i ++ xs) here
+    ∙ sym (own_bytes_at-more file place i n (omega (arith, fits, within, sized)))
+    ∙ ap (own_bytes_at file place) (sym sum) in
+    subst Q joined (on (own_bytes_at file place i) taken)

@@ -6,7 +6,6 @@ use Rattle.record_io.specs.Bytes.{AreBytes}
 use Rattle.block_layout.specs.Layout.{IsBoundary, end_of, chunk_end_of, own_bytes_at}
 use Rattle.block_layout.proofs.ChunkEnds.{chunk_end_of_boundary, chunk_end_of_past_records}
 use Rattle.block_layout.proofs.Ends.{end_of_after, end_of_room}
-use Rattle.block_layout.proofs.UsableBytes.{own_bytes_at-more}
 use Rattle.chunk_header.specs.Chunks.{ChunkValue}
 use Rattle.chunk_header.specs.declared.Header.{Header}
 use Rattle.chunk_header.specs.Views.{IsHeader, bytes_of_header, value_of_header, value_of}
@@ -41,32 +40,6 @@ tells_unread hash k right unread =
 
 pub tells_contents : (hash : ℕ) (k : ChunkValue) → riegeli_hash k.«data» ≡ hash → HasBadContents k → TellsUnread hash k (Err why.Contents)
 tells_contents hash k right bad = inr (λ wrong. wrong right, inl (bad, refl))
-
--- a judge that has taken no bytes has taken the first none at a place
-pub taken-none : (bytes : Option (List ℕ)) (judge : PieceJudge) (place n : ℕ) → n ≡ 0 → HasTaken judge []
-    → IfSome bytes (λ file. HasTaken judge (own_bytes_at file place n))
-taken-none None judge place n none taken = tt
-taken-none (Some file) judge place n none taken = subst (λ (m : ℕ). HasTaken judge (own_bytes_at file place m)) (sym none) taken
-
--- one that has taken own bytes from a place has, with those behind them, taken more of these
-pub taken_on : (bytes now : Option (List ℕ)) (told : Option ℕ) (judge next : PieceJudge) (place i n whole end : ℕ) (piece : List ℕ)
-    → now ≡ bytes → IsSized bytes told → IsSomeAnd told (λ size. end ≤ size) → end_of place i ≤ end → whole ≡ i + n
-    → ((taken : List ℕ) → HasTaken judge taken → HasTaken next (taken ++ piece))
-    → IfSome bytes (λ file. HasTaken judge (own_bytes_at file place i))
-    → IfSome now (λ file. piece ≡ own_bytes_at file (end_of place i) n)
-    → IfSome bytes (λ file. HasTaken next (own_bytes_at file place whole))
-taken_on None now told judge next place i n whole end piece same sized within fits sum on taken given = tt
-taken_on (Some file) None told judge next place i n whole end piece same sized within fits sum on taken given = cc
-taken_on (Some file) (Some other) None judge next place i n whole end piece same sized within fits sum on taken given = elim within [ ]
-taken_on (Some file) (Some other) (Some size) judge next place i n whole end piece same sized within fits sum on taken given =
-    let is : other ≡ file = cc in
-    let here : piece ≡ own_bytes_at file (end_of place i) n =
-    given ∙ ap (λ (bytes : List ℕ). own_bytes_at bytes (end_of place i) n) is in
-    let joined : own_bytes_at file place i ++ piece ≡ own_bytes_at file place whole =
-    ap (λ (xs : List ℕ). own_bytes_at file place i ++ xs) here
-    ∙ sym (own_bytes_at-more file place i n (omega (arith, fits, within, sized)))
-    ∙ ap (own_bytes_at file place) (sym sum) in
-    subst (HasTaken next) joined (on (own_bytes_at file place i) taken)
 
 -- own bytes behind the header at a place are its data
 pub taken_data : (bytes now : Option (List ℕ)) (told : Option ℕ) (at size end : ℕ) (judge : PieceJudge) → now ≡ bytes → IsSized bytes told

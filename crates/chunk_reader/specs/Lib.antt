@@ -6,3 +6,4 @@ pub mod Contents
 pub mod Progress
 pub mod Ends
 pub mod Pieces
+pub mod Names

@@ -9,6 +9,9 @@ use crate::reasons::{Fault, VerifyEnd, Why};
 use block_layout::{BLOCK_HEADER_SIZE, BLOCK_SIZE, BlockHeader};
 use record_io::{Store, get_exact};
 
+/// How many bytes of data are taken at a time at most.
+pub(crate) const PIECE: usize = 4096;
+
 /// The data of a chunk of a file, which is read in order, and the headers of the blocks within the chunk, each of which
 /// is compared with the chunk's own as it is passed. No byte is read twice.
 #[derive(Debug, Drop)]
@@ -55,33 +58,6 @@ impl ChunkPass {
             end,
             own: OwnBytes::from(header_end),
         })
-    }
-
-    /// Fills the buffer with the next bytes of data.
-    pub(crate) fn fill<S: Store>(&mut self, store: &mut S, buf: &mut [u8]) -> Result<(), VerifyEnd>
-        requires told { IsSomeAnd (S.told store.old) (λ size. self.old.end ≤ size) }
-        requires within { end_of self.old.own.place (length buf.old) ≤ self.old.end }
-        ensures moved { OnOk result (self.new.own.place ≡ end_of self.old.own.place (length buf.old)) }
-        ensures same_begin { self.new.begin ≡ self.old.begin }
-        ensures same_end { self.new.end ≡ self.old.end }
-        ensures given { OnOk result (IfSome (S.bytes store.old) (λ file. buf.new ≡ own_bytes_at file self.old.own.place (length buf.old))) }
-        ensures right { OnOk result (IfSome (S.bytes store.old) (λ file.
-            HaveHeadersOf file self.old.begin self.old.end self.old.own.place self.new.own.place)) }
-        ensures wrong { (fault : Fault) → result ≡ Err (VerifyEnd.Refused fault) → (fault.why ≡ Why.BlockHeader)
-            × IfSome (S.bytes store.old) (λ file. IsFirstWrong file self.old.begin self.old.end self.old.own.place self.old.end fault.at) }
-        ensures handed { OnOk result (S.handed store.new + self.old.own.place ≤ S.handed store.old + self.new.own.place) }
-        ensures handed_at_most { S.handed store.new + self.old.own.place ≤ S.handed store.old + self.old.end }
-        ensures same_bytes { S.bytes store.new ≡ S.bytes store.old }
-        ensures same_told { S.told store.new ≡ S.told store.old }
-        ensures same_name { S.name store.new ≡ S.name store.old }
-        ensures cause { result ≡ Err VerifyEnd.Store → Rose (S.faults store.old) (S.faults store.new) }
-        ensures never_falls { S.faults store.old ≤ S.faults store.new }
-    {
-        let mut filled = 0;
-        while filled < buf.len() {
-            filled += self.take(store, &mut buf[filled..])?;
-        }
-        Ok(())
     }
 
     /// Puts the next bytes of data into the front of the buffer, at most those before the next block, and answers how

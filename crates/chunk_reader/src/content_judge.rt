@@ -1,6 +1,6 @@
-ghost use Rattle.std.specs.Prelude.{◌≡◌, false, IfOk, OnOk, OnErr};
+ghost use Rattle.std.specs.Prelude.{◌≡◌, ◌↔◌, false, IsTrue, IfOk, OnOk, OnErr};
 ghost use Rattle.meta_chunk.specs.Kinds.{HeaderKeepsRule};
-ghost use Rattle.chunk_header.specs.Views.{value_of_chunk};
+ghost use Rattle.chunk_header.specs.Views.{HasRightHash, value_of_chunk};
 ghost use Rattle.chunk_reader.specs.Contents.{IsContent};
 ghost use Rattle.chunk_reader.specs.Reasons.{ContentApplies, NoneOf, IsFirstOf, content_reasons};
 ghost use Rattle.chunk_reader.specs.declared.reasons.Why.{Why};
@@ -26,7 +26,22 @@ pub fn content(alloc: Global, chunk: &Chunk) -> Result<Content, ContentEnd>
     ensures refused { (why : Why) → result ≡ Err (ContentEnd.Fault why)
         → IsFirstOf (ContentApplies chunk.now.header.data_hash (value_of_chunk chunk.now)) (content_reasons false) why }
 {
-    if !chunk.hash_right() {
+    content_under(alloc, chunk, chunk.hash_right())
+}
+
+/// The same of a chunk of which it is known whether its header has the data's hash, so that the data isn't hashed again.
+///
+/// # Errors
+///
+/// Those of `content`.
+pub fn content_under(alloc: Global, chunk: &Chunk, right: bool) -> Result<Content, ContentEnd>
+    requires { IsTrue right ↔ HasRightHash chunk.now }
+    ensures content { IfOk result (λ content. IsContent (value_of_chunk chunk.now) content) }
+    ensures sound { IfOk result (λ _. NoneOf (ContentApplies chunk.now.header.data_hash (value_of_chunk chunk.now)) (content_reasons false)) }
+    ensures refused { (why : Why) → result ≡ Err (ContentEnd.Fault why)
+        → IsFirstOf (ContentApplies chunk.now.header.data_hash (value_of_chunk chunk.now)) (content_reasons false) why }
+{
+    if !right {
         return Err(ContentEnd::Fault(Why::DataHash));
     }
     match kind_of(chunk.header.kind) {

@@ -1,8 +1,8 @@
-ghost use Rattle.std.specs.Prelude.{◌≡◌, ◌+◌, ◌^◌, ◌<◌, ◌≤◌, ◌⊎◌, Some, IfOk, IfSome, IsSomeAnd};
+ghost use Rattle.std.specs.Prelude.{◌≡◌, ◌↔◌, ◌+◌, ◌^◌, ◌<◌, ◌≤◌, ◌⊎◌, length, Some, IsTrue, IfOk, IfSome, IsSomeAnd, OnOk};
 ghost use Rattle.record_io.specs.Outside.{Rose};
-ghost use Rattle.block_layout.specs.Layout.{chunk_header_size, IsBoundary};
+ghost use Rattle.block_layout.specs.Layout.{chunk_header_size, IsBoundary, end_of, own_bytes_at};
 ghost use Rattle.chunk_header.specs.Chunks.{IsChunk};
-ghost use Rattle.chunk_header.specs.Views.{IsHeader, bytes_of_header, value_of_chunk, value_of_header};
+ghost use Rattle.chunk_header.specs.Views.{IsHeader, HasRightHash, bytes_of_header, value_of_chunk, value_of_header};
 ghost use Rattle.meta_chunk.specs.Files.{max_data_size};
 ghost use Rattle.chunk_reader.specs.Contents.{IsWhat, IsJudged, IsJudgedIn};
 ghost use Rattle.chunk_reader.specs.Faults.{IsVerdict};
@@ -12,8 +12,9 @@ ghost use Rattle.chunk_reader.specs.declared.reasons.Fault.{Fault};
 ghost use Rattle.chunk_reader.specs.declared.reasons.Why.{Why};
 
 use crate::chunk_content::{Content, ContentEnd};
-use crate::chunk_pass::ChunkPass;
-use crate::content_judge::content;
+use crate::chunk_pass::{ChunkPass, PIECE};
+use crate::content_judge::content_under;
+use crate::hashed_data::HashedData;
 use crate::heads::{Head, head_at, header_end};
 use crate::own_bytes::OwnBytes;
 use crate::reasons::{Fault, ReadEnd, VerifyEnd, Why};
@@ -23,7 +24,7 @@ use simple_chunk::Records;
 use std::alloc::{AllocError, Global};
 
 /// The most bytes of data of a chunk that is read. Own.
-pub(crate) const MAX_DATA_SIZE: u64 = 1 << 26;
+pub const MAX_DATA_SIZE: u64 = 1 << 26;
 
 /// A well-formed chunk of a file. Own.
 #[derive(Debug, Drop)]
@@ -150,8 +151,8 @@ pub fn strict_at<S: Store>(
     ensures never_falls { S.faults store.old ≤ S.faults store.new }
 {
     let (header, end) = whole_head_at(store, size, at)?;
-    let chunk = load(alloc, store, at, end, header)?;
-    match what_of(alloc, &chunk, frame) {
+    let (chunk, right) = load(alloc, store, at, end, header)?;
+    match what_of(alloc, &chunk, right, frame) {
         Ok(what) => Ok(Judged {
             begin: at,
             end,
@@ -163,14 +164,16 @@ pub fn strict_at<S: Store>(
     }
 }
 
-/// What a chunk holds. In a frame, compressed and transposed chunks are left unread in place of being refused.
-fn what_of(alloc: Global, chunk: &Chunk, frame: bool) -> Result<What, ContentEnd>
+/// What a chunk holds of which it is known whether its header has the data's hash. In a frame, compressed and transposed chunks
+/// are left unread in place of being refused.
+fn what_of(alloc: Global, chunk: &Chunk, right: bool, frame: bool) -> Result<What, ContentEnd>
+    requires { IsTrue right ↔ HasRightHash chunk.now }
     ensures what { IfOk result (λ what. IsWhat frame (value_of_chunk chunk.now) what) }
     ensures sound { IfOk result (λ _. NoneOf (ContentApplies chunk.now.header.data_hash (value_of_chunk chunk.now)) (content_reasons frame)) }
     ensures refused { (why : Why) → result ≡ Err (ContentEnd.Fault why)
         → IsFirstOf (ContentApplies chunk.now.header.data_hash (value_of_chunk chunk.now)) (content_reasons frame) why }
 {
-    match content(alloc, chunk) {
+    match content_under(alloc, chunk, right) {
         Ok(Content::Records(records)) => Ok(What::Records(records)),
         Ok(_) => Ok(What::Passive),
         Err(ContentEnd::Fault(Why::Compressed | Why::Transposed)) if frame => Ok(What::Unread),
@@ -227,22 +230,24 @@ pub(crate) fn refused(at: u64, why: Why) -> VerifyEnd
     VerifyEnd::Refused(Fault { at, why })
 }
 
-/// Reads the data of a chunk, and judges the block headers within the chunk.
+/// Reads the data of a chunk, and judges the block headers within the chunk. Answers the chunk, and whether its header has the
+/// data's hash.
 fn load<S: Store>(
     alloc: Global,
     store: &mut S,
     at: u64,
     end: u64,
     header: Header,
-) -> Result<Chunk, ReadEnd>
+) -> Result<(Chunk, bool), ReadEnd>
     requires told { IsSomeAnd (S.told store.old) (λ size. end ≤ size) }
     requires in_reach { end ≤ 2 ^ 60 }
     requires from_boundary { IsBoundary at }
     requires end { end ≡ end_by at (value_of_header header) }
     requires small { header.data_size ≤ max_data_size }
-    ensures header { IfOk result (λ chunk. chunk.header ≡ header) }
-    ensures sound { IfOk result (λ chunk. IsChunk (value_of_chunk chunk)) }
-    ensures given { IfOk result (λ chunk. IfSome (S.bytes store.old) (λ file. chunk.bytes ≡ data_at file at header.data_size)) }
+    ensures header { IfOk result (λ loaded. loaded.0.header ≡ header) }
+    ensures sound { IfOk result (λ loaded. IsChunk (value_of_chunk loaded.0)) }
+    ensures given { IfOk result (λ loaded. IfSome (S.bytes store.old) (λ file. loaded.0.bytes ≡ data_at file at header.data_size)) }
+    ensures hash { IfOk result (λ loaded. IsTrue loaded.1 ↔ HasRightHash loaded.0) }
     ensures right { IfOk result (λ _. IfSome (S.bytes store.old) (λ file. HaveHeadersOf file at end at end)) }
     ensures wrong { (fault : Fault) → result ≡ Err (ReadEnd.Refused fault) → (fault.why ≡ Why.BlockHeader)
         × IfSome (S.bytes store.old) (λ file. IsFirstWrong file at end at end fault.at) }
@@ -254,8 +259,45 @@ fn load<S: Store>(
     ensures never_falls { S.faults store.old ≤ S.faults store.new }
 {
     let mut pass = ChunkPass::start(store, at, header_end(at), end)?;
-    let mut data = vec![in alloc; 0; header.data_size as usize]?;
-    pass.fill(store, &mut data)?;
+    let data = read_data(alloc, store, &mut pass, header.data_size)?;
     pass.finish(store)?;
-    Ok(Chunk::read(header, Bytes::from(data)))
+    Ok(data.into_chunk(header))
+}
+
+/// Reads the data of a chunk piece by piece.
+fn read_data<S: Store>(
+    alloc: Global,
+    store: &mut S,
+    pass: &mut ChunkPass,
+    size: u64,
+) -> Result<HashedData, ReadEnd>
+    requires told { IsSomeAnd (S.told store.old) (λ size. pass.old.end ≤ size) }
+    requires within { end_of pass.old.own.place size ≤ pass.old.end }
+    ensures whole { IfOk result (λ hashed. length hashed ≡ size) }
+    ensures given { IfOk result (λ hashed. IfSome (S.bytes store.old) (λ file. hashed ≡ own_bytes_at file pass.old.own.place size)) }
+    ensures moved { OnOk result (pass.new.own.place ≡ end_of pass.old.own.place size) }
+    ensures same_begin { pass.new.begin ≡ pass.old.begin }
+    ensures same_end { pass.new.end ≡ pass.old.end }
+    ensures right { OnOk result (IfSome (S.bytes store.old) (λ file.
+        HaveHeadersOf file pass.old.begin pass.old.end pass.old.own.place pass.new.own.place)) }
+    ensures wrong { (fault : Fault) → result ≡ Err (ReadEnd.Refused fault) → (fault.why ≡ Why.BlockHeader)
+        × IfSome (S.bytes store.old) (λ file. IsFirstWrong file pass.old.begin pass.old.end pass.old.own.place pass.old.end fault.at) }
+    ensures handed { OnOk result (S.handed store.new + pass.old.own.place ≤ S.handed store.old + pass.new.own.place) }
+    ensures handed_at_most { S.handed store.new + pass.old.own.place ≤ S.handed store.old + pass.old.end }
+    ensures same_bytes { S.bytes store.new ≡ S.bytes store.old }
+    ensures same_told { S.told store.new ≡ S.told store.old }
+    ensures same_name { S.name store.new ≡ S.name store.old }
+    ensures cause { result ≡ Err ReadEnd.Store → Rose (S.faults store.old) (S.faults store.new) }
+    ensures never_falls { S.faults store.old ≤ S.faults store.new }
+{
+    let mut data = HashedData::with_room(alloc, size)?;
+    let mut piece = [0; PIECE];
+    let mut left = size;
+    while left > 0 {
+        let most = left.min(PIECE as u64) as usize;
+        let count = pass.take(store, &mut piece[..most])?;
+        data.push(&piece[..count])?;
+        left -= count as u64;
+    }
+    Ok(data)
 }

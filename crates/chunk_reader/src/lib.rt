@@ -5,6 +5,7 @@ mod chunk_content;
 mod chunk_pass;
 mod content_judge;
 mod file_reader;
+mod hashed_data;
 mod heads;
 mod judging;
 pub mod laws;
@@ -15,10 +16,12 @@ mod reasons;
 mod verifying;
 
 pub use chunk_content::{Content, ContentEnd};
-pub use content_judge::content;
+pub use content_judge::{content, content_under};
 pub use file_reader::Reader;
+pub use hashed_data::HashedData;
 pub use heads::{Head, head_at};
-pub use judging::{Judged, LoadEnd, What, data_at, strict_at};
+pub use judging::{Judged, LoadEnd, MAX_DATA_SIZE, What, data_at, strict_at};
+pub use own_bytes::OwnBytes;
 pub use reasons::{Fault, ReadEnd, VerifyEnd, Why};
 pub use verifying::verify;
 

@@ -6,16 +6,20 @@ ghost use Rattle.block_layout.specs.Layout.{IsNextPlace, block_of, block_size, u
 use block_layout::{BLOCK_HEADER_SIZE, BLOCK_SIZE};
 use record_io::{Failed, Store, get_exact};
 
-/// The own bytes of a file from a place on, which are read in order past the headers of blocks.
+/// The own bytes of a file from a place on, which are read in order past the headers of blocks: bytes of chunk headers,
+/// data and padding. Files of at most 2^60 bytes.
+///
+/// Riegeli/records file format specification, "Chunk".
 #[derive(Debug, Drop)]
-pub(crate) struct OwnBytes {
+pub struct OwnBytes {
+    /// Where the next of them stands, or the block behind whose header it does.
     pub place: u64,
     pub ghost next_place: { IsNextPlace place },
 }
 
 impl OwnBytes {
-    /// Those from a place on where a chunk's next byte can stand.
-    pub(crate) fn from(place: u64) -> OwnBytes
+    /// Those from a place on where a chunk's next byte can stand: a block, or a position that no block header takes.
+    pub fn from(place: u64) -> OwnBytes
         requires { IsNextPlace place }
         ensures { result.place ≡ place }
     {
@@ -23,7 +27,11 @@ impl OwnBytes {
     }
 
     /// Fills the buffer with the next own bytes.
-    pub(crate) fn fill<S: Store>(&mut self, store: &mut S, buf: &mut [u8]) -> Result<(), Failed>
+    ///
+    /// # Errors
+    ///
+    /// `Failed` only where the store failed.
+    pub fn fill<S: Store>(&mut self, store: &mut S, buf: &mut [u8]) -> Result<(), Failed>
         requires told { HasRoom (S.told store.old) self.old.place (length buf.old) }
         ensures moved { OnOk result (self.new.place ≡ end_of self.old.place (length buf.old)) }
         ensures given { OnOk result (IfSome (S.bytes store.old) (λ file. buf.new ≡ own_bytes_at file self.old.place (length buf.old))) }
@@ -43,7 +51,11 @@ impl OwnBytes {
     }
 
     /// Puts the next own bytes into the front of the buffer, at most those before the next block, and answers how many.
-    pub(crate) fn take<S: Store>(&mut self, store: &mut S, buf: &mut [u8]) -> Result<usize, Failed>
+    ///
+    /// # Errors
+    ///
+    /// `Failed` only where the store failed. Nothing is passed then.
+    pub fn take<S: Store>(&mut self, store: &mut S, buf: &mut [u8]) -> Result<usize, Failed>
         requires room { 0 < length buf.old }
         requires told { HasRoom (S.told store.old) self.old.place (length buf.old) }
         ensures some { IfOk result (λ n. 0 < n) }

@@ -1,3 +1,6 @@
+ghost use Rattle.std.specs.Prelude.{◌≡◌};
+ghost use Rattle.chunk_reader.specs.Names.{name_of};
+
 use record_io::Failed;
 use std::alloc::AllocError;
 
@@ -28,6 +31,28 @@ pub enum Why {
     UnknownKind,
     /// A block header within the chunk says otherwise than the chunk's header. It comes in skipped regions alone.
     Contradicted,
+}
+
+impl Why {
+    /// The name of the reason, as messages give it.
+    pub fn name(self) -> &'static str
+        ensures { result.now ≡ name_of self }
+    {
+        match self {
+            Why::NoSignature => "NoSignature",
+            Why::Short => "Short",
+            Why::HeaderHash => "HeaderHash",
+            Why::Truncated => "Truncated",
+            Why::TooLarge => "TooLarge",
+            Why::BlockHeader => "BlockHeader",
+            Why::DataHash => "DataHash",
+            Why::Contents => "Contents",
+            Why::Compressed => "Compressed",
+            Why::Transposed => "Transposed",
+            Why::UnknownKind => "UnknownKind",
+            Why::Contradicted => "Contradicted",
+        }
+    }
 }
 
 /// Where strict reading stops, and why. Own.

@@ -12,7 +12,7 @@ ghost use Rattle.chunk_reader.specs.Progress.{AreTotals};
 ghost use Rattle.chunk_reader.specs.declared.reasons.Fault.{Fault};
 ghost use Rattle.chunk_reader.specs.declared.reasons.Why.{Why};
 
-use crate::chunk_pass::ChunkPass;
+use crate::chunk_pass::{ChunkPass, PIECE};
 use crate::heads::header_end;
 use crate::judging::{refused, whole_head_at};
 use crate::piece_judge::PieceJudge;
@@ -20,9 +20,6 @@ use crate::progress::{NO_CHUNKS, check_signature, counted};
 use crate::reasons::VerifyEnd;
 use chunk_header::Header;
 use record_io::{Store, Totals};
-
-/// How many bytes of data are held at most.
-const PIECE: usize = 4096;
 
 /// Judges a whole file of `size` bytes, which were told, at most 2^60, and counts what it holds. Compressed and transposed
 /// chunks are left unread. It takes no memory, and holds 4096 bytes of data at most. Each byte is read once, the first 64

@@ -1,11 +1,10 @@
-use Rattle.std.proofs.Common.{◌≡◌, ◌≤◌, Err, IfSome, length, drop, ap, ◌∙◌, arith}
-use Rattle.std.proofs.lemmas.List.{take_at}
+use Rattle.std.proofs.Common.{◌≡◌, ◌≤◌, Err, IfSome, ap, sym, ◌∙◌, arith}
 use Rattle.block_layout.proofs.Ends.{end_of_after}
 use Rattle.chunk_reader.specs.Places.{HaveHeadersOf}
 use Rattle.chunk_reader.proofs.Loads.{header_within, data_within, chunk_end-on_boundary, data_given, refused_before}
 use Rattle.chunk_reader.proofs.Passes.{headers-joined, wrong-joined}
 use Rattle.chunk_reader.proofs.judging.load.Goals as goal
-use Rattle.chunk_reader.proofs.judging.load.Goals.{In_ok-fill}
+use Rattle.chunk_reader.proofs.judging.load.Goals.{In_ok-data}
 
 pub header_end-requires-clause-in_reach : goal.header_end-requires-clause-in_reach
 header_end-requires-clause-in_reach g c =
@@ -34,17 +33,16 @@ returns-in_err-pass-clause-handed g c =
       c.requires.end,
     )
 
-pub fill-requires-clause-within : goal.fill-requires-clause-within
-fill-requires-clause-within g c =
-    let size : length c.deref_mut.result.now ≡ c.args.header.data_size = omega (arith, c.deref_mut.ensures.len, c.in_ok-data.ensures.len) in
-    rw (c.in_ok-pass.ensures.place, c.in_ok-pass.ensures.end, c.header_end.ensures, size, c.requires.end)
+pub read_data-requires-clause-within : goal.read_data-requires-clause-within
+read_data-requires-clause-within g c =
+    rw (c.in_ok-pass.ensures.place, c.in_ok-pass.ensures.end, c.header_end.ensures, c.requires.end)
     (data_within c.args.at c.args.header.data_size c.args.header.num_records)
 
-pub returns-in_err-fill-clause-wrong : goal.returns-in_err-fill-clause-wrong
-returns-in_err-fill-clause-wrong g c =
+pub returns-in_err-data-clause-wrong : goal.returns-in_err-data-clause-wrong
+returns-in_err-data-clause-wrong g c =
     λ fault e.
     let pass = c.in_ok-pass.ensures in
-    let wrong = c.in_err-fill.ensures.wrong fault (ap Err (refused_before c.in_err-fill.field-0.0 fault (rw e at c.from_residual-in_err-fill.ensures.1))) in
+    let wrong = c.in_err-data.ensures.wrong fault (ap Err (sym (rw e at c.from_residual-in_err-data.ensures.1))) in
     let after : c.args.at ≤ c.header_end.result = omega (arith, c.header_end.ensures, end_of_after c.args.at 40) in (
       wrong.0,
       wrong-joined _ _ c.args.at c.args.end c.args.at c.header_end.result c.args.end fault.at pass.same_bytes after pass.right
@@ -52,50 +50,45 @@ returns-in_err-fill-clause-wrong g c =
     )
 
 -- the block headers up to the end of the data
-right_to_data : (g : _) (c : In_ok-fill g) → IfSome (g.S.Store.bytes c.args.store.now)
-    (λ file. HaveHeadersOf file c.args.at c.args.end c.args.at c.fill.new.self.own.place)
+right_to_data : (g : _) (c : In_ok-data g) → IfSome (g.S.Store.bytes c.args.store.now)
+    (λ file. HaveHeadersOf file c.args.at c.args.end c.args.at c.read_data.new.pass.own.place)
 right_to_data g c =
     let pass = c.in_ok-pass.ensures in
-    headers-joined _ _ c.args.at c.args.end c.args.at c.header_end.result c.fill.new.self.own.place pass.same_bytes pass.right
-    (rw (pass.begin, pass.end, pass.place) at c.in_ok-fill.ensures.right)
+    headers-joined _ _ c.args.at c.args.end c.args.at c.header_end.result c.read_data.new.pass.own.place pass.same_bytes pass.right
+    (rw (pass.begin, pass.end, pass.place) at c.in_ok-data.ensures.right)
 
 -- the pass is still that of the chunk
-same_pass : (g : _) (c : In_ok-fill g) → (c.fill.new.self.begin ≡ c.args.at) × (c.fill.new.self.end ≡ c.args.end)
+same_pass : (g : _) (c : In_ok-data g) → (c.read_data.new.pass.begin ≡ c.args.at) × (c.read_data.new.pass.end ≡ c.args.end)
 same_pass g c =
     let pass = c.in_ok-pass.ensures in
-    (c.in_ok-fill.ensures.same_begin ∙ pass.begin, c.in_ok-fill.ensures.same_end ∙ pass.end)
+    (c.in_ok-data.ensures.same_begin ∙ pass.begin, c.in_ok-data.ensures.same_end ∙ pass.end)
 
 pub returns-in_err-finish-clause-wrong : goal.returns-in_err-finish-clause-wrong
 returns-in_err-finish-clause-wrong g c =
     λ fault e.
-    let filled = (goal.at.returns-in_err-finish-clause-wrong g c).In_ok-fill in
-    let same = same_pass g filled in
+    let read = (goal.at.returns-in_err-finish-clause-wrong g c).In_ok-data in
+    let same = same_pass g read in
     let wrong = c.in_err-finish.ensures.wrong fault (ap Err (refused_before c.in_err-finish.field-0.0 fault (rw e at c.from_residual-in_err-finish.ensures.1))) in
-    let after : c.args.at ≤ c.fill.new.self.own.place =
-    omega (arith, c.header_end.ensures, end_of_after c.args.at 40, c.in_ok-pass.ensures.place, c.in_ok-fill.ensures.moved, end_of_after c.in_ok-pass.pass.own.place (length c.deref_mut.result.now)) in (
+    let after : c.args.at ≤ c.read_data.new.pass.own.place =
+    omega (arith, c.header_end.ensures, end_of_after c.args.at 40, c.in_ok-pass.ensures.place, c.in_ok-data.ensures.moved, end_of_after c.in_ok-pass.pass.own.place c.args.header.data_size) in (
       wrong.0,
-      wrong-joined _ _ c.args.at c.args.end c.args.at c.fill.new.self.own.place c.args.end fault.at
-          (c.in_ok-fill.ensures.same_bytes ∙ c.in_ok-pass.ensures.same_bytes) after (right_to_data g filled)
+      wrong-joined _ _ c.args.at c.args.end c.args.at c.read_data.new.pass.own.place c.args.end fault.at
+          (c.in_ok-data.ensures.same_bytes ∙ c.in_ok-pass.ensures.same_bytes) after (right_to_data g read)
           (rw (same.0, same.1) at wrong.1),
     )
 
 pub returns-clause-given : goal.returns-clause-given
 returns-clause-given g c =
     let pass = c.in_ok-pass.ensures in
-    let size : length c.deref_mut.result.now ≡ c.args.header.data_size = omega (arith, c.deref_mut.ensures.len, c.in_ok-data.ensures.len) in
-    let whole : length c.fill.new.buf ≡ c.in_ok-data.data.len = omega (arith, c.fill.auto.buf, c.deref_mut.ensures.len) in
-    let held : c.read.result.bytes ≡ c.fill.new.buf =
-    c.read.ensures.bytes ∙ c.from.ensures
-    ∙ take_at c.fill.new.buf (drop (length c.fill.new.buf) c.in_ok-data.data.items) c.in_ok-data.data.len whole in
-    rw held
-    (data_given _ _ c.args.at c.args.header.data_size c.args.end c.fill.new.buf (g.met.S.Store.sized c.args.store.now) c.requires.told
+    rw c.into_chunk.ensures.bytes
+    (data_given _ _ c.args.at c.args.header.data_size c.args.end c.in_ok-data.data (g.met.S.Store.sized c.args.store.now) c.requires.told
     (omega (arith, c.requires.end, header_within c.args.at c.args.header.data_size c.args.header.num_records))
-    (rw (pass.same_bytes, pass.place, c.header_end.ensures, size) at c.in_ok-fill.ensures.given))
+    (rw (pass.same_bytes, pass.place, c.header_end.ensures) at c.in_ok-data.ensures.given))
 
 pub returns-clause-right : goal.returns-clause-right
 returns-clause-right g c =
-    let filled = (goal.at.returns-clause-right g c).In_ok-fill in
-    let same = same_pass g filled in
-    headers-joined _ _ c.args.at c.args.end c.args.at c.fill.new.self.own.place c.args.end
-    (c.in_ok-fill.ensures.same_bytes ∙ c.in_ok-pass.ensures.same_bytes) (right_to_data g filled)
+    let read = (goal.at.returns-clause-right g c).In_ok-data in
+    let same = same_pass g read in
+    headers-joined _ _ c.args.at c.args.end c.args.at c.read_data.new.pass.own.place c.args.end
+    (c.in_ok-data.ensures.same_bytes ∙ c.in_ok-pass.ensures.same_bytes) (right_to_data g read)
     (rw (same.0, same.1) at c.in_ok-finish.ensures.right)

@@ -2,10 +2,9 @@ use Rattle.std.proofs.Common.{◌≡◌, ◌∙◌, ℕ, ◌+◌, ◌-◌, ◌�
 use Rattle.std.proofs.lemmas.List.{length-take, length-take-le, take-append-le}
 use Rattle.block_layout.specs.Layout.{end_of}
 use Rattle.block_layout.proofs.Ends.{end_of-zero, end_of-more, end_of_after}
-use Rattle.chunk_reader.specs.Pieces.{HasLeft}
-use Rattle.chunk_reader.proofs.Rooms.{end_of-le}
+use Rattle.chunk_reader.specs.Pieces.{HasTaken, HasLeft}
+use Rattle.chunk_reader.proofs.Rooms.{end_of-le, own_none, own_more}
 use Rattle.chunk_reader.proofs.Passes.{headers-none, headers-joined, wrong-joined}
-use Rattle.chunk_reader.proofs.VerifySteps.{taken-none, taken_on}
 use Rattle.chunk_reader.proofs.verifying.feed_data.Goals as goal
 
 pub loop-left-init : goal.loop-left-init
@@ -16,7 +15,7 @@ loop-left-init g c =
       within = omega arith;
       header = c.new-judge.ensures.header;
       left = c.new-judge.ensures.left;
-      taken = taken-none (g.S.Store.bytes c.args.store.now) c.new-judge.result pass.own.place (size - size) none c.new-judge.ensures.taken;
+      taken = own_none (g.S.Store.bytes c.args.store.now) (HasTaken c.new-judge.result) pass.own.place (size - size) none c.new-judge.ensures.taken;
       moved = sym (ap (end_of pass.own.place) none ∙ end_of-zero pass.own.place);
       same_begin = refl;
       same_end = refl;
@@ -72,8 +71,8 @@ loop-left-preserved g c =
       within = omega (arith, kept.within);
       header = c.feed.ensures.header ∙ kept.header;
       left = subst (λ (k : ℕ). HasLeft c.feed.new.self k) (ap (λ (m : ℕ). left - m) size_is) (c.feed.ensures.left left kept.left);
-      taken = taken_on (g.S.Store.bytes c.args.store.now) (g.S.Store.bytes c.loop-left.store) (g.S.Store.told c.args.store.now)
-          c.loop-left.judge c.feed.new.self place front n (size - (left - n)) pass.end (take n (buf ++ behind)) kept.same_bytes
+      taken = own_more (g.S.Store.bytes c.args.store.now) (g.S.Store.bytes c.loop-left.store) (g.S.Store.told c.args.store.now)
+          (HasTaken c.loop-left.judge) (HasTaken c.feed.new.self) place front n (size - (left - n)) pass.end (take n (buf ++ behind)) kept.same_bytes
           (g.met.S.Store.sized c.args.store.now) c.requires.told begun joined c.feed.ensures.taken kept.taken
           (rw (front_is, ← kept.moved) given.given);
       moved = given.moved ∙ ap (λ (p : ℕ). end_of p n) kept.moved ∙ end_of-more place front n ∙ ap (end_of place) (sym joined);

@@ -3,7 +3,7 @@ use Rattle.chunk_header.specs.SimpleChunks.{simple_kind, HasRecords, IsCompresse
 use Rattle.chunk_header.specs.Views.{HasRightHash, value_of, value_of_chunk}
 use Rattle.chunk_reader.proofs.BadContents.{bad_simple}
 use Rattle.chunk_reader.specs.declared.reasons.Why.TheVariants as why
-use Rattle.chunk_reader.proofs.content_judge.content.Goals as goal
+use Rattle.chunk_reader.proofs.content_judge.content_under.Goals as goal
 
 pub returns-in-Err-Contents-clause-refused : goal.returns-in-Err-Contents-clause-refused
 returns-in-Err-Contents-clause-refused c =

@@ -1,0 +1,90 @@
+use Rattle.std.proofs.Common.{◌≡◌, ◌∙◌, ℕ, List, ◌+◌, ◌-◌, ◌≤◌, Err, length, take, drop, ◌++◌, ap, sym, refl, length-append, arith}
+use Rattle.std.proofs.lemmas.List.{length-take, length-take-le, take-append-le}
+use Rattle.block_layout.specs.Layout.{end_of}
+use Rattle.block_layout.proofs.Ends.{end_of-zero, end_of-more, end_of_after}
+use Rattle.chunk_reader.proofs.Loads.{refused_before}
+use Rattle.chunk_reader.proofs.Rooms.{end_of-le, own_none, own_more}
+use Rattle.chunk_reader.proofs.Passes.{headers-none, headers-joined, wrong-joined}
+use Rattle.chunk_reader.proofs.judging.read_data.Goals as goal
+
+pub loop-left-init : goal.loop-left-init
+loop-left-init g c =
+    let pass = c.args.pass.now in
+    let empty = c.in_ok-data.data in
+    let none : c.args.size - c.args.size ≡ 0 = omega arith in record {
+      within = omega arith;
+      count = ap (length {A = ℕ}) c.in_ok-data.ensures ∙ sym none;
+      given = own_none (g.S.Store.bytes c.args.store.now) (λ (bytes : List ℕ). empty ≡ bytes) pass.own.place (c.args.size - c.args.size) none c.in_ok-data.ensures;
+      moved = sym (ap (end_of pass.own.place) none ∙ end_of-zero pass.own.place);
+      same_begin = refl;
+      same_end = refl;
+      right = headers-none _ pass.begin pass.end pass.own.place pass.own.place (omega arith);
+      handed = omega arith;
+      same_bytes = refl;
+      same_told = refl;
+      same_name = refl;
+      counted = omega arith;
+    }
+
+pub take-requires-clause-within : goal.take-requires-clause-within
+take-requires-clause-within g c =
+    let kept = c.loop-left.invariant in
+    let place = c.args.pass.now.own.place in
+    let size = c.args.size in
+    let front = size - c.loop-left.left in
+    let n = length (take c.min-most.result c.loop-left.piece) in
+    let most : front + n ≤ size = omega (arith, length-take {A = ℕ}, c.min-most.ensures, kept.within) in
+    rw (kept.moved, kept.same_end) (omega (arith, end_of-more place front n, end_of-le place (front + n) size most, c.requires.within))
+
+pub returns-in_err-count-clause-wrong : goal.returns-in_err-count-clause-wrong
+returns-in_err-count-clause-wrong g c =
+    λ fault e.
+    let pass = c.args.pass.now in
+    let kept = c.loop-left.invariant in
+    let wrong = c.in_err-count.ensures.wrong fault (ap Err (refused_before c.in_err-count.field-0.0 fault (rw e at c.from_residual-in_err-count.ensures.1))) in
+    let past : pass.own.place ≤ c.loop-left.pass.own.place =
+    omega (arith, kept.moved, end_of_after pass.own.place (c.args.size - c.loop-left.left)) in (
+      wrong.0,
+      wrong-joined _ _ pass.begin pass.end pass.own.place c.loop-left.pass.own.place pass.end fault.at kept.same_bytes past kept.right
+          (rw (← kept.same_begin, ← kept.same_end) wrong.1),
+    )
+
+pub loop-left-preserved : goal.loop-left-preserved
+loop-left-preserved g c =
+    let pass = c.args.pass.now in
+    let kept = c.loop-left.invariant in
+    let given = c.in_ok-count.ensures in
+    let place = pass.own.place in
+    let size = c.args.size in
+    let left = c.loop-left.left in
+    let front = size - left in
+    let n = c.in_ok-count.count in
+    let few : n ≤ left = omega (arith, given.fits, length-take {A = ℕ}, c.min-most.ensures) in
+    let joined : size - (left - n) ≡ front + n = omega (arith, kept.within) in
+    let buf = c.take.new.buf in
+    let behind = drop c.min-most.result c.loop-left.piece in
+    let fits : n ≤ length buf = omega (arith, given.fits, c.take.auto.buf) in
+    let front_is : take n (buf ++ behind) ≡ take n buf = take-append-le n buf behind fits in
+    let size_is : length (take n (buf ++ behind)) ≡ n = ap length front_is ∙ length-take-le n buf fits in
+    let grown : c.push.new.self ≡ c.loop-left.data ++ take n (buf ++ behind) = c.in_ok-push.ensures.appends in
+    let begun : end_of place front ≤ pass.end = omega (arith, end_of-le place front size (omega arith), c.requires.within) in
+    record {
+      within = omega (arith, kept.within);
+      count = omega (arith, ap (length {A = ℕ}) grown, length-append c.loop-left.data (take n (buf ++ behind)), size_is, kept.count, joined);
+      given = own_more (g.S.Store.bytes c.args.store.now) (g.S.Store.bytes c.loop-left.store) (g.S.Store.told c.args.store.now)
+          (λ (bytes : List ℕ). c.loop-left.data ≡ bytes) (λ (bytes : List ℕ). c.push.new.self ≡ bytes)
+          place front n (size - (left - n)) pass.end (take n (buf ++ behind)) kept.same_bytes
+          (g.met.S.Store.sized c.args.store.now) c.requires.told begun joined
+          (λ bytes held. grown ∙ ap (λ (xs : List ℕ). xs ++ take n (buf ++ behind)) held) kept.given
+          (rw (front_is, ← kept.moved) given.given);
+      moved = given.moved ∙ ap (λ (p : ℕ). end_of p n) kept.moved ∙ end_of-more place front n ∙ ap (end_of place) (sym joined);
+      same_begin = c.take.ensures.same_begin ∙ kept.same_begin;
+      same_end = c.take.ensures.same_end ∙ kept.same_end;
+      right = headers-joined _ _ pass.begin pass.end place c.loop-left.pass.own.place c.take.new.self.own.place kept.same_bytes kept.right
+          (rw (← kept.same_begin, ← kept.same_end) given.right);
+      handed = omega (arith, given.handed, kept.handed);
+      same_bytes = cc;
+      same_told = cc;
+      same_name = cc;
+      counted = omega arith;
+    }

@@ -1,0 +1,24 @@
+use Rattle.std.proofs.Common.{◌≡◌, ◌+◌, ◌-◌, ◌≤◌, IfSome, length}
+use Rattle.block_layout.specs.Layout.{end_of, own_bytes_at}
+use Rattle.chunk_reader.specs.Places.{HaveHeadersOf}
+use Rattle.chunk_reader.proofs.judging.read_data.Given as goal
+
+abbrev pub invariant-loop-left : goal.invariant-loop-left
+invariant-loop-left g l = record {
+  within : l.left ≤ l.fn.size;
+  count : length l.data ≡ l.fn.size - l.left;
+  given : IfSome (g.S.Store.bytes l.fn.store) (λ file. l.data ≡ own_bytes_at file l.fn.pass.own.place (l.fn.size - l.left));
+  moved : l.pass.own.place ≡ end_of l.fn.pass.own.place (l.fn.size - l.left);
+  same_begin : l.pass.begin ≡ l.fn.pass.begin;
+  same_end : l.pass.end ≡ l.fn.pass.end;
+  right : IfSome (g.S.Store.bytes l.fn.store)
+      (λ file. HaveHeadersOf file l.fn.pass.begin l.fn.pass.end l.fn.pass.own.place l.pass.own.place);
+  handed : g.S.Store.handed l.store + l.fn.pass.own.place ≤ g.S.Store.handed l.fn.store + l.pass.own.place;
+  same_bytes : g.S.Store.bytes l.store ≡ g.S.Store.bytes l.fn.store;
+  same_told : g.S.Store.told l.store ≡ g.S.Store.told l.fn.store;
+  same_name : g.S.Store.name l.store ≡ g.S.Store.name l.fn.store;
+  counted : g.S.Store.faults l.fn.store ≤ g.S.Store.faults l.store;
+}
+
+abbrev pub decreases-loop-left : goal.decreases-loop-left
+decreases-loop-left g l = l.left
