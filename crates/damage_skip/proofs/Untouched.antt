@@ -1,0 +1,140 @@
+-- What is left of a file gives the records of the chunks that were reached and not touched, and with intact block headers no chunk
+-- is lost past the block behind a broken header.
+use Rattle.std.proofs.Common.{◌≡◌, ◌≢◌, ◌∙◌, ℕ, suc, ◌+◌, ◌^◌, ◌<◌, ◌≤◌, Bool, true, false, ◌&&◌, List, [], ◌∷◌, ◌++◌, Some, length, refl, sym, ap, subst, inl, inr, arith}
+use Rattle.std.specs.Prelude.{slice_get}
+use Rattle.std.proofs.lemmas.Bool.{cases_lt, cases_order, cases_Bool}
+use Rattle.std.proofs.lemmas.List.{append-nil}
+use Rattle.std.proofs.lemmas.Option.{slice_get_within}
+use Rattle.block_layout.specs.Layout.{IsBlock}
+use Rattle.chunk_header.specs.Chunks.{ChunkValue}
+use Rattle.meta_chunk.specs.Files.{Holds, AreRecordsOf, begin_of}
+use Rattle.meta_chunk.proofs.Begins.{begin_of_rises}
+use Rattle.meta_chunk.proofs.Held.{AreRecordsOf-append}
+use Rattle.damage_skip.specs.Pieces.{What, Piece, AreEvents, records_of, records_in}
+use Rattle.damage_skip.specs.Damage.{Intact, IsDamaged, IsNext, AreReached, IsLeftAs, AreLeft, untouched}
+use Rattle.damage_skip.proofs.OnePiece.{given_or_kept}
+use Rattle.damage_skip.proofs.FoundRecords.{found_holds, records_in_events}
+use Rattle.damage_skip.proofs.Damaged.{pieces_left}
+use Rattle.damage_skip.proofs.Reached.{next_one}
+
+-- what an untouched chunk gives it holds
+left_holds : (keep : Bool) (k : ChunkValue) (what : What) → IsLeftAs keep true true k what → Holds k (records_of what)
+left_holds true k what left = found_holds true k what left
+left_holds false k what (inl found) = found_holds false k what found
+left_holds false k what (inr (inl (compressed, is))) =
+    inr (λ has. given_or_kept true k has.0 has.1 (inr (refl, inl compressed)), ap records_of is)
+left_holds false k what (inr (inr (transposed, is))) =
+    inr (λ has. given_or_kept true k has.0 has.1 (inr (refl, inr transposed)), ap records_of is)
+
+-- one that was touched gives nothing
+touched_gives : (keep header «data» : Bool) (k : ChunkValue) (what : What) → header && «data» ≡ false → IsLeftAs keep header «data» k what
+    → records_of what ≡ []
+touched_gives keep false d k what touched left = ap records_of left
+touched_gives keep true false k what touched left = ap records_of left
+touched_gives keep true true k what touched left = cc touched
+
+one_chunk : (k : ChunkValue) (records : List (List ℕ)) → Holds k records → AreRecordsOf (k ∷ []) records
+one_chunk k records holds = (records ∷ [], (holds, refl), sym (append-nil records))
+
+untouched-cons : (ks : List ChunkValue) (intact : Intact) (j : ℕ) (is : List ℕ) (k : ChunkValue) → intact.header j && intact.«data» j ≡ true
+    → slice_get ks j ≡ Some k → untouched ks intact (j ∷ is) ≡ k ∷ untouched ks intact is
+untouched-cons ks intact j is k whole at = rw (whole, at)
+
+touched-cons : (ks : List ChunkValue) (intact : Intact) (j : ℕ) (is : List ℕ) → intact.header j && intact.«data» j ≡ false
+    → untouched ks intact (j ∷ is) ≡ untouched ks intact is
+touched-cons ks intact j is touched = rw touched
+
+both_true : (a b : Bool) → a && b ≡ true → (a ≡ true) × (b ≡ true)
+both_true true true h = (refl, refl)
+both_true true false h = cc
+both_true false b h = cc
+
+pub left_records : (keep : Bool) (ks : List ChunkValue) (intact : Intact) (j : ℕ) (pieces : List Piece) (is : List ℕ)
+    → AreLeft keep ks intact j pieces → AreReached ks intact j is → AreRecordsOf (untouched ks intact is) (records_in pieces)
+left_records keep ks intact j [] [] h g = ([], refl, refl)
+left_records keep ks intact j [] (i ∷ is) h (at, below, rest) = absurd (omega (arith, h))
+left_records keep ks intact j (p ∷ pieces) [] (k, next, at, step, begin, end, what, rest) g =
+    absurd (omega (arith, g, slice_get_within ks j k at))
+left_records keep ks intact j (p ∷ pieces) (i ∷ is) (k, next, at, step, begin, end, what, rest) (there, below, (other, also, on)) =
+    let same : other ≡ next = next_one ks intact j other next also step in
+    let behind : AreRecordsOf (untouched ks intact is) (records_in pieces) =
+    left_records keep ks intact next pieces is rest (subst (λ (n : ℕ). AreReached ks intact n is) same on) in
+    subst (λ (n : ℕ). AreRecordsOf (untouched ks intact (n ∷ is)) (records_in (p ∷ pieces))) (sym there)
+    (elim (cases_Bool (intact.header j && intact.«data» j)) [
+      | inl whole ↦
+          let flags = both_true (intact.header j) (intact.«data» j) whole in
+          let left : IsLeftAs keep true true k p.what =
+          subst (λ (b : Bool). IsLeftAs keep true b k p.what) flags.1
+          (subst (λ (b : Bool). IsLeftAs keep b (intact.«data» j) k p.what) flags.0 what) in
+          subst (λ (xs : List ChunkValue). AreRecordsOf xs (records_in (p ∷ pieces))) (sym (untouched-cons ks intact j is k whole at))
+          (AreRecordsOf-append (k ∷ []) (untouched ks intact is) (records_of p.what) (records_in pieces)
+          (one_chunk k (records_of p.what) (left_holds keep k p.what left)) behind)
+      | inr touched ↦
+          let none : records_of p.what ≡ [] = touched_gives keep (intact.header j) (intact.«data» j) k p.what touched what in
+          subst (λ (xs : List ChunkValue). AreRecordsOf xs (records_in (p ∷ pieces))) (sym (touched-cons ks intact j is touched))
+          (subst (AreRecordsOf (untouched ks intact is)) (ap (λ (xs : List (List ℕ)). xs ++ records_in pieces) (sym none)) behind)
+    ])
+
+-- so do the events of a damaged file
+pub events_left : (keep : Bool) (ks : List ChunkValue) (file damaged : List ℕ) (intact : Intact) (is : List ℕ) (events : List Piece)
+    → length file ≤ 2 ^ 60 → IsDamaged ks file damaged intact → AreReached ks intact 0 is → AreEvents keep damaged events
+    → AreRecordsOf (untouched ks intact is) (records_in events)
+events_left keep ks file damaged intact is events reach d reached (pieces, h, are) =
+    subst (AreRecordsOf (untouched ks intact is)) (sym (ap records_in are ∙ records_in_events pieces))
+    (left_records keep ks intact 0 pieces is (pieces_left keep ks file damaged intact d reach pieces h) reached)
+
+-- the block headers of a file are all intact
+AreIntact : List ChunkValue → Intact → Type 0
+AreIntact ks intact = (b : ℕ) → IsBlock b → b < begin_of ks (length ks) → intact.block b ≡ true
+
+-- a chunk that is passed over lies before each block from the begin of the one before it with a broken header on
+IsLost : List ChunkValue → Intact → ℕ → ℕ → Type 0
+IsLost ks intact j m =
+    (j < m) × (intact.header j ≡ false) × ((b : ℕ) → IsBlock b → begin_of ks j ≤ b → begin_of ks (m + 1) ≤ b)
+
+passed_over : (ks : List ChunkValue) (intact : Intact) (j next m : ℕ) → AreIntact ks intact → IsNext ks intact j next → j < m → m < next
+    → m < length ks → IsLost ks intact j m
+unfolding AreIntact IsLost
+passed_over ks intact j next m whole (inl (fine, is)) after before inside = absurd (omega (arith, is))
+passed_over ks intact j next m whole (inr (broken, inl (b, i, here, least, lies, is))) after before inside = (
+  after,
+  broken,
+  λ c is_block from. elim (cases_lt c (begin_of ks (length ks))) [
+    | inl below ↦
+        let first : b ≤ c = least c (record { is_block = is_block; from = from; below = below; is_intact = whole c is_block below }) in
+        let behind : m + 1 ≤ i = omega arith in
+        omega (arith, lies.begins, begin_of_rises ks (m + 1) i behind)
+    | inr past ↦ omega (arith, begin_of_rises ks (m + 1) (length ks) (omega arith))
+  ],
+)
+passed_over ks intact j next m whole (inr (broken, inr (none, is))) after before inside = (
+  after,
+  broken,
+  λ c is_block from. elim (cases_lt c (begin_of ks (length ks))) [
+    | inl below ↦ absurd (none c (record { is_block = is_block; from = from; below = below; is_intact = whole c is_block below }))
+    | inr past ↦ omega (arith, begin_of_rises ks (m + 1) (length ks) (omega arith))
+  ],
+)
+
+-- so each chunk from one on that is not reached is lost so
+not_reached : (ks : List ChunkValue) (intact : Intact) (j m : ℕ) (is : List ℕ) → AreIntact ks intact → AreReached ks intact j is
+    → j ≤ m → m < length ks → ((i : ℕ) → slice_get is i ≢ Some m) → (l : ℕ) × IsLost ks intact l m
+not_reached ks intact j m [] whole h from inside missed = absurd (omega (arith, h))
+not_reached ks intact j m (i ∷ is) whole (at, below, (next, step, rest)) from inside missed =
+    elim (cases_order j m) [
+      | inl same ↦ absurd (missed 0 (ap Some (at ∙ same)))
+      | inr (inl less) ↦ elim (cases_lt m next) [
+        | inl before ↦ (j, passed_over ks intact j next m whole step less before inside)
+        | inr behind ↦ not_reached ks intact next m is whole rest behind inside (λ n there. missed (suc n) there)
+      ]
+      | inr (inr more) ↦ absurd (omega arith)
+    ]
+
+pub lost_to_a_block : (ks : List ChunkValue) (intact : Intact) (m : ℕ) (is : List ℕ)
+    → ((b : ℕ) → IsBlock b → b < begin_of ks (length ks) → intact.block b ≡ true) → AreReached ks intact 0 is
+    → m < length ks → ((i : ℕ) → slice_get is i ≢ Some m)
+    → (j : ℕ) × (j < m) × (intact.header j ≡ false) × ((b : ℕ) → IsBlock b → begin_of ks j ≤ b → begin_of ks (m + 1) ≤ b)
+unfolding AreIntact IsLost
+lost_to_a_block ks intact m is whole h inside missed =
+    let lost = not_reached ks intact 0 m is whole h (omega arith) inside missed in
+    (lost.0, lost.1.0, lost.1.1, lost.1.2)

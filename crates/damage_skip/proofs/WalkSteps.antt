@@ -1,0 +1,98 @@
+-- The steps of a walk, where the bytes of the file may be told.
+use Rattle.std.proofs.Common.{◌≡◌, ◌∙◌, ℕ, ◌<◌, Bool, Option, Some, None, IfSome, List, [], ◌∷◌, ◌++◌, length, refl, sym, ap, subst, arith}
+use Rattle.std.proofs.lemmas.List.Elements.{filter-append}
+use Rattle.chunk_header.specs.Views.{value_of_chunk}
+use Rattle.chunk_reader.specs.declared.judging.LoadEnd.{LoadEnd}
+use Rattle.chunk_reader.specs.declared.judging.LoadEnd.TheVariants as load
+use Rattle.chunk_reader.proofs.Rooms.{IsSized}
+use Rattle.damage_skip.specs.Ends.{walk_end_of}
+use Rattle.damage_skip.specs.Pieces.{Piece, Given, Kept, Passive, Skipped, IsPieceOf, AreTiles, is_event, events_in}
+use Rattle.damage_skip.specs.Steps.{HasIntact, value_of_what}
+use Rattle.damage_skip.specs.Walks.{piece_of, what_event, event_of, GoesOn, IsMet, IsStoppedAt}
+use Rattle.damage_skip.specs.declared.events.Event.{Event}
+use Rattle.damage_skip.specs.declared.events.WalkEnd.TheVariants as walk
+use Rattle.damage_skip.specs.declared.pieces.Piece as code
+use Rattle.damage_skip.specs.declared.pieces.What.{What}
+use Rattle.damage_skip.specs.declared.pieces.What.TheVariants as what
+use Rattle.damage_skip.specs.declared.regions.Region.{Region}
+use Rattle.damage_skip.proofs.PieceSteps.{IsPieceThere}
+
+-- pieces behind pieces
+tiles_joined : (keep : Bool) (file : List ℕ) (from middle to : ℕ) (front rest : List Piece) → AreTiles keep file from middle front
+    → AreTiles keep file middle to rest → AreTiles keep file from to (front ++ rest)
+tiles_joined keep file from middle to [] rest same behind = subst (λ (p : ℕ). AreTiles keep file p to rest) (sym same) behind
+tiles_joined keep file from middle to (piece ∷ front) rest h behind =
+    (h.0, h.1, h.2, tiles_joined keep file piece.end middle to front rest h.3 behind)
+
+-- the events of both
+events_joined : (front rest : List Piece) → events_in (front ++ rest) ≡ events_in front ++ events_in rest
+events_joined front rest = filter-append (λ (piece : Piece). is_event piece.what) front rest
+
+-- where it has come is met
+pub met_on : (bytes : Option (List ℕ)) (keep kept : Bool) (from to : ℕ) (events : List Piece) → kept ≡ keep
+    → IfSome bytes (λ file. IsMet keep file from) → IfSome bytes (λ file. GoesOn keep file from to events)
+    → IfSome bytes (λ file. IsMet kept file to)
+met_on None keep kept from to events same met on = tt
+met_on (Some file) keep kept from to events same (front, tiles) (rest, more, are) =
+    subst (λ (k : Bool). IsMet k file to) (sym same) (front ++ rest, tiles_joined keep file 0 from to front rest tiles more)
+
+-- the piece that begins at a place, as the definition has it
+abbrev piece_value : ℕ → code.Piece → Piece
+piece_value at piece = record { begin = at; end = piece.end; what = value_of_what piece.what }
+
+-- one piece more
+one_more : (keep : Bool) (file : List ℕ) (from at : ℕ) (piece : code.Piece) (events : List Piece) → GoesOn keep file from at []
+    → at < length file → IsPieceThere keep at piece file → events_in (piece_value at piece ∷ []) ≡ events
+    → GoesOn keep file from piece.end events
+one_more keep file from at piece events (front, tiles, none) below there are = (
+  front ++ piece_value at piece ∷ [],
+  tiles_joined keep file from at piece.end front (piece_value at piece ∷ []) tiles (refl, below, there, refl),
+  events_joined front (piece_value at piece ∷ []) ∙ ap (λ (xs : List Piece). xs ++ events_in (piece_value at piece ∷ [])) none ∙ are,
+)
+
+-- an event that is told, if one is
+abbrev pub events_told : Option Event → List Piece
+events_told None = []
+events_told (Some e) = piece_of e ∷ []
+
+-- what is told of it
+told_of : (at end : ℕ) (w : What) (o : Option Event) → what_event at end w ≡ o → HasIntact at end w
+    → events_in (record { begin = at; end = end; what = value_of_what w } ∷ []) ≡ events_told o
+told_of at end (what.Given records chunk) o is intact =
+    subst (λ (x : Option Event). events_in (record { begin = at; end = end; what = Given records (value_of_chunk chunk) } ∷ []) ≡ events_told x) is
+    (ap (λ (e : ℕ). record { begin = at; end = e; what = Given records (value_of_chunk chunk) } ∷ []) intact.0)
+told_of at end (what.Kept chunk) o is intact =
+    subst (λ (x : Option Event). events_in (record { begin = at; end = end; what = Kept (value_of_chunk chunk) } ∷ []) ≡ events_told x) is
+    (ap (λ (e : ℕ). record { begin = at; end = e; what = Kept (value_of_chunk chunk) } ∷ []) intact.0)
+told_of at end what.Passive o is intact =
+    subst (λ (x : Option Event). events_in (record { begin = at; end = end; what = Passive } ∷ []) ≡ events_told x) is refl
+told_of at end (what.Skipped why) o is intact =
+    subst (λ (x : Option Event). events_in (record { begin = at; end = end; what = Skipped why } ∷ []) ≡ events_told x) is refl
+
+-- so the walk goes on past it
+pub passes : (bytes now : Option (List ℕ)) (keep kept : Bool) (size from at : ℕ) (piece : code.Piece) (o : Option Event) → now ≡ bytes → kept ≡ keep
+    → IsSized bytes (Some size) → at < size → IfSome bytes (λ file. GoesOn keep file from at []) → IfSome now (IsPieceThere kept at piece)
+    → HasIntact at piece.end piece.what → event_of at piece ≡ o → IfSome bytes (λ file. GoesOn keep file from piece.end (events_told o))
+passes None now keep kept size from at piece o same same_keep sized below on there intact told = tt
+passes (Some file) None keep kept size from at piece o same same_keep sized below on there intact told = cc
+passes (Some file) (Some other) keep kept size from at piece o same same_keep sized below on there intact told =
+    let is : other ≡ file = cc in
+    let here : IsPieceThere keep at piece file = subst (λ (k : Bool). IsPieceThere k at piece file) same_keep (subst (IsPieceThere kept at piece) is there) in
+    one_more keep file from at piece (events_told o) on (omega (arith, sized, below)) here (told_of at piece.end piece.what o told intact)
+
+-- where there was no memory to walk on, there was none to load a chunk
+pub memory_before : (end : LoadEnd) → walk.Memory ≡ walk_end_of end → end ≡ load.Memory
+memory_before load.Memory same = refl
+memory_before load.Store same = cc
+
+-- a region that stops the walk is the piece at its place
+pub stops_there : (bytes now : Option (List ℕ)) (keep kept : Bool) (place : ℕ) (piece : code.Piece) (region : Region) → now ≡ bytes → kept ≡ keep
+    → IfSome now (IsPieceThere kept place piece) → region.begin ≡ place → region.end ≡ piece.end → piece.what ≡ what.Skipped region.why
+    → IfSome bytes (λ file. IsStoppedAt keep file place (Some region))
+stops_there None now keep kept place piece region same same_keep there begins ends is = tt
+stops_there (Some file) None keep kept place piece region same same_keep there begins ends is = cc
+stops_there (Some file) (Some other) keep kept place piece region same same_keep there begins ends is =
+    let is_file : other ≡ file = cc in
+    let here : IsPieceThere keep place piece file = subst (λ (k : Bool). IsPieceThere k place piece file) same_keep (subst (IsPieceThere kept place piece) is_file there) in
+    let skipped : IsPieceOf keep file place piece.end (Skipped region.why) = subst (λ (w : What). IsPieceOf keep file place piece.end (value_of_what w)) is here in
+    (begins, subst (λ (e : ℕ). IsPieceOf keep file place e (Skipped region.why)) (sym ends) skipped)

@@ -1,0 +1,40 @@
+use Rattle.std.proofs.Common.{◌+◌, Some, None, ◌∙◌, arith}
+use Rattle.damage_skip.proofs.Leads.{leads-at, leads-past, leads-joined, leads-wider, leads-narrower}
+use Rattle.damage_skip.proofs.block_checks.Span.contradicted_between.Goals as goal
+
+pub returns-in-Some-clause-leads : goal.returns-in-Some-clause-leads
+returns-in-Some-clause-leads g c =
+    λ end is.
+    let kept = c.loop-block.invariant in
+    let begin = c.args.self.begin in
+    let block = c.loop-block.block in
+    let here = leads-at _ begin end block (block + 1) _ (Some c.in-Some.landing) c.in-Some.is (c.in_ok-landing.ensures.leads end is) in
+    leads-wider _ begin end c.args.from (block + 1) c.args.to c.in-Some.landing (omega (arith, c.loop-block-test.true))
+    (leads-joined _ _ begin end c.args.from block (block + 1) (Some c.in-Some.landing) kept.same_bytes kept.from_place (omega arith)
+    (kept.none end is) here)
+
+pub loop-block-preserved : goal.loop-block-preserved
+loop-block-preserved g c =
+    let kept = c.loop-block.invariant in
+    let given = c.in_ok-landing.ensures in
+    let begin = c.args.self.begin in
+    let block = c.loop-block.block in
+    record {
+      at_block = omega (arith, kept.at_block);
+      from_place = omega (arith, kept.from_place);
+      near = omega (arith, c.loop-block-test.true);
+      none = λ end is.
+          let here = leads-at _ begin end block (block + 1) c.in_ok-landing.field-0 None (cc) (given.leads end is) in
+          leads-joined _ _ begin end c.args.from block (block + 65536) None kept.same_bytes kept.from_place (omega arith)
+          (kept.none end is) (leads-past _ begin end block (block + 65536) kept.at_block (omega arith) here);
+      same_bytes = given.same_bytes ∙ kept.same_bytes;
+      same_told = given.same_told ∙ kept.same_told;
+      same_name = given.same_name ∙ kept.same_name;
+      counted = omega (arith, kept.counted, given.never_falls);
+    }
+
+pub returns-clause-leads : goal.returns-clause-leads
+returns-clause-leads g c =
+    λ end is.
+    leads-narrower _ c.args.self.begin end c.args.from c.loop-block.block c.args.to c.loop-block-test.false
+    (c.loop-block.invariant.none end is)

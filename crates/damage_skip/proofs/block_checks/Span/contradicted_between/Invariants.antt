@@ -1,0 +1,19 @@
+use Rattle.std.proofs.Common.{◌≡◌, ℕ, ◌+◌, ◌-◌, ◌<◌, ◌≤◌, None, IfSome}
+use Rattle.block_layout.specs.Layout.{IsBlock}
+use Rattle.damage_skip.specs.Steps.{IsEndOf, LeadsTo}
+use Rattle.damage_skip.proofs.block_checks.Span.contradicted_between.Given as goal
+
+abbrev pub invariant-loop-block : goal.invariant-loop-block
+invariant-loop-block g l = record {
+  at_block : IsBlock l.block;
+  from_place : l.from ≤ l.block;
+  near : l.block < l.to + 65536;
+  none : (end : ℕ) → IsEndOf l.self.end end → IfSome (g.S.Store.bytes l.fn.store) (λ file. LeadsTo file l.self.begin end l.from l.block None);
+  same_bytes : g.S.Store.bytes l.store ≡ g.S.Store.bytes l.fn.store;
+  same_told : g.S.Store.told l.store ≡ g.S.Store.told l.fn.store;
+  same_name : g.S.Store.name l.store ≡ g.S.Store.name l.fn.store;
+  counted : g.S.Store.faults l.fn.store ≤ g.S.Store.faults l.store;
+}
+
+abbrev pub decreases-loop-block : goal.decreases-loop-block
+decreases-loop-block g l = l.to - l.block

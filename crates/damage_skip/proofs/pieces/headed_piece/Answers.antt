@@ -1,0 +1,21 @@
+use Rattle.std.proofs.Common.{◌<◌, Some, subst, arith}
+use Rattle.std.specs.Prelude.{IfSome}
+use Rattle.chunk_header.specs.Views.{value_of_header}
+use Rattle.chunk_reader.specs.Places.{end_by}
+use Rattle.chunk_reader.proofs.Rooms.{IsSized}
+use Rattle.damage_skip.proofs.PieceSteps.{truncated_piece, end_past}
+use Rattle.damage_skip.proofs.pieces.headed_piece.Goals as goal
+use Rattle.damage_skip.proofs.pieces.headed_piece.Goals.{in_default-via-in-Some+else-end-size, in_default-via-in_default}
+
+pub returns-in_ok-unloaded_piece-in_default-clause-sound : goal.returns-in_ok-unloaded_piece-in_default-clause-sound
+returns-in_ok-unloaded_piece-in_default-clause-sound g c =
+    let sized : IsSized (g.S.Store.bytes c.args.store.now) (Some c.args.size) =
+    subst (IsSized (g.S.Store.bytes c.args.store.now)) c.requires.told (g.met.S.Store.sized c.args.store.now) in
+    let past : IfSome c.args.end (λ e. c.args.size < e) = elim c.in_default.branch [
+      | in_default-via-in-Some+else-end-size w ↦ rw w.in-Some.is w.if-end-size.false
+      | in_default-via-in_default w ↦ rw w.in_default.is tt
+    ] in
+    truncated_piece _ c.args.keep c.args.size c.args.at c.args.header c.in_ok-unloaded_piece-in_default.field-0 sized c.requires.fits
+    c.requires.head
+    (end_past c.args.end c.args.size (end_by c.args.at (value_of_header c.args.header)) past (omega (arith, c.requires.in_reach)) c.requires.end)
+    (c.in_ok-unloaded_piece-in_default.ensures.unloaded (end_by c.args.at (value_of_header c.args.header)) c.requires.end)

@@ -1,0 +1,9 @@
+pub mod Resyncs
+pub mod Pieces
+pub mod Regions
+pub mod Policies
+pub mod Ends
+pub mod Walks
+pub mod Walkers
+pub mod Steps
+pub mod Damage

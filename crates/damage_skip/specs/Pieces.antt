@@ -1,0 +1,110 @@
+-- The pieces that a file comes apart in where damage is passed over. Own.
+use Rattle.std.specs.Prelude.{◌≡◌, ℕ, ◌<◌, ◌⊎◌, Bool, true, false, List, [], ◌∷◌, length, filter}
+use Rattle.std.specs.List.{flat_map, enumerate_from}
+use Rattle.chunk_header.specs.Chunks.{ChunkValue}
+use Rattle.chunk_header.specs.SimpleChunks.{IsSimple, IsCompressed}
+use Rattle.meta_chunk.specs.Files.{IsTransposed}
+use Rattle.meta_chunk.specs.Kinds.{IsSignature, IsMetadata, IsPadding}
+use Rattle.meta_chunk.specs.Laid.{end_of_chunk}
+use Rattle.chunk_reader.specs.Places.{end_at, chunk_at}
+use Rattle.chunk_reader.specs.Reasons.{Applies, NoneOf, IsFirstOf, content_reasons}
+use Rattle.chunk_reader.specs.declared.reasons.Why.{Why}
+use Rattle.chunk_reader.specs.declared.reasons.Why.TheVariants as why
+use Rattle.damage_skip.specs.Resyncs.{IsFirstBlock, Contradicts, IsResync, landing}
+
+-- what a piece is: a chunk that gives records, one that is kept as it is, one that is neither given nor told of, or bytes
+-- that are passed over for a reason
+pub data What : Type 0 where
+  Given : List (List ℕ) → ChunkValue → What
+  Kept : ChunkValue → What
+  Passive : What
+  Skipped : Why → What
+
+-- a piece of a file
+pub record Piece : Type 0 where
+  pub begin : ℕ
+  pub end : ℕ
+  pub what : What
+
+-- a reason to pass over what stands at a place: the headers of blocks within a chunk are not compared with its own, but one
+-- that is right and sane may say another chunk
+abbrev pub PassesOver : List ℕ → ℕ → Why → Type 0
+PassesOver file place why.Contradicted =
+    (block previous next : ℕ) × Contradicts file place (end_at file place) block previous next
+PassesOver file place other = Applies file place other
+
+-- these reasons, in their order. Where unread chunks are kept, those fall away that only name them
+abbrev pub walk_reasons : Bool → List Why
+walk_reasons keep =
+    why.Short ∷ why.HeaderHash ∷ why.Contradicted ∷ why.Truncated ∷ why.TooLarge ∷ content_reasons keep
+
+-- where the bytes end that are passed over from a place for a reason
+abbrev pub SkipsTo : List ℕ → ℕ → Why → ℕ → Type 0
+SkipsTo file place why.Short to = IsResync file place to
+SkipsTo file place why.HeaderHash to = IsResync file place to
+SkipsTo file place why.Contradicted to =
+    (block previous next : ℕ) × IsFirstBlock (Contradicts file place (end_at file place)) block previous next
+    × (to ≡ landing (length file) place block previous next)
+SkipsTo file place why.Truncated to = to ≡ length file
+SkipsTo file place other to = to ≡ end_at file place
+
+-- what a chunk is that no reason passes over
+abbrev pub IsFoundAs : Bool → ChunkValue → What → Type 0
+IsFoundAs keep k (Given records chunk) = IsSimple k records × (chunk ≡ k)
+IsFoundAs keep k (Kept chunk) =
+    (IsMetadata k ⊎ ((keep ≡ true) × (IsCompressed k ⊎ IsTransposed k))) × (chunk ≡ k)
+IsFoundAs keep k Passive = IsSignature k ⊎ IsPadding k
+IsFoundAs keep k (Skipped why) = ⊥
+
+-- what the piece is that begins at a place of a file, and where it ends
+abbrev pub IsPieceOf : Bool → List ℕ → (begin end : ℕ) → What → Type 0
+IsPieceOf keep file begin end (Skipped why) =
+    IsFirstOf (PassesOver file begin) (walk_reasons keep) why × SkipsTo file begin why end
+IsPieceOf keep file begin end what =
+    NoneOf (PassesOver file begin) (walk_reasons keep) × (end ≡ end_at file begin)
+    × IsFoundAs keep (chunk_at file begin) what
+
+-- the pieces of a file from a place up to another, each of which begins where the one before ends
+abbrev pub AreTiles : Bool → List ℕ → (from to : ℕ) → List Piece → Type 0
+AreTiles keep file from to [] = from ≡ to
+AreTiles keep file from to (piece ∷ pieces) =
+    (piece.begin ≡ from) × (from < length file) × IsPieceOf keep file from piece.end piece.what
+    × AreTiles keep file piece.end to pieces
+
+-- the pieces of a file
+abbrev pub ArePieces : Bool → List ℕ → List Piece → Type 0
+ArePieces keep file pieces = AreTiles keep file 0 (length file) pieces
+
+-- whether a piece is an event: given, kept or skipped
+abbrev pub is_event : What → Bool
+is_event Passive = false
+is_event other = true
+
+-- the pieces that are events
+abbrev pub events_in : List Piece → List Piece
+events_in pieces = filter (λ piece. is_event piece.what) pieces
+
+-- the events of a file, in order
+abbrev pub AreEvents : Bool → List ℕ → List Piece → Type 0
+AreEvents keep file events = (pieces : List Piece) × ArePieces keep file pieces × (events ≡ events_in pieces)
+
+-- the records that a piece gives
+abbrev pub records_of : What → List (List ℕ)
+records_of (Given records chunk) = records
+records_of other = []
+
+-- the records that pieces give, joined
+abbrev pub records_in : List Piece → List (List ℕ)
+records_in pieces = flat_map (λ piece. records_of piece.what) pieces
+
+-- the same, each with its position: its chunk's begin, and its number in the chunk
+abbrev pub placed_in : List Piece → List (ℕ × List ℕ)
+placed_in pieces = flat_map (λ piece. enumerate_from piece.begin (records_of piece.what)) pieces
+
+-- the pieces are these chunks, laid one after another from a place on, and each was found intact
+abbrev pub AreFound : Bool → ℕ → List ChunkValue → List Piece → Type 0
+AreFound keep place [] pieces = pieces ≡ []
+AreFound keep place (k ∷ ks) [] = ⊥
+AreFound keep place (k ∷ ks) (piece ∷ pieces) =
+    (piece.begin ≡ place) × (piece.end ≡ end_of_chunk place k) × IsFoundAs keep k piece.what
+    × AreFound keep (end_of_chunk place k) ks pieces

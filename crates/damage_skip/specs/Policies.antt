@@ -1,0 +1,11 @@
+-- Tests of regions. Own.
+use Rattle.std.specs.Prelude.{Bool, true, false}
+use Rattle.std.specs.Fn.{Shared, FnReturnsAt}
+use denote.Ref.{Bor}
+use Rattle.damage_skip.specs.declared.regions.Region.{Region}
+use Rattle.damage_skip.specs.Regions.{IsRegion}
+
+-- a function that may be called on each region, and can't answer both ways on one
+pub record IsTest {F : Type 0} (g : Shared F (Bor Region × Unit {0}) Bool) (f : F) : Type 0 where
+  pub callable : (p : Bor Region) → IsRegion p.now → g.pre f (p, tt)
+  pub one_way : (region : Region) → IsRegion region → FnReturnsAt g f region true → FnReturnsAt g f region false → ⊥

@@ -1,0 +1,92 @@
+-- How far a file was walked, and what was given of it. Own.
+use Rattle.std.specs.Prelude.{◌≡◌, ℕ, ◌≤◌, ◌<◌, Bool, true, false, Option, Some, None, Result, Ok, Err, IfSome, ⊤, List, [], ◌∷◌}
+use Rattle.std.specs.Fn.{Shared, FnReturnsAt}
+use denote.Ref.{Bor}
+use Rattle.chunk_header.specs.SimpleChunks.{IsSimple}
+use Rattle.chunk_header.specs.Views.{value_of_chunk}
+use Rattle.meta_chunk.specs.Laid.{end_of_chunk}
+use Rattle.chunk_reader.specs.declared.reasons.Why.{Why}
+use Rattle.damage_skip.specs.declared.events.Event.{Event}
+use Rattle.damage_skip.specs.declared.events.Event.TheVariants as event
+use Rattle.damage_skip.specs.declared.events.WalkEnd.{WalkEnd}
+use Rattle.damage_skip.specs.declared.events.WalkEnd.TheVariants as walk
+use Rattle.damage_skip.specs.declared.pieces.Piece as code
+use Rattle.damage_skip.specs.declared.pieces.What.{What}
+use Rattle.damage_skip.specs.declared.pieces.What.TheVariants as what
+use Rattle.damage_skip.specs.declared.regions.Region.{Region}
+use Rattle.damage_skip.specs.Pieces.{Piece, Given, Kept, Skipped, IsPieceOf, AreTiles, events_in}
+use Rattle.damage_skip.specs.Steps.{IsIntact, IsOnward}
+
+-- the piece that an event tells of
+abbrev pub piece_of : Event → Piece
+piece_of (event.Records begin records chunk) = record {
+  begin = begin;
+  end = end_of_chunk begin (value_of_chunk chunk);
+  what = Given records (value_of_chunk chunk);
+}
+piece_of (event.Kept begin chunk) = record {
+  begin = begin;
+  end = end_of_chunk begin (value_of_chunk chunk);
+  what = Kept (value_of_chunk chunk);
+}
+piece_of (event.Skipped region) = record { begin = region.begin; end = region.end; what = Skipped region.why }
+
+-- the file was walked from a place up to another, and these are the events between
+abbrev pub GoesOn : Bool → List ℕ → (from to : ℕ) → List Piece → Type 0
+GoesOn keep file from to events =
+    (pieces : List Piece) × AreTiles keep file from to pieces × (events_in pieces ≡ events)
+
+-- the place is the begin of a piece of the file, or its end
+abbrev pub IsMet : Bool → List ℕ → ℕ → Type 0
+IsMet keep file place = (pieces : List Piece) × AreTiles keep file 0 place pieces
+
+-- what a walk has stopped at, if it has, is the piece at its place
+abbrev pub IsStoppedAt : Bool → List ℕ → ℕ → Option Region → Type 0
+IsStoppedAt keep file place stopped =
+    IfSome stopped (λ region. (region.begin ≡ place) × IsPieceOf keep file place region.end (Skipped region.why))
+
+-- the chunk of an event is intact, and holds the records that are given
+abbrev pub IsIntactIn : Event → Type 0
+IsIntactIn (event.Records begin records chunk) = IsIntact chunk × IsSimple (value_of_chunk chunk) records
+IsIntactIn (event.Kept begin chunk) = IsIntact chunk
+IsIntactIn (event.Skipped region) = ⊤
+
+-- an event of a walk that it takes from a place up to another
+pub record IsEventIn (from to : ℕ) (e : Event) : Type 0 where
+  pub from_place : from ≤ (piece_of e).begin
+  pub rises : (piece_of e).begin < (piece_of e).end
+  pub to_place : (piece_of e).end ≡ to
+  pub intact : IsIntactIn e
+
+-- what is told of what a piece from a place up to another is, if it is an event
+abbrev pub what_event : (begin end : ℕ) → What → Option Event
+what_event begin end (what.Given records chunk) = Some (event.Records begin records chunk)
+what_event begin end (what.Kept chunk) = Some (event.Kept begin chunk)
+what_event begin end what.Passive = None
+what_event begin end (what.Skipped why) = Some (event.Skipped (record { begin = begin; end = end; why = why }))
+
+-- what is told of a piece
+abbrev pub event_of : ℕ → code.Piece → Option Event
+event_of begin piece = what_event begin piece.end piece.what
+
+-- a region that a walk stops at: it begins at the walk's place
+pub record IsStop (size place : ℕ) (region : Region) : Type 0 where
+  pub begin : region.begin ≡ place
+  pub onward : IsOnward size place region.end
+
+-- what a call of a walk gives
+abbrev pub events_of : Result (Option Event) WalkEnd → List Piece
+events_of (Ok (Some e)) = piece_of e ∷ []
+events_of other = []
+
+-- and where it stops, if it does
+abbrev pub stop_of : Result (Option Event) WalkEnd → Option Region
+stop_of (Err (walk.Stopped region)) = Some region
+stop_of other = None
+
+-- the region that a piece is at a place, where a test refuses it, or none where the test allows it or the piece is none
+abbrev pub Refuses : {F : Type 0} → Shared F (Bor Region × Unit {0}) Bool → F → ℕ → code.Piece → Option Region → Type 0
+Refuses test f place piece None =
+    (why : Why) → piece.what ≡ what.Skipped why → FnReturnsAt test f (record { begin = place; end = piece.end; why = why }) true
+Refuses test f place piece (Some region) =
+    (region.begin ≡ place) × (region.end ≡ piece.end) × (piece.what ≡ what.Skipped region.why) × FnReturnsAt test f region false

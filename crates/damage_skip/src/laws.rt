@@ -1,0 +1,194 @@
+//! Laws of the definitions that contracts cite. Nothing runs here.
+
+ghost use Rattle.std.specs.List.{AllByRecursion};
+ghost use Rattle.std.specs.List.Sorted.{IsStrictlyIncreasing};
+ghost use Rattle.std.specs.Prelude.{◌≡◌, ◌≢◌, ◌⊎◌, ◌↔◌, ℕ, ◌+◌, ◌^◌, ◌<◌, ◌≤◌, Bool, true, false, List, [], ◌∷◌, ◌++◌, Some, length, take, map, slice_get};
+ghost use Rattle.block_layout.specs.Layout.{IsBlock, IsBoundary};
+ghost use Rattle.chunk_header.specs.Chunks.{ChunkValue};
+ghost use Rattle.chunk_reader.specs.Faults.{IsAllowed};
+ghost use Rattle.chunk_reader.specs.declared.reasons.Why.{Why};
+ghost use Rattle.chunk_reader.specs.declared.reasons.Why.TheVariants as why;
+ghost use Rattle.damage_skip.specs.Damage.{Intact, IsDamaged, IsNext, AreReached, AreLeft, untouched};
+ghost use Rattle.damage_skip.specs.Pieces.{What, Skipped, Piece, IsFoundAs, IsPieceOf, AreTiles, ArePieces, events_in, AreEvents, records_in, placed_in, AreFound};
+ghost use Rattle.damage_skip.specs.Resyncs.{IsResync};
+ghost use Rattle.damage_skip.specs.Walks.{GoesOn, IsMet};
+ghost use Rattle.meta_chunk.specs.Files.{IsFramed, IsFile, IsFrame, IsFileOf, AreRecordsOf, ArePlaced, begin_of};
+
+/// From a place below its end a file is read on at one place, which is past that: a boundary of the file, or its end. Own.
+pub fn reading_goes_on_past_damage()
+    ensures past { (file : List ℕ) (place to : ℕ)
+        → place < length file → IsResync file place to
+        → (place < to) × (to ≤ length file) × (IsBoundary to ⊎ (to ≡ length file)) }
+    ensures one { (file : List ℕ) (place to other : ℕ)
+        → IsResync file place to → IsResync file place other → to ≡ other }
+    ensures some { (file : List ℕ) (place : ℕ) → (to : ℕ) × IsResync file place to }
+{}
+
+/// At each place of a file below its end one piece begins. It ends past that place, at a boundary of the file or at its end.
+/// Own.
+pub fn one_piece_begins_at_a_place()
+    ensures one { (keep : Bool) (file : List ℕ) (begin end other : ℕ) (what that : What)
+        → IsPieceOf keep file begin end what → IsPieceOf keep file begin other that
+        → (end ≡ other) × (what ≡ that) }
+    ensures past { (keep : Bool) (file : List ℕ) (begin end : ℕ) (what : What)
+        → begin < length file → IsPieceOf keep file begin end what
+        → (begin < end) × (end ≤ length file) × (IsBoundary end ⊎ (end ≡ length file)) }
+    ensures some { (keep : Bool) (file : List ℕ) (begin : ℕ)
+        → (end : ℕ) × (what : What) × IsPieceOf keep file begin end what }
+{}
+
+/// From each place of a file there is one list of pieces to its end, and up to a place one at most: of two lists from a
+/// place, that which reaches further begins with the other. So a file has one list of pieces, and one of events. Own.
+pub fn a_file_has_one_list_of_pieces()
+    ensures one { (keep : Bool) (file : List ℕ) (from to : ℕ) (ps qs : List Piece)
+        → AreTiles keep file from to ps → AreTiles keep file from to qs → ps ≡ qs }
+    ensures front { (keep : Bool) (file : List ℕ) (from to further : ℕ) (ps qs : List Piece)
+        → to ≤ further → AreTiles keep file from to ps → AreTiles keep file from further qs
+        → (rest : List Piece) × (qs ≡ ps ++ rest) × AreTiles keep file to further rest }
+    ensures to_end { (keep : Bool) (file : List ℕ) (from : ℕ)
+        → from ≤ length file → (pieces : List Piece) × AreTiles keep file from (length file) pieces }
+    ensures pieces { (keep : Bool) (file : List ℕ) → (pieces : List Piece) × ArePieces keep file pieces }
+    ensures one_events { (keep : Bool) (file : List ℕ) (es fs : List Piece)
+        → AreEvents keep file es → AreEvents keep file fs → es ≡ fs }
+    ensures events { (keep : Bool) (file : List ℕ) → (events : List Piece) × AreEvents keep file events }
+{}
+
+/// Pieces behind others are pieces, whose events are behind those of the others, and pieces come apart between any two. The
+/// pieces of a file begin at boundaries that rise, end in the file, the last of them at its end, and each position of the
+/// file lies in one. Own.
+pub fn pieces_tile_the_file()
+    ensures joined { (keep : Bool) (file : List ℕ) (from middle to : ℕ) (ps qs : List Piece)
+        → AreTiles keep file from middle ps → AreTiles keep file middle to qs → AreTiles keep file from to (ps ++ qs) }
+    ensures parted { (keep : Bool) (file : List ℕ) (from to : ℕ) (ps qs : List Piece)
+        → AreTiles keep file from to (ps ++ qs)
+        → (middle : ℕ) × AreTiles keep file from middle ps × AreTiles keep file middle to qs }
+    ensures events { (ps qs : List Piece) → events_in (ps ++ qs) ≡ events_in ps ++ events_in qs }
+    ensures boundary { (keep : Bool) (file : List ℕ) (pieces : List Piece)
+        → ArePieces keep file pieces → AllByRecursion (λ piece. IsBoundary piece.begin) pieces }
+    ensures within { (keep : Bool) (file : List ℕ) (pieces : List Piece)
+        → ArePieces keep file pieces
+        → AllByRecursion (λ piece. (piece.begin < piece.end) × (piece.end ≤ length file)) pieces }
+    ensures rise { (keep : Bool) (file : List ℕ) (pieces : List Piece)
+        → ArePieces keep file pieces → IsStrictlyIncreasing (map (λ piece. piece.begin) pieces) }
+    ensures last { (keep : Bool) (file : List ℕ) (pieces : List Piece) (piece : Piece)
+        → ArePieces keep file (pieces ++ piece ∷ []) → piece.end ≡ length file }
+    ensures holder { (keep : Bool) (file : List ℕ) (pieces : List Piece) (position : ℕ)
+        → ArePieces keep file pieces → position < length file
+        → (j : ℕ) × (piece : Piece) × (slice_get pieces j ≡ Some piece)
+        × (piece.begin ≤ position) × (position < piece.end) }
+{}
+
+/// A walk begins at the front of a file and goes on piece by piece to the file's end, where it gave the events of the file,
+/// the first of them before the others. Between two places it gives one list of events at most. Own.
+pub fn walks_go_on()
+    ensures front { (keep : Bool) (file : List ℕ) → IsMet keep file 0 }
+    ensures met { (keep : Bool) (file : List ℕ) (from to : ℕ) (events : List Piece)
+        → IsMet keep file from → GoesOn keep file from to events → IsMet keep file to }
+    ensures within { (keep : Bool) (file : List ℕ) (place : ℕ)
+        → IsMet keep file place → (place ≤ length file) × (IsBoundary place ⊎ (place ≡ length file)) }
+    ensures piece { (keep : Bool) (file : List ℕ) (place end : ℕ) (what : What)
+        → place < length file → IsPieceOf keep file place end what
+        → GoesOn keep file place end (events_in (record { begin = place; end = end; what = what } ∷ [])) }
+    ensures joined { (keep : Bool) (file : List ℕ) (from middle to : ℕ) (es fs : List Piece)
+        → GoesOn keep file from middle es → GoesOn keep file middle to fs → GoesOn keep file from to (es ++ fs) }
+    ensures one { (keep : Bool) (file : List ℕ) (from to : ℕ) (es fs : List Piece)
+        → GoesOn keep file from to es → GoesOn keep file from to fs → es ≡ fs }
+    ensures whole { (keep : Bool) (file : List ℕ) (events : List Piece)
+        → GoesOn keep file 0 (length file) events → AreEvents keep file events }
+    ensures first { (keep : Bool) (file : List ℕ) (place : ℕ) (given events : List Piece)
+        → GoesOn keep file 0 place given → AreEvents keep file events
+        → (rest : List Piece) × (events ≡ given ++ rest) × GoesOn keep file place (length file) rest }
+{}
+
+/// A file without fault is walked chunk by chunk, and each is found intact: a file of plain chunks whether or not unread
+/// ones are kept, and a frame where they are. So nothing of it is skipped, and its events give its records, with their
+/// positions. Own.
+pub fn files_without_fault_are_walked_whole()
+    ensures plain { (keep : Bool) (ks : List ChunkValue) (file : List ℕ)
+        → IsFile ks file → IsFileOf (IsAllowed keep) ks file }
+    ensures pieces { (keep : Bool) (ks : List ChunkValue) (file : List ℕ) (pieces : List Piece)
+        → IsFileOf (IsAllowed keep) ks file → ArePieces keep file pieces → AreFound keep 0 ks pieces }
+    ensures none_skipped { (keep : Bool) (ks : List ChunkValue) (file : List ℕ) (events : List Piece)
+        → IsFileOf (IsAllowed keep) ks file → AreEvents keep file events
+        → AllByRecursion (λ event. (reason : Why) → event.what ≢ Skipped reason) events }
+    ensures records { (keep : Bool) (ks : List ChunkValue) (file : List ℕ) (events : List Piece)
+        → IsFileOf (IsAllowed keep) ks file → AreEvents keep file events → AreRecordsOf ks (records_in events) }
+    ensures placed { (keep : Bool) (ks : List ChunkValue) (file : List ℕ) (events : List Piece)
+        → IsFileOf (IsAllowed keep) ks file → AreEvents keep file events → ArePlaced ks (placed_in events) }
+{}
+
+/// Pieces that are chunks found intact are as many as these, and each reaches from its chunk's begin to the next one's.
+/// They give the records of the chunks, and events give all records that pieces do. Own.
+pub fn found_pieces_are_the_chunks()
+    ensures count { (keep : Bool) (place : ℕ) (ks : List ChunkValue) (pieces : List Piece)
+        → AreFound keep place ks pieces → length pieces ≡ length ks }
+    ensures at { (keep : Bool) (ks : List ChunkValue) (pieces : List Piece) (j : ℕ) (k : ChunkValue) (piece : Piece)
+        → AreFound keep 0 ks pieces → slice_get ks j ≡ Some k → slice_get pieces j ≡ Some piece
+        → (piece.begin ≡ begin_of ks j) × (piece.end ≡ begin_of ks (j + 1)) × IsFoundAs keep k piece.what }
+    ensures none_skipped { (keep : Bool) (place : ℕ) (ks : List ChunkValue) (pieces : List Piece)
+        → AreFound keep place ks pieces → AllByRecursion (λ piece. (reason : Why) → piece.what ≢ Skipped reason) pieces }
+    ensures records { (keep : Bool) (place : ℕ) (ks : List ChunkValue) (pieces : List Piece)
+        → AreFound keep place ks pieces → AreRecordsOf ks (records_in pieces) }
+    ensures placed { (keep : Bool) (ks : List ChunkValue) (pieces : List Piece)
+        → AreFound keep 0 ks pieces → ArePlaced ks (placed_in pieces) }
+    ensures events_records { (pieces : List Piece) → records_in (events_in pieces) ≡ records_in pieces }
+    ensures events_placed { (pieces : List Piece) → placed_in (events_in pieces) ≡ placed_in pieces }
+{}
+
+/// What damage leaves is told by chunk numbers alone: the chunk that is reached next is one, behind the one before it, and
+/// so the chunks that are reached are one list, and so are the pieces that are left, which begin where these chunks do. Own.
+pub fn what_damage_leaves_is_one()
+    ensures next_one { (ks : List ChunkValue) (intact : Intact) (j next other : ℕ)
+        → IsNext ks intact j next → IsNext ks intact j other → next ≡ other }
+    ensures next_past { (ks : List ChunkValue) (intact : Intact) (j next : ℕ)
+        → j < length ks → IsNext ks intact j next → (j < next) × (next ≤ length ks) }
+    ensures next { (ks : List ChunkValue) (intact : Intact) (j : ℕ) → (next : ℕ) × IsNext ks intact j next }
+    ensures reached_one { (ks : List ChunkValue) (intact : Intact) (j : ℕ) (is js : List ℕ)
+        → AreReached ks intact j is → AreReached ks intact j js → is ≡ js }
+    ensures reached { (ks : List ChunkValue) (intact : Intact) (j : ℕ)
+        → j ≤ length ks → (is : List ℕ) × AreReached ks intact j is }
+    ensures left_one { (keep : Bool) (ks : List ChunkValue) (intact : Intact) (j : ℕ) (ps qs : List Piece)
+        → AreLeft keep ks intact j ps → AreLeft keep ks intact j qs → ps ≡ qs }
+    ensures left { (keep : Bool) (ks : List ChunkValue) (intact : Intact) (j : ℕ)
+        → AllByRecursion IsFramed ks → j ≤ length ks → (pieces : List Piece) × AreLeft keep ks intact j pieces }
+    ensures begins { (keep : Bool) (ks : List ChunkValue) (intact : Intact) (j : ℕ) (pieces : List Piece) (is : List ℕ)
+        → AreLeft keep ks intact j pieces → AreReached ks intact j is
+        → map (λ piece. piece.begin) pieces ≡ map (begin_of ks) is }
+{}
+
+/// The pieces of a damaged file of at most 2^60 bytes are those that are told from the undamaged file, from what is intact of
+/// its chunks and of its block headers. So its events give the records of the chunks that are reached and untouched. Own.
+pub fn damaged_files_come_apart_as_told()
+    ensures pieces { (keep : Bool) (ks : List ChunkValue) (file damaged : List ℕ) (intact : Intact) (pieces : List Piece)
+        → length file ≤ 2 ^ 60 → IsDamaged ks file damaged intact
+        → ArePieces keep damaged pieces ↔ AreLeft keep ks intact 0 pieces }
+    ensures records { (keep : Bool) (ks : List ChunkValue) (file damaged : List ℕ) (intact : Intact) (is : List ℕ)
+        (events : List Piece)
+        → length file ≤ 2 ^ 60 → IsDamaged ks file damaged intact → AreReached ks intact 0 is
+        → AreEvents keep damaged events → AreRecordsOf (untouched ks intact is) (records_in events) }
+{}
+
+/// Where all block headers are intact, a chunk that isn't reached is behind one with a broken header, and ends at or before
+/// the first block from that one's begin on. Own.
+pub fn chunks_are_lost_up_to_a_block()
+    ensures { (ks : List ChunkValue) (intact : Intact) (k : ℕ) (is : List ℕ)
+        → ((b : ℕ) → IsBlock b → b < begin_of ks (length ks) → intact.block b ≡ true)
+        → AreReached ks intact 0 is → k < length ks → ((i : ℕ) → slice_get is i ≢ Some k)
+        → (j : ℕ) × (j < k) × (intact.header j ≡ false)
+        × ((b : ℕ) → IsBlock b → begin_of ks j ≤ b → begin_of ks (k + 1) ≤ b) }
+{}
+
+/// The front of a file of chunks comes apart as the file does up to the last chunk that it has whole. Where it ends within a
+/// chunk, that chunk's bytes are passed over as one region, for want of its header or of its end. Own.
+pub fn fronts_of_files_lose_one_chunk()
+    ensures front { (keep : Bool) (ks : List ChunkValue) (file : List ℕ) (n : ℕ)
+        → IsFrame ks file → (front : List Piece) × AreTiles keep file 0 (begin_of ks n) front }
+    ensures between { (keep : Bool) (ks : List ChunkValue) (file : List ℕ) (n : ℕ) (front : List Piece)
+        → IsFrame ks file → AreTiles keep file 0 (begin_of ks n) front
+        → ArePieces keep (take (begin_of ks n) file) front }
+    ensures within { (keep : Bool) (ks : List ChunkValue) (file : List ℕ) (n m : ℕ) (front : List Piece)
+        → IsFrame ks file → n < length ks → begin_of ks n < m → m < begin_of ks (n + 1)
+        → AreTiles keep file 0 (begin_of ks n) front
+        → (reason : Why) × ((reason ≡ why.Short) ⊎ (reason ≡ why.Truncated))
+        × ArePieces keep (take m file) (front ++ record { begin = begin_of ks n; end = m; what = Skipped reason } ∷ []) }
+{}

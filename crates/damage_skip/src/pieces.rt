@@ -1,0 +1,202 @@
+ghost use Rattle.std.specs.Prelude.{◌≡◌, ℕ, ◌^◌, ◌<◌, ◌≤◌, ◌⊎◌, Some, IfOk, IfSome, OnErr};
+ghost use Rattle.record_io.specs.Outside.{Rose};
+ghost use Rattle.block_layout.specs.Layout.{IsBoundary};
+ghost use Rattle.chunk_header.specs.Views.{IsHeader, value_of_header};
+ghost use Rattle.chunk_reader.specs.Heads.{IsHead};
+ghost use Rattle.chunk_reader.specs.Places.{end_by};
+ghost use Rattle.chunk_reader.specs.Reasons.{Applies, NoneOf, loading_reasons};
+ghost use Rattle.damage_skip.specs.Pieces.{IsPieceOf};
+ghost use Rattle.damage_skip.specs.Steps.{IsEndOf, IsReadAs, IsUnloaded, IsPieceFrom, value_of_what};
+
+use crate::block_checks::Span;
+use crate::chunk_loads::{Loaded, load};
+use crate::resyncs::resync;
+use chunk_header::{Chunk, Header};
+use chunk_reader::{Content, ContentEnd, Head, LoadEnd, MAX_DATA_SIZE, Why, content, head_at};
+use record_io::{Failed, Store};
+use simple_chunk::Records;
+use std::alloc::Global;
+
+/// A piece of a file, which begins where the walk stands.
+#[derive(Debug, Drop)]
+pub(crate) struct Piece {
+    /// Where it ends.
+    pub end: u64,
+    /// What it is.
+    pub what: What,
+}
+
+/// What a piece is.
+#[derive(Debug, Drop)]
+pub(crate) enum What {
+    /// A chunk of records.
+    Given(Records, Chunk),
+    /// A chunk that is kept.
+    Kept(Chunk),
+    /// A signature or a padding chunk.
+    Passive,
+    /// Bytes that are passed over.
+    Skipped(Why),
+}
+
+/// The piece that begins at a place of a file.
+pub(crate) fn piece_at<S: Store>(
+    alloc: Global,
+    store: &mut S,
+    size: u64,
+    at: u64,
+    keep: bool,
+) -> Result<Piece, LoadEnd>
+    requires told { S.told store.old ≡ Some size }
+    requires in_reach { size ≤ 2 ^ 60 }
+    requires from_boundary { IsBoundary at }
+    requires below { at < size }
+    ensures piece { IfOk result (λ piece. IsPieceFrom size at piece) }
+    ensures sound { IfOk result (λ piece. IfSome (S.bytes store.old) (λ file. IsPieceOf keep file at piece.end (value_of_what piece.what))) }
+    ensures memory { result ≡ Err LoadEnd.Memory → IfSome (S.bytes store.old) (λ file. NoneOf (Applies file at) loading_reasons) }
+    ensures same_bytes { S.bytes store.new ≡ S.bytes store.old }
+    ensures same_told { S.told store.new ≡ S.told store.old }
+    ensures same_name { S.name store.new ≡ S.name store.old }
+    ensures cause { result ≡ Err LoadEnd.Store → Rose (S.faults store.old) (S.faults store.new) }
+    ensures never_falls { S.faults store.old ≤ S.faults store.new }
+{
+    match head_at(store, size, at)? {
+        Head::Short => Ok(skipped(resync(store, size, at)?, Why::Short)),
+        Head::BadHash => Ok(skipped(resync(store, size, at)?, Why::HeaderHash)),
+        Head::Right { header, end } => headed_piece(alloc, store, size, at, keep, header, end),
+    }
+}
+
+/// The piece that begins with a chunk header.
+fn headed_piece<S: Store>(
+    alloc: Global,
+    store: &mut S,
+    size: u64,
+    at: u64,
+    keep: bool,
+    header: Header,
+    end: Option<u64>,
+) -> Result<Piece, LoadEnd>
+    requires told { S.told store.old ≡ Some size }
+    requires in_reach { size ≤ 2 ^ 60 }
+    requires from_boundary { IsBoundary at }
+    requires below { at < size }
+    requires fits { IsHeader header }
+    requires end { IsEndOf end (end_by at (value_of_header header)) }
+    requires head { IfSome (S.bytes store.old) (λ file. IsHead file at (Head.Right header end)) }
+    ensures piece { IfOk result (λ piece. IsPieceFrom size at piece) }
+    ensures sound { IfOk result (λ piece. IfSome (S.bytes store.old) (λ file. IsPieceOf keep file at piece.end (value_of_what piece.what))) }
+    ensures memory { result ≡ Err LoadEnd.Memory → IfSome (S.bytes store.old) (λ file. NoneOf (Applies file at) loading_reasons) }
+    ensures same_bytes { S.bytes store.new ≡ S.bytes store.old }
+    ensures same_told { S.told store.new ≡ S.told store.old }
+    ensures same_name { S.name store.new ≡ S.name store.old }
+    ensures cause { result ≡ Err LoadEnd.Store → Rose (S.faults store.old) (S.faults store.new) }
+    ensures never_falls { S.faults store.old ≤ S.faults store.new }
+{
+    let span = Span { begin: at, end };
+    match end {
+        Some(end) if end <= size => held_piece(alloc, store, size, keep, header, span, end),
+        _ => Ok(unloaded_piece(store, size, span, size, Why::Truncated)?),
+    }
+}
+
+/// The piece that begins with a chunk header, where the file has the chunk to its end.
+fn held_piece<S: Store>(
+    alloc: Global,
+    store: &mut S,
+    size: u64,
+    keep: bool,
+    header: Header,
+    span: Span,
+    end: u64,
+) -> Result<Piece, LoadEnd>
+    requires told { S.told store.old ≡ Some size }
+    requires in_reach { size ≤ 2 ^ 60 }
+    requires from_boundary { IsBoundary span.begin }
+    requires fits { IsHeader header }
+    requires span { span.end ≡ Some end }
+    requires end { end ≡ end_by span.begin (value_of_header header) }
+    requires within { end ≤ size }
+    requires head { IfSome (S.bytes store.old) (λ file. IsHead file span.begin (Head.Right header span.end)) }
+    ensures piece { IfOk result (λ piece. IsPieceFrom size span.begin piece) }
+    ensures sound { IfOk result (λ piece. IfSome (S.bytes store.old) (λ file. IsPieceOf keep file span.begin piece.end (value_of_what piece.what))) }
+    ensures memory { result ≡ Err LoadEnd.Memory → IfSome (S.bytes store.old) (λ file. NoneOf (Applies file span.begin) loading_reasons) }
+    ensures same_bytes { S.bytes store.new ≡ S.bytes store.old }
+    ensures same_told { S.told store.new ≡ S.told store.old }
+    ensures same_name { S.name store.new ≡ S.name store.old }
+    ensures cause { result ≡ Err LoadEnd.Store → Rose (S.faults store.old) (S.faults store.new) }
+    ensures never_falls { S.faults store.old ≤ S.faults store.new }
+{
+    if header.data_size > MAX_DATA_SIZE {
+        return Ok(unloaded_piece(store, size, span, end, Why::TooLarge)?);
+    }
+    match load(alloc, store, size, span, end, header)? {
+        Loaded::Whole(chunk) => whole_piece(alloc, chunk, end, keep),
+        Loaded::Contradicted(landing) => Ok(skipped(landing, Why::Contradicted)),
+    }
+}
+
+/// The piece of a chunk whose data isn't read, which is passed over to a place for a reason, unless a block header within it
+/// tells of another chunk.
+fn unloaded_piece<S: Store>(
+    store: &mut S,
+    size: u64,
+    span: Span,
+    to: u64,
+    why: Why,
+) -> Result<Piece, Failed>
+    requires told { S.told store.old ≡ Some size }
+    requires in_reach { size ≤ 2 ^ 60 }
+    requires after { span.begin < to }
+    requires within_file { to ≤ size }
+    requires boundary { IsBoundary to ⊎ (to ≡ size) }
+    requires within { IfSome span.end (λ e. to ≤ e) }
+    ensures piece { IfOk result (λ piece. IsPieceFrom size span.begin piece) }
+    ensures unloaded { (end : ℕ) → IsEndOf span.end end
+        → IfOk result (λ piece. IfSome (S.bytes store.old) (λ file. IsUnloaded file span.begin end to why piece)) }
+    ensures same_bytes { S.bytes store.new ≡ S.bytes store.old }
+    ensures same_told { S.told store.new ≡ S.told store.old }
+    ensures same_name { S.name store.new ≡ S.name store.old }
+    ensures cause { OnErr result (Rose (S.faults store.old) (S.faults store.new)) }
+    ensures never_falls { S.faults store.old ≤ S.faults store.new }
+{
+    match span.contradicted_between(store, size, span.begin, to)? {
+        Some(landing) => Ok(skipped(landing, Why::Contradicted)),
+        None => Ok(skipped(to, why)),
+    }
+}
+
+/// The piece of a chunk that was read, which ends at a place.
+fn whole_piece(alloc: Global, chunk: Chunk, end: u64, keep: bool) -> Result<Piece, LoadEnd>
+    ensures end { IfOk result (λ piece. piece.end ≡ end) }
+    ensures read { IfOk result (λ piece. IsReadAs keep chunk piece.what) }
+    ensures memory { OnErr result (result ≡ Err LoadEnd.Memory) }
+{
+    let what = what_of(alloc, chunk, keep)?;
+    Ok(Piece { end, what })
+}
+
+/// What a chunk is that was read.
+fn what_of(alloc: Global, chunk: Chunk, keep: bool) -> Result<What, LoadEnd>
+    ensures read { IfOk result (λ what. IsReadAs keep chunk what) }
+    ensures memory { OnErr result (result ≡ Err LoadEnd.Memory) }
+{
+    match content(alloc, &chunk) {
+        Ok(Content::Records(records)) => Ok(What::Given(records, chunk)),
+        Ok(Content::Metadata) => Ok(What::Kept(chunk)),
+        Ok(Content::Signature | Content::Padding) => Ok(What::Passive),
+        Err(ContentEnd::Fault(Why::Compressed | Why::Transposed)) if keep => Ok(What::Kept(chunk)),
+        Err(ContentEnd::Fault(why)) => Ok(What::Skipped(why)),
+        Err(ContentEnd::Memory) => Err(LoadEnd::Memory),
+    }
+}
+
+/// Bytes that are passed over to a place.
+fn skipped(end: u64, why: Why) -> Piece
+    ensures { result ≡ record { end = end; what = What.Skipped why } }
+{
+    Piece {
+        end,
+        what: What::Skipped(why),
+    }
+}

@@ -1,0 +1,59 @@
+ghost use Rattle.std.specs.Prelude.{◌≡◌, ◌^◌, ◌<◌, ◌≤◌, ◌⊎◌, Some, IfOk, IfSome, OnErr};
+ghost use Rattle.record_io.specs.Outside.{Rose};
+ghost use Rattle.block_layout.specs.Layout.{IsBoundary};
+ghost use Rattle.block_layout.specs.BlockHeaders.{IsSane};
+ghost use Rattle.damage_skip.specs.Resyncs.{IsResync, landing};
+
+use crate::block_checks::{next_block, sane_header_at};
+use block_layout::{BLOCK_SIZE, BlockHeader};
+use record_io::{Failed, Store};
+
+/// Where reading goes on from a place of a file of `size` bytes, which were told, at most 2^60, where no chunk header can
+/// be read. The place is a boundary below `size`.
+///
+/// The first block at or past the place whose header is right and sane decides: it leads to the begin of the chunk that it
+/// interrupts where that is past the place, and else to that chunk's end, or to the file's end if that comes first. Where
+/// there is no such block, it is the file's end. Only block headers are read. It takes no memory.
+///
+/// Riegeli/records file format specification, "Block header". Own: which block decides.
+///
+/// # Errors
+///
+/// `Failed` only where the store failed.
+pub fn resync<S: Store>(store: &mut S, size: u64, from: u64) -> Result<u64, Failed>
+    requires told { S.told store.old ≡ Some size }
+    requires in_reach { size ≤ 2 ^ 60 }
+    requires from_boundary { IsBoundary from }
+    requires below { from < size }
+    ensures resync { IfOk result (λ to. IfSome (S.bytes store.old) (λ file. IsResync file from to)) }
+    ensures past { IfOk result (λ to. from < to) }
+    ensures within { IfOk result (λ to. to ≤ size) }
+    ensures boundary { IfOk result (λ to. IsBoundary to ⊎ (to ≡ size)) }
+    ensures same_bytes { S.bytes store.new ≡ S.bytes store.old }
+    ensures same_told { S.told store.new ≡ S.told store.old }
+    ensures same_name { S.name store.new ≡ S.name store.old }
+    ensures cause { OnErr result (Rose (S.faults store.old) (S.faults store.new)) }
+    ensures never_falls { S.faults store.old ≤ S.faults store.new }
+{
+    let mut block = next_block(from);
+    while block < size {
+        if let Some(header) = sane_header_at(store, size, block)? {
+            return Ok(landing(size, from, block, &header));
+        }
+        block += BLOCK_SIZE;
+    }
+    Ok(size)
+}
+
+/// Where a block leads that is met from a place of a file of so many bytes.
+pub(crate) fn landing(size: u64, place: u64, block: u64, header: &BlockHeader) -> u64
+    requires sane { IsSane block header.now.previous header.now.next }
+    ensures { result ≡ landing size place block header.now.previous header.now.next }
+{
+    let begin = block - header.previous;
+    if begin > place {
+        begin
+    } else {
+        size.min(block + header.next)
+    }
+}

@@ -1,0 +1,159 @@
+ghost use Rattle.std.specs.Prelude.{◌≡◌, ◌^◌, ◌<◌, ◌≤◌, ◌⊎◌, ℕ, true, false, Ok, Err, Some, None, List, [], ◌∷◌, length, IfSome};
+ghost use Rattle.std.specs.Fn.{FnReturnsAt};
+ghost use Rattle.record_io.specs.Outside.{Rose};
+ghost use Rattle.block_layout.specs.Layout.{IsBoundary};
+ghost use Rattle.chunk_reader.specs.Reasons.{Applies, NoneOf, loading_reasons};
+ghost use Rattle.damage_skip.specs.Policies.{IsTest};
+ghost use Rattle.damage_skip.specs.Steps.{IsPieceFrom};
+ghost use Rattle.damage_skip.specs.Walks.{GoesOn, IsMet, IsStoppedAt, IsEventIn, IsStop, Refuses, event_of, events_of, stop_of};
+ghost use Rattle.damage_skip.specs.Walkers.{progress_of, test_of};
+ghost use Rattle.damage_skip.specs.declared.events.Event.{Event};
+ghost use Rattle.damage_skip.specs.declared.regions.Region.{Region};
+
+use crate::events::{Event, WalkEnd};
+use crate::pieces::{Piece, What, piece_at};
+use crate::policies::Policy;
+use crate::progress::Progress;
+use crate::regions::Region;
+use record_io::Store;
+use std::alloc::Global;
+
+/// Walks a file from its front to its end, past all damage that a policy allows to pass over. Own.
+#[derive(Drop)]
+pub struct Walker<F> {
+    progress: Progress,
+    policy: Policy<F>,
+}
+
+impl<F: Fn(&Region) -> bool + Drop> Walker<F> {
+    /// A walk of a file of so many bytes, from its front. With `keep`, compressed and transposed chunks are given in place of
+    /// being passed over.
+    pub fn new(size: u64, keep: bool, policy: Policy<F>) -> Walker<F>
+        ensures size { (progress_of result).size ≡ size }
+        ensures keep { (progress_of result).keep ≡ keep }
+        ensures at_front { (progress_of result).place ≡ 0 }
+        ensures going { (progress_of result).stopped ≡ None }
+        ensures test { test_of result ≡ policy.test }
+        ensures met { (file : List ℕ) → IsMet keep file (progress_of result).place }
+        ensures stopped_there { (file : List ℕ) → IsStoppedAt keep file (progress_of result).place (progress_of result).stopped }
+    {
+        Walker {
+            progress: Progress {
+                size,
+                keep,
+                place: 0,
+                stopped: None,
+            },
+            policy,
+        }
+    }
+
+    /// The next event of the file; `None` exactly at its end. The file's size was told and is the walker's, at most 2^60.
+    ///
+    /// # Errors
+    ///
+    /// `Stopped` exactly where the next event is a region that the policy doesn't allow to pass over, and again at each later
+    /// call. `Store` only where the store failed. `Memory` only where a chunk is at hand whose header is right, which lies
+    /// in the file and whose data isn't too large. After these two no event is lost, and the call may be made again.
+    pub fn next<S: Store>(&mut self, alloc: Global, store: &mut S) -> Result<Option<Event>, WalkEnd>
+        requires told { S.told store.old ≡ Some (progress_of self.old).size }
+        requires in_reach { (progress_of self.old).size ≤ 2 ^ 60 }
+        requires test { IsTest F.Fn (test_of self.old) }
+        requires met { IfSome (S.bytes store.old) (λ file. IsMet (progress_of self.old).keep file (progress_of self.old).place) }
+        requires stopped_there { IfSome (S.bytes store.old) (λ file.
+            IsStoppedAt (progress_of self.old).keep file (progress_of self.old).place (progress_of self.old).stopped) }
+        ensures same_size { (progress_of self.new).size ≡ (progress_of self.old).size }
+        ensures same_keep { (progress_of self.new).keep ≡ (progress_of self.old).keep }
+        ensures same_test { test_of self.new ≡ test_of self.old }
+        ensures rises { (progress_of self.old).place ≤ (progress_of self.new).place }
+        ensures within { (progress_of self.new).place ≤ (progress_of self.new).size }
+        ensures boundary { IsBoundary (progress_of self.new).place ⊎ ((progress_of self.new).place ≡ (progress_of self.new).size) }
+        ensures met { IfSome (S.bytes store.old) (λ file. IsMet (progress_of self.new).keep file (progress_of self.new).place) }
+        ensures stopped_there { IfSome (S.bytes store.old) (λ file.
+            IsStoppedAt (progress_of self.new).keep file (progress_of self.new).place (progress_of self.new).stopped) }
+        ensures goes_on { IfSome (S.bytes store.old) (λ file. GoesOn (progress_of self.old).keep file
+            (progress_of self.old).place (progress_of self.new).place (events_of result)) }
+        ensures bounds { (event : Event) → result ≡ Ok (Some event)
+            → IsEventIn (progress_of self.old).place (progress_of self.new).place event }
+        ensures allowed { (region : Region) → result ≡ Ok (Some (Event.Skipped region)) → FnReturnsAt F.Fn (test_of self.old) region true }
+        ensures ended { result ≡ Ok None → (progress_of self.new).place ≡ (progress_of self.old).size }
+        ensures stopped { (progress_of self.new).stopped ≡ stop_of result }
+        ensures stop { (region : Region) → result ≡ Err (WalkEnd.Stopped region) → (progress_of self.old).stopped ≡ None
+            → IsStop (progress_of self.new).size (progress_of self.new).place region }
+        ensures refused { (region : Region) → result ≡ Err (WalkEnd.Stopped region) → (progress_of self.old).stopped ≡ None
+            → FnReturnsAt F.Fn (test_of self.old) region false }
+        ensures again { (region : Region) → (progress_of self.old).stopped ≡ Some region
+            → (result ≡ Err (WalkEnd.Stopped region)) × (self.new ≡ self.old) × (store.new ≡ store.old) }
+        ensures memory { result ≡ Err WalkEnd.Memory
+            → IfSome (S.bytes store.old) (λ file. NoneOf (Applies file (progress_of self.new).place) loading_reasons) }
+        ensures same_bytes { S.bytes store.new ≡ S.bytes store.old }
+        ensures same_told { S.told store.new ≡ S.told store.old }
+        ensures same_name { S.name store.new ≡ S.name store.old }
+        ensures cause { result ≡ Err WalkEnd.Store → Rose (S.faults store.old) (S.faults store.new) }
+        ensures never_falls { S.faults store.old ≤ S.faults store.new }
+    {
+        if let Some(region) = self.progress.stopped {
+            return Err(WalkEnd::Stopped(region));
+        }
+        while self.progress.place < self.progress.size {
+            let Progress {
+                size,
+                keep,
+                place,
+                ..
+            } = self.progress;
+            let piece = piece_at(alloc, store, size, place, keep)?;
+            if let Some(region) = self.refused(&piece) {
+                self.progress.stopped = Some(region);
+                return Err(WalkEnd::Stopped(region));
+            }
+            self.progress.place = piece.end;
+            if let Some(event) = event(place, piece) {
+                return Ok(Some(event));
+            }
+        }
+        Ok(None)
+    }
+
+    /// The region that a piece at the place is, where the policy doesn't allow to pass over it.
+    fn refused(&self, piece: &Piece) -> Option<Region>
+        requires in_reach { self.now.progress.size ≤ 2 ^ 60 }
+        requires test { IsTest F.Fn self.now.policy.test }
+        requires piece { IsPieceFrom self.now.progress.size self.now.progress.place piece.now }
+        ensures { Refuses F.Fn self.now.policy.test self.now.progress.place piece.now result }
+    {
+        let What::Skipped(why) = &piece.what else {
+            return None;
+        };
+        let region = Region {
+            begin: self.progress.place,
+            end: piece.end,
+            why: *why,
+        };
+        if self.policy.allows(&region) {
+            None
+        } else {
+            Some(region)
+        }
+    }
+}
+
+/// What a piece that begins at a place is told as; `None` where nothing is told of it.
+fn event(begin: u64, piece: Piece) -> Option<Event>
+    ensures { result ≡ event_of begin piece }
+{
+    match piece.what {
+        What::Given(records, chunk) => Some(Event::Records {
+            begin,
+            records,
+            chunk,
+        }),
+        What::Kept(chunk) => Some(Event::Kept { begin, chunk }),
+        What::Passive => None,
+        What::Skipped(why) => Some(Event::Skipped(Region {
+            begin,
+            end: piece.end,
+            why,
+        })),
+    }
+}
