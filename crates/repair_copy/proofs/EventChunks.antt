@@ -1,0 +1,48 @@
+-- The events of pieces have their chunks.
+use Rattle.std.proofs.Common.{◌≡◌, ◌∙◌, false, List, [], ◌∷◌, ◌++◌, refl, sym, ap, inl, inr, ℕ, length, append-nil, arith}
+use Rattle.std.proofs.lemmas.Bool.{cases_Bool, cond-true, cond-false}
+use Rattle.std.proofs.lemmas.Grind.{flat_map-append}
+use Rattle.chunk_header.specs.Chunks.{ChunkValue}
+use Rattle.meta_chunk.specs.Files.{signature, end_of_chunks, laid_each}
+use Rattle.meta_chunk.proofs.Joins.{laid_each-append, end-laid_each}
+use Rattle.damage_skip.specs.Pieces.{What, Given, Kept, Passive, Skipped, Piece, is_event, events_in}
+use Rattle.repair_copy.specs.Relaid.{chunk_in, chunks_in, relaid}
+
+-- a piece that is no event has no chunk
+no_event_no_chunk : (what : What) → is_event what ≡ false → chunk_in what ≡ []
+no_event_no_chunk (Given records c) h = cc
+no_event_no_chunk (Kept c) h = cc
+no_event_no_chunk Passive h = refl
+no_event_no_chunk (Skipped w) h = refl
+
+pub chunks_in_events : (pieces : List Piece) → chunks_in (events_in pieces) ≡ chunks_in pieces
+chunks_in_events [] = refl
+chunks_in_events (p ∷ pieces) =
+    elim (cases_Bool (is_event p.what)) [
+      | inl event ↦
+          ap chunks_in (cond-true (is_event p.what) (p ∷ events_in pieces) (events_in pieces) event)
+          ∙ ap (λ (xs : List ChunkValue). chunk_in p.what ++ xs) (chunks_in_events pieces)
+      | inr other ↦
+          ap chunks_in (cond-false (is_event p.what) (p ∷ events_in pieces) (events_in pieces) other)
+          ∙ chunks_in_events pieces
+          ∙ ap (λ (xs : List ChunkValue). xs ++ chunks_in pieces) (sym (no_event_no_chunk p.what other))
+    ]
+
+-- and those of more pieces are behind
+pub chunks_in-append : (ps qs : List Piece) → chunks_in (ps ++ qs) ≡ chunks_in ps ++ chunks_in qs
+chunks_in-append ps qs = flat_map-append (λ (p : Piece). chunk_in p.what) ps qs
+
+-- so events are the same file
+pub relaid_events : (pieces : List Piece) → relaid (events_in pieces) ≡ relaid pieces
+relaid_events pieces = ap (λ (ks : List ChunkValue). laid_each 0 (signature ∷ ks)) (chunks_in_events pieces)
+
+-- one piece more adds its chunk, if it has one, where the file of the others ends
+pub relaid-push : (pieces : List Piece) (piece : Piece)
+    → relaid (pieces ++ piece ∷ []) ≡ relaid pieces ++ laid_each (length (relaid pieces)) (chunk_in piece.what)
+relaid-push pieces piece =
+    let ks : List ChunkValue = signature ∷ chunks_in pieces in
+    let end : end_of_chunks 0 ks ≡ length (relaid pieces) = omega (arith, end-laid_each 0 ks) in
+    ap (λ (xs : List ChunkValue). laid_each 0 (signature ∷ xs)) (chunks_in-append pieces (piece ∷ []))
+    ∙ ap (λ (xs : List ChunkValue). laid_each 0 (ks ++ xs)) (append-nil (chunk_in piece.what))
+    ∙ laid_each-append 0 ks (chunk_in piece.what)
+    ∙ ap (λ (n : ℕ). relaid pieces ++ laid_each n (chunk_in piece.what)) end

@@ -1,0 +1,8 @@
+pub mod Copied
+pub mod EventChunks
+pub mod RelaidFiles
+pub mod RecordFiles
+pub mod LeftChunks
+pub mod RelaidBytes
+pub mod Growth
+mod Values

@@ -1,0 +1,114 @@
+//! Laws of the definitions that contracts cite. Nothing runs here.
+
+ghost use Rattle.std.specs.List.{AllByRecursion};
+ghost use Rattle.std.specs.Prelude.{◌≡◌, ◌⊎◌, ℕ, ◌+◌, ◌-◌, ◌*◌, ◌^◌, ◌≤◌, Bool, true, false, Option, List, [], ◌∷◌, ◌++◌, length};
+ghost use Rattle.record_io.specs.Bytes.{AreBytes};
+ghost use Rattle.block_layout.specs.Layout.{block_header_size, IsBoundary};
+ghost use Rattle.chunk_header.specs.Chunks.{ChunkValue};
+ghost use Rattle.meta_chunk.specs.Kinds.{IsSignature, IsPadding};
+ghost use Rattle.meta_chunk.specs.Files.{signature, IsFramed, IsFileOf, IsFile, IsFrame, AreRecordsOf, laid_each};
+ghost use Rattle.meta_chunk.specs.Laid.{end_of_chunk};
+ghost use Rattle.record_group.specs.declared.pad.Pad.{Pad};
+ghost use Rattle.record_group.specs.declared.pad.Pad.TheVariants.{No};
+ghost use Rattle.record_group.specs.Groups.{file_of};
+ghost use Rattle.record_group.specs.Records.{AreRecords};
+ghost use Rattle.chunk_reader.specs.Faults.{IsAllowed, HasNoFault};
+ghost use Rattle.damage_skip.specs.Damage.{Intact, IsDamaged, AreReached, untouched};
+ghost use Rattle.damage_skip.specs.Pieces.{Piece, AreTiles, ArePieces, events_in, records_in};
+ghost use Rattle.damage_skip.specs.Walks.{GoesOn};
+ghost use Rattle.repair_copy.specs.Relaid.{chunk_in, chunks_in, relaid, copied, begun_before};
+
+/// Pieces behind others have their chunks behind those of the others, so a piece more adds its chunk, if it has one, where
+/// the file of the others ends. Events have the chunks of their pieces, and so are the same file. Own.
+pub fn events_have_the_chunks_of_pieces()
+    ensures joined { (ps qs : List Piece) → chunks_in (ps ++ qs) ≡ chunks_in ps ++ chunks_in qs }
+    ensures more { (pieces : List Piece) (piece : Piece)
+        → relaid (pieces ++ piece ∷ []) ≡ relaid pieces ++ laid_each (length (relaid pieces)) (chunk_in piece.what) }
+    ensures events { (pieces : List Piece) → chunks_in (events_in pieces) ≡ chunks_in pieces }
+    ensures file { (pieces : List Piece) → relaid (events_in pieces) ≡ relaid pieces }
+{}
+
+/// The chunks of a file's pieces up to a place, laid anew, are a frame of bytes, behind the signature; where unread ones
+/// aren't kept, they are a file of plain chunks. So it has no fault, whatever its length, and its records are those of the
+/// pieces. It is the same with events. Own.
+pub fn relaid_files_are_frames()
+    ensures file { (keep : Bool) (file : List ℕ) (place : ℕ) (pieces : List Piece)
+        → AreBytes file → AreTiles keep file 0 place pieces
+        → IsFileOf (IsAllowed keep) (signature ∷ chunks_in pieces) (relaid pieces) }
+    ensures frame { (keep : Bool) (file : List ℕ) (place : ℕ) (pieces : List Piece)
+        → AreBytes file → AreTiles keep file 0 place pieces → IsFrame (signature ∷ chunks_in pieces) (relaid pieces) }
+    ensures plain { (file : List ℕ) (place : ℕ) (pieces : List Piece)
+        → AreBytes file → AreTiles false file 0 place pieces → IsFile (signature ∷ chunks_in pieces) (relaid pieces) }
+    ensures bytes { (keep : Bool) (file : List ℕ) (place : ℕ) (pieces : List Piece)
+        → AreBytes file → AreTiles keep file 0 place pieces → AreBytes (relaid pieces) }
+    ensures no_fault { (keep : Bool) (file : List ℕ) (place : ℕ) (pieces : List Piece)
+        → AreBytes file → AreTiles keep file 0 place pieces → HasNoFault true (relaid pieces) }
+    ensures records { (keep : Bool) (file : List ℕ) (place : ℕ) (pieces : List Piece)
+        → AreTiles keep file 0 place pieces → AreRecordsOf (signature ∷ chunks_in pieces) (records_in pieces) }
+    ensures events { (keep : Bool) (file : List ℕ) (place : ℕ) (events : List Piece)
+        → AreBytes file → GoesOn keep file 0 place events
+        → IsFrame (signature ∷ chunks_in events) (relaid events)
+        × AreRecordsOf (signature ∷ chunks_in events) (records_in events) }
+{}
+
+/// A chunk that is laid anew at another place grows by no more than a block header, and each has more bytes than that. So
+/// behind the signature the file of pieces has at most twice the bytes up to where the pieces end. Own.
+pub fn relaid_files_grow_little()
+    ensures chunk { (begin place : ℕ) (k : ChunkValue)
+        → IsBoundary begin → end_of_chunk place k - place ≤ end_of_chunk begin k - begin + block_header_size }
+    ensures more { (begin place : ℕ) (k : ChunkValue)
+        → IsBoundary begin → place ≤ 64 + 2 * begin → end_of_chunk place k ≤ 64 + 2 * end_of_chunk begin k }
+    ensures file { (keep : Bool) (file : List ℕ) (place : ℕ) (pieces : List Piece)
+        → AreTiles keep file 0 place pieces → length (relaid pieces) ≤ 64 + 2 * place }
+{}
+
+/// Of a file without fault all chunks are copied but signatures and padding. So where no chunk behind the signature is
+/// either, a file of plain chunks is its own repair, and the repair of a frame is its chunks laid with zero padding. Own.
+pub fn whole_files_are_their_own_repair()
+    ensures chunks { (keep : Bool) (ks : List ChunkValue) (file : List ℕ) (pieces : List Piece)
+        → IsFileOf (IsAllowed keep) ks file → ArePieces keep file pieces → chunks_in pieces ≡ copied keep ks }
+    ensures plain { (keep : Bool) (ks : List ChunkValue) (file : List ℕ) (pieces : List Piece)
+        → IsFile (signature ∷ ks) file → AllByRecursion (λ k. ¬ (IsSignature k ⊎ IsPadding k)) ks
+        → ArePieces keep file pieces → relaid pieces ≡ file }
+    ensures frame { (ks : List ChunkValue) (file : List ℕ) (pieces : List Piece)
+        → IsFrame (signature ∷ ks) file → AllByRecursion (λ k. ¬ (IsSignature k ⊎ IsPadding k)) ks
+        → ArePieces true file pieces → relaid pieces ≡ laid_each 0 (signature ∷ ks) }
+{}
+
+/// The repair of a file of records is the file of these records without padding. Own.
+pub fn repair_takes_padding_out()
+    ensures { (keep : Bool) (records : List (List ℕ)) (size : ℕ) (every : Option ℕ) (pad : Pad) (pieces : List Piece)
+        → AreRecords records → size ≤ 2 ^ 24 → ArePieces keep (file_of records size every pad) pieces
+        → relaid pieces ≡ file_of records size every No }
+{}
+
+/// A file that was repaired, whole or up to a place, is its own repair. Own.
+pub fn repaired_files_stay()
+    ensures { (keep : Bool) (file : List ℕ) (place : ℕ) (pieces others : List Piece)
+        → AreBytes file → AreTiles keep file 0 place pieces → ArePieces keep (relaid pieces) others
+        → relaid others ≡ relaid pieces }
+{}
+
+/// The repair of a damaged file of at most 2^60 bytes has, behind the signature, the simple and metadata chunks, and where
+/// they are kept the unread ones, that are reached and untouched, in order. Up to a place it has those of them that begin
+/// before it. Own.
+pub fn what_damage_leaves_is_repaired()
+    ensures whole { (keep : Bool) (ks : List ChunkValue) (file damaged : List ℕ) (intact : Intact) (is : List ℕ)
+        (pieces : List Piece)
+        → length file ≤ 2 ^ 60 → IsDamaged ks file damaged intact → AreReached ks intact 0 is
+        → ArePieces keep damaged pieces → chunks_in pieces ≡ copied keep (untouched ks intact is) }
+    ensures front { (keep : Bool) (ks : List ChunkValue) (file damaged : List ℕ) (intact : Intact) (is : List ℕ) (place : ℕ)
+        (pieces : List Piece)
+        → length file ≤ 2 ^ 60 → IsDamaged ks file damaged intact → AreReached ks intact 0 is
+        → AreTiles keep damaged 0 place pieces
+        → chunks_in pieces ≡ copied keep (untouched ks intact (begun_before ks place is)) }
+    ensures events { (keep : Bool) (ks : List ChunkValue) (file damaged : List ℕ) (intact : Intact) (is : List ℕ) (place : ℕ)
+        (events : List Piece)
+        → length file ≤ 2 ^ 60 → IsDamaged ks file damaged intact → AreReached ks intact 0 is
+        → GoesOn keep damaged 0 place events
+        → chunks_in events ≡ copied keep (untouched ks intact (begun_before ks place is)) }
+    ensures frame { (keep : Bool) (ks : List ChunkValue) (file damaged : List ℕ) (intact : Intact) (is : List ℕ)
+        (pieces : List Piece)
+        → length file ≤ 2 ^ 60 → IsDamaged ks file damaged intact → AreReached ks intact 0 is → AreBytes damaged
+        → ArePieces keep damaged pieces → IsFrame (signature ∷ copied keep (untouched ks intact is)) (relaid pieces) }
+{}
