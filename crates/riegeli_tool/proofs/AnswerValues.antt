@@ -1,5 +1,5 @@
 -- Commands and their answers, judged by hand, computed from the definitions.
-use Rattle.std.proofs.Common.{◌≡◌, ℕ, Some, None, List, [], ◌∷◌, ◌++◌, length, take, drop, codes, refl}
+use Rattle.std.proofs.Common.{◌≡◌, Some, None, [], ◌∷◌, length, take, drop, codes, refl}
 use Rattle.std.specs.Fmt.{digits}
 use Rattle.record_group.specs.declared.pad.Pad.TheVariants.{No, Both}
 use Rattle.record_group.specs.Groups.{file_of}

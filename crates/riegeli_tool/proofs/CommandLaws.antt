@@ -9,14 +9,19 @@ use Rattle.chunk_reader.specs.Faults.{HasNoFault, IsFault}
 use Rattle.chunk_reader.specs.declared.reasons.Fault.{Fault}
 use Rattle.chunk_reader.proofs.FileFaults.{longest_is_one, fault_is_one, fault_or_none}
 use Rattle.chunk_reader.proofs.Frames.{frame_is_one, chain_is_one}
+use Rattle.damage_skip.specs.Pieces.{Piece, placed_in}
+use Rattle.damage_skip.proofs.Tiles.{events_one}
 use Rattle.riegeli_tool.specs.declared.command.Command.{Command}
-use Rattle.riegeli_tool.specs.declared.command.Command.TheVariants.{Write, Show, Verify}
+use Rattle.riegeli_tool.specs.declared.command.Command.TheVariants.{Write, Show, Recover, Verify}
+use Rattle.riegeli_tool.specs.declared.recover_words.RecoverWords.{RecoverWords}
 use Rattle.riegeli_tool.specs.declared.show_words.ShowWords.{ShowWords}
 use Rattle.riegeli_tool.specs.declared.status.Status.{Status}
 use Rattle.riegeli_tool.specs.declared.status.Status.TheVariants as status
 use Rattle.riegeli_tool.specs.Answers.{Answer, noted}
 use Rattle.riegeli_tool.specs.FileAnswers.{refused_text, report, record_line, OfFile}
 use Rattle.riegeli_tool.specs.ShowCommand.{IsShown}
+use Rattle.riegeli_tool.specs.WalkAnswers.{regions_in, walked, refused_in, walk_text, walk_status}
+use Rattle.riegeli_tool.specs.RecoverCommand.{IsRecovered}
 use Rattle.riegeli_tool.specs.VerifyCommand.{IsVerified}
 use Rattle.riegeli_tool.specs.CommandAnswers.{IsAnswer, uses_of}
 
@@ -42,7 +47,7 @@ one_end file a b (inr (fault, faulty, said, ended)) (inr (other, too, told, stop
     (said ∙ ap refused_text (fault_is_one false file fault other faulty too) ∙ sym told, ended ∙ sym stopped)
 
 -- `show` has one answer to a file
-one_shown : (words : ShowWords) (file : List ℕ) (a b : Answer) → IsShown words file a → IsShown words file b → a ≡ b
+pub one_shown : (words : ShowWords) (file : List ℕ) (a b : Answer) → IsShown words file a → IsShown words file b → a ≡ b
 one_shown words file a b h g =
     let end : h.place ≡ g.place = longest_is_one h.ks g.ks file h.place g.place h.longest g.longest in
     let chunks : h.ks ≡ g.ks =
@@ -53,6 +58,15 @@ one_shown words file a b h g =
     same_answer a b (h.made ∙ sym g.made)
     (h.out ∙ ap (flat_map (record_line words.positions)) records ∙ sym g.out)
     said.0 said.1
+
+-- also where it goes on past damage
+pub one_recovered : (words : RecoverWords) (file : List ℕ) (a b : Answer) → IsRecovered words file a → IsRecovered words file b → a ≡ b
+one_recovered words file a b h g =
+    let same : h.events ≡ g.events = events_one false file h.events g.events h.are g.are in
+    same_answer a b (h.made ∙ sym g.made)
+    (h.out ∙ ap (λ (es : List Piece). flat_map (record_line words.show.positions) (placed_in (walked words.most es))) same ∙ sym g.out)
+    (h.notes ∙ ap (λ (es : List Piece). walk_text (regions_in (walked words.most es)) (refused_in words.most es)) same ∙ sym g.notes)
+    (h.status ∙ ap (λ (es : List Piece). walk_status (regions_in (walked words.most es)) (refused_in words.most es)) same ∙ sym g.status)
 
 -- so has `verify`
 one_verified : (file : List ℕ) (a b : Answer) → IsVerified file a → IsVerified file b → a ≡ b
@@ -81,6 +95,7 @@ pub one_answer : (command : Option Command) (input : List ℕ) (files : List (Li
 one_answer None input files a b first second = first ∙ sym second
 one_answer (Some (Write words)) input files a b first second = first ∙ sym second
 one_answer (Some (Show words)) input files a b first second = one_of_file (IsShown words) (one_shown words) files a b first second
+one_answer (Some (Recover words)) input files a b first second = one_of_file (IsRecovered words) (one_recovered words) files a b first second
 one_answer (Some (Verify words)) input files a b first second = one_of_file IsVerified one_verified files a b first second
 
 -- an input that isn't used may be any
@@ -89,6 +104,7 @@ pub any_input : (command : Option Command) (input other : List ℕ) (files : Lis
 any_input None input other files a unused is = is
 any_input (Some (Write words)) input other files a unused is = absurd (cc unused)
 any_input (Some (Show words)) input other files a unused is = is
+any_input (Some (Recover words)) input other files a unused is = is
 any_input (Some (Verify words)) input other files a unused is = is
 
 -- so may files
@@ -97,4 +113,5 @@ pub any_files : (command : Option Command) (input : List ℕ) (files others : Li
 any_files None input files others a unused is = is
 any_files (Some (Write words)) input files others a unused is = is
 any_files (Some (Show words)) input files others a unused is = absurd (cc unused)
+any_files (Some (Recover words)) input files others a unused is = absurd (cc unused)
 any_files (Some (Verify words)) input files others a unused is = absurd (cc unused)

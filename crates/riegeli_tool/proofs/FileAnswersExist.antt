@@ -13,14 +13,19 @@ use Rattle.chunk_reader.proofs.SignedFiles.{begins_signed}
 use Rattle.chunk_reader.proofs.ChainSteps.{no_chunks, IsChainOf-nil, longest_where_whole}
 use Rattle.chunk_reader.proofs.FaultsDecided.{file_judged}
 use Rattle.chunk_reader.proofs.Frames.{frame_of_plain}
+use Rattle.damage_skip.specs.Pieces.{placed_in}
+use Rattle.damage_skip.proofs.Tiles.{events_of}
 use Rattle.riegeli_tool.specs.declared.command.Command.{Command}
-use Rattle.riegeli_tool.specs.declared.command.Command.TheVariants.{Write, Show, Verify}
+use Rattle.riegeli_tool.specs.declared.command.Command.TheVariants.{Write, Show, Recover, Verify}
+use Rattle.riegeli_tool.specs.declared.recover_words.RecoverWords.{RecoverWords}
 use Rattle.riegeli_tool.specs.declared.show_words.ShowWords.{ShowWords}
 use Rattle.riegeli_tool.specs.declared.status.Status.TheVariants as status
 use Rattle.riegeli_tool.specs.Answers.{Answer, noted, usage}
 use Rattle.riegeli_tool.specs.FileAnswers.{refused_text, report, record_line, most_file_bytes, limit_text, OfFile}
 use Rattle.riegeli_tool.specs.WriteCommand.{write_answer}
 use Rattle.riegeli_tool.specs.ShowCommand.{IsShown}
+use Rattle.riegeli_tool.specs.WalkAnswers.{regions_in, walked, refused_in, walk_text, walk_status}
+use Rattle.riegeli_tool.specs.RecoverCommand.{IsRecovered}
 use Rattle.riegeli_tool.specs.VerifyCommand.{IsVerified}
 use Rattle.riegeli_tool.specs.Commands.{files_read, command_of, accepted_of, accepted}
 use Rattle.riegeli_tool.specs.CommandAnswers.{IsAnswer}
@@ -80,6 +85,19 @@ shown_exists words file bytes =
       )
     ]
 
+-- also where it goes on past damage
+pub recovered_exists : (words : RecoverWords) (file : List ℕ) → AreBytes file → (answer : Answer) × IsRecovered words file answer
+recovered_exists words file bytes =
+    let events = events_of false file in (
+      record {
+        made = [];
+        out = flat_map (record_line words.show.positions) (placed_in (walked words.most events.0));
+        notes = walk_text (regions_in (walked words.most events.0)) (refused_in words.most events.0);
+        status = walk_status (regions_in (walked words.most events.0)) (refused_in words.most events.0);
+      },
+      record { events = events.0; are = events.1; made = refl; out = refl; notes = refl; status = refl },
+    )
+
 -- and `verify`
 pub verified_exists : (file : List ℕ) → AreBytes file → (answer : Answer) × IsVerified file answer
 verified_exists file bytes =
@@ -120,6 +138,8 @@ command_answered None input files reads bytes = (usage, refl)
 command_answered (Some (Write words)) input files reads bytes = (write_answer words input, refl)
 command_answered (Some (Show words)) input files reads bytes =
     of_file_exists (IsShown words) (shown_exists words) files (sym (reads (Show words) refl)) bytes
+command_answered (Some (Recover words)) input files reads bytes =
+    of_file_exists (IsRecovered words) (recovered_exists words) files (sym (reads (Recover words) refl)) bytes
 command_answered (Some (Verify words)) input files reads bytes =
     of_file_exists IsVerified verified_exists files (sym (reads (Verify words) refl)) bytes
 

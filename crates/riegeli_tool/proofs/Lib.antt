@@ -1,6 +1,7 @@
 pub mod CommandLaws
 pub mod CommandWords
 pub mod Decimals
+pub mod FaultlessRecovered
 pub mod FeedSteps
 pub mod FileAnswersExist
 pub mod LinePuts
@@ -9,11 +10,16 @@ pub mod NoteLines
 pub mod OptionWords
 pub mod ReadBack
 pub mod ReadingRuns
+pub mod RecoverLoop
+pub mod RecoverRuns
+pub mod RecoverSteps
+pub mod RegionTexts
 pub mod RunEnds
 pub mod ShowSteps
 pub mod TakenLines
 pub mod TakenRecords
 pub mod VerifyEnds
+pub mod Walked
 pub mod WriteEnds
 pub mod WriteLimits
 pub mod WrittenLines
@@ -21,6 +27,7 @@ pub mod WrittenSizes
 mod AnswerValues
 mod NumberValues
 mod OptionValues
+mod RecoverValues
 mod ReadTextValues
 mod ReadWordValues
 mod Values

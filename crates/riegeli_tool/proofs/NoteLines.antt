@@ -1,11 +1,10 @@
 -- What notes took of a line, by how its puts ended.
-use Rattle.std.proofs.Common.{◌≡◌, ℕ, Option, Some, None, Result, Ok, Err, List, [], ◌∷◌, ◌++◌, take, refl, sym, subst, inl, inr, decimal}
+use Rattle.std.proofs.Common.{ℕ, Option, Some, None, Result, Ok, Err, List, [], ◌++◌, take, refl, sym, subst, inl, inr}
 use Rattle.std.specs.Result.{OnOk, OnErr}
 use Rattle.record_io.specs.Outside.{Rose, Takes, TakesFront}
 use Rattle.record_io.specs.Buffers.{TakesAndHolds}
-use Rattle.record_io.proofs.Calls.{Takes-append, TakesFront-append, TakesFront-longer}
+use Rattle.record_io.proofs.Calls.{TakesFront-append}
 use Rattle.record_io.proofs.Buffered.{TakesAndHolds-append, TakesFront-behind}
-use Rattle.riegeli_tool.specs.Answers.{line}
 use Rattle.riegeli_tool.specs.Runs.{TakesThen, shown}
 
 -- a line that was put, or of which a front was put
@@ -15,11 +14,7 @@ TakesThen-put (Ok x) a b m n last whole front cause = (last, whole, inl refl)
 TakesThen-put (Err e) None b m n last whole front cause = (last, tt, inl refl)
 TakesThen-put (Err e) (Some bytes) b m n last whole front cause = (take front.0 last, front.2, inr (cause, front.0, refl))
 
--- what holds anyway holds where a call failed
-pub OnErr-any : {X E : Type 0} {P : Type 0} (result : Result X E) → P → OnErr result P
-OnErr-any (Ok x) h = tt
-OnErr-any (Err e) h = h
-
+-- what follows where a call failed
 pub OnErr-map : {X E : Type 0} {P Q : Type 0} (result : Result X E) → (P → Q) → OnErr result P → OnErr result Q
 OnErr-map (Ok x) f h = tt
 OnErr-map (Err e) f h = f h

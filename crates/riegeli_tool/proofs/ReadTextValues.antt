@@ -1,8 +1,6 @@
 -- What `show` and `verify` print and say, counted by hand, computed from the definitions.
-use Rattle.std.proofs.Common.{◌≡◌, ℕ, true, false, List, [], ◌∷◌, codes, refl}
+use Rattle.std.proofs.Common.{◌≡◌, true, false, [], ◌∷◌, codes, refl}
 use Rattle.std.specs.Fmt.{digits}
-use Rattle.record_io.specs.declared.file_totals.Totals.{Totals}
-use Rattle.chunk_reader.specs.declared.reasons.Fault.{Fault}
 use Rattle.chunk_reader.specs.declared.reasons.Why.TheVariants as why
 use Rattle.riegeli_tool.specs.FileAnswers.{refused_text, report, record_line, limit_text, most_file_bytes}
 use Rattle.riegeli_tool.specs.Input.{with_last_end}

@@ -1,5 +1,5 @@
 -- How a run of a command ends that reads one file and prints, by how its work ended.
-use Rattle.std.proofs.Common.{◌≡◌, ◌≢◌, ◌∙◌, ℕ, zero, suc, ◌≤◌, true, false, Option, Some, None, Result, Ok, Err, List, [], ◌∷◌, ◌++◌, length, take, drop, slice_get, map, refl, sym, ap, subst, inl, inr, arith, IfSome}
+use Rattle.std.proofs.Common.{◌≡◌, ◌≢◌, ◌∙◌, ℕ, zero, suc, ◌≤◌, true, false, Option, Some, None, Result, Ok, Err, List, [], ◌∷◌, ◌++◌, length, take, drop, slice_get, map, refl, sym, ap, subst, inl, inr, arith, IfSome, IsSomeAnd}
 use Rattle.std.specs.Result.{IsErr, IsErrAnd}
 use Rattle.std.specs.List.{AllByRecursion}
 use Rattle.std.proofs.lemmas.List.{append-nil, append_assoc, take-append-drop}
@@ -18,15 +18,15 @@ use Rattle.riegeli_tool.specs.declared.verify_words.VerifyWords.{VerifyWords}
 use Rattle.riegeli_tool.specs.declared.status.Status.{Status}
 use Rattle.riegeli_tool.specs.declared.status.Status.TheVariants as status
 use Rattle.riegeli_tool.specs.Answers.{Answer, noted}
-use Rattle.riegeli_tool.specs.FileAnswers.{OfFile, MayEndReading, most_file_bytes, limit_text, refused_text}
+use Rattle.riegeli_tool.specs.FileAnswers.{OfFile, IsInReach, IsTooLong, MayEndReading, limit_text, refused_text}
 use Rattle.riegeli_tool.specs.ShowCommand.{IsShown}
 use Rattle.riegeli_tool.specs.VerifyCommand.{IsVerified}
-use Rattle.riegeli_tool.specs.CommandAnswers.{uses_of, IsAnswer, MayEnd, MaySay}
+use Rattle.riegeli_tool.specs.CommandAnswers.{uses_of, IsAnswer, MayEnd, MayWork, MaySay}
 use Rattle.riegeli_tool.specs.Statuses.{fault_text}
-use Rattle.riegeli_tool.specs.Runs.{Shown, Seen, seen, IfTold, IsWhole, IsCutOff, OneRose, TakesThen, SaysAtEnd, WasCutOff, HasCause, NoneFell, Runs, Gave}
-use Rattle.riegeli_tool.specs.ReadingEnds.{IsUnsized, end_unprinted, HasPrinted, HasPrintedFront, Prints, SaysEnd}
+use Rattle.riegeli_tool.specs.Runs.{Shown, ShownFile, Seen, seen, IfTold, OfSizes, IsWhole, IsCutOff, TakesThen, SaysAtEnd, WasCutOff, HasCause, NoneFell, Runs, Gave}
+use Rattle.riegeli_tool.specs.ReadingEnds.{EndsBySize, IsUnsized, end_unprinted, HasPrinted, HasPrintedFront, Prints, SaysEnd}
 use Rattle.riegeli_tool.proofs.FileAnswersExist.{of_file_exists, shown_exists, verified_exists}
-use Rattle.riegeli_tool.proofs.RunEnds.{Takes-nothing, runs-whole, runs-said, runs-cut_off, GaveButNotes}
+use Rattle.riegeli_tool.proofs.RunEnds.{Takes-nothing, OfSizes-map, runs-whole, runs-said, runs-cut_off, GaveButNotes}
 
 -- nothing was printed yet
 pub TakesAndHolds-nothing : (taken : Option (List ℕ)) → TakesAndHolds taken taken [] []
@@ -55,14 +55,14 @@ prints-unsized P (Some f) m n taken end.Out (Err made) err is why = absurd why
 prints-unsized P (Some f) m n taken end.Memory (Err made) err is why = absurd why
 
 -- what was held goes out
-flushed : (a b c : Option (List ℕ)) (text held : List ℕ) → TakesAndHolds a b text held → Takes b c held → TakesAndHolds a c text []
+pub flushed : (a b c : Option (List ℕ)) (text held : List ℕ) → TakesAndHolds a b text held → Takes b c held → TakesAndHolds a c text []
 flushed a b c text held whole out = record {
   passed = whole.passed ++ held;
   parts = whole.parts ∙ sym (append-nil (whole.passed ++ held));
   taken = Takes-append a b c whole.passed held whole.taken out;
 }
 
-whole-flushed : (P : List ℕ → Answer → Type 0) (f : List ℕ) (a b c : Option (List ℕ)) (held text : List ℕ) (ended : Status)
+pub whole-flushed : (P : List ℕ → Answer → Type 0) (f : List ℕ) (a b c : Option (List ℕ)) (held text : List ℕ) (ended : Status)
     → HasPrinted P f a b held text ended → Takes b c held → HasPrinted P f a c [] text ended
 whole-flushed P f a b c held text ended h out = record {
   answer = h.answer;
@@ -73,7 +73,7 @@ whole-flushed P f a b c held text ended h out = record {
   status = h.status;
 }
 
-front-flushed : (a b c : Option (List ℕ)) (held : List ℕ) (answer : Answer)
+pub front-flushed : (a b c : Option (List ℕ)) (held : List ℕ) (answer : Answer)
     → HasPrintedFront a b held answer → Takes b c held → HasPrintedFront a c [] answer
 front-flushed a b c held answer h out =
     record { text = h.text; rest = h.rest; parts = h.parts; out = flushed a b c h.text held h.out out }
@@ -106,7 +106,7 @@ front-of_front (Some taken) after text rest answer parts (n, within, took) = rec
 }
 
 -- a front of what was held goes out
-front-unflushed : (a b c : Option (List ℕ)) (held : List ℕ) (answer : Answer)
+pub front-unflushed : (a b c : Option (List ℕ)) (held : List ℕ) (answer : Answer)
     → HasPrintedFront a b held answer → TakesFront b c held → HasPrintedFront a c [] answer
 front-unflushed a b c held answer h out =
     let front : TakesFront a c h.text =
@@ -146,35 +146,46 @@ prints-unflushed Y P one result end is told (Some f) a b c held same h out =
     (unflushed-at ℕ P one result f a b c held (MatchOption-at_some _ (λ (x : List ℕ). Prints P result x a b held) f same h) out)
 
 -- what holds of a command that reads one file, of which P are the answers, and prints
-pub record IsReading (command : Command) (P : List ℕ → Answer → Type 0) : Type 0 where
+pub record ReadsFile (command : Command) (P : List ℕ → Answer → Type 0) : Type 0 where
   pub input : (uses_of (Some command)).input ≡ false
   pub files : (uses_of (Some command)).files ≡ true
   pub out : (uses_of (Some command)).out ≡ true
   pub answers : (input : List ℕ) (files : List (List ℕ)) (answer : Answer) → OfFile P files answer → IsAnswer (Some command) input files answer
-  pub may_end : (ended : Status) (text : List ℕ) → MayEndReading ended text → MayEnd (Some command) ended text
-  pub may_say : MaySay (Some command) []
+  pub may_work : (sizes : List ℕ) → IsInReach sizes → MayWork (Some command) sizes
   pub exists : (file : List ℕ) → AreBytes file → (answer : Answer) × OfFile P (file ∷ []) answer
+
+-- and of one that reads it strictly
+pub record IsReading (command : Command) (P : List ℕ → Answer → Type 0) : Type 0 where
+  pub one : ReadsFile command P
+  pub may_end : (sizes : List ℕ) (ended : Status) (text : List ℕ) → MayEndReading sizes ended text → MayEnd (Some command) sizes ended text
+  pub may_say : MaySay (Some command) []
 
 pub show_reads : (words : ShowWords) → IsReading (Show words) (IsShown words)
 show_reads words = record {
-  input = refl;
-  files = refl;
-  out = refl;
-  answers = λ input files answer is. is;
-  may_end = λ ended text may. may;
+  one = record {
+    input = refl;
+    files = refl;
+    out = refl;
+    answers = λ input files answer is. is;
+    may_work = λ sizes within. within;
+    exists = λ file bytes. of_file_exists (IsShown words) (shown_exists words) (file ∷ []) refl (bytes, tt);
+  };
+  may_end = λ sizes ended text may. may;
   may_say = refl;
-  exists = λ file bytes. of_file_exists (IsShown words) (shown_exists words) (file ∷ []) refl (bytes, tt);
 }
 
 pub verify_reads : (words : VerifyWords) → IsReading (Verify words) IsVerified
 verify_reads words = record {
-  input = refl;
-  files = refl;
-  out = refl;
-  answers = λ input files answer is. is;
-  may_end = λ ended text may. may;
+  one = record {
+    input = refl;
+    files = refl;
+    out = refl;
+    answers = λ input files answer is. is;
+    may_work = λ sizes within. within;
+    exists = λ file bytes. of_file_exists IsVerified verified_exists (file ∷ []) refl (bytes, tt);
+  };
+  may_end = λ sizes ended text may. may;
   may_say = refl;
-  exists = λ file bytes. of_file_exists IsVerified verified_exists (file ∷ []) refl (bytes, tt);
 }
 
 -- the one file that tells its bytes
@@ -184,31 +195,32 @@ one_told told [] same = absurd (cc same)
 one_told told (file ∷ []) same = (file, refl, cc same)
 one_told told (file ∷ other ∷ files) same = absurd (cc same)
 
+-- the size of a file whose bytes stayed
+pub still-sized : (bytes bytes_then : Option (List ℕ)) (told : Option ℕ) → bytes_then ≡ bytes
+    → IfSome bytes_then (λ file. IfSome told (λ size. size ≡ length file)) → IfSome bytes (λ file. IfSome told (λ size. size ≡ length file))
+still-sized bytes bytes_then told same sized = subst (λ (b : Option (List ℕ)). IfSome b (λ file. IfSome told (λ size. size ≡ length file))) same sized
+
+-- the size that was told
+told_size : (told : Option ℕ) (P : ℕ → Type 0) → IsSomeAnd told P → (size : ℕ) × (told ≡ Some size) × P size
+told_size None P h = absurd h
+told_size (Some size) P h = (size, refl, h)
+
 -- the one that rose or not
-file_fell : (file file_then : Shown) → file.faults ≤ file_then.faults → (place : ℕ) (a b : Shown)
+file_fell : (file file_then : ShownFile) → file.faults ≤ file_then.faults → (place : ℕ) (a b : ShownFile)
     → slice_get (file ∷ []) place ≡ Some a → slice_get (file_then ∷ []) place ≡ Some b → a.faults ≤ b.faults
 file_fell file file_then less zero a b was is =
     let same : file ≡ a = cc was in
     let also : file_then ≡ b = cc is in
-    omega (arith, less, ap (λ (s : Shown). s.faults) same, ap (λ (s : Shown). s.faults) also)
+    omega (arith, less, ap (λ (s : ShownFile). s.faults) same, ap (λ (s : ShownFile). s.faults) also)
 file_fell file file_then less (suc place) a b was is = absurd (cc was)
 
-module _ (command : Command) (P : List ℕ → Answer → Type 0) (reads : IsReading command P)
-    (input made file file_then out out_then notes notes_then : Shown) (counts : NoneFell (seen input (file ∷ []) made out notes) (seen input (file_then ∷ []) made out_then notes_then)) where
-  abbrev Before : Seen
-  Before = seen input (file ∷ []) made out notes
-
-  abbrev After : Seen
-  After = seen input (file_then ∷ []) made out_then notes_then
-
-  abbrev Ended : Status → Type 0
-  Ended = Runs (Some command) Before After
-
+module _ (command : Command) (P : List ℕ → Answer → Type 0) (reads : ReadsFile command P)
+    (input made : Shown) (file file_then : ShownFile) (out out_then notes notes_then : Shown) where
   -- what follows from the bytes of the file
-  if_told : (Q : Answer → Type 0)
+  pub told-answer : (Q : Answer → Type 0)
       → ((bytes : List ℕ) → AreBytes bytes → file.bytes ≡ Some bytes → (answer : Answer) × OfFile P (bytes ∷ []) answer × Q answer)
-      → IfTold (Some command) Before Q
-  if_told Q known = λ ins files told_input told_files.
+      → IfTold (Some command) (seen input (file ∷ []) made out notes) Q
+  told-answer Q known = λ ins files told_input told_files.
       let told = told_files reads.files in
       let one = one_told file.bytes files told.0 in
       let bytes : AllByRecursion AreBytes (one.0 ∷ []) = subst (λ (fs : List (List ℕ)). AllByRecursion AreBytes fs) one.1 told.1 in
@@ -218,10 +230,54 @@ module _ (command : Command) (P : List ℕ → Answer → Type 0) (reads : IsRea
         found.2,
       )
 
+  -- what follows from the size that the file told
+  pub told-size : (Q : List ℕ → Type 0) → IsSomeAnd file_then.told (λ size. Q (size ∷ []))
+      → IfSome file.bytes (λ bytes. IfSome file_then.told (λ size. size ≡ length bytes)) → OfSizes (Some command) (seen input (file ∷ []) made out notes) (seen input (file_then ∷ []) made out_then notes_then) Q
+  told-size Q told exact =
+      let size = told_size file_then.told (λ size. Q (size ∷ [])) told in record {
+        sizes = size.0 ∷ [];
+        told = λ _. ap (λ (t : Option ℕ). t ∷ []) size.1;
+        exact = λ _ files same.
+            let one = one_told file.bytes files same in
+            subst (λ (fs : List (List ℕ)). size.0 ∷ [] ≡ map length fs) (sym one.1)
+            (ap (λ (n : ℕ). n ∷ []) (MatchOption-at_some _ (λ (n : ℕ). n ≡ length one.0) size.0 size.1
+            (MatchOption-at_some _ (λ (b : List ℕ). IfSome file_then.told (λ n. n ≡ length b)) one.0 one.2 exact)));
+        holds = size.2;
+      }
+
+module _ (command : Command) (P : List ℕ → Answer → Type 0) (reads : IsReading command P)
+    (input made : Shown) (file file_then : ShownFile) (out out_then notes notes_then : Shown) (counts : NoneFell (seen input (file ∷ []) made out notes) (seen input (file_then ∷ []) made out_then notes_then)) where
+  abbrev Before : Seen
+  Before = seen input (file ∷ []) made out notes
+
+  abbrev After : Seen
+  After = seen input (file_then ∷ []) made out_then notes_then
+
+  abbrev Ended : Status → Type 0
+  Ended = Runs (Some command) Before After
+
+  -- what follows from the bytes of the file, and from the size that it told
+  if_told : (Q : Answer → Type 0)
+      → ((bytes : List ℕ) → AreBytes bytes → file.bytes ≡ Some bytes → (answer : Answer) × OfFile P (bytes ∷ []) answer × Q answer)
+      → IfTold (Some command) Before Q
+  if_told Q known = told-answer command P reads.one input made file file_then out out_then notes notes_then Q known
+
+  of_size : (Q : List ℕ → Type 0) → IsSomeAnd file_then.told (λ size. Q (size ∷ []))
+      → IfSome file.bytes (λ bytes. IfSome file_then.told (λ size. size ≡ length bytes)) → OfSizes (Some command) Before After Q
+  of_size Q told exact = told-size command P reads.one input made file file_then out out_then notes notes_then Q told exact
+
+  -- it may end so, by the size
+  may : (Q : List ℕ → Type 0) (ended : Status) (text : List ℕ) → ((sizes : List ℕ) → Q sizes → MayEndReading sizes ended text)
+      → OfSizes (Some command) Before After Q → OfSizes (Some command) Before After (λ sizes. MayEnd (Some command) sizes ended text)
+  may Q ended text by =
+      OfSizes-map (Some command) Before After Q (λ sizes. MayEnd (Some command) sizes ended text)
+      (λ sizes q. reads.may_end sizes ended text (by sizes q))
+
   -- all of an answer was printed, and nothing is left to say
-  done : IfSome file.bytes (λ bytes. HasPrinted P bytes out.bytes out_then.bytes [] [] status.Ok) → notes_then ≡ notes → Ended status.Ok
-  done printed same =
-      runs-whole (Some command) Before After status.Ok [] tt (reads.may_end status.Ok [] (inl (refl, refl)))
+  done : OfSizes (Some command) Before After IsInReach → IfSome file.bytes (λ bytes. HasPrinted P bytes out.bytes out_then.bytes [] [] status.Ok) → notes_then ≡ notes → Ended status.Ok
+  done within printed same =
+      runs-whole (Some command) Before After status.Ok [] tt
+      (may IsInReach status.Ok [] (λ sizes reach. inl (reach, refl, refl)) within)
       (subst (λ (s : Shown). Takes notes.bytes s.bytes []) (sym same) (Takes-nothing notes.bytes))
       (if_told (Gave status.Ok Before After) (λ bytes are told.
       let h = MatchOption-at_some _ (λ (b : List ℕ). HasPrinted P b out.bytes out_then.bytes [] [] status.Ok) bytes told printed in (
@@ -235,15 +291,15 @@ module _ (command : Command) (P : List ℕ → Answer → Type 0) (reads : IsRea
               (subst (λ (s : Shown). Takes notes.bytes s.bytes []) (sym same) (Takes-nothing notes.bytes));
         },
       )))
-      (λ _ uses. absurd (cc (sym uses ∙ reads.input))) (λ none. absurd (cc none)) tt counts
+      (λ _ uses. absurd (cc (sym uses ∙ reads.one.input))) (λ none. absurd (cc none)) tt counts
 
   -- all of an answer was printed, and it says why it ends there
-  said : (ended wanted : Status) (text : List ℕ) → IfSome file.bytes (λ bytes. HasPrinted P bytes out.bytes out_then.bytes [] text wanted)
-      → SaysAtEnd ended wanted notes notes_then text → text ≢ [] → IsWhole wanted → wanted ≢ status.Ok → MayEndReading wanted text
+  said : (ended wanted : Status) (text : List ℕ) → OfSizes (Some command) Before After (λ sizes. MayEnd (Some command) sizes wanted text) → IfSome file.bytes (λ bytes. HasPrinted P bytes out.bytes out_then.bytes [] text wanted)
+      → SaysAtEnd ended wanted notes notes_then text → text ≢ [] → IsWhole wanted → wanted ≢ status.Ok
       → HasCause wanted (Some command) Before After
       → Ended ended
-  said ended wanted text printed says some whole not_ok may cause =
-      runs-said (Some command) Before After ended wanted text says some whole not_ok (reads.may_end wanted text may)
+  said ended wanted text may printed says some whole not_ok cause =
+      runs-said (Some command) Before After ended wanted text says some whole not_ok may
       (if_told (GaveButNotes wanted Before After text) (λ bytes are told.
       let h = MatchOption-at_some _ (λ (b : List ℕ). HasPrinted P b out.bytes out_then.bytes [] text wanted) bytes told printed in (
         h.answer,
@@ -258,14 +314,15 @@ module _ (command : Command) (P : List ℕ → Answer → Type 0) (reads : IsRea
       (λ none. absurd (cc none)) cause counts
 
   -- it was cut off
-  cut : (ended known : Status) → ended ≡ known → IsCutOff known
+  cut : (ended known : Status) → ended ≡ known → IsCutOff known → (known ≢ status.File → OfSizes (Some command) Before After IsInReach)
       → IfSome file.bytes (λ bytes. (answer : Answer) → OfFile P (bytes ∷ []) answer → HasPrintedFront out.bytes out_then.bytes [] answer)
       → TakesThen notes notes_then [] (fault_text known) → HasCause known (Some command) Before After
       → Ended ended
-  cut ended known is cuts printed says cause =
-      subst Ended (sym is) (runs-cut_off (Some command) Before After known [] cuts reads.may_say says
+  cut ended known is cuts within printed says cause =
+      subst Ended (sym is) (runs-cut_off (Some command) Before After known [] cuts
+      (λ other. OfSizes-map (Some command) Before After IsInReach (MayWork (Some command)) reads.one.may_work (within other)) reads.may_say says
       (if_told (WasCutOff known Before After) (λ bytes are told.
-      let found = reads.exists bytes are in
+      let found = reads.one.exists bytes are in
       let h = MatchOption-at_some _ (λ (b : List ℕ). (answer : Answer) → OfFile P (b ∷ []) answer → HasPrintedFront out.bytes out_then.bytes [] answer)
       bytes told printed found.0 found.1 in (
         found.0,
@@ -281,26 +338,33 @@ module _ (command : Command) (P : List ℕ → Answer → Type 0) (reads : IsRea
       (λ none. cc none) cause counts)
 
   pub runs-reading : (result : Result (Unit {0}) ReadingEnd) (ended : Status)
+      → EndsBySize result file_then.told → IfSome file.bytes (λ bytes. IfSome file_then.told (λ size. size ≡ length bytes))
       → IfSome file.bytes (λ bytes. Prints P result bytes out.bytes out_then.bytes [])
       → SaysEnd result ended notes notes_then
       → (result ≡ Err end.File → Rose file.faults file_then.faults)
       → (result ≡ Err end.Out → Rose out.faults out_then.faults)
       → (result ≡ Err end.Memory → (uses_of (Some command)).memory ≡ true)
       → Ended ended
-  runs-reading (Ok x) ended printed says file_rose out_rose memory = subst Ended (sym says.0) (done printed says.1)
-  runs-reading (Err end.Limit) ended printed says file_rose out_rose memory =
-      said ended status.Limit limit_text printed says (λ e. cc e) tt (λ e. cc e) (inr (inr (refl, refl))) tt
-  runs-reading (Err (end.Refused fault)) ended printed says file_rose out_rose memory =
-      said ended status.Refused (refused_text fault) printed says (λ e. cc e) tt (λ e. cc e) (inr (inl (fault, refl, refl))) tt
-  runs-reading (Err end.File) ended printed says file_rose out_rose memory =
-      cut ended status.File says.0 tt printed says.1 (reads.files, (0, file, file_then, refl, refl, file_rose refl))
-  runs-reading (Err end.Out) ended printed says file_rose out_rose memory =
-      cut ended status.Out says.0 tt printed says.1 (reads.out, out_rose refl)
-  runs-reading (Err end.Memory) ended printed says file_rose out_rose memory =
-      cut ended status.Memory says.0 tt printed says.1 (memory refl)
+  runs-reading (Ok x) ended sized exact printed says file_rose out_rose memory =
+      subst Ended (sym says.0) (done (of_size IsInReach sized exact) printed says.1)
+  runs-reading (Err end.Limit) ended sized exact printed says file_rose out_rose memory =
+      said ended status.Limit limit_text
+      (may IsTooLong status.Limit limit_text (λ sizes long. inr (inr (long, refl, refl))) (of_size IsTooLong sized exact))
+      printed says (λ e. cc e) tt (λ e. cc e) tt
+  runs-reading (Err (end.Refused fault)) ended sized exact printed says file_rose out_rose memory =
+      said ended status.Refused (refused_text fault)
+      (may IsInReach status.Refused (refused_text fault) (λ sizes reach. inr (inl (reach, fault, refl, refl))) (of_size IsInReach sized exact))
+      printed says (λ e. cc e) tt (λ e. cc e) tt
+  runs-reading (Err end.File) ended sized exact printed says file_rose out_rose memory =
+      cut ended status.File says.0 tt (λ other. absurd (other refl)) printed says.1
+      (reads.one.files, (0, file, file_then, refl, refl, file_rose refl))
+  runs-reading (Err end.Out) ended sized exact printed says file_rose out_rose memory =
+      cut ended status.Out says.0 tt (λ _. of_size IsInReach sized exact) printed says.1 (reads.one.out, out_rose refl)
+  runs-reading (Err end.Memory) ended sized exact printed says file_rose out_rose memory =
+      cut ended status.Memory says.0 tt (λ _. of_size IsInReach sized exact) printed says.1 (memory refl)
 
 -- no count fell of what such a command uses
-pub reading-counts : (input made file file_then out out_then notes notes_then : Shown)
+pub reading-counts : (input made : Shown) (file file_then : ShownFile) (out out_then notes notes_then : Shown)
     → file.faults ≤ file_then.faults → out.faults ≤ out_then.faults → notes.faults ≤ notes_then.faults
     → NoneFell (seen input (file ∷ []) made out notes) (seen input (file_then ∷ []) made out_then notes_then)
 reading-counts input made file file_then out out_then notes notes_then f o n = record {

@@ -1,5 +1,5 @@
 -- How a run of any command ends: what all its clauses follow from.
-use Rattle.std.proofs.Common.{◌≡◌, ◌≢◌, ℕ, ◌≤◌, ◌⊎◌, true, Option, Some, None, List, [], ◌∷◌, ◌++◌, length, get_or, set, map, take, refl, sym, ap, subst, ◌∙◌, inl, inr, slice_get, arith, append-nil}
+use Rattle.std.proofs.Common.{◌≡◌, ◌≢◌, ℕ, ◌≤◌, ◌⊎◌, true, false, Option, Some, None, List, [], ◌∷◌, length, get_or, set, map, refl, sym, ap, subst, ◌∙◌, inl, inr, arith, append-nil}
 use Rattle.std.specs.Option.{IfSome}
 use Rattle.record_io.specs.Outside.{Rose, Takes, TakesFront}
 use Rattle.record_io.proofs.Calls.{TakesFront-whole}
@@ -8,8 +8,8 @@ use Rattle.riegeli_tool.specs.declared.status.Status.{Status}
 use Rattle.riegeli_tool.specs.declared.status.Status.TheVariants as status
 use Rattle.riegeli_tool.specs.Statuses.{fault_text}
 use Rattle.riegeli_tool.specs.Answers.{Answer, usage_text, usage}
-use Rattle.riegeli_tool.specs.CommandAnswers.{uses_of, MayEnd, MaySay}
-use Rattle.riegeli_tool.specs.Runs.{Shown, Seen, seen, IsWhole, IsCutOff, IsSound, IfTold, Gave, TakesThen, SaysAtEnd, WasCutOff, FailedToSay, HasCause, NoneFell, Runs}
+use Rattle.riegeli_tool.specs.CommandAnswers.{uses_of, MayEnd, MayWork, MaySay}
+use Rattle.riegeli_tool.specs.Runs.{Shown, ShownFile, Seen, seen, IsWhole, IsCutOff, IsSound, IfTold, OfSizes, Gave, TakesThen, SaysAtEnd, WasCutOff, FailedToSay, HasCause, NoneFell, Runs}
 
 -- a sink that isn't used took nothing
 pub Takes-nothing : (taken : Option (List ℕ)) → Takes taken taken []
@@ -17,12 +17,12 @@ Takes-nothing None = tt
 Takes-nothing (Some bytes) = ap Some (sym (append-nil bytes))
 
 -- no count fell where those of the used objects didn't
-pub none-fell : (input input_then : Shown) (files : List Shown) (made made_then out notes notes_then : Shown)
+pub none-fell : (input input_then : Shown) (files : List ShownFile) (made made_then out notes notes_then : Shown)
     → input.faults ≤ input_then.faults → made.faults ≤ made_then.faults → notes.faults ≤ notes_then.faults
     → NoneFell (seen input files made out notes) (seen input_then files made_then out notes_then)
 none-fell input input_then files made made_then out notes notes_then i m n = record {
   input = i;
-  files = λ place a b was is. let same : a ≡ b = cc in omega (arith, ap (λ (s : Shown). s.faults) same);
+  files = λ place a b was is. let same : a ≡ b = cc in omega (arith, ap (λ (s : ShownFile). s.faults) same);
   made = m;
   out = omega arith;
   notes = n;
@@ -32,6 +32,21 @@ none-fell input input_then files made made_then out notes notes_then i m n = rec
 pub runs-of : (known command : Option Command) (before after : Seen) (ended : Status)
     → known ≡ command → Runs known before after ended → Runs command before after ended
 runs-of known command before after ended same ran = subst (λ (c : Option Command). Runs c before after ended) same ran
+
+-- a command that reads no files asks no sizes
+pub OfSizes-unread : (command : Option Command) (before after : Seen) (P : List ℕ → Type 0)
+    → (uses_of command).files ≡ false → P [] → OfSizes command before after P
+OfSizes-unread command before after P unread holds = record {
+  sizes = [];
+  told = λ uses. absurd (cc (sym uses ∙ unread));
+  exact = λ uses. absurd (cc (sym uses ∙ unread));
+  holds = holds;
+}
+
+pub OfSizes-map : (command : Option Command) (before after : Seen) (P Q : List ℕ → Type 0) → ((sizes : List ℕ) → P sizes → Q sizes)
+    → OfSizes command before after P → OfSizes command before after Q
+OfSizes-map command before after P Q then h =
+    record { sizes = h.sizes; told = h.told; exact = h.exact; holds = then h.sizes h.holds }
 
 -- no status is both whole and cut off
 whole-cut_off : (ended : Status) → IsWhole ended → IsCutOff ended → ⊥
@@ -61,7 +76,7 @@ complete command before after ended whole cut cause sound = λ input files told_
 
 -- the work was done, and notes took what there was to say
 pub runs-whole : (command : Option Command) (before after : Seen) (ended : Status) (text : List ℕ)
-    → IsWhole ended → MayEnd command ended text → Takes before.notes.bytes after.notes.bytes text
+    → IsWhole ended → OfSizes command before after (λ sizes. MayEnd command sizes ended text) → Takes before.notes.bytes after.notes.bytes text
     → IfTold command before (Gave ended before after)
     → (ended ≡ status.Ok → (uses_of command).input ≡ true → IfSome before.input.bytes (λ _. after.input.bytes ≡ Some []))
     → (command ≡ None → ended ≡ status.Usage) → HasCause ended command before after → NoneFell before after
@@ -74,7 +89,10 @@ runs-whole command before after ended text whole may_end said gave read usage ca
   cause = cause;
   cut_off = λ cut. absurd (whole-cut_off ended whole cut);
   failed_to_say = λ e. absurd (subst IsWhole e whole);
-  end_said = λ _. (text, may_end, said);
+  in_reach = λ cut. absurd (whole-cut_off ended whole cut);
+  end_said = λ _. OfSizes-map command before after (λ sizes. MayEnd command sizes ended text)
+      (λ sizes. (t : List ℕ) × MayEnd command sizes ended t × Takes before.notes.bytes after.notes.bytes t)
+      (λ sizes may. (text, may, said)) may_end;
   cut_off_said = λ cut. absurd (whole-cut_off ended whole cut);
   front_said = λ e. absurd (subst IsWhole e whole);
   counts = counts;
@@ -82,7 +100,7 @@ runs-whole command before after ended text whole may_end said gave read usage ca
 
 -- notes failed to take what there was to say at the end
 pub runs-notes : (command : Option Command) (before after : Seen) (wanted : Status) (text : List ℕ)
-    → MayEnd command wanted text → TakesFront before.notes.bytes after.notes.bytes text
+    → OfSizes command before after (λ sizes. MayEnd command sizes wanted text) → TakesFront before.notes.bytes after.notes.bytes text
     → IfTold command before (FailedToSay before after)
     → Rose before.notes.faults after.notes.faults → NoneFell before after
     → Runs command before after status.Notes
@@ -94,19 +112,23 @@ runs-notes command before after wanted text may_end said failed rose counts = re
   cause = rose;
   cut_off = λ cut. absurd cut;
   failed_to_say = λ _. failed;
+  in_reach = λ cut. absurd cut;
   end_said = λ whole. absurd whole;
   cut_off_said = λ cut. absurd cut;
-  front_said = λ _. (wanted, text, may_end, said);
+  front_said = λ _. OfSizes-map command before after (λ sizes. MayEnd command sizes wanted text)
+      (λ sizes. (s : Status) × (t : List ℕ) × MayEnd command sizes s t × TakesFront before.notes.bytes after.notes.bytes t)
+      (λ sizes may. (wanted, text, may, said)) may_end;
   counts = counts;
 }
 
 -- a fault or want of memory cut the work off
 pub runs-cut_off : (command : Option Command) (before after : Seen) (ended : Status) (text : List ℕ)
-    → IsCutOff ended → MaySay command text → TakesThen before.notes after.notes text (fault_text ended)
+    → IsCutOff ended → (ended ≢ status.File → OfSizes command before after (MayWork command))
+    → MaySay command text → TakesThen before.notes after.notes text (fault_text ended)
     → IfTold command before (WasCutOff ended before after)
     → command ≢ None → HasCause ended command before after → NoneFell before after
     → Runs command before after ended
-runs-cut_off command before after ended text cut may_say said was some cause counts = record {
+runs-cut_off command before after ended text cut within may_say said was some cause counts = record {
   whole = λ whole. absurd (whole-cut_off ended whole cut);
   read_to_end = λ e. absurd (subst IsCutOff e cut);
   complete = complete command before after ended (λ whole. absurd (whole-cut_off ended whole cut)) (λ _. was) cause;
@@ -114,6 +136,7 @@ runs-cut_off command before after ended text cut may_say said was some cause cou
   cause = cause;
   cut_off = λ _. was;
   failed_to_say = λ e. absurd (subst IsCutOff e cut);
+  in_reach = λ _. within;
   end_said = λ whole. absurd (whole-cut_off ended whole cut);
   cut_off_said = λ _. (text, may_say, said);
   front_said = λ e. absurd (subst IsCutOff e cut);
@@ -130,7 +153,7 @@ pub record GaveButNotes (wanted : Status) (before after : Seen) (text : List ℕ
 -- the work was done, and there was something to say: it was said, or notes failed
 pub runs-said : (command : Option Command) (before after : Seen) (ended wanted : Status) (text : List ℕ)
     → SaysAtEnd ended wanted before.notes after.notes text
-    → text ≢ [] → IsWhole wanted → wanted ≢ status.Ok → MayEnd command wanted text
+    → text ≢ [] → IsWhole wanted → wanted ≢ status.Ok → OfSizes command before after (λ sizes. MayEnd command sizes wanted text)
     → IfTold command before (GaveButNotes wanted before after text)
     → (command ≡ None → wanted ≡ status.Usage) → HasCause wanted command before after → NoneFell before after
     → Runs command before after ended
@@ -162,7 +185,7 @@ runs-said command before after ended wanted text says some whole not_ok may_end 
 ]
 
 -- a run over the one file that was handed in
-pub runs-one_file : {X : Type 0} (show : X → Shown) (files : List X) (x then : X) (command : Option Command)
+pub runs-one_file : {X : Type 0} (show : X → ShownFile) (files : List X) (x then : X) (command : Option Command)
     (input made out out_then notes notes_then : Shown) (ended : Status) → 1 ≡ length files
     → Runs command (seen input (show (get_or files 0 x) ∷ []) made out notes) (seen input (show then ∷ []) made out_then notes_then) ended
     → Runs command (seen input (map show files) made out notes) (seen input (map show (set files 0 then)) made out_then notes_then) ended
@@ -171,10 +194,11 @@ runs-one_file show (file ∷ []) x then command input made out out_then notes no
 runs-one_file show (file ∷ other ∷ files) x then command input made out out_then notes notes_then ended one ran = absurd (omega (arith, one))
 
 -- words that are no command: the usage text was said, or notes failed
-pub runs-usage : (input : Shown) (files : List Shown) (made out notes notes_then : Shown) (ended : Status)
+pub runs-usage : (input : Shown) (files : List ShownFile) (made out notes notes_then : Shown) (ended : Status)
     → SaysAtEnd ended status.Usage notes notes_then usage_text → notes.faults ≤ notes_then.faults
     → Runs None (seen input files made out notes) (seen input files made out notes_then) ended
 runs-usage input files made out notes notes_then ended says counts =
-    runs-said None _ _ ended status.Usage usage_text says (λ e. cc e) tt (λ e. cc e) (refl, refl)
+    runs-said None _ _ ended status.Usage usage_text says (λ e. cc e) tt (λ e. cc e)
+    (OfSizes-unread None _ _ (λ sizes. MayEnd None sizes status.Usage usage_text) refl (refl, refl))
     (λ _ _ _ _. (usage, refl, record { same_status = refl; made = Takes-nothing made.bytes; out = Takes-nothing out.bytes; notes = refl }))
     (λ _. refl) refl (none-fell input input files made made out notes notes_then (omega arith) (omega arith) counts)

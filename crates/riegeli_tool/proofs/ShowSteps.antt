@@ -1,16 +1,15 @@
 -- How `show` gets on: the lines of the chunks that were read, one chunk more, and how they stand to the answer.
-use Rattle.std.proofs.Common.{◌≡◌, ◌∙◌, ℕ, zero, suc, ◌+◌, ◌^◌, ◌<◌, ◌≤◌, ◌⊎◌, Bool, true, false, Option, Some, None, Result, Ok, Err, IfSome, List, [], ◌∷◌, ◌++◌, length, take, drop, refl, sym, ap, subst, inl, inr, arith, append_assoc}
+use Rattle.std.proofs.Common.{◌≡◌, ◌∙◌, ℕ, ◌≤◌, ◌⊎◌, Bool, true, false, Option, Some, None, Result, Ok, Err, IfSome, List, [], ◌∷◌, ◌++◌, length, take, drop, refl, sym, ap, subst, inl, inr, arith, append_assoc}
 use Rattle.std.specs.Result.{IsErr, IsErrAnd}
-use Rattle.std.specs.List.{AllByRecursion, flat_map, enumerate_from}
+use Rattle.std.specs.List.{enumerate_from}
 use Rattle.std.proofs.lemmas.List.{append-nil, take-append-drop}
 use Rattle.std.proofs.lemmas.Grind.{flat_map-append}
-use Rattle.record_io.specs.Outside.{Rose, Takes, TakesFront}
+use Rattle.record_io.specs.Outside.{TakesFront}
 use Rattle.record_io.specs.Buffers.{TakesAndHolds}
 use Rattle.record_io.proofs.Buffered.{TakesAndHolds-append, TakesFront-behind}
 use Rattle.record_io.specs.declared.file_totals.Totals.{Totals}
 use Rattle.chunk_header.specs.Chunks.{ChunkValue}
 use Rattle.chunk_header.specs.Views.{value_of_chunk}
-use Rattle.chunk_header.specs.SimpleChunks.{IsSimple, HasRecords}
 use Rattle.meta_chunk.specs.Kinds.{IsSignature, IsMetadata, IsPadding}
 use Rattle.meta_chunk.specs.Laid.{end_of_chunk}
 use Rattle.meta_chunk.specs.Counts.{totals_of}
@@ -21,7 +20,7 @@ use Rattle.chunk_reader.specs.Progress.{AreReadFrom}
 use Rattle.chunk_reader.specs.Contents.{IsWhat, IsJudged}
 use Rattle.chunk_reader.specs.declared.judging.What.{What}
 use Rattle.chunk_reader.specs.declared.judging.What.TheVariants.{Records, Passive, Unread}
-use Rattle.chunk_reader.specs.Faults.{IsAllowed, IsLongest, IsFault}
+use Rattle.chunk_reader.specs.Faults.{IsAllowed, IsFault}
 use Rattle.chunk_reader.specs.declared.reasons.Fault.{Fault}
 use Rattle.chunk_reader.proofs.ChainSteps.{IsChainOf-nil, longest_where_whole}
 use Rattle.chunk_reader.specs.declared.reasons.ReadEnd.{ReadEnd}
@@ -164,7 +163,7 @@ text-front words file totals text answer h is =
     )
 
 -- of a file that isn't too long
-in_reach : (P : List ℕ → Answer → Type 0) (file : List ℕ) (answer : Answer) → length file ≤ most_file_bytes → OfFile P (file ∷ []) answer → P file answer
+pub in_reach : (P : List ℕ → Answer → Type 0) (file : List ℕ) (answer : Answer) → length file ≤ most_file_bytes → OfFile P (file ∷ []) answer → P file answer
 in_reach P file answer short (inl (long, said)) = absurd (omega (arith, short, long))
 in_reach P file answer short (inr (also, is)) = is
 

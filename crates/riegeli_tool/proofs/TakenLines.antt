@@ -12,7 +12,7 @@ use Rattle.riegeli_tool.specs.Input.{ends_line, NoneEnds, lines, running, up_to_
 use Rattle.riegeli_tool.proofs.Lines.{lines-first, lines-last, length-le-lines}
 
 -- a byte that ends no line, before bytes that end none
-NoneEnds-cons : (b : ℕ) (bs : List ℕ) → ends_line b ≡ false → NoneEnds bs → NoneEnds (b ∷ bs)
+pub NoneEnds-cons : (b : ℕ) (bs : List ℕ) → ends_line b ≡ false → NoneEnds bs → NoneEnds (b ∷ bs)
 NoneEnds-cons b bs within none zero h e = absurd (false≢true (sym within ∙ e))
 NoneEnds-cons b bs within none (suc k) h e = none k (omega arith) e
 

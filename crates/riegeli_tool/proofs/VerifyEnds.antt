@@ -16,7 +16,7 @@ use Rattle.riegeli_tool.specs.declared.status.Status.TheVariants as status
 use Rattle.riegeli_tool.specs.Answers.{Answer, line, noted}
 use Rattle.riegeli_tool.specs.FileAnswers.{report, refused_text, most_file_bytes}
 use Rattle.riegeli_tool.specs.VerifyCommand.{IsVerified}
-use Rattle.riegeli_tool.specs.ReadingEnds.{end_of_verify, HasPrinted, Prints}
+use Rattle.riegeli_tool.specs.ReadingEnds.{end_of_verify, Prints}
 use Rattle.riegeli_tool.proofs.RunEnds.{Takes-nothing}
 use Rattle.riegeli_tool.proofs.ReadingRuns.{TakesAndHolds-nothing}
 

@@ -1,5 +1,5 @@
 -- How a run of `write` ends, by the answer of the write engine.
-use Rattle.std.proofs.Common.{◌≡◌, ◌≢◌, ℕ, ◌^◌, ◌≤◌, false, Option, Some, None, Result, Ok, Err, List, [], ◌∷◌, ◌++◌, length, slice_get, refl, sym, ap, subst, ◌∙◌, arith, decimal, codes, append-nil}
+use Rattle.std.proofs.Common.{◌≡◌, ◌≢◌, ℕ, ◌^◌, false, Option, Some, None, Result, Ok, Err, List, [], ◌++◌, length, refl, sym, ap, subst, ◌∙◌, decimal, codes}
 use Rattle.std.specs.Option.{IfSome}
 use Rattle.std.proofs.lemmas.Option.{MatchOption-at_some}
 use Rattle.record_io.specs.Outside.{Rose, Takes, TakesFront}
@@ -19,8 +19,9 @@ use Rattle.riegeli_tool.specs.Statuses.{fault_text}
 use Rattle.riegeli_tool.specs.Input.{taken_from}
 use Rattle.riegeli_tool.specs.Answers.{line}
 use Rattle.riegeli_tool.specs.WriteCommand.{options_of, stop_text, stop_status, write_answer}
-use Rattle.riegeli_tool.specs.Runs.{Shown, seen, IfTold, IsWhole, IsCutOff, TakesThen, SaysAtEnd, WasCutOff, HasCause, NoneFell, Runs, Gave}
-use Rattle.riegeli_tool.proofs.RunEnds.{Takes-nothing, runs-whole, runs-said, runs-cut_off, GaveButNotes}
+use Rattle.riegeli_tool.specs.CommandAnswers.{MayEnd, MayWork}
+use Rattle.riegeli_tool.specs.Runs.{Shown, ShownFile, seen, IsWhole, IsCutOff, TakesThen, SaysAtEnd, HasCause, NoneFell, Runs}
+use Rattle.riegeli_tool.proofs.RunEnds.{Takes-nothing, OfSizes-unread, runs-whole, runs-said, runs-cut_off}
 
 -- the write engine's answer to an input that tells its bytes, and what the made file took of the answer of `write`
 pub record Wrote (words : WriteWords) (input made made_then : Shown) (result : Result Totals WriteEnd) : Type 0 where
@@ -50,13 +51,15 @@ pub wrote-err : (words : WriteWords) (input made made_then : Shown) (known e : W
 wrote-err words input made made_then known e is wrote = subst (λ (x : WriteEnd). Wrote words input made made_then (Err x)) is wrote
 
 -- the whole input was written
-pub write-ok : (words : WriteWords) (input input_then : Shown) (files : List Shown) (made made_then out notes : Shown) (totals : Totals)
+pub write-ok : (words : WriteWords) (input input_then : Shown) (files : List ShownFile) (made made_then out notes : Shown) (totals : Totals)
     → Wrote words input made made_then (Ok totals)
     → IfSome input.bytes (λ _. input_then.bytes ≡ Some [])
     → NoneFell (seen input files made out notes) (seen input_then files made_then out notes)
     → Runs (Some (Write words)) (seen input files made out notes) (seen input_then files made_then out notes) status.Ok
 write-ok words input input_then files made made_then out notes totals wrote read counts =
-    runs-whole (Some (Write words)) _ _ status.Ok [] tt (0, None, refl, refl) (Takes-nothing notes.bytes)
+    runs-whole (Some (Write words)) _ _ status.Ok [] tt
+    (OfSizes-unread (Some (Write words)) _ _ (λ sizes. MayEnd (Some (Write words)) sizes status.Ok []) refl (0, None, refl, refl))
+    (Takes-nothing notes.bytes)
     (λ bytes _ told _. let w = wrote.told bytes (told refl) in (
       write_answer words bytes,
       refl,
@@ -69,7 +72,7 @@ write-ok words input input_then files made made_then out notes totals wrote read
     ))
     (λ _ _. read) (λ none. absurd (cc none)) tt counts
 
-module _ (words : WriteWords) (input input_then : Shown) (files : List Shown) (made made_then out notes notes_then : Shown)
+module _ (words : WriteWords) (input input_then : Shown) (files : List ShownFile) (made made_then out notes notes_then : Shown)
     (counts : NoneFell (seen input files made out notes) (seen input_then files made_then out notes_then)) where
   -- the run ended so
   abbrev Ended : Status → Type 0
@@ -86,7 +89,8 @@ module _ (words : WriteWords) (input input_then : Shown) (files : List Shown) (m
       × Takes made.bytes made_then.bytes (write_answer words bytes).made)
       → Ended ended
   stopped count s ended says some whole not_ok cause known =
-      runs-said (Some (Write words)) _ _ ended (stop_status (Some s)) (stop_text count (Some s)) says some whole not_ok (count, Some s, refl, refl)
+      runs-said (Some (Write words)) _ _ ended (stop_status (Some s)) (stop_text count (Some s)) says some whole not_ok
+      (OfSizes-unread (Some (Write words)) _ _ (λ sizes. MayEnd (Some (Write words)) sizes (stop_status (Some s)) (stop_text count (Some s))) refl (count, Some s, refl, refl))
       (λ bytes _ told _. let k = known bytes (told refl) in (
         write_answer words bytes,
         refl,
@@ -127,7 +131,8 @@ module _ (words : WriteWords) (input input_then : Shown) (files : List Shown) (m
       → TakesThen notes notes_then [] (fault_text ended)
       → Ended ended
   cut_off ended cut cause front said =
-      runs-cut_off (Some (Write words)) _ _ ended [] cut refl said
+      runs-cut_off (Some (Write words)) _ _ ended [] cut
+      (λ _. OfSizes-unread (Some (Write words)) _ _ (MayWork (Some (Write words))) refl tt) refl said
       (λ bytes _ told _. (
         write_answer words bytes,
         refl,

@@ -1,5 +1,5 @@
 -- What the words of `write` say is within its limits.
-use Rattle.std.proofs.Common.{◌≡◌, ℕ, ◌≤◌, ◌^◌, Bool, true, false, Option, Some, None, List, [], ◌∷◌, nat_le, option_map, unwrap_or, codes, refl, ap, sym, subst, arith, if◌then◌else◌, ◌&&◌, ◌==◌}
+use Rattle.std.proofs.Common.{◌≡◌, ◌≢◌, ℕ, ◌≤◌, ◌^◌, Bool, true, false, Option, Some, None, List, [], ◌∷◌, nat_le, option_map, unwrap_or, codes, refl, ap, sym, subst, arith, if◌then◌else◌, ◌&&◌, ◌==◌}
 use Rattle.std.specs.Prelude.{option_and_then}
 use Rattle.std.specs.Bool.{then_some}
 use Rattle.std.specs.Option.{ForSome}
@@ -8,11 +8,13 @@ use Rattle.std.proofs.lemmas.Bool.{and_parts, leb-true}
 use Rattle.record_group.specs.declared.pad.Pad.{Pad}
 use Rattle.record_writer.specs.Written.{AreInLimits}
 use Rattle.riegeli_tool.specs.declared.command.Command.{Command}
-use Rattle.riegeli_tool.specs.declared.command.Command.TheVariants.{Write, Show, Verify}
+use Rattle.riegeli_tool.specs.declared.command.Command.TheVariants.{Write, Show, Recover, Verify}
 use Rattle.riegeli_tool.specs.declared.write_words.WriteWords.{WriteWords}
+use Rattle.riegeli_tool.specs.declared.recover_words.RecoverWords.{RecoverWords}
 use Rattle.riegeli_tool.specs.declared.show_words.ShowWords.{ShowWords}
 use Rattle.riegeli_tool.specs.declared.verify_words.VerifyWords.{VerifyWords}
 use Rattle.riegeli_tool.specs.ShowWords.{show_words_of}
+use Rattle.riegeli_tool.specs.RecoverWords.{goes_past_damage, recover_words_of}
 use Rattle.riegeli_tool.specs.VerifyWords.{verify_words_of}
 use Rattle.riegeli_tool.specs.Numbers.{number_in, number_within}
 use Rattle.riegeli_tool.specs.Options.{◌>>=◌, value_of, optional_value, are_words_of, file_places, only}
@@ -99,24 +101,32 @@ write_words_of-within words w is =
     }
 
 -- a command that is `write` is so by its name
-if_write : (write show verify : Bool) (written : Option WriteWords) (shown : Option ShowWords) (verified : Option VerifyWords) (w : WriteWords)
-    → (if write then option_map Write written else if show then option_map Show shown else if verify then option_map Verify verified else None) ≡ Some (Write w)
+if_shown : (recover : Bool) (recovered : Option RecoverWords) (shown : Option ShowWords) (w : WriteWords)
+    → (if recover then option_map Recover recovered else option_map Show shown) ≢ Some (Write w)
+if_shown true None shown w = λ is. cc is
+if_shown true (Some x) shown w = λ is. cc is
+if_shown false recovered None w = λ is. cc is
+if_shown false recovered (Some x) w = λ is. cc is
+
+if_write : (write show recover verify : Bool) (written : Option WriteWords) (recovered : Option RecoverWords) (shown : Option ShowWords) (verified : Option VerifyWords) (w : WriteWords)
+    → (if write then option_map Write written
+    else if show then (if recover then option_map Recover recovered else option_map Show shown)
+    else if verify then option_map Verify verified else None) ≡ Some (Write w)
     → written ≡ Some w
-if_write true show verify None shown verified w is = absurd (cc is)
-if_write true show verify (Some x) shown verified w is = cc is
-if_write false true verify written None verified w is = absurd (cc is)
-if_write false true verify written (Some x) verified w is = absurd (cc is)
-if_write false false true written shown None w is = absurd (cc is)
-if_write false false true written shown (Some x) w is = absurd (cc is)
-if_write false false false written shown verified w is = absurd (cc is)
+if_write true show recover verify None recovered shown verified w is = absurd (cc is)
+if_write true show recover verify (Some x) recovered shown verified w is = cc is
+if_write false true recover verify written recovered shown verified w is = absurd (if_shown recover recovered shown w is)
+if_write false false recover true written recovered shown None w is = absurd (cc is)
+if_write false false recover true written recovered shown (Some x) w is = absurd (cc is)
+if_write false false recover false written recovered shown verified w is = absurd (cc is)
 
 -- so are the options of an accepted command
 command_of-within : (words : List (List ℕ)) (w : WriteWords) → command_of words ≡ Some (Write w) → AreInLimits (options_of w)
 command_of-within [] w is = absurd (cc is)
 command_of-within (name ∷ words) w is =
     write_words_of-within (name ∷ words) w
-    (if_write (bytes_eq name (codes "write")) (bytes_eq name (codes "show")) (bytes_eq name (codes "verify"))
-    (write_words_of (name ∷ words)) (show_words_of (name ∷ words)) (verify_words_of (name ∷ words)) w is)
+    (if_write (bytes_eq name (codes "write")) (bytes_eq name (codes "show")) (goes_past_damage (name ∷ words)) (bytes_eq name (codes "verify"))
+    (write_words_of (name ∷ words)) (recover_words_of (name ∷ words)) (show_words_of (name ∷ words)) (verify_words_of (name ∷ words)) w is)
 
 accepted_of-is : (command : Option Command) (count : ℕ) (known : Command) → accepted_of command count ≡ Some known → command ≡ Some known
 accepted_of-is None count known is = absurd (cc is)

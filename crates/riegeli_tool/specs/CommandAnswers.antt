@@ -1,13 +1,15 @@
 -- What each command uses, answers and may say: one case a command, and one for words that are none. Own.
 use Rattle.std.specs.Prelude.{◌≡◌, ℕ, Bool, true, false, Option, Some, None, List, []}
 use Rattle.riegeli_tool.specs.declared.command.Command.{Command}
-use Rattle.riegeli_tool.specs.declared.command.Command.TheVariants.{Write, Show, Verify}
+use Rattle.riegeli_tool.specs.declared.command.Command.TheVariants.{Write, Show, Recover, Verify}
 use Rattle.riegeli_tool.specs.declared.status.Status.{Status}
 use Rattle.riegeli_tool.specs.declared.status.Status.TheVariants as status
 use Rattle.riegeli_tool.specs.Answers.{Answer, usage_text, usage}
 use Rattle.riegeli_tool.specs.WriteCommand.{write_answer, MayEndWrite}
-use Rattle.riegeli_tool.specs.FileAnswers.{OfFile, MayEndReading}
+use Rattle.riegeli_tool.specs.FileAnswers.{OfFile, IsInReach, MayEndReading}
 use Rattle.riegeli_tool.specs.ShowCommand.{IsShown}
+use Rattle.riegeli_tool.specs.WalkAnswers.{MaySayWalk, MayEndWalk}
+use Rattle.riegeli_tool.specs.RecoverCommand.{IsRecovered}
 use Rattle.riegeli_tool.specs.VerifyCommand.{IsVerified}
 
 -- what a command uses beside notes: the input, the files, the made file, standard output, and memory
@@ -22,6 +24,7 @@ abbrev pub uses_of : Option Command → Uses
 uses_of None = record { input = false; files = false; made = false; out = false; memory = false }
 uses_of (Some (Write words)) = record { input = true; files = false; made = true; out = false; memory = true }
 uses_of (Some (Show words)) = record { input = false; files = true; made = false; out = true; memory = true }
+uses_of (Some (Recover words)) = record { input = false; files = true; made = false; out = true; memory = true }
 uses_of (Some (Verify words)) = record { input = false; files = true; made = false; out = true; memory = false }
 
 -- an answer to a command, of the bytes of the input and of the files that it reads
@@ -29,18 +32,29 @@ abbrev pub IsAnswer : Option Command → List ℕ → List (List ℕ) → Answer
 IsAnswer None input files answer = answer ≡ usage
 IsAnswer (Some (Write words)) input files answer = answer ≡ write_answer words input
 IsAnswer (Some (Show words)) input files answer = OfFile (IsShown words) files answer
+IsAnswer (Some (Recover words)) input files answer = OfFile (IsRecovered words) files answer
 IsAnswer (Some (Verify words)) input files answer = OfFile IsVerified files answer
 
--- the status that a command may end with and what notes then say, whatever it reads
-abbrev pub MayEnd : Option Command → Status → List ℕ → Type 0
-MayEnd None ended text = (ended ≡ status.Usage) × (text ≡ usage_text)
-MayEnd (Some (Write words)) ended text = MayEndWrite ended text
-MayEnd (Some (Show words)) ended text = MayEndReading ended text
-MayEnd (Some (Verify words)) ended text = MayEndReading ended text
+-- the status that a command may end with and what notes then say, by the sizes of its files, whatever it reads
+abbrev pub MayEnd : Option Command → List ℕ → Status → List ℕ → Type 0
+MayEnd None sizes ended text = (ended ≡ status.Usage) × (text ≡ usage_text)
+MayEnd (Some (Write words)) sizes ended text = MayEndWrite ended text
+MayEnd (Some (Show words)) sizes ended text = MayEndReading sizes ended text
+MayEnd (Some (Recover words)) sizes ended text = MayEndWalk words.most sizes ended text
+MayEnd (Some (Verify words)) sizes ended text = MayEndReading sizes ended text
+
+-- the sizes of its files by which a command goes on to its work
+abbrev pub MayWork : Option Command → List ℕ → Type 0
+MayWork None sizes = ⊥
+MayWork (Some (Write words)) sizes = Unit {0}
+MayWork (Some (Show words)) sizes = IsInReach sizes
+MayWork (Some (Recover words)) sizes = IsInReach sizes
+MayWork (Some (Verify words)) sizes = IsInReach sizes
 
 -- what a command may say in notes before its end, whatever it reads
 abbrev pub MaySay : Option Command → List ℕ → Type 0
 MaySay None text = text ≡ []
 MaySay (Some (Write words)) text = text ≡ []
 MaySay (Some (Show words)) text = text ≡ []
+MaySay (Some (Recover words)) text = MaySayWalk words.most text
 MaySay (Some (Verify words)) text = text ≡ []

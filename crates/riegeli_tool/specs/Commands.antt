@@ -3,18 +3,25 @@ use Rattle.std.specs.Prelude.{ℕ, Option, Some, None, List, [], ◌∷◌, opti
 use Rattle.std.specs.Str.{bytes_eq}
 use lib.Chars.{codes}
 use Rattle.riegeli_tool.specs.declared.command.Command.{Command}
-use Rattle.riegeli_tool.specs.declared.command.Command.TheVariants.{Write, Show, Verify}
+use Rattle.riegeli_tool.specs.declared.command.Command.TheVariants.{Write, Show, Recover, Verify}
 use Rattle.riegeli_tool.specs.declared.command.Names.{Names}
 use Rattle.riegeli_tool.specs.WriteWords.{write_words_of}
 use Rattle.riegeli_tool.specs.ShowWords.{show_words_of}
+use Rattle.riegeli_tool.specs.RecoverWords.{goes_past_damage, recover_words_of}
 use Rattle.riegeli_tool.specs.VerifyWords.{verify_words_of}
+
+-- the command that the words of `show` are
+abbrev pub show_command_of : List (List ℕ) → Option Command
+show_command_of words =
+    if goes_past_damage words then option_map Recover (recover_words_of words)
+    else option_map Show (show_words_of words)
 
 -- the command that words are, if they are one
 abbrev pub command_of : List (List ℕ) → Option Command
 command_of [] = None
 command_of (name ∷ words) =
     if bytes_eq name (codes "write") then option_map Write (write_words_of (name ∷ words))
-    else if bytes_eq name (codes "show") then option_map Show (show_words_of (name ∷ words))
+    else if bytes_eq name (codes "show") then show_command_of (name ∷ words)
     else if bytes_eq name (codes "verify") then option_map Verify (verify_words_of (name ∷ words))
     else None
 
@@ -22,6 +29,7 @@ command_of (name ∷ words) =
 abbrev pub files_read : Command → ℕ
 files_read (Write words) = 0
 files_read (Show words) = 1
+files_read (Recover words) = 1
 files_read (Verify words) = 1
 
 -- the places of the files among the words: the one that is read, how many are, and the one that is made
@@ -29,6 +37,7 @@ abbrev pub names_of : Option Command → Names
 names_of None = record { first = 0; count = 0; made = None }
 names_of (Some (Write words)) = record { first = 0; count = 0; made = Some words.file }
 names_of (Some (Show words)) = record { first = words.file; count = 1; made = None }
+names_of (Some (Recover words)) = record { first = words.show.file; count = 1; made = None }
 names_of (Some (Verify words)) = record { first = words.file; count = 1; made = None }
 
 -- a command where it reads so many files

@@ -3,26 +3,10 @@ use Rattle.std.specs.Prelude.{◌≡◌, ℕ, ◌^◌, ◌<◌, ◌≤◌, ◌�
 use lib.Chars.{codes}
 use Rattle.record_io.specs.declared.file_totals.Totals.{Totals}
 use Rattle.chunk_reader.specs.declared.reasons.Fault.{Fault}
-use Rattle.chunk_reader.specs.declared.reasons.Why.{Why}
-use Rattle.chunk_reader.specs.declared.reasons.Why.TheVariants as why
+use Rattle.chunk_reader.specs.Names.{name_of}
 use Rattle.riegeli_tool.specs.declared.status.Status.{Status}
 use Rattle.riegeli_tool.specs.declared.status.Status.TheVariants as status
 use Rattle.riegeli_tool.specs.Answers.{Answer, line, noted}
-
--- the name of a reason
-abbrev pub name_of : Why → List ℕ
-name_of why.NoSignature = codes "NoSignature"
-name_of why.Short = codes "Short"
-name_of why.HeaderHash = codes "HeaderHash"
-name_of why.Truncated = codes "Truncated"
-name_of why.TooLarge = codes "TooLarge"
-name_of why.BlockHeader = codes "BlockHeader"
-name_of why.DataHash = codes "DataHash"
-name_of why.Contents = codes "Contents"
-name_of why.Compressed = codes "Compressed"
-name_of why.Transposed = codes "Transposed"
-name_of why.UnknownKind = codes "UnknownKind"
-name_of why.Contradicted = codes "Contradicted"
 
 -- a number behind a name, as a line
 abbrev pub count_line : List ℕ → ℕ → List ℕ
@@ -59,9 +43,20 @@ OfFile P (file ∷ []) answer =
     ⊎ ((length file ≤ most_file_bytes) × P file answer)
 OfFile P files answer = ⊥
 
--- how strict reading of a file may end, whatever the file holds: with its work done, with a fault, or as it is too long
-abbrev pub MayEndReading : Status → List ℕ → Type 0
-MayEndReading ended text =
-    ((ended ≡ status.Ok) × (text ≡ []))
-    ⊎ ((fault : Fault) × (ended ≡ status.Refused) × (text ≡ refused_text fault))
-    ⊎ ((ended ≡ status.Limit) × (text ≡ limit_text))
+-- the sizes of the files are that of one, which has so few bytes that it is read
+abbrev pub IsInReach : List ℕ → Type 0
+IsInReach (size ∷ []) = size ≤ most_file_bytes
+IsInReach sizes = ⊥
+
+-- they are that of one, which has more
+abbrev pub IsTooLong : List ℕ → Type 0
+IsTooLong (size ∷ []) = most_file_bytes < size
+IsTooLong sizes = ⊥
+
+-- how strict reading of a file of such a size may end, whatever it holds: with its work done or with a fault, or as the
+-- file is too long
+abbrev pub MayEndReading : List ℕ → Status → List ℕ → Type 0
+MayEndReading sizes ended text =
+    (IsInReach sizes × (ended ≡ status.Ok) × (text ≡ []))
+    ⊎ (IsInReach sizes × (fault : Fault) × (ended ≡ status.Refused) × (text ≡ refused_text fault))
+    ⊎ (IsTooLong sizes × (ended ≡ status.Limit) × (text ≡ limit_text))

@@ -1,5 +1,5 @@
 -- How the work of a command that reads a record file ends, and what it has printed and says then. Own.
-use Rattle.std.specs.Prelude.{◌≡◌, ℕ, ◌<◌, Option, Result, Ok, Err, List, [], ◌∷◌, ◌++◌, length, IfSome}
+use Rattle.std.specs.Prelude.{◌≡◌, ℕ, ◌<◌, Option, Result, Ok, Err, List, [], ◌∷◌, ◌++◌, length, IfSome, IsSomeAnd}
 use Rattle.record_io.specs.Outside.{Rose}
 use Rattle.record_io.specs.Buffers.{TakesAndHolds}
 use Rattle.chunk_reader.specs.declared.reasons.VerifyEnd.{VerifyEnd}
@@ -11,7 +11,7 @@ use Rattle.riegeli_tool.specs.declared.reading.ReadingEnd.TheVariants as end
 use Rattle.riegeli_tool.specs.declared.status.Status.{Status}
 use Rattle.riegeli_tool.specs.declared.status.Status.TheVariants as status
 use Rattle.riegeli_tool.specs.Answers.{Answer}
-use Rattle.riegeli_tool.specs.FileAnswers.{OfFile, most_file_bytes, limit_text, refused_text}
+use Rattle.riegeli_tool.specs.FileAnswers.{OfFile, IsInReach, IsTooLong, most_file_bytes, limit_text, refused_text}
 use Rattle.riegeli_tool.specs.Statuses.{fault_text}
 use Rattle.riegeli_tool.specs.Runs.{Shown, SaysAtEnd, TakesThen}
 
@@ -30,6 +30,12 @@ abbrev pub IsUnsized : ReadingEnd → Option (List ℕ) → ℕ → ℕ → Type
 IsUnsized end.Limit file before after = IfSome file (λ bytes. most_file_bytes < length bytes)
 IsUnsized end.File file before after = Rose before after
 IsUnsized other file before after = ⊥
+
+-- the size that a file told by which work ended so: unless the file failed, past the limit or within it
+abbrev pub EndsBySize : {X : Type 0} → Result X ReadingEnd → Option ℕ → Type 0
+EndsBySize (Err end.Limit) told = IsSomeAnd told (λ size. IsTooLong (size ∷ []))
+EndsBySize (Err end.File) told = Unit {0}
+EndsBySize other told = IsSomeAnd told (λ size. IsInReach (size ∷ []))
 
 -- why work ended whose lines standard output then failed to take: work that was done or refused ended by that
 abbrev pub end_unprinted : {X : Type 0} → Result X ReadingEnd → ReadingEnd

@@ -1,5 +1,5 @@
 -- How a run goes: what its status and its objects tell, of every command. Own.
-use Rattle.std.specs.Prelude.{◌≡◌, ◌≢◌, ℕ, ◌≤◌, ◌⊎◌, true, Option, Some, None, List, [], ◌++◌, map, take, slice_get, IfSome}
+use Rattle.std.specs.Prelude.{◌≡◌, ◌≢◌, ℕ, ◌≤◌, ◌⊎◌, true, Option, Some, None, List, [], ◌++◌, map, length, take, slice_get, IfSome}
 use Rattle.std.specs.List.{AllByRecursion, flat_map}
 use Rattle.record_io.specs.Bytes.{AreBytes}
 use Rattle.record_io.specs.Outside.{Rose, Takes, TakesFront}
@@ -9,10 +9,9 @@ use Rattle.riegeli_tool.specs.declared.status.Status.TheVariants as status
 use Rattle.riegeli_tool.specs.Statuses.{fault_text}
 use Rattle.riegeli_tool.specs.Input.{lines}
 use Rattle.riegeli_tool.specs.Answers.{Answer, line}
-use Rattle.riegeli_tool.specs.CommandAnswers.{Uses, uses_of, IsAnswer, MayEnd, MaySay}
+use Rattle.riegeli_tool.specs.CommandAnswers.{Uses, uses_of, IsAnswer, MayEnd, MayWork, MaySay}
 
--- what an object shows: the bytes that an input has left, that a file has or that a sink took, where it tells
--- them, and its count of faults
+-- what a stream shows: the bytes that an input has left or that a sink took, where it tells them, and its count of faults
 pub record Shown : Type 0 where
   pub bytes : Option (List ℕ)
   pub faults : ℕ
@@ -20,15 +19,24 @@ pub record Shown : Type 0 where
 abbrev pub shown : Option (List ℕ) → ℕ → Shown
 shown bytes faults = record { bytes = bytes; faults = faults }
 
+-- what a file shows: its bytes, where it tells them, the size that it told the last time, and its count of faults
+pub record ShownFile : Type 0 where
+  pub bytes : Option (List ℕ)
+  pub told : Option ℕ
+  pub faults : ℕ
+
+abbrev pub shown_file : Option (List ℕ) → Option ℕ → ℕ → ShownFile
+shown_file bytes told faults = record { bytes = bytes; told = told; faults = faults }
+
 -- what the objects of a run show
 pub record Seen : Type 0 where
   pub input : Shown
-  pub files : List Shown
+  pub files : List ShownFile
   pub made : Shown
   pub out : Shown
   pub notes : Shown
 
-abbrev pub seen : Shown → List Shown → Shown → Shown → Shown → Seen
+abbrev pub seen : Shown → List ShownFile → Shown → Shown → Shown → Seen
 seen input files made out notes = record { input = input; files = files; made = made; out = out; notes = notes }
 
 -- the statuses with which a run gives its whole answer: no fault, and no want of memory
@@ -51,9 +59,9 @@ IsCutOff status.Memory = Unit {0}
 IsCutOff other = ⊥
 
 -- the count of faults of one of the files rose
-abbrev pub OneRose : List Shown → List Shown → Type 0
+abbrev pub OneRose : List ShownFile → List ShownFile → Type 0
 OneRose before after =
-    (place : ℕ) × (a : Shown) × (b : Shown)
+    (place : ℕ) × (a : ShownFile) × (b : ShownFile)
     × (slice_get before place ≡ Some a) × (slice_get after place ≡ Some b) × Rose a.faults b.faults
 
 -- no object that is used had a fault
@@ -72,6 +80,15 @@ IfTold command before P =
     → ((uses_of command).input ≡ true → before.input.bytes ≡ Some input)
     → ((uses_of command).files ≡ true → (map (λ file. file.bytes) before.files ≡ map Some files) × AllByRecursion AreBytes files)
     → (answer : Answer) × IsAnswer command input files answer × P answer
+
+-- P holds of the sizes of the files that a command reads: they have told these, and their bytes, where they tell them, are so
+-- many
+pub record OfSizes (command : Option Command) (before after : Seen) (P : List ℕ → Type 0) : Type 0 where
+  pub sizes : List ℕ
+  pub told : (uses_of command).files ≡ true → map (λ file. file.told) after.files ≡ map Some sizes
+  pub exact : (uses_of command).files ≡ true
+      → (files : List (List ℕ)) → map (λ file. file.bytes) before.files ≡ map Some files → sizes ≡ map length files
+  pub holds : P sizes
 
 -- a run gave a whole answer: its status, and all its bytes went out
 pub record Gave (ended : Status) (before after : Seen) (answer : Answer) : Type 0 where
@@ -124,7 +141,7 @@ HasCause other command before after = Unit {0}
 -- no count of faults fell
 pub record NoneFell (before after : Seen) : Type 0 where
   pub input : before.input.faults ≤ after.input.faults
-  pub files : (place : ℕ) (a b : Shown) → slice_get before.files place ≡ Some a → slice_get after.files place ≡ Some b → a.faults ≤ b.faults
+  pub files : (place : ℕ) (a b : ShownFile) → slice_get before.files place ≡ Some a → slice_get after.files place ≡ Some b → a.faults ≤ b.faults
   pub made : before.made.faults ≤ after.made.faults
   pub out : before.out.faults ≤ after.out.faults
   pub notes : before.notes.faults ≤ after.notes.faults
@@ -142,9 +159,13 @@ pub record Runs (command : Option Command) (before after : Seen) (ended : Status
   -- where the work was cut off, or notes failed, fronts of an answer's bytes went out
   pub cut_off : IsCutOff ended → IfTold command before (WasCutOff ended before after)
   pub failed_to_say : ended ≡ status.Notes → IfTold command before (FailedToSay before after)
+  -- files are asked their sizes first: what cuts the work off, unless it is a fault of theirs, finds them within the limit
+  pub in_reach : IsCutOff ended → ended ≢ status.File → OfSizes command before after (MayWork command)
   -- what notes took, also where nobody tells what was read
-  pub end_said : IsWhole ended → (text : List ℕ) × MayEnd command ended text × Takes before.notes.bytes after.notes.bytes text
+  pub end_said : IsWhole ended
+      → OfSizes command before after (λ sizes. (text : List ℕ) × MayEnd command sizes ended text × Takes before.notes.bytes after.notes.bytes text)
   pub cut_off_said : IsCutOff ended → (text : List ℕ) × MaySay command text × TakesThen before.notes after.notes text (fault_text ended)
   pub front_said : ended ≡ status.Notes
-      → (wanted : Status) × (text : List ℕ) × MayEnd command wanted text × TakesFront before.notes.bytes after.notes.bytes text
+      → OfSizes command before after (λ sizes.
+      (wanted : Status) × (text : List ℕ) × MayEnd command sizes wanted text × TakesFront before.notes.bytes after.notes.bytes text)
   pub counts : NoneFell before after

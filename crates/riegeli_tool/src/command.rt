@@ -1,6 +1,7 @@
 ghost use Rattle.std.specs.Prelude.{◌≡◌};
 ghost use Rattle.riegeli_tool.specs.Commands.{files_read, names_of};
 
+use crate::recover_words::RecoverWords;
 use crate::show_words::ShowWords;
 use crate::verify_words::VerifyWords;
 use crate::write_words::WriteWords;
@@ -10,6 +11,7 @@ use crate::write_words::WriteWords;
 pub(crate) enum Command {
     Write(WriteWords),
     Show(ShowWords),
+    Recover(RecoverWords),
     Verify(VerifyWords),
 }
 
@@ -31,7 +33,7 @@ impl Command {
     {
         match self {
             Command::Write(_) => 0,
-            Command::Show(_) | Command::Verify(_) => 1,
+            Command::Show(_) | Command::Recover(_) | Command::Verify(_) => 1,
         }
     }
 }

@@ -13,9 +13,11 @@ ghost use Rattle.riegeli_tool.specs.Commands.{accepted};
 ghost use Rattle.riegeli_tool.specs.CommandAnswers.{IsAnswer, uses_of};
 ghost use Rattle.riegeli_tool.specs.FileAnswers.{most_file_bytes};
 ghost use Rattle.riegeli_tool.specs.Input.{taken_from, with_last_end};
+ghost use Rattle.riegeli_tool.specs.RecoverCommand.{IsRecovered};
 ghost use Rattle.riegeli_tool.specs.ShowCommand.{IsShown};
 ghost use Rattle.riegeli_tool.specs.VerifyCommand.{IsVerified};
 ghost use Rattle.riegeli_tool.specs.WriteCommand.{options_of, write_answer};
+ghost use Rattle.riegeli_tool.specs.declared.recover_words.RecoverWords.{RecoverWords};
 ghost use Rattle.riegeli_tool.specs.declared.show_words.ShowWords.{ShowWords};
 ghost use Rattle.riegeli_tool.specs.declared.status.Status.TheVariants as status;
 ghost use Rattle.riegeli_tool.specs.declared.write_words.WriteWords.{WriteWords};
@@ -40,13 +42,23 @@ pub fn answers_stand_on_what_is_used()
         → IsAnswer (accepted words count) input files a → IsAnswer (accepted words count) input others a }
 {}
 
-/// Each file of bytes has an answer of `show`, whatever its words, and one of `verify`. So all words have an answer, of
-/// the bytes of any input and files. Own.
+/// Each file of bytes has an answer of `show`, whatever its words, also of those that go on past damage, and one of
+/// `verify`. So all words have an answer, of the bytes of any input and files. Own.
 pub fn file_answers_exist()
     ensures show { (words : ShowWords) (file : List ℕ) → AreBytes file → (answer : Answer) × IsShown words file answer }
+    ensures recover { (words : RecoverWords) (file : List ℕ) → AreBytes file → (answer : Answer) × IsRecovered words file answer }
     ensures verify { (file : List ℕ) → AreBytes file → (answer : Answer) × IsVerified file answer }
     ensures all { (words : List (List ℕ)) (input : List ℕ) (files : List (List ℕ))
         → AllByRecursion AreBytes files → (answer : Answer) × IsAnswer (accepted words (length files)) input files answer }
+{}
+
+/// Of a file without fault nothing is skipped: where it goes on past damage, `show` prints what it prints else, and says
+/// nothing. Own.
+pub fn recovering_shows_files_without_fault()
+    ensures same { (words : RecoverWords) (file : List ℕ) (a b : Answer)
+        → HasNoFault false file → IsShown words.show file a → IsRecovered words file b → b ≡ a }
+    ensures ok { (words : RecoverWords) (file : List ℕ) (answer : Answer)
+        → HasNoFault false file → IsRecovered words file answer → (answer.notes ≡ []) × (answer.status ≡ status.Ok) }
 {}
 
 /// Records of at most 2^24 bytes each, written under a size of at most 2^24, read back: their file has no fault, and

@@ -1,13 +1,12 @@
 ghost use Rattle.std.specs.Prelude.{◌≡◌, ◌≤◌, ◌++◌, [], decimal, OnOk, OnErr};
 ghost use Rattle.record_io.specs.Outside.{Rose, Takes, TakesFront};
 ghost use Rattle.riegeli_tool.specs.Answers.{line};
-ghost use Rattle.riegeli_tool.specs.FileAnswers.{name_of, refused_text};
+ghost use Rattle.riegeli_tool.specs.FileAnswers.{refused_text};
 ghost use Rattle.riegeli_tool.specs.Runs.{SaysAtEnd, TakesThen, shown};
 ghost use Rattle.riegeli_tool.specs.Statuses.{fault_text};
 
-use crate::pieces::put_pieces;
 use crate::status::Status;
-use chunk_reader::{Fault, Why};
+use chunk_reader::Fault;
 use itoa::Buffer;
 use record_io::{Failed, PutBuffer, Sink, put_all};
 
@@ -82,31 +81,11 @@ fn put_fault<E: Sink>(notes: &mut E, fault: &Fault) -> Result<(), Failed>
         "refused ".as_bytes(),
         at.format(fault.at).as_bytes(),
         " ".as_bytes(),
-        name(fault.why).as_bytes(),
+        fault.why.name().as_bytes(),
         "\n".as_bytes(),
     ];
-    put_pieces(&mut line, notes, &pieces)?;
+    line.put_each(notes, &pieces)?;
     line.flush(notes)
-}
-
-/// The name of a reason.
-fn name(why: Why) -> &'static str
-    ensures { result.now ≡ name_of why }
-{
-    match why {
-        Why::NoSignature => "NoSignature",
-        Why::Short => "Short",
-        Why::HeaderHash => "HeaderHash",
-        Why::Truncated => "Truncated",
-        Why::TooLarge => "TooLarge",
-        Why::BlockHeader => "BlockHeader",
-        Why::DataHash => "DataHash",
-        Why::Contents => "Contents",
-        Why::Compressed => "Compressed",
-        Why::Transposed => "Transposed",
-        Why::UnknownKind => "UnknownKind",
-        Why::Contradicted => "Contradicted",
-    }
 }
 
 /// Ends the work that a fault or want of memory cut off. The status stays where notes fail too.

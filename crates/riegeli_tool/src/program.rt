@@ -2,10 +2,11 @@ ghost use Rattle.std.specs.Prelude.{◌≡◌, false, map, length};
 ghost use Rattle.std.specs.String.{string_bytes};
 ghost use Rattle.riegeli_tool.specs.Commands.{accepted};
 ghost use Rattle.riegeli_tool.specs.CommandAnswers.{uses_of};
-ghost use Rattle.riegeli_tool.specs.Runs.{Runs, seen, shown};
+ghost use Rattle.riegeli_tool.specs.Runs.{Runs, seen, shown, shown_file};
 
 use crate::command::Command;
 use crate::notes::end;
+use crate::recover::recover;
 use crate::show::show;
 use crate::status::Status;
 use crate::verify::verify;
@@ -29,13 +30,15 @@ sample --seed=N --records=N [--chunk=N] [--workers=N] FILE
 ///
 /// `files` are the files that the command reads, as `names` tells them, and `made` is the file that it makes.
 /// Text goes to `out` and messages go to `notes`. For now the commands are `write`, of lines, with `--chunk`, `--every`
-/// and `--pad`; `show`, with `--positions`; and `verify`, which takes no memory.
+/// and `--pad`; `show`, with `--positions`, and with `--recover`, which goes on past damage, and `--most`, which bounds the
+/// bytes of a region that is skipped; and `verify`, which takes no memory.
 ///
 /// # Errors
 ///
 /// `Usage` where the words are no command that reads so many files, `Refused` where the file is not well formed, `Limit`
-/// where a line has more than 2^24 bytes, the input more than 2^40 or the file more than 2^60, `Input`, `File`, `Made`,
-/// `Out` and `Notes` where that object failed, `Memory` where there wasn't enough. Own.
+/// where a line has more than 2^24 bytes, the input more than 2^40 or the file more than 2^60, `Skipped` where regions of
+/// the file were skipped, `Stopped` where one has more bytes than may be skipped, `Input`, `File`, `Made`, `Out` and `Notes`
+/// where that object failed, `Memory` where there wasn't enough. Own.
 pub fn run<R: Threads + Sync, I: Source, S: Store, M: Sink + Send, O: Sink, E: Sink>(
     rt: &R,
     alloc: Global,
@@ -48,13 +51,19 @@ pub fn run<R: Threads + Sync, I: Source, S: Store, M: Sink + Send, O: Sink, E: S
 ) -> Status
     // What the status and the objects tell: the answer, or which of them failed and what went out before.
     ensures runs { Runs (accepted (map string_bytes words.now) (length files.old))
-        (seen (shown (I.left input.old) (I.faults input.old)) (map (λ file. shown (S.bytes file) (S.faults file)) files.old)
+        (seen (shown (I.left input.old) (I.faults input.old))
+        (map (λ file. shown_file (S.bytes file) (S.told file) (S.faults file)) files.old)
         (shown (M.taken made.old) (M.faults made.old)) (shown (O.taken out.old) (O.faults out.old))
         (shown (E.taken notes.old) (E.faults notes.old)))
-        (seen (shown (I.left input.new) (I.faults input.new)) (map (λ file. shown (S.bytes file) (S.faults file)) files.new)
+        (seen (shown (I.left input.new) (I.faults input.new))
+        (map (λ file. shown_file (S.bytes file) (S.told file) (S.faults file)) files.new)
         (shown (M.taken made.new) (M.faults made.new)) (shown (O.taken out.new) (O.faults out.new))
         (shown (E.taken notes.new) (E.faults notes.new)))
         result }
+
+    // The files stay as they are.
+    ensures same_bytes { map (λ file. S.bytes file) files.new ≡ map (λ file. S.bytes file) files.old }
+    ensures same_names { map (λ file. S.name file) files.new ≡ map (λ file. S.name file) files.old }
 
     // What isn't used stays as it is.
     ensures input_unused { (uses_of (accepted (map string_bytes words.now) (length files.old))).input ≡ false → input.new ≡ input.old }
@@ -66,6 +75,7 @@ pub fn run<R: Threads + Sync, I: Source, S: Store, M: Sink + Send, O: Sink, E: S
     match accept(words, files.len()) {
         Some(Command::Write(words)) => write(rt, alloc, &words, input, made, notes),
         Some(Command::Show(words)) => show(alloc, &words, &mut files[0], out, notes),
+        Some(Command::Recover(words)) => recover(alloc, &words, &mut files[0], out, notes),
         Some(Command::Verify(_)) => verify(&mut files[0], out, notes),
         None => end(notes, USAGE, Status::Usage),
     }

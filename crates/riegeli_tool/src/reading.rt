@@ -1,7 +1,7 @@
 ghost use Rattle.std.specs.Prelude.{◌≡◌, ◌≤◌, ◌++◌, ◌∷◌, [], Some, length, IfOk, IfSome, IfErr};
 ghost use Rattle.record_io.specs.Outside.{Rose, Takes, TakesFront};
-ghost use Rattle.riegeli_tool.specs.FileAnswers.{most_file_bytes, name_of, refused_text};
-ghost use Rattle.riegeli_tool.specs.ReadingEnds.{IsUnsized, SaysEnd, end_unprinted};
+ghost use Rattle.riegeli_tool.specs.FileAnswers.{most_file_bytes, refused_text};
+ghost use Rattle.riegeli_tool.specs.ReadingEnds.{EndsBySize, IsUnsized, SaysEnd, end_unprinted};
 ghost use Rattle.riegeli_tool.specs.Runs.{SaysAtEnd, shown};
 
 use crate::notes::{cut_off, end, end_with_fault};
@@ -60,9 +60,11 @@ impl From<ReadEnd> for ReadingEnd {
 pub(crate) fn size_of<S: Store>(file: &mut S) -> Result<u64, ReadingEnd>
     ensures told { IfOk result (λ size. S.told file.new ≡ Some size) }
     ensures in_reach { IfOk result (λ size. size ≤ most_file_bytes) }
+    ensures sized { EndsBySize result (S.told file.new) }
     ensures exact { IfOk result (λ size. IfSome (S.bytes file.old) (λ bytes. size ≡ length bytes)) }
     ensures unread { IfErr result (λ ended. IsUnsized ended (S.bytes file.old) (S.faults file.old) (S.faults file.new)) }
     ensures same_bytes { S.bytes file.new ≡ S.bytes file.old }
+    ensures same_name { S.name file.new ≡ S.name file.old }
     ensures never_falls { S.faults file.old ≤ S.faults file.new }
 {
     let Ok(size) = file.size() else {

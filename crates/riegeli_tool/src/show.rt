@@ -5,12 +5,11 @@ ghost use Rattle.record_io.specs.Buffers.{TakesAndHolds};
 ghost use Rattle.chunk_reader.specs.Progress.{AreReadFrom};
 ghost use Rattle.riegeli_tool.specs.FileAnswers.{most_file_bytes, record_line};
 ghost use Rattle.riegeli_tool.specs.ShowCommand.{IsShown};
-ghost use Rattle.riegeli_tool.specs.ReadingEnds.{Prints};
+ghost use Rattle.riegeli_tool.specs.ReadingEnds.{EndsBySize, Prints};
 ghost use Rattle.riegeli_tool.specs.ShowProgress.{record_lines, records_in, IsPrinted, PrintsOn};
-ghost use Rattle.riegeli_tool.specs.Runs.{Runs, Shown, seen, shown};
+ghost use Rattle.riegeli_tool.specs.Runs.{Runs, Shown, seen, shown, shown_file};
 
 use crate::command::Command;
-use crate::pieces::put_pieces;
 use crate::reading::{ReadingEnd, end_reading, size_of, unprinted};
 use crate::show_words::ShowWords;
 use crate::status::Status;
@@ -21,7 +20,7 @@ use simple_chunk::Records;
 use std::alloc::Global;
 
 /// How many bytes of lines are gathered.
-const LINES: usize = 1 << 16;
+pub(crate) const LINES: usize = 1 << 16;
 
 /// Prints the records of a file, and says in notes why it ended before the file did.
 pub(crate) fn show<S: Store, O: Sink, E: Sink>(
@@ -32,11 +31,13 @@ pub(crate) fn show<S: Store, O: Sink, E: Sink>(
     notes: &mut E,
 ) -> Status
     ensures runs { (input made : Shown) → Runs (Some (Command.Show words.now))
-        (seen input (shown (S.bytes file.old) (S.faults file.old) ∷ []) made
+        (seen input (shown_file (S.bytes file.old) (S.told file.old) (S.faults file.old) ∷ []) made
         (shown (O.taken out.old) (O.faults out.old)) (shown (E.taken notes.old) (E.faults notes.old)))
-        (seen input (shown (S.bytes file.new) (S.faults file.new) ∷ []) made
+        (seen input (shown_file (S.bytes file.new) (S.told file.new) (S.faults file.new) ∷ []) made
         (shown (O.taken out.new) (O.faults out.new)) (shown (E.taken notes.new) (E.faults notes.new)))
         result }
+    ensures same_bytes { S.bytes file.new ≡ S.bytes file.old }
+    ensures same_name { S.name file.new ≡ S.name file.old }
     ensures notes_kept { result ≡ Status.Ok → notes.new ≡ notes.old }
 {
     let ended = print_file(alloc, words, file, out);
@@ -51,6 +52,9 @@ fn print_file<S: Store, O: Sink>(
     out: &mut O,
 ) -> Result<(), ReadingEnd>
     ensures printed { IfSome (S.bytes file.old) (λ bytes. Prints (IsShown words.now) result bytes (O.taken out.old) (O.taken out.new) []) }
+    ensures sized { EndsBySize result (S.told file.new) }
+    ensures same_bytes { S.bytes file.new ≡ S.bytes file.old }
+    ensures same_name { S.name file.new ≡ S.name file.old }
     ensures file_cause { result ≡ Err ReadingEnd.File → Rose (S.faults file.old) (S.faults file.new) }
     ensures out_cause { result ≡ Err ReadingEnd.Out → Rose (O.faults out.old) (O.faults out.new) }
     ensures file_count { S.faults file.old ≤ S.faults file.new }
@@ -79,6 +83,10 @@ fn print_chunks<S: Store, O: Sink>(
     requires exact { IfSome (S.bytes file.old) (λ bytes. size ≡ length bytes) }
     requires none_held { lines.old ≡ [] }
     ensures printed { IfSome (S.bytes file.old) (λ bytes. Prints (IsShown words.now) result bytes (O.taken out.old) (O.taken out.new) lines.new) }
+    ensures sized { EndsBySize result (S.told file.new) }
+    ensures same_bytes { S.bytes file.new ≡ S.bytes file.old }
+    ensures same_name { S.name file.new ≡ S.name file.old }
+    ensures same_told { S.told file.new ≡ S.told file.old }
     ensures file_cause { result ≡ Err ReadingEnd.File → Rose (S.faults file.old) (S.faults file.new) }
     ensures out_cause { result ≡ Err ReadingEnd.Out → Rose (O.faults out.old) (O.faults out.new) }
     ensures file_count { S.faults file.old ≤ S.faults file.new }
@@ -111,8 +119,10 @@ fn print_next<S: Store, O: Sink>(
     ensures printed { IfSome (S.bytes file.old) (λ bytes. (before : Option (List ℕ))
         → IsPrinted words.now bytes reader.old.totals before (O.taken out.old) lines.old
         → PrintsOn words.now result bytes reader.new.totals before (O.taken out.new) lines.new) }
+    ensures sized { EndsBySize result (S.told file.new) }
     ensures same_bytes { S.bytes file.new ≡ S.bytes file.old }
     ensures same_told { S.told file.new ≡ S.told file.old }
+    ensures same_name { S.name file.new ≡ S.name file.old }
     ensures file_cause { result ≡ Err ReadingEnd.File → Rose (S.faults file.old) (S.faults file.new) }
     ensures out_cause { result ≡ Err ReadingEnd.Out → Rose (O.faults out.old) (O.faults out.new) }
     ensures file_count { S.faults file.old ≤ S.faults file.new }
@@ -151,7 +161,7 @@ fn put_chunk<O: Sink>(
 }
 
 /// Puts a line for each record of a chunk that begins at a place.
-fn put_records<O: Sink>(
+pub(crate) fn put_records<O: Sink>(
     words: &ShowWords,
     begin: u64,
     records: &Records,
@@ -198,7 +208,8 @@ fn put_record<O: Sink>(
     ensures small { O.faults out.old < 2 ^ 64 → O.faults out.new < 2 ^ 64 }
 {
     if !words.positions {
-        return put_pieces(lines, out, &[bytes, "\n".as_bytes()]);
+        lines.put(out, bytes)?;
+        return lines.put(out, "\n".as_bytes());
     }
     let mut number = Buffer::new();
     let pieces = [
@@ -207,5 +218,5 @@ fn put_record<O: Sink>(
         bytes,
         "\n".as_bytes(),
     ];
-    put_pieces(lines, out, &pieces)
+    lines.put_each(out, &pieces)
 }

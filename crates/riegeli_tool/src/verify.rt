@@ -3,11 +3,10 @@ ghost use Rattle.record_io.specs.Outside.{Rose, Takes, TakesFront};
 ghost use Rattle.riegeli_tool.specs.declared.verify_words.VerifyWords.{VerifyWords};
 ghost use Rattle.riegeli_tool.specs.FileAnswers.{report};
 ghost use Rattle.riegeli_tool.specs.VerifyCommand.{IsVerified};
-ghost use Rattle.riegeli_tool.specs.ReadingEnds.{Prints};
-ghost use Rattle.riegeli_tool.specs.Runs.{Runs, Shown, seen, shown};
+ghost use Rattle.riegeli_tool.specs.ReadingEnds.{EndsBySize, Prints};
+ghost use Rattle.riegeli_tool.specs.Runs.{Runs, Shown, seen, shown, shown_file};
 
 use crate::command::Command;
-use crate::pieces::put_pieces;
 use crate::reading::{ReadingEnd, end_reading, size_of};
 use crate::status::Status;
 use itoa::Buffer;
@@ -19,11 +18,13 @@ const REPORT: usize = 256;
 /// Judges a file and prints the report of its totals, or says in notes why it is refused. It takes no memory.
 pub(crate) fn verify<S: Store, O: Sink, E: Sink>(file: &mut S, out: &mut O, notes: &mut E) -> Status
     ensures runs { (words : VerifyWords) (input made : Shown) → Runs (Some (Command.Verify words))
-        (seen input (shown (S.bytes file.old) (S.faults file.old) ∷ []) made
+        (seen input (shown_file (S.bytes file.old) (S.told file.old) (S.faults file.old) ∷ []) made
         (shown (O.taken out.old) (O.faults out.old)) (shown (E.taken notes.old) (E.faults notes.old)))
-        (seen input (shown (S.bytes file.new) (S.faults file.new) ∷ []) made
+        (seen input (shown_file (S.bytes file.new) (S.told file.new) (S.faults file.new) ∷ []) made
         (shown (O.taken out.new) (O.faults out.new)) (shown (E.taken notes.new) (E.faults notes.new)))
         result }
+    ensures same_bytes { S.bytes file.new ≡ S.bytes file.old }
+    ensures same_name { S.name file.new ≡ S.name file.old }
     ensures notes_kept { result ≡ Status.Ok → notes.new ≡ notes.old }
 {
     let ended = report_file(file, out);
@@ -33,6 +34,9 @@ pub(crate) fn verify<S: Store, O: Sink, E: Sink>(file: &mut S, out: &mut O, note
 /// Judges a file and prints the report of its totals.
 fn report_file<S: Store, O: Sink>(file: &mut S, out: &mut O) -> Result<(), ReadingEnd>
     ensures printed { IfSome (S.bytes file.old) (λ bytes. Prints IsVerified result bytes (O.taken out.old) (O.taken out.new) []) }
+    ensures sized { EndsBySize result (S.told file.new) }
+    ensures same_bytes { S.bytes file.new ≡ S.bytes file.old }
+    ensures same_name { S.name file.new ≡ S.name file.old }
     ensures file_cause { result ≡ Err ReadingEnd.File → Rose (S.faults file.old) (S.faults file.new) }
     ensures out_cause { result ≡ Err ReadingEnd.Out → Rose (O.faults out.old) (O.faults out.new) }
     ensures memory { result ≢ Err ReadingEnd.Memory }
@@ -70,6 +74,6 @@ fn put_report<O: Sink>(totals: &Totals, out: &mut O) -> Result<(), Failed>
         unread.format(totals.unread).as_bytes(),
         "\n".as_bytes(),
     ];
-    put_pieces(&mut lines, out, &pieces)?;
+    lines.put_each(out, &pieces)?;
     lines.flush(out)
 }

@@ -1,8 +1,9 @@
 ghost use Rattle.std.specs.Prelude.{◌≡◌, map};
 ghost use Rattle.std.specs.String.{string_bytes};
-ghost use Rattle.riegeli_tool.specs.Commands.{command_of, names_of, accepted};
+ghost use Rattle.riegeli_tool.specs.Commands.{command_of, show_command_of, names_of, accepted};
 
 use crate::command::{Command, Names};
+use crate::recover_words::{goes_past_damage, recover_words};
 use crate::show_words::show_words;
 use crate::verify_words::verify_words;
 use crate::write_words::write_words;
@@ -14,6 +15,7 @@ pub fn names(words: &[String]) -> Names
     let (first, count, made) = match parse(words) {
         Some(Command::Write(write)) => (0, 0, Some(write.file)),
         Some(Command::Show(show)) => (show.file, 1, None),
+        Some(Command::Recover(recover)) => (recover.show.file, 1, None),
         Some(Command::Verify(verify)) => (verify.file, 1, None),
         None => (0, 0, None),
     };
@@ -26,9 +28,20 @@ fn parse(words: &[String]) -> Option<Command>
 {
     match words.first()?.as_str() {
         "write" => Some(Command::Write(write_words(words)?)),
-        "show" => Some(Command::Show(show_words(words)?)),
+        "show" => show_command(words),
         "verify" => Some(Command::Verify(verify_words(words)?)),
         _ => None,
+    }
+}
+
+/// The command that the words of `show` are.
+fn show_command(words: &[String]) -> Option<Command>
+    ensures { result ≡ show_command_of (map string_bytes words.now) }
+{
+    if goes_past_damage(words) {
+        Some(Command::Recover(recover_words(words)?))
+    } else {
+        Some(Command::Show(show_words(words)?))
     }
 }
 

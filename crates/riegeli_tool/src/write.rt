@@ -3,7 +3,7 @@ ghost use Rattle.record_io.specs.Outside.{Rose};
 ghost use Rattle.record_writer.specs.Written.{AreInLimits, Answers, TakesFile, file_under};
 ghost use Rattle.riegeli_tool.specs.Input.{taken_from};
 ghost use Rattle.riegeli_tool.specs.WriteCommand.{options_of};
-ghost use Rattle.riegeli_tool.specs.Runs.{Runs, Shown, seen, shown};
+ghost use Rattle.riegeli_tool.specs.Runs.{Runs, Shown, ShownFile, seen, shown};
 
 use crate::command::Command;
 use crate::line_feed::LineFeed;
@@ -28,7 +28,7 @@ pub(crate) fn write<R: Threads + Sync, I: Source, M: Sink + Send, E: Sink>(
     notes: &mut E,
 ) -> Status
     requires { AreInLimits (options_of words.now) }
-    ensures runs { (files : List Shown) (out : Shown) → Runs (Some (Command.Write words.now))
+    ensures runs { (files : List ShownFile) (out : Shown) → Runs (Some (Command.Write words.now))
         (seen (shown (I.left input.old) (I.faults input.old)) files
         (shown (M.taken made.old) (M.faults made.old)) out (shown (E.taken notes.old) (E.faults notes.old)))
         (seen (shown (I.left input.new) (I.faults input.new)) files

@@ -1,6 +1,7 @@
-use Rattle.std.proofs.Common.{◌∙◌, List, ℕ, [], ◌∷◌, ◌++◌, decimal, codes, sym, ap, subst, append_assoc}
+use Rattle.std.proofs.Common.{◌∙◌, List, ℕ, [], ◌∷◌, ◌++◌, decimal, codes, sym, subst, append_assoc}
 use Rattle.record_io.specs.Buffers.{TakesAndHolds}
-use Rattle.riegeli_tool.specs.FileAnswers.{name_of, refused_text}
+use Rattle.chunk_reader.specs.Names.{name_of}
+use Rattle.riegeli_tool.specs.FileAnswers.{refused_text}
 use Rattle.riegeli_tool.proofs.NoteLines.{OnErr-map, front-flushed}
 use Rattle.riegeli_tool.proofs.notes.put_fault.Goals as goal
 
@@ -15,7 +16,7 @@ returns-clause-front g c =
       c.as_bytes-3.ensures.value,
       c.as_bytes-4.ensures.value ∙ c.name.ensures,
       c.as_bytes-5.ensures.value,
-    ) at c.in_ok-put_pieces.ensures.whole in
-    OnErr-map _ (front-flushed _ _ _ (refused_text c.args.fault.now) c.put_pieces.new.lines
-    (subst (λ (t : List ℕ). TakesAndHolds (g.E.Sink.taken c.args.notes.now) (g.E.Sink.taken c.put_pieces.new.out) (codes "refused " ++ t) c.put_pieces.new.lines)
+    ) at c.in_ok-put_each.ensures.whole in
+    OnErr-map _ (front-flushed _ _ _ (refused_text c.args.fault.now) c.put_each.new.self
+    (subst (λ (t : List ℕ). TakesAndHolds (g.E.Sink.taken c.args.notes.now) (g.E.Sink.taken c.put_each.new.sink) (codes "refused " ++ t) c.put_each.new.self)
     (sym (append_assoc at (32 ∷ name) (10 ∷ []))) whole)) c.flush.ensures.front

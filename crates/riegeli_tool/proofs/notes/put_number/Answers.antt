@@ -1,6 +1,6 @@
 use Rattle.std.proofs.Common.{◌∙◌, [], ◌∷◌, ◌++◌, decimal}
-use Rattle.record_io.proofs.Calls.{TakesFront-longer}
-use Rattle.riegeli_tool.proofs.NoteLines.{OnErr-any, OnErr-map, held-more, front-more, front-flushed}
+use Rattle.record_io.proofs.Calls.{OnErr-any, TakesFront-longer}
+use Rattle.riegeli_tool.proofs.NoteLines.{OnErr-map, held-more, front-more, front-flushed}
 use Rattle.riegeli_tool.proofs.notes.put_number.Goals as goal
 
 pub returns-in_err-put-2-clause-front : goal.returns-in_err-put-2-clause-front

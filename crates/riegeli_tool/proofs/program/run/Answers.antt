@@ -1,9 +1,8 @@
-use Rattle.std.proofs.Common.{Option, Some, None, ap, sym, map, ◌∙◌, subst, length}
+use Rattle.std.proofs.Common.{Some, None, ap, sym, map, ◌∙◌, length}
 use Rattle.std.specs.String.{string_bytes}
-use Rattle.riegeli_tool.specs.declared.command.Command.{Command}
-use Rattle.riegeli_tool.specs.declared.command.Command.TheVariants.{Write, Show, Verify}
+use Rattle.riegeli_tool.specs.declared.command.Command.TheVariants.{Write, Show, Recover, Verify}
 use Rattle.riegeli_tool.specs.Commands.{command_of}
-use Rattle.riegeli_tool.specs.Runs.{Runs, Shown, shown}
+use Rattle.riegeli_tool.specs.Runs.{Shown, shown, shown_file}
 use Rattle.riegeli_tool.proofs.RunEnds.{runs-of, runs-one_file, runs-usage}
 use Rattle.riegeli_tool.proofs.FileAnswersExist.{accepted-reads}
 use Rattle.riegeli_tool.proofs.WriteLimits.{accepted-within}
@@ -18,7 +17,7 @@ pub returns-in-Some-Write-clause-runs : goal.returns-in-Some-Write-clause-runs
 returns-in-Some-Write-clause-runs g c =
     runs-of (Some (Write c.in-Some-Write.words)) _ _ _ _ (ap Some (sym c.in-Some-Write.field-0-is) ∙ c.in-Some-Write.ensures)
     (c.write.ensures.runs
-    (map (λ file. shown (g.S.Store.bytes file) (g.S.Store.faults file)) c.args.files.now)
+    (map (λ file. shown_file (g.S.Store.bytes file) (g.S.Store.told file) (g.S.Store.faults file)) c.args.files.now)
     (shown (g.O.Sink.taken c.args.out.now) (g.O.Sink.faults c.args.out.now)))
 
 pub returns-in-None-clause-runs : goal.returns-in-None-clause-runs
@@ -32,9 +31,19 @@ returns-in-Some-Show-clause-runs g c =
     let made : Shown = shown (g.M.Sink.taken c.args.made.now) (g.M.Sink.faults c.args.made.now) in
     let is = ap Some (sym c.in-Some-Show.field-0-is) ∙ c.in-Some-Show.ensures in
     runs-of (Some (Show c.in-Some-Show.words)) _ _ _ _ is
-    (runs-one_file (λ file. shown (g.S.Store.bytes file) (g.S.Store.faults file)) c.args.files.now _ c.show.new.file _ input made _ _ _ _ _
+    (runs-one_file (λ file. shown_file (g.S.Store.bytes file) (g.S.Store.told file) (g.S.Store.faults file)) c.args.files.now _ c.show.new.file _ input made _ _ _ _ _
     (accepted-reads (command_of (map string_bytes c.args.words.now)) (length c.args.files.now) (Show c.in-Some-Show.words) (sym is))
     (c.show.ensures.runs input made))
+
+pub returns-in-Some-Recover-clause-runs : goal.returns-in-Some-Recover-clause-runs
+returns-in-Some-Recover-clause-runs g c =
+    let input : Shown = shown (g.I.Source.left c.args.input.now) (g.I.Source.faults c.args.input.now) in
+    let made : Shown = shown (g.M.Sink.taken c.args.made.now) (g.M.Sink.faults c.args.made.now) in
+    let is = ap Some (sym c.in-Some-Recover.field-0-is) ∙ c.in-Some-Recover.ensures in
+    runs-of (Some (Recover c.in-Some-Recover.words)) _ _ _ _ is
+    (runs-one_file (λ file. shown_file (g.S.Store.bytes file) (g.S.Store.told file) (g.S.Store.faults file)) c.args.files.now _ c.recover.new.file _ input made _ _ _ _ _
+    (accepted-reads (command_of (map string_bytes c.args.words.now)) (length c.args.files.now) (Recover c.in-Some-Recover.words) (sym is))
+    (c.recover.ensures.runs input made))
 
 pub returns-in-Some-Verify-clause-runs : goal.returns-in-Some-Verify-clause-runs
 returns-in-Some-Verify-clause-runs g c =
@@ -42,6 +51,6 @@ returns-in-Some-Verify-clause-runs g c =
     let made : Shown = shown (g.M.Sink.taken c.args.made.now) (g.M.Sink.faults c.args.made.now) in
     let is = ap Some (sym c.in-Some-Verify.field-0-is) ∙ c.in-Some-Verify.ensures in
     runs-of (Some (Verify c.in-Some-Verify.field-0-0)) _ _ _ _ is
-    (runs-one_file (λ file. shown (g.S.Store.bytes file) (g.S.Store.faults file)) c.args.files.now _ c.verify.new.file _ input made _ _ _ _ _
+    (runs-one_file (λ file. shown_file (g.S.Store.bytes file) (g.S.Store.told file) (g.S.Store.faults file)) c.args.files.now _ c.verify.new.file _ input made _ _ _ _ _
     (accepted-reads (command_of (map string_bytes c.args.words.now)) (length c.args.files.now) (Verify c.in-Some-Verify.field-0-0) (sym is))
     (c.verify.ensures.runs c.in-Some-Verify.field-0-0 input made))

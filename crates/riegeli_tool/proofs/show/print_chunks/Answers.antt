@@ -11,6 +11,7 @@ loop-init g c = record {
   within = omega (arith, ap (λ (t : Totals). t.bytes) c.new-reader.ensures.totals);
   same_bytes = cc;
   told = c.requires.told;
+  same_name = cc;
   read = read-none _ _ c.new-reader.ensures.at_front;
   printed = printed-none c.args.words.now _ _ _ _ c.new-reader.ensures.totals c.requires.none_held;
   file_count = omega arith;
@@ -24,6 +25,7 @@ loop-preserved g c = record {
   within = c.in_ok-print_next.ensures.within;
   same_bytes = c.in_ok-print_next.ensures.same_bytes ∙ c.loop.invariant.same_bytes;
   told = c.in_ok-print_next.ensures.same_told ∙ c.loop.invariant.told;
+  same_name = c.in_ok-print_next.ensures.same_name ∙ c.loop.invariant.same_name;
   read = subst (λ (b : Option (List ℕ)). IfSome b (λ bytes. AreReadFrom false bytes c.print_next.new.reader.totals)) c.loop.invariant.same_bytes c.in_ok-print_next.ensures.read;
   printed = printed-on c.args.words.now _ _ c.loop.reader.totals _ _ _ _ _ _ _ c.loop.invariant.same_bytes c.if-branch.true
       c.in_ok-print_next.ensures.printed c.loop.invariant.printed;

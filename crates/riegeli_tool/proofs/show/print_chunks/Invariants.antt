@@ -10,6 +10,7 @@ invariant-loop g l = record {
   within : l.reader.totals.bytes ≤ l.reader.size;
   same_bytes : g.S.Store.bytes l.file ≡ g.S.Store.bytes l.fn.file;
   told : g.S.Store.told l.file ≡ Some l.fn.size;
+  same_name : g.S.Store.name l.file ≡ g.S.Store.name l.fn.file;
   read : IfSome (g.S.Store.bytes l.fn.file) (λ bytes. AreReadFrom false bytes l.reader.totals);
   printed : IfSome (g.S.Store.bytes l.fn.file) (λ bytes. IsPrinted l.words bytes l.reader.totals (g.O.Sink.taken l.fn.out) (g.O.Sink.taken l.out) l.lines);
   file_count : g.S.Store.faults l.fn.file ≤ g.S.Store.faults l.file;

@@ -1,4 +1,4 @@
-use Rattle.std.proofs.Common.{◌≡◌, ◌∙◌, ◌+◌, ◌<◌, List, ℕ, ap, arith, length, get_or, take, take_all, subst, ◌++◌}
+use Rattle.std.proofs.Common.{◌≡◌, ◌∙◌, ◌+◌, ◌<◌, List, ℕ, ap, arith, length, get_or, take_all, subst, ◌++◌}
 use Rattle.std.specs.List.{enumerate_from}
 use Rattle.std.proofs.lemmas.List.FromFn.{length-enumerate_from, get_or-enumerate_from}
 use Rattle.std.proofs.lemmas.Option.{get_or_from_slice_get}
@@ -6,7 +6,7 @@ use Rattle.record_io.specs.Buffers.{TakesAndHolds}
 use Rattle.riegeli_tool.specs.FileAnswers.{record_line}
 use Rattle.riegeli_tool.specs.ShowProgress.{record_lines}
 use Rattle.riegeli_tool.proofs.LinePuts.{lines-next, lines-failed}
-use Rattle.riegeli_tool.proofs.NoteLines.{OnErr-any}
+use Rattle.record_io.proofs.Calls.{OnErr-any}
 use Rattle.riegeli_tool.proofs.show.put_records.Goals as goal
 
 -- the record of this number stands there with its position

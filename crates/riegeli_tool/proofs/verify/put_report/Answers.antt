@@ -18,7 +18,7 @@ returns-clause-front g c =
       c.as_bytes-7.ensures.value,
       c.as_bytes-8.ensures.value ∙ c.format-4.ensures.text,
       c.as_bytes-9.ensures.value,
-    ) at c.in_ok-put_pieces.ensures.whole in
-    OnErr-map _ (front-flushed _ _ _ (report c.args.totals.now) c.put_pieces.new.lines
-    (subst (λ (t : List ℕ). TakesAndHolds (g.O.Sink.taken c.args.out.now) (g.O.Sink.taken c.put_pieces.new.out) t c.put_pieces.new.lines)
+    ) at c.in_ok-put_each.ensures.whole in
+    OnErr-map _ (front-flushed _ _ _ (report c.args.totals.now) c.put_each.new.self
+    (subst (λ (t : List ℕ). TakesAndHolds (g.O.Sink.taken c.args.out.now) (g.O.Sink.taken c.put_each.new.sink) t c.put_each.new.self)
     (report-pieces c.args.totals.now) whole)) c.flush.ensures.front

@@ -1,4 +1,4 @@
-use Rattle.std.proofs.Common.{List, [], ◌∷◌, Some, Ok, Err, ap, refl, sym}
+use Rattle.std.proofs.Common.{[], ◌∷◌, Some, Ok, Err, ap, refl}
 use Rattle.riegeli_tool.specs.declared.command.Command.TheVariants.{Verify}
 use Rattle.riegeli_tool.specs.declared.reading.ReadingEnd.TheVariants.{Out}
 use Rattle.riegeli_tool.specs.VerifyCommand.{IsVerified}

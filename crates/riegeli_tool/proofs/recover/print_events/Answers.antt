@@ -1,0 +1,103 @@
+use Rattle.std.proofs.Common.{◌∙◌, Ok, Err, Some, None, ap, sym, refl, arith}
+use Rattle.damage_skip.specs.Walkers.{progress_of, test_of}
+use Rattle.damage_skip.specs.Walks.{stop_of}
+use Rattle.riegeli_tool.specs.declared.status.Status.{Status}
+use Rattle.riegeli_tool.proofs.RecoverSteps.{after-ok}
+use Rattle.riegeli_tool.proofs.RecoverLoop.{bound-same, event-allowed, goes-same, met-same, step-done, step-ended, step-failed, step-given, step-said, step-told, step-untold, stop-refused, stop-same}
+use Rattle.riegeli_tool.proofs.ShowSteps.{short_told}
+use Rattle.riegeli_tool.proofs.recover.print_events.Goals as goal
+
+pub returns-in_err-event-clause-printed : goal.returns-in_err-event-clause-printed
+returns-in_err-event-clause-printed g c =
+    step-ended c.args.words.now _ (progress_of c.loop-event.walker).place (progress_of c.next.new.self).place (progress_of c.args.walker.now).size (progress_of c.next.new.self).size
+    _ _ _ _ _ c.loop-event.status c.in_err-event.field-0.0 c.from_residual.result c.from_residual.ensures.0 c.from_residual.ensures.1
+    c.requires.in_reach c.requires.exact (c.in_err-event.ensures.same_size ∙ c.loop-event.invariant.same_size) c.loop-event.invariant.given
+    (goes-same _ _ _ _ _ (Err c.in_err-event.field-0.0) (Err c.in_err-event.field-0.0) c.loop-event.invariant.same_bytes c.loop-event.invariant.not_kept refl
+    c.in_err-event.ensures.goes_on)
+    (λ region is. (
+      c.in_err-event.ensures.stop region (ap Err is) c.loop-event.invariant.going,
+      stop-refused g.F.Fn (test_of c.loop-event.walker) c.args.words.now.most (progress_of c.next.new.self).size (progress_of c.next.new.self).place region
+          (bound-same g.F.Fn _ _ c.args.words.now.most c.loop-event.invariant.same_test c.requires.bound)
+          (c.in_err-event.ensures.stop region (ap Err is) c.loop-event.invariant.going)
+          (omega (arith, c.in_err-event.ensures.same_size, c.loop-event.invariant.same_size, c.requires.in_reach))
+          (c.in_err-event.ensures.refused region (ap Err is) c.loop-event.invariant.going),
+      stop-same _ _ _ _ _ _ region c.loop-event.invariant.same_bytes c.in_err-event.ensures.same_keep c.loop-event.invariant.not_kept
+          (c.in_err-event.ensures.stopped ∙ ap (λ e. stop_of (Err e)) is) c.in_err-event.ensures.stopped_there,
+    ))
+
+pub returns-in_err-event-clause-said : goal.returns-in_err-event-clause-said
+returns-in_err-event-clause-said g c =
+    step-said c.args.words.now _ _ c.loop-event.status c.in_err-event.field-0.0 c.from_residual.result c.from_residual.ensures.0 c.from_residual.ensures.1
+    c.loop-event.invariant.told_of
+    (λ region is.
+    stop-refused g.F.Fn (test_of c.loop-event.walker) c.args.words.now.most (progress_of c.next.new.self).size (progress_of c.next.new.self).place region
+    (bound-same g.F.Fn _ _ c.args.words.now.most c.loop-event.invariant.same_test c.requires.bound)
+    (c.in_err-event.ensures.stop region (ap Err is) c.loop-event.invariant.going)
+    (omega (arith, c.in_err-event.ensures.same_size, c.loop-event.invariant.same_size, c.requires.in_reach))
+    (c.in_err-event.ensures.refused region (ap Err is) c.loop-event.invariant.going))
+
+pub returns-in_err-status-clause-printed : goal.returns-in_err-status-clause-printed
+returns-in_err-status-clause-printed g c =
+    step-failed Status c.args.words.now _ (progress_of c.loop-event.walker).place (progress_of c.next.new.self).place _ _ _ _ _ _ _ _ c.loop-event.status
+    c.in-Some.event c.in_err-status.field-0.0 c.from_residual-in_err-status.result c.from_residual-in_err-status.ensures.0 c.from_residual-in_err-status.ensures.1
+    (short_told _ _ c.requires.in_reach c.requires.exact) c.loop-event.invariant.given
+    (goes-same _ _ _ _ _ _ (Ok (Some c.in-Some.event)) c.loop-event.invariant.same_bytes c.loop-event.invariant.not_kept (ap Ok c.in-Some.is) c.in_ok-event.ensures.goes_on)
+    (event-allowed g.F.Fn (test_of c.loop-event.walker) c.args.words.now.most _ _ (progress_of c.next.new.self).size c.in-Some.event
+    (bound-same g.F.Fn _ _ c.args.words.now.most c.loop-event.invariant.same_test c.requires.bound)
+    (c.in_ok-event.ensures.bounds c.in-Some.event (ap Ok c.in-Some.is)) c.in_ok-event.ensures.within
+    (omega (arith, c.in_ok-event.ensures.same_size, c.loop-event.invariant.same_size, c.requires.in_reach))
+    (λ region is. c.in_ok-event.ensures.allowed region (ap Ok (c.in-Some.is ∙ ap Some is))))
+    c.in_err-status.ensures.given
+
+pub returns-in_err-status-clause-said : goal.returns-in_err-status-clause-said
+returns-in_err-status-clause-said g c =
+    step-untold Status c.args.words.now _ _ _ _ _ _ _ c.loop-event.status
+    c.in-Some.event c.in_err-status.field-0.0 c.from_residual-in_err-status.result c.from_residual-in_err-status.ensures.0 c.from_residual-in_err-status.ensures.1
+    c.loop-event.invariant.told_of
+    (event-allowed g.F.Fn (test_of c.loop-event.walker) c.args.words.now.most _ _ (progress_of c.next.new.self).size c.in-Some.event
+    (bound-same g.F.Fn _ _ c.args.words.now.most c.loop-event.invariant.same_test c.requires.bound)
+    (c.in_ok-event.ensures.bounds c.in-Some.event (ap Ok c.in-Some.is)) c.in_ok-event.ensures.within
+    (omega (arith, c.in_ok-event.ensures.same_size, c.loop-event.invariant.same_size, c.requires.in_reach))
+    (λ region is. c.in_ok-event.ensures.allowed region (ap Ok (c.in-Some.is ∙ ap Some is))))
+    c.in_err-status.ensures.given
+
+pub loop-event-smaller : goal.loop-event-smaller
+loop-event-smaller g c =
+    let there = c.in_ok-event.ensures.bounds c.in-Some.event (ap Ok c.in-Some.is) in
+    omega (arith, there.from_place, there.rises, there.to_place, c.in_ok-event.ensures.within, c.in_ok-event.ensures.same_size)
+
+pub loop-event-preserved : goal.loop-event-preserved
+loop-event-preserved g c =
+    let passed = event-allowed g.F.Fn (test_of c.loop-event.walker) c.args.words.now.most _ _ (progress_of c.next.new.self).size c.in-Some.event
+    (bound-same g.F.Fn _ _ c.args.words.now.most c.loop-event.invariant.same_test c.requires.bound)
+    (c.in_ok-event.ensures.bounds c.in-Some.event (ap Ok c.in-Some.is)) c.in_ok-event.ensures.within
+    (omega (arith, c.in_ok-event.ensures.same_size, c.loop-event.invariant.same_size, c.requires.in_reach))
+    (λ region is. c.in_ok-event.ensures.allowed region (ap Ok (c.in-Some.is ∙ ap Some is))) in
+    record {
+      same_size = c.in_ok-event.ensures.same_size ∙ c.loop-event.invariant.same_size;
+      not_kept = c.in_ok-event.ensures.same_keep ∙ c.loop-event.invariant.not_kept;
+      going = c.in_ok-event.ensures.stopped ∙ ap (λ e. stop_of (Ok e)) c.in-Some.is;
+      same_test = c.in_ok-event.ensures.same_test ∙ c.loop-event.invariant.same_test;
+      within = c.in_ok-event.ensures.within;
+      same_bytes = c.in_ok-event.ensures.same_bytes ∙ c.loop-event.invariant.same_bytes;
+      told = c.in_ok-event.ensures.same_told ∙ c.loop-event.invariant.told;
+      same_name = c.in_ok-event.ensures.same_name ∙ c.loop-event.invariant.same_name;
+      met = met-same _ _ _ _ c.loop-event.invariant.same_bytes (c.in_ok-event.ensures.same_keep ∙ c.loop-event.invariant.not_kept) c.in_ok-event.ensures.met;
+      given = step-given c.args.words.now _ (progress_of c.loop-event.walker).place (progress_of c.next.new.self).place _ _ _ _ _ _ _ _ c.loop-event.status
+          c.in-Some.event _ c.in_ok-status.ensures.status c.loop-event.invariant.given
+          (goes-same _ _ _ _ _ _ (Ok (Some c.in-Some.event)) c.loop-event.invariant.same_bytes c.loop-event.invariant.not_kept (ap Ok c.in-Some.is) c.in_ok-event.ensures.goes_on)
+          passed c.in_ok-status.ensures.given;
+      told_of = step-told c.args.words.now _ _ _ _ _ _ _ c.loop-event.status c.in-Some.event _ c.in_ok-status.ensures.status c.loop-event.invariant.told_of passed c.in_ok-status.ensures.given;
+      kept = λ is.
+          let before = after-ok c.loop-event.status c.in-Some.event (sym c.in_ok-status.ensures.status ∙ is) in
+          c.in_ok-status.ensures.quiet before.1 ∙ c.loop-event.invariant.kept before.0;
+      file_count = omega (arith, c.loop-event.invariant.file_count, c.in_ok-event.ensures.never_falls);
+      out_count = omega (arith, c.loop-event.invariant.out_count, c.in_ok-status.ensures.out_count);
+      notes_count = omega (arith, c.loop-event.invariant.notes_count, c.in_ok-status.ensures.notes_count);
+    }
+
+pub returns-clause-printed : goal.returns-clause-printed
+returns-clause-printed g c =
+    step-done c.args.words.now _ (progress_of c.loop-event.walker).place (progress_of c.next.new.self).place (progress_of c.args.walker.now).size _ _ _ _ _ c.loop-event.status
+    c.requires.in_reach c.requires.exact (c.in_ok-event.ensures.ended (ap Ok c.in_default.is) ∙ c.loop-event.invariant.same_size) c.loop-event.invariant.given
+    (goes-same _ _ _ _ _ _ (Ok None) c.loop-event.invariant.same_bytes c.loop-event.invariant.not_kept (ap Ok c.in_default.is) c.in_ok-event.ensures.goes_on)

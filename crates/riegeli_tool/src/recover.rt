@@ -1,0 +1,168 @@
+ghost use Rattle.std.specs.Prelude.{◌≡◌, ◌≢◌, ◌^◌, ◌≤◌, [], ◌∷◌, Some, Ok, Err, None, false, length, IfOk, IfSome};
+ghost use Rattle.record_io.specs.Outside.{Rose};
+ghost use Rattle.damage_skip.specs.Policies.{IsTest};
+ghost use Rattle.damage_skip.specs.Walkers.{progress_of, test_of};
+ghost use Rattle.riegeli_tool.specs.RecoverProgress.{GivesEvent, HasRoom, IsBound, Recovers, TellsOf, WalksBySize, event_lines, event_text, status_after};
+ghost use Rattle.riegeli_tool.specs.Runs.{Runs, Shown, seen, shown, shown_file};
+ghost use Rattle.riegeli_tool.specs.WalkAnswers.{may_skip};
+
+use crate::command::Command;
+use crate::recover_words::RecoverWords;
+use crate::show::{LINES, put_records};
+use crate::status::Status;
+use crate::walking::{WalkingEnd, end_walk, may_skip, unprinted, walked_size};
+use damage_skip::{Event, Policy, Region, Walker, region_line};
+use record_io::{Failed, PutBuffer, Sink, Store};
+use std::alloc::Global;
+
+/// Prints the records of a file past its damage, and says in notes what is skipped and why it ended before the file did.
+pub(crate) fn recover<S: Store, O: Sink, E: Sink>(
+    alloc: Global,
+    words: &RecoverWords,
+    file: &mut S,
+    out: &mut O,
+    notes: &mut E,
+) -> Status
+    ensures runs { (input made : Shown) → Runs (Some (Command.Recover words.now))
+        (seen input (shown_file (S.bytes file.old) (S.told file.old) (S.faults file.old) ∷ []) made
+        (shown (O.taken out.old) (O.faults out.old)) (shown (E.taken notes.old) (E.faults notes.old)))
+        (seen input (shown_file (S.bytes file.new) (S.told file.new) (S.faults file.new) ∷ []) made
+        (shown (O.taken out.new) (O.faults out.new)) (shown (E.taken notes.new) (E.faults notes.new)))
+        result }
+    ensures same_bytes { S.bytes file.new ≡ S.bytes file.old }
+    ensures same_name { S.name file.new ≡ S.name file.old }
+    ensures notes_kept { result ≡ Status.Ok → notes.new ≡ notes.old }
+{
+    let ended = recover_file(alloc, words, file, out, notes);
+    end_walk(ended, notes)
+}
+
+/// Prints the records of a file past its damage, up to its end or to a region that may not be skipped.
+fn recover_file<S: Store, O: Sink, E: Sink>(
+    alloc: Global,
+    words: &RecoverWords,
+    file: &mut S,
+    out: &mut O,
+    notes: &mut E,
+) -> Result<Status, WalkingEnd>
+    ensures printed { IfSome (S.bytes file.old) (λ bytes. Recovers words.now result bytes (O.taken out.old) (O.taken out.new) [] (E.taken notes.old) (E.taken notes.new)) }
+    ensures said { TellsOf words.now.most result (E.taken notes.old) (E.taken notes.new) }
+    ensures sized { WalksBySize result (S.told file.new) }
+    ensures notes_kept { result ≡ Ok Status.Ok → notes.new ≡ notes.old }
+    ensures same_bytes { S.bytes file.new ≡ S.bytes file.old }
+    ensures same_name { S.name file.new ≡ S.name file.old }
+    ensures file_cause { result ≡ Err WalkingEnd.File → Rose (S.faults file.old) (S.faults file.new) }
+    ensures out_cause { result ≡ Err WalkingEnd.Out → Rose (O.faults out.old) (O.faults out.new) }
+    ensures notes_cause { result ≡ Err WalkingEnd.Notes → Rose (E.faults notes.old) (E.faults notes.new) }
+    ensures file_count { S.faults file.old ≤ S.faults file.new }
+    ensures out_count { O.faults out.old ≤ O.faults out.new }
+    ensures notes_count { E.faults notes.old ≤ E.faults notes.new }
+{
+    let size = walked_size(file)?;
+    let most = words.most;
+    let policy = Policy::new(|region: &Region| may_skip(most, region));
+    let mut walker = Walker::new(size, false, policy);
+    let mut lines = PutBuffer::new();
+    let walked = print_events(alloc, words, &mut walker, file, &mut lines, out, notes);
+    match lines.flush(out) {
+        Ok(()) => walked,
+        Err(Failed) => Err(unprinted(&walked)),
+    }
+}
+
+/// Prints the records of the events of a walk, and tells its regions. The last lines may be held.
+fn print_events<F: Fn(&Region) -> bool + Drop, S: Store, O: Sink, E: Sink>(
+    alloc: Global,
+    words: &RecoverWords,
+    walker: &mut Walker<F>,
+    file: &mut S,
+    lines: &mut PutBuffer<LINES>,
+    out: &mut O,
+    notes: &mut E,
+) -> Result<Status, WalkingEnd>
+    requires told { S.told file.old ≡ Some (progress_of walker.old).size }
+    requires in_reach { (progress_of walker.old).size ≤ 2 ^ 60 }
+    requires exact { IfSome (S.bytes file.old) (λ bytes. (progress_of walker.old).size ≡ length bytes) }
+    requires not_kept { (progress_of walker.old).keep ≡ false }
+    requires at_front { (progress_of walker.old).place ≡ 0 }
+    requires going { (progress_of walker.old).stopped ≡ None }
+    requires test { IsTest F.Fn (test_of walker.old) }
+    requires bound { IsBound F.Fn (test_of walker.old) words.now.most }
+    requires none_held { lines.old ≡ [] }
+    ensures printed { IfSome (S.bytes file.old) (λ bytes. Recovers words.now result bytes (O.taken out.old) (O.taken out.new) lines.new (E.taken notes.old) (E.taken notes.new)) }
+    ensures said { TellsOf words.now.most result (E.taken notes.old) (E.taken notes.new) }
+    ensures in_reach { result ≢ Err WalkingEnd.Limit }
+    ensures notes_kept { result ≡ Ok Status.Ok → notes.new ≡ notes.old }
+    ensures same_bytes { S.bytes file.new ≡ S.bytes file.old }
+    ensures same_told { S.told file.new ≡ S.told file.old }
+    ensures same_name { S.name file.new ≡ S.name file.old }
+    ensures file_cause { result ≡ Err WalkingEnd.File → Rose (S.faults file.old) (S.faults file.new) }
+    ensures out_cause { result ≡ Err WalkingEnd.Out → Rose (O.faults out.old) (O.faults out.new) }
+    ensures notes_cause { result ≡ Err WalkingEnd.Notes → Rose (E.faults notes.old) (E.faults notes.new) }
+    ensures file_count { S.faults file.old ≤ S.faults file.new }
+    ensures out_count { O.faults out.old ≤ O.faults out.new }
+    ensures notes_count { E.faults notes.old ≤ E.faults notes.new }
+{
+    let mut status = Status::Ok;
+    while let Some(event) = walker.next(alloc, file)? {
+        status = print_event(words, status, event, lines, out, notes)?;
+    }
+    Ok(status)
+}
+
+/// Puts a line for each record of an event, or tells the region that it is. Gives the status behind it.
+fn print_event<O: Sink, E: Sink>(
+    words: &RecoverWords,
+    status: Status,
+    event: Event,
+    lines: &mut PutBuffer<LINES>,
+    out: &mut O,
+    notes: &mut E,
+) -> Result<Status, WalkingEnd>
+    requires { HasRoom event }
+    ensures status { IfOk result (λ ended. ended ≡ status_after status event) }
+    ensures given { GivesEvent result (event_lines words.now event) (event_text event)
+        (O.taken out.old) (O.taken out.new) lines.old lines.new (E.taken notes.old) (E.taken notes.new) }
+    ensures quiet { event_text event ≡ [] → notes.new ≡ notes.old }
+    ensures out_cause { result ≡ Err WalkingEnd.Out → Rose (O.faults out.old) (O.faults out.new) }
+    ensures notes_cause { result ≡ Err WalkingEnd.Notes → Rose (E.faults notes.old) (E.faults notes.new) }
+    ensures out_count { O.faults out.old ≤ O.faults out.new }
+    ensures notes_count { E.faults notes.old ≤ E.faults notes.new }
+{
+    match event {
+        Event::Records { begin, records, .. } => {
+            match put_records(&words.show, begin, &records, lines, out) {
+                Ok(()) => Ok(status),
+                Err(Failed) => Err(WalkingEnd::Out),
+            }
+        }
+        Event::Kept { .. } => Ok(status),
+        Event::Skipped(region) => {
+            tell_region(&region, lines, out, notes)?;
+            Ok(Status::Skipped)
+        }
+    }
+}
+
+/// Puts out all lines that are held, and then tells a region that is skipped.
+fn tell_region<O: Sink, E: Sink>(
+    region: &Region,
+    lines: &mut PutBuffer<LINES>,
+    out: &mut O,
+    notes: &mut E,
+) -> Result<(), WalkingEnd>
+    ensures given { GivesEvent result [] (event_text (Event.Skipped region.now))
+        (O.taken out.old) (O.taken out.new) lines.old lines.new (E.taken notes.old) (E.taken notes.new) }
+    ensures out_cause { result ≡ Err WalkingEnd.Out → Rose (O.faults out.old) (O.faults out.new) }
+    ensures notes_cause { result ≡ Err WalkingEnd.Notes → Rose (E.faults notes.old) (E.faults notes.new) }
+    ensures out_count { O.faults out.old ≤ O.faults out.new }
+    ensures notes_count { E.faults notes.old ≤ E.faults notes.new }
+{
+    if lines.flush(out).is_err() {
+        return Err(WalkingEnd::Out);
+    }
+    match region_line(notes, "skipped", region) {
+        Ok(()) => Ok(()),
+        Err(Failed) => Err(WalkingEnd::Notes),
+    }
+}
