@@ -3,14 +3,18 @@
 
 use record_io::{FileSink, FileStore, ReadAhead, StdErr, StdInput, StdOut};
 use riegeli_tool::{Names, Status, names, run};
-use std::alloc::AllocError;
+use std::alloc::{AllocError, Global};
 use std::io::{self, ErrorKind};
 use std::os::fd::{AsRawFd, IntoRawFd};
 use std::process::ExitCode;
 use std::{env, fs};
 
+/// The greatest block of memory that is kept once it is freed, in bytes: above those of most chunks.
+const KEPT_MEMORY: usize = 16 << 20;
+
 fn main(rt: HostRuntime) -> ExitCode {
     occupy_closed_streams(&rt);
+    keep_freed_memory(rt.alloc());
     let words = match words(&rt) {
         Ok(words) => words,
         Err(error) => return exit_code(unread_words(&error)),
@@ -44,6 +48,12 @@ fn occupy_closed_streams(rt: &HostRuntime) {
             _ => return,
         }
     }
+}
+
+/// Takes a block of memory and gives it back untouched. The C library's allocator then keeps freed blocks up to this size for
+/// the next chunk, in place of giving each back to the system, which makes every page anew.
+fn keep_freed_memory(alloc: Global) {
+    let _block: Result<Vec<u8>, AllocError> = Vec::with_capacity(alloc, KEPT_MEMORY);
 }
 
 fn exit_code(status: Status) -> ExitCode {
