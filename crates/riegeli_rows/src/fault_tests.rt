@@ -1,0 +1,200 @@
+//! Tests of runs over objects of which a call fails.
+
+use crate::files::{LETTERS, THREE, THREE_LINES, change, written};
+use crate::running::{Answer, Calls, Left, QUIET, SOUND, USAGE, run_in_memory};
+use record_io::{Failed, MemSink, Sink};
+use riegeli_tool::Status;
+use std::alloc::{AllocError, Global};
+use std::process::Abort;
+use std::test::Fail;
+use std::thread::Threads;
+
+/// An object that a run uses.
+#[derive(Clone, Copy, Debug, PartialEq, Eq)]
+enum Object {
+    Input,
+    File,
+    Made,
+    Out,
+    Notes,
+}
+
+/// What a run ends with whose call of the object failed.
+fn fault_of(object: Object) -> (Status, &'static str) {
+    match object {
+        Object::Input => (Status::Input, "input fault\n"),
+        Object::File => (Status::File, "file fault\n"),
+        Object::Made => (Status::Made, "made fault\n"),
+        Object::Out => (Status::Out, "out fault\n"),
+        Object::Notes => (Status::Notes, ""),
+    }
+}
+
+/// These calls of the object fail, and calls move 1 and 2 bytes in turn.
+fn failing<'a>(object: Object, fails: &'a [u32]) -> Calls<'a> {
+    let mut calls = Calls {
+        cuts: &[1, 2],
+        ..SOUND
+    };
+    match object {
+        Object::Input => calls.input_fails = fails,
+        Object::File => calls.file_fails = fails,
+        Object::Made => calls.made_fails = fails,
+        Object::Out => calls.out_fails = fails,
+        Object::Notes => calls.notes_fails = fails,
+    }
+    calls
+}
+
+/// Asserts what a run left whose call of the object failed: made and standard output took fronts of what the answer
+/// has for them, and notes the fault's line. The failing object itself did not take the whole.
+fn is_fault(rt: &impl Abort, left: &Left, object: Object, answer: &Answer<'_>) {
+    let (made, out, notes) = (left.made.taken(), left.out.taken(), left.notes.taken());
+    let (status, line) = fault_of(object);
+    assert_eq!(rt; left.status, status);
+    assert!(rt; answer.made.starts_with(made));
+    assert!(rt; answer.out.starts_with(out));
+    match object {
+        Object::Made => assert!(rt; made.len() < answer.made.len()),
+        Object::Out => assert!(rt; out.len() < answer.out.len()),
+        _ => {}
+    }
+    if object == Object::Notes {
+        assert!(rt; answer.notes.as_bytes().starts_with(notes));
+        assert!(rt; notes.len() < answer.notes.len());
+    } else {
+        assert_eq!(rt; notes, line.as_bytes());
+    }
+}
+
+/// Runs the words with each call of these objects failing in turn, until a run calls the object less often and ends with
+/// this answer.
+fn fail_in_turn<R: Threads + Sync + Abort>(
+    rt: &R,
+    alloc: Global,
+    words: &[&str],
+    files: &[&[u8]],
+    objects: &[Object],
+    answer: &Answer<'_>,
+) -> Result<(), AllocError> {
+    for object in objects {
+        let mut ended = false;
+        for call in 0..1_000 {
+            let fails = [call];
+            let calls = failing(*object, &fails);
+            let left = run_in_memory(rt, alloc, words, THREE_LINES, files, &calls)?;
+            if left.status == answer.status {
+                left.is(rt, answer);
+                assert!(rt; call > 1, "the first calls fail");
+                ended = true;
+                break;
+            }
+            is_fault(rt, &left, *object, answer);
+        }
+        assert!(rt; ended, "there are fewer calls");
+    }
+    Ok(())
+}
+
+#[test]
+fn each_call_of_writing_fails_in_turn(rt: HostRuntime) -> Result<(), Fail> {
+    let made = Answer {
+        made: &THREE,
+        ..QUIET
+    };
+    let usage = Answer {
+        status: Status::Usage,
+        notes: USAGE,
+        ..QUIET
+    };
+    for (words, objects, answer) in [
+        (
+            ["write", "F"].as_slice(),
+            [Object::Input, Object::Made].as_slice(),
+            made,
+        ),
+        (&["write"], &[Object::Notes], usage),
+    ] {
+        fail_in_turn(&rt, rt.alloc(), words, &[], objects, &answer)?;
+    }
+    Ok(())
+}
+
+/// Over the file of three letters, and over the same with a changed header at 108.
+#[test]
+fn each_call_of_reading_fails_in_turn(rt: HostRuntime) -> Result<(), Fail> {
+    let alloc = rt.alloc();
+    let sound = written(&rt, alloc, &["write", "--chunk=1", "F"], LETTERS)?;
+    let mut damaged = sound.clone()?;
+    change(&rt, &mut damaged, &[116]);
+    for (words, out) in [
+        (["show", "F"].as_slice(), LETTERS),
+        (&["show", "--positions", "F"], b"64 a\n108 b\n152 c\n"),
+        (
+            &["verify", "F"],
+            b"chunks 4\nrecords 3\nbytes 196\nunread 0\n",
+        ),
+    ] {
+        let answer = Answer { out, ..QUIET };
+        let objects = [Object::File, Object::Out];
+        fail_in_turn(&rt, alloc, words, &[&sound], &objects, &answer)?;
+    }
+    for (words, objects, out) in [
+        (
+            ["show", "F"],
+            [Object::File, Object::Notes, Object::Out].as_slice(),
+            b"a\n".as_slice(),
+        ),
+        (["verify", "F"], &[Object::File, Object::Notes], b""),
+    ] {
+        let answer = Answer {
+            status: Status::Refused,
+            out,
+            notes: "refused 108 HeaderHash\n",
+            ..QUIET
+        };
+        fail_in_turn(&rt, alloc, &words, &[&damaged], objects, &answer)?;
+    }
+    Ok(())
+}
+
+/// Notes take 1, 2 and 1 bytes, and so on.
+#[test]
+fn notes_that_fail_after_another_fault_change_no_status(rt: HostRuntime) -> Result<(), Fail> {
+    let alloc = rt.alloc();
+    for (words, count, object) in [
+        (["write", "F"], 0, Object::Made),
+        (["show", "F"], 1, Object::File),
+        (["show", "F"], 1, Object::Out),
+        (["verify", "F"], 1, Object::File),
+        (["verify", "F"], 1, Object::Out),
+    ] {
+        let files = vec![in alloc; THREE.as_slice(); count]?;
+        let (status, line) = fault_of(object);
+        for (call, told) in [(0, 0), (1, 1), (2, 3), (99, line.len())] {
+            let fails = [call];
+            let calls = Calls {
+                notes_fails: &fails,
+                ..failing(object, &[0, 1])
+            };
+            let left = run_in_memory(&rt, alloc, &words, THREE_LINES, &files, &calls)?;
+            left.is(
+                &rt,
+                &Answer {
+                    status,
+                    notes: line.get(..told).unwrap_or(""),
+                    ..QUIET
+                },
+            );
+        }
+    }
+    Ok(())
+}
+
+#[test]
+fn a_sink_without_room_fails_at_its_first_put(rt: HostRuntime) -> Result<(), Fail> {
+    let mut made = MemSink::new(rt.alloc(), 0, Vec::new(rt.alloc()), Vec::new(rt.alloc()))?;
+    assert_eq!(rt; made.put(b"a"), Err(Failed));
+    assert_eq!(rt; made.taken(), b"".as_slice());
+    Ok(())
+}

@@ -1,0 +1,166 @@
+//! Tests of runs over real files, and over a file of which nothing is told.
+ghost use Rattle.std.specs.Prelude.{None};
+
+use crate::files::{THREE, THREE_LINES, part};
+use crate::running::{Answer, QUIET, ROOM, SOUND, USAGE, owned, run_over};
+use record_io::{Failed, FileSink, FileStore, MemInput, MemSink, MemStore, Store};
+use riegeli_tool::{Status, run};
+use std::fs;
+use std::test::Fail;
+
+#[test]
+fn an_existing_file_is_kept_until_something_is_written(rt: HostRuntime) -> Result<(), Fail> {
+    let alloc = rt.alloc();
+    let (path, absent) = ("riegeli_rows_made", "no_such_folder/F");
+    let large = vec![in alloc; b'x'; (1 << 24) + 1]?;
+    fs::write(&rt, path, USAGE)?;
+    for (words, input, path_made, answer, told, kept) in [
+        (
+            ["write", path, "more"].as_slice(),
+            THREE_LINES,
+            path,
+            Status::Usage,
+            USAGE,
+            USAGE.as_bytes(),
+        ),
+        (
+            &["write", absent],
+            THREE_LINES,
+            absent,
+            Status::Made,
+            "made fault\n",
+            USAGE.as_bytes(),
+        ),
+        (
+            &["write", path],
+            large.as_slice(),
+            path,
+            Status::Limit,
+            "limit record 0\n",
+            part(&THREE, 0, 64),
+        ),
+        (
+            &["write", path],
+            THREE_LINES,
+            path,
+            Status::Ok,
+            "",
+            THREE.as_slice(),
+        ),
+    ] {
+        let words = owned(alloc, words)?;
+        let mut input = MemInput::new(input.to_vec(alloc)?, Vec::new(alloc), Vec::new(alloc));
+        let mut files: [MemStore; 0] = [];
+        let mut made = FileSink::named(&rt, path_made);
+        let mut out = MemSink::new(alloc, 0, Vec::new(alloc), Vec::new(alloc))?;
+        let mut notes = MemSink::new(alloc, ROOM, Vec::new(alloc), Vec::new(alloc))?;
+        let status = run(
+            &rt, alloc, &words, &mut input, &mut files, &mut made, &mut out, &mut notes,
+        );
+        assert_eq!(rt; status, answer);
+        assert_eq!(rt; notes.taken(), told.as_bytes());
+        assert_eq!(rt; fs::read(&rt, path)?.as_slice(), kept);
+    }
+    fs::remove_file(&rt, path)?;
+    Ok(())
+}
+
+#[test]
+fn a_real_file_is_read_and_an_absent_one_fails(rt: HostRuntime) -> Result<(), Fail> {
+    let (path, absent) = ("riegeli_rows_read", "no_such_folder/F");
+    let fault = Answer {
+        status: Status::File,
+        notes: "file fault\n",
+        ..QUIET
+    };
+    let shown = Answer {
+        out: THREE_LINES,
+        ..QUIET
+    };
+    let counted = Answer {
+        out: b"chunks 2\nrecords 3\nbytes 112\nunread 0\n",
+        ..QUIET
+    };
+    fs::write(&rt, path, THREE)?;
+    for (words, path, answer) in [
+        (["show", path], path, shown),
+        (["verify", path], path, counted),
+        (["show", absent], absent, fault),
+        (["verify", absent], absent, fault),
+    ] {
+        let mut files = [FileStore::named(&rt, path)];
+        let left = run_over(&rt, rt.alloc(), &words, b"", &mut files, &SOUND)?;
+        left.is(&rt, &answer);
+    }
+    fs::remove_file(&rt, path)?;
+    Ok(())
+}
+
+/// A file of so many zero bytes, of which nothing is told.
+#[derive(Drop)]
+struct Zeros {
+    size: u64,
+    asked: bool,
+    handed: u64,
+}
+
+impl Store for Zeros {
+    ghost use Rattle.record_io.specs.Memory.{told_if};
+
+    ghost bytes = { λ _. None };
+
+    ghost told = { λ s. told_if s.asked s.size };
+
+    ghost handed = { λ s. s.handed };
+
+    ghost faults = { λ _. 0 };
+
+    ghost sized = { λ _. tt };
+
+    fn size(&mut self) -> Result<u64, Failed> {
+        self.asked = true;
+        Ok(self.size)
+    }
+
+    fn read_at(&mut self, at: u64, buf: &mut [u8]) -> Result<usize, Failed> {
+        if !self.asked {
+            unreachable!();
+        }
+        let count = buf.len().min((self.size - at) as usize);
+        buf[..count].fill(0);
+        self.handed = self.handed.saturating_add(count as u64);
+        Ok(count)
+    }
+}
+
+#[test]
+fn a_file_of_more_than_2_to_the_60_bytes_is_past_the_limit(rt: HostRuntime) -> Result<(), Fail> {
+    let limit = (Status::Limit, "limit file\n");
+    let refused = (Status::Refused, "refused 0 NoSignature\n");
+    for (size, (status, notes)) in [
+        (0, refused),
+        (63, refused),
+        (64, refused),
+        (1 << 60, refused),
+        ((1 << 60) + 1, limit),
+        (u64::MAX, limit),
+    ] {
+        for words in [["show", "F"], ["verify", "F"]] {
+            let mut files = [Zeros {
+                size,
+                asked: false,
+                handed: 0,
+            }];
+            let left = run_over(&rt, rt.alloc(), &words, b"", &mut files, &SOUND)?;
+            left.is(
+                &rt,
+                &Answer {
+                    status,
+                    notes,
+                    ..QUIET
+                },
+            );
+        }
+    }
+    Ok(())
+}
