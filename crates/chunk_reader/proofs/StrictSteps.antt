@@ -9,7 +9,7 @@ use Rattle.chunk_header.specs.Views.{IsHeader, HasRightHash, bytes_of_header, va
 use Rattle.chunk_reader.specs.Contents.{IsJudgedIn}
 use Rattle.chunk_reader.specs.Faults.{IsVerdict}
 use Rattle.chunk_reader.specs.Places.{header_bytes_at, end_by, end_at, data_at, HaveHeadersOf, IsFirstWrong}
-use Rattle.chunk_reader.specs.Reasons.{Applies, ContentApplies, NoneOf, IsFirstOf, passing_reasons, loading_reasons, content_reasons}
+use Rattle.chunk_reader.specs.Reasons.{Applies, ContentApplies, NoneOf, IsFirstOf, IsOneOf, passing_reasons, loading_reasons, content_reasons}
 use Rattle.chunk_reader.specs.declared.judging.Judged.{Judged}
 use Rattle.chunk_reader.specs.declared.reasons.Fault.{Fault}
 use Rattle.chunk_reader.specs.declared.reasons.Why.{Why}
@@ -75,6 +75,40 @@ refused_content (Some file) frame at end c w fault loaded is first =
     verdict_content frame file at h.data_hash (value_of_chunk c) (record { at = at; why = w }) found.none
     (right_at file at end same_end loaded.right) (hash_of-at file at h found.fits found.header)
     (value_of-at file at h c.bytes found.fits found.header loaded.given) first refl)
+
+-- whether the data isn't read by a reason
+abbrev IsEarly : Why → Type 0
+IsEarly why.Short = Unit {0}
+IsEarly why.HeaderHash = Unit {0}
+IsEarly why.Truncated = Unit {0}
+IsEarly why.TooLarge = Unit {0}
+IsEarly other = ⊥
+
+early : (w : Why) → IsOneOf loading_reasons w → IsEarly w
+early w (inl is) = subst IsEarly (sym is) tt
+early w (inr (inl is)) = subst IsEarly (sym is) tt
+early w (inr (inr (inl is))) = subst IsEarly (sym is) tt
+early w (inr (inr (inr (inl is)))) = subst IsEarly (sym is) tt
+early w (inr (inr (inr (inr none)))) = absurd none
+
+-- a wrong block and a reason of the content are found where the data is read
+pub late_block : (w : Why) → w ≡ why.BlockHeader → ¬ IsOneOf loading_reasons w
+late_block w is one = subst IsEarly is (early w one)
+
+late : (P : Why → Type 0) (frame : Bool) (w : Why) → IsFirstOf P (content_reasons frame) w → ¬ IsEarly w
+late P true w (inl h) e = subst IsEarly h.1 e
+late P true w (inr (a, inl h)) e = subst IsEarly h.1 e
+late P true w (inr (a, inr (b, inl h))) e = subst IsEarly h.1 e
+late P true w (inr (a, inr (b, inr (none, end)))) e = end
+late P false w (inl h) e = subst IsEarly h.1 e
+late P false w (inr (a, inl h)) e = subst IsEarly h.1 e
+late P false w (inr (a, inr (b, inl h))) e = subst IsEarly h.1 e
+late P false w (inr (a, inr (b, inr (c, inl h)))) e = subst IsEarly h.1 e
+late P false w (inr (a, inr (b, inr (c, inr (d, inl h))))) e = subst IsEarly h.1 e
+late P false w (inr (a, inr (b, inr (c, inr (d, inr (none, end)))))) e = end
+
+pub late_content : (P : Why → Type 0) (frame : Bool) (w : Why) → IsFirstOf P (content_reasons frame) w → ¬ IsOneOf loading_reasons w
+late_content P frame w first one = late P frame w first (early w one)
 
 -- numbers that aren't different are the same
 hash_same : (a b : ℕ) → ¬ (a ≢ b) → b ≡ a

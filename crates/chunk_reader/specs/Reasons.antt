@@ -51,6 +51,11 @@ abbrev pub IsFirstOf : (Why → Type 0) → List Why → Why → Type 0
 IsFirstOf P [] first = ⊥
 IsFirstOf P (w ∷ reasons) first = (P w × (first ≡ w)) ⊎ ((¬ P w) × IsFirstOf P reasons first)
 
+-- it is one of the reasons
+abbrev pub IsOneOf : List Why → Why → Type 0
+IsOneOf [] w = ⊥
+IsOneOf (known ∷ reasons) w = (w ≡ known) ⊎ IsOneOf reasons w
+
 -- the reasons by which a chunk isn't found: its header can't be read, or the file ends before it does
 abbrev pub header_reasons : List Why
 header_reasons = why.Short ∷ why.HeaderHash ∷ []

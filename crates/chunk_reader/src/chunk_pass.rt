@@ -51,6 +51,7 @@ impl ChunkPass {
         ensures same_name { S.name store.new ≡ S.name store.old }
         ensures cause { result ≡ Err VerifyEnd.Store → Rose (S.faults store.old) (S.faults store.new) }
         ensures never_falls { S.faults store.old ≤ S.faults store.new }
+        ensures small { S.faults store.old < 2 ^ 64 → S.faults store.new < 2 ^ 64 }
     {
         judge_blocks(store, begin, end, begin, header_end)?;
         Ok(ChunkPass {
@@ -87,6 +88,7 @@ impl ChunkPass {
         ensures same_name { S.name store.new ≡ S.name store.old }
         ensures cause { result ≡ Err VerifyEnd.Store → Rose (S.faults store.old) (S.faults store.new) }
         ensures never_falls { S.faults store.old ≤ S.faults store.new }
+        ensures small { S.faults store.old < 2 ^ 64 → S.faults store.new < 2 ^ 64 }
     {
         if self.own.place % BLOCK_SIZE == 0 {
             judge_block(store, self.begin, self.end, self.own.place)?;
@@ -106,6 +108,7 @@ impl ChunkPass {
         ensures same_name { S.name store.new ≡ S.name store.old }
         ensures cause { result ≡ Err VerifyEnd.Store → Rose (S.faults store.old) (S.faults store.new) }
         ensures never_falls { S.faults store.old ≤ S.faults store.new }
+        ensures small { S.faults store.old < 2 ^ 64 → S.faults store.new < 2 ^ 64 }
     {
         judge_blocks(store, self.begin, self.end, self.own.place, self.end)
     }
@@ -134,6 +137,7 @@ fn judge_blocks<S: Store>(
     ensures same_name { S.name store.new ≡ S.name store.old }
     ensures cause { result ≡ Err VerifyEnd.Store → Rose (S.faults store.old) (S.faults store.new) }
     ensures never_falls { S.faults store.old ≤ S.faults store.new }
+    ensures small { S.faults store.old < 2 ^ 64 → S.faults store.new < 2 ^ 64 }
 {
     let mut block = from.div_ceil(BLOCK_SIZE) * BLOCK_SIZE;
     while block < to {
@@ -159,6 +163,7 @@ fn judge_block<S: Store>(store: &mut S, begin: u64, end: u64, block: u64) -> Res
     ensures same_name { S.name store.new ≡ S.name store.old }
     ensures cause { result ≡ Err VerifyEnd.Store → Rose (S.faults store.old) (S.faults store.new) }
     ensures never_falls { S.faults store.old ≤ S.faults store.new }
+    ensures small { S.faults store.old < 2 ^ 64 → S.faults store.new < 2 ^ 64 }
 {
     let mut bytes = [0; BLOCK_HEADER_SIZE as usize];
     get_exact(store, block, &mut bytes)?;

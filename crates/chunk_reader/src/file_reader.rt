@@ -105,11 +105,19 @@ impl Reader {
         ensures memory { result ≡ Err ReadEnd.Memory
             → IfSome (S.bytes store.old) (λ file. NoneOf (Applies file self.old.totals.bytes) loading_reasons) }
         ensures memory_signed { result ≡ Err ReadEnd.Memory → IfSome (S.bytes store.old) BeginsWithSignature }
+        ensures handed { (j : Judged) → result ≡ Ok (Some j)
+            → S.handed store.new + self.old.totals.bytes ≤ S.handed store.old + (64 + j.end) }
+        ensures handed_behind { 0 < self.old.totals.bytes → (j : Judged) → result ≡ Ok (Some j)
+            → S.handed store.new + self.old.totals.bytes ≤ S.handed store.old + j.end }
+        ensures handed_at_most { S.handed store.new + self.old.totals.bytes ≤ S.handed store.old + (64 + self.old.size) }
+        ensures handed_at_most_behind { 0 < self.old.totals.bytes
+            → S.handed store.new + self.old.totals.bytes ≤ S.handed store.old + self.old.size }
         ensures same_bytes { S.bytes store.new ≡ S.bytes store.old }
         ensures same_told { S.told store.new ≡ S.told store.old }
         ensures same_name { S.name store.new ≡ S.name store.old }
         ensures cause { result ≡ Err ReadEnd.Store → Rose (S.faults store.old) (S.faults store.new) }
         ensures never_falls { S.faults store.old ≤ S.faults store.new }
+        ensures small { S.faults store.old < 2 ^ 64 → S.faults store.new < 2 ^ 64 }
     {
         if self.at() == 0 {
             check_signature(store, self.size)?;

@@ -46,11 +46,13 @@ pub fn head_at<S: Store>(store: &mut S, size: u64, at: u64) -> Result<Head, Fail
         → MatchOption end (2 ^ 63 < end_by at (value_of_header header)) (λ e. e ≡ end_by at (value_of_header header)) }
     ensures within { (header : Header) (end : Option ℕ) → result ≡ Ok (Head.Right header end) → end_of at chunk_header_size ≤ size }
     ensures handed { S.handed store.new ≤ S.handed store.old + chunk_header_size }
+    ensures handed_at_most { S.handed store.new + at ≤ S.handed store.old + size }
     ensures same_bytes { S.bytes store.new ≡ S.bytes store.old }
     ensures same_told { S.told store.new ≡ S.told store.old }
     ensures same_name { S.name store.new ≡ S.name store.old }
     ensures cause { OnErr result (Rose (S.faults store.old) (S.faults store.new)) }
     ensures never_falls { S.faults store.old ≤ S.faults store.new }
+    ensures small { S.faults store.old < 2 ^ 64 → S.faults store.new < 2 ^ 64 }
 {
     if header_end(at) > size {
         return Ok(Head::Short);

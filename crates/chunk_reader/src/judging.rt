@@ -7,7 +7,7 @@ ghost use Rattle.meta_chunk.specs.Files.{max_data_size};
 ghost use Rattle.chunk_reader.specs.Contents.{IsWhat, IsJudged, IsJudgedIn};
 ghost use Rattle.chunk_reader.specs.Faults.{IsVerdict};
 ghost use Rattle.chunk_reader.specs.Places.{header_bytes_at, end_by, end_at, data_at, HaveHeadersOf, IsFirstWrong};
-ghost use Rattle.chunk_reader.specs.Reasons.{Applies, ContentApplies, NoneOf, IsFirstOf, passing_reasons, loading_reasons, content_reasons};
+ghost use Rattle.chunk_reader.specs.Reasons.{Applies, ContentApplies, NoneOf, IsFirstOf, IsOneOf, passing_reasons, loading_reasons, content_reasons};
 ghost use Rattle.chunk_reader.specs.declared.reasons.Fault.{Fault};
 ghost use Rattle.chunk_reader.specs.declared.reasons.Why.{Why};
 
@@ -107,6 +107,7 @@ pub fn data_at<S: Store>(
     ensures same_name { S.name store.new ≡ S.name store.old }
     ensures cause { result ≡ Err LoadEnd.Store → Rose (S.faults store.old) (S.faults store.new) }
     ensures never_falls { S.faults store.old ≤ S.faults store.new }
+    ensures small { S.faults store.old < 2 ^ 64 → S.faults store.new < 2 ^ 64 }
 {
     let mut data = vec![in alloc; 0; header.data_size as usize]?;
     OwnBytes::from(header_end(at)).fill(store, &mut data)?;
@@ -143,12 +144,17 @@ pub fn strict_at<S: Store>(
         ⊎ (S.handed store.new ≤ S.handed store.old + 64)) }
     ensures handed { IfSome (S.bytes store.old) (λ file. NoneOf (Applies file at) passing_reasons
         → S.handed store.new + at ≤ S.handed store.old + end_at file at) }
+    ensures early_refused { (fault : Fault) → result ≡ Err (ReadEnd.Refused fault) → IsOneOf loading_reasons fault.why
+        → S.handed store.new ≤ S.handed store.old + chunk_header_size }
+    ensures handed_given { IfOk result (λ judged. S.handed store.new + at ≤ S.handed store.old + judged.end) }
+    ensures handed_at_most { S.handed store.new + at ≤ S.handed store.old + size }
     ensures memory { result ≡ Err ReadEnd.Memory → IfSome (S.bytes store.old) (λ file. NoneOf (Applies file at) loading_reasons) }
     ensures same_bytes { S.bytes store.new ≡ S.bytes store.old }
     ensures same_told { S.told store.new ≡ S.told store.old }
     ensures same_name { S.name store.new ≡ S.name store.old }
     ensures cause { result ≡ Err ReadEnd.Store → Rose (S.faults store.old) (S.faults store.new) }
     ensures never_falls { S.faults store.old ≤ S.faults store.new }
+    ensures small { S.faults store.old < 2 ^ 64 → S.faults store.new < 2 ^ 64 }
 {
     let (header, end) = whole_head_at(store, size, at)?;
     let (chunk, right) = load(alloc, store, at, end, header)?;
@@ -200,11 +206,13 @@ pub(crate) fn whole_head_at<S: Store>(
     ensures refused { (fault : Fault) → result ≡ Err (VerifyEnd.Refused fault) → (fault.at ≡ at)
         × IfSome (S.bytes store.old) (λ file. IsFirstOf (Applies file at) loading_reasons fault.why) }
     ensures handed { S.handed store.new ≤ S.handed store.old + chunk_header_size }
+    ensures handed_at_most { S.handed store.new + at ≤ S.handed store.old + size }
     ensures same_bytes { S.bytes store.new ≡ S.bytes store.old }
     ensures same_told { S.told store.new ≡ S.told store.old }
     ensures same_name { S.name store.new ≡ S.name store.old }
     ensures cause { result ≡ Err VerifyEnd.Store → Rose (S.faults store.old) (S.faults store.new) }
     ensures never_falls { S.faults store.old ≤ S.faults store.new }
+    ensures small_count { S.faults store.old < 2 ^ 64 → S.faults store.new < 2 ^ 64 }
 {
     let (header, end) = match head_at(store, size, at)? {
         Head::Short => return Err(refused(at, Why::Short)),
@@ -257,6 +265,7 @@ fn load<S: Store>(
     ensures same_name { S.name store.new ≡ S.name store.old }
     ensures cause { result ≡ Err ReadEnd.Store → Rose (S.faults store.old) (S.faults store.new) }
     ensures never_falls { S.faults store.old ≤ S.faults store.new }
+    ensures small { S.faults store.old < 2 ^ 64 → S.faults store.new < 2 ^ 64 }
 {
     let mut pass = ChunkPass::start(store, at, header_end(at), end)?;
     let data = read_data(alloc, store, &mut pass, header.data_size)?;
@@ -289,6 +298,7 @@ fn read_data<S: Store>(
     ensures same_name { S.name store.new ≡ S.name store.old }
     ensures cause { result ≡ Err ReadEnd.Store → Rose (S.faults store.old) (S.faults store.new) }
     ensures never_falls { S.faults store.old ≤ S.faults store.new }
+    ensures small { S.faults store.old < 2 ^ 64 → S.faults store.new < 2 ^ 64 }
 {
     let mut data = HashedData::with_room(alloc, size)?;
     let mut piece = [0; PIECE];

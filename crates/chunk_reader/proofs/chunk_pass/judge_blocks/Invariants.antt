@@ -1,4 +1,4 @@
-use Rattle.std.proofs.Common.{◌≡◌, ◌+◌, ◌-◌, ◌*◌, ◌<◌, ◌≤◌, IfSome}
+use Rattle.std.proofs.Common.{◌≡◌, ◌+◌, ◌-◌, ◌*◌, ◌<◌, ◌^◌, ◌≤◌, IfSome}
 use Rattle.block_layout.specs.Layout.{IsBlock, blocks_below}
 use Rattle.chunk_reader.specs.Places.{HaveHeadersOf}
 use Rattle.chunk_reader.proofs.chunk_pass.judge_blocks.Given as goal
@@ -14,6 +14,7 @@ invariant-loop-block g l = record {
   same_told : g.S.Store.told l.store ≡ g.S.Store.told l.fn.store;
   same_name : g.S.Store.name l.store ≡ g.S.Store.name l.fn.store;
   counted : g.S.Store.faults l.fn.store ≤ g.S.Store.faults l.store;
+  small : g.S.Store.faults l.fn.store < 2 ^ 64 → g.S.Store.faults l.store < 2 ^ 64;
 }
 
 abbrev pub decreases-loop-block : goal.decreases-loop-block

@@ -24,6 +24,7 @@ loop-left-init g c =
       same_told = refl;
       same_name = refl;
       counted = omega arith;
+      small = λ h. h;
     }
 
 pub take-requires-clause-within : goal.take-requires-clause-within
@@ -87,4 +88,5 @@ loop-left-preserved g c =
       same_told = cc;
       same_name = cc;
       counted = omega arith;
+      small = λ h. given.small (kept.small h);
     }

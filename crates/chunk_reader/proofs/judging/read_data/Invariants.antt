@@ -1,4 +1,4 @@
-use Rattle.std.proofs.Common.{◌≡◌, ◌+◌, ◌-◌, ◌≤◌, IfSome, length}
+use Rattle.std.proofs.Common.{◌≡◌, ◌+◌, ◌-◌, ◌<◌, ◌^◌, ◌≤◌, IfSome, length}
 use Rattle.block_layout.specs.Layout.{end_of, own_bytes_at}
 use Rattle.chunk_reader.specs.Places.{HaveHeadersOf}
 use Rattle.chunk_reader.proofs.judging.read_data.Given as goal
@@ -18,6 +18,7 @@ invariant-loop-left g l = record {
   same_told : g.S.Store.told l.store ≡ g.S.Store.told l.fn.store;
   same_name : g.S.Store.name l.store ≡ g.S.Store.name l.fn.store;
   counted : g.S.Store.faults l.fn.store ≤ g.S.Store.faults l.store;
+  small : g.S.Store.faults l.fn.store < 2 ^ 64 → g.S.Store.faults l.store < 2 ^ 64;
 }
 
 abbrev pub decreases-loop-left : goal.decreases-loop-left

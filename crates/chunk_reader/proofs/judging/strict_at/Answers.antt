@@ -2,9 +2,11 @@ use Rattle.std.proofs.Common.{◌≡◌, ◌∙◌, ◌+◌, Some, Err, length, 
 use Rattle.block_layout.proofs.ChunkEnds.{chunk_end_of_boundary, chunk_end_of_above}
 use Rattle.chunk_header.specs.Views.{value_of_chunk}
 use Rattle.meta_chunk.specs.Laid.{end_of_chunk}
+use Rattle.chunk_reader.specs.Reasons.{IsOneOf, loading_reasons}
+use Rattle.chunk_reader.specs.declared.reasons.Fault.{Fault}
 use Rattle.chunk_reader.proofs.Loads.{refused_before}
 use Rattle.chunk_reader.proofs.Rooms.{IsSized}
-use Rattle.chunk_reader.proofs.StrictSteps.{IsFound, IsLoaded, refused_early, handed_early, refused_block, refused_content, right_hash, judged_in, handed_whole}
+use Rattle.chunk_reader.proofs.StrictSteps.{IsFound, IsLoaded, refused_early, handed_early, refused_block, refused_content, right_hash, judged_in, handed_whole, late_block, late_content}
 use Rattle.chunk_reader.proofs.judging.strict_at.Goals as goal
 use Rattle.chunk_reader.proofs.judging.strict_at.Goals.{In_ok-header, In_ok-chunk}
 
@@ -87,3 +89,17 @@ returns-in-Err-Fault-clause-refused g c =
     refused_content _ c.args.frame c.args.at c.in_ok-header.end c.in_ok-chunk.chunk c.in-Err-Fault.why fault
     (loaded g (goal.at.returns-in-Err-Fault-clause-refused g c).In_ok-chunk header) (cc)
     (c.in-Err-Fault.ensures.refused c.in-Err-Fault.why (cc))
+
+pub returns-in_err-chunk-clause-early_refused : goal.returns-in_err-chunk-clause-early_refused
+returns-in_err-chunk-clause-early_refused g c =
+    λ fault e one.
+    let wrong = c.in_err-chunk.ensures.wrong fault (ap Err (sym (rw e at c.from_residual-in_err-chunk.ensures.1))) in
+    absurd (late_block fault.why wrong.0 one)
+
+pub returns-in-Err-Fault-clause-early_refused : goal.returns-in-Err-Fault-clause-early_refused
+returns-in-Err-Fault-clause-early_refused g c =
+    λ fault e one.
+    let here : Fault = record { at = c.args.at; why = c.in-Err-Fault.why } in
+    let same : here ≡ fault = cc in
+    absurd (late_content _ c.args.frame c.in-Err-Fault.why (c.in-Err-Fault.ensures.refused c.in-Err-Fault.why (cc))
+    (subst (IsOneOf loading_reasons) (ap (λ (f : Fault). f.why) (sym same)) one))

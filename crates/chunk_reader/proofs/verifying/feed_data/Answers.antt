@@ -20,10 +20,12 @@ loop-left-init g c =
       same_begin = refl;
       same_end = refl;
       right = headers-none _ pass.begin pass.end pass.own.place pass.own.place (omega arith);
+      handed = omega arith;
       same_bytes = refl;
       same_told = refl;
       same_name = refl;
       counted = omega arith;
+      small = λ h. h;
     }
 
 pub take-requires-clause-within : goal.take-requires-clause-within
@@ -80,8 +82,10 @@ loop-left-preserved g c =
       same_end = c.take.ensures.same_end ∙ kept.same_end;
       right = headers-joined _ _ pass.begin pass.end place c.loop-left.pass.own.place c.take.new.self.own.place kept.same_bytes kept.right
           (rw (← kept.same_begin, ← kept.same_end) given.right);
+      handed = omega (arith, given.handed, kept.handed);
       same_bytes = cc;
       same_told = cc;
       same_name = cc;
       counted = omega arith;
+      small = λ h. given.small (kept.small h);
     }

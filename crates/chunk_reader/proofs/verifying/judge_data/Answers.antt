@@ -87,3 +87,14 @@ returns-clause-right g c =
     headers-joined _ _ c.args.at c.args.end c.args.at c.feed_data.new.pass.own.place c.args.end
     (c.in_ok-judge.ensures.same_bytes ∙ c.in_ok-pass.ensures.same_bytes) (right_to_data g fed)
     (rw (same.0, same.1) at c.in_ok-finish.ensures.right)
+
+pub returns-in_err-pass-clause-handed : goal.returns-in_err-pass-clause-handed
+returns-in_err-pass-clause-handed g c =
+    let header = c.args.header.now in
+    omega (
+      arith,
+      c.in_err-pass.ensures.handed,
+      c.header_end.ensures,
+      header_within c.args.at header.data_size header.num_records,
+      c.requires.end,
+    )

@@ -32,8 +32,10 @@ loop-totals-preserved g c =
       bounds = subst (AreTotals c.args.size) counts (verified_totals c.args.size totals passed kept.bounds c.in_ok-passed.ensures.end);
       read = subst P counts
           (verified_on _ _ totals passed kept.same_bytes c.in_ok-check_signature.ensures.signed c.in_ok-passed.ensures.passed kept.read);
+      handed = omega (arith, ap (λ (t : Totals). t.bytes) c.counted-totals.ensures, c.in_ok-passed.ensures.handed, kept.handed);
       same_bytes = cc;
       same_told = cc;
       same_name = cc;
       counted = omega arith;
+      small = λ h. c.in_ok-passed.ensures.small (kept.small h);
     }
