@@ -21,30 +21,27 @@ use Rattle.record_writer.specs.declared.options.WriteOptions.{WriteOptions}
 use Rattle.record_writer.specs.Feeds.{Rest}
 use Rattle.record_writer.specs.Ends.{answer_of}
 use Rattle.record_writer.specs.Written.{Answers, chunks_under}
-use Rattle.record_writer.specs.Progresses.{Progress, Lays, records_in, nothing_made, totals_made}
+use Rattle.record_writer.specs.Progresses.{Progress, Lays, nothing_made, totals_made}
 
--- so many records are counted of chunks, as their headers say, and none of them is unread
+-- so many records are counted of chunks, and none of them is unread
 record Count (ks : List ChunkValue) (records : ℕ) : Type 0 where
-  said : records_in ks ≡ records
   counted : (totals_of ks).records ≡ records
   unread : (totals_of ks).unread ≡ 0
 
 Count-nil : Count [] 0
-Count-nil = record { said = refl; counted = refl; unread = refl }
+Count-nil = record { counted = refl; unread = refl }
 
 -- a chunk that is read counts the records that its header says
 Count-one : (k : ChunkValue) → is_unread k ≡ false → Count (k ∷ []) k.num_records
 Count-one k read =
     let chosen : (m n : ℕ) → cond (is_unread k) m n ≡ n = λ m n. ap (λ (b : Bool). cond b m n) read in
     record {
-      said = omega (arith, sum_by-cons (λ (x : ChunkValue). x.num_records) k []);
       counted = omega (arith, sum_by-cons (λ (x : ChunkValue). cond (is_unread x) 0 x.num_records) k [], chosen 0 k.num_records);
       unread = omega (arith, sum_by-cons (λ (x : ChunkValue). cond (is_unread x) 1 0) k [], chosen 1 0);
     }
 
 Count-append : (ks more : List ChunkValue) (m n : ℕ) → Count ks m → Count more n → Count (ks ++ more) (m + n)
 Count-append ks more m n h g = record {
-  said = omega (arith, sum_by-append (λ (k : ChunkValue). k.num_records) ks more, h.said, g.said);
   counted = omega (arith, sum_by-append (λ (k : ChunkValue). cond (is_unread k) 0 k.num_records) ks more, h.counted, g.counted);
   unread = omega (arith, sum_by-append (λ (k : ChunkValue). cond (is_unread k) 1 0) ks more, h.unread, g.unread);
 }
@@ -68,8 +65,8 @@ Count-padding true place =
     (λ at_block. Count-nil)
     (λ inside. Count-one (padding (padding_size_of place)) refl)
 
-pub records_in-padding_at : (place : ℕ) → records_in (padding_at place) ≡ 0
-records_in-padding_at place = (Count-padding true place).said
+pub counted-padding_at : (place : ℕ) → ((totals_of (padding_at place)).records ≡ 0) × ((totals_of (padding_at place)).unread ≡ 0)
+counted-padding_at place = let count = Count-padding true place in (count.counted, count.unread)
 
 -- it is one chunk that ends further on, or none
 pub length-padding_at : (place : ℕ)
@@ -97,16 +94,19 @@ Count-chunks_under options records =
     (Count-append front (map simple_chunk gs) 0 (length (joined gs)) (Count-padding (pads_start options.pad) place) (Count-groups gs))
     (Count-padding (pads_end options.pad) (end_of_chunks place (front ++ map simple_chunk gs)))))
 
--- what was counted once they were laid are their totals
-pub totals_made-file : (a b : Option (List ℕ)) (made : Progress) (options : WriteOptions) (records : List (List ℕ))
-    → Lays a b nothing_made made (chunks_under options records) → totals_made made ≡ totals_of (chunks_under options records)
-totals_made-file a b made options records h =
-    let count = Count-chunks_under options records in
-    let chunks : made.chunks ≡ length (chunks_under options records) = omega (arith, h.chunks) in
-    let counted : made.records ≡ (totals_of (chunks_under options records)).records = omega (arith, h.records, count.said, count.counted) in
-    let unread : 0 ≡ (totals_of (chunks_under options records)).unread = sym count.unread in
-    let place : made.place ≡ end_of_chunks 0 (chunks_under options records) = h.place in
-    cc
+-- totals of equal counts are equal
+same_totals : (chunks records bytes unread c r b u : ℕ) → chunks ≡ c → records ≡ r → bytes ≡ b → unread ≡ u
+    → let t : Totals = record { chunks = chunks; records = records; bytes = bytes; unread = unread } in
+    t ≡ record { chunks = c; records = r; bytes = b; unread = u }
+same_totals chunks records bytes unread c r b u p q s t = rw (p, q, s, t)
+
+-- what was counted once a file's chunks were laid are their totals
+pub totals_made-laid : (a b : Option (List ℕ)) (made : Progress) (ks : List ChunkValue)
+    → Lays a b nothing_made made ks → totals_made made ≡ totals_of ks
+totals_made-laid a b made ks h =
+    same_totals made.chunks made.records made.place made.unread
+    (totals_of ks).chunks (totals_of ks).records (totals_of ks).bytes (totals_of ks).unread
+    (omega (arith, h.chunks)) (omega (arith, h.records)) h.place (omega (arith, h.unread))
 
 -- with these totals the answer is the right one
 Answers-ended : (options : WriteOptions) (rest : Rest) (stop : Option Stop) (totals : Totals) → rest.stop ≡ stop

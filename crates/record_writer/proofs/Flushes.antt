@@ -11,7 +11,7 @@ use Rattle.record_writer.specs.declared.options.WriteOptions.{WriteOptions}
 use Rattle.record_writer.specs.Feeds.{Rest}
 use Rattle.record_writer.specs.Written.{chunks_under, file_under}
 use Rattle.record_writer.specs.Progresses.{Progress, Lays, LaysFront, nothing_made, totals_made}
-use Rattle.record_writer.proofs.Counted.{totals_made-file}
+use Rattle.record_writer.proofs.Counted.{totals_made-laid}
 use Rattle.record_writer.proofs.Fronts.{Takes-flushed, TakesFront-flushed, TakesFront-front_flushed}
 
 -- where nothing was made before, the bytes of the file's chunks are the file
@@ -77,5 +77,5 @@ pub totals_made-ended : {T E : Type 0} (options : WriteOptions) (s : Progress) â
 totals_made-ended options s at_front a b t ra (Err e) whole = tt
 totals_made-ended options s at_front a b t None (Ok x) whole = tt
 totals_made-ended options s at_front a b t (Some rest) (Ok x) whole =
-    totals_made-file a b t options rest.records
+    totals_made-laid a b t (chunks_under options rest.records)
     (subst (Î» (p : Progress). Lays a b p t (chunks_under options rest.records)) at_front whole)

@@ -1,5 +1,5 @@
 -- Chunks that are laid behind others.
-use Rattle.std.proofs.Common.{◌≡◌, ◌∙◌, ℕ, ◌+◌, ◌<◌, ◌≤◌, ◌⊎◌, Option, List, [], ◌∷◌, ◌++◌, false, sym, ap, subst, length-append, arith}
+use Rattle.std.proofs.Common.{◌≡◌, ◌∙◌, ℕ, ◌+◌, ◌<◌, ◌≤◌, ◌⊎◌, Bool, Option, List, [], ◌∷◌, ◌++◌, true, false, sym, ap, subst, length-append, cond, arith}
 use Rattle.std.proofs.lemmas.List.{append-nil}
 use Rattle.std.proofs.lemmas.List.Sums.{sum_by-cons, sum_by-append}
 use Rattle.record_io.specs.Outside.{TakesFront}
@@ -10,19 +10,20 @@ use Rattle.chunk_header.specs.declared.Chunk.{Chunk}
 use Rattle.chunk_header.specs.Views.{value_of_chunk, HasRightHash}
 use Rattle.chunk_header.proofs.ChunkBytes.{header_bytes-right}
 use Rattle.meta_chunk.specs.Laid.{laid, laid_bytes, end_of_chunk}
+use Rattle.meta_chunk.specs.Counts.{is_unread}
 use Rattle.meta_chunk.specs.Files.{end_of_chunks, laid_each}
 use Rattle.meta_chunk.specs.PaddingSizes.{padding_at}
 use Rattle.meta_chunk.proofs.Joins.{end_of_chunks-append, laid_each-append}
 use Rattle.ordered_writer.specs.Writers.{laid_as}
 use Rattle.record_writer.specs.Progresses.{Progress, Lays, LaysFront, TakesAndHoldsFront}
-use Rattle.record_writer.proofs.Counted.{records_in-padding_at, length-padding_at}
+use Rattle.record_writer.proofs.Counted.{counted-padding_at, length-padding_at}
 use Rattle.record_writer.proofs.Fronts.{TakesAndHolds-none, TakesAndHoldsFront-none, TakesAndHoldsFront-failed, TakesAndHoldsFront-longer, TakesAndHoldsFront-behind}
 
 -- no chunks are laid where nothing is done
 pub Lays-none : (a : Option (List ℕ)) (s : Progress) → s.spent ≡ false → Lays a a s s []
 unfolding laid_each
 Lays-none a s going =
-    record { bytes = TakesAndHolds-none a s.held; place = omega arith; going = going; chunks = omega arith; records = omega arith }
+    record { bytes = TakesAndHolds-none a s.held; place = omega arith; going = going; chunks = omega arith; records = omega arith; unread = omega arith }
 
 -- the bytes of chunks, and of those that are laid behind them
 bytes-append : (s t : Progress) (ks more : List ChunkValue) → t.place ≡ end_of_chunks s.place ks
@@ -42,7 +43,8 @@ Lays-append a b c s t u ks more first then = record {
       ∙ sym (end_of_chunks-append s.place ks more);
   going = then.going;
   chunks = omega (arith, first.chunks, then.chunks, length-append ks more);
-  records = omega (arith, first.records, then.records, sum_by-append (λ (k : ChunkValue). k.num_records) ks more);
+  records = omega (arith, first.records, then.records, sum_by-append (λ (k : ChunkValue). cond (is_unread k) 0 k.num_records) ks more);
+  unread = omega (arith, first.unread, then.unread, sum_by-append (λ (k : ChunkValue). cond (is_unread k) 1 0) ks more);
 }
 
 -- chunks, and behind them a front of more
@@ -78,16 +80,36 @@ unfolding laid_each
 laid_each-one place k = append-nil (laid place k)
 
 -- one chunk that was laid
-pub Lays-one : (a b : Option (List ℕ)) (s t : Progress) (k : ChunkValue) → TakesAndHolds a b (s.held ++ laid s.place k) t.held
-    → t.place ≡ end_of_chunk s.place k → t.spent ≡ false → t.chunks ≡ s.chunks + 1 → t.records ≡ s.records + k.num_records
+Lays-one : (a b : Option (List ℕ)) (s t : Progress) (k : ChunkValue) → TakesAndHolds a b (s.held ++ laid s.place k) t.held
+    → t.place ≡ end_of_chunk s.place k → t.spent ≡ false → t.chunks ≡ s.chunks + 1
+    → t.records ≡ s.records + cond (is_unread k) 0 k.num_records → t.unread ≡ s.unread + cond (is_unread k) 1 0
     → Lays a b s t (k ∷ [])
-Lays-one a b s t k bytes place going chunks records = record {
+Lays-one a b s t k bytes place going chunks records unread = record {
   bytes = subst (λ (xs : List ℕ). TakesAndHolds a b (s.held ++ xs) t.held) (sym (laid_each-one s.place k)) bytes;
   place = place;
   going = going;
   chunks = chunks;
-  records = omega (arith, records, sum_by-cons (λ (x : ChunkValue). x.num_records) k []);
+  records = omega (arith, records, sum_by-cons (λ (x : ChunkValue). cond (is_unread x) 0 x.num_records) k []);
+  unread = omega (arith, unread, sum_by-cons (λ (x : ChunkValue). cond (is_unread x) 1 0) k []);
 }
+
+-- which counts as left unread
+pub Lays-unread : (a b : Option (List ℕ)) (s t : Progress) (k : ChunkValue) → TakesAndHolds a b (s.held ++ laid s.place k) t.held
+    → t.place ≡ end_of_chunk s.place k → t.spent ≡ false → t.chunks ≡ s.chunks + 1 → is_unread k ≡ true
+    → t.records ≡ s.records → t.unread ≡ s.unread + 1 → Lays a b s t (k ∷ [])
+Lays-unread a b s t k bytes place going chunks is records unread =
+    Lays-one a b s t k bytes place going chunks
+    (omega (arith, records, ap (λ (x : Bool). cond x 0 k.num_records) is))
+    (omega (arith, unread, ap {B = ℕ} (λ (x : Bool). cond x 1 0) is))
+
+-- or as read
+pub Lays-read : (a b : Option (List ℕ)) (s t : Progress) (k : ChunkValue) → TakesAndHolds a b (s.held ++ laid s.place k) t.held
+    → t.place ≡ end_of_chunk s.place k → t.spent ≡ false → t.chunks ≡ s.chunks + 1 → is_unread k ≡ false
+    → t.records ≡ s.records + k.num_records → t.unread ≡ s.unread → Lays a b s t (k ∷ [])
+Lays-read a b s t k bytes place going chunks is records unread =
+    Lays-one a b s t k bytes place going chunks
+    (omega (arith, records, ap (λ (x : Bool). cond x 0 k.num_records) is))
+    (omega (arith, unread, ap {B = ℕ} (λ (x : Bool). cond x 1 0) is))
 
 -- and one of which a front was put, where that failed
 pub LaysFront-one : (a b : Option (List ℕ)) (s t : Progress) (k : ChunkValue) → t.held ≡ [] → TakesFront a b (s.held ++ laid s.place k)
@@ -103,13 +125,14 @@ laid_as-right begin c right =
 
 -- padding up to a block, which counts as a chunk where it ends further on
 pub Lays-padding : (a b : Option (List ℕ)) (s t : Progress) → TakesAndHolds a b (s.held ++ laid_each s.place (padding_at s.place)) t.held
-    → t.place ≡ end_of_chunks s.place (padding_at s.place) → t.spent ≡ false → t.records ≡ s.records
+    → t.place ≡ end_of_chunks s.place (padding_at s.place) → t.spent ≡ false → t.records ≡ s.records → t.unread ≡ s.unread
     → ((s.place < t.place) × (t.chunks ≡ s.chunks + 1)) ⊎ ((t.place ≤ s.place) × (t.chunks ≡ s.chunks))
     → Lays a b s t (padding_at s.place)
-Lays-padding a b s t bytes place going records counted = record {
+Lays-padding a b s t bytes place going records unread counted = record {
   bytes = bytes;
   place = place;
   going = going;
   chunks = omega (arith, place, counted, length-padding_at s.place);
-  records = omega (arith, records, records_in-padding_at s.place);
+  records = omega (arith, records, (counted-padding_at s.place).0);
+  unread = omega (arith, unread, (counted-padding_at s.place).1);
 }

@@ -1,36 +1,33 @@
 -- How far a file is that is being made. Own.
 use Rattle.std.specs.Prelude.{◌≡◌, ℕ, ◌+◌, ◌*◌, Bool, false, Option, Some, List, [], ◌++◌, length, map, IfSome}
-use Rattle.std.specs.List.{sum_by}
 use Rattle.record_io.specs.Outside.{Takes}
 use Rattle.record_io.specs.Buffers.{TakesAndHolds}
 use Rattle.record_io.specs.declared.file_totals.Totals.{Totals}
 use Rattle.chunk_header.specs.Chunks.{ChunkValue}
 use Rattle.chunk_header.specs.SimpleChunks.{simple_chunk}
+use Rattle.meta_chunk.specs.Counts.{totals_of}
 use Rattle.meta_chunk.specs.Files.{end_of_chunks, laid_each}
 use Rattle.simple_chunk.specs.Costs.{cost_of}
 use Rattle.record_group.specs.Groupings.{Grouping, groups_from}
 use Rattle.record_writer.specs.Feeds.{Rest}
 
--- where the next chunk begins, whether a put failed, the bytes on their way to the sink, and how many chunks and
--- records there are
+-- where the next chunk begins, whether a put failed, the bytes on their way to the sink, and how many chunks, records that
+-- can be read and chunks that are left unread there are
 pub record Progress : Type 0 where
   pub place : ℕ
   pub spent : Bool
   pub held : List ℕ
   pub chunks : ℕ
   pub records : ℕ
+  pub unread : ℕ
 
 -- nothing is written yet
 abbrev pub nothing_made : Progress
-nothing_made = record { place = 0; spent = false; held = []; chunks = 0; records = 0 }
+nothing_made = record { place = 0; spent = false; held = []; chunks = 0; records = 0; unread = 0 }
 
 -- what was counted
 abbrev pub totals_made : Progress → Totals
-totals_made p = record { chunks = p.chunks; records = p.records; bytes = p.place; unread = 0 }
-
--- how many records chunks have by their headers
-abbrev pub records_in : List ChunkValue → ℕ
-records_in = sum_by (λ k. k.num_records)
+totals_made p = record { chunks = p.chunks; records = p.records; bytes = p.place; unread = p.unread }
 
 -- chunks were laid behind those that were there
 pub record Lays (before after : Option (List ℕ)) (old new : Progress) (ks : List ChunkValue) : Type 0 where
@@ -38,7 +35,8 @@ pub record Lays (before after : Option (List ℕ)) (old new : Progress) (ks : Li
   pub place : new.place ≡ end_of_chunks old.place ks
   pub going : new.spent ≡ false
   pub chunks : new.chunks ≡ old.chunks + length ks
-  pub records : new.records ≡ old.records + records_in ks
+  pub records : new.records ≡ old.records + (totals_of ks).records
+  pub unread : new.unread ≡ old.unread + (totals_of ks).unread
 
 -- of these bytes a sink took a front, where it tells what it takes, and what is held follows it
 pub record TakesAndHoldsFront (before after : Option (List ℕ)) (bytes held : List ℕ) : Type 0 where

@@ -1,6 +1,7 @@
 ghost use Rattle.std.specs.Prelude.{◌≡◌, ◌^◌, ◌≤◌, false, [], ◌∷◌, OnOk, OnErr};
 ghost use Rattle.record_io.specs.Outside.{Rose, Takes, TakesFront};
 ghost use Rattle.chunk_header.specs.Views.{value_of_chunk, HasRightHash};
+ghost use Rattle.meta_chunk.specs.Counts.{is_unread};
 ghost use Rattle.meta_chunk.specs.Files.{signature};
 ghost use Rattle.meta_chunk.specs.Laid.{end_of_chunk};
 ghost use Rattle.meta_chunk.specs.PaddingSizes.{padding_at};
@@ -8,18 +9,20 @@ ghost use Rattle.record_group.specs.Groups.{padding_if};
 ghost use Rattle.record_writer.specs.Progresses.{Lays, LaysFront, nothing_made, totals_made};
 
 use chunk_header::Chunk;
+use meta_chunk::{Kind, kind_of};
 use ordered_writer::OrderedWriter;
 use record_io::{Failed, PutBuffer, Sink, Totals};
 use std::marker::Model;
 
 /// A file that is being made, chunk by chunk. Small chunks gather before they go to the sink, so `flush` comes last.
-/// After a failure nothing more is put.
+/// After a failure nothing more is put. Own.
 #[derive(Drop)]
-pub(crate) struct MadeFile {
+pub struct MadeFile {
     writer: OrderedWriter,
-    buffer: PutBuffer<65_536>,
+    buffer: PutBuffer<262_144>,
     chunks: u64,
     records: u64,
+    unread: u64,
 }
 
 impl Model for MadeFile {
@@ -28,14 +31,14 @@ impl Model for MadeFile {
 
     ghost Value = { Progress };
 
-    ghost view = { λ f. record { place = f.writer.position; spent = f.writer.spent; held = f.buffer; chunks = f.chunks; records = f.records } };
+    ghost view = { λ f. record { place = f.writer.position; spent = f.writer.spent; held = f.buffer; chunks = f.chunks; records = f.records; unread = f.unread } };
 
-    ghost invariant = { λ f. (f.chunks ≤ f.writer.position) × (f.records ≤ f.writer.position) };
+    ghost invariant = { λ f. (f.chunks ≤ f.writer.position) × (f.records ≤ f.writer.position) × (f.unread ≤ f.chunks) };
 }
 
 impl MadeFile {
     /// A file without a byte.
-    pub(crate) fn new() -> MadeFile
+    pub fn new() -> MadeFile
         ensures { result ≡ nothing_made }
     {
         MadeFile {
@@ -43,11 +46,16 @@ impl MadeFile {
             buffer: PutBuffer::new(),
             chunks: 0,
             records: 0,
+            unread: 0,
         }
     }
 
     /// Puts the signature, which is the first chunk.
-    pub(crate) fn start<M: Sink>(&mut self, made: &mut M) -> Result<(), Failed>
+    ///
+    /// # Errors
+    ///
+    /// `Failed` only where the sink failed. A front of what was held and the signature was taken, and the rest is lost.
+    pub fn start<M: Sink>(&mut self, made: &mut M) -> Result<(), Failed>
         requires at_front { self.old ≡ nothing_made }
         ensures whole { OnOk result (Lays (M.taken made.old) (M.taken made.new) self.old self.new (signature ∷ [])) }
         ensures front { OnErr result (LaysFront (M.taken made.old) (M.taken made.new) self.old self.new (signature ∷ [])) }
@@ -60,8 +68,12 @@ impl MadeFile {
         Ok(())
     }
 
-    /// Puts a chunk that has the hash of its data.
-    pub(crate) fn put<M: Sink>(&mut self, made: &mut M, chunk: &Chunk) -> Result<(), Failed>
+    /// Puts a chunk that has the hash of its data, where the one before ends.
+    ///
+    /// # Errors
+    ///
+    /// `Failed` only where the sink failed. A front of what was held and the chunk was taken, and the rest is lost.
+    pub fn put<M: Sink>(&mut self, made: &mut M, chunk: &Chunk) -> Result<(), Failed>
         requires going { self.old.spent ≡ false }
         requires in_reach { end_of_chunk self.old.place (value_of_chunk chunk.now) ≤ 2 ^ 62 }
         requires right { HasRightHash chunk.now }
@@ -73,7 +85,11 @@ impl MadeFile {
     {
         self.writer.put_into(&mut self.buffer, made, chunk)?;
         self.chunks += 1;
-        self.records += chunk.header.num_records;
+        if is_unread(chunk) {
+            self.unread += 1;
+        } else {
+            self.records += chunk.header.num_records;
+        }
         Ok(())
     }
 
@@ -109,10 +125,15 @@ impl MadeFile {
     }
 
     /// Puts out what is held.
-    pub(crate) fn flush<M: Sink>(&mut self, made: &mut M) -> Result<(), Failed>
+    ///
+    /// # Errors
+    ///
+    /// `Failed` only where the sink failed. It took a front of what was held.
+    pub fn flush<M: Sink>(&mut self, made: &mut M) -> Result<(), Failed>
         ensures whole { OnOk result (Takes (M.taken made.old) (M.taken made.new) self.old.held) }
         ensures front { OnErr result (TakesFront (M.taken made.old) (M.taken made.new) self.old.held) }
         ensures same_totals { totals_made self.new ≡ totals_made self.old }
+        ensures emptied { self.new ≡ record self.old { held = [] } }
         ensures cause { OnErr result (Rose (M.faults made.old) (M.faults made.new)) }
         ensures never_falls { M.faults made.old ≤ M.faults made.new }
         ensures same_name { M.name made.new ≡ M.name made.old }
@@ -121,14 +142,31 @@ impl MadeFile {
     }
 
     /// What was counted.
-    pub(crate) fn totals(&self) -> Totals
-        ensures { result ≡ totals_made self.now }
+    pub fn totals(&self) -> Totals
+        ensures counted { result ≡ totals_made self.now }
+        ensures chunks { result.chunks ≤ result.bytes }
+        ensures records { result.records ≤ result.bytes }
+        ensures unread { result.unread ≤ result.chunks }
     {
         Totals {
             chunks: self.chunks,
             records: self.records,
             bytes: self.writer.position(),
-            unread: 0,
+            unread: self.unread,
         }
+    }
+}
+
+/// Whether a chunk is transposed or compressed.
+fn is_unread(chunk: &Chunk) -> bool
+    ensures { result ≡ is_unread (value_of_chunk chunk.now) }
+{
+    match kind_of(chunk.header.kind) {
+        Kind::Transposed => true,
+        Kind::Simple => match chunk.bytes.as_slice().first() {
+            Some(compression) => *compression != 0,
+            None => false,
+        },
+        _ => false,
     }
 }

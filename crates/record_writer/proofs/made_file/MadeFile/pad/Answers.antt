@@ -27,6 +27,7 @@ returns-then-begin-position-clause-whole g c =
     (ap (λ (w : Writer). w.position) c.in_ok-pad_into.ensures.moved)
     (ap (λ (w : Writer). w.spent) c.in_ok-pad_into.ensures.moved)
     refl
+    refl
     (inl (omega arith, refl)))
 
 pub returns-else-begin-position-clause-whole : goal.returns-else-begin-position-clause-whole
@@ -35,5 +36,6 @@ returns-else-begin-position-clause-whole g c =
     (Lays-padding _ _ _ _ c.in_ok-pad_into.ensures.whole
     (ap (λ (w : Writer). w.position) c.in_ok-pad_into.ensures.moved)
     (ap (λ (w : Writer). w.spent) c.in_ok-pad_into.ensures.moved)
+    refl
     refl
     (inr (omega arith, refl)))

@@ -1,4 +1,4 @@
-use Rattle.std.proofs.Common.{ℕ, ◌+◌, ◌≤◌, length, ap, arith}
+use Rattle.std.proofs.Common.{ℕ, ◌∙◌, ◌+◌, ◌≤◌, length, sym, ap, arith}
 use Rattle.std.proofs.lemmas.Result.{err_from_is_err_and}
 use Rattle.block_layout.proofs.ChunkEnds.{chunk_end_of_past_records}
 use Rattle.chunk_header.specs.Chunks.{ChunkValue}
@@ -6,7 +6,7 @@ use Rattle.chunk_header.specs.Views.{value_of_chunk}
 use Rattle.meta_chunk.specs.Laid.{end_of_chunk}
 use Rattle.meta_chunk.proofs.LaidChunks.{end_of_chunk_after}
 use Rattle.ordered_writer.specs.Writers.{Writer}
-use Rattle.record_writer.proofs.Layings.{Lays-one, LaysFront-one, laid_as-right}
+use Rattle.record_writer.proofs.Layings.{Lays-unread, Lays-read, LaysFront-one, laid_as-right}
 use Rattle.record_writer.proofs.made_file.MadeFile.put.Goals as goal
 
 pub returns-in_err-put_into-clause-front : goal.returns-in_err-put_into-clause-front
@@ -29,26 +29,54 @@ overflow_add-self g c =
     let reach = rw (← c.self.view_is) at c.requires.in_reach in
     omega (arith, reach, ends c.self.inside.writer.position c.self.inside.records (value_of_chunk c.args.chunk.now) c.self.invariant.1)
 
-pub overflow_add-self-2 : goal.overflow_add-self-2
-overflow_add-self-2 g c =
+pub overflow_add-self-then-is_unread : goal.overflow_add-self-then-is_unread
+overflow_add-self-then-is_unread g c =
+    let reach = rw (← c.self.view_is) at c.requires.in_reach in
+    omega (arith, reach, c.self.invariant, ends c.self.inside.writer.position c.self.inside.records (value_of_chunk c.args.chunk.now) c.self.invariant.1)
+
+pub overflow_add-self-else-is_unread : goal.overflow_add-self-else-is_unread
+overflow_add-self-else-is_unread g c =
     let reach = rw (← c.self.view_is) at c.requires.in_reach in
     omega (arith, reach, ends c.self.inside.writer.position c.self.inside.records (value_of_chunk c.args.chunk.now) c.self.invariant.1)
 
-pub invariant_of-self-2 : goal.invariant_of-self-2
-invariant_of-self-2 g c =
+pub invariant_of-self-then-is_unread : goal.invariant_of-self-then-is_unread
+invariant_of-self-then-is_unread g c =
     omega (
       arith,
       ap (λ (w : Writer). w.position) c.in_ok-put_into.ensures.moved,
       ends c.self.inside.writer.position c.self.inside.records (value_of_chunk c.args.chunk.now) c.self.invariant.1,
     )
 
-pub returns-clause-whole : goal.returns-clause-whole
-returns-clause-whole g c =
+pub invariant_of-self-else-is_unread : goal.invariant_of-self-else-is_unread
+invariant_of-self-else-is_unread g c =
+    omega (
+      arith,
+      ap (λ (w : Writer). w.position) c.in_ok-put_into.ensures.moved,
+      ends c.self.inside.writer.position c.self.inside.records (value_of_chunk c.args.chunk.now) c.self.invariant.1,
+    )
+
+pub returns-then-is_unread-clause-whole : goal.returns-then-is_unread-clause-whole
+returns-then-is_unread-clause-whole g c =
     let right = laid_as-right c.self.inside.writer.position c.args.chunk.now c.requires.right in
     rw (← c.self.view_is)
-    (Lays-one _ _ _ _ (value_of_chunk c.args.chunk.now)
+    (Lays-unread _ _ _ _ (value_of_chunk c.args.chunk.now)
     (rw right at c.in_ok-put_into.ensures.whole)
     (ap (λ (w : Writer). w.position) c.in_ok-put_into.ensures.moved)
     (ap (λ (w : Writer). w.spent) c.in_ok-put_into.ensures.moved)
+    (omega arith)
+    (sym c.is_unread.ensures ∙ c.if-is_unread.true)
+    (omega arith)
+    (omega arith))
+
+pub returns-else-is_unread-clause-whole : goal.returns-else-is_unread-clause-whole
+returns-else-is_unread-clause-whole g c =
+    let right = laid_as-right c.self.inside.writer.position c.args.chunk.now c.requires.right in
+    rw (← c.self.view_is)
+    (Lays-read _ _ _ _ (value_of_chunk c.args.chunk.now)
+    (rw right at c.in_ok-put_into.ensures.whole)
+    (ap (λ (w : Writer). w.position) c.in_ok-put_into.ensures.moved)
+    (ap (λ (w : Writer). w.spent) c.in_ok-put_into.ensures.moved)
+    (omega arith)
+    (sym c.is_unread.ensures ∙ c.if-is_unread.false)
     (omega arith)
     (omega arith))

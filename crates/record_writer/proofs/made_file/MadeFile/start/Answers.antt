@@ -1,10 +1,10 @@
-use Rattle.std.proofs.Common.{◌≡◌, ◌∙◌, ap, arith}
+use Rattle.std.proofs.Common.{◌≡◌, ◌∙◌, refl, ap, arith}
 use Rattle.std.proofs.lemmas.Result.{err_from_is_err_and}
 use Rattle.meta_chunk.specs.Files.{signature}
 use Rattle.meta_chunk.proofs.LaidChunks.{end_of_chunk_after}
 use Rattle.ordered_writer.specs.Writers.{Writer}
 use Rattle.record_writer.specs.Progresses.{Progress}
-use Rattle.record_writer.proofs.Layings.{Lays-one, LaysFront-one}
+use Rattle.record_writer.proofs.Layings.{Lays-read, LaysFront-one}
 use Rattle.record_writer.proofs.made_file.MadeFile.start.Goals as goal
 
 pub returns-in_err-start_into-clause-front : goal.returns-in_err-start_into-clause-front
@@ -29,9 +29,11 @@ pub returns-clause-whole : goal.returns-clause-whole
 returns-clause-whole g c =
     let at_front : c.self.inside.writer.position ≡ 0 = ap (λ (s : Progress). s.place) (c.self.view_is ∙ c.requires.at_front) in
     rw (← c.self.view_is)
-    (Lays-one _ _ _ _ signature
+    (Lays-read _ _ _ _ signature
     (rw at_front c.in_ok-start_into.ensures.whole)
     (rw at_front (ap (λ (w : Writer). w.position) c.in_ok-start_into.ensures.moved))
     (ap (λ (w : Writer). w.spent) c.in_ok-start_into.ensures.moved)
+    (omega arith)
+    refl
     (omega arith)
     (omega arith))
