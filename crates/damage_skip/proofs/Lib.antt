@@ -2,6 +2,7 @@ pub mod Blocks
 pub mod PlacesFurtherOn
 pub mod OnePiece
 pub mod Tiles
+pub mod EventPieces
 pub mod Found
 pub mod FoundRecords
 pub mod Reached

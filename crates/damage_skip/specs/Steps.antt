@@ -1,5 +1,5 @@
 -- What the steps of a walk find. Own.
-use Rattle.std.specs.Prelude.{◌≡◌, ℕ, ◌^◌, ◌<◌, ◌≤◌, ◌⊎◌, Option, Some, None, MatchOption, ⊤, Bool, List, length}
+use Rattle.std.specs.Prelude.{◌≡◌, ◌↔◌, ℕ, ◌^◌, ◌<◌, ◌≤◌, ◌⊎◌, Option, Some, None, MatchOption, ⊤, Bool, IsTrue, List, length}
 use Rattle.block_layout.specs.Layout.{IsBoundary}
 use Rattle.block_layout.specs.BlockHeaders.{StandsAt}
 use Rattle.block_layout.specs.declared.block_header.BlockHeader.{BlockHeader}
@@ -56,14 +56,15 @@ pub record IsIntact (chunk : Chunk) : Type 0 where
   pub sound : IsChunk (value_of_chunk chunk)
   pub small : length chunk.bytes ≤ max_data_size
 
--- what was loaded is a chunk of this header, or a place further on
+-- what was loaded is a chunk of this header, told whether it has the data's hash, or a place further on
 abbrev pub IsLoadOf : (size begin : ℕ) → Header → Loaded → Type 0
-IsLoadOf size begin header (load.Whole chunk) = (chunk.header ≡ header) × IsChunk (value_of_chunk chunk)
+IsLoadOf size begin header (load.Whole chunk right) =
+    (chunk.header ≡ header) × IsChunk (value_of_chunk chunk) × (IsTrue right ↔ HasRightHash chunk)
 IsLoadOf size begin header (load.Contradicted to) = IsOnward size begin to
 
 -- it is the chunk in a file, of which no block within tells otherwise, or where the first one leads that does
 abbrev pub IsLoadIn : List ℕ → (begin end : ℕ) → Header → Loaded → Type 0
-IsLoadIn file begin end header (load.Whole chunk) = (chunk.bytes ≡ data_at file begin header.data_size) × LeadsTo file begin end begin end None
+IsLoadIn file begin end header (load.Whole chunk right) = (chunk.bytes ≡ data_at file begin header.data_size) × LeadsTo file begin end begin end None
 IsLoadIn file begin end header (load.Contradicted to) = LeadsTo file begin end begin end (Some to)
 
 -- what a piece is, as the definition has it

@@ -1,4 +1,4 @@
-ghost use Rattle.std.specs.Prelude.{◌≡◌, ℕ, ◌+◌, ◌^◌, ◌<◌, ◌≤◌, length, take, Some, None, IfOk, IfSome, OnErr};
+ghost use Rattle.std.specs.Prelude.{◌≡◌, ℕ, ◌+◌, ◌^◌, ◌<◌, ◌≤◌, List, length, take, Some, None, IfOk, IfSome, OnErr};
 ghost use Rattle.record_io.specs.Outside.{Rose};
 ghost use Rattle.block_layout.specs.Layout.{chunk_header_size, IsBoundary, end_of, own_bytes_at};
 ghost use Rattle.chunk_header.specs.Views.{value_of_header};
@@ -9,84 +9,117 @@ ghost use Rattle.damage_skip.specs.Steps.{IsOnward, IsEndOf, LeadsTo, IsLoadOf, 
 use crate::block_checks::Span;
 use block_layout::{BLOCK_SIZE, CHUNK_HEADER_SIZE, end_of};
 use chunk_header::{Chunk, Header};
-use chunk_reader::{LoadEnd, OwnBytes};
-use record_io::{Bytes, Failed, Store};
+use chunk_reader::{HashedData, LoadEnd, OwnBytes};
+use record_io::{Failed, Store};
 use std::alloc::Global;
 
-/// A chunk whose data was read, or where reading goes on as a block header within it tells of another chunk.
+/// How many bytes of data are taken at a time at most.
+const PIECE: usize = 4096;
+
+/// What came of a chunk whose data was to be read.
 #[derive(Debug, Drop)]
 pub(crate) enum Loaded {
-    Whole(Chunk),
+    /// The chunk, and whether its header has the data's hash.
+    Whole(Chunk, bool),
+    /// Where reading goes on, as a block header within the chunk tells of another one.
     Contradicted(u64),
 }
 
-/// Reads the data of a chunk, and looks at the block headers within the chunk as it passes them. Each byte is read once.
+/// Reads the data of a chunk from its begin to its end, and looks at the block headers within the chunk as it passes them, up to
+/// the first that tells of another one. Each byte is read once, and none behind that block.
 pub(crate) fn load<S: Store>(
     alloc: Global,
     store: &mut S,
     size: u64,
-    span: Span,
+    at: u64,
     end: u64,
     header: Header,
 ) -> Result<Loaded, LoadEnd>
     requires told { S.told store.old ≡ Some size }
     requires in_reach { size ≤ 2 ^ 60 }
-    requires from_boundary { IsBoundary span.begin }
-    requires span { span.end ≡ Some end }
-    requires end { end ≡ end_by span.begin (value_of_header header) }
+    requires from_boundary { IsBoundary at }
+    requires end { end ≡ end_by at (value_of_header header) }
     requires within { end ≤ size }
     requires small { header.data_size ≤ max_data_size }
-    ensures loaded { IfOk result (λ loaded. IsLoadOf size span.begin header loaded) }
-    ensures sound { IfOk result (λ loaded. IfSome (S.bytes store.old) (λ file. IsLoadIn file span.begin end header loaded)) }
+    ensures loaded { IfOk result (λ loaded. IsLoadOf size at header loaded) }
+    ensures sound { IfOk result (λ loaded. IfSome (S.bytes store.old) (λ file. IsLoadIn file at end header loaded)) }
     ensures same_bytes { S.bytes store.new ≡ S.bytes store.old }
     ensures same_told { S.told store.new ≡ S.told store.old }
     ensures same_name { S.name store.new ≡ S.name store.old }
     ensures cause { result ≡ Err LoadEnd.Store → Rose (S.faults store.old) (S.faults store.new) }
     ensures never_falls { S.faults store.old ≤ S.faults store.new }
 {
-    let mut data = vec![in alloc; 0; header.data_size as usize]?;
-    match fill(store, size, span, end, &mut data)? {
-        Some(landing) => Ok(Loaded::Contradicted(landing)),
-        None => Ok(Loaded::Whole(Chunk::read(header, Bytes::from(data)))),
+    match read_data(alloc, store, size, at, end, header.data_size)? {
+        Read::Data(data) => {
+            let (chunk, right) = data.into_chunk(header);
+            Ok(Loaded::Whole(chunk, right))
+        }
+        Read::Contradicted(landing) => Ok(Loaded::Contradicted(landing)),
     }
 }
 
-/// Fills the buffer with the data of a chunk, unless a block header within the chunk tells of another one.
-fn fill<S: Store>(
+/// What came of reading the data of a chunk.
+#[derive(Drop)]
+enum Read {
+    /// All of it.
+    Data(HashedData),
+    /// Where the first block within the chunk leads whose header tells of another one.
+    Contradicted(u64),
+}
+
+/// Reads so many bytes of data of a chunk piece by piece, unless a block header within the chunk tells of another one.
+fn read_data<S: Store>(
+    alloc: Global,
     store: &mut S,
     size: u64,
-    span: Span,
+    at: u64,
     end: u64,
-    buf: &mut [u8],
-) -> Result<Option<u64>, Failed>
+    count: u64,
+) -> Result<Read, LoadEnd>
     requires told { S.told store.old ≡ Some size }
     requires in_reach { size ≤ 2 ^ 60 }
-    requires from_boundary { IsBoundary span.begin }
-    requires span { span.end ≡ Some end }
-    requires room { end_of (end_of span.begin chunk_header_size) (length buf.old) ≤ end }
+    requires from_boundary { IsBoundary at }
+    requires room { end_of (end_of at chunk_header_size) count ≤ end }
     requires within { end ≤ size }
-    ensures onward { IfOk result (λ landing. IfSome landing (λ to. IsOnward size span.begin to)) }
-    ensures leads { IfOk result (λ landing. IfSome (S.bytes store.old) (λ file. LeadsTo file span.begin end span.begin end landing)) }
-    ensures given { result ≡ Ok None → IfSome (S.bytes store.old) (λ file.
-        buf.new ≡ own_bytes_at file (end_of span.begin chunk_header_size) (length buf.old)) }
+    ensures whole { (bytes : List ℕ) → result ≡ Ok (Read.Data bytes) → length bytes ≡ count }
+    ensures given { (bytes : List ℕ) → result ≡ Ok (Read.Data bytes)
+        → IfSome (S.bytes store.old) (λ file. bytes ≡ own_bytes_at file (end_of at chunk_header_size) count) }
+    ensures none { (bytes : List ℕ) → result ≡ Ok (Read.Data bytes)
+        → IfSome (S.bytes store.old) (λ file. LeadsTo file at end at end None) }
+    ensures onward { (to : ℕ) → result ≡ Ok (Read.Contradicted to) → IsOnward size at to }
+    ensures leads { (to : ℕ) → result ≡ Ok (Read.Contradicted to)
+        → IfSome (S.bytes store.old) (λ file. LeadsTo file at end at end (Some to)) }
     ensures same_bytes { S.bytes store.new ≡ S.bytes store.old }
     ensures same_told { S.told store.new ≡ S.told store.old }
     ensures same_name { S.name store.new ≡ S.name store.old }
-    ensures cause { OnErr result (Rose (S.faults store.old) (S.faults store.new)) }
+    ensures cause { result ≡ Err LoadEnd.Store → Rose (S.faults store.old) (S.faults store.new) }
     ensures never_falls { S.faults store.old ≤ S.faults store.new }
 {
-    let mut own = OwnBytes::from(header_end(span.begin));
-    if let Some(landing) = span.contradicted_between(store, size, span.begin, own.place)? {
-        return Ok(Some(landing));
+    let span = Span {
+        begin: at,
+        end: Some(end),
+    };
+    let mut own = OwnBytes::from(header_end(at));
+    if let Some(landing) = span.contradicted_between(store, size, at, own.place)? {
+        return Ok(Read::Contradicted(landing));
     }
-    let mut filled = 0;
-    while filled < buf.len() {
-        match take(store, size, span, &mut own, &mut buf[filled..])? {
-            Taken::Bytes(count) => filled += count,
-            Taken::Contradicted(landing) => return Ok(Some(landing)),
+    let mut data = HashedData::with_room(alloc, count)?;
+    let mut piece = [0; PIECE];
+    let mut left = count;
+    while left > 0 {
+        let most = left.min(PIECE as u64) as usize;
+        match take(store, size, span, &mut own, &mut piece[..most])? {
+            Taken::Bytes(taken) => {
+                data.push(&piece[..taken])?;
+                left -= taken as u64;
+            }
+            Taken::Contradicted(landing) => return Ok(Read::Contradicted(landing)),
         }
     }
-    span.contradicted_between(store, size, own.place, end)
+    match span.contradicted_between(store, size, own.place, end)? {
+        Some(landing) => Ok(Read::Contradicted(landing)),
+        None => Ok(Read::Data(data)),
+    }
 }
 
 /// Where the header of a chunk ends that begins at a boundary.

@@ -9,7 +9,7 @@ ghost use Rattle.chunk_reader.specs.Faults.{IsAllowed};
 ghost use Rattle.chunk_reader.specs.declared.reasons.Why.{Why};
 ghost use Rattle.chunk_reader.specs.declared.reasons.Why.TheVariants as why;
 ghost use Rattle.damage_skip.specs.Damage.{Intact, IsDamaged, IsNext, AreReached, AreLeft, untouched};
-ghost use Rattle.damage_skip.specs.Pieces.{What, Skipped, Piece, IsFoundAs, IsPieceOf, AreTiles, ArePieces, events_in, AreEvents, records_in, placed_in, AreFound};
+ghost use Rattle.damage_skip.specs.Pieces.{What, Skipped, Piece, IsFoundAs, IsPieceOf, AreTiles, ArePieces, is_event, events_in, AreEvents, records_in, placed_in, AreFound};
 ghost use Rattle.damage_skip.specs.Resyncs.{IsResync};
 ghost use Rattle.damage_skip.specs.Walks.{GoesOn, IsMet};
 ghost use Rattle.meta_chunk.specs.Files.{IsFramed, IsFile, IsFrame, IsFileOf, AreRecordsOf, ArePlaced, begin_of};
@@ -55,7 +55,8 @@ pub fn a_file_has_one_list_of_pieces()
 
 /// Pieces behind others are pieces, whose events are behind those of the others, and pieces come apart between any two. The
 /// pieces of a file begin at boundaries that rise, end in the file, the last of them at its end, and each position of the
-/// file lies in one. Own.
+/// file lies in one. Each piece that is an event stands among the events as it is, and no other does: the events begin at
+/// places that rise, and none is made of two pieces. Own.
 pub fn pieces_tile_the_file()
     ensures joined { (keep : Bool) (file : List ℕ) (from middle to : ℕ) (ps qs : List Piece)
         → AreTiles keep file from middle ps → AreTiles keep file middle to qs → AreTiles keep file from to (ps ++ qs) }
@@ -76,6 +77,13 @@ pub fn pieces_tile_the_file()
         → ArePieces keep file pieces → position < length file
         → (j : ℕ) × (piece : Piece) × (slice_get pieces j ≡ Some piece)
         × (piece.begin ≤ position) × (position < piece.end) }
+    ensures events_hold { (pieces : List Piece) (j : ℕ) (piece : Piece)
+        → slice_get pieces j ≡ Some piece → is_event piece.what ≡ true
+        → (i : ℕ) × (slice_get (events_in pieces) i ≡ Some piece) }
+    ensures events_are { (pieces : List Piece) (i : ℕ) (event : Piece)
+        → slice_get (events_in pieces) i ≡ Some event → (j : ℕ) × (slice_get pieces j ≡ Some event) }
+    ensures events_rise { (keep : Bool) (file : List ℕ) (pieces : List Piece)
+        → ArePieces keep file pieces → IsStrictlyIncreasing (map (λ event. event.begin) (events_in pieces)) }
 {}
 
 /// A walk begins at the front of a file and goes on piece by piece to the file's end, where it gave the events of the file,

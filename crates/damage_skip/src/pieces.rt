@@ -1,7 +1,7 @@
-ghost use Rattle.std.specs.Prelude.{◌≡◌, ℕ, ◌^◌, ◌<◌, ◌≤◌, ◌⊎◌, Some, IfOk, IfSome, OnErr};
+ghost use Rattle.std.specs.Prelude.{◌≡◌, ◌↔◌, ℕ, ◌^◌, ◌<◌, ◌≤◌, ◌⊎◌, Some, IsTrue, IfOk, IfSome, OnErr};
 ghost use Rattle.record_io.specs.Outside.{Rose};
 ghost use Rattle.block_layout.specs.Layout.{IsBoundary};
-ghost use Rattle.chunk_header.specs.Views.{IsHeader, value_of_header};
+ghost use Rattle.chunk_header.specs.Views.{IsHeader, HasRightHash, value_of_header};
 ghost use Rattle.chunk_reader.specs.Heads.{IsHead};
 ghost use Rattle.chunk_reader.specs.Places.{end_by};
 ghost use Rattle.chunk_reader.specs.Reasons.{Applies, NoneOf, loading_reasons};
@@ -12,7 +12,9 @@ use crate::block_checks::Span;
 use crate::chunk_loads::{Loaded, load};
 use crate::resyncs::resync;
 use chunk_header::{Chunk, Header};
-use chunk_reader::{Content, ContentEnd, Head, LoadEnd, MAX_DATA_SIZE, Why, content, head_at};
+use chunk_reader::{
+    Content, ContentEnd, Head, LoadEnd, MAX_DATA_SIZE, Why, content_under, head_at,
+};
 use record_io::{Failed, Store};
 use simple_chunk::Records;
 use std::alloc::Global;
@@ -95,7 +97,7 @@ fn headed_piece<S: Store>(
 {
     let span = Span { begin: at, end };
     match end {
-        Some(end) if end <= size => held_piece(alloc, store, size, keep, header, span, end),
+        Some(end) if end <= size => held_piece(alloc, store, size, at, keep, header, end),
         _ => Ok(unloaded_piece(store, size, span, size, Why::Truncated)?),
     }
 }
@@ -105,22 +107,21 @@ fn held_piece<S: Store>(
     alloc: Global,
     store: &mut S,
     size: u64,
+    at: u64,
     keep: bool,
     header: Header,
-    span: Span,
     end: u64,
 ) -> Result<Piece, LoadEnd>
     requires told { S.told store.old ≡ Some size }
     requires in_reach { size ≤ 2 ^ 60 }
-    requires from_boundary { IsBoundary span.begin }
+    requires from_boundary { IsBoundary at }
     requires fits { IsHeader header }
-    requires span { span.end ≡ Some end }
-    requires end { end ≡ end_by span.begin (value_of_header header) }
+    requires end { end ≡ end_by at (value_of_header header) }
     requires within { end ≤ size }
-    requires head { IfSome (S.bytes store.old) (λ file. IsHead file span.begin (Head.Right header span.end)) }
-    ensures piece { IfOk result (λ piece. IsPieceFrom size span.begin piece) }
-    ensures sound { IfOk result (λ piece. IfSome (S.bytes store.old) (λ file. IsPieceOf keep file span.begin piece.end (value_of_what piece.what))) }
-    ensures memory { result ≡ Err LoadEnd.Memory → IfSome (S.bytes store.old) (λ file. NoneOf (Applies file span.begin) loading_reasons) }
+    requires head { IfSome (S.bytes store.old) (λ file. IsHead file at (Head.Right header (Some end))) }
+    ensures piece { IfOk result (λ piece. IsPieceFrom size at piece) }
+    ensures sound { IfOk result (λ piece. IfSome (S.bytes store.old) (λ file. IsPieceOf keep file at piece.end (value_of_what piece.what))) }
+    ensures memory { result ≡ Err LoadEnd.Memory → IfSome (S.bytes store.old) (λ file. NoneOf (Applies file at) loading_reasons) }
     ensures same_bytes { S.bytes store.new ≡ S.bytes store.old }
     ensures same_told { S.told store.new ≡ S.told store.old }
     ensures same_name { S.name store.new ≡ S.name store.old }
@@ -128,10 +129,14 @@ fn held_piece<S: Store>(
     ensures never_falls { S.faults store.old ≤ S.faults store.new }
 {
     if header.data_size > MAX_DATA_SIZE {
+        let span = Span {
+            begin: at,
+            end: Some(end),
+        };
         return Ok(unloaded_piece(store, size, span, end, Why::TooLarge)?);
     }
-    match load(alloc, store, size, span, end, header)? {
-        Loaded::Whole(chunk) => whole_piece(alloc, chunk, end, keep),
+    match load(alloc, store, size, at, end, header)? {
+        Loaded::Whole(chunk, right) => whole_piece(alloc, chunk, right, end, keep),
         Loaded::Contradicted(landing) => Ok(skipped(landing, Why::Contradicted)),
     }
 }
@@ -166,22 +171,30 @@ fn unloaded_piece<S: Store>(
     }
 }
 
-/// The piece of a chunk that was read, which ends at a place.
-fn whole_piece(alloc: Global, chunk: Chunk, end: u64, keep: bool) -> Result<Piece, LoadEnd>
+/// The piece of a chunk that was read, which ends at a place, and of which it is known whether its header has the data's hash.
+fn whole_piece(
+    alloc: Global,
+    chunk: Chunk,
+    right: bool,
+    end: u64,
+    keep: bool,
+) -> Result<Piece, LoadEnd>
+    requires { IsTrue right ↔ HasRightHash chunk }
     ensures end { IfOk result (λ piece. piece.end ≡ end) }
     ensures read { IfOk result (λ piece. IsReadAs keep chunk piece.what) }
     ensures memory { OnErr result (result ≡ Err LoadEnd.Memory) }
 {
-    let what = what_of(alloc, chunk, keep)?;
+    let what = what_of(alloc, chunk, right, keep)?;
     Ok(Piece { end, what })
 }
 
-/// What a chunk is that was read.
-fn what_of(alloc: Global, chunk: Chunk, keep: bool) -> Result<What, LoadEnd>
+/// What a chunk is that was read, of which it is known whether its header has the data's hash.
+fn what_of(alloc: Global, chunk: Chunk, right: bool, keep: bool) -> Result<What, LoadEnd>
+    requires { IsTrue right ↔ HasRightHash chunk }
     ensures read { IfOk result (λ what. IsReadAs keep chunk what) }
     ensures memory { OnErr result (result ≡ Err LoadEnd.Memory) }
 {
-    match content(alloc, &chunk) {
+    match content_under(alloc, &chunk, right) {
         Ok(Content::Records(records)) => Ok(What::Given(records, chunk)),
         Ok(Content::Metadata) => Ok(What::Kept(chunk)),
         Ok(Content::Signature | Content::Padding) => Ok(What::Passive),

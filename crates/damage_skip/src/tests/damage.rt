@@ -1,7 +1,9 @@
 use crate::{Event, Policy, Region, WalkEnd, Walker, region_line, resync};
 use block_layout::{BLOCK_SIZE, BlockHeader, is_boundary};
+use chunk_header::Chunk;
 use chunk_reader::Why;
-use record_io::{MemSink, Store, SureStore};
+use meta_chunk::SIGNATURE;
+use record_io::{Bytes, MemSink, MemStore, Store, SureStore};
 use std::alloc::{AllocError, Global};
 use std::test::Fail;
 
@@ -17,12 +19,24 @@ const FILE: [u8; 112] = [
     0x03, 0x00, 0x00, 0x00, 0x00, 0x00, 0x00, 0x00, 0x00, 0x03, 0x01, 0x02, 0x00, 0x61, 0x62, 0x63,
 ];
 
-// What an answer tells: how many records a chunk gave, or a region.
-fn told(answer: &Result<Option<Event>, WalkEnd>) -> Result<Option<Result<usize, Region>>, WalkEnd> {
+/// What an event tells.
+#[derive(Clone, Copy, Debug, PartialEq, Eq)]
+enum Seen {
+    /// So many records.
+    Records(usize),
+    /// A chunk that is kept, from here on.
+    Kept(u64),
+    /// Bytes that are passed over.
+    Skipped(Region),
+}
+
+// What an answer tells.
+fn told(answer: &Result<Option<Event>, WalkEnd>) -> Result<Option<Seen>, WalkEnd> {
     match answer {
-        Ok(Some(Event::Records { records, .. })) => Ok(Some(Ok(records.len()))),
-        Ok(Some(Event::Skipped(region))) => Ok(Some(Err(*region))),
-        Ok(_) => Ok(None),
+        Ok(Some(Event::Records { records, .. })) => Ok(Some(Seen::Records(records.len()))),
+        Ok(Some(Event::Kept { begin, .. })) => Ok(Some(Seen::Kept(*begin))),
+        Ok(Some(Event::Skipped(region))) => Ok(Some(Seen::Skipped(*region))),
+        Ok(None) => Ok(None),
         Err(end) => Err(*end),
     }
 }
@@ -35,9 +49,9 @@ fn a_walk_gives_records_and_passes_over_a_changed_chunk(rt: HostRuntime) -> Resu
         why,
     };
     for (changed, flipped, want) in [
-        (111, 0, Ok(3)),
-        (111, 1, Err(region(Why::DataHash))),
-        (70, 1, Err(region(Why::HeaderHash))),
+        (111, 0, Seen::Records(3)),
+        (111, 1, Seen::Skipped(region(Why::DataHash))),
+        (70, 1, Seen::Skipped(region(Why::HeaderHash))),
     ] {
         let mut bytes = FILE.to_vec(rt.alloc())?;
         assert!(rt; changed < bytes.len());
@@ -48,6 +62,46 @@ fn a_walk_gives_records_and_passes_over_a_changed_chunk(rt: HostRuntime) -> Resu
         let mut walker = Walker::new(size, false, Policy::new(|_: &Region| true));
         assert_eq!(rt; told(&walker.next(rt.alloc(), &mut store)), Ok(Some(want)));
         assert_eq!(rt; told(&walker.next(rt.alloc(), &mut store)), Ok(None));
+    }
+    Ok(())
+}
+
+#[test]
+fn a_walk_keeps_a_transposed_chunk_where_it_is_told_to(rt: HostRuntime) -> Result<(), Fail> {
+    let region = Region {
+        begin: 64,
+        end: 107,
+        why: Why::Transposed,
+    };
+    for (keep, want) in [(true, Seen::Kept(64)), (false, Seen::Skipped(region))] {
+        let chunk = Chunk::new(b't', 5, 9, Bytes::from([1, 2, 3].to_vec(rt.alloc())?));
+        let mut file = SIGNATURE.to_vec(rt.alloc())?;
+        file.extend_from_slice(&chunk.header.to_bytes())?;
+        file.extend_from_slice(chunk.bytes.as_slice())?;
+        let mut store = SureStore::new(file, Vec::new(rt.alloc()));
+        let size = store.size()?;
+        assert!(rt; size <= 1 << 60);
+        let mut walker = Walker::new(size, keep, Policy::new(|_: &Region| true));
+        assert_eq!(rt; told(&walker.next(rt.alloc(), &mut store)), Ok(Some(want)));
+        assert_eq!(rt; told(&walker.next(rt.alloc(), &mut store)), Ok(None));
+    }
+    Ok(())
+}
+
+#[test]
+fn after_a_failed_call_a_walk_gives_the_event_that_was_due(rt: HostRuntime) -> Result<(), Fail> {
+    for number in [1, 2, 3, 4] {
+        let fails = [number].to_vec(rt.alloc())?;
+        let mut store = MemStore::new(FILE.to_vec(rt.alloc())?, Vec::new(rt.alloc()), fails);
+        let size = store.size()?;
+        assert!(rt; size <= 1 << 60);
+        let mut walker = Walker::new(size, false, Policy::new(|_: &Region| true));
+        let failed = told(&walker.next(rt.alloc(), &mut store));
+        assert_eq!(rt; failed, Err(WalkEnd::Store), "{number}");
+        let due = told(&walker.next(rt.alloc(), &mut store));
+        assert_eq!(rt; due, Ok(Some(Seen::Records(3))), "{number}");
+        let last = told(&walker.next(rt.alloc(), &mut store));
+        assert_eq!(rt; last, Ok(None), "{number}");
     }
     Ok(())
 }
@@ -89,9 +143,10 @@ fn reading_goes_on_where_the_first_block_leads(rt: HostRuntime) -> Result<(), Fa
         (120_268, 64, 5382, 24_687, 1, 120_268),
         (120_268, 60_154, 5382, 24_687, 0, 90_223),
         (65_604, 65_536, 0, 68, 0, 65_604),
-        (65_598, 65_530, 6, 62, 0, 65_598),
-        (65_598, 64, 6, 62, 0, 65_530),
-        (65_598, 64, 6, 24, 0, 65_598),
+        (65_642, 65_530, 6, 62, 0, 65_598),
+        (65_642, 65_530, 6, 62, 1, 65_642),
+        (65_642, 64, 6, 62, 0, 65_530),
+        (65_642, 64, 6, 24, 0, 65_642),
     ] {
         let mut header = BlockHeader { previous, next }.to_bytes();
         header[0] ^= flipped;

@@ -1,28 +1,25 @@
-use Rattle.std.proofs.Common.{◌≡◌, length, drop, ◌∙◌, arith}
-use Rattle.std.proofs.lemmas.List.{take_at}
+use Rattle.std.proofs.Common.{Ok, ap, arith}
 use Rattle.chunk_reader.proofs.Loads.{header_within, data_within, data_given}
 use Rattle.damage_skip.proofs.Fills.{told_within, loaded_whole}
 use Rattle.damage_skip.proofs.chunk_loads.load.Goals as goal
 
-pub fill-requires-clause-room : goal.fill-requires-clause-room
-fill-requires-clause-room g c =
-    let h = c.args.header in
-    let size : length c.deref_mut.result.now ≡ h.data_size = omega (arith, c.deref_mut.ensures.len, c.in_ok-data.ensures.len) in
-    rw (size, c.requires.end) (data_within c.args.span.begin h.data_size h.num_records)
+pub read_data-requires-clause-room : goal.read_data-requires-clause-room
+read_data-requires-clause-room g c = rw c.requires.end (data_within c.args.at c.args.header.data_size c.args.header.num_records)
 
-pub returns-in-None-clause-sound : goal.returns-in-None-clause-sound
-returns-in-None-clause-sound g c =
+pub returns-in-Data-clause-sound : goal.returns-in-Data-clause-sound
+returns-in-Data-clause-sound g c =
     let h = c.args.header in
-    let begin = c.args.span.begin in
-    let size : length c.deref_mut.result.now ≡ h.data_size = omega (arith, c.deref_mut.ensures.len, c.in_ok-data.ensures.len) in
-    let whole : length c.fill.new.buf ≡ c.in_ok-data.data.len = omega (arith, c.fill.auto.buf, c.deref_mut.ensures.len) in
-    let held : c.read.result.bytes ≡ c.fill.new.buf =
-    c.read.ensures.bytes ∙ c.from.ensures
-    ∙ take_at c.fill.new.buf (drop (length c.fill.new.buf) c.in_ok-data.data.items) c.in_ok-data.data.len whole in
-    loaded_whole _ begin c.args.end h c.read.result c.in_ok-landing.field-0 c.in-None.is
-    (rw held
-    (data_given _ _ begin h.data_size c.args.end c.fill.new.buf (g.met.S.Store.sized c.args.store.now)
+    let at = c.args.at in
+    let held = c.in-Data.data in
+    let read = c.in_ok-data.ensures in
+    let loaded = c.into_chunk-chunk in
+    loaded_whole _ at c.args.end h loaded.result.0 loaded.result.1
+    (rw loaded.ensures.bytes
+    (data_given _ _ at h.data_size c.args.end held (g.met.S.Store.sized c.args.store.now)
     (told_within _ c.args.size c.args.end c.requires.told c.requires.within)
-    (omega (arith, c.requires.end, header_within begin h.data_size h.num_records))
-    (rw size at (c.in_ok-landing.ensures.given (cc)))))
-    c.in_ok-landing.ensures.leads
+    (omega (arith, c.requires.end, header_within at h.data_size h.num_records))
+    (read.given held (ap Ok c.in-Data.is))))
+    (read.none held (ap Ok c.in-Data.is))
+
+pub returns-in-Contradicted-clause-loaded : goal.returns-in-Contradicted-clause-loaded
+returns-in-Contradicted-clause-loaded g c = c.in_ok-data.ensures.onward c.in-Contradicted.landing (ap Ok c.in-Contradicted.is)

@@ -1,5 +1,6 @@
 use Rattle.std.proofs.Common.{length, arith}
 use Rattle.damage_skip.proofs.Tiles.{tiles_append, tiles_parted, events-append, pieces_at_boundaries, pieces_within, tiles_rise, tiles_last, tiles_hold}
+use Rattle.damage_skip.proofs.EventPieces.{events_hold, events_are, events_rise}
 use Rattle.damage_skip.proofs.laws.pieces_tile_the_file.Goals as goal
 
 pub returns : goal.returns
@@ -12,4 +13,7 @@ returns c = record {
   rise = λ keep file pieces h. tiles_rise keep file 0 (length file) pieces h;
   last = λ keep file pieces piece h. tiles_last keep file 0 (length file) pieces piece h;
   holder = λ keep file pieces position h below. tiles_hold keep file 0 (length file) position pieces h (omega arith) below;
+  events_hold = events_hold;
+  events_are = events_are;
+  events_rise = λ keep file pieces h. events_rise keep file 0 (length file) pieces h;
 }

@@ -1,6 +1,5 @@
-use Rattle.std.proofs.Common.{Some, subst}
+use Rattle.std.proofs.Common.{Some, refl, subst}
 use Rattle.chunk_reader.proofs.Rooms.{IsSized}
-use Rattle.damage_skip.proofs.Fills.{is_end}
 use Rattle.damage_skip.proofs.PieceSteps.{too_large_piece, contradicted_piece, read_pieces, read_from, onward_end}
 use Rattle.damage_skip.specs.Steps.{IsLoadOf, IsLoadIn}
 use Rattle.damage_skip.specs.declared.chunk_loads.Loaded.{Loaded}
@@ -9,31 +8,31 @@ use Rattle.damage_skip.proofs.pieces.held_piece.Goals as goal
 
 pub unloaded_piece-requires-clause-after : goal.unloaded_piece-requires-clause-after
 unloaded_piece-requires-clause-after g c =
-    (onward_end c.args.size c.args.span.begin c.args.header c.args.end c.requires.end c.requires.within).past
+    (onward_end c.args.size c.args.at c.args.header c.args.end c.requires.end c.requires.within).past
 
 pub unloaded_piece-requires-clause-boundary : goal.unloaded_piece-requires-clause-boundary
 unloaded_piece-requires-clause-boundary g c =
-    (onward_end c.args.size c.args.span.begin c.args.header c.args.end c.requires.end c.requires.within).boundary
+    (onward_end c.args.size c.args.at c.args.header c.args.end c.requires.end c.requires.within).boundary
 
 pub returns-then-header-gt-MAX_DATA_SIZE-clause-sound : goal.returns-then-header-gt-MAX_DATA_SIZE-clause-sound
 returns-then-header-gt-MAX_DATA_SIZE-clause-sound g c =
     let sized : IsSized (g.S.Store.bytes c.args.store.now) (Some c.args.size) =
     subst (IsSized (g.S.Store.bytes c.args.store.now)) c.requires.told (g.met.S.Store.sized c.args.store.now) in
-    too_large_piece _ c.args.keep c.args.size c.args.span.begin c.args.end c.args.header c.in_ok-unloaded_piece.field-0 sized c.requires.fits
+    too_large_piece _ c.args.keep c.args.size c.args.at c.args.end c.args.header c.in_ok-unloaded_piece.field-0 sized c.requires.fits
     c.requires.head c.requires.end c.requires.within c.if-header-gt-MAX_DATA_SIZE.true
-    (c.in_ok-unloaded_piece.ensures.unloaded c.args.end (is_end _ c.args.end c.requires.span))
+    (c.in_ok-unloaded_piece.ensures.unloaded c.args.end refl)
 
 pub returns-in-Whole-clause-piece : goal.returns-in-Whole-clause-piece
 returns-in-Whole-clause-piece g c =
-    let whole = subst (IsLoadOf c.args.size c.args.span.begin c.args.header) c.in-Whole.is c.in_ok-chunk.ensures.loaded in
-    read_from _ c.args.keep c.args.size c.args.span.begin c.args.end c.args.header c.in-Whole.chunk c.requires.end c.requires.within
+    let whole = subst (IsLoadOf c.args.size c.args.at c.args.header) c.in-Whole.is c.in_ok-chunk.ensures.loaded in
+    read_from _ c.args.keep c.args.size c.args.at c.args.end c.args.header c.in-Whole.chunk c.requires.end c.requires.within
     c.if-header-gt-MAX_DATA_SIZE.false whole.0 whole.1 c.whole_piece.ensures.end c.whole_piece.ensures.read
 
 pub returns-in-Whole-clause-sound : goal.returns-in-Whole-clause-sound
 returns-in-Whole-clause-sound g c =
     let sized : IsSized (g.S.Store.bytes c.args.store.now) (Some c.args.size) =
     subst (IsSized (g.S.Store.bytes c.args.store.now)) c.requires.told (g.met.S.Store.sized c.args.store.now) in
-    let begin = c.args.span.begin in
+    let begin = c.args.at in
     let whole = subst (IsLoadOf c.args.size begin c.args.header) c.in-Whole.is c.in_ok-chunk.ensures.loaded in
     let there =
     subst (λ (l : Loaded). IfSome (g.S.Store.bytes c.args.store.now) (λ file. IsLoadIn file begin c.args.end c.args.header l)) c.in-Whole.is
@@ -43,7 +42,7 @@ returns-in-Whole-clause-sound g c =
 
 pub returns-in-Contradicted-clause-sound : goal.returns-in-Contradicted-clause-sound
 returns-in-Contradicted-clause-sound g c =
-    let begin = c.args.span.begin in
+    let begin = c.args.at in
     let leads =
     subst (λ (l : Loaded). IfSome (g.S.Store.bytes c.args.store.now) (λ file. IsLoadIn file begin c.args.end c.args.header l)) c.in-Contradicted.is
     c.in_ok-chunk.ensures.sound in

@@ -1,0 +1,20 @@
+use Rattle.std.proofs.Common.{◌≡◌, ◌-◌, ◌≤◌, None, length, IfSome}
+use Rattle.block_layout.specs.Layout.{end_of, own_bytes_at}
+use Rattle.damage_skip.specs.Steps.{LeadsTo}
+use Rattle.damage_skip.proofs.chunk_loads.read_data.Given as goal
+
+abbrev pub invariant-loop-left : goal.invariant-loop-left
+invariant-loop-left g l = record {
+  within : l.left ≤ l.fn.count;
+  count : length l.data ≡ l.fn.count - l.left;
+  given : IfSome (g.S.Store.bytes l.fn.store) (λ file. l.data ≡ own_bytes_at file (end_of l.fn.at 40) (l.fn.count - l.left));
+  moved : l.own.place ≡ end_of (end_of l.fn.at 40) (l.fn.count - l.left);
+  none : IfSome (g.S.Store.bytes l.fn.store) (λ file. LeadsTo file l.fn.at l.fn.end l.fn.at l.own.place None);
+  same_bytes : g.S.Store.bytes l.store ≡ g.S.Store.bytes l.fn.store;
+  same_told : g.S.Store.told l.store ≡ g.S.Store.told l.fn.store;
+  same_name : g.S.Store.name l.store ≡ g.S.Store.name l.fn.store;
+  counted : g.S.Store.faults l.fn.store ≤ g.S.Store.faults l.store;
+}
+
+abbrev pub decreases-loop-left : goal.decreases-loop-left
+decreases-loop-left g l = l.left
