@@ -1,7 +1,7 @@
 -- A chunk that is laid anew grows by no more than a block header, and so the file of pieces stays small.
-use Rattle.std.proofs.Common.{◌≡◌, ◌∙◌, ◌⊎◌, ℕ, ◌+◌, ◌*◌, ◌<◌, ◌≤◌, max, Bool, List, [], ◌∷◌, length, refl, sym, ap, subst, inl, inr, arith}
+use Rattle.std.proofs.Common.{◌≡◌, ◌∙◌, ◌⊎◌, ℕ, ◌+◌, ◌*◌, ◌%◌, ◌<◌, ◌≤◌, max, Bool, List, [], ◌∷◌, length, refl, sym, ap, subst, inl, inr, arith}
 use Rattle.std.proofs.lemmas.Bool.{cases_lt}
-use Rattle.block_layout.specs.Layout.{IsBoundary, end_of, chunk_end_of, boundary_from}
+use Rattle.block_layout.specs.Layout.{end_of, chunk_end_of, boundary_from}
 use Rattle.block_layout.proofs.Ends.{end_of-some, end_of_boundary, boundary_from_near, boundary_from_is}
 use Rattle.block_layout.proofs.ChunkEnds.{chunk_end_of-opened, chunk_end_of_past_bytes, chunk_end_of_past_records}
 use Rattle.chunk_header.specs.Chunks.{ChunkValue}
@@ -17,15 +17,18 @@ use Rattle.damage_skip.proofs.OnePiece.{piece_cases, piece_past}
 use Rattle.repair_copy.specs.Relaid.{chunk_in, chunks_in, relaid}
 
 -- bytes that begin at another place have at most one block header more between them
-end_of_moved : (a b size : ℕ) → IsBoundary a → 1 ≤ size → end_of b size + a ≤ end_of a size + b + 24
-end_of_moved a b size (inl block) some = omega (arith, end_of-some a size some, end_of-some b size some)
-end_of_moved a b size (inr inside) some = omega (arith, end_of-some a size some, end_of-some b size some)
+end_of_moved : (a b size : ℕ) → 1 ≤ size → end_of b size + a ≤ end_of a size + b + 24
+end_of_moved a b size some =
+    elim (cases_lt (a % 65536) 24) [
+      | inl header ↦ omega (arith, end_of-some a size some, end_of-some b size some)
+      | inr usable ↦ omega (arith, end_of-some a size some, end_of-some b size some)
+    ]
 
 -- so a chunk from another place has at most as many bytes more
-chunk_end_of_moved : (a b size num_records : ℕ) → IsBoundary a → 1 ≤ size
+chunk_end_of_moved : (a b size num_records : ℕ) → 1 ≤ size
     → chunk_end_of b size num_records + a ≤ chunk_end_of a size num_records + b + 24
-chunk_end_of_moved a b size num_records boundary some =
-    let bytes : end_of b size + a ≤ end_of a size + b + 24 = end_of_moved a b size boundary some in
+chunk_end_of_moved a b size num_records some =
+    let bytes : end_of b size + a ≤ end_of a size + b + 24 = end_of_moved a b size some in
     let past : end_of a size ≤ chunk_end_of a size num_records = chunk_end_of_past_bytes a size num_records in
     let records : a + num_records ≤ chunk_end_of a size num_records = chunk_end_of_past_records a size num_records in
     elim (cases_lt (end_of b size) (b + num_records)) [
@@ -43,13 +46,13 @@ chunk_end_of_moved a b size num_records boundary some =
           omega arith
     ]
 
-pub end_of_chunk_moved : (a b : ℕ) (k : ChunkValue) → IsBoundary a → end_of_chunk b k + a ≤ end_of_chunk a k + b + 24
-end_of_chunk_moved a b k boundary = chunk_end_of_moved a b (40 + length k.«data») k.num_records boundary (omega arith)
+pub end_of_chunk_moved : (a b : ℕ) (k : ChunkValue) → end_of_chunk b k + a ≤ end_of_chunk a k + b + 24
+end_of_chunk_moved a b k = chunk_end_of_moved a b (40 + length k.«data») k.num_records (omega arith)
 
 -- which is at most twice as many in all, as a chunk has more than these
-pub place_moved : (begin place : ℕ) (k : ChunkValue) → IsBoundary begin → place ≤ 64 + 2 * begin
+pub place_moved : (begin place : ℕ) (k : ChunkValue) → place ≤ 64 + 2 * begin
     → end_of_chunk place k ≤ 64 + 2 * end_of_chunk begin k
-place_moved begin place k boundary small = omega (arith, end_of_chunk_moved begin place k boundary, end_of_chunk_after begin k)
+place_moved begin place k small = omega (arith, end_of_chunk_moved begin place k, end_of_chunk_after begin k)
 
 -- the chunk of a whole piece is the one at its place, if it has one
 one_or_none : (file : List ℕ) (keep : Bool) (place : ℕ) (what : What) → IsFoundAs keep (chunk_at file place) what
@@ -60,9 +63,9 @@ one_or_none file keep place Passive found = inr refl
 one_or_none file keep place (Skipped w) found = inr refl
 
 -- so a piece moves the place where the next chunk is laid by at most twice its size
-piece_moved : (keep : Bool) (file : List ℕ) (begin end place : ℕ) (what : What) → IsBoundary begin → begin < length file
+piece_moved : (keep : Bool) (file : List ℕ) (begin end place : ℕ) (what : What) → begin < length file
     → place ≤ 64 + 2 * begin → IsPieceOf keep file begin end what → end_of_chunks place (chunk_in what) ≤ 64 + 2 * end
-piece_moved keep file begin end place what boundary below small is =
+piece_moved keep file begin end place what below small is =
     let stays : end_of_chunks place [] ≤ 64 + 2 * end = omega (arith, (piece_past keep file begin end what below is).past) in
     let bounded : (ks : List ChunkValue) → Type 0 = λ ks. end_of_chunks place ks ≤ 64 + 2 * end in
     elim (piece_cases keep file begin end what is) [
@@ -71,22 +74,21 @@ piece_moved keep file begin end place what boundary below small is =
         | inl one ↦
             let fits : end_at file begin ≤ length file = omega (arith, none.1.1.1.0) in
             let moved : end_of_chunk place (chunk_at file begin) ≤ 64 + 2 * end_of_chunk begin (chunk_at file begin) =
-            place_moved begin place (chunk_at file begin) boundary small in
+            place_moved begin place (chunk_at file begin) small in
             subst bounded (sym one) (omega (arith, moved, end_of_chunk-at file begin fits, to))
         | inr no_chunk ↦ subst bounded (sym no_chunk) stays
       ]
     ]
 
-tiles_moved : (keep : Bool) (file : List ℕ) (from to place : ℕ) (pieces : List Piece) → IsBoundary from ⊎ (from ≡ length file)
+tiles_moved : (keep : Bool) (file : List ℕ) (from to place : ℕ) (pieces : List Piece)
     → place ≤ 64 + 2 * from → AreTiles keep file from to pieces → end_of_chunks place (chunks_in pieces) ≤ 64 + 2 * to
-tiles_moved keep file from to place [] boundary small h = omega (arith, h)
-tiles_moved keep file from to place (p ∷ pieces) boundary small (begin, below, is, rest) =
-    let here : IsBoundary from = elim boundary [ inl on ↦ on | inr end ↦ absurd (omega arith) ] in
+tiles_moved keep file from to place [] small h = omega (arith, h)
+tiles_moved keep file from to place (p ∷ pieces) small (begin, below, is, rest) =
     omega (
       arith,
       end_of_chunks-append place (chunk_in p.what) (chunks_in pieces),
-      tiles_moved keep file p.end to (end_of_chunks place (chunk_in p.what)) pieces (piece_past keep file from p.end p.what below is).boundary
-          (piece_moved keep file from p.end place p.what here below small is) rest,
+      tiles_moved keep file p.end to (end_of_chunks place (chunk_in p.what)) pieces
+          (piece_moved keep file from p.end place p.what below small is) rest,
     )
 
 -- and the file of pieces has at most twice as many bytes, behind the signature
@@ -97,5 +99,5 @@ relaid_small keep file place pieces h =
       arith,
       end-laid_each 0 (signature ∷ chunks_in pieces),
       ap (λ (x : ℕ). end_of_chunks x (chunks_in pieces)) end_of_chunk-signature,
-      tiles_moved keep file 0 place 64 pieces (inl (inl refl)) (omega arith) h,
+      tiles_moved keep file 0 place 64 pieces (omega arith) h,
     )

@@ -6,3 +6,6 @@ pub mod LeftChunks
 pub mod RelaidBytes
 pub mod Growth
 mod Values
+mod CopySteps
+mod WalkedFiles
+pub mod OneWalk

@@ -1,1 +1,5 @@
 pub mod Relaid
+pub mod Told
+pub mod Walked
+pub mod Copies
+pub mod Repairs

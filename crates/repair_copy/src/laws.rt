@@ -3,7 +3,7 @@
 ghost use Rattle.std.specs.List.{AllByRecursion};
 ghost use Rattle.std.specs.Prelude.{◌≡◌, ◌⊎◌, ℕ, ◌+◌, ◌-◌, ◌*◌, ◌^◌, ◌≤◌, Bool, true, false, Option, List, [], ◌∷◌, ◌++◌, length};
 ghost use Rattle.record_io.specs.Bytes.{AreBytes};
-ghost use Rattle.block_layout.specs.Layout.{block_header_size, IsBoundary};
+ghost use Rattle.block_layout.specs.Layout.{block_header_size};
 ghost use Rattle.chunk_header.specs.Chunks.{ChunkValue};
 ghost use Rattle.meta_chunk.specs.Kinds.{IsSignature, IsPadding};
 ghost use Rattle.meta_chunk.specs.Files.{signature, IsFramed, IsFileOf, IsFile, IsFrame, AreRecordsOf, laid_each};
@@ -55,9 +55,9 @@ pub fn relaid_files_are_frames()
 /// behind the signature the file of pieces has at most twice the bytes up to where the pieces end. Own.
 pub fn relaid_files_grow_little()
     ensures chunk { (begin place : ℕ) (k : ChunkValue)
-        → IsBoundary begin → end_of_chunk place k - place ≤ end_of_chunk begin k - begin + block_header_size }
+        → end_of_chunk place k - place ≤ end_of_chunk begin k - begin + block_header_size }
     ensures more { (begin place : ℕ) (k : ChunkValue)
-        → IsBoundary begin → place ≤ 64 + 2 * begin → end_of_chunk place k ≤ 64 + 2 * end_of_chunk begin k }
+        → place ≤ 64 + 2 * begin → end_of_chunk place k ≤ 64 + 2 * end_of_chunk begin k }
     ensures file { (keep : Bool) (file : List ℕ) (place : ℕ) (pieces : List Piece)
         → AreTiles keep file 0 place pieces → length (relaid pieces) ≤ 64 + 2 * place }
 {}

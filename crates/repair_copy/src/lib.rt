@@ -1,4 +1,11 @@
 //! A damaged file copied without what damage took: its intact chunks, laid anew one after another.
 #![tactic(auto)]
 
+mod copying;
 pub mod laws;
+mod repairs;
+
+pub use repairs::{RepairEnd, Repaired, repair};
+
+#[cfg(test)]
+mod tests;

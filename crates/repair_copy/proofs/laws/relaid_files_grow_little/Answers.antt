@@ -5,7 +5,7 @@ use Rattle.repair_copy.proofs.laws.relaid_files_grow_little.Goals as goal
 
 pub returns : goal.returns
 returns c = record {
-  chunk = λ begin place k boundary. omega (arith, end_of_chunk_moved begin place k boundary, end_of_chunk_after begin k, end_of_chunk_after place k);
+  chunk = λ begin place k. omega (arith, end_of_chunk_moved begin place k, end_of_chunk_after begin k, end_of_chunk_after place k);
   more = place_moved;
   file = relaid_small;
 }
