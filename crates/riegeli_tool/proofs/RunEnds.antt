@@ -1,5 +1,5 @@
 -- How a run of any command ends: what all its clauses follow from.
-use Rattle.std.proofs.Common.{◌≡◌, ◌≢◌, ℕ, ◌≤◌, ◌⊎◌, true, false, Option, Some, None, List, [], ◌∷◌, length, get_or, set, map, refl, sym, ap, subst, ◌∙◌, inl, inr, arith, append-nil}
+use Rattle.std.proofs.Common.{◌≡◌, ◌≢◌, ℕ, zero, suc, ◌≤◌, ◌⊎◌, true, false, Option, Some, None, List, [], ◌∷◌, length, get_or, set, map, refl, sym, ap, subst, ◌∙◌, inl, inr, arith, append-nil}
 use Rattle.std.specs.Option.{IfSome}
 use Rattle.record_io.specs.Outside.{Rose, Takes, TakesFront}
 use Rattle.record_io.proofs.Calls.{TakesFront-whole}
@@ -8,8 +8,9 @@ use Rattle.riegeli_tool.specs.declared.status.Status.{Status}
 use Rattle.riegeli_tool.specs.declared.status.Status.TheVariants as status
 use Rattle.riegeli_tool.specs.Statuses.{fault_text}
 use Rattle.riegeli_tool.specs.Answers.{Answer, usage_text, usage}
+use Rattle.riegeli_tool.specs.FileAnswers.{LeavesTooLong}
 use Rattle.riegeli_tool.specs.CommandAnswers.{uses_of, MayEnd, MayWork, MaySay}
-use Rattle.riegeli_tool.specs.Runs.{Shown, ShownFile, Seen, seen, IsWhole, IsCutOff, IsSound, IfTold, OfSizes, Gave, TakesThen, SaysAtEnd, WasCutOff, FailedToSay, HasCause, NoneFell, Runs}
+use Rattle.riegeli_tool.specs.Runs.{Shown, ShownFile, Seen, seen, IsWhole, IsCutOff, IsSound, IfTold, OfSizes, Gave, TakesThen, SaysAtEnd, WasCutOff, FailedToSay, HasCause, NoneFell, AllLeaveTooLong, Runs}
 
 -- a sink that isn't used took nothing
 pub Takes-nothing : (taken : Option (List ℕ)) → Takes taken taken []
@@ -202,3 +203,19 @@ runs-usage input files made out notes notes_then ended says counts =
     (OfSizes-unread None _ _ (λ sizes. MayEnd None sizes status.Usage usage_text) refl (refl, refl))
     (λ _ _ _ _. (usage, refl, record { same_status = refl; made = Takes-nothing made.bytes; out = Takes-nothing out.bytes; notes = refl }))
     (λ _. refl) refl (none-fell input input files made made out notes notes_then (omega arith) (omega arith) counts)
+
+-- the one file that was handed in was left unread, where it is too long
+leave_only : (file file_then : ShownFile) → LeavesTooLong file_then.told file.handed file_then.handed → AllLeaveTooLong (file ∷ []) (file_then ∷ [])
+leave_only file file_then left zero a b was is =
+    let same : file ≡ a = cc was in
+    let also : file_then ≡ b = cc is in
+    subst (λ (x : ShownFile). LeavesTooLong b.told x.handed b.handed) same
+    (subst (λ (y : ShownFile). LeavesTooLong y.told file.handed y.handed) also left)
+leave_only file file_then left (suc place) a b was is = absurd (cc was)
+
+pub leave-one_file : {X : Type 0} (show : X → ShownFile) (files : List X) (x then : X) → 1 ≡ length files
+    → LeavesTooLong (show then).told (show (get_or files 0 x)).handed (show then).handed
+    → AllLeaveTooLong (map show files) (map show (set files 0 then))
+leave-one_file show [] x then one left = absurd (omega arith)
+leave-one_file show (file ∷ []) x then one left = leave_only (show file) (show then) left
+leave-one_file show (file ∷ other ∷ files) x then one left = absurd (omega (arith, one))

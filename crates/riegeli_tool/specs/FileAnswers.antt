@@ -1,5 +1,5 @@
 -- What the commands that read a record file print and say of it. Own.
-use Rattle.std.specs.Prelude.{◌≡◌, ℕ, ◌^◌, ◌<◌, ◌≤◌, ◌⊎◌, Bool, List, [], ◌∷◌, ◌++◌, length, decimal, if◌then◌else◌}
+use Rattle.std.specs.Prelude.{◌≡◌, ℕ, ◌^◌, ◌<◌, ◌≤◌, ◌⊎◌, Bool, Option, IfSome, List, [], ◌∷◌, ◌++◌, length, decimal, if◌then◌else◌}
 use lib.Chars.{codes}
 use Rattle.record_io.specs.declared.file_totals.Totals.{Totals}
 use Rattle.chunk_reader.specs.declared.reasons.Fault.{Fault}
@@ -31,6 +31,10 @@ record_line positions placed = line (if positions then decimal placed.0 ++ 32 �
 -- how many bytes a record file may have that is read
 abbrev pub most_file_bytes : ℕ
 most_file_bytes = 2 ^ 60
+
+-- a file that told more was left unread: no more bytes were handed out after than before
+abbrev pub LeavesTooLong : Option ℕ → ℕ → ℕ → Type 0
+LeavesTooLong told before after = IfSome told (λ size. most_file_bytes < size → after ≡ before)
 
 -- the line that tells that a file has more
 abbrev pub limit_text : List ℕ

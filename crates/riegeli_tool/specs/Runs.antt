@@ -9,6 +9,7 @@ use Rattle.riegeli_tool.specs.declared.status.Status.TheVariants as status
 use Rattle.riegeli_tool.specs.Statuses.{fault_text}
 use Rattle.riegeli_tool.specs.Input.{lines}
 use Rattle.riegeli_tool.specs.Answers.{Answer, line}
+use Rattle.riegeli_tool.specs.FileAnswers.{LeavesTooLong}
 use Rattle.riegeli_tool.specs.CommandAnswers.{Uses, uses_of, IsAnswer, MayEnd, MayWork, MaySay}
 
 -- what a stream shows: the bytes that an input has left or that a sink took, where it tells them, and its count of faults
@@ -19,14 +20,16 @@ pub record Shown : Type 0 where
 abbrev pub shown : Option (List ℕ) → ℕ → Shown
 shown bytes faults = record { bytes = bytes; faults = faults }
 
--- what a file shows: its bytes, where it tells them, the size that it told the last time, and its count of faults
+-- what a file shows: its bytes, where it tells them, the size that it told the last time, how many bytes it handed out, and its
+-- count of faults
 pub record ShownFile : Type 0 where
   pub bytes : Option (List ℕ)
   pub told : Option ℕ
+  pub handed : ℕ
   pub faults : ℕ
 
-abbrev pub shown_file : Option (List ℕ) → Option ℕ → ℕ → ShownFile
-shown_file bytes told faults = record { bytes = bytes; told = told; faults = faults }
+abbrev pub shown_file : Option (List ℕ) → Option ℕ → ℕ → ℕ → ShownFile
+shown_file bytes told handed faults = record { bytes = bytes; told = told; handed = handed; faults = faults }
 
 -- what the objects of a run show
 pub record Seen : Type 0 where
@@ -63,6 +66,12 @@ abbrev pub OneRose : List ShownFile → List ShownFile → Type 0
 OneRose before after =
     (place : ℕ) × (a : ShownFile) × (b : ShownFile)
     × (slice_get before place ≡ Some a) × (slice_get after place ≡ Some b) × Rose a.faults b.faults
+
+-- each of the files that told more bytes than are read was left unread
+abbrev pub AllLeaveTooLong : List ShownFile → List ShownFile → Type 0
+AllLeaveTooLong before after =
+    (place : ℕ) (a b : ShownFile) → slice_get before place ≡ Some a → slice_get after place ≡ Some b
+    → LeavesTooLong b.told a.handed b.handed
 
 -- no object that is used had a fault
 pub record IsSound (uses : Uses) (before after : Seen) : Type 0 where

@@ -2,7 +2,7 @@ ghost use Rattle.std.specs.Prelude.{◌≡◌, false, map, length};
 ghost use Rattle.std.specs.String.{string_bytes};
 ghost use Rattle.riegeli_tool.specs.Commands.{accepted};
 ghost use Rattle.riegeli_tool.specs.CommandAnswers.{uses_of};
-ghost use Rattle.riegeli_tool.specs.Runs.{Runs, seen, shown, shown_file};
+ghost use Rattle.riegeli_tool.specs.Runs.{AllLeaveTooLong, Runs, seen, shown, shown_file};
 
 use crate::command::Command;
 use crate::notes::end;
@@ -52,14 +52,18 @@ pub fn run<R: Threads + Sync, I: Source, S: Store, M: Sink + Send, O: Sink, E: S
     // What the status and the objects tell: the answer, or which of them failed and what went out before.
     ensures runs { Runs (accepted (map string_bytes words.now) (length files.old))
         (seen (shown (I.left input.old) (I.faults input.old))
-        (map (λ file. shown_file (S.bytes file) (S.told file) (S.faults file)) files.old)
+        (map (λ file. shown_file (S.bytes file) (S.told file) (S.handed file) (S.faults file)) files.old)
         (shown (M.taken made.old) (M.faults made.old)) (shown (O.taken out.old) (O.faults out.old))
         (shown (E.taken notes.old) (E.faults notes.old)))
         (seen (shown (I.left input.new) (I.faults input.new))
-        (map (λ file. shown_file (S.bytes file) (S.told file) (S.faults file)) files.new)
+        (map (λ file. shown_file (S.bytes file) (S.told file) (S.handed file) (S.faults file)) files.new)
         (shown (M.taken made.new) (M.faults made.new)) (shown (O.taken out.new) (O.faults out.new))
         (shown (E.taken notes.new) (E.faults notes.new)))
         result }
+
+    // A file that is too long is left unread: its size is asked first.
+    ensures too_long_unread { AllLeaveTooLong (map (λ file. shown_file (S.bytes file) (S.told file) (S.handed file) (S.faults file)) files.old)
+        (map (λ file. shown_file (S.bytes file) (S.told file) (S.handed file) (S.faults file)) files.new) }
 
     // The files stay as they are.
     ensures same_bytes { map (λ file. S.bytes file) files.new ≡ map (λ file. S.bytes file) files.old }

@@ -2,6 +2,7 @@ ghost use Rattle.std.specs.Prelude.{◌≡◌, ◌≢◌, ◌^◌, ◌≤◌, []
 ghost use Rattle.record_io.specs.Outside.{Rose};
 ghost use Rattle.damage_skip.specs.Policies.{IsTest};
 ghost use Rattle.damage_skip.specs.Walkers.{progress_of, test_of};
+ghost use Rattle.riegeli_tool.specs.FileAnswers.{LeavesTooLong};
 ghost use Rattle.riegeli_tool.specs.RecoverProgress.{GivesEvent, HasRoom, IsBound, Recovers, TellsOf, WalksBySize, event_lines, event_text, status_after};
 ghost use Rattle.riegeli_tool.specs.Runs.{Runs, Shown, seen, shown, shown_file};
 ghost use Rattle.riegeli_tool.specs.WalkAnswers.{may_skip};
@@ -24,11 +25,12 @@ pub(crate) fn recover<S: Store, O: Sink, E: Sink>(
     notes: &mut E,
 ) -> Status
     ensures runs { (input made : Shown) → Runs (Some (Command.Recover words.now))
-        (seen input (shown_file (S.bytes file.old) (S.told file.old) (S.faults file.old) ∷ []) made
+        (seen input (shown_file (S.bytes file.old) (S.told file.old) (S.handed file.old) (S.faults file.old) ∷ []) made
         (shown (O.taken out.old) (O.faults out.old)) (shown (E.taken notes.old) (E.faults notes.old)))
-        (seen input (shown_file (S.bytes file.new) (S.told file.new) (S.faults file.new) ∷ []) made
+        (seen input (shown_file (S.bytes file.new) (S.told file.new) (S.handed file.new) (S.faults file.new) ∷ []) made
         (shown (O.taken out.new) (O.faults out.new)) (shown (E.taken notes.new) (E.faults notes.new)))
         result }
+    ensures unread { LeavesTooLong (S.told file.new) (S.handed file.old) (S.handed file.new) }
     ensures same_bytes { S.bytes file.new ≡ S.bytes file.old }
     ensures same_name { S.name file.new ≡ S.name file.old }
     ensures notes_kept { result ≡ Status.Ok → notes.new ≡ notes.old }
@@ -49,6 +51,7 @@ fn recover_file<S: Store, O: Sink, E: Sink>(
     ensures said { TellsOf words.now.most result (E.taken notes.old) (E.taken notes.new) }
     ensures sized { WalksBySize result (S.told file.new) }
     ensures notes_kept { result ≡ Ok Status.Ok → notes.new ≡ notes.old }
+    ensures unread { LeavesTooLong (S.told file.new) (S.handed file.old) (S.handed file.new) }
     ensures same_bytes { S.bytes file.new ≡ S.bytes file.old }
     ensures same_name { S.name file.new ≡ S.name file.old }
     ensures file_cause { result ≡ Err WalkingEnd.File → Rose (S.faults file.old) (S.faults file.new) }

@@ -3,7 +3,7 @@ ghost use Rattle.std.specs.List.{enumerate_from};
 ghost use Rattle.record_io.specs.Outside.{Rose, TakesFront};
 ghost use Rattle.record_io.specs.Buffers.{TakesAndHolds};
 ghost use Rattle.chunk_reader.specs.Progress.{AreReadFrom};
-ghost use Rattle.riegeli_tool.specs.FileAnswers.{most_file_bytes, record_line};
+ghost use Rattle.riegeli_tool.specs.FileAnswers.{LeavesTooLong, most_file_bytes, record_line};
 ghost use Rattle.riegeli_tool.specs.ShowCommand.{IsShown};
 ghost use Rattle.riegeli_tool.specs.ReadingEnds.{EndsBySize, Prints};
 ghost use Rattle.riegeli_tool.specs.ShowProgress.{record_lines, records_in, IsPrinted, PrintsOn};
@@ -31,11 +31,12 @@ pub(crate) fn show<S: Store, O: Sink, E: Sink>(
     notes: &mut E,
 ) -> Status
     ensures runs { (input made : Shown) → Runs (Some (Command.Show words.now))
-        (seen input (shown_file (S.bytes file.old) (S.told file.old) (S.faults file.old) ∷ []) made
+        (seen input (shown_file (S.bytes file.old) (S.told file.old) (S.handed file.old) (S.faults file.old) ∷ []) made
         (shown (O.taken out.old) (O.faults out.old)) (shown (E.taken notes.old) (E.faults notes.old)))
-        (seen input (shown_file (S.bytes file.new) (S.told file.new) (S.faults file.new) ∷ []) made
+        (seen input (shown_file (S.bytes file.new) (S.told file.new) (S.handed file.new) (S.faults file.new) ∷ []) made
         (shown (O.taken out.new) (O.faults out.new)) (shown (E.taken notes.new) (E.faults notes.new)))
         result }
+    ensures unread { LeavesTooLong (S.told file.new) (S.handed file.old) (S.handed file.new) }
     ensures same_bytes { S.bytes file.new ≡ S.bytes file.old }
     ensures same_name { S.name file.new ≡ S.name file.old }
     ensures notes_kept { result ≡ Status.Ok → notes.new ≡ notes.old }
@@ -53,6 +54,7 @@ fn print_file<S: Store, O: Sink>(
 ) -> Result<(), ReadingEnd>
     ensures printed { IfSome (S.bytes file.old) (λ bytes. Prints (IsShown words.now) result bytes (O.taken out.old) (O.taken out.new) []) }
     ensures sized { EndsBySize result (S.told file.new) }
+    ensures unread { LeavesTooLong (S.told file.new) (S.handed file.old) (S.handed file.new) }
     ensures same_bytes { S.bytes file.new ≡ S.bytes file.old }
     ensures same_name { S.name file.new ≡ S.name file.old }
     ensures file_cause { result ≡ Err ReadingEnd.File → Rose (S.faults file.old) (S.faults file.new) }

@@ -1,7 +1,7 @@
 ghost use Rattle.std.specs.Prelude.{◌≡◌, ◌≢◌, ◌≤◌, Some, Err, [], ◌∷◌, IfSome, OnOk, OnErr};
 ghost use Rattle.record_io.specs.Outside.{Rose, Takes, TakesFront};
 ghost use Rattle.riegeli_tool.specs.declared.verify_words.VerifyWords.{VerifyWords};
-ghost use Rattle.riegeli_tool.specs.FileAnswers.{report};
+ghost use Rattle.riegeli_tool.specs.FileAnswers.{LeavesTooLong, report};
 ghost use Rattle.riegeli_tool.specs.VerifyCommand.{IsVerified};
 ghost use Rattle.riegeli_tool.specs.ReadingEnds.{EndsBySize, Prints};
 ghost use Rattle.riegeli_tool.specs.Runs.{Runs, Shown, seen, shown, shown_file};
@@ -18,11 +18,12 @@ const REPORT: usize = 256;
 /// Judges a file and prints the report of its totals, or says in notes why it is refused. It takes no memory.
 pub(crate) fn verify<S: Store, O: Sink, E: Sink>(file: &mut S, out: &mut O, notes: &mut E) -> Status
     ensures runs { (words : VerifyWords) (input made : Shown) → Runs (Some (Command.Verify words))
-        (seen input (shown_file (S.bytes file.old) (S.told file.old) (S.faults file.old) ∷ []) made
+        (seen input (shown_file (S.bytes file.old) (S.told file.old) (S.handed file.old) (S.faults file.old) ∷ []) made
         (shown (O.taken out.old) (O.faults out.old)) (shown (E.taken notes.old) (E.faults notes.old)))
-        (seen input (shown_file (S.bytes file.new) (S.told file.new) (S.faults file.new) ∷ []) made
+        (seen input (shown_file (S.bytes file.new) (S.told file.new) (S.handed file.new) (S.faults file.new) ∷ []) made
         (shown (O.taken out.new) (O.faults out.new)) (shown (E.taken notes.new) (E.faults notes.new)))
         result }
+    ensures unread { LeavesTooLong (S.told file.new) (S.handed file.old) (S.handed file.new) }
     ensures same_bytes { S.bytes file.new ≡ S.bytes file.old }
     ensures same_name { S.name file.new ≡ S.name file.old }
     ensures notes_kept { result ≡ Status.Ok → notes.new ≡ notes.old }
@@ -35,6 +36,7 @@ pub(crate) fn verify<S: Store, O: Sink, E: Sink>(file: &mut S, out: &mut O, note
 fn report_file<S: Store, O: Sink>(file: &mut S, out: &mut O) -> Result<(), ReadingEnd>
     ensures printed { IfSome (S.bytes file.old) (λ bytes. Prints IsVerified result bytes (O.taken out.old) (O.taken out.new) []) }
     ensures sized { EndsBySize result (S.told file.new) }
+    ensures unread { LeavesTooLong (S.told file.new) (S.handed file.old) (S.handed file.new) }
     ensures same_bytes { S.bytes file.new ≡ S.bytes file.old }
     ensures same_name { S.name file.new ≡ S.name file.old }
     ensures file_cause { result ≡ Err ReadingEnd.File → Rose (S.faults file.old) (S.faults file.new) }

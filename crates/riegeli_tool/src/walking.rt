@@ -51,6 +51,7 @@ pub(crate) fn walked_size<S: Store>(file: &mut S) -> Result<u64, WalkingEnd>
     ensures sized { WalksBySize result (S.told file.new) }
     ensures exact { IfOk result (λ size. IfSome (S.bytes file.old) (λ bytes. size ≡ length bytes)) }
     ensures unread { IfErr result (λ ended. IsUnwalked ended (S.bytes file.old) (S.faults file.old) (S.faults file.new)) }
+    ensures same_handed { S.handed file.new ≡ S.handed file.old }
     ensures same_bytes { S.bytes file.new ≡ S.bytes file.old }
     ensures same_name { S.name file.new ≡ S.name file.old }
     ensures never_falls { S.faults file.old ≤ S.faults file.new }
