@@ -1,7 +1,7 @@
 //! Tests of runs over objects of which a call fails.
 
-use crate::files::{LETTERS, THREE, THREE_LINES, change, written};
-use crate::running::{Answer, Calls, Left, QUIET, SOUND, USAGE, run_in_memory};
+use crate::files::{LETTERS, THREE, THREE_LINES, change, part, written};
+use crate::running::{Answer, Calls, Left, QUIET, SOUND, USAGE, recovered, run_in_memory};
 use record_io::{Failed, MemSink, Sink};
 use riegeli_tool::Status;
 use std::alloc::{AllocError, Global};
@@ -46,8 +46,18 @@ fn failing<'a>(object: Object, fails: &'a [u32]) -> Calls<'a> {
     calls
 }
 
+/// Asserts that notes end with the fault's line, and took before it a front of what was told of skipped regions, which
+/// ends with a line.
+fn tells_fault(rt: &impl Abort, notes: &[u8], line: &str, answer: &Answer<'_>) {
+    assert!(rt; notes.ends_with(line.as_bytes()));
+    let told = part(notes, 0, notes.len().saturating_sub(line.len()));
+    assert!(rt; told.is_empty() || answer.status == Status::Skipped && told.ends_with(b"\n"));
+    assert!(rt; answer.notes.as_bytes().starts_with(told));
+}
+
 /// Asserts what a run left whose call of the object failed: made and standard output took fronts of what the answer
-/// has for them, and notes the fault's line. The failing object itself did not take the whole.
+/// has for them, and notes the fault's line, behind the lines of regions that were skipped before. The failing object
+/// itself did not take the whole.
 fn is_fault(rt: &impl Abort, left: &Left, object: Object, answer: &Answer<'_>) {
     let (made, out, notes) = (left.made.taken(), left.out.taken(), left.notes.taken());
     let (status, line) = fault_of(object);
@@ -63,7 +73,7 @@ fn is_fault(rt: &impl Abort, left: &Left, object: Object, answer: &Answer<'_>) {
         assert!(rt; answer.notes.as_bytes().starts_with(notes));
         assert!(rt; notes.len() < answer.notes.len());
     } else {
-        assert_eq!(rt; notes, line.as_bytes());
+        tells_fault(rt, notes, line, answer);
     }
 }
 
@@ -120,16 +130,15 @@ fn each_call_of_writing_fails_in_turn(rt: HostRuntime) -> Result<(), Fail> {
     Ok(())
 }
 
-/// Over the file of three letters, and over the same with a changed header at 108.
+/// Over the file of three letters, and over the same with a changed header at 108 or with changed data there.
 #[test]
 fn each_call_of_reading_fails_in_turn(rt: HostRuntime) -> Result<(), Fail> {
     let alloc = rt.alloc();
     let sound = written(&rt, alloc, &["write", "--chunk=1", "F"], LETTERS)?;
-    let mut damaged = sound.clone()?;
-    change(&rt, &mut damaged, &[116]);
     for (words, out) in [
         (["show", "F"].as_slice(), LETTERS),
         (&["show", "--positions", "F"], b"64 a\n108 b\n152 c\n"),
+        (&["show", "--recover", "F"], LETTERS),
         (
             &["verify", "F"],
             b"chunks 4\nrecords 3\nbytes 196\nunread 0\n",
@@ -139,21 +148,46 @@ fn each_call_of_reading_fails_in_turn(rt: HostRuntime) -> Result<(), Fail> {
         let objects = [Object::File, Object::Out];
         fail_in_turn(&rt, alloc, words, &[&sound], &objects, &answer)?;
     }
-    for (words, objects, out) in [
+    let reading = [Object::File, Object::Notes, Object::Out].as_slice();
+    let refused = Answer {
+        status: Status::Refused,
+        out: b"a\n",
+        notes: "refused 108 HeaderHash\n",
+        ..QUIET
+    };
+    for (words, place, objects, answer) in [
+        (["show", "F"].as_slice(), 116, reading, refused),
         (
-            ["show", "F"],
-            [Object::File, Object::Notes, Object::Out].as_slice(),
-            b"a\n".as_slice(),
+            &["verify", "F"],
+            116,
+            &[Object::File, Object::Notes],
+            Answer {
+                out: b"",
+                ..refused
+            },
         ),
-        (["verify", "F"], &[Object::File, Object::Notes], b""),
+        (
+            &["show", "--recover", "F"],
+            116,
+            reading,
+            recovered(b"a\n", "skipped 108 196 HeaderHash\n"),
+        ),
+        (
+            &["show", "F", "--positions", "--recover"],
+            151,
+            reading,
+            recovered(b"64 a\n152 c\n", "skipped 108 152 DataHash\n"),
+        ),
+        (
+            &["show", "--recover", "--most=1", "F"],
+            151,
+            reading,
+            recovered(b"a\n", "stopped 108 152 DataHash\n"),
+        ),
     ] {
-        let answer = Answer {
-            status: Status::Refused,
-            out,
-            notes: "refused 108 HeaderHash\n",
-            ..QUIET
-        };
-        fail_in_turn(&rt, alloc, &words, &[&damaged], objects, &answer)?;
+        let mut damaged = sound.clone()?;
+        change(&rt, &mut damaged, &[place]);
+        fail_in_turn(&rt, alloc, words, &[&damaged], objects, &answer)?;
     }
     Ok(())
 }
@@ -163,11 +197,13 @@ fn each_call_of_reading_fails_in_turn(rt: HostRuntime) -> Result<(), Fail> {
 fn notes_that_fail_after_another_fault_change_no_status(rt: HostRuntime) -> Result<(), Fail> {
     let alloc = rt.alloc();
     for (words, count, object) in [
-        (["write", "F"], 0, Object::Made),
-        (["show", "F"], 1, Object::File),
-        (["show", "F"], 1, Object::Out),
-        (["verify", "F"], 1, Object::File),
-        (["verify", "F"], 1, Object::Out),
+        (["write", "F"].as_slice(), 0, Object::Made),
+        (&["show", "F"], 1, Object::File),
+        (&["show", "F"], 1, Object::Out),
+        (&["show", "--recover", "F"], 1, Object::File),
+        (&["show", "--recover", "F"], 1, Object::Out),
+        (&["verify", "F"], 1, Object::File),
+        (&["verify", "F"], 1, Object::Out),
     ] {
         let files = vec![in alloc; THREE.as_slice(); count]?;
         let (status, line) = fault_of(object);
@@ -177,7 +213,7 @@ fn notes_that_fail_after_another_fault_change_no_status(rt: HostRuntime) -> Resu
                 notes_fails: &fails,
                 ..failing(object, &[0, 1])
             };
-            let left = run_in_memory(&rt, alloc, &words, THREE_LINES, &files, &calls)?;
+            let left = run_in_memory(&rt, alloc, words, THREE_LINES, &files, &calls)?;
             left.is(
                 &rt,
                 &Answer {

@@ -19,8 +19,12 @@ mod layout_tests;
 #[cfg(test)]
 mod reading_tests;
 #[cfg(test)]
+mod recover_tests;
+#[cfg(test)]
 mod running;
 #[cfg(test)]
 mod usage_tests;
+#[cfg(test)]
+mod walk_tests;
 #[cfg(test)]
 mod writing_tests;

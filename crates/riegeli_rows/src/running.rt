@@ -58,6 +58,23 @@ pub(crate) const QUIET: Answer<'static> = Answer {
     notes: "",
 };
 
+/// The answer of recovering reading that shows these records and tells these regions.
+pub(crate) fn recovered<'a>(out: &'a [u8], notes: &'a str) -> Answer<'a> {
+    let status = if notes.is_empty() {
+        Status::Ok
+    } else if notes.starts_with("stopped") {
+        Status::Stopped
+    } else {
+        Status::Skipped
+    };
+    Answer {
+        status,
+        out,
+        notes,
+        ..QUIET
+    }
+}
+
 /// What a run left.
 #[derive(Drop)]
 pub(crate) struct Left {
@@ -185,7 +202,7 @@ pub(crate) fn refuses<R: Threads + Sync + Abort>(
     answers(rt, alloc, &["verify", "F"], file, &refused)
 }
 
-/// Asserts that both commands that read a file whole pass it, of these records and of this report.
+/// Asserts that all commands that read a file whole pass it, of these records and of this report.
 pub(crate) fn passes<R: Threads + Sync + Abort>(
     rt: &R,
     alloc: Global,
@@ -193,8 +210,12 @@ pub(crate) fn passes<R: Threads + Sync + Abort>(
     shown: &[u8],
     report: &str,
 ) -> Result<(), AllocError> {
-    for (command, out) in [("show", shown), ("verify", report.as_bytes())] {
-        answers(rt, alloc, &[command, "F"], file, &Answer { out, ..QUIET })?;
+    for (words, out) in [
+        (["show", "F"].as_slice(), shown),
+        (&["show", "--recover", "F"], shown),
+        (&["verify", "F"], report.as_bytes()),
+    ] {
+        answers(rt, alloc, words, file, &Answer { out, ..QUIET })?;
     }
     Ok(())
 }

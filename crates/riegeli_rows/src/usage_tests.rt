@@ -89,6 +89,16 @@ fn words_that_are_no_command_get_the_usage_text(rt: HostRuntime) -> Result<(), F
         &["show", "--positions", "--positions", "F"],
         &["show", "--positions=1", "F"],
         &["show", "--most=1", "F"],
+        &["show", "--recover"],
+        &["show", "--recover=1", "F"],
+        &["show", "--recover", "--recover", "F"],
+        &["show", "--recover", "--most", "F"],
+        &["show", "--recover", "--most=", "F"],
+        &["show", "--recover", "--most=-1", "F"],
+        &["show", "--recover", "--most=4611686018427387905", "F"],
+        &["show", "--recover", "--most=1", "--most=1", "F"],
+        &["show", "--recover", "--positions", "--positions", "F"],
+        &["verify", "--recover", "F"],
         &["Verify", "F"],
         &["verify"],
         &["verify", "A", "B"],
@@ -107,12 +117,13 @@ fn words_that_are_no_command_get_the_usage_text(rt: HostRuntime) -> Result<(), F
 #[test]
 fn files_that_the_words_do_not_name_get_the_usage_text(rt: HostRuntime) -> Result<(), Fail> {
     for (words, counts) in [
-        (["write", "F"], [1, 2]),
-        (["show", "F"], [0, 2]),
-        (["verify", "F"], [0, 2]),
+        (["write", "F"].as_slice(), [1, 2]),
+        (&["show", "F"], [0, 2]),
+        (&["show", "--recover", "F"], [0, 2]),
+        (&["verify", "F"], [0, 2]),
     ] {
         for count in counts {
-            are_refused(&rt, rt.alloc(), &words, count)?;
+            are_refused(&rt, rt.alloc(), words, count)?;
         }
     }
     Ok(())
