@@ -31,7 +31,7 @@ Takes-nothing None = tt
 Takes-nothing (Some taken) = ap Some (sym (append-nil taken))
 
 -- lines and numbers of pieces behind others
-lines_in-append : (ps qs : List Piece) → lines_in (ps ++ qs) ≡ lines_in ps ++ lines_in qs
+pub lines_in-append : (ps qs : List Piece) → lines_in (ps ++ qs) ≡ lines_in ps ++ lines_in qs
 lines_in-append ps qs = flat_map-append (λ (p : Piece). line_of p.begin p.end p.what) ps qs
 
 regions_in-append : (ps qs : List Piece) → regions_in (ps ++ qs) ≡ regions_in ps + regions_in qs

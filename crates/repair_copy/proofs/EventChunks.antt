@@ -36,13 +36,18 @@ chunks_in-append ps qs = flat_map-append (λ (p : Piece). chunk_in p.what) ps qs
 pub relaid_events : (pieces : List Piece) → relaid (events_in pieces) ≡ relaid pieces
 relaid_events pieces = ap (λ (ks : List ChunkValue). laid_each 0 (signature ∷ ks)) (chunks_in_events pieces)
 
+-- and the file of more pieces begins with that of the first
+pub relaid-append : (ps qs : List Piece) → relaid (ps ++ qs) ≡ relaid ps ++ laid_each (length (relaid ps)) (chunks_in qs)
+relaid-append ps qs =
+    let ks : List ChunkValue = signature ∷ chunks_in ps in
+    let end : end_of_chunks 0 ks ≡ length (relaid ps) = omega (arith, end-laid_each 0 ks) in
+    ap (λ (xs : List ChunkValue). laid_each 0 (signature ∷ xs)) (chunks_in-append ps qs)
+    ∙ laid_each-append 0 ks (chunks_in qs)
+    ∙ ap (λ (n : ℕ). relaid ps ++ laid_each n (chunks_in qs)) end
+
 -- one piece more adds its chunk, if it has one, where the file of the others ends
 pub relaid-push : (pieces : List Piece) (piece : Piece)
     → relaid (pieces ++ piece ∷ []) ≡ relaid pieces ++ laid_each (length (relaid pieces)) (chunk_in piece.what)
 relaid-push pieces piece =
-    let ks : List ChunkValue = signature ∷ chunks_in pieces in
-    let end : end_of_chunks 0 ks ≡ length (relaid pieces) = omega (arith, end-laid_each 0 ks) in
-    ap (λ (xs : List ChunkValue). laid_each 0 (signature ∷ xs)) (chunks_in-append pieces (piece ∷ []))
-    ∙ ap (λ (xs : List ChunkValue). laid_each 0 (ks ++ xs)) (append-nil (chunk_in piece.what))
-    ∙ laid_each-append 0 ks (chunk_in piece.what)
-    ∙ ap (λ (n : ℕ). relaid pieces ++ laid_each n (chunk_in piece.what)) end
+    relaid-append pieces (piece ∷ [])
+    ∙ ap (λ (ks : List ChunkValue). relaid pieces ++ laid_each (length (relaid pieces)) ks) (append-nil (chunk_in piece.what))

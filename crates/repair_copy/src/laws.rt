@@ -16,7 +16,12 @@ ghost use Rattle.chunk_reader.specs.Faults.{IsAllowed, HasNoFault};
 ghost use Rattle.damage_skip.specs.Damage.{Intact, IsDamaged, AreReached, untouched};
 ghost use Rattle.damage_skip.specs.Pieces.{Piece, AreTiles, ArePieces, events_in, records_in};
 ghost use Rattle.damage_skip.specs.Walks.{GoesOn};
+ghost use Rattle.damage_skip.specs.Policies.{IsTest};
+ghost use Rattle.repair_copy.specs.Told.{lines_in};
+ghost use Rattle.repair_copy.specs.Walked.{AreWalked, EndsAt};
 ghost use Rattle.repair_copy.specs.Relaid.{chunk_in, chunks_in, relaid, copied, begun_before};
+
+use damage_skip::{Policy, Region};
 
 /// Pieces behind others have their chunks behind those of the others, so a piece more adds its chunk, if it has one, where
 /// the file of the others ends. Events have the chunks of their pieces, and so are the same file. Own.
@@ -111,4 +116,18 @@ pub fn what_damage_leaves_is_repaired()
         (pieces : List Piece)
         → length file ≤ 2 ^ 60 → IsDamaged ks file damaged intact → AreReached ks intact 0 is → AreBytes damaged
         → ArePieces keep damaged pieces → IsFrame (signature ∷ copied keep (untouched ks intact is)) (relaid pieces) }
+{}
+
+/// Under a policy a file has one list of events up to where its walk ends: at the file's end, or at the first region that
+/// the policy's test can refuse. What is walked before is a front of it, and has a front of its file and of its lines. Own.
+pub fn walks_under_a_policy_are_one<F: Fn(&Region) -> bool>(policy: &Policy<F>)
+    requires test { IsTest F.Fn policy.now.test }
+    ensures front { (file : List ℕ) (place end : ℕ) (es fs : List Piece) (stopped : Option Region)
+        → length file ≤ 2 ^ 60 → AreWalked F.Fn policy.now.test file place es → AreWalked F.Fn policy.now.test file end fs
+        → EndsAt F.Fn policy.now.test file end stopped → (rest : List Piece) × (fs ≡ es ++ rest) }
+    ensures one { (file : List ℕ) (end other : ℕ) (es fs : List Piece) (stopped stops : Option Region)
+        → length file ≤ 2 ^ 60 → AreWalked F.Fn policy.now.test file end es → AreWalked F.Fn policy.now.test file other fs
+        → EndsAt F.Fn policy.now.test file end stopped → EndsAt F.Fn policy.now.test file other stops → es ≡ fs }
+    ensures made { (es rest : List Piece) → relaid (es ++ rest) ≡ relaid es ++ laid_each (length (relaid es)) (chunks_in rest) }
+    ensures lines { (es rest : List Piece) → lines_in (es ++ rest) ≡ lines_in es ++ lines_in rest }
 {}
