@@ -1,5 +1,6 @@
 -- Lemmas on bytes that are read at a place of a file.
-use Rattle.std.proofs.Common.{◌≡◌, ℕ, ◌+◌, ◌-◌, ◌^◌, ◌<◌, ◌≤◌, Option, Some, None, IsSomeAnd, IfSome, List, ◌++◌, length, take, drop, slice_range, sym, ap, ◌∙◌, arith}
+use Rattle.std.proofs.Common.{◌≡◌, ℕ, ◌+◌, ◌-◌, ◌^◌, ◌<◌, ◌≤◌, ◌⊎◌, inl, inr, min, Option, Some, None, IsSomeAnd, IfSome, List, ◌++◌, length, take, drop, slice_range, sym, ap, ◌∙◌, arith}
+use Rattle.std.proofs.lemmas.Bool.{cases_lt}
 use Rattle.std.proofs.lemmas.List.{drop-drop, drop-take, length-take-le, take-append-le, take-take, take_at}
 use Rattle.std.proofs.Math.Seq.{take-append-add}
 use Rattle.record_io.proofs.Pieces.{take-add}
@@ -79,3 +80,14 @@ copied-from_front bytes copied rest count skip n within size is =
     ∙ is
     ∙ ap (take n) (sym (drop-take skip (count - skip) bytes) ∙ ap (λ k. drop skip (take k bytes)) whole)
     ∙ sym (slice_range-by_length (take count bytes) skip n)
+
+-- a count that stands at its greatest stays there, and any other rises by what is added or comes to stand there
+pub raised-or_greatest : (old got n now new most : ℕ)
+    → (now ≡ old + got) ⊎ (now ≡ most) → new ≡ min (now + n) most
+    → (new ≡ old + (got + n)) ⊎ (new ≡ most)
+raised-or_greatest old got n now new most (inr greatest) raised = inr (omega (arith, raised))
+raised-or_greatest old got n now new most (inl counted) raised =
+    elim (cases_lt most (now + n)) [
+      | inl past ↦ inr (omega (arith, raised))
+      | inr within ↦ inl (omega (arith, raised))
+    ]

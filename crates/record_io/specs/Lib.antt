@@ -1,4 +1,5 @@
 pub mod Bytes
+pub mod Held
 pub mod Outside
 pub mod Buffers
 pub mod Memory

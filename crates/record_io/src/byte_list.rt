@@ -1,24 +1,39 @@
-ghost use Rattle.std.specs.Prelude.{◌≡◌, ◌↔◌, [], ◌++◌, length, IsTrue, OnOk, OnErr};
+ghost use Rattle.std.specs.Prelude.{◌≡◌, ◌↔◌, ◌≤◌, [], ◌++◌, length, slice_range, IsTrue, IfOk, OnOk, OnErr};
 ghost use Rattle.record_io.specs.Bytes.{AreBytes};
 
 use std::alloc::{AllocError, Global};
 use std::marker::Model;
+use std::ops::Range;
 
-/// A growing list of bytes, which contracts see as that list.
+/// Fewer bytes than these aren't shared. Own.
+const LEAST_SHARED: usize = 4096;
+
+/// A growing list of bytes, which contracts see as that list. They lie in memory of their own, or share it with the
+/// bytes that they are a part of.
 #[derive(Debug, Drop)]
 pub struct Bytes {
-    bytes: Vec<u8>,
+    held: Held,
+}
+
+/// Where bytes lie.
+#[derive(Debug, Drop)]
+enum Held {
+    /// In a vector, which can grow.
+    Own(Vec<u8>),
+    /// In memory that others may read as well, and nobody writes. The allocator is for bytes that grow from these.
+    Shared(bytes::Bytes, Global),
 }
 
 impl Model for Bytes {
     ghost use Rattle.std.specs.Prelude.{List, ℕ};
     ghost use Rattle.record_io.specs.Bytes.{AreBytes};
+    ghost use Rattle.record_io.specs.Held.{bytes_of};
 
     ghost Value = { List ℕ };
 
-    ghost view = { λ b. b.bytes.items };
+    ghost view = { λ b. bytes_of b.held };
 
-    ghost invariant = { λ b. AreBytes b.bytes.items };
+    ghost invariant = { λ b. AreBytes (bytes_of b.held) };
 }
 
 impl Bytes {
@@ -26,18 +41,63 @@ impl Bytes {
     pub fn new(alloc: Global) -> Bytes
         ensures { result ≡ [] }
     {
-        Bytes {
-            bytes: Vec::new(alloc),
-        }
+        Bytes::from(Vec::new(alloc))
     }
 
-    /// Appends the piece. After want of memory the bytes are as before.
+    /// Appends the piece. Bytes that are shared are copied first. After want of memory the bytes are as before.
     pub fn push_all(&mut self, piece: &[u8]) -> Result<(), AllocError>
         ensures appends { OnOk result (self.new ≡ self.old ++ piece.now) }
         ensures kept { OnErr result (self.new ≡ self.old) }
     {
-        self.bytes.extend_from_slice(piece)?;
+        match &mut self.held {
+            Held::Own(bytes) => bytes.extend_from_slice(piece)?,
+            Held::Shared(bytes, alloc) => {
+                let mut own = bytes.as_slice().to_vec(*alloc)?;
+                own.extend_from_slice(piece)?;
+                self.held = Held::Own(own);
+            }
+        }
         Ok(())
+    }
+
+    /// Takes room for so many more bytes, unless the bytes are shared.
+    pub fn reserve(&mut self, additional: usize) -> Result<(), AllocError>
+        ensures { self.new ≡ self.old }
+    {
+        match &mut self.held {
+            Held::Own(bytes) => bytes.reserve(additional),
+            Held::Shared(..) => Ok(()),
+        }
+    }
+
+    /// The same bytes, which share their memory with each part that is taken of them, unless they are so few that to copy
+    /// parts costs less. None is copied here.
+    pub fn share(self) -> Result<Bytes, AllocError>
+        ensures { IfOk result (λ shared. shared ≡ self) }
+    {
+        let bytes = match self.held {
+            Held::Own(bytes) => bytes,
+            held => return Ok(Bytes { held }),
+        };
+        if bytes.len() < LEAST_SHARED {
+            return Ok(Bytes::from(bytes));
+        }
+        let alloc = *bytes.allocator();
+        let held = Held::Shared(bytes::Bytes::from_vec(bytes)?, alloc);
+        Ok(Bytes { held })
+    }
+
+    /// The bytes of a range. Where these are shared, their memory is shared with the part, and else the part is copied.
+    pub fn part(&self, range: Range<usize>) -> Result<Bytes, AllocError>
+        requires ordered { range.start ≤ range.end }
+        requires within { range.end ≤ length self.now }
+        ensures { IfOk result (λ part. part ≡ slice_range self.now range.start range.end) }
+    {
+        let held = match &self.held {
+            Held::Own(bytes) => Held::Own(bytes[range].to_vec(*bytes.allocator())?),
+            Held::Shared(bytes, alloc) => Held::Shared(bytes.slice(range)?, *alloc),
+        };
+        Ok(Bytes { held })
     }
 
     /// The bytes.
@@ -45,35 +105,34 @@ impl Bytes {
         ensures value { result.now ≡ self.now }
         ensures are_bytes { AreBytes self.now }
     {
-        self.bytes.as_slice()
+        match &self.held {
+            Held::Own(bytes) => bytes.as_slice(),
+            Held::Shared(bytes, _) => bytes.as_slice(),
+        }
     }
 
     /// How many bytes there are.
     pub fn len(&self) -> usize
         ensures { result ≡ length self.now }
     {
-        self.bytes.len()
+        self.as_slice().len()
     }
 
     /// Whether there are no bytes.
     pub fn is_empty(&self) -> bool
         ensures { IsTrue result ↔ (self.now ≡ []) }
     {
-        self.bytes.is_empty()
+        self.len() == 0
     }
 
-    /// Forgets the bytes and keeps their room.
+    /// Forgets the bytes, and keeps their room unless it is shared.
     pub fn clear(&mut self)
         ensures { self.new ≡ [] }
     {
-        self.bytes.clear();
-    }
-
-    /// Gives the bytes back as a vector. It takes no memory.
-    pub fn into_vec(self) -> Vec<u8>
-        ensures { result.items ≡ self }
-    {
-        self.bytes
+        match &mut self.held {
+            Held::Own(bytes) => bytes.clear(),
+            Held::Shared(_, alloc) => self.held = Held::Own(Vec::new(*alloc)),
+        }
     }
 }
 
@@ -82,6 +141,8 @@ impl From<Vec<u8>> for Bytes {
 
     /// The bytes of a vector. It takes no memory.
     fn from(bytes: Vec<u8>) -> Bytes {
-        Bytes { bytes }
+        Bytes {
+            held: Held::Own(bytes),
+        }
     }
 }

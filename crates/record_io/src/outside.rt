@@ -1,4 +1,4 @@
-ghost use Rattle.std.specs.Prelude.{◌≡◌, ℕ, ◌+◌, ◌-◌, ◌^◌, ◌<◌, ◌≤◌, ◌↔◌, Option, Some, is_some, List, [], length, take, min, slice_range, IsErr, IfOk, IfSome, IsSomeAnd, OnOk, OnErr};
+ghost use Rattle.std.specs.Prelude.{◌≡◌, ℕ, ◌+◌, ◌-◌, ◌^◌, ◌<◌, ◌≤◌, ◌↔◌, ◌⊎◌, Option, Some, is_some, List, [], length, take, min, slice_range, IsErr, IfOk, IfSome, IsSomeAnd, OnOk, OnErr};
 ghost use Rattle.record_io.specs.Outside.{one_more, faults_after, Rose, Gives, Takes, TakesFront};
 
 /// A call on the outside failed.
@@ -151,7 +151,7 @@ pub fn put_all<M: Sink>(sink: &mut M, piece: &[u8]) -> Result<(), Failed>
 pub fn get_exact<S: Store>(store: &mut S, at: u64, buf: &mut [u8]) -> Result<(), Failed>
     requires within { 0 < length buf.old → IsSomeAnd (S.told store.old) (λ size. at + length buf.old ≤ size) }
     ensures exact { OnOk result (IfSome (S.bytes store.old) (λ file. buf.new ≡ slice_range file at (at + length buf.old))) }
-    ensures handed_out { OnOk result (S.handed store.old < 2 ^ 64 → S.handed store.new ≡ min (S.handed store.old + length buf.old) (2 ^ 64 - 1)) }
+    ensures handed_out { OnOk result ((S.handed store.new ≡ S.handed store.old + length buf.old) ⊎ (S.handed store.new ≡ 2 ^ 64 - 1)) }
     ensures handed_most { S.handed store.new ≤ S.handed store.old + length buf.old }
     ensures handed_small { S.handed store.old < 2 ^ 64 → (S.handed store.old ≤ S.handed store.new) × (S.handed store.new < 2 ^ 64) }
     ensures same_bytes { S.bytes store.new ≡ S.bytes store.old }

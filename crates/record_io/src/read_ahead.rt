@@ -7,8 +7,8 @@ use crate::held_part::HeldPart;
 use crate::outside::{Failed, Store, counted, fault};
 use std::marker::Model;
 
-/// A store over another one, of which it holds up to 64 KiB.
-pub type ReadAhead<S> = ReadAheadBy<S, 65536>;
+/// A store over another one, of which it holds up to 128 KiB.
+pub type ReadAhead<S> = ReadAheadBy<S, 131_072>;
 
 /// A store over another one that it owns, of whose bytes it holds up to `N`, so that small requests cost no call of the
 /// other one. It takes no memory.

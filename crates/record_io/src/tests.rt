@@ -1,5 +1,7 @@
 use crate::{Bytes, Failed, MemInput, MemSink, Sink, Source, put_all};
+use std::alloc::{AllocError, Global};
 use std::test::Fail;
+use std::thread;
 
 mod fakes;
 mod files;
@@ -52,7 +54,7 @@ fn puts_all_or_a_front(rt: HostRuntime) -> Result<(), Fail> {
 }
 
 #[test]
-fn bytes_grow_and_come_back(rt: HostRuntime) -> Result<(), Fail> {
+fn bytes_grow(rt: HostRuntime) -> Result<(), Fail> {
     let mut bytes = Bytes::new(rt.alloc());
     assert!(rt; bytes.is_empty());
     bytes.push_all(b"ab")?;
@@ -60,8 +62,54 @@ fn bytes_grow_and_come_back(rt: HostRuntime) -> Result<(), Fail> {
     assert_eq!(rt; (bytes.len(), bytes.as_slice()), (3, b"abc".as_slice()));
     bytes.clear();
     bytes.push_all(b"d")?;
-    let mut again = Bytes::from(bytes.into_vec());
-    again.push_all(b"e")?;
-    assert_eq!(rt; again.as_slice(), b"de".as_slice());
+    assert_eq!(rt; bytes.as_slice(), b"d".as_slice());
+    Ok(())
+}
+
+/// 5 bytes, or these and many more, so that they are shared.
+fn some_bytes(alloc: Global, many: bool) -> Result<Bytes, AllocError> {
+    let mut bytes = Bytes::from(b"abcde".to_vec(alloc)?);
+    if many {
+        for _ in 0..1000 {
+            bytes.push_all(b"fghij")?;
+        }
+    }
+    bytes.share()
+}
+
+/// The last three of the first 5 bytes. The others are dropped.
+fn part_of(alloc: Global, many: bool) -> Result<Bytes, AllocError> {
+    let bytes = some_bytes(alloc, many)?;
+    if bytes.len() < 5 {
+        return Ok(bytes);
+    }
+    bytes.part(2..5)
+}
+
+#[test]
+fn parts_outlive_the_bytes_that_they_are_of(rt: HostRuntime) -> Result<(), Fail> {
+    for many in [false, true] {
+        assert_eq!(rt; part_of(rt.alloc(), many)?.as_slice(), b"cde".as_slice());
+    }
+    Ok(())
+}
+
+#[test]
+fn parts_grow_by_themselves(rt: HostRuntime) -> Result<(), Fail> {
+    let mut part = part_of(rt.alloc(), true)?;
+    part.push_all(b"x")?;
+    assert_eq!(rt; part.as_slice(), b"cdex".as_slice());
+    part.clear();
+    part.push_all(b"y")?;
+    assert_eq!(rt; part.as_slice(), b"y".as_slice());
+    Ok(())
+}
+
+#[test]
+fn parts_go_to_threads(rt: HostRuntime) -> Result<(), Fail> {
+    let part = part_of(rt.alloc(), true)?;
+    let reader = thread::spawn(&rt, move || part.as_slice() == b"cde".as_slice())?;
+    let read = reader.join(&rt);
+    assert!(rt; read);
     Ok(())
 }

@@ -1,4 +1,4 @@
-use Rattle.std.proofs.Common.{◌≡◌, length, ◌+◌, ◌-◌, ◌^◌, ◌<◌, ◌≤◌, take, min, slice_range, IfSome}
+use Rattle.std.proofs.Common.{◌≡◌, length, ◌+◌, ◌-◌, ◌^◌, ◌<◌, ◌≤◌, ◌⊎◌, take, slice_range, IfSome}
 use Rattle.record_io.proofs.outside.get_exact.Given as goal
 
 abbrev pub invariant-loop-got : goal.invariant-loop-got
@@ -6,7 +6,8 @@ invariant-loop-got g l = record {
   within : l.got ≤ length l.buf;
   fits : l.at + l.got < 2 ^ 64;
   given : IfSome (g.S.Store.bytes l.fn.store) (λ file. take l.got l.buf ≡ slice_range file l.at (l.at + l.got));
-  handed : g.S.Store.handed l.fn.store < 2 ^ 64 → g.S.Store.handed l.store ≡ min (g.S.Store.handed l.fn.store + l.got) (2 ^ 64 - 1);
+  handed : (g.S.Store.handed l.store ≡ g.S.Store.handed l.fn.store + l.got) ⊎ (g.S.Store.handed l.store ≡ 2 ^ 64 - 1);
+  handed_small : g.S.Store.handed l.fn.store < 2 ^ 64 → (g.S.Store.handed l.fn.store ≤ g.S.Store.handed l.store) × (g.S.Store.handed l.store < 2 ^ 64);
   handed_most : g.S.Store.handed l.store ≤ g.S.Store.handed l.fn.store + l.got;
   bytes : g.S.Store.bytes l.store ≡ g.S.Store.bytes l.fn.store;
   told : g.S.Store.told l.store ≡ g.S.Store.told l.fn.store;

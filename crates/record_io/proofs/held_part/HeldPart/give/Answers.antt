@@ -1,4 +1,4 @@
-use Rattle.std.proofs.Common.{ℕ, ◌-◌, arith, length-drop}
+use Rattle.std.proofs.Common.{ℕ, ◌-◌, arith}
 use Rattle.std.proofs.lemmas.List.{length-take}
 use Rattle.record_io.proofs.Readings.{copied-from_front}
 use Rattle.record_io.proofs.held_part.HeldPart.give.Goals as goal

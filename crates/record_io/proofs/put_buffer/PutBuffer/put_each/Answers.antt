@@ -1,4 +1,4 @@
-use Rattle.std.proofs.Common.{◌≡◌, ◌∙◌, List, ℕ, map, arith}
+use Rattle.std.proofs.Common.{◌∙◌, List, ℕ, map, arith}
 use Rattle.std.proofs.Math.ListN.{get_or-map}
 use Rattle.std.proofs.lemmas.List.{length-map}
 use Rattle.record_io.proofs.Calls.{OnErr-any}
