@@ -2,7 +2,7 @@
 use Rattle.std.proofs.Common.{◌≡◌, ◌≢◌, ℕ, suc, ◌+◌, ◌-◌, ◌≤◌, List, [], ◌∷◌, ◌++◌, length, take, drop, get_or, refl, sym, ap, ◌∙◌, arith, subst}
 use Rattle.std.specs.Prelude.{map, sum}
 use Rattle.std.specs.List.{concat}
-use Rattle.std.proofs.lemmas.List.{length-append, length-map, append_assoc, append_cancel_left, take_at, length-take-le, length-drop, take-append-drop}
+use Rattle.std.proofs.lemmas.List.{length-append, length-map, append_assoc, append_cancel_left, take_at, drop_at, length-take-le, length-drop, take-append-drop}
 use Rattle.std.proofs.lemmas.List.Sums.{sum_by-cons}
 use Rattle.varint_wire.specs.Varint.{Spells, SpellsEach}
 use Rattle.varint_wire.proofs.Spellings.{spelling_is_one}
@@ -90,6 +90,14 @@ none-compressed k high = λ (records, is). high (ap (λ (xs : List ℕ). get_or 
 -- data of such parts begins with 0
 pub first-parts : (bytes sizes values : List ℕ) → AreParts bytes sizes values → get_or bytes 0 0 ≡ 0
 first-parts bytes sizes values p = ap (λ (xs : List ℕ). get_or xs 0 0) p.joined
+
+-- the values stand behind all else
+pub values-behind : (bytes sizes values : List ℕ) → AreParts bytes sizes values → drop (length bytes - length values) bytes ≡ values
+values-behind bytes sizes values p =
+    let front : List ℕ = 0 ∷ (p.spelled_size ++ sizes) in
+    let joined : bytes ≡ front ++ values = p.joined in
+    let begin = length bytes - length values in
+    ap (drop begin) joined ∙ drop_at front values begin (omega (arith, ap length joined, length-append front values))
 
 -- data of such parts has no records where the values are not as many as the header says, or the sizes are not
 pub none-sized : (k : ChunkValue) (sizes values : List ℕ) → AreParts k.«data» sizes values → length values ≢ k.decoded_size → ¬ HasRecords k

@@ -1,12 +1,12 @@
-ghost use Rattle.std.specs.Prelude.{◌≡◌, ◌≢◌, ◌↔◌, ℕ, ◌<◌, List, length, slice_index, IfOk, IsNone, IfSome, IsOkUnless};
+ghost use Rattle.std.specs.Prelude.{◌≡◌, ◌≢◌, ◌↔◌, ℕ, ◌<◌, ◌≤◌, List, length, drop, slice_index, IfOk, IsNone, IfSome, IsOkUnless};
 ghost use Rattle.varint_wire.specs.Varint.{SpellsEach};
 ghost use Rattle.chunk_header.specs.SimpleChunks.{simple_kind, IsSimple, HasRecords, IsCompressed};
-ghost use Rattle.chunk_header.specs.Views.{value_of};
-ghost use Rattle.simple_chunk.specs.Records.{AreEnds, sizes_between};
+ghost use Rattle.chunk_header.specs.Views.{value_of, value_of_chunk};
+ghost use Rattle.simple_chunk.specs.Records.{records_from, AreEnds, sizes_between};
 ghost use Rattle.simple_chunk.specs.Sizes.{AreParts, AreSizes, IsSplit};
 
 use crate::record_list::Records;
-use chunk_header::Header;
+use chunk_header::{Chunk, Header};
 use record_io::Bytes;
 use std::alloc::{AllocError, Global};
 
@@ -49,13 +49,51 @@ pub fn decode(alloc: Global, header: &Header, bytes: &[u8]) -> Result<Records, S
         → (¬ IsCompressed (value_of header.now bytes.now)) × (¬ HasRecords (value_of header.now bytes.now)) }
     ensures accepted { HasRecords (value_of header.now bytes.now) → IsOkUnless result SimpleFault.Memory }
 {
+    let (begin, ends) = find_records(alloc, header, bytes)?;
+    let values = bytes[begin..].to_vec(alloc)?;
+    Ok(Records::joined(Bytes::from(values), ends))
+}
+
+/// The same of a chunk, whose memory the records share where it is shared.
+///
+/// # Errors
+///
+/// Those of `decode`.
+pub fn decode_chunk(alloc: Global, chunk: &Chunk) -> Result<Records, SimpleFault>
+    requires simple { chunk.now.header.kind ≡ simple_kind }
+    ensures holds { IfOk result (λ records. IsSimple (value_of_chunk chunk.now) records) }
+    ensures compressed { (result ≡ Err SimpleFault.Compressed) ↔ IsCompressed (value_of_chunk chunk.now) }
+    ensures contents { result ≡ Err SimpleFault.Contents
+        → (¬ IsCompressed (value_of_chunk chunk.now)) × (¬ HasRecords (value_of_chunk chunk.now)) }
+    ensures accepted { HasRecords (value_of_chunk chunk.now) → IsOkUnless result SimpleFault.Memory }
+{
+    let (begin, ends) = find_records(alloc, &chunk.header, chunk.bytes.as_slice())?;
+    let values = chunk.bytes.part(begin..chunk.bytes.len())?;
+    Ok(Records::joined(values, ends))
+}
+
+/// Where the values begin in the data of a simple chunk, and where the records end in the values.
+fn find_records(
+    alloc: Global,
+    header: &Header,
+    bytes: &[u8],
+) -> Result<(usize, Vec<usize>), SimpleFault>
+    requires simple { header.now.kind ≡ simple_kind }
+    ensures within { IfOk result (λ found. found.0 ≤ length bytes.now) }
+    ensures ends { IfOk result (λ found. AreEnds 0 found.1.items (length (drop found.0 bytes.now))) }
+    ensures holds { IfOk result (λ found.
+        IsSimple (value_of header.now bytes.now) (records_from 0 found.1.items (drop found.0 bytes.now))) }
+    ensures compressed { (result ≡ Err SimpleFault.Compressed) ↔ IsCompressed (value_of header.now bytes.now) }
+    ensures contents { result ≡ Err SimpleFault.Contents
+        → (¬ IsCompressed (value_of header.now bytes.now)) × (¬ HasRecords (value_of header.now bytes.now)) }
+    ensures accepted { HasRecords (value_of header.now bytes.now) → IsOkUnless result SimpleFault.Memory }
+{
     let (sizes, values) = split_data(bytes)?;
     if values.len() as u64 != header.decoded_size {
         return Err(SimpleFault::Contents);
     }
     let ends = read_ends(alloc, header.num_records, sizes, values.len())?;
-    let values = values.to_vec(alloc)?;
-    Ok(Records::joined(Bytes::from(values), ends))
+    Ok((bytes.len() - values.len(), ends))
 }
 
 /// The sizes and the values of data that isn't compressed.

@@ -10,7 +10,7 @@ mod record_list;
 mod sizes_left;
 
 pub use checker::Checker;
-pub use decoding::{SimpleFault, decode};
+pub use decoding::{SimpleFault, decode, decode_chunk};
 pub use encoding::encode;
 pub use record_list::{RECORD_COST, Records};
 

@@ -59,6 +59,14 @@ impl Records {
         Ok(())
     }
 
+    /// Takes room for so many more bytes and records.
+    pub fn reserve(&mut self, bytes: usize, records: usize) -> Result<(), AllocError>
+        ensures { self.new ≡ self.old }
+    {
+        self.values.reserve(bytes)?;
+        self.ends.reserve(records)
+    }
+
     /// How many records there are.
     pub fn len(&self) -> usize
         ensures { result ≡ length self.now }

@@ -1,4 +1,4 @@
-ghost use Rattle.std.specs.Prelude.{◌≡◌, ◌↔◌, ℕ, List, [], ◌++◌, IsTrue, IsFalse};
+ghost use Rattle.std.specs.Prelude.{◌≡◌, ◌↔◌, ℕ, ◌≤◌, List, [], ◌++◌, length, take, IsTrue, IsFalse};
 ghost use Rattle.simple_chunk.specs.SizesLeft.{SizesValue, AreLeft};
 
 use std::marker::Model;
@@ -40,7 +40,8 @@ impl SizesLeft {
         ensures right { IsTrue result → (rest : List ℕ) → AreLeft self.old (bytes.now ++ rest) ↔ AreLeft self.new rest }
         ensures wrong { IsFalse result → (rest : List ℕ) → ¬ AreLeft self.old (bytes.now ++ rest) }
     {
-        for byte in bytes {
+        let (_, others) = bytes.split_at(self.take_small(bytes));
+        for byte in others {
             let size = match self.feed.push(*byte) {
                 Step::More => continue,
                 Step::Value(size) => size,
@@ -53,6 +54,30 @@ impl SizesLeft {
             self.whole -= size;
         }
         true
+    }
+
+    /// Takes the sizes of one byte that the bytes begin with, as most sizes are, and answers how many of them it took.
+    fn take_small(&mut self, bytes: &[u8]) -> usize
+        ensures some { result ≤ length bytes.now }
+        ensures right { (rest : List ℕ) → AreLeft self.old (take result bytes.now ++ rest) ↔ AreLeft self.new rest }
+    {
+        if !self.feed.is_new() {
+            return 0;
+        }
+        let mut count = self.count;
+        let mut whole = self.whole;
+        for byte in bytes {
+            let size = u64::from(*byte);
+            if size >= 0x80 || count == 0 || size > whole {
+                break;
+            }
+            count -= 1;
+            whole -= size;
+        }
+        let taken = self.count - count;
+        self.count = count;
+        self.whole = whole;
+        taken as usize
     }
 
     /// Whether no size is still to come.

@@ -2,7 +2,8 @@ ghost use Rattle.std.specs.Prelude.{◌≡◌, ◌^◌, ◌<◌, length};
 ghost use Rattle.chunk_header.specs.SimpleChunks.{simple_kind};
 
 use super::*;
-use chunk_header::Header;
+use chunk_header::{Chunk, Header};
+use record_io::Bytes;
 use std::alloc::{AllocError, Global};
 use std::test::Fail;
 
@@ -189,6 +190,24 @@ fn decodes_what_the_counts_fit(rt: HostRuntime) -> Result<(), Fail> {
             (_, _) => assert!(rt; false, "{bytes:?}"),
         }
     }
+    Ok(())
+}
+
+#[test]
+fn records_outlive_the_chunk_whose_memory_they_share(rt: HostRuntime) -> Result<(), Fail> {
+    let long = letters(rt.alloc(), 5000)?;
+    let records = records_of(rt.alloc(), &[b"b", &long])?;
+    assert!(rt; records.cost() <= 1 << 25);
+    let encoded = encode(rt.alloc(), &records)?;
+    let bytes = Bytes::from(encoded.bytes.as_slice().to_vec(rt.alloc())?).share()?;
+    let chunk = Chunk::new(b'r', 2, 5001, bytes);
+    let mut records = decode_chunk(rt.alloc(), &chunk)?;
+    drop(chunk);
+    records.push(b"c")?;
+    assert_eq!(rt; records.len(), 3);
+    assert_eq!(rt; records.get(0), b"b".as_slice());
+    assert_eq!(rt; records.get(1), long.as_slice());
+    assert_eq!(rt; records.get(2), b"c".as_slice());
     Ok(())
 }
 

@@ -1,11 +1,11 @@
-use Rattle.std.proofs.Common.{◌≡◌, Err, ap, rules}
+use Rattle.std.proofs.Common.{◌≡◌, Err, ap}
 use Rattle.std.proofs.lemmas.Result.{err_from_is_err_and}
 use Rattle.chunk_header.specs.SimpleChunks.{HasRecords}
 use Rattle.chunk_header.specs.Views.{value_of}
 use Rattle.simple_chunk.specs.declared.decoding.SimpleFault.TheVariants.{Contents}
 use Rattle.simple_chunk.proofs.Faults.{only_memory}
-use Rattle.simple_chunk.proofs.PartLemmas.{none-unparted, none-compressed, none-sized, none-spelled, first-parts, IsSimple-ends}
-use Rattle.simple_chunk.proofs.decoding.decode.Goals as goal
+use Rattle.simple_chunk.proofs.PartLemmas.{none-unparted, none-compressed, none-sized, none-spelled, first-parts, values-behind, IsSimple-ends}
+use Rattle.simple_chunk.proofs.decoding.find_records.Goals as goal
 
 pub returns-in_err-sizes-clause-contents : goal.returns-in_err-sizes-clause-contents
 returns-in_err-sizes-clause-contents c =
@@ -51,9 +51,11 @@ returns-in_err-ends-clause-accepted c =
     (λ is. none-spelled (value_of c.args.header.now c.args.bytes.now) _ _ c.in_ok-sizes.ensures.parts c.if-values-header.false
     (c.in_err-ends.ensures.contents (ap Err is))))
 
+pub returns-clause-ends : goal.returns-clause-ends
+returns-clause-ends c = rw (values-behind _ _ _ c.in_ok-sizes.ensures.parts) c.in_ok-ends.ensures.ends
+
 pub returns-clause-holds : goal.returns-clause-holds
 returns-clause-holds c =
-    let copied : c.from.result ≡ c.in_ok-sizes.values.now = search rules in
-    rw (c.joined.ensures, copied)
+    rw (values-behind _ _ _ c.in_ok-sizes.ensures.parts)
     (IsSimple-ends (value_of c.args.header.now c.args.bytes.now) _ _ c.in_ok-ends.ends.items c.requires.simple c.in_ok-sizes.ensures.parts
     c.if-values-header.false c.in_ok-ends.ensures.ends c.in_ok-ends.ensures.counted c.in_ok-ends.ensures.spelled)
