@@ -17,6 +17,8 @@ pub struct Grouper {
     size: u64,
     every: Option<u64>,
     group: Records,
+    /// How many bytes and records a group has room for: what the last one needed, and an eighth more.
+    room: (usize, usize),
 }
 
 impl Model for Grouper {
@@ -47,6 +49,7 @@ impl Grouper {
             size,
             every,
             group: Records::new(alloc),
+            room: (0, 0),
         }
     }
 
@@ -62,13 +65,18 @@ impl Grouper {
         ensures costs { IfOk result (λ given. IfSome given (λ group. cost_of group ≤ 2 ^ 24 + 8)) }
         ensures kept { OnErr result (self.new ≡ self.old) }
     {
-        if !self.closes_before(rec) {
-            self.group.push(rec)?;
-            return Ok(None);
+        if self.closes_before(rec) {
+            let mut next = Records::new(self.alloc);
+            next.push(rec)?;
+            self.room = self.room_needed();
+            return Ok(Some(mem::replace(&mut self.group, next)));
         }
-        let mut next = Records::new(self.alloc);
-        next.push(rec)?;
-        Ok(Some(mem::replace(&mut self.group, next)))
+        if self.group.len() == 1 {
+            let (bytes, records) = self.room;
+            self.group.reserve(bytes, records)?;
+        }
+        self.group.push(rec)?;
+        Ok(None)
     }
 
     /// The last group: the records since a group closed, or none where there are no such records. It takes no memory.
@@ -84,6 +92,13 @@ impl Grouper {
         } else {
             Some(self.group)
         }
+    }
+
+    /// How many bytes and records the open group has, and an eighth more.
+    fn room_needed(&self) -> (usize, usize) {
+        let bytes = self.group.values().len();
+        let records = self.group.len();
+        (bytes + bytes / 8, records + records / 8)
     }
 
     /// Whether the open group closes before the record.
