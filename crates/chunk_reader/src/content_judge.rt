@@ -9,7 +9,7 @@ use crate::chunk_content::{Content, ContentEnd};
 use crate::reasons::Why;
 use chunk_header::{Chunk, Header};
 use meta_chunk::{BadFields, Kind, check, kind_of};
-use simple_chunk::{SimpleFault, decode};
+use simple_chunk::{SimpleFault, decode_chunk};
 use std::alloc::Global;
 
 /// What a chunk holds, judged by the hash of its data, the rule of its kind and the grammar of simple chunks.
@@ -45,7 +45,7 @@ pub fn content_under(alloc: Global, chunk: &Chunk, right: bool) -> Result<Conten
         return Err(ContentEnd::Fault(Why::DataHash));
     }
     match kind_of(chunk.header.kind) {
-        Kind::Simple => match decode(alloc, &chunk.header, chunk.bytes.as_slice()) {
+        Kind::Simple => match decode_chunk(alloc, chunk) {
             Ok(records) => Ok(Content::Records(records)),
             Err(SimpleFault::Compressed) => Err(ContentEnd::Fault(Why::Compressed)),
             Err(SimpleFault::Contents) => Err(ContentEnd::Fault(Why::Contents)),

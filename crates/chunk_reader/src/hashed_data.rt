@@ -12,7 +12,7 @@ use std::marker::Model;
 /// at hand. Own.
 #[derive(Drop)]
 pub struct HashedData {
-    bytes: Bytes,
+    bytes: Vec<u8>,
     hasher: Hasher,
 }
 
@@ -23,9 +23,9 @@ impl Model for HashedData {
 
     ghost Value = { List ℕ };
 
-    ghost view = { λ d. d.bytes };
+    ghost view = { λ d. d.bytes.items };
 
-    ghost invariant = { λ d. d.hasher ≡ hasher_of riegeli_key d.bytes };
+    ghost invariant = { λ d. d.hasher ≡ hasher_of riegeli_key d.bytes.items };
 }
 
 impl HashedData {
@@ -34,7 +34,7 @@ impl HashedData {
         ensures { IfOk result (λ hashed. hashed ≡ []) }
     {
         Ok(HashedData {
-            bytes: Bytes::from(Vec::with_capacity(alloc, size as usize)?),
+            bytes: Vec::with_capacity(alloc, size as usize)?,
             hasher: Hasher::new(RIEGELI),
         })
     }
@@ -44,22 +44,22 @@ impl HashedData {
         ensures appends { OnOk result (self.new ≡ self.old ++ piece.now) }
         ensures kept { OnErr result (self.new ≡ self.old) }
     {
-        self.bytes.push_all(piece)?;
+        self.bytes.extend_from_slice(piece)?;
         self.hasher.update(piece);
         Ok(())
     }
 
     /// The chunk of a header and the data, of which there is as much as the header says, and whether the header has the
-    /// data's hash. It takes no memory.
-    pub fn into_chunk(self, header: Header) -> (Chunk, bool)
+    /// data's hash. The data is not copied, and shares its memory with the records that are read from it.
+    pub fn into_chunk(self, header: Header) -> Result<(Chunk, bool), AllocError>
         requires { length self ≡ header.data_size }
-        ensures header { result.0.header ≡ header }
-        ensures bytes { result.0.bytes ≡ self }
-        ensures sound { IsChunk (value_of_chunk result.0) }
-        ensures right { IsTrue result.1 ↔ HasRightHash result.0 }
+        ensures header { IfOk result (λ made. made.0.header ≡ header) }
+        ensures bytes { IfOk result (λ made. made.0.bytes ≡ self) }
+        ensures sound { IfOk result (λ made. IsChunk (value_of_chunk made.0)) }
+        ensures right { IfOk result (λ made. IsTrue made.1 ↔ HasRightHash made.0) }
     {
         let HashedData { bytes, hasher } = self;
         let right = hasher.finish() == header.data_hash;
-        (Chunk::read(header, bytes), right)
+        Ok((Chunk::read(header, Bytes::from(bytes).share()?), right))
     }
 }

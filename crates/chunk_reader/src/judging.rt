@@ -111,7 +111,7 @@ pub fn data_at<S: Store>(
 {
     let mut data = vec![in alloc; 0; header.data_size as usize]?;
     OwnBytes::from(header_end(at)).fill(store, &mut data)?;
-    Ok(Chunk::read(*header, Bytes::from(data)))
+    Ok(Chunk::read(*header, Bytes::from(data).share()?))
 }
 
 /// Judges the chunk at a place of a file of `size` bytes, which were told, at most 2^60. The place is a boundary below
@@ -270,7 +270,7 @@ fn load<S: Store>(
     let mut pass = ChunkPass::start(store, at, header_end(at), end)?;
     let data = read_data(alloc, store, &mut pass, header.data_size)?;
     pass.finish(store)?;
-    Ok(data.into_chunk(header))
+    Ok(data.into_chunk(header)?)
 }
 
 /// Reads the data of a chunk piece by piece.

@@ -23,7 +23,7 @@ returns-clause-given g c =
     let size : length c.deref_mut.result.now ≡ h.data_size = omega (arith, c.deref_mut.ensures.len, c.in_ok-data.ensures.len) in
     let whole : length c.fill.new.buf ≡ c.in_ok-data.data.len = omega (arith, c.fill.auto.buf, c.deref_mut.ensures.len) in
     let held : c.read.result.bytes ≡ c.fill.new.buf =
-    c.read.ensures.bytes ∙ c.from-2.ensures
+    c.read.ensures.bytes ∙ c.in_ok-share.ensures ∙ c.from-2.ensures
     ∙ take_at c.fill.new.buf (drop (length c.fill.new.buf) c.in_ok-data.data.items) c.in_ok-data.data.len whole in
     rw held
     (data_given _ _ c.args.at h.data_size _ c.fill.new.buf (g.met.S.Store.sized c.args.store.now)

@@ -80,7 +80,7 @@ returns-in_err-finish-clause-wrong g c =
 pub returns-clause-given : goal.returns-clause-given
 returns-clause-given g c =
     let pass = c.in_ok-pass.ensures in
-    rw c.into_chunk.ensures.bytes
+    rw c.in_ok-into_chunk.ensures.bytes
     (data_given _ _ c.args.at c.args.header.data_size c.args.end c.in_ok-data.data (g.met.S.Store.sized c.args.store.now) c.requires.told
     (omega (arith, c.requires.end, header_within c.args.at c.args.header.data_size c.args.header.num_records))
     (rw (pass.same_bytes, pass.place, c.header_end.ensures) at c.in_ok-data.ensures.given))
