@@ -1,5 +1,5 @@
 ghost use Rattle.std.specs.Option.{option_to_list};
-ghost use Rattle.std.specs.Prelude.{◌≡◌, ◌≢◌, ℕ, ◌+◌, ◌*◌, ◌^◌, ◌≤◌, true, false, Some, None, Option, List, [], ◌∷◌, ◌++◌, length, IfOk, IfSome, OnOk, OnErr};
+ghost use Rattle.std.specs.Prelude.{◌≡◌, ◌≢◌, ℕ, ◌+◌, ◌*◌, ◌^◌, ◌<◌, ◌≤◌, true, false, Some, None, Option, List, [], ◌∷◌, ◌++◌, length, IfOk, IfSome, OnOk, OnErr};
 ghost use Rattle.record_io.specs.Outside.{Rose, Takes, TakesFront};
 ghost use Rattle.chunk_header.specs.SimpleChunks.{simple_chunk};
 ghost use Rattle.meta_chunk.specs.Counts.{totals_of};
@@ -83,7 +83,7 @@ impl From<CutOff> for WriteEnd {
 /// wanted, a chunk for each group of records, and the padding behind them where it is wanted.
 ///
 /// Where a stop follows the records, the file of these is written too. The totals are of the file. Held at a time are
-/// the records of one group, their chunk, and the record behind them.
+/// the records of one group, their chunk, and the record behind them, which is held twice.
 ///
 /// # Errors
 ///
@@ -109,7 +109,9 @@ pub fn write_records<R: Threads + Sync, L: RecordFeed, M: Sink + Send>(
     ensures input_cause { result ≡ Err WriteEnd.Input → Rose (L.faults feed.old) (L.faults feed.new) }
     ensures made_cause { result ≡ Err WriteEnd.Made → Rose (M.faults made.old) (M.faults made.new) }
     ensures input_count { L.faults feed.old ≤ L.faults feed.new }
+    ensures input_small { L.faults feed.old < 2 ^ 64 → L.faults feed.new < 2 ^ 64 }
     ensures made_count { M.faults made.old ≤ M.faults made.new }
+    ensures made_small { M.faults made.old < 2 ^ 64 → M.faults made.new < 2 ^ 64 }
     ensures input_name { L.name feed.new ≡ L.name feed.old }
     ensures made_name { M.name made.new ≡ M.name made.old }
 {
@@ -153,7 +155,9 @@ fn write_feed<L: RecordFeed, M: Sink>(
     ensures input_cause { result ≡ Err CutOff.Input → Rose (L.faults feed.old) (L.faults feed.new) }
     ensures made_cause { result ≡ Err CutOff.Made → Rose (M.faults made.old) (M.faults made.new) }
     ensures input_count { L.faults feed.old ≤ L.faults feed.new }
+    ensures input_small { L.faults feed.old < 2 ^ 64 → L.faults feed.new < 2 ^ 64 }
     ensures made_count { M.faults made.old ≤ M.faults made.new }
+    ensures made_small { M.faults made.old < 2 ^ 64 → M.faults made.new < 2 ^ 64 }
     ensures input_name { L.name feed.new ≡ L.name feed.old }
     ensures made_name { M.name made.new ≡ M.name made.old }
 {
@@ -184,7 +188,9 @@ fn put_chunks<L: RecordFeed, M: Sink>(
     ensures input_cause { result ≡ Err CutOff.Input → Rose (L.faults feed.old) (L.faults feed.new) }
     ensures made_cause { result ≡ Err CutOff.Made → Rose (M.faults made.old) (M.faults made.new) }
     ensures input_count { L.faults feed.old ≤ L.faults feed.new }
+    ensures input_small { L.faults feed.old < 2 ^ 64 → L.faults feed.new < 2 ^ 64 }
     ensures made_count { M.faults made.old ≤ M.faults made.new }
+    ensures made_small { M.faults made.old < 2 ^ 64 → M.faults made.new < 2 ^ 64 }
     ensures input_name { L.name feed.new ≡ L.name feed.old }
     ensures made_name { M.name made.new ≡ M.name made.old }
 {
@@ -234,7 +240,9 @@ fn put_groups<L: RecordFeed, M: Sink>(
     ensures input_cause { result ≡ Err CutOff.Input → Rose (L.faults feed.old) (L.faults feed.new) }
     ensures made_cause { result ≡ Err CutOff.Made → Rose (M.faults made.old) (M.faults made.new) }
     ensures input_count { L.faults feed.old ≤ L.faults feed.new }
+    ensures input_small { L.faults feed.old < 2 ^ 64 → L.faults feed.new < 2 ^ 64 }
     ensures made_count { M.faults made.old ≤ M.faults made.new }
+    ensures made_small { M.faults made.old < 2 ^ 64 → M.faults made.new < 2 ^ 64 }
     ensures input_name { L.name feed.new ≡ L.name feed.old }
     ensures made_name { M.name made.new ≡ M.name made.old }
 {
@@ -269,7 +277,9 @@ fn put_closed_groups<L: RecordFeed, M: Sink>(
     ensures input_cause { result ≡ Err CutOff.Input → Rose (L.faults feed.old) (L.faults feed.new) }
     ensures made_cause { result ≡ Err CutOff.Made → Rose (M.faults made.old) (M.faults made.new) }
     ensures input_count { L.faults feed.old ≤ L.faults feed.new }
+    ensures input_small { L.faults feed.old < 2 ^ 64 → L.faults feed.new < 2 ^ 64 }
     ensures made_count { M.faults made.old ≤ M.faults made.new }
+    ensures made_small { M.faults made.old < 2 ^ 64 → M.faults made.new < 2 ^ 64 }
     ensures input_name { L.name feed.new ≡ L.name feed.old }
     ensures made_name { M.name made.new ≡ M.name made.old }
 {
@@ -306,6 +316,7 @@ fn put_record<M: Sink>(
     ensures no_input { result ≢ Err CutOff.Input }
     ensures made_cause { result ≡ Err CutOff.Made → Rose (M.faults made.old) (M.faults made.new) }
     ensures made_count { M.faults made.old ≤ M.faults made.new }
+    ensures made_small { M.faults made.old < 2 ^ 64 → M.faults made.new < 2 ^ 64 }
     ensures made_name { M.name made.new ≡ M.name made.old }
 {
     if let Some(group) = grouper.push(rec)? {
@@ -330,6 +341,7 @@ fn put_group<M: Sink>(
     ensures no_input { result ≢ Err CutOff.Input }
     ensures made_cause { result ≡ Err CutOff.Made → Rose (M.faults made.old) (M.faults made.new) }
     ensures made_count { M.faults made.old ≤ M.faults made.new }
+    ensures made_small { M.faults made.old < 2 ^ 64 → M.faults made.new < 2 ^ 64 }
     ensures made_name { M.name made.new ≡ M.name made.old }
 {
     let chunk = encode(alloc, group)?;

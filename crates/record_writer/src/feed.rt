@@ -1,4 +1,4 @@
-ghost use Rattle.std.specs.Prelude.{◌≡◌, ℕ, ◌+◌, ◌^◌, ◌≤◌, true, false, Bool, Option, length, IfSome, OnOk};
+ghost use Rattle.std.specs.Prelude.{◌≡◌, ℕ, ◌+◌, ◌^◌, ◌<◌, ◌≤◌, true, false, Bool, Option, length, IfSome, OnOk};
 ghost use Rattle.record_io.specs.Outside.{Rose};
 ghost use Rattle.record_writer.specs.Feeds.{Rest, GivesRecord, nothing_left, stop_alone};
 
@@ -84,5 +84,6 @@ pub trait RecordFeed {
         ensures same_name { name self.new ≡ name self.old }
 
         ensures cause { result ≡ Err FeedEnd.Failed → Rose (faults self.old) (faults self.new) }
-        ensures never_falls { faults self.old ≤ faults self.new };
+        ensures never_falls { faults self.old ≤ faults self.new }
+        ensures small { faults self.old < 2 ^ 64 → faults self.new < 2 ^ 64 };
 }

@@ -1,4 +1,4 @@
-ghost use Rattle.std.specs.Prelude.{◌≡◌, ◌^◌, ◌≤◌, false, [], ◌∷◌, OnOk, OnErr};
+ghost use Rattle.std.specs.Prelude.{◌≡◌, ◌^◌, ◌<◌, ◌≤◌, false, [], ◌∷◌, OnOk, OnErr};
 ghost use Rattle.record_io.specs.Outside.{Rose, Takes, TakesFront};
 ghost use Rattle.chunk_header.specs.Views.{value_of_chunk, HasRightHash};
 ghost use Rattle.meta_chunk.specs.Counts.{is_unread};
@@ -61,6 +61,7 @@ impl MadeFile {
         ensures front { OnErr result (LaysFront (M.taken made.old) (M.taken made.new) self.old self.new (signature ∷ [])) }
         ensures cause { OnErr result (Rose (M.faults made.old) (M.faults made.new)) }
         ensures never_falls { M.faults made.old ≤ M.faults made.new }
+        ensures small { M.faults made.old < 2 ^ 64 → M.faults made.new < 2 ^ 64 }
         ensures same_name { M.name made.new ≡ M.name made.old }
     {
         self.writer.start_into(&mut self.buffer, made)?;
@@ -81,6 +82,7 @@ impl MadeFile {
         ensures front { OnErr result (LaysFront (M.taken made.old) (M.taken made.new) self.old self.new (value_of_chunk chunk.now ∷ [])) }
         ensures cause { OnErr result (Rose (M.faults made.old) (M.faults made.new)) }
         ensures never_falls { M.faults made.old ≤ M.faults made.new }
+        ensures small { M.faults made.old < 2 ^ 64 → M.faults made.new < 2 ^ 64 }
         ensures same_name { M.name made.new ≡ M.name made.old }
     {
         self.writer.put_into(&mut self.buffer, made, chunk)?;
@@ -101,6 +103,7 @@ impl MadeFile {
         ensures front { OnErr result (LaysFront (M.taken made.old) (M.taken made.new) self.old self.new (padding_if wanted self.old.place)) }
         ensures cause { OnErr result (Rose (M.faults made.old) (M.faults made.new)) }
         ensures never_falls { M.faults made.old ≤ M.faults made.new }
+        ensures small { M.faults made.old < 2 ^ 64 → M.faults made.new < 2 ^ 64 }
         ensures same_name { M.name made.new ≡ M.name made.old }
     {
         if wanted { self.pad(made) } else { Ok(()) }
@@ -114,6 +117,7 @@ impl MadeFile {
         ensures front { OnErr result (LaysFront (M.taken made.old) (M.taken made.new) self.old self.new (padding_at self.old.place)) }
         ensures cause { OnErr result (Rose (M.faults made.old) (M.faults made.new)) }
         ensures never_falls { M.faults made.old ≤ M.faults made.new }
+        ensures small { M.faults made.old < 2 ^ 64 → M.faults made.new < 2 ^ 64 }
         ensures same_name { M.name made.new ≡ M.name made.old }
     {
         let begin = self.writer.position();
@@ -136,6 +140,7 @@ impl MadeFile {
         ensures emptied { self.new ≡ record self.old { held = [] } }
         ensures cause { OnErr result (Rose (M.faults made.old) (M.faults made.new)) }
         ensures never_falls { M.faults made.old ≤ M.faults made.new }
+        ensures small { M.faults made.old < 2 ^ 64 → M.faults made.new < 2 ^ 64 }
         ensures same_name { M.name made.new ≡ M.name made.old }
     {
         self.buffer.flush(made)

@@ -11,7 +11,9 @@ loop-file-init g c = record {
   feed_going = c.requires.feed_going;
   in_reach = c.requires.in_reach;
   input_count = omega arith;
+  input_small = λ h. h;
   made_count = omega arith;
+  made_small = λ h. h;
   input_name = refl;
   made_name = refl;
 }
@@ -35,7 +37,9 @@ loop-file-preserved g c =
         ap length c.as_slice.ensures.value,
       );
       input_count = omega arith;
+      input_small = λ h. c.in-Ok-true.ensures.small (c.loop-file.invariant.input_small h);
       made_count = omega arith;
+      made_small = λ h. c.in_ok-put_record-in-Ok-true.ensures.made_small (c.loop-file.invariant.made_small h);
       input_name = cc;
       made_name = cc;
     }
