@@ -23,7 +23,7 @@ use Rattle.chunk_reader.proofs.LaidAt.{header_of, header_at-laid, right_header-l
 use Rattle.chunk_reader.proofs.NoReason.{not_short}
 use Rattle.damage_skip.specs.Resyncs.{StandsFrom, landing, IsResync, Contradicts}
 use Rattle.damage_skip.specs.Pieces.{What, Skipped, Piece, PassesOver, walk_reasons, IsPieceOf, AreTiles, ArePieces}
-use Rattle.damage_skip.specs.Damage.{Intact, IsDamaged, LiesIn, IsIntactFrom, IsNext, IsLeftAs, AreLeft}
+use Rattle.damage_skip.specs.Damage.{Intact, IsDamaged, LiesIn, IsIntactFrom, IsNext, DamageLeaves, DamageLeavesEach}
 use Rattle.damage_skip.proofs.Blocks.{stands_within}
 use Rattle.damage_skip.proofs.OnePiece.{piece_one}
 use Rattle.damage_skip.proofs.Tiles.{tiles_to_end}
@@ -172,7 +172,7 @@ module _ (keep : Bool) (ks : List ChunkValue) (file damaged : List ℕ) (intact 
   -- what is left of it, with the piece that is
   IsLeftPiece : (j : ℕ) (k : ChunkValue) (to : ℕ) (what : What) → Type 0
   IsLeftPiece j k to what =
-      IsPieceOf keep damaged (begin_of ks j) to what × IsLeftAs keep (intact.header j) (intact.«data» j) k what
+      IsPieceOf keep damaged (begin_of ks j) to what × DamageLeaves keep (intact.header j) (intact.«data» j) k what
 
   -- a chunk whose header has changed
   broken_piece : (j : ℕ) (k : ChunkValue) (next : ℕ) → slice_get ks j ≡ Some k → intact.header j ≡ false → IsNext ks intact j next
@@ -181,7 +181,7 @@ module _ (keep : Bool) (ks : List ChunkValue) (file damaged : List ℕ) (intact 
   broken_piece j k next at broken step =
       let inside : j < length ks = slice_get_within ks j k at in (
         (inr (long_enough j k at, inl (d.header_shows j inside broken, refl)), resync_next j next inside broken step),
-        subst (λ (h : Bool). IsLeftAs keep h (intact.«data» j) k (Skipped why.HeaderHash)) (sym broken) refl,
+        subst (λ (h : Bool). DamageLeaves keep h (intact.«data» j) k (Skipped why.HeaderHash)) (sym broken) refl,
       )
 
   -- one whose header is intact
@@ -244,8 +244,8 @@ module _ (keep : Bool) (ks : List ChunkValue) (file damaged : List ℕ) (intact 
     unfolding IsLeftPiece
     changed_piece changed = (
       (first_there why.DataHash (first_of_content keep (PassesOver damaged (begin_of ks j)) (changed_data changed)), sym same_end),
-      subst (λ (h : Bool). IsLeftAs keep h (intact.«data» j) k (Skipped why.DataHash)) (sym whole)
-          (subst (λ (x : Bool). IsLeftAs keep true x k (Skipped why.DataHash)) (sym changed) refl),
+      subst (λ (h : Bool). DamageLeaves keep h (intact.«data» j) k (Skipped why.DataHash)) (sym whole)
+          (subst (λ (x : Bool). DamageLeaves keep true x k (Skipped why.DataHash)) (sym changed) refl),
     )
 
     -- its data is intact: it is the chunk
@@ -257,11 +257,11 @@ module _ (keep : Bool) (ks : List ChunkValue) (file damaged : List ℕ) (intact 
         (ap (λ (v : HeaderValue). v.decoded_size) same_fields)
         (ap (data_at damaged (begin_of ks j)) same_size ∙ (d.«data» j k at).0 kept)
 
-    left_where_kept : intact.«data» j ≡ true → (what : What) → IsLeftAs keep true true k what
-        → IsLeftAs keep (intact.header j) (intact.«data» j) k what
+    left_where_kept : intact.«data» j ≡ true → (what : What) → DamageLeaves keep true true k what
+        → DamageLeaves keep (intact.header j) (intact.«data» j) k what
     left_where_kept kept what left =
-        subst (λ (h : Bool). IsLeftAs keep h (intact.«data» j) k what) (sym whole)
-        (subst (λ (x : Bool). IsLeftAs keep true x k what) (sym kept) left)
+        subst (λ (h : Bool). DamageLeaves keep h (intact.«data» j) k what) (sym whole)
+        (subst (λ (x : Bool). DamageLeaves keep true x k what) (sym kept) left)
 
     kept_piece : intact.«data» j ≡ true → (what : What) × IsLeftPiece j k (begin_of ks (j + 1)) what
     unfolding IsLeftPiece
@@ -299,7 +299,7 @@ module _ (keep : Bool) (ks : List ChunkValue) (file damaged : List ℕ) (intact 
 
   -- and so are all pieces from there on
   tiles_left : (j from : ℕ) (pieces : List Piece) → j ≤ length ks → from ≡ begin_of ks j → AreTiles keep damaged from (length damaged) pieces
-      → AreLeft keep ks intact j pieces
+      → DamageLeavesEach keep ks intact j pieces
   unfolding IsLeftPiece
   tiles_left j from [] inside begin h =
       elim (cases_lt j (length ks)) [
@@ -320,7 +320,7 @@ module _ (keep : Bool) (ks : List ChunkValue) (file damaged : List ℕ) (intact 
               left.2,
               at_begin ∙ begin,
               one.0,
-              subst (λ (w : What). IsLeftAs keep (intact.header j) (intact.«data» j) k w) (sym one.1) left.3.1,
+              subst (λ (w : What). DamageLeaves keep (intact.header j) (intact.«data» j) k w) (sym one.1) left.3.1,
               tiles_left left.0 p.end pieces past.1 one.0 rest,
             )
         | inr (past, none) ↦
@@ -328,10 +328,10 @@ module _ (keep : Bool) (ks : List ChunkValue) (file damaged : List ℕ) (intact 
             absurd (omega (arith, begin, below, d.same_length, last_end, ap (begin_of ks) last))
       ]
 
-  pub pieces_left : (pieces : List Piece) → ArePieces keep damaged pieces → AreLeft keep ks intact 0 pieces
+  pub pieces_left : (pieces : List Piece) → ArePieces keep damaged pieces → DamageLeavesEach keep ks intact 0 pieces
   pieces_left pieces h = tiles_left 0 0 pieces (omega arith) refl h
 
-  pub left_pieces : (pieces : List Piece) → AreLeft keep ks intact 0 pieces → ArePieces keep damaged pieces
+  pub left_pieces : (pieces : List Piece) → DamageLeavesEach keep ks intact 0 pieces → ArePieces keep damaged pieces
   left_pieces pieces h =
       let all = tiles_to_end keep damaged 0 (omega arith) in
       subst (ArePieces keep damaged) (left_one keep ks intact 0 all.0 pieces (pieces_left all.0 all.1) h) all.1

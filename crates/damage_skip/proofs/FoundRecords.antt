@@ -147,16 +147,16 @@ pub events_not_skipped : (keep : Bool) (ks : List ChunkValue) (file : List ℕ) 
     → AllByRecursion (λ event. (w : Why) → event.what ≢ Skipped w) events
 events_not_skipped keep ks file events whole (pieces, h, are) =
     let P : Piece → Type 0 = λ (p : Piece). (w : Why) → p.what ≢ Skipped w in
-    subst (AllByRecursion P) (sym are) (each_event P pieces (none_skipped keep 0 ks pieces (pieces_found keep ks file pieces whole h)))
+    subst (AllByRecursion P) are (each_event P pieces (none_skipped keep 0 ks pieces (pieces_found keep ks file pieces whole h)))
 
 pub events_records : (keep : Bool) (ks : List ChunkValue) (file : List ℕ) (events : List Piece)
     → IsFileOf (IsAllowed keep) ks file → AreEvents keep file events → AreRecordsOf ks (records_in events)
 events_records keep ks file events whole (pieces, h, are) =
-    subst (AreRecordsOf ks) (sym (ap records_in are ∙ records_in_events pieces))
+    subst (AreRecordsOf ks) (sym (records_in_events pieces) ∙ ap records_in are)
     (found_records keep 0 ks pieces (pieces_found keep ks file pieces whole h))
 
 pub events_placed : (keep : Bool) (ks : List ChunkValue) (file : List ℕ) (events : List Piece)
     → IsFileOf (IsAllowed keep) ks file → AreEvents keep file events → ArePlaced ks (placed_in events)
 events_placed keep ks file events whole (pieces, h, are) =
-    subst (ArePlaced ks) (sym (ap placed_in are ∙ placed_in_events pieces))
+    subst (ArePlaced ks) (sym (placed_in_events pieces) ∙ ap placed_in are)
     (found_placed keep ks pieces (pieces_found keep ks file pieces whole h))

@@ -14,7 +14,7 @@ use Rattle.chunk_reader.proofs.ChainSteps.{each_at}
 use Rattle.chunk_reader.proofs.FaultsDecided.{least_below}
 use Rattle.chunk_reader.specs.declared.reasons.Why.TheVariants as why
 use Rattle.damage_skip.specs.Pieces.{What, Given, Kept, Passive, Skipped, Piece, IsFoundAs}
-use Rattle.damage_skip.specs.Damage.{Intact, LiesIn, IsIntactFrom, IsNext, AreReached, IsLeftAs, AreLeft}
+use Rattle.damage_skip.specs.Damage.{Intact, LiesIn, IsIntactFrom, IsNext, AreReached, DamageLeaves, DamageLeavesEach}
 use Rattle.damage_skip.proofs.OnePiece.{found_one, found_of, given_or_kept}
 use Rattle.damage_skip.proofs.Tiles.{same_piece}
 
@@ -131,7 +131,7 @@ compressed_or_transposed k compressed transposed =
     let r : k.kind ≡ 0x72 = compressed.0 in let t : k.kind ≡ 0x74 = transposed in omega arith
 
 -- what is left of a chunk is one
-pub left_as_one : (keep header «data» : Bool) (k : ChunkValue) (a b : What) → IsLeftAs keep header «data» k a → IsLeftAs keep header «data» k b → a ≡ b
+pub left_as_one : (keep header «data» : Bool) (k : ChunkValue) (a b : What) → DamageLeaves keep header «data» k a → DamageLeaves keep header «data» k b → a ≡ b
 left_as_one keep false d k a b h g = h ∙ sym g
 left_as_one keep true false k a b h g = h ∙ sym g
 left_as_one true true true k a b h g = found_one true k a b h g
@@ -146,7 +146,7 @@ left_as_one false true true k a b (inr (inr (t, h))) (inr (inl (c, g))) = absurd
 left_as_one false true true k a b (inr (inr (t, h))) (inr (inr (u, g))) = h ∙ sym g
 
 -- and there is such, where the chunk is read or left unread
-left_as_of : (keep header «data» : Bool) (k : ChunkValue) → IsFramed k → (what : What) × IsLeftAs keep header «data» k what
+left_as_of : (keep header «data» : Bool) (k : ChunkValue) → IsFramed k → (what : What) × DamageLeaves keep header «data» k what
 left_as_of keep false d k framed = (Skipped why.HeaderHash, refl)
 left_as_of keep true false k framed = (Skipped why.DataHash, refl)
 left_as_of true true true k (inl plain) = found_of true k (inl plain.1)
@@ -158,23 +158,23 @@ left_as_of false true true k (inr (small, inr c)) = (Skipped why.Compressed, inr
 
 -- so the pieces that are left are one list
 pub left_one : (keep : Bool) (ks : List ChunkValue) (intact : Intact) (j : ℕ) (ps qs : List Piece)
-    → AreLeft keep ks intact j ps → AreLeft keep ks intact j qs → ps ≡ qs
+    → DamageLeavesEach keep ks intact j ps → DamageLeavesEach keep ks intact j qs → ps ≡ qs
 left_one keep ks intact j [] [] h g = refl
 left_one keep ks intact j [] (q ∷ qs) h (k, next, at, step, begin, end, what, rest) = absurd (omega (arith, h, slice_get_within ks j k at))
 left_one keep ks intact j (p ∷ ps) [] (k, next, at, step, begin, end, what, rest) g = absurd (omega (arith, g, slice_get_within ks j k at))
 left_one keep ks intact j (p ∷ ps) (q ∷ qs) (k, next, at, step, begin, end, what, rest) (l, other, there, also, from, to, that, on) =
     let chunk : l ≡ k = same_Some l k (sym there ∙ at) in
     let same : other ≡ next = next_one ks intact j other next also step in
-    let left : IsLeftAs keep (intact.header j) (intact.«data» j) k q.what =
-    subst (λ (x : ChunkValue). IsLeftAs keep (intact.header j) (intact.«data» j) x q.what) chunk that in
+    let left : DamageLeaves keep (intact.header j) (intact.«data» j) k q.what =
+    subst (λ (x : ChunkValue). DamageLeaves keep (intact.header j) (intact.«data» j) x q.what) chunk that in
     ap (λ (x : Piece). x ∷ ps)
     (same_piece p q (begin ∙ sym from) (end ∙ ap (begin_of ks) (sym same) ∙ sym to)
     (left_as_one keep (intact.header j) (intact.«data» j) k p.what q.what what left))
     ∙ ap (λ (xs : List Piece). q ∷ xs)
-    (left_one keep ks intact next ps qs rest (subst (λ (n : ℕ). AreLeft keep ks intact n qs) same on))
+    (left_one keep ks intact next ps qs rest (subst (λ (n : ℕ). DamageLeavesEach keep ks intact n qs) same on))
 
 left_from : (keep : Bool) (ks : List ChunkValue) (intact : Intact) (most j : ℕ) → AllByRecursion IsFramed ks
-    → length ks ≤ j + most → j ≤ length ks → (pieces : List Piece) × AreLeft keep ks intact j pieces
+    → length ks ≤ j + most → j ≤ length ks → (pieces : List Piece) × DamageLeavesEach keep ks intact j pieces
 left_from keep ks intact zero j framed far inside = ([], omega arith)
 left_from keep ks intact (suc most) j framed far inside =
     elim (slice_get_cases ks j).1 [
@@ -189,12 +189,12 @@ left_from keep ks intact (suc most) j framed far inside =
     ]
 
 pub left_of : (keep : Bool) (ks : List ChunkValue) (intact : Intact) (j : ℕ) → AllByRecursion IsFramed ks → j ≤ length ks
-    → (pieces : List Piece) × AreLeft keep ks intact j pieces
+    → (pieces : List Piece) × DamageLeavesEach keep ks intact j pieces
 left_of keep ks intact j framed inside = left_from keep ks intact (length ks) j framed (omega arith) inside
 
 -- they begin where the chunks do that are reached
 pub left_begins : (keep : Bool) (ks : List ChunkValue) (intact : Intact) (j : ℕ) (pieces : List Piece) (is : List ℕ)
-    → AreLeft keep ks intact j pieces → AreReached ks intact j is → map (λ p. p.begin) pieces ≡ map (begin_of ks) is
+    → DamageLeavesEach keep ks intact j pieces → AreReached ks intact j is → map (λ p. p.begin) pieces ≡ map (begin_of ks) is
 left_begins keep ks intact j [] [] h g = refl
 left_begins keep ks intact j [] (i ∷ is) h (at, below, rest) = absurd (omega (arith, h))
 left_begins keep ks intact j (p ∷ pieces) [] (k, next, at, step, begin, end, what, rest) g = absurd (omega (arith, g, slice_get_within ks j k at))

@@ -213,7 +213,7 @@ met_within keep file place (ps, h) =
 
 -- to its end, with all events
 pub goes_on_whole : (keep : Bool) (file : List ℕ) (es : List Piece) → GoesOn keep file 0 (length file) es → AreEvents keep file es
-goes_on_whole keep file es (ps, h, are) = (ps, h, sym are)
+goes_on_whole keep file es h = h
 
 -- of which it gave the first ones before
 pub goes_on_front : (keep : Bool) (file : List ℕ) (place : ℕ) (es fs : List Piece) → GoesOn keep file 0 place es → AreEvents keep file fs
@@ -222,14 +222,13 @@ goes_on_front keep file place es fs (ps, h, are) (qs, g, there) =
     let further : place ≤ length file = (tiles_within keep file 0 place ps (omega arith) h).1 in
     let front = tiles_front keep file 0 place (length file) ps qs further h g in (
       events_in front.0,
-      there ∙ ap events_in front.1 ∙ events-append ps front.0 ∙ ap (λ (xs : List Piece). xs ++ events_in front.0) are,
+      sym there ∙ ap events_in front.1 ∙ events-append ps front.0 ∙ ap (λ (xs : List Piece). xs ++ events_in front.0) are,
       (front.0, front.2, refl),
     )
 
 -- which are one list
 pub events_one : (keep : Bool) (file : List ℕ) (es fs : List Piece) → AreEvents keep file es → AreEvents keep file fs → es ≡ fs
-events_one keep file es fs (ps, h, are) (qs, g, there) =
-    are ∙ ap events_in (tiles_one keep file 0 (length file) ps qs h g) ∙ sym there
+events_one keep file = goes_on_one keep file 0 (length file)
 
 pub events_of : (keep : Bool) (file : List ℕ) → (events : List Piece) × AreEvents keep file events
 events_of keep file =

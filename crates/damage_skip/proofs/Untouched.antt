@@ -11,14 +11,14 @@ use Rattle.meta_chunk.specs.Files.{Holds, AreRecordsOf, begin_of}
 use Rattle.meta_chunk.proofs.Begins.{begin_of_rises}
 use Rattle.meta_chunk.proofs.Held.{AreRecordsOf-append}
 use Rattle.damage_skip.specs.Pieces.{What, Piece, AreEvents, records_of, records_in}
-use Rattle.damage_skip.specs.Damage.{Intact, IsDamaged, IsNext, AreReached, IsLeftAs, AreLeft, untouched}
+use Rattle.damage_skip.specs.Damage.{Intact, IsDamaged, IsNext, AreReached, DamageLeaves, DamageLeavesEach, untouched}
 use Rattle.damage_skip.proofs.OnePiece.{given_or_kept}
 use Rattle.damage_skip.proofs.FoundRecords.{found_holds, records_in_events}
 use Rattle.damage_skip.proofs.Damaged.{pieces_left}
 use Rattle.damage_skip.proofs.Reached.{next_one}
 
 -- what an untouched chunk gives it holds
-left_holds : (keep : Bool) (k : ChunkValue) (what : What) → IsLeftAs keep true true k what → Holds k (records_of what)
+left_holds : (keep : Bool) (k : ChunkValue) (what : What) → DamageLeaves keep true true k what → Holds k (records_of what)
 left_holds true k what left = found_holds true k what left
 left_holds false k what (inl found) = found_holds false k what found
 left_holds false k what (inr (inl (compressed, is))) =
@@ -27,7 +27,7 @@ left_holds false k what (inr (inr (transposed, is))) =
     inr (λ has. given_or_kept true k has.0 has.1 (inr (refl, inr transposed)), ap records_of is)
 
 -- one that was touched gives nothing
-touched_gives : (keep header «data» : Bool) (k : ChunkValue) (what : What) → header && «data» ≡ false → IsLeftAs keep header «data» k what
+touched_gives : (keep header «data» : Bool) (k : ChunkValue) (what : What) → header && «data» ≡ false → DamageLeaves keep header «data» k what
     → records_of what ≡ []
 touched_gives keep false d k what touched left = ap records_of left
 touched_gives keep true false k what touched left = ap records_of left
@@ -50,7 +50,7 @@ both_true true false h = cc
 both_true false b h = cc
 
 pub left_records : (keep : Bool) (ks : List ChunkValue) (intact : Intact) (j : ℕ) (pieces : List Piece) (is : List ℕ)
-    → AreLeft keep ks intact j pieces → AreReached ks intact j is → AreRecordsOf (untouched ks intact is) (records_in pieces)
+    → DamageLeavesEach keep ks intact j pieces → AreReached ks intact j is → AreRecordsOf (untouched ks intact is) (records_in pieces)
 left_records keep ks intact j [] [] h g = ([], refl, refl)
 left_records keep ks intact j [] (i ∷ is) h (at, below, rest) = absurd (omega (arith, h))
 left_records keep ks intact j (p ∷ pieces) [] (k, next, at, step, begin, end, what, rest) g =
@@ -63,9 +63,9 @@ left_records keep ks intact j (p ∷ pieces) (i ∷ is) (k, next, at, step, begi
     (elim (cases_Bool (intact.header j && intact.«data» j)) [
       | inl whole ↦
           let flags = both_true (intact.header j) (intact.«data» j) whole in
-          let left : IsLeftAs keep true true k p.what =
-          subst (λ (b : Bool). IsLeftAs keep true b k p.what) flags.1
-          (subst (λ (b : Bool). IsLeftAs keep b (intact.«data» j) k p.what) flags.0 what) in
+          let left : DamageLeaves keep true true k p.what =
+          subst (λ (b : Bool). DamageLeaves keep true b k p.what) flags.1
+          (subst (λ (b : Bool). DamageLeaves keep b (intact.«data» j) k p.what) flags.0 what) in
           subst (λ (xs : List ChunkValue). AreRecordsOf xs (records_in (p ∷ pieces))) (sym (untouched-cons ks intact j is k whole at))
           (AreRecordsOf-append (k ∷ []) (untouched ks intact is) (records_of p.what) (records_in pieces)
           (one_chunk k (records_of p.what) (left_holds keep k p.what left)) behind)
@@ -80,7 +80,7 @@ pub events_left : (keep : Bool) (ks : List ChunkValue) (file damaged : List ℕ)
     → length file ≤ 2 ^ 60 → IsDamaged ks file damaged intact → AreReached ks intact 0 is → AreEvents keep damaged events
     → AreRecordsOf (untouched ks intact is) (records_in events)
 events_left keep ks file damaged intact is events reach d reached (pieces, h, are) =
-    subst (AreRecordsOf (untouched ks intact is)) (sym (ap records_in are ∙ records_in_events pieces))
+    subst (AreRecordsOf (untouched ks intact is)) (sym (records_in_events pieces) ∙ ap records_in are)
     (left_records keep ks intact 0 pieces is (pieces_left keep ks file damaged intact d reach pieces h) reached)
 
 -- the block headers of a file are all intact

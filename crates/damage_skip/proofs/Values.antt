@@ -1,10 +1,24 @@
 -- Values counted by hand, computed from the definitions.
-use Rattle.std.proofs.Common.{◌≡◌, ℕ, ◌<◌, ◌≤◌, Bool, List, [], ◌∷◌, length, lit≤, refl, inl, inr, arith}
-use Rattle.block_layout.specs.Layout.{IsBlock, end_of}
-use Rattle.block_layout.specs.BlockHeaders.{block_header, StandsAt}
-use Rattle.meta_chunk.specs.Files.{signature}
+use Rattle.std.proofs.Common.{◌↔◌, ◌≡◌, ℕ, zero, suc, ◌+◌, ◌<◌, ◌≤◌, Bool, true, false, Some, None, List, [], ◌∷◌, ◌++◌, length, set, replicate, slice_index, lit<, lit≤, refl, sym, ap, inl, inr, subst, arith}
+use Rattle.std.specs.Prelude.{not, ◌||◌, ◌==◌, slice_get, slice_range}
+use Rattle.std.proofs.lemmas.Bool.{cases_lt}
+use Rattle.std.proofs.lemmas.Option.{same_Some}
+use Rattle.highway_hash.specs.HighwayHash.{hash_of, finished, after_remainder, after_packets, finishing_round, updated, mixed, multiplied, zipped, reset, lanes_of, remainder_packet}
+use Rattle.varint_wire.specs.Varint.{shortest}
+use Rattle.block_layout.specs.Layout.{IsBlock, room, usable_bytes, end_of, chunk_end_of}
+use Rattle.block_layout.specs.BlockHeaders.{block_header, IsRightBlockHeader, StandsAt}
+use Rattle.chunk_header.specs.Chunks.{ChunkValue}
+use Rattle.chunk_header.specs.SimpleChunks.{simple_chunk, IsSimple}
+use Rattle.chunk_header.proofs.SimpleChunks.{IsSimple-simple_chunk}
+use Rattle.meta_chunk.specs.Kinds.{IsSignature}
+use Rattle.meta_chunk.specs.Files.{signature, IsFrame, begin_of}
+use Rattle.meta_chunk.specs.Laid.{laid_bytes}
+use Rattle.chunk_reader.specs.Faults.{BeginsWithSignature}
+use Rattle.chunk_reader.specs.Places.{header_bytes_at, data_at}
+use Rattle.chunk_reader.proofs.SignedFiles.{IsPlain-signature, IsLaid-signature}
 use Rattle.chunk_reader.specs.declared.reasons.Why.TheVariants as why
 use Rattle.damage_skip.specs.Resyncs.{landing, IsResync, Contradicts}
+use Rattle.damage_skip.specs.Damage.{Intact, LiesIn, IsNext, IsDamaged, IsIntactFrom, AreReached, DamageLeavesEach}
 use Rattle.damage_skip.specs.Pieces.{Given, Passive, Skipped, Piece, ArePieces, events_in, records_in, placed_in}
 use Rattle.damage_skip.proofs.Blocks.{stands_within}
 
@@ -104,3 +118,317 @@ records_of_three a b = refl
 placed_of_three : (a b : List ℕ) → placed_in (three_pieces a b) ≡ (64, a) ∷ (65, b) ∷ []
 unfolding three_pieces two
 placed_of_three a b = refl
+
+-- a file of five chunks of one record of 30000 bytes each, with block headers in the third and in the last of them
+large_record : List ℕ
+large_record = replicate 30000 0x61
+
+large : ChunkValue
+large = simple_chunk (large_record ∷ [])
+
+large_is_simple : IsSimple large (large_record ∷ [])
+unfolding large_record large shortest
+large_is_simple = IsSimple-simple_chunk (large_record ∷ []) (lit< tt, tt) (lit< tt)
+
+five : List ChunkValue
+five = signature ∷ large ∷ large ∷ large ∷ large ∷ large ∷ []
+
+begins :
+    (begin_of five 0 ≡ 0)
+    × (begin_of five 1 ≡ 64)
+    × (begin_of five 2 ≡ 30109)
+    × (begin_of five 3 ≡ 60154)
+    × (begin_of five 4 ≡ 90223)
+    × (begin_of five 5 ≡ 120268)
+    × (begin_of five 6 ≡ 150337)
+unfolding large_record large five chunk_end_of end_of shortest
+begins = (refl, refl, refl, refl, refl, refl, refl)
+
+in_third : LiesIn five 65536 3
+unfolding five
+in_third = record { number = lit< tt; begins = omega (arith, begins.3); ends = omega (arith, begins.4) }
+
+in_last : LiesIn five 131072 5
+unfolding five
+in_last = record { number = lit< tt; begins = omega (arith, begins.5); ends = omega (arith, begins.6) }
+
+-- the pieces that its damage may leave
+given : (begin end : ℕ) → Piece
+given begin end = record { begin = begin; end = end; what = Given (large_record ∷ []) large }
+
+skipped : (begin end : ℕ) → Piece
+skipped begin end = record { begin = begin; end = end; what = Skipped why.HeaderHash }
+
+passive : (begin end : ℕ) → Piece
+passive begin end = record { begin = begin; end = end; what = Passive }
+
+signature_is_one : IsSignature signature
+signature_is_one =
+    (refl, record { signature = λ same. (refl, refl, refl); metadata = λ same. refl; padding = λ same. (refl, refl) })
+
+-- with a changed header of its first chunk of records, and a changed block header at 65536, the next block header leads to the
+-- last chunk
+first_hit : Intact
+first_hit = record { header = λ j. not (j == 1); «data» = λ j. true; block = λ b. not (b == 65536) }
+
+no_other_block : (c : ℕ) → IsIntactFrom five first_hit 1 c → 131072 ≤ c
+unfolding first_hit five
+no_other_block c here = elim (cases_lt c 131072) [
+  | inl before ↦
+      let same : c ≡ 65536 = omega (arith, here.is_block, here.from, begins.1, before) in
+      let changed : false ≡ true = subst (λ (b : ℕ). first_hit.block b ≡ true) same here.is_intact in
+      absurd (cc)
+  | inr past ↦ past
+]
+
+first_leads_on : IsNext five first_hit 1 5
+unfolding first_hit five
+first_leads_on = inr (
+  refl,
+  inl (
+    131072,
+    5,
+    record { is_block = refl; from = omega (arith, begins.1); below = omega (arith, begins.6); is_intact = refl },
+    no_other_block,
+    in_last,
+    refl,
+  ),
+)
+
+first_reached : AreReached five first_hit 0 (0 ∷ 1 ∷ 5 ∷ [])
+unfolding first_hit five
+first_reached =
+    (refl, lit< tt, (1, inl (refl, refl), (refl, lit< tt, (5, first_leads_on, (refl, lit< tt, (6, inl (refl, refl), refl))))))
+
+first_left : DamageLeavesEach false five first_hit 0 (passive 0 64 ∷ skipped 64 120268 ∷ given 120268 150337 ∷ [])
+unfolding first_hit passive skipped given five
+first_left = (
+  signature,
+  1,
+  refl,
+  inl (refl, refl),
+  sym begins.0,
+  sym begins.1,
+  inl (inl signature_is_one),
+  (
+    large,
+    5,
+    refl,
+    first_leads_on,
+    sym begins.1,
+    sym begins.5,
+    refl,
+    (large, 6, refl, inl (refl, refl), sym begins.5, sym begins.6, inl (large_is_simple, refl), refl),
+  ),
+)
+
+-- with changed headers of two chunks, one behind the other, it has two regions, of which the block header within the second
+-- tells where each ends
+two_hit : Intact
+two_hit = record { header = λ j. not ((j == 2) || (j == 3)); «data» = λ j. true; block = λ b. true }
+
+two_lead_on : IsNext five two_hit 2 3 × IsNext five two_hit 3 4
+unfolding two_hit five
+two_lead_on = (
+  inr (
+    refl,
+    inl (
+      65536,
+      3,
+      record { is_block = refl; from = omega (arith, begins.2); below = omega (arith, begins.6); is_intact = refl },
+      (λ c here. omega (arith, here.is_block, here.from, begins.2)),
+      in_third,
+      refl,
+    ),
+  ),
+  inr (
+    refl,
+    inl (
+      65536,
+      3,
+      record { is_block = refl; from = omega (arith, begins.3); below = omega (arith, begins.6); is_intact = refl },
+      (λ c here. omega (arith, here.is_block, here.from, begins.3)),
+      in_third,
+      refl,
+    ),
+  ),
+)
+
+third_reached : AreReached five two_hit 3 (3 ∷ 4 ∷ 5 ∷ [])
+unfolding two_hit five
+third_reached =
+    (refl, lit< tt, (4, two_lead_on.1, (refl, lit< tt, (5, inl (refl, refl), (refl, lit< tt, (6, inl (refl, refl), refl))))))
+
+two_reached : AreReached five two_hit 0 (0 ∷ 1 ∷ 2 ∷ 3 ∷ 4 ∷ 5 ∷ [])
+unfolding two_hit five
+two_reached =
+    (refl, lit< tt, (1, inl (refl, refl), (refl, lit< tt, (2, inl (refl, refl), (refl, lit< tt, (3, two_lead_on.0, third_reached))))))
+
+third_left : DamageLeavesEach false five two_hit 3 (skipped 60154 90223 ∷ given 90223 120268 ∷ given 120268 150337 ∷ [])
+unfolding two_hit skipped given five
+third_left = (
+  large,
+  4,
+  refl,
+  two_lead_on.1,
+  sym begins.3,
+  sym begins.4,
+  refl,
+  (
+    large,
+    5,
+    refl,
+    inl (refl, refl),
+    sym begins.4,
+    sym begins.5,
+    inl (large_is_simple, refl),
+    (large, 6, refl, inl (refl, refl), sym begins.5, sym begins.6, inl (large_is_simple, refl), refl),
+  ),
+)
+
+two_left : DamageLeavesEach false five two_hit 0
+    (passive 0 64 ∷ given 64 30109 ∷ skipped 30109 60154 ∷ skipped 60154 90223 ∷ given 90223 120268 ∷ given 120268 150337 ∷ [])
+unfolding two_hit passive skipped given five
+two_left = (
+  signature,
+  1,
+  refl,
+  inl (refl, refl),
+  sym begins.0,
+  sym begins.1,
+  inl (inl signature_is_one),
+  (
+    large,
+    2,
+    refl,
+    inl (refl, refl),
+    sym begins.1,
+    sym begins.2,
+    inl (large_is_simple, refl),
+    (large, 3, refl, two_lead_on.0, sym begins.2, sym begins.3, refl, third_left),
+  ),
+)
+
+-- with a changed header of a chunk, and both block headers behind it changed, all is lost from there on
+blocks_hit : Intact
+blocks_hit = record { header = λ j. not (j == 2); «data» = λ j. true; block = λ b. not ((b == 65536) || (b == 131072)) }
+
+no_block : (c : ℕ) → ¬ IsIntactFrom five blocks_hit 2 c
+unfolding blocks_hit five
+no_block c here = elim (cases_lt c 131072) [
+  | inl before ↦
+      let same : c ≡ 65536 = omega (arith, here.is_block, here.from, begins.2, before) in
+      let changed : false ≡ true = subst (λ (b : ℕ). blocks_hit.block b ≡ true) same here.is_intact in
+      absurd (cc)
+  | inr past ↦
+      let same : c ≡ 131072 = omega (arith, here.is_block, past, here.below, begins.6) in
+      let changed : false ≡ true = subst (λ (b : ℕ). blocks_hit.block b ≡ true) same here.is_intact in
+      absurd (cc)
+]
+
+nothing_leads_on : IsNext five blocks_hit 2 6
+unfolding blocks_hit five
+nothing_leads_on = inr (refl, inr (no_block, refl))
+
+blocks_reached : AreReached five blocks_hit 0 (0 ∷ 1 ∷ 2 ∷ [])
+unfolding blocks_hit five
+blocks_reached =
+    (refl, lit< tt, (1, inl (refl, refl), (refl, lit< tt, (2, inl (refl, refl), (refl, lit< tt, (6, nothing_leads_on, refl))))))
+
+blocks_left : DamageLeavesEach false five blocks_hit 0 (passive 0 64 ∷ given 64 30109 ∷ skipped 30109 150337 ∷ [])
+unfolding blocks_hit passive skipped given five
+blocks_left = (
+  signature,
+  1,
+  refl,
+  inl (refl, refl),
+  sym begins.0,
+  sym begins.1,
+  inl (inl signature_is_one),
+  (
+    large,
+    2,
+    refl,
+    inl (refl, refl),
+    sym begins.1,
+    sym begins.2,
+    inl (large_is_simple, refl),
+    (large, 6, refl, nothing_leads_on, sym begins.2, sym begins.6, refl, refl),
+  ),
+)
+
+-- a file of the signature alone, and the same with a changed byte of its block header: its chunk is intact
+signed : List ℕ
+signed =
+    0x83 ∷ 0xaf ∷ 0x70 ∷ 0xd1 ∷ 0x0d ∷ 0x88 ∷ 0x4a ∷ 0x3f ∷ replicate 8 0
+    ++ 0x40 ∷ replicate 7 0
+    ++ 0x91 ∷ 0xba ∷ 0xc2 ∷ 0x3c ∷ 0x92 ∷ 0x87 ∷ 0xe1 ∷ 0xa9
+    ∷ replicate 8 0
+    ++ 0xe1 ∷ 0x9f ∷ 0x13 ∷ 0xc0 ∷ 0xe9 ∷ 0xb1 ∷ 0xc3 ∷ 0x72
+    ∷ 0x73
+    ∷ replicate 15 0
+
+changed : List ℕ
+changed = set signed 8 1
+
+block_hit : Intact
+block_hit = record { header = λ j. true; «data» = λ j. true; block = λ b. not (b == 0) }
+
+lengths : (length signed ≡ 64) × (length changed ≡ length signed)
+unfolding signed changed
+lengths = (refl, refl)
+
+signed_begins : BeginsWithSignature signed
+unfolding signed laid_bytes room chunk_end_of end_of hash_of finished after_remainder after_packets finishing_round updated mixed multiplied zipped reset lanes_of remainder_packet
+signed_begins = refl
+
+signed_is_a_frame : IsFrame (signature ∷ []) signed
+unfolding signed
+signed_is_a_frame = (
+  (λ same. cc),
+  record {
+    signed = refl;
+    each = (inl IsPlain-signature, tt);
+    within = lit≤ tt;
+    laid = (slice_range signed 0 64, [], refl, IsLaid-signature signed signed_begins, refl);
+  },
+)
+
+header_stays : (j : ℕ) → j < 1 → header_bytes_at changed (begin_of (signature ∷ []) j) ≡ header_bytes_at signed (begin_of (signature ∷ []) j)
+unfolding signed changed usable_bytes
+header_stays zero below = refl
+header_stays (suc j) below = absurd (omega (arith, below))
+
+data_stays : (j : ℕ) (k : ChunkValue) → slice_get (signature ∷ []) j ≡ Some k
+    → data_at changed (begin_of (signature ∷ []) j) (length k.«data») ≡ k.«data»
+unfolding signed changed usable_bytes
+data_stays zero k stands = subst (λ (c : ChunkValue). data_at changed 0 (length c.«data») ≡ c.«data») (same_Some signature k stands) refl
+data_stays (suc j) k stands =
+    let nothing : None ≡ Some k = stands in
+    absurd (cc)
+
+block_differs : ¬ (slice_range changed 0 24 ≡ slice_range signed 0 24)
+unfolding signed changed
+block_differs same = omega (arith, ap (λ (xs : List ℕ). slice_index xs 8) same)
+
+block_is_wrong : ¬ IsRightBlockHeader (slice_range changed 0 24)
+unfolding signed changed hash_of finished after_remainder after_packets finishing_round updated mixed multiplied zipped reset lanes_of remainder_packet
+block_is_wrong right = omega (arith, ap (λ (xs : List ℕ). slice_index xs 0) right.1)
+
+only_block : (b : ℕ) → IsBlock b → b < length signed → b ≡ 0
+only_block b is below = omega (arith, is, below, lengths.0)
+
+signed_is_damaged : IsDamaged (signature ∷ []) signed changed block_hit
+unfolding block_hit
+signed_is_damaged = record {
+  frame = signed_is_a_frame;
+  same_length = lengths.1;
+  header = λ j below. (λ whole. header_stays j below, λ same. refl);
+  «data» = λ j k stands. (λ whole. data_stays j k stands, λ same. refl);
+  block = λ b is below. subst (λ (c : ℕ). (block_hit.block c ≡ true) ↔ (slice_range changed c (c + 24) ≡ slice_range signed c (c + 24)))
+      (sym (only_block b is below)) ((λ whole. absurd (cc)), λ same. absurd (block_differs same));
+  header_shows = λ j below broken. absurd (cc);
+  data_shows = λ j k stands whole broken. absurd (cc);
+  block_shows = λ b is below broken. subst (λ (c : ℕ). ¬ IsRightBlockHeader (slice_range changed c (c + 24)))
+      (sym (only_block b is below)) block_is_wrong;
+}

@@ -64,24 +64,24 @@ AreReached ks intact j [] = j ≡ length ks
 AreReached ks intact j (i ∷ is) =
     (i ≡ j) × (j < length ks) × ((next : ℕ) × IsNext ks intact j next × AreReached ks intact next is)
 
--- what is left of a chunk that is reached
-abbrev pub IsLeftAs : Bool → (header «data» : Bool) → ChunkValue → What → Type 0
-IsLeftAs keep false «data» k what = what ≡ Skipped why.HeaderHash
-IsLeftAs keep true false k what = what ≡ Skipped why.DataHash
-IsLeftAs true true true k what = IsFoundAs true k what
-IsLeftAs false true true k what =
+-- what damage leaves of a chunk that is reached
+abbrev pub DamageLeaves : Bool → (header «data» : Bool) → ChunkValue → What → Type 0
+DamageLeaves keep false «data» k what = what ≡ Skipped why.HeaderHash
+DamageLeaves keep true false k what = what ≡ Skipped why.DataHash
+DamageLeaves true true true k what = IsFoundAs true k what
+DamageLeaves false true true k what =
     IsFoundAs false k what
     ⊎ (IsCompressed k × (what ≡ Skipped why.Compressed))
     ⊎ (IsTransposed k × (what ≡ Skipped why.Transposed))
 
--- the pieces that are left of a file from chunk j on, one for each chunk that is reached, up to the next one
-abbrev pub AreLeft : Bool → List ChunkValue → Intact → ℕ → List Piece → Type 0
-AreLeft keep ks intact j [] = j ≡ length ks
-AreLeft keep ks intact j (piece ∷ pieces) =
+-- the pieces that it leaves of a file from chunk j on, one for each chunk that is reached, up to the next one
+abbrev pub DamageLeavesEach : Bool → List ChunkValue → Intact → ℕ → List Piece → Type 0
+DamageLeavesEach keep ks intact j [] = j ≡ length ks
+DamageLeavesEach keep ks intact j (piece ∷ pieces) =
     (k : ChunkValue) × (next : ℕ) × (slice_get ks j ≡ Some k) × IsNext ks intact j next
     × (piece.begin ≡ begin_of ks j) × (piece.end ≡ begin_of ks next)
-    × IsLeftAs keep (intact.header j) (intact.«data» j) k piece.what
-    × AreLeft keep ks intact next pieces
+    × DamageLeaves keep (intact.header j) (intact.«data» j) k piece.what
+    × DamageLeavesEach keep ks intact next pieces
 
 -- of the chunks of these numbers those whose header and data are intact
 abbrev pub untouched : List ChunkValue → Intact → List ℕ → List ChunkValue

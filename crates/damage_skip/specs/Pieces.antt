@@ -84,9 +84,14 @@ is_event other = true
 abbrev pub events_in : List Piece → List Piece
 events_in pieces = filter (λ piece. is_event piece.what) pieces
 
+-- the file was walked from a place up to another, and these are the events between
+abbrev pub GoesOn : Bool → List ℕ → (from to : ℕ) → List Piece → Type 0
+GoesOn keep file from to events =
+    (pieces : List Piece) × AreTiles keep file from to pieces × (events_in pieces ≡ events)
+
 -- the events of a file, in order
 abbrev pub AreEvents : Bool → List ℕ → List Piece → Type 0
-AreEvents keep file events = (pieces : List Piece) × ArePieces keep file pieces × (events ≡ events_in pieces)
+AreEvents keep file events = GoesOn keep file 0 (length file) events
 
 -- the records that a piece gives
 abbrev pub records_of : What → List (List ℕ)

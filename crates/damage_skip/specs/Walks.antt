@@ -14,7 +14,8 @@ use Rattle.damage_skip.specs.declared.pieces.Piece as code
 use Rattle.damage_skip.specs.declared.pieces.What.{What}
 use Rattle.damage_skip.specs.declared.pieces.What.TheVariants as what
 use Rattle.damage_skip.specs.declared.regions.Region.{Region}
-use Rattle.damage_skip.specs.Pieces.{Piece, Given, Kept, Skipped, IsPieceOf, AreTiles, events_in}
+use Rattle.damage_skip.specs.Pieces.{Piece, Given, Kept, Skipped, IsPieceOf, AreTiles}
+pub use Rattle.damage_skip.specs.Pieces.{GoesOn}
 use Rattle.damage_skip.specs.Steps.{IsIntact, IsOnward}
 
 -- the piece that an event tells of
@@ -30,11 +31,6 @@ piece_of (event.Kept begin chunk) = record {
   what = Kept (value_of_chunk chunk);
 }
 piece_of (event.Skipped region) = record { begin = region.begin; end = region.end; what = Skipped region.why }
-
--- the file was walked from a place up to another, and these are the events between
-abbrev pub GoesOn : Bool → List ℕ → (from to : ℕ) → List Piece → Type 0
-GoesOn keep file from to events =
-    (pieces : List Piece) × AreTiles keep file from to pieces × (events_in pieces ≡ events)
 
 -- the place is the begin of a piece of the file, or its end
 abbrev pub IsMet : Bool → List ℕ → ℕ → Type 0

@@ -51,7 +51,7 @@ pub(crate) fn load<S: Store>(
 {
     match read_data(alloc, store, size, at, end, header.data_size)? {
         Read::Data(data) => {
-            let (chunk, right) = data.into_chunk(header);
+            let (chunk, right) = data.into_chunk(header)?;
             Ok(Loaded::Whole(chunk, right))
         }
         Read::Contradicted(landing) => Ok(Loaded::Contradicted(landing)),

@@ -8,7 +8,7 @@ ghost use Rattle.chunk_header.specs.Chunks.{ChunkValue};
 ghost use Rattle.chunk_reader.specs.Faults.{IsAllowed};
 ghost use Rattle.chunk_reader.specs.declared.reasons.Why.{Why};
 ghost use Rattle.chunk_reader.specs.declared.reasons.Why.TheVariants as why;
-ghost use Rattle.damage_skip.specs.Damage.{Intact, IsDamaged, IsNext, AreReached, AreLeft, untouched};
+ghost use Rattle.damage_skip.specs.Damage.{Intact, IsDamaged, IsNext, AreReached, DamageLeavesEach, untouched};
 ghost use Rattle.damage_skip.specs.Pieces.{What, Skipped, Piece, IsFoundAs, IsPieceOf, AreTiles, ArePieces, is_event, events_in, AreEvents, records_in, placed_in, AreFound};
 ghost use Rattle.damage_skip.specs.Resyncs.{IsResync};
 ghost use Rattle.damage_skip.specs.Walks.{GoesOn, IsMet};
@@ -156,11 +156,11 @@ pub fn what_damage_leaves_is_one()
     ensures reached { (ks : List ChunkValue) (intact : Intact) (j : ℕ)
         → j ≤ length ks → (is : List ℕ) × AreReached ks intact j is }
     ensures left_one { (keep : Bool) (ks : List ChunkValue) (intact : Intact) (j : ℕ) (ps qs : List Piece)
-        → AreLeft keep ks intact j ps → AreLeft keep ks intact j qs → ps ≡ qs }
+        → DamageLeavesEach keep ks intact j ps → DamageLeavesEach keep ks intact j qs → ps ≡ qs }
     ensures left { (keep : Bool) (ks : List ChunkValue) (intact : Intact) (j : ℕ)
-        → AllByRecursion IsFramed ks → j ≤ length ks → (pieces : List Piece) × AreLeft keep ks intact j pieces }
+        → AllByRecursion IsFramed ks → j ≤ length ks → (pieces : List Piece) × DamageLeavesEach keep ks intact j pieces }
     ensures begins { (keep : Bool) (ks : List ChunkValue) (intact : Intact) (j : ℕ) (pieces : List Piece) (is : List ℕ)
-        → AreLeft keep ks intact j pieces → AreReached ks intact j is
+        → DamageLeavesEach keep ks intact j pieces → AreReached ks intact j is
         → map (λ piece. piece.begin) pieces ≡ map (begin_of ks) is }
 {}
 
@@ -169,7 +169,7 @@ pub fn what_damage_leaves_is_one()
 pub fn damaged_files_come_apart_as_told()
     ensures pieces { (keep : Bool) (ks : List ChunkValue) (file damaged : List ℕ) (intact : Intact) (pieces : List Piece)
         → length file ≤ 2 ^ 60 → IsDamaged ks file damaged intact
-        → ArePieces keep damaged pieces ↔ AreLeft keep ks intact 0 pieces }
+        → ArePieces keep damaged pieces ↔ DamageLeavesEach keep ks intact 0 pieces }
     ensures records { (keep : Bool) (ks : List ChunkValue) (file damaged : List ℕ) (intact : Intact) (is : List ℕ)
         (events : List Piece)
         → length file ≤ 2 ^ 60 → IsDamaged ks file damaged intact → AreReached ks intact 0 is

@@ -6,14 +6,14 @@ use Rattle.damage_skip.proofs.chunk_loads.load.Goals as goal
 pub read_data-requires-clause-room : goal.read_data-requires-clause-room
 read_data-requires-clause-room g c = rw c.requires.end (data_within c.args.at c.args.header.data_size c.args.header.num_records)
 
-pub returns-in-Data-clause-sound : goal.returns-in-Data-clause-sound
-returns-in-Data-clause-sound g c =
+pub returns-in_ok-chunk-in-Data-clause-sound : goal.returns-in_ok-chunk-in-Data-clause-sound
+returns-in_ok-chunk-in-Data-clause-sound g c =
     let h = c.args.header in
     let at = c.args.at in
     let held = c.in-Data.data in
     let read = c.in_ok-data.ensures in
-    let loaded = c.into_chunk-chunk in
-    loaded_whole _ at c.args.end h loaded.result.0 loaded.result.1
+    let loaded = c.in_ok-chunk-in-Data in
+    loaded_whole _ at c.args.end h loaded.chunk loaded.right
     (rw loaded.ensures.bytes
     (data_given _ _ at h.data_size c.args.end held (g.met.S.Store.sized c.args.store.now)
     (told_within _ c.args.size c.args.end c.requires.told c.requires.within)
