@@ -1,5 +1,5 @@
 -- The steps of copying a file, whatever the file tells.
-use Rattle.std.proofs.Common.{◌≡◌, ◌∙◌, ℕ, ◌+◌, ◌*◌, ◌^◌, ◌≤◌, Bool, true, false, Option, Some, None, Result, Err, List, [], ◌∷◌, ◌++◌, cond, refl, sym, ap, subst, inl, inr, arith}
+use Rattle.std.proofs.Common.{◌≡◌, ◌≢◌, ◌∙◌, ℕ, ◌+◌, ◌*◌, ◌^◌, ◌≤◌, Bool, true, false, Option, Some, None, Result, Err, List, [], ◌∷◌, ◌++◌, cond, refl, sym, ap, subst, inl, inr, arith}
 use Rattle.std.proofs.lemmas.Bool.{cases_Bool}
 use Rattle.std.proofs.lemmas.List.{append-nil}
 use Rattle.std.proofs.lemmas.List.Sums.{sum_by-append}
@@ -95,13 +95,13 @@ flush_failed a b n s t p front held cut is =
 
 -- a line was not put whole
 pub line_failed : (a b n m : Option (List ℕ)) (s t : Progress) (p : Piece) → chunk_in p.what ≡ [] → Takes a b s.held → t ≡ record s { held = [] }
-    → TakesFront n m (line_of p.begin p.end p.what) → (cut : CutOff) → Notes ≡ cut → CopiesFront cut a b n m s t p
-line_failed a b n m s t p none taken held front cut is =
+    → line_of p.begin p.end p.what ≢ [] → TakesFront n m (line_of p.begin p.end p.what) → (cut : CutOff) → Notes ≡ cut → CopiesFront cut a b n m s t p
+line_failed a b n m s t p none taken held some front cut is =
     subst (λ (c : CutOff). CopiesFront c a b n m s t p) is (record {
       events = p ∷ [];
       begun = inr refl;
       chunks = subst (λ (ks : List ChunkValue). LaysFront a b s t (ks ++ [])) (sym none) (LaysFront-flushed a b s t taken held);
-      notes = subst (λ (xs : List ℕ). TakesFront n m xs) (sym (append-nil (line_of p.begin p.end p.what))) front;
+      notes = subst (λ (xs : List ℕ). (xs ≢ []) × TakesFront n m xs) (sym (append-nil (line_of p.begin p.end p.what))) (some, front);
     })
 
 -- a line was put
@@ -144,10 +144,14 @@ pub front_begun : (a b : Option (List ℕ)) (t : Progress) → LaysFront a b not
 front_begun a b t h = front_held a b (relaid []) t.held h.bytes
 
 -- lines behind lines
-lines_behind : (cut : CutOff) (n m o : Option (List ℕ)) (x y : List ℕ) → Takes n m x → TakesLines cut m o y → TakesLines cut n o (x ++ y)
+some_behind : (x y : List ℕ) → y ≢ [] → x ++ y ≢ []
+some_behind [] y some = some
+some_behind (b ∷ x) y some = λ none. cc none
+
+pub lines_behind : (cut : CutOff) (n m o : Option (List ℕ)) (x y : List ℕ) → Takes n m x → TakesLines cut m o y → TakesLines cut n o (x ++ y)
 lines_behind Store n m o x y first then = Takes-append n m o x y first then
 lines_behind Made n m o x y first then = Takes-append n m o x y first then
-lines_behind Notes n m o x y first then = TakesFront-append n m o x y first then
+lines_behind Notes n m o x y first then = (some_behind x y then.0, TakesFront-append n m o x y first then.1)
 lines_behind Memory n m o x y first then = Takes-append n m o x y first then
 
 -- the copying of an event was cut off

@@ -10,7 +10,7 @@ use Rattle.meta_chunk.proofs.Begins.{begin_of-place, begin_of_rises, begin_of_ri
 use Rattle.chunk_reader.proofs.AllowedChunks.{allowed_small}
 use Rattle.chunk_reader.proofs.ChainSteps.{each_at}
 use Rattle.damage_skip.specs.Pieces.{What, Piece, AreTiles, ArePieces}
-use Rattle.damage_skip.specs.Damage.{Intact, IsDamaged, AreReached, IsLeftAs, AreLeft, untouched}
+use Rattle.damage_skip.specs.Damage.{Intact, IsDamaged, AreReached, DamageLeaves, DamageLeavesEach, untouched}
 use Rattle.damage_skip.specs.Walks.{GoesOn}
 use Rattle.damage_skip.proofs.Tiles.{tiles_within, tiles_past, tiles_front, tiles_to_end}
 use Rattle.damage_skip.proofs.Damaged.{pieces_left}
@@ -20,7 +20,7 @@ use Rattle.repair_copy.proofs.EventChunks.{chunks_in_events}
 use Rattle.repair_copy.proofs.Copied.{unread_stays, none_before, found_chunk}
 
 -- the chunk of an untouched one's piece
-left_untouched : (keep : Bool) (k : ChunkValue) (what : What) (xs : List ChunkValue) → length k.«data» ≤ 2 ^ 26 → IsLeftAs keep true true k what
+left_untouched : (keep : Bool) (k : ChunkValue) (what : What) (xs : List ChunkValue) → length k.«data» ≤ 2 ^ 26 → DamageLeaves keep true true k what
     → chunk_in what ++ xs ≡ (if is_copied keep k then k ∷ xs else xs)
 left_untouched true k what xs small found = found_chunk true k what xs small found
 left_untouched false k what xs small (inl found) = found_chunk false k what xs small found
@@ -30,7 +30,7 @@ left_untouched false k what xs small (inr (inr (transposed, is))) =
     none_before false k (chunk_in what) xs (unread_stays k small (inl transposed)) (ap chunk_in is)
 
 -- that of a touched one has none
-left_touched : (keep header «data» : Bool) (k : ChunkValue) (what : What) → header && «data» ≡ false → IsLeftAs keep header «data» k what
+left_touched : (keep header «data» : Bool) (k : ChunkValue) (what : What) → header && «data» ≡ false → DamageLeaves keep header «data» k what
     → chunk_in what ≡ []
 left_touched keep false d k what touched left = ap chunk_in left
 left_touched keep true false k what touched left = ap chunk_in left
@@ -52,16 +52,16 @@ touched-cons ks intact j is touched = rw touched
 module _ (keep : Bool) (ks : List ChunkValue) (intact : Intact) (framed : AllByRecursion IsFramed ks) where
   -- so the piece of a chunk that is reached has it where it is copied
   left_chunk : (j : ℕ) (k : ChunkValue) (what : What) (is : List ℕ) → slice_get ks j ≡ Some k
-      → IsLeftAs keep (intact.header j) (intact.«data» j) k what
+      → DamageLeaves keep (intact.header j) (intact.«data» j) k what
       → chunk_in what ++ copied keep (untouched ks intact is) ≡ copied keep (untouched ks intact (j ∷ is))
   left_chunk j k what is at left =
       let xs : List ChunkValue = copied keep (untouched ks intact is) in
       elim (cases_Bool (intact.header j && intact.«data» j)) [
         | inl whole ↦
             let flags = both_true (intact.header j) (intact.«data» j) whole in
-            let here : IsLeftAs keep true true k what =
-            subst (λ (b : Bool). IsLeftAs keep true b k what) flags.1
-            (subst (λ (b : Bool). IsLeftAs keep b (intact.«data» j) k what) flags.0 left) in
+            let here : DamageLeaves keep true true k what =
+            subst (λ (b : Bool). DamageLeaves keep true b k what) flags.1
+            (subst (λ (b : Bool). DamageLeaves keep b (intact.«data» j) k what) flags.0 left) in
             left_untouched keep k what xs (allowed_small true k (each_at IsFramed ks j k framed at)) here
             ∙ ap (copied keep) (sym (untouched-cons ks intact j is k whole at))
         | inr touched ↦
@@ -90,7 +90,7 @@ module _ (keep : Bool) (ks : List ChunkValue) (intact : Intact) (framed : AllByR
   -- so the pieces up to a place have the copied ones of those that begin before it
   module _ (damaged : List ℕ) (place : ℕ) where
     front_left : (j from : ℕ) (ps rest : List Piece) (is : List ℕ) → from ≡ begin_of ks j → AreTiles keep damaged from place ps
-        → AreLeft keep ks intact j (ps ++ rest) → AreReached ks intact j is
+        → DamageLeavesEach keep ks intact j (ps ++ rest) → AreReached ks intact j is
         → chunks_in ps ≡ copied keep (untouched ks intact (begun_before ks place is))
     front_left j from [] rest is begin h left reached =
         ap (λ (ns : List ℕ). copied keep (untouched ks intact ns)) (sym (none_begun place j is (omega (arith, h, begin)) reached))
@@ -116,7 +116,7 @@ chunks_before keep ks file damaged intact is place pieces reach d reached h =
     let all = tiles_to_end keep damaged 0 (omega arith) in
     let front = tiles_front keep damaged 0 place (length damaged) pieces all.0 within.1 h all.1 in
     front_left keep ks intact d.frame.1.each damaged place 0 0 pieces front.0 is refl h
-    (subst (AreLeft keep ks intact 0) front.1 (pieces_left keep ks file damaged intact d reach all.0 all.1)) reached
+    (subst (DamageLeavesEach keep ks intact 0) front.1 (pieces_left keep ks file damaged intact d reach all.0 all.1)) reached
 
 pub chunks_left : (keep : Bool) (ks : List ChunkValue) (file damaged : List ℕ) (intact : Intact) (is : List ℕ) (pieces : List Piece)
     → length file ≤ 2 ^ 60 → IsDamaged ks file damaged intact → AreReached ks intact 0 is → ArePieces keep damaged pieces

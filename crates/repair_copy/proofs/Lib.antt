@@ -8,4 +8,5 @@ pub mod Growth
 mod Values
 mod CopySteps
 mod WalkedFiles
+mod Passed
 pub mod OneWalk

@@ -9,6 +9,7 @@ use Rattle.meta_chunk.specs.Files.{signature}
 use Rattle.record_writer.specs.Progresses.{Progress, Lays, LaysFront, nothing_made, totals_made}
 use Rattle.record_writer.proofs.Fronts.{Takes-flushed, TakesFront-flushed}
 use Rattle.record_writer.proofs.Counted.{totals_made-laid}
+use Rattle.chunk_reader.specs.Reasons.{Applies, NoneOf, loading_reasons}
 use Rattle.chunk_reader.proofs.Rooms.{IsSized}
 use Rattle.damage_skip.specs.Pieces.{Piece}
 use Rattle.damage_skip.specs.Walks.{piece_of, GoesOn, IsMet, IsStop, IsStoppedAt}
@@ -21,7 +22,7 @@ use Rattle.repair_copy.specs.Relaid.{chunks_in, relaid}
 use Rattle.repair_copy.specs.Told.{IsLetPass, lines_in}
 use Rattle.repair_copy.specs.Walked.{AreWalked, EndsAt}
 use Rattle.repair_copy.specs.Copies.{Copies, CopiesFront, HasWalked, IsCopied, IsCutOff, TakesLines}
-use Rattle.repair_copy.specs.Repairs.{Repairs, end_of_cut}
+use Rattle.repair_copy.specs.Repairs.{MayWantMemory, Repairs, end_of_cut}
 use Rattle.repair_copy.specs.declared.copying.Copied.{Copied}
 use Rattle.repair_copy.specs.declared.copying.CutOff.{CutOff}
 use Rattle.repair_copy.specs.declared.copying.CutOff.TheVariants.{Store, Made, Notes, Memory}
@@ -46,11 +47,19 @@ not_stopped (Some file) keep place (Some region) going = cc
 same_told : (P : List ℕ → Type 0) (a b : Option (List ℕ)) → b ≡ a → IfSome b P → IfSome a P
 same_told P a b same h = subst (λ (x : Option (List ℕ)). IfSome x P) same h
 
+-- memory is wanting where the walk has met a chunk and reads it
+pub may_want_memory : (bytes read : Option (List ℕ)) (keep : Bool) (place : ℕ) → read ≡ bytes → keep ≡ true
+    → IfSome read (λ file. IsMet keep file place) → IfSome read (λ file. NoneOf (Applies file place) loading_reasons) → IfSome bytes MayWantMemory
+may_want_memory bytes None keep place same keeps met loading = same_told MayWantMemory bytes None same tt
+may_want_memory bytes (Some file) keep place same keeps met loading =
+    same_told MayWantMemory bytes (Some file) same
+    (record { place = place; met = subst (λ (k : Bool). IsMet k file place) keeps met; loading = loading })
+
 -- a walk that goes on
 abbrev answered : Option Event → Result (Option Event) WalkEnd
 answered o = Ok o
 
-each_append : {X : Type 0} (P : X → Type 0) (xs ys : List X) → AllByRecursion P xs → AllByRecursion P ys → AllByRecursion P (xs ++ ys)
+pub each_append : {X : Type 0} (P : X → Type 0) (xs ys : List X) → AllByRecursion P xs → AllByRecursion P ys → AllByRecursion P (xs ++ ys)
 each_append P [] ys h g = g
 each_append P (x ∷ xs) ys h g = (h.0, each_append P xs ys h.1 g)
 

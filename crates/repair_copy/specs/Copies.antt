@@ -1,5 +1,5 @@
 -- How far a damaged file is copied. Own.
-use Rattle.std.specs.Prelude.{◌≡◌, ℕ, Bool, ◌+◌, ◌^◌, ◌≤◌, ◌⊎◌, ⊤, Option, List, [], ◌∷◌}
+use Rattle.std.specs.Prelude.{◌≡◌, ◌≢◌, ℕ, Bool, ◌+◌, ◌^◌, ◌≤◌, ◌⊎◌, ⊤, Option, List, [], ◌∷◌, length}
 use Rattle.std.specs.Fn.{Shared}
 use denote.Ref.{Bor}
 use Rattle.record_io.specs.Outside.{Takes, TakesFront}
@@ -13,7 +13,7 @@ use Rattle.damage_skip.specs.declared.events.Event.{Event}
 use Rattle.damage_skip.specs.declared.events.Event.TheVariants as event
 use Rattle.damage_skip.specs.declared.regions.Region.{Region}
 use Rattle.repair_copy.specs.Relaid.{chunks_in, relaid}
-use Rattle.repair_copy.specs.Told.{lines_in, regions_in}
+use Rattle.repair_copy.specs.Told.{lines_in, regions_in, lines_of, ArePassed}
 use Rattle.repair_copy.specs.Walked.{AreWalked, EndsAt}
 use Rattle.repair_copy.specs.declared.copying.Copied.{Copied}
 use Rattle.repair_copy.specs.declared.copying.CutOff.{CutOff}
@@ -31,9 +31,9 @@ pub record Copies (made_before made_after notes_before notes_after : Option (Lis
   pub notes : Takes notes_before notes_after (lines_in events)
   pub regions : new.regions ≡ old.regions + regions_in events
 
--- what notes took of lines where the work was cut off: all, or a front where notes failed
+-- what notes took of lines where the work was cut off: all, or a front of some where notes failed
 abbrev pub TakesLines : CutOff → Option (List ℕ) → Option (List ℕ) → List ℕ → Type 0
-TakesLines cut.Notes before after text = TakesFront before after text
+TakesLines cut.Notes before after text = (text ≢ []) × TakesFront before after text
 TakesLines other before after text = Takes before after text
 
 -- the copying of an event was cut off before or within its chunk or its line
@@ -76,3 +76,16 @@ pub record IsCutOff {F : Type 0} (test : Shared F (Bor Region × Unit {0}) Bool)
   pub walked : AreWalked test f file place events
   pub made : TakesFront made_before made_after (relaid events)
   pub notes : TakesLines cut notes_before notes_after (lines_in events)
+
+-- so many regions were passed over, and their lines taken
+pub record HasPassed {F : Type 0} (test : Shared F (Bor Region × Unit {0}) Bool) (f : F) (count : ℕ) (before after : Option (List ℕ)) : Type 0 where
+  pub regions : List Region
+  pub passed : ArePassed test f regions
+  pub lines : Takes before after (lines_of regions)
+  pub counted : count ≡ length regions
+
+-- the work was cut off after or within the line of the last of these regions
+pub record HasPassedFront {F : Type 0} (test : Shared F (Bor Region × Unit {0}) Bool) (f : F) (cut : CutOff) (before after : Option (List ℕ)) : Type 0 where
+  pub regions : List Region
+  pub passed : ArePassed test f regions
+  pub lines : TakesLines cut before after (lines_of regions)

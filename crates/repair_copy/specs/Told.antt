@@ -1,11 +1,11 @@
 -- What is told of pieces that are passed over, and which may be. Own.
 use Rattle.std.specs.Prelude.{ℕ, Bool, true, false, ⊤, List, [], count_by}
 use lib.Chars.{codes}
-use Rattle.std.specs.List.{flat_map}
+use Rattle.std.specs.List.{AllByRecursion, flat_map}
 use Rattle.std.specs.Fn.{Shared, FnReturnsAt}
 use denote.Ref.{Bor}
 use Rattle.damage_skip.specs.Pieces.{What, Skipped, Piece}
-use Rattle.damage_skip.specs.Regions.{region_text}
+use Rattle.damage_skip.specs.Regions.{IsRegion, region_text}
 use Rattle.damage_skip.specs.declared.regions.Region.{Region}
 
 -- the line of a piece that is skipped; other pieces have none
@@ -29,3 +29,11 @@ regions_in pieces = count_by (λ piece. is_skipped piece.what) pieces
 abbrev pub IsLetPass : {F : Type 0} → Shared F (Bor Region × Unit {0}) Bool → F → (begin end : ℕ) → What → Type 0
 IsLetPass test f begin end (Skipped why) = FnReturnsAt test f (record { begin = begin; end = end; why = why }) true
 IsLetPass test f begin end other = ⊤
+
+-- the lines of regions, in order
+abbrev pub lines_of : List Region → List ℕ
+lines_of regions = flat_map (region_text (codes "skipped")) regions
+
+-- regions that a test can let pass
+abbrev pub ArePassed : {F : Type 0} → Shared F (Bor Region × Unit {0}) Bool → F → List Region → Type 0
+ArePassed test f regions = AllByRecursion (λ region. IsRegion region × FnReturnsAt test f region true) regions

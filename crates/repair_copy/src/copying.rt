@@ -64,6 +64,7 @@ impl Copied {
             self.old self.new (piece_of event.now ∷ [])) }
         ensures front { (cut : CutOff) → result ≡ Err cut → CopiesFront cut (M.taken made.old) (M.taken made.new)
             (E.taken notes.old) (E.taken notes.new) self.old.file self.new.file (piece_of event.now) }
+        ensures quiet { OnOk result (self.new.regions ≡ self.old.regions → notes.new ≡ notes.old) }
         ensures no_store { result ≢ Err CutOff.Store }
         ensures no_memory { result ≢ Err CutOff.Memory }
         ensures made_cause { result ≡ Err CutOff.Made → Rose (M.faults made.old) (M.faults made.new) }

@@ -1,12 +1,16 @@
-ghost use Rattle.std.specs.Prelude.{◌≡◌, ◌≢◌, ℕ, ◌+◌, ◌*◌, ◌^◌, ◌<◌, ◌≤◌, true, Some, None, Option, Ok, Err, List, [], ◌∷◌, IfOk, IfSome, OnOk, OnErr};
+ghost use Rattle.std.specs.Prelude.{◌≡◌, ◌≢◌, ℕ, ◌+◌, ◌*◌, ◌^◌, ◌<◌, ◌≤◌, true, false, Some, None, Option, Ok, Err, List, [], ◌∷◌, IfOk, IfSome, OnOk, OnErr};
+ghost use Rattle.std.specs.Fn.{FnReturnsAt};
 ghost use Rattle.record_io.specs.Outside.{Rose, Takes, TakesFront};
 ghost use Rattle.damage_skip.specs.Policies.{IsTest};
+ghost use Rattle.damage_skip.specs.Regions.{IsRegion};
+ghost use Rattle.damage_skip.specs.Steps.{IsOnward};
 ghost use Rattle.damage_skip.specs.Walks.{IsMet, IsStoppedAt};
 ghost use Rattle.damage_skip.specs.Walkers.{progress_of, test_of};
+ghost use Rattle.damage_skip.specs.declared.regions.Region.{Region};
 ghost use Rattle.record_writer.specs.Progresses.{nothing_made};
 ghost use Rattle.repair_copy.specs.Walked.{EndsAt};
-ghost use Rattle.repair_copy.specs.Copies.{HasWalked, IsCopied, IsCutOff};
-ghost use Rattle.repair_copy.specs.Repairs.{Repairs};
+ghost use Rattle.repair_copy.specs.Copies.{HasPassed, HasPassedFront, HasWalked, IsCopied, IsCutOff};
+ghost use Rattle.repair_copy.specs.Repairs.{MayWantMemory, Passes, Repairs};
 
 use crate::copying::{Copied, CutOff};
 use damage_skip::{Policy, Region, WalkEnd, Walker};
@@ -77,6 +81,9 @@ pub fn repair<S: Store, F: Fn(&Region) -> bool + Drop, M: Sink, E: Sink>(
     requires test { IsTest F.Fn policy.test }
     ensures repairs { IfSome (S.bytes store.old) (Repairs F.Fn policy.test result
         (M.taken made.old) (M.taken made.new) (E.taken notes.old) (E.taken notes.new)) }
+    ensures passes { Passes F.Fn policy.test result (E.taken notes.old) (E.taken notes.new) }
+    ensures quiet { IfOk result (λ repaired. repaired.regions ≡ 0 → notes.new ≡ notes.old) }
+    ensures stop { (region : Region) → result ≡ Err (RepairEnd.Stopped region) → IsOnward size region.begin region.end }
     ensures bytes { IfOk result (λ repaired. repaired.totals.bytes ≤ 64 + 2 * size) }
     ensures chunks { IfOk result (λ repaired. repaired.totals.chunks ≤ repaired.totals.bytes) }
     ensures records { IfOk result (λ repaired. repaired.totals.records ≤ repaired.totals.bytes) }
@@ -84,6 +91,7 @@ pub fn repair<S: Store, F: Fn(&Region) -> bool + Drop, M: Sink, E: Sink>(
     ensures regions { IfOk result (λ repaired. repaired.regions ≤ size) }
     ensures same_bytes { S.bytes store.new ≡ S.bytes store.old }
     ensures same_told { S.told store.new ≡ S.told store.old }
+    ensures memory { result ≡ Err RepairEnd.Memory → IfSome (S.bytes store.old) MayWantMemory }
     ensures store_cause { result ≡ Err RepairEnd.Store → Rose (S.faults store.old) (S.faults store.new) }
     ensures made_cause { result ≡ Err RepairEnd.Made → Rose (M.faults made.old) (M.faults made.new) }
     ensures notes_cause { result ≡ Err RepairEnd.Notes → Rose (E.faults notes.old) (E.faults notes.new) }
@@ -127,10 +135,16 @@ fn copy_all<S: Store, F: Fn(&Region) -> bool + Drop, M: Sink, E: Sink>(
         (M.taken made.old) (M.taken made.new) (E.taken notes.old) (E.taken notes.new))) }
     ensures cut_off { (cut : CutOff) → result ≡ Err cut → IfSome (S.bytes store.old) (IsCutOff F.Fn (test_of walker.old) cut
         (M.taken made.old) (M.taken made.new) (E.taken notes.old) (E.taken notes.new)) }
+    ensures passed { OnOk result (HasPassed F.Fn (test_of walker.old) copied.new.regions (E.taken notes.old) (E.taken notes.new)) }
+    ensures passed_front { (cut : CutOff) → result ≡ Err cut → HasPassedFront F.Fn (test_of walker.old) cut (E.taken notes.old) (E.taken notes.new) }
+    ensures refused { (region : Region) → result ≡ Ok (Some region) → IsRegion region × FnReturnsAt F.Fn (test_of walker.old) region false }
+    ensures quiet { OnOk result (copied.new.regions ≡ 0 → notes.new ≡ notes.old) }
+    ensures stop { IfOk result (λ stopped. IfSome stopped (λ region. IsOnward (progress_of walker.old).size region.begin region.end)) }
     ensures small { OnOk result (copied.new.file.place ≤ 64 + 2 * (progress_of walker.old).size) }
     ensures few { OnOk result (copied.new.regions ≤ (progress_of walker.old).size) }
     ensures same_bytes { S.bytes store.new ≡ S.bytes store.old }
     ensures same_told { S.told store.new ≡ S.told store.old }
+    ensures memory { result ≡ Err CutOff.Memory → IfSome (S.bytes store.old) MayWantMemory }
     ensures store_cause { result ≡ Err CutOff.Store → Rose (S.faults store.old) (S.faults store.new) }
     ensures made_cause { result ≡ Err CutOff.Made → Rose (M.faults made.old) (M.faults made.new) }
     ensures notes_cause { result ≡ Err CutOff.Notes → Rose (E.faults notes.old) (E.faults notes.new) }
@@ -169,10 +183,16 @@ fn copy_events<S: Store, F: Fn(&Region) -> bool + Drop, M: Sink, E: Sink>(
         EndsAt F.Fn (test_of walker.old) file (progress_of walker.new).place stopped)) }
     ensures cut_off { (cut : CutOff) → result ≡ Err cut → IfSome (S.bytes store.old) (IsCutOff F.Fn (test_of walker.old) cut
         (M.taken made.old) (M.taken made.new) (E.taken notes.old) (E.taken notes.new)) }
+    ensures passed { OnOk result (HasPassed F.Fn (test_of walker.old) copied.new.regions (E.taken notes.old) (E.taken notes.new)) }
+    ensures passed_front { (cut : CutOff) → result ≡ Err cut → HasPassedFront F.Fn (test_of walker.old) cut (E.taken notes.old) (E.taken notes.new) }
+    ensures refused { (region : Region) → result ≡ Ok (Some region) → IsRegion region × FnReturnsAt F.Fn (test_of walker.old) region false }
+    ensures quiet { OnOk result (copied.new.regions ≡ 0 → notes.new ≡ notes.old) }
+    ensures stop { IfOk result (λ stopped. IfSome stopped (λ region. IsOnward (progress_of walker.old).size region.begin region.end)) }
     ensures small { OnOk result (copied.new.file.place ≤ 64 + 2 * (progress_of walker.old).size) }
     ensures few { OnOk result (copied.new.regions ≤ (progress_of walker.old).size) }
     ensures same_bytes { S.bytes store.new ≡ S.bytes store.old }
     ensures same_told { S.told store.new ≡ S.told store.old }
+    ensures memory { result ≡ Err CutOff.Memory → IfSome (S.bytes store.old) MayWantMemory }
     ensures store_cause { result ≡ Err CutOff.Store → Rose (S.faults store.old) (S.faults store.new) }
     ensures made_cause { result ≡ Err CutOff.Made → Rose (M.faults made.old) (M.faults made.new) }
     ensures notes_cause { result ≡ Err CutOff.Notes → Rose (E.faults notes.old) (E.faults notes.new) }

@@ -1,6 +1,6 @@
 use Rattle.std.proofs.Common.{◌≡◌, ◌-◌, ◌*◌, ◌+◌, ◌≤◌, false, true, Some, None, IfSome}
 use Rattle.damage_skip.specs.Walks.{IsMet}
-use Rattle.repair_copy.specs.Copies.{HasWalked}
+use Rattle.repair_copy.specs.Copies.{HasPassed, HasWalked}
 use Rattle.repair_copy.proofs.repairs.copy_events.Given as goal
 
 abbrev pub invariant-loop-event : goal.invariant-loop-event
@@ -14,6 +14,8 @@ invariant-loop-event g l = record {
   met : IfSome (g.S.Store.bytes l.store) (λ file. IsMet l.walker.progress.keep file l.walker.progress.place);
   copied : IfSome (g.S.Store.bytes l.fn.store) (HasWalked g.F.Fn l.fn.walker.policy.test l.walker.progress.place l.copied
       (g.M.Sink.taken l.fn.made) (g.M.Sink.taken l.made) (g.E.Sink.taken l.fn.notes) (g.E.Sink.taken l.notes));
+  passed : HasPassed g.F.Fn l.fn.walker.policy.test l.copied.regions (g.E.Sink.taken l.fn.notes) (g.E.Sink.taken l.notes);
+  quiet : l.copied.regions ≡ 0 → l.notes ≡ l.fn.notes;
   going : l.copied.file.spent ≡ false;
   small : l.copied.file.place ≤ 64 + 2 * l.walker.progress.place;
   few : l.copied.regions ≤ l.walker.progress.place;

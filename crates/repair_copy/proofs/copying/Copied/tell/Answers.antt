@@ -19,4 +19,4 @@ returns-in-Ok-clause-whole g c =
 pub returns-in-Err-clause-front : goal.returns-in-Err-clause-front
 returns-in-Err-clause-front g c =
     λ cut is. line_failed _ _ _ _ c.args.self.now.file c.flush.new.self (piece_of (Skipped c.args.region.now)) refl c.in_ok-flush.ensures.whole
-    c.flush.ensures.emptied c.in-Err.ensures.front cut cc
+    c.flush.ensures.emptied (λ none. cc none) c.in-Err.ensures.front cut cc
