@@ -11,9 +11,11 @@ use Rattle.chunk_reader.proofs.FileFaults.{longest_is_one, fault_is_one, fault_o
 use Rattle.chunk_reader.proofs.Frames.{frame_is_one, chain_is_one}
 use Rattle.damage_skip.specs.Pieces.{Piece, placed_in}
 use Rattle.damage_skip.proofs.Tiles.{events_one}
+use Rattle.repair_copy.specs.Relaid.{chunks_in, relaid}
 use Rattle.riegeli_tool.specs.declared.command.Command.{Command}
-use Rattle.riegeli_tool.specs.declared.command.Command.TheVariants.{Write, Show, Recover, Verify}
+use Rattle.riegeli_tool.specs.declared.command.Command.TheVariants.{Write, Show, Recover, Verify, Repair}
 use Rattle.riegeli_tool.specs.declared.recover_words.RecoverWords.{RecoverWords}
+use Rattle.riegeli_tool.specs.declared.repair_words.RepairWords.{RepairWords}
 use Rattle.riegeli_tool.specs.declared.show_words.ShowWords.{ShowWords}
 use Rattle.riegeli_tool.specs.declared.status.Status.{Status}
 use Rattle.riegeli_tool.specs.declared.status.Status.TheVariants as status
@@ -23,6 +25,7 @@ use Rattle.riegeli_tool.specs.ShowCommand.{IsShown}
 use Rattle.riegeli_tool.specs.WalkAnswers.{regions_in, walked, refused_in, walk_text, walk_status}
 use Rattle.riegeli_tool.specs.RecoverCommand.{IsRecovered}
 use Rattle.riegeli_tool.specs.VerifyCommand.{IsVerified}
+use Rattle.riegeli_tool.specs.RepairCommand.{report_unless, IsRepaired}
 use Rattle.riegeli_tool.specs.CommandAnswers.{IsAnswer, uses_of}
 
 -- answers of the same parts are one
@@ -68,6 +71,16 @@ one_recovered words file a b h g =
     (h.notes ∙ ap (λ (es : List Piece). walk_text (regions_in (walked words.most es)) (refused_in words.most es)) same ∙ sym g.notes)
     (h.status ∙ ap (λ (es : List Piece). walk_status (regions_in (walked words.most es)) (refused_in words.most es)) same ∙ sym g.status)
 
+-- so has `repair`
+pub one_repaired : (words : RepairWords) (file : List ℕ) (a b : Answer) → IsRepaired words file a → IsRepaired words file b → a ≡ b
+one_repaired words file a b h g =
+    let same : h.events ≡ g.events = events_one true file h.events g.events h.are g.are in
+    same_answer a b
+    (h.made ∙ ap (λ (es : List Piece). relaid (walked words.most es)) same ∙ sym g.made)
+    (h.out ∙ ap (λ (es : List Piece). report_unless (refused_in words.most es) (chunks_in (walked words.most es))) same ∙ sym g.out)
+    (h.notes ∙ ap (λ (es : List Piece). walk_text (regions_in (walked words.most es)) (refused_in words.most es)) same ∙ sym g.notes)
+    (h.status ∙ ap (λ (es : List Piece). walk_status (regions_in (walked words.most es)) (refused_in words.most es)) same ∙ sym g.status)
+
 -- so has `verify`
 one_verified : (file : List ℕ) (a b : Answer) → IsVerified file a → IsVerified file b → a ≡ b
 one_verified file a b (inl (ks, frame, is)) (inl (ls, other, also)) =
@@ -97,6 +110,7 @@ one_answer (Some (Write words)) input files a b first second = first ∙ sym sec
 one_answer (Some (Show words)) input files a b first second = one_of_file (IsShown words) (one_shown words) files a b first second
 one_answer (Some (Recover words)) input files a b first second = one_of_file (IsRecovered words) (one_recovered words) files a b first second
 one_answer (Some (Verify words)) input files a b first second = one_of_file IsVerified one_verified files a b first second
+one_answer (Some (Repair words)) input files a b first second = one_of_file (IsRepaired words) (one_repaired words) files a b first second
 
 -- an input that isn't used may be any
 pub any_input : (command : Option Command) (input other : List ℕ) (files : List (List ℕ)) (a : Answer)
@@ -106,6 +120,7 @@ any_input (Some (Write words)) input other files a unused is = absurd (cc unused
 any_input (Some (Show words)) input other files a unused is = is
 any_input (Some (Recover words)) input other files a unused is = is
 any_input (Some (Verify words)) input other files a unused is = is
+any_input (Some (Repair words)) input other files a unused is = is
 
 -- so may files
 pub any_files : (command : Option Command) (input : List ℕ) (files others : List (List ℕ)) (a : Answer)
@@ -115,3 +130,4 @@ any_files (Some (Write words)) input files others a unused is = is
 any_files (Some (Show words)) input files others a unused is = absurd (cc unused)
 any_files (Some (Recover words)) input files others a unused is = absurd (cc unused)
 any_files (Some (Verify words)) input files others a unused is = absurd (cc unused)
+any_files (Some (Repair words)) input files others a unused is = absurd (cc unused)

@@ -15,9 +15,11 @@ use Rattle.chunk_reader.proofs.FaultsDecided.{file_judged}
 use Rattle.chunk_reader.proofs.Frames.{frame_of_plain}
 use Rattle.damage_skip.specs.Pieces.{placed_in}
 use Rattle.damage_skip.proofs.Tiles.{events_of}
+use Rattle.repair_copy.specs.Relaid.{chunks_in, relaid}
 use Rattle.riegeli_tool.specs.declared.command.Command.{Command}
-use Rattle.riegeli_tool.specs.declared.command.Command.TheVariants.{Write, Show, Recover, Verify}
+use Rattle.riegeli_tool.specs.declared.command.Command.TheVariants.{Write, Show, Recover, Verify, Repair}
 use Rattle.riegeli_tool.specs.declared.recover_words.RecoverWords.{RecoverWords}
+use Rattle.riegeli_tool.specs.declared.repair_words.RepairWords.{RepairWords}
 use Rattle.riegeli_tool.specs.declared.show_words.ShowWords.{ShowWords}
 use Rattle.riegeli_tool.specs.declared.status.Status.TheVariants as status
 use Rattle.riegeli_tool.specs.Answers.{Answer, noted, usage}
@@ -27,6 +29,7 @@ use Rattle.riegeli_tool.specs.ShowCommand.{IsShown}
 use Rattle.riegeli_tool.specs.WalkAnswers.{regions_in, walked, refused_in, walk_text, walk_status}
 use Rattle.riegeli_tool.specs.RecoverCommand.{IsRecovered}
 use Rattle.riegeli_tool.specs.VerifyCommand.{IsVerified}
+use Rattle.riegeli_tool.specs.RepairCommand.{report_unless, IsRepaired}
 use Rattle.riegeli_tool.specs.Commands.{files_read, command_of, accepted_of, accepted}
 use Rattle.riegeli_tool.specs.CommandAnswers.{IsAnswer}
 
@@ -107,6 +110,19 @@ verified_exists file bytes =
       | inr (fault, is) ↦ (noted status.Refused (refused_text fault), inr (fault, is, refl))
     ]
 
+-- and `repair`
+pub repaired_exists : (words : RepairWords) (file : List ℕ) → AreBytes file → (answer : Answer) × IsRepaired words file answer
+repaired_exists words file bytes =
+    let events = events_of true file in (
+      record {
+        made = relaid (walked words.most events.0);
+        out = report_unless (refused_in words.most events.0) (chunks_in (walked words.most events.0));
+        notes = walk_text (regions_in (walked words.most events.0)) (refused_in words.most events.0);
+        status = walk_status (regions_in (walked words.most events.0)) (refused_in words.most events.0);
+      },
+      record { events = events.0; are = events.1; made = refl; out = refl; notes = refl; status = refl },
+    )
+
 -- a file that is too long has its own
 pub of_file_exists : (P : List ℕ → Answer → Type 0) → ((file : List ℕ) → AreBytes file → (answer : Answer) × P file answer)
     → (files : List (List ℕ)) → length files ≡ 1 → AllByRecursion AreBytes files → (answer : Answer) × OfFile P files answer
@@ -142,6 +158,8 @@ command_answered (Some (Recover words)) input files reads bytes =
     of_file_exists (IsRecovered words) (recovered_exists words) files (sym (reads (Recover words) refl)) bytes
 command_answered (Some (Verify words)) input files reads bytes =
     of_file_exists IsVerified verified_exists files (sym (reads (Verify words) refl)) bytes
+command_answered (Some (Repair words)) input files reads bytes =
+    of_file_exists (IsRepaired words) (repaired_exists words) files (sym (reads (Repair words) refl)) bytes
 
 pub answer_exists : (words : List (List ℕ)) (input : List ℕ) (files : List (List ℕ)) → AllByRecursion AreBytes files
     → (answer : Answer) × IsAnswer (accepted words (length files)) input files answer

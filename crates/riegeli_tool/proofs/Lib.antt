@@ -14,12 +14,16 @@ pub mod RecoverLoop
 pub mod RecoverRuns
 pub mod RecoverSteps
 pub mod RegionTexts
+pub mod RepairEnds
+pub mod RepairSteps
 pub mod RunEnds
 pub mod ShowSteps
 pub mod TakenLines
 pub mod TakenRecords
 pub mod VerifyEnds
 pub mod Walked
+pub mod WalkedEvents
+pub mod WalkRuns
 pub mod WriteEnds
 pub mod WriteLimits
 pub mod WrittenLines
@@ -28,6 +32,7 @@ mod AnswerValues
 mod NumberValues
 mod OptionValues
 mod RecoverValues
+mod RepairValues
 mod ReadTextValues
 mod ReadWordValues
 mod Values

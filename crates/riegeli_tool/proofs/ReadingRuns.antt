@@ -15,16 +15,19 @@ use Rattle.riegeli_tool.specs.declared.reading.ReadingEnd.{ReadingEnd}
 use Rattle.riegeli_tool.specs.declared.reading.ReadingEnd.TheVariants as end
 use Rattle.riegeli_tool.specs.declared.show_words.ShowWords.{ShowWords}
 use Rattle.riegeli_tool.specs.declared.verify_words.VerifyWords.{VerifyWords}
+use Rattle.riegeli_tool.specs.declared.sizes.SizeEnd.{SizeEnd}
+use Rattle.riegeli_tool.specs.declared.sizes.SizeEnd.TheVariants as size
 use Rattle.riegeli_tool.specs.declared.status.Status.{Status}
 use Rattle.riegeli_tool.specs.declared.status.Status.TheVariants as status
 use Rattle.riegeli_tool.specs.Answers.{Answer, noted}
 use Rattle.riegeli_tool.specs.FileAnswers.{OfFile, IsInReach, IsTooLong, MayEndReading, limit_text, refused_text}
+use Rattle.riegeli_tool.specs.FileSizes.{IsUnsized}
 use Rattle.riegeli_tool.specs.ShowCommand.{IsShown}
 use Rattle.riegeli_tool.specs.VerifyCommand.{IsVerified}
 use Rattle.riegeli_tool.specs.CommandAnswers.{uses_of, IsAnswer, MayEnd, MayWork, MaySay}
 use Rattle.riegeli_tool.specs.Statuses.{fault_text}
 use Rattle.riegeli_tool.specs.Runs.{Shown, ShownFile, Seen, seen, IfTold, OfSizes, IsWhole, IsCutOff, TakesThen, SaysAtEnd, WasCutOff, HasCause, NoneFell, Runs, Gave}
-use Rattle.riegeli_tool.specs.ReadingEnds.{EndsBySize, IsUnsized, end_unprinted, HasPrinted, HasPrintedFront, Prints, SaysEnd}
+use Rattle.riegeli_tool.specs.ReadingEnds.{EndsBySize, end_of_size, end_unprinted, HasPrinted, HasPrintedFront, Prints, SaysEnd}
 use Rattle.riegeli_tool.proofs.FileAnswersExist.{of_file_exists, shown_exists, verified_exists}
 use Rattle.riegeli_tool.proofs.RunEnds.{Takes-nothing, OfSizes-map, runs-whole, runs-said, runs-cut_off, GaveButNotes}
 
@@ -33,26 +36,29 @@ pub TakesAndHolds-nothing : (taken : Option (List ℕ)) → TakesAndHolds taken 
 TakesAndHolds-nothing taken = record { passed = []; parts = refl; taken = Takes-nothing taken }
 
 -- no size was told of a file that may be read
-pub prints-unsized : {X : Type 0} (P : List ℕ → Answer → Type 0) (bytes : Option (List ℕ)) (m n : ℕ) (taken : Option (List ℕ)) (e : ReadingEnd)
-    (result : Result X ReadingEnd) → IsErr result → IsErrAnd result (λ made. made ≡ e) → IsUnsized e bytes m n
+pub prints-unsized : {X : Type 0} (P : List ℕ → Answer → Type 0) (told : Option ℕ) (bytes : Option (List ℕ)) (m n : ℕ) (taken : Option (List ℕ)) (e : SizeEnd)
+    (result : Result X ReadingEnd) → IsErr result → IsErrAnd result (λ made. made ≡ end_of_size e) → IsUnsized e told bytes m n
     → IfSome bytes (λ f. Prints P result f taken taken [])
-prints-unsized P None m n taken e result err is why = tt
-prints-unsized P (Some f) m n taken e (Ok x) err is why = absurd (cc err)
-prints-unsized P (Some f) m n taken end.Limit (Err made) err is why =
+prints-unsized P told None m n taken e result err is why = tt
+prints-unsized P told (Some f) m n taken e (Ok x) err is why = absurd (cc err)
+prints-unsized P told (Some f) m n taken size.Limit (Err made) err is why =
     subst (λ (x : ReadingEnd). Prints {X = ℕ} P (Err x) f taken taken []) (sym is) (record {
       answer = noted status.Limit limit_text;
-      is = inl (why, refl);
+      is = inl (why.1, refl);
       made = refl;
       out = TakesAndHolds-nothing taken;
       notes = refl;
       status = refl;
     })
-prints-unsized P (Some f) m n taken end.File (Err made) err is why =
+prints-unsized P told (Some f) m n taken size.File (Err made) err is why =
     subst (λ (x : ReadingEnd). Prints {X = ℕ} P (Err x) f taken taken []) (sym is)
     (λ answer _. record { text = []; rest = answer.out; parts = refl; out = TakesAndHolds-nothing taken })
-prints-unsized P (Some f) m n taken (end.Refused fault) (Err made) err is why = absurd why
-prints-unsized P (Some f) m n taken end.Out (Err made) err is why = absurd why
-prints-unsized P (Some f) m n taken end.Memory (Err made) err is why = absurd why
+
+pub ends-unsized : {X : Type 0} (told : Option ℕ) (bytes : Option (List ℕ)) (m n : ℕ) (e : SizeEnd) (result : Result X ReadingEnd)
+    → IsErr result → IsErrAnd result (λ made. made ≡ end_of_size e) → IsUnsized e told bytes m n → EndsBySize result told
+ends-unsized told bytes m n e (Ok x) err is why = absurd (cc err)
+ends-unsized told bytes m n size.Limit (Err made) err is why = subst (λ (x : ReadingEnd). EndsBySize {X = ℕ} (Err x) told) (sym is) why.0
+ends-unsized told bytes m n size.File (Err made) err is why = subst (λ (x : ReadingEnd). EndsBySize {X = ℕ} (Err x) told) (sym is) tt
 
 -- what was held goes out
 pub flushed : (a b c : Option (List ℕ)) (text held : List ℕ) → TakesAndHolds a b text held → Takes b c held → TakesAndHolds a c text []
@@ -215,7 +221,7 @@ file_fell file file_then less zero a b was is =
 file_fell file file_then less (suc place) a b was is = absurd (cc was)
 
 module _ (command : Command) (P : List ℕ → Answer → Type 0) (reads : ReadsFile command P)
-    (input made : Shown) (file file_then : ShownFile) (out out_then notes notes_then : Shown) where
+    (input made made_then : Shown) (file file_then : ShownFile) (out out_then notes notes_then : Shown) where
   -- what follows from the bytes of the file
   pub told-answer : (Q : Answer → Type 0)
       → ((bytes : List ℕ) → AreBytes bytes → file.bytes ≡ Some bytes → (answer : Answer) × OfFile P (bytes ∷ []) answer × Q answer)
@@ -232,7 +238,7 @@ module _ (command : Command) (P : List ℕ → Answer → Type 0) (reads : Reads
 
   -- what follows from the size that the file told
   pub told-size : (Q : List ℕ → Type 0) → IsSomeAnd file_then.told (λ size. Q (size ∷ []))
-      → IfSome file.bytes (λ bytes. IfSome file_then.told (λ size. size ≡ length bytes)) → OfSizes (Some command) (seen input (file ∷ []) made out notes) (seen input (file_then ∷ []) made out_then notes_then) Q
+      → IfSome file.bytes (λ bytes. IfSome file_then.told (λ size. size ≡ length bytes)) → OfSizes (Some command) (seen input (file ∷ []) made out notes) (seen input (file_then ∷ []) made_then out_then notes_then) Q
   told-size Q told exact =
       let size = told_size file_then.told (λ size. Q (size ∷ [])) told in record {
         sizes = size.0 ∷ [];
@@ -260,11 +266,11 @@ module _ (command : Command) (P : List ℕ → Answer → Type 0) (reads : IsRea
   if_told : (Q : Answer → Type 0)
       → ((bytes : List ℕ) → AreBytes bytes → file.bytes ≡ Some bytes → (answer : Answer) × OfFile P (bytes ∷ []) answer × Q answer)
       → IfTold (Some command) Before Q
-  if_told Q known = told-answer command P reads.one input made file file_then out out_then notes notes_then Q known
+  if_told Q known = told-answer command P reads.one input made made file file_then out out_then notes notes_then Q known
 
   of_size : (Q : List ℕ → Type 0) → IsSomeAnd file_then.told (λ size. Q (size ∷ []))
       → IfSome file.bytes (λ bytes. IfSome file_then.told (λ size. size ≡ length bytes)) → OfSizes (Some command) Before After Q
-  of_size Q told exact = told-size command P reads.one input made file file_then out out_then notes notes_then Q told exact
+  of_size Q told exact = told-size command P reads.one input made made file file_then out out_then notes notes_then Q told exact
 
   -- it may end so, by the size
   may : (Q : List ℕ → Type 0) (ended : Status) (text : List ℕ) → ((sizes : List ℕ) → Q sizes → MayEndReading sizes ended text)
@@ -363,14 +369,20 @@ module _ (command : Command) (P : List ℕ → Answer → Type 0) (reads : IsRea
   runs-reading (Err end.Memory) ended sized exact printed says file_rose out_rose memory =
       cut ended status.Memory says.0 tt (λ _. of_size IsInReach sized exact) printed says.1 (memory refl)
 
--- no count fell of what such a command uses
-pub reading-counts : (input made : Shown) (file file_then : ShownFile) (out out_then notes notes_then : Shown)
-    → file.faults ≤ file_then.faults → out.faults ≤ out_then.faults → notes.faults ≤ notes_then.faults
-    → NoneFell (seen input (file ∷ []) made out notes) (seen input (file_then ∷ []) made out_then notes_then)
-reading-counts input made file file_then out out_then notes notes_then f o n = record {
+-- no count fell of what such a command uses, also of one that makes a file
+pub file-counts : (input made made_then : Shown) (file file_then : ShownFile) (out out_then notes notes_then : Shown)
+    → file.faults ≤ file_then.faults → made.faults ≤ made_then.faults → out.faults ≤ out_then.faults → notes.faults ≤ notes_then.faults
+    → NoneFell (seen input (file ∷ []) made out notes) (seen input (file_then ∷ []) made_then out_then notes_then)
+file-counts input made made_then file file_then out out_then notes notes_then f m o n = record {
   input = omega arith;
   files = file_fell file file_then f;
-  made = omega arith;
+  made = m;
   out = o;
   notes = n;
 }
+
+pub reading-counts : (input made : Shown) (file file_then : ShownFile) (out out_then notes notes_then : Shown)
+    → file.faults ≤ file_then.faults → out.faults ≤ out_then.faults → notes.faults ≤ notes_then.faults
+    → NoneFell (seen input (file ∷ []) made out notes) (seen input (file_then ∷ []) made out_then notes_then)
+reading-counts input made file file_then out out_then notes notes_then f o n =
+    file-counts input made made file file_then out out_then notes notes_then f (omega arith) o n

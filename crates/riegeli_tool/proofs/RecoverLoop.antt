@@ -1,5 +1,5 @@
 -- How the loop of `show` gets on past damage, where the file may tell its bytes.
-use Rattle.std.proofs.Common.{◌≡◌, ◌∙◌, ℕ, ◌^◌, ◌≤◌, Bool, true, false, Option, Some, None, Result, Ok, Err, IfSome, List, [], ◌∷◌, ◌++◌, length, refl, sym, subst, inl, arith}
+use Rattle.std.proofs.Common.{◌≡◌, ◌∙◌, ℕ, ◌^◌, ◌≤◌, Bool, true, false, Option, Some, None, Result, Ok, Err, IfSome, List, [], ◌∷◌, ◌++◌, length, refl, sym, subst, arith}
 use Rattle.std.specs.Fn.{Shared, FnReturnsAt}
 use denote.Ref.{Bor}
 use Rattle.std.specs.Result.{IsErr, IsErrAnd}
@@ -17,10 +17,11 @@ use Rattle.riegeli_tool.specs.declared.status.Status.{Status}
 use Rattle.riegeli_tool.specs.declared.status.Status.TheVariants as status
 use Rattle.riegeli_tool.specs.declared.walking.WalkingEnd.{WalkingEnd}
 use Rattle.riegeli_tool.specs.declared.walking.WalkingEnd.TheVariants as end
-use Rattle.riegeli_tool.specs.Answers.{noted}
-use Rattle.riegeli_tool.specs.FileAnswers.{most_file_bytes, limit_text}
+use Rattle.riegeli_tool.specs.FileAnswers.{most_file_bytes}
 use Rattle.riegeli_tool.specs.WalkAnswers.{regions_in, is_refused, may_skip, walk_status}
-use Rattle.riegeli_tool.specs.RecoverProgress.{end_of_walk, IsUnwalked, IsBound, HasRoom, event_lines, event_text, status_after, GivesEvent, IsGivenTo, HasToldOf, Recovers, TellsOf}
+use Rattle.riegeli_tool.specs.RecoverCommand.{IsRecovered}
+use Rattle.riegeli_tool.specs.RecoverProgress.{HasRoom, event_lines, event_text, status_after, GivesEvent, IsGivenTo}
+use Rattle.riegeli_tool.specs.WalkingEnds.{end_of_walk, IsBound, HasToldOf, Walks, TellsOf}
 use Rattle.riegeli_tool.proofs.RecoverSteps.{given-front, given-whole, given-stopped, given-on, given-event, event-unprinted, event-untold, event-passed, told-event, told-front, status-told}
 use Rattle.riegeli_tool.proofs.ReadingRuns.{TakesAndHolds-nothing}
 use Rattle.riegeli_tool.proofs.RunEnds.{Takes-nothing}
@@ -48,37 +49,6 @@ met-none (Some f) place front = ([], sym front)
 pub stopped-none : (keep : Bool) (bytes : Option (List ℕ)) (place : ℕ) (stopped : Option Region) → stopped ≡ None → IfSome bytes (λ f. IsStoppedAt keep f place stopped)
 stopped-none keep None place stopped none = tt
 stopped-none keep (Some f) place stopped none = subst (λ (s : Option Region). IsStoppedAt keep f place s) (sym none) tt
-
--- no size was told of a file that may be walked
-pub recovers-unsized : (words : RecoverWords) (bytes : Option (List ℕ)) (m n : ℕ) (out notes : Option (List ℕ)) (e : WalkingEnd) (made : Result Status WalkingEnd)
-    → IsErr made → IsErrAnd made (λ end. end ≡ e) → IsUnwalked e bytes m n → IfSome bytes (λ f. Recovers words made f out out [] notes notes)
-recovers-unsized words None m n out notes e made err is why = tt
-recovers-unsized words (Some f) m n out notes e (Ok x) err is why = absurd (cc err)
-recovers-unsized words (Some f) m n out notes end.Limit (Err made) err is why =
-    subst (λ (x : WalkingEnd). Recovers words (Err x) f out out [] notes notes) (sym is) (
-      record {
-        answer = noted status.Limit limit_text;
-        is = inl (why, refl);
-        made = refl;
-        out = TakesAndHolds-nothing out;
-        notes = refl;
-        status = refl;
-      },
-      Takes-nothing notes,
-    )
-recovers-unsized words (Some f) m n out notes end.File (Err made) err is why =
-    subst (λ (x : WalkingEnd). Recovers words (Err x) f out out [] notes notes) (sym is)
-    (λ answer _. record {
-      prints = record { text = []; rest = answer.out; parts = refl; out = TakesAndHolds-nothing out };
-      skipped = [];
-      rest = answer.notes;
-      text = refl;
-      says = Takes-nothing notes;
-    })
-recovers-unsized words (Some f) m n out notes (end.Stopped region) (Err made) err is why = absurd why
-recovers-unsized words (Some f) m n out notes end.Out (Err made) err is why = absurd why
-recovers-unsized words (Some f) m n out notes end.Memory (Err made) err is why = absurd why
-recovers-unsized words (Some f) m n out notes end.Notes (Err made) err is why = absurd why
 
 -- what is told of the same bytes
 pub same-met : (a b : Option (List ℕ)) (keep : Bool) (place : ℕ) → a ≡ b → keep ≡ false → IfSome b (λ f. IsMet false f place) → IfSome a (λ f. IsMet keep f place)
@@ -162,19 +132,20 @@ pub step-failed : (X : Type 0) (words : RecoverWords) (bytes : Option (List ℕ)
     → IfSome bytes (λ f. length f ≤ most_file_bytes)
     → IfSome bytes (λ f. IsGivenTo words f place a b held l m ended) → IfSome bytes (λ f. GoesOn false f place next (piece_of e ∷ []))
     → is_refused words.most (piece_of e) ≡ false → GivesEvent {X = X} (Err failed) (event_lines words e) (event_text e) b c held held_then m n
-    → IfSome bytes (λ f. Recovers words made f a c held_then l n)
+    → IfSome bytes (λ f. Walks (IsRecovered words) made f a c held_then l n)
 step-failed X words None place next a b c held held_then l m n ended e failed made err is short h on passed gives = tt
 step-failed X words (Some f) place next a b c held held_then l m n ended e failed (Ok x) err is short h on passed gives = absurd (cc err)
 step-failed X words (Some f) place next a b c held held_then l m n ended e end.Out (Err made) err is short h on passed gives =
-    subst (λ (x : WalkingEnd). Recovers words (Err x) f a c held_then l n) (sym is)
+    subst (λ (x : WalkingEnd). Walks (IsRecovered words) (Err x) f a c held_then l n) (sym is)
     (event-unprinted X words f place next a b c held held_then l m n ended e short h on passed gives)
 step-failed X words (Some f) place next a b c held held_then l m n ended e end.Notes (Err made) err is short h on passed gives =
-    subst (λ (x : WalkingEnd). Recovers words (Err x) f a c held_then l n) (sym is)
+    subst (λ (x : WalkingEnd). Walks (IsRecovered words) (Err x) f a c held_then l n) (sym is)
     (event-untold X words f place next a b c held held_then l m n ended e short h on passed gives)
 step-failed X words (Some f) place next a b c held held_then l m n ended e end.Limit (Err made) err is short h on passed gives = absurd gives
 step-failed X words (Some f) place next a b c held held_then l m n ended e (end.Stopped region) (Err made) err is short h on passed gives = absurd gives
 step-failed X words (Some f) place next a b c held held_then l m n ended e end.File (Err made) err is short h on passed gives = absurd gives
 step-failed X words (Some f) place next a b c held held_then l m n ended e end.Memory (Err made) err is short h on passed gives = absurd gives
+step-failed X words (Some f) place next a b c held held_then l m n ended e end.Made (Err made) err is short h on passed gives = absurd gives
 
 pub step-untold : (X : Type 0) (words : RecoverWords) (b c : Option (List ℕ)) (held held_then : List ℕ) (l m n : Option (List ℕ)) (ended : Status)
     (e : Event) (failed : WalkingEnd) (made : Result Status WalkingEnd) → IsErr made → IsErrAnd made (λ end. end ≡ failed)
@@ -192,6 +163,7 @@ step-untold X words b c held held_then l m n ended e end.Limit (Err made) err is
 step-untold X words b c held held_then l m n ended e (end.Stopped region) (Err made) err is told passed gives = absurd gives
 step-untold X words b c held held_then l m n ended e end.File (Err made) err is told passed gives = absurd gives
 step-untold X words b c held held_then l m n ended e end.Memory (Err made) err is told passed gives = absurd gives
+step-untold X words b c held held_then l m n ended e end.Made (Err made) err is told passed gives = absurd gives
 
 -- the walk ended before the file
 pub step-ended : (words : RecoverWords) (bytes : Option (List ℕ)) (place next size size_then : ℕ) (a b : Option (List ℕ)) (held : List ℕ) (l m : Option (List ℕ)) (ended : Status)
@@ -199,20 +171,20 @@ pub step-ended : (words : RecoverWords) (bytes : Option (List ℕ)) (place next 
     → size ≤ most_file_bytes → IfSome bytes (λ f. size ≡ length f) → size_then ≡ size
     → IfSome bytes (λ f. IsGivenTo words f place a b held l m ended) → IfSome bytes (λ f. GoesOn false f place next (events_of (Err e)))
     → ((region : Region) → e ≡ walk.Stopped region → IsStop size_then next region × (may_skip words.most region ≡ false) × IfSome bytes (λ f. IsStoppedAt false f next (Some region)))
-    → IfSome bytes (λ f. Recovers words made f a b held l m)
+    → IfSome bytes (λ f. Walks (IsRecovered words) made f a b held l m)
 step-ended words None place next size size_then a b held l m ended e made err is short exact same h on stops = tt
 step-ended words (Some f) place next size size_then a b held l m ended e (Ok x) err is short exact same h on stops = absurd (cc err)
 step-ended words (Some f) place next size size_then a b held l m ended (walk.Stopped region) (Err made) err is short exact same h on stops =
     let stop = stops region refl in
-    subst (λ (x : WalkingEnd). Recovers words (Err x) f a b held l m) (sym is)
+    subst (λ (x : WalkingEnd). Walks (IsRecovered words) (Err x) f a b held l m) (sym is)
     (given-stopped words f next a b held l m ended region (omega (arith, short, exact))
     (given-on words f place next a b held l m ended h on)
     stop.2.0 (omega (arith, stop.0.onward.past, stop.0.onward.within, exact, same)) stop.2.1 stop.1)
 step-ended words (Some f) place next size size_then a b held l m ended walk.Store (Err made) err is short exact same h on stops =
-    subst (λ (x : WalkingEnd). Recovers words (Err x) f a b held l m) (sym is)
+    subst (λ (x : WalkingEnd). Walks (IsRecovered words) (Err x) f a b held l m) (sym is)
     (given-front words f place a b held l m ended (omega (arith, short, exact)) h)
 step-ended words (Some f) place next size size_then a b held l m ended walk.Memory (Err made) err is short exact same h on stops =
-    subst (λ (x : WalkingEnd). Recovers words (Err x) f a b held l m) (sym is)
+    subst (λ (x : WalkingEnd). Walks (IsRecovered words) (Err x) f a b held l m) (sym is)
     (given-front words f place a b held l m ended (omega (arith, short, exact)) h)
 
 pub step-said : (words : RecoverWords) (l m : Option (List ℕ)) (ended : Status) (e : WalkEnd) (made : Result Status WalkingEnd)
@@ -232,7 +204,7 @@ step-said words l m ended walk.Memory (Err made) err is (skipped, told, status) 
 pub step-done : (words : RecoverWords) (bytes : Option (List ℕ)) (place next size : ℕ) (a b : Option (List ℕ)) (held : List ℕ) (l m : Option (List ℕ)) (ended : Status)
     → size ≤ most_file_bytes → IfSome bytes (λ f. size ≡ length f) → next ≡ size
     → IfSome bytes (λ f. IsGivenTo words f place a b held l m ended) → IfSome bytes (λ f. GoesOn false f place next [])
-    → IfSome bytes (λ f. Recovers words (Ok ended) f a b held l m)
+    → IfSome bytes (λ f. Walks (IsRecovered words) (Ok ended) f a b held l m)
 step-done words None place next size a b held l m ended short exact end h on = tt
 step-done words (Some f) place next size a b held l m ended short exact end h on =
     given-whole words f a b held l m ended (omega (arith, short, exact))

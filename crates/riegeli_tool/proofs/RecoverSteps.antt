@@ -1,5 +1,5 @@
 -- How `show` gets on past damage: the events so far, one more, and how they stand to the answer.
-use Rattle.std.proofs.Common.{◌≡◌, ◌≢◌, ◌∙◌, ℕ, ◌<◌, ◌≤◌, true, false, not, Option, Some, None, Ok, Err, List, [], ◌∷◌, ◌++◌, length, refl, sym, ap, subst, inr, arith, length-append}
+use Rattle.std.proofs.Common.{◌≡◌, ◌≢◌, ◌∙◌, ℕ, ◌<◌, ◌≤◌, true, false, not, Option, None, Ok, Err, List, [], ◌∷◌, ◌++◌, length, refl, sym, ap, subst, inr, arith, length-append}
 use Rattle.std.specs.List.{enumerate_from}
 use Rattle.std.proofs.lemmas.List.{append-nil, nil_from_length}
 use Rattle.std.proofs.lemmas.Grind.{flat_map-append}
@@ -7,14 +7,13 @@ use Rattle.record_io.specs.Outside.{Takes, TakesFront}
 use Rattle.record_io.specs.Buffers.{TakesAndHolds}
 use Rattle.record_io.proofs.Calls.{Takes-append, TakesFront-append, TakesFront-longer}
 use Rattle.record_io.proofs.Buffered.{TakesAndHolds-append, TakesFront-behind}
-use Rattle.damage_skip.specs.Pieces.{Skipped, Piece, IsPieceOf, AreEvents, events_in, records_of, placed_in}
+use Rattle.damage_skip.specs.Pieces.{Skipped, Piece, IsPieceOf, AreEvents, records_of, placed_in}
 use Rattle.damage_skip.specs.Regions.{region_text}
 use Rattle.damage_skip.specs.Walks.{piece_of, GoesOn}
 use Rattle.damage_skip.specs.declared.events.Event.{Event}
 use Rattle.damage_skip.specs.declared.events.Event.TheVariants as event
 use Rattle.damage_skip.specs.declared.regions.Region.{Region}
-use Rattle.damage_skip.proofs.OnePiece.{piece_past}
-use Rattle.damage_skip.proofs.Tiles.{tiles_within, tiles_to_end, goes_on_append, goes_on_whole}
+use Rattle.damage_skip.proofs.Tiles.{goes_on_whole}
 use lib.Chars.{codes}
 use Rattle.riegeli_tool.specs.declared.recover_words.RecoverWords.{RecoverWords}
 use Rattle.riegeli_tool.specs.declared.show_words.ShowWords.{ShowWords}
@@ -23,15 +22,17 @@ use Rattle.riegeli_tool.specs.declared.status.Status.TheVariants as status
 use Rattle.riegeli_tool.specs.declared.walking.WalkingEnd.TheVariants as end
 use Rattle.riegeli_tool.specs.Answers.{Answer}
 use Rattle.riegeli_tool.specs.FileAnswers.{record_line, most_file_bytes, OfFile}
-use Rattle.riegeli_tool.specs.WalkAnswers.{regions_in, may_skip, is_refused, walked, refused_in, skipped_text, walk_text, walk_status, MaySkip}
+use Rattle.riegeli_tool.specs.WalkAnswers.{regions_in, may_skip, is_refused, walked, refused_in, IsWalkedTo, skipped_text, walk_text, walk_status, MaySkip}
 use Rattle.riegeli_tool.specs.RecoverCommand.{IsRecovered}
 use Rattle.riegeli_tool.specs.ReadingEnds.{HasPrintedFront}
 use Rattle.riegeli_tool.specs.ShowProgress.{record_lines}
-use Rattle.riegeli_tool.specs.RecoverProgress.{event_lines, event_text, status_after, GivesEvent, IsWalkedTo, IsGivenTo, HasRecovered, HasRecoveredFront, HasSaidFront, HasToldOf}
+use Rattle.riegeli_tool.specs.RecoverProgress.{event_lines, event_text, status_after, GivesEvent, IsGivenTo}
+use Rattle.riegeli_tool.specs.WalkingEnds.{HasWalked, HasWalkedFront, HasSaidFront, HasToldOf}
 use Rattle.riegeli_tool.proofs.CommandLaws.{one_recovered}
 use Rattle.riegeli_tool.proofs.ReadingRuns.{front-of_front}
 use Rattle.riegeli_tool.proofs.ShowSteps.{in_reach}
-use Rattle.riegeli_tool.proofs.Walked.{none_refused-append, walked-behind, regions-append, passed-may, may-append, walked-all, refused-none, piece_at, walked-to_refused, refused-there, text-behind, text-more, status-more}
+use Rattle.riegeli_tool.proofs.Walked.{walked-behind, regions-append, passed-may, may-append, walked-all, piece_at, walked-to_refused, text-more, status-more}
+use Rattle.riegeli_tool.proofs.WalkedEvents.{walked-further, walked-on, rest_of, rest_from, text-front, text-all, status-all, text-stopped, status-stopped}
 
 -- the answer that events make
 abbrev pub answer_of : RecoverWords → List Piece → Answer
@@ -57,23 +58,12 @@ lines-append words es fs =
     ap (record_lines words) (flat_map-append (λ (piece : Piece). enumerate_from piece.begin (records_of piece.what)) es fs)
     ∙ flat_map-append (record_line words.positions) (placed_in es) (placed_in fs)
 
--- the events from a place on, which are behind those before it
-rest_of : (most : Option ℕ) (file : List ℕ) (place : ℕ) (events : List Piece) → IsWalkedTo most file place events
-    → (fs : List Piece) × AreEvents false file (events ++ fs)
-rest_of most file place events h =
-    let within : place ≤ length file = (tiles_within false file 0 place h.walked.0 (omega arith) h.walked.1).1 in
-    let rest = tiles_to_end false file place within in (
-      events_in rest.0,
-      goes_on_whole false file (events ++ events_in rest.0)
-          (goes_on_append false file 0 place (length file) events (events_in rest.0) h.walked (rest.0, rest.1, refl)),
-    )
-
 -- what is printed and said of the first events comes first in the answer
 out-front : (words : RecoverWords) (file : List ℕ) (place : ℕ) (events : List Piece) (answer : Answer) → length file ≤ most_file_bytes
-    → IsWalkedTo words.most file place events → OfFile (IsRecovered words) (file ∷ []) answer
+    → IsWalkedTo false words.most file place events → OfFile (IsRecovered words) (file ∷ []) answer
     → (more : List ℕ) × (answer.out ≡ record_lines words.show (placed_in events) ++ more)
 out-front words file place events answer short h is =
-    let behind = rest_of words.most file place events h in
+    let behind = rest_of false words.most file place events h in
     let fs : List Piece = behind.0 in (
       record_lines words.show (placed_in (walked words.most fs)),
       ap (λ (a : Answer). a.out) (is_answer words file (events ++ fs) answer short behind.1 is)
@@ -82,22 +72,18 @@ out-front words file place events answer short h is =
     )
 
 notes-front : (words : RecoverWords) (file : List ℕ) (place : ℕ) (events : List Piece) (answer : Answer) → length file ≤ most_file_bytes
-    → IsWalkedTo words.most file place events → OfFile (IsRecovered words) (file ∷ []) answer
+    → IsWalkedTo false words.most file place events → OfFile (IsRecovered words) (file ∷ []) answer
     → (rest : List ℕ) × (answer.notes ≡ skipped_text (regions_in events) ++ rest)
 notes-front words file place events answer short h is =
-    let behind = rest_of words.most file place events h in
-    let fs : List Piece = behind.0 in
-    let stopped : Option Region = refused_in words.most (events ++ fs) in (
-      walk_text (regions_in (walked words.most fs)) stopped,
-      ap (λ (a : Answer). a.notes) (is_answer words file (events ++ fs) answer short behind.1 is)
-          ∙ ap (λ (es : List Piece). walk_text (regions_in es) stopped) (walked-behind words.most events fs h.passed)
-          ∙ ap (λ (rs : List Region). walk_text rs stopped) (regions-append events (walked words.most fs))
-          ∙ text-behind (regions_in events) (regions_in (walked words.most fs)) stopped,
+    let behind = rest_of false words.most file place events h in
+    let fs : List Piece = behind.0 in (
+      walk_text (regions_in (walked words.most fs)) (refused_in words.most (events ++ fs)),
+      ap (λ (a : Answer). a.notes) (is_answer words file (events ++ fs) answer short behind.1 is) ∙ text-front words.most events fs h.passed,
     )
 
 pub given-front : (words : RecoverWords) (file : List ℕ) (place : ℕ) (out out_then : Option (List ℕ)) (held : List ℕ) (notes notes_then : Option (List ℕ)) (ended : Status)
     → length file ≤ most_file_bytes → IsGivenTo words file place out out_then held notes notes_then ended
-    → (answer : Answer) → OfFile (IsRecovered words) (file ∷ []) answer → HasRecoveredFront out out_then held notes notes_then answer
+    → (answer : Answer) → OfFile (IsRecovered words) (file ∷ []) answer → HasWalkedFront out out_then held notes notes_then answer
 given-front words file place out out_then held notes notes_then ended short h answer is =
     let o = out-front words file place h.events answer short h.walked is in
     let n = notes-front words file place h.events answer short h.walked is in
@@ -112,51 +98,36 @@ given-front words file place out out_then held notes notes_then ended short h an
 -- all events were given
 pub given-whole : (words : RecoverWords) (file : List ℕ) (out out_then : Option (List ℕ)) (held : List ℕ) (notes notes_then : Option (List ℕ)) (ended : Status)
     → length file ≤ most_file_bytes → IsGivenTo words file (length file) out out_then held notes notes_then ended
-    → HasRecovered words file out out_then held notes notes_then [] ended
+    → HasWalked (IsRecovered words) file out out_then held notes notes_then [] ended
 given-whole words file out out_then held notes notes_then ended short h =
-    let all : walked words.most h.events ≡ h.events = walked-all words.most h.events h.walked.passed in
-    let none : refused_in words.most h.events ≡ None = refused-none words.most h.events h.walked.passed in
     record {
       answer = answer_of words h.events;
       is = inr (short, answered words file h.events (goes_on_whole false file h.events h.walked.walked));
-      made = refl;
-      prints = subst (λ (es : List Piece). TakesAndHolds out out_then (record_lines words.show (placed_in es)) held) (sym all) h.prints;
+      prints = subst (λ (es : List Piece). TakesAndHolds out out_then (record_lines words.show (placed_in es)) held)
+          (sym (walked-all words.most h.events h.walked.passed)) h.prints;
       skipped = regions_in h.events;
-      text = ap (λ (es : List Piece). walk_text (regions_in es) (refused_in words.most h.events)) all
-          ∙ ap (λ (s : Option Region). walk_text (regions_in h.events) s) none
-          ∙ sym (append-nil (skipped_text (regions_in h.events)));
+      text = text-all words.most h.events h.walked.passed;
       says = h.says;
-      status = h.status
-          ∙ sym (ap (λ (es : List Piece). walk_status (regions_in es) (refused_in words.most h.events)) all
-          ∙ ap (λ (s : Option Region). walk_status (regions_in h.events) s) none);
+      status = h.status ∙ sym (status-all words.most h.events h.walked.passed);
     }
 
 -- or those before the one that is refused
 pub given-stopped : (words : RecoverWords) (file : List ℕ) (place : ℕ) (out out_then : Option (List ℕ)) (held : List ℕ) (notes notes_then : Option (List ℕ)) (ended : Status)
     (region : Region) → length file ≤ most_file_bytes → IsGivenTo words file place out out_then held notes notes_then ended
     → region.begin ≡ place → place < length file → IsPieceOf false file place region.end (Skipped region.why) → may_skip words.most region ≡ false
-    → HasRecovered words file out out_then held notes notes_then (region_text (codes "stopped") region) status.Stopped
+    → HasWalked (IsRecovered words) file out out_then held notes notes_then (region_text (codes "stopped") region) status.Stopped
 given-stopped words file place out out_then held notes notes_then ended region short h begin below is refused =
-    let past = piece_past false file place region.end (Skipped region.why) below is in
-    let rest = tiles_to_end false file region.end past.within in
-    let fs : List Piece = events_in rest.0 in
-    let all : List Piece = h.events ++ piece_at region ∷ fs in
-    let are : AreEvents false file all =
-    goes_on_whole false file all (goes_on_append false file 0 place (length file) h.events (piece_at region ∷ fs) h.walked.walked
-    (piece_at region ∷ rest.0, (begin, below, is, rest.1), refl)) in
-    let gone : walked words.most all ≡ h.events = walked-to_refused words.most h.events fs region h.walked.passed refused in
-    let there : refused_in words.most all ≡ Some region = refused-there words.most h.events fs region h.walked.passed refused in
+    let rest = rest_from false words.most file place h.events region h.walked begin below is in
+    let all : List Piece = h.events ++ piece_at region ∷ rest.0 in
     record {
       answer = answer_of words all;
-      is = inr (short, answered words file all are);
-      made = refl;
-      prints = subst (λ (es : List Piece). TakesAndHolds out out_then (record_lines words.show (placed_in es)) held) (sym gone) h.prints;
+      is = inr (short, answered words file all rest.1);
+      prints = subst (λ (es : List Piece). TakesAndHolds out out_then (record_lines words.show (placed_in es)) held)
+          (sym (walked-to_refused words.most h.events rest.0 region h.walked.passed refused)) h.prints;
       skipped = regions_in h.events;
-      text = ap (λ (es : List Piece). walk_text (regions_in es) (refused_in words.most all)) gone
-          ∙ ap (λ (s : Option Region). walk_text (regions_in h.events) s) there;
+      text = text-stopped words.most h.events rest.0 region h.walked.passed refused;
       says = h.says;
-      status = sym (ap (λ (es : List Piece). walk_status (regions_in es) (refused_in words.most all)) gone
-          ∙ ap (λ (s : Option Region). walk_status (regions_in h.events) s) there);
+      status = sym (status-stopped words.most h.events rest.0 region h.walked.passed refused);
     }
 
 -- what one event more adds
@@ -203,32 +174,20 @@ pub given-on : (words : RecoverWords) (file : List ℕ) (place next : ℕ) (out 
     → IsGivenTo words file next out out_then held notes notes_then ended
 given-on words file place next out out_then held notes notes_then ended h on = record {
   events = h.events;
-  walked = record {
-    walked = subst (λ (es : List Piece). GoesOn false file 0 next es) (append-nil h.events)
-        (goes_on_append false file 0 place next h.events [] h.walked.walked on);
-    passed = h.walked.passed;
-  };
+  walked = walked-further false words.most file place next h.events h.walked on;
   prints = h.prints;
   says = h.says;
   status = h.status;
 }
 
--- one event more is walked
-walked-on : (most : Option ℕ) (file : List ℕ) (place next : ℕ) (events : List Piece) (e : Event) → IsWalkedTo most file place events
-    → GoesOn false file place next (piece_of e ∷ []) → is_refused most (piece_of e) ≡ false → IsWalkedTo most file next (events ++ piece_of e ∷ [])
-walked-on most file place next events e h on passed = record {
-  walked = goes_on_append false file 0 place next events (piece_of e ∷ []) h.walked on;
-  passed = none_refused-append most events (piece_of e ∷ []) h.passed (passed, tt);
-}
-
--- and given
+-- one event more
 pub given-event : {X : Type 0} (words : RecoverWords) (file : List ℕ) (place next : ℕ) (a b c : Option (List ℕ)) (held held_then : List ℕ) (l m n : Option (List ℕ)) (ended : Status)
     (e : Event) (x : X) → IsGivenTo words file place a b held l m ended → GoesOn false file place next (piece_of e ∷ []) → is_refused words.most (piece_of e) ≡ false
     → GivesEvent {X = X} (Ok x) (event_lines words e) (event_text e) b c held held_then m n
     → IsGivenTo words file next a c held_then l n (status_after ended e)
 given-event words file place next a b c held held_then l m n ended e x h on passed gives = record {
   events = h.events ++ piece_of e ∷ [];
-  walked = walked-on words.most file place next h.events e h.walked on passed;
+  walked = walked-on false words.most file place next h.events (piece_of e) h.walked on passed;
   prints = subst (λ (t : List ℕ). TakesAndHolds a c t held_then) (sym (lines-events words h.events e))
       (TakesAndHolds-append a b c [] held held_then (record_lines words.show (placed_in h.events)) (event_lines words e) h.prints gives.0);
   says = subst (λ (t : List ℕ). Takes l n t) (sym (text-events h.events e))
@@ -242,9 +201,9 @@ pub event-unprinted : (X : Type 0) (words : RecoverWords) (file : List ℕ) (pla
     (e : Event) → length file ≤ most_file_bytes → IsGivenTo words file place a b held l m ended → GoesOn false file place next (piece_of e ∷ [])
     → is_refused words.most (piece_of e) ≡ false
     → GivesEvent {X = X} (Err end.Out) (event_lines words e) (event_text e) b c held held_then m n
-    → (answer : Answer) → OfFile (IsRecovered words) (file ∷ []) answer → HasRecoveredFront a c held_then l n answer
+    → (answer : Answer) → OfFile (IsRecovered words) (file ∷ []) answer → HasWalkedFront a c held_then l n answer
 event-unprinted X words file place next a b c held held_then l m n ended e short h on passed gives answer is =
-    let o = out-front words file next (h.events ++ piece_of e ∷ []) answer short (walked-on words.most file place next h.events e h.walked on passed) is in
+    let o = out-front words file next (h.events ++ piece_of e ∷ []) answer short (walked-on false words.most file place next h.events (piece_of e) h.walked on passed) is in
     let r = notes-front words file place h.events answer short h.walked is in
     let lines : List ℕ = record_lines words.show (placed_in h.events) ++ event_lines words e in
     record {
@@ -269,7 +228,7 @@ pub event-untold : (X : Type 0) (words : RecoverWords) (file : List ℕ) (place 
     → GivesEvent {X = X} (Err end.Notes) (event_lines words e) (event_text e) b c held held_then m n
     → (answer : Answer) → OfFile (IsRecovered words) (file ∷ []) answer → HasSaidFront a c held_then l n answer
 event-untold X words file place next a b c held held_then l m n ended e short h on passed gives answer is =
-    let more = walked-on words.most file place next h.events e h.walked on passed in
+    let more = walked-on false words.most file place next h.events (piece_of e) h.walked on passed in
     let o = out-front words file next (h.events ++ piece_of e ∷ []) answer short more is in
     let r = notes-front words file next (h.events ++ piece_of e ∷ []) answer short more is in
     let said : answer.notes ≡ (skipped_text (regions_in h.events) ++ event_text e) ++ r.0 =

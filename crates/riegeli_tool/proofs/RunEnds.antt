@@ -187,12 +187,12 @@ runs-said command before after ended wanted text says some whole not_ok may_end 
 
 -- a run over the one file that was handed in
 pub runs-one_file : {X : Type 0} (show : X → ShownFile) (files : List X) (x then : X) (command : Option Command)
-    (input made out out_then notes notes_then : Shown) (ended : Status) → 1 ≡ length files
-    → Runs command (seen input (show (get_or files 0 x) ∷ []) made out notes) (seen input (show then ∷ []) made out_then notes_then) ended
-    → Runs command (seen input (map show files) made out notes) (seen input (map show (set files 0 then)) made out_then notes_then) ended
-runs-one_file show [] x then command input made out out_then notes notes_then ended one ran = absurd (omega arith)
-runs-one_file show (file ∷ []) x then command input made out out_then notes notes_then ended one ran = ran
-runs-one_file show (file ∷ other ∷ files) x then command input made out out_then notes notes_then ended one ran = absurd (omega (arith, one))
+    (input made made_then out out_then notes notes_then : Shown) (ended : Status) → 1 ≡ length files
+    → Runs command (seen input (show (get_or files 0 x) ∷ []) made out notes) (seen input (show then ∷ []) made_then out_then notes_then) ended
+    → Runs command (seen input (map show files) made out notes) (seen input (map show (set files 0 then)) made_then out_then notes_then) ended
+runs-one_file show [] x then command input made made_then out out_then notes notes_then ended one ran = absurd (omega arith)
+runs-one_file show (file ∷ []) x then command input made made_then out out_then notes notes_then ended one ran = ran
+runs-one_file show (file ∷ other ∷ files) x then command input made made_then out out_then notes notes_then ended one ran = absurd (omega (arith, one))
 
 -- words that are no command: the usage text was said, or notes failed
 pub runs-usage : (input : Shown) (files : List ShownFile) (made out notes notes_then : Shown) (ended : Status)

@@ -8,14 +8,16 @@ use Rattle.std.proofs.lemmas.Bool.{and_parts, leb-true}
 use Rattle.record_group.specs.declared.pad.Pad.{Pad}
 use Rattle.record_writer.specs.Written.{AreInLimits}
 use Rattle.riegeli_tool.specs.declared.command.Command.{Command}
-use Rattle.riegeli_tool.specs.declared.command.Command.TheVariants.{Write, Show, Recover, Verify}
+use Rattle.riegeli_tool.specs.declared.command.Command.TheVariants.{Write, Show, Recover, Verify, Repair}
 use Rattle.riegeli_tool.specs.declared.write_words.WriteWords.{WriteWords}
 use Rattle.riegeli_tool.specs.declared.recover_words.RecoverWords.{RecoverWords}
 use Rattle.riegeli_tool.specs.declared.show_words.ShowWords.{ShowWords}
+use Rattle.riegeli_tool.specs.declared.repair_words.RepairWords.{RepairWords}
 use Rattle.riegeli_tool.specs.declared.verify_words.VerifyWords.{VerifyWords}
 use Rattle.riegeli_tool.specs.ShowWords.{show_words_of}
 use Rattle.riegeli_tool.specs.RecoverWords.{goes_past_damage, recover_words_of}
 use Rattle.riegeli_tool.specs.VerifyWords.{verify_words_of}
+use Rattle.riegeli_tool.specs.RepairWords.{repair_words_of}
 use Rattle.riegeli_tool.specs.Numbers.{number_in, number_within}
 use Rattle.riegeli_tool.specs.Options.{◌>>=◌, value_of, optional_value, are_words_of, file_places, only}
 use Rattle.riegeli_tool.specs.WriteWords.{default_chunk_size, chunk_size_of, every_of, pad_of, write_options, write_words_of}
@@ -108,17 +110,21 @@ if_shown true (Some x) shown w = λ is. cc is
 if_shown false recovered None w = λ is. cc is
 if_shown false recovered (Some x) w = λ is. cc is
 
-if_write : (write show recover verify : Bool) (written : Option WriteWords) (recovered : Option RecoverWords) (shown : Option ShowWords) (verified : Option VerifyWords) (w : WriteWords)
+if_write : (write show recover verify repair : Bool) (written : Option WriteWords) (recovered : Option RecoverWords) (shown : Option ShowWords) (verified : Option VerifyWords)
+    (repaired : Option RepairWords) (w : WriteWords)
     → (if write then option_map Write written
     else if show then (if recover then option_map Recover recovered else option_map Show shown)
-    else if verify then option_map Verify verified else None) ≡ Some (Write w)
+    else if verify then option_map Verify verified
+    else if repair then option_map Repair repaired else None) ≡ Some (Write w)
     → written ≡ Some w
-if_write true show recover verify None recovered shown verified w is = absurd (cc is)
-if_write true show recover verify (Some x) recovered shown verified w is = cc is
-if_write false true recover verify written recovered shown verified w is = absurd (if_shown recover recovered shown w is)
-if_write false false recover true written recovered shown None w is = absurd (cc is)
-if_write false false recover true written recovered shown (Some x) w is = absurd (cc is)
-if_write false false recover false written recovered shown verified w is = absurd (cc is)
+if_write true show recover verify repair None recovered shown verified repaired w is = absurd (cc is)
+if_write true show recover verify repair (Some x) recovered shown verified repaired w is = cc is
+if_write false true recover verify repair written recovered shown verified repaired w is = absurd (if_shown recover recovered shown w is)
+if_write false false recover true repair written recovered shown None repaired w is = absurd (cc is)
+if_write false false recover true repair written recovered shown (Some x) repaired w is = absurd (cc is)
+if_write false false recover false true written recovered shown verified None w is = absurd (cc is)
+if_write false false recover false true written recovered shown verified (Some x) w is = absurd (cc is)
+if_write false false recover false false written recovered shown verified repaired w is = absurd (cc is)
 
 -- so are the options of an accepted command
 command_of-within : (words : List (List ℕ)) (w : WriteWords) → command_of words ≡ Some (Write w) → AreInLimits (options_of w)
@@ -126,7 +132,8 @@ command_of-within [] w is = absurd (cc is)
 command_of-within (name ∷ words) w is =
     write_words_of-within (name ∷ words) w
     (if_write (bytes_eq name (codes "write")) (bytes_eq name (codes "show")) (goes_past_damage (name ∷ words)) (bytes_eq name (codes "verify"))
-    (write_words_of (name ∷ words)) (recover_words_of (name ∷ words)) (show_words_of (name ∷ words)) (verify_words_of (name ∷ words)) w is)
+    (bytes_eq name (codes "repair")) (write_words_of (name ∷ words)) (recover_words_of (name ∷ words)) (show_words_of (name ∷ words))
+    (verify_words_of (name ∷ words)) (repair_words_of (name ∷ words)) w is)
 
 accepted_of-is : (command : Option Command) (count : ℕ) (known : Command) → accepted_of command count ≡ Some known → command ≡ Some known
 accepted_of-is None count known is = absurd (cc is)

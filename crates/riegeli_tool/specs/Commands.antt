@@ -3,12 +3,13 @@ use Rattle.std.specs.Prelude.{ℕ, Option, Some, None, List, [], ◌∷◌, opti
 use Rattle.std.specs.Str.{bytes_eq}
 use lib.Chars.{codes}
 use Rattle.riegeli_tool.specs.declared.command.Command.{Command}
-use Rattle.riegeli_tool.specs.declared.command.Command.TheVariants.{Write, Show, Recover, Verify}
+use Rattle.riegeli_tool.specs.declared.command.Command.TheVariants.{Write, Show, Recover, Verify, Repair}
 use Rattle.riegeli_tool.specs.declared.command.Names.{Names}
 use Rattle.riegeli_tool.specs.WriteWords.{write_words_of}
 use Rattle.riegeli_tool.specs.ShowWords.{show_words_of}
 use Rattle.riegeli_tool.specs.RecoverWords.{goes_past_damage, recover_words_of}
 use Rattle.riegeli_tool.specs.VerifyWords.{verify_words_of}
+use Rattle.riegeli_tool.specs.RepairWords.{repair_words_of}
 
 -- the command that the words of `show` are
 abbrev pub show_command_of : List (List ℕ) → Option Command
@@ -23,6 +24,7 @@ command_of (name ∷ words) =
     if bytes_eq name (codes "write") then option_map Write (write_words_of (name ∷ words))
     else if bytes_eq name (codes "show") then show_command_of (name ∷ words)
     else if bytes_eq name (codes "verify") then option_map Verify (verify_words_of (name ∷ words))
+    else if bytes_eq name (codes "repair") then option_map Repair (repair_words_of (name ∷ words))
     else None
 
 -- how many files a command reads
@@ -31,6 +33,7 @@ files_read (Write words) = 0
 files_read (Show words) = 1
 files_read (Recover words) = 1
 files_read (Verify words) = 1
+files_read (Repair words) = 1
 
 -- the places of the files among the words: the one that is read, how many are, and the one that is made
 abbrev pub names_of : Option Command → Names
@@ -39,6 +42,7 @@ names_of (Some (Write words)) = record { first = 0; count = 0; made = Some words
 names_of (Some (Show words)) = record { first = words.file; count = 1; made = None }
 names_of (Some (Recover words)) = record { first = words.show.file; count = 1; made = None }
 names_of (Some (Verify words)) = record { first = words.file; count = 1; made = None }
+names_of (Some (Repair words)) = record { first = words.from; count = 1; made = Some words.to }
 
 -- a command where it reads so many files
 abbrev pub accepted_of : Option Command → ℕ → Option Command

@@ -2,6 +2,7 @@
 use Rattle.std.specs.Prelude.{ℕ, ◌-◌, Bool, false, not, ◌&&◌, ◌||◌, Option, Some, None, List, [], ◌∷◌, length, drop, filter, slice_index, slice_get, is_some, option_map, option_and_then, nat_eq, nat_le, ◌==◌}
 use Rattle.std.specs.Bool.{then_some}
 use Rattle.std.specs.Option.{option_map_or}
+use Rattle.std.specs.Str.{bytes_eq}
 use Rattle.std.specs.List.{filter_map, list_all, list_any, range_with_len, starts_with}
 
 -- a word that names a file: not empty, and not beginning with a dash
@@ -46,6 +47,20 @@ file_places words = filter (is_file_at words) (range_with_len 1 (length words - 
 abbrev pub only : {X : Type 0} → List X → Option X
 only (x ∷ []) = Some x
 only xs = None
+
+-- the two elements of a list
+abbrev pub only_two : {X : Type 0} → List X → Option (X × X)
+only_two (x ∷ y ∷ []) = Some (x, y)
+only_two xs = None
+
+-- whether two words are there and the same
+abbrev pub is_same : Option (List ℕ) → Option (List ℕ) → Bool
+is_same (Some word) (Some other) = bytes_eq word other
+is_same word other = false
+
+-- whether the words at two places are the same
+abbrev pub is_same_at : List (List ℕ) → ℕ → ℕ → Bool
+is_same_at words place other = is_same (slice_get words place) (slice_get words other)
 
 -- what a value that may be left out is read as: None where it is there and can't be read
 abbrev pub optional_value : {X : Type 0} → (List ℕ → Option X) → Option (List ℕ) → Option (Option X)

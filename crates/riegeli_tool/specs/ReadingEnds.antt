@@ -1,6 +1,5 @@
 -- How the work of a command that reads a record file ends, and what it has printed and says then. Own.
-use Rattle.std.specs.Prelude.{◌≡◌, ℕ, ◌<◌, Option, Result, Ok, Err, List, [], ◌∷◌, ◌++◌, length, IfSome, IsSomeAnd}
-use Rattle.record_io.specs.Outside.{Rose}
+use Rattle.std.specs.Prelude.{◌≡◌, ℕ, Option, Result, Ok, Err, List, [], ◌∷◌, ◌++◌, IsSomeAnd}
 use Rattle.record_io.specs.Buffers.{TakesAndHolds}
 use Rattle.chunk_reader.specs.declared.reasons.VerifyEnd.{VerifyEnd}
 use Rattle.chunk_reader.specs.declared.reasons.VerifyEnd.TheVariants as verify
@@ -8,14 +7,21 @@ use Rattle.chunk_reader.specs.declared.reasons.ReadEnd.{ReadEnd}
 use Rattle.chunk_reader.specs.declared.reasons.ReadEnd.TheVariants as read
 use Rattle.riegeli_tool.specs.declared.reading.ReadingEnd.{ReadingEnd}
 use Rattle.riegeli_tool.specs.declared.reading.ReadingEnd.TheVariants as end
+use Rattle.riegeli_tool.specs.declared.sizes.SizeEnd.{SizeEnd}
+use Rattle.riegeli_tool.specs.declared.sizes.SizeEnd.TheVariants as size
 use Rattle.riegeli_tool.specs.declared.status.Status.{Status}
 use Rattle.riegeli_tool.specs.declared.status.Status.TheVariants as status
 use Rattle.riegeli_tool.specs.Answers.{Answer}
-use Rattle.riegeli_tool.specs.FileAnswers.{OfFile, IsInReach, IsTooLong, most_file_bytes, limit_text, refused_text}
+use Rattle.riegeli_tool.specs.FileAnswers.{OfFile, IsInReach, IsTooLong, limit_text, refused_text}
 use Rattle.riegeli_tool.specs.Statuses.{fault_text}
 use Rattle.riegeli_tool.specs.Runs.{Shown, SaysAtEnd, TakesThen}
 
--- the ends of the reader's calls
+-- the ends by which no size was told
+abbrev pub end_of_size : SizeEnd → ReadingEnd
+end_of_size size.Limit = end.Limit
+end_of_size size.File = end.File
+
+-- and those of the reader's calls
 abbrev pub end_of_verify : VerifyEnd → ReadingEnd
 end_of_verify (verify.Refused fault) = end.Refused fault
 end_of_verify verify.Store = end.File
@@ -24,12 +30,6 @@ abbrev pub end_of_read : ReadEnd → ReadingEnd
 end_of_read (read.Refused fault) = end.Refused fault
 end_of_read read.Store = end.File
 end_of_read read.Memory = end.Memory
-
--- why no size was told of a file that may be read: it has too many bytes, or it failed
-abbrev pub IsUnsized : ReadingEnd → Option (List ℕ) → ℕ → ℕ → Type 0
-IsUnsized end.Limit file before after = IfSome file (λ bytes. most_file_bytes < length bytes)
-IsUnsized end.File file before after = Rose before after
-IsUnsized other file before after = ⊥
 
 -- the size that a file told by which work ended so: unless the file failed, past the limit or within it
 abbrev pub EndsBySize : {X : Type 0} → Result X ReadingEnd → Option ℕ → Type 0

@@ -4,6 +4,7 @@ use Rattle.std.specs.List.{AllByRecursion, before_first, filter_map, find, flat_
 use lib.Chars.{codes}
 use Rattle.damage_skip.specs.Pieces.{What, Skipped, Piece}
 use Rattle.damage_skip.specs.Regions.{region_text}
+use Rattle.damage_skip.specs.Walks.{GoesOn}
 use Rattle.damage_skip.specs.declared.regions.Region.{Region}
 use Rattle.riegeli_tool.specs.declared.status.Status.{Status}
 use Rattle.riegeli_tool.specs.declared.status.Status.TheVariants as status
@@ -37,6 +38,11 @@ is_refused most event = is_refused_as most (region_of event)
 -- the events before the first one that is refused
 abbrev pub walked : Option ℕ → List Piece → List Piece
 walked most events = before_first (is_refused most) events
+
+-- events of the front of a file up to a place, none of which is refused
+pub record IsWalkedTo (keep : Bool) (most : Option ℕ) (file : List ℕ) (place : ℕ) (events : List Piece) : Type 0 where
+  pub walked : GoesOn keep file 0 place events
+  pub passed : AllByRecursion (λ event. is_refused most event ≡ false) events
 
 -- the region that is refused, if there is one
 abbrev pub refused_in : Option ℕ → List Piece → Option Region

@@ -2,6 +2,7 @@ ghost use Rattle.std.specs.Prelude.{◌≡◌};
 ghost use Rattle.riegeli_tool.specs.Commands.{files_read, names_of};
 
 use crate::recover_words::RecoverWords;
+use crate::repair_words::RepairWords;
 use crate::show_words::ShowWords;
 use crate::verify_words::VerifyWords;
 use crate::write_words::WriteWords;
@@ -13,6 +14,7 @@ pub(crate) enum Command {
     Show(ShowWords),
     Recover(RecoverWords),
     Verify(VerifyWords),
+    Repair(RepairWords),
 }
 
 /// The files that words name, by their places among the words. Own.
@@ -33,7 +35,7 @@ impl Command {
     {
         match self {
             Command::Write(_) => 0,
-            Command::Show(_) | Command::Recover(_) | Command::Verify(_) => 1,
+            Command::Show(_) | Command::Recover(_) | Command::Verify(_) | Command::Repair(_) => 1,
         }
     }
 }

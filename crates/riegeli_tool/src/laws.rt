@@ -14,10 +14,12 @@ ghost use Rattle.riegeli_tool.specs.CommandAnswers.{IsAnswer, uses_of};
 ghost use Rattle.riegeli_tool.specs.FileAnswers.{most_file_bytes};
 ghost use Rattle.riegeli_tool.specs.Input.{taken_from, with_last_end};
 ghost use Rattle.riegeli_tool.specs.RecoverCommand.{IsRecovered};
+ghost use Rattle.riegeli_tool.specs.RepairCommand.{IsRepaired};
 ghost use Rattle.riegeli_tool.specs.ShowCommand.{IsShown};
 ghost use Rattle.riegeli_tool.specs.VerifyCommand.{IsVerified};
 ghost use Rattle.riegeli_tool.specs.WriteCommand.{options_of, write_answer};
 ghost use Rattle.riegeli_tool.specs.declared.recover_words.RecoverWords.{RecoverWords};
+ghost use Rattle.riegeli_tool.specs.declared.repair_words.RepairWords.{RepairWords};
 ghost use Rattle.riegeli_tool.specs.declared.show_words.ShowWords.{ShowWords};
 ghost use Rattle.riegeli_tool.specs.declared.status.Status.TheVariants as status;
 ghost use Rattle.riegeli_tool.specs.declared.write_words.WriteWords.{WriteWords};
@@ -42,12 +44,13 @@ pub fn answers_stand_on_what_is_used()
         → IsAnswer (accepted words count) input files a → IsAnswer (accepted words count) input others a }
 {}
 
-/// Each file of bytes has an answer of `show`, whatever its words, also of those that go on past damage, and one of
-/// `verify`. So all words have an answer, of the bytes of any input and files. Own.
+/// Each file of bytes has an answer of `show`, whatever its words, also of those that go on past damage, one of `verify`,
+/// and one of `repair`. So all words have an answer, of the bytes of any input and files. Own.
 pub fn file_answers_exist()
     ensures show { (words : ShowWords) (file : List ℕ) → AreBytes file → (answer : Answer) × IsShown words file answer }
     ensures recover { (words : RecoverWords) (file : List ℕ) → AreBytes file → (answer : Answer) × IsRecovered words file answer }
     ensures verify { (file : List ℕ) → AreBytes file → (answer : Answer) × IsVerified file answer }
+    ensures repair { (words : RepairWords) (file : List ℕ) → AreBytes file → (answer : Answer) × IsRepaired words file answer }
     ensures all { (words : List (List ℕ)) (input : List ℕ) (files : List (List ℕ))
         → AllByRecursion AreBytes files → (answer : Answer) × IsAnswer (accepted words (length files)) input files answer }
 {}

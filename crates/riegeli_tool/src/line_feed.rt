@@ -62,6 +62,7 @@ impl<'a, I: Source> LineFeed<'a, I> {
         ensures same_name { self.new.input.ghost_name ≡ self.old.input.ghost_name }
         ensures cause { result ≡ Err FeedEnd.Failed → Rose (I.faults self.old.input.now) (I.faults self.new.input.now) }
         ensures never_falls { I.faults self.old.input.now ≤ I.faults self.new.input.now }
+        ensures small { I.faults self.old.input.now < 2 ^ 64 → I.faults self.new.input.now < 2 ^ 64 }
     {
         if !self.window.is_empty() {
             return Ok(true);

@@ -2,7 +2,7 @@ ghost use Rattle.std.specs.Prelude.{◌≡◌, length, map, nat_le, slice_get};
 ghost use Rattle.std.specs.Option.{option_copied};
 ghost use Rattle.std.specs.String.{string_bytes};
 ghost use Rattle.riegeli_tool.specs.Numbers.{number_within};
-ghost use Rattle.riegeli_tool.specs.Options.{is_file_word, has_value, value_in, values_of, value_of, is_word_of, are_words_of, is_file_at, file_places, only, optional_value};
+ghost use Rattle.riegeli_tool.specs.Options.{is_file_word, has_value, value_in, values_of, value_of, is_word_of, are_words_of, is_file_at, file_places, only, only_two, is_same_at, optional_value};
 
 use crate::numbers::number_within;
 
@@ -91,6 +91,25 @@ pub(crate) fn only_file(words: &[String]) -> Option<usize>
 {
     let file = nth_file(words, 0)?;
     nth_file(words, 1).is_none().then_some(file)
+}
+
+/// The places of the files among the words, where there are just two.
+pub(crate) fn two_files(words: &[String]) -> Option<(usize, usize)>
+    ensures { result ≡ only_two (file_places (map string_bytes words.now)) }
+{
+    let first = nth_file(words, 0)?;
+    let second = nth_file(words, 1)?;
+    nth_file(words, 2).is_none().then_some((first, second))
+}
+
+/// Whether the words at two places are the same.
+pub(crate) fn is_same_at(words: &[String], place: usize, other: usize) -> bool
+    ensures { result ≡ is_same_at (map string_bytes words.now) place other }
+{
+    match (words.get(place), words.get(other)) {
+        (Some(word), Some(other)) => word == other,
+        _ => false,
+    }
 }
 
 fn nth_file(words: &[String], n: usize) -> Option<usize>

@@ -7,6 +7,7 @@ ghost use Rattle.riegeli_tool.specs.Runs.{AllLeaveTooLong, Runs, seen, shown, sh
 use crate::command::Command;
 use crate::notes::end;
 use crate::recover::recover;
+use crate::repair::repair;
 use crate::show::show;
 use crate::status::Status;
 use crate::verify::verify;
@@ -31,7 +32,8 @@ sample --seed=N --records=N [--chunk=N] [--workers=N] FILE
 /// `files` are the files that the command reads, as `names` tells them, and `made` is the file that it makes.
 /// Text goes to `out` and messages go to `notes`. For now the commands are `write`, of lines, with `--chunk`, `--every`
 /// and `--pad`; `show`, with `--positions`, and with `--recover`, which goes on past damage, and `--most`, which bounds the
-/// bytes of a region that is skipped; and `verify`, which takes no memory.
+/// bytes of a region that is skipped; `verify`, which takes no memory; and `repair`, which makes the file of what is intact
+/// of another one, with `--most` too.
 ///
 /// # Errors
 ///
@@ -81,6 +83,7 @@ pub fn run<R: Threads + Sync, I: Source, S: Store, M: Sink + Send, O: Sink, E: S
         Some(Command::Show(words)) => show(alloc, &words, &mut files[0], out, notes),
         Some(Command::Recover(words)) => recover(alloc, &words, &mut files[0], out, notes),
         Some(Command::Verify(_)) => verify(&mut files[0], out, notes),
+        Some(Command::Repair(words)) => repair(alloc, &words, &mut files[0], made, out, notes),
         None => end(notes, USAGE, Status::Usage),
     }
 }

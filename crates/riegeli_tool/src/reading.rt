@@ -1,16 +1,12 @@
-ghost use Rattle.std.specs.Prelude.{◌≡◌, ◌≤◌, ◌++◌, ◌∷◌, [], Some, length, IfOk, IfSome, IfErr};
-ghost use Rattle.record_io.specs.Outside.{Rose, Takes, TakesFront};
-ghost use Rattle.riegeli_tool.specs.FileAnswers.{most_file_bytes, refused_text};
-ghost use Rattle.riegeli_tool.specs.ReadingEnds.{EndsBySize, IsUnsized, SaysEnd, end_unprinted};
-ghost use Rattle.riegeli_tool.specs.Runs.{SaysAtEnd, shown};
+ghost use Rattle.std.specs.Prelude.{◌≡◌, ◌≤◌};
+ghost use Rattle.riegeli_tool.specs.ReadingEnds.{SaysEnd, end_unprinted};
+ghost use Rattle.riegeli_tool.specs.Runs.{shown};
 
 use crate::notes::{cut_off, end, end_with_fault};
+use crate::sizes::SizeEnd;
 use crate::status::Status;
 use chunk_reader::{Fault, ReadEnd, VerifyEnd};
-use record_io::{Failed, Sink, Store};
-
-/// The most bytes that a record file may have that is read.
-const MOST_FILE_BYTES: u64 = 1 << 60;
+use record_io::Sink;
 
 /// Why the work of a command that reads a record file ended before it was done.
 #[derive(Clone, Copy, Debug, PartialEq, Eq)]
@@ -25,6 +21,20 @@ pub(crate) enum ReadingEnd {
     Out,
     /// There was not enough memory.
     Memory,
+}
+
+impl From<SizeEnd> for ReadingEnd {
+    ghost use Rattle.std.specs.Prelude.{◌≡◌};
+    ghost use Rattle.riegeli_tool.specs.ReadingEnds.{end_of_size};
+
+    ghost from_gives = { λ end reading_end. reading_end ≡ end_of_size end };
+
+    fn from(end: SizeEnd) -> ReadingEnd {
+        match end {
+            SizeEnd::Limit => ReadingEnd::Limit,
+            SizeEnd::File => ReadingEnd::File,
+        }
+    }
 }
 
 impl From<VerifyEnd> for ReadingEnd {
@@ -54,27 +64,6 @@ impl From<ReadEnd> for ReadingEnd {
             ReadEnd::Memory => ReadingEnd::Memory,
         }
     }
-}
-
-/// The size of a file that may be read.
-pub(crate) fn size_of<S: Store>(file: &mut S) -> Result<u64, ReadingEnd>
-    ensures told { IfOk result (λ size. S.told file.new ≡ Some size) }
-    ensures in_reach { IfOk result (λ size. size ≤ most_file_bytes) }
-    ensures sized { EndsBySize result (S.told file.new) }
-    ensures exact { IfOk result (λ size. IfSome (S.bytes file.old) (λ bytes. size ≡ length bytes)) }
-    ensures unread { IfErr result (λ ended. IsUnsized ended (S.bytes file.old) (S.faults file.old) (S.faults file.new)) }
-    ensures same_handed { S.handed file.new ≡ S.handed file.old }
-    ensures same_bytes { S.bytes file.new ≡ S.bytes file.old }
-    ensures same_name { S.name file.new ≡ S.name file.old }
-    ensures never_falls { S.faults file.old ≤ S.faults file.new }
-{
-    let Ok(size) = file.size() else {
-        return Err(ReadingEnd::File);
-    };
-    if size > MOST_FILE_BYTES {
-        return Err(ReadingEnd::Limit);
-    }
-    Ok(size)
 }
 
 /// Why work ended whose lines standard output then failed to take.

@@ -3,15 +3,18 @@ ghost use Rattle.record_io.specs.Outside.{Rose};
 ghost use Rattle.damage_skip.specs.Policies.{IsTest};
 ghost use Rattle.damage_skip.specs.Walkers.{progress_of, test_of};
 ghost use Rattle.riegeli_tool.specs.FileAnswers.{LeavesTooLong};
-ghost use Rattle.riegeli_tool.specs.RecoverProgress.{GivesEvent, HasRoom, IsBound, Recovers, TellsOf, WalksBySize, event_lines, event_text, status_after};
+ghost use Rattle.riegeli_tool.specs.RecoverCommand.{IsRecovered};
+ghost use Rattle.riegeli_tool.specs.RecoverProgress.{GivesEvent, HasRoom, event_lines, event_text, status_after};
 ghost use Rattle.riegeli_tool.specs.Runs.{Runs, Shown, seen, shown, shown_file};
 ghost use Rattle.riegeli_tool.specs.WalkAnswers.{may_skip};
+ghost use Rattle.riegeli_tool.specs.WalkingEnds.{IsBound, TellsOf, Walks, WalksBySize};
 
 use crate::command::Command;
 use crate::recover_words::RecoverWords;
 use crate::show::{LINES, put_records};
+use crate::sizes::size_of;
 use crate::status::Status;
-use crate::walking::{WalkingEnd, end_walk, may_skip, unprinted, walked_size};
+use crate::walking::{WalkingEnd, end_walk, may_skip, unprinted};
 use damage_skip::{Event, Policy, Region, Walker, region_line};
 use record_io::{Failed, PutBuffer, Sink, Store};
 use std::alloc::Global;
@@ -47,7 +50,7 @@ fn recover_file<S: Store, O: Sink, E: Sink>(
     out: &mut O,
     notes: &mut E,
 ) -> Result<Status, WalkingEnd>
-    ensures printed { IfSome (S.bytes file.old) (λ bytes. Recovers words.now result bytes (O.taken out.old) (O.taken out.new) [] (E.taken notes.old) (E.taken notes.new)) }
+    ensures printed { IfSome (S.bytes file.old) (λ bytes. Walks (IsRecovered words.now) result bytes (O.taken out.old) (O.taken out.new) [] (E.taken notes.old) (E.taken notes.new)) }
     ensures said { TellsOf words.now.most result (E.taken notes.old) (E.taken notes.new) }
     ensures sized { WalksBySize result (S.told file.new) }
     ensures notes_kept { result ≡ Ok Status.Ok → notes.new ≡ notes.old }
@@ -55,13 +58,14 @@ fn recover_file<S: Store, O: Sink, E: Sink>(
     ensures same_bytes { S.bytes file.new ≡ S.bytes file.old }
     ensures same_name { S.name file.new ≡ S.name file.old }
     ensures file_cause { result ≡ Err WalkingEnd.File → Rose (S.faults file.old) (S.faults file.new) }
+    ensures unmade { result ≢ Err WalkingEnd.Made }
     ensures out_cause { result ≡ Err WalkingEnd.Out → Rose (O.faults out.old) (O.faults out.new) }
     ensures notes_cause { result ≡ Err WalkingEnd.Notes → Rose (E.faults notes.old) (E.faults notes.new) }
     ensures file_count { S.faults file.old ≤ S.faults file.new }
     ensures out_count { O.faults out.old ≤ O.faults out.new }
     ensures notes_count { E.faults notes.old ≤ E.faults notes.new }
 {
-    let size = walked_size(file)?;
+    let size = size_of(file)?;
     let most = words.most;
     let policy = Policy::new(|region: &Region| may_skip(most, region));
     let mut walker = Walker::new(size, false, policy);
@@ -92,7 +96,7 @@ fn print_events<F: Fn(&Region) -> bool + Drop, S: Store, O: Sink, E: Sink>(
     requires test { IsTest F.Fn (test_of walker.old) }
     requires bound { IsBound F.Fn (test_of walker.old) words.now.most }
     requires none_held { lines.old ≡ [] }
-    ensures printed { IfSome (S.bytes file.old) (λ bytes. Recovers words.now result bytes (O.taken out.old) (O.taken out.new) lines.new (E.taken notes.old) (E.taken notes.new)) }
+    ensures printed { IfSome (S.bytes file.old) (λ bytes. Walks (IsRecovered words.now) result bytes (O.taken out.old) (O.taken out.new) lines.new (E.taken notes.old) (E.taken notes.new)) }
     ensures said { TellsOf words.now.most result (E.taken notes.old) (E.taken notes.new) }
     ensures in_reach { result ≢ Err WalkingEnd.Limit }
     ensures notes_kept { result ≡ Ok Status.Ok → notes.new ≡ notes.old }
@@ -100,6 +104,7 @@ fn print_events<F: Fn(&Region) -> bool + Drop, S: Store, O: Sink, E: Sink>(
     ensures same_told { S.told file.new ≡ S.told file.old }
     ensures same_name { S.name file.new ≡ S.name file.old }
     ensures file_cause { result ≡ Err WalkingEnd.File → Rose (S.faults file.old) (S.faults file.new) }
+    ensures unmade { result ≢ Err WalkingEnd.Made }
     ensures out_cause { result ≡ Err WalkingEnd.Out → Rose (O.faults out.old) (O.faults out.new) }
     ensures notes_cause { result ≡ Err WalkingEnd.Notes → Rose (E.faults notes.old) (E.faults notes.new) }
     ensures file_count { S.faults file.old ≤ S.faults file.new }
@@ -156,6 +161,7 @@ fn tell_region<O: Sink, E: Sink>(
 ) -> Result<(), WalkingEnd>
     ensures given { GivesEvent result [] (event_text (Event.Skipped region.now))
         (O.taken out.old) (O.taken out.new) lines.old lines.new (E.taken notes.old) (E.taken notes.new) }
+    ensures emptied { lines.new ≡ [] }
     ensures out_cause { result ≡ Err WalkingEnd.Out → Rose (O.faults out.old) (O.faults out.new) }
     ensures notes_cause { result ≡ Err WalkingEnd.Notes → Rose (E.faults notes.old) (E.faults notes.new) }
     ensures out_count { O.faults out.old ≤ O.faults out.new }

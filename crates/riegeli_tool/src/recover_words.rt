@@ -42,7 +42,7 @@ pub(crate) fn recover_words(words: &[String]) -> Option<RecoverWords>
 }
 
 /// The most bytes of a region that is skipped, where the words bound them.
-fn most(words: &[String]) -> Option<Option<u64>>
+pub(crate) fn most(words: &[String]) -> Option<Option<u64>>
     ensures { result ≡ most_of (map string_bytes words.now) }
 {
     optional_number("--most=", words, 0, MOST_SKIPPED)

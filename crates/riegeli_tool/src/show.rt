@@ -10,8 +10,9 @@ ghost use Rattle.riegeli_tool.specs.ShowProgress.{record_lines, records_in, IsPr
 ghost use Rattle.riegeli_tool.specs.Runs.{Runs, Shown, seen, shown, shown_file};
 
 use crate::command::Command;
-use crate::reading::{ReadingEnd, end_reading, size_of, unprinted};
+use crate::reading::{ReadingEnd, end_reading, unprinted};
 use crate::show_words::ShowWords;
+use crate::sizes::size_of;
 use crate::status::Status;
 use chunk_reader::{Judged, Reader, What};
 use itoa::Buffer;

@@ -7,7 +7,8 @@ ghost use Rattle.riegeli_tool.specs.ReadingEnds.{EndsBySize, Prints};
 ghost use Rattle.riegeli_tool.specs.Runs.{Runs, Shown, seen, shown, shown_file};
 
 use crate::command::Command;
-use crate::reading::{ReadingEnd, end_reading, size_of};
+use crate::reading::{ReadingEnd, end_reading};
+use crate::sizes::size_of;
 use crate::status::Status;
 use itoa::Buffer;
 use record_io::{Failed, PutBuffer, Sink, Store, Totals};
@@ -54,7 +55,7 @@ fn report_file<S: Store, O: Sink>(file: &mut S, out: &mut O) -> Result<(), Readi
 }
 
 /// Puts the report of totals.
-fn put_report<O: Sink>(totals: &Totals, out: &mut O) -> Result<(), Failed>
+pub(crate) fn put_report<O: Sink>(totals: &Totals, out: &mut O) -> Result<(), Failed>
     ensures whole { OnOk result (Takes (O.taken out.old) (O.taken out.new) (report totals.now)) }
     ensures front { OnErr result (TakesFront (O.taken out.old) (O.taken out.new) (report totals.now)) }
     ensures cause { OnErr result (Rose (O.faults out.old) (O.faults out.new)) }

@@ -1,16 +1,16 @@
 ghost use lib.Chars.{codes};
-ghost use Rattle.std.specs.Prelude.{◌≡◌, ◌-◌, ◌≤◌, Some, IfOk, IfErr, IfSome, length};
-ghost use Rattle.riegeli_tool.specs.FileAnswers.{most_file_bytes};
-ghost use Rattle.riegeli_tool.specs.RecoverProgress.{IsUnwalked, SaysWalkEnd, WalksBySize, end_unprinted};
+ghost use Rattle.std.specs.Prelude.{◌≡◌, ◌-◌, ◌≤◌};
+ghost use Rattle.riegeli_tool.specs.WalkingEnds.{SaysWalkEnd, end_unprinted};
 ghost use Rattle.riegeli_tool.specs.Runs.{SaysAtEnd, shown};
 ghost use Rattle.riegeli_tool.specs.WalkAnswers.{may_skip};
 ghost use Rattle.damage_skip.specs.Regions.{region_text};
 
 use crate::notes::{cut_off, end};
-use crate::reading::{ReadingEnd, size_of};
+use crate::sizes::SizeEnd;
 use crate::status::Status;
 use damage_skip::{Region, WalkEnd, region_line};
-use record_io::{Failed, Sink, Store};
+use record_io::{Failed, Sink};
+use repair_copy::RepairEnd;
 
 /// Why the work of a command that walks a record file ended before the file did.
 #[derive(Clone, Copy, Debug, PartialEq, Eq)]
@@ -21,6 +21,8 @@ pub(crate) enum WalkingEnd {
     Stopped(Region),
     /// The file failed.
     File,
+    /// The file that is made failed.
+    Made,
     /// Standard output failed.
     Out,
     /// There was not enough memory.
@@ -29,9 +31,23 @@ pub(crate) enum WalkingEnd {
     Notes,
 }
 
+impl From<SizeEnd> for WalkingEnd {
+    ghost use Rattle.std.specs.Prelude.{◌≡◌};
+    ghost use Rattle.riegeli_tool.specs.WalkingEnds.{end_of_size};
+
+    ghost from_gives = { λ end walking_end. walking_end ≡ end_of_size end };
+
+    fn from(end: SizeEnd) -> WalkingEnd {
+        match end {
+            SizeEnd::Limit => WalkingEnd::Limit,
+            SizeEnd::File => WalkingEnd::File,
+        }
+    }
+}
+
 impl From<WalkEnd> for WalkingEnd {
     ghost use Rattle.std.specs.Prelude.{◌≡◌};
-    ghost use Rattle.riegeli_tool.specs.RecoverProgress.{end_of_walk};
+    ghost use Rattle.riegeli_tool.specs.WalkingEnds.{end_of_walk};
 
     ghost from_gives = { λ end walking_end. walking_end ≡ end_of_walk end };
 
@@ -44,22 +60,20 @@ impl From<WalkEnd> for WalkingEnd {
     }
 }
 
-/// The size of a file that may be walked.
-pub(crate) fn walked_size<S: Store>(file: &mut S) -> Result<u64, WalkingEnd>
-    ensures told { IfOk result (λ size. S.told file.new ≡ Some size) }
-    ensures in_reach { IfOk result (λ size. size ≤ most_file_bytes) }
-    ensures sized { WalksBySize result (S.told file.new) }
-    ensures exact { IfOk result (λ size. IfSome (S.bytes file.old) (λ bytes. size ≡ length bytes)) }
-    ensures unread { IfErr result (λ ended. IsUnwalked ended (S.bytes file.old) (S.faults file.old) (S.faults file.new)) }
-    ensures same_handed { S.handed file.new ≡ S.handed file.old }
-    ensures same_bytes { S.bytes file.new ≡ S.bytes file.old }
-    ensures same_name { S.name file.new ≡ S.name file.old }
-    ensures never_falls { S.faults file.old ≤ S.faults file.new }
-{
-    match size_of(file) {
-        Ok(size) => Ok(size),
-        Err(ReadingEnd::Limit) => Err(WalkingEnd::Limit),
-        Err(_) => Err(WalkingEnd::File),
+impl From<RepairEnd> for WalkingEnd {
+    ghost use Rattle.std.specs.Prelude.{◌≡◌};
+    ghost use Rattle.riegeli_tool.specs.WalkingEnds.{end_of_repair};
+
+    ghost from_gives = { λ end walking_end. walking_end ≡ end_of_repair end };
+
+    fn from(end: RepairEnd) -> WalkingEnd {
+        match end {
+            RepairEnd::Stopped(region) => WalkingEnd::Stopped(region),
+            RepairEnd::Store => WalkingEnd::File,
+            RepairEnd::Made => WalkingEnd::Made,
+            RepairEnd::Notes => WalkingEnd::Notes,
+            RepairEnd::Memory => WalkingEnd::Memory,
+        }
     }
 }
 
@@ -79,10 +93,8 @@ pub(crate) fn unprinted(ended: &Result<Status, WalkingEnd>) -> WalkingEnd
     ensures { result ≡ end_unprinted ended.now }
 {
     match ended {
-        Err(WalkingEnd::File) => WalkingEnd::File,
-        Err(WalkingEnd::Memory) => WalkingEnd::Memory,
-        Err(WalkingEnd::Notes) => WalkingEnd::Notes,
-        _ => WalkingEnd::Out,
+        Ok(_) | Err(WalkingEnd::Limit | WalkingEnd::Stopped(_)) => WalkingEnd::Out,
+        Err(end) => *end,
     }
 }
 
@@ -98,6 +110,7 @@ pub(crate) fn end_walk<E: Sink>(ended: Result<Status, WalkingEnd>, notes: &mut E
         Err(WalkingEnd::Limit) => end(notes, "limit file\n", Status::Limit),
         Err(WalkingEnd::Stopped(region)) => end_with_region(notes, &region),
         Err(WalkingEnd::File) => cut_off(notes, Status::File),
+        Err(WalkingEnd::Made) => cut_off(notes, Status::Made),
         Err(WalkingEnd::Out) => cut_off(notes, Status::Out),
         Err(WalkingEnd::Memory) => cut_off(notes, Status::Memory),
         Err(WalkingEnd::Notes) => Status::Notes,

@@ -1,4 +1,4 @@
-ghost use Rattle.std.specs.Prelude.{◌≡◌, ◌<◌, ◌≤◌, ◌↔◌, IsTrue, is_some, [], drop, length, IfOk, IfSome, OnErr};
+ghost use Rattle.std.specs.Prelude.{◌≡◌, ◌^◌, ◌<◌, ◌≤◌, ◌↔◌, IsTrue, is_some, [], drop, length, IfOk, IfSome, OnErr};
 ghost use Rattle.record_io.specs.Outside.{Rose, Gives};
 
 use record_io::{Failed, Source};
@@ -72,6 +72,7 @@ impl Window {
         ensures kept { OnErr result (self.new ≡ []) }
         ensures cause { OnErr result (Rose (I.faults input.old) (I.faults input.new)) }
         ensures never_falls { I.faults input.old ≤ I.faults input.new }
+        ensures small { I.faults input.new < 2 ^ 64 }
     {
         self.begin = 0;
         self.end = 0;

@@ -4,6 +4,7 @@ ghost use Rattle.riegeli_tool.specs.Commands.{command_of, show_command_of, names
 
 use crate::command::{Command, Names};
 use crate::recover_words::{goes_past_damage, recover_words};
+use crate::repair_words::repair_words;
 use crate::show_words::show_words;
 use crate::verify_words::verify_words;
 use crate::write_words::write_words;
@@ -17,6 +18,7 @@ pub fn names(words: &[String]) -> Names
         Some(Command::Show(show)) => (show.file, 1, None),
         Some(Command::Recover(recover)) => (recover.show.file, 1, None),
         Some(Command::Verify(verify)) => (verify.file, 1, None),
+        Some(Command::Repair(repair)) => (repair.from, 1, Some(repair.to)),
         None => (0, 0, None),
     };
     Names { first, count, made }
@@ -30,6 +32,7 @@ fn parse(words: &[String]) -> Option<Command>
         "write" => Some(Command::Write(write_words(words)?)),
         "show" => show_command(words),
         "verify" => Some(Command::Verify(verify_words(words)?)),
+        "repair" => Some(Command::Repair(repair_words(words)?)),
         _ => None,
     }
 }

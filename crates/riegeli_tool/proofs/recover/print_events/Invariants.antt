@@ -3,8 +3,9 @@ use Rattle.damage_skip.specs.Walkers.{progress_of, test_of}
 use Rattle.damage_skip.specs.Walks.{IsMet}
 use Rattle.damage_skip.specs.declared.regions.Region.{Region}
 use Rattle.riegeli_tool.specs.declared.status.Status.TheVariants as status
-use Rattle.riegeli_tool.specs.RecoverProgress.{IsGivenTo, HasToldOf}
+use Rattle.riegeli_tool.specs.RecoverProgress.{IsGivenTo}
 use Rattle.riegeli_tool.specs.WalkAnswers.{walk_status}
+use Rattle.riegeli_tool.specs.WalkingEnds.{HasToldOf}
 use Rattle.riegeli_tool.proofs.recover.print_events.Given as goal
 
 abbrev pub invariant-loop-event : goal.invariant-loop-event

@@ -4,13 +4,13 @@ use Rattle.riegeli_tool.specs.declared.reading.ReadingEnd.TheVariants.{Out}
 use Rattle.riegeli_tool.specs.VerifyCommand.{IsVerified}
 use Rattle.riegeli_tool.proofs.CommandLaws.{one_answer}
 use Rattle.riegeli_tool.proofs.ShowSteps.{short_told}
-use Rattle.riegeli_tool.proofs.ReadingRuns.{prints-unsized, prints-flushed, prints-unflushed}
+use Rattle.riegeli_tool.proofs.ReadingRuns.{ends-unsized, prints-unsized, prints-flushed, prints-unflushed}
 use Rattle.riegeli_tool.proofs.VerifyEnds.{verify-ended, verified-held}
 use Rattle.riegeli_tool.proofs.verify.report_file.Goals as goal
 
 pub returns-in_err-size-clause-printed : goal.returns-in_err-size-clause-printed
 returns-in_err-size-clause-printed g c =
-    prints-unsized IsVerified _ _ _ _ _ c.from_residual.result c.from_residual.ensures.0 c.from_residual.ensures.1 c.in_err-size.ensures.unread
+    prints-unsized IsVerified _ _ _ _ _ _ c.from_residual.result c.from_residual.ensures.0 c.from_residual.ensures.1 c.in_err-size.ensures.unread
 
 pub returns-in_err-totals-clause-printed : goal.returns-in_err-totals-clause-printed
 returns-in_err-totals-clause-printed g c =
@@ -34,3 +34,7 @@ returns-in-Err-clause-printed g c =
     (verified-held _ _ _ c.in_ok-totals.totals (tt {0}) c.in_ok-size.ensures.same_bytes
     (short_told _ c.in_ok-size.size c.in_ok-size.ensures.in_reach c.in_ok-size.ensures.exact) c.in_ok-totals.ensures.whole)
     c.in-Err.ensures.front
+
+pub returns-in_err-size-clause-sized : goal.returns-in_err-size-clause-sized
+returns-in_err-size-clause-sized g c =
+    ends-unsized _ _ _ _ _ c.from_residual.result c.from_residual.ensures.0 c.from_residual.ensures.1 c.in_err-size.ensures.unread

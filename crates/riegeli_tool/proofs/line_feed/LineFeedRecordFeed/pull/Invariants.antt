@@ -1,4 +1,4 @@
-use Rattle.std.proofs.Common.{◌≡◌, ◌+◌, ◌<◌, ◌≤◌, ◌++◌, length}
+use Rattle.std.proofs.Common.{◌≡◌, ◌+◌, ◌^◌, ◌<◌, ◌≤◌, ◌++◌, length}
 use Rattle.riegeli_tool.specs.Input.{NoneEnds, line_limit}
 use Rattle.riegeli_tool.specs.LineFeeds.{text_of}
 use Rattle.riegeli_tool.proofs.line_feed.LineFeedRecordFeed.pull.Given as goal
@@ -13,6 +13,7 @@ invariant-loop-self g l = record {
   form : l.self.hex ≡ l.fn.self.hex;
   named : l.self.input.ghost_name ≡ l.fn.self.input.ghost_name;
   counted : g.I.Source.faults l.fn.self.input.now ≤ g.I.Source.faults l.self.input.now;
+  small : g.I.Source.faults l.fn.self.input.now < 2 ^ 64 → g.I.Source.faults l.self.input.now < 2 ^ 64;
 }
 
 abbrev pub decreases-loop-self : goal.decreases-loop-self
