@@ -73,7 +73,7 @@ fn unread_words(error: &io::Error) -> Status {
     }
 }
 
-/// The files that the words name to be read, each in pieces of up to 64 KiB.
+/// The files that the words name to be read, each in pieces of up to 128 KiB.
 fn files<'a>(
     rt: &'a HostRuntime,
     words: &'a [String],
