@@ -1,7 +1,9 @@
 //! Tests of runs over objects of which a call fails.
 
 use crate::files::{LETTERS, THREE, THREE_LINES, change, part, written};
-use crate::running::{Answer, Calls, Left, QUIET, SOUND, USAGE, recovered, run_in_memory};
+use crate::running::{
+    Answer, Calls, Left, QUIET, SOUND, USAGE, recovered, repaired, run_in_memory,
+};
 use record_io::{Failed, MemSink, Sink};
 use riegeli_tool::Status;
 use std::alloc::{AllocError, Global};
@@ -192,6 +194,70 @@ fn each_call_of_reading_fails_in_turn(rt: HostRuntime) -> Result<(), Fail> {
     Ok(())
 }
 
+/// Over the file of three letters, and over the same with a changed header at 108 or with changed data there.
+#[test]
+fn each_call_of_repairing_fails_in_turn(rt: HostRuntime) -> Result<(), Fail> {
+    let alloc = rt.alloc();
+    let sound = written(&rt, alloc, &["write", "--chunk=1", "F"], LETTERS)?;
+    let one = part(&sound, 0, 108);
+    let all = [Object::File, Object::Made, Object::Notes, Object::Out].as_slice();
+    for (words, places, objects, answer) in [
+        (
+            ["repair", "F", "G"].as_slice(),
+            [].as_slice(),
+            [Object::File, Object::Made, Object::Out].as_slice(),
+            repaired(&sound, "chunks 4\nrecords 3\nbytes 196\nunread 0\n", ""),
+        ),
+        (
+            &["repair", "F", "G"],
+            &[116],
+            all,
+            repaired(
+                one,
+                "chunks 2\nrecords 1\nbytes 108\nunread 0\n",
+                "skipped 108 196 HeaderHash\n",
+            ),
+        ),
+        (
+            &["repair", "--most=1", "F", "G"],
+            &[151],
+            &[Object::File, Object::Made, Object::Notes],
+            repaired(one, "", "stopped 108 152 DataHash\n"),
+        ),
+    ] {
+        let mut damaged = sound.clone()?;
+        change(&rt, &mut damaged, places);
+        fail_in_turn(&rt, alloc, words, &[&damaged], objects, &answer)?;
+    }
+    Ok(())
+}
+
+/// What is held goes out before a region is told, so where its first put fails nothing is told of the region. The header at
+/// 108 is changed.
+#[test]
+fn no_region_is_told_before_what_is_held_went_out(rt: HostRuntime) -> Result<(), Fail> {
+    let alloc = rt.alloc();
+    let mut file = written(&rt, alloc, &["write", "--chunk=1", "F"], LETTERS)?;
+    change(&rt, &mut file, &[116]);
+    for (words, object) in [
+        (["show", "--recover", "F"].as_slice(), Object::Out),
+        (&["repair", "F", "G"], Object::Made),
+    ] {
+        let calls = failing(object, &[0]);
+        let left = run_in_memory(&rt, alloc, words, b"", &[&file], &calls)?;
+        let (status, notes) = fault_of(object);
+        left.is(
+            &rt,
+            &Answer {
+                status,
+                notes,
+                ..QUIET
+            },
+        );
+    }
+    Ok(())
+}
+
 /// Notes take 1, 2 and 1 bytes, and so on.
 #[test]
 fn notes_that_fail_after_another_fault_change_no_status(rt: HostRuntime) -> Result<(), Fail> {
@@ -204,6 +270,8 @@ fn notes_that_fail_after_another_fault_change_no_status(rt: HostRuntime) -> Resu
         (&["show", "--recover", "F"], 1, Object::Out),
         (&["verify", "F"], 1, Object::File),
         (&["verify", "F"], 1, Object::Out),
+        (&["repair", "F", "G"], 1, Object::File),
+        (&["repair", "F", "G"], 1, Object::Made),
     ] {
         let files = vec![in alloc; THREE.as_slice(); count]?;
         let (status, line) = fault_of(object);
@@ -224,6 +292,31 @@ fn notes_that_fail_after_another_fault_change_no_status(rt: HostRuntime) -> Resu
             );
         }
     }
+    Ok(())
+}
+
+/// Chunks of one record stand at 64, 108 and 152, and the data of the second has a wrong hash. The store fails once it is
+/// asked for the header of the third.
+#[test]
+fn what_was_met_is_handed_on_before_more_is_read(rt: HostRuntime) -> Result<(), Fail> {
+    let alloc = rt.alloc();
+    let mut file = written(&rt, alloc, &["write", "--chunk=1", "F"], b"a\nb\nc\n")?;
+    change(&rt, &mut file, &[151]);
+    let calls = Calls {
+        file_fails: &[7],
+        ..SOUND
+    };
+    let words = ["show", "--recover", "F"];
+    let left = run_in_memory(&rt, alloc, &words, b"", &[&file], &calls)?;
+    left.is(
+        &rt,
+        &Answer {
+            status: Status::File,
+            out: b"a\n",
+            notes: "skipped 108 152 DataHash\nfile fault\n",
+            ..QUIET
+        },
+    );
     Ok(())
 }
 

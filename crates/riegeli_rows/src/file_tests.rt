@@ -2,7 +2,7 @@
 ghost use Rattle.std.specs.Prelude.{None};
 
 use crate::files::{THREE, THREE_LINES, part};
-use crate::running::{Answer, QUIET, ROOM, SOUND, USAGE, owned, run_over};
+use crate::running::{Answer, QUIET, ROOM, SOUND, USAGE, owned, recovered, repaired, run_over};
 use record_io::{Failed, FileSink, FileStore, MemInput, MemSink, MemStore, Store};
 use riegeli_tool::{Status, run};
 use std::fs;
@@ -53,6 +53,43 @@ fn an_existing_file_is_kept_until_something_is_written(rt: HostRuntime) -> Resul
         let mut files: [MemStore; 0] = [];
         let mut made = FileSink::named(&rt, path_made);
         let mut out = MemSink::new(alloc, 0, Vec::new(alloc), Vec::new(alloc))?;
+        let mut notes = MemSink::new(alloc, ROOM, Vec::new(alloc), Vec::new(alloc))?;
+        let status = run(
+            &rt, alloc, &words, &mut input, &mut files, &mut made, &mut out, &mut notes,
+        );
+        assert_eq!(rt; status, answer);
+        assert_eq!(rt; notes.taken(), told.as_bytes());
+        assert_eq!(rt; fs::read(&rt, path)?.as_slice(), kept);
+    }
+    fs::remove_file(&rt, path)?;
+    Ok(())
+}
+
+/// The calls of the damaged file fail that are named: its size, and its first bytes.
+#[test]
+fn an_existing_file_is_kept_until_a_repair_puts_something(rt: HostRuntime) -> Result<(), Fail> {
+    let alloc = rt.alloc();
+    let path = "riegeli_rows_repaired";
+    fs::write(&rt, path, USAGE)?;
+    for (fails, answer, told, kept) in [
+        (
+            [0].as_slice(),
+            Status::File,
+            "file fault\n",
+            USAGE.as_bytes(),
+        ),
+        (&[1], Status::File, "file fault\n", USAGE.as_bytes()),
+        (&[], Status::Ok, "", &THREE),
+    ] {
+        let words = owned(alloc, &["repair", "F", path])?;
+        let mut input = MemInput::new(Vec::new(alloc), Vec::new(alloc), Vec::new(alloc));
+        let mut files = [MemStore::new(
+            THREE.to_vec(alloc)?,
+            Vec::new(alloc),
+            fails.to_vec(alloc)?,
+        )];
+        let mut made = FileSink::named(&rt, path);
+        let mut out = MemSink::new(alloc, ROOM, Vec::new(alloc), Vec::new(alloc))?;
         let mut notes = MemSink::new(alloc, ROOM, Vec::new(alloc), Vec::new(alloc))?;
         let status = run(
             &rt, alloc, &words, &mut input, &mut files, &mut made, &mut out, &mut notes,
@@ -145,13 +182,13 @@ fn a_file_of_more_than_2_to_the_60_bytes_is_past_the_limit(rt: HostRuntime) -> R
         ((1 << 60) + 1, limit),
         (u64::MAX, limit),
     ] {
-        for words in [["show", "F"], ["verify", "F"]] {
+        for words in [["show", "F"].as_slice(), &["verify", "F"]] {
             let mut files = [Zeros {
                 size,
                 asked: false,
                 handed: 0,
             }];
-            let left = run_over(&rt, rt.alloc(), &words, b"", &mut files, &SOUND)?;
+            let left = run_over(&rt, rt.alloc(), words, b"", &mut files, &SOUND)?;
             left.is(
                 &rt,
                 &Answer {
@@ -160,6 +197,45 @@ fn a_file_of_more_than_2_to_the_60_bytes_is_past_the_limit(rt: HostRuntime) -> R
                     ..QUIET
                 },
             );
+        }
+    }
+    Ok(())
+}
+
+/// A walk of so few zero bytes finds no chunk.
+#[test]
+fn a_file_of_which_nothing_is_told_is_walked(rt: HostRuntime) -> Result<(), Fail> {
+    let (made, report) = (
+        part(&THREE, 0, 64),
+        "chunks 1\nrecords 0\nbytes 64\nunread 0\n",
+    );
+    for (size, notes) in [
+        (0, ""),
+        (39, "skipped 0 39 Short\n"),
+        (64, "skipped 0 64 HeaderHash\n"),
+        ((1 << 60) + 1, "limit file\n"),
+        (u64::MAX, "limit file\n"),
+    ] {
+        for (words, answer) in [
+            (["show", "--recover", "F"].as_slice(), recovered(b"", notes)),
+            (&["repair", "F", "G"], repaired(made, report, notes)),
+        ] {
+            let mut files = [Zeros {
+                size,
+                asked: false,
+                handed: 0,
+            }];
+            let left = run_over(&rt, rt.alloc(), words, b"", &mut files, &SOUND)?;
+            if size > 1 << 60 {
+                let answer = Answer {
+                    status: Status::Limit,
+                    notes,
+                    ..QUIET
+                };
+                left.is(&rt, &answer);
+            } else {
+                left.is(&rt, &answer);
+            }
         }
     }
     Ok(())

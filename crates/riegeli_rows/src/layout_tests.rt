@@ -276,9 +276,10 @@ fn groups_end_by_cost_and_by_number(rt: HostRuntime) -> Result<(), Fail> {
             0xde13_2d11_2d71_59e7,
             ones,
             [
-                ["--chunk=1", "--every=16777216"],
-                ["--chunk=17", "--every=00000000000000000003"],
-                ["--every=1", "--chunk=16777216"],
+                ["--chunk=1"].as_slice(),
+                &["--chunk=1", "--every=16777216"],
+                &["--chunk=17", "--every=00000000000000000003"],
+                &["--every=1", "--chunk=16777216"],
             ]
             .as_slice(),
         ),
@@ -286,23 +287,26 @@ fn groups_end_by_cost_and_by_number(rt: HostRuntime) -> Result<(), Fail> {
             0x465a_c781_6fd8_5511,
             twos,
             &[
-                ["--chunk=18", "--every=3"],
-                ["--chunk=00000000000000000020", "--every=10"],
-                ["--chunk=26", "--every=16777216"],
-                ["--every=2", "--chunk=16777216"],
+                &["--chunk=20"],
+                &["--every=2"],
+                &["--chunk=18", "--every=3"],
+                &["--chunk=00000000000000000020", "--every=10"],
+                &["--chunk=26", "--every=16777216"],
+                &["--every=2", "--chunk=16777216"],
             ],
         ),
         (
             0x7ad1_4542_d80e_861c,
             threes,
             &[
-                ["--chunk=27", "--every=3"],
-                ["--chunk=16777216", "--every=16777216"],
+                &["--chunk=27", "--every=3"],
+                &["--chunk=16777216", "--every=16777216"],
             ],
         ),
     ] {
-        for [first, second] in options {
-            let words = ["write", *first, "F", *second];
+        for options in options {
+            let mut words = ["write", "F"].to_vec(rt.alloc())?;
+            words.extend_from_slice(*options)?;
             let made = Made {
                 words: &words,
                 ..made

@@ -21,7 +21,11 @@ mod reading_tests;
 #[cfg(test)]
 mod recover_tests;
 #[cfg(test)]
+mod repair_tests;
+#[cfg(test)]
 mod running;
+#[cfg(test)]
+mod sources;
 #[cfg(test)]
 mod usage_tests;
 #[cfg(test)]

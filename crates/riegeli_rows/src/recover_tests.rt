@@ -1,8 +1,9 @@
-//! Tests of `show --recover` over files that are damaged, cut, or not as `write` makes them. Each place is counted by hand
-//! from the format's description.
+//! Tests of `show --recover` and `repair` over files that are damaged, cut, or not as `write` makes them. Each place is
+//! counted by hand from the format's description.
 
-use crate::files::{LETTERS, Laid, Lines, THREE, change, file_of, input_of, part, written};
-use crate::running::{answers, recovered};
+use crate::files::{Laid, THREE, change, file_of, part};
+use crate::running::{answers, recovered, repaired};
+use crate::sources::{ACROSS, BEHIND, LONG, LONGER, SHORT, Source};
 use block_layout::BlockHeader;
 use chunk_header::Header;
 use std::alloc::{AllocError, Global};
@@ -10,82 +11,8 @@ use std::process::Abort;
 use std::test::Fail;
 use std::thread::Threads;
 
-/// Lines that each have a chunk of their own, and where these chunks begin.
-#[derive(Clone, Copy)]
-struct Source<'a> {
-    lines: Lines<'a>,
-    begins: &'a [u64],
-}
-
-/// A file of 196 bytes.
-const SHORT: Source<'static> = Source {
-    lines: &[(b'a', 1), (b'b', 1), (b'c', 1)],
-    begins: &[64, 108, 152],
-};
-
-/// The third chunk goes over a block. The file has 120,268 bytes.
-const LONG: Source<'static> = Source {
-    lines: &[
-        (b'a', 30_000),
-        (b'b', 30_000),
-        (b'c', 30_000),
-        (b'd', 30_000),
-    ],
-    begins: &[64, 30_109, 60_154, 90_223],
-};
-
-/// The third and the fifth chunk go over a block. The file has 150,337 bytes.
-const LONGER: Source<'static> = Source {
-    lines: &[
-        (b'a', 30_000),
-        (b'b', 30_000),
-        (b'c', 30_000),
-        (b'd', 30_000),
-        (b'e', 30_000),
-    ],
-    begins: &[64, 30_109, 60_154, 90_223, 120_268],
-};
-
-/// The second chunk begins at a block. The file has 65,604 bytes.
-const BEHIND: Source<'static> = Source {
-    lines: &[(b'a', 65_427), (b'x', 1)],
-    begins: &[64, 65_536],
-};
-
-/// The second chunk's header lies across a block header. The file has 65,642 bytes.
-const ACROSS: Source<'static> = Source {
-    lines: &[(b'a', 65_421), (b'x', 1), (b'y', 1)],
-    begins: &[64, 65_530, 65_598],
-};
-
-impl Source<'_> {
-    /// The file of its lines.
-    fn file<R: Threads + Sync + Abort>(
-        &self,
-        rt: &R,
-        alloc: Global,
-    ) -> Result<Vec<u8>, AllocError> {
-        let input = input_of(alloc, self.lines)?;
-        written(rt, alloc, &["write", "--chunk=1", "F"], &input)
-    }
-
-    /// What is shown of the lines with these numbers.
-    fn shown(&self, alloc: Global, numbers: &[usize], placed: bool) -> Result<Vec<u8>, AllocError> {
-        let mut shown = Vec::new(alloc);
-        for number in numbers {
-            if let (Some(line), Some(begin)) = (self.lines.get(*number), self.begins.get(*number)) {
-                if placed {
-                    shown.extend_from_slice(format!(in alloc; "{begin} ")?.as_bytes())?;
-                }
-                shown.extend_from_slice(&input_of(alloc, &[*line])?)?;
-            }
-        }
-        Ok(shown)
-    }
-}
-
 /// Asserts what recovering reading shows of a file, without positions and with them, and what it tells.
-fn recovers<R: Threads + Sync + Abort>(
+fn shows<R: Threads + Sync + Abort>(
     rt: &R,
     alloc: Global,
     most: Option<&'static str>,
@@ -104,6 +31,29 @@ fn recovers<R: Threads + Sync + Abort>(
         answers(rt, alloc, &words, file, &recovered(&shown, notes))?;
     }
     Ok(())
+}
+
+/// Asserts the same, and that the file is repaired to that of the lines that are shown.
+fn recovers<R: Threads + Sync + Abort>(
+    rt: &R,
+    alloc: Global,
+    most: Option<&'static str>,
+    file: &[u8],
+    source: &Source<'_>,
+    numbers: &[usize],
+    notes: &str,
+) -> Result<(), AllocError> {
+    shows(rt, alloc, most, file, source, numbers, notes)?;
+    let mut words = ["repair", "F", "G"].to_vec(alloc)?;
+    words.extend(most)?;
+    let made = source.left(rt, alloc, numbers)?;
+    let (records, bytes) = (numbers.len(), made.len());
+    let chunks = records.saturating_add(1);
+    let report = format!(in alloc;
+        "chunks {chunks}\nrecords {records}\nbytes {bytes}\nunread 0\n"
+    )?;
+    let answer = repaired(&made, report.as_str(), notes);
+    answers(rt, alloc, &words, file, &answer)
 }
 
 /// A front of the file is left, in which some bytes are changed.
@@ -430,7 +380,7 @@ fn chunks_that_hold_no_records_are_passed_over_or_told(rt: HostRuntime) -> Resul
     ];
     for (chunk, numbers, notes) in cases {
         let file = file_of(&rt, alloc, &[*chunk])?;
-        recovers(&rt, alloc, None, &file, &one, numbers, notes)?;
+        shows(&rt, alloc, None, &file, &one, numbers, notes)?;
     }
     for (file, notes) in [
         (b"".as_slice(), ""),

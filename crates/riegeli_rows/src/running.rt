@@ -62,7 +62,7 @@ pub(crate) const QUIET: Answer<'static> = Answer {
 pub(crate) fn recovered<'a>(out: &'a [u8], notes: &'a str) -> Answer<'a> {
     let status = if notes.is_empty() {
         Status::Ok
-    } else if notes.starts_with("stopped") {
+    } else if notes.contains("stopped") {
         Status::Stopped
     } else {
         Status::Skipped
@@ -72,6 +72,21 @@ pub(crate) fn recovered<'a>(out: &'a [u8], notes: &'a str) -> Answer<'a> {
         out,
         notes,
         ..QUIET
+    }
+}
+
+/// The answer of a repair that makes this file of such a report and tells these regions. Where one of them is refused
+/// nothing is printed.
+pub(crate) fn repaired<'a>(made: &'a [u8], report: &'a str, notes: &'a str) -> Answer<'a> {
+    let answer = recovered(report.as_bytes(), notes);
+    if answer.status == Status::Stopped {
+        Answer {
+            made,
+            out: b"",
+            ..answer
+        }
+    } else {
+        Answer { made, ..answer }
     }
 }
 

@@ -105,7 +105,21 @@ fn words_that_are_no_command_get_the_usage_text(rt: HostRuntime) -> Result<(), F
         &["verify", "--hex", "F"],
         &["verify", "--positions", "F"],
         &["seek", "F"],
+        &["Repair", "A", "B"],
+        &["repair"],
+        &["repair", "A"],
         &["repair", "A", "A"],
+        &["repair", "--most=1", "A", "A"],
+        &["repair", "A", "B", "C"],
+        &["repair", "A", ""],
+        &["repair", "-", "B"],
+        &["repair", "--", "A", "B"],
+        &["repair", "--most", "A", "B"],
+        &["repair", "--most=", "A", "B"],
+        &["repair", "--most=4611686018427387905", "A", "B"],
+        &["repair", "--most=1", "A", "B", "--most=1"],
+        &["repair", "--recover", "A", "B"],
+        &["repair", "--positions", "A", "B"],
     ] {
         for count in 0..3 {
             are_refused(&rt, rt.alloc(), words, count)?;
@@ -121,6 +135,7 @@ fn files_that_the_words_do_not_name_get_the_usage_text(rt: HostRuntime) -> Resul
         (&["show", "F"], [0, 2]),
         (&["show", "--recover", "F"], [0, 2]),
         (&["verify", "F"], [0, 2]),
+        (&["repair", "F", "G"], [0, 2]),
     ] {
         for count in counts {
             are_refused(&rt, rt.alloc(), words, count)?;

@@ -171,9 +171,8 @@ fn is_walked<R: Threads + Sync + Abort>(
     answers(rt, alloc, &words, file, &recovered(&out, notes.as_str()))
 }
 
-/// The chunks stand at 64, 65486, 65530, whose header lies across a block header, and 65598. Each byte of the three small
-/// ones and of the block header is changed by itself. In the long one the header and the first bytes of the data are: any
-/// other byte of its record is like those.
+/// The chunks stand at 64, 65486, 65530, whose header lies across a block header, and 65598. Each byte is changed by itself.
+/// Behind the first bytes of the long chunk's data all give the same.
 #[test]
 fn each_changed_byte_is_passed_over_as_a_plain_walk_does(rt: HostRuntime) -> Result<(), Fail> {
     let alloc = rt.alloc();
@@ -187,6 +186,13 @@ fn each_changed_byte_is_passed_over_as_a_plain_walk_does(rt: HostRuntime) -> Res
             change(&rt, &mut file, &[place]);
             is_walked(&rt, alloc, &file)?;
         }
+    }
+    let words = ["show", "--recover", "F"];
+    let answer = recovered(b"x\ny\nz\n", "skipped 64 65486 DataHash\n");
+    for place in 112..65_484 {
+        let mut file = file.clone()?;
+        change(&rt, &mut file, &[place]);
+        answers(&rt, alloc, &words, &file, &answer)?;
     }
     Ok(())
 }
