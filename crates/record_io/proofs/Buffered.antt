@@ -1,12 +1,12 @@
 -- One call after another on a sink and the buffer beside it.
-use Rattle.std.proofs.Common.{◌≡◌, ℕ, ◌+◌, ◌<◌, ◌≤◌, Option, Some, None, List, [], ◌∷◌, ◌++◌, length, get_or, take, drop, sym, ap, ◌∙◌, subst, arith, add-one, append_assoc}
+use Rattle.std.proofs.Common.{◌≡◌, ◌≢◌, ℕ, ◌+◌, ◌<◌, ◌≤◌, Option, List, [], ◌∷◌, ◌++◌, length, get_or, take, drop, sym, ap, ◌∙◌, subst, arith, add-one, append_assoc, length-append}
 use Rattle.std.specs.List.{concat}
 use Rattle.std.proofs.Math.Seq.{take-suc}
 use Rattle.std.proofs.lemmas.List.{append-nil, nil_from_length, take-append-drop}
 use Rattle.std.proofs.lemmas.List.Folds.{concat-append}
 use Rattle.record_io.specs.Outside.{Takes, TakesFront}
 use Rattle.record_io.specs.Buffers.{TakesAndHolds}
-use Rattle.record_io.proofs.Calls.{Takes-append, TakesFront-append, TakesFront-longer}
+use Rattle.record_io.proofs.Calls.{Takes-nothing, Takes-append, TakesFront-append, TakesFront-longer}
 
 -- what is held goes out, and a piece behind it
 pub TakesAndHolds-through : (a b c : Option (List ℕ)) (held piece now : List ℕ)
@@ -55,15 +55,11 @@ Takes-from_none_held a b bytes held none whole =
     whole.taken
 
 -- no bytes change nothing
-Takes-none : (a : Option (List ℕ)) → Takes a a []
-Takes-none None = tt
-Takes-none (Some taken) = ap Some (sym (append-nil taken))
-
 pub TakesAndHolds-none : (a : Option (List ℕ)) (held : List ℕ) → TakesAndHolds a a (held ++ []) held
 TakesAndHolds-none a held = record {
   passed = [];
   parts = append-nil held;
-  taken = Takes-none a;
+  taken = Takes-nothing a;
 }
 
 -- the pieces up to the next one
@@ -99,3 +95,23 @@ pieces-failed a b c before held xs i piece within is first next =
     (subst (λ (ys : List ℕ). TakesFront a c (before ++ ys))
     (ap (λ (p : List ℕ). concat (take i xs) ++ p) (sym is) ∙ sym (concat-next xs i [] within))
     (TakesFront-behind a b c before held (concat (take i xs)) piece first next)))
+
+-- and was none of no bytes
+pub pieces-some : (a b : Option (List ℕ)) (before held : List ℕ) (xs : List (List ℕ)) (i : ℕ) (piece : List ℕ) → i < length xs
+    → get_or xs i [] ≡ piece
+    → TakesAndHolds a b (before ++ concat (take i xs)) held → held ++ piece ≢ [] → before ++ concat xs ≢ []
+pieces-some a b before held xs i piece within is first some = λ none.
+    some (nil_from_length (held ++ piece) (omega (
+      arith,
+      ap length none,
+      length-append before (concat xs),
+      ap length (concat-front xs (i + 1)),
+      length-append (concat (take (i + 1) xs)) (concat (drop (i + 1) xs)),
+      ap length (concat-next xs i [] within),
+      length-append (concat (take i xs)) (get_or xs i []),
+      ap length is,
+      ap length first.parts,
+      length-append before (concat (take i xs)),
+      length-append first.passed held,
+      length-append held piece,
+    )))

@@ -1,5 +1,5 @@
 -- One call after another: what a source gives and a sink takes in two.
-use Rattle.std.proofs.Common.{◌≡◌, ℕ, ◌+◌, Option, Some, None, Result, Ok, Err, List, ◌++◌, length, take, drop, sym, ap, ◌∙◌, subst, arith, append_assoc, length-append}
+use Rattle.std.proofs.Common.{◌≡◌, ℕ, ◌+◌, Option, Some, None, Result, Ok, Err, List, [], ◌++◌, length, take, drop, sym, ap, ◌∙◌, subst, arith, append-nil, append_assoc, length-append}
 use Rattle.std.specs.Result.{OnErr}
 use Rattle.std.proofs.lemmas.List.{drop-drop}
 use Rattle.std.proofs.lemmas.Grind.{common_steps}
@@ -16,6 +16,11 @@ Gives-append (Some left) b c x y first then =
       first.0 ∙ ap (λ r. x ++ r) second.0 ∙ sym (append_assoc x y (drop (length y) (drop (length x) left))) ∙ ap (λ r. (x ++ y) ++ r) (sym at),
       second.1 ∙ ap Some (sym at),
     )
+
+-- a sink that nothing was put to took nothing
+pub Takes-nothing : (taken : Option (List ℕ)) → Takes taken taken []
+Takes-nothing None = tt
+Takes-nothing (Some bytes) = ap Some (sym (append-nil bytes))
 
 -- a sink that took x and then y took x ++ y
 pub Takes-append : (a b c : Option (List ℕ)) (x y : List ℕ) → Takes a b x → Takes b c y → Takes a c (x ++ y)

@@ -4,3 +4,4 @@ pub mod Pieces
 pub mod Calls
 pub mod Buffered
 pub mod Readings
+pub mod Puts

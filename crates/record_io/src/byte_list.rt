@@ -1,5 +1,6 @@
 ghost use Rattle.std.specs.Prelude.{◌≡◌, ◌↔◌, ◌≤◌, [], ◌++◌, length, slice_range, IsTrue, IfOk, OnOk, OnErr};
 ghost use Rattle.record_io.specs.Bytes.{AreBytes};
+ghost use Rattle.record_io.specs.Held.{bytes_of};
 
 use std::alloc::{AllocError, Global};
 use std::marker::Model;
@@ -16,12 +17,38 @@ pub struct Bytes {
 }
 
 /// Where bytes lie.
-#[derive(Debug, Drop)]
+#[derive(Debug)]
 enum Held {
     /// In a vector, which can grow.
     Own(Vec<u8>),
     /// In memory that others may read as well, and nobody writes. The allocator is for bytes that grow from these.
     Shared(bytes::Bytes, Global),
+}
+
+impl Held {
+    /// The same bytes, shared where they are many.
+    fn share(self) -> Result<Held, AllocError>
+        ensures { IfOk result (λ shared. bytes_of shared ≡ bytes_of self) }
+    {
+        let bytes = match self {
+            Held::Own(bytes) => bytes,
+            Held::Shared(bytes, alloc) => return Ok(Held::Shared(bytes, alloc)),
+        };
+        if bytes.len() < LEAST_SHARED {
+            return Ok(Held::Own(bytes));
+        }
+        let alloc = *bytes.allocator();
+        Ok(Held::Shared(bytes::Bytes::from_vec(bytes)?, alloc))
+    }
+}
+
+impl Drop for Held {
+    fn drop(self) {
+        match self {
+            Held::Own(bytes) => drop(bytes),
+            Held::Shared(bytes, _) => drop(bytes),
+        }
+    }
 }
 
 impl Model for Bytes {
@@ -75,15 +102,7 @@ impl Bytes {
     pub fn share(self) -> Result<Bytes, AllocError>
         ensures { IfOk result (λ shared. shared ≡ self) }
     {
-        let bytes = match self.held {
-            Held::Own(bytes) => bytes,
-            held => return Ok(Bytes { held }),
-        };
-        if bytes.len() < LEAST_SHARED {
-            return Ok(Bytes::from(bytes));
-        }
-        let alloc = *bytes.allocator();
-        let held = Held::Shared(bytes::Bytes::from_vec(bytes)?, alloc);
+        let held = self.held.share()?;
         Ok(Bytes { held })
     }
 

@@ -1,4 +1,4 @@
-ghost use Rattle.std.specs.Prelude.{◌≡◌, ℕ, ◌+◌, ◌-◌, ◌^◌, ◌<◌, ◌≤◌, ◌↔◌, ◌⊎◌, Option, Some, is_some, List, [], length, take, min, slice_range, IsErr, IfOk, IfSome, IsSomeAnd, OnOk, OnErr};
+ghost use Rattle.std.specs.Prelude.{◌≡◌, ◌≢◌, ℕ, ◌+◌, ◌-◌, ◌^◌, ◌<◌, ◌≤◌, ◌↔◌, ◌⊎◌, Option, Some, is_some, List, [], length, take, min, slice_range, IsErr, IfOk, IfSome, IsSomeAnd, OnOk, OnErr};
 ghost use Rattle.record_io.specs.Outside.{one_more, faults_after, Rose, Gives, Takes, TakesFront};
 
 /// A call on the outside failed.
@@ -131,6 +131,7 @@ pub trait Sink {
 pub fn put_all<M: Sink>(sink: &mut M, piece: &[u8]) -> Result<(), Failed>
     ensures whole { OnOk result (Takes (M.taken sink.old) (M.taken sink.new) piece.now) }
     ensures front { OnErr result (TakesFront (M.taken sink.old) (M.taken sink.new) piece.now) }
+    ensures some { OnErr result (piece.now ≢ []) }
     ensures cause { OnErr result (Rose (M.faults sink.old) (M.faults sink.new)) }
     ensures never_falls { M.faults sink.old ≤ M.faults sink.new }
     ensures small { M.faults sink.old < 2 ^ 64 → M.faults sink.new < 2 ^ 64 }

@@ -1,4 +1,4 @@
-ghost use Rattle.std.specs.Prelude.{◌≡◌, ◌+◌, ◌^◌, ◌<◌, ◌≤◌, [], ◌++◌, length, map, OnOk, OnErr};
+ghost use Rattle.std.specs.Prelude.{◌≡◌, ◌≢◌, ◌+◌, ◌^◌, ◌<◌, ◌≤◌, [], ◌++◌, length, map, OnOk, OnErr};
 ghost use Rattle.std.specs.List.{concat};
 ghost use Rattle.record_io.specs.Outside.{Rose, Takes, TakesFront};
 ghost use Rattle.record_io.specs.Buffers.{TakesAndHolds};
@@ -48,6 +48,7 @@ impl<const N: usize> PutBuffer<N> {
     pub fn put<M: Sink>(&mut self, sink: &mut M, piece: &[u8]) -> Result<(), Failed>
         ensures whole { OnOk result (TakesAndHolds (M.taken sink.old) (M.taken sink.new) (self.old ++ piece.now) self.new) }
         ensures front { OnErr result (TakesFront (M.taken sink.old) (M.taken sink.new) (self.old ++ piece.now)) }
+        ensures some { OnErr result (self.old ++ piece.now ≢ []) }
         ensures emptied { OnErr result (self.new ≡ []) }
         ensures fits { length self.new ≤ N }
         ensures cause { OnErr result (Rose (M.faults sink.old) (M.faults sink.new)) }
@@ -76,6 +77,7 @@ impl<const N: usize> PutBuffer<N> {
             (self.old ++ concat (map (λ piece. piece.now) pieces.now)) self.new) }
         ensures front { OnErr result (TakesFront (M.taken sink.old) (M.taken sink.new)
             (self.old ++ concat (map (λ piece. piece.now) pieces.now))) }
+        ensures some { OnErr result (self.old ++ concat (map (λ piece. piece.now) pieces.now) ≢ []) }
         ensures emptied { OnErr result (self.new ≡ []) }
         ensures cause { OnErr result (Rose (M.faults sink.old) (M.faults sink.new)) }
         ensures never_falls { M.faults sink.old ≤ M.faults sink.new }
@@ -96,6 +98,7 @@ impl<const N: usize> PutBuffer<N> {
     pub fn flush<M: Sink>(&mut self, sink: &mut M) -> Result<(), Failed>
         ensures whole { OnOk result (Takes (M.taken sink.old) (M.taken sink.new) self.old) }
         ensures front { OnErr result (TakesFront (M.taken sink.old) (M.taken sink.new) self.old) }
+        ensures some { OnErr result (self.old ≢ []) }
         ensures emptied { self.new ≡ [] }
         ensures cause { OnErr result (Rose (M.faults sink.old) (M.faults sink.new)) }
         ensures never_falls { M.faults sink.old ≤ M.faults sink.new }

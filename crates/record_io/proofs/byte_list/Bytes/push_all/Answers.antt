@@ -16,12 +16,5 @@ grown c =
     let copied : c.in_ok-own-in-Shared.own.items ≡ c.in-Shared.bytes = search rules in
     rw (c.in_ok-extend_from_slice-in-Shared.ensures.items, copied) (AreBytes-append _ _ old (AreBytes-each _ c.type_inv.piece))
 
-pub invariant_of-self-in_ok-extend_from_slice-in-Shared-2 :
-    goal.invariant_of-self-in_ok-extend_from_slice-in-Shared-2
-invariant_of-self-in_ok-extend_from_slice-in-Shared-2 c =
-    grown (goal.at.invariant_of-self-in_ok-extend_from_slice-in-Shared-2 c).In_ok-extend_from_slice-in-Shared
-
-pub invariant_of-self-in_ok-extend_from_slice-in-Shared-3 :
-    goal.invariant_of-self-in_ok-extend_from_slice-in-Shared-3
-invariant_of-self-in_ok-extend_from_slice-in-Shared-3 c =
-    grown (goal.at.invariant_of-self-in_ok-extend_from_slice-in-Shared-3 c).In_ok-extend_from_slice-in-Shared
+pub invariant_of-self-in-Shared : goal.invariant_of-self-in-Shared
+invariant_of-self-in-Shared c = grown (goal.at.invariant_of-self-in-Shared c).In_ok-extend_from_slice-in-Shared
