@@ -21,10 +21,10 @@ use std::marker::Model;
 /// Lays chunks one after another, each where the one before it ended: with the block headers that interrupt it, and
 /// with zero padding. "File format", "Block header", "Chunk".
 ///
-/// It stands beside its sink, which each call is given: always the same one. No call takes memory, and no chunk is
-/// copied: what lies between two block headers goes out as one piece. Each call has a second form that puts through a
-/// `PutBuffer`, with which small chunks cost no call of the sink. What that holds goes out by its own `flush`, of whose
-/// failure the writer isn't told.
+/// It stands beside its sink, which each call is given: always the same one. No call takes memory. What lies between two
+/// block headers goes out as one piece, where it lies. Each call has a second form that puts through a `PutBuffer`, which
+/// gathers pieces, so that small chunks and block headers cost no call of the sink. What that holds goes out by its own
+/// `flush`, of whose failure the writer isn't told.
 ///
 /// After a call that failed the writer is spent, and must not be asked to write any more. Of that call's bytes the sink
 /// took a front. Own.

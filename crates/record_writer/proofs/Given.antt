@@ -1,5 +1,5 @@
 -- The groups that were given of a feed's records, and those still to come.
-use Rattle.std.proofs.Common.{◌≡◌, ◌∙◌, ℕ, Option, Some, None, List, [], ◌∷◌, ◌++◌, refl, sym, ap, subst}
+use Rattle.std.proofs.Common.{◌≡◌, ◌∙◌, ℕ, Option, Some, None, List, [], ◌++◌, refl, sym, ap, subst}
 use Rattle.std.specs.Option.{IfSome, option_to_list}
 use Rattle.std.proofs.lemmas.List.{map-append}
 use Rattle.chunk_header.specs.Chunks.{ChunkValue}
@@ -10,7 +10,7 @@ use Rattle.record_group.proofs.Pushes.{groups_from-push, all_pushed}
 use Rattle.record_writer.specs.declared.feed.Stop.{Stop}
 use Rattle.record_writer.specs.Feeds.{Rest, GivesRecord}
 use Rattle.record_writer.specs.Progresses.{Progress, AreGiven, Lays, LaysFront, chunks_of_groups}
-use Rattle.record_writer.proofs.Layings.{Lays-append, LaysFront-none, LaysFront-behind, LaysFront-longer}
+use Rattle.record_writer.proofs.Layings.{Lays-append, LaysFront-behind}
 
 -- before any record none is given
 pub AreGiven-none : (a : Option Rest) (grouping : Grouping) → AreGiven a a grouping grouping []
@@ -48,7 +48,7 @@ AreGiven-ended (Some all) b old new given stop (rest, told, of) ended =
     )
 
 -- the chunks of all groups are those of the groups that were given, and those of the others
-chunks_of_groups-all : (all given more : List (List (List ℕ))) → all ≡ given ++ more → chunks_of_groups given ++ chunks_of_groups more ≡ chunks_of_groups all
+pub chunks_of_groups-all : (all given more : List (List (List ℕ))) → all ≡ given ++ more → chunks_of_groups given ++ chunks_of_groups more ≡ chunks_of_groups all
 chunks_of_groups-all all given more is = sym (ap chunks_of_groups is ∙ map-append simple_chunk given more)
 
 -- where the groups still to come were put, all were
@@ -63,39 +63,6 @@ pub LaysFront-all : (a b c : Option (List ℕ)) (s t u : Progress) (all given mo
 LaysFront-all a b c s t u all given more is first then =
     subst (λ (ks : List ChunkValue). LaysFront a c s u ks) (chunks_of_groups-all all given more is)
     (LaysFront-behind a b c s t u (chunks_of_groups given) (chunks_of_groups more) first then)
-
--- where the work was cut off with the records that a feed has left, a front of the chunks of all was put
-pub LaysFront-cut : (ra rb : Option Rest) (old new : Grouping) (given : List (List (List ℕ))) (a b c : Option (List ℕ)) (s t u : Progress)
-    → AreGiven ra rb old new given → Lays a b s t (chunks_of_groups given)
-    → IfSome rb (λ rest. LaysFront b c t u (chunks_of_groups (groups_from new rest.records)))
-    → IfSome ra (λ all. LaysFront a c s u (chunks_of_groups (groups_from old all.records)))
-LaysFront-cut None rb old new given a b c s t u h laid front = tt
-LaysFront-cut (Some all) rb old new given a b c s t u (rest, told, of) laid front =
-    LaysFront-all a b c s t u (groups_from old all.records) given (groups_from new rest.records) of.groups laid
-    (subst (λ (o : Option Rest). IfSome o (λ r. LaysFront b c t u (chunks_of_groups (groups_from new r.records)))) told front)
-
--- where a group that closed before a record could not be put whole, a front of the chunks still to come was put
-pub LaysFront-push : (a b : Option (List ℕ)) (s t : Progress) (old new : Grouping) (record_bytes : List ℕ) (group records : List (List ℕ))
-    → IsPush old record_bytes (Some group) new → LaysFront a b s t (simple_chunk group ∷ [])
-    → LaysFront a b s t (chunks_of_groups (groups_from old (record_bytes ∷ records)))
-LaysFront-push a b s t old new record_bytes group records push front =
-    subst (λ (ks : List ChunkValue). LaysFront a b s t ks)
-    (sym (ap chunks_of_groups (groups_from-push old new record_bytes (Some group) records push)))
-    (LaysFront-longer a b s t (simple_chunk group ∷ []) (chunks_of_groups (groups_from new records)) front)
-
--- where a feed gave a record, and a front of the chunks still to come was put whatever follows it
-pub LaysFront-next : (ra rb : Option Rest) (grouping : Grouping) (record_bytes : List ℕ) (a b : Option (List ℕ)) (s t : Progress) → GivesRecord ra rb record_bytes
-    → ((records : List (List ℕ)) → LaysFront a b s t (chunks_of_groups (groups_from grouping (record_bytes ∷ records))))
-    → IfSome ra (λ rest. LaysFront a b s t (chunks_of_groups (groups_from grouping rest.records)))
-LaysFront-next None rb grouping record_bytes a b s t gives front = tt
-LaysFront-next (Some rest) rb grouping record_bytes a b s t (later, told, is) front =
-    subst (λ (r : Rest). LaysFront a b s t (chunks_of_groups (groups_from grouping r.records))) (sym is) (front later.records)
-
--- where nothing is done, a front of any chunks is put
-pub LaysFront-idle : (ra : Option Rest) (grouping : Grouping) (a : Option (List ℕ)) (s : Progress)
-    → IfSome ra (λ rest. LaysFront a a s s (chunks_of_groups (groups_from grouping rest.records)))
-LaysFront-idle None grouping a s = tt
-LaysFront-idle (Some rest) grouping a s = LaysFront-none a s (chunks_of_groups (groups_from grouping rest.records))
 
 -- the groups of all records, once the last one was put
 all_groups : (all given : List (List (List ℕ))) (old new : Grouping) (records : List (List ℕ)) (last : Option (List (List ℕ)))

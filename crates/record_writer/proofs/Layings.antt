@@ -68,6 +68,11 @@ LaysFront-longer a b s t ks more front = record {
 pub LaysFront-none : (a : Option (List ℕ)) (s : Progress) (ks : List ChunkValue) → LaysFront a a s s ks
 LaysFront-none a s ks = record { bytes = TakesAndHoldsFront-none a s.held (laid_each s.place ks) }
 
+-- all of them are a front of them
+pub LaysFront-whole : (a b : Option (List ℕ)) (s t : Progress) (ks : List ChunkValue) → Lays a b s t ks → LaysFront a b s t ks
+LaysFront-whole a b s t ks laid =
+    subst (λ (ks : List ChunkValue). LaysFront a b s t ks) (append-nil ks) (LaysFront-behind a b b s t t ks [] laid (LaysFront-none b t []))
+
 -- where a put failed, the sink took a front of them and nothing is held
 pub LaysFront-failed : (a b : Option (List ℕ)) (s t : Progress) (ks : List ChunkValue) → t.held ≡ [] → TakesFront a b (s.held ++ laid_each s.place ks)
     → LaysFront a b s t ks

@@ -1,19 +1,22 @@
 -- How far the chunks of groups reach.
-use Rattle.std.proofs.Common.{◌≡◌, ◌≢◌, ℕ, ◌+◌, ◌*◌, ◌≤◌, Option, Some, None, List, [], ◌∷◌, length, refl, ap, arith}
+use Rattle.std.proofs.Common.{◌≡◌, ◌≢◌, ◌∙◌, ℕ, ◌+◌, ◌*◌, ◌≤◌, Option, Some, None, List, [], ◌∷◌, ◌++◌, length, refl, ap, arith}
 use Rattle.std.specs.Option.{IfSome, option_to_list}
+use Rattle.std.proofs.lemmas.List.{map-append}
 use Rattle.std.proofs.lemmas.List.Sums.{sum_by-cons, sum_by_push}
 use Rattle.varint_wire.proofs.Spellings.{length-shortest}
 use Rattle.block_layout.specs.Layout.{end_of}
 use Rattle.block_layout.proofs.Ends.{end_of-some}
 use Rattle.block_layout.proofs.ChunkEnds.{chunk_end_of-few_records}
+use Rattle.chunk_header.specs.Chunks.{ChunkValue}
 use Rattle.chunk_header.specs.SimpleChunks.{sizes_of, simple_data, simple_chunk}
 use Rattle.chunk_header.proofs.SimpleChunks.{length-sizes_of, length-simple_data}
 use Rattle.meta_chunk.specs.Laid.{end_of_chunk}
 use Rattle.meta_chunk.specs.Files.{end_of_chunks}
+use Rattle.meta_chunk.proofs.Joins.{end_of_chunks-append}
 use Rattle.simple_chunk.specs.Costs.{cost, cost_of}
 use Rattle.simple_chunk.proofs.CostLemmas.{cost_of-is}
 use Rattle.record_group.specs.Groupings.{Grouping, IsPush}
-use Rattle.record_writer.specs.Progresses.{Progress, chunks_of_groups, reach_of}
+use Rattle.record_writer.specs.Progresses.{chunks_of_groups, reach_of}
 
 -- bytes end near their begin: less than two block headers, and one more for each block's bytes, lie between
 end_of-near : (begin size : ℕ) → 1 ≤ size → end_of begin size ≤ begin + 2 * size + 48
@@ -59,9 +62,26 @@ reach_of-push old new record_bytes (Some group) place push some =
       sum_by-cons cost record_bytes [],
     )
 
--- the last group raises it no further
-pub reach_of-last : (made after : Progress) (grouping : Grouping) (group : List (List ℕ)) (limit : ℕ)
-    → reach_of made grouping 0 ≤ limit → group ≡ grouping.group → group ≢ [] → after.place ≡ end_of_chunks made.place (chunks_of_groups (group ∷ []))
-    → after.place ≤ limit
-reach_of-last made after grouping group limit reach same some place =
-    omega (arith, reach, place, ap cost_of same, group-near made.place group some)
+-- also where its group waits behind others
+pub reach_of-taken : (old new : Grouping) (record_bytes : List ℕ) (given : Option (List (List ℕ))) (before after : List (List (List ℕ))) (place : ℕ)
+    → IsPush old record_bytes given new → IfSome given (λ group. group ≢ []) → after ≡ before ++ option_to_list given
+    → reach_of (end_of_chunks place (chunks_of_groups after)) new 0 ≤ reach_of (end_of_chunks place (chunks_of_groups before)) old (length record_bytes + 1)
+reach_of-taken old new record_bytes given before after place push some is =
+    omega (
+      arith,
+      ap (λ (ks : List ChunkValue). end_of_chunks place ks) (ap chunks_of_groups is ∙ map-append simple_chunk before (option_to_list given)),
+      end_of_chunks-append place (chunks_of_groups before) (chunks_of_groups (option_to_list given)),
+      reach_of-push old new record_bytes given (end_of_chunks place (chunks_of_groups before)) push some,
+    )
+
+-- and where a window was put, and another was taken meanwhile
+pub reach_of-behind : (window ks : List ChunkValue) (place next : ℕ) (old new : Grouping) (bound now limit : ℕ)
+    → reach_of (end_of_chunks place window) old bound ≤ limit → next ≡ end_of_chunks place window
+    → ((place : ℕ) → reach_of (end_of_chunks place ks) new now ≤ reach_of place old bound)
+    → reach_of (end_of_chunks next ks) new now ≤ limit
+reach_of-behind window ks place next old new bound now limit reach at taken = omega (arith, reach, at, taken next)
+
+-- the last group's chunk ends within it
+pub reach_of-last : (place : ℕ) (grouping : Grouping) (group : List (List ℕ)) (limit : ℕ)
+    → reach_of place grouping 0 ≤ limit → group ≡ grouping.group → group ≢ [] → end_of_chunk place (simple_chunk group) ≤ limit
+reach_of-last place grouping group limit reach same some = omega (arith, reach, ap cost_of same, group-near place group some)

@@ -3,8 +3,8 @@ use Rattle.std.specs.Prelude.{Option, Some, None, Result, Ok, Err}
 use Rattle.record_io.specs.declared.file_totals.Totals.{Totals}
 use Rattle.record_writer.specs.declared.feed.Stop.{Stop}
 use Rattle.record_writer.specs.declared.feed.Stop.TheVariants.{TooLong as too_long, InputTooLong as input_too_long, BadLine as bad_line}
-use Rattle.record_writer.specs.declared.engine.CutOff.{CutOff}
-use Rattle.record_writer.specs.declared.engine.CutOff.TheVariants.{Input as input, Made as made, Memory as memory}
+use Rattle.record_writer.specs.declared.cut_off.CutOff.{CutOff}
+use Rattle.record_writer.specs.declared.cut_off.CutOff.TheVariants.{Input as input, Made as made, Memory as memory}
 use Rattle.record_writer.specs.declared.engine.WriteEnd.{WriteEnd}
 use Rattle.record_writer.specs.declared.engine.WriteEnd.TheVariants.{TooLong, InputTooLong, BadLine, Input, Made, Memory}
 

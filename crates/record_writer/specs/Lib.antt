@@ -2,3 +2,4 @@ pub mod Feeds
 pub mod Written
 pub mod Progresses
 pub mod Ends
+pub mod Windows

@@ -1,24 +1,25 @@
 ghost use Rattle.std.specs.Option.{option_to_list};
 ghost use Rattle.std.specs.Prelude.{◌≡◌, ◌≢◌, ℕ, ◌+◌, ◌*◌, ◌^◌, ◌<◌, ◌≤◌, true, false, Some, None, Option, List, [], ◌∷◌, ◌++◌, length, IfOk, IfSome, OnOk, OnErr};
 ghost use Rattle.record_io.specs.Outside.{Rose, Takes, TakesFront};
-ghost use Rattle.chunk_header.specs.SimpleChunks.{simple_chunk};
 ghost use Rattle.meta_chunk.specs.Counts.{totals_of};
-ghost use Rattle.simple_chunk.specs.Costs.{cost_of};
+ghost use Rattle.meta_chunk.specs.Files.{end_of_chunks};
 ghost use Rattle.record_group.specs.Groups.{groups, pads_start, pads_end};
 ghost use Rattle.record_group.specs.Groupings.{groups_from, IsPush};
 ghost use Rattle.record_writer.specs.Ends.{answer_of};
 ghost use Rattle.record_writer.specs.Feeds.{nothing_left};
 ghost use Rattle.record_writer.specs.Progresses.{Lays, LaysFront, nothing_made, totals_made, chunks_of_groups, reach_of};
+ghost use Rattle.record_writer.specs.Windows.{AreTaken};
 ghost use Rattle.record_writer.specs.Written.{AreInLimits, Answers, TakesFile, chunks_under, file_under};
 
+use crate::cut_off::CutOff;
 use crate::feed::{FeedEnd, RecordFeed, Stop};
 use crate::made_file::MadeFile;
 use crate::options::WriteOptions;
+use crate::window::{Window, put_group};
 use record_group::{Grouper, Pad};
-use record_io::{Bytes, Failed, Sink, Totals};
-use simple_chunk::{Records, encode};
+use record_io::{Bytes, Sink, Totals};
 use std::alloc::{AllocError, Global};
-use std::thread::Threads;
+use std::thread::{Threads, join_mut};
 
 /// Why a file of records was not written to the end of its feed. Own.
 #[derive(Clone, Copy, Debug, PartialEq, Eq)]
@@ -35,34 +36,6 @@ pub enum WriteEnd {
     Made,
     /// There was not enough memory.
     Memory,
-}
-
-/// What cut the work off.
-#[derive(Clone, Copy, Debug, PartialEq, Eq)]
-enum CutOff {
-    Input,
-    Made,
-    Memory,
-}
-
-impl From<AllocError> for CutOff {
-    ghost use Rattle.record_writer.specs.declared.engine.CutOff.TheVariants.{Memory};
-
-    ghost from_gives = { λ _ cut. cut ≡ Memory };
-
-    fn from(_: AllocError) -> CutOff {
-        CutOff::Memory
-    }
-}
-
-impl From<Failed> for CutOff {
-    ghost use Rattle.record_writer.specs.declared.engine.CutOff.TheVariants.{Made};
-
-    ghost from_gives = { λ _ cut. cut ≡ Made };
-
-    fn from(_: Failed) -> CutOff {
-        CutOff::Made
-    }
 }
 
 impl From<CutOff> for WriteEnd {
@@ -82,8 +55,11 @@ impl From<CutOff> for WriteEnd {
 /// Writes the file of the feed's records: the signature, the padding before the chunks of records where it is
 /// wanted, a chunk for each group of records, and the padding behind them where it is wanted.
 ///
-/// Where a stop follows the records, the file of these is written too. The totals are of the file. Held at a time are
-/// the records of one group, their chunk, and the record behind them, which is held twice.
+/// Where a stop follows the records, the file of these is written too. The totals are of the file.
+///
+/// The groups are coded and put window by window, each in a thread of its own while the next is taken. Where no thread
+/// can be made, that is done here, and where one window holds all groups, no thread is wanted. Held at a time are the
+/// groups of two windows, one chunk, the open group, and the record behind it, which is held twice.
 ///
 /// # Errors
 ///
@@ -91,7 +67,7 @@ impl From<CutOff> for WriteEnd {
 /// records before it; `Input` where the feed failed, `Made` where the sink failed, also where a stop follows, and
 /// `Memory`. After the last three the sink took a front of the file. Own.
 pub fn write_records<R: Threads + Sync, L: RecordFeed, M: Sink + Send>(
-    _rt: &R,
+    rt: &R,
     alloc: Global,
     options: &WriteOptions,
     feed: &mut L,
@@ -116,7 +92,7 @@ pub fn write_records<R: Threads + Sync, L: RecordFeed, M: Sink + Send>(
     ensures made_name { M.name made.new ≡ M.name made.old }
 {
     let mut file = MadeFile::new();
-    let stop = write_feed(&mut file, alloc, options, feed, made)?;
+    let stop = write_feed(rt, &mut file, alloc, options, feed, made)?;
     answer(stop, file.totals())
 }
 
@@ -133,7 +109,8 @@ fn answer(stop: Option<Stop>, totals: Totals) -> Result<Totals, WriteEnd>
 }
 
 /// Writes the whole file, of which nothing is held then, and answers which stop follows the records.
-fn write_feed<L: RecordFeed, M: Sink>(
+fn write_feed<R: Threads, L: RecordFeed, M: Sink + Send>(
+    rt: &R,
     file: &mut MadeFile,
     alloc: Global,
     options: &WriteOptions,
@@ -161,14 +138,15 @@ fn write_feed<L: RecordFeed, M: Sink>(
     ensures input_name { L.name feed.new ≡ L.name feed.old }
     ensures made_name { M.name made.new ≡ M.name made.old }
 {
-    let stop = put_chunks(file, alloc, options, feed, made);
+    let stop = put_chunks(rt, file, alloc, options, feed, made);
     // What is held goes out, however the work ended.
     file.flush(made)?;
     stop
 }
 
 /// Puts the chunks of the file, and answers which stop follows the records.
-fn put_chunks<L: RecordFeed, M: Sink>(
+fn put_chunks<R: Threads, L: RecordFeed, M: Sink + Send>(
+    rt: &R,
     file: &mut MadeFile,
     alloc: Global,
     options: &WriteOptions,
@@ -196,7 +174,7 @@ fn put_chunks<L: RecordFeed, M: Sink>(
 {
     file.start(made)?;
     file.pad_if(pads_start(options.pad), made)?;
-    let stop = put_groups(file, alloc, options, feed, made)?;
+    let stop = put_groups(rt, file, alloc, options, feed, made)?;
     file.pad_if(pads_end(options.pad), made)?;
     Ok(stop)
 }
@@ -216,7 +194,8 @@ fn pads_end(pad: Pad) -> bool
 }
 
 /// Puts a chunk for each group of the feed's records, and answers which stop follows them.
-fn put_groups<L: RecordFeed, M: Sink>(
+fn put_groups<R: Threads, L: RecordFeed, M: Sink + Send>(
+    rt: &R,
     file: &mut MadeFile,
     alloc: Global,
     options: &WriteOptions,
@@ -247,7 +226,7 @@ fn put_groups<L: RecordFeed, M: Sink>(
     ensures made_name { M.name made.new ≡ M.name made.old }
 {
     let mut grouper = Grouper::new(alloc, options.size, options.every);
-    let stop = put_closed_groups(file, alloc, &mut grouper, feed, made)?;
+    let stop = put_closed_groups(rt, file, alloc, &mut grouper, feed, made)?;
     if let Some(group) = grouper.finish() {
         put_group(file, alloc, &group, made)?;
     }
@@ -255,7 +234,10 @@ fn put_groups<L: RecordFeed, M: Sink>(
 }
 
 /// Takes the feed's records, puts each group that closes, and answers which stop follows them.
-fn put_closed_groups<L: RecordFeed, M: Sink>(
+///
+/// A window of groups is coded and put while the next one is taken.
+fn put_closed_groups<R: Threads, L: RecordFeed, M: Sink + Send>(
+    rt: &R,
     file: &mut MadeFile,
     alloc: Global,
     grouper: &mut Grouper,
@@ -264,7 +246,7 @@ fn put_closed_groups<L: RecordFeed, M: Sink>(
 ) -> Result<Option<Stop>, CutOff>
     requires going { file.old.spent ≡ false }
     requires feed_going { L.going feed.old ≡ true }
-    requires in_reach { reach_of file.old grouper.old (L.bound feed.old) ≤ 2 ^ 60 }
+    requires in_reach { reach_of file.old.place grouper.old (L.bound feed.old) ≤ 2 ^ 60 }
     ensures whole { IfOk result (λ stop. (given : List (List (List ℕ)))
         × Lays (M.taken made.old) (M.taken made.new) file.old file.new (chunks_of_groups given)
         × IfSome (L.rest feed.old) (λ rest. (rest.stop ≡ stop)
@@ -272,7 +254,7 @@ fn put_closed_groups<L: RecordFeed, M: Sink>(
     ensures front { OnErr result (IfSome (L.rest feed.old) (λ rest.
         LaysFront (M.taken made.old) (M.taken made.new) file.old file.new
         (chunks_of_groups (groups_from grouper.old rest.records)))) }
-    ensures in_reach { OnOk result (reach_of file.new grouper.new 0 ≤ 2 ^ 60) }
+    ensures in_reach { OnOk result (reach_of file.new.place grouper.new 0 ≤ 2 ^ 60) }
     ensures drained { result ≡ Ok None → IfSome (L.rest feed.old) (λ _. L.rest feed.new ≡ Some nothing_left) }
     ensures input_cause { result ≡ Err CutOff.Input → Rose (L.faults feed.old) (L.faults feed.new) }
     ensures made_cause { result ≡ Err CutOff.Made → Rose (M.faults made.old) (M.faults made.new) }
@@ -284,67 +266,86 @@ fn put_closed_groups<L: RecordFeed, M: Sink>(
     ensures made_name { M.name made.new ≡ M.name made.old }
 {
     let mut rec = Bytes::new(alloc);
+    let mut window = Window::new(alloc);
+    let mut taken = take_window(alloc, grouper, feed, &mut rec, &mut window);
+    let end = loop {
+        match taken {
+            Ok(Taken::Window) => {}
+            Ok(Taken::All(stop)) => break Ok(stop),
+            Err(cut) => break Err(cut),
+        }
+        let mut next = Window::new(alloc);
+        let (put, then) = join_mut(
+            rt,
+            &mut || window.put(alloc, file, made),
+            &mut || take_window(alloc, grouper, feed, &mut rec, &mut next),
+        );
+        put?;
+        window = next;
+        taken = then;
+    };
+    // What was taken before the work was cut off is put too.
+    window.put(alloc, file, made)?;
+    end
+}
+
+/// How much of a feed was taken.
+#[derive(Clone, Copy, Debug, PartialEq, Eq)]
+enum Taken {
+    /// A window of its groups.
+    Window,
+    /// All of its records, and the stop behind them.
+    All(Option<Stop>),
+}
+
+/// Takes the feed's records and keeps each group that closes, until the window is full.
+fn take_window<L: RecordFeed>(
+    alloc: Global,
+    grouper: &mut Grouper,
+    feed: &mut L,
+    rec: &mut Bytes,
+    window: &mut Window,
+) -> Result<Taken, CutOff>
+    requires feed_going { L.going feed.old ≡ true }
+    requires empty { window.old ≡ [] }
+    ensures taken { AreTaken result (L.rest feed.old) (L.rest feed.new) grouper.old grouper.new window.new }
+    ensures feed_going { result ≡ Ok Taken.Window → L.going feed.new ≡ true }
+    ensures lowers { result ≡ Ok Taken.Window → L.bound feed.new < L.bound feed.old }
+    ensures in_reach { (place : ℕ) → reach_of (end_of_chunks place (chunks_of_groups window.new)) grouper.new (L.bound feed.new)
+        ≤ reach_of place grouper.old (L.bound feed.old) }
+    ensures drained { result ≡ Ok (Taken.All None) → IfSome (L.rest feed.old) (λ _. L.rest feed.new ≡ Some nothing_left) }
+    ensures no_made { result ≢ Err CutOff.Made }
+    ensures cause { result ≡ Err CutOff.Input → Rose (L.faults feed.old) (L.faults feed.new) }
+    ensures count { L.faults feed.old ≤ L.faults feed.new }
+    ensures small { L.faults feed.old < 2 ^ 64 → L.faults feed.new < 2 ^ 64 }
+    ensures same_name { L.name feed.new ≡ L.name feed.old }
+{
     loop {
-        match feed.pull(alloc, &mut rec) {
-            Ok(true) => put_record(file, alloc, grouper, rec.as_slice(), made)?,
-            Ok(false) => return Ok(None),
-            Err(FeedEnd::Stop(stop)) => return Ok(Some(stop)),
+        match feed.pull(alloc, rec) {
+            Ok(true) => take_record(grouper, rec.as_slice(), window)?,
+            Ok(false) => return Ok(Taken::All(None)),
+            Err(FeedEnd::Stop(stop)) => return Ok(Taken::All(Some(stop))),
             Err(FeedEnd::Failed) => return Err(CutOff::Input),
             Err(FeedEnd::Memory) => return Err(CutOff::Memory),
+        }
+        if window.is_full() {
+            return Ok(Taken::Window);
         }
     }
 }
 
-/// Takes a record, and puts the group that closes before it, if one does.
-fn put_record<M: Sink>(
-    file: &mut MadeFile,
-    alloc: Global,
-    grouper: &mut Grouper,
-    rec: &[u8],
-    made: &mut M,
-) -> Result<(), CutOff>
-    requires going { file.old.spent ≡ false }
+/// Takes a record, and keeps the group that closes before it, if one does.
+fn take_record(grouper: &mut Grouper, rec: &[u8], window: &mut Window) -> Result<(), AllocError>
     requires short { length rec.now ≤ 2 ^ 24 }
-    requires in_reach { reach_of file.old grouper.old 0 ≤ 2 ^ 60 }
     ensures whole { OnOk result ((given : Option (List (List ℕ)))
         × IsPush grouper.old rec.now given grouper.new
-        × Lays (M.taken made.old) (M.taken made.new) file.old file.new (chunks_of_groups (option_to_list given))) }
-    ensures front { OnErr result ((records : List (List ℕ))
-        → LaysFront (M.taken made.old) (M.taken made.new) file.old file.new
-        (chunks_of_groups (groups_from grouper.old (rec.now ∷ records)))) }
-    ensures in_reach { OnOk result (reach_of file.new grouper.new 0 ≤ reach_of file.old grouper.old (length rec.now + 1)) }
-    ensures no_input { result ≢ Err CutOff.Input }
-    ensures made_cause { result ≡ Err CutOff.Made → Rose (M.faults made.old) (M.faults made.new) }
-    ensures made_count { M.faults made.old ≤ M.faults made.new }
-    ensures made_small { M.faults made.old < 2 ^ 64 → M.faults made.new < 2 ^ 64 }
-    ensures made_name { M.name made.new ≡ M.name made.old }
+        × (window.new ≡ window.old ++ option_to_list given)) }
+    ensures kept { OnErr result (window.new ≡ window.old) }
+    ensures in_reach { (place : ℕ) → reach_of (end_of_chunks place (chunks_of_groups window.new)) grouper.new 0
+        ≤ reach_of (end_of_chunks place (chunks_of_groups window.old)) grouper.old (length rec.now + 1) }
 {
     if let Some(group) = grouper.push(rec)? {
-        put_group(file, alloc, &group, made)?;
+        window.push(group)?;
     }
-    Ok(())
-}
-
-/// Puts the chunk of a group.
-fn put_group<M: Sink>(
-    file: &mut MadeFile,
-    alloc: Global,
-    group: &Records,
-    made: &mut M,
-) -> Result<(), CutOff>
-    requires going { file.old.spent ≡ false }
-    requires some { group.now ≢ [] }
-    requires short { cost_of group.now ≤ 2 ^ 25 }
-    requires in_reach { file.old.place ≤ 2 ^ 60 }
-    ensures whole { OnOk result (Lays (M.taken made.old) (M.taken made.new) file.old file.new (simple_chunk group.now ∷ [])) }
-    ensures front { OnErr result (LaysFront (M.taken made.old) (M.taken made.new) file.old file.new (simple_chunk group.now ∷ [])) }
-    ensures no_input { result ≢ Err CutOff.Input }
-    ensures made_cause { result ≡ Err CutOff.Made → Rose (M.faults made.old) (M.faults made.new) }
-    ensures made_count { M.faults made.old ≤ M.faults made.new }
-    ensures made_small { M.faults made.old < 2 ^ 64 → M.faults made.new < 2 ^ 64 }
-    ensures made_name { M.name made.new ≡ M.name made.old }
-{
-    let chunk = encode(alloc, group)?;
-    file.put(made, &chunk)?;
     Ok(())
 }

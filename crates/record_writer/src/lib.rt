@@ -1,10 +1,12 @@
 //! The write engine: a feed of records to the file of them.
 #![tactic(auto)]
 
+mod cut_off;
 mod engine;
 mod feed;
 mod made_file;
 mod options;
+mod window;
 
 pub use engine::{WriteEnd, write_records};
 pub use feed::{FeedEnd, RecordFeed, Stop};

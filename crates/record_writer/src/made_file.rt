@@ -1,4 +1,4 @@
-ghost use Rattle.std.specs.Prelude.{◌≡◌, ◌^◌, ◌<◌, ◌≤◌, false, [], ◌∷◌, OnOk, OnErr};
+ghost use Rattle.std.specs.Prelude.{◌≡◌, ◌≢◌, ◌^◌, ◌<◌, ◌≤◌, false, [], ◌∷◌, OnOk, OnErr};
 ghost use Rattle.record_io.specs.Outside.{Rose, Takes, TakesFront};
 ghost use Rattle.chunk_header.specs.Views.{value_of_chunk, HasRightHash};
 ghost use Rattle.meta_chunk.specs.Counts.{is_unread};
@@ -14,8 +14,8 @@ use ordered_writer::OrderedWriter;
 use record_io::{Failed, PutBuffer, Sink, Totals};
 use std::marker::Model;
 
-/// A file that is being made, chunk by chunk. Small chunks gather before they go to the sink, so `flush` comes last.
-/// After a failure nothing more is put. Own.
+/// A file that is being made, chunk by chunk. Its bytes gather, up to 262,144 of them, before they go to the sink, so `flush`
+/// comes last. After a failure nothing more is put. Own.
 #[derive(Drop)]
 pub struct MadeFile {
     writer: OrderedWriter,
@@ -136,6 +136,7 @@ impl MadeFile {
     pub fn flush<M: Sink>(&mut self, made: &mut M) -> Result<(), Failed>
         ensures whole { OnOk result (Takes (M.taken made.old) (M.taken made.new) self.old.held) }
         ensures front { OnErr result (TakesFront (M.taken made.old) (M.taken made.new) self.old.held) }
+        ensures some { OnErr result (self.old.held ≢ []) }
         ensures same_totals { totals_made self.new ≡ totals_made self.old }
         ensures emptied { self.new ≡ record self.old { held = [] } }
         ensures cause { OnErr result (Rose (M.faults made.old) (M.faults made.new)) }

@@ -34,6 +34,34 @@ impl RecordFeed for Letters {
     }
 }
 
+/// So many records, each of them the letter `a`, and then a fault.
+#[derive(Drop)]
+struct CutLetters {
+    left: u64,
+    faults: u64,
+}
+
+impl RecordFeed for CutLetters {
+    ghost use Rattle.std.specs.Prelude.{◌*◌, None};
+
+    ghost rest = { λ _. None };
+
+    ghost bound = { λ f. 2 * f.left };
+
+    ghost faults = { λ f. f.faults };
+
+    fn pull(&mut self, _alloc: Global, into: &mut Bytes) -> Result<bool, FeedEnd> {
+        if self.left == 0 {
+            self.faults = self.faults.saturating_add(1);
+            return Err(FeedEnd::Failed);
+        }
+        self.left -= 1;
+        into.clear();
+        into.push_all(b"a")?;
+        Ok(true)
+    }
+}
+
 #[test]
 fn small_chunks_go_out_by_one_put(rt: HostRuntime) -> Result<(), Fail> {
     let fails = [1].to_vec(rt.alloc())?;
@@ -101,5 +129,70 @@ fn a_failed_sink_is_told_before_a_stop(rt: HostRuntime) -> Result<(), Fail> {
     let end = write_records(&rt, rt.alloc(), &options, &mut feed, &mut made);
     assert_eq!(rt; end, Err(WriteEnd::Made));
     assert!(rt; made.taken().is_empty());
+    Ok(())
+}
+
+// A chunk of one letter takes 44 bytes of a file, beside a block header of 24 bytes in each 65,536. A group of one letter
+// counts as 137 bytes, so a window has 3827 of them.
+const ONE_EACH: WriteOptions = WriteOptions {
+    size: 1,
+    workers: 1,
+    every: None,
+    pad: Pad::No,
+};
+
+#[test]
+fn windows_are_put_in_order(rt: HostRuntime) -> Result<(), Fail> {
+    let mut made = MemSink::new(
+        rt.alloc(),
+        1 << 19,
+        Vec::new(rt.alloc()),
+        Vec::new(rt.alloc()),
+    )?;
+    let mut feed = Letters {
+        left: 9000,
+        stop: None,
+    };
+    let totals = Totals {
+        chunks: 9001,
+        records: 9000,
+        bytes: 396_208,
+        unread: 0,
+    };
+    let end = write_records(&rt, rt.alloc(), &ONE_EACH, &mut feed, &mut made);
+    assert_eq!(rt; end, Ok(totals));
+    assert_eq!(rt; made.taken().len(), 396_208);
+    Ok(())
+}
+
+#[test]
+fn a_window_is_dropped_where_the_one_before_fails(rt: HostRuntime) -> Result<(), Fail> {
+    let fails = [1].to_vec(rt.alloc())?;
+    let mut made = MemSink::new(rt.alloc(), 1 << 20, Vec::new(rt.alloc()), fails)?;
+    let mut feed = Letters {
+        left: 20_000,
+        stop: None,
+    };
+    let end = write_records(&rt, rt.alloc(), &ONE_EACH, &mut feed, &mut made);
+    assert_eq!(rt; end, Err(WriteEnd::Made));
+    assert!(rt; made.taken().len() <= 262_144);
+    Ok(())
+}
+
+#[test]
+fn what_was_taken_before_a_fault_is_put(rt: HostRuntime) -> Result<(), Fail> {
+    let mut made = MemSink::new(
+        rt.alloc(),
+        1 << 19,
+        Vec::new(rt.alloc()),
+        Vec::new(rt.alloc()),
+    )?;
+    let mut feed = CutLetters {
+        left: 5000,
+        faults: 0,
+    };
+    let end = write_records(&rt, rt.alloc(), &ONE_EACH, &mut feed, &mut made);
+    assert_eq!(rt; end, Err(WriteEnd::Input));
+    assert_eq!(rt; made.taken().len(), 220_092);
     Ok(())
 }

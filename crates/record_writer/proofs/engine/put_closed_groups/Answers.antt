@@ -1,68 +1,94 @@
-use Rattle.std.proofs.Common.{Some, Ok, Err, [], ◌++◌, length, refl, ap, arith}
-use Rattle.std.specs.Option.{option_to_list}
-use Rattle.std.proofs.lemmas.Result.{err_from_is_err_and}
-use Rattle.record_writer.proofs.Layings.{Lays-none}
-use Rattle.record_writer.proofs.Given.{AreGiven-none, AreGiven-push, AreGiven-ended, Lays-all, LaysFront-cut, LaysFront-next, LaysFront-idle}
+use Rattle.std.proofs.Common.{◌≡◌, ◌++◌, Ok, Result, [], refl, subst, arith, rules}
+use Rattle.record_io.proofs.Calls.{OnErr-any}
+use Rattle.record_writer.specs.declared.cut_off.CutOff.{CutOff}
+use Rattle.record_writer.specs.declared.engine.Taken.{Taken}
+use Rattle.record_writer.specs.declared.engine.Taken.TheVariants.{Window, All}
+use Rattle.record_writer.specs.Windows.{AreTaken}
+use Rattle.record_writer.proofs.Layings.{Lays-none, LaysFront-whole}
+use Rattle.record_writer.proofs.Given.{Lays-all, LaysFront-all}
+use Rattle.record_writer.proofs.Reaches.{reach_of-behind}
+use Rattle.record_writer.proofs.Windows.{AreTaken-append, LaysFront-taken, IfSome-given, to_take-falls, where_failed, where_done}
 use Rattle.record_writer.proofs.engine.put_closed_groups.Goals as goal
 
-pub loop-file-init : goal.loop-file-init
-loop-file-init g c = record {
-  laid = ([], Lays-none _ c.args.file.now c.requires.going, AreGiven-none _ c.args.grouper.now);
-  feed_going = c.requires.feed_going;
-  in_reach = c.requires.in_reach;
-  input_count = omega arith;
-  input_small = λ h. h;
+pub loop-taken-init : goal.loop-taken-init
+loop-taken-init g c = record {
+  laid = ([], Lays-none _ c.args.file.now c.requires.going, c.take_window-taken.ensures.taken);
+  feed_going = c.take_window-taken.ensures.feed_going;
+  in_reach = omega (arith, c.requires.in_reach, c.take_window-taken.ensures.in_reach c.args.file.now.place);
+  drained = c.take_window-taken.ensures.drained;
+  no_made = c.take_window-taken.ensures.no_made;
+  input_cause = c.take_window-taken.ensures.cause;
+  input_count = c.take_window-taken.ensures.count;
+  input_small = c.take_window-taken.ensures.small;
   made_count = omega arith;
   made_small = λ h. h;
-  input_name = refl;
+  input_name = c.take_window-taken.ensures.same_name;
   made_name = refl;
 }
 
-pub loop-file-preserved : goal.loop-file-preserved
-loop-file-preserved g c =
-    let before = c.loop-file.invariant.laid in
-    let after = c.in_ok-put_record-in-Ok-true.ensures.whole in
-    let gives = rw (← c.as_slice.ensures.value) at c.in-Ok-true.ensures.next (ap Ok c.in-Ok-true.field-0-test) in
+pub returns-in_err-put-clause-front : goal.returns-in_err-put-clause-front
+returns-in_err-put-clause-front g c =
+    let before = c.loop-taken.invariant.laid in
+    OnErr-any _
+    (LaysFront-taken c.loop-taken.taken _ (g.L.RecordFeed.rest c.loop-taken.feed) _ c.loop-taken.grouper (before.0 ++ c.loop-taken.window) _ _ _ _ before.2
+    (LaysFront-all _ _ _ _ c.loop-taken.file _ (before.0 ++ c.loop-taken.window) before.0 c.loop-taken.window refl before.1 (where_failed _ _ c.in_err-put.was (search rules))))
+
+pub loop-taken-smaller : goal.loop-taken-smaller
+loop-taken-smaller g c =
+    to_take-falls c.loop-taken.taken c.join_mut-put.result.1 (g.L.RecordFeed.bound c.loop-taken.feed) _ (search rules) (search rules)
+
+pub loop-taken-preserved : goal.loop-taken-preserved
+loop-taken-preserved g c =
+    let before = c.loop-taken.invariant.laid in
+    let more : c.loop-taken.taken ≡ Ok Window = search rules in
+    let window = subst (λ (t : Result Taken CutOff). AreTaken t (g.L.RecordFeed.rest c.args.feed.now) (g.L.RecordFeed.rest c.loop-taken.feed) c.args.grouper.now c.loop-taken.grouper
+    (before.0 ++ c.loop-taken.window)) more before.2 in
     record {
       laid = (
-        before.0 ++ option_to_list after.0,
-        Lays-all _ _ _ _ _ _ _ before.0 (option_to_list after.0) refl before.1 after.2,
-        AreGiven-push _ _ _ _ c.loop-file.grouper _ before.0 _ after.0 before.2 gives after.1,
+        before.0 ++ c.loop-taken.window,
+        Lays-all _ _ _ _ c.loop-taken.file _ (before.0 ++ c.loop-taken.window) before.0 c.loop-taken.window refl before.1 (where_done _ _ c.in_ok-put.was (search rules)),
+        AreTaken-append c.join_mut-put.result.1 _ (g.L.RecordFeed.rest c.loop-taken.feed) _ _ c.loop-taken.grouper _ (before.0 ++ c.loop-taken.window) _ window (search rules),
       );
-      feed_going = c.in-Ok-true.ensures.going;
-      in_reach = omega (
-        arith,
-        c.in_ok-put_record-in-Ok-true.ensures.in_reach,
-        c.in-Ok-true.ensures.lowers (ap Ok c.in-Ok-true.field-0-test),
-        ap length c.as_slice.ensures.value,
-      );
-      input_count = omega arith;
-      input_small = λ h. c.in-Ok-true.ensures.small (c.loop-file.invariant.input_small h);
-      made_count = omega arith;
-      made_small = λ h. c.in_ok-put_record-in-Ok-true.ensures.made_small (c.loop-file.invariant.made_small h);
-      input_name = cc;
-      made_name = cc;
+      feed_going = search rules;
+      in_reach = search (rules, reach_of-behind);
+      drained = λ end. IfSome-given _ (g.L.RecordFeed.rest c.loop-taken.feed) _ c.loop-taken.grouper (before.0 ++ c.loop-taken.window) _ window (search rules);
+      no_made = search rules;
+      input_cause = search rules;
+      input_count = search rules;
+      input_small = search rules;
+      made_count = search rules;
+      made_small = search rules;
+      input_name = search rules;
+      made_name = search rules;
     }
 
-pub returns-in_err-put_record-in-Ok-true-clause-front : goal.returns-in_err-put_record-in-Ok-true-clause-front
-returns-in_err-put_record-in-Ok-true-clause-front g c =
-    let p = err_from_is_err_and c.from_residual.result c.from_residual.ensures.1 in
-    let before = c.loop-file.invariant.laid in
-    let gives = rw (← c.as_slice.ensures.value) at c.in-Ok-true.ensures.next (ap Ok c.in-Ok-true.field-0-test) in
-    rw p.1
-    (LaysFront-cut _ _ _ _ before.0 _ _ _ _ _ _ before.2 before.1
-    (LaysFront-next _ _ c.loop-file.grouper _ _ _ _ _ gives c.in_err-put_record-in-Ok-true.ensures.front))
+pub returns-in_err-put-2-clause-front : goal.returns-in_err-put-2-clause-front
+returns-in_err-put-2-clause-front g c =
+    let before = c.loop-taken.invariant.laid in
+    OnErr-any _
+    (LaysFront-taken c.loop-taken.taken _ (g.L.RecordFeed.rest c.loop-taken.feed) _ c.loop-taken.grouper (before.0 ++ c.loop-taken.window) _ _ _ _ before.2
+    (LaysFront-all _ _ _ _ c.loop-taken.file c.put.new.file (before.0 ++ c.loop-taken.window) before.0 c.loop-taken.window refl before.1 c.in_err-put-2.ensures.front))
 
-pub returns-in-Err-Stop-clause-whole : goal.returns-in-Err-Stop-clause-whole
-returns-in-Err-Stop-clause-whole g c =
-    let before = c.loop-file.invariant.laid in
-    let ended = c.in-Err-Stop.ensures.stop c.in-Err-Stop.stop (ap Err c.in-Err-Stop.field-0-is) in
-    (before.0, before.1, rw c.in-Err-Stop.stop-is (AreGiven-ended _ _ _ c.loop-file.grouper before.0 (Some c.in-Err-Stop.stop) before.2 ended))
+pub returns-clause-whole : goal.returns-clause-whole
+returns-clause-whole g c =
+    let before = c.loop-taken.invariant.laid in
+    let laid = Lays-all _ _ _ c.args.file.now c.loop-taken.file c.put.new.file (before.0 ++ c.loop-taken.window) before.0 c.loop-taken.window refl before.1 c.in_ok-put-2.ensures.whole in
+    elim c.match-taken.branch [
+      | goal.in-Ok-All w ↦
+          let ended : c.loop-taken.taken ≡ Ok (All w.in-Ok-All.stop) = search rules in
+          rw w.end-is (
+            before.0 ++ c.loop-taken.window,
+            laid,
+            subst (λ (t : Result Taken CutOff). AreTaken t (g.L.RecordFeed.rest c.args.feed.now) (g.L.RecordFeed.rest c.loop-taken.feed) c.args.grouper.now c.loop-taken.grouper
+                (before.0 ++ c.loop-taken.window)) ended before.2,
+          )
+      | goal.in-Err w ↦ rw w.end-is tt
+    ]
 
-pub returns-in-Err-Failed-clause-front : goal.returns-in-Err-Failed-clause-front
-returns-in-Err-Failed-clause-front g c =
-    LaysFront-cut _ _ _ _ c.loop-file.invariant.laid.0 _ _ _ _ _ _ c.loop-file.invariant.laid.2 c.loop-file.invariant.laid.1 (LaysFront-idle _ c.loop-file.grouper _ c.loop-file.file)
-
-pub returns-in-Err-Memory-clause-front : goal.returns-in-Err-Memory-clause-front
-returns-in-Err-Memory-clause-front g c =
-    LaysFront-cut _ _ _ _ c.loop-file.invariant.laid.0 _ _ _ _ _ _ c.loop-file.invariant.laid.2 c.loop-file.invariant.laid.1 (LaysFront-idle _ c.loop-file.grouper _ c.loop-file.file)
+pub returns-clause-front : goal.returns-clause-front
+returns-clause-front g c =
+    let before = c.loop-taken.invariant.laid in
+    OnErr-any _
+    (LaysFront-taken c.loop-taken.taken _ (g.L.RecordFeed.rest c.loop-taken.feed) _ c.loop-taken.grouper (before.0 ++ c.loop-taken.window) _ _ _ _ before.2
+    (LaysFront-all _ _ _ _ c.loop-taken.file c.put.new.file (before.0 ++ c.loop-taken.window) before.0 c.loop-taken.window refl before.1
+    (LaysFront-whole _ _ _ _ _ c.in_ok-put-2.ensures.whole)))

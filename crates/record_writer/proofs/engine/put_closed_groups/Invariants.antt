@@ -1,14 +1,24 @@
-use Rattle.std.proofs.Common.{◌≡◌, ℕ, ◌^◌, ◌<◌, ◌≤◌, true, List}
-use Rattle.record_writer.specs.Progresses.{Lays, AreGiven, chunks_of_groups, reach_of}
+use Rattle.std.proofs.Common.{◌≡◌, ◌≢◌, ℕ, ◌^◌, ◌<◌, ◌≤◌, ◌++◌, true, Some, None, Ok, Err, List, IfSome}
+use Rattle.record_io.specs.Outside.{Rose}
+use Rattle.meta_chunk.specs.Files.{end_of_chunks}
+use Rattle.record_writer.specs.declared.cut_off.CutOff.TheVariants.{Input, Made}
+use Rattle.record_writer.specs.declared.engine.Taken.TheVariants.{Window, All}
+use Rattle.record_writer.specs.Feeds.{nothing_left}
+use Rattle.record_writer.specs.Progresses.{Lays, chunks_of_groups, reach_of}
+use Rattle.record_writer.specs.Windows.{AreTaken}
+use Rattle.record_writer.proofs.Windows.{to_take}
 use Rattle.record_writer.proofs.engine.put_closed_groups.Given as goal
 
-abbrev pub invariant-loop-file : goal.invariant-loop-file
-invariant-loop-file g l = record {
+abbrev pub invariant-loop-taken : goal.invariant-loop-taken
+invariant-loop-taken g l = record {
   laid : (given : List (List (List ℕ)))
       × Lays (g.M.Sink.taken l.fn.made) (g.M.Sink.taken l.made) l.fn.file l.file (chunks_of_groups given)
-      × AreGiven (g.L.RecordFeed.rest l.fn.feed) (g.L.RecordFeed.rest l.feed) l.fn.grouper l.grouper given;
-  feed_going : g.L.RecordFeed.going l.feed ≡ true;
-  in_reach : reach_of l.file l.grouper (g.L.RecordFeed.bound l.feed) ≤ 2 ^ 60;
+      × AreTaken l.taken (g.L.RecordFeed.rest l.fn.feed) (g.L.RecordFeed.rest l.feed) l.fn.grouper l.grouper (given ++ l.window);
+  feed_going : l.taken ≡ Ok Window → g.L.RecordFeed.going l.feed ≡ true;
+  in_reach : reach_of (end_of_chunks l.file.place (chunks_of_groups l.window)) l.grouper (g.L.RecordFeed.bound l.feed) ≤ 2 ^ 60;
+  drained : l.taken ≡ Ok (All None) → IfSome (g.L.RecordFeed.rest l.fn.feed) (λ _. g.L.RecordFeed.rest l.feed ≡ Some nothing_left);
+  no_made : l.taken ≢ Err Made;
+  input_cause : l.taken ≡ Err Input → Rose (g.L.RecordFeed.faults l.fn.feed) (g.L.RecordFeed.faults l.feed);
   input_count : g.L.RecordFeed.faults l.fn.feed ≤ g.L.RecordFeed.faults l.feed;
   input_small : g.L.RecordFeed.faults l.fn.feed < 2 ^ 64 → g.L.RecordFeed.faults l.feed < 2 ^ 64;
   made_count : g.M.Sink.faults l.fn.made ≤ g.M.Sink.faults l.made;
@@ -17,5 +27,5 @@ invariant-loop-file g l = record {
   made_name : g.M.Sink.name l.made ≡ g.M.Sink.name l.fn.made;
 }
 
-abbrev pub decreases-loop-file : goal.decreases-loop-file
-decreases-loop-file g l = g.L.RecordFeed.bound l.feed
+abbrev pub decreases-loop-taken : goal.decreases-loop-taken
+decreases-loop-taken g l = to_take l.taken (g.L.RecordFeed.bound l.feed)

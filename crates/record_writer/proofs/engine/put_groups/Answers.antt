@@ -1,4 +1,4 @@
-use Rattle.std.proofs.Common.{◌^◌, Some}
+use Rattle.std.proofs.Common.{◌^◌, Some, arith}
 use Rattle.std.proofs.lemmas.Result.{err_from_is_err_and}
 use Rattle.record_writer.proofs.Reaches.{reach_of-last}
 use Rattle.record_writer.proofs.Given.{Lays-finished, LaysFront-finished}
@@ -18,10 +18,23 @@ returns-in_ok-put_group-clause-whole g c =
     Lays-finished _ c.new-grouper.result c.put_closed_groups.new.grouper c.args.options.now.size c.args.options.now.every closed.0 c.in_ok-stop.stop
     (Some c.in-Some.group) _ _ _ _ _ _ c.new-grouper.ensures.all c.in-Some.ensures.rest closed.2 closed.1 c.in_ok-put_group.ensures.whole
 
+pub put_group-requires-clause-in_reach : goal.put_group-requires-clause-in_reach
+put_group-requires-clause-in_reach g c =
+    omega (
+      arith,
+      reach_of-last c.put_closed_groups.new.file.place c.put_closed_groups.new.grouper c.in-Some.group (2 ^ 60)
+          c.in_ok-stop.ensures.in_reach
+          c.in-Some.ensures.last
+          c.in-Some.ensures.limits.some,
+    )
+
 pub returns-in_ok-put_group-clause-in_reach : goal.returns-in_ok-put_group-clause-in_reach
 returns-in_ok-put_group-clause-in_reach g c =
-    reach_of-last c.put_closed_groups.new.file c.put_group.new.file c.put_closed_groups.new.grouper c.in-Some.group (2 ^ 60)
-    c.in_ok-stop.ensures.in_reach
-    c.in-Some.ensures.last
-    c.in-Some.ensures.limits.some
-    c.in_ok-put_group.ensures.whole.place
+    omega (
+      arith,
+      c.in_ok-put_group.ensures.whole.place,
+      reach_of-last c.put_closed_groups.new.file.place c.put_closed_groups.new.grouper c.in-Some.group (2 ^ 60)
+          c.in_ok-stop.ensures.in_reach
+          c.in-Some.ensures.last
+          c.in-Some.ensures.limits.some,
+    )

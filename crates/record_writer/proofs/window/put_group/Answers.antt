@@ -1,10 +1,9 @@
-use Rattle.std.proofs.Common.{◌^◌, ◌≤◌, sym, subst, arith}
+use Rattle.std.proofs.Common.{◌^◌, ◌≤◌, sym, subst}
 use Rattle.std.proofs.lemmas.Result.{err_from_is_err_and}
 use Rattle.chunk_header.specs.Chunks.{ChunkValue}
 use Rattle.meta_chunk.specs.Laid.{end_of_chunk}
 use Rattle.record_writer.proofs.Layings.{LaysFront-none}
-use Rattle.record_writer.proofs.Reaches.{group-near}
-use Rattle.record_writer.proofs.engine.put_group.Goals as goal
+use Rattle.record_writer.proofs.window.put_group.Goals as goal
 
 pub returns-in_err-chunk-clause-front : goal.returns-in_err-chunk-clause-front
 returns-in_err-chunk-clause-front g c =
@@ -13,6 +12,4 @@ returns-in_err-chunk-clause-front g c =
 
 pub put-requires-clause-in_reach : goal.put-requires-clause-in_reach
 put-requires-clause-in_reach g c =
-    subst (λ (k : ChunkValue). end_of_chunk c.args.file.now.place k ≤ 2 ^ 62)
-    (sym c.in_ok-chunk.ensures.value)
-    (omega (arith, group-near c.args.file.now.place c.args.group.now c.requires.some))
+    subst (λ (k : ChunkValue). end_of_chunk c.args.file.now.place k ≤ 2 ^ 62) (sym c.in_ok-chunk.ensures.value) c.requires.in_reach

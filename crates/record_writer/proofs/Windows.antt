@@ -1,0 +1,153 @@
+-- Groups that are taken of a feed, and then put together.
+use Rattle.std.proofs.Common.{◌≡◌, ◌∙◌, ℕ, ◌+◌, ◌<◌, ◌≤◌, Option, Some, None, Result, Ok, Err, List, [], ◌∷◌, ◌++◌, length, take, drop, get_or, IfSome, OnOk, OnErr, refl, sym, ap, subst, append_assoc, add-one, arith}
+use Rattle.std.proofs.Math.Seq.{take-suc}
+use Rattle.std.proofs.lemmas.Result.{IfErr-at_err, IfOk-at_ok}
+use Rattle.std.proofs.lemmas.List.{map-append, take-append-drop}
+use Rattle.chunk_header.specs.Chunks.{ChunkValue}
+use Rattle.chunk_header.specs.SimpleChunks.{simple_chunk}
+use Rattle.meta_chunk.specs.Laid.{end_of_chunk}
+use Rattle.meta_chunk.specs.Files.{end_of_chunks}
+use Rattle.meta_chunk.proofs.Joins.{end_of_chunks-append, end_of_chunks_past}
+use Rattle.record_group.specs.Groupings.{Grouping, groups_from}
+use Rattle.record_writer.specs.declared.cut_off.CutOff.{CutOff}
+use Rattle.record_writer.specs.declared.engine.Taken.{Taken}
+use Rattle.record_writer.specs.declared.engine.Taken.TheVariants.{Window, All}
+use Rattle.record_writer.specs.Feeds.{Rest}
+use Rattle.record_writer.specs.Progresses.{Progress, AreGiven, Lays, LaysFront, chunks_of_groups}
+use Rattle.record_writer.specs.Windows.{AreFront, AreTaken}
+use Rattle.record_writer.proofs.Layings.{Lays-append, LaysFront-behind, LaysFront-longer}
+use Rattle.record_writer.proofs.Given.{chunks_of_groups-all}
+
+-- what is said of a call that failed, and of one that didn't
+pub where_failed : {X E P : Type 0} (result : Result X E) (e : E) → result ≡ Err e → OnErr result P → P
+where_failed {X} {E} {P} result e is h = IfErr-at_err (λ _. P) is h
+
+pub where_done : {X E P : Type 0} (result : Result X E) (x : X) → result ≡ Ok x → OnOk result P → P
+where_done {X} {E} {P} result x is h = IfOk-at_ok (λ _. P) is h
+
+-- the chunks of the groups up to one, and that one's behind them
+chunks-next : (groups : List (List (List ℕ))) (i : ℕ) (group : List (List ℕ)) → i < length groups → group ≡ get_or groups i group
+    → chunks_of_groups (take i groups) ++ simple_chunk group ∷ [] ≡ chunks_of_groups (take (i + 1) groups)
+chunks-next groups i group within is =
+    rw add-one
+    (sym (map-append simple_chunk (take i groups) (group ∷ []))
+    ∙ ap (λ (group : List (List ℕ)). chunks_of_groups (take i groups ++ group ∷ [])) is
+    ∙ ap chunks_of_groups (sym (take-suc groups i group within)))
+
+-- the chunks of the first groups, and those of the others
+chunks-split : (groups : List (List (List ℕ))) (i : ℕ) → chunks_of_groups (take i groups) ++ chunks_of_groups (drop i groups) ≡ chunks_of_groups groups
+chunks-split groups i = chunks_of_groups-all groups (take i groups) (drop i groups) (sym (take-append-drop i groups))
+
+-- it ends within them all
+pub chunk-within : (place next limit : ℕ) (groups : List (List (List ℕ))) (i : ℕ) (group : List (List ℕ)) → i < length groups → group ≡ get_or groups i group
+    → next ≡ end_of_chunks place (chunks_of_groups (take i groups)) → end_of_chunks place (chunks_of_groups groups) ≤ limit
+    → end_of_chunk next (simple_chunk group) ≤ limit
+chunk-within place next limit groups i group within is at reach =
+    omega (
+      arith,
+      reach,
+      ap (λ (place : ℕ). end_of_chunk place (simple_chunk group)) at,
+      end_of_chunks-append place (chunks_of_groups (take i groups)) (simple_chunk group ∷ []),
+      ap (λ (ks : List ChunkValue). end_of_chunks place ks) (chunks-next groups i group within is),
+      end_of_chunks-append place (chunks_of_groups (take (i + 1) groups)) (chunks_of_groups (drop (i + 1) groups)),
+      ap (λ (ks : List ChunkValue). end_of_chunks place ks) (chunks-split groups (i + 1)),
+      end_of_chunks_past (end_of_chunks place (chunks_of_groups (take (i + 1) groups))) (chunks_of_groups (drop (i + 1) groups)),
+    )
+
+-- where those up to it were put, so are those up to the next
+pub Lays-chunk : (a b c : Option (List ℕ)) (s t u : Progress) (groups : List (List (List ℕ))) (i : ℕ) (group : List (List ℕ))
+    → i < length groups → group ≡ get_or groups i group
+    → Lays a b s t (chunks_of_groups (take i groups)) → Lays b c t u (simple_chunk group ∷ []) → Lays a c s u (chunks_of_groups (take (i + 1) groups))
+Lays-chunk a b c s t u groups i group within is first then =
+    subst (λ (ks : List ChunkValue). Lays a c s u ks) (chunks-next groups i group within is)
+    (Lays-append a b c s t u (chunks_of_groups (take i groups)) (simple_chunk group ∷ []) first then)
+
+-- or a front of them all, where it failed
+pub LaysFront-chunk : (a b c : Option (List ℕ)) (s t u : Progress) (groups : List (List (List ℕ))) (i : ℕ) (group : List (List ℕ))
+    → i < length groups → group ≡ get_or groups i group
+    → Lays a b s t (chunks_of_groups (take i groups)) → LaysFront b c t u (simple_chunk group ∷ []) → LaysFront a c s u (chunks_of_groups groups)
+LaysFront-chunk a b c s t u groups i group within is first then =
+    subst (λ (ks : List ChunkValue). LaysFront a c s u ks) (chunks-split groups (i + 1))
+    (LaysFront-longer a c s u (chunks_of_groups (take (i + 1) groups)) (chunks_of_groups (drop (i + 1) groups))
+    (subst (λ (ks : List ChunkValue). LaysFront a c s u ks) (chunks-next groups i group within is)
+    (LaysFront-behind a b c s t u (chunks_of_groups (take i groups)) (simple_chunk group ∷ []) first then)))
+
+-- the groups that were given, and those given behind them
+AreGiven-append : (a b c : Option Rest) (old between new : Grouping) (given more : List (List (List ℕ)))
+    → AreGiven a b old between given → AreGiven b c between new more → AreGiven a c old new (given ++ more)
+AreGiven-append None b c old between new given more h then = tt
+AreGiven-append (Some all) b c old between new given more (rest, told, of) then =
+    let next : AreGiven (Some rest) c between new more = subst (λ (o : Option Rest). AreGiven o c between new more) told then in (
+      next.0,
+      next.1,
+      record {
+        stop = of.stop ∙ next.2.stop;
+        groups = of.groups
+            ∙ ap (λ (gs : List (List (List ℕ))). given ++ gs) next.2.groups
+            ∙ sym (append_assoc given more (groups_from new next.0.records));
+      },
+    )
+
+-- they are a front of all
+pub AreGiven-front : (a b : Option Rest) (old new : Grouping) (given : List (List (List ℕ))) → AreGiven a b old new given → AreFront a old given
+AreGiven-front None b old new given h = tt
+AreGiven-front (Some all) b old new given (rest, told, of) = (groups_from new rest.records, of.groups)
+
+-- as are those that were taken, however that ended
+AreTaken-front : (t : Result Taken CutOff) (a b : Option Rest) (old new : Grouping) (given : List (List (List ℕ))) → AreTaken t a b old new given → AreFront a old given
+AreTaken-front (Ok Window) a b old new given h = AreGiven-front a b old new given h
+AreTaken-front (Ok (All stop)) None b old new given h = tt
+AreTaken-front (Ok (All stop)) (Some all) b old new given h = (groups_from new [], h.1)
+AreTaken-front (Err cut) a b old new given h = h
+
+-- so where a front of their chunks was put, that is one of all
+pub LaysFront-taken : (t : Result Taken CutOff) (ra rb : Option Rest) (old new : Grouping) (given : List (List (List ℕ))) (a b : Option (List ℕ)) (s u : Progress)
+    → AreTaken t ra rb old new given → LaysFront a b s u (chunks_of_groups given)
+    → IfSome ra (λ rest. LaysFront a b s u (chunks_of_groups (groups_from old rest.records)))
+LaysFront-taken t None rb old new given a b s u taken front = tt
+LaysFront-taken t (Some all) rb old new given a b s u taken front =
+    let rest = AreTaken-front t (Some all) rb old new given taken in
+    subst (λ (ks : List ChunkValue). LaysFront a b s u ks)
+    (chunks_of_groups-all (groups_from old all.records) given rest.0 rest.1)
+    (LaysFront-longer a b s u (chunks_of_groups given) (chunks_of_groups rest.0) front)
+
+-- a number that falls with each window
+abbrev pub to_take : Result Taken CutOff → ℕ → ℕ
+to_take (Ok Window) bound = bound + 1
+to_take (Ok (All stop)) bound = 0
+to_take (Err cut) bound = 0
+
+falls : (t : Result Taken CutOff) (old new : ℕ) → (t ≡ Ok Window → new < old) → to_take t new < to_take (Ok Window) old
+falls (Ok Window) old new lowers = omega (arith, lowers refl)
+falls (Ok (All stop)) old new lowers = omega arith
+falls (Err cut) old new lowers = omega arith
+
+pub to_take-falls : (s t : Result Taken CutOff) (old new : ℕ) → s ≡ Ok Window → (t ≡ Ok Window → new < old) → to_take t new < to_take s old
+to_take-falls s t old new more lowers = subst (λ (s : Result Taken CutOff). to_take t new < to_take s old) (sym more) (falls t old new lowers)
+
+-- what holds of whatever a feed has left behind a window, where it tells that
+pub IfSome-given : (a b : Option Rest) (old new : Grouping) (given : List (List (List ℕ))) (P : Type 0)
+    → AreGiven a b old new given → IfSome b (λ _. P) → IfSome a (λ _. P)
+IfSome-given None b old new given P h p = tt
+IfSome-given (Some all) b old new given P (rest, told, of) p = subst (λ (o : Option Rest). IfSome o (λ _. P)) told p
+
+-- groups that were taken behind a window
+pub AreTaken-append : (t : Result Taken CutOff) (a b c : Option Rest) (old between new : Grouping) (given more : List (List (List ℕ)))
+    → AreGiven a b old between given → AreTaken t b c between new more → AreTaken t a c old new (given ++ more)
+AreTaken-append (Ok Window) a b c old between new given more h then = AreGiven-append a b c old between new given more h then
+AreTaken-append (Ok (All stop)) None b c old between new given more h then = tt
+AreTaken-append (Ok (All stop)) (Some all) b c old between new given more (rest, told, of) then =
+    let ended = subst (λ (o : Option Rest). IfSome o (λ r. (r.stop ≡ stop) × (groups_from between r.records ≡ more ++ groups_from new []))) told then in (
+      of.stop ∙ ended.0,
+      of.groups
+          ∙ ap (λ (gs : List (List (List ℕ))). given ++ gs) ended.1
+          ∙ sym (append_assoc given more (groups_from new [])),
+    )
+AreTaken-append (Err cut) None b c old between new given more h then = tt
+AreTaken-append (Err cut) (Some all) b c old between new given more (rest, told, of) then =
+    let front = subst (λ (o : Option Rest). AreFront o between more) told then in (
+      front.0,
+      of.groups
+          ∙ ap (λ (gs : List (List (List ℕ))). given ++ gs) front.1
+          ∙ sym (append_assoc given more front.0),
+    )

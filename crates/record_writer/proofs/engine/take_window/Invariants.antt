@@ -1,0 +1,19 @@
+use Rattle.std.proofs.Common.{◌≡◌, ℕ, ◌^◌, ◌<◌, ◌≤◌, true}
+use Rattle.meta_chunk.specs.Files.{end_of_chunks}
+use Rattle.record_writer.specs.Progresses.{AreGiven, chunks_of_groups, reach_of}
+use Rattle.record_writer.proofs.engine.take_window.Given as goal
+
+abbrev pub invariant-loop-grouper : goal.invariant-loop-grouper
+invariant-loop-grouper g l = record {
+  given : AreGiven (g.L.RecordFeed.rest l.fn.feed) (g.L.RecordFeed.rest l.feed) l.fn.grouper l.grouper l.window;
+  feed_going : g.L.RecordFeed.going l.feed ≡ true;
+  in_reach : (place : ℕ) → reach_of (end_of_chunks place (chunks_of_groups l.window)) l.grouper (g.L.RecordFeed.bound l.feed)
+      ≤ reach_of place l.fn.grouper (g.L.RecordFeed.bound l.fn.feed);
+  lowers : g.L.RecordFeed.bound l.feed ≤ g.L.RecordFeed.bound l.fn.feed;
+  count : g.L.RecordFeed.faults l.fn.feed ≤ g.L.RecordFeed.faults l.feed;
+  small : g.L.RecordFeed.faults l.fn.feed < 2 ^ 64 → g.L.RecordFeed.faults l.feed < 2 ^ 64;
+  same_name : g.L.RecordFeed.name l.feed ≡ g.L.RecordFeed.name l.fn.feed;
+}
+
+abbrev pub decreases-loop-grouper : goal.decreases-loop-grouper
+decreases-loop-grouper g l = g.L.RecordFeed.bound l.feed
