@@ -1,34 +1,39 @@
 -- The steps of copying a file, whatever the file tells.
-use Rattle.std.proofs.Common.{◌≡◌, ◌≢◌, ◌∙◌, ℕ, ◌+◌, ◌*◌, ◌^◌, ◌≤◌, Bool, true, false, Option, Some, None, Result, Err, List, [], ◌∷◌, ◌++◌, cond, refl, sym, ap, subst, inl, inr, arith}
-use Rattle.std.proofs.lemmas.Bool.{cases_Bool}
-use Rattle.std.proofs.lemmas.List.{append-nil}
+use Rattle.std.proofs.Common.{◌≡◌, ◌≢◌, ◌∙◌, ℕ, ◌+◌, ◌*◌, ◌^◌, ◌<◌, ◌≤◌, Bool, true, false, Option, None, Result, Ok, Err, List, [], ◌∷◌, ◌++◌, length, take, drop, cond, refl, sym, ap, subst, inl, inr, arith, append_assoc, length-append}
+use Rattle.std.proofs.lemmas.Bool.{cases_Bool, cond-true, cond-false}
+use Rattle.std.proofs.lemmas.List.{append-nil, take-append-drop}
 use Rattle.std.proofs.lemmas.List.Sums.{sum_by-append}
 use Rattle.std.proofs.lemmas.Grind.{flat_map-append}
-use Rattle.record_io.specs.Outside.{Takes, TakesFront}
+use Rattle.record_io.specs.Outside.{Rose, Takes, TakesFront}
+use Rattle.record_io.specs.declared.outside.Failed.{Failed}
+use Rattle.std.specs.Result.{OnOk, OnErr}
+use Rattle.record_group.proofs.Signed.{end_of_chunk-signature}
 use Rattle.record_io.specs.Buffers.{TakesAndHolds}
-use Rattle.record_io.proofs.Calls.{Takes-append, TakesFront-append, TakesFront-longer, TakesFront-whole}
+use Rattle.record_io.specs.Puts.{Made, Notes, Put, Taken, taken_by, puts_to, GoOut, GoOutOrAreHeld, BreaksOff}
+use Rattle.record_io.proofs.Puts.{puts_to-append, GoOut-append, GoOut-made, GoOut-notes, TakesFront-count, BreaksOff-last, BreaksOff-longer}
 use Rattle.chunk_header.specs.Chunks.{ChunkValue}
 use Rattle.chunk_header.specs.Views.{value_of_chunk}
 use Rattle.meta_chunk.specs.Files.{signature, end_of_chunks, laid_each}
-use Rattle.record_writer.specs.Progresses.{Progress, Lays, LaysFront, TakesAndHoldsFront, nothing_made}
-use Rattle.record_writer.proofs.Layings.{Lays-append, LaysFront-behind, LaysFront-failed}
+use Rattle.meta_chunk.proofs.Joins.{length-laid_each}
+use Rattle.meta_chunk.proofs.LaidChunks.{end_of_chunk_after}
+use Rattle.record_writer.specs.Progresses.{Progress, Lays, LaysFront, nothing_made, totals_made}
+use Rattle.record_writer.proofs.Layings.{Lays-append}
+use Rattle.record_writer.proofs.Counted.{totals_made-laid}
 use Rattle.damage_skip.specs.Pieces.{Piece}
 use Rattle.damage_skip.specs.Walks.{piece_of, IsEventIn}
 use Rattle.damage_skip.specs.declared.events.Event.{Event}
 use Rattle.damage_skip.specs.declared.events.Event.TheVariants as event
-use Rattle.repair_copy.specs.Relaid.{chunk_in, chunks_in, relaid}
+use Rattle.repair_copy.specs.Relaid.{chunk_in, chunks_in}
 use Rattle.repair_copy.specs.Told.{line_of, lines_in, is_skipped, regions_in}
-use Rattle.repair_copy.specs.Copies.{FitsAt, Copies, TakesLines, CopiesFront, HasCopied}
+use Rattle.repair_copy.specs.RepairPuts.{puts_from, repair_puts, WentOutAtFault}
+use Rattle.repair_copy.specs.Copies.{FitsAt, stream_of, next_place, puts_behind, Begins, Copies, CopiesFront, HasBegun, HasCopied, HasPutAll, HasBrokenOff, HasPutAtFault}
 use Rattle.repair_copy.specs.declared.copying.Copied.{Copied}
 use Rattle.repair_copy.specs.declared.copying.CutOff.{CutOff}
-use Rattle.repair_copy.specs.declared.copying.CutOff.TheVariants.{Store, Made, Notes, Memory}
+use Rattle.repair_copy.specs.declared.copying.CutOff.TheVariants as cut
 use Rattle.repair_copy.proofs.EventChunks.{chunks_in-append}
 use Rattle.repair_copy.proofs.Growth.{place_moved}
-
--- a sink that isn't called takes nothing
-pub Takes-nothing : (a : Option (List ℕ)) → Takes a a []
-Takes-nothing None = tt
-Takes-nothing (Some taken) = ap Some (sym (append-nil taken))
+use Rattle.repair_copy.proofs.HeldPuts.{held_more, held_broken, breaks_off-front, held_made, held_flushed}
+use Rattle.repair_copy.proofs.RepairPuts.{repair_puts-append}
 
 -- lines and numbers of pieces behind others
 pub lines_in-append : (ps qs : List Piece) → lines_in (ps ++ qs) ≡ lines_in ps ++ lines_in qs
@@ -38,7 +43,7 @@ regions_in-append : (ps qs : List Piece) → regions_in (ps ++ qs) ≡ regions_i
 regions_in-append ps qs = sum_by-append (λ (p : Piece). cond (is_skipped p.what) 1 0) ps qs
 
 -- what is held went out: no chunk is laid then
-pub Lays-flushed : (a b : Option (List ℕ)) (s t : Progress) → s.spent ≡ false → Takes a b s.held → t ≡ record s { held = [] } → Lays a b s t []
+Lays-flushed : (a b : Option (List ℕ)) (s t : Progress) → s.spent ≡ false → Takes a b s.held → t ≡ record s { held = [] } → Lays a b s t []
 unfolding laid_each
 Lays-flushed a b s t going taken is = record {
   bytes = record { passed = s.held; parts = ap (λ (xs : List ℕ). s.held ++ xs) (sym (ap (λ (p : Progress). p.held) is)); taken = taken };
@@ -49,122 +54,260 @@ Lays-flushed a b s t going taken is = record {
   unread = omega (arith, ap (λ (p : Progress). p.unread) is);
 }
 
--- which is a front of what is laid
-LaysFront-flushed : (a b : Option (List ℕ)) (s t : Progress) → Takes a b s.held → t ≡ record s { held = [] } → LaysFront a b s t []
-unfolding laid_each
-LaysFront-flushed a b s t taken is = record {
-  bytes = record {
-    passed = s.held;
-    rest = [];
-    parts = ap (λ (xs : List ℕ). s.held ++ (xs ++ [])) (sym (ap (λ (p : Progress). p.held) is));
-    taken = taken;
-  };
+-- what is put of a piece without a line, or without a chunk
+puts_of-chunk : (s : Progress) (p : Piece) → line_of p.begin p.end p.what ≡ []
+    → puts_behind s p ≡ puts_to Made (s.held ++ laid_each s.place (chunk_in p.what))
+unfolding puts_from
+puts_of-chunk s p none =
+    ap (λ (xs : List ℕ). puts_to Made s.held ++ (puts_to Made (laid_each s.place (chunk_in p.what)) ++ (puts_to Notes xs ++ []))) none
+    ∙ ap (λ (xs : List Put). puts_to Made s.held ++ xs) (append-nil (puts_to Made (laid_each s.place (chunk_in p.what))))
+    ∙ sym (puts_to-append Made s.held (laid_each s.place (chunk_in p.what)))
+
+puts_of-line : (s : Progress) (p : Piece) → chunk_in p.what ≡ []
+    → puts_behind s p ≡ puts_to Made s.held ++ puts_to Notes (line_of p.begin p.end p.what)
+unfolding puts_from laid_each
+puts_of-line s p none =
+    ap (λ (ks : List ChunkValue). puts_to Made s.held ++ (puts_to Made (laid_each s.place ks) ++ (puts_to Notes (line_of p.begin p.end p.what) ++ []))) none
+    ∙ ap (λ (xs : List Put). puts_to Made s.held ++ xs) (append-nil (puts_to Notes (line_of p.begin p.end p.what)))
+
+-- bytes of chunks are some
+some_laid : (held : List ℕ) (place : ℕ) (ks : List ChunkValue) → place < end_of_chunks place ks → held ++ laid_each place ks ≢ []
+some_laid held place ks past = λ none.
+    omega (arith, ap length none, length-append held (laid_each place ks), length-laid_each place ks, past)
+
+-- what cut a call off that never answers that notes failed
+pub made_alone : {T : Type 0} (r : Result T CutOff) (c : CutOff) → r ≡ Err c → r ≢ Err cut.Notes → cut.Made ≡ c
+made_alone r cut.Made is never = refl
+made_alone r cut.Notes is never = absurd (never is)
+
+-- a chunk was put
+pub chunk_put : (a b n : Option (List ℕ)) (s t : Copied) (p : Piece) (k : ChunkValue) → chunk_in p.what ≡ k ∷ [] → line_of p.begin p.end p.what ≡ []
+    → is_skipped p.what ≡ false → Lays a b s.file t.file (k ∷ []) → t.begun ≡ s.begun → t.regions ≡ s.regions
+    → Copies (taken_by a None n) (taken_by b None n) s t p
+chunk_put a b n s t p k one none kept lays begun counted = record {
+  chunks = subst (λ (ks : List ChunkValue). Lays a b s.file t.file (ks ++ [])) (sym one) lays;
+  puts = subst (λ (ps : List Put). GoOutOrAreHeld (taken_by a None n) (taken_by b None n) Made ps t.file.held)
+      (sym (puts_of-chunk s.file p none))
+      (held_made a b n (s.file.held ++ laid_each s.file.place (chunk_in p.what)) t.file.held
+      (subst (λ (ks : List ChunkValue). TakesAndHolds a b (s.file.held ++ laid_each s.file.place ks) t.file.held) (sym one) lays.bytes));
+  begun = begun;
+  regions = omega (arith, counted, ap (λ (b : Bool). cond {A = ℕ} b 1 0) kept);
 }
 
--- or failed to
-LaysFront-unflushed : (a b : Option (List ℕ)) (s t : Progress) → TakesFront a b s.held → t ≡ record s { held = [] } → LaysFront a b s t []
-unfolding laid_each
-LaysFront-unflushed a b s t front is =
-    LaysFront-failed a b s t [] (ap (λ (p : Progress). p.held) is) (subst (λ (xs : List ℕ). TakesFront a b xs) (sym (append-nil s.held)) front)
-
--- why a call answers that fails in one way
-pub made_only : {T : Type 0} (r : Result T CutOff) (end cut : CutOff) → r ≡ Err end → end ≡ Made → r ≡ Err cut → Made ≡ cut
-made_only r end cut is made answer = cc
-
--- a chunk was not put whole
+-- or not whole
 pub chunk_failed : (a b n : Option (List ℕ)) (s t : Progress) (p : Piece) (k : ChunkValue) → chunk_in p.what ≡ k ∷ [] → line_of p.begin p.end p.what ≡ []
-    → LaysFront a b s t (k ∷ []) → (cut : CutOff) → Made ≡ cut → CopiesFront cut a b n n s t p
-chunk_failed a b n s t p k one none front cut is =
-    subst (λ (c : CutOff). CopiesFront c a b n n s t p) is (record {
-      events = p ∷ [];
-      begun = inr refl;
-      chunks = subst (λ (ks : List ChunkValue). LaysFront a b s t (ks ++ [])) (sym one) front;
-      notes = subst (λ (xs : List ℕ). Takes n n (xs ++ [])) (sym none) (Takes-nothing n);
+    → LaysFront a b s t (k ∷ []) → (c : CutOff) → cut.Made ≡ c
+    → CopiesFront c (taken_by a None n) (taken_by b None n) s p
+chunk_failed a b n s t p k one none front c is =
+    subst (λ (x : CutOff). CopiesFront x (taken_by a None n) (taken_by b None n) s p) is (record {
+      part = puts_to Made front.bytes.passed;
+      went = GoOut-made a b None n front.bytes.passed front.bytes.taken;
+      broken = subst (λ (ps : List Put). BreaksOff Made (puts_to Made front.bytes.passed) ps) (sym (puts_of-chunk s p none))
+          (subst (λ (ks : List ChunkValue). BreaksOff Made (puts_to Made front.bytes.passed) (puts_to Made (s.held ++ laid_each s.place ks))) (sym one)
+          (breaks_off-front Made (s.held ++ laid_each s.place (k ∷ [])) front.bytes.passed (t.held ++ front.bytes.rest) front.bytes.parts
+          (some_laid s.held s.place (k ∷ []) (omega (arith, end_of_chunk_after s.place k)))));
     })
 
--- what is held before a line was not put whole
-pub flush_failed : (a b n : Option (List ℕ)) (s t : Progress) (p : Piece) → TakesFront a b s.held → t ≡ record s { held = [] }
-    → (cut : CutOff) → Made ≡ cut → CopiesFront cut a b n n s t p
-flush_failed a b n s t p front held cut is =
-    subst (λ (c : CutOff). CopiesFront c a b n n s t p) is (record {
-      events = [];
-      begun = inl refl;
-      chunks = LaysFront-unflushed a b s t front held;
-      notes = Takes-nothing n;
-    })
-
--- a line was not put whole
-pub line_failed : (a b n m : Option (List ℕ)) (s t : Progress) (p : Piece) → chunk_in p.what ≡ [] → Takes a b s.held → t ≡ record s { held = [] }
-    → line_of p.begin p.end p.what ≢ [] → TakesFront n m (line_of p.begin p.end p.what) → (cut : CutOff) → Notes ≡ cut → CopiesFront cut a b n m s t p
-line_failed a b n m s t p none taken held some front cut is =
-    subst (λ (c : CutOff). CopiesFront c a b n m s t p) is (record {
-      events = p ∷ [];
-      begun = inr refl;
-      chunks = subst (λ (ks : List ChunkValue). LaysFront a b s t (ks ++ [])) (sym none) (LaysFront-flushed a b s t taken held);
-      notes = subst (λ (xs : List ℕ). (xs ≢ []) × TakesFront n m xs) (sym (append-nil (line_of p.begin p.end p.what))) (some, front);
-    })
-
--- a line was put
+-- a line was put, behind what was held
 pub line_put : (a b n m : Option (List ℕ)) (s t : Copied) (p : Piece) → chunk_in p.what ≡ [] → is_skipped p.what ≡ true → s.file.spent ≡ false
-    → Takes a b s.file.held → t.file ≡ record s.file { held = [] } → Takes n m (line_of p.begin p.end p.what) → t.regions ≡ s.regions + 1
-    → Copies a b n m s t (p ∷ [])
-line_put a b n m s t p none skipped going taken held line counted = record {
+    → Takes a b s.file.held → t.file ≡ record s.file { held = [] } → Takes n m (line_of p.begin p.end p.what) → t.begun ≡ s.begun
+    → t.regions ≡ s.regions + 1 → Copies (taken_by a None n) (taken_by b None m) s t p
+line_put a b n m s t p none skipped going taken held line begun counted = record {
   chunks = subst (λ (ks : List ChunkValue). Lays a b s.file t.file (ks ++ [])) (sym none) (Lays-flushed a b s.file t.file going taken held);
-  notes = subst (λ (xs : List ℕ). Takes n m xs) (sym (append-nil (line_of p.begin p.end p.what))) line;
+  puts = record {
+    passed = puts_to Made s.file.held ++ puts_to Notes (line_of p.begin p.end p.what);
+    parts = puts_of-line s.file p none
+        ∙ sym (append-nil (puts_to Made s.file.held ++ puts_to Notes (line_of p.begin p.end p.what)))
+        ∙ ap (λ (xs : List ℕ). (puts_to Made s.file.held ++ puts_to Notes (line_of p.begin p.end p.what)) ++ puts_to Made xs)
+        (sym (ap (λ (f : Progress). f.held) held));
+    went = GoOut-append (taken_by a None n) (taken_by b None n) (taken_by b None m) (puts_to Made s.file.held)
+        (puts_to Notes (line_of p.begin p.end p.what)) (GoOut-made a b None n s.file.held taken)
+        (GoOut-notes b None n m (line_of p.begin p.end p.what) line);
+  };
+  begun = begun;
   regions = omega (arith, counted, ap (λ (b : Bool). cond {A = ℕ} b 1 0) skipped);
 }
 
+-- or what was held before it was not put whole
+pub flush_failed : (a b n : Option (List ℕ)) (s : Progress) (p : Piece) → chunk_in p.what ≡ [] → s.held ≢ [] → TakesFront a b s.held
+    → (c : CutOff) → cut.Made ≡ c → CopiesFront c (taken_by a None n) (taken_by b None n) s p
+flush_failed a b n s p none some front c is =
+    let took = TakesFront-count a b s.held front in
+    subst (λ (x : CutOff). CopiesFront x (taken_by a None n) (taken_by b None n) s p) is (record {
+      part = puts_to Made (take took.0 s.held);
+      went = GoOut-made a b None n (take took.0 s.held) took.1;
+      broken = subst (λ (ps : List Put). BreaksOff Made (puts_to Made (take took.0 s.held)) ps) (sym (puts_of-line s p none))
+          (BreaksOff-longer Made (puts_to Made (take took.0 s.held)) (puts_to Made s.held) (puts_to Notes (line_of p.begin p.end p.what))
+          (BreaksOff-last Made [] s.held took.0 some));
+    })
+
+-- or the line itself
+pub line_failed : (a b n m : Option (List ℕ)) (s : Progress) (p : Piece) → chunk_in p.what ≡ [] → Takes a b s.held
+    → line_of p.begin p.end p.what ≢ [] → TakesFront n m (line_of p.begin p.end p.what) → (c : CutOff) → cut.Notes ≡ c
+    → CopiesFront c (taken_by a None n) (taken_by b None m) s p
+line_failed a b n m s p none taken some front c is =
+    let line : List ℕ = line_of p.begin p.end p.what in
+    let took = TakesFront-count n m line front in
+    subst (λ (x : CutOff). CopiesFront x (taken_by a None n) (taken_by b None m) s p) is (record {
+      part = puts_to Made s.held ++ puts_to Notes (take took.0 line);
+      went = GoOut-append (taken_by a None n) (taken_by b None n) (taken_by b None m) (puts_to Made s.held) (puts_to Notes (take took.0 line))
+          (GoOut-made a b None n s.held taken) (GoOut-notes b None n m (take took.0 line) took.1);
+      broken = subst (λ (ps : List Put). BreaksOff Notes (puts_to Made s.held ++ puts_to Notes (take took.0 line)) ps) (sym (puts_of-line s p none))
+          (BreaksOff-last Notes (puts_to Made s.held) line took.0 some);
+    })
+
+-- once the signature was put, the file is begun
+pub has_begun : (before : Taken) (a b n : Option (List ℕ)) (s t : Copied) (events : List Piece)
+    → HasCopied before (taken_by a None n) s events → Begins a b s t → HasBegun before (taken_by b None n) t events
+unfolding puts_from laid_each
+has_begun before a b n s t events (inl h) (inl (begun, same, made)) = cc (h.unbegun, begun)
+has_begun before a b n s t events (inl h) (inr (unbegun, begun, counted, lays)) =
+    subst (λ (es : List Piece). HasBegun before (taken_by b None n) t es) (sym h.none)
+    (subst (λ (x : Taken). HasBegun x (taken_by b None n) t []) h.same (record {
+      begun = begun;
+      chunks = lays;
+      puts = subst (λ (ps : List Put). GoOutOrAreHeld (taken_by a None n) (taken_by b None n) Made ps t.file.held)
+          (sym (append-nil (puts_to Made (laid_each 0 (signature ∷ [])))))
+          (held_made a b n (laid_each 0 (signature ∷ [])) t.file.held lays.bytes);
+      regions = counted ∙ h.regions;
+    }))
+has_begun before a b n s t events (inr (h, some)) (inl (begun, same, made)) =
+    subst (λ (x : Copied). HasBegun before (taken_by b None n) x events) (sym same)
+    (subst (λ (x : Option (List ℕ)). HasBegun before (taken_by x None n) s events) (sym made) h)
+has_begun before a b n s t events (inr (h, some)) (inr (unbegun, begun, counted, lays)) = cc (h.begun, unbegun)
+
+-- or that was cut off
+pub begin_failed : (before : Taken) (a b n : Option (List ℕ)) (s : Copied) (t : Progress) (events more : List Piece)
+    → HasCopied before (taken_by a None n) s events → s.begun ≡ false → LaysFront a b nothing_made t (signature ∷ [])
+    → (c : CutOff) → cut.Made ≡ c → HasBrokenOff c before (taken_by b None n) (events ++ more)
+begin_failed before a b n s t events more (inr (h, some)) unbegun front c is = cc (h.begun, unbegun)
+begin_failed before a b n s t events more (inl h) unbegun front c is =
+    let bytes : List ℕ = laid_each 0 (signature ∷ []) in
+    subst (λ (x : CutOff). HasBrokenOff x before (taken_by b None n) (events ++ more)) is
+    (subst (λ (es : List Piece). HasBrokenOff cut.Made before (taken_by b None n) (es ++ more)) (sym h.none)
+    (subst (λ (x : Taken). HasBrokenOff cut.Made x (taken_by b None n) more) h.same (record {
+      part = puts_to Made front.bytes.passed;
+      went = GoOut-made a b None n front.bytes.passed front.bytes.taken;
+      broken = BreaksOff-longer Made (puts_to Made front.bytes.passed) (puts_to Made bytes) (puts_from (end_of_chunks 0 (signature ∷ [])) more)
+          (breaks_off-front Made bytes front.bytes.passed (t.held ++ front.bytes.rest) front.bytes.parts
+          (some_laid [] 0 (signature ∷ []) (omega (arith, end_of_chunk-signature))));
+    })))
+
+-- what is put of one event more
+puts_more : (before after : Taken) (s : Copied) (events : List Piece) (e : Piece) → HasBegun before after s events
+    → repair_puts (events ++ e ∷ []) ≡ repair_puts events ++ puts_from s.file.place (e ∷ [])
+puts_more before after s events e h =
+    repair_puts-append events (e ∷ []) ∙ ap (λ (n : ℕ). repair_puts events ++ puts_from n (e ∷ [])) (sym h.chunks.place)
+
 -- one event more was copied
-pub copies_more : (a b c n m o : Option (List ℕ)) (s t : Copied) (events : List Piece) (e : Piece) → HasCopied a b n m s events
-    → Copies b c m o s t (e ∷ []) → HasCopied a c n o t (events ++ e ∷ [])
-copies_more a b c n m o s t events e h more = record {
-  chunks = subst (λ (ks : List ChunkValue). Lays a c nothing_made t.file (signature ∷ ks)) (sym (chunks_in-append events (e ∷ [])))
-      (Lays-append a b c nothing_made s.file t.file (signature ∷ chunks_in events) (chunks_in (e ∷ [])) h.chunks more.chunks);
-  notes = subst (λ (xs : List ℕ). Takes n o xs) (sym (lines_in-append events (e ∷ [])))
-      (Takes-append n m o (lines_in events) (lines_in (e ∷ [])) h.notes more.notes);
+pub copies_more : (before now then : Taken) (s t : Copied) (events : List Piece) (e : Piece) → HasBegun before now s events
+    → Copies now then s t e → HasBegun before then t (events ++ e ∷ [])
+copies_more before now then s t events e h more = record {
+  begun = more.begun ∙ h.begun;
+  chunks = subst (λ (ks : List ChunkValue). Lays before.made then.made nothing_made t.file (signature ∷ ks)) (sym (chunks_in-append events (e ∷ [])))
+      (Lays-append before.made now.made then.made nothing_made s.file t.file (signature ∷ chunks_in events) (chunks_in (e ∷ [])) h.chunks more.chunks);
+  puts = subst (λ (ps : List Put). GoOutOrAreHeld before then Made ps t.file.held) (sym (puts_more before now s events e h))
+      (held_more before now then (repair_puts events) (puts_from s.file.place (e ∷ [])) s.file.held t.file.held h.puts more.puts);
   regions = omega (arith, h.regions, more.regions, regions_in-append events (e ∷ []));
 }
 
--- what a sink took is a front of what it took and holds
-front_held : (a b : Option (List ℕ)) (bytes held : List ℕ) → TakesAndHoldsFront a b bytes held → TakesFront a b bytes
-front_held a b bytes held h =
-    subst (λ (xs : List ℕ). TakesFront a b xs) (sym h.parts)
-    (TakesFront-longer a b h.passed (held ++ h.rest) (TakesFront-whole a b h.passed h.taken))
+-- or that was cut off
+pub copies_cut : (c : CutOff) (before now then : Taken) (s : Copied) (events : List Piece) (e : Piece) → HasBegun before now s events
+    → CopiesFront c now then s.file e → HasBrokenOff c before then (events ++ e ∷ [])
+copies_cut c before now then s events e h front = record {
+  part = h.puts.passed ++ front.part;
+  went = GoOut-append before now then h.puts.passed front.part h.puts.went front.went;
+  broken = subst (λ (ps : List Put). BreaksOff (stream_of c) (h.puts.passed ++ front.part) ps) (sym (puts_more before now s events e h))
+      (held_broken (stream_of c) before now (repair_puts events) front.part (puts_from s.file.place (e ∷ [])) s.file.held h.puts front.broken);
+}
 
-whole_held : (a b : Option (List ℕ)) (bytes held : List ℕ) → TakesAndHolds a b bytes held → TakesFront a b bytes
-whole_held a b bytes held h =
-    subst (λ (xs : List ℕ). TakesFront a b xs) (sym h.parts) (TakesFront-longer a b h.passed held (TakesFront-whole a b h.passed h.taken))
+-- so it is behind the signature
+pub event_copied : (r : Result (Unit {0}) CutOff) (a b n : Option (List ℕ)) (then : Taken) (s t u : Copied) (e : Piece) → Begins a b s t
+    → OnOk r (Copies (taken_by b None n) then t u e)
+    → OnOk r ((before : Taken) (events : List Piece) → HasCopied before (taken_by a None n) s events → HasBegun before then u (events ++ e ∷ []))
+event_copied (Err c) a b n then s t u e begins copies = tt
+event_copied (Ok done) a b n then s t u e begins copies =
+    λ before events h. copies_more before (taken_by b None n) then t u events e (has_begun before a b n s t events h begins) copies
 
--- so a front of the file of the events was put
-pub front_copied : (a b n m : Option (List ℕ)) (s : Copied) (events : List Piece) → HasCopied a b n m s events → TakesFront a b (relaid events)
-front_copied a b n m s events h = whole_held a b (relaid events) s.file.held h.chunks.bytes
+-- where what is held went out, all did
+pub put_all : (before : Taken) (a b n : Option (List ℕ)) (s t : Copied) (events : List Piece) → HasBegun before (taken_by a None n) s events
+    → Takes a b s.file.held → totals_made t.file ≡ totals_made s.file → t.regions ≡ s.regions → HasPutAll before (taken_by b None n) t events
+put_all before a b n s t events h taken totals counted = record {
+  puts = held_flushed before a b n (repair_puts events) s.file.held h.puts taken;
+  totals = totals ∙ totals_made-laid before.made a s.file (signature ∷ chunks_in events) h.chunks;
+  regions = counted ∙ h.regions;
+}
 
--- of the signature too
-pub front_begun : (a b : Option (List ℕ)) (t : Progress) → LaysFront a b nothing_made t (signature ∷ []) → TakesFront a b (relaid [])
-front_begun a b t h = front_held a b (relaid []) t.held h.bytes
-
--- lines behind lines
-some_behind : (x y : List ℕ) → y ≢ [] → x ++ y ≢ []
-some_behind [] y some = some
-some_behind (b ∷ x) y some = λ none. cc none
-
-pub lines_behind : (cut : CutOff) (n m o : Option (List ℕ)) (x y : List ℕ) → Takes n m x → TakesLines cut m o y → TakesLines cut n o (x ++ y)
-lines_behind Store n m o x y first then = Takes-append n m o x y first then
-lines_behind Made n m o x y first then = Takes-append n m o x y first then
-lines_behind Notes n m o x y first then = (some_behind x y then.0, TakesFront-append n m o x y first then.1)
-lines_behind Memory n m o x y first then = Takes-append n m o x y first then
-
--- the copying of an event was cut off
-pub copies_cut : (cut : CutOff) (a b c n m o : Option (List ℕ)) (s : Copied) (t : Progress) (events some : List Piece) → HasCopied a b n m s events
-    → LaysFront b c s.file t (chunks_in some) → TakesLines cut m o (lines_in some)
-    → TakesFront a c (relaid (events ++ some)) × TakesLines cut n o (lines_in (events ++ some))
-copies_cut cut a b c n m o s t events some h chunks notes =
-    let laid = LaysFront-behind a b c nothing_made s.file t (signature ∷ chunks_in events) (chunks_in some) h.chunks chunks in (
-      subst (λ (ks : List ChunkValue). TakesFront a c (laid_each 0 (signature ∷ ks))) (sym (chunks_in-append events some))
-          (front_held a c (laid_each 0 (signature ∷ (chunks_in events ++ chunks_in some))) t.held laid.bytes),
-      subst (λ (xs : List ℕ). TakesLines cut n o xs) (sym (lines_in-append events some))
-          (lines_behind cut n m o (lines_in events) (lines_in some) h.notes notes),
+-- or a front did, and what is left is held
+flush_broke : (before : Taken) (a b n : Option (List ℕ)) (ps : List Put) (held : List ℕ) (h : GoOutOrAreHeld before (taken_by a None n) Made ps held)
+    → TakesFront a b held → held ≢ []
+    → (part : List Put) × GoOut before (taken_by b None n) part × BreaksOff Made part ps × (rest : List ℕ) × (ps ≡ part ++ puts_to Made rest)
+flush_broke before a b n ps held h front some =
+    let took = TakesFront-count a b held front in
+    let all : ps ≡ h.passed ++ (puts_to Made held ++ []) = h.parts ∙ ap (λ (xs : List Put). h.passed ++ xs) (sym (append-nil (puts_to Made held))) in (
+      h.passed ++ puts_to Made (take took.0 held),
+      GoOut-append before (taken_by a None n) (taken_by b None n) h.passed (puts_to Made (take took.0 held)) h.went
+          (GoOut-made a b None n (take took.0 held) took.1),
+      record { before = h.passed; bytes = held; rest = []; parts = all; some = some; count = took.0; broken = refl },
+      drop took.0 held,
+      h.parts
+          ∙ ap (λ (xs : List ℕ). h.passed ++ puts_to Made xs) (sym (take-append-drop took.0 held))
+          ∙ ap (λ (xs : List Put). h.passed ++ xs) (puts_to-append Made (take took.0 held) (drop took.0 held))
+          ∙ sym (append_assoc h.passed (puts_to Made (take took.0 held)) (puts_to Made (drop took.0 held))),
     )
+
+pub finish_failed : (before : Taken) (a b n : Option (List ℕ)) (s : Copied) (events : List Piece) → HasBegun before (taken_by a None n) s events
+    → s.file.held ≢ [] → TakesFront a b s.file.held → (c : CutOff) → cut.Made ≡ c → HasBrokenOff c before (taken_by b None n) events
+finish_failed before a b n s events h some front c is =
+    let broke = flush_broke before a b n (repair_puts events) s.file.held h.puts front some in
+    subst (λ (x : CutOff). HasBrokenOff x before (taken_by b None n) events) is (record { part = broke.0; went = broke.1; broken = broke.2 })
+
+-- at a fault too, but for what wasn't begun
+all_at_fault : (f g : ℕ) (events : List Piece) → events ≢ [] → WentOutAtFault f g events (repair_puts events)
+all_at_fault f g [] some = absurd (some refl)
+all_at_fault f g (e ∷ events) some = inl refl
+
+front_at_fault : (f g : ℕ) (events : List Piece) (part : List Put) (rest : List ℕ) → events ≢ [] → Rose f g
+    → repair_puts events ≡ part ++ puts_to Made rest → WentOutAtFault f g events part
+front_at_fault f g [] part rest some rose is = absurd (some refl)
+front_at_fault f g (e ∷ events) part rest some rose is = inr (rose, rest, is)
+
+pub put_at_fault : (result : Result (Unit {0}) Failed) (before : Taken) (a b n : Option (List ℕ)) (s : Copied) (events : List Piece) (f g : ℕ)
+    → OnOk result (Takes a b s.file.held) → OnErr result (TakesFront a b s.file.held) → OnErr result (s.file.held ≢ []) → OnErr result (Rose f g)
+    → HasCopied before (taken_by a None n) s events → HasPutAtFault f g before (taken_by b None n) events
+put_at_fault (Ok done) before a b n s events f g whole front some rose (inl h) =
+    subst (λ (es : List Piece). HasPutAtFault f g before (taken_by b None n) es) (sym h.none)
+    (subst (λ (x : Taken). HasPutAtFault f g x (taken_by b None n) []) h.same (record {
+      part = [];
+      went = refl;
+      took = GoOut-made a b None n [] (subst (λ (p : Progress). Takes a b p.held) h.file whole);
+    }))
+put_at_fault (Ok done) before a b n s events f g whole front some rose (inr (h, more)) = record {
+  part = repair_puts events;
+  went = all_at_fault f g events more;
+  took = held_flushed before a b n (repair_puts events) s.file.held h.puts whole;
+}
+put_at_fault (Err failed) before a b n s events f g whole front some rose (inl h) = absurd (some (ap (λ (p : Progress). p.held) h.file))
+put_at_fault (Err failed) before a b n s events f g whole front some rose (inr (h, more)) =
+    let broke = flush_broke before a b n (repair_puts events) s.file.held h.puts front some in
+    record { part = broke.0; went = front_at_fault f g events broke.0 broke.3 more rose broke.4; took = broke.1 }
+
+-- the next chunk is laid behind what was made
+pub next_when_begun : (s : Copied) → s.begun ≡ true → next_place s ≡ s.file.place
+next_when_begun s begun = cond-true s.begun s.file.place (end_of_chunks 0 (signature ∷ [])) begun
+
+pub next_when_unbegun : (s : Copied) → s.begun ≡ false → next_place s ≡ 64
+next_when_unbegun s unbegun = cond-false s.begun s.file.place (end_of_chunks 0 (signature ∷ [])) unbegun ∙ end_of_chunk-signature
+
+pub next_place-begun : (a b : Option (List ℕ)) (s t : Copied) → Begins a b s t → t.file.place ≡ next_place s
+next_place-begun a b s t (inl (begun, same, made)) = ap (λ (x : Copied). x.file.place) same ∙ sym (next_when_begun s begun)
+next_place-begun a b s t (inr (unbegun, begun, counted, lays)) = lays.place ∙ sym (cond-false s.begun s.file.place (end_of_chunks 0 (signature ∷ [])) unbegun)
+
+pub next_place_small : (from : ℕ) (s : Copied) → s.file.place ≤ 64 + 2 * from → next_place s ≤ 64 + 2 * from
+next_place_small from s small = elim (cases_Bool s.begun) [
+  | inl begun ↦ omega (arith, small, next_when_begun s begun)
+  | inr unbegun ↦ omega (arith, next_when_unbegun s unbegun)
+]
 
 -- an event's chunk ends within reach
 pub fits : (from to place : ℕ) (e : Event) → IsEventIn from to e → place ≤ 64 + 2 * from → to ≤ 2 ^ 60 → FitsAt place e

@@ -6,6 +6,9 @@ pub mod LeftChunks
 pub mod RelaidBytes
 pub mod Growth
 mod Values
+pub mod RepairPuts
+pub mod WholeLines
+mod HeldPuts
 mod CopySteps
 mod WalkedFiles
 mod Passed

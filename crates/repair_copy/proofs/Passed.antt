@@ -1,12 +1,10 @@
 -- The regions that are passed over, whatever the store tells.
-use Rattle.std.proofs.Common.{◌≡◌, ℕ, ◌^◌, ◌≤◌, Bool, true, false, Option, Result, Err, List, [], ◌∷◌, ◌++◌, length, length-append, refl, sym, subst, inl, inr, arith}
+use Rattle.std.proofs.Common.{◌≡◌, ◌≢◌, ◌∙◌, ℕ, ◌+◌, ◌^◌, ◌≤◌, Bool, true, false, Option, Result, Err, List, [], ◌∷◌, ◌++◌, length, length-append, refl, sym, ap, subst, append-nil, arith}
 use Rattle.std.proofs.lemmas.Grind.{flat_map-append}
 use Rattle.std.specs.Fn.{Shared, FnReturnsAt}
 use denote.Ref.{Bor}
-use Rattle.record_io.specs.Outside.{Takes}
-use Rattle.record_io.proofs.Calls.{Takes-append}
-use Rattle.record_writer.specs.Progresses.{Progress}
-use Rattle.damage_skip.specs.Pieces.{Piece}
+use Rattle.record_io.specs.Outside.{Takes, TakesFront}
+use Rattle.record_io.proofs.Calls.{Takes-append, Takes-nothing, TakesFront-append}
 use Rattle.damage_skip.specs.Regions.{IsRegion, region_text}
 use Rattle.damage_skip.specs.Walks.{piece_of, IsEventIn}
 use Rattle.damage_skip.specs.declared.events.Event.{Event}
@@ -14,15 +12,13 @@ use Rattle.damage_skip.specs.declared.events.Event.TheVariants as event
 use Rattle.damage_skip.specs.declared.regions.Region.{Region}
 use lib.Chars.{codes}
 use Rattle.repair_copy.specs.Told.{lines_in, regions_in, lines_of, ArePassed}
-use Rattle.repair_copy.specs.Copies.{Copies, CopiesFront, TakesLines, HasPassed, HasPassedFront}
+use Rattle.repair_copy.specs.Copies.{TakesLine, HasPassed}
 use Rattle.repair_copy.specs.Repairs.{Passes, end_of_cut}
-use Rattle.repair_copy.specs.declared.copying.Copied.{Copied}
 use Rattle.repair_copy.specs.declared.copying.CutOff.{CutOff}
-use Rattle.repair_copy.specs.declared.copying.CutOff.TheVariants.{Store, Made, Notes, Memory}
+use Rattle.repair_copy.specs.declared.copying.CutOff.TheVariants.{Made, Notes}
 use Rattle.repair_copy.specs.declared.repairs.Repaired.{Repaired}
 use Rattle.repair_copy.specs.declared.repairs.RepairEnd.{RepairEnd}
 use Rattle.repair_copy.specs.declared.repairs.RepairEnd.TheVariants as end
-use Rattle.repair_copy.proofs.CopySteps.{Takes-nothing, lines_behind}
 use Rattle.repair_copy.proofs.WalkedFiles.{each_append}
 
 -- the region that an event is, if it is one
@@ -44,6 +40,11 @@ count_of-event (event.Skipped region) = refl
 lines_of-append : (rs ss : List Region) → lines_of (rs ++ ss) ≡ lines_of rs ++ lines_of ss
 lines_of-append rs ss = flat_map-append (region_text (codes "skipped")) rs ss
 
+-- lines behind lines
+some_behind : (x y : List ℕ) → y ≢ [] → x ++ y ≢ []
+some_behind [] y some = some
+some_behind (b ∷ x) y some = λ none. cc none
+
 module _ {F : Type 0} (test : Shared F (Bor Region × Unit {0}) Bool) (f : F) where
   -- it was let pass
   pub event_passed : (t : F) (from to : ℕ) (e : Event) → t ≡ f → IsEventIn from to e → to ≤ 2 ^ 60
@@ -63,56 +64,50 @@ module _ {F : Type 0} (test : Shared F (Bor Region × Unit {0}) Bool) (f : F) wh
   passed_none count n none = record { regions = []; passed = tt; lines = Takes-nothing n; counted = none }
 
   -- an event was copied
-  pub passed_next : (s t : Copied) (b c n m o : Option (List ℕ)) (e : Event) → HasPassed test f s.regions n m
-      → Copies b c m o s t (piece_of e ∷ []) → ArePassed test f (regions_of e) → HasPassed test f t.regions n o
-  passed_next s t b c n m o e h copies pass = record {
+  pub passed_next : (count now : ℕ) (n m o : Option (List ℕ)) (e : Event) → HasPassed test f count n m
+      → Takes m o (lines_in (piece_of e ∷ [])) → now ≡ count + regions_in (piece_of e ∷ []) → ArePassed test f (regions_of e)
+      → HasPassed test f now n o
+  passed_next count now n m o e h line more pass = record {
     regions = h.regions ++ regions_of e;
     passed = each_append (λ (r : Region). IsRegion r × FnReturnsAt test f r true) h.regions (regions_of e) h.passed pass;
     lines = subst (λ (xs : List ℕ). Takes n o xs) (sym (lines_of-append h.regions (regions_of e)))
         (Takes-append n m o (lines_of h.regions) (lines_of (regions_of e)) h.lines
-        (subst (λ (xs : List ℕ). Takes m o xs) (lines_of-event e) copies.notes));
-    counted = omega (arith, copies.regions, count_of-event e, h.counted, length-append h.regions (regions_of e));
+        (subst (λ (xs : List ℕ). Takes m o xs) (lines_of-event e) line));
+    counted = omega (arith, more, count_of-event e, h.counted, length-append h.regions (regions_of e));
   }
 
   -- or that was cut off
-  passed_behind : (cut : CutOff) (count : ℕ) (n m o : Option (List ℕ)) (more : List Region) → HasPassed test f count n m
-      → TakesLines cut m o (lines_of more) → ArePassed test f more → HasPassedFront test f cut n o
-  passed_behind cut count n m o more h lines pass = record {
-    regions = h.regions ++ more;
-    passed = each_append (λ (r : Region). IsRegion r × FnReturnsAt test f r true) h.regions more h.passed pass;
-    lines = subst (λ (xs : List ℕ). TakesLines cut n o xs) (sym (lines_of-append h.regions more))
-        (lines_behind cut n m o (lines_of h.regions) (lines_of more) h.lines lines);
+  passes_cut_off : (cut : CutOff) (count : ℕ) (n m o : Option (List ℕ)) (e : Event) → HasPassed test f count n m
+      → TakesLine cut m o (lines_in (piece_of e ∷ [])) → ArePassed test f (regions_of e) → Passes test f (Err (end_of_cut cut)) n o
+  passes_cut_off Made count n m o e h line pass = record {
+    regions = h.regions;
+    passed = h.passed;
+    answer = tt;
+    lines = subst (λ (xs : List ℕ). Takes n o xs) (append-nil (lines_of h.regions)) (Takes-append n m o (lines_of h.regions) [] h.lines line);
+  }
+  passes_cut_off Notes count n m o e h line pass = record {
+    regions = h.regions ++ regions_of e;
+    passed = each_append (λ (r : Region). IsRegion r × FnReturnsAt test f r true) h.regions (regions_of e) h.passed pass;
+    answer = tt;
+    lines = subst (λ (xs : List ℕ). (xs ≢ []) × TakesFront n o xs) (sym (lines_of-append h.regions (regions_of e)))
+        (subst (λ (xs : List ℕ). (lines_of h.regions ++ xs ≢ []) × TakesFront n o (lines_of h.regions ++ xs)) (lines_of-event e) (
+          some_behind (lines_of h.regions) (lines_in (piece_of e ∷ [])) line.0,
+          TakesFront-append n m o (lines_of h.regions) (lines_in (piece_of e ∷ [])) h.lines line.1,
+        ));
   }
 
-  pub passed_within : (cut : CutOff) (count : ℕ) (b c n m o : Option (List ℕ)) (s t : Progress) (e : Event) → HasPassed test f count n m
-      → CopiesFront cut b c m o s t (piece_of e) → ArePassed test f (regions_of e) → HasPassedFront test f cut n o
-  passed_within cut count b c n m o s t e h front pass =
-      elim front.begun [
-        | inl none ↦ passed_behind cut count n m o [] h (subst (λ (es : List Piece). TakesLines cut m o (lines_in es)) none front.notes) tt
-        | inr one ↦
-            passed_behind cut count n m o (regions_of e) h
-            (subst (λ (xs : List ℕ). TakesLines cut m o xs) (lines_of-event e)
-            (subst (λ (es : List Piece). TakesLines cut m o (lines_in es)) one front.notes))
-            pass
-      ]
+  pub passes_cut : (result : Result Repaired RepairEnd) (cut : CutOff) (count : ℕ) (n m o : Option (List ℕ)) (e : Event)
+      → result ≡ Err (end_of_cut cut) → HasPassed test f count n m → TakesLine cut m o (lines_in (piece_of e ∷ []))
+      → ArePassed test f (regions_of e) → Passes test f result n o
+  passes_cut result cut count n m o e is h line pass =
+      subst (λ (x : Result Repaired RepairEnd). Passes test f x n o) (sym is) (passes_cut_off cut count n m o e h line pass)
 
-  -- or the work was cut off between events
-  pub passed_between : (count : ℕ) (n m : Option (List ℕ)) (end cut : CutOff) → end ≡ cut
-      → ((text : List ℕ) → Takes n m text → TakesLines end n m text) → HasPassed test f count n m → HasPassedFront test f cut n m
-  passed_between count n m end cut is lines h =
-      subst (λ (x : CutOff). HasPassedFront test f x n m) is
-      (record { regions = h.regions; passed = h.passed; lines = lines (lines_of h.regions) h.lines })
-
-  -- so they are what the repair passed over
-  passes_cut_off : (cut : CutOff) (n m : Option (List ℕ)) → HasPassedFront test f cut n m → Passes test f (Err (end_of_cut cut)) n m
-  passes_cut_off Store n m h = record { regions = h.regions; passed = h.passed; answer = tt; lines = h.lines }
-  passes_cut_off Made n m h = record { regions = h.regions; passed = h.passed; answer = tt; lines = h.lines }
-  passes_cut_off Notes n m h = record { regions = h.regions; passed = h.passed; answer = tt; lines = h.lines }
-  passes_cut_off Memory n m h = record { regions = h.regions; passed = h.passed; answer = tt; lines = h.lines }
-
-  pub passes_cut : (result : Result Repaired RepairEnd) (cut : CutOff) (n m : Option (List ℕ)) → result ≡ Err (end_of_cut cut)
-      → HasPassedFront test f cut n m → Passes test f result n m
-  passes_cut result cut n m is h = subst (λ (x : Result Repaired RepairEnd). Passes test f x n m) (sym is) (passes_cut_off cut n m h)
+  -- what is held of the made file was not put whole
+  pub passes_made : (result : Result Repaired RepairEnd) (cut : CutOff) (count : ℕ) (n m : Option (List ℕ)) → result ≡ Err (end_of_cut cut)
+      → cut ≡ Made → HasPassed test f count n m → Passes test f result n m
+  passes_made result cut count n m is made h =
+      subst (λ (x : Result Repaired RepairEnd). Passes test f x n m) (sym (is ∙ ap (λ (c : CutOff). Err (end_of_cut c)) made))
+      (record { regions = h.regions; passed = h.passed; answer = tt; lines = h.lines })
 
   -- also up to one that was refused
   pub passes_stopped : (count : ℕ) (region : Region) (n m : Option (List ℕ)) → HasPassed test f count n m

@@ -1,14 +1,12 @@
 -- Files that are walked and copied, where their bytes may be told.
-use Rattle.std.proofs.Common.{◌≡◌, ◌∙◌, ℕ, Bool, true, false, Option, Some, None, Result, Ok, Err, IfSome, List, [], ◌∷◌, ◌++◌, length, refl, sym, ap, subst, inl, inr, arith}
+use Rattle.std.proofs.Common.{◌≡◌, ◌≢◌, ◌∙◌, ℕ, ◌≤◌, Bool, true, false, Option, Some, None, Result, Ok, Err, IfSome, List, [], ◌∷◌, ◌++◌, length, refl, sym, ap, subst, inl, inr, arith}
 use Rattle.std.proofs.lemmas.List.{append-nil}
 use Rattle.std.specs.List.{AllByRecursion}
 use Rattle.std.specs.Fn.{Shared, FnReturnsAt}
 use denote.Ref.{Bor}
-use Rattle.record_io.specs.Outside.{Takes, TakesFront}
-use Rattle.meta_chunk.specs.Files.{signature}
-use Rattle.record_writer.specs.Progresses.{Progress, Lays, LaysFront, nothing_made, totals_made}
-use Rattle.record_writer.proofs.Fronts.{Takes-flushed, TakesFront-flushed}
-use Rattle.record_writer.proofs.Counted.{totals_made-laid}
+use Rattle.record_io.specs.Outside.{Rose}
+use Rattle.record_io.specs.Puts.{Put, Taken}
+use Rattle.record_writer.specs.Progresses.{nothing_made, totals_made}
 use Rattle.chunk_reader.specs.Reasons.{Applies, NoneOf, loading_reasons}
 use Rattle.chunk_reader.proofs.Rooms.{IsSized}
 use Rattle.damage_skip.specs.Pieces.{Piece}
@@ -18,18 +16,17 @@ use Rattle.damage_skip.specs.declared.events.Event.TheVariants as event
 use Rattle.damage_skip.specs.declared.events.WalkEnd.{WalkEnd}
 use Rattle.damage_skip.specs.declared.regions.Region.{Region}
 use Rattle.damage_skip.proofs.Tiles.{goes_on_append, met_front}
-use Rattle.repair_copy.specs.Relaid.{chunks_in, relaid}
-use Rattle.repair_copy.specs.Told.{IsLetPass, lines_in}
+use Rattle.repair_copy.specs.Told.{IsLetPass}
+use Rattle.repair_copy.specs.RepairPuts.{repair_puts, WentOutAtFault}
 use Rattle.repair_copy.specs.Walked.{AreWalked, EndsAt}
-use Rattle.repair_copy.specs.Copies.{Copies, CopiesFront, HasWalked, IsCopied, IsCutOff, TakesLines}
-use Rattle.repair_copy.specs.Repairs.{MayWantMemory, Repairs, end_of_cut}
+use Rattle.repair_copy.specs.Copies.{HasCopied, HasBegun, HasPutAll, HasBrokenOff, HasPutAtFault, HasWalked}
+use Rattle.repair_copy.specs.Repairs.{Repairs, end_of_cut}
 use Rattle.repair_copy.specs.declared.copying.Copied.{Copied}
 use Rattle.repair_copy.specs.declared.copying.CutOff.{CutOff}
-use Rattle.repair_copy.specs.declared.copying.CutOff.TheVariants.{Store, Made, Notes, Memory}
+use Rattle.repair_copy.specs.declared.copying.CutOff.TheVariants.{Made, Notes}
 use Rattle.repair_copy.specs.declared.repairs.Repaired.{Repaired}
 use Rattle.repair_copy.specs.declared.repairs.RepairEnd.{RepairEnd}
 use Rattle.repair_copy.specs.declared.repairs.RepairEnd.TheVariants as end
-use Rattle.repair_copy.proofs.CopySteps.{Takes-nothing, copies_more, copies_cut, front_copied, front_begun}
 
 -- a walk has not stopped before its front
 pub met_at_front : (bytes : Option (List ℕ)) (keep : Bool) (place : ℕ) → place ≡ 0 → IfSome bytes (λ file. IsMet keep file place)
@@ -47,13 +44,22 @@ not_stopped (Some file) keep place (Some region) going = cc
 same_told : (P : List ℕ → Type 0) (a b : Option (List ℕ)) → b ≡ a → IfSome b P → IfSome a P
 same_told P a b same h = subst (λ (x : Option (List ℕ)). IfSome x P) same h
 
--- memory is wanting where the walk has met a chunk and reads it
-pub may_want_memory : (bytes read : Option (List ℕ)) (keep : Bool) (place : ℕ) → read ≡ bytes → keep ≡ true
-    → IfSome read (λ file. IsMet keep file place) → IfSome read (λ file. NoneOf (Applies file place) loading_reasons) → IfSome bytes MayWantMemory
-may_want_memory bytes None keep place same keeps met loading = same_told MayWantMemory bytes None same tt
-may_want_memory bytes (Some file) keep place same keeps met loading =
-    same_told MayWantMemory bytes (Some file) same
-    (record { place = place; met = subst (λ (k : Bool). IsMet k file place) keeps met; loading = loading })
+-- faults that rose since a count that was no smaller, and what went out then
+rose_since : (faults between faults_then : ℕ) → faults ≤ between → Rose between faults_then → Rose faults faults_then
+rose_since faults between faults_then rises (inl more) = inl (omega arith)
+rose_since faults between faults_then rises (inr most) = inr most
+
+at_fault_since : (faults between faults_then : ℕ) (events : List Piece) (part : List Put) → faults ≤ between
+    → WentOutAtFault between faults_then events part → WentOutAtFault faults faults_then events part
+at_fault_since faults between faults_then [] part rises none = none
+at_fault_since faults between faults_then (e ∷ events) part rises (inl all) = inl all
+at_fault_since faults between faults_then (e ∷ events) part rises (inr (rose, rest, is)) =
+    inr (rose_since faults between faults_then rises rose, rest, is)
+
+-- a last event is one
+some_last : (events : List Piece) (e : Piece) → events ++ e ∷ [] ≢ []
+some_last [] e = λ none. cc none
+some_last (f ∷ events) e = λ none. cc none
 
 -- a walk that goes on
 abbrev answered : Option Event → Result (Option Event) WalkEnd
@@ -90,45 +96,30 @@ module _ {F : Type 0} (test : Shared F (Bor Region × Unit {0}) Bool) (f : F) wh
   }
 
   -- before the first event
-  pub walked_none : (bytes : Option (List ℕ)) (place : ℕ) (a b n : Option (List ℕ)) (s : Progress) (t : Copied) → place ≡ 0 → s ≡ nothing_made
-      → Lays a b s t.file (signature ∷ []) → t.regions ≡ 0 → IfSome bytes (HasWalked test f place t a b n n)
-  walked_none None place a b n s t front at laid none = tt
-  walked_none (Some file) place a b n s t front at laid none = record {
+  pub walked_none : (bytes : Option (List ℕ)) (place : ℕ) (before : Taken) (s : Copied) → place ≡ 0 → s.begun ≡ false → s.file ≡ nothing_made
+      → s.regions ≡ 0 → IfSome bytes (HasWalked test f place s before before)
+  walked_none None place before s front unbegun file none = tt
+  walked_none (Some file) place before s front unbegun at none = record {
     events = [];
     walked = record { walked = ([], sym front, refl); let_pass = tt };
-    copies = record {
-      chunks = subst (λ (p : Progress). Lays a b p t.file (signature ∷ [])) at laid;
-      notes = Takes-nothing n;
-      regions = none;
-    };
+    copies = inl (record { unbegun = unbegun; file = at; regions = none; none = refl; same = refl });
   }
 
-  -- or where that was cut off
-  pub begin_cut : (bytes : Option (List ℕ)) (a b n : Option (List ℕ)) (s t : Progress) → s ≡ nothing_made → LaysFront a b s t (signature ∷ [])
-      → (cut : CutOff) → Made ≡ cut → IfSome bytes (IsCutOff test f cut a b n n)
-  begin_cut None a b n s t at laid cut is = tt
-  begin_cut (Some file) a b n s t at laid cut is =
-      subst (λ (x : CutOff). IsCutOff test f x a b n n file) is (record {
-        place = 0;
-        events = [];
-        walked = record { walked = ([], refl, refl); let_pass = tt };
-        made = front_begun a b t (subst (λ (p : Progress). LaysFront a b p t (signature ∷ [])) at laid);
-        notes = Takes-nothing n;
-      })
+  -- what is put of the events broke off
+  repairs_broken_off : (cut : CutOff) (faults faults_then : ℕ) (before after : Taken) (file : List ℕ) (place : ℕ) (events : List Piece)
+      → AreWalked test f file place events → HasBrokenOff cut before after events
+      → Repairs test f (Err (end_of_cut cut)) faults faults_then before after file
+  repairs_broken_off Made faults faults_then before after file place events walked h =
+      record { place = place; events = events; walked = walked; answer = tt; part = h.part; went = h.broken; took = h.went }
+  repairs_broken_off Notes faults faults_then before after file place events walked h =
+      record { place = place; events = events; walked = walked; answer = tt; part = h.part; went = h.broken; took = h.went }
 
-  -- the work was cut off between events
-  pub cut_between : (bytes : Option (List ℕ)) (place : ℕ) (s : Copied) (a b n m : Option (List ℕ)) (end cut : CutOff)
-      → end ≡ cut → ((text : List ℕ) → Takes n m text → TakesLines end n m text)
-      → IfSome bytes (HasWalked test f place s a b n m) → IfSome bytes (IsCutOff test f cut a b n m)
-  cut_between None place s a b n m end cut is lines h = tt
-  cut_between (Some file) place s a b n m end cut is lines h =
-      subst (λ (x : CutOff). IsCutOff test f x a b n m file) is (record {
-        place = place;
-        events = h.events;
-        walked = h.walked;
-        made = front_copied a b n m s h.events h.copies;
-        notes = lines (lines_in h.events) h.copies.notes;
-      })
+  repairs_cut : (result : Result Repaired RepairEnd) (cut : CutOff) (faults faults_then : ℕ) (before after : Taken) (file : List ℕ) (place : ℕ)
+      (events : List Piece) → result ≡ Err (end_of_cut cut) → AreWalked test f file place events → HasBrokenOff cut before after events
+      → Repairs test f result faults faults_then before after file
+  repairs_cut result cut faults faults_then before after file place events is walked h =
+      subst (λ (x : Result Repaired RepairEnd). Repairs test f x faults faults_then before after file) (sym is)
+      (repairs_broken_off cut faults faults_then before after file place events walked h)
 
   module _ (bytes now : Option (List ℕ)) (keep : Bool) (place to : ℕ) (same : now ≡ bytes) (keeps : keep ≡ true) where
     goes_on : (events : List Piece) → IfSome now (λ file. GoesOn keep file place to events) → IfSome bytes (λ file. GoesOn true file place to events)
@@ -137,43 +128,43 @@ module _ {F : Type 0} (test : Shared F (Bor Region × Unit {0}) Bool) (f : F) wh
         (subst (λ (k : Bool). IfSome now (λ file. GoesOn k file place to events)) keeps h)
 
     -- the walk has come to where it ends
-    pub walked_to_end : (s : Copied) (a b n m : Option (List ℕ)) → IfSome bytes (HasWalked test f place s a b n m)
-        → IfSome now (λ file. GoesOn keep file place to []) → IfSome bytes (HasWalked test f to s a b n m)
-    walked_to_end s a b n m h on = both bytes h (goes_on [] on) where
-      both : (o : Option (List ℕ)) → IfSome o (HasWalked test f place s a b n m) → IfSome o (λ file. GoesOn true file place to [])
-          → IfSome o (HasWalked test f to s a b n m)
+    pub walked_to_end : (s : Copied) (before now_taken : Taken) → IfSome bytes (HasWalked test f place s before now_taken)
+        → IfSome now (λ file. GoesOn keep file place to []) → IfSome bytes (HasWalked test f to s before now_taken)
+    walked_to_end s before now_taken h on = both bytes h (goes_on [] on) where
+      both : (o : Option (List ℕ)) → IfSome o (HasWalked test f place s before now_taken) → IfSome o (λ file. GoesOn true file place to [])
+          → IfSome o (HasWalked test f to s before now_taken)
       both None h on = tt
       both (Some file) h on = record { events = h.events; walked = walked_on file place to h.events h.walked on; copies = h.copies }
 
     -- an event was copied
-    pub walked_next : (s t : Copied) (a b c n m o : Option (List ℕ)) (e : Piece) → IfSome bytes (HasWalked test f place s a b n m)
-        → IfSome now (λ file. GoesOn keep file place to (e ∷ [])) → IsLetPass test f e.begin e.end e.what → Copies b c m o s t (e ∷ [])
-        → IfSome bytes (HasWalked test f to t a c n o)
-    walked_next s t a b c n m o e h on pass copies = both bytes h (goes_on (e ∷ []) on) where
-      both : (x : Option (List ℕ)) → IfSome x (HasWalked test f place s a b n m) → IfSome x (λ file. GoesOn true file place to (e ∷ []))
-          → IfSome x (HasWalked test f to t a c n o)
+    pub walked_next : (s t : Copied) (before now_taken then : Taken) (e : Piece) → IfSome bytes (HasWalked test f place s before now_taken)
+        → IfSome now (λ file. GoesOn keep file place to (e ∷ [])) → IsLetPass test f e.begin e.end e.what
+        → ((b : Taken) (events : List Piece) → HasCopied b now_taken s events → HasBegun b then t (events ++ e ∷ []))
+        → IfSome bytes (HasWalked test f to t before then)
+    walked_next s t before now_taken then e h on pass copies = both bytes h (goes_on (e ∷ []) on) where
+      both : (x : Option (List ℕ)) → IfSome x (HasWalked test f place s before now_taken) → IfSome x (λ file. GoesOn true file place to (e ∷ []))
+          → IfSome x (HasWalked test f to t before then)
       both None h on = tt
       both (Some file) h on = record {
         events = h.events ++ e ∷ [];
         walked = walked_more file place to h.events e h.walked on pass;
-        copies = copies_more a b c n m o s t h.events e h.copies copies;
+        copies = inr (copies before h.events h.copies, some_last h.events e);
       }
 
     -- or that was cut off
-    pub cut_within : (s : Copied) (t : Progress) (a b c n m o : Option (List ℕ)) (e : Piece) (cut : CutOff) → IfSome bytes (HasWalked test f place s a b n m)
-        → IfSome now (λ file. GoesOn keep file place to (e ∷ [])) → IsLetPass test f e.begin e.end e.what → CopiesFront cut b c m o s.file t e
-        → IfSome bytes (IsCutOff test f cut a c n o)
-    cut_within s t a b c n m o e cut h on pass front = both bytes h (goes_on (e ∷ []) on) where
-      both : (x : Option (List ℕ)) → IfSome x (HasWalked test f place s a b n m) → IfSome x (λ file. GoesOn true file place to (e ∷ []))
-          → IfSome x (IsCutOff test f cut a c n o)
+    pub cut_within : (s : Copied) (before now_taken then : Taken) (e : Piece) (cut : CutOff) (result : Result Repaired RepairEnd) (faults faults_then : ℕ)
+        → result ≡ Err (end_of_cut cut)
+        → IfSome bytes (HasWalked test f place s before now_taken)
+        → IfSome now (λ file. GoesOn keep file place to (e ∷ [])) → IsLetPass test f e.begin e.end e.what
+        → ((b : Taken) (events : List Piece) → HasCopied b now_taken s events → HasBrokenOff cut b then (events ++ e ∷ []))
+        → IfSome bytes (Repairs test f result faults faults_then before then)
+    cut_within s before now_taken then e cut result faults faults_then is h on pass front = both bytes h (goes_on (e ∷ []) on) where
+      both : (x : Option (List ℕ)) → IfSome x (HasWalked test f place s before now_taken) → IfSome x (λ file. GoesOn true file place to (e ∷ []))
+          → IfSome x (Repairs test f result faults faults_then before then)
       both None h on = tt
       both (Some file) h on =
-          let put = copies_cut cut a b c n m o s t h.events front.events h.copies front.chunks front.notes in
-          let walked : (end : ℕ) × AreWalked test f file end (h.events ++ front.events) = elim front.begun [
-            | inl none ↦ (place, subst (λ (es : List Piece). AreWalked test f file place es) (sym (append-nil h.events) ∙ ap (λ (es : List Piece). h.events ++ es) (sym none)) h.walked)
-            | inr one ↦ (to, subst (λ (es : List Piece). AreWalked test f file to (h.events ++ es)) (sym one) (walked_more file place to h.events e h.walked on pass))
-          ] in
-          record { place = walked.0; events = h.events ++ front.events; walked = walked.1; made = put.0; notes = put.1 }
+          repairs_cut result cut faults faults_then before then file to (h.events ++ e ∷ []) is
+          (walked_more file place to h.events e h.walked on pass) (front before h.events h.copies)
 
     -- it ends at the file's end
     pub ends_at_end : (size : ℕ) → IsSized now (Some size) → to ≡ size → IfSome bytes (λ file. EndsAt test f file to None)
@@ -195,70 +186,82 @@ module _ {F : Type 0} (test : Shared F (Bor Region × Unit {0}) Bool) (f : F) wh
           at_region (Some file) sized h =
               record { begin = h.0; below = omega (arith, stop.onward.past, stop.onward.within, sized); piece = h.1; refused = refused }
 
-  -- what was held went out, and nothing is held
-  pub copied_whole : (bytes : Option (List ℕ)) (place : ℕ) (stopped : Option Region) (s t : Copied) (a b c n m : Option (List ℕ))
-      → IfSome bytes (HasWalked test f place s a b n m) → IfSome bytes (λ file. EndsAt test f file place stopped) → Takes b c s.file.held
-      → totals_made t.file ≡ totals_made s.file → t.regions ≡ s.regions → IfSome bytes (IsCopied test f stopped t a c n m)
-  copied_whole None place stopped s t a b c n m h end flushed totals regions = tt
-  copied_whole (Some file) place stopped s t a b c n m h end flushed totals regions = record {
-    place = place;
-    events = h.events;
-    walked = h.walked;
-    end = end;
-    made = Takes-flushed a b c (relaid h.events) s.file.held h.copies.chunks.bytes flushed;
-    totals = totals ∙ totals_made-laid a b s.file (signature ∷ chunks_in h.events) h.copies.chunks;
-    notes = h.copies.notes;
-    regions = regions ∙ h.copies.regions;
-  }
-
-  -- or failed to
-  pub flush_cut : (bytes : Option (List ℕ)) (place : ℕ) (s : Copied) (a b c n m : Option (List ℕ)) → IfSome bytes (HasWalked test f place s a b n m)
-      → TakesFront b c s.file.held → (cut : CutOff) → Made ≡ cut → IfSome bytes (IsCutOff test f cut a c n m)
-  flush_cut None place s a b c n m h front cut is = tt
-  flush_cut (Some file) place s a b c n m h front cut is =
-      subst (λ (x : CutOff). IsCutOff test f x a c n m file) is (record {
+  -- so the file is repaired
+  pub repairs_whole : (bytes : Option (List ℕ)) (place : ℕ) (s t : Copied) (repaired : Repaired) (faults faults_then : ℕ) (before a b : Taken)
+      → IfSome bytes (HasWalked test f place s before a) → IfSome bytes (λ file. EndsAt test f file place None)
+      → ((x : Taken) (events : List Piece) → HasCopied x a s events → HasPutAll x b t events)
+      → repaired.totals ≡ totals_made t.file → repaired.regions ≡ t.regions
+      → IfSome bytes (Repairs test f (Ok repaired) faults faults_then before b)
+  repairs_whole None place s t repaired faults faults_then before a b h end put totals regions = tt
+  repairs_whole (Some file) place s t repaired faults faults_then before a b h end put totals regions =
+      let all = put before h.events h.copies in
+      record {
         place = place;
         events = h.events;
         walked = h.walked;
-        made = TakesFront-flushed a b c (relaid h.events) s.file.held h.copies.chunks.bytes front;
-        notes = h.copies.notes;
-      })
-
-  -- so the file is repaired
-  pub repairs_whole : (bytes : Option (List ℕ)) (copied : Copied) (repaired : Repaired) (a b n m : Option (List ℕ))
-      → IfSome bytes (IsCopied test f None copied a b n m) → repaired.totals ≡ totals_made copied.file → repaired.regions ≡ copied.regions
-      → IfSome bytes (Repairs test f (Ok repaired) a b n m)
-  repairs_whole None copied repaired a b n m h totals regions = tt
-  repairs_whole (Some file) copied repaired a b n m h totals regions = record {
-    place = h.place;
-    events = h.events;
-    walked = h.walked;
-    answer = (h.end, totals ∙ h.totals, regions ∙ h.regions);
-    made = h.made;
-    notes = h.notes;
-  }
+        answer = (end, totals ∙ all.totals, regions ∙ all.regions);
+        part = repair_puts h.events;
+        went = refl;
+        took = all.puts;
+      }
 
   -- or up to a region that is refused
-  pub repairs_stopped : (bytes : Option (List ℕ)) (copied : Copied) (region : Region) (a b n m : Option (List ℕ))
-      → IfSome bytes (IsCopied test f (Some region) copied a b n m) → IfSome bytes (Repairs test f (Err (end.Stopped region)) a b n m)
-  repairs_stopped None copied region a b n m h = tt
-  repairs_stopped (Some file) copied region a b n m h =
-      record { place = h.place; events = h.events; walked = h.walked; answer = h.end; made = h.made; notes = h.notes }
+  pub repairs_stopped : (bytes : Option (List ℕ)) (place : ℕ) (s t : Copied) (region : Region) (faults faults_then : ℕ) (before a b : Taken)
+      → IfSome bytes (HasWalked test f place s before a) → IfSome bytes (λ file. EndsAt test f file place (Some region))
+      → ((x : Taken) (events : List Piece) → HasCopied x a s events → HasPutAll x b t events)
+      → IfSome bytes (Repairs test f (Err (end.Stopped region)) faults faults_then before b)
+  repairs_stopped None place s t region faults faults_then before a b h end put = tt
+  repairs_stopped (Some file) place s t region faults faults_then before a b h end put = record {
+    place = place;
+    events = h.events;
+    walked = h.walked;
+    answer = end;
+    part = repair_puts h.events;
+    went = refl;
+    took = (put before h.events h.copies).puts;
+  }
 
-  -- or up to where the work was cut off
-  repairs_cut_off : (file : List ℕ) (cut : CutOff) (a b n m : Option (List ℕ)) → IsCutOff test f cut a b n m file
-      → Repairs test f (Err (end_of_cut cut)) a b n m file
-  repairs_cut_off file Store a b n m h =
-      record { place = h.place; events = h.events; walked = h.walked; answer = tt; made = h.made; notes = h.notes }
-  repairs_cut_off file Made a b n m h =
-      record { place = h.place; events = h.events; walked = h.walked; answer = tt; made = h.made; notes = h.notes }
-  repairs_cut_off file Notes a b n m h =
-      record { place = h.place; events = h.events; walked = h.walked; answer = tt; made = h.made; notes = h.notes }
-  repairs_cut_off file Memory a b n m h =
-      record { place = h.place; events = h.events; walked = h.walked; answer = tt; made = h.made; notes = h.notes }
+  -- or what was held was not put whole
+  pub repairs_unfinished : (bytes : Option (List ℕ)) (place : ℕ) (s : Copied) (result : Result Repaired RepairEnd) (cut : CutOff)
+      (faults faults_then : ℕ) (before a b : Taken) → result ≡ Err (end_of_cut cut) → IfSome bytes (HasWalked test f place s before a)
+      → ((x : Taken) (events : List Piece) → HasCopied x a s events → HasBrokenOff cut x b events)
+      → IfSome bytes (Repairs test f result faults faults_then before b)
+  repairs_unfinished None place s result cut faults faults_then before a b is h front = tt
+  repairs_unfinished (Some file) place s result cut faults faults_then before a b is h front =
+      repairs_cut result cut faults faults_then before b file place h.events is h.walked (front before h.events h.copies)
 
-  pub repairs_cut : (bytes : Option (List ℕ)) (result : Result Repaired RepairEnd) (cut : CutOff) (a b n m : Option (List ℕ)) → result ≡ Err (end_of_cut cut)
-      → IfSome bytes (IsCutOff test f cut a b n m) → IfSome bytes (Repairs test f result a b n m)
-  repairs_cut None result cut a b n m is h = tt
-  repairs_cut (Some file) result cut a b n m is h =
-      subst (λ (x : Result Repaired RepairEnd). Repairs test f x a b n m file) (sym is) (repairs_cut_off file cut a b n m h)
+  -- or up to where the store failed
+  pub repairs_store : (bytes : Option (List ℕ)) (place : ℕ) (s : Copied) (faults between faults_then : ℕ) (before a b : Taken) → faults ≤ between
+      → IfSome bytes (HasWalked test f place s before a)
+      → ((x : Taken) (events : List Piece) → HasCopied x a s events → HasPutAtFault between faults_then x b events)
+      → IfSome bytes (Repairs test f (Err end.Store) faults faults_then before b)
+  repairs_store None place s faults between faults_then before a b rises h put = tt
+  repairs_store (Some file) place s faults between faults_then before a b rises h put =
+      let some = put before h.events h.copies in
+      record {
+        place = place;
+        events = h.events;
+        walked = h.walked;
+        answer = tt;
+        part = some.part;
+        went = at_fault_since faults between faults_then h.events some.part rises some.went;
+        took = some.took;
+      }
+
+  -- or memory was wanting
+  pub repairs_memory : (bytes : Option (List ℕ)) (place : ℕ) (s : Copied) (faults between faults_then : ℕ) (before a b : Taken) → faults ≤ between
+      → IfSome bytes (HasWalked test f place s before a) → IfSome bytes (λ file. NoneOf (Applies file place) loading_reasons)
+      → ((x : Taken) (events : List Piece) → HasCopied x a s events → HasPutAtFault between faults_then x b events)
+      → IfSome bytes (Repairs test f (Err end.Memory) faults faults_then before b)
+  repairs_memory None place s faults between faults_then before a b rises h loading put = tt
+  repairs_memory (Some file) place s faults between faults_then before a b rises h loading put =
+      let some = put before h.events h.copies in
+      record {
+        place = place;
+        events = h.events;
+        walked = h.walked;
+        answer = loading;
+        part = some.part;
+        went = at_fault_since faults between faults_then h.events some.part rises some.went;
+        took = some.took;
+      }

@@ -1,20 +1,22 @@
 -- How far a damaged file is copied. Own.
-use Rattle.std.specs.Prelude.{◌≡◌, ◌≢◌, ℕ, Bool, ◌+◌, ◌^◌, ◌≤◌, ◌⊎◌, ⊤, Option, List, [], ◌∷◌, length}
+use Rattle.std.specs.Prelude.{◌≡◌, ◌≢◌, ℕ, Bool, true, false, ◌+◌, ◌^◌, ◌≤◌, ◌⊎◌, ⊤, Option, List, [], ◌∷◌, ◌++◌, length, if◌then◌else◌}
 use Rattle.std.specs.Fn.{Shared}
 use denote.Ref.{Bor}
 use Rattle.record_io.specs.Outside.{Takes, TakesFront}
+use Rattle.record_io.specs.Puts.{Stream, Made, Notes, Put, Taken, puts_to, GoOut, GoOutOrAreHeld, BreaksOff}
 use Rattle.chunk_header.specs.Views.{HasRightHash, value_of_chunk}
 use Rattle.meta_chunk.specs.Counts.{totals_of}
-use Rattle.meta_chunk.specs.Files.{signature}
+use Rattle.meta_chunk.specs.Files.{signature, end_of_chunks}
 use Rattle.meta_chunk.specs.Laid.{end_of_chunk}
-use Rattle.record_writer.specs.Progresses.{Progress, Lays, LaysFront, nothing_made, totals_made}
+use Rattle.record_writer.specs.Progresses.{Progress, Lays, nothing_made, totals_made}
 use Rattle.damage_skip.specs.Pieces.{Piece}
 use Rattle.damage_skip.specs.declared.events.Event.{Event}
 use Rattle.damage_skip.specs.declared.events.Event.TheVariants as event
 use Rattle.damage_skip.specs.declared.regions.Region.{Region}
-use Rattle.repair_copy.specs.Relaid.{chunks_in, relaid}
-use Rattle.repair_copy.specs.Told.{lines_in, regions_in, lines_of, ArePassed}
-use Rattle.repair_copy.specs.Walked.{AreWalked, EndsAt}
+use Rattle.repair_copy.specs.Relaid.{chunks_in}
+use Rattle.repair_copy.specs.Told.{regions_in, lines_of, ArePassed}
+use Rattle.repair_copy.specs.RepairPuts.{puts_from, repair_puts, WentOutAtFault}
+use Rattle.repair_copy.specs.Walked.{AreWalked}
 use Rattle.repair_copy.specs.declared.copying.Copied.{Copied}
 use Rattle.repair_copy.specs.declared.copying.CutOff.{CutOff}
 use Rattle.repair_copy.specs.declared.copying.CutOff.TheVariants as cut
@@ -25,57 +27,88 @@ FitsAt place (event.Records begin records chunk) = HasRightHash chunk × (end_of
 FitsAt place (event.Kept begin chunk) = HasRightHash chunk × (end_of_chunk place (value_of_chunk chunk) ≤ 2 ^ 62)
 FitsAt place (event.Skipped region) = ⊤
 
--- events were copied: their chunks were laid, their lines taken, and their regions counted
-pub record Copies (made_before made_after notes_before notes_after : Option (List ℕ)) (old new : Copied) (events : List Piece) : Type 0 where
-  pub chunks : Lays made_before made_after old.file new.file (chunks_in events)
-  pub notes : Takes notes_before notes_after (lines_in events)
-  pub regions : new.regions ≡ old.regions + regions_in events
+-- the stream whose sink failed
+abbrev pub stream_of : CutOff → Stream
+stream_of cut.Made = Made
+stream_of cut.Notes = Notes
 
--- what notes took of lines where the work was cut off: all, or a front of some where notes failed
-abbrev pub TakesLines : CutOff → Option (List ℕ) → Option (List ℕ) → List ℕ → Type 0
-TakesLines cut.Notes before after text = (text ≢ []) × TakesFront before after text
-TakesLines other before after text = Takes before after text
+-- where the next chunk is laid: the signature comes before the first
+abbrev pub next_place : Copied → ℕ
+next_place copied = if copied.begun then copied.file.place else end_of_chunks 0 (signature ∷ [])
 
--- the copying of an event was cut off before or within its chunk or its line
-pub record CopiesFront (cut : CutOff) (made_before made_after notes_before notes_after : Option (List ℕ)) (old new : Progress) (event : Piece) : Type 0 where
-  pub events : List Piece
-  pub begun : (events ≡ []) ⊎ (events ≡ event ∷ [])
-  pub chunks : LaysFront made_before made_after old new (chunks_in events)
-  pub notes : TakesLines cut notes_before notes_after (lines_in events)
+-- the signature was put, or had been
+abbrev pub Begins : (made_before made_after : Option (List ℕ)) → (old new : Copied) → Type 0
+Begins made_before made_after old new =
+    ((old.begun ≡ true) × (new ≡ old) × (made_after ≡ made_before))
+    ⊎ ((old.begun ≡ false) × (new.begun ≡ true) × (new.regions ≡ old.regions)
+    × Lays made_before made_after nothing_made new.file (signature ∷ []))
+
+-- what is put of an event that is copied behind what is held
+abbrev pub puts_behind : Progress → Piece → List Put
+puts_behind file event = puts_to Made file.held ++ puts_from file.place (event ∷ [])
+
+-- an event was copied: its chunk was laid and its line taken, in this order, and it was counted if it is a region
+pub record Copies (before after : Taken) (old new : Copied) (event : Piece) : Type 0 where
+  pub chunks : Lays before.made after.made old.file new.file (chunks_in (event ∷ []))
+  pub puts : GoOutOrAreHeld before after Made (puts_behind old.file event) new.file.held
+  pub begun : new.begun ≡ old.begun
+  pub regions : new.regions ≡ old.regions + regions_in (event ∷ [])
+
+-- the copying of an event was cut off
+pub record CopiesFront (cut : CutOff) (before after : Taken) (old : Progress) (event : Piece) : Type 0 where
+  pub part : List Put
+  pub went : GoOut before after part
+  pub broken : BreaksOff (stream_of cut) part (puts_behind old event)
+
+-- what notes took of a line where the work was cut off: a front of some where they failed, and else nothing
+abbrev pub TakesLine : CutOff → Option (List ℕ) → Option (List ℕ) → List ℕ → Type 0
+TakesLine cut.Made before after line = Takes before after []
+TakesLine cut.Notes before after line = (line ≢ []) × TakesFront before after line
 
 -- a file was begun, and events from the front of another were copied into it
-pub record HasCopied (made_before made_after notes_before notes_after : Option (List ℕ)) (copied : Copied) (events : List Piece) : Type 0 where
-  pub chunks : Lays made_before made_after nothing_made copied.file (signature ∷ chunks_in events)
-  pub notes : Takes notes_before notes_after (lines_in events)
+pub record HasBegun (before after : Taken) (copied : Copied) (events : List Piece) : Type 0 where
+  pub begun : copied.begun ≡ true
+  pub chunks : Lays before.made after.made nothing_made copied.file (signature ∷ chunks_in events)
+  pub puts : GoOutOrAreHeld before after Made (repair_puts events) copied.file.held
   pub regions : copied.regions ≡ regions_in events
+
+-- nothing was put yet
+pub record IsUnbegun (before after : Taken) (copied : Copied) (events : List Piece) : Type 0 where
+  pub unbegun : copied.begun ≡ false
+  pub file : copied.file ≡ nothing_made
+  pub regions : copied.regions ≡ 0
+  pub none : events ≡ []
+  pub same : after ≡ before
+
+-- events from the front of a file were copied; before the first one nothing is put
+abbrev pub HasCopied : (before after : Taken) → Copied → List Piece → Type 0
+HasCopied before after copied events =
+    IsUnbegun before after copied events ⊎ (HasBegun before after copied events × (events ≢ []))
+
+-- all that is put of these events went out, and nothing is held
+pub record HasPutAll (before after : Taken) (copied : Copied) (events : List Piece) : Type 0 where
+  pub puts : GoOut before after (repair_puts events)
+  pub totals : totals_made copied.file ≡ totals_of (signature ∷ chunks_in events)
+  pub regions : copied.regions ≡ regions_in events
+
+-- what is put of these events broke off
+pub record HasBrokenOff (cut : CutOff) (before after : Taken) (events : List Piece) : Type 0 where
+  pub part : List Put
+  pub went : GoOut before after part
+  pub broken : BreaksOff (stream_of cut) part (repair_puts events)
+
+-- what is put of these events went out at a fault
+pub record HasPutAtFault (faults faults_then : ℕ) (before after : Taken) (events : List Piece) : Type 0 where
+  pub part : List Put
+  pub went : WentOutAtFault faults faults_then events part
+  pub took : GoOut before after part
 
 -- events of a file up to a place were copied
 pub record HasWalked {F : Type 0} (test : Shared F (Bor Region × Unit {0}) Bool) (f : F) (place : ℕ) (copied : Copied)
-    (made_before made_after notes_before notes_after : Option (List ℕ)) (file : List ℕ) : Type 0 where
+    (before after : Taken) (file : List ℕ) : Type 0 where
   pub events : List Piece
   pub walked : AreWalked test f file place events
-  pub copies : HasCopied made_before made_after notes_before notes_after copied events
-
--- all events of a file were copied, or those up to where the walk stopped, and nothing is held
-pub record IsCopied {F : Type 0} (test : Shared F (Bor Region × Unit {0}) Bool) (f : F) (stopped : Option Region) (copied : Copied)
-    (made_before made_after notes_before notes_after : Option (List ℕ)) (file : List ℕ) : Type 0 where
-  pub place : ℕ
-  pub events : List Piece
-  pub walked : AreWalked test f file place events
-  pub end : EndsAt test f file place stopped
-  pub made : Takes made_before made_after (relaid events)
-  pub totals : totals_made copied.file ≡ totals_of (signature ∷ chunks_in events)
-  pub notes : Takes notes_before notes_after (lines_in events)
-  pub regions : copied.regions ≡ regions_in events
-
--- the work was cut off after or within the last of these events
-pub record IsCutOff {F : Type 0} (test : Shared F (Bor Region × Unit {0}) Bool) (f : F) (cut : CutOff)
-    (made_before made_after notes_before notes_after : Option (List ℕ)) (file : List ℕ) : Type 0 where
-  pub place : ℕ
-  pub events : List Piece
-  pub walked : AreWalked test f file place events
-  pub made : TakesFront made_before made_after (relaid events)
-  pub notes : TakesLines cut notes_before notes_after (lines_in events)
+  pub copies : HasCopied before after copied events
 
 -- so many regions were passed over, and their lines taken
 pub record HasPassed {F : Type 0} (test : Shared F (Bor Region × Unit {0}) Bool) (f : F) (count : ℕ) (before after : Option (List ℕ)) : Type 0 where
@@ -83,9 +116,3 @@ pub record HasPassed {F : Type 0} (test : Shared F (Bor Region × Unit {0}) Bool
   pub passed : ArePassed test f regions
   pub lines : Takes before after (lines_of regions)
   pub counted : count ≡ length regions
-
--- the work was cut off after or within the line of the last of these regions
-pub record HasPassedFront {F : Type 0} (test : Shared F (Bor Region × Unit {0}) Bool) (f : F) (cut : CutOff) (before after : Option (List ℕ)) : Type 0 where
-  pub regions : List Region
-  pub passed : ArePassed test f regions
-  pub lines : TakesLines cut before after (lines_of regions)

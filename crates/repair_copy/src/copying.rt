@@ -1,10 +1,13 @@
-ghost use Rattle.std.specs.Prelude.{◌≡◌, ◌≢◌, ◌+◌, ◌^◌, ◌<◌, ◌≤◌, false, Err, [], ◌∷◌, OnOk, OnErr};
-ghost use Rattle.record_io.specs.Outside.{Rose, TakesFront};
-ghost use Rattle.chunk_header.specs.Views.{HasRightHash, value_of_chunk};
-ghost use Rattle.meta_chunk.specs.Laid.{end_of_chunk};
-ghost use Rattle.record_writer.specs.Progresses.{nothing_made};
+ghost use Rattle.std.specs.Prelude.{◌≡◌, ◌≢◌, ℕ, ◌+◌, ◌^◌, ◌<◌, ◌≤◌, true, false, Err, Option, List, [], ◌∷◌, ◌++◌, OnOk, OnErr};
+ghost use Rattle.record_io.specs.Outside.{Rose, Takes};
+ghost use Rattle.record_io.specs.Puts.{Taken, taken_by};
+ghost use Rattle.meta_chunk.specs.Files.{signature, end_of_chunks};
+ghost use Rattle.record_writer.specs.Progresses.{LaysFront, nothing_made};
+ghost use Rattle.damage_skip.specs.Pieces.{Piece};
 ghost use Rattle.damage_skip.specs.Walks.{piece_of};
-ghost use Rattle.repair_copy.specs.Copies.{FitsAt, Copies, CopiesFront};
+ghost use Rattle.repair_copy.specs.Relaid.{chunks_in};
+ghost use Rattle.repair_copy.specs.Told.{lines_in, regions_in};
+ghost use Rattle.repair_copy.specs.Copies.{FitsAt, next_place, Begins, Copies, CopiesFront, TakesLine, HasCopied, HasBegun, HasPutAll, HasBrokenOff, HasPutAtFault};
 
 use damage_skip::{Event, Region, region_line};
 use record_io::{Failed, Sink};
@@ -15,6 +18,8 @@ use record_writer::MadeFile;
 pub(crate) struct Copied {
     /// The file that is made.
     pub file: MadeFile,
+    /// Whether its signature was put. Before the first event it wasn't.
+    pub begun: bool,
     /// How many regions were passed over.
     pub regions: u64,
 }
@@ -22,10 +27,8 @@ pub(crate) struct Copied {
 /// What cut the work off.
 #[derive(Clone, Copy, Debug, PartialEq, Eq)]
 pub(crate) enum CutOff {
-    Store,
     Made,
     Notes,
-    Memory,
 }
 
 impl From<Failed> for CutOff {
@@ -42,16 +45,104 @@ impl Copied {
     /// Nothing is copied yet.
     pub fn new() -> Copied
         ensures file { result.file ≡ nothing_made }
+        ensures unbegun { result.begun ≡ false }
         ensures regions { result.regions ≡ 0 }
     {
         Copied {
             file: MadeFile::new(),
+            begun: false,
             regions: 0,
         }
     }
 
-    /// Puts the chunk of an event, or tells its region.
+    /// Puts the chunk of an event, or tells its region, behind those of other events. The signature comes first.
     pub fn put<M: Sink, E: Sink>(
+        &mut self,
+        event: &Event,
+        made: &mut M,
+        notes: &mut E,
+    ) -> Result<(), CutOff>
+        requires unbegun { self.old.begun ≡ false → self.old.file ≡ nothing_made }
+        requires going { self.old.file.spent ≡ false }
+        requires fits { FitsAt (next_place self.old) event.now }
+        requires few { self.old.regions < 2 ^ 63 }
+        ensures whole { OnOk result ((before : Taken) (events : List Piece)
+            → HasCopied before (taken_by (M.taken made.old) None (E.taken notes.old)) self.old events
+            → HasBegun before (taken_by (M.taken made.new) None (E.taken notes.new)) self.new (events ++ piece_of event.now ∷ [])) }
+        ensures front { (cut : CutOff) → result ≡ Err cut → (before : Taken) (events : List Piece)
+            → HasCopied before (taken_by (M.taken made.old) None (E.taken notes.old)) self.old events
+            → HasBrokenOff cut before (taken_by (M.taken made.new) None (E.taken notes.new)) (events ++ piece_of event.now ∷ []) }
+        ensures line { OnOk result (Takes (E.taken notes.old) (E.taken notes.new) (lines_in (piece_of event.now ∷ []))) }
+        ensures line_front { (cut : CutOff) → result ≡ Err cut
+            → TakesLine cut (E.taken notes.old) (E.taken notes.new) (lines_in (piece_of event.now ∷ [])) }
+        ensures begun { OnOk result (self.new.begun ≡ true) }
+        ensures going { OnOk result (self.new.file.spent ≡ false) }
+        ensures place { OnOk result (self.new.file.place ≡ end_of_chunks (next_place self.old) (chunks_in (piece_of event.now ∷ []))) }
+        ensures regions { OnOk result (self.new.regions ≡ self.old.regions + regions_in (piece_of event.now ∷ [])) }
+        ensures quiet { OnOk result (self.new.regions ≡ self.old.regions → notes.new ≡ notes.old) }
+        ensures made_cause { result ≡ Err CutOff.Made → Rose (M.faults made.old) (M.faults made.new) }
+        ensures notes_cause { result ≡ Err CutOff.Notes → Rose (E.faults notes.old) (E.faults notes.new) }
+        ensures made_count { M.faults made.old ≤ M.faults made.new }
+        ensures notes_count { E.faults notes.old ≤ E.faults notes.new }
+        ensures made_name { M.name made.new ≡ M.name made.old }
+        ensures notes_name { E.name notes.new ≡ E.name notes.old }
+    {
+        self.begin(made)?;
+        self.put_event(event, made, notes)
+    }
+
+    /// Puts out what is held of a file that was copied whole, or up to a region that stops the work. Nothing is held then.
+    pub fn finish<M: Sink>(&mut self, made: &mut M) -> Result<(), CutOff>
+        requires unbegun { self.old.begun ≡ false → self.old.file ≡ nothing_made }
+        ensures whole { OnOk result ((before : Taken) (notes : Option (List ℕ)) (events : List Piece)
+            → HasCopied before (taken_by (M.taken made.old) None notes) self.old events
+            → HasPutAll before (taken_by (M.taken made.new) None notes) self.new events) }
+        ensures front { (cut : CutOff) → result ≡ Err cut → (before : Taken) (notes : Option (List ℕ)) (events : List Piece)
+            → HasCopied before (taken_by (M.taken made.old) None notes) self.old events
+            → HasBrokenOff cut before (taken_by (M.taken made.new) None notes) events }
+        ensures place { OnOk result (self.new.file.place ≡ next_place self.old) }
+        ensures regions { OnOk result (self.new.regions ≡ self.old.regions) }
+        ensures made_alone { result ≢ Err CutOff.Notes }
+        ensures cause { OnErr result (Rose (M.faults made.old) (M.faults made.new)) }
+        ensures never_falls { M.faults made.old ≤ M.faults made.new }
+        ensures same_name { M.name made.new ≡ M.name made.old }
+    {
+        self.begin(made)?;
+        Ok(self.file.flush(made)?)
+    }
+
+    /// Puts out what is held of a file that can't be read on, which is nothing before the first event. That this fails too
+    /// changes nothing.
+    pub fn break_off<M: Sink>(&mut self, made: &mut M)
+        ensures put { (before : Taken) (notes : Option (List ℕ)) (events : List Piece)
+            → HasCopied before (taken_by (M.taken made.old) None notes) self.old events
+            → HasPutAtFault (M.faults made.old) (M.faults made.new) before (taken_by (M.taken made.new) None notes) events }
+        ensures never_falls { M.faults made.old ≤ M.faults made.new }
+        ensures same_name { M.name made.new ≡ M.name made.old }
+    {
+        let _ = self.file.flush(made);
+    }
+
+    /// Puts the signature, where it wasn't put yet.
+    fn begin<M: Sink>(&mut self, made: &mut M) -> Result<(), CutOff>
+        requires unbegun { self.old.begun ≡ false → self.old.file ≡ nothing_made }
+        ensures whole { OnOk result (Begins (M.taken made.old) (M.taken made.new) self.old self.new) }
+        ensures front { OnErr result (LaysFront (M.taken made.old) (M.taken made.new) nothing_made self.new.file (signature ∷ [])) }
+        ensures unbegun { OnErr result (self.old.begun ≡ false) }
+        ensures made_alone { result ≢ Err CutOff.Notes }
+        ensures cause { OnErr result (Rose (M.faults made.old) (M.faults made.new)) }
+        ensures never_falls { M.faults made.old ≤ M.faults made.new }
+        ensures same_name { M.name made.new ≡ M.name made.old }
+    {
+        if !self.begun {
+            self.file.start(made)?;
+            self.begun = true;
+        }
+        Ok(())
+    }
+
+    /// Puts the chunk of an event, or tells its region.
+    fn put_event<M: Sink, E: Sink>(
         &mut self,
         event: &Event,
         made: &mut M,
@@ -60,13 +151,14 @@ impl Copied {
         requires going { self.old.file.spent ≡ false }
         requires fits { FitsAt self.old.file.place event.now }
         requires few { self.old.regions < 2 ^ 63 }
-        ensures whole { OnOk result (Copies (M.taken made.old) (M.taken made.new) (E.taken notes.old) (E.taken notes.new)
-            self.old self.new (piece_of event.now ∷ [])) }
-        ensures front { (cut : CutOff) → result ≡ Err cut → CopiesFront cut (M.taken made.old) (M.taken made.new)
-            (E.taken notes.old) (E.taken notes.new) self.old.file self.new.file (piece_of event.now) }
+        ensures whole { OnOk result (Copies (taken_by (M.taken made.old) None (E.taken notes.old))
+            (taken_by (M.taken made.new) None (E.taken notes.new)) self.old self.new (piece_of event.now)) }
+        ensures front { (cut : CutOff) → result ≡ Err cut → CopiesFront cut (taken_by (M.taken made.old) None (E.taken notes.old))
+            (taken_by (M.taken made.new) None (E.taken notes.new)) self.old.file (piece_of event.now) }
+        ensures line { OnOk result (Takes (E.taken notes.old) (E.taken notes.new) (lines_in (piece_of event.now ∷ []))) }
+        ensures line_front { (cut : CutOff) → result ≡ Err cut
+            → TakesLine cut (E.taken notes.old) (E.taken notes.new) (lines_in (piece_of event.now ∷ [])) }
         ensures quiet { OnOk result (self.new.regions ≡ self.old.regions → notes.new ≡ notes.old) }
-        ensures no_store { result ≢ Err CutOff.Store }
-        ensures no_memory { result ≢ Err CutOff.Memory }
         ensures made_cause { result ≡ Err CutOff.Made → Rose (M.faults made.old) (M.faults made.new) }
         ensures notes_cause { result ≡ Err CutOff.Notes → Rose (E.faults notes.old) (E.faults notes.new) }
         ensures made_count { M.faults made.old ≤ M.faults made.new }
@@ -91,12 +183,13 @@ impl Copied {
     ) -> Result<(), CutOff>
         requires going { self.old.file.spent ≡ false }
         requires few { self.old.regions < 2 ^ 63 }
-        ensures whole { OnOk result (Copies (M.taken made.old) (M.taken made.new) (E.taken notes.old) (E.taken notes.new)
-            self.old self.new (piece_of (Event.Skipped region.now) ∷ [])) }
-        ensures front { (cut : CutOff) → result ≡ Err cut → CopiesFront cut (M.taken made.old) (M.taken made.new)
-            (E.taken notes.old) (E.taken notes.new) self.old.file self.new.file (piece_of (Event.Skipped region.now)) }
-        ensures no_store { result ≢ Err CutOff.Store }
-        ensures no_memory { result ≢ Err CutOff.Memory }
+        ensures whole { OnOk result (Copies (taken_by (M.taken made.old) None (E.taken notes.old))
+            (taken_by (M.taken made.new) None (E.taken notes.new)) self.old self.new (piece_of (Event.Skipped region.now))) }
+        ensures front { (cut : CutOff) → result ≡ Err cut → CopiesFront cut (taken_by (M.taken made.old) None (E.taken notes.old))
+            (taken_by (M.taken made.new) None (E.taken notes.new)) self.old.file (piece_of (Event.Skipped region.now)) }
+        ensures line { OnOk result (Takes (E.taken notes.old) (E.taken notes.new) (lines_in (piece_of (Event.Skipped region.now) ∷ []))) }
+        ensures line_front { (cut : CutOff) → result ≡ Err cut
+            → TakesLine cut (E.taken notes.old) (E.taken notes.new) (lines_in (piece_of (Event.Skipped region.now) ∷ [])) }
         ensures made_cause { result ≡ Err CutOff.Made → Rose (M.faults made.old) (M.faults made.new) }
         ensures notes_cause { result ≡ Err CutOff.Notes → Rose (E.faults notes.old) (E.faults notes.new) }
         ensures made_count { M.faults made.old ≤ M.faults made.new }

@@ -3,10 +3,11 @@
 ghost use Rattle.std.specs.List.{AllByRecursion};
 ghost use Rattle.std.specs.Prelude.{◌≡◌, ◌⊎◌, ℕ, ◌+◌, ◌-◌, ◌*◌, ◌^◌, ◌≤◌, Bool, true, false, Option, List, [], ◌∷◌, ◌++◌, length};
 ghost use Rattle.record_io.specs.Bytes.{AreBytes};
+ghost use Rattle.record_io.specs.Puts.{Put, Made, Out, Notes, BreaksOff, bytes_to};
 ghost use Rattle.block_layout.specs.Layout.{block_header_size};
 ghost use Rattle.chunk_header.specs.Chunks.{ChunkValue};
 ghost use Rattle.meta_chunk.specs.Kinds.{IsSignature, IsPadding};
-ghost use Rattle.meta_chunk.specs.Files.{signature, IsFramed, IsFileOf, IsFile, IsFrame, AreRecordsOf, laid_each};
+ghost use Rattle.meta_chunk.specs.Files.{signature, end_of_chunks, IsFramed, IsFileOf, IsFile, IsFrame, AreRecordsOf, laid_each};
 ghost use Rattle.meta_chunk.specs.Laid.{end_of_chunk};
 ghost use Rattle.record_group.specs.declared.pad.Pad.{Pad};
 ghost use Rattle.record_group.specs.declared.pad.Pad.TheVariants.{No};
@@ -19,6 +20,7 @@ ghost use Rattle.damage_skip.specs.Walks.{GoesOn};
 ghost use Rattle.damage_skip.specs.Policies.{IsTest};
 ghost use Rattle.repair_copy.specs.Told.{lines_in};
 ghost use Rattle.repair_copy.specs.Walked.{AreWalked, EndsAt};
+ghost use Rattle.repair_copy.specs.RepairPuts.{puts_from, repair_puts};
 ghost use Rattle.repair_copy.specs.Relaid.{chunk_in, chunks_in, relaid, copied, begun_before};
 
 use damage_skip::{Policy, Region};
@@ -31,6 +33,18 @@ pub fn events_have_the_chunks_of_pieces()
         → relaid (pieces ++ piece ∷ []) ≡ relaid pieces ++ laid_each (length (relaid pieces)) (chunk_in piece.what) }
     ensures events { (pieces : List Piece) → chunks_in (events_in pieces) ≡ chunks_in pieces }
     ensures file { (pieces : List Piece) → relaid (events_in pieces) ≡ relaid pieces }
+{}
+
+/// Of what a repair puts of events the file that is made takes the file of their chunks, notes their lines, and standard output
+/// nothing. What it puts of more events comes behind. Where it breaks off at bytes to the made file, notes have whole lines. Own.
+pub fn each_stream_takes_its_part()
+    ensures made { (events : List Piece) → bytes_to Made (repair_puts events) ≡ relaid events }
+    ensures notes { (events : List Piece) → bytes_to Notes (repair_puts events) ≡ lines_in events }
+    ensures out { (events : List Piece) → bytes_to Out (repair_puts events) ≡ [] }
+    ensures more { (events more : List Piece)
+        → repair_puts (events ++ more) ≡ repair_puts events ++ puts_from (end_of_chunks 0 (signature ∷ chunks_in events)) more }
+    ensures lines { (events : List Piece) (part : List Put) → BreaksOff Made part (repair_puts events)
+        → (front behind : List Piece) × (events ≡ front ++ behind) × (bytes_to Notes part ≡ lines_in front) }
 {}
 
 /// The chunks of a file's pieces up to a place, laid anew, are a frame of bytes, behind the signature; where unread ones

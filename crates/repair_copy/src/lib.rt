@@ -1,4 +1,5 @@
-//! A damaged file copied without what damage took: its intact chunks, laid anew one after another.
+//! A damaged file copied without what damage took: its intact chunks, laid anew one after another. What was copied is put in
+//! its order, also where the work is cut off.
 #![tactic(auto)]
 
 mod copying;

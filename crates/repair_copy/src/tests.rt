@@ -90,3 +90,18 @@ fn nothing_is_put_where_the_file_cannot_be_read(rt: HostRuntime) -> Result<(), F
     assert_eq!(rt; made.taken(), "".as_bytes());
     Ok(())
 }
+
+#[test]
+fn what_was_copied_goes_out_where_the_file_fails_later(rt: HostRuntime) -> Result<(), Fail> {
+    let fails = [5].to_vec(rt.alloc())?;
+    let mut store = MemStore::new(damaged_file(rt.alloc())?, Vec::new(rt.alloc()), fails);
+    let (mut made, mut notes) = (sink(rt.alloc())?, sink(rt.alloc())?);
+    let size = store.size()?;
+    assert!(rt; size <= 1 << 60);
+    let policy = Policy::new(|_: &Region| true);
+    let ended = repair(rt.alloc(), &mut store, size, policy, &mut made, &mut notes);
+    assert_eq!(rt; ended, Err(RepairEnd::Store));
+    assert_eq!(rt; made.taken(), FILE.as_slice());
+    assert_eq!(rt; notes.taken(), "".as_bytes());
+    Ok(())
+}

@@ -1,19 +1,22 @@
-use Rattle.std.proofs.Common.{refl}
+use Rattle.std.proofs.Common.{[], ◌∷◌}
 use Rattle.std.proofs.lemmas.Result.{err_from_is_err_and}
-use Rattle.chunk_header.specs.Views.{value_of_chunk}
-use Rattle.repair_copy.proofs.CopySteps.{made_only, chunk_failed}
+use Rattle.damage_skip.specs.Walks.{piece_of}
+use Rattle.repair_copy.proofs.CopySteps.{made_alone, begin_failed, has_begun, event_copied, copies_cut}
 use Rattle.repair_copy.proofs.copying.Copied.put.Goals as goal
 
-pub returns-in_err-put-in-Records-clause-front : goal.returns-in_err-put-in-Records-clause-front
-returns-in_err-put-in-Records-clause-front g c =
+pub returns-in_err-begin-clause-front : goal.returns-in_err-begin-clause-front
+returns-in_err-begin-clause-front g c =
     let p = err_from_is_err_and c.from_residual.result c.from_residual.ensures.1 in
-    rw c.in-Records.is
-    (λ cut is. chunk_failed _ _ _ c.args.self.now.file c.put.new.self _ (value_of_chunk c.in-Records.chunk) refl refl
-    c.in_err-put-in-Records.ensures.front cut (made_only c.from_residual.result p.0 cut p.1 p.2 is))
+    λ cut is before events copied.
+    begin_failed before _ _ _ c.args.self.now c.begin.new.self.file events (piece_of c.args.event.now ∷ []) copied
+    c.in_err-begin.ensures.unbegun c.in_err-begin.ensures.front cut (made_alone c.begin.result cut (cc) c.begin.ensures.made_alone)
 
-pub returns-in_err-put-in-Kept-clause-front : goal.returns-in_err-put-in-Kept-clause-front
-returns-in_err-put-in-Kept-clause-front g c =
-    let p = err_from_is_err_and c.from_residual-in_err-put-in-Kept.result c.from_residual-in_err-put-in-Kept.ensures.1 in
-    rw c.in-Kept.is
-    (λ cut is. chunk_failed _ _ _ c.args.self.now.file c.put-in-Kept.new.self _ (value_of_chunk c.in-Kept.chunk) refl refl
-    c.in_err-put-in-Kept.ensures.front cut (made_only c.from_residual-in_err-put-in-Kept.result p.0 cut p.1 p.2 is))
+pub returns-clause-whole : goal.returns-clause-whole
+returns-clause-whole g c =
+    event_copied c.put_event.result _ _ _ _ c.args.self.now c.begin.new.self _ (piece_of c.args.event.now) c.in_ok-begin.ensures.whole c.put_event.ensures.whole
+
+pub returns-clause-front : goal.returns-clause-front
+returns-clause-front g c =
+    λ cut is before events copied.
+    copies_cut cut before _ _ c.begin.new.self events (piece_of c.args.event.now)
+    (has_begun before _ _ _ c.args.self.now c.begin.new.self events copied c.in_ok-begin.ensures.whole) (c.put_event.ensures.front cut is)

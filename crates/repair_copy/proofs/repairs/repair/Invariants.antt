@@ -1,21 +1,24 @@
 use Rattle.std.proofs.Common.{◌≡◌, ◌-◌, ◌*◌, ◌+◌, ◌≤◌, false, true, Some, None, IfSome}
+use Rattle.record_io.specs.Puts.{taken_by}
+use Rattle.record_writer.specs.Progresses.{nothing_made}
 use Rattle.damage_skip.specs.Walks.{IsMet}
 use Rattle.repair_copy.specs.Copies.{HasPassed, HasWalked}
-use Rattle.repair_copy.proofs.repairs.copy_events.Given as goal
+use Rattle.repair_copy.proofs.repairs.repair.Given as goal
 
 abbrev pub invariant-loop-event : goal.invariant-loop-event
 invariant-loop-event g l = record {
-  same_size : l.walker.progress.size ≡ l.fn.walker.progress.size;
+  same_size : l.walker.progress.size ≡ l.fn.size;
   keeps : l.walker.progress.keep ≡ true;
-  unstopped : l.walker.progress.stopped ≡ None;
-  same_test : l.walker.policy.test ≡ l.fn.walker.policy.test;
+  going_on : l.walker.progress.stopped ≡ None;
+  same_test : l.walker.policy.test ≡ l.fn.policy.test;
   same_bytes : g.S.Store.bytes l.store ≡ g.S.Store.bytes l.fn.store;
-  told : g.S.Store.told l.store ≡ Some l.fn.walker.progress.size;
+  told : g.S.Store.told l.store ≡ Some l.fn.size;
   met : IfSome (g.S.Store.bytes l.store) (λ file. IsMet l.walker.progress.keep file l.walker.progress.place);
-  copied : IfSome (g.S.Store.bytes l.fn.store) (HasWalked g.F.Fn l.fn.walker.policy.test l.walker.progress.place l.copied
-      (g.M.Sink.taken l.fn.made) (g.M.Sink.taken l.made) (g.E.Sink.taken l.fn.notes) (g.E.Sink.taken l.notes));
-  passed : HasPassed g.F.Fn l.fn.walker.policy.test l.copied.regions (g.E.Sink.taken l.fn.notes) (g.E.Sink.taken l.notes);
+  copied : IfSome (g.S.Store.bytes l.fn.store) (HasWalked g.F.Fn l.fn.policy.test l.walker.progress.place l.copied
+      (taken_by (g.M.Sink.taken l.fn.made) None (g.E.Sink.taken l.fn.notes)) (taken_by (g.M.Sink.taken l.made) None (g.E.Sink.taken l.notes)));
+  passed : HasPassed g.F.Fn l.fn.policy.test l.copied.regions (g.E.Sink.taken l.fn.notes) (g.E.Sink.taken l.notes);
   quiet : l.copied.regions ≡ 0 → l.notes ≡ l.fn.notes;
+  unbegun : l.copied.begun ≡ false → l.copied.file ≡ nothing_made;
   going : l.copied.file.spent ≡ false;
   small : l.copied.file.place ≤ 64 + 2 * l.walker.progress.place;
   few : l.copied.regions ≤ l.walker.progress.place;
