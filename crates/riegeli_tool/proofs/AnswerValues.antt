@@ -1,6 +1,7 @@
 -- Commands and their answers, judged by hand, computed from the definitions.
-use Rattle.std.proofs.Common.{◌≡◌, Some, None, [], ◌∷◌, length, take, drop, codes, refl}
+use Rattle.std.proofs.Common.{◌≡◌, Some, None, [], ◌∷◌, ◌++◌, length, take, drop, codes, refl}
 use Rattle.std.specs.Fmt.{digits}
+use Rattle.record_io.specs.Puts.{Made, Out, Notes, puts_to, bytes_to}
 use Rattle.record_group.specs.declared.pad.Pad.TheVariants.{No, Both}
 use Rattle.record_group.specs.Groups.{file_of}
 use Rattle.record_writer.specs.declared.feed.Stop.TheVariants.{TooLong, InputTooLong, BadLine}
@@ -72,7 +73,7 @@ usage_lines : length (lines usage_text) ≡ 7
 usage_lines = refl
 
 -- words that are no command are answered by that text, whatever is handed in
-answer_of_no_words : IsAnswer (accepted [] 0) (0x61 ∷ []) [] (record { made = []; out = []; notes = usage_text; status = status.Usage })
+answer_of_no_words : IsAnswer (accepted [] 0) (0x61 ∷ []) [] (record { puts = puts_to Notes usage_text; status = status.Usage })
 answer_of_no_words = refl
 
 answer_with_a_file : IsAnswer (accepted (codes "write" ∷ codes "F" ∷ []) 1) (0x61 ∷ []) ([] ∷ []) usage
@@ -88,43 +89,44 @@ unfolding write_words_of
 answer_of_pad_no = refl
 
 -- `write F` makes the file of the lines and says nothing
-answer_of_nothing : IsAnswer (accepted (codes "write" ∷ codes "F" ∷ []) 0) [] [] (record { made = file_of [] 1048576 None No; out = []; notes = []; status = status.Ok })
+answer_of_nothing : IsAnswer (accepted (codes "write" ∷ codes "F" ∷ []) 0) [] [] (record { puts = puts_to Made (file_of [] 1048576 None No) ++ puts_to Notes []; status = status.Ok })
 unfolding write_words_of taken_from
 answer_of_nothing = refl
 
 answer_of_three : IsAnswer (accepted (codes "write" ∷ codes "F" ∷ []) 0) (0x61 ∷ 10 ∷ 0x62 ∷ 0x63 ∷ 10 ∷ 10 ∷ []) []
-    (record { made = file_of ((0x61 ∷ []) ∷ (0x62 ∷ 0x63 ∷ []) ∷ [] ∷ []) 1048576 None No; out = []; notes = []; status = status.Ok })
+    (record { puts = puts_to Made (file_of ((0x61 ∷ []) ∷ (0x62 ∷ 0x63 ∷ []) ∷ [] ∷ []) 1048576 None No) ++ puts_to Notes []; status = status.Ok })
 unfolding write_words_of taken_from
 answer_of_three = refl
 
 -- with the chunk size, the number of records and the padding that are named
 answer_of_chunk : IsAnswer (accepted (codes "write" ∷ codes "--chunk=20" ∷ codes "F" ∷ []) 0) (0x61 ∷ 10 ∷ 0x62 ∷ 10 ∷ 0x63 ∷ []) []
-    (record { made = file_of ((0x61 ∷ []) ∷ (0x62 ∷ []) ∷ (0x63 ∷ []) ∷ []) 20 None No; out = []; notes = []; status = status.Ok })
+    (record { puts = puts_to Made (file_of ((0x61 ∷ []) ∷ (0x62 ∷ []) ∷ (0x63 ∷ []) ∷ []) 20 None No) ++ puts_to Notes []; status = status.Ok })
 unfolding write_words_of taken_from
 answer_of_chunk = refl
 
 answer_of_all_options : IsAnswer (accepted (codes "write" ∷ codes "--pad=both" ∷ codes "F" ∷ codes "--every=2" ∷ codes "--chunk=1" ∷ []) 0) (0x61 ∷ 10 ∷ []) []
-    (record { made = file_of ((0x61 ∷ []) ∷ []) 1 (Some 2) Both; out = []; notes = []; status = status.Ok })
+    (record { puts = puts_to Made (file_of ((0x61 ∷ []) ∷ []) 1 (Some 2) Both) ++ puts_to Notes []; status = status.Ok })
 unfolding write_words_of taken_from
 answer_of_all_options = refl
 
 -- what is said of a stop behind two records, and its status; the file is that of these records
 too_long_a_line : answer_to plain (record { records = (0x61 ∷ []) ∷ [] ∷ []; stop = Some TooLong })
-    ≡ record { made = file_of ((0x61 ∷ []) ∷ [] ∷ []) 1048576 None No; out = []; notes = codes "limit record 2\n"; status = status.Limit }
+    ≡ record { puts = puts_to Made (file_of ((0x61 ∷ []) ∷ [] ∷ []) 1048576 None No) ++ puts_to Notes (codes "limit record 2\n"); status = status.Limit }
 unfolding digits
 too_long_a_line = refl
 
 too_long_an_input : answer_to plain (record { records = (0x61 ∷ []) ∷ [] ∷ []; stop = Some InputTooLong })
-    ≡ record { made = file_of ((0x61 ∷ []) ∷ [] ∷ []) 1048576 None No; out = []; notes = codes "limit input\n"; status = status.Limit }
+    ≡ record { puts = puts_to Made (file_of ((0x61 ∷ []) ∷ [] ∷ []) 1048576 None No) ++ puts_to Notes (codes "limit input\n"); status = status.Limit }
 too_long_an_input = refl
 
 bad_line : answer_to plain (record { records = (0x61 ∷ []) ∷ [] ∷ []; stop = Some BadLine })
-    ≡ record { made = file_of ((0x61 ∷ []) ∷ [] ∷ []) 1048576 None No; out = []; notes = codes "bad line 2\n"; status = status.BadLine }
+    ≡ record { puts = puts_to Made (file_of ((0x61 ∷ []) ∷ [] ∷ []) 1048576 None No) ++ puts_to Notes (codes "bad line 2\n"); status = status.BadLine }
 unfolding digits
 bad_line = refl
 
 -- also behind none
-first_line_too_long : (answer_to plain (record { records = []; stop = Some TooLong })).notes ≡ codes "limit record 0\n"
+first_line_too_long : answer_to plain (record { records = []; stop = Some TooLong })
+    ≡ record { puts = puts_to Made (file_of [] 1048576 None No) ++ puts_to Notes (codes "limit record 0\n"); status = status.Limit }
 unfolding digits
 first_line_too_long = refl
 
@@ -137,3 +139,13 @@ one_line = refl
 
 all_lines : first_lines 9 (codes "a\nbc\n") ≡ codes "a\nbc\n"
 all_lines = refl
+
+-- what each stream takes of bytes that go to two in turn
+of_out : bytes_to Out (puts_to Out (codes "a\n") ++ puts_to Notes (codes "b\n") ++ puts_to Out (codes "c\n")) ≡ codes "a\nc\n"
+of_out = refl
+
+of_notes : bytes_to Notes (puts_to Out (codes "a\n") ++ puts_to Notes (codes "b\n") ++ puts_to Out (codes "c\n")) ≡ codes "b\n"
+of_notes = refl
+
+of_made : bytes_to Made (puts_to Out (codes "a\n") ++ puts_to Notes (codes "b\n") ++ puts_to Out (codes "c\n")) ≡ []
+of_made = refl

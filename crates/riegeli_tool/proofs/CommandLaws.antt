@@ -1,6 +1,7 @@
 -- What the answers to commands keep, command by command.
-use Rattle.std.proofs.Common.{◌≡◌, ◌⊎◌, ℕ, true, false, Option, Some, None, List, [], ◌∷◌, sym, ◌∙◌, ap, subst, inl, inr, arith}
+use Rattle.std.proofs.Common.{◌≡◌, ◌⊎◌, ℕ, true, false, Option, Some, None, List, [], ◌∷◌, ◌++◌, sym, ◌∙◌, ap, subst, inl, inr, arith}
 use Rattle.std.specs.List.{flat_map}
+use Rattle.record_io.specs.Puts.{Put, Out, Notes, puts_to}
 use Rattle.chunk_header.specs.Chunks.{ChunkValue}
 use Rattle.meta_chunk.specs.Counts.{totals_of}
 use Rattle.meta_chunk.specs.Files.{IsPlain, IsChainOf, ArePlaced}
@@ -9,9 +10,10 @@ use Rattle.chunk_reader.specs.Faults.{HasNoFault, IsFault}
 use Rattle.chunk_reader.specs.declared.reasons.Fault.{Fault}
 use Rattle.chunk_reader.proofs.FileFaults.{longest_is_one, fault_is_one, fault_or_none}
 use Rattle.chunk_reader.proofs.Frames.{frame_is_one, chain_is_one}
-use Rattle.damage_skip.specs.Pieces.{Piece, placed_in}
+use Rattle.damage_skip.specs.Pieces.{Piece}
 use Rattle.damage_skip.proofs.Tiles.{events_one}
-use Rattle.repair_copy.specs.Relaid.{chunks_in, relaid}
+use Rattle.repair_copy.specs.Relaid.{chunks_in}
+use Rattle.repair_copy.specs.RepairPuts.{repair_puts}
 use Rattle.riegeli_tool.specs.declared.command.Command.{Command}
 use Rattle.riegeli_tool.specs.declared.command.Command.TheVariants.{Write, Show, Recover, Verify, Repair}
 use Rattle.riegeli_tool.specs.declared.recover_words.RecoverWords.{RecoverWords}
@@ -22,31 +24,29 @@ use Rattle.riegeli_tool.specs.declared.status.Status.TheVariants as status
 use Rattle.riegeli_tool.specs.Answers.{Answer, noted}
 use Rattle.riegeli_tool.specs.FileAnswers.{refused_text, report, record_line, OfFile}
 use Rattle.riegeli_tool.specs.ShowCommand.{IsShown}
-use Rattle.riegeli_tool.specs.WalkAnswers.{regions_in, walked, refused_in, walk_text, walk_status}
-use Rattle.riegeli_tool.specs.RecoverCommand.{IsRecovered}
+use Rattle.riegeli_tool.specs.WalkAnswers.{regions_in, walked, refused_in, stopped_text, walk_status}
+use Rattle.riegeli_tool.specs.RecoverCommand.{event_puts, IsRecovered}
 use Rattle.riegeli_tool.specs.VerifyCommand.{IsVerified}
-use Rattle.riegeli_tool.specs.RepairCommand.{report_unless, IsRepaired}
+use Rattle.riegeli_tool.specs.RepairCommand.{end_puts, IsRepaired}
 use Rattle.riegeli_tool.specs.CommandAnswers.{IsAnswer, uses_of}
 
 -- answers of the same parts are one
-pub same_answer : (a b : Answer) → a.made ≡ b.made → a.out ≡ b.out → a.notes ≡ b.notes → a.status ≡ b.status → a ≡ b
-same_answer a b made out notes ended =
-    ap (λ (x : List ℕ). record { made = x; out = a.out; notes = a.notes; status = a.status }) made
-    ∙ ap (λ (x : List ℕ). record { made = b.made; out = x; notes = a.notes; status = a.status }) out
-    ∙ ap (λ (x : List ℕ). record { made = b.made; out = b.out; notes = x; status = a.status }) notes
-    ∙ ap (λ (x : Status). record { made = b.made; out = b.out; notes = b.notes; status = x }) ended
+pub same_answer : (a b : Answer) → a.puts ≡ b.puts → a.status ≡ b.status → a ≡ b
+same_answer a b puts ended =
+    ap (λ (x : List Put). record { puts = x; status = a.status }) puts
+    ∙ ap (λ (x : Status). record { puts = b.puts; status = x }) ended
 
 -- how strict reading of a file ends, with what is said then
-abbrev pub EndsReading : List ℕ → Answer → Type 0
-EndsReading file answer =
-    (HasNoFault false file × (answer.notes ≡ []) × (answer.status ≡ status.Ok))
-    ⊎ ((fault : Fault) × IsFault false file fault × (answer.notes ≡ refused_text fault) × (answer.status ≡ status.Refused))
+abbrev pub EndsReading : (file said : List ℕ) → Answer → Type 0
+EndsReading file said answer =
+    (HasNoFault false file × (said ≡ []) × (answer.status ≡ status.Ok))
+    ⊎ ((fault : Fault) × IsFault false file fault × (said ≡ refused_text fault) × (answer.status ≡ status.Refused))
 
-one_end : (file : List ℕ) (a b : Answer) → EndsReading file a → EndsReading file b → (a.notes ≡ b.notes) × (a.status ≡ b.status)
-one_end file a b (inl (none, said, ended)) (inl (faultless, told, stopped)) = (said ∙ sym told, ended ∙ sym stopped)
-one_end file a b (inl (none, said, ended)) (inr (fault, faulty, told, stopped)) = absurd (fault_or_none false file fault faulty none)
-one_end file a b (inr (fault, faulty, said, ended)) (inl (none, told, stopped)) = absurd (fault_or_none false file fault faulty none)
-one_end file a b (inr (fault, faulty, said, ended)) (inr (other, too, told, stopped)) =
+one_end : (file s t : List ℕ) (a b : Answer) → EndsReading file s a → EndsReading file t b → (s ≡ t) × (a.status ≡ b.status)
+one_end file s t a b (inl (none, said, ended)) (inl (faultless, told, stopped)) = (said ∙ sym told, ended ∙ sym stopped)
+one_end file s t a b (inl (none, said, ended)) (inr (fault, faulty, told, stopped)) = absurd (fault_or_none false file fault faulty none)
+one_end file s t a b (inr (fault, faulty, said, ended)) (inl (none, told, stopped)) = absurd (fault_or_none false file fault faulty none)
+one_end file s t a b (inr (fault, faulty, said, ended)) (inr (other, too, told, stopped)) =
     (said ∙ ap refused_text (fault_is_one false file fault other faulty too) ∙ sym told, ended ∙ sym stopped)
 
 -- `show` has one answer to a file
@@ -57,18 +57,22 @@ one_shown words file a b h g =
     chain_is_one h.ks g.ks file g.place (subst (λ (p : ℕ). IsChainOf IsPlain h.ks file p) end h.longest.chain) g.longest.chain in
     let records : h.placed ≡ g.placed =
     ArePlaced-one g.ks h.placed g.placed (subst (λ (ks : List ChunkValue). ArePlaced ks h.placed) chunks h.records) g.records in
-    let said = one_end file a b h.ended g.ended in
-    same_answer a b (h.made ∙ sym g.made)
-    (h.out ∙ ap (flat_map (record_line words.positions)) records ∙ sym g.out)
-    said.0 said.1
+    let said = one_end file h.said g.said a b h.ended g.ended in
+    same_answer a b
+    (h.puts
+    ∙ ap (λ (ps : List (ℕ × List ℕ)). puts_to Out (flat_map (record_line words.positions) ps) ++ puts_to Notes h.said) records
+    ∙ ap (λ (t : List ℕ). puts_to Out (flat_map (record_line words.positions) g.placed) ++ puts_to Notes t) said.0
+    ∙ sym g.puts)
+    said.1
 
 -- also where it goes on past damage
 pub one_recovered : (words : RecoverWords) (file : List ℕ) (a b : Answer) → IsRecovered words file a → IsRecovered words file b → a ≡ b
 one_recovered words file a b h g =
     let same : h.events ≡ g.events = events_one false file h.events g.events h.are g.are in
-    same_answer a b (h.made ∙ sym g.made)
-    (h.out ∙ ap (λ (es : List Piece). flat_map (record_line words.show.positions) (placed_in (walked words.most es))) same ∙ sym g.out)
-    (h.notes ∙ ap (λ (es : List Piece). walk_text (regions_in (walked words.most es)) (refused_in words.most es)) same ∙ sym g.notes)
+    same_answer a b
+    (h.puts
+    ∙ ap (λ (es : List Piece). flat_map (event_puts words.show.positions) (walked words.most es) ++ puts_to Notes (stopped_text (refused_in words.most es))) same
+    ∙ sym g.puts)
     (h.status ∙ ap (λ (es : List Piece). walk_status (regions_in (walked words.most es)) (refused_in words.most es)) same ∙ sym g.status)
 
 -- so has `repair`
@@ -76,16 +80,16 @@ pub one_repaired : (words : RepairWords) (file : List ℕ) (a b : Answer) → Is
 one_repaired words file a b h g =
     let same : h.events ≡ g.events = events_one true file h.events g.events h.are g.are in
     same_answer a b
-    (h.made ∙ ap (λ (es : List Piece). relaid (walked words.most es)) same ∙ sym g.made)
-    (h.out ∙ ap (λ (es : List Piece). report_unless (refused_in words.most es) (chunks_in (walked words.most es))) same ∙ sym g.out)
-    (h.notes ∙ ap (λ (es : List Piece). walk_text (regions_in (walked words.most es)) (refused_in words.most es)) same ∙ sym g.notes)
+    (h.puts
+    ∙ ap (λ (es : List Piece). repair_puts (walked words.most es) ++ end_puts (refused_in words.most es) (chunks_in (walked words.most es))) same
+    ∙ sym g.puts)
     (h.status ∙ ap (λ (es : List Piece). walk_status (regions_in (walked words.most es)) (refused_in words.most es)) same ∙ sym g.status)
 
 -- so has `verify`
 one_verified : (file : List ℕ) (a b : Answer) → IsVerified file a → IsVerified file b → a ≡ b
 one_verified file a b (inl (ks, frame, is)) (inl (ls, other, also)) =
     is
-    ∙ ap (λ (xs : List ChunkValue). record { made = []; out = report (totals_of xs); notes = []; status = status.Ok }) (frame_is_one ks ls file frame other)
+    ∙ ap (λ (xs : List ChunkValue). record { puts = puts_to Out (report (totals_of xs)); status = status.Ok }) (frame_is_one ks ls file frame other)
     ∙ sym also
 one_verified file a b (inl (ks, frame, is)) (inr (fault, faulty, also)) = absurd (fault_or_none true file fault faulty (ks, frame))
 one_verified file a b (inr (fault, faulty, is)) (inl (ks, frame, also)) = absurd (fault_or_none true file fault faulty (ks, frame))

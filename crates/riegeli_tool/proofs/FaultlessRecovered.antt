@@ -1,6 +1,7 @@
 -- A file without fault has the same answer where `show` goes on past damage as where it doesn't.
-use Rattle.std.proofs.Common.{◌≡◌, ◌≢◌, ◌∙◌, ℕ, false, Option, None, List, [], ◌∷◌, length, refl, ap, inl}
-use Rattle.std.specs.List.{AllByRecursion, cons_option}
+use Rattle.std.proofs.Common.{◌≡◌, ◌≢◌, ◌∙◌, ℕ, false, Option, None, List, [], ◌∷◌, ◌++◌, length, refl, ap, inl}
+use Rattle.std.specs.List.{AllByRecursion, cons_option, flat_map}
+use Rattle.record_io.specs.Puts.{Put, Notes, puts_to, bytes_to}
 use Rattle.meta_chunk.specs.Files.{IsPlain, IsFileOf}
 use Rattle.chunk_reader.specs.Faults.{HasNoFault}
 use Rattle.chunk_reader.specs.declared.reasons.Why.{Why}
@@ -12,9 +13,9 @@ use Rattle.riegeli_tool.specs.declared.recover_words.RecoverWords.{RecoverWords}
 use Rattle.riegeli_tool.specs.declared.status.Status.TheVariants as status
 use Rattle.riegeli_tool.specs.Answers.{Answer}
 use Rattle.riegeli_tool.specs.ShowCommand.{IsShown}
-use Rattle.riegeli_tool.specs.ShowProgress.{record_lines}
-use Rattle.riegeli_tool.specs.RecoverCommand.{IsRecovered}
-use Rattle.riegeli_tool.specs.WalkAnswers.{region_as, regions_in, is_refused_as, walked, refused_in, walk_text, walk_status}
+use Rattle.riegeli_tool.specs.RecoverCommand.{event_puts, IsRecovered}
+use Rattle.riegeli_tool.specs.WalkAnswers.{region_as, regions_in, is_refused_as, walked, refused_in, stopped_text, walk_text, walk_status}
+use Rattle.riegeli_tool.proofs.AnswerStreams.{recovered-streams, events-unskipped}
 use Rattle.riegeli_tool.proofs.CommandLaws.{one_shown}
 use Rattle.riegeli_tool.proofs.Walked.{NoneRefused, walked-all, refused-none}
 
@@ -51,18 +52,20 @@ account words file answer none is =
     (walked-all words.most is.events free, no_regions is.events no, refused-none words.most is.events free)
 
 pub recovered-ok : (words : RecoverWords) (file : List ℕ) (answer : Answer) → HasNoFault false file → IsRecovered words file answer
-    → (answer.notes ≡ []) × (answer.status ≡ status.Ok)
+    → (bytes_to Notes answer.puts ≡ []) × (answer.status ≡ status.Ok)
 recovered-ok words file answer none is =
     let a = account words file answer none is in
     let regions : regions_in (walked words.most is.events) ≡ [] = ap regions_in a.0 ∙ a.1 in (
-      is.notes ∙ ap (λ (rs : List Region). walk_text rs (refused_in words.most is.events)) regions ∙ ap (λ (s : Option Region). walk_text [] s) a.2,
+      (recovered-streams words file answer is).2
+          ∙ ap (λ (rs : List Region). walk_text rs (refused_in words.most is.events)) regions
+          ∙ ap (λ (s : Option Region). walk_text [] s) a.2,
       is.status ∙ ap (λ (rs : List Region). walk_status rs (refused_in words.most is.events)) regions ∙ ap (λ (s : Option Region). walk_status [] s) a.2,
     )
 
 pub recovered-shown : (words : RecoverWords) (file : List ℕ) (a b : Answer) → HasNoFault false file → IsShown words.show file a → IsRecovered words file b → b ≡ a
 recovered-shown words file a b none shown is =
-    let said = recovered-ok words file b none is in
     let whole : IsFileOf IsPlain none.0 file = none.1 in
+    let told = account words file b none is in
     one_shown words.show file b a
     (record {
       ks = none.0;
@@ -70,8 +73,11 @@ recovered-shown words file a b none shown is =
       placed = placed_in is.events;
       longest = longest_where_whole IsPlain none.0 file whole.1;
       records = events_placed false none.0 file is.events none.1 is.are;
-      made = is.made;
-      out = is.out ∙ ap (λ (es : List Piece). record_lines words.show (placed_in es)) (account words file b none is).0;
-      ended = inl (none, said.0, said.1);
+      said = [];
+      puts = is.puts
+          ∙ ap (λ (es : List Piece). flat_map (event_puts words.show.positions) es ++ puts_to Notes (stopped_text (refused_in words.most is.events))) told.0
+          ∙ ap (λ (s : Option Region). flat_map (event_puts words.show.positions) is.events ++ puts_to Notes (stopped_text s)) told.2
+          ∙ ap (λ (ps : List Put). ps ++ puts_to Notes []) (events-unskipped words.show.positions is.events (none_skipped words file b none is));
+      ended = inl (none, refl, (recovered-ok words file b none is).1);
     })
     shown

@@ -1,8 +1,9 @@
 -- Each file of bytes has an answer of each command that reads one.
-use Rattle.std.proofs.Common.{◌≡◌, ◌⊎◌, ℕ, ◌≤◌, ◌==◌, Bool, true, false, Option, Some, None, List, [], ◌∷◌, length, refl, sym, subst, inl, inr, arith, if◌then◌else◌}
+use Rattle.std.proofs.Common.{◌≡◌, ◌⊎◌, ℕ, ◌≤◌, ◌==◌, Bool, true, false, Option, Some, None, List, [], ◌∷◌, ◌++◌, length, refl, sym, subst, inl, inr, arith, if◌then◌else◌}
 use Rattle.std.specs.List.{AllByRecursion, flat_map}
 use Rattle.std.proofs.lemmas.Bool.{cases_lt, eqb-true}
 use Rattle.record_io.specs.Bytes.{AreBytes}
+use Rattle.record_io.specs.Puts.{Out, Notes, puts_to}
 use Rattle.chunk_header.specs.Chunks.{ChunkValue}
 use Rattle.meta_chunk.specs.Counts.{totals_of}
 use Rattle.meta_chunk.specs.Files.{IsPlain, IsChainOf, ArePlaced, placed_from}
@@ -13,9 +14,9 @@ use Rattle.chunk_reader.proofs.SignedFiles.{begins_signed}
 use Rattle.chunk_reader.proofs.ChainSteps.{no_chunks, IsChainOf-nil, longest_where_whole}
 use Rattle.chunk_reader.proofs.FaultsDecided.{file_judged}
 use Rattle.chunk_reader.proofs.Frames.{frame_of_plain}
-use Rattle.damage_skip.specs.Pieces.{placed_in}
 use Rattle.damage_skip.proofs.Tiles.{events_of}
-use Rattle.repair_copy.specs.Relaid.{chunks_in, relaid}
+use Rattle.repair_copy.specs.Relaid.{chunks_in}
+use Rattle.repair_copy.specs.RepairPuts.{repair_puts}
 use Rattle.riegeli_tool.specs.declared.command.Command.{Command}
 use Rattle.riegeli_tool.specs.declared.command.Command.TheVariants.{Write, Show, Recover, Verify, Repair}
 use Rattle.riegeli_tool.specs.declared.recover_words.RecoverWords.{RecoverWords}
@@ -26,10 +27,10 @@ use Rattle.riegeli_tool.specs.Answers.{Answer, noted, usage}
 use Rattle.riegeli_tool.specs.FileAnswers.{refused_text, report, record_line, most_file_bytes, limit_text, OfFile}
 use Rattle.riegeli_tool.specs.WriteCommand.{write_answer}
 use Rattle.riegeli_tool.specs.ShowCommand.{IsShown}
-use Rattle.riegeli_tool.specs.WalkAnswers.{regions_in, walked, refused_in, walk_text, walk_status}
-use Rattle.riegeli_tool.specs.RecoverCommand.{IsRecovered}
+use Rattle.riegeli_tool.specs.WalkAnswers.{regions_in, walked, refused_in, stopped_text, walk_status}
+use Rattle.riegeli_tool.specs.RecoverCommand.{event_puts, IsRecovered}
 use Rattle.riegeli_tool.specs.VerifyCommand.{IsVerified}
-use Rattle.riegeli_tool.specs.RepairCommand.{report_unless, IsRepaired}
+use Rattle.riegeli_tool.specs.RepairCommand.{end_puts, IsRepaired}
 use Rattle.riegeli_tool.specs.Commands.{files_read, command_of, accepted_of, accepted}
 use Rattle.riegeli_tool.specs.CommandAnswers.{IsAnswer}
 
@@ -61,28 +62,28 @@ shown_exists words file bytes =
     let out : List ℕ = flat_map (record_line words.positions) placed.0 in
     elim judged [
       | inl none ↦ (
-        record { made = []; out = out; notes = []; status = status.Ok },
+        record { puts = puts_to Out out ++ puts_to Notes []; status = status.Ok },
         record {
           ks = front.0;
           place = front.1;
           placed = placed.0;
           longest = front.2;
           records = placed.1;
-          made = refl;
-          out = refl;
+          said = [];
+          puts = refl;
           ended = inl (none, refl, refl);
         },
       )
       | inr (fault, is) ↦ (
-        record { made = []; out = out; notes = refused_text fault; status = status.Refused },
+        record { puts = puts_to Out out ++ puts_to Notes (refused_text fault); status = status.Refused },
         record {
           ks = front.0;
           place = front.1;
           placed = placed.0;
           longest = front.2;
           records = placed.1;
-          made = refl;
-          out = refl;
+          said = refused_text fault;
+          puts = refl;
           ended = inr (fault, is, refl, refl);
         },
       )
@@ -93,12 +94,11 @@ pub recovered_exists : (words : RecoverWords) (file : List ℕ) → AreBytes fil
 recovered_exists words file bytes =
     let events = events_of false file in (
       record {
-        made = [];
-        out = flat_map (record_line words.show.positions) (placed_in (walked words.most events.0));
-        notes = walk_text (regions_in (walked words.most events.0)) (refused_in words.most events.0);
+        puts = flat_map (event_puts words.show.positions) (walked words.most events.0)
+            ++ puts_to Notes (stopped_text (refused_in words.most events.0));
         status = walk_status (regions_in (walked words.most events.0)) (refused_in words.most events.0);
       },
-      record { events = events.0; are = events.1; made = refl; out = refl; notes = refl; status = refl },
+      record { events = events.0; are = events.1; puts = refl; status = refl },
     )
 
 -- and `verify`
@@ -106,7 +106,7 @@ pub verified_exists : (file : List ℕ) → AreBytes file → (answer : Answer) 
 verified_exists file bytes =
     elim (file_judged true file bytes) [
       | inl (ks, frame) ↦
-          (record { made = []; out = report (totals_of ks); notes = []; status = status.Ok }, inl (ks, frame, refl))
+          (record { puts = puts_to Out (report (totals_of ks)); status = status.Ok }, inl (ks, frame, refl))
       | inr (fault, is) ↦ (noted status.Refused (refused_text fault), inr (fault, is, refl))
     ]
 
@@ -115,12 +115,11 @@ pub repaired_exists : (words : RepairWords) (file : List ℕ) → AreBytes file 
 repaired_exists words file bytes =
     let events = events_of true file in (
       record {
-        made = relaid (walked words.most events.0);
-        out = report_unless (refused_in words.most events.0) (chunks_in (walked words.most events.0));
-        notes = walk_text (regions_in (walked words.most events.0)) (refused_in words.most events.0);
+        puts = repair_puts (walked words.most events.0)
+            ++ end_puts (refused_in words.most events.0) (chunks_in (walked words.most events.0));
         status = walk_status (regions_in (walked words.most events.0)) (refused_in words.most events.0);
       },
-      record { events = events.0; are = events.1; made = refl; out = refl; notes = refl; status = refl },
+      record { events = events.0; are = events.1; puts = refl; status = refl },
     )
 
 -- a file that is too long has its own

@@ -1,3 +1,4 @@
+pub mod AnswerStreams
 pub mod CommandLaws
 pub mod CommandWords
 pub mod Decimals

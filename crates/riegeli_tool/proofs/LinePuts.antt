@@ -1,8 +1,8 @@
 -- What a buffer beside a sink passed on and holds after the lists of some of the elements.
-use Rattle.std.proofs.Common.{◌≡◌, ◌∙◌, ℕ, ◌+◌, ◌<◌, Option, List, [], ◌∷◌, ◌++◌, length, get_or, take, drop, sym, ap, subst, add-one}
+use Rattle.std.proofs.Common.{◌≡◌, ◌≢◌, ◌∙◌, ℕ, ◌+◌, ◌<◌, Option, List, [], ◌∷◌, ◌++◌, length, get_or, take, drop, sym, ap, subst, arith, add-one, length-append}
 use Rattle.std.specs.List.{flat_map}
 use Rattle.std.proofs.Math.Seq.{take-suc}
-use Rattle.std.proofs.lemmas.List.{append-nil, take-append-drop}
+use Rattle.std.proofs.lemmas.List.{append-nil, nil_from_length, take-append-drop}
 use Rattle.std.proofs.lemmas.Grind.{flat_map-append}
 use Rattle.record_io.specs.Outside.{TakesFront}
 use Rattle.record_io.specs.Buffers.{TakesAndHolds}
@@ -41,3 +41,24 @@ lines-failed f a b c before held xs i x within is first next =
     (subst (λ (ys : List ℕ). TakesFront a c (before ++ ys))
     (ap (λ p. flat_map f (take i xs) ++ f p) (sym is) ∙ sym (flat_map-next f xs i x within))
     (TakesFront-behind a b c before held (flat_map f (take i xs)) (f x) first next)))
+
+-- and they were not none
+pub lines-some : {X : Type 0} (f : X → List ℕ) (a b : Option (List ℕ)) (before held : List ℕ) (xs : List X) (i : ℕ) (x : X)
+    → i < length xs → get_or xs i x ≡ x
+    → TakesAndHolds a b (before ++ flat_map f (take i xs)) held → held ++ f x ≢ []
+    → before ++ flat_map f xs ≢ []
+lines-some f a b before held xs i x within is first some = λ none.
+    some (nil_from_length (held ++ f x) (omega (
+      arith,
+      ap length none,
+      length-append before (flat_map f xs),
+      ap length (flat_map-front f xs (i + 1)),
+      length-append (flat_map f (take (i + 1) xs)) (flat_map f (drop (i + 1) xs)),
+      ap length (flat_map-next f xs i x within),
+      length-append (flat_map f (take i xs)) (f (get_or xs i x)),
+      ap (λ p. length (f p)) is,
+      ap length first.parts,
+      length-append before (flat_map f (take i xs)),
+      length-append first.passed held,
+      length-append held (f x),
+    )))

@@ -1,8 +1,9 @@
 -- What was written reads back, and `show` prints it.
-use Rattle.std.proofs.Common.{◌≡◌, ◌∙◌, ℕ, ◌^◌, ◌≤◌, Bool, false, List, [], ◌∷◌, ◌++◌, Option, Some, None, length, map, refl, ap, subst, inl, inr, arith}
+use Rattle.std.proofs.Common.{◌≡◌, ◌∙◌, ℕ, ◌^◌, ◌≤◌, Bool, false, List, [], ◌∷◌, ◌++◌, Option, Some, None, length, map, refl, ap, subst, inl, inr, arith, append-nil}
 use Rattle.std.specs.List.{AllByRecursion, flat_map}
 use Rattle.std.specs.List.Sorted.{IsStrictlyIncreasing}
 use Rattle.record_io.specs.Bytes.{AreBytes}
+use Rattle.record_io.specs.Puts.{Made, Out, Notes, puts_to, bytes_to}
 use Rattle.chunk_header.specs.Chunks.{ChunkValue}
 use Rattle.meta_chunk.specs.Files.{IsPlain, IsChainOf, AreRecordsOf, ArePlaced}
 use Rattle.meta_chunk.proofs.Held.{AreRecordsOf-one}
@@ -25,6 +26,7 @@ use Rattle.riegeli_tool.specs.Input.{lines, with_last_end, taken_from}
 use Rattle.riegeli_tool.specs.FileAnswers.{record_line}
 use Rattle.riegeli_tool.specs.WriteCommand.{options_of, stop_status, write_answer}
 use Rattle.riegeli_tool.specs.ShowCommand.{IsShown}
+use Rattle.riegeli_tool.proofs.AnswerStreams.{written_made}
 use Rattle.riegeli_tool.proofs.CommandLaws.{EndsReading, same_answer}
 use Rattle.riegeli_tool.proofs.TakenRecords.{taken_from-records, taken_from-all, lines-joined}
 
@@ -66,13 +68,13 @@ record_lines [] = refl
 record_lines (first ∷ placed) = ap (λ (rest : List ℕ). line first.1 ++ rest) (record_lines placed)
 
 -- and nothing is said
-faultless-end : (file : List ℕ) (answer : Answer) → HasNoFault false file → EndsReading file answer → (answer.notes ≡ []) × (answer.status ≡ status.Ok)
-faultless-end file answer none (inl (also, said, ended)) = (said, ended)
-faultless-end file answer none (inr (fault, faulty, said, ended)) = absurd (fault_or_none false file fault faulty none)
+faultless-end : (file said : List ℕ) (answer : Answer) → HasNoFault false file → EndsReading file said answer → (said ≡ []) × (answer.status ≡ status.Ok)
+faultless-end file said answer none (inl (also, nothing, ended)) = (nothing, ended)
+faultless-end file said answer none (inr (fault, faulty, text, ended)) = absurd (fault_or_none false file fault faulty none)
 
 -- an answer that is printed alone
 abbrev pub printed : List ℕ → Answer
-printed out = record { made = []; out = out; notes = []; status = status.Ok }
+printed out = record { puts = puts_to Out out; status = status.Ok }
 
 -- so `show` prints what was written
 shown-written : (words : ShowWords) (answer : Answer) (records : List (List ℕ)) (size : ℕ) (every : Option ℕ) (pad : Pad)
@@ -84,21 +86,26 @@ shown-written words answer records size every pad each small bare h =
     let last : h.place ≡ length file = omega (arith, h.longest.chain.within, h.longest.greatest none.0 (length file) none.1.1) in
     let chain : IsChainOf IsPlain h.ks file (length file) = subst (λ (p : ℕ). IsChainOf IsPlain h.ks file p) last h.longest.chain in
     let taken = written-placed records size every pad each small h.ks h.placed chain h.records in
-    let out : answer.out ≡ flat_map line records =
-    h.out
-    ∙ ap (λ (positions : Bool). flat_map (record_line positions) h.placed) bare
+    let said = faultless-end file h.said answer none h.ended in
+    let lines : flat_map (record_line words.positions) h.placed ≡ flat_map line records =
+    ap (λ (positions : Bool). flat_map (record_line positions) h.placed) bare
     ∙ record_lines h.placed
     ∙ ap (flat_map line) taken.0 in
-    let said = faultless-end file answer none h.ended in
-    same_answer answer (printed (flat_map line records)) h.made out said.0 said.1
+    same_answer answer (printed (flat_map line records))
+    (h.puts
+    ∙ ap (λ (t : List ℕ). puts_to Out (flat_map (record_line words.positions) h.placed) ++ puts_to Notes t) said.0
+    ∙ append-nil (puts_to Out (flat_map (record_line words.positions) h.placed))
+    ∙ ap (puts_to Out) lines)
+    said.1
 
 -- of what `write` made of an input that is the records that were taken
 pub shown-taken : (write : WriteWords) (words : ShowWords) (input : List ℕ) (answer : Answer)
-    → AreInLimits (options_of write) → AreBytes input → words.positions ≡ false → IsShown words (write_answer write input).made answer
+    → AreInLimits (options_of write) → AreBytes input → words.positions ≡ false → IsShown words (bytes_to Made (write_answer write input).puts) answer
     → answer ≡ printed (flat_map line (taken_from input false (2 ^ 40)).records)
 shown-taken write words input answer limits bytes bare h =
     shown-written words answer (taken_from input false (2 ^ 40)).records write.chunk_size write.every write.pad
-    (taken_from-records input (2 ^ 40) bytes) limits.size bare h
+    (taken_from-records input (2 ^ 40) bytes) limits.size bare
+    (subst (λ (file : List ℕ). IsShown words file answer) (written_made write (taken_from input false (2 ^ 40))) h)
 
 -- and where nothing stopped it the input
 no_stop : (stop : Option Stop) → stop_status stop ≡ status.Ok → stop ≡ None
@@ -109,7 +116,7 @@ no_stop (Some BadLine) is = absurd (cc is)
 
 pub shown-input : (write : WriteWords) (words : ShowWords) (input : List ℕ) (answer : Answer)
     → AreInLimits (options_of write) → AreBytes input → words.positions ≡ false → (write_answer write input).status ≡ status.Ok
-    → IsShown words (write_answer write input).made answer
+    → IsShown words (bytes_to Made (write_answer write input).puts) answer
     → answer ≡ printed (with_last_end input)
 shown-input write words input answer limits bytes bare whole h =
     let all : (taken_from input false (2 ^ 40)).records ≡ lines input =

@@ -1,11 +1,13 @@
 -- How the loop of `show` gets on past damage, where the file may tell its bytes.
-use Rattle.std.proofs.Common.{◌≡◌, ◌∙◌, ℕ, ◌^◌, ◌≤◌, Bool, true, false, Option, Some, None, Result, Ok, Err, IfSome, List, [], ◌∷◌, ◌++◌, length, refl, sym, subst, arith}
+use Rattle.std.proofs.Common.{◌≡◌, ◌∙◌, ℕ, ◌^◌, ◌≤◌, ◌⊎◌, Bool, true, false, Option, Some, None, Result, Ok, Err, IfSome, List, [], ◌∷◌, ◌++◌, length, take, refl, sym, ap, subst, inl, inr, arith}
 use Rattle.std.specs.Fn.{Shared, FnReturnsAt}
 use denote.Ref.{Bor}
 use Rattle.std.specs.Result.{IsErr, IsErrAnd}
 use Rattle.chunk_header.specs.Views.{value_of_chunk}
 use Rattle.meta_chunk.specs.Laid.{end_of_chunk}
 use Rattle.chunk_reader.proofs.ReadingSteps.{counted-room}
+use Rattle.record_io.specs.Puts.{Out, Taken}
+use Rattle.record_io.proofs.Puts.{GoOut-nothing, GoOutOrAreHeld-none}
 use Rattle.damage_skip.specs.Walks.{piece_of, events_of, GoesOn, IsMet, IsStoppedAt, IsStop, IsEventIn}
 use Rattle.damage_skip.specs.declared.events.Event.{Event}
 use Rattle.damage_skip.specs.declared.events.Event.TheVariants as event
@@ -19,27 +21,28 @@ use Rattle.riegeli_tool.specs.declared.walking.WalkingEnd.{WalkingEnd}
 use Rattle.riegeli_tool.specs.declared.walking.WalkingEnd.TheVariants as end
 use Rattle.riegeli_tool.specs.FileAnswers.{most_file_bytes}
 use Rattle.riegeli_tool.specs.WalkAnswers.{regions_in, is_refused, may_skip, walk_status}
-use Rattle.riegeli_tool.specs.RecoverCommand.{IsRecovered}
+use Rattle.riegeli_tool.specs.RecoverCommand.{IsRecovered, IsRecoveredSoFar}
 use Rattle.riegeli_tool.specs.RecoverProgress.{HasRoom, event_lines, event_text, status_after, GivesEvent, IsGivenTo}
-use Rattle.riegeli_tool.specs.WalkingEnds.{end_of_walk, IsBound, HasToldOf, Walks, TellsOf}
-use Rattle.riegeli_tool.proofs.RecoverSteps.{given-front, given-whole, given-stopped, given-on, given-event, event-unprinted, event-untold, event-passed, told-event, told-front, status-told}
-use Rattle.riegeli_tool.proofs.ReadingRuns.{TakesAndHolds-nothing}
-use Rattle.riegeli_tool.proofs.RunEnds.{Takes-nothing}
+use Rattle.riegeli_tool.specs.ReadingEnds.{HasPutSoFar}
+use Rattle.riegeli_tool.specs.WalkingEnds.{end_of_walk, IsBound, HasToldOf, IsShortWalk, Walks, TellsOf}
+use Rattle.riegeli_tool.proofs.RecoverSteps.{breaks-by, given-front, given-so_far, given-whole, given-stopped, given-on, given-event, event-unprinted, event-untold, event-passed, event-said, event-unsaid, event-front, told-event, told-still, told-front, status-event}
 
 -- nothing was given yet
-pub given-none : (words : RecoverWords) (bytes : Option (List ℕ)) (place : ℕ) (out : Option (List ℕ)) (held : List ℕ) (notes : Option (List ℕ))
-    → place ≡ 0 → held ≡ [] → IfSome bytes (λ f. IsGivenTo words f place out out held notes notes status.Ok)
-given-none words None place out held notes front none = tt
-given-none words (Some f) place out held notes front none =
-    subst (λ (p : ℕ). IsGivenTo words f p out out held notes notes status.Ok) (sym front)
-    (subst (λ (h : List ℕ). IsGivenTo words f 0 out out h notes notes status.Ok) (sym none)
+pub given-none : (words : RecoverWords) (bytes : Option (List ℕ)) (place : ℕ) (taken : Taken) (held : List ℕ)
+    → place ≡ 0 → held ≡ [] → IfSome bytes (λ f. IsGivenTo words f place taken taken held status.Ok)
+given-none words None place taken held front none = tt
+given-none words (Some f) place taken held front none =
+    subst (λ (p : ℕ). IsGivenTo words f p taken taken held status.Ok) (sym front)
+    (subst (λ (h : List ℕ). IsGivenTo words f 0 taken taken h status.Ok) (sym none)
     (record {
       events = [];
       walked = record { walked = ([], refl, refl); passed = tt };
-      prints = TakesAndHolds-nothing out;
-      says = Takes-nothing notes;
+      went = GoOutOrAreHeld-none taken taken Out [] (GoOut-nothing taken);
       status = refl;
     }))
+
+pub recovered-none : (words : RecoverWords) (f : List ℕ) → IsRecoveredSoFar words f []
+recovered-none words f = record { place = 0; events = []; walked = record { walked = ([], refl, refl); passed = tt }; puts = refl }
 
 pub met-none : (bytes : Option (List ℕ)) (place : ℕ) → place ≡ 0 → IfSome bytes (λ f. IsMet false f place)
 met-none None place front = tt
@@ -106,106 +109,128 @@ stop-refused g f most size place region bound h reach asked =
     (record { ordered = omega (arith, h.begin, h.onward.past); in_reach = omega (arith, h.onward.within, reach) }) asked)
 
 -- one event more was given
-pub step-given : (words : RecoverWords) (bytes : Option (List ℕ)) (place next : ℕ) (a b c : Option (List ℕ)) (held held_then : List ℕ) (l m n : Option (List ℕ)) (ended : Status)
+pub step-given : (words : RecoverWords) (bytes : Option (List ℕ)) (place next : ℕ) (a b c : Taken) (held held_then : List ℕ) (ended : Status)
     (e : Event) (then : Status) → then ≡ status_after ended e
-    → IfSome bytes (λ f. IsGivenTo words f place a b held l m ended) → IfSome bytes (λ f. GoesOn false f place next (piece_of e ∷ []))
-    → is_refused words.most (piece_of e) ≡ false → GivesEvent {X = Status} (Ok then) (event_lines words e) (event_text e) b c held held_then m n
-    → IfSome bytes (λ f. IsGivenTo words f next a c held_then l n then)
-step-given words None place next a b c held held_then l m n ended e then is h on passed gives = tt
-step-given words (Some f) place next a b c held held_then l m n ended e then is h on passed gives =
-    subst (λ (s : Status). IsGivenTo words f next a c held_then l n s) (sym is)
-    (given-event words f place next a b c held held_then l m n ended e then h on passed gives)
+    → IfSome bytes (λ f. IsGivenTo words f place a b held ended) → IfSome bytes (λ f. GoesOn false f place next (piece_of e ∷ []))
+    → is_refused words.most (piece_of e) ≡ false → GivesEvent {X = Status} (Ok then) (event_lines words e) (event_text e) b c held held_then
+    → IfSome bytes (λ f. IsGivenTo words f next a c held_then then)
+step-given words None place next a b c held held_then ended e then is h on passed gives = tt
+step-given words (Some f) place next a b c held held_then ended e then is h on passed gives =
+    subst (λ (s : Status). IsGivenTo words f next a c held_then s) (sym is)
+    (given-event words f place next a b c held held_then ended e then h on passed gives)
 
-pub step-told : (words : RecoverWords) (b c : Option (List ℕ)) (held held_then : List ℕ) (l m n : Option (List ℕ)) (ended : Status) (e : Event) (then : Status) → then ≡ status_after ended e
-    → (skipped : List Region) × HasToldOf words.most l m skipped × (ended ≡ walk_status skipped None)
-    → is_refused words.most (piece_of e) ≡ false → GivesEvent {X = Status} (Ok then) (event_lines words e) (event_text e) b c held held_then m n
-    → (skipped : List Region) × HasToldOf words.most l n skipped × (then ≡ walk_status skipped None)
-step-told words b c held held_then l m n ended e then same (skipped, told, is) passed gives = (
+pub step-told : (words : RecoverWords) (l : Option (List ℕ)) (b c : Taken) (held held_then : List ℕ) (ended : Status) (e : Event) (then : Status)
+    → then ≡ status_after ended e
+    → (skipped : List Region) × HasToldOf words.most l b.notes skipped × (ended ≡ walk_status skipped None)
+    → is_refused words.most (piece_of e) ≡ false → GivesEvent {X = Status} (Ok then) (event_lines words e) (event_text e) b c held held_then
+    → (skipped : List Region) × HasToldOf words.most l c.notes skipped × (then ≡ walk_status skipped None)
+step-told words l b c held held_then ended e then same (skipped, told, is) passed gives = (
   skipped ++ regions_in (piece_of e ∷ []),
-  told-event words.most l m n skipped e told passed gives.1,
-  same ∙ status-told skipped ended e is,
+  told-event words.most l b.notes c.notes skipped e told passed (event-said b c (held ++ event_lines words e) (event_text e) held_then gives),
+  same ∙ status-event skipped ended e is,
 )
 
 -- or it failed to be
-pub step-failed : (X : Type 0) (words : RecoverWords) (bytes : Option (List ℕ)) (place next : ℕ) (a b c : Option (List ℕ)) (held held_then : List ℕ) (l m n : Option (List ℕ)) (ended : Status)
-    (e : Event) (failed : WalkingEnd) (made : Result Status WalkingEnd) → IsErr made → IsErrAnd made (λ end. end ≡ failed)
+pub step-failed : (X : Type 0) (words : RecoverWords) (bytes : Option (List ℕ)) (place next : ℕ) (a b c : Taken) (held held_then : List ℕ) (ended : Status)
+    (e : Event) (why : WalkingEnd) (result : Result Status WalkingEnd) → IsErr result → IsErrAnd result (λ end. end ≡ why)
     → IfSome bytes (λ f. length f ≤ most_file_bytes)
-    → IfSome bytes (λ f. IsGivenTo words f place a b held l m ended) → IfSome bytes (λ f. GoesOn false f place next (piece_of e ∷ []))
-    → is_refused words.most (piece_of e) ≡ false → GivesEvent {X = X} (Err failed) (event_lines words e) (event_text e) b c held held_then m n
-    → IfSome bytes (λ f. Walks (IsRecovered words) made f a c held_then l n)
-step-failed X words None place next a b c held held_then l m n ended e failed made err is short h on passed gives = tt
-step-failed X words (Some f) place next a b c held held_then l m n ended e failed (Ok x) err is short h on passed gives = absurd (cc err)
-step-failed X words (Some f) place next a b c held held_then l m n ended e end.Out (Err made) err is short h on passed gives =
-    subst (λ (x : WalkingEnd). Walks (IsRecovered words) (Err x) f a c held_then l n) (sym is)
-    (event-unprinted X words f place next a b c held held_then l m n ended e short h on passed gives)
-step-failed X words (Some f) place next a b c held held_then l m n ended e end.Notes (Err made) err is short h on passed gives =
-    subst (λ (x : WalkingEnd). Walks (IsRecovered words) (Err x) f a c held_then l n) (sym is)
-    (event-untold X words f place next a b c held held_then l m n ended e short h on passed gives)
-step-failed X words (Some f) place next a b c held held_then l m n ended e end.Limit (Err made) err is short h on passed gives = absurd gives
-step-failed X words (Some f) place next a b c held held_then l m n ended e (end.Stopped region) (Err made) err is short h on passed gives = absurd gives
-step-failed X words (Some f) place next a b c held held_then l m n ended e end.File (Err made) err is short h on passed gives = absurd gives
-step-failed X words (Some f) place next a b c held held_then l m n ended e end.Memory (Err made) err is short h on passed gives = absurd gives
-step-failed X words (Some f) place next a b c held held_then l m n ended e end.Made (Err made) err is short h on passed gives = absurd gives
+    → IfSome bytes (λ f. IsGivenTo words f place a b held ended) → IfSome bytes (λ f. GoesOn false f place next (piece_of e ∷ []))
+    → is_refused words.most (piece_of e) ≡ false → GivesEvent {X = X} (Err why) (event_lines words e) (event_text e) b c held held_then
+    → IfSome bytes (λ f. Walks (IsRecovered words) result f a c held_then)
+step-failed X words None place next a b c held held_then ended e why result err is short h on passed gives = tt
+step-failed X words (Some f) place next a b c held held_then ended e why (Ok x) err is short h on passed gives = absurd (cc err)
+step-failed X words (Some f) place next a b c held held_then ended e end.Out (Err result) err is short h on passed gives =
+    subst (λ (x : WalkingEnd). Walks (IsRecovered words) (Err x) f a c held_then) (sym is)
+    (event-unprinted X words f place next a b c held held_then ended e short h on passed gives)
+step-failed X words (Some f) place next a b c held held_then ended e end.Notes (Err result) err is short h on passed gives =
+    subst (λ (x : WalkingEnd). Walks (IsRecovered words) (Err x) f a c held_then) (sym is)
+    (event-untold X words f place next a b c held held_then ended e short h on passed gives)
+step-failed X words (Some f) place next a b c held held_then ended e end.Limit (Err result) err is short h on passed gives = absurd gives
+step-failed X words (Some f) place next a b c held held_then ended e (end.Stopped region) (Err result) err is short h on passed gives = absurd gives
+step-failed X words (Some f) place next a b c held held_then ended e end.File (Err result) err is short h on passed gives = absurd gives
+step-failed X words (Some f) place next a b c held held_then ended e end.Memory (Err result) err is short h on passed gives = absurd gives
+step-failed X words (Some f) place next a b c held held_then ended e end.Made (Err result) err is short h on passed gives = absurd gives
 
-pub step-untold : (X : Type 0) (words : RecoverWords) (b c : Option (List ℕ)) (held held_then : List ℕ) (l m n : Option (List ℕ)) (ended : Status)
-    (e : Event) (failed : WalkingEnd) (made : Result Status WalkingEnd) → IsErr made → IsErrAnd made (λ end. end ≡ failed)
-    → (skipped : List Region) × HasToldOf words.most l m skipped × (ended ≡ walk_status skipped None)
-    → is_refused words.most (piece_of e) ≡ false → GivesEvent {X = X} (Err failed) (event_lines words e) (event_text e) b c held held_then m n
-    → TellsOf words.most made l n
-step-untold X words b c held held_then l m n ended e failed (Ok x) err is told passed gives = absurd (cc err)
-step-untold X words b c held held_then l m n ended e end.Out (Err made) err is (skipped, told, status) passed gives =
-    subst (λ (x : WalkingEnd). TellsOf words.most (Err x) l n) (sym is)
-    (subst (λ (o : Option (List ℕ)). TellsOf words.most (Err end.Out) l o) (sym gives.2) (skipped, told))
-step-untold X words b c held held_then l m n ended e end.Notes (Err made) err is (skipped, told, status) passed gives =
-    subst (λ (x : WalkingEnd). TellsOf words.most (Err x) l n) (sym is)
-    (told-front words.most l m n skipped e told passed gives.1 gives.2)
-step-untold X words b c held held_then l m n ended e end.Limit (Err made) err is told passed gives = absurd gives
-step-untold X words b c held held_then l m n ended e (end.Stopped region) (Err made) err is told passed gives = absurd gives
-step-untold X words b c held held_then l m n ended e end.File (Err made) err is told passed gives = absurd gives
-step-untold X words b c held held_then l m n ended e end.Memory (Err made) err is told passed gives = absurd gives
-step-untold X words b c held held_then l m n ended e end.Made (Err made) err is told passed gives = absurd gives
+pub step-untold : (X : Type 0) (words : RecoverWords) (l : Option (List ℕ)) (b c : Taken) (held held_then : List ℕ) (ended : Status)
+    (e : Event) (why : WalkingEnd) (result : Result Status WalkingEnd) → IsErr result → IsErrAnd result (λ end. end ≡ why)
+    → (skipped : List Region) × HasToldOf words.most l b.notes skipped × (ended ≡ walk_status skipped None)
+    → is_refused words.most (piece_of e) ≡ false → GivesEvent {X = X} (Err why) (event_lines words e) (event_text e) b c held held_then
+    → TellsOf words.most result l c.notes
+step-untold X words l b c held held_then ended e why (Ok x) err is told passed gives = absurd (cc err)
+step-untold X words l b c held held_then ended e end.Out (Err result) err is (skipped, told, status) passed (some, count, gives) =
+    subst (λ (x : WalkingEnd). TellsOf words.most (Err x) l c.notes) (sym is)
+    (skipped, told-still words.most l b.notes c.notes skipped told (event-unsaid b c (take count (held ++ event_lines words e)) gives))
+step-untold X words l b c held held_then ended e end.Notes (Err result) err is (skipped, told, status) passed (some, count, gives) =
+    subst (λ (x : WalkingEnd). TellsOf words.most (Err x) l c.notes) (sym is)
+    (told-front words.most l b.notes c.notes skipped e told passed some
+    (event-front b c (held ++ event_lines words e) (event_text e) count gives))
+step-untold X words l b c held held_then ended e end.Limit (Err result) err is told passed gives = absurd gives
+step-untold X words l b c held held_then ended e (end.Stopped region) (Err result) err is told passed gives = absurd gives
+step-untold X words l b c held held_then ended e end.File (Err result) err is told passed gives = absurd gives
+step-untold X words l b c held held_then ended e end.Memory (Err result) err is told passed gives = absurd gives
+step-untold X words l b c held held_then ended e end.Made (Err result) err is told passed gives = absurd gives
+
+-- which is by a sink
+pub step-by : (X : Type 0) (why : WalkingEnd) (result : Result Status WalkingEnd) → IsErr result → IsErrAnd result (λ end. end ≡ why)
+    → (lines text : List ℕ) (b c : Taken) (held held_then : List ℕ) → GivesEvent {X = X} (Err why) lines text b c held held_then
+    → (result ≡ Err end.Out) ⊎ (result ≡ Err end.Notes)
+step-by X why (Ok x) err is lines text b c held held_then gives = absurd (cc err)
+step-by X why (Err result) err is lines text b c held held_then gives = elim (breaks-by X why lines text b c held held_then gives) [
+  | inl out ↦ inl (ap Err (is ∙ out))
+  | inr notes ↦ inr (ap Err (is ∙ notes))
+]
+
+-- and not by what is read
+pub step-not_short : (result : Result Status WalkingEnd) → (result ≡ Err end.Out) ⊎ (result ≡ Err end.Notes) → ¬ IsErrAnd result IsShortWalk
+step-not_short result (inl out) short = subst (λ (r : Result Status WalkingEnd). IsErrAnd r IsShortWalk) out short
+step-not_short result (inr notes) short = subst (λ (r : Result Status WalkingEnd). IsErrAnd r IsShortWalk) notes short
 
 -- the walk ended before the file
-pub step-ended : (words : RecoverWords) (bytes : Option (List ℕ)) (place next size size_then : ℕ) (a b : Option (List ℕ)) (held : List ℕ) (l m : Option (List ℕ)) (ended : Status)
-    (e : WalkEnd) (made : Result Status WalkingEnd) → IsErr made → IsErrAnd made (λ end. end ≡ end_of_walk e)
+pub step-ended : (words : RecoverWords) (bytes : Option (List ℕ)) (place next size size_then : ℕ) (a b : Taken) (held : List ℕ) (ended : Status)
+    (e : WalkEnd) (result : Result Status WalkingEnd) → IsErr result → IsErrAnd result (λ end. end ≡ end_of_walk e)
     → size ≤ most_file_bytes → IfSome bytes (λ f. size ≡ length f) → size_then ≡ size
-    → IfSome bytes (λ f. IsGivenTo words f place a b held l m ended) → IfSome bytes (λ f. GoesOn false f place next (events_of (Err e)))
+    → IfSome bytes (λ f. IsGivenTo words f place a b held ended) → IfSome bytes (λ f. GoesOn false f place next (events_of (Err e)))
     → ((region : Region) → e ≡ walk.Stopped region → IsStop size_then next region × (may_skip words.most region ≡ false) × IfSome bytes (λ f. IsStoppedAt false f next (Some region)))
-    → IfSome bytes (λ f. Walks (IsRecovered words) made f a b held l m)
-step-ended words None place next size size_then a b held l m ended e made err is short exact same h on stops = tt
-step-ended words (Some f) place next size size_then a b held l m ended e (Ok x) err is short exact same h on stops = absurd (cc err)
-step-ended words (Some f) place next size size_then a b held l m ended (walk.Stopped region) (Err made) err is short exact same h on stops =
+    → IfSome bytes (λ f. Walks (IsRecovered words) result f a b held)
+step-ended words None place next size size_then a b held ended e result err is short exact same h on stops = tt
+step-ended words (Some f) place next size size_then a b held ended e (Ok x) err is short exact same h on stops = absurd (cc err)
+step-ended words (Some f) place next size size_then a b held ended (walk.Stopped region) (Err result) err is short exact same h on stops =
     let stop = stops region refl in
-    subst (λ (x : WalkingEnd). Walks (IsRecovered words) (Err x) f a b held l m) (sym is)
-    (given-stopped words f next a b held l m ended region (omega (arith, short, exact))
-    (given-on words f place next a b held l m ended h on)
+    subst (λ (x : WalkingEnd). Walks (IsRecovered words) (Err x) f a b held) (sym is)
+    (given-stopped words f next a b held ended region (omega (arith, short, exact))
+    (given-on words f place next a b held ended h on)
     stop.2.0 (omega (arith, stop.0.onward.past, stop.0.onward.within, exact, same)) stop.2.1 stop.1)
-step-ended words (Some f) place next size size_then a b held l m ended walk.Store (Err made) err is short exact same h on stops =
-    subst (λ (x : WalkingEnd). Walks (IsRecovered words) (Err x) f a b held l m) (sym is)
-    (given-front words f place a b held l m ended (omega (arith, short, exact)) h)
-step-ended words (Some f) place next size size_then a b held l m ended walk.Memory (Err made) err is short exact same h on stops =
-    subst (λ (x : WalkingEnd). Walks (IsRecovered words) (Err x) f a b held l m) (sym is)
-    (given-front words f place a b held l m ended (omega (arith, short, exact)) h)
+step-ended words (Some f) place next size size_then a b held ended walk.Store (Err result) err is short exact same h on stops =
+    subst (λ (x : WalkingEnd). Walks (IsRecovered words) (Err x) f a b held) (sym is)
+    (given-front words f place a b held ended (omega (arith, short, exact)) h)
+step-ended words (Some f) place next size size_then a b held ended walk.Memory (Err result) err is short exact same h on stops =
+    subst (λ (x : WalkingEnd). Walks (IsRecovered words) (Err x) f a b held) (sym is)
+    (given-front words f place a b held ended (omega (arith, short, exact)) h)
 
-pub step-said : (words : RecoverWords) (l m : Option (List ℕ)) (ended : Status) (e : WalkEnd) (made : Result Status WalkingEnd)
-    → IsErr made → IsErrAnd made (λ end. end ≡ end_of_walk e)
+pub step-so_far : (words : RecoverWords) (bytes : Option (List ℕ)) (place : ℕ) (a b : Taken) (held : List ℕ) (ended : Status)
+    → IfSome bytes (λ f. IsGivenTo words f place a b held ended) → IfSome bytes (λ f. HasPutSoFar (IsRecoveredSoFar words f) a b held)
+step-so_far words None place a b held ended h = tt
+step-so_far words (Some f) place a b held ended h = given-so_far words f place a b held ended h
+
+pub step-said : (words : RecoverWords) (l m : Option (List ℕ)) (ended : Status) (e : WalkEnd) (result : Result Status WalkingEnd)
+    → IsErr result → IsErrAnd result (λ end. end ≡ end_of_walk e)
     → (skipped : List Region) × HasToldOf words.most l m skipped × (ended ≡ walk_status skipped None)
     → ((region : Region) → e ≡ walk.Stopped region → may_skip words.most region ≡ false)
-    → TellsOf words.most made l m
+    → TellsOf words.most result l m
 step-said words l m ended e (Ok x) err is told stops = absurd (cc err)
-step-said words l m ended (walk.Stopped region) (Err made) err is (skipped, told, status) stops =
+step-said words l m ended (walk.Stopped region) (Err result) err is (skipped, told, status) stops =
     subst (λ (x : WalkingEnd). TellsOf words.most (Err x) l m) (sym is) (skipped, told, stops region refl)
-step-said words l m ended walk.Store (Err made) err is (skipped, told, status) stops =
+step-said words l m ended walk.Store (Err result) err is (skipped, told, status) stops =
     subst (λ (x : WalkingEnd). TellsOf words.most (Err x) l m) (sym is) (skipped, told)
-step-said words l m ended walk.Memory (Err made) err is (skipped, told, status) stops =
+step-said words l m ended walk.Memory (Err result) err is (skipped, told, status) stops =
     subst (λ (x : WalkingEnd). TellsOf words.most (Err x) l m) (sym is) (skipped, told)
 
 -- the file's end was come to
-pub step-done : (words : RecoverWords) (bytes : Option (List ℕ)) (place next size : ℕ) (a b : Option (List ℕ)) (held : List ℕ) (l m : Option (List ℕ)) (ended : Status)
+pub step-done : (words : RecoverWords) (bytes : Option (List ℕ)) (place next size : ℕ) (a b : Taken) (held : List ℕ) (ended : Status)
     → size ≤ most_file_bytes → IfSome bytes (λ f. size ≡ length f) → next ≡ size
-    → IfSome bytes (λ f. IsGivenTo words f place a b held l m ended) → IfSome bytes (λ f. GoesOn false f place next [])
-    → IfSome bytes (λ f. Walks (IsRecovered words) (Ok ended) f a b held l m)
-step-done words None place next size a b held l m ended short exact end h on = tt
-step-done words (Some f) place next size a b held l m ended short exact end h on =
-    given-whole words f a b held l m ended (omega (arith, short, exact))
-    (subst (λ (p : ℕ). IsGivenTo words f p a b held l m ended) (end ∙ exact) (given-on words f place next a b held l m ended h on))
+    → IfSome bytes (λ f. IsGivenTo words f place a b held ended) → IfSome bytes (λ f. GoesOn false f place next [])
+    → IfSome bytes (λ f. Walks (IsRecovered words) (Ok ended) f a b held)
+step-done words None place next size a b held ended short exact end h on = tt
+step-done words (Some f) place next size a b held ended short exact end h on =
+    given-whole words f a b held ended (omega (arith, short, exact))
+    (subst (λ (p : ℕ). IsGivenTo words f p a b held ended) (end ∙ exact) (given-on words f place next a b held ended h on))

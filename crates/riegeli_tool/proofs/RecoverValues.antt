@@ -1,14 +1,18 @@
 -- The words of `show` that go on past damage, and what is given and said then, judged by hand, computed from the definitions.
-use Rattle.std.proofs.Common.{◌≡◌, true, false, Some, None, List, [], ◌∷◌, codes, refl}
+use Rattle.std.proofs.Common.{◌≡◌, ℕ, true, false, Option, Some, None, List, [], ◌∷◌, ◌++◌, codes, refl}
+use Rattle.std.specs.List.{flat_map}
 use Rattle.std.specs.Fmt.{digits}
+use Rattle.record_io.specs.Puts.{Put, Out, Notes, puts_to}
+use Rattle.chunk_header.specs.Chunks.{ChunkValue}
 use Rattle.chunk_reader.specs.declared.reasons.Why.TheVariants as why
-use Rattle.damage_skip.specs.Pieces.{Passive, Skipped, Piece}
+use Rattle.damage_skip.specs.Pieces.{Given, Passive, Skipped, Piece}
 use Rattle.riegeli_tool.specs.declared.command.Command.TheVariants.{Recover}
 use Rattle.riegeli_tool.specs.declared.status.Status.TheVariants as status
 use Rattle.riegeli_tool.specs.ShowWords.{show_words_of}
 use Rattle.riegeli_tool.specs.RecoverWords.{recover_words_of}
+use Rattle.riegeli_tool.specs.RecoverCommand.{event_puts}
 use Rattle.riegeli_tool.specs.Commands.{command_of, accepted, names_of}
-use Rattle.riegeli_tool.specs.WalkAnswers.{regions_in, walked, refused_in, walk_text, walk_status}
+use Rattle.riegeli_tool.specs.WalkAnswers.{regions_in, walked, refused_in, stopped_text, walk_status}
 
 -- a file, and the options in any place, none of them twice
 recover_file : command_of (codes "show" ∷ codes "--recover" ∷ codes "F" ∷ [])
@@ -77,6 +81,10 @@ two =
     ∷ record { begin = 30109; end = 60154; what = Skipped why.DataHash }
     ∷ []
 
+-- what is put of these under a bound
+abbrev puts_under : Option ℕ → List Put
+puts_under most = flat_map (event_puts false) (walked most two) ++ puts_to Notes (stopped_text (refused_in most two))
+
 -- without a bound, and with one of just so many bytes, both are skipped
 unbounded : walked None two ≡ two
 unbounded = refl
@@ -87,7 +95,7 @@ none_refused = refl
 just_so_many : walked (Some 30045) two ≡ two
 just_so_many = refl
 
-both_told : walk_text (regions_in two) None ≡ codes "skipped 64 108 HeaderHash\nskipped 30109 60154 DataHash\n"
+both_told : puts_under None ≡ puts_to Notes (codes "skipped 64 108 HeaderHash\nskipped 30109 60154 DataHash\n")
 unfolding digits
 both_told = refl
 
@@ -98,8 +106,7 @@ both_skipped = refl
 stopped_at : refused_in (Some 30044) two ≡ Some (record { begin = 30109; end = 60154; why = why.DataHash })
 stopped_at = refl
 
-stop_told : walk_text (regions_in (walked (Some 30044) two)) (refused_in (Some 30044) two)
-    ≡ codes "skipped 64 108 HeaderHash\nstopped 30109 60154 DataHash\n"
+stop_told : puts_under (Some 30044) ≡ puts_to Notes (codes "skipped 64 108 HeaderHash\nstopped 30109 60154 DataHash\n")
 unfolding digits
 stop_told = refl
 
@@ -107,13 +114,25 @@ stopped_there : walk_status (regions_in (walked (Some 30044) two)) (refused_in (
 stopped_there = refl
 
 -- and at the first, where not so much may be skipped
-stop_first : walk_text (regions_in (walked (Some 43) two)) (refused_in (Some 43) two) ≡ codes "stopped 64 108 HeaderHash\n"
+stop_first : puts_under (Some 43) ≡ puts_to Notes (codes "stopped 64 108 HeaderHash\n")
 unfolding digits
 stop_first = refl
 
 -- a file of no region
-nothing_told : walk_text (regions_in []) None ≡ []
+nothing_told : flat_map (event_puts false) [] ≡ []
 nothing_told = refl
 
 nothing_skipped : walk_status (regions_in []) None ≡ status.Ok
 nothing_skipped = refl
+
+-- a region between two chunks of records is told between their lines
+region_between : (first second : ChunkValue)
+    → flat_map (event_puts true) (
+    record { begin = 64; end = 110; what = Given (codes "a" ∷ codes "b" ∷ []) first }
+    ∷ record { begin = 110; end = 154; what = Skipped why.HeaderHash }
+    ∷ record { begin = 154; end = 196; what = Given (codes "c" ∷ []) second }
+    ∷ []
+    )
+    ≡ puts_to Out (codes "64 a\n65 b\n") ++ puts_to Notes (codes "skipped 110 154 HeaderHash\n") ++ puts_to Out (codes "154 c\n")
+unfolding digits
+region_between first second = refl

@@ -4,6 +4,7 @@ use Rattle.std.specs.List.{flat_map, list_all}
 use Rattle.std.specs.Fmt.{digit_glyph, digits_onto, digits}
 use Rattle.std.proofs.lemmas.Bool.{cond-true, cond-false, cases_Bool, eqb-true, false_from_ne_true, lt-ltb}
 use Rattle.std.proofs.lemmas.List.{append_assoc}
+use Rattle.record_io.specs.Puts.{Put, Notes, bytes_to}
 use Rattle.chunk_reader.specs.Names.{name_of}
 use Rattle.chunk_reader.specs.declared.reasons.Why.{Why}
 use Rattle.chunk_reader.specs.declared.reasons.Why.TheVariants as why
@@ -11,7 +12,7 @@ use Rattle.damage_skip.specs.Regions.{region_text}
 use Rattle.damage_skip.specs.declared.regions.Region.{Region}
 use Rattle.riegeli_tool.specs.Answers.{line}
 use Rattle.riegeli_tool.specs.Input.{ends_line, NoneEnds, lines}
-use Rattle.riegeli_tool.specs.Runs.{first_lines}
+use Rattle.riegeli_tool.specs.Runs.{PutsLines, first_lines}
 use Rattle.riegeli_tool.specs.WalkAnswers.{skipped_text}
 use Rattle.riegeli_tool.proofs.Lines.{lines-first}
 use Rattle.riegeli_tool.proofs.TakenLines.{NoneEnds-append, NoneEnds-cons}
@@ -93,10 +94,18 @@ lines-region region rest =
     ∙ lines-first (body (codes "skipped") region) rest (NoneEnds-body (codes "skipped") region (NoneEnds-tested (codes "skipped") refl))
 
 -- the lines of regions are the first lines of a text that begins with them
-pub first_lines-skipped : (regions : List Region) (rest : List ℕ) → first_lines (length regions) (skipped_text regions ++ rest) ≡ skipped_text regions
+first_lines-skipped : (regions : List Region) (rest : List ℕ) → first_lines (length regions) (skipped_text regions ++ rest) ≡ skipped_text regions
 first_lines-skipped [] rest = refl
 first_lines-skipped (region ∷ regions) rest =
     ap (λ (t : List ℕ). flat_map line (take (length (region ∷ regions)) (lines t))) (append_assoc (region_text (codes "skipped") region) (skipped_text regions) rest)
     ∙ ap (λ (ls : List (List ℕ)). flat_map line (take (length (region ∷ regions)) ls)) (lines-region region (skipped_text regions ++ rest))
     ∙ ap (λ (t : List ℕ). line (body (codes "skipped") region) ++ t) (first_lines-skipped regions rest)
     ∙ ap (λ (t : List ℕ). t ++ skipped_text regions) (sym (text-body (codes "skipped") region))
+
+-- so what puts these lines in notes puts the first lines of what begins there with them
+pub PutsLines-regions : (regions : List Region) (part puts : List Put) (rest : List ℕ) → bytes_to Notes part ≡ skipped_text regions
+    → bytes_to Notes puts ≡ skipped_text regions ++ rest → PutsLines part puts
+PutsLines-regions regions part puts rest these all = record {
+  count = length regions;
+  lines = these ∙ sym (first_lines-skipped regions rest) ∙ ap (first_lines (length regions)) (sym all);
+}

@@ -1,43 +1,51 @@
 -- How the repair of a file stands to the answer.
-use Rattle.std.proofs.Common.{◌≡◌, ◌≢◌, ◌∙◌, ℕ, ◌+◌, ◌<◌, ◌≤◌, Bool, true, false, not, cond, Option, None, Ok, Err, List, [], ◌∷◌, ◌++◌, length, refl, sym, ap, subst, inl, inr, arith}
+use Rattle.std.proofs.Common.{◌≡◌, ◌≢◌, ◌∙◌, ℕ, ◌+◌, ◌<◌, ◌≤◌, Bool, true, false, not, cond, Option, None, Result, Ok, Err, List, [], ◌∷◌, ◌++◌, length, length-append, append_assoc, take, refl, sym, ap, subst, inl, inr, arith}
 use Rattle.std.specs.Fn.{Shared}
 use denote.Ref.{Bor}
 use Rattle.std.specs.List.{AllByRecursion, cons_option}
 use Rattle.std.proofs.lemmas.Bool.{cases_Bool, cond-true, cond-false}
-use Rattle.std.proofs.lemmas.List.{append-nil}
+use Rattle.std.proofs.lemmas.List.{append-nil, nil_from_length}
 use Rattle.std.proofs.lemmas.List.Sums.{sum_by-cons}
-use Rattle.record_io.specs.Outside.{Takes, TakesFront}
+use Rattle.std.proofs.lemmas.Grind.{flat_map-append}
+use Rattle.record_io.specs.Outside.{Rose, Takes, TakesFront}
 use Rattle.record_io.specs.declared.file_totals.Totals.{Totals}
-use Rattle.record_io.proofs.Calls.{TakesFront-longer, TakesFront-whole}
+use Rattle.record_io.specs.Puts.{Put, Made, Out, Notes, Taken, taken_by, GoOut, BreaksOff, puts_to, bytes_to}
+use Rattle.record_io.proofs.Calls.{Takes-nothing}
+use Rattle.record_io.proofs.Puts.{bytes_to-append, bytes_to-other, GoOut-append, GoOut-out, GoOutOrAreHeld-none, TakesFront-count, BreaksOff-front, BreaksOff-last, BreaksOff-longer}
 use Rattle.meta_chunk.specs.Counts.{totals_of}
-use Rattle.meta_chunk.specs.Files.{signature, laid_each}
+use Rattle.meta_chunk.specs.Files.{signature, end_of_chunks}
 use Rattle.damage_skip.specs.Pieces.{What, Given, Kept, Passive, Skipped, Piece, AreEvents, is_event, events_in}
 use Rattle.damage_skip.specs.Regions.{region_text}
 use Rattle.damage_skip.specs.declared.regions.Region.{Region}
 use Rattle.damage_skip.proofs.OnePiece.{piece_past}
 use Rattle.damage_skip.proofs.Tiles.{IsTile, tiles_each, goes_on_whole}
-use Rattle.repair_copy.specs.Relaid.{chunks_in, relaid}
+use Rattle.repair_copy.specs.Relaid.{chunks_in}
+use Rattle.repair_copy.specs.RepairPuts.{puts_from, repair_puts, WentOutAtFault}
 use Rattle.repair_copy.specs.Told.{line_of, lines_in, is_skipped, regions_in as told_in, IsLetPass, lines_of, ArePassed}
 use Rattle.repair_copy.specs.Walked.{AreWalked}
 use Rattle.repair_copy.specs.Repairs.{Repairs}
 use Rattle.repair_copy.specs.declared.repairs.Repaired.{Repaired}
+use Rattle.repair_copy.specs.declared.repairs.RepairEnd.{RepairEnd}
 use Rattle.repair_copy.specs.declared.repairs.RepairEnd.TheVariants as repair
-use Rattle.repair_copy.proofs.EventChunks.{relaid-append}
+use Rattle.repair_copy.proofs.RepairPuts.{repair_puts-append, notes_in-repair, out_in-repair}
+use Rattle.repair_copy.proofs.WholeLines.{whole_lines}
 use lib.Chars.{codes}
 use Rattle.riegeli_tool.specs.declared.repair_words.RepairWords.{RepairWords}
 use Rattle.riegeli_tool.specs.declared.status.Status.{Status}
 use Rattle.riegeli_tool.specs.declared.status.Status.TheVariants as status
 use Rattle.riegeli_tool.specs.Answers.{Answer}
 use Rattle.riegeli_tool.specs.FileAnswers.{OfFile, most_file_bytes, report}
-use Rattle.riegeli_tool.specs.RepairCommand.{report_unless, IsRepaired}
-use Rattle.riegeli_tool.specs.ReadingEnds.{HasPrintedFront}
-use Rattle.riegeli_tool.specs.WalkAnswers.{region_as, regions_in, may_skip, is_refused_as, walked, refused_in, IsWalkedTo, MaySkip, skipped_text, walk_text, walk_status}
-use Rattle.riegeli_tool.specs.WalkingEnds.{IsBound, HasWalked, HasWalkedFront, HasSaidFront, HasToldOf}
+use Rattle.riegeli_tool.specs.RepairCommand.{end_puts, first_puts, IsRepaired, IsRepairedSoFar}
+use Rattle.riegeli_tool.specs.ReadingEnds.{HasPut, HasPutSoFar, HasPutFront, HasBrokenOff}
+use Rattle.riegeli_tool.specs.Runs.{FailedToSay, PutsLines}
+use Rattle.riegeli_tool.specs.WalkAnswers.{region_as, regions_in, may_skip, is_refused_as, walked, refused_in, IsWalkedTo, MaySkip, skipped_text, walk_status}
+use Rattle.riegeli_tool.specs.WalkingEnds.{IsBound, HasToldOf}
 use Rattle.riegeli_tool.proofs.CommandLaws.{same_answer, one_repaired}
-use Rattle.riegeli_tool.proofs.ReadingRuns.{TakesAndHolds-nothing, front-of_front}
+use Rattle.riegeli_tool.proofs.RegionTexts.{PutsLines-regions}
 use Rattle.riegeli_tool.proofs.ShowSteps.{in_reach}
+use Rattle.riegeli_tool.proofs.VerifyEnds.{report-some}
 use Rattle.riegeli_tool.proofs.Walked.{NoneRefused, walked-behind, walked-all, refused-none, piece_at, walked-to_refused, refused-there}
-use Rattle.riegeli_tool.proofs.WalkedEvents.{rest_of, rest_from, text-front, text-all, status-all, text-stopped, status-stopped}
+use Rattle.riegeli_tool.proofs.WalkedEvents.{rest_of, rest_from, status-all, status-stopped}
 
 -- the lines of the regions among events, and their number
 line_of-region : (begin end : ℕ) (what : What) (regions : List Region)
@@ -92,14 +100,12 @@ events_each P (p ∷ pieces) h =
 -- the answer of events
 abbrev answer_of : RepairWords → List Piece → Answer
 answer_of words events = record {
-  made = relaid (walked words.most events);
-  out = report_unless (refused_in words.most events) (chunks_in (walked words.most events));
-  notes = walk_text (regions_in (walked words.most events)) (refused_in words.most events);
+  puts = repair_puts (walked words.most events) ++ end_puts (refused_in words.most events) (chunks_in (walked words.most events));
   status = walk_status (regions_in (walked words.most events)) (refused_in words.most events);
 }
 
 answered : (words : RepairWords) (file : List ℕ) (events : List Piece) → AreEvents true file events → IsRepaired words file (answer_of words events)
-answered words file events are = record { events = events; are = are; made = refl; out = refl; notes = refl; status = refl }
+answered words file events are = record { events = events; are = are; puts = refl; status = refl }
 
 is_answer : (words : RepairWords) (file : List ℕ) (events : List Piece) (answer : Answer) → length file ≤ most_file_bytes
     → AreEvents true file events → OfFile (IsRepaired words) (file ∷ []) answer → answer ≡ answer_of words events
@@ -109,27 +115,21 @@ is_answer words file events answer short are is =
 -- of events of which none is refused
 abbrev whole_answer : List Piece → Answer
 whole_answer events = record {
-  made = relaid events;
-  out = report (totals_of (signature ∷ chunks_in events));
-  notes = skipped_text (regions_in events) ++ [];
+  puts = repair_puts events ++ puts_to Out (report (totals_of (signature ∷ chunks_in events)));
   status = walk_status (regions_in events) None;
 }
 
 whole_is : (words : RepairWords) (events : List Piece) → NoneRefused words.most events → answer_of words events ≡ whole_answer events
 whole_is words events h =
     same_answer (answer_of words events) (whole_answer events)
-    (ap relaid (walked-all words.most events h))
-    (ap (λ (es : List Piece). report_unless (refused_in words.most events) (chunks_in es)) (walked-all words.most events h)
-    ∙ ap (λ (s : Option Region). report_unless s (chunks_in events)) (refused-none words.most events h))
-    (text-all words.most events h)
+    (ap (λ (es : List Piece). repair_puts es ++ end_puts (refused_in words.most events) (chunks_in es)) (walked-all words.most events h)
+    ∙ ap (λ (s : Option Region). repair_puts events ++ end_puts s (chunks_in events)) (refused-none words.most events h))
     (status-all words.most events h)
 
 -- and of events before one that is
 abbrev stopped_answer : List Piece → Region → Answer
 stopped_answer events region = record {
-  made = relaid events;
-  out = [];
-  notes = skipped_text (regions_in events) ++ region_text (codes "stopped") region;
+  puts = repair_puts events ++ puts_to Notes (region_text (codes "stopped") region);
   status = status.Stopped;
 }
 
@@ -138,10 +138,51 @@ stopped_is : (words : RepairWords) (events fs : List Piece) (region : Region) �
 stopped_is words events fs region h refused =
     let all : List Piece = events ++ piece_at region ∷ fs in
     same_answer (answer_of words all) (stopped_answer events region)
-    (ap relaid (walked-to_refused words.most events fs region h refused))
-    (ap (λ (s : Option Region). report_unless s (chunks_in (walked words.most all))) (refused-there words.most events fs region h refused))
-    (text-stopped words.most events fs region h refused)
+    (ap (λ (es : List Piece). repair_puts es ++ end_puts (refused_in words.most all) (chunks_in es)) (walked-to_refused words.most events fs region h refused)
+    ∙ ap (λ (s : Option Region). repair_puts events ++ end_puts s (chunks_in events)) (refused-there words.most events fs region h refused))
     (status-stopped words.most events fs region h refused)
+
+-- a front of what is put of events puts nothing to standard output
+none_out : (events : List Piece) (part rest : List Put) → repair_puts events ≡ part ++ rest → bytes_to Out part ≡ []
+none_out events part rest is =
+    nil_from_length (bytes_to Out part)
+    (omega (
+      arith,
+      ap length (out_in-repair events),
+      ap (λ (ps : List Put). length (bytes_to Out ps)) is,
+      ap length (bytes_to-append Out part rest),
+      length-append (bytes_to Out part) (bytes_to Out rest),
+    ))
+
+none_out-first : (events : List Piece) → bytes_to Out (first_puts events) ≡ []
+none_out-first [] = refl
+none_out-first (e ∷ events) = out_in-repair (e ∷ events)
+
+-- which stays as it is
+beside_out : (a b o n m : Option (List ℕ)) (part : List Put) → GoOut (taken_by a None n) (taken_by b None m) part → bytes_to Out part ≡ []
+    → GoOut (taken_by a o n) (taken_by b o m) part
+beside_out a b o n m part h none =
+    record { made = h.made; out = subst (λ (t : List ℕ). Takes o o t) (sym none) (Takes-nothing o); notes = h.notes }
+
+-- lines of the first events are whole lines of all
+lines_first : (events front behind : List Piece) (part more : List Put) (puts : List Put) → events ≡ front ++ behind
+    → bytes_to Notes part ≡ lines_in front → puts ≡ repair_puts events ++ more → PutsLines part puts
+lines_first events front behind part more puts parts has is =
+    let rest : List ℕ = lines_in behind ++ bytes_to Notes more in
+    PutsLines-regions (regions_in front) part puts rest (has ∙ lines-regions front)
+    (ap (bytes_to Notes) is
+    ∙ bytes_to-append Notes (repair_puts events) more
+    ∙ ap (λ (t : List ℕ). t ++ bytes_to Notes more) (notes_in-repair events ∙ ap lines_in parts ∙ flat_map-append (λ (p : Piece). line_of p.begin p.end p.what) front behind)
+    ∙ append_assoc (lines_in front) (lines_in behind) (bytes_to Notes more)
+    ∙ ap (λ (t : List ℕ). t ++ rest) (lines-regions front))
+
+-- bytes to another stream behind what is put of events add no line
+notes-behind : (events : List Piece) (bytes : List ℕ) → bytes_to Notes (repair_puts events ++ puts_to Out bytes) ≡ lines_in events
+notes-behind events bytes =
+    bytes_to-append Notes (repair_puts events) (puts_to Out bytes)
+    ∙ ap (λ (t : List ℕ). bytes_to Notes (repair_puts events) ++ t) (bytes_to-other Notes Out bytes refl)
+    ∙ append-nil (bytes_to Notes (repair_puts events))
+    ∙ notes_in-repair events
 
 module _ {F : Type 0} (g : Shared F (Bor Region × Unit {0}) Bool) (f : F) (words : RepairWords) (bound : IsBound g f words.most) where
   -- what a test lets pass is not refused
@@ -185,146 +226,191 @@ module _ {F : Type 0} (g : Shared F (Bor Region × Unit {0}) Bool) (f : F) (word
       → (skipped : List Region) × MaySkip words.most skipped × (skipped ≢ []) × TakesFront n m (skipped_text skipped)
   told-front n m regions passed some says = (regions, regions-may regions passed, λ none. some (ap lines_of none), says)
 
-  module _ (file : List ℕ) (short : length file ≤ most_file_bytes) (a b n m : Option (List ℕ)) where
+  module _ (file : List ℕ) (short : length file ≤ most_file_bytes) (faults faults_then : ℕ) (a b o n m : Option (List ℕ)) where
+    -- what the sinks of the repair took, and what those of the command did when it ended
+    abbrev Repaired_by : Result Repaired RepairEnd → Type 0
+    Repaired_by result = Repairs g f result faults faults_then (taken_by a None n) (taken_by b None m) file
+
+    abbrev Start : Taken
+    Start = taken_by a o n
+
+    abbrev Then : Taken
+    Then = taken_by b o m
+
     -- the whole file was repaired: its answer
-    whole : (repaired : Repaired) → (h : Repairs g f (Ok repaired) a b n m file) → IsWalkedTo true words.most file (length file) h.events
+    whole : (repaired : Repaired) → (h : Repaired_by (Ok repaired)) → IsWalkedTo true words.most file (length file) h.events
     whole repaired h =
         subst (λ (p : ℕ). IsWalkedTo true words.most file p h.events) h.answer.0 (walked-to file h.place h.events short h.walked)
 
-    all : (repaired : Repaired) → (h : Repairs g f (Ok repaired) a b n m file) → AreEvents true file h.events
+    all : (repaired : Repaired) → (h : Repaired_by (Ok repaired)) → AreEvents true file h.events
     all repaired h = goes_on_whole true file h.events (whole repaired h).walked
 
-    repaired-answer : (repaired : Repaired) → (h : Repairs g f (Ok repaired) a b n m file) → (answer : Answer) → OfFile (IsRepaired words) (file ∷ []) answer
+    repaired-answer : (repaired : Repaired) → (h : Repaired_by (Ok repaired)) → (answer : Answer) → OfFile (IsRepaired words) (file ∷ []) answer
         → answer ≡ whole_answer h.events
     repaired-answer repaired h answer is =
         is_answer words file h.events answer short (all repaired h) is ∙ whole_is words h.events (whole repaired h).passed
 
-    pub repaired-walked : (repaired : Repaired) (o p : Option (List ℕ)) (ended : Status) → Repairs g f (Ok repaired) a b n m file
+    -- all that is put of events went out
+    went-all : (events : List Piece) (part : List Put) → part ≡ repair_puts events → GoOut (taken_by a None n) (taken_by b None m) part
+        → GoOut Start Then (repair_puts events)
+    went-all events part same took =
+        beside_out a b o n m (repair_puts events) (subst (λ (ps : List Put). GoOut (taken_by a None n) (taken_by b None m) ps) same took)
+        (out_in-repair events)
+
+    pub repaired-walked : (repaired : Repaired) (p : Option (List ℕ)) (ended : Status) → Repaired_by (Ok repaired)
         → Takes o p (report repaired.totals) → ((regions : List Region) → repaired.regions ≡ length regions → ended ≡ walk_status regions None)
-        → HasWalked (IsRepaired words) file o p [] n m [] ended
-    repaired-walked repaired o p ended h printed status_is = record {
-      answer = whole_answer h.events;
-      is = inr (short, subst (λ (x : Answer). IsRepaired words file x) (whole_is words h.events (whole repaired h).passed) (answered words file h.events (all repaired h)));
-      prints = record {
-        passed = report (totals_of (signature ∷ chunks_in h.events));
-        parts = sym (append-nil (report (totals_of (signature ∷ chunks_in h.events))));
-        taken = subst (λ (t : Totals). Takes o p (report t)) h.answer.1 printed;
-      };
-      skipped = regions_in h.events;
-      text = refl;
-      says = subst (λ (t : List ℕ). Takes n m t) (lines-regions h.events) h.notes;
-      status = status_is (regions_in h.events) (h.answer.2 ∙ count-regions h.events);
-    }
-
-    pub repaired-makes : (repaired : Repaired) → Repairs g f (Ok repaired) a b n m file → (answer : Answer) → OfFile (IsRepaired words) (file ∷ []) answer
-        → Takes a b answer.made
-    repaired-makes repaired h answer is =
-        subst (λ (t : List ℕ). Takes a b t) (sym (ap (λ (x : Answer). x.made) (repaired-answer repaired h answer is))) h.made
-
-    -- of its report a front was printed
-    pub unreported-walked : (repaired : Repaired) (o p : Option (List ℕ)) → Repairs g f (Ok repaired) a b n m file → TakesFront o p (report repaired.totals)
-        → (answer : Answer) → OfFile (IsRepaired words) (file ∷ []) answer → HasWalkedFront o p [] n m answer
-    unreported-walked repaired o p h printed answer is =
-        let same = repaired-answer repaired h answer is in
+        → HasPut (IsRepaired words) file Start (taken_by b p m) [] [] ended
+    repaired-walked repaired p ended h printed status_is =
         let text : List ℕ = report (totals_of (signature ∷ chunks_in h.events)) in
+        let puts : List Put = repair_puts h.events ++ puts_to Out text in
         record {
-          prints = front-of_front o p text [] answer (ap (λ (x : Answer). x.out) same ∙ sym (append-nil text))
-              (subst (λ (t : Totals). TakesFront o p (report t)) h.answer.1 printed);
-          skipped = regions_in h.events;
-          rest = [];
-          text = ap (λ (x : Answer). x.notes) same;
-          says = subst (λ (t : List ℕ). Takes n m t) (lines-regions h.events) h.notes;
+          answer = whole_answer h.events;
+          is = inr (short, subst (λ (x : Answer). IsRepaired words file x) (whole_is words h.events (whole repaired h).passed) (answered words file h.events (all repaired h)));
+          puts = puts;
+          whole = sym (append-nil puts);
+          lines = lines_first h.events h.events [] puts (puts_to Out text) puts (sym (append-nil h.events)) (notes-behind h.events text) refl;
+          went = GoOutOrAreHeld-none Start (taken_by b p m) Out puts
+              (GoOut-append Start Then (taken_by b p m) (repair_puts h.events) (puts_to Out text) (went-all h.events h.part h.went h.took)
+              (GoOut-out b o p m text (subst (λ (t : Totals). Takes o p (report t)) h.answer.1 printed)));
+          status = status_is (regions_in h.events) (h.answer.2 ∙ count-regions h.events);
         }
 
-    pub unreported-makes : (repaired : Repaired) → Repairs g f (Ok repaired) a b n m file → (answer : Answer) → OfFile (IsRepaired words) (file ∷ []) answer
-        → TakesFront a b answer.made
-    unreported-makes repaired h answer is = TakesFront-whole a b answer.made (repaired-makes repaired h answer is)
+    -- of its report a front was printed
+    pub unreported-walked : (repaired : Repaired) (p : Option (List ℕ)) → Repaired_by (Ok repaired) → TakesFront o p (report repaired.totals)
+        → (answer : Answer) → OfFile (IsRepaired words) (file ∷ []) answer → HasBrokenOff Out Start (taken_by b p m) answer
+    unreported-walked repaired p h printed answer is =
+        let text : List ℕ = report (totals_of (signature ∷ chunks_in h.events)) in
+        let same : answer.puts ≡ repair_puts h.events ++ puts_to Out text = ap (λ (x : Answer). x.puts) (repaired-answer repaired h answer is) in
+        let took = TakesFront-count o p text (subst (λ (t : Totals). TakesFront o p (report t)) h.answer.1 printed) in
+        let part : List Put = repair_puts h.events ++ puts_to Out (take took.0 text) in
+        record {
+          part = part;
+          broke = subst (λ (ps : List Put). BreaksOff Out part ps) (sym same)
+              (BreaksOff-last Out (repair_puts h.events) text took.0 (report-some (totals_of (signature ∷ chunks_in h.events))));
+          lines = lines_first h.events h.events [] part (puts_to Out text) answer.puts (sym (append-nil h.events)) (notes-behind h.events (take took.0 text)) same;
+          went = GoOut-append Start Then (taken_by b p m) (repair_puts h.events) (puts_to Out (take took.0 text)) (went-all h.events h.part h.went h.took)
+              (GoOut-out b o p m (take took.0 text) took.1);
+        }
 
     -- the repair ended at a region that is refused
-    refused : (region : Region) → (h : Repairs g f (Err (repair.Stopped region)) a b n m file) → may_skip words.most region ≡ false
+    refused : (region : Region) → (h : Repaired_by (Err (repair.Stopped region))) → may_skip words.most region ≡ false
     refused region h =
         let past = piece_past true file h.place region.end (Skipped region.why) h.answer.below h.answer.piece in
         sym (bound region false
         (record { ordered = omega (arith, h.answer.begin, past.past); in_reach = omega (arith, past.within, short) }) h.answer.refused)
 
-    stop : (region : Region) → (h : Repairs g f (Err (repair.Stopped region)) a b n m file)
+    stop : (region : Region) → (h : Repaired_by (Err (repair.Stopped region)))
         → (fs : List Piece) × AreEvents true file (h.events ++ piece_at region ∷ fs)
     stop region h =
         rest_from true words.most file h.place h.events region (walked-to file h.place h.events short h.walked) h.answer.begin h.answer.below h.answer.piece
 
-    stop_is : (region : Region) → (h : Repairs g f (Err (repair.Stopped region)) a b n m file)
+    stop_is : (region : Region) → (h : Repaired_by (Err (repair.Stopped region)))
         → answer_of words (h.events ++ piece_at region ∷ (stop region h).0) ≡ stopped_answer h.events region
     stop_is region h =
         stopped_is words h.events (stop region h).0 region (walked-to file h.place h.events short h.walked).passed (refused region h)
 
-    pub stopped-walked : (region : Region) (o : Option (List ℕ)) → Repairs g f (Err (repair.Stopped region)) a b n m file
-        → HasWalked (IsRepaired words) file o o [] n m (region_text (codes "stopped") region) status.Stopped
-    stopped-walked region o h = record {
-      answer = stopped_answer h.events region;
-      is = inr (short, subst (λ (x : Answer). IsRepaired words file x) (stop_is region h) (answered words file (h.events ++ piece_at region ∷ (stop region h).0) (stop region h).1));
-      prints = TakesAndHolds-nothing o;
-      skipped = regions_in h.events;
-      text = refl;
-      says = subst (λ (t : List ℕ). Takes n m t) (lines-regions h.events) h.notes;
-      status = refl;
-    }
+    pub stopped-walked : (region : Region) → Repaired_by (Err (repair.Stopped region))
+        → HasPut (IsRepaired words) file Start Then [] (region_text (codes "stopped") region) status.Stopped
+    stopped-walked region h =
+        let last : List Put = puts_to Notes (region_text (codes "stopped") region) in
+        record {
+          answer = stopped_answer h.events region;
+          is = inr (short, subst (λ (x : Answer). IsRepaired words file x) (stop_is region h) (answered words file (h.events ++ piece_at region ∷ (stop region h).0) (stop region h).1));
+          puts = repair_puts h.events;
+          whole = refl;
+          lines = lines_first h.events h.events [] (repair_puts h.events) last (repair_puts h.events ++ last) (sym (append-nil h.events)) (notes_in-repair h.events) refl;
+          went = GoOutOrAreHeld-none Start Then Out (repair_puts h.events) (went-all h.events h.part h.went h.took);
+          status = refl;
+        }
 
-    pub stopped-makes : (region : Region) → Repairs g f (Err (repair.Stopped region)) a b n m file → (answer : Answer) → OfFile (IsRepaired words) (file ∷ []) answer
-        → Takes a b answer.made
-    stopped-makes region h answer is =
-        let same = is_answer words file (h.events ++ piece_at region ∷ (stop region h).0) answer short (stop region h).1 is ∙ stop_is region h in
-        subst (λ (t : List ℕ). Takes a b t) (sym (ap (λ (x : Answer). x.made) same)) h.made
+    -- it was cut short: unless the made file failed too, all that was put so far went out
+    all-first : ¬ Rose faults faults_then → (events : List Piece) (part : List Put) → WentOutAtFault faults faults_then events part → part ≡ first_puts events
+    all-first sound [] part none = none
+    all-first sound (e ∷ events) part (inl same) = same
+    all-first sound (e ∷ events) part (inr (rose, left, parts)) = absurd (sound rose)
+
+    pub cut-so_far : ¬ Rose faults faults_then → (place : ℕ) (events : List Piece) → AreWalked g f file place events
+        → (part : List Put) → WentOutAtFault faults faults_then events part → GoOut (taken_by a None n) (taken_by b None m) part
+        → HasPutSoFar (IsRepairedSoFar words file) Start Then []
+    cut-so_far sound place events walk part went took =
+        let same = all-first sound events part went in
+        record {
+          part = part;
+          is = record { place = place; events = events; walked = walked-to file place events short walk; puts = same };
+          went = GoOutOrAreHeld-none Start Then Out part
+              (beside_out a b o n m part took (ap (bytes_to Out) same ∙ none_out-first events));
+        }
 
     -- it was cut off behind some events
-    module _ (place : ℕ) (events : List Piece) (walk : AreWalked g f file place events) where
+    module _ (place : ℕ) (events : List Piece) (walk : AreWalked g f file place events) (part : List Put)
+        (took : GoOut (taken_by a None n) (taken_by b None m) part) (answer : Answer) (is : OfFile (IsRepaired words) (file ∷ []) answer) where
       to : IsWalkedTo true words.most file place events
       to = walked-to file place events short walk
 
       rest : (fs : List Piece) × AreEvents true file (events ++ fs)
       rest = rest_of true words.most file place events to
 
-      pub cut-makes : TakesFront a b (relaid events) → (answer : Answer) → OfFile (IsRepaired words) (file ∷ []) answer → TakesFront a b answer.made
-      cut-makes front answer is =
-          let more : List ℕ = laid_each (length (relaid events)) (chunks_in (walked words.most rest.0)) in
-          let parts : answer.made ≡ relaid events ++ more =
-          ap (λ (x : Answer). x.made) (is_answer words file (events ++ rest.0) answer short rest.1 is)
-          ∙ ap relaid (walked-behind words.most events rest.0 to.passed)
-          ∙ relaid-append events (walked words.most rest.0) in
-          subst (λ (t : List ℕ). TakesFront a b t) (sym parts) (TakesFront-longer a b (relaid events) more front)
+      -- what an answer puts behind what is put of these
+      more : (puts : List Put) × (answer.puts ≡ repair_puts events ++ puts)
+      more =
+          let fs : List Piece = walked words.most rest.0 in
+          let last : List Put = end_puts (refused_in words.most (events ++ rest.0)) (chunks_in (walked words.most (events ++ rest.0))) in
+          let next : List Put = puts_from (end_of_chunks 0 (signature ∷ chunks_in events)) fs in (
+            next ++ last,
+            ap (λ (x : Answer). x.puts) (is_answer words file (events ++ rest.0) answer short rest.1 is)
+                ∙ ap (λ (es : List Piece). repair_puts es ++ last) (walked-behind words.most events rest.0 to.passed)
+                ∙ ap (λ (ps : List Put). ps ++ last) (repair_puts-append events fs)
+                ∙ append_assoc (repair_puts events) next last,
+          )
 
-      notes-front : (answer : Answer) → OfFile (IsRepaired words) (file ∷ []) answer → (more : List ℕ) × (answer.notes ≡ skipped_text (regions_in events) ++ more)
-      notes-front answer is = (
-        walk_text (regions_in (walked words.most rest.0)) (refused_in words.most (events ++ rest.0)),
-        ap (λ (x : Answer). x.notes) (is_answer words file (events ++ rest.0) answer short rest.1 is) ∙ text-front words.most events rest.0 to.passed,
-      )
+      -- a front went out
+      front-walked : (left : List Put) (front behind : List Piece) → repair_puts events ≡ part ++ left → events ≡ front ++ behind
+          → bytes_to Notes part ≡ lines_in front → HasPutFront Start Then [] answer
+      front-walked left front behind parts first has = record {
+        part = part;
+        rest = left ++ more.0;
+        parts = more.1 ∙ ap (λ (ps : List Put). ps ++ more.0) parts ∙ append_assoc part left more.0;
+        lines = lines_first events front behind part more.0 answer.puts first has more.1;
+        went = GoOutOrAreHeld-none Start Then Out part (beside_out a b o n m part took (none_out events part left parts));
+      }
 
-      none-printed : (o : Option (List ℕ)) (answer : Answer) → HasPrintedFront o o [] answer
-      none-printed o answer = record { text = []; rest = answer.out; parts = refl; out = TakesAndHolds-nothing o }
+      -- and where what was read failed all, or nothing before the first event
+      at_fault : (es : List Piece) → es ≡ events → WentOutAtFault faults faults_then es part → HasPutFront Start Then [] answer
+      at_fault [] none same =
+          front-walked (repair_puts events) [] events (ap (λ (ps : List Put). ps ++ repair_puts events) (sym same)) refl (ap (bytes_to Notes) same)
+      at_fault (e ∷ es) are (inl same) =
+          let all : part ≡ repair_puts events = same ∙ ap repair_puts are in
+          front-walked [] events [] (sym all ∙ sym (append-nil part)) (sym (append-nil events)) (ap (bytes_to Notes) all ∙ notes_in-repair events)
+      at_fault (e ∷ es) are (inr (rose, left, parts)) =
+          let all : repair_puts events ≡ part ++ puts_to Made left = ap repair_puts (sym are) ∙ parts in
+          front-walked (puts_to Made left) events [] all (sym (append-nil events))
+          (sym (append-nil (bytes_to Notes part))
+          ∙ ap (λ (t : List ℕ). bytes_to Notes part ++ t) (sym (bytes_to-other Notes Made left refl))
+          ∙ sym (bytes_to-append Notes part (puts_to Made left))
+          ∙ ap (bytes_to Notes) (sym all)
+          ∙ notes_in-repair events)
 
-      pub cut-walked : (o : Option (List ℕ)) → Takes n m (lines_in events) → (answer : Answer) → OfFile (IsRepaired words) (file ∷ []) answer
-          → HasWalkedFront o o [] n m answer
-      cut-walked o says answer is =
-          let front = notes-front answer is in
+      pub cut-walked : WentOutAtFault faults faults_then events part → HasPutFront Start Then [] answer
+      cut-walked went = at_fault events refl went
+
+      -- while bytes of the made file were put
+      pub unmade-walked : BreaksOff Made part (repair_puts events) → HasBrokenOff Made Start Then answer
+      unmade-walked broke =
+          let front = BreaksOff-front Made part (repair_puts events) broke in
+          let whole_lines = whole_lines events part broke in
           record {
-            prints = none-printed o answer;
-            skipped = regions_in events;
-            rest = front.0;
-            text = front.1;
-            says = subst (λ (t : List ℕ). Takes n m t) (lines-regions events) says;
+            part = part;
+            broke = subst (λ (ps : List Put). BreaksOff Made part ps) (sym more.1) (BreaksOff-longer Made part (repair_puts events) more.0 broke);
+            lines = lines_first events whole_lines.0 whole_lines.1 part more.0 answer.puts whole_lines.2 whole_lines.3 more.1;
+            went = beside_out a b o n m part took (none_out events part front.0 front.1);
           }
 
       -- while a line was told
-      pub untold-walked : (o : Option (List ℕ)) → lines_in events ≢ [] → TakesFront n m (lines_in events) → (answer : Answer) → OfFile (IsRepaired words) (file ∷ []) answer
-          → HasSaidFront o o [] n m answer
-      untold-walked o some says answer is =
-          let front = notes-front answer is in
-          let lines : lines_in events ≡ skipped_text (regions_in events) = lines-regions events in
+      pub untold-walked : BreaksOff Notes part (repair_puts events) → FailedToSay Start Then answer
+      untold-walked broke =
+          let front = BreaksOff-front Notes part (repair_puts events) broke in
           record {
-            prints = none-printed o answer;
-            some = λ none. some (lines ∙ front_none (skipped_text (regions_in events)) front.0 (sym front.1 ∙ none));
-            says = subst (λ (t : List ℕ). TakesFront n m t) (sym front.1)
-                (TakesFront-longer n m (skipped_text (regions_in events)) front.0 (subst (λ (t : List ℕ). TakesFront n m t) lines says));
-          } where
-            front_none : (x y : List ℕ) → x ++ y ≡ [] → x ≡ []
-            front_none [] y none = refl
-            front_none (c ∷ x) y none = absurd (cc none)
+            part = part;
+            broke = subst (λ (ps : List Put). BreaksOff Notes part ps) (sym more.1) (BreaksOff-longer Notes part (repair_puts events) more.0 broke);
+            went = beside_out a b o n m part took (none_out events part front.0 front.1);
+          }

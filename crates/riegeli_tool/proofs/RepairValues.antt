@@ -1,11 +1,12 @@
 -- The words of `repair` and what it prints, judged by hand, computed from the definitions.
 use Rattle.std.proofs.Common.{◌≡◌, Some, None, [], ◌∷◌, codes, refl}
 use Rattle.std.specs.Fmt.{digits}
+use Rattle.record_io.specs.Puts.{Out, Notes, puts_to}
 use Rattle.block_layout.specs.Layout as layout
 use Rattle.chunk_reader.specs.declared.reasons.Why.TheVariants as why
 use Rattle.riegeli_tool.specs.declared.command.Command.TheVariants.{Repair}
 use Rattle.riegeli_tool.specs.RepairWords.{repair_words_of}
-use Rattle.riegeli_tool.specs.RepairCommand.{report_unless}
+use Rattle.riegeli_tool.specs.RepairCommand.{end_puts}
 use Rattle.riegeli_tool.specs.Commands.{command_of, accepted, names_of}
 
 -- two files, and the bound in any place
@@ -57,10 +58,11 @@ both_handed_in : accepted (codes "repair" ∷ codes "A" ∷ codes "B" ∷ []) 2 
 unfolding repair_words_of
 both_handed_in = refl
 
--- the report of a file of no chunk but the first, and none where a region is refused
-nothing_intact : report_unless None [] ≡ codes "chunks 1\nrecords 0\nbytes 64\nunread 0\n"
+-- the report of a file of no chunk but the first is printed, and none where a region is refused
+nothing_intact : end_puts None [] ≡ puts_to Out (codes "chunks 1\nrecords 0\nbytes 64\nunread 0\n")
 unfolding digits layout.chunk_end_of layout.end_of
 nothing_intact = refl
 
-unreported : report_unless (Some (record { begin = 64; end = 108; why = why.HeaderHash })) [] ≡ []
+unreported : end_puts (Some (record { begin = 64; end = 108; why = why.HeaderHash })) [] ≡ puts_to Notes (codes "stopped 64 108 HeaderHash\n")
+unfolding digits
 unreported = refl

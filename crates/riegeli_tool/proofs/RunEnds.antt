@@ -1,21 +1,18 @@
 -- How a run of any command ends: what all its clauses follow from.
-use Rattle.std.proofs.Common.{◌≡◌, ◌≢◌, ℕ, zero, suc, ◌≤◌, ◌⊎◌, true, false, Option, Some, None, List, [], ◌∷◌, length, get_or, set, map, refl, sym, ap, subst, ◌∙◌, inl, inr, arith, append-nil}
+use Rattle.std.proofs.Common.{◌≡◌, ◌≢◌, ℕ, zero, suc, ◌≤◌, ◌⊎◌, true, false, Option, Some, None, List, [], ◌∷◌, ◌++◌, length, get_or, set, take, map, refl, sym, ap, subst, ◌∙◌, inl, inr, arith}
 use Rattle.std.specs.Option.{IfSome}
 use Rattle.record_io.specs.Outside.{Rose, Takes, TakesFront}
-use Rattle.record_io.proofs.Calls.{TakesFront-whole}
+use Rattle.record_io.specs.Puts.{Put, Notes, Taken, taken_by, GoOut, BreaksOff, puts_to, bytes_to}
+use Rattle.record_io.proofs.Calls.{Takes-nothing, Takes-append, TakesFront-append}
+use Rattle.record_io.proofs.Puts.{GoOut-append, GoOut-nothing, GoOut-notes, TakesFront-count, BreaksOff-last}
 use Rattle.riegeli_tool.specs.declared.command.Command.{Command}
 use Rattle.riegeli_tool.specs.declared.status.Status.{Status}
 use Rattle.riegeli_tool.specs.declared.status.Status.TheVariants as status
 use Rattle.riegeli_tool.specs.Statuses.{fault_text}
 use Rattle.riegeli_tool.specs.Answers.{Answer, usage_text, usage}
 use Rattle.riegeli_tool.specs.FileAnswers.{LeavesTooLong}
-use Rattle.riegeli_tool.specs.CommandAnswers.{uses_of, MayEnd, MayWork, MaySay}
-use Rattle.riegeli_tool.specs.Runs.{Shown, ShownFile, Seen, seen, IsWhole, IsCutOff, IsSound, IfTold, OfSizes, Gave, TakesThen, SaysAtEnd, WasCutOff, FailedToSay, HasCause, NoneFell, AllLeaveTooLong, Runs}
-
--- a sink that isn't used took nothing
-pub Takes-nothing : (taken : Option (List ℕ)) → Takes taken taken []
-Takes-nothing None = tt
-Takes-nothing (Some bytes) = ap Some (sym (append-nil bytes))
+use Rattle.riegeli_tool.specs.CommandAnswers.{uses_of, MayHavePut, MayEnd, MayWork, MaySay}
+use Rattle.riegeli_tool.specs.Runs.{Shown, ShownFile, Seen, seen, IsWhole, IsCutOff, IsCutShort, IsSound, AreSinksSound, IfRead, IfTold, OfSizes, taken_in, Gave, TakesThen, SaysAtEnd, Breaks, PutsLines, WasCutOff, WentOutSoFar, FailedToSay, HasCause, NoneFell, AllLeaveTooLong, Runs}
 
 -- no count fell where those of the used objects didn't
 pub none-fell : (input input_then : Shown) (files : List ShownFile) (made made_then out notes notes_then : Shown)
@@ -59,6 +56,13 @@ whole-cut_off status.Memory whole cut = whole
 whole-cut_off status.Notes whole cut = whole
 whole-cut_off other whole cut = cut
 
+-- nor whole and cut short
+whole-cut_short : (ended : Status) → IsWhole ended → IsCutShort ended → ⊥
+whole-cut_short status.Input whole short = whole
+whole-cut_short status.File whole short = whole
+whole-cut_short status.Memory whole short = whole
+whole-cut_short other whole short = short
+
 -- without a fault the status is an answer's, or tells want of memory
 complete : (command : Option Command) (before after : Seen) (ended : Status)
     → (IsWhole ended → IfTold command before (Gave ended before after))
@@ -90,6 +94,7 @@ runs-whole command before after ended text whole may_end said gave read usage ca
   cause = cause;
   cut_off = λ cut. absurd (whole-cut_off ended whole cut);
   failed_to_say = λ e. absurd (subst IsWhole e whole);
+  so_far = λ short. absurd (whole-cut_short ended whole short);
   in_reach = λ cut. absurd (whole-cut_off ended whole cut);
   end_said = λ _. OfSizes-map command before after (λ sizes. MayEnd command sizes ended text)
       (λ sizes. (t : List ℕ) × MayEnd command sizes ended t × Takes before.notes.bytes after.notes.bytes t)
@@ -102,7 +107,7 @@ runs-whole command before after ended text whole may_end said gave read usage ca
 -- notes failed to take what there was to say at the end
 pub runs-notes : (command : Option Command) (before after : Seen) (wanted : Status) (text : List ℕ)
     → OfSizes command before after (λ sizes. MayEnd command sizes wanted text) → TakesFront before.notes.bytes after.notes.bytes text
-    → IfTold command before (FailedToSay before after)
+    → IfTold command before (FailedToSay (taken_in before) (taken_in after))
     → Rose before.notes.faults after.notes.faults → NoneFell before after
     → Runs command before after status.Notes
 runs-notes command before after wanted text may_end said failed rose counts = record {
@@ -113,6 +118,7 @@ runs-notes command before after wanted text may_end said failed rose counts = re
   cause = rose;
   cut_off = λ cut. absurd cut;
   failed_to_say = λ _. failed;
+  so_far = λ short. absurd short;
   in_reach = λ cut. absurd cut;
   end_said = λ whole. absurd whole;
   cut_off_said = λ cut. absurd cut;
@@ -127,9 +133,10 @@ pub runs-cut_off : (command : Option Command) (before after : Seen) (ended : Sta
     → IsCutOff ended → (ended ≢ status.File → OfSizes command before after (MayWork command))
     → MaySay command text → TakesThen before.notes after.notes text (fault_text ended)
     → IfTold command before (WasCutOff ended before after)
+    → (IsCutShort ended → AreSinksSound (uses_of command) before after → IfRead command before (WentOutSoFar command ended before after))
     → command ≢ None → HasCause ended command before after → NoneFell before after
     → Runs command before after ended
-runs-cut_off command before after ended text cut within may_say said was some cause counts = record {
+runs-cut_off command before after ended text cut within may_say said was so_far some cause counts = record {
   whole = λ whole. absurd (whole-cut_off ended whole cut);
   read_to_end = λ e. absurd (subst IsCutOff e cut);
   complete = complete command before after ended (λ whole. absurd (whole-cut_off ended whole cut)) (λ _. was) cause;
@@ -137,6 +144,7 @@ runs-cut_off command before after ended text cut within may_say said was some ca
   cause = cause;
   cut_off = λ _. was;
   failed_to_say = λ e. absurd (subst IsCutOff e cut);
+  so_far = so_far;
   in_reach = λ _. within;
   end_said = λ whole. absurd (whole-cut_off ended whole cut);
   cut_off_said = λ _. (text, may_say, said);
@@ -144,45 +152,107 @@ runs-cut_off command before after ended text cut within may_say said was some ca
   counts = counts;
 }
 
--- what made and standard output took where the work was done, and what notes were to take, of an answer
-pub record GaveButNotes (wanted : Status) (before after : Seen) (text : List ℕ) (answer : Answer) : Type 0 where
-  pub same_status : wanted ≡ answer.status
-  pub made : Takes before.made.bytes after.made.bytes answer.made
-  pub out : Takes before.out.bytes after.out.bytes answer.out
-  pub notes : answer.notes ≡ text
+-- what the sinks had taken before an end was said, where notes showed this
+abbrev pub taken_but_end : Seen → Shown → Taken
+taken_but_end after notes = taken_by after.made.bytes after.out.bytes notes.bytes
 
--- the work was done, and there was something to say: it was said, or notes failed
-pub runs-said : (command : Option Command) (before after : Seen) (ended wanted : Status) (text : List ℕ)
-    → SaysAtEnd ended wanted before.notes after.notes text
-    → text ≢ [] → IsWhole wanted → wanted ≢ status.Ok → OfSizes command before after (λ sizes. MayEnd command sizes wanted text)
-    → IfTold command before (GaveButNotes wanted before after text)
+-- the work was done with a status: all that an answer puts but a last text in notes went out
+pub record GaveButNotes (wanted : Status) (before mid : Taken) (text : List ℕ) (answer : Answer) : Type 0 where
+  pub same_status : wanted ≡ answer.status
+  pub puts : List Put
+  pub whole : answer.puts ≡ puts ++ puts_to Notes text
+  pub went : GoOut before mid puts
+
+-- a count that rose behind one that didn't fall
+pub rose-behind : (l m n : ℕ) → l ≤ m → Rose m n → Rose l n
+rose-behind l m n less (inl rose) = inl (omega (arith, less, rose))
+rose-behind l m n less (inr full) = inr full
+
+-- a line behind a text
+pub then-behind : (before mid after : Shown) (text last : List ℕ) → Takes before.bytes mid.bytes text → before.faults ≤ mid.faults
+    → TakesThen mid after [] last → TakesThen before after text last
+then-behind before mid after text last took less (part, behind, how) = (
+  part,
+  Takes-append before.bytes mid.bytes after.bytes text part took behind,
+  elim how [ inl whole ↦ inl whole | inr cut ↦ inr (rose-behind before.faults mid.faults after.faults less cut.0, cut.1, cut.2) ],
+)
+
+-- the last text was said
+pub gave-said : (ended : Status) (before after : Seen) (mid : Shown) (text : List ℕ) (answer : Answer)
+    → GaveButNotes ended (taken_in before) (taken_but_end after mid) text answer → Takes mid.bytes after.notes.bytes text
+    → Gave ended before after answer
+gave-said ended before after mid text answer gave said = record {
+  same_status = gave.same_status;
+  went = subst (λ (ps : List Put). GoOut (taken_in before) (taken_in after) ps) (sym gave.whole)
+      (GoOut-append (taken_in before) (taken_but_end after mid) (taken_in after) gave.puts (puts_to Notes text) gave.went
+      (GoOut-notes after.made.bytes after.out.bytes mid.bytes after.notes.bytes text said));
+}
+
+-- or notes failed to take it
+pub failed-said : (ended : Status) (before after : Seen) (mid : Shown) (text : List ℕ) (answer : Answer)
+    → GaveButNotes ended (taken_in before) (taken_but_end after mid) text answer → text ≢ [] → TakesFront mid.bytes after.notes.bytes text
+    → FailedToSay (taken_in before) (taken_in after) answer
+failed-said ended before after mid text answer gave some front =
+    let count = TakesFront-count mid.bytes after.notes.bytes text front in
+    let last : List ℕ = take count.0 text in
+    record {
+      part = gave.puts ++ puts_to Notes last;
+      broke = subst (λ (ps : List Put). BreaksOff Notes (gave.puts ++ puts_to Notes last) ps) (sym gave.whole)
+          (BreaksOff-last Notes gave.puts text count.0 some);
+      went = GoOut-append (taken_in before) (taken_but_end after mid) (taken_in after) gave.puts (puts_to Notes last) gave.went
+          (GoOut-notes after.made.bytes after.out.bytes mid.bytes after.notes.bytes last count.1);
+    }
+
+-- where nothing was put in notes, no line was
+pub PutsLines-none : (part puts : List Put) → bytes_to Notes part ≡ [] → PutsLines part puts
+PutsLines-none part puts none = record { count = 0; lines = none }
+
+-- the work was cut off, and then notes were told of that
+pub was-cut_off : (ended : Status) (before after : Seen) (mid : Shown) (answer : Answer) (part : List Put)
+    → Breaks ended part answer.puts → PutsLines part answer.puts → GoOut (taken_in before) (taken_but_end after mid) part
+    → before.notes.faults ≤ mid.faults → TakesThen mid after.notes [] (fault_text ended) → WasCutOff ended before after answer
+was-cut_off ended before after mid answer part broke whole went less said = record {
+  part = part;
+  broke = broke;
+  made = went.made;
+  out = went.out;
+  lines = whole;
+  notes = then-behind before.notes mid after.notes (bytes_to Notes part) (fault_text ended) went.notes less said;
+}
+
+-- all that was put so far went out, and then notes were told of that
+pub went-so_far : (command : Option Command) (ended : Status) (before after : Seen) (mid : Shown) (input : List ℕ) (files : List (List ℕ)) (part : List Put)
+    → MayHavePut command input files part → GoOut (taken_in before) (taken_but_end after mid) part
+    → before.notes.faults ≤ mid.faults → TakesThen mid after.notes [] (fault_text ended) → WentOutSoFar command ended before after input files
+went-so_far command ended before after mid input files part found went less said = record {
+  part = part;
+  found = found;
+  made = went.made;
+  out = went.out;
+  notes = then-behind before.notes mid after.notes (bytes_to Notes part) (fault_text ended) went.notes less said;
+}
+
+-- the work was done, behind a text in notes, and there was something to say: it was said, or notes failed
+pub runs-said : (command : Option Command) (before after : Seen) (mid : Shown) (ended wanted : Status) (earlier text : List ℕ)
+    → Takes before.notes.bytes mid.bytes earlier → before.notes.faults ≤ mid.faults
+    → SaysAtEnd ended wanted mid after.notes text
+    → text ≢ [] → IsWhole wanted → wanted ≢ status.Ok → OfSizes command before after (λ sizes. MayEnd command sizes wanted (earlier ++ text))
+    → IfTold command before (GaveButNotes wanted (taken_in before) (taken_but_end after mid) text)
     → (command ≡ None → wanted ≡ status.Usage) → HasCause wanted command before after → NoneFell before after
     → Runs command before after ended
-runs-said command before after ended wanted text says some whole not_ok may_end gave usage cause counts = elim says [
-  | inl said ↦ subst (λ (s : Status). Runs command before after s) (sym said.0) (runs-whole command before after wanted text whole may_end said.1
-      (λ input files told_input told_files. let a = gave input files told_input told_files in (
-        a.0,
-        a.1,
-        record {
-          same_status = a.2.same_status;
-          made = a.2.made;
-          out = a.2.out;
-          notes = subst (λ (t : List ℕ). Takes before.notes.bytes after.notes.bytes t) (sym a.2.notes) said.1;
-        },
-      ))
+runs-said command before after mid ended wanted earlier text took less says some whole not_ok may_end gave usage cause counts = elim says [
+  | inl said ↦ subst (λ (s : Status). Runs command before after s) (sym said.0)
+      (runs-whole command before after wanted (earlier ++ text) whole may_end
+      (Takes-append before.notes.bytes mid.bytes after.notes.bytes earlier text took said.1)
+      (λ input files told_input told_files. let a = gave input files told_input told_files in
+      (a.0, a.1, gave-said wanted before after mid text a.0 a.2 said.1))
       (λ e. absurd (not_ok e)) usage cause counts)
-  | inr failed ↦ subst (λ (s : Status). Runs command before after s) (sym failed.0) (runs-notes command before after wanted text may_end failed.2
-      (λ input files told_input told_files. let a = gave input files told_input told_files in (
-        a.0,
-        a.1,
-        record {
-          some = λ e. some (sym a.2.notes ∙ e);
-          made = TakesFront-whole _ _ _ a.2.made;
-          out = TakesFront-whole _ _ _ a.2.out;
-          notes = subst (λ (t : List ℕ). TakesFront before.notes.bytes after.notes.bytes t) (sym a.2.notes) failed.2;
-        },
-      ))
-      failed.1 counts)
+  | inr failed ↦ subst (λ (s : Status). Runs command before after s) (sym failed.0)
+      (runs-notes command before after wanted (earlier ++ text) may_end
+      (TakesFront-append before.notes.bytes mid.bytes after.notes.bytes earlier text took failed.2)
+      (λ input files told_input told_files. let a = gave input files told_input told_files in
+      (a.0, a.1, failed-said wanted before after mid text a.0 a.2 some failed.2))
+      (rose-behind before.notes.faults mid.faults after.notes.faults less failed.1) counts)
 ]
 
 -- a run over the one file that was handed in
@@ -199,9 +269,13 @@ pub runs-usage : (input : Shown) (files : List ShownFile) (made out notes notes_
     → SaysAtEnd ended status.Usage notes notes_then usage_text → notes.faults ≤ notes_then.faults
     → Runs None (seen input files made out notes) (seen input files made out notes_then) ended
 runs-usage input files made out notes notes_then ended says counts =
-    runs-said None _ _ ended status.Usage usage_text says (λ e. cc e) tt (λ e. cc e)
+    runs-said None _ _ notes ended status.Usage [] usage_text (Takes-nothing notes.bytes) (omega arith) says (λ e. cc e) tt (λ e. cc e)
     (OfSizes-unread None _ _ (λ sizes. MayEnd None sizes status.Usage usage_text) refl (refl, refl))
-    (λ _ _ _ _. (usage, refl, record { same_status = refl; made = Takes-nothing made.bytes; out = Takes-nothing out.bytes; notes = refl }))
+    (λ _ _ _ _. (
+      usage,
+      refl,
+      record { same_status = refl; puts = []; whole = refl; went = GoOut-nothing (taken_by made.bytes out.bytes notes.bytes) },
+    ))
     (λ _. refl) refl (none-fell input input files made made out notes notes_then (omega arith) (omega arith) counts)
 
 -- the one file that was handed in was left unread, where it is too long

@@ -1,12 +1,13 @@
 -- How `show` gets on: the lines of the chunks that were read, one chunk more, and how they stand to the answer.
-use Rattle.std.proofs.Common.{◌≡◌, ◌∙◌, ℕ, ◌≤◌, ◌⊎◌, Bool, true, false, Option, Some, None, Result, Ok, Err, IfSome, List, [], ◌∷◌, ◌++◌, length, take, drop, refl, sym, ap, subst, inl, inr, arith, append_assoc}
+use Rattle.std.proofs.Common.{◌≡◌, ◌≢◌, ◌∙◌, ℕ, ◌≤◌, ◌⊎◌, Bool, true, false, Option, Some, None, Result, Ok, Err, IfSome, List, [], ◌∷◌, ◌++◌, length, take, drop, refl, sym, ap, subst, inl, inr, arith, append_assoc}
 use Rattle.std.specs.Result.{IsErr, IsErrAnd}
 use Rattle.std.specs.List.{enumerate_from}
 use Rattle.std.proofs.lemmas.List.{append-nil, take-append-drop}
 use Rattle.std.proofs.lemmas.Grind.{flat_map-append}
 use Rattle.record_io.specs.Outside.{TakesFront}
 use Rattle.record_io.specs.Buffers.{TakesAndHolds}
-use Rattle.record_io.proofs.Buffered.{TakesAndHolds-append, TakesFront-behind}
+use Rattle.record_io.specs.Puts.{Put, Out, Notes, Taken, taken_by, GoOutOrAreHeld, BreaksOff, puts_to, bytes_to}
+use Rattle.record_io.proofs.Puts.{GoOut-nothing, GoOutOrAreHeld-none, GoOutOrAreHeld-more, GoOut-broken, BreaksOff-longer, bytes_to-other, puts_to-append}
 use Rattle.record_io.specs.declared.file_totals.Totals.{Totals}
 use Rattle.chunk_header.specs.Chunks.{ChunkValue}
 use Rattle.chunk_header.specs.Views.{value_of_chunk}
@@ -27,15 +28,15 @@ use Rattle.chunk_reader.specs.declared.reasons.ReadEnd.{ReadEnd}
 use Rattle.chunk_reader.specs.declared.reasons.ReadEnd.TheVariants as read
 use Rattle.chunk_reader.specs.declared.judging.Judged.{Judged}
 use Rattle.riegeli_tool.specs.declared.reading.ReadingEnd.{ReadingEnd}
+use Rattle.riegeli_tool.specs.declared.reading.ReadingEnd.TheVariants as end
 use Rattle.riegeli_tool.specs.declared.show_words.ShowWords.{ShowWords}
 use Rattle.riegeli_tool.specs.declared.status.Status.TheVariants as status
 use Rattle.riegeli_tool.specs.Answers.{Answer}
 use Rattle.riegeli_tool.specs.FileAnswers.{record_line, refused_text, most_file_bytes, OfFile}
-use Rattle.riegeli_tool.specs.ShowCommand.{IsShown}
-use Rattle.riegeli_tool.specs.ReadingEnds.{end_of_read, HasPrinted, HasPrintedFront, Prints}
+use Rattle.riegeli_tool.specs.ShowCommand.{IsShown, IsShownSoFar}
+use Rattle.riegeli_tool.specs.ReadingEnds.{end_of_read, HasPut, HasPutSoFar, HasPutFront, HasBrokenOff, Prints}
 use Rattle.riegeli_tool.specs.ShowProgress.{record_lines, records_in, IsTextOf, IsPrinted, PrintsOn}
-use Rattle.riegeli_tool.proofs.ReadingRuns.{front-of_front}
-use Rattle.riegeli_tool.proofs.RunEnds.{Takes-nothing}
+use Rattle.riegeli_tool.proofs.RunEnds.{PutsLines-none}
 
 -- what chunks hold with one chunk more
 HoldEach-push : (ks : List ChunkValue) (k : ChunkValue) (lists : List (List (List ℕ))) (records : List (List ℕ))
@@ -109,6 +110,10 @@ text-none words file = record {
   lines = refl;
 }
 
+pub shown-none : (words : ShowWords) (file : List ℕ) → IsShownSoFar words file []
+shown-none words file =
+    record { ks = []; place = 0; placed = []; chain = IsChainOf-nil file; records = ([], refl, refl); puts = refl }
+
 -- one chunk more is given
 abbrev pub Given : List ℕ → Totals → Totals → ChunkValue → Type 0
 Given file before after k =
@@ -146,8 +151,8 @@ what_holds k Passive is = passive_holds k is
 what_holds k Unread is = absurd (cc is.0)
 
 -- the lines of the chunks so far are a front of those of the longest front
-pub text-front : (words : ShowWords) (file : List ℕ) (totals : Totals) (text : List ℕ) (answer : Answer)
-    → IsTextOf words file totals text → IsShown words file answer → (rest : List ℕ) × (answer.out ≡ text ++ rest)
+text-front : (words : ShowWords) (file : List ℕ) (totals : Totals) (text : List ℕ) (answer : Answer)
+    → IsTextOf words file totals text → (is : IsShown words file answer) → (rest : List ℕ) × (record_lines words is.placed ≡ text ++ rest)
 text-front words file totals text answer h is =
     let within : totals.bytes ≤ is.place = is.longest.greatest h.ks totals.bytes h.chain in
     let front : h.ks ≡ take (length h.ks) is.ks =
@@ -156,10 +161,21 @@ text-front words file totals text answer h is =
     let all : is.ks ≡ h.ks ++ more = sym (take-append-drop (length h.ks) is.ks) ∙ ap (λ (xs : List ChunkValue). xs ++ more) (sym front) in
     let others = ArePlaced-front h.ks more h.placed is.placed h.records (subst (λ (xs : List ChunkValue). ArePlaced xs is.placed) all is.records) in (
       record_lines words others.0,
-      is.out
-          ∙ ap (record_lines words) others.1
+      ap (record_lines words) others.1
           ∙ flat_map-append (record_line words.positions) h.placed others.0
           ∙ ap (λ (t : List ℕ). t ++ record_lines words others.0) (sym h.lines),
+    )
+
+-- so they are a front of what the answer puts
+puts-front : (words : ShowWords) (file : List ℕ) (totals : Totals) (text : List ℕ) (answer : Answer)
+    → IsTextOf words file totals text → IsShown words file answer → (rest : List Put) × (answer.puts ≡ puts_to Out text ++ rest)
+puts-front words file totals text answer h is =
+    let lines = text-front words file totals text answer h is in (
+      puts_to Out lines.0 ++ puts_to Notes is.said,
+      is.puts
+          ∙ ap (λ (t : List ℕ). puts_to Out t ++ puts_to Notes is.said) lines.1
+          ∙ ap (λ (ps : List Put). ps ++ puts_to Notes is.said) (puts_to-append Out text lines.0)
+          ∙ append_assoc (puts_to Out text) (puts_to Out lines.0) (puts_to Notes is.said),
     )
 
 -- of a file that isn't too long
@@ -168,48 +184,77 @@ in_reach P file answer short (inl (long, said)) = absurd (omega (arith, short, l
 in_reach P file answer short (inr (also, is)) = is
 
 -- lines that were printed are a front of the answer's
-pub printed-front : (words : ShowWords) (file : List ℕ) (totals : Totals) (before after : Option (List ℕ)) (held : List ℕ)
+pub printed-front : (words : ShowWords) (file : List ℕ) (totals : Totals) (before after : Taken) (held : List ℕ)
     → length file ≤ most_file_bytes → IsPrinted words file totals before after held
-    → (answer : Answer) → OfFile (IsShown words) (file ∷ []) answer → HasPrintedFront before after held answer
+    → (answer : Answer) → OfFile (IsShown words) (file ∷ []) answer → HasPutFront before after held answer
 printed-front words file totals before after held short (text, h, out) answer is =
-    let rest = text-front words file totals text answer h (in_reach (IsShown words) file answer short is) in
-    record { text = text; rest = rest.0; parts = rest.1; out = out }
+    let rest = puts-front words file totals text answer h (in_reach (IsShown words) file answer short is) in
+    record {
+      part = puts_to Out text;
+      rest = rest.0;
+      parts = rest.1;
+      lines = PutsLines-none (puts_to Out text) answer.puts (bytes_to-other Notes Out text refl);
+      went = out;
+    }
 
--- a chunk's lines failed to go out
-pub printed-failed : (words : ShowWords) (file : List ℕ) (before after : Totals) (a b c : Option (List ℕ)) (held then : List ℕ)
-    (k : ChunkValue) (records : List (List ℕ)) (place : ℕ)
-    → length file ≤ most_file_bytes → IsPrinted words file before a b held → Given file before after k → Holds k records → place ≡ before.bytes
-    → TakesFront b c (held ++ record_lines words (enumerate_from place records)) → then ≡ []
-    → (answer : Answer) → OfFile (IsShown words) (file ∷ []) answer → HasPrintedFront a c then answer
-printed-failed words file before after a b c held then k records place short (text, h, out) given holds here front none answer is =
-    let more : List ℕ = record_lines words (enumerate_from place records) in
-    let rest = text-front words file after (text ++ more) answer (text-more words file before after text k records place h given holds here)
-    (in_reach (IsShown words) file answer short is) in
-    subst (λ (t : List ℕ). HasPrintedFront a c t answer) (sym none)
-    (front-of_front a c (text ++ more) rest.0 answer rest.1 (TakesFront-behind a b c [] held text more out front))
+-- and all that was put so far
+pub printed-so_far : (words : ShowWords) (bytes : Option (List ℕ)) (totals : Totals) (before : Taken) (made b c notes : Option (List ℕ)) (held then : List ℕ)
+    → c ≡ b → then ≡ held → IfSome bytes (λ f. IsPrinted words f totals before (taken_by made b notes) held)
+    → IfSome bytes (λ f. HasPutSoFar (IsShownSoFar words f) before (taken_by made c notes) then)
+printed-so_far words None totals before made b c notes held then same also h = tt
+printed-so_far words (Some f) totals before made b c notes held then same also (text, is, out) = record {
+  part = puts_to Out text;
+  is = record { ks = is.ks; place = totals.bytes; placed = is.placed; chain = is.chain; records = is.records; puts = ap (puts_to Out) is.lines };
+  went = subst (λ (x : Option (List ℕ)). GoOutOrAreHeld before (taken_by made x notes) Out (puts_to Out text) then) (sym same)
+      (subst (λ (hs : List ℕ). GoOutOrAreHeld before (taken_by made b notes) Out (puts_to Out text) hs) (sym also) out);
+}
 
--- they went out, or are held
-pub printed-more : (words : ShowWords) (file : List ℕ) (before after : Totals) (a b c : Option (List ℕ)) (held then : List ℕ)
-    (k : ChunkValue) (records : List (List ℕ)) (place : ℕ)
-    → IsPrinted words file before a b held → Given file before after k → Holds k records → place ≡ before.bytes
-    → TakesAndHolds b c (held ++ record_lines words (enumerate_from place records)) then
-    → IsPrinted words file after a c then
-printed-more words file before after a b c held then k records place (text, h, out) given holds here whole = (
-  text ++ record_lines words (enumerate_from place records),
-  text-more words file before after text k records place h given holds here,
-  TakesAndHolds-append a b c [] held then text (record_lines words (enumerate_from place records)) out whole,
-)
+module _ (words : ShowWords) (file : List ℕ) (before after : Totals) (a : Taken) (made b c notes : Option (List ℕ)) (held then : List ℕ)
+    (k : ChunkValue) (records : List (List ℕ)) (place : ℕ) where
+  -- the lines of a chunk more
+  abbrev More : List ℕ
+  More = record_lines words (enumerate_from place records)
+
+  -- they failed to go out
+  pub printed-failed : length file ≤ most_file_bytes → IsPrinted words file before a (taken_by made b notes) held → Given file before after k → Holds k records
+      → place ≡ before.bytes → TakesFront b c (held ++ More) → held ++ More ≢ []
+      → (answer : Answer) → OfFile (IsShown words) (file ∷ []) answer → HasBrokenOff Out a (taken_by made c notes) answer
+  printed-failed short (text, h, out) given holds here front some answer is =
+      let rest = puts-front words file after (text ++ More) answer (text-more words file before after text k records place h given holds here)
+      (in_reach (IsShown words) file answer short is) in
+      let puts : List Put = puts_to Out text ++ puts_to Out More in
+      let broken = GoOut-broken a made b c notes (puts_to Out text) held More out front some in
+      record {
+        part = broken.0;
+        broke = subst (λ (ps : List Put). BreaksOff Out broken.0 ps)
+            (sym (rest.1 ∙ ap (λ (ps : List Put). ps ++ rest.0) (puts_to-append Out text More)))
+            (BreaksOff-longer Out broken.0 puts rest.0 broken.1);
+        lines = PutsLines-none broken.0 answer.puts
+            (broken.3 ∙ ap (bytes_to Notes) (sym (puts_to-append Out text More)) ∙ bytes_to-other Notes Out (text ++ More) refl);
+        went = broken.2;
+      }
+
+  -- they went out, or are held
+  pub printed-more : IsPrinted words file before a (taken_by made b notes) held → Given file before after k → Holds k records → place ≡ before.bytes
+      → TakesAndHolds b c (held ++ More) then → IsPrinted words file after a (taken_by made c notes) then
+  printed-more (text, h, out) given holds here whole = (
+    text ++ More,
+    text-more words file before after text k records place h given holds here,
+    subst (λ (ps : List Put). GoOutOrAreHeld a (taken_by made c notes) Out ps then) (sym (puts_to-append Out text More))
+        (GoOutOrAreHeld-more a made b c notes (puts_to Out text) held More then out whole),
+  )
 
 -- all lines were printed of a file that was read to its end
-pub printed-whole : (words : ShowWords) (file : List ℕ) (totals : Totals) (before after : Option (List ℕ)) (held : List ℕ)
+pub printed-whole : (words : ShowWords) (file : List ℕ) (totals : Totals) (before after : Taken) (held : List ℕ)
     → length file ≤ most_file_bytes → totals.bytes ≡ length file
     → ((ks : List ChunkValue) → IsChainOf IsPlain ks file totals.bytes → IsFileOf IsPlain ks file)
     → IsPrinted words file totals before after held
-    → HasPrinted (IsShown words) file before after held [] status.Ok
+    → HasPut (IsShown words) file before after held [] status.Ok
 printed-whole words file totals before after held short end whole (text, h, out) =
     let all : IsFileOf IsPlain h.ks file = whole h.ks h.chain in
+    let puts : List Put = puts_to Out text in
     record {
-      answer = record { made = []; out = text; notes = []; status = status.Ok };
+      answer = record { puts = puts ++ puts_to Notes []; status = status.Ok };
       is = inr (
         short,
         record {
@@ -218,64 +263,76 @@ printed-whole words file totals before after held short end whole (text, h, out)
           placed = h.placed;
           longest = longest_where_whole IsPlain h.ks file all.1;
           records = h.records;
-          made = refl;
-          out = h.lines;
+          said = [];
+          puts = ap (λ (t : List ℕ). puts_to Out t ++ puts_to Notes []) h.lines;
           ended = inl ((h.ks, all), refl, refl);
         },
       );
-      made = refl;
-      out = out;
-      notes = refl;
+      puts = puts;
+      whole = refl;
+      lines = PutsLines-none puts (puts ++ puts_to Notes []) (bytes_to-other Notes Out text refl);
+      went = out;
       status = refl;
     }
 
 -- and of one that is refused
-pub printed-refused : (words : ShowWords) (file : List ℕ) (totals : Totals) (before after : Option (List ℕ)) (held : List ℕ) (fault : Fault)
+pub printed-refused : (words : ShowWords) (file : List ℕ) (totals : Totals) (before after : Taken) (held : List ℕ) (fault : Fault)
     → length file ≤ most_file_bytes → IsFault false file fault
     → ((ks : List ChunkValue) (place : ℕ) → IsChainOf IsPlain ks file place → place ≤ totals.bytes)
     → IsPrinted words file totals before after held
-    → HasPrinted (IsShown words) file before after held (refused_text fault) status.Refused
-printed-refused words file totals before after held fault short is greatest (text, h, out) = record {
-  answer = record { made = []; out = text; notes = refused_text fault; status = status.Refused };
-  is = inr (
-    short,
+    → HasPut (IsShown words) file before after held (refused_text fault) status.Refused
+printed-refused words file totals before after held fault short is greatest (text, h, out) =
+    let puts : List Put = puts_to Out text in
+    let all : List Put = puts ++ puts_to Notes (refused_text fault) in
     record {
-      ks = h.ks;
-      place = totals.bytes;
-      placed = h.placed;
-      longest = record { chain = h.chain; greatest = greatest };
-      records = h.records;
-      made = refl;
-      out = h.lines;
-      ended = inr (fault, is, refl, refl);
-    },
-  );
-  made = refl;
-  out = out;
-  notes = refl;
-  status = refl;
-}
+      answer = record { puts = all; status = status.Refused };
+      is = inr (
+        short,
+        record {
+          ks = h.ks;
+          place = totals.bytes;
+          placed = h.placed;
+          longest = record { chain = h.chain; greatest = greatest };
+          records = h.records;
+          said = refused_text fault;
+          puts = ap (λ (t : List ℕ). puts_to Out t ++ puts_to Notes (refused_text fault)) h.lines;
+          ended = inr (fault, is, refl, refl);
+        },
+      );
+      puts = puts;
+      whole = refl;
+      lines = PutsLines-none puts all (bytes_to-other Notes Out text refl);
+      went = out;
+      status = refl;
+    }
 
 -- the reader's call ended the work
-pub read-ended : (words : ShowWords) (frame : Bool) (bytes : Option (List ℕ)) (totals then : Totals) (out : Option (List ℕ)) (held : List ℕ)
+pub read-ended : (words : ShowWords) (frame : Bool) (bytes : Option (List ℕ)) (totals then : Totals) (before out : Taken) (held : List ℕ)
     (e : ReadEnd) (result : Result Bool ReadingEnd)
     → frame ≡ false → IsErr result → IsErrAnd result (λ made. made ≡ end_of_read e) → IfSome bytes (λ f. length f ≤ most_file_bytes)
     → ((fault : Fault) → e ≡ read.Refused fault → IfSome bytes (λ f. IsFault frame f fault))
     → ((fault : Fault) → e ≡ read.Refused fault
     → IfSome bytes (λ f. (ks : List ChunkValue) (place : ℕ) → IsChainOf (IsAllowed frame) ks f place → place ≤ totals.bytes))
-    → IfSome bytes (λ f. (before : Option (List ℕ)) → IsPrinted words f totals before out held → PrintsOn words result f then before out held)
-read-ended words true bytes totals then out held e result strict err is short refused given = absurd (cc strict)
-read-ended words false None totals then out held e result strict err is short refused given = tt
-read-ended words false (Some f) totals then out held e (Ok x) strict err is short refused given = absurd (cc err)
-read-ended words false (Some f) totals then out held (read.Refused fault) (Err made) strict err is short refused given = λ before h.
+    → IfSome bytes (λ f. IsPrinted words f totals before out held → PrintsOn words result f then before out held)
+read-ended words true bytes totals then before out held e result strict err is short refused given = absurd (cc strict)
+read-ended words false None totals then before out held e result strict err is short refused given = tt
+read-ended words false (Some f) totals then before out held e (Ok x) strict err is short refused given = absurd (cc err)
+read-ended words false (Some f) totals then before out held (read.Refused fault) (Err made) strict err is short refused given = λ h.
     subst (λ (x : ReadingEnd). Prints {X = Bool} (IsShown words) (Err x) f before out held) (sym is)
     (printed-refused words f totals before out held fault short (refused fault refl) (given fault refl) h)
-read-ended words false (Some f) totals then out held read.Store (Err made) strict err is short refused given = λ before h.
+read-ended words false (Some f) totals then before out held read.Store (Err made) strict err is short refused given = λ h.
     subst (λ (x : ReadingEnd). Prints {X = Bool} (IsShown words) (Err x) f before out held) (sym is)
     (printed-front words f totals before out held short h)
-read-ended words false (Some f) totals then out held read.Memory (Err made) strict err is short refused given = λ before h.
+read-ended words false (Some f) totals then before out held read.Memory (Err made) strict err is short refused given = λ h.
     subst (λ (x : ReadingEnd). Prints {X = Bool} (IsShown words) (Err x) f before out held) (sym is)
     (printed-front words f totals before out held short h)
+
+-- standard output is not what failed then
+pub read-not_out : (e : ReadEnd) (result : Result Bool ReadingEnd) → IsErr result → IsErrAnd result (λ made. made ≡ end_of_read e) → result ≢ Err end.Out
+read-not_out e (Ok x) err is out = cc out
+read-not_out (read.Refused fault) (Err made) err is out = cc (ap Err (sym is) ∙ out)
+read-not_out read.Store (Err made) err is out = cc (ap Err (sym is) ∙ out)
+read-not_out read.Memory (Err made) err is out = cc (ap Err (sym is) ∙ out)
 
 -- the file that is read is not too long
 pub short_told : (bytes : Option (List ℕ)) (size : ℕ) → size ≤ most_file_bytes → IfSome bytes (λ f. size ≡ length f) → IfSome bytes (λ f. length f ≤ most_file_bytes)
@@ -283,14 +340,13 @@ short_told None size short exact = tt
 short_told (Some f) size short exact = omega (arith, short, exact)
 
 -- it has no further chunk
-pub read-through : (words : ShowWords) (frame : Bool) (bytes : Option (List ℕ)) (totals : Totals) (out : Option (List ℕ)) (held : List ℕ) (size : ℕ)
+pub read-through : (words : ShowWords) (frame : Bool) (bytes : Option (List ℕ)) (totals : Totals) (before out : Taken) (held : List ℕ) (size : ℕ)
     → frame ≡ false → size ≤ most_file_bytes → IfSome bytes (λ f. size ≡ length f) → totals.bytes ≡ size
     → IfSome bytes (λ f. (ks : List ChunkValue) → IsChainOf (IsAllowed frame) ks f totals.bytes → IsFileOf (IsAllowed frame) ks f)
-    → IfSome bytes (λ f. (before : Option (List ℕ)) → IsPrinted words f totals before out held
-    → HasPrinted (IsShown words) f before out held [] status.Ok)
-read-through words true bytes totals out held size strict short exact end whole = absurd (cc strict)
-read-through words false None totals out held size strict short exact end whole = tt
-read-through words false (Some f) totals out held size strict short exact end whole = λ before h.
+    → IfSome bytes (λ f. IsPrinted words f totals before out held → HasPut (IsShown words) f before out held [] status.Ok)
+read-through words true bytes totals before out held size strict short exact end whole = absurd (cc strict)
+read-through words false None totals before out held size strict short exact end whole = tt
+read-through words false (Some f) totals before out held size strict short exact end whole = λ h.
     printed-whole words f totals before out held (omega (arith, short, exact)) (end ∙ exact) whole h
 
 -- a chunk was read: it is given, and what it holds is known
@@ -303,64 +359,71 @@ pub record IsNext (frame : Bool) (bytes : Option (List ℕ)) (totals then : Tota
 
 -- and its lines went out, or are held
 pub next-printed : (words : ShowWords) (frame : Bool) (bytes : Option (List ℕ)) (totals then : Totals) (size : ℕ) (j : Judged)
-    (out out_then : Option (List ℕ)) (held held_then : List ℕ)
+    (before : Taken) (made out out_then notes : Option (List ℕ)) (held held_then : List ℕ)
     → IsNext frame bytes totals then size j
     → TakesAndHolds out out_then (held ++ record_lines words (enumerate_from j.begin (records_in j.what))) held_then
-    → IfSome bytes (λ f. (before : Option (List ℕ)) → IsPrinted words f totals before out held → IsPrinted words f then before out_then held_then)
-next-printed words true bytes totals then size j out out_then held held_then next whole = absurd (cc next.strict)
-next-printed words false None totals then size j out out_then held held_then next whole = tt
-next-printed words false (Some f) totals then size j out out_then held held_then next whole = λ before h.
-    printed-more words f totals then before out out_then held held_then (value_of_chunk j.chunk) (records_in j.what) j.begin h next.given
+    → IfSome bytes (λ f. IsPrinted words f totals before (taken_by made out notes) held → IsPrinted words f then before (taken_by made out_then notes) held_then)
+next-printed words true bytes totals then size j before made out out_then notes held held_then next whole = absurd (cc next.strict)
+next-printed words false None totals then size j before made out out_then notes held held_then next whole = tt
+next-printed words false (Some f) totals then size j before made out out_then notes held held_then next whole = λ h.
+    printed-more words f totals then before made out out_then notes held held_then (value_of_chunk j.chunk) (records_in j.what) j.begin h next.given
     (what_holds (value_of_chunk j.chunk) j.what next.judged.what) next.judged.begin whole
 
 -- or they failed to
 pub next-failed : (words : ShowWords) (frame : Bool) (bytes : Option (List ℕ)) (totals then : Totals) (size : ℕ) (j : Judged)
-    (out out_then : Option (List ℕ)) (held held_then : List ℕ)
+    (before : Taken) (made out out_then notes : Option (List ℕ)) (held : List ℕ)
     → IsNext frame bytes totals then size j
-    → TakesFront out out_then (held ++ record_lines words (enumerate_from j.begin (records_in j.what))) → held_then ≡ []
-    → IfSome bytes (λ f. (before : Option (List ℕ)) → IsPrinted words f totals before out held
-    → (answer : Answer) → OfFile (IsShown words) (f ∷ []) answer → HasPrintedFront before out_then held_then answer)
-next-failed words true bytes totals then size j out out_then held held_then next front none = absurd (cc next.strict)
-next-failed words false None totals then size j out out_then held held_then next front none = tt
-next-failed words false (Some f) totals then size j out out_then held held_then next front none = λ before h.
-    printed-failed words f totals then before out out_then held held_then (value_of_chunk j.chunk) (records_in j.what) j.begin next.short h next.given
-    (what_holds (value_of_chunk j.chunk) j.what next.judged.what) next.judged.begin front none
+    → TakesFront out out_then (held ++ record_lines words (enumerate_from j.begin (records_in j.what)))
+    → held ++ record_lines words (enumerate_from j.begin (records_in j.what)) ≢ []
+    → IfSome bytes (λ f. IsPrinted words f totals before (taken_by made out notes) held
+    → (answer : Answer) → OfFile (IsShown words) (f ∷ []) answer → HasBrokenOff Out before (taken_by made out_then notes) answer)
+next-failed words true bytes totals then size j before made out out_then notes held next front some = absurd (cc next.strict)
+next-failed words false None totals then size j before made out out_then notes held next front some = tt
+next-failed words false (Some f) totals then size j before made out out_then notes held next front some = λ h.
+    printed-failed words f totals then before made out out_then notes held [] (value_of_chunk j.chunk) (records_in j.what) j.begin next.short h next.given
+    (what_holds (value_of_chunk j.chunk) j.what next.judged.what) next.judged.begin front some
 
 -- before the first chunk nothing was printed
-pub printed-none : (words : ShowWords) (bytes : Option (List ℕ)) (totals : Totals) (out : Option (List ℕ)) (held : List ℕ)
+pub printed-none : (words : ShowWords) (bytes : Option (List ℕ)) (totals : Totals) (out : Taken) (held : List ℕ)
     → totals ≡ record { chunks = 0; records = 0; bytes = 0; unread = 0 } → held ≡ []
     → IfSome bytes (λ f. IsPrinted words f totals out out held)
 printed-none words None totals out held front none = tt
 printed-none words (Some f) totals out held front none =
     subst (λ (t : Totals). IsPrinted words f t out out held) (sym front)
-    (subst (λ (xs : List ℕ). IsPrinted words f (record { chunks = 0; records = 0; bytes = 0; unread = 0 }) out out xs) (sym none)
-    ([], text-none words f, record { passed = []; parts = refl; taken = Takes-nothing out }))
+    (subst (λ (h : List ℕ). IsPrinted words f (record { chunks = 0; records = 0; bytes = 0; unread = 0 }) out out h) (sym none)
+    ([], text-none words f, GoOutOrAreHeld-none out out Out [] (GoOut-nothing out)))
 
--- one chunk more was printed
-pub printed-on : (words : ShowWords) (a b : Option (List ℕ)) (totals then : Totals) (before out out_then : Option (List ℕ)) (held held_then : List ℕ) (more : Bool)
-    → a ≡ b → more ≡ true
-    → IfSome a (λ f. (before : Option (List ℕ)) → IsPrinted words f totals before out held → PrintsOn words (Ok more) f then before out_then held_then)
-    → IfSome b (λ f. IsPrinted words f totals before out held) → IfSome b (λ f. IsPrinted words f then before out_then held_then)
-printed-on words a None totals then before out out_then held held_then more same goes on h = tt
-printed-on words None (Some f) totals then before out out_then held held_then more same goes on h = absurd (cc same)
-printed-on words (Some e) (Some f) totals then before out out_then held held_then false same goes on h = absurd (cc goes)
-printed-on words (Some e) (Some f) totals then before out out_then held held_then true same goes on h =
+-- one step more, of a file whose bytes stayed
+pub printed-on : (words : ShowWords) (a b : Option (List ℕ)) (totals then : Totals) (before out out_then : Taken) (held held_then : List ℕ)
+    (result : Result Bool ReadingEnd) → a ≡ b
+    → IfSome a (λ f. IsPrinted words f totals before out held → PrintsOn words result f then before out_then held_then)
+    → IfSome b (λ f. IsPrinted words f totals before out held) → IfSome b (λ f. PrintsOn words result f then before out_then held_then)
+printed-on words a None totals then before out out_then held held_then result same on h = tt
+printed-on words None (Some f) totals then before out out_then held held_then result same on h = absurd (cc same)
+printed-on words (Some e) (Some f) totals then before out out_then held held_then result same on h =
     let one : e ≡ f = cc same in
-    subst (λ (x : List ℕ). IsPrinted words x then before out_then held_then) one
-    (on before (subst (λ (x : List ℕ). IsPrinted words x totals before out held) (sym one) h))
+    subst (λ (x : List ℕ). PrintsOn words result x then before out_then held_then) one
+    (on (subst (λ (x : List ℕ). IsPrinted words x totals before out held) (sym one) h))
 
--- or the file's end was come to
-pub printed-to_end : (words : ShowWords) (a b : Option (List ℕ)) (totals then : Totals) (before out out_then : Option (List ℕ)) (held held_then : List ℕ) (more : Bool)
-    → a ≡ b → more ≡ false
-    → IfSome a (λ f. (before : Option (List ℕ)) → IsPrinted words f totals before out held → PrintsOn words (Ok more) f then before out_then held_then)
-    → IfSome b (λ f. IsPrinted words f totals before out held) → IfSome b (λ f. HasPrinted (IsShown words) f before out_then held_then [] status.Ok)
-printed-to_end words a None totals then before out out_then held held_then more same ends on h = tt
-printed-to_end words None (Some f) totals then before out out_then held held_then more same ends on h = absurd (cc same)
-printed-to_end words (Some e) (Some f) totals then before out out_then held held_then true same ends on h = absurd (cc ends)
-printed-to_end words (Some e) (Some f) totals then before out out_then held held_then false same ends on h =
-    let one : e ≡ f = cc same in
-    subst (λ (x : List ℕ). HasPrinted (IsShown words) x before out_then held_then [] status.Ok) one
-    (on before (subst (λ (x : List ℕ). IsPrinted words x totals before out held) (sym one) h))
+-- an end that is passed on
+prints-any : (X Y : Type 0) (P : List ℕ → Answer → Type 0) (why : ReadingEnd) (file : List ℕ) (before after : Taken) (held : List ℕ)
+    → Prints {X = X} P (Err why) file before after held → Prints {X = Y} P (Err why) file before after held
+prints-any X Y P end.Limit file before after held h = h
+prints-any X Y P (end.Refused fault) file before after held h = h
+prints-any X Y P end.File file before after held h = h
+prints-any X Y P end.Out file before after held h = h
+prints-any X Y P end.Memory file before after held h = h
+
+pub printed-ended : (words : ShowWords) (bytes : Option (List ℕ)) (then : Totals) (before after : Taken) (held : List ℕ) (why : ReadingEnd)
+    (ended : Result Bool ReadingEnd) (result : Result (Unit {0}) ReadingEnd)
+    → ended ≡ Err why → IsErr result → IsErrAnd result (λ made. made ≡ why)
+    → IfSome bytes (λ f. PrintsOn words ended f then before after held) → IfSome bytes (λ f. Prints (IsShown words) result f before after held)
+printed-ended words None then before after held why ended result same err is h = tt
+printed-ended words (Some f) then before after held why ended (Ok x) same err is h = absurd (cc err)
+printed-ended words (Some f) then before after held why ended (Err made) same err is h =
+    subst (λ (w : ReadingEnd). Prints {X = ℕ} (IsShown words) (Err w) f before after held) (sym is)
+    (prints-any Bool ℕ (IsShown words) why f before after held
+    (subst (λ (r : Result Bool ReadingEnd). PrintsOn words r f then before after held) same h))
 
 -- what holds of each file holds of the one that is told
 pub read-none : (bytes : Option (List ℕ)) (totals : Totals) → ((f : List ℕ) → AreReadFrom false f totals) → IfSome bytes (λ f. AreReadFrom false f totals)

@@ -3,7 +3,7 @@ use Rattle.std.proofs.Common.{◌≡◌, ◌∙◌, ℕ, Bool, true, false, not,
 use Rattle.std.specs.List.{AllByRecursion, cons_option, find}
 use Rattle.std.proofs.lemmas.Bool.{cond-true, cond-false}
 use Rattle.std.proofs.lemmas.Grind.{flat_map-append}
-use Rattle.std.proofs.lemmas.List.{append-nil, append_assoc}
+use Rattle.std.proofs.lemmas.List.{append-nil}
 use Rattle.std.proofs.lemmas.List.Elements.{filter_map-append}
 use Rattle.std.proofs.lemmas.List.Sums.{take_while-cons}
 use lib.Chars.{codes}
@@ -11,7 +11,7 @@ use Rattle.damage_skip.specs.Pieces.{Skipped, Piece}
 use Rattle.damage_skip.specs.Regions.{region_text}
 use Rattle.damage_skip.specs.declared.regions.Region.{Region}
 use Rattle.riegeli_tool.specs.declared.status.Status.TheVariants as status
-use Rattle.riegeli_tool.specs.WalkAnswers.{region_of, regions_in, may_skip, is_refused_as, is_refused, walked, refused_in, skipped_text, walk_text, walk_status, MaySkip}
+use Rattle.riegeli_tool.specs.WalkAnswers.{region_of, regions_in, may_skip, is_refused_as, is_refused, walked, refused_in, skipped_text, walk_status, MaySkip}
 
 -- none of the events is refused
 abbrev pub NoneRefused : Option ℕ → List Piece → Type 0
@@ -92,13 +92,6 @@ pub refused-there : (most : Option ℕ) (es fs : List Piece) (region : Region) �
 refused-there most es fs region h not_allowed =
     refused-behind most es (piece_at region ∷ fs) h
     ∙ cond-true (not (may_skip most region)) (Some region) (find (λ r. not (may_skip most r)) (regions_in fs)) (ap not not_allowed)
-
--- the text of a walk behind that of its first regions
-pub text-behind : (rs ss : List Region) (stopped : Option Region) → walk_text (rs ++ ss) stopped ≡ skipped_text rs ++ walk_text ss stopped
-text-behind rs ss None = flat_map-append (region_text (codes "skipped")) rs ss
-text-behind rs ss (Some region) =
-    ap (λ (t : List ℕ). t ++ region_text (codes "stopped") region) (flat_map-append (region_text (codes "skipped")) rs ss)
-    ∙ append_assoc (skipped_text rs) (skipped_text ss) (region_text (codes "stopped") region)
 
 -- one region more
 pub text-more : (rs : List Region) (region : Region) → skipped_text (rs ++ region ∷ []) ≡ skipped_text rs ++ region_text (codes "skipped") region

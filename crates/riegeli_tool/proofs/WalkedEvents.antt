@@ -1,16 +1,14 @@
 -- The events of a walk that went on to a place, among all events of the file.
-use Rattle.std.proofs.Common.{◌≡◌, ◌∙◌, ℕ, ◌<◌, ◌≤◌, Bool, false, Option, None, List, [], ◌∷◌, ◌++◌, length, refl, sym, ap, subst, arith}
+use Rattle.std.proofs.Common.{◌≡◌, ◌∙◌, ℕ, ◌<◌, ◌≤◌, Bool, false, Option, None, List, [], ◌∷◌, ◌++◌, length, refl, ap, subst, arith}
 use Rattle.std.proofs.lemmas.List.{append-nil}
 use Rattle.damage_skip.specs.Pieces.{Skipped, Piece, IsPieceOf, AreEvents, events_in}
-use Rattle.damage_skip.specs.Regions.{region_text}
 use Rattle.damage_skip.specs.Walks.{GoesOn}
 use Rattle.damage_skip.specs.declared.regions.Region.{Region}
 use Rattle.damage_skip.proofs.OnePiece.{piece_past}
 use Rattle.damage_skip.proofs.Tiles.{tiles_within, tiles_to_end, goes_on_append, goes_on_whole}
-use lib.Chars.{codes}
 use Rattle.riegeli_tool.specs.declared.status.Status.TheVariants as status
-use Rattle.riegeli_tool.specs.WalkAnswers.{regions_in, may_skip, is_refused, walked, refused_in, IsWalkedTo, skipped_text, walk_text, walk_status}
-use Rattle.riegeli_tool.proofs.Walked.{NoneRefused, none_refused-append, walked-behind, regions-append, walked-all, refused-none, piece_at, walked-to_refused, refused-there, text-behind}
+use Rattle.riegeli_tool.specs.WalkAnswers.{regions_in, may_skip, is_refused, walked, refused_in, IsWalkedTo, walk_status}
+use Rattle.riegeli_tool.proofs.Walked.{NoneRefused, none_refused-append, walked-all, refused-none, piece_at, walked-to_refused, refused-there}
 
 -- no event more
 pub walked-further : (keep : Bool) (most : Option ℕ) (file : List ℕ) (place next : ℕ) (events : List Piece) → IsWalkedTo keep most file place events
@@ -52,38 +50,14 @@ rest_from keep most file place events region h begin below is =
           (piece_at region ∷ rest.0, (begin, below, is, rest.1), refl)),
     )
 
--- what is said of the first events comes first
-pub text-front : (most : Option ℕ) (es fs : List Piece) → NoneRefused most es
-    → walk_text (regions_in (walked most (es ++ fs))) (refused_in most (es ++ fs))
-    ≡ skipped_text (regions_in es) ++ walk_text (regions_in (walked most fs)) (refused_in most (es ++ fs))
-text-front most es fs h =
-    let stopped : Option Region = refused_in most (es ++ fs) in
-    ap (λ (xs : List Piece). walk_text (regions_in xs) stopped) (walked-behind most es fs h)
-    ∙ ap (λ (rs : List Region). walk_text rs stopped) (regions-append es (walked most fs))
-    ∙ text-behind (regions_in es) (regions_in (walked most fs)) stopped
-
--- what is said of all of them, where none is refused
-pub text-all : (most : Option ℕ) (es : List Piece) → NoneRefused most es
-    → walk_text (regions_in (walked most es)) (refused_in most es) ≡ skipped_text (regions_in es) ++ []
-text-all most es h =
-    ap (λ (xs : List Piece). walk_text (regions_in xs) (refused_in most es)) (walked-all most es h)
-    ∙ ap (λ (s : Option Region). walk_text (regions_in es) s) (refused-none most es h)
-    ∙ sym (append-nil (skipped_text (regions_in es)))
-
+-- the status behind all of them, where none is refused
 pub status-all : (most : Option ℕ) (es : List Piece) → NoneRefused most es
     → walk_status (regions_in (walked most es)) (refused_in most es) ≡ walk_status (regions_in es) None
 status-all most es h =
     ap (λ (xs : List Piece). walk_status (regions_in xs) (refused_in most es)) (walked-all most es h)
     ∙ ap (λ (s : Option Region). walk_status (regions_in es) s) (refused-none most es h)
 
--- and up to one that is
-pub text-stopped : (most : Option ℕ) (es fs : List Piece) (region : Region) → NoneRefused most es → may_skip most region ≡ false
-    → walk_text (regions_in (walked most (es ++ piece_at region ∷ fs))) (refused_in most (es ++ piece_at region ∷ fs))
-    ≡ skipped_text (regions_in es) ++ region_text (codes "stopped") region
-text-stopped most es fs region h not_allowed =
-    ap (λ (xs : List Piece). walk_text (regions_in xs) (refused_in most (es ++ piece_at region ∷ fs))) (walked-to_refused most es fs region h not_allowed)
-    ∙ ap (λ (s : Option Region). walk_text (regions_in es) s) (refused-there most es fs region h not_allowed)
-
+-- and behind those up to one that is
 pub status-stopped : (most : Option ℕ) (es fs : List Piece) (region : Region) → NoneRefused most es → may_skip most region ≡ false
     → walk_status (regions_in (walked most (es ++ piece_at region ∷ fs))) (refused_in most (es ++ piece_at region ∷ fs)) ≡ status.Stopped
 status-stopped most es fs region h not_allowed =

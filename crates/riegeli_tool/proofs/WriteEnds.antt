@@ -1,10 +1,13 @@
 -- How a run of `write` ends, by the answer of the write engine.
-use Rattle.std.proofs.Common.{◌≡◌, ◌≢◌, ℕ, ◌^◌, false, Option, Some, None, Result, Ok, Err, List, [], ◌++◌, length, refl, sym, ap, subst, ◌∙◌, decimal, codes}
+use Rattle.std.proofs.Common.{◌≡◌, ◌≢◌, ℕ, ◌^◌, false, Option, Some, None, Result, Ok, Err, List, [], ◌++◌, length, take, arith, refl, sym, ap, subst, ◌∙◌, decimal, codes}
 use Rattle.std.specs.Option.{IfSome}
 use Rattle.std.proofs.lemmas.Option.{MatchOption-at_some}
 use Rattle.record_io.specs.Outside.{Rose, Takes, TakesFront}
-use Rattle.record_io.proofs.Calls.{TakesFront-none}
+use Rattle.record_io.specs.Puts.{Put, Made, Notes, taken_by, BreaksOff, puts_to}
+use Rattle.record_io.proofs.Calls.{Takes-nothing}
+use Rattle.record_io.proofs.Puts.{GoOut-made, TakesFront-count, BreaksOff-front, bytes_to-other}
 use Rattle.record_io.specs.declared.file_totals.Totals.{Totals}
+use Rattle.record_group.proofs.Signed.{end_of_chunk-signature, length-file_of-signed}
 use Rattle.record_writer.specs.declared.engine.WriteEnd.{WriteEnd}
 use Rattle.record_writer.specs.declared.engine.WriteEnd.TheVariants as end
 use Rattle.record_writer.specs.declared.feed.Stop.{Stop}
@@ -17,17 +20,27 @@ use Rattle.riegeli_tool.specs.declared.status.Status.TheVariants as status
 use Rattle.riegeli_tool.specs.declared.write_words.WriteWords.{WriteWords}
 use Rattle.riegeli_tool.specs.Statuses.{fault_text}
 use Rattle.riegeli_tool.specs.Input.{taken_from}
-use Rattle.riegeli_tool.specs.Answers.{line}
+use Rattle.riegeli_tool.specs.Answers.{Answer, line}
 use Rattle.riegeli_tool.specs.WriteCommand.{options_of, stop_text, stop_status, write_answer}
 use Rattle.riegeli_tool.specs.CommandAnswers.{MayEnd, MayWork}
-use Rattle.riegeli_tool.specs.Runs.{Shown, ShownFile, seen, IsWhole, IsCutOff, TakesThen, SaysAtEnd, HasCause, NoneFell, Runs}
-use Rattle.riegeli_tool.proofs.RunEnds.{Takes-nothing, OfSizes-unread, runs-whole, runs-said, runs-cut_off}
+use Rattle.riegeli_tool.specs.Runs.{Shown, ShownFile, Seen, seen, IsWhole, IsCutOff, Breaks, TakesThen, SaysAtEnd, HasCause, NoneFell, Runs}
+use Rattle.riegeli_tool.proofs.RunEnds.{GaveButNotes, OfSizes-unread, PutsLines-none, gave-said, was-cut_off, went-so_far, runs-whole, runs-said, runs-cut_off}
 
--- the write engine's answer to an input that tells its bytes, and what the made file took of the answer of `write`
+-- the file of an input's records
+abbrev made_of : WriteWords → List ℕ → List ℕ
+made_of words bytes = file_under (options_of words) (taken_from bytes false (2 ^ 40)).records
+
+-- which begins with the signature
+made-some : (words : WriteWords) (bytes : List ℕ) → made_of words bytes ≢ []
+made-some words bytes = λ none.
+    let records : List (List ℕ) = (taken_from bytes false (2 ^ 40)).records in
+    omega (arith, ap length none, length-file_of-signed records words.chunk_size words.every words.pad, end_of_chunk-signature)
+
+-- the write engine's answer to an input that tells its bytes, and what the made file took of that file
 pub record Wrote (words : WriteWords) (input made made_then : Shown) (result : Result Totals WriteEnd) : Type 0 where
   pub told : (bytes : List ℕ) → input.bytes ≡ Some bytes
       → Answers result (options_of words) (taken_from bytes false (2 ^ 40))
-      × TakesFile result made.bytes made_then.bytes (write_answer words bytes).made
+      × TakesFile result made.bytes made_then.bytes (made_of words bytes)
 
 pub wrote : (words : WriteWords) (options : WriteOptions) (input made made_then : Shown) (result : Result Totals WriteEnd)
     → options ≡ options_of words
@@ -50,6 +63,20 @@ pub wrote-err : (words : WriteWords) (input made made_then : Shown) (known e : W
     → e ≡ known → Wrote words input made made_then (Err e) → Wrote words input made made_then (Err known)
 wrote-err words input made made_then known e is wrote = subst (λ (x : WriteEnd). Wrote words input made made_then (Err x)) is wrote
 
+-- the whole file went out
+all-made : (words : WriteWords) (bytes : List ℕ) (made made_then out notes : Option (List ℕ)) (wanted : Status) (text : List ℕ) (stop : Option Stop)
+    → (taken_from bytes false (2 ^ 40)).stop ≡ stop → stop_status stop ≡ wanted
+    → stop_text (length (taken_from bytes false (2 ^ 40)).records) stop ≡ text
+    → Takes made made_then (made_of words bytes)
+    → GaveButNotes wanted (taken_by made out notes) (taken_by made_then out notes) text (write_answer words bytes)
+all-made words bytes made made_then out notes wanted text stop is ended said took = record {
+  same_status = sym (ap stop_status is ∙ ended);
+  puts = puts_to Made (made_of words bytes);
+  whole = ap (λ (t : List ℕ). puts_to Made (made_of words bytes) ++ puts_to Notes t)
+      (ap (stop_text (length (taken_from bytes false (2 ^ 40)).records)) is ∙ said);
+  went = GoOut-made made made_then out notes (made_of words bytes) took;
+}
+
 -- the whole input was written
 pub write-ok : (words : WriteWords) (input input_then : Shown) (files : List ShownFile) (made made_then out notes : Shown) (totals : Totals)
     → Wrote words input made made_then (Ok totals)
@@ -57,49 +84,49 @@ pub write-ok : (words : WriteWords) (input input_then : Shown) (files : List Sho
     → NoneFell (seen input files made out notes) (seen input_then files made_then out notes)
     → Runs (Some (Write words)) (seen input files made out notes) (seen input_then files made_then out notes) status.Ok
 write-ok words input input_then files made made_then out notes totals wrote read counts =
-    runs-whole (Some (Write words)) _ _ status.Ok [] tt
-    (OfSizes-unread (Some (Write words)) _ _ (λ sizes. MayEnd (Some (Write words)) sizes status.Ok []) refl (0, None, refl, refl))
+    let before : Seen = seen input files made out notes in
+    let after : Seen = seen input_then files made_then out notes in
+    runs-whole (Some (Write words)) before after status.Ok [] tt
+    (OfSizes-unread (Some (Write words)) before after (λ sizes. MayEnd (Some (Write words)) sizes status.Ok []) refl (0, None, refl, refl))
     (Takes-nothing notes.bytes)
     (λ bytes _ told _. let w = wrote.told bytes (told refl) in (
       write_answer words bytes,
       refl,
-      record {
-        same_status = ap stop_status (sym w.0.0);
-        made = w.1;
-        out = Takes-nothing out.bytes;
-        notes = subst (λ (s : Option Stop). Takes notes.bytes notes.bytes (stop_text (length (taken_from bytes false (2 ^ 40)).records) s)) (sym w.0.0) (Takes-nothing notes.bytes);
-      },
+      gave-said status.Ok before after notes [] (write_answer words bytes)
+          (all-made words bytes made.bytes made_then.bytes out.bytes notes.bytes status.Ok [] None w.0.0 refl refl w.1) (Takes-nothing notes.bytes),
     ))
     (λ _ _. read) (λ none. absurd (cc none)) tt counts
 
 module _ (words : WriteWords) (input input_then : Shown) (files : List ShownFile) (made made_then out notes notes_then : Shown)
     (counts : NoneFell (seen input files made out notes) (seen input_then files made_then out notes_then)) where
+  abbrev Before : Seen
+  Before = seen input files made out notes
+
+  abbrev After : Seen
+  After = seen input_then files made_then out notes_then
+
   -- the run ended so
   abbrev Ended : Status → Type 0
-  Ended = Runs (Some (Write words)) (seen input files made out notes) (seen input_then files made_then out notes_then)
+  Ended = Runs (Some (Write words)) Before After
 
   -- a stop followed some records
   stopped : (count : ℕ) (s : Stop) (ended : Status)
       → SaysAtEnd ended (stop_status (Some s)) notes notes_then (stop_text count (Some s))
       → stop_text count (Some s) ≢ [] → IsWhole (stop_status (Some s)) → stop_status (Some s) ≢ status.Ok
-      → HasCause (stop_status (Some s)) (Some (Write words)) (seen input files made out notes) (seen input_then files made_then out notes_then)
+      → HasCause (stop_status (Some s)) (Some (Write words)) Before After
       → ((bytes : List ℕ) → input.bytes ≡ Some bytes
       → ((taken_from bytes false (2 ^ 40)).stop ≡ Some s)
       × (stop_text (length (taken_from bytes false (2 ^ 40)).records) (Some s) ≡ stop_text count (Some s))
-      × Takes made.bytes made_then.bytes (write_answer words bytes).made)
+      × Takes made.bytes made_then.bytes (made_of words bytes))
       → Ended ended
   stopped count s ended says some whole not_ok cause known =
-      runs-said (Some (Write words)) _ _ ended (stop_status (Some s)) (stop_text count (Some s)) says some whole not_ok
-      (OfSizes-unread (Some (Write words)) _ _ (λ sizes. MayEnd (Some (Write words)) sizes (stop_status (Some s)) (stop_text count (Some s))) refl (count, Some s, refl, refl))
+      runs-said (Some (Write words)) Before After notes ended (stop_status (Some s)) [] (stop_text count (Some s))
+      (Takes-nothing notes.bytes) (omega arith) says some whole not_ok
+      (OfSizes-unread (Some (Write words)) Before After (λ sizes. MayEnd (Some (Write words)) sizes (stop_status (Some s)) (stop_text count (Some s))) refl (count, Some s, refl, refl))
       (λ bytes _ told _. let k = known bytes (told refl) in (
         write_answer words bytes,
         refl,
-        record {
-          same_status = ap stop_status (sym k.0);
-          made = k.2;
-          out = Takes-nothing out.bytes;
-          notes = ap (stop_text (length (taken_from bytes false (2 ^ 40)).records)) k.0 ∙ k.1;
-        },
+        all-made words bytes made.bytes made_then.bytes out.bytes notes.bytes (stop_status (Some s)) (stop_text count (Some s)) (Some s) k.0 refl k.1 k.2,
       ))
       (λ none. absurd (cc none)) cause counts
 
@@ -124,37 +151,60 @@ module _ (words : WriteWords) (input input_then : Shown) (files : List ShownFile
       stopped count stop.BadLine ended says (λ e. cc e) tt (λ e. cc e) tt
       (λ bytes told. let w = wrote.told bytes told in (w.0.0, ap (λ (n : ℕ). stop_text n (Some stop.BadLine)) (sym w.0.1), w.1))
 
+  -- a front of the file went out, which is one of what the answer puts
+  broken : (bytes : List ℕ) (count : ℕ) → BreaksOff Made (puts_to Made (take count (made_of words bytes))) (write_answer words bytes).puts
+  broken bytes count = record {
+    before = [];
+    bytes = made_of words bytes;
+    rest = puts_to Notes (stop_text (length (taken_from bytes false (2 ^ 40)).records) (taken_from bytes false (2 ^ 40)).stop);
+    parts = refl;
+    some = made-some words bytes;
+    count = count;
+    broken = refl;
+  }
+
   -- a fault or want of memory cut the work off
   cut_off : (ended : Status) → IsCutOff ended
-      → HasCause ended (Some (Write words)) (seen input files made out notes) (seen input_then files made_then out notes_then)
-      → ((bytes : List ℕ) → input.bytes ≡ Some bytes → TakesFront made.bytes made_then.bytes (write_answer words bytes).made)
+      → ((part puts : List Put) → BreaksOff Made part puts → Breaks ended part puts)
+      → HasCause ended (Some (Write words)) Before After
+      → ((bytes : List ℕ) → input.bytes ≡ Some bytes → TakesFront made.bytes made_then.bytes (made_of words bytes))
       → TakesThen notes notes_then [] (fault_text ended)
       → Ended ended
-  cut_off ended cut cause front said =
-      runs-cut_off (Some (Write words)) _ _ ended [] cut
-      (λ _. OfSizes-unread (Some (Write words)) _ _ (MayWork (Some (Write words))) refl tt) refl said
-      (λ bytes _ told _. (
-        write_answer words bytes,
+  cut_off ended cut breaks cause front said =
+      runs-cut_off (Some (Write words)) Before After ended [] cut
+      (λ _. OfSizes-unread (Some (Write words)) Before After (MayWork (Some (Write words))) refl tt) refl said
+      (λ bytes _ told _.
+      let answer : Answer = write_answer words bytes in
+      let file : List ℕ = made_of words bytes in
+      let count = TakesFront-count made.bytes made_then.bytes file (front bytes (told refl)) in
+      let part : List Put = puts_to Made (take count.0 file) in (
+        answer,
         refl,
-        record {
-          made = front bytes (told refl);
-          out = TakesFront-none out.bytes [];
-          notes = (0, said);
-        },
+        was-cut_off ended Before After notes answer part
+            (breaks part answer.puts (broken bytes count.0))
+            (PutsLines-none part answer.puts (bytes_to-other Notes Made (take count.0 file) refl))
+            (GoOut-made made.bytes made_then.bytes out.bytes notes.bytes (take count.0 file) count.1)
+            (omega arith) said,
       ))
+      (λ _ _ bytes files told _.
+      let count = TakesFront-count made.bytes made_then.bytes (made_of words bytes) (front bytes (told refl)) in
+      let part : List Put = puts_to Made (take count.0 (made_of words bytes)) in
+      went-so_far (Some (Write words)) ended Before After notes bytes files part
+      (BreaksOff-front Made part (write_answer words bytes).puts (broken bytes count.0))
+      (GoOut-made made.bytes made_then.bytes out.bytes notes.bytes (take count.0 (made_of words bytes)) count.1) (omega arith) said)
       (λ none. cc none) cause counts
 
   pub write-input : (ended : Status) → ended ≡ status.Input → Wrote words input made made_then (Err end.Input) → Rose input.faults input_then.faults
       → TakesThen notes notes_then [] (fault_text status.Input)
       → Ended ended
-  write-input ended is wrote rose said = subst Ended (sym is) (cut_off status.Input tt (refl, rose) (λ bytes told. (wrote.told bytes told).1) said)
+  write-input ended is wrote rose said = subst Ended (sym is) (cut_off status.Input tt (BreaksOff-front Made) (refl, rose) (λ bytes told. (wrote.told bytes told).1) said)
 
   pub write-made : (ended : Status) → ended ≡ status.Made → Wrote words input made made_then (Err end.Made) → Rose made.faults made_then.faults
       → TakesThen notes notes_then [] (fault_text status.Made)
       → Ended ended
-  write-made ended is wrote rose said = subst Ended (sym is) (cut_off status.Made tt (refl, rose) (λ bytes told. (wrote.told bytes told).1) said)
+  write-made ended is wrote rose said = subst Ended (sym is) (cut_off status.Made tt (λ part puts broke. broke) (refl, rose) (λ bytes told. (wrote.told bytes told).1) said)
 
   pub write-memory : (ended : Status) → ended ≡ status.Memory → Wrote words input made made_then (Err end.Memory)
       → TakesThen notes notes_then [] (fault_text status.Memory)
       → Ended ended
-  write-memory ended is wrote said = subst Ended (sym is) (cut_off status.Memory tt refl (λ bytes told. (wrote.told bytes told).1) said)
+  write-memory ended is wrote said = subst Ended (sym is) (cut_off status.Memory tt (BreaksOff-front Made) refl (λ bytes told. (wrote.told bytes told).1) said)

@@ -5,6 +5,7 @@ use Rattle.std.proofs.lemmas.Bool.{cond-true, cases_Bool, cases_lt}
 use Rattle.std.proofs.lemmas.List.{length-take}
 use Rattle.std.proofs.lemmas.List.Sums.{sum_by-append, sum_by-cons}
 use Rattle.block_layout.specs.Layout.{IsBoundary}
+use Rattle.record_io.specs.Puts.{Made, bytes_to}
 use Rattle.chunk_header.specs.SimpleChunks.{simple_chunk}
 use Rattle.simple_chunk.specs.Costs.{cost, cost_of}
 use Rattle.meta_chunk.specs.Laid.{end_of_chunk}
@@ -22,6 +23,7 @@ use Rattle.record_writer.proofs.Reaches.{group-near}
 use Rattle.riegeli_tool.specs.declared.write_words.WriteWords.{WriteWords}
 use Rattle.riegeli_tool.specs.Input.{ends_line, lines, running, up_to_last_end, line_limit, taken_lines, stop_past_limit, taken_from}
 use Rattle.riegeli_tool.specs.WriteCommand.{write_answer}
+use Rattle.riegeli_tool.proofs.AnswerStreams.{written_made}
 use Rattle.riegeli_tool.proofs.Lines.{lines-cons}
 use Rattle.riegeli_tool.proofs.TakenLines.{taken_from-within, taken_from-past, long-refused}
 use Rattle.riegeli_tool.proofs.TakenRecords.{short-before}
@@ -118,12 +120,13 @@ records-near place records size every pad boundary =
     )
 
 -- so the file of an input can be read
-pub written-fits : (write : WriteWords) (input : List ℕ) → length (write_answer write input).made ≤ 2 ^ 60
+pub written-fits : (write : WriteWords) (input : List ℕ) → length (bytes_to Made (write_answer write input).puts) ≤ 2 ^ 60
 written-fits write input =
     let records : List (List ℕ) = (taken_from input false (2 ^ 40)).records in
     let place : ℕ = end_of_chunk 0 signature in
     omega (
       arith,
+      ap length (written_made write (taken_from input false (2 ^ 40))),
       length-file_of-signed records write.chunk_size write.every write.pad,
       end-laid_each place (record_chunks place records write.chunk_size write.every write.pad),
       records-near place records write.chunk_size write.every write.pad (end_of_chunks_boundary 0 (signature ∷ []) (inl refl)),

@@ -1,14 +1,13 @@
 -- What the program writes, prints and answers. Own.
 use Rattle.std.specs.Prelude.{ℕ, List, [], ◌∷◌, ◌++◌}
 use lib.Chars.{codes}
+use Rattle.record_io.specs.Puts.{Put, Notes, puts_to}
 use Rattle.riegeli_tool.specs.declared.status.Status.{Status}
 use Rattle.riegeli_tool.specs.declared.status.Status.TheVariants as status
 
--- the bytes of the made file, of standard output and of standard error, and the status
+-- what is put to the made file, to standard output and to standard error, in its order, and the status
 pub record Answer : Type 0 where
-  pub made : List ℕ
-  pub out : List ℕ
-  pub notes : List ℕ
+  pub puts : List Put
   pub status : Status
 
 -- a text as a line
@@ -28,7 +27,7 @@ usage_text =
 
 -- an answer that is said in notes alone
 abbrev pub noted : Status → List ℕ → Answer
-noted ended text = record { made = []; out = []; notes = text; status = ended }
+noted ended text = record { puts = puts_to Notes text; status = ended }
 
 -- the answer to words that are no command
 abbrev pub usage : Answer

@@ -1,17 +1,18 @@
 -- What each command uses, answers and may say: one case a command, and one for words that are none. Own.
 use Rattle.std.specs.Prelude.{◌≡◌, ℕ, Bool, true, false, Option, Some, None, List, []}
+use Rattle.record_io.specs.Puts.{Put}
 use Rattle.riegeli_tool.specs.declared.command.Command.{Command}
 use Rattle.riegeli_tool.specs.declared.command.Command.TheVariants.{Write, Show, Recover, Verify, Repair}
 use Rattle.riegeli_tool.specs.declared.status.Status.{Status}
 use Rattle.riegeli_tool.specs.declared.status.Status.TheVariants as status
 use Rattle.riegeli_tool.specs.Answers.{Answer, usage_text, usage}
-use Rattle.riegeli_tool.specs.WriteCommand.{write_answer, MayEndWrite}
-use Rattle.riegeli_tool.specs.FileAnswers.{OfFile, IsInReach, MayEndReading}
-use Rattle.riegeli_tool.specs.ShowCommand.{IsShown}
+use Rattle.riegeli_tool.specs.WriteCommand.{write_answer, IsWrittenSoFar, MayEndWrite}
+use Rattle.riegeli_tool.specs.FileAnswers.{OfFile, OfFileSoFar, IsInReach, MayEndReading}
+use Rattle.riegeli_tool.specs.ShowCommand.{IsShown, IsShownSoFar}
 use Rattle.riegeli_tool.specs.WalkAnswers.{MaySayWalk, MayEndWalk}
-use Rattle.riegeli_tool.specs.RecoverCommand.{IsRecovered}
+use Rattle.riegeli_tool.specs.RecoverCommand.{IsRecovered, IsRecoveredSoFar}
 use Rattle.riegeli_tool.specs.VerifyCommand.{IsVerified}
-use Rattle.riegeli_tool.specs.RepairCommand.{IsRepaired}
+use Rattle.riegeli_tool.specs.RepairCommand.{IsRepaired, IsRepairedSoFar}
 
 -- what a command uses beside notes: the input, the files, the made file, standard output, and memory
 pub record Uses : Type 0 where
@@ -37,6 +38,15 @@ IsAnswer (Some (Show words)) input files answer = OfFile (IsShown words) files a
 IsAnswer (Some (Recover words)) input files answer = OfFile (IsRecovered words) files answer
 IsAnswer (Some (Verify words)) input files answer = OfFile IsVerified files answer
 IsAnswer (Some (Repair words)) input files answer = OfFile (IsRepaired words) files answer
+
+-- what a command may have put where it can't read on or has no memory: of a file that of some whole chunks or events
+abbrev pub MayHavePut : Option Command → List ℕ → List (List ℕ) → List Put → Type 0
+MayHavePut None input files part = ⊥
+MayHavePut (Some (Write words)) input files part = IsWrittenSoFar words input part
+MayHavePut (Some (Show words)) input files part = OfFileSoFar (IsShownSoFar words) files part
+MayHavePut (Some (Recover words)) input files part = OfFileSoFar (IsRecoveredSoFar words) files part
+MayHavePut (Some (Verify words)) input files part = part ≡ []
+MayHavePut (Some (Repair words)) input files part = OfFileSoFar (IsRepairedSoFar words) files part
 
 -- the status that a command may end with and what notes then say, by the sizes of its files, whatever it reads
 abbrev pub MayEnd : Option Command → List ℕ → Status → List ℕ → Type 0

@@ -1,6 +1,7 @@
 -- What the commands that read a record file print and say of it. Own.
 use Rattle.std.specs.Prelude.{◌≡◌, ℕ, ◌^◌, ◌<◌, ◌≤◌, ◌⊎◌, Bool, Option, IfSome, List, [], ◌∷◌, ◌++◌, length, decimal, if◌then◌else◌}
 use lib.Chars.{codes}
+use Rattle.record_io.specs.Puts.{Put}
 use Rattle.record_io.specs.declared.file_totals.Totals.{Totals}
 use Rattle.chunk_reader.specs.declared.reasons.Fault.{Fault}
 use Rattle.chunk_reader.specs.Names.{name_of}
@@ -46,6 +47,11 @@ OfFile P (file ∷ []) answer =
     ((most_file_bytes < length file) × (answer ≡ noted status.Limit limit_text))
     ⊎ ((length file ≤ most_file_bytes) × P file answer)
 OfFile P files answer = ⊥
+
+-- what was put so far of the one file that is read
+abbrev pub OfFileSoFar : (List ℕ → List Put → Type 0) → List (List ℕ) → List Put → Type 0
+OfFileSoFar P (file ∷ []) part = P file part
+OfFileSoFar P files part = ⊥
 
 -- the sizes of the files are that of one, which has so few bytes that it is read
 abbrev pub IsInReach : List ℕ → Type 0

@@ -1,6 +1,6 @@
 -- How the work of a command that reads a record file ends, and what it has printed and says then. Own.
 use Rattle.std.specs.Prelude.{◌≡◌, ℕ, Option, Result, Ok, Err, List, [], ◌∷◌, ◌++◌, IsSomeAnd}
-use Rattle.record_io.specs.Buffers.{TakesAndHolds}
+use Rattle.record_io.specs.Puts.{Stream, Put, Out, Notes, Taken, GoOut, GoOutOrAreHeld, BreaksOff, puts_to}
 use Rattle.chunk_reader.specs.declared.reasons.VerifyEnd.{VerifyEnd}
 use Rattle.chunk_reader.specs.declared.reasons.VerifyEnd.TheVariants as verify
 use Rattle.chunk_reader.specs.declared.reasons.ReadEnd.{ReadEnd}
@@ -14,7 +14,7 @@ use Rattle.riegeli_tool.specs.declared.status.Status.TheVariants as status
 use Rattle.riegeli_tool.specs.Answers.{Answer}
 use Rattle.riegeli_tool.specs.FileAnswers.{OfFile, IsInReach, IsTooLong, limit_text, refused_text}
 use Rattle.riegeli_tool.specs.Statuses.{fault_text}
-use Rattle.riegeli_tool.specs.Runs.{Shown, SaysAtEnd, TakesThen}
+use Rattle.riegeli_tool.specs.Runs.{Shown, SaysAtEnd, TakesThen, PutsLines}
 
 -- the ends by which no size was told
 abbrev pub end_of_size : SizeEnd → ReadingEnd
@@ -37,34 +37,56 @@ EndsBySize (Err end.Limit) told = IsSomeAnd told (λ size. IsTooLong (size ∷ [
 EndsBySize (Err end.File) told = Unit {0}
 EndsBySize other told = IsSomeAnd told (λ size. IsInReach (size ∷ []))
 
+-- the ends by a fault of the file or want of memory
+abbrev pub IsShortReading : ReadingEnd → Type 0
+IsShortReading end.File = Unit {0}
+IsShortReading end.Memory = Unit {0}
+IsShortReading other = ⊥
+
 -- why work ended whose lines standard output then failed to take: work that was done or refused ended by that
 abbrev pub end_unprinted : {X : Type 0} → Result X ReadingEnd → ReadingEnd
 end_unprinted (Err end.File) = end.File
 end_unprinted (Err end.Memory) = end.Memory
 end_unprinted other = end.Out
 
--- all that an answer to a file prints was taken, or is held; behind it notes say a text, and it ends with a status
-pub record HasPrinted (P : List ℕ → Answer → Type 0) (file : List ℕ) (before after : Option (List ℕ)) (held text : List ℕ) (ended : Status) : Type 0 where
+-- all that an answer to a file puts but a last text in notes went out, or is held for standard output; it ends with a status
+pub record HasPut (P : List ℕ → Answer → Type 0) (file : List ℕ) (before after : Taken) (held last : List ℕ) (ended : Status) : Type 0 where
   pub answer : Answer
   pub is : OfFile P (file ∷ []) answer
-  pub made : answer.made ≡ []
-  pub out : TakesAndHolds before after answer.out held
-  pub notes : answer.notes ≡ text
+  pub puts : List Put
+  pub whole : answer.puts ≡ puts ++ puts_to Notes last
+  pub lines : PutsLines puts answer.puts
+  pub went : GoOutOrAreHeld before after Out puts held
   pub status : ended ≡ answer.status
 
--- a front of what an answer prints was taken, or is held
-pub record HasPrintedFront (before after : Option (List ℕ)) (held : List ℕ) (answer : Answer) : Type 0 where
-  pub text : List ℕ
-  pub rest : List ℕ
-  pub parts : answer.out ≡ text ++ rest
-  pub out : TakesAndHolds before after text held
+-- what was put so far went out, or is held for standard output
+pub record HasPutSoFar (P : List Put → Type 0) (before after : Taken) (held : List ℕ) : Type 0 where
+  pub part : List Put
+  pub is : P part
+  pub went : GoOutOrAreHeld before after Out part held
 
--- what was printed of a file when the work ended: where it was not cut off all of an answer, and else a front of it
-abbrev pub Prints : {X : Type 0} → (List ℕ → Answer → Type 0) → Result X ReadingEnd → List ℕ → Option (List ℕ) → Option (List ℕ) → List ℕ → Type 0
-Prints P (Ok _) file before after held = HasPrinted P file before after held [] status.Ok
-Prints P (Err end.Limit) file before after held = HasPrinted P file before after held limit_text status.Limit
-Prints P (Err (end.Refused fault)) file before after held = HasPrinted P file before after held (refused_text fault) status.Refused
-Prints P (Err other) file before after held = (answer : Answer) → OfFile P (file ∷ []) answer → HasPrintedFront before after held answer
+-- a front of what an answer puts went out, or is held for standard output
+pub record HasPutFront (before after : Taken) (held : List ℕ) (answer : Answer) : Type 0 where
+  pub part : List Put
+  pub rest : List Put
+  pub parts : answer.puts ≡ part ++ rest
+  pub lines : PutsLines part answer.puts
+  pub went : GoOutOrAreHeld before after Out part held
+
+-- a front of what an answer puts went out, up to bytes that go to a sink that failed
+pub record HasBrokenOff (stream : Stream) (before after : Taken) (answer : Answer) : Type 0 where
+  pub part : List Put
+  pub broke : BreaksOff stream part answer.puts
+  pub lines : PutsLines part answer.puts
+  pub went : GoOut before after part
+
+-- what was put of a file when the work ended: where it was not cut off all of an answer but its last text, and else a front
+abbrev pub Prints : {X : Type 0} → (List ℕ → Answer → Type 0) → Result X ReadingEnd → List ℕ → (before after : Taken) → List ℕ → Type 0
+Prints P (Ok _) file before after held = HasPut P file before after held [] status.Ok
+Prints P (Err end.Limit) file before after held = HasPut P file before after held limit_text status.Limit
+Prints P (Err (end.Refused fault)) file before after held = HasPut P file before after held (refused_text fault) status.Refused
+Prints P (Err end.Out) file before after held = (answer : Answer) → OfFile P (file ∷ []) answer → HasBrokenOff Out before after answer
+Prints P (Err other) file before after held = (answer : Answer) → OfFile P (file ∷ []) answer → HasPutFront before after held answer
 
 -- what is said of the end in notes, and the status
 abbrev pub SaysEnd : {X : Type 0} → Result X ReadingEnd → Status → Shown → Shown → Type 0

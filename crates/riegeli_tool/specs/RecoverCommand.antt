@@ -1,18 +1,32 @@
 -- What `show` prints, says and ends with where it goes on past damage. Own.
-use Rattle.std.specs.Prelude.{◌≡◌, ℕ, false, List, []}
-use Rattle.std.specs.List.{flat_map}
-use Rattle.damage_skip.specs.Pieces.{Piece, AreEvents, placed_in}
+use Rattle.std.specs.Prelude.{◌≡◌, ℕ, Bool, false, List, ◌++◌}
+use Rattle.std.specs.List.{enumerate_from, flat_map}
+use Rattle.record_io.specs.Puts.{Put, Out, Notes, puts_to}
+use Rattle.damage_skip.specs.Pieces.{Piece, AreEvents, records_of}
+use Rattle.repair_copy.specs.Told.{line_of}
 use Rattle.riegeli_tool.specs.declared.recover_words.RecoverWords.{RecoverWords}
 use Rattle.riegeli_tool.specs.Answers.{Answer}
 use Rattle.riegeli_tool.specs.FileAnswers.{record_line}
-use Rattle.riegeli_tool.specs.WalkAnswers.{regions_in, walked, refused_in, walk_text, walk_status}
+use Rattle.riegeli_tool.specs.WalkAnswers.{regions_in, walked, refused_in, IsWalkedTo, stopped_text, walk_status}
 
--- the answer to a file: the records of its events before the first refused region, the lines of the regions among these
--- events, and that of the refused region, if there is one
+-- what is put of an event: the lines of its records, or its line, if it is a region
+abbrev pub event_puts : Bool → Piece → List Put
+event_puts positions event =
+    puts_to Out (flat_map (record_line positions) (enumerate_from event.begin (records_of event.what)))
+    ++ puts_to Notes (line_of event.begin event.end event.what)
+
+-- the answer to a file: its events before the first refused region, each as it is met, and the line of the refused region,
+-- if there is one
 pub record IsRecovered (words : RecoverWords) (file : List ℕ) (answer : Answer) : Type 0 where
   pub events : List Piece
   pub are : AreEvents false file events
-  pub made : answer.made ≡ []
-  pub out : answer.out ≡ flat_map (record_line words.show.positions) (placed_in (walked words.most events))
-  pub notes : answer.notes ≡ walk_text (regions_in (walked words.most events)) (refused_in words.most events)
+  pub puts : answer.puts ≡ flat_map (event_puts words.show.positions) (walked words.most events)
+      ++ puts_to Notes (stopped_text (refused_in words.most events))
   pub status : answer.status ≡ walk_status (regions_in (walked words.most events)) (refused_in words.most events)
+
+-- what was put so far: that of the events up to a place
+pub record IsRecoveredSoFar (words : RecoverWords) (file : List ℕ) (part : List Put) : Type 0 where
+  pub place : ℕ
+  pub events : List Piece
+  pub walked : IsWalkedTo false words.most file place events
+  pub puts : part ≡ flat_map (event_puts words.show.positions) events

@@ -1,27 +1,42 @@
 -- What `repair` makes, prints, says and ends with. Own.
-use Rattle.std.specs.Prelude.{◌≡◌, ℕ, true, Option, Some, None, List, [], ◌∷◌}
+use Rattle.std.specs.Prelude.{◌≡◌, ℕ, true, Option, Some, None, List, [], ◌∷◌, ◌++◌}
+use lib.Chars.{codes}
+use Rattle.record_io.specs.Puts.{Put, Out, Notes, puts_to}
 use Rattle.chunk_header.specs.Chunks.{ChunkValue}
 use Rattle.meta_chunk.specs.Counts.{totals_of}
 use Rattle.meta_chunk.specs.Files.{signature}
 use Rattle.damage_skip.specs.Pieces.{Piece, AreEvents}
+use Rattle.damage_skip.specs.Regions.{region_text}
 use Rattle.damage_skip.specs.declared.regions.Region.{Region}
-use Rattle.repair_copy.specs.Relaid.{chunks_in, relaid}
+use Rattle.repair_copy.specs.Relaid.{chunks_in}
+use Rattle.repair_copy.specs.RepairPuts.{repair_puts}
 use Rattle.riegeli_tool.specs.declared.repair_words.RepairWords.{RepairWords}
 use Rattle.riegeli_tool.specs.Answers.{Answer}
 use Rattle.riegeli_tool.specs.FileAnswers.{report}
-use Rattle.riegeli_tool.specs.WalkAnswers.{regions_in, walked, refused_in, walk_text, walk_status}
+use Rattle.riegeli_tool.specs.WalkAnswers.{regions_in, walked, refused_in, IsWalkedTo, walk_status}
 
--- the report of the file of these chunks, and nothing where a region is refused
-abbrev pub report_unless : Option Region → List ChunkValue → List ℕ
-report_unless None ks = report (totals_of (signature ∷ ks))
-report_unless (Some region) ks = []
+-- what is put last: the report of the file of these chunks, or the line of the region that is refused
+abbrev pub end_puts : Option Region → List ChunkValue → List Put
+end_puts None ks = puts_to Out (report (totals_of (signature ∷ ks)))
+end_puts (Some region) ks = puts_to Notes (region_text (codes "stopped") region)
 
--- the answer to a file: the file of its events before the first refused region and the report of that file, unless there
--- is such a region, the lines of the regions among these events, and that of the refused one
+-- the answer to a file: the file of its events before the first refused region, and the line of each region among these as
+-- it is met; then the report of that file, or the line of the refused region, if there is one
 pub record IsRepaired (words : RepairWords) (file : List ℕ) (answer : Answer) : Type 0 where
   pub events : List Piece
   pub are : AreEvents true file events
-  pub made : answer.made ≡ relaid (walked words.most events)
-  pub out : answer.out ≡ report_unless (refused_in words.most events) (chunks_in (walked words.most events))
-  pub notes : answer.notes ≡ walk_text (regions_in (walked words.most events)) (refused_in words.most events)
+  pub puts : answer.puts ≡ repair_puts (walked words.most events)
+      ++ end_puts (refused_in words.most events) (chunks_in (walked words.most events))
   pub status : answer.status ≡ walk_status (regions_in (walked words.most events)) (refused_in words.most events)
+
+-- what is put of the first events: nothing before there is one
+abbrev pub first_puts : List Piece → List Put
+first_puts [] = []
+first_puts (event ∷ events) = repair_puts (event ∷ events)
+
+-- what was put so far: that of the events up to a place
+pub record IsRepairedSoFar (words : RepairWords) (file : List ℕ) (part : List Put) : Type 0 where
+  pub place : ℕ
+  pub events : List Piece
+  pub walked : IsWalkedTo true words.most file place events
+  pub puts : part ≡ first_puts events

@@ -3,6 +3,7 @@ use Rattle.std.specs.Prelude.{◌≡◌, ◌≢◌, ℕ, ◌≤◌, ◌⊎◌, t
 use Rattle.std.specs.List.{AllByRecursion, flat_map}
 use Rattle.record_io.specs.Bytes.{AreBytes}
 use Rattle.record_io.specs.Outside.{Rose, Takes, TakesFront}
+use Rattle.record_io.specs.Puts.{Put, Made, Out, Notes, Taken, taken_by, GoOut, BreaksOff, bytes_to}
 use Rattle.riegeli_tool.specs.declared.command.Command.{Command}
 use Rattle.riegeli_tool.specs.declared.status.Status.{Status}
 use Rattle.riegeli_tool.specs.declared.status.Status.TheVariants as status
@@ -10,7 +11,7 @@ use Rattle.riegeli_tool.specs.Statuses.{fault_text}
 use Rattle.riegeli_tool.specs.Input.{lines}
 use Rattle.riegeli_tool.specs.Answers.{Answer, line}
 use Rattle.riegeli_tool.specs.FileAnswers.{LeavesTooLong}
-use Rattle.riegeli_tool.specs.CommandAnswers.{Uses, uses_of, IsAnswer, MayEnd, MayWork, MaySay}
+use Rattle.riegeli_tool.specs.CommandAnswers.{Uses, uses_of, IsAnswer, MayHavePut, MayEnd, MayWork, MaySay}
 
 -- what a stream shows: the bytes that an input has left or that a sink took, where it tells them, and its count of faults
 pub record Shown : Type 0 where
@@ -61,6 +62,13 @@ IsCutOff status.Out = Unit {0}
 IsCutOff status.Memory = Unit {0}
 IsCutOff other = ⊥
 
+-- the statuses that tell a fault of what is read, or want of memory
+abbrev pub IsCutShort : Status → Type 0
+IsCutShort status.Input = Unit {0}
+IsCutShort status.File = Unit {0}
+IsCutShort status.Memory = Unit {0}
+IsCutShort other = ⊥
+
 -- the count of faults of one of the files rose
 abbrev pub OneRose : List ShownFile → List ShownFile → Type 0
 OneRose before after =
@@ -81,14 +89,22 @@ pub record IsSound (uses : Uses) (before after : Seen) : Type 0 where
   pub out : uses.out ≡ true → ¬ Rose before.out.faults after.out.faults
   pub notes : ¬ Rose before.notes.faults after.notes.faults
 
--- P holds of an answer to the command, where the input tells its bytes that it uses, and so do the files theirs, which are
--- bytes
-abbrev pub IfTold : Option Command → Seen → (Answer → Type 0) → Type 0
-IfTold command before P =
+-- neither the made file nor standard output had a fault, where they are used
+pub record AreSinksSound (uses : Uses) (before after : Seen) : Type 0 where
+  pub made : uses.made ≡ true → ¬ Rose before.made.faults after.made.faults
+  pub out : uses.out ≡ true → ¬ Rose before.out.faults after.out.faults
+
+-- P holds of the input and the files that a command uses, where they tell their bytes
+abbrev pub IfRead : Option Command → Seen → (List ℕ → List (List ℕ) → Type 0) → Type 0
+IfRead command before P =
     (input : List ℕ) (files : List (List ℕ))
     → ((uses_of command).input ≡ true → before.input.bytes ≡ Some input)
     → ((uses_of command).files ≡ true → (map (λ file. file.bytes) before.files ≡ map Some files) × AllByRecursion AreBytes files)
-    → (answer : Answer) × IsAnswer command input files answer × P answer
+    → P input files
+
+-- P holds of an answer to the command, where what it reads tells its bytes
+abbrev pub IfTold : Option Command → Seen → (Answer → Type 0) → Type 0
+IfTold command before P = IfRead command before (λ input files. (answer : Answer) × IsAnswer command input files answer × P answer)
 
 -- P holds of the sizes of the files that a command reads: they have told these, and their bytes, where they tell them, are so
 -- many
@@ -99,12 +115,14 @@ pub record OfSizes (command : Option Command) (before after : Seen) (P : List �
       → (files : List (List ℕ)) → map (λ file. file.bytes) before.files ≡ map Some files → sizes ≡ map length files
   pub holds : P sizes
 
--- a run gave a whole answer: its status, and all its bytes went out
+-- what the sinks of a run have taken
+abbrev pub taken_in : Seen → Taken
+taken_in objects = taken_by objects.made.bytes objects.out.bytes objects.notes.bytes
+
+-- a run gave a whole answer: its status, and all that it puts went out
 pub record Gave (ended : Status) (before after : Seen) (answer : Answer) : Type 0 where
   pub same_status : ended ≡ answer.status
-  pub made : Takes before.made.bytes after.made.bytes answer.made
-  pub out : Takes before.out.bytes after.out.bytes answer.out
-  pub notes : Takes before.notes.bytes after.notes.bytes answer.notes
+  pub went : GoOut (taken_in before) (taken_in after) answer.puts
 
 -- the first lines of a text
 abbrev pub first_lines : ℕ → List ℕ → List ℕ
@@ -122,19 +140,41 @@ SaysAtEnd ended wanted before after text =
     ((ended ≡ wanted) × Takes before.bytes after.bytes text)
     ⊎ ((ended ≡ status.Notes) × Rose before.faults after.faults × TakesFront before.bytes after.bytes text)
 
--- a run was cut off: of an answer the made file and standard output took fronts, and notes the first lines and
--- then the line that tells what cut it off
-pub record WasCutOff (ended : Status) (before after : Seen) (answer : Answer) : Type 0 where
-  pub made : TakesFront before.made.bytes after.made.bytes answer.made
-  pub out : TakesFront before.out.bytes after.out.bytes answer.out
-  pub notes : (count : ℕ) × TakesThen before.notes after.notes (first_lines count answer.notes) (fault_text ended)
+-- where a front of what is put broke off: at bytes that go to the sink that failed, or anywhere, where what is read failed or
+-- memory was wanting
+abbrev pub Breaks : Status → (part puts : List Put) → Type 0
+Breaks status.Made part puts = BreaksOff Made part puts
+Breaks status.Out part puts = BreaksOff Out part puts
+Breaks other part puts = (rest : List Put) × (puts ≡ part ++ rest)
 
--- notes failed to take what an answer says: of its bytes each sink took a front
-pub record FailedToSay (before after : Seen) (answer : Answer) : Type 0 where
-  pub some : answer.notes ≢ []
-  pub made : TakesFront before.made.bytes after.made.bytes answer.made
-  pub out : TakesFront before.out.bytes after.out.bytes answer.out
-  pub notes : TakesFront before.notes.bytes after.notes.bytes answer.notes
+-- a part of what is put puts whole lines in notes: the first of all that go there
+pub record PutsLines (part puts : List Put) : Type 0 where
+  pub count : ℕ
+  pub lines : bytes_to Notes part ≡ first_lines count (bytes_to Notes puts)
+
+-- a run was cut off: of what an answer puts a front went out, of lines in notes whole ones, and then the line that tells what
+-- cut it off
+pub record WasCutOff (ended : Status) (before after : Seen) (answer : Answer) : Type 0 where
+  pub part : List Put
+  pub broke : Breaks ended part answer.puts
+  pub made : Takes before.made.bytes after.made.bytes (bytes_to Made part)
+  pub out : Takes before.out.bytes after.out.bytes (bytes_to Out part)
+  pub lines : PutsLines part answer.puts
+  pub notes : TakesThen before.notes after.notes (bytes_to Notes part) (fault_text ended)
+
+-- a command was cut short where it may have been, and then the line went out that tells what cut it off
+pub record WentOutSoFar (command : Option Command) (ended : Status) (before after : Seen) (input : List ℕ) (files : List (List ℕ)) : Type 0 where
+  pub part : List Put
+  pub found : MayHavePut command input files part
+  pub made : Takes before.made.bytes after.made.bytes (bytes_to Made part)
+  pub out : Takes before.out.bytes after.out.bytes (bytes_to Out part)
+  pub notes : TakesThen before.notes after.notes (bytes_to Notes part) (fault_text ended)
+
+-- notes failed to take what an answer says: of what it puts a front went out
+pub record FailedToSay (before after : Taken) (answer : Answer) : Type 0 where
+  pub part : List Put
+  pub broke : BreaksOff Notes part answer.puts
+  pub went : GoOut before after part
 
 -- what is behind a status: no command, or an object that the command uses and that had a fault
 abbrev pub HasCause : Status → Option Command → Seen → Seen → Type 0
@@ -165,9 +205,12 @@ pub record Runs (command : Option Command) (before after : Seen) (ended : Status
       → IfTold command before (λ answer. (ended ≡ answer.status) ⊎ (ended ≡ status.Memory))
   pub usage : command ≡ None → (ended ≡ status.Usage) ⊎ (ended ≡ status.Notes)
   pub cause : HasCause ended command before after
-  -- where the work was cut off, or notes failed, fronts of an answer's bytes went out
+  -- where the work was cut off, or notes failed, a front of what an answer puts went out
   pub cut_off : IsCutOff ended → IfTold command before (WasCutOff ended before after)
-  pub failed_to_say : ended ≡ status.Notes → IfTold command before (FailedToSay before after)
+  pub failed_to_say : ended ≡ status.Notes → IfTold command before (FailedToSay (taken_in before) (taken_in after))
+  -- where what is read failed or memory was wanting, and no sink of the work failed too, what went out ends where a command
+  -- may be cut short: behind a whole chunk or event of a file
+  pub so_far : IsCutShort ended → AreSinksSound (uses_of command) before after → IfRead command before (WentOutSoFar command ended before after)
   -- files are asked their sizes first: what cuts the work off, unless it is a fault of theirs, finds them within the limit
   pub in_reach : IsCutOff ended → ended ≢ status.File → OfSizes command before after (MayWork command)
   -- what notes took, also where nobody tells what was read

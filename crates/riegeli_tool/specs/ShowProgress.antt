@@ -1,7 +1,7 @@
 -- How far `show` has printed a file. Own.
-use Rattle.std.specs.Prelude.{◌≡◌, ℕ, Bool, true, Option, Result, Ok, List, []}
+use Rattle.std.specs.Prelude.{◌≡◌, ℕ, Bool, true, Result, Ok, List, []}
 use Rattle.std.specs.List.{flat_map}
-use Rattle.record_io.specs.Buffers.{TakesAndHolds}
+use Rattle.record_io.specs.Puts.{Out, Taken, GoOutOrAreHeld, puts_to}
 use Rattle.record_io.specs.declared.file_totals.Totals.{Totals}
 use Rattle.chunk_header.specs.Chunks.{ChunkValue}
 use Rattle.meta_chunk.specs.Counts.{totals_of}
@@ -32,12 +32,12 @@ pub record IsTextOf (words : ShowWords) (file : List ℕ) (totals : Totals) (tex
   pub records : ArePlaced ks placed
   pub lines : text ≡ record_lines words placed
 
--- such a text was taken, or is held
-abbrev pub IsPrinted : ShowWords → List ℕ → Totals → Option (List ℕ) → Option (List ℕ) → List ℕ → Type 0
+-- such a text was printed, or is held
+abbrev pub IsPrinted : ShowWords → List ℕ → Totals → (before after : Taken) → List ℕ → Type 0
 IsPrinted words file totals before after held =
-    (text : List ℕ) × IsTextOf words file totals text × TakesAndHolds before after text held
+    (text : List ℕ) × IsTextOf words file totals text × GoOutOrAreHeld before after Out (puts_to Out text) held
 
 -- a chunk more was printed, or the work ended
-abbrev pub PrintsOn : ShowWords → Result Bool ReadingEnd → List ℕ → Totals → Option (List ℕ) → Option (List ℕ) → List ℕ → Type 0
+abbrev pub PrintsOn : ShowWords → Result Bool ReadingEnd → List ℕ → Totals → (before after : Taken) → List ℕ → Type 0
 PrintsOn words (Ok true) file totals before after held = IsPrinted words file totals before after held
 PrintsOn words result file totals before after held = Prints (IsShown words) result file before after held

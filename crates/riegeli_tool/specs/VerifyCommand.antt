@@ -1,5 +1,6 @@
 -- What `verify` prints, says and ends with. Own.
-use Rattle.std.specs.Prelude.{◌≡◌, ℕ, ◌⊎◌, true, List, []}
+use Rattle.std.specs.Prelude.{◌≡◌, ℕ, ◌⊎◌, true, List}
+use Rattle.record_io.specs.Puts.{Out, puts_to}
 use Rattle.chunk_header.specs.Chunks.{ChunkValue}
 use Rattle.meta_chunk.specs.Counts.{totals_of}
 use Rattle.meta_chunk.specs.Files.{IsFrame}
@@ -13,5 +14,5 @@ use Rattle.riegeli_tool.specs.FileAnswers.{refused_text, report}
 abbrev pub IsVerified : List ℕ → Answer → Type 0
 IsVerified file answer =
     ((ks : List ChunkValue) × IsFrame ks file
-    × (answer ≡ record { made = []; out = report (totals_of ks); notes = []; status = status.Ok }))
+    × (answer ≡ record { puts = puts_to Out (report (totals_of ks)); status = status.Ok }))
     ⊎ ((fault : Fault) × IsFault true file fault × (answer ≡ noted status.Refused (refused_text fault)))

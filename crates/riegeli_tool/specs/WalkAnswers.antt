@@ -52,10 +52,14 @@ refused_in most events = find (λ region. not (may_skip most region)) (regions_i
 abbrev pub skipped_text : List Region → List ℕ
 skipped_text regions = flat_map (region_text (codes "skipped")) regions
 
--- what is said of a walk: the lines of the regions that it skipped, and that of the one at which it stopped, if it did
+-- the line of the region at which a walk stopped, if it did
+abbrev pub stopped_text : Option Region → List ℕ
+stopped_text None = []
+stopped_text (Some region) = region_text (codes "stopped") region
+
+-- what is said of a walk: the lines of the regions that it skipped, and that of the one at which it stopped
 abbrev pub walk_text : List Region → Option Region → List ℕ
-walk_text skipped None = skipped_text skipped
-walk_text skipped (Some region) = skipped_text skipped ++ region_text (codes "stopped") region
+walk_text skipped stopped = skipped_text skipped ++ stopped_text stopped
 
 -- the status by these
 abbrev pub walk_status : List Region → Option Region → Status

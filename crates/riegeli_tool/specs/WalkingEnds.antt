@@ -1,10 +1,10 @@
 -- How the work of a command that walks a record file ends, and what it has made, printed and said then. Own.
-use Rattle.std.specs.Prelude.{◌≡◌, ◌≢◌, ℕ, Bool, false, Option, None, Result, Ok, Err, IsSomeAnd, List, [], ◌∷◌, ◌++◌}
+use Rattle.std.specs.Prelude.{◌≡◌, ◌≢◌, ℕ, Bool, false, Option, None, Result, Ok, Err, IsSomeAnd, List, [], ◌∷◌}
 use Rattle.std.specs.Fn.{Shared, FnReturnsAt}
 use denote.Ref.{Bor}
 use lib.Chars.{codes}
 use Rattle.record_io.specs.Outside.{Takes, TakesFront}
-use Rattle.record_io.specs.Buffers.{TakesAndHolds}
+use Rattle.record_io.specs.Puts.{Made, Out, Taken}
 use Rattle.damage_skip.specs.Regions.{IsRegion, region_text}
 use Rattle.damage_skip.specs.declared.events.WalkEnd.{WalkEnd}
 use Rattle.damage_skip.specs.declared.events.WalkEnd.TheVariants as walk
@@ -20,8 +20,8 @@ use Rattle.riegeli_tool.specs.declared.walking.WalkingEnd.TheVariants as end
 use Rattle.riegeli_tool.specs.Answers.{Answer}
 use Rattle.riegeli_tool.specs.FileAnswers.{OfFile, IsInReach, IsTooLong, limit_text}
 use Rattle.riegeli_tool.specs.Statuses.{fault_text}
-use Rattle.riegeli_tool.specs.Runs.{Shown, SaysAtEnd, TakesThen}
-use Rattle.riegeli_tool.specs.ReadingEnds.{HasPrinted, HasPrintedFront}
+use Rattle.riegeli_tool.specs.Runs.{Shown, SaysAtEnd, TakesThen, FailedToSay}
+use Rattle.riegeli_tool.specs.ReadingEnds.{HasPut, HasPutFront, HasBrokenOff}
 use Rattle.riegeli_tool.specs.WalkAnswers.{may_skip, MaySkip, skipped_text, walk_status}
 
 -- the ends by which no size was told
@@ -49,6 +49,12 @@ WalksBySize (Err end.Limit) told = IsSomeAnd told (λ size. IsTooLong (size ∷ 
 WalksBySize (Err end.File) told = Unit {0}
 WalksBySize other told = IsSomeAnd told (λ size. IsInReach (size ∷ []))
 
+-- the ends by a fault of the file or want of memory
+abbrev pub IsShortWalk : WalkingEnd → Type 0
+IsShortWalk end.File = Unit {0}
+IsShortWalk end.Memory = Unit {0}
+IsShortWalk other = ⊥
+
 -- why a walk ended whose lines standard output then failed to take: one that was done or stopped ended by that
 abbrev pub end_unprinted : {X : Type 0} → Result X WalkingEnd → WalkingEnd
 end_unprinted (Ok _) = end.Out
@@ -60,53 +66,16 @@ end_unprinted (Err other) = other
 abbrev pub IsBound : {F : Type 0} → Shared F (Bor Region × Unit {0}) Bool → F → Option ℕ → Type 0
 IsBound g f most = (region : Region) (allowed : Bool) → IsRegion region → FnReturnsAt g f region allowed → allowed ≡ may_skip most region
 
--- all that an answer to a file prints was taken, or is held, and of what it says the lines of the regions that are skipped,
--- behind which it says a last text; it ends with a status
-pub record HasWalked (P : List ℕ → Answer → Type 0) (file : List ℕ) (out out_then : Option (List ℕ)) (held : List ℕ) (notes notes_then : Option (List ℕ)) (last : List ℕ) (ended : Status) : Type 0 where
-  pub answer : Answer
-  pub is : OfFile P (file ∷ []) answer
-  pub prints : TakesAndHolds out out_then answer.out held
-  pub skipped : List Region
-  pub text : answer.notes ≡ skipped_text skipped ++ last
-  pub says : Takes notes notes_then (skipped_text skipped)
-  pub status : ended ≡ answer.status
-
--- a front of what an answer prints was taken, or is held, and the lines of the first regions that it tells
-pub record HasWalkedFront (out out_then : Option (List ℕ)) (held : List ℕ) (notes notes_then : Option (List ℕ)) (answer : Answer) : Type 0 where
-  pub prints : HasPrintedFront out out_then held answer
-  pub skipped : List Region
-  pub rest : List ℕ
-  pub text : answer.notes ≡ skipped_text skipped ++ rest
-  pub says : Takes notes notes_then (skipped_text skipped)
-
--- a front of what an answer prints was taken, or is held, and of what it says one was taken
-pub record HasSaidFront (out out_then : Option (List ℕ)) (held : List ℕ) (notes notes_then : Option (List ℕ)) (answer : Answer) : Type 0 where
-  pub prints : HasPrintedFront out out_then held answer
-  pub some : answer.notes ≢ []
-  pub says : TakesFront notes notes_then answer.notes
-
--- what was printed and said of a file when the work ended: where it was not cut off all of an answer but its last text, and
--- else fronts
-abbrev pub Walks : (List ℕ → Answer → Type 0) → Result Status WalkingEnd → List ℕ → (out out_then : Option (List ℕ)) → List ℕ → (notes notes_then : Option (List ℕ)) → Type 0
-Walks P (Ok ended) file out out_then held notes notes_then = HasWalked P file out out_then held notes notes_then [] ended
-Walks P (Err end.Limit) file out out_then held notes notes_then =
-    HasPrinted P file out out_then held limit_text status.Limit × Takes notes notes_then []
-Walks P (Err (end.Stopped region)) file out out_then held notes notes_then =
-    HasWalked P file out out_then held notes notes_then (region_text (codes "stopped") region) status.Stopped
-Walks P (Err end.Notes) file out out_then held notes notes_then =
-    (answer : Answer) → OfFile P (file ∷ []) answer → HasSaidFront out out_then held notes notes_then answer
-Walks P (Err other) file out out_then held notes notes_then =
-    (answer : Answer) → OfFile P (file ∷ []) answer → HasWalkedFront out out_then held notes notes_then answer
-
--- what the made file took of an answer when the work ended: where it was not cut off all, and else a front
-abbrev pub TakesMade : {X : Type 0} → Result X WalkingEnd → (made made_then : Option (List ℕ)) → List ℕ → Type 0
-TakesMade (Ok ended) made made_then bytes = Takes made made_then bytes
-TakesMade (Err end.Limit) made made_then bytes = Takes made made_then bytes
-TakesMade (Err (end.Stopped region)) made made_then bytes = Takes made made_then bytes
-TakesMade (Err other) made made_then bytes = TakesFront made made_then bytes
-
-abbrev pub Makes : (List ℕ → Answer → Type 0) → Result Status WalkingEnd → List ℕ → (made made_then : Option (List ℕ)) → Type 0
-Makes P result file made made_then = (answer : Answer) → OfFile P (file ∷ []) answer → TakesMade result made made_then answer.made
+-- what was put of a file when a walk ended: where it was not cut off all of an answer but its last text, and else a front
+abbrev pub Walks : (List ℕ → Answer → Type 0) → Result Status WalkingEnd → List ℕ → (before after : Taken) → List ℕ → Type 0
+Walks P (Ok ended) file before after held = HasPut P file before after held [] ended
+Walks P (Err end.Limit) file before after held = HasPut P file before after held limit_text status.Limit
+Walks P (Err (end.Stopped region)) file before after held =
+    HasPut P file before after held (region_text (codes "stopped") region) status.Stopped
+Walks P (Err end.Made) file before after held = (answer : Answer) → OfFile P (file ∷ []) answer → HasBrokenOff Made before after answer
+Walks P (Err end.Out) file before after held = (answer : Answer) → OfFile P (file ∷ []) answer → HasBrokenOff Out before after answer
+Walks P (Err end.Notes) file before after held = (answer : Answer) → OfFile P (file ∷ []) answer → FailedToSay before after answer
+Walks P (Err other) file before after held = (answer : Answer) → OfFile P (file ∷ []) answer → HasPutFront before after held answer
 
 -- what was said of a walk, also where the file doesn't tell its bytes: the lines of regions that may be skipped
 pub record HasToldOf (most : Option ℕ) (notes notes_then : Option (List ℕ)) (skipped : List Region) : Type 0 where

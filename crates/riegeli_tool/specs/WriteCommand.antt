@@ -1,6 +1,7 @@
 -- What `write` makes, says and ends with. Own.
 use Rattle.std.specs.Prelude.{◌≡◌, ℕ, ◌^◌, false, Option, Some, None, List, [], ◌++◌, length, decimal}
 use lib.Chars.{codes}
+use Rattle.record_io.specs.Puts.{Put, Made, Notes, puts_to}
 use Rattle.record_writer.specs.declared.feed.Stop.{Stop}
 use Rattle.record_writer.specs.declared.feed.Stop.TheVariants.{TooLong, InputTooLong, BadLine}
 use Rattle.record_writer.specs.declared.options.WriteOptions.{WriteOptions}
@@ -33,15 +34,17 @@ options_of words = record { size = words.chunk_size; workers = 1; every = words.
 -- the answer to records and the stop behind them: the file of the records, and the stop's line
 abbrev pub answer_to : WriteWords → Rest → Answer
 answer_to words rest = record {
-  made = file_under (options_of words) rest.records;
-  out = [];
-  notes = stop_text (length rest.records) rest.stop;
+  puts = puts_to Made (file_under (options_of words) rest.records) ++ puts_to Notes (stop_text (length rest.records) rest.stop);
   status = stop_status rest.stop;
 }
 
 -- the answer to an input, of which 2 ^ 40 bytes are read
 abbrev pub write_answer : WriteWords → List ℕ → Answer
 write_answer words input = answer_to words (taken_from input false (2 ^ 40))
+
+-- what was put so far: a front of what the answer puts
+abbrev pub IsWrittenSoFar : WriteWords → List ℕ → List Put → Type 0
+IsWrittenSoFar words input part = (rest : List Put) × ((write_answer words input).puts ≡ part ++ rest)
 
 -- how `write` may end, whatever its input: without a stop, or with one behind some records
 abbrev pub MayEndWrite : Status → List ℕ → Type 0

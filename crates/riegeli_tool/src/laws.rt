@@ -7,17 +7,22 @@ ghost use Rattle.chunk_header.specs.Chunks.{ChunkValue};
 ghost use Rattle.chunk_reader.specs.Faults.{HasNoFault};
 ghost use Rattle.meta_chunk.specs.Files.{IsFile, AreRecordsOf, ArePlaced};
 ghost use Rattle.record_io.specs.Bytes.{AreBytes};
+ghost use Rattle.record_io.specs.Puts.{Made, Out, Notes, puts_to, bytes_to};
+ghost use Rattle.record_writer.specs.Feeds.{Rest};
 ghost use Rattle.record_writer.specs.Written.{AreInLimits, file_under};
+ghost use Rattle.damage_skip.specs.Pieces.{placed_in};
+ghost use Rattle.repair_copy.specs.Relaid.{chunks_in, relaid};
 ghost use Rattle.riegeli_tool.specs.Answers.{Answer, line};
 ghost use Rattle.riegeli_tool.specs.Commands.{accepted};
 ghost use Rattle.riegeli_tool.specs.CommandAnswers.{IsAnswer, uses_of};
-ghost use Rattle.riegeli_tool.specs.FileAnswers.{most_file_bytes};
+ghost use Rattle.riegeli_tool.specs.FileAnswers.{most_file_bytes, record_line};
 ghost use Rattle.riegeli_tool.specs.Input.{taken_from, with_last_end};
 ghost use Rattle.riegeli_tool.specs.RecoverCommand.{IsRecovered};
-ghost use Rattle.riegeli_tool.specs.RepairCommand.{IsRepaired};
+ghost use Rattle.riegeli_tool.specs.RepairCommand.{end_puts, IsRepaired};
 ghost use Rattle.riegeli_tool.specs.ShowCommand.{IsShown};
 ghost use Rattle.riegeli_tool.specs.VerifyCommand.{IsVerified};
-ghost use Rattle.riegeli_tool.specs.WriteCommand.{options_of, write_answer};
+ghost use Rattle.riegeli_tool.specs.WalkAnswers.{regions_in, walked, refused_in, walk_text};
+ghost use Rattle.riegeli_tool.specs.WriteCommand.{options_of, stop_text, answer_to, write_answer};
 ghost use Rattle.riegeli_tool.specs.declared.recover_words.RecoverWords.{RecoverWords};
 ghost use Rattle.riegeli_tool.specs.declared.repair_words.RepairWords.{RepairWords};
 ghost use Rattle.riegeli_tool.specs.declared.show_words.ShowWords.{ShowWords};
@@ -55,13 +60,34 @@ pub fn file_answers_exist()
         → AllByRecursion AreBytes files → (answer : Answer) × IsAnswer (accepted words (length files)) input files answer }
 {}
 
+/// What each stream takes of an answer: the made file, standard output and notes. Of `verify` and of words that are no
+/// command the definition says it: their answers go to one stream. Own.
+pub fn streams_take_their_parts()
+    ensures write { (words : WriteWords) (rest : Rest)
+        → (bytes_to Made (answer_to words rest).puts ≡ file_under (options_of words) rest.records)
+        × (bytes_to Out (answer_to words rest).puts ≡ [])
+        × (bytes_to Notes (answer_to words rest).puts ≡ stop_text (length rest.records) rest.stop) }
+    ensures show { (words : ShowWords) (file : List ℕ) (answer : Answer) (is : IsShown words file answer)
+        → (bytes_to Made answer.puts ≡ [])
+        × (bytes_to Out answer.puts ≡ flat_map (record_line words.positions) is.placed)
+        × (bytes_to Notes answer.puts ≡ is.said) }
+    ensures recover { (words : RecoverWords) (file : List ℕ) (answer : Answer) (is : IsRecovered words file answer)
+        → (bytes_to Made answer.puts ≡ [])
+        × (bytes_to Out answer.puts ≡ flat_map (record_line words.show.positions) (placed_in (walked words.most is.events)))
+        × (bytes_to Notes answer.puts ≡ walk_text (regions_in (walked words.most is.events)) (refused_in words.most is.events)) }
+    ensures repair { (words : RepairWords) (file : List ℕ) (answer : Answer) (is : IsRepaired words file answer)
+        → (bytes_to Made answer.puts ≡ relaid (walked words.most is.events))
+        × (bytes_to Out answer.puts ≡ bytes_to Out (end_puts (refused_in words.most is.events) (chunks_in (walked words.most is.events))))
+        × (bytes_to Notes answer.puts ≡ walk_text (regions_in (walked words.most is.events)) (refused_in words.most is.events)) }
+{}
+
 /// Of a file without fault nothing is skipped: where it goes on past damage, `show` prints what it prints else, and says
 /// nothing. Own.
 pub fn recovering_shows_files_without_fault()
     ensures same { (words : RecoverWords) (file : List ℕ) (a b : Answer)
         → HasNoFault false file → IsShown words.show file a → IsRecovered words file b → b ≡ a }
     ensures ok { (words : RecoverWords) (file : List ℕ) (answer : Answer)
-        → HasNoFault false file → IsRecovered words file answer → (answer.notes ≡ []) × (answer.status ≡ status.Ok) }
+        → HasNoFault false file → IsRecovered words file answer → (bytes_to Notes answer.puts ≡ []) × (answer.status ≡ status.Ok) }
 {}
 
 /// Records of at most 2^24 bytes each, written under a size of at most 2^24, read back: their file has no fault, and
@@ -82,19 +108,14 @@ pub fn read_back(records: &Records, options: &WriteOptions)
 /// as a line, and says nothing. Where nothing stopped `write`, it prints the input, with a byte 10 behind the last line
 /// too. Own.
 pub fn show_prints_what_was_written()
-    ensures fits { (write : WriteWords) (input : List ℕ) → length (write_answer write input).made ≤ most_file_bytes }
+    ensures fits { (write : WriteWords) (input : List ℕ) → length (bytes_to Made (write_answer write input).puts) ≤ most_file_bytes }
     ensures records { (write : WriteWords) (words : ShowWords) (input : List ℕ) (answer : Answer)
         → AreInLimits (options_of write) → AreBytes input → words.positions ≡ false
-        → IsShown words (write_answer write input).made answer
-        → answer ≡ record {
-          made = [];
-          out = flat_map line (taken_from input false (2 ^ 40)).records;
-          notes = [];
-          status = status.Ok;
-        } }
+        → IsShown words (bytes_to Made (write_answer write input).puts) answer
+        → answer ≡ record { puts = puts_to Out (flat_map line (taken_from input false (2 ^ 40)).records); status = status.Ok } }
     ensures input { (write : WriteWords) (words : ShowWords) (input : List ℕ) (answer : Answer)
         → AreInLimits (options_of write) → AreBytes input → words.positions ≡ false
         → (write_answer write input).status ≡ status.Ok
-        → IsShown words (write_answer write input).made answer
-        → answer ≡ record { made = []; out = with_last_end input; notes = []; status = status.Ok } }
+        → IsShown words (bytes_to Made (write_answer write input).puts) answer
+        → answer ≡ record { puts = puts_to Out (with_last_end input); status = status.Ok } }
 {}

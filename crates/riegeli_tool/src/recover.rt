@@ -1,13 +1,15 @@
-ghost use Rattle.std.specs.Prelude.{◌≡◌, ◌≢◌, ◌^◌, ◌≤◌, [], ◌∷◌, Some, Ok, Err, None, false, length, IfOk, IfSome};
+ghost use Rattle.std.specs.Prelude.{◌≡◌, ◌≢◌, ℕ, ◌^◌, ◌≤◌, ◌⊎◌, Option, Some, None, Ok, Err, List, [], ◌∷◌, false, length, IfOk, IfSome, OnErr, IsErrAnd};
 ghost use Rattle.record_io.specs.Outside.{Rose};
+ghost use Rattle.record_io.specs.Puts.{taken_by};
 ghost use Rattle.damage_skip.specs.Policies.{IsTest};
 ghost use Rattle.damage_skip.specs.Walkers.{progress_of, test_of};
 ghost use Rattle.riegeli_tool.specs.FileAnswers.{LeavesTooLong};
-ghost use Rattle.riegeli_tool.specs.RecoverCommand.{IsRecovered};
+ghost use Rattle.riegeli_tool.specs.RecoverCommand.{IsRecovered, IsRecoveredSoFar};
 ghost use Rattle.riegeli_tool.specs.RecoverProgress.{GivesEvent, HasRoom, event_lines, event_text, status_after};
 ghost use Rattle.riegeli_tool.specs.Runs.{Runs, Shown, seen, shown, shown_file};
 ghost use Rattle.riegeli_tool.specs.WalkAnswers.{may_skip};
-ghost use Rattle.riegeli_tool.specs.WalkingEnds.{IsBound, TellsOf, Walks, WalksBySize};
+ghost use Rattle.riegeli_tool.specs.ReadingEnds.{HasPutSoFar};
+ghost use Rattle.riegeli_tool.specs.WalkingEnds.{IsBound, IsShortWalk, TellsOf, Walks, WalksBySize};
 
 use crate::command::Command;
 use crate::recover_words::RecoverWords;
@@ -50,7 +52,11 @@ fn recover_file<S: Store, O: Sink, E: Sink>(
     out: &mut O,
     notes: &mut E,
 ) -> Result<Status, WalkingEnd>
-    ensures printed { IfSome (S.bytes file.old) (λ bytes. Walks (IsRecovered words.now) result bytes (O.taken out.old) (O.taken out.new) [] (E.taken notes.old) (E.taken notes.new)) }
+    ensures printed { (made : Option (List ℕ)) → IfSome (S.bytes file.old) (λ bytes. Walks (IsRecovered words.now) result bytes
+        (taken_by made (O.taken out.old) (E.taken notes.old)) (taken_by made (O.taken out.new) (E.taken notes.new)) []) }
+    ensures so_far { IsErrAnd result IsShortWalk → ¬ Rose (O.faults out.old) (O.faults out.new) → (made : Option (List ℕ))
+        → IfSome (S.bytes file.old) (λ bytes. HasPutSoFar (IsRecoveredSoFar words.now bytes)
+        (taken_by made (O.taken out.old) (E.taken notes.old)) (taken_by made (O.taken out.new) (E.taken notes.new)) []) }
     ensures said { TellsOf words.now.most result (E.taken notes.old) (E.taken notes.new) }
     ensures sized { WalksBySize result (S.told file.new) }
     ensures notes_kept { result ≡ Ok Status.Ok → notes.new ≡ notes.old }
@@ -96,7 +102,12 @@ fn print_events<F: Fn(&Region) -> bool + Drop, S: Store, O: Sink, E: Sink>(
     requires test { IsTest F.Fn (test_of walker.old) }
     requires bound { IsBound F.Fn (test_of walker.old) words.now.most }
     requires none_held { lines.old ≡ [] }
-    ensures printed { IfSome (S.bytes file.old) (λ bytes. Walks (IsRecovered words.now) result bytes (O.taken out.old) (O.taken out.new) lines.new (E.taken notes.old) (E.taken notes.new)) }
+    ensures printed { (made : Option (List ℕ)) → IfSome (S.bytes file.old) (λ bytes. Walks (IsRecovered words.now) result bytes
+        (taken_by made (O.taken out.old) (E.taken notes.old)) (taken_by made (O.taken out.new) (E.taken notes.new)) lines.new) }
+    ensures so_far { IsErrAnd result IsShortWalk → (made : Option (List ℕ))
+        → IfSome (S.bytes file.old) (λ bytes. HasPutSoFar (IsRecoveredSoFar words.now bytes)
+        (taken_by made (O.taken out.old) (E.taken notes.old)) (taken_by made (O.taken out.new) (E.taken notes.new)) lines.new) }
+    ensures emptied { (result ≡ Err WalkingEnd.Out) ⊎ (result ≡ Err WalkingEnd.Notes) → lines.new ≡ [] }
     ensures said { TellsOf words.now.most result (E.taken notes.old) (E.taken notes.new) }
     ensures in_reach { result ≢ Err WalkingEnd.Limit }
     ensures notes_kept { result ≡ Ok Status.Ok → notes.new ≡ notes.old }
@@ -129,8 +140,9 @@ fn print_event<O: Sink, E: Sink>(
 ) -> Result<Status, WalkingEnd>
     requires { HasRoom event }
     ensures status { IfOk result (λ ended. ended ≡ status_after status event) }
-    ensures given { GivesEvent result (event_lines words.now event) (event_text event)
-        (O.taken out.old) (O.taken out.new) lines.old lines.new (E.taken notes.old) (E.taken notes.new) }
+    ensures given { (made : Option (List ℕ)) → GivesEvent result (event_lines words.now event) (event_text event)
+        (taken_by made (O.taken out.old) (E.taken notes.old)) (taken_by made (O.taken out.new) (E.taken notes.new)) lines.old lines.new }
+    ensures emptied { OnErr result (lines.new ≡ []) }
     ensures quiet { event_text event ≡ [] → notes.new ≡ notes.old }
     ensures out_cause { result ≡ Err WalkingEnd.Out → Rose (O.faults out.old) (O.faults out.new) }
     ensures notes_cause { result ≡ Err WalkingEnd.Notes → Rose (E.faults notes.old) (E.faults notes.new) }
@@ -159,8 +171,8 @@ fn tell_region<O: Sink, E: Sink>(
     out: &mut O,
     notes: &mut E,
 ) -> Result<(), WalkingEnd>
-    ensures given { GivesEvent result [] (event_text (Event.Skipped region.now))
-        (O.taken out.old) (O.taken out.new) lines.old lines.new (E.taken notes.old) (E.taken notes.new) }
+    ensures given { (made : Option (List ℕ)) → GivesEvent result [] (event_text (Event.Skipped region.now))
+        (taken_by made (O.taken out.old) (E.taken notes.old)) (taken_by made (O.taken out.new) (E.taken notes.new)) lines.old lines.new }
     ensures emptied { lines.new ≡ [] }
     ensures out_cause { result ≡ Err WalkingEnd.Out → Rose (O.faults out.old) (O.faults out.new) }
     ensures notes_cause { result ≡ Err WalkingEnd.Notes → Rose (E.faults notes.old) (E.faults notes.new) }

@@ -1,9 +1,11 @@
-ghost use Rattle.std.specs.Prelude.{◌≡◌, ◌≤◌, Some, Ok, Err, [], ◌∷◌, IfSome};
+ghost use Rattle.std.specs.Prelude.{◌≡◌, ◌≤◌, Some, Ok, Err, [], ◌∷◌, IfSome, IsErrAnd};
 ghost use Rattle.record_io.specs.Outside.{Rose};
+ghost use Rattle.record_io.specs.Puts.{taken_by};
 ghost use Rattle.riegeli_tool.specs.FileAnswers.{LeavesTooLong};
-ghost use Rattle.riegeli_tool.specs.RepairCommand.{IsRepaired};
+ghost use Rattle.riegeli_tool.specs.RepairCommand.{IsRepaired, IsRepairedSoFar};
 ghost use Rattle.riegeli_tool.specs.Runs.{Runs, Shown, seen, shown, shown_file};
-ghost use Rattle.riegeli_tool.specs.WalkingEnds.{Makes, TellsOf, Walks, WalksBySize};
+ghost use Rattle.riegeli_tool.specs.ReadingEnds.{HasPutSoFar};
+ghost use Rattle.riegeli_tool.specs.WalkingEnds.{IsShortWalk, TellsOf, Walks, WalksBySize};
 
 use crate::command::Command;
 use crate::repair_words::RepairWords;
@@ -50,8 +52,11 @@ fn repair_file<S: Store, M: Sink, O: Sink, E: Sink>(
     out: &mut O,
     notes: &mut E,
 ) -> Result<Status, WalkingEnd>
-    ensures walks { IfSome (S.bytes file.old) (λ bytes. Walks (IsRepaired words.now) result bytes (O.taken out.old) (O.taken out.new) [] (E.taken notes.old) (E.taken notes.new)) }
-    ensures makes { IfSome (S.bytes file.old) (λ bytes. Makes (IsRepaired words.now) result bytes (M.taken made.old) (M.taken made.new)) }
+    ensures walks { IfSome (S.bytes file.old) (λ bytes. Walks (IsRepaired words.now) result bytes
+        (taken_by (M.taken made.old) (O.taken out.old) (E.taken notes.old)) (taken_by (M.taken made.new) (O.taken out.new) (E.taken notes.new)) []) }
+    ensures so_far { IsErrAnd result IsShortWalk → ¬ Rose (M.faults made.old) (M.faults made.new)
+        → IfSome (S.bytes file.old) (λ bytes. HasPutSoFar (IsRepairedSoFar words.now bytes)
+        (taken_by (M.taken made.old) (O.taken out.old) (E.taken notes.old)) (taken_by (M.taken made.new) (O.taken out.new) (E.taken notes.new)) []) }
     ensures said { TellsOf words.now.most result (E.taken notes.old) (E.taken notes.new) }
     ensures sized { WalksBySize result (S.told file.new) }
     ensures notes_kept { result ≡ Ok Status.Ok → notes.new ≡ notes.old }

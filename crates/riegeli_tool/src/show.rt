@@ -1,11 +1,12 @@
-ghost use Rattle.std.specs.Prelude.{◌≡◌, ◌+◌, ◌^◌, ◌<◌, ◌≤◌, ◌++◌, ℕ, Some, Option, Ok, Err, true, false, List, [], ◌∷◌, length, decimal, IfSome, OnOk, OnErr};
+ghost use Rattle.std.specs.Prelude.{◌≡◌, ◌≢◌, ◌+◌, ◌^◌, ◌<◌, ◌≤◌, ◌++◌, ℕ, Some, Option, Ok, Err, true, false, List, [], ◌∷◌, length, IfSome, OnOk, OnErr, IsErrAnd};
 ghost use Rattle.std.specs.List.{enumerate_from};
 ghost use Rattle.record_io.specs.Outside.{Rose, TakesFront};
 ghost use Rattle.record_io.specs.Buffers.{TakesAndHolds};
+ghost use Rattle.record_io.specs.Puts.{Taken, taken_by};
 ghost use Rattle.chunk_reader.specs.Progress.{AreReadFrom};
-ghost use Rattle.riegeli_tool.specs.FileAnswers.{LeavesTooLong, most_file_bytes, record_line};
-ghost use Rattle.riegeli_tool.specs.ShowCommand.{IsShown};
-ghost use Rattle.riegeli_tool.specs.ReadingEnds.{EndsBySize, Prints};
+ghost use Rattle.riegeli_tool.specs.FileAnswers.{LeavesTooLong, record_line};
+ghost use Rattle.riegeli_tool.specs.ShowCommand.{IsShown, IsShownSoFar};
+ghost use Rattle.riegeli_tool.specs.ReadingEnds.{EndsBySize, HasPutSoFar, IsShortReading, Prints};
 ghost use Rattle.riegeli_tool.specs.ShowProgress.{record_lines, records_in, IsPrinted, PrintsOn};
 ghost use Rattle.riegeli_tool.specs.Runs.{Runs, Shown, seen, shown, shown_file};
 
@@ -53,7 +54,11 @@ fn print_file<S: Store, O: Sink>(
     file: &mut S,
     out: &mut O,
 ) -> Result<(), ReadingEnd>
-    ensures printed { IfSome (S.bytes file.old) (λ bytes. Prints (IsShown words.now) result bytes (O.taken out.old) (O.taken out.new) []) }
+    ensures printed { (made notes : Option (List ℕ)) → IfSome (S.bytes file.old) (λ bytes. Prints (IsShown words.now) result bytes
+        (taken_by made (O.taken out.old) notes) (taken_by made (O.taken out.new) notes) []) }
+    ensures so_far { IsErrAnd result IsShortReading → ¬ Rose (O.faults out.old) (O.faults out.new) → (made notes : Option (List ℕ))
+        → IfSome (S.bytes file.old) (λ bytes. HasPutSoFar (IsShownSoFar words.now bytes)
+        (taken_by made (O.taken out.old) notes) (taken_by made (O.taken out.new) notes) []) }
     ensures sized { EndsBySize result (S.told file.new) }
     ensures unread { LeavesTooLong (S.told file.new) (S.handed file.old) (S.handed file.new) }
     ensures same_bytes { S.bytes file.new ≡ S.bytes file.old }
@@ -85,7 +90,12 @@ fn print_chunks<S: Store, O: Sink>(
     requires in_reach { size ≤ 2 ^ 60 }
     requires exact { IfSome (S.bytes file.old) (λ bytes. size ≡ length bytes) }
     requires none_held { lines.old ≡ [] }
-    ensures printed { IfSome (S.bytes file.old) (λ bytes. Prints (IsShown words.now) result bytes (O.taken out.old) (O.taken out.new) lines.new) }
+    ensures printed { (made notes : Option (List ℕ)) → IfSome (S.bytes file.old) (λ bytes. Prints (IsShown words.now) result bytes
+        (taken_by made (O.taken out.old) notes) (taken_by made (O.taken out.new) notes) lines.new) }
+    ensures so_far { IsErrAnd result IsShortReading → (made notes : Option (List ℕ))
+        → IfSome (S.bytes file.old) (λ bytes. HasPutSoFar (IsShownSoFar words.now bytes)
+        (taken_by made (O.taken out.old) notes) (taken_by made (O.taken out.new) notes) lines.new) }
+    ensures emptied { result ≡ Err ReadingEnd.Out → lines.new ≡ [] }
     ensures sized { EndsBySize result (S.told file.new) }
     ensures same_bytes { S.bytes file.new ≡ S.bytes file.old }
     ensures same_name { S.name file.new ≡ S.name file.old }
@@ -119,9 +129,12 @@ fn print_next<S: Store, O: Sink>(
     ensures moved { result ≡ Ok true → reader.old.totals.bytes < reader.new.totals.bytes }
     ensures within { reader.new.totals.bytes ≤ reader.new.size }
     ensures read { IfSome (S.bytes file.old) (λ bytes. AreReadFrom false bytes reader.new.totals) }
-    ensures printed { IfSome (S.bytes file.old) (λ bytes. (before : Option (List ℕ))
-        → IsPrinted words.now bytes reader.old.totals before (O.taken out.old) lines.old
-        → PrintsOn words.now result bytes reader.new.totals before (O.taken out.new) lines.new) }
+    ensures printed { (before : Taken) (made notes : Option (List ℕ)) → IfSome (S.bytes file.old) (λ bytes.
+        IsPrinted words.now bytes reader.old.totals before (taken_by made (O.taken out.old) notes) lines.old
+        → PrintsOn words.now result bytes reader.new.totals before (taken_by made (O.taken out.new) notes) lines.new) }
+    ensures same_lines { IsErrAnd result IsShortReading → lines.new ≡ lines.old }
+    ensures same_out { IsErrAnd result IsShortReading → out.new ≡ out.old }
+    ensures emptied { result ≡ Err ReadingEnd.Out → lines.new ≡ [] }
     ensures sized { EndsBySize result (S.told file.new) }
     ensures same_bytes { S.bytes file.new ≡ S.bytes file.old }
     ensures same_told { S.told file.new ≡ S.told file.old }
@@ -152,6 +165,7 @@ fn put_chunk<O: Sink>(
         (lines.old ++ record_lines words.now (enumerate_from judged.now.begin (records_in judged.now.what))) lines.new) }
     ensures front { OnErr result (TakesFront (O.taken out.old) (O.taken out.new)
         (lines.old ++ record_lines words.now (enumerate_from judged.now.begin (records_in judged.now.what)))) }
+    ensures some { OnErr result (lines.old ++ record_lines words.now (enumerate_from judged.now.begin (records_in judged.now.what)) ≢ []) }
     ensures emptied { OnErr result (lines.new ≡ []) }
     ensures cause { OnErr result (Rose (O.faults out.old) (O.faults out.new)) }
     ensures never_falls { O.faults out.old ≤ O.faults out.new }
@@ -176,6 +190,7 @@ pub(crate) fn put_records<O: Sink>(
         (lines.old ++ record_lines words.now (enumerate_from begin records.now)) lines.new) }
     ensures front { OnErr result (TakesFront (O.taken out.old) (O.taken out.new)
         (lines.old ++ record_lines words.now (enumerate_from begin records.now))) }
+    ensures some { OnErr result (lines.old ++ record_lines words.now (enumerate_from begin records.now) ≢ []) }
     ensures emptied { OnErr result (lines.new ≡ []) }
     ensures cause { OnErr result (Rose (O.faults out.old) (O.faults out.new)) }
     ensures never_falls { O.faults out.old ≤ O.faults out.new }
@@ -205,6 +220,7 @@ fn put_record<O: Sink>(
         (lines.old ++ record_line words.now.positions (position, bytes.now)) lines.new) }
     ensures front { OnErr result (TakesFront (O.taken out.old) (O.taken out.new)
         (lines.old ++ record_line words.now.positions (position, bytes.now))) }
+    ensures some { OnErr result (lines.old ++ record_line words.now.positions (position, bytes.now) ≢ []) }
     ensures emptied { OnErr result (lines.new ≡ []) }
     ensures cause { OnErr result (Rose (O.faults out.old) (O.faults out.new)) }
     ensures never_falls { O.faults out.old ≤ O.faults out.new }

@@ -1,9 +1,10 @@
-ghost use Rattle.std.specs.Prelude.{◌≡◌, ◌≢◌, ◌≤◌, Some, Err, [], ◌∷◌, IfSome, OnOk, OnErr};
+ghost use Rattle.std.specs.Prelude.{◌≡◌, ◌≢◌, ◌≤◌, ℕ, Some, Option, Err, List, [], ◌∷◌, IfSome, OnOk, OnErr, IsErrAnd};
 ghost use Rattle.record_io.specs.Outside.{Rose, Takes, TakesFront};
+ghost use Rattle.record_io.specs.Puts.{taken_by};
 ghost use Rattle.riegeli_tool.specs.declared.verify_words.VerifyWords.{VerifyWords};
 ghost use Rattle.riegeli_tool.specs.FileAnswers.{LeavesTooLong, report};
 ghost use Rattle.riegeli_tool.specs.VerifyCommand.{IsVerified};
-ghost use Rattle.riegeli_tool.specs.ReadingEnds.{EndsBySize, Prints};
+ghost use Rattle.riegeli_tool.specs.ReadingEnds.{EndsBySize, IsShortReading, Prints};
 ghost use Rattle.riegeli_tool.specs.Runs.{Runs, Shown, seen, shown, shown_file};
 
 use crate::command::Command;
@@ -35,7 +36,9 @@ pub(crate) fn verify<S: Store, O: Sink, E: Sink>(file: &mut S, out: &mut O, note
 
 /// Judges a file and prints the report of its totals.
 fn report_file<S: Store, O: Sink>(file: &mut S, out: &mut O) -> Result<(), ReadingEnd>
-    ensures printed { IfSome (S.bytes file.old) (λ bytes. Prints IsVerified result bytes (O.taken out.old) (O.taken out.new) []) }
+    ensures printed { (made notes : Option (List ℕ)) → IfSome (S.bytes file.old) (λ bytes. Prints IsVerified result bytes
+        (taken_by made (O.taken out.old) notes) (taken_by made (O.taken out.new) notes) []) }
+    ensures same_out { IsErrAnd result IsShortReading → out.new ≡ out.old }
     ensures sized { EndsBySize result (S.told file.new) }
     ensures unread { LeavesTooLong (S.told file.new) (S.handed file.old) (S.handed file.new) }
     ensures same_bytes { S.bytes file.new ≡ S.bytes file.old }

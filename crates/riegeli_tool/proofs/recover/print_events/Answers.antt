@@ -1,17 +1,41 @@
-use Rattle.std.proofs.Common.{◌∙◌, Ok, Err, Some, None, ap, sym, refl, arith}
+use Rattle.std.proofs.Common.{◌∙◌, Ok, Err, Some, None, [], ap, sym, subst, refl, inl, inr, arith}
+use Rattle.record_io.proofs.Calls.{Takes-nothing}
+use Rattle.damage_skip.specs.Policies.{IsTest}
 use Rattle.damage_skip.specs.Walkers.{progress_of, test_of}
 use Rattle.damage_skip.specs.Walks.{stop_of}
 use Rattle.riegeli_tool.specs.declared.status.Status.{Status}
 use Rattle.riegeli_tool.proofs.RecoverSteps.{after-ok}
-use Rattle.riegeli_tool.proofs.RecoverLoop.{bound-same, event-allowed, goes-same, met-same, step-done, step-ended, step-failed, step-given, step-said, step-told, step-untold, stop-refused, stop-same}
+use Rattle.riegeli_tool.proofs.RecoverLoop.{bound-same, event-allowed, given-none, goes-same, met-none, met-same, step-by, step-done, step-ended, step-failed, step-given, step-not_short, step-said, step-so_far, step-told, step-untold, stop-refused, stop-same}
 use Rattle.riegeli_tool.proofs.ShowSteps.{short_told}
 use Rattle.riegeli_tool.proofs.recover.print_events.Goals as goal
 
+pub loop-event-init : goal.loop-event-init
+loop-event-init g c = record {
+  same_size = refl;
+  not_kept = c.requires.not_kept;
+  going = c.requires.going;
+  same_test = refl;
+  within = omega (arith, c.requires.at_front);
+  same_bytes = refl;
+  told = c.requires.told;
+  same_name = refl;
+  met = met-none _ _ c.requires.at_front;
+  given = λ made. given-none c.args.words.now _ _ _ _ c.requires.at_front c.requires.none_held;
+  told_of = ([], record { may = tt; says = Takes-nothing _ }, refl);
+  kept = λ _. refl;
+  file_count = omega arith;
+  out_count = omega arith;
+  notes_count = omega arith;
+}
+
+pub next-requires-clause-test : goal.next-requires-clause-test
+next-requires-clause-test g c = subst (λ test. IsTest g.F.Fn test) (sym c.loop-event.invariant.same_test) c.requires.test
+
 pub returns-in_err-event-clause-printed : goal.returns-in_err-event-clause-printed
-returns-in_err-event-clause-printed g c =
+returns-in_err-event-clause-printed g c = λ made.
     step-ended c.args.words.now _ (progress_of c.loop-event.walker).place (progress_of c.next.new.self).place (progress_of c.args.walker.now).size (progress_of c.next.new.self).size
-    _ _ _ _ _ c.loop-event.status c.in_err-event.field-0.0 c.from_residual.result c.from_residual.ensures.0 c.from_residual.ensures.1
-    c.requires.in_reach c.requires.exact (c.in_err-event.ensures.same_size ∙ c.loop-event.invariant.same_size) c.loop-event.invariant.given
+    _ _ _ c.loop-event.status c.in_err-event.field-0.0 c.from_residual.result c.from_residual.ensures.0 c.from_residual.ensures.1
+    c.requires.in_reach c.requires.exact (c.in_err-event.ensures.same_size ∙ c.loop-event.invariant.same_size) (c.loop-event.invariant.given made)
     (goes-same _ _ _ _ _ (Err c.in_err-event.field-0.0) (Err c.in_err-event.field-0.0) c.loop-event.invariant.same_bytes c.loop-event.invariant.not_kept refl
     c.in_err-event.ensures.goes_on)
     (λ region is. (
@@ -25,6 +49,15 @@ returns-in_err-event-clause-printed g c =
           (c.in_err-event.ensures.stopped ∙ ap (λ e. stop_of (Err e)) is) c.in_err-event.ensures.stopped_there,
     ))
 
+pub returns-in_err-event-clause-so_far : goal.returns-in_err-event-clause-so_far
+returns-in_err-event-clause-so_far g c = λ short made.
+    step-so_far c.args.words.now _ (progress_of c.loop-event.walker).place _ _ _ c.loop-event.status (c.loop-event.invariant.given made)
+
+pub returns-in_err-status-clause-so_far : goal.returns-in_err-status-clause-so_far
+returns-in_err-status-clause-so_far g c = λ short.
+    absurd (step-not_short _ (step-by Status c.in_err-status.field-0.0 c.from_residual-in_err-status.result c.from_residual-in_err-status.ensures.0 c.from_residual-in_err-status.ensures.1
+    _ _ _ _ _ _ (c.in_err-status.ensures.given None)) short)
+
 pub returns-in_err-event-clause-said : goal.returns-in_err-event-clause-said
 returns-in_err-event-clause-said g c =
     step-said c.args.words.now _ _ c.loop-event.status c.in_err-event.field-0.0 c.from_residual.result c.from_residual.ensures.0 c.from_residual.ensures.1
@@ -37,21 +70,21 @@ returns-in_err-event-clause-said g c =
     (c.in_err-event.ensures.refused region (ap Err is) c.loop-event.invariant.going))
 
 pub returns-in_err-status-clause-printed : goal.returns-in_err-status-clause-printed
-returns-in_err-status-clause-printed g c =
-    step-failed Status c.args.words.now _ (progress_of c.loop-event.walker).place (progress_of c.next.new.self).place _ _ _ _ _ _ _ _ c.loop-event.status
+returns-in_err-status-clause-printed g c = λ made.
+    step-failed Status c.args.words.now _ (progress_of c.loop-event.walker).place (progress_of c.next.new.self).place _ _ _ _ _ c.loop-event.status
     c.in-Some.event c.in_err-status.field-0.0 c.from_residual-in_err-status.result c.from_residual-in_err-status.ensures.0 c.from_residual-in_err-status.ensures.1
-    (short_told _ _ c.requires.in_reach c.requires.exact) c.loop-event.invariant.given
+    (short_told _ _ c.requires.in_reach c.requires.exact) (c.loop-event.invariant.given made)
     (goes-same _ _ _ _ _ _ (Ok (Some c.in-Some.event)) c.loop-event.invariant.same_bytes c.loop-event.invariant.not_kept (ap Ok c.in-Some.is) c.in_ok-event.ensures.goes_on)
     (event-allowed g.F.Fn (test_of c.loop-event.walker) c.args.words.now.most _ _ (progress_of c.next.new.self).size c.in-Some.event
     (bound-same g.F.Fn _ _ c.args.words.now.most c.loop-event.invariant.same_test c.requires.bound)
     (c.in_ok-event.ensures.bounds c.in-Some.event (ap Ok c.in-Some.is)) c.in_ok-event.ensures.within
     (omega (arith, c.in_ok-event.ensures.same_size, c.loop-event.invariant.same_size, c.requires.in_reach))
     (λ region is. c.in_ok-event.ensures.allowed region (ap Ok (c.in-Some.is ∙ ap Some is))))
-    c.in_err-status.ensures.given
+    (c.in_err-status.ensures.given made)
 
 pub returns-in_err-status-clause-said : goal.returns-in_err-status-clause-said
 returns-in_err-status-clause-said g c =
-    step-untold Status c.args.words.now _ _ _ _ _ _ _ c.loop-event.status
+    step-untold Status c.args.words.now _ _ _ _ _ c.loop-event.status
     c.in-Some.event c.in_err-status.field-0.0 c.from_residual-in_err-status.result c.from_residual-in_err-status.ensures.0 c.from_residual-in_err-status.ensures.1
     c.loop-event.invariant.told_of
     (event-allowed g.F.Fn (test_of c.loop-event.walker) c.args.words.now.most _ _ (progress_of c.next.new.self).size c.in-Some.event
@@ -59,7 +92,22 @@ returns-in_err-status-clause-said g c =
     (c.in_ok-event.ensures.bounds c.in-Some.event (ap Ok c.in-Some.is)) c.in_ok-event.ensures.within
     (omega (arith, c.in_ok-event.ensures.same_size, c.loop-event.invariant.same_size, c.requires.in_reach))
     (λ region is. c.in_ok-event.ensures.allowed region (ap Ok (c.in-Some.is ∙ ap Some is))))
-    c.in_err-status.ensures.given
+    (c.in_err-status.ensures.given None)
+
+pub returns-in_err-status-clause-in_reach : goal.returns-in_err-status-clause-in_reach
+returns-in_err-status-clause-in_reach g c = λ is.
+    elim (step-by Status c.in_err-status.field-0.0 c.from_residual-in_err-status.result c.from_residual-in_err-status.ensures.0 c.from_residual-in_err-status.ensures.1
+    _ _ _ _ _ _ (c.in_err-status.ensures.given None)) [ inl out ↦ absurd (cc (sym out ∙ is)) | inr notes ↦ absurd (cc (sym notes ∙ is)) ]
+
+pub returns-in_err-status-clause-file_cause : goal.returns-in_err-status-clause-file_cause
+returns-in_err-status-clause-file_cause g c = λ is.
+    elim (step-by Status c.in_err-status.field-0.0 c.from_residual-in_err-status.result c.from_residual-in_err-status.ensures.0 c.from_residual-in_err-status.ensures.1
+    _ _ _ _ _ _ (c.in_err-status.ensures.given None)) [ inl out ↦ absurd (cc (sym out ∙ is)) | inr notes ↦ absurd (cc (sym notes ∙ is)) ]
+
+pub returns-in_err-status-clause-unmade : goal.returns-in_err-status-clause-unmade
+returns-in_err-status-clause-unmade g c = λ is.
+    elim (step-by Status c.in_err-status.field-0.0 c.from_residual-in_err-status.result c.from_residual-in_err-status.ensures.0 c.from_residual-in_err-status.ensures.1
+    _ _ _ _ _ _ (c.in_err-status.ensures.given None)) [ inl out ↦ absurd (cc (sym out ∙ is)) | inr notes ↦ absurd (cc (sym notes ∙ is)) ]
 
 pub loop-event-smaller : goal.loop-event-smaller
 loop-event-smaller g c =
@@ -83,11 +131,13 @@ loop-event-preserved g c =
       told = c.in_ok-event.ensures.same_told ∙ c.loop-event.invariant.told;
       same_name = c.in_ok-event.ensures.same_name ∙ c.loop-event.invariant.same_name;
       met = met-same _ _ _ _ c.loop-event.invariant.same_bytes (c.in_ok-event.ensures.same_keep ∙ c.loop-event.invariant.not_kept) c.in_ok-event.ensures.met;
-      given = step-given c.args.words.now _ (progress_of c.loop-event.walker).place (progress_of c.next.new.self).place _ _ _ _ _ _ _ _ c.loop-event.status
-          c.in-Some.event _ c.in_ok-status.ensures.status c.loop-event.invariant.given
+      given = λ made.
+          step-given c.args.words.now _ (progress_of c.loop-event.walker).place (progress_of c.next.new.self).place _ _ _ _ _ c.loop-event.status
+          c.in-Some.event _ c.in_ok-status.ensures.status (c.loop-event.invariant.given made)
           (goes-same _ _ _ _ _ _ (Ok (Some c.in-Some.event)) c.loop-event.invariant.same_bytes c.loop-event.invariant.not_kept (ap Ok c.in-Some.is) c.in_ok-event.ensures.goes_on)
-          passed c.in_ok-status.ensures.given;
-      told_of = step-told c.args.words.now _ _ _ _ _ _ _ c.loop-event.status c.in-Some.event _ c.in_ok-status.ensures.status c.loop-event.invariant.told_of passed c.in_ok-status.ensures.given;
+          passed (c.in_ok-status.ensures.given made);
+      told_of = step-told c.args.words.now _ _ _ _ _ c.loop-event.status c.in-Some.event _ c.in_ok-status.ensures.status c.loop-event.invariant.told_of passed
+          (c.in_ok-status.ensures.given None);
       kept = λ is.
           let before = after-ok c.loop-event.status c.in-Some.event (sym c.in_ok-status.ensures.status ∙ is) in
           c.in_ok-status.ensures.quiet before.1 ∙ c.loop-event.invariant.kept before.0;
@@ -97,7 +147,7 @@ loop-event-preserved g c =
     }
 
 pub returns-clause-printed : goal.returns-clause-printed
-returns-clause-printed g c =
-    step-done c.args.words.now _ (progress_of c.loop-event.walker).place (progress_of c.next.new.self).place (progress_of c.args.walker.now).size _ _ _ _ _ c.loop-event.status
-    c.requires.in_reach c.requires.exact (c.in_ok-event.ensures.ended (ap Ok c.in_default.is) ∙ c.loop-event.invariant.same_size) c.loop-event.invariant.given
+returns-clause-printed g c = λ made.
+    step-done c.args.words.now _ (progress_of c.loop-event.walker).place (progress_of c.next.new.self).place (progress_of c.args.walker.now).size _ _ _ c.loop-event.status
+    c.requires.in_reach c.requires.exact (c.in_ok-event.ensures.ended (ap Ok c.in_default.is) ∙ c.loop-event.invariant.same_size) (c.loop-event.invariant.given made)
     (goes-same _ _ _ _ _ _ (Ok None) c.loop-event.invariant.same_bytes c.loop-event.invariant.not_kept (ap Ok c.in_default.is) c.in_ok-event.ensures.goes_on)

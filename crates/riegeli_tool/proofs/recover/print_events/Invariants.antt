@@ -1,4 +1,5 @@
-use Rattle.std.proofs.Common.{◌≡◌, ◌-◌, ◌≤◌, false, None, Some, IfSome, List}
+use Rattle.std.proofs.Common.{◌≡◌, ℕ, ◌-◌, ◌≤◌, false, Option, None, Some, IfSome, List}
+use Rattle.record_io.specs.Puts.{taken_by}
 use Rattle.damage_skip.specs.Walkers.{progress_of, test_of}
 use Rattle.damage_skip.specs.Walks.{IsMet}
 use Rattle.damage_skip.specs.declared.regions.Region.{Region}
@@ -19,8 +20,8 @@ invariant-loop-event g l = record {
   told : g.S.Store.told l.file ≡ Some (progress_of l.fn.walker).size;
   same_name : g.S.Store.name l.file ≡ g.S.Store.name l.fn.file;
   met : IfSome (g.S.Store.bytes l.fn.file) (λ file. IsMet false file (progress_of l.walker).place);
-  given : IfSome (g.S.Store.bytes l.fn.file) (λ file. IsGivenTo l.words file (progress_of l.walker).place (g.O.Sink.taken l.fn.out) (g.O.Sink.taken l.out) l.lines
-      (g.E.Sink.taken l.fn.notes) (g.E.Sink.taken l.notes) l.status);
+  given : (made : Option (List ℕ)) → IfSome (g.S.Store.bytes l.fn.file) (λ file. IsGivenTo l.words file (progress_of l.walker).place
+      (taken_by made (g.O.Sink.taken l.fn.out) (g.E.Sink.taken l.fn.notes)) (taken_by made (g.O.Sink.taken l.out) (g.E.Sink.taken l.notes)) l.lines l.status);
   told_of : (skipped : List Region) × HasToldOf l.words.most (g.E.Sink.taken l.fn.notes) (g.E.Sink.taken l.notes) skipped × (l.status ≡ walk_status skipped None);
   kept : l.status ≡ status.Ok → l.notes ≡ l.fn.notes;
   file_count : g.S.Store.faults l.fn.file ≤ g.S.Store.faults l.file;

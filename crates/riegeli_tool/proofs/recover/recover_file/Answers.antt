@@ -1,20 +1,26 @@
-use Rattle.riegeli_tool.specs.RecoverCommand.{IsRecovered}
+use Rattle.record_io.specs.Puts.{taken_by}
+use Rattle.riegeli_tool.specs.RecoverCommand.{IsRecovered, IsRecoveredSoFar}
+use Rattle.riegeli_tool.proofs.ReadingRuns.{so_far-nothing, so_far-flushed}
+use Rattle.riegeli_tool.proofs.RecoverLoop.{recovered-none}
 use Rattle.riegeli_tool.proofs.RecoverRuns.{recovers-flushed, recovers-unflushed}
+use Rattle.riegeli_tool.proofs.RunEnds.{rose-behind}
 use Rattle.riegeli_tool.proofs.WalkRuns.{walks-unsized, sized-unsized, tells-unsized}
 use Rattle.riegeli_tool.proofs.recover.recover_file.Goals as goal
 
 pub returns-in_err-size-clause-printed : goal.returns-in_err-size-clause-printed
-returns-in_err-size-clause-printed g c =
-    walks-unsized (IsRecovered c.args.words.now) _ _ _ _ _ _ _ c.from_residual.result c.from_residual.ensures.0 c.from_residual.ensures.1 c.in_err-size.ensures.unread
+returns-in_err-size-clause-printed g c = λ made.
+    walks-unsized (IsRecovered c.args.words.now) _ _ _ _ _ _ c.from_residual.result c.from_residual.ensures.0 c.from_residual.ensures.1 c.in_err-size.ensures.unread
 
 pub returns-in-Ok-clause-printed : goal.returns-in-Ok-clause-printed
-returns-in-Ok-clause-printed g c =
-    recovers-flushed c.args.words.now c.print_events-walked.result _ _ _ _ _ _ _ _ c.in_ok-size.ensures.same_bytes c.print_events-walked.ensures.printed c.in-Ok.ensures.whole
+returns-in-Ok-clause-printed g c = λ made.
+    recovers-flushed c.args.words.now c.print_events-walked.result _ _ _ made _ _ _ _ c.in_ok-size.ensures.same_bytes
+    c.print_events-walked.ensures.unmade c.print_events-walked.ensures.emptied (c.print_events-walked.ensures.printed made) c.in-Ok.ensures.whole
 
 pub returns-in-Err-clause-printed : goal.returns-in-Err-clause-printed
-returns-in-Err-clause-printed g c =
-    recovers-unflushed c.args.words.now c.print_events-walked.result _ c.unprinted.ensures _ _ _ _ _ _ _ _ c.in_ok-size.ensures.same_bytes
-    c.print_events-walked.ensures.printed c.in-Err.ensures.front
+returns-in-Err-clause-printed g c = λ made.
+    recovers-unflushed c.args.words.now c.print_events-walked.result _ c.unprinted.ensures _ _ _ made _ _ _ _ c.in_ok-size.ensures.same_bytes
+    c.print_events-walked.ensures.unmade c.print_events-walked.ensures.emptied (c.print_events-walked.ensures.printed made)
+    c.in-Err.ensures.front c.in-Err.ensures.some
 
 pub returns-in_err-size-clause-sized : goal.returns-in_err-size-clause-sized
 returns-in_err-size-clause-sized g c =
@@ -23,3 +29,16 @@ returns-in_err-size-clause-sized g c =
 pub returns-in_err-size-clause-said : goal.returns-in_err-size-clause-said
 returns-in_err-size-clause-said g c =
     tells-unsized c.args.words.now.most _ _ _ _ _ _ c.from_residual.result c.from_residual.ensures.0 c.from_residual.ensures.1 c.in_err-size.ensures.unread
+
+pub returns-in_err-size-clause-so_far : goal.returns-in_err-size-clause-so_far
+returns-in_err-size-clause-so_far g c = λ short sound made.
+    so_far-nothing (IsRecoveredSoFar c.args.words.now) _ _ (recovered-none c.args.words.now)
+
+pub returns-in-Ok-clause-so_far : goal.returns-in-Ok-clause-so_far
+returns-in-Ok-clause-so_far g c = λ short sound made.
+    so_far-flushed (IsRecoveredSoFar c.args.words.now) _ _ (taken_by made (g.O.Sink.taken c.args.out.now) (g.E.Sink.taken c.args.notes.now)) made _ _ _ _
+    c.in_ok-size.ensures.same_bytes (c.print_events-walked.ensures.so_far short made) c.in-Ok.ensures.whole
+
+pub returns-in-Err-clause-so_far : goal.returns-in-Err-clause-so_far
+returns-in-Err-clause-so_far g c = λ short sound.
+    absurd (sound (rose-behind _ _ _ c.print_events-walked.ensures.out_count c.in-Err.ensures.cause))

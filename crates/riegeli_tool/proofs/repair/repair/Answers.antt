@@ -13,5 +13,5 @@ returns-clause-runs g c = λ input.
     (file-counts input _ _ _ _ _ _ _ _ did.file_count did.made_count did.out_count (omega (arith, did.notes_count, c.end_walk.ensures.never_falls)))
     c.repair_file-ended.result _ did.sized
     (still-sized _ _ _ did.same_bytes (g.met.S.Store.sized c.repair_file-ended.new.file))
-    did.walks did.makes did.said c.end_walk.ensures.told did.notes_count
+    did.walks (λ short sound ins. did.so_far short (sound.made refl)) did.said c.end_walk.ensures.told did.notes_count
     did.file_cause (λ is. (refl, did.made_cause is)) did.out_cause did.notes_cause

@@ -1,4 +1,5 @@
-use Rattle.std.proofs.Common.{◌≡◌, ◌-◌, ◌≤◌, false, Some, IfSome}
+use Rattle.std.proofs.Common.{◌≡◌, ◌-◌, ◌≤◌, ℕ, false, Option, Some, IfSome, List}
+use Rattle.record_io.specs.Puts.{taken_by}
 use Rattle.chunk_reader.specs.Progress.{AreReadFrom}
 use Rattle.riegeli_tool.specs.ShowProgress.{IsPrinted}
 use Rattle.riegeli_tool.proofs.show.print_chunks.Given as goal
@@ -12,7 +13,8 @@ invariant-loop g l = record {
   told : g.S.Store.told l.file ≡ Some l.fn.size;
   same_name : g.S.Store.name l.file ≡ g.S.Store.name l.fn.file;
   read : IfSome (g.S.Store.bytes l.fn.file) (λ bytes. AreReadFrom false bytes l.reader.totals);
-  printed : IfSome (g.S.Store.bytes l.fn.file) (λ bytes. IsPrinted l.words bytes l.reader.totals (g.O.Sink.taken l.fn.out) (g.O.Sink.taken l.out) l.lines);
+  printed : (made notes : Option (List ℕ)) → IfSome (g.S.Store.bytes l.fn.file) (λ bytes. IsPrinted l.words bytes l.reader.totals
+      (taken_by made (g.O.Sink.taken l.fn.out) notes) (taken_by made (g.O.Sink.taken l.out) notes) l.lines);
   file_count : g.S.Store.faults l.fn.file ≤ g.S.Store.faults l.file;
   out_count : g.O.Sink.faults l.fn.out ≤ g.O.Sink.faults l.out;
 }

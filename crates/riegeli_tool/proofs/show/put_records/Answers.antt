@@ -5,7 +5,7 @@ use Rattle.std.proofs.lemmas.Option.{get_or_from_slice_get}
 use Rattle.record_io.specs.Buffers.{TakesAndHolds}
 use Rattle.riegeli_tool.specs.FileAnswers.{record_line}
 use Rattle.riegeli_tool.specs.ShowProgress.{record_lines}
-use Rattle.riegeli_tool.proofs.LinePuts.{lines-next, lines-failed}
+use Rattle.riegeli_tool.proofs.LinePuts.{lines-next, lines-failed, lines-some}
 use Rattle.record_io.proofs.Calls.{OnErr-any}
 use Rattle.riegeli_tool.proofs.show.put_records.Goals as goal
 
@@ -24,6 +24,16 @@ returns-in_err-put_record-clause-front g c =
     (omega (arith, c.loop-number-test.true, c.len-number-end.ensures))
     (get_or_from_slice_get c.args.records.now c.loop-number.number c.get.result.now _ c.get.ensures))
     c.loop-number.invariant.whole c.in_err-put_record.ensures.front)
+
+pub returns-in_err-put_record-clause-some : goal.returns-in_err-put_record-clause-some
+returns-in_err-put_record-clause-some g c =
+    OnErr-any _ (lines-some (record_line c.args.words.now.positions) _ _ c.args.lines.now _
+    (enumerate_from c.args.begin c.args.records.now) c.loop-number.number (c.args.begin + c.loop-number.number, c.get.result.now)
+    (omega (arith, length-enumerate_from c.args.begin c.args.records.now, c.loop-number-test.true, c.len-number-end.ensures))
+    (numbered c.args.begin c.args.records.now c.loop-number.number c.get.result.now
+    (omega (arith, c.loop-number-test.true, c.len-number-end.ensures))
+    (get_or_from_slice_get c.args.records.now c.loop-number.number c.get.result.now _ c.get.ensures))
+    c.loop-number.invariant.whole c.in_err-put_record.ensures.some)
 
 pub loop-number-preserved : goal.loop-number-preserved
 loop-number-preserved g c = record {

@@ -1,39 +1,40 @@
 use Rattle.std.proofs.Common.{[], ◌∷◌, Some, Ok, Err, ap, refl}
+use Rattle.record_io.specs.Puts.{taken_by}
 use Rattle.riegeli_tool.specs.declared.command.Command.TheVariants.{Verify}
 use Rattle.riegeli_tool.specs.declared.reading.ReadingEnd.TheVariants.{Out}
 use Rattle.riegeli_tool.specs.VerifyCommand.{IsVerified}
 use Rattle.riegeli_tool.proofs.CommandLaws.{one_answer}
 use Rattle.riegeli_tool.proofs.ShowSteps.{short_told}
 use Rattle.riegeli_tool.proofs.ReadingRuns.{ends-unsized, prints-unsized, prints-flushed, prints-unflushed}
-use Rattle.riegeli_tool.proofs.VerifyEnds.{verify-ended, verified-held}
+use Rattle.riegeli_tool.proofs.VerifyEnds.{verify-ended, verified-held, report-some}
 use Rattle.riegeli_tool.proofs.verify.report_file.Goals as goal
 
 pub returns-in_err-size-clause-printed : goal.returns-in_err-size-clause-printed
-returns-in_err-size-clause-printed g c =
+returns-in_err-size-clause-printed g c = λ made notes.
     prints-unsized IsVerified _ _ _ _ _ _ c.from_residual.result c.from_residual.ensures.0 c.from_residual.ensures.1 c.in_err-size.ensures.unread
 
 pub returns-in_err-totals-clause-printed : goal.returns-in_err-totals-clause-printed
-returns-in_err-totals-clause-printed g c =
+returns-in_err-totals-clause-printed g c = λ made notes.
     verify-ended _ _ _ c.in_err-totals.field-0.0 c.from_residual-in_err-totals.result c.in_ok-size.ensures.same_bytes
     c.from_residual-in_err-totals.ensures.0 c.from_residual-in_err-totals.ensures.1
     (short_told _ c.in_ok-size.size c.in_ok-size.ensures.in_reach c.in_ok-size.ensures.exact)
     (λ fault is. c.in_err-totals.ensures.refused fault (ap Err is))
 
 pub returns-in-Ok-clause-printed : goal.returns-in-Ok-clause-printed
-returns-in-Ok-clause-printed g c =
-    prints-flushed IsVerified (Ok (tt {0})) _ _ _ _ _ _ refl
+returns-in-Ok-clause-printed g c = λ made notes.
+    prints-flushed IsVerified (Ok (tt {0})) _ _ (taken_by made (g.O.Sink.taken c.args.out.now) notes) made _ _ notes _ refl (λ e. cc e)
     (verified-held _ _ _ c.in_ok-totals.totals (tt {0}) c.in_ok-size.ensures.same_bytes
     (short_told _ c.in_ok-size.size c.in_ok-size.ensures.in_reach c.in_ok-size.ensures.exact) c.in_ok-totals.ensures.whole)
     c.in-Ok.ensures.whole
 
 pub returns-in-Err-clause-printed : goal.returns-in-Err-clause-printed
-returns-in-Err-clause-printed g c =
+returns-in-Err-clause-printed g c = λ made notes.
     prints-unflushed (Unit {0}) IsVerified
     (λ f x y a b. one_answer (Some (Verify (record { file = 0 }))) [] (f ∷ []) x y a b)
-    (Ok (tt {0})) Out refl _ _ _ _ _ _ refl
+    (Ok (tt {0})) Out refl _ _ (taken_by made (g.O.Sink.taken c.args.out.now) notes) made _ _ notes _ refl (λ e. cc e)
     (verified-held _ _ _ c.in_ok-totals.totals (tt {0}) c.in_ok-size.ensures.same_bytes
     (short_told _ c.in_ok-size.size c.in_ok-size.ensures.in_reach c.in_ok-size.ensures.exact) c.in_ok-totals.ensures.whole)
-    c.in-Err.ensures.front
+    c.in-Err.ensures.front (report-some c.in_ok-totals.totals)
 
 pub returns-in_err-size-clause-sized : goal.returns-in_err-size-clause-sized
 returns-in_err-size-clause-sized g c =

@@ -1,0 +1,5 @@
+use Rattle.riegeli_tool.proofs.AnswerStreams.{written-streams, shown-streams, recovered-streams, repaired-streams}
+use Rattle.riegeli_tool.proofs.laws.streams_take_their_parts.Goals as goal
+
+pub returns : goal.returns
+returns c = record { write = written-streams; show = shown-streams; recover = recovered-streams; repair = repaired-streams }
