@@ -87,7 +87,7 @@ first_piece : (keep : Bool) → ArePieces keep first_header (record { begin = 0;
 unfolding first_header end_of
 first_piece keep = (refl, lit≤ tt, (inl (lit≤ tt, refl), first_leads), refl)
 
--- it contradicts a chunk of another end, and agrees with its own
+-- it contradicts a chunk that has another end
 other_end : Contradicts first_header 0 112 0 0 64
 unfolding first_header
 other_end = record { stands = first_stands; from = lit≤ tt; below = lit≤ tt; differs = inr (λ same. omega arith) }

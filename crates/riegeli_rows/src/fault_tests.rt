@@ -232,6 +232,96 @@ fn each_call_of_repairing_fails_in_turn(rt: HostRuntime) -> Result<(), Fail> {
     Ok(())
 }
 
+/// The report comes last: where it can't be printed all else is done, and where something else fails nothing is printed.
+/// The header at 108 is changed.
+#[test]
+fn a_repair_prints_its_report_last(rt: HostRuntime) -> Result<(), Fail> {
+    let alloc = rt.alloc();
+    let mut file = written(&rt, alloc, &["write", "--chunk=1", "F"], LETTERS)?;
+    let made = part(&file, 0, 108).to_vec(alloc)?;
+    change(&rt, &mut file, &[116]);
+    let words = ["repair", "F", "G"];
+    let calls = failing(Object::Out, &[0]);
+    let left = run_in_memory(&rt, alloc, &words, b"", &[&file], &calls)?;
+    left.is(
+        &rt,
+        &Answer {
+            status: Status::Out,
+            made: &made,
+            out: b"",
+            notes: "skipped 108 196 HeaderHash\nout fault\n",
+        },
+    );
+    for object in [Object::File, Object::Made, Object::Notes] {
+        for call in 0..1_000 {
+            let fails = [call];
+            let calls = failing(object, &fails);
+            let left = run_in_memory(&rt, alloc, &words, b"", &[&file], &calls)?;
+            if left.status == Status::Skipped {
+                break;
+            }
+            assert!(rt; left.out.taken().is_empty(), "call {call}");
+        }
+    }
+    Ok(())
+}
+
+/// Chunks of one record stand at 64, 108 and 152. The store is asked for its size, for the header of the first chunk and for
+/// that of the block, and then for the header and the data of each chunk behind it. What was read before it fails is made whole,
+/// and nothing is put before a chunk of records was read.
+#[test]
+fn what_was_read_before_a_fault_is_made(rt: HostRuntime) -> Result<(), Fail> {
+    let alloc = rt.alloc();
+    let file = written(&rt, alloc, &["write", "--chunk=1", "F"], LETTERS)?;
+    for (call, size) in [
+        (0, 0),
+        (1, 0),
+        (2, 0),
+        (3, 0),
+        (4, 0),
+        (5, 108),
+        (6, 108),
+        (7, 152),
+        (8, 152),
+    ] {
+        let fails = [call];
+        let calls = Calls {
+            file_fails: &fails,
+            ..SOUND
+        };
+        let left = run_in_memory(&rt, alloc, &["repair", "F", "G"], b"", &[&file], &calls)?;
+        left.is(
+            &rt,
+            &Answer {
+                status: Status::File,
+                made: part(&file, 0, size),
+                notes: "file fault\n",
+                ..QUIET
+            },
+        );
+    }
+    Ok(())
+}
+
+/// Each put fails from the third on, and the first two took 1 and 2 bytes.
+#[test]
+fn a_made_file_that_stays_full_has_a_front(rt: HostRuntime) -> Result<(), Fail> {
+    let mut fails = Vec::new(rt.alloc());
+    fails.extend(2..200_u32)?;
+    let calls = failing(Object::Made, &fails);
+    let left = run_in_memory(&rt, rt.alloc(), &["write", "F"], THREE_LINES, &[], &calls)?;
+    left.is(
+        &rt,
+        &Answer {
+            status: Status::Made,
+            made: part(&THREE, 0, 3),
+            notes: "made fault\n",
+            ..QUIET
+        },
+    );
+    Ok(())
+}
+
 /// What is held goes out before a region is told, so where its first put fails nothing is told of the region. The header at
 /// 108 is changed.
 #[test]
@@ -317,6 +407,44 @@ fn what_was_met_is_handed_on_before_more_is_read(rt: HostRuntime) -> Result<(), 
             ..QUIET
         },
     );
+    Ok(())
+}
+
+/// Chunks of one record stand at 64, 108 and 152. The store is asked for its size, for the signature where it is judged, for the
+/// header of the first chunk and for that of the block, and then for the header and the data of each chunk behind it. The lines
+/// of what was read before it fails go out.
+#[test]
+fn what_was_read_before_a_fault_is_printed(rt: HostRuntime) -> Result<(), Fail> {
+    let alloc = rt.alloc();
+    let file = written(&rt, alloc, &["write", "--chunk=1", "F"], LETTERS)?;
+    let strict = ["show", "F"].as_slice();
+    let recovering = ["show", "--recover", "F"].as_slice();
+    for (words, failing, printed) in [
+        (strict, [0, 1, 2, 3, 4, 5].as_slice(), 0),
+        (strict, &[6, 7], 2),
+        (strict, &[8, 9], 4),
+        (recovering, &[0, 1, 2, 3, 4], 0),
+        (recovering, &[5, 6], 2),
+        (recovering, &[7, 8], 4),
+    ] {
+        for call in failing {
+            let fails = [*call];
+            let calls = Calls {
+                file_fails: &fails,
+                ..SOUND
+            };
+            let left = run_in_memory(&rt, alloc, words, b"", &[&file], &calls)?;
+            left.is(
+                &rt,
+                &Answer {
+                    status: Status::File,
+                    out: part(LETTERS, 0, printed),
+                    notes: "file fault\n",
+                    ..QUIET
+                },
+            );
+        }
+    }
     Ok(())
 }
 

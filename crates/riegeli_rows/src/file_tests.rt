@@ -1,9 +1,8 @@
 //! Tests of runs over real files, and over a file of which nothing is told.
-ghost use Rattle.std.specs.Prelude.{None};
-
 use crate::files::{THREE, THREE_LINES, part};
 use crate::running::{Answer, QUIET, ROOM, SOUND, USAGE, owned, recovered, repaired, run_over};
-use record_io::{Failed, FileSink, FileStore, MemInput, MemSink, MemStore, Store};
+use crate::stores::Untold;
+use record_io::{FileSink, FileStore, MemInput, MemSink, MemStore};
 use riegeli_tool::{Status, run};
 use std::fs;
 use std::test::Fail;
@@ -120,54 +119,19 @@ fn a_real_file_is_read_and_an_absent_one_fails(rt: HostRuntime) -> Result<(), Fa
     };
     fs::write(&rt, path, THREE)?;
     for (words, path, answer) in [
-        (["show", path], path, shown),
-        (["verify", path], path, counted),
-        (["show", absent], absent, fault),
-        (["verify", absent], absent, fault),
+        (["show", path].as_slice(), path, shown),
+        (&["show", "--recover", path], path, shown),
+        (&["verify", path], path, counted),
+        (&["show", absent], absent, fault),
+        (&["show", "--recover", absent], absent, fault),
+        (&["verify", absent], absent, fault),
     ] {
         let mut files = [FileStore::named(&rt, path)];
-        let left = run_over(&rt, rt.alloc(), &words, b"", &mut files, &SOUND)?;
+        let left = run_over(&rt, rt.alloc(), words, b"", &mut files, &SOUND)?;
         left.is(&rt, &answer);
     }
     fs::remove_file(&rt, path)?;
     Ok(())
-}
-
-/// A file of so many zero bytes, of which nothing is told.
-#[derive(Drop)]
-struct Zeros {
-    size: u64,
-    asked: bool,
-    handed: u64,
-}
-
-impl Store for Zeros {
-    ghost use Rattle.record_io.specs.Memory.{told_if};
-
-    ghost bytes = { λ _. None };
-
-    ghost told = { λ s. told_if s.asked s.size };
-
-    ghost handed = { λ s. s.handed };
-
-    ghost faults = { λ _. 0 };
-
-    ghost sized = { λ _. tt };
-
-    fn size(&mut self) -> Result<u64, Failed> {
-        self.asked = true;
-        Ok(self.size)
-    }
-
-    fn read_at(&mut self, at: u64, buf: &mut [u8]) -> Result<usize, Failed> {
-        if !self.asked {
-            unreachable!();
-        }
-        let count = buf.len().min((self.size - at) as usize);
-        buf[..count].fill(0);
-        self.handed = self.handed.saturating_add(count as u64);
-        Ok(count)
-    }
 }
 
 #[test]
@@ -183,11 +147,7 @@ fn a_file_of_more_than_2_to_the_60_bytes_is_past_the_limit(rt: HostRuntime) -> R
         (u64::MAX, limit),
     ] {
         for words in [["show", "F"].as_slice(), &["verify", "F"]] {
-            let mut files = [Zeros {
-                size,
-                asked: false,
-                handed: 0,
-            }];
+            let mut files = [Untold::new(b"", size)];
             let left = run_over(&rt, rt.alloc(), words, b"", &mut files, &SOUND)?;
             left.is(
                 &rt,
@@ -220,11 +180,7 @@ fn a_file_of_which_nothing_is_told_is_walked(rt: HostRuntime) -> Result<(), Fail
             (["show", "--recover", "F"].as_slice(), recovered(b"", notes)),
             (&["repair", "F", "G"], repaired(made, report, notes)),
         ] {
-            let mut files = [Zeros {
-                size,
-                asked: false,
-                handed: 0,
-            }];
+            let mut files = [Untold::new(b"", size)];
             let left = run_over(&rt, rt.alloc(), words, b"", &mut files, &SOUND)?;
             if size > 1 << 60 {
                 let answer = Answer {

@@ -27,6 +27,8 @@ mod running;
 #[cfg(test)]
 mod sources;
 #[cfg(test)]
+mod stores;
+#[cfg(test)]
 mod usage_tests;
 #[cfg(test)]
 mod walk_tests;

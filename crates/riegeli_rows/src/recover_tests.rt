@@ -2,8 +2,9 @@
 //! counted by hand from the format's description.
 
 use crate::files::{Laid, THREE, change, file_of, part};
-use crate::running::{answers, recovered, repaired};
+use crate::running::{SOUND, answers, recovered, repaired, run_over};
 use crate::sources::{ACROSS, BEHIND, LONG, LONGER, SHORT, Source};
+use crate::stores::Untold;
 use block_layout::BlockHeader;
 use chunk_header::Header;
 use std::alloc::{AllocError, Global};
@@ -565,6 +566,70 @@ fn headers_are_believed_as_far_as_they_agree(rt: HostRuntime) -> Result<(), Fail
         forge(&rt, &mut file, forged);
         change(&rt, &mut file, places);
         recovers(&rt, alloc, None, &file, &alike, numbers, notes)?;
+    }
+    Ok(())
+}
+
+/// The block header at 65536 is left whole, without its last byte, or with its first byte alone. The chunk at 64 says that it
+/// has 90,000 bytes of data, or has a wrong header.
+#[test]
+fn a_block_header_that_is_cut_leads_nowhere(rt: HostRuntime) -> Result<(), Fail> {
+    let alloc = rt.alloc();
+    for (places, size, notes) in [
+        (
+            [].as_slice(),
+            65_560,
+            "skipped 64 60154 Contradicted\nskipped 60154 65560 Truncated\n",
+        ),
+        (&[], 65_559, "skipped 64 65559 Truncated\n"),
+        (&[], 65_537, "skipped 64 65537 Truncated\n"),
+        (
+            &[70],
+            65_560,
+            "skipped 64 60154 HeaderHash\nskipped 60154 65560 Truncated\n",
+        ),
+        (&[70], 65_559, "skipped 64 65559 HeaderHash\n"),
+        (&[70], 65_537, "skipped 64 65537 HeaderHash\n"),
+    ] {
+        let mut file = LONG.file(&rt, alloc)?;
+        forge(&rt, &mut file, Forged::Size(90_000));
+        change(&rt, &mut file, places);
+        file.truncate(size);
+        recovers(&rt, alloc, None, &file, &LONG, &[], notes)?;
+    }
+    Ok(())
+}
+
+/// The chunk ends at 67133545 where its data is one byte too long, and at 67133544 where it isn't. All behind its header are
+/// zero bytes, and there are 10 of them behind the chunk.
+#[test]
+fn a_chunk_of_more_than_64_mib_of_data_is_told(rt: HostRuntime) -> Result<(), Fail> {
+    let alloc = rt.alloc();
+    for (data_size, size, notes) in [
+        (
+            (1 << 26) + 1,
+            67_133_555,
+            "skipped 64 67133545 TooLarge\nskipped 67133545 67133555 Short\n",
+        ),
+        (
+            1 << 26,
+            67_133_554,
+            "skipped 64 67133544 DataHash\nskipped 67133544 67133554 Short\n",
+        ),
+    ] {
+        let header = Header {
+            data_size,
+            data_hash: 0,
+            kind: b'r',
+            num_records: 1,
+            decoded_size: 0,
+        };
+        let mut front = part(&THREE, 0, 64).to_vec(alloc)?;
+        front.extend_from_slice(&header.to_bytes())?;
+        let mut files = [Untold::new(&front, size)];
+        let words = ["show", "--recover", "F"];
+        let left = run_over(&rt, alloc, &words, b"", &mut files, &SOUND)?;
+        left.is(&rt, &recovered(b"", notes));
     }
     Ok(())
 }

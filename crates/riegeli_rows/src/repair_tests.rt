@@ -1,8 +1,10 @@
 //! Tests of what `repair` makes and prints. Each place and size is counted by hand from the format's description.
 
 use crate::files::{LETTERS, Laid, THREE, change, file_of, input_of, part, written};
-use crate::running::{SOUND, answers, owned, repaired, run_in_memory};
+use crate::running::{Answer, QUIET, SOUND, answers, owned, repaired, run_in_memory, run_over};
 use crate::sources::{ACROSS, BEHIND, LONG, LONGER, SHORT};
+use crate::stores::Untold;
+use block_layout::BlockHeader;
 use riegeli_tool::{Names, Status, names};
 use std::alloc::{AllocError, Global};
 use std::process::Abort;
@@ -263,6 +265,76 @@ fn padding_is_taken_out_of_whole_files(rt: HostRuntime) -> Result<(), Fail> {
             let file = written(&rt, alloc, &words, input)?;
             answers(&rt, alloc, &["repair", "F", "G"], &file, &answer)?;
         }
+    }
+    Ok(())
+}
+
+/// The chunk of the one record goes from 65536 to 65604.
+#[test]
+fn padding_on_both_sides_is_taken_out(rt: HostRuntime) -> Result<(), Fail> {
+    let alloc = rt.alloc();
+    let file = written(&rt, alloc, &["write", "--pad=both", "F"], b"a\n")?;
+    assert_eq!(rt; file.len(), 131_072);
+    let verified = Answer {
+        out: b"chunks 4\nrecords 1\nbytes 131072\nunread 0\n",
+        ..QUIET
+    };
+    answers(&rt, alloc, &["verify", "F"], &file, &verified)?;
+    let made = joined(alloc, &file, &[(0, 64), (65_560, 65_604)])?;
+    let report = "chunks 2\nrecords 1\nbytes 108\nunread 0\n";
+    let answer = repaired(&made, report, "");
+    answers(&rt, alloc, &["repair", "F", "G"], &file, &answer)?;
+    Ok(())
+}
+
+/// Padding goes from 64 to 65500, metadata over the block to 65569, and a transposed chunk of 65,480 records from there to
+/// 131049. Laid anew the metadata goes from 64 to 109, and the transposed chunk from there over the block to 65589.
+#[test]
+fn kept_chunks_lose_and_get_block_headers(rt: HostRuntime) -> Result<(), Fail> {
+    let alloc = rt.alloc();
+    let padding = vec![in alloc; 0; 65_396]?;
+    let file = file_of(
+        &rt,
+        alloc,
+        &[
+            (b'p', 0, 0, &padding),
+            (b'm', 0, 9, b"\x01\x02\x03\x04\x05"),
+            (b't', 65_480, 7, b"0123456789"),
+        ],
+    )?;
+    assert_eq!(rt; file.len(), 131_049);
+    let parts: Parts<'_> = &[
+        (0, 64),
+        (65_500, 65_536),
+        (65_560, 65_569),
+        (65_569, 65_619),
+    ];
+    let mut made = joined(alloc, &file, parts)?;
+    made.resize(65_536, 0)?;
+    let header = BlockHeader {
+        previous: 65_427,
+        next: 53,
+    };
+    made.extend_from_slice(&header.to_bytes())?;
+    made.resize(65_589, 0)?;
+    let report = "chunks 3\nrecords 0\nbytes 65589\nunread 1\n";
+    let answer = repaired(&made, report, "");
+    answers(&rt, alloc, &["repair", "F", "G"], &file, &answer)?;
+    Ok(())
+}
+
+#[test]
+fn no_byte_of_a_whole_file_is_read_twice(rt: HostRuntime) -> Result<(), Fail> {
+    let alloc = rt.alloc();
+    for source in [SHORT, LONG, LONGER, BEHIND, ACROSS] {
+        let file = source.file(&rt, alloc)?;
+        let size = file.len() as u64;
+        let mut files = [Untold::new(&file, size)];
+        let words = ["repair", "F", "G"];
+        let left = run_over(&rt, alloc, &words, b"", &mut files, &SOUND)?;
+        assert_eq!(rt; left.status, Status::Ok);
+        assert!(rt; left.made.taken() == file.as_slice());
+        assert!(rt; files[0].handed() <= size);
     }
     Ok(())
 }

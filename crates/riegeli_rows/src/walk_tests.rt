@@ -76,11 +76,10 @@ fn contradicting(blocks: &[Block], begin: u64, end: u64) -> Option<Block> {
 /// The bytes of a file from a place on that are in no block header.
 fn own_bytes(alloc: Global, file: &[u8], place: u64) -> Result<Vec<u8>, AllocError> {
     let mut own = Vec::new(alloc);
-    for (at, byte) in file.iter().enumerate() {
-        let at = at as u64;
-        if place <= at && at % BLOCK_SIZE >= BLOCK_HEADER_SIZE {
-            own.push(*byte)?;
-        }
+    for (number, block) in file.chunks(BLOCK_SIZE as usize).enumerate() {
+        let begin = (number as u64).saturating_mul(BLOCK_SIZE);
+        let from = place.saturating_sub(begin).max(BLOCK_HEADER_SIZE);
+        own.extend_from_slice(block.get(from as usize..).unwrap_or(b""))?;
     }
     Ok(own)
 }
@@ -172,7 +171,6 @@ fn is_walked<R: Threads + Sync + Abort>(
 }
 
 /// The chunks stand at 64, 65486, 65530, whose header lies across a block header, and 65598. Each byte is changed by itself.
-/// Behind the first bytes of the long chunk's data all give the same.
 #[test]
 fn each_changed_byte_is_passed_over_as_a_plain_walk_does(rt: HostRuntime) -> Result<(), Fail> {
     let alloc = rt.alloc();
@@ -180,19 +178,10 @@ fn each_changed_byte_is_passed_over_as_a_plain_walk_does(rt: HostRuntime) -> Res
     let file = written(&rt, alloc, &["write", "--chunk=1", "F"], &input)?;
     assert_eq!(rt; file.len(), 65_642);
     is_walked(&rt, alloc, &file)?;
-    for (from, to) in [(0, 112), (65_484, 65_642)] {
-        for place in from..to {
-            let mut file = file.clone()?;
-            change(&rt, &mut file, &[place]);
-            is_walked(&rt, alloc, &file)?;
-        }
-    }
-    let words = ["show", "--recover", "F"];
-    let answer = recovered(b"x\ny\nz\n", "skipped 64 65486 DataHash\n");
-    for place in 112..65_484 {
+    for place in 0..file.len() {
         let mut file = file.clone()?;
         change(&rt, &mut file, &[place]);
-        answers(&rt, alloc, &words, &file, &answer)?;
+        is_walked(&rt, alloc, &file)?;
     }
     Ok(())
 }
