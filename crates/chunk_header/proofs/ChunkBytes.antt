@@ -1,21 +1,22 @@
 -- The bytes of chunks.
-use Rattle.std.proofs.Common.{◌≡◌, ℕ, List, ◌++◌, length, append_assoc, sym, ap, ◌∙◌}
-use Rattle.highway_hash.specs.Riegeli.{with_hash}
-use Rattle.chunk_header.specs.Chunks.{ChunkValue, header_fields, header_bytes, own_bytes}
+use Rattle.std.proofs.Common.{◌≡◌, List, ℕ, ◌++◌, append_assoc, refl, sym, ap, ◌∙◌}
+use Rattle.chunk_header.specs.Chunks.{ChunkValue, header_bytes, own_bytes}
 use Rattle.chunk_header.specs.declared.Chunk.{Chunk}
-use Rattle.chunk_header.specs.Views.{bytes_of_header, value_of_chunk, HasRightHash}
+use Rattle.chunk_header.specs.declared.Header.{Header}
+use Rattle.chunk_header.specs.Views.{bytes_of_header, value_of_chunk, HasRightHash, IsHeaderOf}
 
--- where the data's hash is right, the header's bytes are those of the chunk that it stands for
-pub header_bytes-right : (c : Chunk) → HasRightHash c → bytes_of_header c.header ≡ header_bytes (value_of_chunk c)
-header_bytes-right c right =
-    let fields : ℕ → ℕ → List ℕ =
-    λ size hash. header_fields size hash c.header.kind c.header.num_records c.header.decoded_size in
-    ap with_hash (ap (λ size. fields size c.header.data_hash) (sym c.sized) ∙ ap (fields (length c.bytes)) right)
+-- where a header says all of a chunk, its bytes are those of the chunk's header
+pub header_bytes-of : (h : Header) (k : ChunkValue) → IsHeaderOf h k → bytes_of_header h ≡ header_bytes k
+header_bytes-of h k of = rw (of.size, of.hash, of.kind, of.num_records, of.decoded_size) refl
+
+-- as it does where the data's hash is right
+pub IsHeaderOf-right : (c : Chunk) → HasRightHash c → IsHeaderOf c.header (value_of_chunk c)
+IsHeaderOf-right c right = record { size = sym c.sized; hash = right; kind = refl; num_records = refl; decoded_size = refl }
 
 -- and with the data they are the chunk's own bytes
 pub own_bytes-right : (c : Chunk) (k : ChunkValue) → value_of_chunk c ≡ k → HasRightHash c
     → bytes_of_header c.header ++ c.bytes ≡ own_bytes k
-own_bytes-right c k is right = ap (λ (xs : List ℕ). xs ++ c.bytes) (header_bytes-right c right) ∙ ap own_bytes is
+own_bytes-right c k is right = ap (λ (xs : List ℕ). xs ++ c.bytes) (header_bytes-of c.header (value_of_chunk c) (IsHeaderOf-right c right)) ∙ ap own_bytes is
 
 -- a list to which the header's bytes were appended, and to which the data is
 pub own_bytes-appended : {header bytes between : List ℕ} (front : List ℕ) (c : Chunk) (k : ChunkValue)

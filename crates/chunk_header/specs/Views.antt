@@ -1,6 +1,6 @@
 -- What headers and chunks of the program stand for. Source: the Riegeli/records file format specification, "Chunk
 -- header".
-use Rattle.std.specs.Prelude.{◌≡◌, ℕ, ◌<◌, ◌^◌, List}
+use Rattle.std.specs.Prelude.{◌≡◌, ℕ, ◌<◌, ◌^◌, List, length}
 use Rattle.highway_hash.specs.Riegeli.{riegeli_hash, with_hash}
 use Rattle.chunk_header.specs.Chunks.{ChunkValue, HeaderValue, header_fields}
 use Rattle.chunk_header.specs.declared.Header.{Header}
@@ -47,3 +47,11 @@ value_of_chunk c = value_of c.header c.bytes
 -- the header has the data's hash
 abbrev pub HasRightHash : Chunk → Type 0
 HasRightHash c = c.header.data_hash ≡ riegeli_hash c.bytes
+
+-- all that a header says is said of a chunk
+pub record IsHeaderOf (h : Header) (k : ChunkValue) : Type 0 where
+  pub size : h.data_size ≡ length k.«data»
+  pub hash : h.data_hash ≡ riegeli_hash k.«data»
+  pub kind : h.kind ≡ k.kind
+  pub num_records : h.num_records ≡ k.num_records
+  pub decoded_size : h.decoded_size ≡ k.decoded_size

@@ -4,10 +4,10 @@
 
 pub mod laws;
 
-ghost use Rattle.std.specs.Prelude.{◌≡◌, ◌↔◌, ◌^◌, ◌<◌, length, Some, IsNone, IfSome, IsTrue};
+ghost use Rattle.std.specs.Prelude.{◌≡◌, ◌↔◌, ◌+◌, ◌^◌, ◌<◌, ◌++◌, length, Some, IsNone, IfSome, IsTrue};
 ghost use Rattle.chunk_header.specs.Chunks.{IsChunk, IsRightChunkHeader};
 
-use highway_hash::{RIEGELI, begins_with_hash, hash_lanes};
+use highway_hash::{Hasher, RIEGELI, begins_with_hash, hash_lanes};
 use record_io::Bytes;
 
 /// How many bytes the header of a chunk has.
@@ -35,7 +35,37 @@ pub struct Header {
 
 impl Header {
     ghost use Rattle.chunk_header.specs.declared.Header.{Header};
-    ghost use Rattle.chunk_header.specs.Views.{IsHeader, bytes_of_header};
+    ghost use Rattle.chunk_header.specs.Views.{IsHeader, IsHeaderOf, bytes_of_header};
+
+    /// The header of the chunk of these fields whose data lies in two parts, of which the hash is taken here. `decoded_size` is
+    /// in bytes.
+    pub fn of_parts(
+        kind: u8,
+        num_records: u64,
+        decoded_size: u64,
+        front: &[u8],
+        rest: &[u8],
+    ) -> Header
+        requires few { num_records < 2 ^ 56 }
+        requires short { length front.now + length rest.now < 2 ^ 64 }
+        ensures { IsHeaderOf result (record {
+          kind = kind;
+          num_records = num_records;
+          decoded_size = decoded_size;
+          «data» = front.now ++ rest.now;
+        }) }
+    {
+        let mut hasher = Hasher::new(RIEGELI);
+        hasher.update(front);
+        hasher.update(rest);
+        Header {
+            data_size: front.len() as u64 + rest.len() as u64,
+            data_hash: hasher.finish(),
+            kind,
+            num_records,
+            decoded_size,
+        }
+    }
 
     /// The 40 bytes: the hash of the other 32, then the fields.
     pub fn to_bytes(&self) -> [u8; HEADER_SIZE]
