@@ -4,6 +4,7 @@ ghost use Rattle.chunk_header.specs.Chunks.{IsChunk};
 ghost use Rattle.chunk_header.specs.SimpleChunks.{IsSimple, simple_chunk, simple_data, sizes_of};
 ghost use Rattle.chunk_header.specs.Views.{value_of_chunk, HasRightHash};
 ghost use Rattle.simple_chunk.specs.Costs.{cost_of};
+ghost use Rattle.simple_chunk.specs.Sizes.{data_front};
 
 use crate::record_list::Records;
 use chunk_header::Chunk;
@@ -11,7 +12,7 @@ use record_io::Bytes;
 use std::alloc::{AllocError, Global};
 
 /// The kind of a simple chunk.
-const SIMPLE: u8 = b'r';
+pub(crate) const SIMPLE: u8 = b'r';
 
 /// The compression type of data that is not compressed.
 const UNCOMPRESSED: u8 = 0;
@@ -44,17 +45,34 @@ fn encode_data(alloc: Global, records: &Records) -> Result<Vec<u8>, AllocError>
 {
     let values = records.values();
     let sizes_len = sizes_len(records);
-    let len = 1 + varint_len(sizes_len) + sizes_len + values.len();
-    let mut data = Vec::with_capacity(alloc, len)?;
-    append(&mut data, &[UNCOMPRESSED]);
-    append_varint(&mut data, sizes_len);
-    append_sizes(&mut data, records);
+    let mut data = Vec::with_capacity(alloc, front_len(sizes_len) + values.len())?;
+    append_front(&mut data, records, sizes_len);
     append(&mut data, values);
     Ok(data)
 }
 
+/// How many bytes stand before the records, where their sizes take so many.
+pub(crate) fn front_len(sizes_len: usize) -> usize
+    requires { sizes_len ≤ 2 ^ 26 }
+    ensures { result ≡ 1 + length (shortest sizes_len) + sizes_len }
+{
+    1 + varint_len(sizes_len) + sizes_len
+}
+
+/// Appends what stands before the records, for which there is room.
+pub(crate) fn append_front(out: &mut Vec<u8>, records: &Records, sizes_len: usize)
+    requires sizes { sizes_len ≡ length (sizes_of records.now) }
+    requires room { vec_len out.old + (1 + length (shortest sizes_len) + sizes_len) ≤ vec_capacity out.old }
+    ensures items { out.new.items ≡ out.old.items ++ data_front records.now }
+    ensures room { vec_capacity out.old ≤ vec_capacity out.new }
+{
+    append(out, &[UNCOMPRESSED]);
+    append_varint(out, sizes_len);
+    append_sizes(out, records);
+}
+
 /// How many bytes the sizes of the records take.
-fn sizes_len(records: &Records) -> usize
+pub(crate) fn sizes_len(records: &Records) -> usize
     requires { cost_of records.now ≤ 2 ^ 25 }
     ensures { result ≡ length (sizes_of records.now) }
 {

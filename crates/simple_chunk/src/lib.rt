@@ -7,12 +7,14 @@ mod checker;
 mod decoding;
 mod encoding;
 mod record_list;
+mod simple_parts;
 mod sizes_left;
 
 pub use checker::Checker;
 pub use decoding::{SimpleFault, decode, decode_chunk};
 pub use encoding::encode;
 pub use record_list::{RECORD_COST, Records};
+pub use simple_parts::SimpleChunk;
 
 #[cfg(test)]
 mod tests;

@@ -7,9 +7,13 @@ ghost use Rattle.simple_chunk.specs.Records.{records_from, record_begin, AreEnds
 use record_io::Bytes;
 use std::alloc::{AllocError, Global};
 use std::marker::Model;
+use std::mem;
 
 /// What a record costs beside its bytes. Own.
 pub const RECORD_COST: u64 = 8;
+
+/// Fewer bytes than these are copied: their room serves the next record then.
+const LEAST_MOVED: usize = 1 << 16;
 
 /// A growing list of records, which contracts see as that list. They lie joined in one piece of memory. Own.
 #[derive(Debug, Drop)]
@@ -57,6 +61,30 @@ impl Records {
         self.values.push_all(rec)?;
         self.ends.push(self.values.len()).unwrap();
         Ok(())
+    }
+
+    /// Appends a record, whose bytes are taken out of `rec`: a long one that is the first isn't copied. After want of memory
+    /// both are as before.
+    pub fn push_from(&mut self, rec: &mut Bytes) -> Result<(), AllocError>
+        ensures appends { OnOk result (self.new ≡ self.old ++ rec.old ∷ []) }
+        ensures kept { OnErr result (self.new ≡ self.old) }
+        ensures rec_kept { OnErr result (rec.new ≡ rec.old) }
+    {
+        if !self.is_empty() || rec.len() < LEAST_MOVED {
+            return self.push(rec.as_slice());
+        }
+        self.ends.reserve(1)?;
+        mem::swap(&mut self.values, rec);
+        self.ends.push(self.values.len()).unwrap();
+        Ok(())
+    }
+
+    /// Forgets the records, and keeps their room.
+    pub fn clear(&mut self)
+        ensures { self.new ≡ [] }
+    {
+        self.values.clear();
+        self.ends.clear();
     }
 
     /// Takes room for so many more bytes and records.

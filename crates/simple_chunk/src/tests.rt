@@ -242,3 +242,22 @@ fn checks_pieces_as_decode_reads_all(rt: HostRuntime) -> Result<(), Fail> {
     }
     Ok(())
 }
+
+#[test]
+fn the_parts_of_a_chunk_are_what_is_encoded(rt: HostRuntime) -> Result<(), Fail> {
+    let mut none = Records::new(rt.alloc());
+    let mut records = Records::new(rt.alloc());
+    records.push(b"a")?;
+    records.push(&[b'x'; 200])?;
+    let encoded = encode(rt.alloc(), &records)?;
+    let mut chunk = SimpleChunk::new(rt.alloc(), Records::new(rt.alloc()))?;
+    chunk.replace(&mut records)?;
+    assert_eq!(rt; *chunk.header(), encoded.header);
+    let (front, values) = chunk.data();
+    let (encoded_front, encoded_values) = encoded.bytes.as_slice().split_at(5);
+    assert_eq!(rt; front, encoded_front);
+    assert_eq!(rt; values, encoded_values);
+    chunk.replace(&mut none)?;
+    assert_eq!(rt; chunk.header().num_records, 0);
+    Ok(())
+}

@@ -1,15 +1,18 @@
 use Rattle.std.proofs.Common.{arith, ap, length}
-use Rattle.chunk_header.proofs.SimpleChunks.{length-sizes_of}
 use Rattle.varint_wire.proofs.Spellings.{length-shortest}
-use Rattle.simple_chunk.proofs.CostLemmas.{cost_of-is}
+use Rattle.simple_chunk.proofs.CostLemmas.{cost_of-is, sizes_len-few}
 use Rattle.simple_chunk.proofs.encoding.encode_data.Goals as goal
 
-pub overflow_add-len : goal.overflow_add-len
-overflow_add-len c = omega (arith, length-shortest c.sizes_len-sizes_len.result)
+pub front_len-requires : goal.front_len-requires
+front_len-requires c = omega (arith, c.sizes_len-sizes_len.ensures, sizes_len-few c.args.records.now c.requires)
 
-pub overflow_add-len-2 : goal.overflow_add-len-2
-overflow_add-len-2 c = omega (arith, length-shortest c.sizes_len-sizes_len.result, length-sizes_of c.args.records.now, cost_of-is c.args.records.now)
-
-pub overflow_add-len-3 : goal.overflow_add-len-3
-overflow_add-len-3 c =
-    omega (arith, length-shortest c.sizes_len-sizes_len.result, length-sizes_of c.args.records.now, cost_of-is c.args.records.now, ap length c.values-values.ensures.value)
+pub overflow_add-front_len : goal.overflow_add-front_len
+overflow_add-front_len c =
+    omega (
+      arith,
+      c.sizes_len-sizes_len.ensures,
+      sizes_len-few c.args.records.now c.requires,
+      length-shortest c.sizes_len-sizes_len.result,
+      cost_of-is c.args.records.now,
+      ap length c.values-values.ensures.value,
+    )
