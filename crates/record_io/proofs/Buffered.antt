@@ -1,5 +1,5 @@
 -- One call after another on a sink and the buffer beside it.
-use Rattle.std.proofs.Common.{◌≡◌, ◌≢◌, ℕ, ◌+◌, ◌<◌, ◌≤◌, Option, List, [], ◌∷◌, ◌++◌, length, get_or, take, drop, sym, ap, ◌∙◌, subst, arith, add-one, append_assoc, length-append}
+use Rattle.std.proofs.Common.{◌≡◌, ◌≢◌, ℕ, ◌+◌, ◌<◌, Option, List, [], ◌∷◌, ◌++◌, length, get_or, take, drop, sym, ap, ◌∙◌, subst, arith, add-one, append_assoc, length-append}
 use Rattle.std.specs.List.{concat}
 use Rattle.std.proofs.Math.Seq.{take-suc}
 use Rattle.std.proofs.lemmas.List.{append-nil, nil_from_length, take-append-drop}
@@ -45,14 +45,6 @@ TakesFront-behind a b c before between x y first then =
 pub TakesFront-held_longer : (a b : Option (List ℕ)) (before x y : List ℕ) → TakesFront a b (before ++ x) → TakesFront a b (before ++ (x ++ y))
 TakesFront-held_longer a b before x y front =
     subst (λ (xs : List ℕ). TakesFront a b xs) (append_assoc before x y) (TakesFront-longer a b (before ++ x) y front)
-
--- where nothing is held, the sink took it all
-pub Takes-from_none_held : (a b : Option (List ℕ)) (bytes held : List ℕ) → length held ≤ 0 → TakesAndHolds a b bytes held → Takes a b bytes
-Takes-from_none_held a b bytes held none whole =
-    let nothing : held ≡ [] = nil_from_length held (omega (arith, none)) in
-    subst (λ (xs : List ℕ). Takes a b xs)
-    (sym (whole.parts ∙ ap (λ (xs : List ℕ). whole.passed ++ xs) nothing ∙ append-nil whole.passed))
-    whole.taken
 
 -- no bytes change nothing
 pub TakesAndHolds-none : (a : Option (List ℕ)) (held : List ℕ) → TakesAndHolds a a (held ++ []) held
