@@ -1,9 +1,10 @@
-ghost use Rattle.std.specs.Prelude.{◌≡◌, ℕ, ◌+◌, ◌^◌, ◌≤◌, ◌↔◌, List, [], ◌∷◌, ◌++◌, length, IsNone, IfOk, IfSome, OnErr};
+ghost use Rattle.std.specs.Prelude.{◌≡◌, ◌≢◌, ℕ, ◌+◌, ◌^◌, ◌≤◌, ◌↔◌, true, false, None, Ok, List, [], ◌∷◌, ◌++◌, length, IsNone, IfOk, IfSome, OnErr};
 ghost use Rattle.std.specs.Option.{ForSome, option_to_list};
 ghost use Rattle.simple_chunk.specs.Costs.{cost_of};
 ghost use Rattle.record_group.specs.Groups.{closes_before, groups, KeepsLimits};
 ghost use Rattle.record_group.specs.Groupings.{new_grouping, groups_from, IsPush};
 
+use record_io::Bytes;
 use simple_chunk::{RECORD_COST, Records};
 use std::alloc::{AllocError, Global};
 use std::marker::Model;
@@ -19,6 +20,9 @@ pub struct Grouper {
     group: Records,
     /// How many bytes and records a group has room for: what the last one needed, and an eighth more.
     room: (usize, usize),
+    /// No records, in whose memory the next group opens.
+    spare: Records,
+    ghost no_records: { spare ≡ [] },
 }
 
 impl Model for Grouper {
@@ -50,11 +54,11 @@ impl Grouper {
             every,
             group: Records::new(alloc),
             room: (0, 0),
+            spare: Records::new(alloc),
         }
     }
 
-    /// Takes the next record, of at most 2^24 bytes, and gives the group that closes before it, if one does. After
-    /// want of memory the grouper is as before.
+    /// As `push_from`, of a copy of the record.
     pub fn push(&mut self, rec: &[u8]) -> Result<Option<Records>, AllocError>
         requires { length rec.now ≤ 2 ^ 24 }
         ensures push { IfOk result (λ given. IsPush self.old rec.now given self.new) }
@@ -65,18 +69,56 @@ impl Grouper {
         ensures costs { IfOk result (λ given. IfSome given (λ group. cost_of group ≤ 2 ^ 24 + 8)) }
         ensures kept { OnErr result (self.new ≡ self.old) }
     {
-        if self.closes_before(rec) {
-            let mut next = Records::new(self.alloc);
-            next.push(rec)?;
+        let mut copy = Bytes::new(self.alloc);
+        copy.push_all(rec)?;
+        self.push_from(&mut copy)
+    }
+
+    /// Takes the next record, of at most 2^24 bytes, and gives the group that closes before it, if one does. A long record that
+    /// opens a group isn't copied, so `rec` may hold anything then. After want of memory the grouper is as before.
+    pub fn push_from(&mut self, rec: &mut Bytes) -> Result<Option<Records>, AllocError>
+        requires { length rec.old ≤ 2 ^ 24 }
+        ensures push { IfOk result (λ given. IsPush self.old rec.old given self.new) }
+        ensures rest { IfOk result (λ given. (records : List (List ℕ))
+            → groups_from self.old (rec.old ∷ records)
+            ≡ option_to_list given ++ groups_from self.new records) }
+        ensures limits { IfOk result (λ given. IfSome given (KeepsLimits self.old.size self.old.every)) }
+        ensures costs { IfOk result (λ given. IfSome given (λ group. cost_of group ≤ 2 ^ 24 + 8)) }
+        ensures kept { OnErr result (self.new ≡ self.old) }
+    {
+        if self.closes_before(rec.as_slice()) {
+            let mut next = mem::replace(&mut self.spare, Records::new(self.alloc));
+            next.push_from(rec)?;
             self.room = self.room_needed();
             return Ok(Some(mem::replace(&mut self.group, next)));
         }
-        if self.group.len() == 1 {
-            let (bytes, records) = self.room;
-            self.group.reserve(bytes, records)?;
-        }
-        self.group.push(rec)?;
+        self.reserve_room()?;
+        self.group.push_from(rec)?;
         Ok(None)
+    }
+
+    /// Takes the next record, of at most 2^24 bytes, where no group closes before it, and answers whether that is so. Where
+    /// one does, and after want of memory, the grouper is as before.
+    pub fn push_open(&mut self, rec: &[u8]) -> Result<bool, AllocError>
+        requires { length rec.now ≤ 2 ^ 24 }
+        ensures push { result ≡ Ok true → IsPush self.old rec.now None self.new }
+        ensures closes { result ≡ Ok false → closes_before self.old.size self.old.every self.old.group rec.now ≡ true }
+        ensures kept { result ≢ Ok true → self.new ≡ self.old }
+    {
+        if self.closes_before(rec) {
+            return Ok(false);
+        }
+        self.reserve_room()?;
+        self.group.push(rec)?;
+        Ok(true)
+    }
+
+    /// Takes records whose memory is to serve for the next group. They are forgotten.
+    pub fn reuse(&mut self, mut records: Records)
+        ensures { self.new ≡ self.old }
+    {
+        records.clear();
+        self.spare = records;
     }
 
     /// The last group: the records since a group closed, or none where there are no such records. It takes no memory.
@@ -92,6 +134,17 @@ impl Grouper {
         } else {
             Some(self.group)
         }
+    }
+
+    /// Takes room before the second record.
+    fn reserve_room(&mut self) -> Result<(), AllocError>
+        ensures { self.new ≡ self.old }
+    {
+        if self.group.len() == 1 {
+            let (bytes, records) = self.room;
+            self.group.reserve(bytes, records)?;
+        }
+        Ok(())
     }
 
     /// How many bytes and records the open group has, and an eighth more.

@@ -72,3 +72,13 @@ fn leaves_a_record_past_the_size_alone(rt: HostRuntime) -> Result<(), Fail> {
 fn gives_nothing_where_no_record_came(rt: HostRuntime) -> Result<(), Fail> {
     group(&rt, Grouper::new(rt.alloc(), 20, None), &[], &[])
 }
+
+#[test]
+fn an_open_group_takes_what_closes_none(rt: HostRuntime) -> Result<(), Fail> {
+    let mut grouper = Grouper::new(rt.alloc(), 20, None);
+    grouper.reuse(Records::new(rt.alloc()));
+    assert_eq!(rt; grouper.push_open(b"a"), Ok(true));
+    assert_eq!(rt; grouper.push_open(b"b"), Ok(true));
+    assert_eq!(rt; grouper.push_open(b"c"), Ok(false));
+    group(&rt, grouper, &[(b"c", &[b"a", b"b"])], &[b"c"])
+}
