@@ -9,8 +9,8 @@ use Rattle.meta_chunk.specs.Laid.{end_of_chunk, laid_bytes}
 use Rattle.meta_chunk.specs.Files.{signature}
 use Rattle.ordered_writer.specs.Layings.{laid_between}
 use Rattle.block_layout.proofs.Runs.{room-end_of}
-use Rattle.ordered_writer.proofs.Runs.{laid_between-front}
 use Rattle.ordered_writer.proofs.RunCalls.{TakesFront-laid_longer, TakesAndHolds-more, TakesFront-more}
+use Rattle.ordered_writer.proofs.Both.{TakesAndHolds-both, TakesFront-first, TakesFront-second}
 
 -- the signature ends at 64
 pub end_of_chunk-signature : end_of_chunk 0 signature ≡ 64
@@ -34,21 +34,6 @@ header_end begin header = end_of begin (length header)
 abbrev pub data_end : ℕ → List ℕ → List ℕ → ℕ
 data_end begin header content = end_of (header_end begin header) (length content)
 
--- its header is laid
-header_laid : (begin end : ℕ) (header content : List ℕ)
-    → laid_between begin end begin (header_end begin header) header
-    ≡ laid_between begin end begin (header_end begin header) (header ++ content)
-header_laid begin end header content =
-    sym (laid_between-front begin end begin (header_end begin header) header content (omega (arith, room-end_of begin (length header))))
-
--- behind it its data
-data_laid : (begin end : ℕ) (header content : List ℕ)
-    → laid_between begin end (header_end begin header) (data_end begin header content) content
-    ≡ laid_between begin end (header_end begin header) (data_end begin header content) (drop (room begin (header_end begin header)) (header ++ content))
-data_laid begin end header content =
-    ap (laid_between begin end (header_end begin header) (data_end begin header content))
-    (sym (ap (λ (n : ℕ). drop n (header ++ content)) (room-end_of begin (length header)) ∙ drop_at header content (length header) refl))
-
 -- and behind these nothing more
 rest_laid : (begin end : ℕ) (header content : List ℕ)
     → laid_between begin end (data_end begin header content) end []
@@ -65,22 +50,15 @@ pub TakesFront-chunk_header : (a b : Option (List ℕ)) (held : List ℕ) (begin
     → TakesFront a b (held ++ laid_between begin end begin (header_end begin header) header)
     → TakesFront a b (held ++ laid_bytes begin end (header ++ content))
 TakesFront-chunk_header a b held begin end header content within front =
-    rw (laid_bytes-between begin end (header ++ content))
-    (TakesFront-laid_longer a b held begin end begin (header_end begin header) end (header ++ content)
-    (end_of_after begin (length header)) within
-    (subst (λ (xs : List ℕ). TakesFront a b (held ++ xs)) (header_laid begin end header content) front))
+    rw (laid_bytes-between begin end (header ++ content)) (TakesFront-first a b held begin end begin end header content within front)
 
 -- where header and data went well
 pub TakesAndHolds-data : (a b c : Option (List ℕ)) (held between after : List ℕ) (begin end : ℕ) (header content : List ℕ)
     → TakesAndHolds a b (held ++ laid_between begin end begin (header_end begin header) header) between
     → TakesAndHolds b c (between ++ laid_between begin end (header_end begin header) (data_end begin header content) content) after
     → TakesAndHolds a c (held ++ laid_between begin end begin (data_end begin header content) (header ++ content)) after
-TakesAndHolds-data a b c held between after begin end header content first then =
-    TakesAndHolds-more a b c held between after begin end begin (header_end begin header) (data_end begin header content) (header ++ content) content
-    (end_of_after begin (length header)) (end_of_after (header_end begin header) (length content))
-    (data_laid begin end header content)
-    (subst (λ (xs : List ℕ). TakesAndHolds a b (held ++ xs) between) (header_laid begin end header content) first)
-    then
+TakesAndHolds-data a b c held between after begin end header content =
+    TakesAndHolds-both a b c held between after begin end begin (data_end begin header content) header content refl
 
 -- where the data failed
 pub TakesFront-data : (a b c : Option (List ℕ)) (held between : List ℕ) (begin end : ℕ) (header content : List ℕ)
@@ -92,11 +70,7 @@ TakesFront-data a b c held between begin end header content within first then =
     rw (laid_bytes-between begin end (header ++ content))
     (TakesFront-laid_longer a c held begin end begin (data_end begin header content) end (header ++ content)
     (omega (arith, end_of_after begin (length header), end_of_after (header_end begin header) (length content))) within
-    (TakesFront-more a b c held between begin end begin (header_end begin header) (data_end begin header content) (header ++ content) content
-    (end_of_after begin (length header)) (end_of_after (header_end begin header) (length content))
-    (data_laid begin end header content)
-    (subst (λ (xs : List ℕ). TakesAndHolds a b (held ++ xs) between) (header_laid begin end header content) first)
-    then))
+    (TakesFront-second a b c held between begin end begin (data_end begin header content) header content refl first then))
 
 -- where the padding behind them went well
 pub TakesAndHolds-padding : (a b c : Option (List ℕ)) (held between after : List ℕ) (begin end : ℕ) (header content : List ℕ)

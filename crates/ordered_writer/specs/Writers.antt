@@ -1,7 +1,8 @@
 -- Chunks that are written one after another, with zero padding. Own.
 use Rattle.std.specs.Prelude.{ℕ, Bool, true, false, List, ◌++◌}
 use Rattle.chunk_header.specs.declared.Chunk.{Chunk}
-use Rattle.chunk_header.specs.Views.{bytes_of_header, value_of_chunk}
+use Rattle.chunk_header.specs.declared.Header.{Header}
+use Rattle.chunk_header.specs.Views.{bytes_of_header, value_of}
 use Rattle.meta_chunk.specs.Laid.{laid_bytes, end_of_chunk}
 
 -- a writer: where its next chunk begins, and whether a call of it failed
@@ -16,7 +17,11 @@ writer_at position = record { position = position; spent = false }
 abbrev pub spent_writer_at : ℕ → Writer
 spent_writer_at position = record { position = position; spent = true }
 
--- the bytes of a chunk of the program from its begin to its end, with zero padding and with the header that it has,
--- whose hash of the data may be another than the data's
+-- the bytes of a chunk of this data from its begin to its end, with zero padding and with a header, whose hash of the data may
+-- be another than the data's
+abbrev pub laid_with : ℕ → Header → List ℕ → List ℕ
+laid_with begin h bytes = laid_bytes begin (end_of_chunk begin (value_of h bytes)) (bytes_of_header h ++ bytes)
+
+-- those of a chunk of the program
 abbrev pub laid_as : ℕ → Chunk → List ℕ
-laid_as begin c = laid_bytes begin (end_of_chunk begin (value_of_chunk c)) (bytes_of_header c.header ++ c.bytes)
+laid_as begin c = laid_with begin c.header c.bytes

@@ -13,23 +13,24 @@ use record_io::{Failed, PutBuffer, Sink};
 // Zero bytes, for padding.
 pub(crate) const ZEROS: [u8; 4096] = [0; 4096];
 
-// Lays a chunk from its begin to its end: its header, its data, and zero bytes behind them.
+// Lays a chunk from its begin to its end: its header, its data, which lies in two parts, and zero bytes behind them.
 pub(crate) fn lay_chunk<const N: usize, M: Sink>(
     buffer: &mut PutBuffer<N>,
     sink: &mut M,
     begin: u64,
     end: u64,
     header: &[u8],
-    content: &[u8],
+    front: &[u8],
+    rest: &[u8],
 ) -> Result<(), Failed>
-    requires room { end_of begin (length header.now + length content.now) ≤ end }
+    requires room { end_of begin (length header.now + length (front.now ++ rest.now)) ≤ end }
     requires from_boundary { IsOnBoundary begin }
     requires to_boundary { IsOnBoundary end }
     requires in_reach { end ≤ 2 ^ 62 }
     ensures whole { OnOk result (TakesAndHolds (M.taken sink.old) (M.taken sink.new)
-        (buffer.old ++ laid_bytes begin end (header.now ++ content.now)) buffer.new) }
+        (buffer.old ++ laid_bytes begin end (header.now ++ (front.now ++ rest.now))) buffer.new) }
     ensures front { OnErr result (TakesFront (M.taken sink.old) (M.taken sink.new)
-        (buffer.old ++ laid_bytes begin end (header.now ++ content.now))) }
+        (buffer.old ++ laid_bytes begin end (header.now ++ (front.now ++ rest.now)))) }
     ensures emptied { OnErr result (buffer.new ≡ []) }
     ensures fits { length buffer.old ≤ N → length buffer.new ≤ N }
     ensures cause { OnErr result (Rose (M.faults sink.old) (M.faults sink.new)) }
@@ -43,7 +44,7 @@ pub(crate) fn lay_chunk<const N: usize, M: Sink>(
         place: begin,
     };
     laying.put(buffer, sink, header)?;
-    laying.put(buffer, sink, content)?;
+    laying.put_both(buffer, sink, front, rest)?;
     laying.finish(buffer, sink)
 }
 
@@ -89,6 +90,35 @@ impl Laying {
             at += self.put_run(buffer, sink, &bytes[at..])?;
         }
         Ok(())
+    }
+
+    // Lays bytes and others behind them.
+    fn put_both<const N: usize, M: Sink>(
+        &mut self,
+        buffer: &mut PutBuffer<N>,
+        sink: &mut M,
+        front: &[u8],
+        rest: &[u8],
+    ) -> Result<(), Failed>
+        requires room { end_of self.old.place (length (front.now ++ rest.now)) ≤ self.old.end }
+        ensures moved { OnOk result (self.new.place ≡ end_of self.old.place (length (front.now ++ rest.now))) }
+        ensures same_begin { self.new.begin ≡ self.old.begin }
+        ensures same_end { self.new.end ≡ self.old.end }
+        ensures whole { OnOk result (TakesAndHolds (M.taken sink.old) (M.taken sink.new)
+            (buffer.old ++ laid_between self.old.begin self.old.end self.old.place
+            (end_of self.old.place (length (front.now ++ rest.now))) (front.now ++ rest.now)) buffer.new) }
+        ensures front { OnErr result (TakesFront (M.taken sink.old) (M.taken sink.new)
+            (buffer.old ++ laid_between self.old.begin self.old.end self.old.place
+            (end_of self.old.place (length (front.now ++ rest.now))) (front.now ++ rest.now))) }
+        ensures emptied { OnErr result (buffer.new ≡ []) }
+        ensures fits { length buffer.old ≤ N → length buffer.new ≤ N }
+        ensures cause { OnErr result (Rose (M.faults sink.old) (M.faults sink.new)) }
+        ensures never_falls { M.faults sink.old ≤ M.faults sink.new }
+        ensures small { M.faults sink.old < 2 ^ 64 → M.faults sink.new < 2 ^ 64 }
+        ensures same_name { M.name sink.new ≡ M.name sink.old }
+    {
+        self.put(buffer, sink, front)?;
+        self.put(buffer, sink, rest)
     }
 
     // Lays zero bytes up to the end.

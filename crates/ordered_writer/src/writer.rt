@@ -4,11 +4,11 @@ ghost use Rattle.block_layout.specs.Layout.{IsBoundary, chunk_header_size, chunk
 ghost use Rattle.record_io.specs.Outside.{Rose, Takes, TakesFront};
 ghost use Rattle.record_io.specs.Buffers.{TakesAndHolds};
 ghost use Rattle.chunk_header.specs.Chunks.{header_bytes};
-ghost use Rattle.chunk_header.specs.Views.{bytes_of_header, value_of_chunk};
+ghost use Rattle.chunk_header.specs.Views.{bytes_of_header, value_of, value_of_chunk};
 ghost use Rattle.meta_chunk.specs.Laid.{laid_bytes, end_of_chunk};
 ghost use Rattle.meta_chunk.specs.Files.{signature, signature_bytes, end_of_chunks, laid_each};
 ghost use Rattle.meta_chunk.specs.PaddingSizes.{padding, padding_at};
-ghost use Rattle.ordered_writer.specs.Writers.{writer_at, spent_writer_at, laid_as};
+ghost use Rattle.ordered_writer.specs.Writers.{writer_at, spent_writer_at, laid_as, laid_with};
 
 use crate::laying::{ZEROS, lay_chunk};
 use block_layout::chunk_end;
@@ -197,7 +197,42 @@ impl OrderedWriter {
         ensures same_name { M.name sink.new ≡ M.name sink.old }
     {
         let begin = self.position;
-        self.lay(buffer, sink, &chunk.header, chunk.bytes.as_slice())?;
+        self.lay(buffer, sink, &chunk.header, &[], chunk.bytes.as_slice())?;
+        Ok(begin)
+    }
+
+    /// As `put_into`, of a chunk whose data lies in two parts.
+    ///
+    /// # Errors
+    ///
+    /// `Failed` only where the sink failed. Nothing is held then.
+    pub fn put_parts_into<const N: usize, M: Sink>(
+        &mut self,
+        buffer: &mut PutBuffer<N>,
+        sink: &mut M,
+        header: &Header,
+        front: &[u8],
+        rest: &[u8],
+    ) -> Result<u64, Failed>
+        requires unspent { self.old.spent ≡ false }
+        requires sized { length front.now + length rest.now ≡ header.now.data_size }
+        requires in_reach { end_of_chunk self.old.position (value_of header.now (front.now ++ rest.now)) ≤ 2 ^ 62 }
+        ensures begin { IfOk result (λ begin. begin ≡ self.old.position) }
+        ensures moved { OnOk result (self.new ≡ writer_at (end_of_chunk self.old.position (value_of header.now (front.now ++ rest.now)))) }
+        ensures spent { OnErr result (self.new ≡ spent_writer_at self.old.position) }
+        ensures whole { OnOk result (TakesAndHolds (M.taken sink.old) (M.taken sink.new)
+            (buffer.old ++ laid_with self.old.position header.now (front.now ++ rest.now)) buffer.new) }
+        ensures front { OnErr result (TakesFront (M.taken sink.old) (M.taken sink.new)
+            (buffer.old ++ laid_with self.old.position header.now (front.now ++ rest.now))) }
+        ensures emptied { OnErr result (buffer.new ≡ []) }
+        ensures fits { length buffer.old ≤ N → length buffer.new ≤ N }
+        ensures cause { OnErr result (Rose (M.faults sink.old) (M.faults sink.new)) }
+        ensures never_falls { M.faults sink.old ≤ M.faults sink.new }
+        ensures small { M.faults sink.old < 2 ^ 64 → M.faults sink.new < 2 ^ 64 }
+        ensures same_name { M.name sink.new ≡ M.name sink.old }
+    {
+        let begin = self.position;
+        self.lay(buffer, sink, header, front, rest)?;
         Ok(begin)
     }
 
@@ -229,19 +264,20 @@ impl OrderedWriter {
         let Some(size) = padding_size(self.position) else {
             return Ok(());
         };
-        self.lay(buffer, sink, &padding_header(size), &[])
+        self.lay(buffer, sink, &padding_header(size), &[], &[])
     }
 
-    // Lays a chunk of this header and of data that begins with these bytes and goes on with zero bytes.
+    // Lays a chunk of this header and of data that begins with these two parts and goes on with zero bytes.
     fn lay<const N: usize, M: Sink>(
         &mut self,
         buffer: &mut PutBuffer<N>,
         sink: &mut M,
         header: &Header,
         front: &[u8],
+        rest: &[u8],
     ) -> Result<(), Failed>
         requires unspent { self.old.spent ≡ false }
-        requires is_front { length front.now ≤ header.now.data_size }
+        requires is_front { length (front.now ++ rest.now) ≤ header.now.data_size }
         requires in_reach { chunk_end_of self.old.position (chunk_header_size + header.now.data_size) header.now.num_records ≤ 2 ^ 62 }
         ensures moved { OnOk result (self.new
             ≡ writer_at (chunk_end_of self.old.position (chunk_header_size + header.now.data_size) header.now.num_records)) }
@@ -249,11 +285,11 @@ impl OrderedWriter {
         ensures whole { OnOk result (TakesAndHolds (M.taken sink.old) (M.taken sink.new)
             (buffer.old ++ laid_bytes self.old.position
             (chunk_end_of self.old.position (chunk_header_size + header.now.data_size) header.now.num_records)
-            (bytes_of_header header.now ++ front.now)) buffer.new) }
+            (bytes_of_header header.now ++ (front.now ++ rest.now))) buffer.new) }
         ensures front { OnErr result (TakesFront (M.taken sink.old) (M.taken sink.new)
             (buffer.old ++ laid_bytes self.old.position
             (chunk_end_of self.old.position (chunk_header_size + header.now.data_size) header.now.num_records)
-            (bytes_of_header header.now ++ front.now))) }
+            (bytes_of_header header.now ++ (front.now ++ rest.now)))) }
         ensures emptied { OnErr result (buffer.new ≡ []) }
         ensures fits { length buffer.old ≤ N → length buffer.new ≤ N }
         ensures cause { OnErr result (Rose (M.faults sink.old) (M.faults sink.new)) }
@@ -265,7 +301,15 @@ impl OrderedWriter {
             unreachable!();
         };
         self.spent = true;
-        lay_chunk(buffer, sink, self.position, end, &header.to_bytes(), front)?;
+        lay_chunk(
+            buffer,
+            sink,
+            self.position,
+            end,
+            &header.to_bytes(),
+            front,
+            rest,
+        )?;
         self.position = end;
         self.spent = false;
         Ok(())

@@ -32,7 +32,7 @@ lay_chunk-requires g c =
       (
         omega (
           arith,
-          end_of_mono begin (length c.to_bytes.result + length c.args.front.now) (40 + header.data_size) (omega arith),
+          end_of_mono begin (length c.to_bytes.result + length (c.args.front.now ++ c.args.rest.now)) (40 + header.data_size) (omega arith),
           chunk_end_of_past_bytes begin (40 + header.data_size) header.num_records,
         ),
         (
@@ -48,16 +48,16 @@ lay_chunk-requires g c =
 
 -- the bytes that are laid are those of the chunk
 same_laid : (g : _) (c : After-to_bytes g)
-    → laid_bytes c.self.inside.position c.in-Some.end (c.to_bytes.result ++ c.args.front.now)
+    → laid_bytes c.self.inside.position c.in-Some.end (c.to_bytes.result ++ (c.args.front.now ++ c.args.rest.now))
     ≡ laid_bytes c.args.self.now.position
     (chunk_end_of c.args.self.now.position (40 + c.args.header.now.data_size) c.args.header.now.num_records)
-    (bytes_of_header c.args.header.now ++ c.args.front.now)
+    (bytes_of_header c.args.header.now ++ (c.args.front.now ++ c.args.rest.now))
 same_laid g c =
     let header = c.args.header.now in
-    ap (λ (begin : ℕ). laid_bytes begin c.in-Some.end (c.to_bytes.result ++ c.args.front.now)) (place_is g c)
-    ∙ ap (λ (end : ℕ). laid_bytes c.args.self.now.position end (c.to_bytes.result ++ c.args.front.now)) (end_is g c)
+    ap (λ (begin : ℕ). laid_bytes begin c.in-Some.end (c.to_bytes.result ++ (c.args.front.now ++ c.args.rest.now))) (place_is g c)
+    ∙ ap (λ (end : ℕ). laid_bytes c.args.self.now.position end (c.to_bytes.result ++ (c.args.front.now ++ c.args.rest.now))) (end_is g c)
     ∙ ap (λ (bytes : List ℕ). laid_bytes c.args.self.now.position
-    (chunk_end_of c.args.self.now.position (40 + header.data_size) header.num_records) (bytes ++ c.args.front.now)) c.to_bytes.ensures
+    (chunk_end_of c.args.self.now.position (40 + header.data_size) header.num_records) (bytes ++ (c.args.front.now ++ c.args.rest.now))) c.to_bytes.ensures
 
 pub returns-in_err-lay_chunk-clause-front : goal.returns-in_err-lay_chunk-clause-front
 returns-in_err-lay_chunk-clause-front g c =
