@@ -6,15 +6,11 @@ use Rattle.record_io.specs.Outside.{TakesFront}
 use Rattle.record_io.specs.Buffers.{TakesAndHolds}
 use Rattle.record_io.proofs.Buffered.{TakesAndHolds-append}
 use Rattle.chunk_header.specs.Chunks.{ChunkValue}
-use Rattle.chunk_header.specs.declared.Chunk.{Chunk}
-use Rattle.chunk_header.specs.Views.{value_of_chunk, HasRightHash}
-use Rattle.chunk_header.proofs.ChunkBytes.{header_bytes-right}
-use Rattle.meta_chunk.specs.Laid.{laid, laid_bytes, end_of_chunk}
+use Rattle.meta_chunk.specs.Laid.{laid, end_of_chunk}
 use Rattle.meta_chunk.specs.Counts.{is_unread}
 use Rattle.meta_chunk.specs.Files.{end_of_chunks, laid_each}
 use Rattle.meta_chunk.specs.PaddingSizes.{padding_at}
 use Rattle.meta_chunk.proofs.Joins.{end_of_chunks-append, laid_each-append}
-use Rattle.ordered_writer.specs.Writers.{laid_as}
 use Rattle.record_writer.specs.Progresses.{Progress, Lays, LaysFront, TakesAndHoldsFront}
 use Rattle.record_writer.proofs.Counted.{counted-padding_at, length-padding_at}
 use Rattle.record_writer.proofs.Fronts.{TakesAndHolds-none, TakesAndHoldsFront-none, TakesAndHoldsFront-failed, TakesAndHoldsFront-longer, TakesAndHoldsFront-behind}
@@ -122,11 +118,6 @@ pub LaysFront-one : (a b : Option (List ℕ)) (s t : Progress) (k : ChunkValue) 
 LaysFront-one a b s t k emptied front =
     LaysFront-failed a b s t (k ∷ []) emptied
     (subst (λ (xs : List ℕ). TakesFront a b (s.held ++ xs)) (sym (laid_each-one s.place k)) front)
-
--- a chunk with the hash of its data has the bytes of the chunk that it stands for
-pub laid_as-right : (begin : ℕ) (c : Chunk) → HasRightHash c → laid_as begin c ≡ laid begin (value_of_chunk c)
-laid_as-right begin c right =
-    ap (λ (front : List ℕ). laid_bytes begin (end_of_chunk begin (value_of_chunk c)) (front ++ c.bytes)) (header_bytes-right c right)
 
 -- padding up to a block, which counts as a chunk where it ends further on
 pub Lays-padding : (a b : Option (List ℕ)) (s t : Progress) → TakesAndHolds a b (s.held ++ laid_each s.place (padding_at s.place)) t.held

@@ -1,3 +1,4 @@
+pub mod Ends
 pub mod Fronts
 pub mod Layings
 pub mod Reaches

@@ -74,6 +74,16 @@ reach_of-taken old new record_bytes given before after place push some is =
       reach_of-push old new record_bytes given (end_of_chunks place (chunks_of_groups before)) push some,
     )
 
+-- or where none closes, and the record is handed on as it stands in the feed
+pub reach_of-handed : (place : ℕ) (old new : Grouping) (bound now limit : ℕ) (record_bytes : List ℕ)
+    → IsPush old record_bytes None new → now + length record_bytes + 1 ≤ bound → reach_of place old bound ≤ limit → reach_of place new now ≤ limit
+reach_of-handed place old new bound now limit record_bytes push lowers reach =
+    omega (arith, lowers, reach, ap (λ (g : Grouping). cost_of g.group) push.1, sum_by_push cost old.group record_bytes)
+
+-- where nothing changed it stays
+pub reach_of-kept : (place : ℕ) (old new : Grouping) (bound now limit : ℕ) → new ≡ old → now ≡ bound → reach_of place old bound ≤ limit → reach_of place new now ≤ limit
+reach_of-kept place old new bound now limit same kept reach = omega (arith, reach, kept, ap (λ (g : Grouping). cost_of g.group) same)
+
 -- and where a window was put, and another was taken meanwhile
 pub reach_of-behind : (window ks : List ChunkValue) (place next : ℕ) (old new : Grouping) (bound now limit : ℕ)
     → reach_of (end_of_chunks place window) old bound ≤ limit → next ≡ end_of_chunks place window

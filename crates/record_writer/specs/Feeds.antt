@@ -1,5 +1,6 @@
 -- What a feed of records still gives. Own.
-use Rattle.std.specs.Prelude.{◌≡◌, ℕ, Option, Some, None, List, [], ◌∷◌, IfSome}
+use Rattle.std.specs.Prelude.{◌≡◌, ℕ, ◌+◌, ◌^◌, ◌≤◌, Option, Some, None, List, [], ◌∷◌, length, IfSome}
+use Rattle.record_group.specs.Groupings.{Grouping, IsPush}
 use Rattle.record_writer.specs.declared.feed.Stop.{Stop}
 
 -- what a feed has not given yet: records, and a stop where one ends them
@@ -19,3 +20,11 @@ stop_alone s = record { records = []; stop = Some s }
 abbrev pub GivesRecord : Option Rest → Option Rest → List ℕ → Type 0
 GivesRecord before after record_bytes =
     IfSome before (λ r. (later : Rest) × (after ≡ Some later) × (r ≡ record later { records = record_bytes ∷ later.records }))
+
+-- a feed gave its next record, and a grouper took it behind those of its open group
+pub record HandsOn (before after : Option Rest) (old_bound new_bound : ℕ) (old new : Grouping) : Type 0 where
+  pub record_bytes : List ℕ
+  pub gives : GivesRecord before after record_bytes
+  pub takes : IsPush old record_bytes None new
+  pub at_most : length record_bytes ≤ 2 ^ 24
+  pub lowers : new_bound + length record_bytes + 1 ≤ old_bound

@@ -61,8 +61,8 @@ pub record AreGivenOf (all rest : Rest) (old new : Grouping) (given : List (List
 abbrev pub AreGiven : Option Rest → Option Rest → Grouping → Grouping → List (List (List ℕ)) → Type 0
 AreGiven before after old new given = IfSome before (λ all. (rest : Rest) × (after ≡ Some rest) × AreGivenOf all rest old new given)
 
--- a place that no chunk of an open group and of the records below a feed's bound reaches past, where the chunks go on
--- from a place: a group's chunk ends
--- within 23 times what the group costs, and a record of n bytes, which costs n + 8, lowers the bound by n + 1 or more
+-- a place that no chunk of an open group and of the records below a feed's bound reaches past, where the chunks go on from a
+-- place: a group's chunk ends within 23 times what the group costs, and a record of n bytes, which costs n + 8, lowers the
+-- bound by n + 1 or more
 abbrev pub reach_of : ℕ → Grouping → ℕ → ℕ
 reach_of place grouping bound = place + 23 * cost_of grouping.group + 184 * bound

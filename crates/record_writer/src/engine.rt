@@ -7,7 +7,7 @@ ghost use Rattle.record_group.specs.Groups.{groups, pads_start, pads_end};
 ghost use Rattle.record_group.specs.Groupings.{groups_from, IsPush};
 ghost use Rattle.record_writer.specs.Ends.{answer_of};
 ghost use Rattle.record_writer.specs.Feeds.{nothing_left};
-ghost use Rattle.record_writer.specs.Progresses.{Lays, LaysFront, nothing_made, totals_made, chunks_of_groups, reach_of};
+ghost use Rattle.record_writer.specs.Progresses.{AreGiven, Lays, LaysFront, nothing_made, totals_made, chunks_of_groups, reach_of};
 ghost use Rattle.record_writer.specs.Windows.{AreTaken};
 ghost use Rattle.record_writer.specs.Written.{AreInLimits, Answers, TakesFile, chunks_under, file_under};
 
@@ -19,6 +19,7 @@ use crate::window::{Window, put_group};
 use record_group::{Grouper, Pad};
 use record_io::{Bytes, Sink, Totals};
 use std::alloc::{AllocError, Global};
+use std::mem;
 use std::thread::{Threads, join_mut};
 
 /// Why a file of records was not written to the end of its feed. Own.
@@ -57,9 +58,10 @@ impl From<CutOff> for WriteEnd {
 ///
 /// Where a stop follows the records, the file of these is written too. The totals are of the file.
 ///
-/// The groups are coded and put window by window, each in a thread of its own while the next is taken. Where no thread
-/// can be made, that is done here, and where one window holds all groups, no thread is wanted. Held at a time are the
-/// groups of two windows, one chunk, the open group, and the record behind it, which is held twice.
+/// The chunks of groups are put window by window, each in a thread of its own while the next is taken. Where no thread can
+/// be made, that is done here, and where one window holds all groups, no thread is wanted. A window of more than 8 MiB is put
+/// before more is taken. So what is held at a time are two windows of 8 MiB at most, with as much that is kept for the next
+/// chunks, or one of less than 4 MiB and a large group; the open group; and the record behind it.
 ///
 /// # Errors
 ///
@@ -228,14 +230,14 @@ fn put_groups<R: Threads, L: RecordFeed, M: Sink + Send>(
     let mut grouper = Grouper::new(alloc, options.size, options.every);
     let stop = put_closed_groups(rt, file, alloc, &mut grouper, feed, made)?;
     if let Some(group) = grouper.finish() {
-        put_group(file, alloc, &group, made)?;
+        put_group(file, alloc, group, made)?;
     }
     Ok(stop)
 }
 
 /// Takes the feed's records, puts each group that closes, and answers which stop follows them.
 ///
-/// A window of groups is coded and put while the next one is taken.
+/// A window is put while the next one is taken, unless it is large.
 fn put_closed_groups<R: Threads, L: RecordFeed, M: Sink + Send>(
     rt: &R,
     file: &mut MadeFile,
@@ -267,6 +269,7 @@ fn put_closed_groups<R: Threads, L: RecordFeed, M: Sink + Send>(
 {
     let mut rec = Bytes::new(alloc);
     let mut window = Window::new(alloc);
+    let mut next = Window::new(alloc);
     let mut taken = take_window(alloc, grouper, feed, &mut rec, &mut window);
     let end = loop {
         match taken {
@@ -274,18 +277,18 @@ fn put_closed_groups<R: Threads, L: RecordFeed, M: Sink + Send>(
             Ok(Taken::All(stop)) => break Ok(stop),
             Err(cut) => break Err(cut),
         }
-        let mut next = Window::new(alloc);
+        window.put_if_large(file, made)?;
         let (put, then) = join_mut(
             rt,
-            &mut || window.put(alloc, file, made),
+            &mut || window.put(file, made),
             &mut || take_window(alloc, grouper, feed, &mut rec, &mut next),
         );
         put?;
-        window = next;
+        mem::swap(&mut window, &mut next);
         taken = then;
     };
     // What was taken before the work was cut off is put too.
-    window.put(alloc, file, made)?;
+    window.put(file, made)?;
     end
 }
 
@@ -321,8 +324,9 @@ fn take_window<L: RecordFeed>(
     ensures same_name { L.name feed.new ≡ L.name feed.old }
 {
     loop {
+        take_held(grouper, feed)?;
         match feed.pull(alloc, rec) {
-            Ok(true) => take_record(grouper, rec.as_slice(), window)?,
+            Ok(true) => take_record(alloc, grouper, rec, window)?,
             Ok(false) => return Ok(Taken::All(None)),
             Err(FeedEnd::Stop(stop)) => return Ok(Taken::All(Some(stop))),
             Err(FeedEnd::Failed) => return Err(CutOff::Input),
@@ -334,18 +338,37 @@ fn take_window<L: RecordFeed>(
     }
 }
 
-/// Takes a record, and keeps the group that closes before it, if one does.
-fn take_record(grouper: &mut Grouper, rec: &[u8], window: &mut Window) -> Result<(), AllocError>
-    requires short { length rec.now ≤ 2 ^ 24 }
+/// Takes the records that the feed holds, up to one before which a group closes.
+fn take_held<L: RecordFeed>(grouper: &mut Grouper, feed: &mut L) -> Result<(), AllocError>
+    ensures taken { AreGiven (L.rest feed.old) (L.rest feed.new) grouper.old grouper.new [] }
+    ensures lowers { L.bound feed.new ≤ L.bound feed.old }
+    ensures in_reach { (place : ℕ) → reach_of place grouper.new (L.bound feed.new) ≤ reach_of place grouper.old (L.bound feed.old) }
+    ensures same_going { L.going feed.new ≡ L.going feed.old }
+    ensures same_faults { L.faults feed.new ≡ L.faults feed.old }
+    ensures same_name { L.name feed.new ≡ L.name feed.old }
+{
+    while feed.push_held(grouper)? {}
+    Ok(())
+}
+
+/// Takes a record, and keeps the chunk of the group that closes before it, if one does.
+fn take_record(
+    alloc: Global,
+    grouper: &mut Grouper,
+    rec: &mut Bytes,
+    window: &mut Window,
+) -> Result<(), AllocError>
+    requires short { length rec.old ≤ 2 ^ 24 }
     ensures whole { OnOk result ((given : Option (List (List ℕ)))
-        × IsPush grouper.old rec.now given grouper.new
+        × IsPush grouper.old rec.old given grouper.new
         × (window.new ≡ window.old ++ option_to_list given)) }
     ensures kept { OnErr result (window.new ≡ window.old) }
     ensures in_reach { (place : ℕ) → reach_of (end_of_chunks place (chunks_of_groups window.new)) grouper.new 0
-        ≤ reach_of (end_of_chunks place (chunks_of_groups window.old)) grouper.old (length rec.now + 1) }
+        ≤ reach_of (end_of_chunks place (chunks_of_groups window.old)) grouper.old (length rec.old + 1) }
 {
-    if let Some(group) = grouper.push(rec)? {
-        window.push(group)?;
+    if let Some(mut group) = grouper.push_from(rec)? {
+        window.push(alloc, &mut group)?;
+        grouper.reuse(group);
     }
     Ok(())
 }

@@ -1,7 +1,8 @@
-ghost use Rattle.std.specs.Prelude.{◌≡◌, ℕ, ◌+◌, ◌^◌, ◌<◌, ◌≤◌, true, false, Bool, Option, length, IfSome, OnOk};
+ghost use Rattle.std.specs.Prelude.{◌≡◌, ◌≢◌, ℕ, ◌+◌, ◌^◌, ◌<◌, ◌≤◌, true, false, Bool, Option, length, IfSome, OnOk};
 ghost use Rattle.record_io.specs.Outside.{Rose};
-ghost use Rattle.record_writer.specs.Feeds.{Rest, GivesRecord, nothing_left, stop_alone};
+ghost use Rattle.record_writer.specs.Feeds.{Rest, GivesRecord, HandsOn, nothing_left, stop_alone};
 
+use record_group::Grouper;
 use record_io::{Bytes, Failed};
 use std::alloc::{AllocError, Global};
 
@@ -86,4 +87,18 @@ pub trait RecordFeed {
         ensures cause { result ≡ Err FeedEnd.Failed → Rose (faults self.old) (faults self.new) }
         ensures never_falls { faults self.old ≤ faults self.new }
         ensures small { faults self.old < 2 ^ 64 → faults self.new < 2 ^ 64 };
+
+    /// Hands the next record to the grouper, so that it is copied once, where the feed holds all of it and no group closes
+    /// before it, and answers whether that is so. Else, and after want of memory, both are as before. A feed need not do so.
+    fn push_held(&mut self, grouper: &mut Grouper) -> Result<bool, AllocError>
+        ensures pushed { result ≡ Ok true → HandsOn (rest self.old) (rest self.new) (bound self.old) (bound self.new) grouper.old grouper.new }
+        ensures rest_kept { result ≢ Ok true → rest self.new ≡ rest self.old }
+        ensures bound_kept { result ≢ Ok true → bound self.new ≡ bound self.old }
+        ensures grouper_kept { result ≢ Ok true → grouper.new ≡ grouper.old }
+        ensures same_going { going self.new ≡ going self.old }
+        ensures same_name { name self.new ≡ name self.old }
+        ensures same_faults { faults self.new ≡ faults self.old }
+    {
+        Ok(false)
+    }
 }

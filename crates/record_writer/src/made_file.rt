@@ -1,5 +1,6 @@
 ghost use Rattle.std.specs.Prelude.{◌≡◌, ◌≢◌, ◌^◌, ◌<◌, ◌≤◌, false, [], ◌∷◌, OnOk, OnErr};
 ghost use Rattle.record_io.specs.Outside.{Rose, Takes, TakesFront};
+ghost use Rattle.chunk_header.specs.SimpleChunks.{simple_chunk};
 ghost use Rattle.chunk_header.specs.Views.{value_of_chunk, HasRightHash};
 ghost use Rattle.meta_chunk.specs.Counts.{is_unread};
 ghost use Rattle.meta_chunk.specs.Files.{signature};
@@ -12,6 +13,7 @@ use chunk_header::Chunk;
 use meta_chunk::{Kind, kind_of};
 use ordered_writer::OrderedWriter;
 use record_io::{Failed, PutBuffer, Sink, Totals};
+use simple_chunk::SimpleChunk;
 use std::marker::Model;
 
 /// A file that is being made, chunk by chunk. Its bytes gather, up to 262,144 of them, before they go to the sink, so `flush`
@@ -92,6 +94,34 @@ impl MadeFile {
         } else {
             self.records += chunk.header.num_records;
         }
+        Ok(())
+    }
+
+    /// Puts the simple chunk of records, where the one before ends.
+    ///
+    /// # Errors
+    ///
+    /// `Failed` only where the sink failed. A front of what was held and the chunk was taken, and the rest is lost.
+    pub(crate) fn put_simple<M: Sink>(
+        &mut self,
+        made: &mut M,
+        chunk: &SimpleChunk,
+    ) -> Result<(), Failed>
+        requires going { self.old.spent ≡ false }
+        requires in_reach { end_of_chunk self.old.place (simple_chunk chunk.now) ≤ 2 ^ 62 }
+        ensures whole { OnOk result (Lays (M.taken made.old) (M.taken made.new) self.old self.new (simple_chunk chunk.now ∷ [])) }
+        ensures front { OnErr result (LaysFront (M.taken made.old) (M.taken made.new) self.old self.new (simple_chunk chunk.now ∷ [])) }
+        ensures cause { OnErr result (Rose (M.faults made.old) (M.faults made.new)) }
+        ensures never_falls { M.faults made.old ≤ M.faults made.new }
+        ensures small { M.faults made.old < 2 ^ 64 → M.faults made.new < 2 ^ 64 }
+        ensures same_name { M.name made.new ≡ M.name made.old }
+    {
+        let header = chunk.header();
+        let (front, records) = chunk.data();
+        self.writer
+            .put_parts_into(&mut self.buffer, made, header, front, records)?;
+        self.chunks += 1;
+        self.records += header.num_records;
         Ok(())
     }
 

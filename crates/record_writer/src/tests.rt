@@ -133,7 +133,7 @@ fn a_failed_sink_is_told_before_a_stop(rt: HostRuntime) -> Result<(), Fail> {
 }
 
 // A chunk of one letter takes 44 bytes of a file, beside a block header of 24 bytes in each 65,536. A group of one letter
-// counts as 137 bytes, so a window has 3827 of them.
+// counts as 265 bytes, so a window has 15,828 of them.
 const ONE_EACH: WriteOptions = WriteOptions {
     size: 1,
     workers: 1,
@@ -145,32 +145,32 @@ const ONE_EACH: WriteOptions = WriteOptions {
 fn windows_are_put_in_order(rt: HostRuntime) -> Result<(), Fail> {
     let mut made = MemSink::new(
         rt.alloc(),
-        1 << 19,
+        1 << 21,
         Vec::new(rt.alloc()),
         Vec::new(rt.alloc()),
     )?;
     let mut feed = Letters {
-        left: 9000,
+        left: 40_000,
         stop: None,
     };
     let totals = Totals {
-        chunks: 9001,
-        records: 9000,
-        bytes: 396_208,
+        chunks: 40_001,
+        records: 40_000,
+        bytes: 1_760_688,
         unread: 0,
     };
     let end = write_records(&rt, rt.alloc(), &ONE_EACH, &mut feed, &mut made);
     assert_eq!(rt; end, Ok(totals));
-    assert_eq!(rt; made.taken().len(), 396_208);
+    assert_eq!(rt; made.taken().len(), 1_760_688);
     Ok(())
 }
 
 #[test]
 fn a_window_is_dropped_where_the_one_before_fails(rt: HostRuntime) -> Result<(), Fail> {
     let fails = [1].to_vec(rt.alloc())?;
-    let mut made = MemSink::new(rt.alloc(), 1 << 20, Vec::new(rt.alloc()), fails)?;
+    let mut made = MemSink::new(rt.alloc(), 1 << 22, Vec::new(rt.alloc()), fails)?;
     let mut feed = Letters {
-        left: 20_000,
+        left: 60_000,
         stop: None,
     };
     let end = write_records(&rt, rt.alloc(), &ONE_EACH, &mut feed, &mut made);
@@ -183,16 +183,16 @@ fn a_window_is_dropped_where_the_one_before_fails(rt: HostRuntime) -> Result<(),
 fn what_was_taken_before_a_fault_is_put(rt: HostRuntime) -> Result<(), Fail> {
     let mut made = MemSink::new(
         rt.alloc(),
-        1 << 19,
+        1 << 21,
         Vec::new(rt.alloc()),
         Vec::new(rt.alloc()),
     )?;
     let mut feed = CutLetters {
-        left: 5000,
+        left: 20_000,
         faults: 0,
     };
     let end = write_records(&rt, rt.alloc(), &ONE_EACH, &mut feed, &mut made);
     assert_eq!(rt; end, Err(WriteEnd::Input));
-    assert_eq!(rt; made.taken().len(), 220_092);
+    assert_eq!(rt; made.taken().len(), 880_332);
     Ok(())
 }

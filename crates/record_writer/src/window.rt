@@ -1,4 +1,4 @@
-ghost use Rattle.std.specs.Prelude.{◌≡◌, ◌≢◌, ◌^◌, ◌<◌, ◌≤◌, false, [], ◌∷◌, ◌++◌, OnOk, OnErr};
+ghost use Rattle.std.specs.Prelude.{◌≡◌, ◌≢◌, ◌^◌, ◌<◌, ◌≤◌, false, List, ℕ, [], ◌∷◌, ◌++◌, OnOk, OnErr};
 ghost use Rattle.record_io.specs.Outside.{Rose};
 ghost use Rattle.chunk_header.specs.SimpleChunks.{simple_chunk};
 ghost use Rattle.meta_chunk.specs.Files.{end_of_chunks};
@@ -8,34 +8,41 @@ ghost use Rattle.record_writer.specs.Progresses.{Lays, LaysFront, chunks_of_grou
 
 use crate::cut_off::CutOff;
 use crate::made_file::MadeFile;
-use record_io::Sink;
-use simple_chunk::{Records, encode};
+use record_io::{Failed, Sink};
+use simple_chunk::{Records, SimpleChunk};
 use std::alloc::{AllocError, Global};
 use std::marker::Model;
+use std::mem;
 
-/// How many bytes a full window has at least: a group of the usual size fills one, and small groups share one, so that
-/// they don't cost a thread each.
-const WINDOW_SIZE: u64 = 1 << 19;
+/// How many bytes a full window has at least, so that the start of a thread costs little beside it.
+const FULL: u64 = 1 << 22;
+
+/// How many bytes a window has at most that is held while the next one is taken, and how many it keeps at most for the
+/// chunks after those that were put.
+const LARGEST: u64 = 1 << 23;
 
 /// About how many bytes a group takes beside what it costs.
-const GROUP_SIZE: u64 = 128;
+const GROUP_OVERHEAD: u64 = 256;
 
-/// Groups that wait to be coded and put together, which contracts see as the list of them. Own.
+/// The chunks of groups that wait to be put together, which contracts see as the list of the groups. Own.
 #[derive(Drop)]
 pub struct Window {
-    groups: Vec<Records>,
+    /// The chunks, and behind them others that were put, whose memory serves again.
+    chunks: Vec<SimpleChunk>,
+    count: usize,
     size: u64,
+    /// How many bytes the largest group had for which there is memory.
+    largest: u64,
 }
 
 impl Model for Window {
-    ghost use Rattle.std.specs.Prelude.{ℕ, ◌^◌, ◌≤◌, All, List};
-    ghost use Rattle.simple_chunk.specs.Costs.{cost_of};
+    ghost use Rattle.std.specs.Prelude.{List, ℕ, ◌≤◌, length, take};
 
     ghost Value = { List (List (List ℕ)) };
 
-    ghost view = { λ w. w.groups.items };
+    ghost view = { λ w. take w.count w.chunks.items };
 
-    ghost invariant = { λ w. All (λ group. cost_of group ≤ 2 ^ 25) w.groups.items };
+    ghost invariant = { λ w. w.count ≤ length w.chunks.items };
 }
 
 impl Window {
@@ -44,76 +51,126 @@ impl Window {
         ensures { result ≡ [] }
     {
         Window {
-            groups: Vec::new(alloc),
+            chunks: Vec::new(alloc),
+            count: 0,
             size: 0,
+            largest: 0,
         }
     }
 
     /// Whether it has so many bytes that they should be put.
     pub fn is_full(&self) -> bool {
-        self.size >= WINDOW_SIZE
+        self.size >= FULL
     }
 
-    /// Takes a group behind the others. After want of memory the window is as before.
-    pub fn push(&mut self, group: Records) -> Result<(), AllocError>
-        requires { cost_of group ≤ 2 ^ 25 }
-        ensures appends { OnOk result (self.new ≡ self.old ++ group ∷ []) }
+    /// Codes a group and takes its chunk behind the others, and gives records in the group's place, whose memory can serve
+    /// again. After want of memory the window is as before.
+    pub fn push(&mut self, alloc: Global, group: &mut Records) -> Result<(), AllocError>
+        requires { cost_of group.old ≤ 2 ^ 25 }
+        ensures appends { OnOk result (self.new ≡ self.old ++ group.old ∷ []) }
         ensures kept { OnErr result (self.new ≡ self.old) }
     {
-        let size = group.cost() + GROUP_SIZE;
-        self.groups.push(group)?;
+        let size = group.cost() + GROUP_OVERHEAD;
+        match self.chunks.get_mut(self.count) {
+            Some(chunk) => chunk.replace(group)?,
+            None => {
+                let group = mem::replace(group, Records::new(alloc));
+                self.chunks.push(SimpleChunk::new(alloc, group)?)?;
+            }
+        }
+        self.count += 1;
         self.size = self.size.saturating_add(size);
+        self.largest = self.largest.max(size);
         Ok(())
     }
 
-    /// Codes and puts the groups, one after another.
+    /// Puts the chunks, one after another, of which none is left then.
     ///
     /// # Errors
     ///
-    /// `Made` only where the sink failed, and `Memory`. A front of what was held and the groups' chunks was taken or is
-    /// held, and the rest is lost.
-    pub fn put<M: Sink>(
-        &self,
-        alloc: Global,
-        file: &mut MadeFile,
-        made: &mut M,
-    ) -> Result<(), CutOff>
+    /// `Failed` only where the sink failed. It took a front of what was held and the chunks.
+    pub fn put<M: Sink>(&mut self, file: &mut MadeFile, made: &mut M) -> Result<(), Failed>
         requires going { file.old.spent ≡ false }
-        requires in_reach { end_of_chunks file.old.place (chunks_of_groups self.now) ≤ 2 ^ 62 }
-        ensures whole { OnOk result (Lays (M.taken made.old) (M.taken made.new) file.old file.new (chunks_of_groups self.now)) }
-        ensures front { OnErr result (LaysFront (M.taken made.old) (M.taken made.new) file.old file.new (chunks_of_groups self.now)) }
-        ensures no_input { result ≢ Err CutOff.Input }
-        ensures made_cause { result ≡ Err CutOff.Made → Rose (M.faults made.old) (M.faults made.new) }
-        ensures made_count { M.faults made.old ≤ M.faults made.new }
-        ensures made_small { M.faults made.old < 2 ^ 64 → M.faults made.new < 2 ^ 64 }
-        ensures made_name { M.name made.new ≡ M.name made.old }
+        requires in_reach { end_of_chunks file.old.place (chunks_of_groups self.old) ≤ 2 ^ 62 }
+        ensures emptied { OnOk result (self.new ≡ []) }
+        ensures whole { OnOk result (Lays (M.taken made.old) (M.taken made.new) file.old file.new (chunks_of_groups self.old)) }
+        ensures front { OnErr result (LaysFront (M.taken made.old) (M.taken made.new) file.old file.new (chunks_of_groups self.old)) }
+        ensures cause { OnErr result (Rose (M.faults made.old) (M.faults made.new)) }
+        ensures never_falls { M.faults made.old ≤ M.faults made.new }
+        ensures small { M.faults made.old < 2 ^ 64 → M.faults made.new < 2 ^ 64 }
+        ensures same_name { M.name made.new ≡ M.name made.old }
     {
-        for group in &self.groups {
-            put_group(file, alloc, group, made)?;
+        for chunk in &self.chunks[..self.count] {
+            file.put_simple(made, chunk)?;
         }
+        self.empty();
         Ok(())
+    }
+
+    /// Puts them where they are too many bytes to be held while others are taken.
+    ///
+    /// # Errors
+    ///
+    /// As `put`.
+    pub fn put_if_large<M: Sink>(&mut self, file: &mut MadeFile, made: &mut M) -> Result<(), Failed>
+        requires going { file.old.spent ≡ false }
+        requires in_reach { end_of_chunks file.old.place (chunks_of_groups self.old) ≤ 2 ^ 62 }
+        ensures whole { OnOk result ((given : List (List (List ℕ))) × (self.old ≡ given ++ self.new)
+            × Lays (M.taken made.old) (M.taken made.new) file.old file.new (chunks_of_groups given)) }
+        ensures same_end { OnOk result (end_of_chunks file.new.place (chunks_of_groups self.new)
+            ≡ end_of_chunks file.old.place (chunks_of_groups self.old)) }
+        ensures going { OnOk result (file.new.spent ≡ false) }
+        ensures front { OnErr result (LaysFront (M.taken made.old) (M.taken made.new) file.old file.new (chunks_of_groups self.old)) }
+        ensures cause { OnErr result (Rose (M.faults made.old) (M.faults made.new)) }
+        ensures never_falls { M.faults made.old ≤ M.faults made.new }
+        ensures small { M.faults made.old < 2 ^ 64 → M.faults made.new < 2 ^ 64 }
+        ensures same_name { M.name made.new ≡ M.name made.old }
+    {
+        if self.size > LARGEST {
+            self.put(file, made)
+        } else {
+            Ok(())
+        }
+    }
+
+    /// Forgets the chunks, and keeps their memory unless it may be much: each may have the room of the largest.
+    fn empty(&mut self)
+        ensures { self.new ≡ [] }
+    {
+        let kept = self.largest.saturating_mul(self.chunks.len() as u64);
+        if kept > LARGEST {
+            self.chunks.clear();
+            self.largest = 0;
+        }
+        self.count = 0;
+        self.size = 0;
     }
 }
 
 /// Puts the chunk of a group.
+///
+/// # Errors
+///
+/// `Made` only where the sink failed, and `Memory`. A front of what was held and the chunk was taken or is held, and the
+/// rest is lost.
 pub fn put_group<M: Sink>(
     file: &mut MadeFile,
     alloc: Global,
-    group: &Records,
+    group: Records,
     made: &mut M,
 ) -> Result<(), CutOff>
     requires going { file.old.spent ≡ false }
-    requires short { cost_of group.now ≤ 2 ^ 25 }
-    requires in_reach { end_of_chunk file.old.place (simple_chunk group.now) ≤ 2 ^ 62 }
-    ensures whole { OnOk result (Lays (M.taken made.old) (M.taken made.new) file.old file.new (simple_chunk group.now ∷ [])) }
-    ensures front { OnErr result (LaysFront (M.taken made.old) (M.taken made.new) file.old file.new (simple_chunk group.now ∷ [])) }
+    requires short { cost_of group ≤ 2 ^ 25 }
+    requires in_reach { end_of_chunk file.old.place (simple_chunk group) ≤ 2 ^ 62 }
+    ensures whole { OnOk result (Lays (M.taken made.old) (M.taken made.new) file.old file.new (simple_chunk group ∷ [])) }
+    ensures front { OnErr result (LaysFront (M.taken made.old) (M.taken made.new) file.old file.new (simple_chunk group ∷ [])) }
     ensures no_input { result ≢ Err CutOff.Input }
     ensures made_cause { result ≡ Err CutOff.Made → Rose (M.faults made.old) (M.faults made.new) }
     ensures made_count { M.faults made.old ≤ M.faults made.new }
     ensures made_small { M.faults made.old < 2 ^ 64 → M.faults made.new < 2 ^ 64 }
     ensures made_name { M.name made.new ≡ M.name made.old }
 {
-    let chunk = encode(alloc, group)?;
-    file.put(made, &chunk)?;
+    let chunk = SimpleChunk::new(alloc, group)?;
+    file.put_simple(made, &chunk)?;
     Ok(())
 }

@@ -1,5 +1,5 @@
 -- What a feed of lines gave of its text, and what is left of it then.
-use Rattle.std.proofs.Common.{◌≡◌, ◌∙◌, ℕ, ◌+◌, ◌-◌, ◌<◌, ◌≤◌, ◌↔◌, Bool, true, false, not, IsTrue, List, [], ◌∷◌, ◌++◌, Option, Some, None, Result, Ok, length, take, drop, option_map, unwrap_or, refl, sym, ap, subst, arith, length-append, append_assoc, append-nil}
+use Rattle.std.proofs.Common.{◌≡◌, ◌∙◌, ℕ, zero as nought, suc, ◌+◌, ◌-◌, ◌<◌, ◌≤◌, ◌↔◌, Bool, true, false, not, IsTrue, List, [], ◌∷◌, ◌++◌, Option, Some, None, Result, Ok, length, take, drop, option_map, unwrap_or, refl, sym, ap, subst, arith, length-append, append_assoc, append-nil}
 use Rattle.std.specs.Option.{IfSome}
 use Rattle.std.proofs.lemmas.List.{take-append-drop, length-take-le}
 use Rattle.record_writer.specs.declared.feed.Stop.{Stop}
@@ -168,6 +168,15 @@ next-line hex hex_then bound asked asked_then n line held held_then given left l
     omega (arith, ap length is, length-append line piece, ap length parts, length-append piece (10 ∷ held_then)) in
     GivesRecord-same _ _ _ _ given before after
     (line-told bound (length held_then + asked_then) given held_then left (subst NoneEnds (sym is) (NoneEnds-append line piece front back)) short size (omega arith))
+
+-- no byte of none ends a line
+pub NoneEnds-none : NoneEnds []
+NoneEnds-none k within = absurd (omega arith)
+
+-- where some bytes are held, more are asked
+pub asked-some : (asked : ℕ) (held : List ℕ) → (asked ≡ 0 → held ≡ []) → 0 < length held → 0 < asked
+asked-some nought held none some = absurd (omega (arith, some, ap length (none refl)))
+asked-some (suc asked) held none some = omega arith
 
 -- the back of a list that is empty
 no_back : (front back : List ℕ) → front ++ back ≡ [] → back ≡ []

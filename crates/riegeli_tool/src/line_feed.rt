@@ -1,13 +1,14 @@
-ghost use Rattle.std.specs.Prelude.{◌≡◌, ◌≢◌, ◌+◌, ◌^◌, ◌<◌, ◌≤◌, List, ℕ, [], ◌∷◌, ◌++◌, Option, Some, true, false, length, take, option_map, unwrap_or, IfOk, IfSome, OnErr};
+ghost use Rattle.std.specs.Prelude.{◌≡◌, ◌≢◌, ◌+◌, ◌^◌, ◌<◌, ◌≤◌, List, ℕ, [], ◌∷◌, ◌++◌, Option, Some, true, false, length, take, drop, option_map, unwrap_or, IfOk, IfSome, OnErr};
 ghost use Rattle.record_io.specs.Outside.{Rose};
 ghost use Rattle.riegeli_tool.specs.Input.{NoneEnds, line_limit, taken_from};
 ghost use Rattle.riegeli_tool.specs.LineFeeds.{text_of, rest_of};
 
 use crate::window::Window;
 use memchr::memchr;
+use record_group::Grouper;
 use record_io::{Bytes, Source};
 use record_writer::{FeedEnd, RecordFeed, Stop};
-use std::alloc::Global;
+use std::alloc::{AllocError, Global};
 
 /// The lines of an input as a feed of records.
 ///
@@ -22,6 +23,8 @@ pub struct LineFeed<'a, I: Source> {
     /// end was seen.
     asked: u64,
     window: Window,
+    /// How many bytes the last line had that was given so, for which the next one takes room at once.
+    room: usize,
     ghost plain: { hex ≡ false },
     ghost all_given: { asked ≡ 0 → window ≡ [] },
     ghost ended: { asked ≡ 0 → unwrap_or (I.left input.now) [] ≡ [] },
@@ -44,6 +47,7 @@ impl<'a, I: Source> LineFeed<'a, I> {
             hex,
             asked: limit + 1,
             window: Window::new(),
+            room: 0,
         }
     }
 
@@ -116,6 +120,14 @@ impl<'a, I: Source> LineFeed<'a, I> {
     }
 }
 
+/// How many bytes stand before the first byte 10, if there is one.
+fn line_end(bytes: &[u8]) -> Option<usize>
+    ensures { IfSome result (λ n. (n < length bytes.now) × NoneEnds (take n bytes.now)
+        × (bytes.now ≡ take n bytes.now ++ 10 ∷ drop (n + 1) bytes.now)) }
+{
+    memchr(b'\n', bytes)
+}
+
 /// How many bytes a line may have.
 fn most_bytes(hex: bool) -> usize
     ensures { result ≡ line_limit hex }
@@ -134,11 +146,25 @@ impl<'a, I: Source> RecordFeed for LineFeed<'a, I> {
 
     fn pull(&mut self, _alloc: Global, into: &mut Bytes) -> Result<bool, FeedEnd> {
         into.clear();
+        into.reserve(self.room)?;
         while self.refill()? {
             if self.grow(into)? {
+                self.room = into.len();
                 return Ok(true);
             }
         }
         Ok(!into.is_empty())
+    }
+
+    fn push_held(&mut self, grouper: &mut Grouper) -> Result<bool, AllocError> {
+        let held = self.window.as_slice();
+        let Some(end) = line_end(held) else {
+            return Ok(false);
+        };
+        if !grouper.push_open(&held[..end])? {
+            return Ok(false);
+        }
+        self.window.skip(end + 1);
+        Ok(true)
     }
 }

@@ -39,7 +39,8 @@ impl Window {
 
     /// The bytes.
     pub(crate) fn as_slice(&self) -> &[u8]
-        ensures { result.now ≡ self.now }
+        ensures value { result.now ≡ self.now }
+        ensures short { length self.now ≤ 65536 }
     {
         &self.bytes[self.begin..self.end]
     }

@@ -1,4 +1,4 @@
-use Rattle.std.proofs.Common.{◌≡◌, ◌≢◌, ℕ, ◌^◌, ◌<◌, ◌≤◌, ◌++◌, true, Some, None, Ok, Err, List, IfSome}
+use Rattle.std.proofs.Common.{◌≡◌, ◌≢◌, ℕ, ◌^◌, ◌<◌, ◌≤◌, ◌++◌, true, Some, None, Ok, Err, List, [], IfSome}
 use Rattle.record_io.specs.Outside.{Rose}
 use Rattle.meta_chunk.specs.Files.{end_of_chunks}
 use Rattle.record_writer.specs.declared.cut_off.CutOff.TheVariants.{Input, Made}
@@ -14,6 +14,7 @@ invariant-loop-taken g l = record {
   laid : (given : List (List (List ℕ)))
       × Lays (g.M.Sink.taken l.fn.made) (g.M.Sink.taken l.made) l.fn.file l.file (chunks_of_groups given)
       × AreTaken l.taken (g.L.RecordFeed.rest l.fn.feed) (g.L.RecordFeed.rest l.feed) l.fn.grouper l.grouper (given ++ l.window);
+  next : l.next ≡ [];
   feed_going : l.taken ≡ Ok Window → g.L.RecordFeed.going l.feed ≡ true;
   in_reach : reach_of (end_of_chunks l.file.place (chunks_of_groups l.window)) l.grouper (g.L.RecordFeed.bound l.feed) ≤ 2 ^ 60;
   drained : l.taken ≡ Ok (All None) → IfSome (g.L.RecordFeed.rest l.fn.feed) (λ _. g.L.RecordFeed.rest l.feed ≡ Some nothing_left);

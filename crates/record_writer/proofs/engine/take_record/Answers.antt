@@ -6,5 +6,6 @@ pub returns-in_ok-push-clause-in_reach : goal.returns-in_ok-push-clause-in_reach
 returns-in_ok-push-clause-in_reach c = λ place.
     let push = rw c.in-Some.is at c.in_ok-group.ensures.push in
     let limits = rw c.in-Some.is at c.in_ok-group.ensures.limits in
-    reach_of-taken c.args.grouper.now c.push.new.self c.args.rec.now (Some c.in-Some.group) c.args.window.now c.push-in-Some.new.self place push limits.some
-    c.in_ok-push.ensures.appends
+    rw c.reuse.ensures
+    (reach_of-taken c.args.grouper.now c.push_from.new.self c.args.rec.now (Some c.in-Some.group) c.args.window.now c.push.new.self place push limits.some
+    c.in_ok-push.ensures.appends)

@@ -3,8 +3,8 @@ use Rattle.meta_chunk.specs.Files.{end_of_chunks}
 use Rattle.record_writer.specs.Progresses.{AreGiven, chunks_of_groups, reach_of}
 use Rattle.record_writer.proofs.engine.take_window.Given as goal
 
-abbrev pub invariant-loop-grouper : goal.invariant-loop-grouper
-invariant-loop-grouper g l = record {
+abbrev pub invariant-loop-feed : goal.invariant-loop-feed
+invariant-loop-feed g l = record {
   given : AreGiven (g.L.RecordFeed.rest l.fn.feed) (g.L.RecordFeed.rest l.feed) l.fn.grouper l.grouper l.window;
   feed_going : g.L.RecordFeed.going l.feed ≡ true;
   in_reach : (place : ℕ) → reach_of (end_of_chunks place (chunks_of_groups l.window)) l.grouper (g.L.RecordFeed.bound l.feed)
@@ -15,5 +15,5 @@ invariant-loop-grouper g l = record {
   same_name : g.L.RecordFeed.name l.feed ≡ g.L.RecordFeed.name l.fn.feed;
 }
 
-abbrev pub decreases-loop-grouper : goal.decreases-loop-grouper
-decreases-loop-grouper g l = g.L.RecordFeed.bound l.feed
+abbrev pub decreases-loop-feed : goal.decreases-loop-feed
+decreases-loop-feed g l = g.L.RecordFeed.bound l.feed

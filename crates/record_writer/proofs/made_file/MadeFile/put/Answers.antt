@@ -1,12 +1,10 @@
-use Rattle.std.proofs.Common.{ℕ, ◌∙◌, ◌+◌, ◌≤◌, length, sym, ap, arith}
+use Rattle.std.proofs.Common.{◌∙◌, sym, ap, arith}
 use Rattle.std.proofs.lemmas.Result.{err_from_is_err_and}
-use Rattle.block_layout.proofs.ChunkEnds.{chunk_end_of_past_records}
-use Rattle.chunk_header.specs.Chunks.{ChunkValue}
 use Rattle.chunk_header.specs.Views.{value_of_chunk}
-use Rattle.meta_chunk.specs.Laid.{end_of_chunk}
-use Rattle.meta_chunk.proofs.LaidChunks.{end_of_chunk_after}
 use Rattle.ordered_writer.specs.Writers.{Writer}
-use Rattle.record_writer.proofs.Layings.{Lays-unread, Lays-read, LaysFront-one, laid_as-right}
+use Rattle.record_writer.proofs.Layings.{Lays-unread, Lays-read, LaysFront-one}
+use Rattle.ordered_writer.proofs.RightChunks.{laid_as-right}
+use Rattle.record_writer.proofs.Ends.{ends_past}
 use Rattle.record_writer.proofs.made_file.MadeFile.put.Goals as goal
 
 pub returns-in_err-put_into-clause-front : goal.returns-in_err-put_into-clause-front
@@ -17,34 +15,27 @@ returns-in_err-put_into-clause-front g c =
     (LaysFront-one _ _ _ _ (value_of_chunk c.args.chunk.now) c.in_err-put_into.ensures.emptied
     (rw right at c.in_err-put_into.ensures.front))
 
--- the counts stay below where the chunk ends
-ends : (place records : ℕ) (k : ChunkValue) → records ≤ place → (place + 40 ≤ end_of_chunk place k) × (records + k.num_records ≤ end_of_chunk place k)
-ends place records k few = (
-  end_of_chunk_after place k,
-  omega (arith, chunk_end_of_past_records place (40 + length k.«data») k.num_records),
-)
-
 pub overflow_add-self : goal.overflow_add-self
 overflow_add-self g c =
     let reach = rw (← c.self.view_is) at c.requires.in_reach in
-    omega (arith, reach, ends c.self.inside.writer.position c.self.inside.records (value_of_chunk c.args.chunk.now) c.self.invariant.1)
+    omega (arith, reach, ends_past c.self.inside.writer.position c.self.inside.records (value_of_chunk c.args.chunk.now) c.self.invariant.1)
 
 pub overflow_add-self-then-is_unread : goal.overflow_add-self-then-is_unread
 overflow_add-self-then-is_unread g c =
     let reach = rw (← c.self.view_is) at c.requires.in_reach in
-    omega (arith, reach, c.self.invariant, ends c.self.inside.writer.position c.self.inside.records (value_of_chunk c.args.chunk.now) c.self.invariant.1)
+    omega (arith, reach, c.self.invariant, ends_past c.self.inside.writer.position c.self.inside.records (value_of_chunk c.args.chunk.now) c.self.invariant.1)
 
 pub overflow_add-self-else-is_unread : goal.overflow_add-self-else-is_unread
 overflow_add-self-else-is_unread g c =
     let reach = rw (← c.self.view_is) at c.requires.in_reach in
-    omega (arith, reach, ends c.self.inside.writer.position c.self.inside.records (value_of_chunk c.args.chunk.now) c.self.invariant.1)
+    omega (arith, reach, ends_past c.self.inside.writer.position c.self.inside.records (value_of_chunk c.args.chunk.now) c.self.invariant.1)
 
 pub invariant_of-self-then-is_unread : goal.invariant_of-self-then-is_unread
 invariant_of-self-then-is_unread g c =
     omega (
       arith,
       ap (λ (w : Writer). w.position) c.in_ok-put_into.ensures.moved,
-      ends c.self.inside.writer.position c.self.inside.records (value_of_chunk c.args.chunk.now) c.self.invariant.1,
+      ends_past c.self.inside.writer.position c.self.inside.records (value_of_chunk c.args.chunk.now) c.self.invariant.1,
     )
 
 pub invariant_of-self-else-is_unread : goal.invariant_of-self-else-is_unread
@@ -52,7 +43,7 @@ invariant_of-self-else-is_unread g c =
     omega (
       arith,
       ap (λ (w : Writer). w.position) c.in_ok-put_into.ensures.moved,
-      ends c.self.inside.writer.position c.self.inside.records (value_of_chunk c.args.chunk.now) c.self.invariant.1,
+      ends_past c.self.inside.writer.position c.self.inside.records (value_of_chunk c.args.chunk.now) c.self.invariant.1,
     )
 
 pub returns-then-is_unread-clause-whole : goal.returns-then-is_unread-clause-whole

@@ -1,0 +1,16 @@
+use Rattle.std.proofs.Common.{◌≡◌, ℕ, ◌≤◌, []}
+use Rattle.record_writer.specs.Progresses.{AreGiven, reach_of}
+use Rattle.record_writer.proofs.engine.take_held.Given as goal
+
+abbrev pub invariant-loop : goal.invariant-loop
+invariant-loop g l = record {
+  given : AreGiven (g.L.RecordFeed.rest l.fn.feed) (g.L.RecordFeed.rest l.feed) l.fn.grouper l.grouper [];
+  lowers : g.L.RecordFeed.bound l.feed ≤ g.L.RecordFeed.bound l.fn.feed;
+  in_reach : (place : ℕ) → reach_of place l.grouper (g.L.RecordFeed.bound l.feed) ≤ reach_of place l.fn.grouper (g.L.RecordFeed.bound l.fn.feed);
+  same_going : g.L.RecordFeed.going l.feed ≡ g.L.RecordFeed.going l.fn.feed;
+  same_faults : g.L.RecordFeed.faults l.feed ≡ g.L.RecordFeed.faults l.fn.feed;
+  same_name : g.L.RecordFeed.name l.feed ≡ g.L.RecordFeed.name l.fn.feed;
+}
+
+abbrev pub decreases-loop : goal.decreases-loop
+decreases-loop g l = g.L.RecordFeed.bound l.feed
