@@ -137,6 +137,14 @@ impl Bytes {
         self.as_slice().len()
     }
 
+    /// For how many bytes there is memory, those that there are among them.
+    pub fn room(&self) -> usize {
+        match &self.held {
+            Held::Own(bytes) => bytes.capacity(),
+            Held::Shared(bytes, _) => bytes.len(),
+        }
+    }
+
     /// Whether there are no bytes.
     pub fn is_empty(&self) -> bool
         ensures { IsTrue result ↔ (self.now ≡ []) }
