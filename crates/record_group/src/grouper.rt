@@ -18,7 +18,7 @@ pub struct Grouper {
     size: u64,
     every: Option<u64>,
     group: Records,
-    /// How many bytes and records a group has room for: what the last one needed, and an eighth more.
+    /// How many bytes and records a group of several takes room for: what the last one needed, and an eighth more.
     room: (usize, usize),
     /// No records, in whose memory the next group opens.
     spare: Records,
@@ -142,16 +142,18 @@ impl Grouper {
     {
         if self.group.len() == 1 {
             let (bytes, records) = self.room;
-            self.group.reserve(bytes, records)?;
+            let more = bytes.saturating_sub(self.group.values().len());
+            self.group.reserve(more, records)?;
         }
         Ok(())
     }
 
-    /// How many bytes and records the open group has, and an eighth more.
+    /// How many bytes and records the open group has, and an eighth more, but no more bytes than one of several records has.
     fn room_needed(&self) -> (usize, usize) {
         let bytes = self.group.values().len();
         let records = self.group.len();
-        (bytes + bytes / 8, records + records / 8)
+        let most = self.size as usize;
+        (most.min(bytes + bytes / 8), records + records / 8)
     }
 
     /// Whether the open group closes before the record.

@@ -12,6 +12,9 @@ use std::mem;
 /// What a record costs beside its bytes. Own.
 pub const RECORD_COST: u64 = 8;
 
+/// How many bytes the place takes where a record ends.
+const END_SIZE: u64 = 8;
+
 /// Fewer bytes than these are copied: their room serves the next record then.
 const LEAST_MOVED: usize = 1 << 16;
 
@@ -63,14 +66,14 @@ impl Records {
         Ok(())
     }
 
-    /// Appends a record, whose bytes are taken out of `rec`: a long one that is the first isn't copied. After want of memory
-    /// both are as before.
+    /// Appends a record. A long one that is the first, and takes half of its room or more, isn't copied, so `rec` may hold
+    /// anything then. After want of memory both are as before.
     pub fn push_from(&mut self, rec: &mut Bytes) -> Result<(), AllocError>
         ensures appends { OnOk result (self.new ≡ self.old ++ rec.old ∷ []) }
         ensures kept { OnErr result (self.new ≡ self.old) }
         ensures rec_kept { OnErr result (rec.new ≡ rec.old) }
     {
-        if !self.is_empty() || rec.len() < LEAST_MOVED {
+        if !self.is_empty() || rec.len() < LEAST_MOVED || rec.len() < rec.room() / 2 {
             return self.push(rec.as_slice());
         }
         self.ends.reserve(1)?;
@@ -125,6 +128,12 @@ impl Records {
         ensures are_bytes { AllByRecursion AreBytes self.now }
     {
         self.values.as_slice()
+    }
+
+    /// For how many bytes there is memory, with that for the places where the records end.
+    pub fn room(&self) -> u64 {
+        let ends = END_SIZE.saturating_mul(self.ends.capacity() as u64);
+        ends.saturating_add(self.values.room() as u64)
     }
 
     /// What the records cost: for each its length and 8. Own.
