@@ -1,3 +1,4 @@
+pub mod Causes
 pub mod Feeds
 pub mod Written
 pub mod Progresses

@@ -5,6 +5,7 @@ ghost use Rattle.meta_chunk.specs.Counts.{totals_of};
 ghost use Rattle.meta_chunk.specs.Files.{end_of_chunks};
 ghost use Rattle.record_group.specs.Groups.{groups, pads_start, pads_end};
 ghost use Rattle.record_group.specs.Groupings.{groups_from, IsPush};
+ghost use Rattle.record_writer.specs.Causes.{AreCauses};
 ghost use Rattle.record_writer.specs.Ends.{answer_of};
 ghost use Rattle.record_writer.specs.Feeds.{nothing_left};
 ghost use Rattle.record_writer.specs.Progresses.{AreGiven, Lays, LaysFront, nothing_made, totals_made, chunks_of_groups, reach_of};
@@ -20,6 +21,7 @@ use record_group::{Grouper, Pad};
 use record_io::{Bytes, Sink, Totals};
 use std::alloc::{AllocError, Global};
 use std::mem;
+use std::sync::atomic::{AtomicBool, Ordering};
 use std::thread::{Threads, join_mut};
 
 /// Why a file of records was not written to the end of its feed. Own.
@@ -60,8 +62,8 @@ impl From<CutOff> for WriteEnd {
 ///
 /// The chunks of groups are put window by window, each in a thread of its own while the next is taken. Where no thread can
 /// be made, that is done here, and where one window holds all groups, no thread is wanted. A window of more than 8 MiB is put
-/// before more is taken. So what is held at a time are two windows of 8 MiB at most, with as much that is kept for the next
-/// chunks, or one of less than 4 MiB and a large group; the open group; and the record behind it.
+/// before more is taken. So what is held at a time are two windows, one of 8 MiB at most and one of less than 6 MiB but for
+/// its last group, with as much that is kept for the next chunks; the open group; and the record behind it.
 ///
 /// # Errors
 ///
@@ -131,12 +133,7 @@ fn write_feed<R: Threads, L: RecordFeed, M: Sink + Send>(
     ensures front { OnErr result (IfSome (L.rest feed.old) (λ rest.
         TakesFront (M.taken made.old) (M.taken made.new) (file_under options.now rest.records))) }
     ensures drained { result ≡ Ok None → IfSome (L.rest feed.old) (λ _. L.rest feed.new ≡ Some nothing_left) }
-    ensures input_cause { result ≡ Err CutOff.Input → Rose (L.faults feed.old) (L.faults feed.new) }
-    ensures made_cause { result ≡ Err CutOff.Made → Rose (M.faults made.old) (M.faults made.new) }
-    ensures input_count { L.faults feed.old ≤ L.faults feed.new }
-    ensures input_small { L.faults feed.old < 2 ^ 64 → L.faults feed.new < 2 ^ 64 }
-    ensures made_count { M.faults made.old ≤ M.faults made.new }
-    ensures made_small { M.faults made.old < 2 ^ 64 → M.faults made.new < 2 ^ 64 }
+    ensures causes { AreCauses result (L.faults feed.old) (L.faults feed.new) (M.faults made.old) (M.faults made.new) }
     ensures input_name { L.name feed.new ≡ L.name feed.old }
     ensures made_name { M.name made.new ≡ M.name made.old }
 {
@@ -165,12 +162,7 @@ fn put_chunks<R: Threads, L: RecordFeed, M: Sink + Send>(
     ensures front { OnErr result (IfSome (L.rest feed.old) (λ rest.
         LaysFront (M.taken made.old) (M.taken made.new) file.old file.new (chunks_under options.now rest.records))) }
     ensures drained { result ≡ Ok None → IfSome (L.rest feed.old) (λ _. L.rest feed.new ≡ Some nothing_left) }
-    ensures input_cause { result ≡ Err CutOff.Input → Rose (L.faults feed.old) (L.faults feed.new) }
-    ensures made_cause { result ≡ Err CutOff.Made → Rose (M.faults made.old) (M.faults made.new) }
-    ensures input_count { L.faults feed.old ≤ L.faults feed.new }
-    ensures input_small { L.faults feed.old < 2 ^ 64 → L.faults feed.new < 2 ^ 64 }
-    ensures made_count { M.faults made.old ≤ M.faults made.new }
-    ensures made_small { M.faults made.old < 2 ^ 64 → M.faults made.new < 2 ^ 64 }
+    ensures causes { AreCauses result (L.faults feed.old) (L.faults feed.new) (M.faults made.old) (M.faults made.new) }
     ensures input_name { L.name feed.new ≡ L.name feed.old }
     ensures made_name { M.name made.new ≡ M.name made.old }
 {
@@ -218,12 +210,7 @@ fn put_groups<R: Threads, L: RecordFeed, M: Sink + Send>(
     ensures going { OnOk result (file.new.spent ≡ false) }
     ensures in_reach { OnOk result (file.new.place ≤ 2 ^ 60) }
     ensures drained { result ≡ Ok None → IfSome (L.rest feed.old) (λ _. L.rest feed.new ≡ Some nothing_left) }
-    ensures input_cause { result ≡ Err CutOff.Input → Rose (L.faults feed.old) (L.faults feed.new) }
-    ensures made_cause { result ≡ Err CutOff.Made → Rose (M.faults made.old) (M.faults made.new) }
-    ensures input_count { L.faults feed.old ≤ L.faults feed.new }
-    ensures input_small { L.faults feed.old < 2 ^ 64 → L.faults feed.new < 2 ^ 64 }
-    ensures made_count { M.faults made.old ≤ M.faults made.new }
-    ensures made_small { M.faults made.old < 2 ^ 64 → M.faults made.new < 2 ^ 64 }
+    ensures causes { AreCauses result (L.faults feed.old) (L.faults feed.new) (M.faults made.old) (M.faults made.new) }
     ensures input_name { L.name feed.new ≡ L.name feed.old }
     ensures made_name { M.name made.new ≡ M.name made.old }
 {
@@ -258,37 +245,34 @@ fn put_closed_groups<R: Threads, L: RecordFeed, M: Sink + Send>(
         (chunks_of_groups (groups_from grouper.old rest.records)))) }
     ensures in_reach { OnOk result (reach_of file.new.place grouper.new 0 ≤ 2 ^ 60) }
     ensures drained { result ≡ Ok None → IfSome (L.rest feed.old) (λ _. L.rest feed.new ≡ Some nothing_left) }
-    ensures input_cause { result ≡ Err CutOff.Input → Rose (L.faults feed.old) (L.faults feed.new) }
-    ensures made_cause { result ≡ Err CutOff.Made → Rose (M.faults made.old) (M.faults made.new) }
-    ensures input_count { L.faults feed.old ≤ L.faults feed.new }
-    ensures input_small { L.faults feed.old < 2 ^ 64 → L.faults feed.new < 2 ^ 64 }
-    ensures made_count { M.faults made.old ≤ M.faults made.new }
-    ensures made_small { M.faults made.old < 2 ^ 64 → M.faults made.new < 2 ^ 64 }
+    ensures causes { AreCauses result (L.faults feed.old) (L.faults feed.new) (M.faults made.old) (M.faults made.new) }
     ensures input_name { L.name feed.new ≡ L.name feed.old }
     ensures made_name { M.name made.new ≡ M.name made.old }
 {
     let mut rec = Bytes::new(alloc);
     let mut window = Window::new(alloc);
     let mut next = Window::new(alloc);
-    let mut taken = take_window(alloc, grouper, feed, &mut rec, &mut window);
+    let is_put = AtomicBool::new(true);
+    let mut taken = take_window(alloc, grouper, feed, &mut rec, &mut window, &is_put);
     let end = loop {
         match taken {
             Ok(Taken::Window) => {}
             Ok(Taken::All(stop)) => break Ok(stop),
             Err(cut) => break Err(cut),
         }
-        window.put_if_large(file, made)?;
+        window.put_if_large(file, made, &is_put)?;
+        is_put.store(false, Ordering::Release);
         let (put, then) = join_mut(
             rt,
-            &mut || window.put(file, made),
-            &mut || take_window(alloc, grouper, feed, &mut rec, &mut next),
+            &mut || window.put(file, made, &is_put),
+            &mut || take_window(alloc, grouper, feed, &mut rec, &mut next, &is_put),
         );
         put?;
         mem::swap(&mut window, &mut next);
         taken = then;
     };
     // What was taken before the work was cut off is put too.
-    window.put(file, made)?;
+    window.put(file, made, &is_put)?;
     end
 }
 
@@ -308,6 +292,7 @@ fn take_window<L: RecordFeed>(
     feed: &mut L,
     rec: &mut Bytes,
     window: &mut Window,
+    is_put: &AtomicBool,
 ) -> Result<Taken, CutOff>
     requires feed_going { L.going feed.old ≡ true }
     requires empty { window.old ≡ [] }
@@ -332,7 +317,7 @@ fn take_window<L: RecordFeed>(
             Err(FeedEnd::Failed) => return Err(CutOff::Input),
             Err(FeedEnd::Memory) => return Err(CutOff::Memory),
         }
-        if window.is_full() {
+        if window.is_full(is_put) {
             return Ok(Taken::Window);
         }
     }

@@ -133,7 +133,7 @@ fn a_failed_sink_is_told_before_a_stop(rt: HostRuntime) -> Result<(), Fail> {
 }
 
 // A chunk of one letter takes 44 bytes of a file, beside a block header of 24 bytes in each 65,536. A group of one letter
-// counts as 265 bytes, so a window has 15,828 of them.
+// takes less than 512 bytes of a window, which has 3072 of them or more.
 const ONE_EACH: WriteOptions = WriteOptions {
     size: 1,
     workers: 1,

@@ -13,15 +13,20 @@ use simple_chunk::{Records, SimpleChunk};
 use std::alloc::{AllocError, Global};
 use std::marker::Model;
 use std::mem;
+use std::sync::atomic::{AtomicBool, Ordering};
 
-/// How many bytes a full window has at least, so that the start of a thread costs little beside it.
-const FULL: u64 = 1 << 22;
+/// How many bytes a window has at least that is put while the next one is taken, so that the start of a thread costs little
+/// beside it.
+const LEAST: u64 = 3 << 19;
+
+/// How many bytes a window has that takes no more, also where the one before it isn't put yet.
+const FULL: u64 = 6 << 20;
 
 /// How many bytes a window has at most that is held while the next one is taken, and how many it keeps at most for the
 /// chunks after those that were put.
 const LARGEST: u64 = 1 << 23;
 
-/// About how many bytes a group takes beside what it costs.
+/// About how many bytes a group takes beside those of its records.
 const GROUP_OVERHEAD: u64 = 256;
 
 /// The chunks of groups that wait to be put together, which contracts see as the list of the groups. Own.
@@ -31,7 +36,7 @@ pub struct Window {
     chunks: Vec<SimpleChunk>,
     count: usize,
     size: u64,
-    /// How many bytes the largest group had for which there is memory.
+    /// How many bytes the largest of them took since all memory was given up.
     largest: u64,
 }
 
@@ -58,9 +63,9 @@ impl Window {
         }
     }
 
-    /// Whether it has so many bytes that they should be put.
-    pub fn is_full(&self) -> bool {
-        self.size >= FULL
+    /// Whether it has so many bytes that they should be put, where `is_put` tells whether the window before it is put.
+    pub fn is_full(&self, is_put: &AtomicBool) -> bool {
+        self.size >= FULL || self.size >= LEAST && is_put.load(Ordering::Acquire)
     }
 
     /// Codes a group and takes its chunk behind the others, and gives records in the group's place, whose memory can serve
@@ -70,7 +75,7 @@ impl Window {
         ensures appends { OnOk result (self.new ≡ self.old ++ group.old ∷ []) }
         ensures kept { OnErr result (self.new ≡ self.old) }
     {
-        let size = group.cost() + GROUP_OVERHEAD;
+        let size = group.room().saturating_add(GROUP_OVERHEAD);
         match self.chunks.get_mut(self.count) {
             Some(chunk) => chunk.replace(group)?,
             None => {
@@ -84,12 +89,17 @@ impl Window {
         Ok(())
     }
 
-    /// Puts the chunks, one after another, of which none is left then.
+    /// Puts the chunks, one after another, of which none is left then, and tells that by `is_put`.
     ///
     /// # Errors
     ///
     /// `Failed` only where the sink failed. It took a front of what was held and the chunks.
-    pub fn put<M: Sink>(&mut self, file: &mut MadeFile, made: &mut M) -> Result<(), Failed>
+    pub fn put<M: Sink>(
+        &mut self,
+        file: &mut MadeFile,
+        made: &mut M,
+        is_put: &AtomicBool,
+    ) -> Result<(), Failed>
         requires going { file.old.spent ≡ false }
         requires in_reach { end_of_chunks file.old.place (chunks_of_groups self.old) ≤ 2 ^ 62 }
         ensures emptied { OnOk result (self.new ≡ []) }
@@ -104,6 +114,7 @@ impl Window {
             file.put_simple(made, chunk)?;
         }
         self.empty();
+        is_put.store(true, Ordering::Release);
         Ok(())
     }
 
@@ -112,7 +123,12 @@ impl Window {
     /// # Errors
     ///
     /// As `put`.
-    pub fn put_if_large<M: Sink>(&mut self, file: &mut MadeFile, made: &mut M) -> Result<(), Failed>
+    pub fn put_if_large<M: Sink>(
+        &mut self,
+        file: &mut MadeFile,
+        made: &mut M,
+        is_put: &AtomicBool,
+    ) -> Result<(), Failed>
         requires going { file.old.spent ≡ false }
         requires in_reach { end_of_chunks file.old.place (chunks_of_groups self.old) ≤ 2 ^ 62 }
         ensures whole { OnOk result ((given : List (List (List ℕ))) × (self.old ≡ given ++ self.new)
@@ -127,13 +143,13 @@ impl Window {
         ensures same_name { M.name made.new ≡ M.name made.old }
     {
         if self.size > LARGEST {
-            self.put(file, made)
+            self.put(file, made, is_put)
         } else {
             Ok(())
         }
     }
 
-    /// Forgets the chunks, and keeps their memory unless it may be much: each may have the room of the largest.
+    /// Forgets the chunks, and keeps their memory unless it may be much: each may have as much as the largest.
     fn empty(&mut self)
         ensures { self.new ≡ [] }
     {

@@ -19,12 +19,7 @@ loop-taken-init g c = record {
   feed_going = c.take_window-taken.ensures.feed_going;
   in_reach = omega (arith, c.requires.in_reach, c.take_window-taken.ensures.in_reach c.args.file.now.place);
   drained = c.take_window-taken.ensures.drained;
-  no_made = c.take_window-taken.ensures.no_made;
-  input_cause = c.take_window-taken.ensures.cause;
-  input_count = c.take_window-taken.ensures.count;
-  input_small = c.take_window-taken.ensures.small;
-  made_count = omega arith;
-  made_small = λ h. h;
+  causes = search rules;
   input_name = c.take_window-taken.ensures.same_name;
   made_name = refl;
 }
@@ -74,12 +69,7 @@ loop-taken-preserved g c =
       feed_going = search rules;
       in_reach = search (rules, reach_of-behind);
       drained = λ end. IfSome-given _ (g.L.RecordFeed.rest c.loop-taken.feed) _ c.loop-taken.grouper (before.0 ++ c.put_if_large.new.self) _ window (search rules);
-      no_made = search rules;
-      input_cause = search rules;
-      input_count = search rules;
-      input_small = search rules;
-      made_count = search rules;
-      made_small = search rules;
+      causes = search rules;
       input_name = search rules;
       made_name = search rules;
     }

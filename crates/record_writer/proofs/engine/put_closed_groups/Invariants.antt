@@ -1,8 +1,7 @@
-use Rattle.std.proofs.Common.{◌≡◌, ◌≢◌, ℕ, ◌^◌, ◌<◌, ◌≤◌, ◌++◌, true, Some, None, Ok, Err, List, [], IfSome}
-use Rattle.record_io.specs.Outside.{Rose}
+use Rattle.std.proofs.Common.{◌≡◌, ℕ, ◌^◌, ◌≤◌, ◌++◌, true, Some, None, Ok, List, [], IfSome}
 use Rattle.meta_chunk.specs.Files.{end_of_chunks}
-use Rattle.record_writer.specs.declared.cut_off.CutOff.TheVariants.{Input, Made}
 use Rattle.record_writer.specs.declared.engine.Taken.TheVariants.{Window, All}
+use Rattle.record_writer.specs.Causes.{AreCauses}
 use Rattle.record_writer.specs.Feeds.{nothing_left}
 use Rattle.record_writer.specs.Progresses.{Lays, chunks_of_groups, reach_of}
 use Rattle.record_writer.specs.Windows.{AreTaken}
@@ -18,12 +17,7 @@ invariant-loop-taken g l = record {
   feed_going : l.taken ≡ Ok Window → g.L.RecordFeed.going l.feed ≡ true;
   in_reach : reach_of (end_of_chunks l.file.place (chunks_of_groups l.window)) l.grouper (g.L.RecordFeed.bound l.feed) ≤ 2 ^ 60;
   drained : l.taken ≡ Ok (All None) → IfSome (g.L.RecordFeed.rest l.fn.feed) (λ _. g.L.RecordFeed.rest l.feed ≡ Some nothing_left);
-  no_made : l.taken ≢ Err Made;
-  input_cause : l.taken ≡ Err Input → Rose (g.L.RecordFeed.faults l.fn.feed) (g.L.RecordFeed.faults l.feed);
-  input_count : g.L.RecordFeed.faults l.fn.feed ≤ g.L.RecordFeed.faults l.feed;
-  input_small : g.L.RecordFeed.faults l.fn.feed < 2 ^ 64 → g.L.RecordFeed.faults l.feed < 2 ^ 64;
-  made_count : g.M.Sink.faults l.fn.made ≤ g.M.Sink.faults l.made;
-  made_small : g.M.Sink.faults l.fn.made < 2 ^ 64 → g.M.Sink.faults l.made < 2 ^ 64;
+  causes : AreCauses l.taken (g.L.RecordFeed.faults l.fn.feed) (g.L.RecordFeed.faults l.feed) (g.M.Sink.faults l.fn.made) (g.M.Sink.faults l.made);
   input_name : g.L.RecordFeed.name l.feed ≡ g.L.RecordFeed.name l.fn.feed;
   made_name : g.M.Sink.name l.made ≡ g.M.Sink.name l.fn.made;
 }
