@@ -139,6 +139,43 @@ fn lines_lie_across_what_is_held(rt: HostRuntime) -> Result<(), Fail> {
     Ok(())
 }
 
+/// Long lines, whose memory serves for the next ones, with a short one between them, and the last without its end.
+#[test]
+fn long_lines_follow_one_another(rt: HostRuntime) -> Result<(), Fail> {
+    let alloc = rt.alloc();
+    let a = vec![in alloc; b'a'; 300_000]?;
+    let b = vec![in alloc; b'b'; 70_000]?;
+    let c = vec![in alloc; b'c'; 65_536]?;
+    let d = vec![in alloc; b'd'; 200_000]?;
+    let records = [a.as_slice(), b.as_slice(), b"x", c.as_slice(), d.as_slice()];
+    let mut input = Vec::new(alloc);
+    for record in records {
+        input.extend_from_slice(record)?;
+        input.push(b'\n')?;
+    }
+    input.pop();
+    for cuts in [[].as_slice(), &[1000], &[65536, 1]] {
+        let mut input = source(alloc, &input, cuts, &[])?;
+        gives(&rt, alloc, &mut input, FAR, &records, DONE)?;
+    }
+    Ok(())
+}
+
+/// Call 0 gives the line, call 1 is the end, and call 2, which fails, isn't made.
+#[test]
+fn the_end_is_asked_for_once(rt: HostRuntime) -> Result<(), Fail> {
+    for size in [1, 65_536] {
+        let last = line(rt.alloc(), size)?;
+        let mut input = source(rt.alloc(), &last, &[], &[2])?;
+        let mut feed = LineFeed::new(rt.alloc(), &mut input, false, FAR);
+        let mut record = Bytes::new(rt.alloc());
+        for end in [Ok(true), DONE, DONE] {
+            assert_eq!(rt; feed.pull(rt.alloc(), &mut record), end);
+        }
+    }
+    Ok(())
+}
+
 /// The line that is too long at the limit is not the input that goes past it.
 #[test]
 fn a_record_has_at_most_16_mib(rt: HostRuntime) -> Result<(), Fail> {

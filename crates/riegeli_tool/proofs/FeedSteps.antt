@@ -1,12 +1,13 @@
 -- What a feed of lines gave of its text, and what is left of it then.
-use Rattle.std.proofs.Common.{◌≡◌, ◌∙◌, ℕ, zero as nought, suc, ◌+◌, ◌-◌, ◌<◌, ◌≤◌, ◌↔◌, Bool, true, false, not, IsTrue, List, [], ◌∷◌, ◌++◌, Option, Some, None, Result, Ok, length, take, drop, option_map, unwrap_or, refl, sym, ap, subst, arith, length-append, append_assoc, append-nil}
+use Rattle.std.proofs.Common.{◌≡◌, ◌∙◌, ℕ, zero as nought, suc, ◌+◌, ◌-◌, ◌<◌, ◌≤◌, ◌↔◌, Bool, true, false, not, IsTrue, List, [], ◌∷◌, ◌++◌, Option, Some, None, Result, Ok, length, take, drop, option_map, unwrap_or, refl, sym, ap, subst, arith, length-append, length-drop, append_assoc, append-nil}
 use Rattle.std.specs.Option.{IfSome}
-use Rattle.std.proofs.lemmas.List.{take-append-drop, length-take-le}
+use Rattle.std.proofs.lemmas.List.{take-append-drop, length-take-le, drop-drop}
+use Rattle.std.proofs.Math.Seq.{take-add}
 use Rattle.record_writer.specs.declared.feed.Stop.{Stop}
 use Rattle.record_writer.specs.declared.feed.Stop.TheVariants.{TooLong, InputTooLong}
 use Rattle.record_writer.specs.Feeds.{Rest, GivesRecord, nothing_left, stop_alone}
 use Rattle.riegeli_tool.specs.Input.{NoneEnds, line_limit, taken_before, taken_from}
-use Rattle.riegeli_tool.specs.LineFeeds.{text_of, rest_of}
+use Rattle.riegeli_tool.specs.LineFeeds.{EndsAt, text_of, rest_of}
 use Rattle.riegeli_tool.proofs.TakenLines.{NoneEnds-append, taken_from-line, taken_from-nothing, taken_from-last, taken_from-running, taken_from-long, taken_from-spent, short-record}
 
 -- a line before a text
@@ -189,3 +190,18 @@ input-spent hex bound held None e = absurd (let n : None ≡ Some nothing_left =
 input-spent hex bound held (Some bytes) e =
     let none : taken_from (held ++ bytes) hex (bound - 1) ≡ nothing_left = (let s : Some (taken_from (held ++ bytes) hex (bound - 1)) ≡ Some nothing_left = e in cc) in
     ap Some (no_back held bytes (taken_from-spent (held ++ bytes) hex (bound - 1) none))
+
+-- an end behind bytes that are none
+pub EndsAt-behind : (bytes : List ℕ) (seen more : ℕ) → seen ≤ length bytes → NoneEnds (take seen bytes) → EndsAt (drop seen bytes) more → EndsAt bytes (seen + more)
+EndsAt-behind bytes seen more within front ends =
+    let back : List ℕ = drop seen bytes in
+    let line : take (seen + more) bytes ≡ take seen bytes ++ take more back = take-add seen more bytes in
+    let after : drop (seen + more + 1) bytes ≡ drop (more + 1) back =
+    ap (λ (n : ℕ). drop n bytes) (let n : seen + more + 1 ≡ seen + (more + 1) = omega arith in n) ∙ sym (drop-drop (more + 1) seen bytes) in (
+      omega (arith, ends.0, length-drop seen bytes),
+      rw line (NoneEnds-append (take seen bytes) (take more back) front ends.1),
+      rw (line, after) (sym (take-append-drop seen bytes) ∙ ap (λ (l : List ℕ). take seen bytes ++ l) ends.2 ∙ sym (append_assoc (take seen bytes) (take more back) (10 ∷ drop (more + 1) back))),
+    )
+
+pub NoneEnds-behind : (bytes : List ℕ) (seen : ℕ) → NoneEnds (take seen bytes) → NoneEnds (drop seen bytes) → NoneEnds bytes
+NoneEnds-behind bytes seen front back = subst NoneEnds (take-append-drop seen bytes) (NoneEnds-append (take seen bytes) (drop seen bytes) front back)

@@ -1,7 +1,7 @@
-ghost use Rattle.std.specs.Prelude.{◌≡◌, ◌≢◌, ◌+◌, ◌^◌, ◌<◌, ◌≤◌, List, ℕ, [], ◌∷◌, ◌++◌, Option, Some, true, false, length, take, drop, option_map, unwrap_or, IfOk, IfSome, OnErr};
+ghost use Rattle.std.specs.Prelude.{◌≡◌, ◌≢◌, ◌+◌, ◌^◌, ◌<◌, ◌≤◌, List, ℕ, [], ◌∷◌, ◌++◌, Option, Some, true, false, length, take, drop, option_map, unwrap_or, None, IfOk, IfSome, OnErr};
 ghost use Rattle.record_io.specs.Outside.{Rose};
 ghost use Rattle.riegeli_tool.specs.Input.{NoneEnds, line_limit, taken_from};
-ghost use Rattle.riegeli_tool.specs.LineFeeds.{text_of, rest_of};
+ghost use Rattle.riegeli_tool.specs.LineFeeds.{EndsAt, text_of, rest_of};
 
 use crate::window::Window;
 use memchr::memchr;
@@ -23,9 +23,13 @@ pub struct LineFeed<'a, I: Source> {
     /// end was seen.
     asked: u64,
     window: Window,
+    /// How many bytes of the window are known not to end a line.
+    seen: usize,
     /// How many bytes the last line had that was given so, for which the next one takes room at once.
     room: usize,
     ghost plain: { hex ≡ false },
+    ghost some_seen: { seen ≤ length window },
+    ghost none_ends: { NoneEnds (take seen window) },
     ghost all_given: { asked ≡ 0 → window ≡ [] },
     ghost ended: { asked ≡ 0 → unwrap_or (I.left input.now) [] ≡ [] },
 }
@@ -47,8 +51,25 @@ impl<'a, I: Source> LineFeed<'a, I> {
             hex,
             asked: limit + 1,
             window: Window::new(),
+            seen: 0,
             room: 0,
         }
+    }
+
+    /// How many bytes the next line has, where its end is held.
+    fn line_end(&mut self) -> Option<usize>
+        ensures found { IfSome result (EndsAt self.old.window) }
+        ensures none { result ≡ None → NoneEnds self.old.window }
+        ensures same_window { self.new.window ≡ self.old.window }
+        ensures same_asked { self.new.asked ≡ self.old.asked }
+        ensures same_form { self.new.hex ≡ self.old.hex }
+        ensures same_input { self.new.input.now ≡ self.old.input.now }
+        ensures same_name { self.new.input.ghost_name ≡ self.old.input.ghost_name }
+    {
+        let held = self.window.as_slice();
+        let end = end_behind(held, self.seen);
+        self.seen = end.unwrap_or(held.len());
+        end
     }
 
     /// Takes bytes of the input where none are held, and answers whether some are held then.
@@ -75,6 +96,7 @@ impl<'a, I: Source> LineFeed<'a, I> {
             return Ok(false);
         }
         let allowed = self.asked - 1;
+        self.seen = 0;
         let taken = self.window.fill(&mut *self.input, allowed.max(1))?;
         if taken == 0 {
             self.asked = 0;
@@ -107,8 +129,8 @@ impl<'a, I: Source> LineFeed<'a, I> {
         ensures same_input { self.new.input.now ≡ self.old.input.now }
         ensures same_name { self.new.input.ghost_name ≡ self.old.input.ghost_name }
     {
+        let end = self.line_end();
         let held = self.window.as_slice();
-        let end = memchr(b'\n', held);
         let piece = &held[..end.unwrap_or(held.len())];
         if piece.len() > most_bytes(self.hex) - line.len() {
             return Err(FeedEnd::Stop(Stop::TooLong));
@@ -116,14 +138,26 @@ impl<'a, I: Source> LineFeed<'a, I> {
         line.push_all(piece)?;
         let used = piece.len() + usize::from(end.is_some());
         self.window.skip(used);
+        self.seen = 0;
         Ok(end.is_some())
     }
 }
 
+/// How many bytes stand before the first byte 10, if there is one, where the first `seen` bytes are none.
+fn end_behind(bytes: &[u8], seen: usize) -> Option<usize>
+    requires some_seen { seen ≤ length bytes.now }
+    requires none_ends { NoneEnds (take seen bytes.now) }
+    ensures found { IfSome result (EndsAt bytes.now) }
+    ensures none { result ≡ None → NoneEnds bytes.now }
+{
+    let more = first_end(&bytes[seen..])?;
+    Some(seen + more)
+}
+
 /// How many bytes stand before the first byte 10, if there is one.
-fn line_end(bytes: &[u8]) -> Option<usize>
-    ensures { IfSome result (λ n. (n < length bytes.now) × NoneEnds (take n bytes.now)
-        × (bytes.now ≡ take n bytes.now ++ 10 ∷ drop (n + 1) bytes.now)) }
+fn first_end(bytes: &[u8]) -> Option<usize>
+    ensures found { IfSome result (EndsAt bytes.now) }
+    ensures none { result ≡ None → NoneEnds bytes.now }
 {
     memchr(b'\n', bytes)
 }
@@ -157,14 +191,14 @@ impl<'a, I: Source> RecordFeed for LineFeed<'a, I> {
     }
 
     fn push_held(&mut self, grouper: &mut Grouper) -> Result<bool, AllocError> {
-        let held = self.window.as_slice();
-        let Some(end) = line_end(held) else {
+        let Some(len) = self.line_end() else {
             return Ok(false);
         };
-        if !grouper.push_open(&held[..end])? {
+        if !grouper.push_open(&self.window.as_slice()[..len])? {
             return Ok(false);
         }
-        self.window.skip(end + 1);
+        self.window.skip(len + 1);
+        self.seen = 0;
         Ok(true)
     }
 }
