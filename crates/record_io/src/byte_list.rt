@@ -138,7 +138,9 @@ impl Bytes {
     }
 
     /// For how many bytes there is memory, those that there are among them.
-    pub fn room(&self) -> usize {
+    pub fn room(&self) -> usize
+        ensures { length self.now ≤ result }
+    {
         match &self.held {
             Held::Own(bytes) => bytes.capacity(),
             Held::Shared(bytes, _) => bytes.len(),

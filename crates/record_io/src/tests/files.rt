@@ -175,3 +175,15 @@ fn pipes_and_devices_are_only_written(rt: HostRuntime) -> Result<(), Fail> {
     }
     Ok(())
 }
+
+#[test]
+fn a_pipe_that_nobody_reads_fails(rt: HostRuntime) -> Result<(), Fail> {
+    let (reader, writer) = io::pipe(&rt)?;
+    let into = writer.as_raw_fd();
+    let into = format!(in rt.alloc(); "/dev/fd/{into}")?;
+    let mut sink = FileSink::named(&rt, into.as_str());
+    assert_eq!(rt; put_all(&mut sink, b"abc"), Ok(()));
+    drop(reader);
+    assert_eq!(rt; put_all(&mut sink, b"def"), Err(Failed));
+    Ok(())
+}
