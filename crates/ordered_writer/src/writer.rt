@@ -196,9 +196,7 @@ impl OrderedWriter {
         ensures small { M.faults sink.old < 2 ^ 64 → M.faults sink.new < 2 ^ 64 }
         ensures same_name { M.name sink.new ≡ M.name sink.old }
     {
-        let begin = self.position;
-        self.lay(buffer, sink, &chunk.header, &[], chunk.bytes.as_slice())?;
-        Ok(begin)
+        self.put_parts_into(buffer, sink, &chunk.header, &[], chunk.bytes.as_slice())
     }
 
     /// As `put_into`, of a chunk whose data lies in two parts.
