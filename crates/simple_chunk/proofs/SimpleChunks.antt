@@ -11,7 +11,7 @@ use Rattle.simple_chunk.specs.Sizes.{data_front}
 use Rattle.simple_chunk.proofs.CostLemmas.{cost_of-is, lengths-le-concat}
 
 -- the data is what stands before the records, and the records joined
-pub simple_data-parts : (records : List (List ℕ)) (front values : List ℕ) → front ≡ data_front records → values ≡ concat records
+simple_data-parts : (records : List (List ℕ)) (front values : List ℕ) → front ≡ data_front records → values ≡ concat records
     → front ++ values ≡ simple_data records
 simple_data-parts records front values made joined =
     ap (λ (bytes : List ℕ). bytes ++ values) made ∙ ap (λ (bytes : List ℕ). data_front records ++ bytes) joined

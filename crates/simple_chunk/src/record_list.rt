@@ -131,7 +131,7 @@ impl Records {
     }
 
     /// For how many bytes there is memory, with that for the places where the records end.
-    pub fn room(&self) -> u64 {
+    pub(crate) fn room(&self) -> u64 {
         let ends = END_SIZE.saturating_mul(self.ends.capacity() as u64);
         ends.saturating_add(self.values.room() as u64)
     }

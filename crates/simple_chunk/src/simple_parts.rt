@@ -56,6 +56,7 @@ impl SimpleChunk {
         requires { cost_of records.old ≤ 2 ^ 25 }
         ensures replaced { OnOk result (self.new ≡ records.old) }
         ensures kept { OnErr result (self.new ≡ self.old) }
+        ensures records_kept { OnErr result (records.new ≡ records.old) }
     {
         self.header = encode_front(&mut self.front, records)?;
         mem::swap(&mut self.records, records);
@@ -67,6 +68,12 @@ impl SimpleChunk {
         ensures { IsHeaderOf result.now (simple_chunk self.now) }
     {
         &self.header
+    }
+
+    /// For how many bytes it has memory.
+    pub fn room(&self) -> u64 {
+        let front = self.front.capacity() as u64;
+        front.saturating_add(self.records.room())
     }
 
     /// Its data: what stands before the records, and the records joined.
@@ -87,7 +94,7 @@ fn encode_front(front: &mut Vec<u8>, records: &Records) -> Result<Header, AllocE
     ensures kept { OnErr result (front.new.items ≡ front.old.items) }
 {
     let sizes_len = sizes_len(records);
-    front.reserve(front_len(sizes_len))?;
+    front.reserve(front_len(sizes_len).saturating_sub(front.len()))?;
     front.clear();
     append_front(front, records, sizes_len);
     let values = records.values();
