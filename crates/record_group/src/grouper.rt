@@ -74,8 +74,8 @@ impl Grouper {
         self.push_from(&mut copy)
     }
 
-    /// Takes the next record, of at most 2^24 bytes, and gives the group that closes before it, if one does. A long record that
-    /// opens a group isn't copied, so `rec` may hold anything then. After want of memory the grouper is as before.
+    /// Takes the next record, of at most 2^24 bytes, and gives the group that closes before it, if one does. A long record may
+    /// open a group without being copied, so `rec` may hold anything then. After want of memory the grouper is as before.
     pub fn push_from(&mut self, rec: &mut Bytes) -> Result<Option<Records>, AllocError>
         requires { length rec.old ≤ 2 ^ 24 }
         ensures push { IfOk result (λ given. IsPush self.old rec.old given self.new) }
@@ -88,11 +88,15 @@ impl Grouper {
     {
         if self.closes_before(rec.as_slice()) {
             let mut next = mem::replace(&mut self.spare, Records::new(self.alloc));
-            next.push_from(rec)?;
+            if rec.len() as u64 > self.size / 2 {
+                next.push_from(rec)?;
+            } else {
+                next.push(rec.as_slice())?;
+            }
             self.room = self.room_needed();
             return Ok(Some(mem::replace(&mut self.group, next)));
         }
-        self.reserve_room()?;
+        self.reserve_room();
         self.group.push_from(rec)?;
         Ok(None)
     }
@@ -108,7 +112,7 @@ impl Grouper {
         if self.closes_before(rec) {
             return Ok(false);
         }
-        self.reserve_room()?;
+        self.reserve_room();
         self.group.push(rec)?;
         Ok(true)
     }
@@ -136,16 +140,15 @@ impl Grouper {
         }
     }
 
-    /// Takes room before the second record.
-    fn reserve_room(&mut self) -> Result<(), AllocError>
+    /// Takes room before the second record. Where there is none, each record asks for its own.
+    fn reserve_room(&mut self)
         ensures { self.new ≡ self.old }
     {
         if self.group.len() == 1 {
             let (bytes, records) = self.room;
             let more = bytes.saturating_sub(self.group.values().len());
-            self.group.reserve(more, records)?;
+            let _ = self.group.reserve(more, records);
         }
-        Ok(())
     }
 
     /// How many bytes and records the open group has, and an eighth more, but no more bytes than one of several records has.
