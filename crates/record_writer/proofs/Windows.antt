@@ -16,7 +16,7 @@ use Rattle.record_writer.specs.Feeds.{Rest}
 use Rattle.record_writer.specs.Progresses.{Progress, AreGiven, Lays, LaysFront, chunks_of_groups}
 use Rattle.record_writer.specs.Windows.{AreFront, AreTaken}
 use Rattle.record_writer.proofs.Layings.{Lays-append, LaysFront-behind, LaysFront-longer}
-use Rattle.record_writer.proofs.Given.{chunks_of_groups-all, Lays-all}
+use Rattle.record_writer.proofs.Given.{chunks_of_groups-all}
 
 -- what is said of a call that failed, and of one that didn't
 pub where_failed : {X E P : Type 0} (result : Result X E) (e : E) → result ≡ Err e → OnErr result P → P
@@ -73,7 +73,7 @@ LaysFront-chunk a b c s t u groups i group within is first then =
     (LaysFront-behind a b c s t u (chunks_of_groups (take i groups)) (simple_chunk group ∷ []) first then)))
 
 -- the groups that were given, and those given behind them
-pub AreGiven-append : (a b c : Option Rest) (old between new : Grouping) (given more : List (List (List ℕ)))
+AreGiven-append : (a b c : Option Rest) (old between new : Grouping) (given more : List (List (List ℕ)))
     → AreGiven a b old between given → AreGiven b c between new more → AreGiven a c old new (given ++ more)
 AreGiven-append None b c old between new given more h then = tt
 AreGiven-append (Some all) b c old between new given more (rest, told, of) then =
@@ -157,15 +157,3 @@ AreTaken-append (Err cut) (Some all) b c old between new given more (rest, told,
           ∙ ap (λ (gs : List (List (List ℕ))). given ++ gs) front.1
           ∙ sym (append_assoc given more front.0),
     )
-
--- where the first groups of a window were put, and the others wait
-pub put_front : (a b c : Option (List ℕ)) (s t u : Progress) (r : Result Taken CutOff) (ra rb : Option Rest) (old new : Grouping) (given window first waiting : List (List (List ℕ)))
-    → window ≡ first ++ waiting → Lays a b s t (chunks_of_groups given) → Lays b c t u (chunks_of_groups first) → AreTaken r ra rb old new (given ++ window)
-    → (all : List (List (List ℕ))) × Lays a c s u (chunks_of_groups all) × AreTaken r ra rb old new (all ++ waiting)
-put_front a b c s t u r ra rb old new given window first waiting is laid then taken = (
-  given ++ first,
-  Lays-all a b c s t u (given ++ first) given first refl laid then,
-  subst (λ (groups : List (List (List ℕ))). AreTaken r ra rb old new groups)
-      (ap (λ (groups : List (List (List ℕ))). given ++ groups) is ∙ sym (append_assoc given first waiting))
-      taken,
-)

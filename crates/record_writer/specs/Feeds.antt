@@ -1,5 +1,5 @@
 -- What a feed of records still gives. Own.
-use Rattle.std.specs.Prelude.{◌≡◌, ℕ, ◌+◌, ◌^◌, ◌≤◌, Option, Some, None, List, [], ◌∷◌, length, IfSome}
+use Rattle.std.specs.Prelude.{◌≡◌, ℕ, ◌+◌, ◌≤◌, Option, Some, None, List, [], ◌∷◌, length, IfSome}
 use Rattle.record_group.specs.Groupings.{Grouping, IsPush}
 use Rattle.record_writer.specs.declared.feed.Stop.{Stop}
 
@@ -26,5 +26,4 @@ pub record HandsOn (before after : Option Rest) (old_bound new_bound : ℕ) (old
   pub record_bytes : List ℕ
   pub gives : GivesRecord before after record_bytes
   pub takes : IsPush old record_bytes None new
-  pub at_most : length record_bytes ≤ 2 ^ 24
   pub lowers : new_bound + length record_bytes + 1 ≤ old_bound

@@ -16,12 +16,12 @@ use crate::cut_off::CutOff;
 use crate::feed::{FeedEnd, RecordFeed, Stop};
 use crate::made_file::MadeFile;
 use crate::options::WriteOptions;
-use crate::window::{Window, put_group};
+use crate::window::{FULL, LEAST, Window, put_group};
 use record_group::{Grouper, Pad};
-use record_io::{Bytes, Sink, Totals};
+use record_io::{Bytes, Failed, Sink, Totals};
 use std::alloc::{AllocError, Global};
 use std::mem;
-use std::sync::atomic::{AtomicBool, Ordering};
+use std::sync::atomic::{AtomicU64, Ordering};
 use std::thread::{Threads, join_mut};
 
 /// Why a file of records was not written to the end of its feed. Own.
@@ -55,6 +55,16 @@ impl From<CutOff> for WriteEnd {
     }
 }
 
+impl From<Failed> for WriteEnd {
+    ghost use Rattle.record_writer.specs.declared.engine.WriteEnd.TheVariants.{Made};
+
+    ghost from_gives = { λ _ end. end ≡ Made };
+
+    fn from(_: Failed) -> WriteEnd {
+        WriteEnd::Made
+    }
+}
+
 /// Writes the file of the feed's records: the signature, the padding before the chunks of records where it is
 /// wanted, a chunk for each group of records, and the padding behind them where it is wanted.
 ///
@@ -62,14 +72,15 @@ impl From<CutOff> for WriteEnd {
 ///
 /// The chunks of groups are put window by window, each in a thread of its own while the next is taken. Where no thread can
 /// be made, that is done here, and where one window holds all groups, no thread is wanted. A window of more than 8 MiB is put
-/// before more is taken. So what is held at a time are two windows, one of 8 MiB at most and one of less than 6 MiB but for
-/// its last group, with as much that is kept for the next chunks; the open group; and the record behind it.
+/// before more is taken. So what is held at a time are two windows, one of 8 MiB at most and one of less than 4 MiB but for
+/// its last group, in each up to 8 MiB that are kept for the next chunks; the open group; and the record behind it.
 ///
 /// # Errors
 ///
 /// `TooLong`, `InputTooLong` and `BadLine` where that stop follows, the first and the last with the number of the
 /// records before it; `Input` where the feed failed, `Made` where the sink failed, also where a stop follows, and
-/// `Memory`. After the last three the sink took a front of the file. Own.
+/// `Memory`. After the last three the sink took a front of the file, and after `Input` and `Memory` nothing where that has no
+/// chunk of records. Own.
 pub fn write_records<R: Threads + Sync, L: RecordFeed, M: Sink + Send>(
     rt: &R,
     alloc: Global,
@@ -96,8 +107,12 @@ pub fn write_records<R: Threads + Sync, L: RecordFeed, M: Sink + Send>(
     ensures made_name { M.name made.new ≡ M.name made.old }
 {
     let mut file = MadeFile::new();
-    let stop = write_feed(rt, &mut file, alloc, options, feed, made)?;
-    answer(stop, file.totals())
+    let stop = put_chunks(rt, &mut file, alloc, options, feed, made);
+    // What is held goes out, however the work ended, unless it was cut off before a chunk of records.
+    if stop.is_ok() || file.totals().records > 0 {
+        file.flush(made)?;
+    }
+    answer(stop?, file.totals())
 }
 
 /// What a call answers where the feed's records ended so.
@@ -110,37 +125,6 @@ fn answer(stop: Option<Stop>, totals: Totals) -> Result<Totals, WriteEnd>
         Some(Stop::InputTooLong) => Err(WriteEnd::InputTooLong),
         Some(Stop::BadLine) => Err(WriteEnd::BadLine(totals.records)),
     }
-}
-
-/// Writes the whole file, of which nothing is held then, and answers which stop follows the records.
-fn write_feed<R: Threads, L: RecordFeed, M: Sink + Send>(
-    rt: &R,
-    file: &mut MadeFile,
-    alloc: Global,
-    options: &WriteOptions,
-    feed: &mut L,
-    made: &mut M,
-) -> Result<Option<Stop>, CutOff>
-    requires at_front { file.old ≡ nothing_made }
-    requires feed_going { L.going feed.old ≡ true }
-    requires in_reach { L.bound feed.old ≤ 2 ^ 41 }
-    requires in_limits { AreInLimits options.now }
-    ensures stop { IfOk result (λ stop. IfSome (L.rest feed.old) (λ rest. rest.stop ≡ stop)) }
-    ensures whole { OnOk result (IfSome (L.rest feed.old) (λ rest.
-        Takes (M.taken made.old) (M.taken made.new) (file_under options.now rest.records))) }
-    ensures totals { OnOk result (IfSome (L.rest feed.old) (λ rest.
-        totals_made file.new ≡ totals_of (chunks_under options.now rest.records))) }
-    ensures front { OnErr result (IfSome (L.rest feed.old) (λ rest.
-        TakesFront (M.taken made.old) (M.taken made.new) (file_under options.now rest.records))) }
-    ensures drained { result ≡ Ok None → IfSome (L.rest feed.old) (λ _. L.rest feed.new ≡ Some nothing_left) }
-    ensures causes { AreCauses result (L.faults feed.old) (L.faults feed.new) (M.faults made.old) (M.faults made.new) }
-    ensures input_name { L.name feed.new ≡ L.name feed.old }
-    ensures made_name { M.name made.new ≡ M.name made.old }
-{
-    let stop = put_chunks(rt, file, alloc, options, feed, made);
-    // What is held goes out, however the work ended.
-    file.flush(made)?;
-    stop
 }
 
 /// Puts the chunks of the file, and answers which stop follows the records.
@@ -252,27 +236,36 @@ fn put_closed_groups<R: Threads, L: RecordFeed, M: Sink + Send>(
     let mut rec = Bytes::new(alloc);
     let mut window = Window::new(alloc);
     let mut next = Window::new(alloc);
-    let is_put = AtomicBool::new(true);
-    let mut taken = take_window(alloc, grouper, feed, &mut rec, &mut window, &is_put);
+    // So many bytes fill a window: fewer once the one before it is put, and none once that failed.
+    let full = AtomicU64::new(LEAST);
+    let mut taken = take_window(alloc, grouper, feed, &mut rec, &mut window, &full);
     let end = loop {
         match taken {
             Ok(Taken::Window) => {}
             Ok(Taken::All(stop)) => break Ok(stop),
             Err(cut) => break Err(cut),
         }
-        window.put_if_large(file, made, &is_put)?;
-        is_put.store(false, Ordering::Release);
-        let (put, then) = join_mut(
-            rt,
-            &mut || window.put(file, made, &is_put),
-            &mut || take_window(alloc, grouper, feed, &mut rec, &mut next, &is_put),
-        );
-        put?;
-        mem::swap(&mut window, &mut next);
-        taken = then;
+        if window.is_large() {
+            window.put(file, made)?;
+            taken = take_window(alloc, grouper, feed, &mut rec, &mut window, &full);
+        } else {
+            full.store(FULL, Ordering::Relaxed);
+            let (put, then) = join_mut(
+                rt,
+                &mut || {
+                    let put = window.put(file, made);
+                    full.store(if put.is_ok() { LEAST } else { 0 }, Ordering::Relaxed);
+                    put
+                },
+                &mut || take_window(alloc, grouper, feed, &mut rec, &mut next, &full),
+            );
+            put?;
+            mem::swap(&mut window, &mut next);
+            taken = then;
+        }
     };
     // What was taken before the work was cut off is put too.
-    window.put(file, made, &is_put)?;
+    window.put(file, made)?;
     end
 }
 
@@ -292,7 +285,7 @@ fn take_window<L: RecordFeed>(
     feed: &mut L,
     rec: &mut Bytes,
     window: &mut Window,
-    is_put: &AtomicBool,
+    full: &AtomicU64,
 ) -> Result<Taken, CutOff>
     requires feed_going { L.going feed.old ≡ true }
     requires empty { window.old ≡ [] }
@@ -317,7 +310,7 @@ fn take_window<L: RecordFeed>(
             Err(FeedEnd::Failed) => return Err(CutOff::Input),
             Err(FeedEnd::Memory) => return Err(CutOff::Memory),
         }
-        if window.is_full(is_put) {
+        if window.is_full(full) {
             return Ok(Taken::Window);
         }
     }

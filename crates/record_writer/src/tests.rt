@@ -62,16 +62,19 @@ impl RecordFeed for CutLetters {
     }
 }
 
+// A chunk of one letter takes 44 bytes of a file, beside a block header of 24 bytes in each 65,536. A group of one letter
+// takes less than 512 bytes of a window, which has 3072 of them or more.
+const ONE_EACH: WriteOptions = WriteOptions {
+    size: 1,
+    workers: 1,
+    every: None,
+    pad: Pad::No,
+};
+
 #[test]
 fn small_chunks_go_out_by_one_put(rt: HostRuntime) -> Result<(), Fail> {
     let fails = [1].to_vec(rt.alloc())?;
     let mut made = MemSink::new(rt.alloc(), 4096, Vec::new(rt.alloc()), fails)?;
-    let options = WriteOptions {
-        size: 1,
-        workers: 1,
-        every: None,
-        pad: Pad::No,
-    };
     let mut feed = Letters {
         left: 3,
         stop: None,
@@ -82,7 +85,7 @@ fn small_chunks_go_out_by_one_put(rt: HostRuntime) -> Result<(), Fail> {
         bytes: 196,
         unread: 0,
     };
-    let end = write_records(&rt, rt.alloc(), &options, &mut feed, &mut made);
+    let end = write_records(&rt, rt.alloc(), &ONE_EACH, &mut feed, &mut made);
     assert_eq!(rt; end, Ok(totals));
     assert_eq!(rt; made.taken().len(), 196);
     Ok(())
@@ -116,33 +119,18 @@ fn padding_follows_a_stop(rt: HostRuntime) -> Result<(), Fail> {
 fn a_failed_sink_is_told_before_a_stop(rt: HostRuntime) -> Result<(), Fail> {
     let fails = [0].to_vec(rt.alloc())?;
     let mut made = MemSink::new(rt.alloc(), 4096, Vec::new(rt.alloc()), fails)?;
-    let options = WriteOptions {
-        size: 1,
-        workers: 1,
-        every: None,
-        pad: Pad::No,
-    };
     let mut feed = Letters {
         left: 1,
         stop: Some(Stop::InputTooLong),
     };
-    let end = write_records(&rt, rt.alloc(), &options, &mut feed, &mut made);
+    let end = write_records(&rt, rt.alloc(), &ONE_EACH, &mut feed, &mut made);
     assert_eq!(rt; end, Err(WriteEnd::Made));
     assert!(rt; made.taken().is_empty());
     Ok(())
 }
 
-// A chunk of one letter takes 44 bytes of a file, beside a block header of 24 bytes in each 65,536. A group of one letter
-// takes less than 512 bytes of a window, which has 3072 of them or more.
-const ONE_EACH: WriteOptions = WriteOptions {
-    size: 1,
-    workers: 1,
-    every: None,
-    pad: Pad::No,
-};
-
 #[test]
-fn windows_are_put_in_order(rt: HostRuntime) -> Result<(), Fail> {
+fn several_windows_make_one_file(rt: HostRuntime) -> Result<(), Fail> {
     let mut made = MemSink::new(
         rt.alloc(),
         1 << 21,

@@ -13,21 +13,20 @@ use simple_chunk::{Records, SimpleChunk};
 use std::alloc::{AllocError, Global};
 use std::marker::Model;
 use std::mem;
-use std::sync::atomic::{AtomicBool, Ordering};
+use std::sync::atomic::{AtomicU64, Ordering};
 
-/// How many bytes a window has at least that is put while the next one is taken, so that the start of a thread costs little
-/// beside it.
-const LEAST: u64 = 3 << 19;
+/// How many bytes fill a window once the one before it is put, so that the start of a thread costs little beside them.
+pub const LEAST: u64 = 3 << 19;
 
-/// How many bytes a window has that takes no more, also where the one before it isn't put yet.
-const FULL: u64 = 6 << 20;
+/// How many bytes fill a window while the one before it is put.
+pub const FULL: u64 = LARGEST / 2;
 
 /// How many bytes a window has at most that is held while the next one is taken, and how many it keeps at most for the
-/// chunks after those that were put.
+/// next chunks.
 const LARGEST: u64 = 1 << 23;
 
-/// About how many bytes a group takes beside those of its records.
-const GROUP_OVERHEAD: u64 = 256;
+/// About how many bytes the chunk of a group takes beside those that it has memory for.
+const CHUNK_OVERHEAD: u64 = 256;
 
 /// The chunks of groups that wait to be put together, which contracts see as the list of the groups. Own.
 #[derive(Drop)]
@@ -36,8 +35,6 @@ pub struct Window {
     chunks: Vec<SimpleChunk>,
     count: usize,
     size: u64,
-    /// How many bytes the largest of them took since all memory was given up.
-    largest: u64,
 }
 
 impl Model for Window {
@@ -59,13 +56,17 @@ impl Window {
             chunks: Vec::new(alloc),
             count: 0,
             size: 0,
-            largest: 0,
         }
     }
 
-    /// Whether it has so many bytes that they should be put, where `is_put` tells whether the window before it is put.
-    pub fn is_full(&self, is_put: &AtomicBool) -> bool {
-        self.size >= FULL || self.size >= LEAST && is_put.load(Ordering::Acquire)
+    /// Whether it has as many bytes as fill a window now.
+    pub fn is_full(&self, full: &AtomicU64) -> bool {
+        self.size >= full.load(Ordering::Relaxed)
+    }
+
+    /// Whether it has too many bytes to be held while others are taken.
+    pub fn is_large(&self) -> bool {
+        self.size > LARGEST
     }
 
     /// Codes a group and takes its chunk behind the others, and gives records in the group's place, whose memory can serve
@@ -75,7 +76,6 @@ impl Window {
         ensures appends { OnOk result (self.new ≡ self.old ++ group.old ∷ []) }
         ensures kept { OnErr result (self.new ≡ self.old) }
     {
-        let size = group.room().saturating_add(GROUP_OVERHEAD);
         match self.chunks.get_mut(self.count) {
             Some(chunk) => chunk.replace(group)?,
             None => {
@@ -83,23 +83,18 @@ impl Window {
                 self.chunks.push(SimpleChunk::new(alloc, group)?)?;
             }
         }
+        let size = size_of(&self.chunks[self.count]);
         self.count += 1;
         self.size = self.size.saturating_add(size);
-        self.largest = self.largest.max(size);
         Ok(())
     }
 
-    /// Puts the chunks, one after another, of which none is left then, and tells that by `is_put`.
+    /// Puts the chunks, one after another, of which none is left then.
     ///
     /// # Errors
     ///
     /// `Failed` only where the sink failed. It took a front of what was held and the chunks.
-    pub fn put<M: Sink>(
-        &mut self,
-        file: &mut MadeFile,
-        made: &mut M,
-        is_put: &AtomicBool,
-    ) -> Result<(), Failed>
+    pub fn put<M: Sink>(&mut self, file: &mut MadeFile, made: &mut M) -> Result<(), Failed>
         requires going { file.old.spent ≡ false }
         requires in_reach { end_of_chunks file.old.place (chunks_of_groups self.old) ≤ 2 ^ 62 }
         ensures emptied { OnOk result (self.new ≡ []) }
@@ -114,53 +109,28 @@ impl Window {
             file.put_simple(made, chunk)?;
         }
         self.empty();
-        is_put.store(true, Ordering::Release);
         Ok(())
     }
 
-    /// Puts them where they are too many bytes to be held while others are taken.
-    ///
-    /// # Errors
-    ///
-    /// As `put`.
-    pub fn put_if_large<M: Sink>(
-        &mut self,
-        file: &mut MadeFile,
-        made: &mut M,
-        is_put: &AtomicBool,
-    ) -> Result<(), Failed>
-        requires going { file.old.spent ≡ false }
-        requires in_reach { end_of_chunks file.old.place (chunks_of_groups self.old) ≤ 2 ^ 62 }
-        ensures whole { OnOk result ((given : List (List (List ℕ))) × (self.old ≡ given ++ self.new)
-            × Lays (M.taken made.old) (M.taken made.new) file.old file.new (chunks_of_groups given)) }
-        ensures same_end { OnOk result (end_of_chunks file.new.place (chunks_of_groups self.new)
-            ≡ end_of_chunks file.old.place (chunks_of_groups self.old)) }
-        ensures going { OnOk result (file.new.spent ≡ false) }
-        ensures front { OnErr result (LaysFront (M.taken made.old) (M.taken made.new) file.old file.new (chunks_of_groups self.old)) }
-        ensures cause { OnErr result (Rose (M.faults made.old) (M.faults made.new)) }
-        ensures never_falls { M.faults made.old ≤ M.faults made.new }
-        ensures small { M.faults made.old < 2 ^ 64 → M.faults made.new < 2 ^ 64 }
-        ensures same_name { M.name made.new ≡ M.name made.old }
-    {
-        if self.size > LARGEST {
-            self.put(file, made, is_put)
-        } else {
-            Ok(())
-        }
-    }
-
-    /// Forgets the chunks, and keeps their memory unless it may be much: each may have as much as the largest.
+    /// Forgets the chunks, and keeps their memory unless it is much.
     fn empty(&mut self)
         ensures { self.new ≡ [] }
     {
-        let kept = self.largest.saturating_mul(self.chunks.len() as u64);
+        let mut kept: u64 = 0;
+        for chunk in &self.chunks {
+            kept = kept.saturating_add(size_of(chunk));
+        }
         if kept > LARGEST {
             self.chunks.clear();
-            self.largest = 0;
         }
         self.count = 0;
         self.size = 0;
     }
+}
+
+/// About how many bytes a chunk takes.
+fn size_of(chunk: &SimpleChunk) -> u64 {
+    chunk.room().saturating_add(CHUNK_OVERHEAD)
 }
 
 /// Puts the chunk of a group.

@@ -8,9 +8,8 @@ use Rattle.record_writer.specs.Windows.{AreTaken}
 use Rattle.record_writer.proofs.Layings.{Lays-none, LaysFront-whole}
 use Rattle.record_writer.proofs.Given.{Lays-all, LaysFront-all}
 use Rattle.record_writer.proofs.Reaches.{reach_of-behind}
-use Rattle.record_writer.proofs.Windows.{AreTaken-append, LaysFront-taken, IfSome-given, to_take-falls, where_failed, where_done, put_front}
+use Rattle.record_writer.proofs.Windows.{AreTaken-append, LaysFront-taken, IfSome-given, to_take-falls, where_failed, where_done}
 use Rattle.record_writer.proofs.engine.put_closed_groups.Goals as goal
-use Rattle.record_writer.proofs.engine.put_closed_groups.Goals.{In_ok-put_if_large}
 
 pub loop-taken-init : goal.loop-taken-init
 loop-taken-init g c = record {
@@ -24,67 +23,78 @@ loop-taken-init g c = record {
   made_name = refl;
 }
 
-pub returns-in_err-put_if_large-clause-front : goal.returns-in_err-put_if_large-clause-front
-returns-in_err-put_if_large-clause-front g c =
+pub returns-in_err-put-clause-front : goal.returns-in_err-put-clause-front
+returns-in_err-put-clause-front g c =
     let before = c.loop-taken.invariant.laid in
     OnErr-any _
     (LaysFront-taken c.loop-taken.taken _ (g.L.RecordFeed.rest c.loop-taken.feed) _ c.loop-taken.grouper (before.0 ++ c.loop-taken.window) _ _ _ _ before.2
-    (LaysFront-all _ _ _ _ c.loop-taken.file c.put_if_large.new.file (before.0 ++ c.loop-taken.window) before.0 c.loop-taken.window refl before.1 c.in_err-put_if_large.ensures.front))
-
--- what was given once a large window was put
-after_large : (g : _) (c : In_ok-put_if_large g)
-    → (given : List (List (List ℕ)))
-    × Lays (g.M.Sink.taken c.args.made.now) (g.M.Sink.taken c.put_if_large.new.made) c.args.file.now c.put_if_large.new.file (chunks_of_groups given)
-    × AreTaken c.loop-taken.taken (g.L.RecordFeed.rest c.args.feed.now) (g.L.RecordFeed.rest c.loop-taken.feed) c.args.grouper.now c.loop-taken.grouper
-    (given ++ c.put_if_large.new.self)
-after_large g c =
-    let before = c.loop-taken.invariant.laid in
-    let large = c.in_ok-put_if_large.ensures.whole in
-    put_front _ _ _ _ c.loop-taken.file _ _ _ _ _ c.loop-taken.grouper before.0 c.loop-taken.window large.0 c.put_if_large.new.self large.1 before.1 large.2 before.2
-
-pub returns-in_err-put-clause-front : goal.returns-in_err-put-clause-front
-returns-in_err-put-clause-front g c =
-    let before = after_large g (goal.at.returns-in_err-put-clause-front g c).In_ok-put_if_large in
-    OnErr-any _
-    (LaysFront-taken c.loop-taken.taken _ (g.L.RecordFeed.rest c.loop-taken.feed) _ c.loop-taken.grouper (before.0 ++ c.put_if_large.new.self) _ _ _ _ before.2
-    (LaysFront-all _ _ _ _ c.put_if_large.new.file _ (before.0 ++ c.put_if_large.new.self) before.0 c.put_if_large.new.self refl before.1 (where_failed _ _ c.in_err-put.was (search rules))))
-
-pub loop-taken-smaller : goal.loop-taken-smaller
-loop-taken-smaller g c =
-    to_take-falls c.loop-taken.taken c.join_mut-put.result.1 (g.L.RecordFeed.bound c.loop-taken.feed) _ (search rules) (search rules)
-
-pub loop-taken-preserved : goal.loop-taken-preserved
-loop-taken-preserved g c =
-    let before = after_large g (goal.at.loop-taken-preserved g c).In_ok-put_if_large in
-    let more : c.loop-taken.taken ≡ Ok Window = search rules in
-    let window = subst (λ (t : Result Taken CutOff). AreTaken t (g.L.RecordFeed.rest c.args.feed.now) (g.L.RecordFeed.rest c.loop-taken.feed) c.args.grouper.now c.loop-taken.grouper
-    (before.0 ++ c.put_if_large.new.self)) more before.2 in
-    record {
-      laid = (
-        before.0 ++ c.put_if_large.new.self,
-        Lays-all _ _ _ _ c.put_if_large.new.file _ (before.0 ++ c.put_if_large.new.self) before.0 c.put_if_large.new.self refl before.1 (where_done _ _ c.in_ok-put.was (search rules)),
-        AreTaken-append c.join_mut-put.result.1 _ (g.L.RecordFeed.rest c.loop-taken.feed) _ _ c.loop-taken.grouper _ (before.0 ++ c.put_if_large.new.self) _ window (search rules),
-      );
-      next = where_done _ _ c.in_ok-put.was (search rules);
-      feed_going = search rules;
-      in_reach = search (rules, reach_of-behind);
-      drained = λ end. IfSome-given _ (g.L.RecordFeed.rest c.loop-taken.feed) _ c.loop-taken.grouper (before.0 ++ c.put_if_large.new.self) _ window (search rules);
-      causes = search rules;
-      input_name = search rules;
-      made_name = search rules;
-    }
+    (LaysFront-all _ _ _ _ c.loop-taken.file c.put.new.file (before.0 ++ c.loop-taken.window) before.0 c.loop-taken.window refl before.1 c.in_err-put.ensures.front))
 
 pub returns-in_err-put-2-clause-front : goal.returns-in_err-put-2-clause-front
 returns-in_err-put-2-clause-front g c =
     let before = c.loop-taken.invariant.laid in
     OnErr-any _
     (LaysFront-taken c.loop-taken.taken _ (g.L.RecordFeed.rest c.loop-taken.feed) _ c.loop-taken.grouper (before.0 ++ c.loop-taken.window) _ _ _ _ before.2
-    (LaysFront-all _ _ _ _ c.loop-taken.file c.put.new.file (before.0 ++ c.loop-taken.window) before.0 c.loop-taken.window refl before.1 c.in_err-put-2.ensures.front))
+    (LaysFront-all _ _ _ _ c.loop-taken.file _ (before.0 ++ c.loop-taken.window) before.0 c.loop-taken.window refl before.1 (where_failed _ _ c.in_err-put-2.was (search rules))))
+
+pub loop-taken-smaller : goal.loop-taken-smaller
+loop-taken-smaller g c =
+    to_take-falls c.loop-taken.taken c.join_mut-put.result.1 (g.L.RecordFeed.bound c.loop-taken.feed) _ (search rules) (search rules)
+
+pub loop-taken-preserved-then-is_large : goal.loop-taken-preserved-then-is_large
+loop-taken-preserved-then-is_large g c =
+    let before = c.loop-taken.invariant.laid in
+    let more : c.loop-taken.taken ≡ Ok Window = search rules in
+    let window = subst (λ (t : Result Taken CutOff). AreTaken t (g.L.RecordFeed.rest c.args.feed.now) (g.L.RecordFeed.rest c.loop-taken.feed) c.args.grouper.now c.loop-taken.grouper
+    (before.0 ++ c.loop-taken.window)) more before.2 in
+    let next = c.take_window-taken-then-is_large.ensures in
+    record {
+      laid = (
+        before.0 ++ c.loop-taken.window,
+        Lays-all _ _ _ _ c.loop-taken.file _ (before.0 ++ c.loop-taken.window) before.0 c.loop-taken.window refl before.1 c.in_ok-put.ensures.whole,
+        AreTaken-append c.take_window-taken-then-is_large.result _ (g.L.RecordFeed.rest c.loop-taken.feed) _ _ c.loop-taken.grouper _ (before.0 ++ c.loop-taken.window) _ window next.taken,
+      );
+      next = c.loop-taken.invariant.next;
+      feed_going = next.feed_going;
+      in_reach = search (rules, reach_of-behind);
+      drained = λ end. IfSome-given _ (g.L.RecordFeed.rest c.loop-taken.feed) _ c.loop-taken.grouper (before.0 ++ c.loop-taken.window) _ window (next.drained end);
+      causes = search rules;
+      input_name = search rules;
+      made_name = search rules;
+    }
+
+pub loop-taken-preserved : goal.loop-taken-preserved
+loop-taken-preserved g c =
+    let before = c.loop-taken.invariant.laid in
+    let more : c.loop-taken.taken ≡ Ok Window = search rules in
+    let window = subst (λ (t : Result Taken CutOff). AreTaken t (g.L.RecordFeed.rest c.args.feed.now) (g.L.RecordFeed.rest c.loop-taken.feed) c.args.grouper.now c.loop-taken.grouper
+    (before.0 ++ c.loop-taken.window)) more before.2 in
+    record {
+      laid = (
+        before.0 ++ c.loop-taken.window,
+        Lays-all _ _ _ _ c.loop-taken.file _ (before.0 ++ c.loop-taken.window) before.0 c.loop-taken.window refl before.1 (where_done _ _ c.in_ok-put-2.was (search rules)),
+        AreTaken-append c.join_mut-put.result.1 _ (g.L.RecordFeed.rest c.loop-taken.feed) _ _ c.loop-taken.grouper _ (before.0 ++ c.loop-taken.window) _ window (search rules),
+      );
+      next = where_done _ _ c.in_ok-put-2.was (search rules);
+      feed_going = search rules;
+      in_reach = search (rules, reach_of-behind);
+      drained = λ end. IfSome-given _ (g.L.RecordFeed.rest c.loop-taken.feed) _ c.loop-taken.grouper (before.0 ++ c.loop-taken.window) _ window (search rules);
+      causes = search rules;
+      input_name = search rules;
+      made_name = search rules;
+    }
+
+pub returns-in_err-put-3-clause-front : goal.returns-in_err-put-3-clause-front
+returns-in_err-put-3-clause-front g c =
+    let before = c.loop-taken.invariant.laid in
+    OnErr-any _
+    (LaysFront-taken c.loop-taken.taken _ (g.L.RecordFeed.rest c.loop-taken.feed) _ c.loop-taken.grouper (before.0 ++ c.loop-taken.window) _ _ _ _ before.2
+    (LaysFront-all _ _ _ _ c.loop-taken.file c.put-2.new.file (before.0 ++ c.loop-taken.window) before.0 c.loop-taken.window refl before.1 c.in_err-put-3.ensures.front))
 
 pub returns-clause-whole : goal.returns-clause-whole
 returns-clause-whole g c =
     let before = c.loop-taken.invariant.laid in
-    let laid = Lays-all _ _ _ c.args.file.now c.loop-taken.file c.put.new.file (before.0 ++ c.loop-taken.window) before.0 c.loop-taken.window refl before.1 c.in_ok-put-2.ensures.whole in
+    let laid = Lays-all _ _ _ c.args.file.now c.loop-taken.file c.put-2.new.file (before.0 ++ c.loop-taken.window) before.0 c.loop-taken.window refl before.1 c.in_ok-put-3.ensures.whole in
     elim c.match-taken.branch [
       | goal.in-Ok-All w ↦
           let ended : c.loop-taken.taken ≡ Ok (All w.in-Ok-All.stop) = search rules in
@@ -102,5 +112,5 @@ returns-clause-front g c =
     let before = c.loop-taken.invariant.laid in
     OnErr-any _
     (LaysFront-taken c.loop-taken.taken _ (g.L.RecordFeed.rest c.loop-taken.feed) _ c.loop-taken.grouper (before.0 ++ c.loop-taken.window) _ _ _ _ before.2
-    (LaysFront-all _ _ _ _ c.loop-taken.file c.put.new.file (before.0 ++ c.loop-taken.window) before.0 c.loop-taken.window refl before.1
-    (LaysFront-whole _ _ _ _ _ c.in_ok-put-2.ensures.whole)))
+    (LaysFront-all _ _ _ _ c.loop-taken.file c.put-2.new.file (before.0 ++ c.loop-taken.window) before.0 c.loop-taken.window refl before.1
+    (LaysFront-whole _ _ _ _ _ c.in_ok-put-3.ensures.whole)))

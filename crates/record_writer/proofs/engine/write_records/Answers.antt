@@ -1,7 +1,55 @@
+use Rattle.std.proofs.Common.{◌≡◌, Option, IfSome, refl, rules}
+use Rattle.std.proofs.lemmas.Result.{IfOk-at_ok, err_from_is_err_and}
+use Rattle.record_io.specs.Outside.{Takes, TakesFront}
+use Rattle.record_io.proofs.Calls.{TakesFront-whole, TakesFront-none}
+use Rattle.record_writer.specs.declared.feed.Stop.{Stop}
+use Rattle.record_writer.specs.Progresses.{totals_made}
 use Rattle.record_writer.proofs.Counted.{Answers-told}
+use Rattle.record_writer.proofs.Flushes.{Takes-ended, TakesFront-ended, totals_made-ended, TakesFile-cut, TakesFile-ended}
+use Rattle.record_writer.proofs.Windows.{where_done}
 use Rattle.record_writer.proofs.engine.write_records.Goals as goal
+
+pub returns-in_err-flush-clause-made : goal.returns-in_err-flush-clause-made
+returns-in_err-flush-clause-made g c =
+    let p = err_from_is_err_and c.from_residual.result c.from_residual.ensures.1 in
+    let put = c.put_chunks-stop.ensures in
+    rw (p.1, p.2)
+    (TakesFront-ended c.args.options.now c.new-file.result c.new-file.ensures _ _ _ c.put_chunks-stop.new.file _ c.put_chunks-stop.result put.whole put.front
+    c.in_err-flush.ensures.front)
+
+pub returns-in_err-stop-clause-made : goal.returns-in_err-stop-clause-made
+returns-in_err-stop-clause-made g c =
+    let p = err_from_is_err_and c.from_residual-in_err-stop.result c.from_residual-in_err-stop.ensures.1 in
+    let put = c.put_chunks-stop.ensures in
+    let front : TakesFront (g.M.Sink.taken c.put_chunks-stop.new.made) (g.M.Sink.taken c.if-is_ok.made) c.put_chunks-stop.new.file.held =
+    elim c.if-is_ok.branch [
+      | goal.then-is_ok+in_ok-flush w ↦ rw w.made-is (TakesFront-whole _ _ _ w.in_ok-flush.ensures.whole)
+      | goal.else-is_ok+else-totals-gt0 w ↦ rw w.made-is (TakesFront-none _ _)
+    ] in
+    rw (p.1, p.2)
+    (TakesFile-cut c.args.options.now _ _ _ c.in_err-stop.field-0.0
+    (TakesFront-ended c.args.options.now c.new-file.result c.new-file.ensures _ _ _ c.put_chunks-stop.new.file _ c.put_chunks-stop.result put.whole put.front front))
 
 pub returns-clause-answer : goal.returns-clause-answer
 returns-clause-answer g c =
+    let put = c.put_chunks-stop.ensures in
+    let same : totals_made c.if-is_ok.file ≡ totals_made c.put_chunks-stop.new.file =
+    elim c.if-is_ok.branch [
+      | goal.then-is_ok+in_ok-flush w ↦ rw w.file-is w.flush.ensures.same_totals
+      | goal.else-is_ok+else-totals-gt0 w ↦ rw w.file-is refl
+    ] in
+    let totals = totals_made-ended c.args.options.now c.new-file.result c.new-file.ensures _ _ c.put_chunks-stop.new.file _ c.put_chunks-stop.result put.whole in
     rw c.answer.ensures
-    (Answers-told c.args.options.now _ c.in_ok-stop.stop c.totals.result c.in_ok-stop.ensures.stop (rw c.totals.ensures.counted c.in_ok-stop.ensures.totals))
+    (Answers-told c.args.options.now _ c.in_ok-stop.field-0 c.totals-2.result
+    (IfOk-at_ok (λ (stop : Option Stop). IfSome (g.L.RecordFeed.rest c.args.feed.now) (λ rest. rest.stop ≡ stop)) c.in_ok-stop.was put.stop)
+    (rw (c.totals-2.ensures.counted, same) (where_done _ _ c.in_ok-stop.was totals)))
+
+pub returns-clause-made : goal.returns-clause-made
+returns-clause-made g c =
+    let flushed : Takes (g.M.Sink.taken c.put_chunks-stop.new.made) (g.M.Sink.taken c.if-is_ok.made) c.put_chunks-stop.new.file.held =
+    elim c.if-is_ok.branch [
+      | goal.then-is_ok+in_ok-flush w ↦ rw w.made-is w.in_ok-flush.ensures.whole
+      | goal.else-is_ok+else-totals-gt0 w ↦ search rules
+    ] in
+    let whole = Takes-ended c.args.options.now c.new-file.result c.new-file.ensures _ _ _ c.put_chunks-stop.new.file _ c.put_chunks-stop.result c.put_chunks-stop.ensures.whole flushed in
+    rw c.answer.ensures (TakesFile-ended c.args.options.now _ _ _ c.in_ok-stop.field-0 c.totals-2.result (where_done _ _ c.in_ok-stop.was whole))
