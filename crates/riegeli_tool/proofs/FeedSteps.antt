@@ -7,7 +7,7 @@ use Rattle.record_writer.specs.declared.feed.Stop.{Stop}
 use Rattle.record_writer.specs.declared.feed.Stop.TheVariants.{TooLong, InputTooLong}
 use Rattle.record_writer.specs.Feeds.{Rest, GivesRecord, nothing_left, stop_alone}
 use Rattle.riegeli_tool.specs.Input.{NoneEnds, line_limit, taken_before, taken_from}
-use Rattle.riegeli_tool.specs.LineFeeds.{EndsAt, text_of, rest_of}
+use Rattle.riegeli_tool.specs.LineFeeds.{LineEndsAt, text_of, rest_of}
 use Rattle.riegeli_tool.proofs.TakenLines.{NoneEnds-append, taken_from-line, taken_from-nothing, taken_from-last, taken_from-running, taken_from-long, taken_from-spent, short-record}
 
 -- a line before a text
@@ -192,8 +192,8 @@ input-spent hex bound held (Some bytes) e =
     ap Some (no_back held bytes (taken_from-spent (held ++ bytes) hex (bound - 1) none))
 
 -- an end behind bytes that are none
-pub EndsAt-behind : (bytes : List ℕ) (seen more : ℕ) → seen ≤ length bytes → NoneEnds (take seen bytes) → EndsAt (drop seen bytes) more → EndsAt bytes (seen + more)
-EndsAt-behind bytes seen more within front ends =
+pub LineEndsAt-behind : (bytes : List ℕ) (seen more : ℕ) → seen ≤ length bytes → NoneEnds (take seen bytes) → LineEndsAt (drop seen bytes) more → LineEndsAt bytes (seen + more)
+LineEndsAt-behind bytes seen more within front ends =
     let back : List ℕ = drop seen bytes in
     let line : take (seen + more) bytes ≡ take seen bytes ++ take more back = take-add seen more bytes in
     let after : drop (seen + more + 1) bytes ≡ drop (more + 1) back =

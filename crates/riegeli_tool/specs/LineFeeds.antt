@@ -12,5 +12,5 @@ abbrev pub rest_of : Bool → ℕ → Option (List ℕ) → Option Rest
 rest_of hex bound text = option_map (λ bytes. taken_from bytes hex (bound - 1)) text
 
 -- the first byte 10 stands behind so many others
-abbrev pub EndsAt : List ℕ → ℕ → Type 0
-EndsAt bytes n = (n < length bytes) × NoneEnds (take n bytes) × (bytes ≡ take n bytes ++ 10 ∷ drop (n + 1) bytes)
+abbrev pub LineEndsAt : List ℕ → ℕ → Type 0
+LineEndsAt bytes n = (n < length bytes) × NoneEnds (take n bytes) × (bytes ≡ take n bytes ++ 10 ∷ drop (n + 1) bytes)

@@ -1,7 +1,7 @@
 ghost use Rattle.std.specs.Prelude.{◌≡◌, ◌≢◌, ◌+◌, ◌^◌, ◌<◌, ◌≤◌, List, ℕ, [], ◌∷◌, ◌++◌, Option, Some, true, false, length, take, drop, option_map, unwrap_or, None, IfOk, IfSome, OnErr};
 ghost use Rattle.record_io.specs.Outside.{Rose};
 ghost use Rattle.riegeli_tool.specs.Input.{NoneEnds, line_limit, taken_from};
-ghost use Rattle.riegeli_tool.specs.LineFeeds.{EndsAt, text_of, rest_of};
+ghost use Rattle.riegeli_tool.specs.LineFeeds.{LineEndsAt, text_of, rest_of};
 
 use crate::window::Window;
 use memchr::memchr;
@@ -25,7 +25,7 @@ pub struct LineFeed<'a, I: Source> {
     window: Window,
     /// How many bytes of the window are known not to end a line.
     seen: usize,
-    /// How many bytes the last line had that was given so, for which the next one takes room at once.
+    /// How many bytes the last line had that `pull` gave, for which a long one takes room at once.
     room: usize,
     ghost plain: { hex ≡ false },
     ghost some_seen: { seen ≤ length window },
@@ -58,7 +58,7 @@ impl<'a, I: Source> LineFeed<'a, I> {
 
     /// How many bytes the next line has, where its end is held.
     fn line_end(&mut self) -> Option<usize>
-        ensures found { IfSome result (EndsAt self.old.window) }
+        ensures found { IfSome result (LineEndsAt self.old.window) }
         ensures none { result ≡ None → NoneEnds self.old.window }
         ensures same_window { self.new.window ≡ self.old.window }
         ensures same_asked { self.new.asked ≡ self.old.asked }
@@ -135,6 +135,10 @@ impl<'a, I: Source> LineFeed<'a, I> {
         if piece.len() > most_bytes(self.hex) - line.len() {
             return Err(FeedEnd::Stop(Stop::TooLong));
         }
+        if end.is_none() {
+            // Where there is no room for as much as the last line, each piece asks for its own.
+            let _ = line.reserve(self.room.saturating_sub(line.len()));
+        }
         line.push_all(piece)?;
         let used = piece.len() + usize::from(end.is_some());
         self.window.skip(used);
@@ -147,7 +151,7 @@ impl<'a, I: Source> LineFeed<'a, I> {
 fn end_behind(bytes: &[u8], seen: usize) -> Option<usize>
     requires some_seen { seen ≤ length bytes.now }
     requires none_ends { NoneEnds (take seen bytes.now) }
-    ensures found { IfSome result (EndsAt bytes.now) }
+    ensures found { IfSome result (LineEndsAt bytes.now) }
     ensures none { result ≡ None → NoneEnds bytes.now }
 {
     let more = first_end(&bytes[seen..])?;
@@ -156,7 +160,7 @@ fn end_behind(bytes: &[u8], seen: usize) -> Option<usize>
 
 /// How many bytes stand before the first byte 10, if there is one.
 fn first_end(bytes: &[u8]) -> Option<usize>
-    ensures found { IfSome result (EndsAt bytes.now) }
+    ensures found { IfSome result (LineEndsAt bytes.now) }
     ensures none { result ≡ None → NoneEnds bytes.now }
 {
     memchr(b'\n', bytes)
@@ -180,7 +184,6 @@ impl<'a, I: Source> RecordFeed for LineFeed<'a, I> {
 
     fn pull(&mut self, _alloc: Global, into: &mut Bytes) -> Result<bool, FeedEnd> {
         into.clear();
-        into.reserve(self.room)?;
         while self.refill()? {
             if self.grow(into)? {
                 self.room = into.len();

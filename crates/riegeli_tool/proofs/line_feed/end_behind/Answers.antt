@@ -1,8 +1,8 @@
 use Rattle.std.proofs.Common.{◌≡◌, ◌∙◌, ◌-◌, ℕ, List, take, drop, length, length-drop, refl, sym, ap}
 use Rattle.std.proofs.Math.Seq.{take-length}
 use Rattle.riegeli_tool.specs.Input.{NoneEnds}
-use Rattle.riegeli_tool.specs.LineFeeds.{EndsAt}
-use Rattle.riegeli_tool.proofs.FeedSteps.{EndsAt-behind, NoneEnds-behind}
+use Rattle.riegeli_tool.specs.LineFeeds.{LineEndsAt}
+use Rattle.riegeli_tool.proofs.FeedSteps.{LineEndsAt-behind, NoneEnds-behind}
 use Rattle.riegeli_tool.proofs.line_feed.end_behind.Goals as goal
 
 -- a list from a place on is its back
@@ -16,6 +16,6 @@ returns-in_err-more-clause-none c = λ _.
 
 pub returns-clause-found : goal.returns-clause-found
 returns-clause-found c =
-    let ends : EndsAt (take (length c.args.bytes.now - c.args.seen) (drop c.args.seen c.args.bytes.now)) c.in_ok-more.more = c.in_ok-more.ensures.found in
-    EndsAt-behind c.args.bytes.now c.args.seen c.in_ok-more.more c.requires.some_seen c.requires.none_ends
+    let ends : LineEndsAt (take (length c.args.bytes.now - c.args.seen) (drop c.args.seen c.args.bytes.now)) c.in_ok-more.more = c.in_ok-more.ensures.found in
+    LineEndsAt-behind c.args.bytes.now c.args.seen c.in_ok-more.more c.requires.some_seen c.requires.none_ends
     (rw (from_place c.args.bytes.now c.args.seen) at ends)

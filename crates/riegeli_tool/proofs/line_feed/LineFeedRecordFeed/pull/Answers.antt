@@ -4,7 +4,7 @@ use Rattle.riegeli_tool.proofs.line_feed.LineFeedRecordFeed.pull.Goals as goal
 
 pub returns-in_err-refill-clause-stop : goal.returns-in_err-refill-clause-stop
 returns-in_err-refill-clause-stop g c = λ s failed.
-    let e = rw failed at c.from_residual-in_err-refill.ensures.1 in
+    let e = rw failed at c.from_residual.ensures.1 in
     let short = rw c.loop-self.invariant.form at c.loop-self.invariant.short in
     stop-past c.args.self.now.hex _ c.loop-self.self.asked _ _ _ _ s c.loop-self.invariant.none short c.loop-self.invariant.bound c.loop-self.invariant.text
     (c.in_err-refill.ensures.past s (ap Err (sym e)))

@@ -24,6 +24,5 @@ returns-clause-pushed g c = λ _.
           self.plain c.line_end.new.self.plain NoneEnds-none ends.1 refl parts short (omega arith) (omega (arith, asking, c.in-Some.ensures.same_asked)) c.in-Some.ensures.same_asked
           (ap g.I.Source.left c.in-Some.ensures.same_input) refl;
       takes = rw slice at c.push_open.ensures.push (search rules);
-      at_most = omega (arith, short);
       lowers = omega (arith, c.in-Some.ensures.same_asked, ap length parts, length-append line (10 ∷ c.skip.new.self));
     }
