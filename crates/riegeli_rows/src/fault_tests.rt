@@ -449,6 +449,27 @@ fn what_was_read_before_a_fault_is_printed(rt: HostRuntime) -> Result<(), Fail> 
 }
 
 #[test]
+fn nothing_is_made_where_the_input_fails_before_a_chunk_is_whole(
+    rt: HostRuntime,
+) -> Result<(), Fail> {
+    for call in [0, 1, 4] {
+        let fails = [call];
+        let calls = failing(Object::Input, &fails);
+        let words = ["write", "F"];
+        let left = run_in_memory(&rt, rt.alloc(), &words, THREE_LINES, &[], &calls)?;
+        left.is(
+            &rt,
+            &Answer {
+                status: Status::Input,
+                notes: "input fault\n",
+                ..QUIET
+            },
+        );
+    }
+    Ok(())
+}
+
+#[test]
 fn a_sink_without_room_fails_at_its_first_put(rt: HostRuntime) -> Result<(), Fail> {
     let mut made = MemSink::new(rt.alloc(), 0, Vec::new(rt.alloc()), Vec::new(rt.alloc()))?;
     assert_eq!(rt; made.put(b"a"), Err(Failed));

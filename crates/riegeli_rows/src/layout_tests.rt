@@ -452,3 +452,32 @@ fn the_longest_record_goes_over_blocks(rt: HostRuntime) -> Result<(), Fail> {
     )?;
     Ok(())
 }
+
+/// A window has no room for either of these groups beside others, and the second one goes on behind its long record.
+#[test]
+fn long_groups_follow_one_another(rt: HostRuntime) -> Result<(), Fail> {
+    is_counted(
+        &rt,
+        rt.alloc(),
+        &Made {
+            words: &["write", "--chunk=16777216", "F"],
+            lines: &[(b'x', 9_437_184), (b'y', 9_437_184), (b'z', 1)],
+            size: 18_881_438,
+            chunks: 3,
+            numbers: &[
+                (72, 9_437_190),
+                (96, 9_437_184),
+                (9_440_758, 9_437_192),
+                (9_440_782, 9_437_185),
+            ],
+            bytes: &[
+                (88, ONE_RECORD),
+                (104, b"\0\x04\x80\x80\xc0\x04x"),
+                (9_440_774, b"r\x02\0\0\0\0\0\0"),
+                (9_440_790, b"\0\x05\x80\x80\xc0\x04\x01y"),
+                (18_881_437, b"z"),
+            ],
+        },
+    )?;
+    Ok(())
+}
