@@ -1,11 +1,11 @@
-ghost use Rattle.std.specs.Prelude.{◌≡◌, ◌+◌, ◌^◌, ◌<◌, ◌≤◌, ℕ, List, None, Some, [], ◌∷◌, ◌++◌, IfOk, IfSome, OnErr};
+ghost use Rattle.std.specs.Prelude.{◌≡◌, ◌+◌, ◌^◌, ◌<◌, ◌≤◌, ℕ, List, None, Some, [], ◌∷◌, ◌++◌, IfSome, OnErr};
 ghost use Rattle.record_io.specs.Outside.{Rose};
 ghost use Rattle.block_layout.specs.Layout.{IsBoundary};
 ghost use Rattle.chunk_header.specs.Chunks.{ChunkValue};
 ghost use Rattle.chunk_header.specs.Views.{value_of_chunk};
 ghost use Rattle.meta_chunk.specs.Counts.{totals_of};
 ghost use Rattle.meta_chunk.specs.Files.{IsChainOf, IsFileOf};
-ghost use Rattle.chunk_reader.specs.Contents.{IsJudged, IsJudgedIn};
+ghost use Rattle.chunk_reader.specs.Contents.{IsJudged};
 ghost use Rattle.chunk_reader.specs.Faults.{BeginsWithSignature, IsAllowed, IsFault};
 ghost use Rattle.chunk_reader.specs.Progress.{AreTotals, AreReadFrom};
 ghost use Rattle.chunk_reader.specs.Reasons.{Applies, NoneOf, loading_reasons};

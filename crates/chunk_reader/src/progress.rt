@@ -1,7 +1,7 @@
 ghost use Rattle.std.specs.Prelude.{◌≡◌, ◌+◌, ◌^◌, ◌<◌, ◌≤◌, Some, IfSome, OnOk};
 ghost use Rattle.record_io.specs.Outside.{Rose};
 ghost use Rattle.chunk_reader.specs.Faults.{BeginsWithSignature};
-ghost use Rattle.chunk_reader.specs.Progress.{counted, AreTotals};
+ghost use Rattle.chunk_reader.specs.Progress.{counted};
 ghost use Rattle.chunk_reader.specs.declared.reasons.Fault.{Fault};
 
 use crate::reasons::{Fault, VerifyEnd, Why};

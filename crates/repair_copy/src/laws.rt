@@ -7,7 +7,7 @@ ghost use Rattle.record_io.specs.Puts.{Put, Made, Out, Notes, BreaksOff, bytes_t
 ghost use Rattle.block_layout.specs.Layout.{block_header_size};
 ghost use Rattle.chunk_header.specs.Chunks.{ChunkValue};
 ghost use Rattle.meta_chunk.specs.Kinds.{IsSignature, IsPadding};
-ghost use Rattle.meta_chunk.specs.Files.{signature, end_of_chunks, IsFramed, IsFileOf, IsFile, IsFrame, AreRecordsOf, laid_each};
+ghost use Rattle.meta_chunk.specs.Files.{signature, end_of_chunks, IsFileOf, IsFile, IsFrame, AreRecordsOf, laid_each};
 ghost use Rattle.meta_chunk.specs.Laid.{end_of_chunk};
 ghost use Rattle.record_group.specs.declared.pad.Pad.{Pad};
 ghost use Rattle.record_group.specs.declared.pad.Pad.TheVariants.{No};

@@ -1,5 +1,5 @@
 ghost use Rattle.std.specs.Prelude.{◌≡◌};
-ghost use Rattle.riegeli_tool.specs.Commands.{files_read, names_of};
+ghost use Rattle.riegeli_tool.specs.Commands.{files_read};
 
 use crate::recover_words::RecoverWords;
 use crate::repair_words::RepairWords;

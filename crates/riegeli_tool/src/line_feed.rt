@@ -1,4 +1,4 @@
-ghost use Rattle.std.specs.Prelude.{◌≡◌, ◌≢◌, ◌+◌, ◌^◌, ◌<◌, ◌≤◌, List, ℕ, [], ◌∷◌, ◌++◌, Option, Some, true, false, length, take, drop, option_map, unwrap_or, None, IfOk, IfSome, OnErr};
+ghost use Rattle.std.specs.Prelude.{◌≡◌, ◌≢◌, ◌+◌, ◌^◌, ◌<◌, ◌≤◌, ℕ, [], ◌∷◌, ◌++◌, Option, Some, true, false, length, take, option_map, unwrap_or, None, IfOk, IfSome, OnErr};
 ghost use Rattle.record_io.specs.Outside.{Rose};
 ghost use Rattle.riegeli_tool.specs.Input.{NoneEnds, line_limit, taken_from};
 ghost use Rattle.riegeli_tool.specs.LineFeeds.{LineEndsAt, text_of, rest_of};
