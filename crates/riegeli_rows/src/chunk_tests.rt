@@ -4,7 +4,7 @@ ghost use Rattle.std.specs.Prelude.{◌≡◌, ◌^◌, ◌<◌, ◌≤◌, Some
 ghost use Rattle.block_layout.specs.Layout.{IsBoundary};
 
 use crate::files::{Laid, THREE, file_of, part};
-use crate::running::{Answer, QUIET, SOUND, answers, passes, refuses, run_over};
+use crate::running::{Answer, QUIET, SOUND, answers, ended, passes, refuses, run_over};
 use chunk_header::{Chunk, Header};
 use chunk_reader::{Content, Head, What, content, data_at, head_at, strict_at};
 use record_io::{Store, SureStore};
@@ -255,14 +255,7 @@ fn a_chunk_has_at_most_64_mib_of_data(rt: HostRuntime) -> Result<(), Fail> {
         let mut files = [SureStore::new(file, Vec::new(alloc))];
         for words in words {
             let left = run_over(&rt, alloc, words, b"", &mut files, &SOUND)?;
-            left.is(
-                &rt,
-                &Answer {
-                    status: Status::Refused,
-                    notes,
-                    ..QUIET
-                },
-            );
+            left.is(&rt, &ended(Status::Refused, notes));
         }
     }
     Ok(())

@@ -2,7 +2,7 @@
 
 use crate::files::{LETTERS, THREE, THREE_LINES, change, part, written};
 use crate::running::{
-    Answer, Calls, Left, QUIET, SOUND, USAGE, recovered, repaired, run_in_memory,
+    Answer, Calls, Left, QUIET, SOUND, USAGE, ended, recovered, repaired, run_in_memory,
 };
 use record_io::{Failed, MemSink, Sink};
 use riegeli_tool::Status;
@@ -114,11 +114,7 @@ fn each_call_of_writing_fails_in_turn(rt: HostRuntime) -> Result<(), Fail> {
         made: &THREE,
         ..QUIET
     };
-    let usage = Answer {
-        status: Status::Usage,
-        notes: USAGE,
-        ..QUIET
-    };
+    let usage = ended(Status::Usage, USAGE);
     for (words, objects, answer) in [
         (
             ["write", "F"].as_slice(),
@@ -336,14 +332,7 @@ fn no_region_is_told_before_what_is_held_went_out(rt: HostRuntime) -> Result<(),
         let calls = failing(object, &[0]);
         let left = run_in_memory(&rt, alloc, words, b"", &[&file], &calls)?;
         let (status, notes) = fault_of(object);
-        left.is(
-            &rt,
-            &Answer {
-                status,
-                notes,
-                ..QUIET
-            },
-        );
+        left.is(&rt, &ended(status, notes));
     }
     Ok(())
 }
@@ -372,14 +361,7 @@ fn notes_that_fail_after_another_fault_change_no_status(rt: HostRuntime) -> Resu
                 ..failing(object, &[0, 1])
             };
             let left = run_in_memory(&rt, alloc, words, THREE_LINES, &files, &calls)?;
-            left.is(
-                &rt,
-                &Answer {
-                    status,
-                    notes: line.get(..told).unwrap_or(""),
-                    ..QUIET
-                },
-            );
+            left.is(&rt, &ended(status, line.get(..told).unwrap_or("")));
         }
     }
     Ok(())
@@ -457,14 +439,7 @@ fn nothing_is_made_where_the_input_fails_before_a_chunk_is_whole(
         let calls = failing(Object::Input, &fails);
         let words = ["write", "F"];
         let left = run_in_memory(&rt, rt.alloc(), &words, THREE_LINES, &[], &calls)?;
-        left.is(
-            &rt,
-            &Answer {
-                status: Status::Input,
-                notes: "input fault\n",
-                ..QUIET
-            },
-        );
+        left.is(&rt, &ended(Status::Input, "input fault\n"));
     }
     Ok(())
 }

@@ -1,6 +1,8 @@
 //! Tests of runs over real files, and over a file of which nothing is told.
 use crate::files::{THREE, THREE_LINES, part};
-use crate::running::{Answer, QUIET, ROOM, SOUND, USAGE, owned, recovered, repaired, run_over};
+use crate::running::{
+    Answer, QUIET, ROOM, SOUND, USAGE, ended, owned, recovered, repaired, run_over,
+};
 use crate::stores::Untold;
 use record_io::{FileSink, FileStore, MemInput, MemSink, MemStore};
 use riegeli_tool::{Status, run};
@@ -104,11 +106,7 @@ fn an_existing_file_is_kept_until_a_repair_puts_something(rt: HostRuntime) -> Re
 #[test]
 fn a_real_file_is_read_and_an_absent_one_fails(rt: HostRuntime) -> Result<(), Fail> {
     let (path, absent) = ("riegeli_rows_read", "no_such_folder/F");
-    let fault = Answer {
-        status: Status::File,
-        notes: "file fault\n",
-        ..QUIET
-    };
+    let fault = ended(Status::File, "file fault\n");
     let shown = Answer {
         out: THREE_LINES,
         ..QUIET
@@ -149,14 +147,7 @@ fn a_file_of_more_than_2_to_the_60_bytes_is_past_the_limit(rt: HostRuntime) -> R
         for words in [["show", "F"].as_slice(), &["verify", "F"]] {
             let mut files = [Untold::new(b"", size)];
             let left = run_over(&rt, rt.alloc(), words, b"", &mut files, &SOUND)?;
-            left.is(
-                &rt,
-                &Answer {
-                    status,
-                    notes,
-                    ..QUIET
-                },
-            );
+            left.is(&rt, &ended(status, notes));
         }
     }
     Ok(())
@@ -183,12 +174,7 @@ fn a_file_of_which_nothing_is_told_is_walked(rt: HostRuntime) -> Result<(), Fail
             let mut files = [Untold::new(b"", size)];
             let left = run_over(&rt, rt.alloc(), words, b"", &mut files, &SOUND)?;
             if size > 1 << 60 {
-                let answer = Answer {
-                    status: Status::Limit,
-                    notes,
-                    ..QUIET
-                };
-                left.is(&rt, &answer);
+                left.is(&rt, &ended(Status::Limit, notes));
             } else {
                 left.is(&rt, &answer);
             }

@@ -58,6 +58,15 @@ pub(crate) const QUIET: Answer<'static> = Answer {
     notes: "",
 };
 
+/// The answer of a run that ends with this status and these notes, and makes and prints nothing.
+pub(crate) fn ended(status: Status, notes: &str) -> Answer<'_> {
+    Answer {
+        status,
+        notes,
+        ..QUIET
+    }
+}
+
 /// The answer of recovering reading that shows these records and tells these regions.
 pub(crate) fn recovered<'a>(out: &'a [u8], notes: &'a str) -> Answer<'a> {
     let status = if notes.is_empty() {
@@ -199,11 +208,7 @@ pub(crate) fn refuses<R: Threads + Sync + Abort>(
     shown: &[u8],
     notes: &str,
 ) -> Result<(), AllocError> {
-    let refused = Answer {
-        status: Status::Refused,
-        notes,
-        ..QUIET
-    };
+    let refused = ended(Status::Refused, notes);
     answers(
         rt,
         alloc,

@@ -1,7 +1,7 @@
 //! Tests of words that are no command, and of files that are not the ones that the words name.
 
 use crate::files::{THREE, THREE_LINES};
-use crate::running::{Answer, Calls, QUIET, SOUND, USAGE, run_in_memory};
+use crate::running::{Calls, SOUND, USAGE, ended, run_in_memory};
 use riegeli_tool::Status;
 use std::alloc::{AllocError, Global};
 use std::process::Abort;
@@ -24,14 +24,7 @@ fn are_refused<R: Threads + Sync + Abort>(
     };
     let files = vec![in alloc; THREE.as_slice(); count]?;
     let left = run_in_memory(rt, alloc, words, THREE_LINES, &files, &calls)?;
-    left.is(
-        rt,
-        &Answer {
-            status: Status::Usage,
-            notes: USAGE,
-            ..QUIET
-        },
-    );
+    left.is(rt, &ended(Status::Usage, USAGE));
     Ok(())
 }
 
