@@ -1,5 +1,5 @@
 -- The groups that were given of a feed's records, and those still to come.
-use Rattle.std.proofs.Common.{◌≡◌, ◌∙◌, ℕ, Option, Some, None, List, [], ◌++◌, refl, sym, ap, subst}
+use Rattle.std.proofs.Common.{◌≡◌, ◌∙◌, ℕ, Option, Some, None, List, [], ◌++◌, sym, ap, subst}
 use Rattle.std.specs.Option.{IfSome, option_to_list}
 use Rattle.std.proofs.lemmas.List.{map-append}
 use Rattle.chunk_header.specs.Chunks.{ChunkValue}
@@ -11,11 +11,6 @@ use Rattle.record_writer.specs.declared.feed.Stop.{Stop}
 use Rattle.record_writer.specs.Feeds.{Rest, GivesRecord}
 use Rattle.record_writer.specs.Progresses.{Progress, AreGiven, Lays, LaysFront, chunks_of_groups}
 use Rattle.record_writer.proofs.Layings.{Lays-append, LaysFront-behind}
-
--- before any record none is given
-pub AreGiven-none : (a : Option Rest) (grouping : Grouping) → AreGiven a a grouping grouping []
-AreGiven-none None grouping = tt
-AreGiven-none (Some all) grouping = (all, refl, record { stop = refl; groups = refl })
 
 -- after one more record
 pub AreGiven-push : (a b c : Option Rest) (old between new : Grouping) (given : List (List (List ℕ))) (record_bytes : List ℕ) (closed : Option (List (List ℕ)))

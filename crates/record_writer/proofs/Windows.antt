@@ -1,20 +1,21 @@
 -- Groups that are taken of a feed, and then put together.
-use Rattle.std.proofs.Common.{◌≡◌, ◌∙◌, ℕ, ◌+◌, ◌<◌, ◌≤◌, Option, Some, None, Result, Ok, Err, List, [], ◌∷◌, ◌++◌, length, take, drop, get_or, IfSome, OnOk, OnErr, refl, sym, ap, subst, append_assoc, add-one, arith}
-use Rattle.std.proofs.Math.Seq.{take-suc}
+use Rattle.std.proofs.Common.{◌≡◌, ◌∙◌, ℕ, ◌+◌, ◌<◌, ◌≤◌, Option, Some, None, Result, Ok, Err, List, [], ◌∷◌, ◌++◌, length, take, drop, get_or, slice_set, IfSome, OnOk, OnErr, refl, sym, ap, subst, append_assoc, add-one, arith}
+use Rattle.std.proofs.Math.Seq.{take-suc, map-set_same}
 use Rattle.std.proofs.lemmas.Result.{IfErr-at_err, IfOk-at_ok}
-use Rattle.std.proofs.lemmas.List.{append-nil, map-append, take-append-drop}
+use Rattle.std.proofs.lemmas.List.{append-nil, get_or-map, get_or-take, length-map, length-take-le, map-append, take-append-drop, take-map}
 use Rattle.chunk_header.specs.Chunks.{ChunkValue}
 use Rattle.chunk_header.specs.SimpleChunks.{simple_chunk}
 use Rattle.meta_chunk.specs.Laid.{end_of_chunk}
 use Rattle.meta_chunk.specs.Files.{end_of_chunks}
 use Rattle.meta_chunk.proofs.Joins.{end_of_chunks-append, end_of_chunks_past}
+use Rattle.simple_chunk.specs.SimpleParts.{SimpleValue}
 use Rattle.record_group.specs.Groupings.{Grouping, groups_from}
 use Rattle.record_writer.specs.declared.cut_off.CutOff.{CutOff}
 use Rattle.record_writer.specs.declared.engine.Taken.{Taken}
 use Rattle.record_writer.specs.declared.engine.Taken.TheVariants.{Window, All}
 use Rattle.record_writer.specs.Feeds.{Rest}
 use Rattle.record_writer.specs.Progresses.{Progress, AreGiven, Lays, LaysFront, chunks_of_groups}
-use Rattle.record_writer.specs.Windows.{AreFront, AreTaken}
+use Rattle.record_writer.specs.Windows.{AreFront, AreTaken, groups_of}
 use Rattle.record_writer.proofs.Layings.{Lays-append, LaysFront-behind, LaysFront-longer}
 use Rattle.record_writer.proofs.Given.{chunks_of_groups-all}
 
@@ -24,6 +25,29 @@ where_failed {X} {E} {P} result e is h = IfErr-at_err (λ _. P) is h
 
 pub where_done : {X E P : Type 0} (result : Result X E) (x : X) → result ≡ Ok x → OnOk result P → P
 where_done {X} {E} {P} result x is h = IfOk-at_ok (λ _. P) is h
+
+-- the chunk of a group stands where the group does
+pub group-at : (chunks : List SimpleValue) (count : ℕ) (groups : List (List (List ℕ))) (i : ℕ) (chunk : SimpleValue) → groups_of (take count chunks) ≡ groups
+    → i < count → count ≤ length chunks → chunk ≡ get_or chunks i chunk
+    → (i < length groups) × (chunk.records ≡ get_or groups i chunk.records)
+group-at chunks count groups i chunk of within held is =
+    let records : SimpleValue → List (List ℕ) = λ c. c.records in
+    let many = length-take-le count chunks held in (
+      omega (arith, within, many, ap length of, length-map (take count chunks) records),
+      ap records (is ∙ sym (get_or-take count chunks i chunk within))
+          ∙ sym (get_or-map records (take count chunks) i chunk chunk.records (omega (arith, within, many)))
+          ∙ ap (λ (groups : List (List (List ℕ))). get_or groups i chunk.records) of,
+    )
+
+-- and the groups are the same with another chunk of that group in its place
+pub groups-kept : (chunks : List SimpleValue) (count : ℕ) (groups : List (List (List ℕ))) (i : ℕ) (chunk other : SimpleValue) → groups_of (take count chunks) ≡ groups
+    → chunk ≡ get_or chunks i chunk → other.records ≡ chunk.records → groups_of (take count (slice_set chunks i other)) ≡ groups
+groups-kept chunks count groups i chunk other of is same =
+    let records : SimpleValue → List (List ℕ) = λ c. c.records in
+    sym (take-map records count (slice_set chunks i other))
+    ∙ ap (take count) (map-set_same records chunks i other chunk (same ∙ ap records is))
+    ∙ take-map records count chunks
+    ∙ of
 
 -- the chunks of the groups up to one, and that one's behind them
 chunks-next : (groups : List (List (List ℕ))) (i : ℕ) (group : List (List ℕ)) → i < length groups → group ≡ get_or groups i group

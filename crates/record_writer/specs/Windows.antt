@@ -1,11 +1,16 @@
 -- What is taken of a feed before it is put. Own.
-use Rattle.std.specs.Prelude.{◌≡◌, ℕ, Option, Result, Ok, Err, List, [], ◌++◌, IfSome}
+use Rattle.std.specs.Prelude.{◌≡◌, ℕ, Option, Result, Ok, Err, List, [], ◌++◌, map, IfSome}
+use Rattle.simple_chunk.specs.SimpleParts.{SimpleValue}
 use Rattle.record_group.specs.Groupings.{Grouping, groups_from}
 use Rattle.record_writer.specs.declared.cut_off.CutOff.{CutOff}
 use Rattle.record_writer.specs.declared.engine.Taken.{Taken}
 use Rattle.record_writer.specs.declared.engine.Taken.TheVariants.{Window, All}
 use Rattle.record_writer.specs.Feeds.{Rest}
 use Rattle.record_writer.specs.Progresses.{AreGiven}
+
+-- the groups whose chunks these are
+abbrev pub groups_of : List SimpleValue → List (List (List ℕ))
+groups_of = map (λ (chunk : SimpleValue). chunk.records)
 
 -- groups are a front of those of a feed's records behind an open group, where it tells the records
 abbrev pub AreFront : Option Rest → Grouping → List (List (List ℕ)) → Type 0

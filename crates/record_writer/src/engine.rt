@@ -1,14 +1,13 @@
 ghost use Rattle.std.specs.Option.{option_to_list};
-ghost use Rattle.std.specs.Prelude.{◌≡◌, ◌≢◌, ℕ, ◌+◌, ◌*◌, ◌^◌, ◌<◌, ◌≤◌, true, false, Some, None, Option, List, [], ◌∷◌, ◌++◌, length, IfOk, IfSome, OnOk, OnErr};
-ghost use Rattle.record_io.specs.Outside.{Rose, Takes, TakesFront};
-ghost use Rattle.meta_chunk.specs.Counts.{totals_of};
+ghost use Rattle.std.specs.Prelude.{◌≡◌, ◌≢◌, ℕ, ◌+◌, ◌*◌, ◌^◌, ◌<◌, ◌≤◌, true, false, Some, None, Option, List, [], ◌++◌, length, IfOk, IfSome, OnOk, OnErr};
+ghost use Rattle.record_io.specs.Outside.{Rose};
 ghost use Rattle.meta_chunk.specs.Files.{end_of_chunks};
 ghost use Rattle.record_group.specs.Groups.{groups, pads_start, pads_end};
 ghost use Rattle.record_group.specs.Groupings.{groups_from, IsPush};
 ghost use Rattle.record_writer.specs.Causes.{AreCauses};
 ghost use Rattle.record_writer.specs.Ends.{answer_of};
 ghost use Rattle.record_writer.specs.Feeds.{nothing_left};
-ghost use Rattle.record_writer.specs.Progresses.{AreGiven, Lays, LaysFront, nothing_made, totals_made, chunks_of_groups, reach_of};
+ghost use Rattle.record_writer.specs.Progresses.{AreGiven, Lays, LaysFront, nothing_made, chunks_of_groups, reach_of};
 ghost use Rattle.record_writer.specs.Windows.{AreTaken};
 ghost use Rattle.record_writer.specs.Written.{AreInLimits, Answers, TakesFile, chunks_under, file_under};
 
@@ -236,7 +235,7 @@ fn put_closed_groups<R: Threads, L: RecordFeed, M: Sink + Send>(
     let mut rec = Bytes::new(alloc);
     let mut window = Window::new(alloc);
     let mut next = Window::new(alloc);
-    // So many bytes fill a window: fewer once the one before it is put, and none once that failed.
+    // So many bytes fill a window: `FULL` until the one before it is put, fewer once it is, and none once that failed.
     let full = AtomicU64::new(LEAST);
     let mut taken = take_window(alloc, grouper, feed, &mut rec, &mut window, &full);
     let end = loop {
@@ -304,7 +303,7 @@ fn take_window<L: RecordFeed>(
     loop {
         take_held(grouper, feed)?;
         match feed.pull(alloc, rec) {
-            Ok(true) => take_record(alloc, grouper, rec, window)?,
+            Ok(true) => take_record(alloc, grouper, rec, window, full)?,
             Ok(false) => return Ok(Taken::All(None)),
             Err(FeedEnd::Stop(stop)) => return Ok(Taken::All(Some(stop))),
             Err(FeedEnd::Failed) => return Err(CutOff::Input),
@@ -335,6 +334,7 @@ fn take_record(
     grouper: &mut Grouper,
     rec: &mut Bytes,
     window: &mut Window,
+    full: &AtomicU64,
 ) -> Result<(), AllocError>
     requires short { length rec.old ≤ 2 ^ 24 }
     ensures whole { OnOk result ((given : Option (List (List ℕ)))
@@ -345,7 +345,7 @@ fn take_record(
         ≤ reach_of (end_of_chunks place (chunks_of_groups window.old)) grouper.old (length rec.old + 1) }
 {
     if let Some(mut group) = grouper.push_from(rec)? {
-        window.push(alloc, &mut group)?;
+        window.push(alloc, &mut group, full)?;
         grouper.reuse(group);
     }
     Ok(())

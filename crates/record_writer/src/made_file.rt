@@ -1,4 +1,4 @@
-ghost use Rattle.std.specs.Prelude.{◌≡◌, ◌≢◌, ◌^◌, ◌<◌, ◌≤◌, false, [], ◌∷◌, OnOk, OnErr};
+ghost use Rattle.std.specs.Prelude.{◌≡◌, ◌≢◌, ◌^◌, ◌<◌, ◌≤◌, true, false, [], ◌∷◌, OnOk, OnErr};
 ghost use Rattle.record_io.specs.Outside.{Rose, Takes, TakesFront};
 ghost use Rattle.chunk_header.specs.SimpleChunks.{simple_chunk};
 ghost use Rattle.chunk_header.specs.Views.{value_of_chunk, HasRightHash};
@@ -97,7 +97,7 @@ impl MadeFile {
         Ok(())
     }
 
-    /// Puts the simple chunk of records, where the one before ends.
+    /// Puts an encoded simple chunk where the one before ends.
     ///
     /// # Errors
     ///
@@ -108,9 +108,10 @@ impl MadeFile {
         chunk: &SimpleChunk,
     ) -> Result<(), Failed>
         requires going { self.old.spent ≡ false }
-        requires in_reach { end_of_chunk self.old.place (simple_chunk chunk.now) ≤ 2 ^ 62 }
-        ensures whole { OnOk result (Lays (M.taken made.old) (M.taken made.new) self.old self.new (simple_chunk chunk.now ∷ [])) }
-        ensures front { OnErr result (LaysFront (M.taken made.old) (M.taken made.new) self.old self.new (simple_chunk chunk.now ∷ [])) }
+        requires in_reach { end_of_chunk self.old.place (simple_chunk chunk.now.records) ≤ 2 ^ 62 }
+        requires encoded { chunk.now.encoded ≡ true }
+        ensures whole { OnOk result (Lays (M.taken made.old) (M.taken made.new) self.old self.new (simple_chunk chunk.now.records ∷ [])) }
+        ensures front { OnErr result (LaysFront (M.taken made.old) (M.taken made.new) self.old self.new (simple_chunk chunk.now.records ∷ [])) }
         ensures cause { OnErr result (Rose (M.faults made.old) (M.faults made.new)) }
         ensures never_falls { M.faults made.old ≤ M.faults made.new }
         ensures small { M.faults made.old < 2 ^ 64 → M.faults made.new < 2 ^ 64 }

@@ -1,4 +1,4 @@
-ghost use Rattle.std.specs.Prelude.{◌≡◌, ◌≢◌, ◌^◌, ◌<◌, ◌≤◌, false, List, ℕ, [], ◌∷◌, ◌++◌, OnOk, OnErr};
+ghost use Rattle.std.specs.Prelude.{◌≡◌, ◌≢◌, ◌^◌, ◌<◌, ◌≤◌, false, [], ◌∷◌, ◌++◌, OnOk, OnErr};
 ghost use Rattle.record_io.specs.Outside.{Rose};
 ghost use Rattle.chunk_header.specs.SimpleChunks.{simple_chunk};
 ghost use Rattle.meta_chunk.specs.Files.{end_of_chunks};
@@ -18,7 +18,7 @@ use std::sync::atomic::{AtomicU64, Ordering};
 /// How many bytes fill a window once the one before it is put, so that the start of a thread costs little beside them.
 pub const LEAST: u64 = 3 << 19;
 
-/// How many bytes fill a window while the one before it is put.
+/// How many bytes fill a window until the one before it is put.
 pub const FULL: u64 = LARGEST / 2;
 
 /// How many bytes a window has at most that is held while the next one is taken, and how many it keeps at most for the
@@ -39,10 +39,11 @@ pub struct Window {
 
 impl Model for Window {
     ghost use Rattle.std.specs.Prelude.{List, ℕ, ◌≤◌, length, take};
+    ghost use Rattle.record_writer.specs.Windows.{groups_of};
 
     ghost Value = { List (List (List ℕ)) };
 
-    ghost view = { λ w. take w.count w.chunks.items };
+    ghost view = { λ w. groups_of (take w.count w.chunks.items) };
 
     ghost invariant = { λ w. w.count ≤ length w.chunks.items };
 }
@@ -69,9 +70,15 @@ impl Window {
         self.size > LARGEST
     }
 
-    /// Codes a group and takes its chunk behind the others, and gives records in the group's place, whose memory can serve
-    /// again. After want of memory the window is as before.
-    pub fn push(&mut self, alloc: Global, group: &mut Records) -> Result<(), AllocError>
+    /// Takes the chunk of a group behind the others, and gives records in the group's place, whose memory can serve again.
+    /// The chunk is encoded here until the window before is put, and else by `put`. After want of memory the window is as
+    /// before.
+    pub fn push(
+        &mut self,
+        alloc: Global,
+        group: &mut Records,
+        full: &AtomicU64,
+    ) -> Result<(), AllocError>
         requires { cost_of group.old ≤ 2 ^ 25 }
         ensures appends { OnOk result (self.new ≡ self.old ++ group.old ∷ []) }
         ensures kept { OnErr result (self.new ≡ self.old) }
@@ -83,13 +90,17 @@ impl Window {
                 self.chunks.push(SimpleChunk::new(alloc, group)?)?;
             }
         }
-        let size = size_of(&self.chunks[self.count]);
+        let chunk = &mut self.chunks[self.count];
+        if waits(full) {
+            chunk.encode();
+        }
+        let size = size_of(chunk);
         self.count += 1;
         self.size = self.size.saturating_add(size);
         Ok(())
     }
 
-    /// Puts the chunks, one after another, of which none is left then.
+    /// Encodes the chunks that aren't yet, and puts all, one after another, of which none is left then.
     ///
     /// # Errors
     ///
@@ -105,7 +116,9 @@ impl Window {
         ensures small { M.faults made.old < 2 ^ 64 → M.faults made.new < 2 ^ 64 }
         ensures same_name { M.name made.new ≡ M.name made.old }
     {
-        for chunk in &self.chunks[..self.count] {
+        for i in 0..self.count {
+            let chunk = &mut self.chunks[i];
+            chunk.encode();
             file.put_simple(made, chunk)?;
         }
         self.empty();
@@ -126,6 +139,11 @@ impl Window {
         self.count = 0;
         self.size = 0;
     }
+}
+
+/// Whether a window waits for the one before it, which isn't put yet.
+fn waits(full: &AtomicU64) -> bool {
+    full.load(Ordering::Relaxed) == FULL
 }
 
 /// About how many bytes a chunk takes.
@@ -156,7 +174,8 @@ pub fn put_group<M: Sink>(
     ensures made_small { M.faults made.old < 2 ^ 64 → M.faults made.new < 2 ^ 64 }
     ensures made_name { M.name made.new ≡ M.name made.old }
 {
-    let chunk = SimpleChunk::new(alloc, group)?;
+    let mut chunk = SimpleChunk::new(alloc, group)?;
+    chunk.encode();
     file.put_simple(made, &chunk)?;
     Ok(())
 }

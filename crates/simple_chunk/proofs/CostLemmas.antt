@@ -1,10 +1,8 @@
 -- What records cost.
-use Rattle.std.proofs.Common.{◌≡◌, ℕ, ◌+◌, ◌*◌, ◌^◌, ◌<◌, ◌≤◌, List, [], ◌∷◌, length, refl, arith}
+use Rattle.std.proofs.Common.{◌≡◌, ℕ, ◌+◌, ◌*◌, ◌<◌, List, [], ◌∷◌, length, refl, arith}
 use Rattle.std.specs.List.{AllByRecursion, concat}
 use Rattle.std.proofs.lemmas.List.{length-append}
 use Rattle.std.proofs.lemmas.List.Sums.{sum_by-cons}
-use Rattle.chunk_header.specs.SimpleChunks.{sizes_of}
-use Rattle.chunk_header.proofs.SimpleChunks.{length-sizes_of}
 use Rattle.simple_chunk.specs.Costs.{cost, cost_of}
 
 -- what records cost is their bytes, and 8 for each
@@ -21,7 +19,3 @@ lengths-le-concat (record_bytes ∷ records) n h = (
   omega (arith, length-append record_bytes (concat records)),
   lengths-le-concat records n (omega (arith, length-append record_bytes (concat records))),
 )
-
--- their sizes take no more bytes than they cost, and little more
-pub sizes_len-few : (records : List (List ℕ)) → cost_of records ≤ 2 ^ 25 → length (sizes_of records) ≤ 2 ^ 26
-sizes_len-few records few = omega (arith, length-sizes_of records, cost_of-is records)

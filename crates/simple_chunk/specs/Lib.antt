@@ -3,3 +3,4 @@ pub mod Records
 pub mod Sizes
 pub mod SizesLeft
 pub mod Checkers
+pub mod SimpleParts

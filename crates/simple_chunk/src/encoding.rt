@@ -74,7 +74,8 @@ pub(crate) fn append_front(out: &mut Vec<u8>, records: &Records, sizes_len: usiz
 /// How many bytes the sizes of the records take.
 pub(crate) fn sizes_len(records: &Records) -> usize
     requires { cost_of records.now ≤ 2 ^ 25 }
-    ensures { result ≡ length (sizes_of records.now) }
+    ensures len { result ≡ length (sizes_of records.now) }
+    ensures few { result ≤ 2 ^ 26 }
 {
     let mut len = 0;
     for i in 0..records.len() {

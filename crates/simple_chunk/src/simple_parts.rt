@@ -1,8 +1,7 @@
-ghost use Rattle.std.specs.Prelude.{◌≡◌, ◌+◌, ◌^◌, ◌≤◌, ◌++◌, length, IfOk, OnOk, OnErr};
+ghost use Rattle.std.specs.Prelude.{◌≡◌, ◌+◌, ◌^◌, ◌≤◌, ◌++◌, true, false, length, IfOk, OnOk, OnErr};
 ghost use Rattle.chunk_header.specs.SimpleChunks.{simple_chunk, simple_data};
 ghost use Rattle.chunk_header.specs.Views.{IsHeaderOf};
 ghost use Rattle.simple_chunk.specs.Costs.{cost_of};
-ghost use Rattle.simple_chunk.specs.Sizes.{data_front};
 
 use crate::encoding::{SIMPLE, append_front, front_len, sizes_len};
 use crate::record_list::Records;
@@ -11,63 +10,100 @@ use std::alloc::{AllocError, Global};
 use std::marker::Model;
 use std::mem;
 
-/// The simple chunk of records, with the shortest varints, of which the records stay where they are: its data is joined where
-/// it is written, and not before. Contracts see it as the list of the records.
+/// The simple chunk of records, with the shortest varints. The records stay where they are: the data is joined only where it is
+/// written. `new` and `replace` take all memory, and `encode`, which can't fail, makes the sizes and the hash. Contracts see
+/// the list of the records, and whether the chunk is encoded.
 ///
 /// Riegeli/records file format specification, "Simple chunk with records".
 #[derive(Debug, Drop)]
 pub struct SimpleChunk {
-    header: Header,
-    front: Vec<u8>,
     records: Records,
+    /// How many bytes the sizes of the records take.
+    sizes_len: usize,
+    /// What stands before the records, once the chunk is encoded.
+    front: Vec<u8>,
+    /// The header, once the chunk is encoded.
+    header: Option<Header>,
 }
 
 impl Model for SimpleChunk {
-    ghost use Rattle.std.specs.Prelude.{◌≡◌, ℕ, List};
-    ghost use Rattle.chunk_header.specs.SimpleChunks.{simple_chunk};
-    ghost use Rattle.chunk_header.specs.Views.{IsHeaderOf};
-    ghost use Rattle.simple_chunk.specs.Sizes.{data_front};
+    ghost use Rattle.std.specs.Prelude.{is_some, vec_capacity};
+    ghost use Rattle.simple_chunk.specs.SimpleParts.{SimpleValue, HaveRoom, HasRightParts};
 
-    ghost Value = { List (List ℕ) };
+    ghost Value = { SimpleValue };
 
-    ghost view = { λ c. c.records };
+    ghost view = { λ c. record { records = c.records; encoded = is_some c.header } };
 
-    ghost invariant = { λ c. IsHeaderOf c.header (simple_chunk c.records) × (c.front.items ≡ data_front c.records) };
+    ghost invariant = { λ c. HaveRoom c.records c.sizes_len (vec_capacity c.front) × HasRightParts c.records c.front.items c.header };
 }
 
 impl SimpleChunk {
-    /// The chunk of these records, whose hash is taken here.
+    /// The chunk of these records, not yet encoded. It fails only for want of memory.
     pub fn new(alloc: Global, records: Records) -> Result<SimpleChunk, AllocError>
         requires { cost_of records ≤ 2 ^ 25 }
-        ensures { IfOk result (λ chunk. chunk ≡ records) }
+        ensures { IfOk result (λ chunk. chunk ≡ record { records = records; encoded = false }) }
     {
-        let mut front = Vec::new(alloc);
-        let header = encode_front(&mut front, &records)?;
+        let sizes_len = sizes_len(&records);
+        let front = Vec::with_capacity(alloc, front_len(sizes_len))?;
         Ok(SimpleChunk {
-            header,
-            front,
             records,
+            sizes_len,
+            front,
+            header: None,
         })
     }
 
-    /// Becomes the chunk of these records, and gives others in their place, whose memory can serve again. After want of memory
-    /// both are as before.
+    /// Becomes the chunk of these records, not yet encoded, and gives others in their place, whose memory can serve again. After
+    /// want of memory both are as before.
     pub fn replace(&mut self, records: &mut Records) -> Result<(), AllocError>
         requires { cost_of records.old ≤ 2 ^ 25 }
-        ensures replaced { OnOk result (self.new ≡ records.old) }
+        ensures replaced { OnOk result (self.new ≡ record { records = records.old; encoded = false }) }
         ensures kept { OnErr result (self.new ≡ self.old) }
         ensures records_kept { OnErr result (records.new ≡ records.old) }
     {
-        self.header = encode_front(&mut self.front, records)?;
+        let sizes_len = sizes_len(records);
+        let missing = front_len(sizes_len).saturating_sub(self.front.len());
+        self.front.reserve(missing)?;
         mem::swap(&mut self.records, records);
+        self.sizes_len = sizes_len;
+        self.header = None;
         Ok(())
     }
 
-    /// Its header.
-    pub fn header(&self) -> &Header
-        ensures { IsHeaderOf result.now (simple_chunk self.now) }
+    /// Makes the sizes, and the header with the hash of the data, unless that is done already. It takes no memory.
+    pub fn encode(&mut self)
+        ensures { self.new ≡ record self.old { encoded = true } }
     {
-        &self.header
+        if self.header.is_some() {
+            return;
+        }
+        self.front.clear();
+        append_front(&mut self.front, &self.records, self.sizes_len);
+        let values = self.records.values();
+        self.header = Some(Header::of_parts(
+            SIMPLE,
+            self.records.len() as u64,
+            values.len() as u64,
+            &self.front,
+            values,
+        ));
+    }
+
+    /// The header of a chunk that is encoded.
+    pub fn header(&self) -> &Header
+        requires { self.now.encoded ≡ true }
+        ensures { IsHeaderOf result.now (simple_chunk self.now.records) }
+    {
+        self.header.as_ref().unwrap()
+    }
+
+    /// The data of a chunk that is encoded: what stands before the records, and the records joined.
+    pub fn data(&self) -> (&[u8], &[u8])
+        requires { self.now.encoded ≡ true }
+        ensures joined { result.0.now ++ result.1.now ≡ simple_data self.now.records }
+        ensures size { length result.0.now + length result.1.now ≡ length (simple_data self.now.records) }
+    {
+        (&self.front, self.records.values())
     }
 
     /// For how many bytes it has memory.
@@ -75,34 +111,4 @@ impl SimpleChunk {
         let front = self.front.capacity() as u64;
         front.saturating_add(self.records.room())
     }
-
-    /// Its data: what stands before the records, and the records joined.
-    pub fn data(&self) -> (&[u8], &[u8])
-        ensures joined { result.0.now ++ result.1.now ≡ simple_data self.now }
-        ensures size { length result.0.now + length result.1.now ≡ length (simple_data self.now) }
-    {
-        (&self.front, self.records.values())
-    }
-}
-
-/// Puts what stands before the records into `front`, in place of what that held, and gives the header of the chunk. After want
-/// of memory it holds what it held.
-fn encode_front(front: &mut Vec<u8>, records: &Records) -> Result<Header, AllocError>
-    requires { cost_of records.now ≤ 2 ^ 25 }
-    ensures front { OnOk result (front.new.items ≡ data_front records.now) }
-    ensures header { IfOk result (λ header. IsHeaderOf header (simple_chunk records.now)) }
-    ensures kept { OnErr result (front.new.items ≡ front.old.items) }
-{
-    let sizes_len = sizes_len(records);
-    front.reserve(front_len(sizes_len).saturating_sub(front.len()))?;
-    front.clear();
-    append_front(front, records, sizes_len);
-    let values = records.values();
-    Ok(Header::of_parts(
-        SIMPLE,
-        records.len() as u64,
-        values.len() as u64,
-        front,
-        values,
-    ))
 }

@@ -251,13 +251,16 @@ fn the_parts_of_a_chunk_are_what_is_encoded(rt: HostRuntime) -> Result<(), Fail>
     records.push(&[b'x'; 200])?;
     let encoded = encode(rt.alloc(), &records)?;
     let mut chunk = SimpleChunk::new(rt.alloc(), Records::new(rt.alloc()))?;
+    chunk.encode();
     chunk.replace(&mut records)?;
+    chunk.encode();
     assert_eq!(rt; *chunk.header(), encoded.header);
     let (front, values) = chunk.data();
     let (encoded_front, encoded_values) = encoded.bytes.as_slice().split_at(5);
     assert_eq!(rt; front, encoded_front);
     assert_eq!(rt; values, encoded_values);
     chunk.replace(&mut none)?;
+    chunk.encode();
     assert_eq!(rt; chunk.header().num_records, 0);
     Ok(())
 }

@@ -3,13 +3,14 @@ use Rattle.record_io.proofs.Calls.{OnErr-any}
 use Rattle.record_writer.specs.declared.cut_off.CutOff.{CutOff}
 use Rattle.record_writer.specs.declared.engine.Taken.{Taken}
 use Rattle.record_writer.specs.declared.engine.Taken.TheVariants.{Window, All}
-use Rattle.record_writer.specs.Progresses.{Lays, chunks_of_groups}
+use Rattle.record_writer.specs.Progresses.{AreGiven, Lays, chunks_of_groups}
 use Rattle.record_writer.specs.Windows.{AreTaken}
 use Rattle.record_writer.proofs.Layings.{Lays-none, LaysFront-whole}
 use Rattle.record_writer.proofs.Given.{Lays-all, LaysFront-all}
 use Rattle.record_writer.proofs.Reaches.{reach_of-behind}
 use Rattle.record_writer.proofs.Windows.{AreTaken-append, LaysFront-taken, IfSome-given, to_take-falls, where_failed, where_done}
 use Rattle.record_writer.proofs.engine.put_closed_groups.Goals as goal
+use Rattle.record_writer.proofs.engine.put_closed_groups.Goals.{In-Ok-Window}
 
 pub loop-taken-init : goal.loop-taken-init
 loop-taken-init g c = record {
@@ -41,12 +42,19 @@ pub loop-taken-smaller : goal.loop-taken-smaller
 loop-taken-smaller g c =
     to_take-falls c.loop-taken.taken c.join_mut-put.result.1 (g.L.RecordFeed.bound c.loop-taken.feed) _ (search rules) (search rules)
 
+-- a window that was taken has the groups behind those before it
+window : (g : _) (c : In-Ok-Window g)
+    → AreGiven (g.L.RecordFeed.rest c.args.feed.now) (g.L.RecordFeed.rest c.loop-taken.feed) c.args.grouper.now c.loop-taken.grouper
+    (c.loop-taken.invariant.laid.0 ++ c.loop-taken.window)
+window g c =
+    let more : c.loop-taken.taken ≡ Ok Window = search rules in
+    subst (λ (t : Result Taken CutOff). AreTaken t (g.L.RecordFeed.rest c.args.feed.now) (g.L.RecordFeed.rest c.loop-taken.feed) c.args.grouper.now c.loop-taken.grouper
+    (c.loop-taken.invariant.laid.0 ++ c.loop-taken.window)) more c.loop-taken.invariant.laid.2
+
 pub loop-taken-preserved-then-is_large : goal.loop-taken-preserved-then-is_large
 loop-taken-preserved-then-is_large g c =
     let before = c.loop-taken.invariant.laid in
-    let more : c.loop-taken.taken ≡ Ok Window = search rules in
-    let window = subst (λ (t : Result Taken CutOff). AreTaken t (g.L.RecordFeed.rest c.args.feed.now) (g.L.RecordFeed.rest c.loop-taken.feed) c.args.grouper.now c.loop-taken.grouper
-    (before.0 ++ c.loop-taken.window)) more before.2 in
+    let window = window g (goal.at.loop-taken-preserved-then-is_large g c).In-Ok-Window in
     let next = c.take_window-taken-then-is_large.ensures in
     record {
       laid = (
@@ -66,9 +74,7 @@ loop-taken-preserved-then-is_large g c =
 pub loop-taken-preserved : goal.loop-taken-preserved
 loop-taken-preserved g c =
     let before = c.loop-taken.invariant.laid in
-    let more : c.loop-taken.taken ≡ Ok Window = search rules in
-    let window = subst (λ (t : Result Taken CutOff). AreTaken t (g.L.RecordFeed.rest c.args.feed.now) (g.L.RecordFeed.rest c.loop-taken.feed) c.args.grouper.now c.loop-taken.grouper
-    (before.0 ++ c.loop-taken.window)) more before.2 in
+    let window = window g (goal.at.loop-taken-preserved g c).In-Ok-Window in
     record {
       laid = (
         before.0 ++ c.loop-taken.window,

@@ -10,3 +10,6 @@ overflow_add-len c =
 
 pub loop-i-preserved : goal.loop-i-preserved
 loop-i-preserved c = omega (arith, length-sizes_of-drop c.args.records.now c.loop-i.i c.get.result.now c.get.ensures)
+
+pub returns-clause-few : goal.returns-clause-few
+returns-clause-few c = omega (arith, c.loop-i.invariant, length-sizes_of c.args.records.now, cost_of-is c.args.records.now)

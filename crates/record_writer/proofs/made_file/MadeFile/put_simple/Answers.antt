@@ -12,17 +12,17 @@ use Rattle.record_writer.proofs.made_file.MadeFile.put_simple.Goals.{After-data,
 
 -- what the header says of the data is the chunk
 value_is : (g : _) (c : After-data g)
-    → value_of c.header-header.result.now (c.data.result.0.now ++ c.data.result.1.now) ≡ simple_chunk c.args.chunk.now
-value_is g c = value_of-header c.header-header.result.now _ (simple_chunk c.args.chunk.now) c.header-header.ensures c.data.ensures.joined
+    → value_of c.header-header.result.now (c.data.result.0.now ++ c.data.result.1.now) ≡ simple_chunk c.args.chunk.now.records
+value_is g c = value_of-header c.header-header.result.now _ (simple_chunk c.args.chunk.now.records) c.header-header.ensures c.data.ensures.joined
 
 -- it is laid so
 laid_is : (g : _) (c : After-data g) (begin : ℕ)
-    → laid_with begin c.header-header.result.now (c.data.result.0.now ++ c.data.result.1.now) ≡ laid begin (simple_chunk c.args.chunk.now)
-laid_is g c begin = laid_with-right begin c.header-header.result.now _ (simple_chunk c.args.chunk.now) c.header-header.ensures c.data.ensures.joined
+    → laid_with begin c.header-header.result.now (c.data.result.0.now ++ c.data.result.1.now) ≡ laid begin (simple_chunk c.args.chunk.now.records)
+laid_is g c begin = laid_with-right begin c.header-header.result.now _ (simple_chunk c.args.chunk.now.records) c.header-header.ensures c.data.ensures.joined
 
 -- and ends there
 end_is : (g : _) (c : After-data g) (begin : ℕ)
-    → end_of_chunk begin (value_of c.header-header.result.now (c.data.result.0.now ++ c.data.result.1.now)) ≡ end_of_chunk begin (simple_chunk c.args.chunk.now)
+    → end_of_chunk begin (value_of c.header-header.result.now (c.data.result.0.now ++ c.data.result.1.now)) ≡ end_of_chunk begin (simple_chunk c.args.chunk.now.records)
 end_is g c begin = ap (end_of_chunk begin) (value_is g c)
 
 pub put_parts_into-requires : goal.put_parts_into-requires
@@ -43,15 +43,15 @@ returns-in_err-put_parts_into-clause-front g c =
     let p = err_from_is_err_and c.from_residual.result c.from_residual.ensures.1 in
     let is = laid_is g (goal.at.returns-in_err-put_parts_into-clause-front g c).After-data c.self.inside.writer.position in
     rw (p.1, ← c.self.view_is)
-    (LaysFront-one _ _ _ _ (simple_chunk c.args.chunk.now) c.in_err-put_parts_into.ensures.emptied
+    (LaysFront-one _ _ _ _ (simple_chunk c.args.chunk.now.records) c.in_err-put_parts_into.ensures.emptied
     (rw is at c.in_err-put_parts_into.ensures.front))
 
 -- the counts stay below where the chunk ends
 counts : (g : _) (c : After-put_parts_into g)
-    → (c.self.inside.writer.position + 40 ≤ end_of_chunk c.self.inside.writer.position (simple_chunk c.args.chunk.now))
-    × (c.self.inside.records + c.header-header.result.now.num_records ≤ end_of_chunk c.self.inside.writer.position (simple_chunk c.args.chunk.now))
+    → (c.self.inside.writer.position + 40 ≤ end_of_chunk c.self.inside.writer.position (simple_chunk c.args.chunk.now.records))
+    × (c.self.inside.records + c.header-header.result.now.num_records ≤ end_of_chunk c.self.inside.writer.position (simple_chunk c.args.chunk.now.records))
 counts g c =
-    let h = ends_past c.self.inside.writer.position c.self.inside.records (simple_chunk c.args.chunk.now) c.self.invariant.1 in
+    let h = ends_past c.self.inside.writer.position c.self.inside.records (simple_chunk c.args.chunk.now.records) c.self.invariant.1 in
     (h.0, omega (arith, h.1, c.header-header.ensures.num_records))
 
 pub overflow_add-self : goal.overflow_add-self
@@ -79,7 +79,7 @@ returns-clause-whole g c =
     let at = (goal.at.returns-clause-whole g c).After-data in
     let is = laid_is g at c.self.inside.writer.position in
     rw (← c.self.view_is)
-    (Lays-read _ _ _ _ (simple_chunk c.args.chunk.now)
+    (Lays-read _ _ _ _ (simple_chunk c.args.chunk.now.records)
     (rw is at c.in_ok-put_parts_into.ensures.whole)
     (ap (λ (w : Writer). w.position) c.in_ok-put_parts_into.ensures.moved ∙ end_is g at c.self.inside.writer.position)
     (ap (λ (w : Writer). w.spent) c.in_ok-put_parts_into.ensures.moved)

@@ -1,38 +1,56 @@
-use Rattle.std.proofs.Common.{◌≡◌, ◌∙◌, ◌^◌, List, ℕ, take, refl, ap, arith}
+use Rattle.std.proofs.Common.{◌≡◌, ◌∙◌, ◌^◌, ◌<◌, length, get_or, refl, ap, arith}
+use Rattle.std.proofs.lemmas.List.{length-set}
 use Rattle.std.proofs.lemmas.Result.{err_from_is_err_and}
+use Rattle.simple_chunk.specs.SimpleParts.{SimpleValue}
 use Rattle.record_writer.proofs.Layings.{Lays-none}
-use Rattle.record_writer.proofs.Windows.{chunk-within, Lays-chunk, LaysFront-chunk}
+use Rattle.record_writer.proofs.Windows.{group-at, groups-kept, chunk-within, Lays-chunk, LaysFront-chunk}
 use Rattle.record_writer.proofs.window.Window.put.Goals as goal
-use Rattle.record_writer.proofs.window.Window.put.Goals.{After-deref}
+use Rattle.record_writer.proofs.window.Window.put.Goals.{After-encode}
 
-pub loop-chunk-init : goal.loop-chunk-init
-loop-chunk-init g c = record { laid = Lays-none _ c.args.file.now c.requires.going; counted = omega arith; small = λ h. h; same_name = refl }
+pub loop-i-init : goal.loop-i-init
+loop-i-init g c = record {
+  count = refl;
+  held = omega (arith, c.self.invariant);
+  groups = c.self.view_is;
+  laid = Lays-none _ c.args.file.now c.requires.going;
+  counted = omega arith;
+  small = λ h. h;
+  same_name = refl;
+}
 
--- the chunks that are put are those of the window
-same : (g : _) (c : After-deref g) → take c.self.inside.count c.deref.result.now ≡ c.args.self.now
-same g c = ap (λ (groups : List (List (List ℕ))). take c.self.inside.count groups) c.deref.ensures.value ∙ c.self.view_is
+-- the chunk is that of the group which is next
+there : (g : _) (c : After-encode g) → (c.loop-i.i < length c.args.self.now)
+    × (c.index_mut-chunk.result.now.records ≡ get_or c.args.self.now c.loop-i.i c.index_mut-chunk.result.now.records)
+there g c =
+    group-at c.loop-i.self-inside.chunks.items c.loop-i.self-inside.count c.args.self.now c.loop-i.i c.index_mut-chunk.result.now c.loop-i.invariant.groups
+    (omega (arith, c.loop-i-test.true, c.loop-i.invariant.count)) c.loop-i.invariant.held c.index_mut-chunk.ensures.value
 
 pub put_simple-requires-clause-in_reach : goal.put_simple-requires-clause-in_reach
 put_simple-requires-clause-in_reach g c =
-    let same = same g (goal.at.put_simple-requires-clause-in_reach g c).After-deref in
-    chunk-within c.args.file.now.place c.loop-chunk.file.place (2 ^ 62) c.args.self.now c.loop-chunk.chunk-index c.chunk-item.result
-    (rw same at c.loop-chunk-test.true) (rw same at c.chunk-item.is) c.loop-chunk.invariant.laid.place c.requires.in_reach
+    let there = there g (goal.at.put_simple-requires-clause-in_reach g c).After-encode in
+    rw c.encode.ensures
+    (chunk-within c.args.file.now.place c.loop-i.file.place (2 ^ 62) c.args.self.now c.loop-i.i c.index_mut-chunk.result.now.records
+    there.0 there.1 c.loop-i.invariant.laid.place c.requires.in_reach)
 
 pub returns-in_err-put_simple-clause-front : goal.returns-in_err-put_simple-clause-front
 returns-in_err-put_simple-clause-front g c =
     let p = err_from_is_err_and c.from_residual.result c.from_residual.ensures.1 in
-    let same = same g (goal.at.returns-in_err-put_simple-clause-front g c).After-deref in
+    let there = there g (goal.at.returns-in_err-put_simple-clause-front g c).After-encode in
     rw p.1
-    (LaysFront-chunk _ _ _ c.args.file.now c.loop-chunk.file _ c.args.self.now c.loop-chunk.chunk-index c.chunk-item.result
-    (rw same at c.loop-chunk-test.true) (rw same at c.chunk-item.is) c.loop-chunk.invariant.laid c.in_err-put_simple.ensures.front)
+    (LaysFront-chunk _ _ _ c.args.file.now c.loop-i.file _ c.args.self.now c.loop-i.i c.index_mut-chunk.result.now.records
+    there.0 there.1 c.loop-i.invariant.laid (rw c.encode.ensures at c.in_err-put_simple.ensures.front))
 
-pub loop-chunk-preserved : goal.loop-chunk-preserved
-loop-chunk-preserved g c =
-    let same = same g (goal.at.loop-chunk-preserved g c).After-deref in
+pub loop-i-preserved : goal.loop-i-preserved
+loop-i-preserved g c =
+    let there = there g (goal.at.loop-i-preserved g c).After-encode in
     record {
-      laid = Lays-chunk _ _ _ c.args.file.now c.loop-chunk.file _ c.args.self.now c.loop-chunk.chunk-index c.chunk-item.result
-          (rw same at c.loop-chunk-test.true) (rw same at c.chunk-item.is) c.loop-chunk.invariant.laid c.in_ok-put_simple.ensures.whole;
+      count = c.loop-i.invariant.count;
+      held = omega (arith, c.loop-i.invariant.held, length-set c.loop-i.self-inside.chunks.items c.loop-i.i c.encode.new.self);
+      groups = groups-kept c.loop-i.self-inside.chunks.items c.loop-i.self-inside.count c.args.self.now c.loop-i.i c.index_mut-chunk.result.now c.encode.new.self
+          c.loop-i.invariant.groups c.index_mut-chunk.ensures.value (ap (λ (chunk : SimpleValue). chunk.records) c.encode.ensures);
+      laid = Lays-chunk _ _ _ c.args.file.now c.loop-i.file _ c.args.self.now c.loop-i.i c.index_mut-chunk.result.now.records
+          there.0 there.1 c.loop-i.invariant.laid (rw c.encode.ensures at c.in_ok-put_simple.ensures.whole);
       counted = omega arith;
-      small = λ h. c.put_simple.ensures.small (c.loop-chunk.invariant.small h);
-      same_name = c.put_simple.ensures.same_name ∙ c.loop-chunk.invariant.same_name;
+      small = λ h. c.put_simple.ensures.small (c.loop-i.invariant.small h);
+      same_name = c.put_simple.ensures.same_name ∙ c.loop-i.invariant.same_name;
     }
