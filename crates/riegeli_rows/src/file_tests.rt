@@ -1,11 +1,9 @@
 //! Tests of runs over real files, and over a file of which nothing is told.
 use crate::files::{THREE, THREE_LINES, part};
-use crate::running::{
-    Answer, QUIET, ROOM, SOUND, USAGE, ended, owned, recovered, repaired, run_over,
-};
+use crate::running::{Answer, QUIET, SOUND, USAGE, ended, recovered, repaired, run_into, run_over};
 use crate::stores::Untold;
-use record_io::{FileSink, FileStore, MemInput, MemSink, MemStore};
-use riegeli_tool::{Status, run};
+use record_io::{FileSink, FileStore, MemStore};
+use riegeli_tool::Status;
 use std::fs;
 use std::test::Fail;
 
@@ -49,15 +47,12 @@ fn an_existing_file_is_kept_until_something_is_written(rt: HostRuntime) -> Resul
             THREE.as_slice(),
         ),
     ] {
-        let words = owned(alloc, words)?;
-        let mut input = MemInput::new(input.to_vec(alloc)?, Vec::new(alloc), Vec::new(alloc));
         let mut files: [MemStore; 0] = [];
         let mut made = FileSink::named(&rt, path_made);
-        let mut out = MemSink::new(alloc, 0, Vec::new(alloc), Vec::new(alloc))?;
-        let mut notes = MemSink::new(alloc, ROOM, Vec::new(alloc), Vec::new(alloc))?;
-        let status = run(
-            &rt, alloc, &words, &mut input, &mut files, &mut made, &mut out, &mut notes,
-        );
+        let (status, out, notes) = run_into(
+            &rt, alloc, words, input, &mut files, &mut made, &SOUND,
+        )?;
+        assert!(rt; out.taken().is_empty());
         assert_eq!(rt; status, answer);
         assert_eq!(rt; notes.taken(), told.as_bytes());
         assert_eq!(rt; fs::read(&rt, path)?.as_slice(), kept);
@@ -82,19 +77,14 @@ fn an_existing_file_is_kept_until_a_repair_puts_something(rt: HostRuntime) -> Re
         (&[1], Status::File, "file fault\n", USAGE.as_bytes()),
         (&[], Status::Ok, "", &THREE),
     ] {
-        let words = owned(alloc, &["repair", "F", path])?;
-        let mut input = MemInput::new(Vec::new(alloc), Vec::new(alloc), Vec::new(alloc));
         let mut files = [MemStore::new(
             THREE.to_vec(alloc)?,
             Vec::new(alloc),
             fails.to_vec(alloc)?,
         )];
         let mut made = FileSink::named(&rt, path);
-        let mut out = MemSink::new(alloc, ROOM, Vec::new(alloc), Vec::new(alloc))?;
-        let mut notes = MemSink::new(alloc, ROOM, Vec::new(alloc), Vec::new(alloc))?;
-        let status = run(
-            &rt, alloc, &words, &mut input, &mut files, &mut made, &mut out, &mut notes,
-        );
+        let words = ["repair", "F", path];
+        let (status, _, notes) = run_into(&rt, alloc, &words, b"", &mut files, &mut made, &SOUND)?;
         assert_eq!(rt; status, answer);
         assert_eq!(rt; notes.taken(), told.as_bytes());
         assert_eq!(rt; fs::read(&rt, path)?.as_slice(), kept);

@@ -1,5 +1,5 @@
 //! Runs of the whole program over objects in memory, and what is asserted of them.
-use record_io::{MemInput, MemSink, MemStore, Store};
+use record_io::{MemInput, MemSink, MemStore, Sink, Store};
 use riegeli_tool::{Status, run};
 use std::alloc::{AllocError, Global};
 use std::process::Abort;
@@ -142,24 +142,38 @@ pub(crate) fn run_over<R: Threads + Sync, S: Store>(
     files: &mut [S],
     calls: &Calls<'_>,
 ) -> Result<Left, AllocError> {
-    let words = owned(alloc, words)?;
-    let mut input = MemInput::new(
-        input.to_vec(alloc)?,
-        calls.cuts.to_vec(alloc)?,
-        calls.input_fails.to_vec(alloc)?,
-    );
     let mut made = sink(alloc, calls, calls.made_fails)?;
-    let mut out = sink(alloc, calls, calls.out_fails)?;
-    let mut notes = sink(alloc, calls, calls.notes_fails)?;
-    let status = run(
-        rt, alloc, &words, &mut input, files, &mut made, &mut out, &mut notes,
-    );
+    let (status, out, notes) = run_into(rt, alloc, words, input, files, &mut made, calls)?;
     Ok(Left {
         status,
         made,
         out,
         notes,
     })
+}
+
+/// The same, where what is made goes to this sink: the status, and what was printed and told.
+pub(crate) fn run_into<R: Threads + Sync, S: Store, M: Sink + Send>(
+    rt: &R,
+    alloc: Global,
+    words: &[&str],
+    input: &[u8],
+    files: &mut [S],
+    made: &mut M,
+    calls: &Calls<'_>,
+) -> Result<(Status, MemSink, MemSink), AllocError> {
+    let words = owned(alloc, words)?;
+    let mut input = MemInput::new(
+        input.to_vec(alloc)?,
+        calls.cuts.to_vec(alloc)?,
+        calls.input_fails.to_vec(alloc)?,
+    );
+    let mut out = sink(alloc, calls, calls.out_fails)?;
+    let mut notes = sink(alloc, calls, calls.notes_fails)?;
+    let status = run(
+        rt, alloc, &words, &mut input, files, made, &mut out, &mut notes,
+    );
+    Ok((status, out, notes))
 }
 
 /// Runs the words over this input and files of these bytes.
