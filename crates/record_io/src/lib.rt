@@ -30,6 +30,3 @@ pub use read_ahead::{ReadAhead, ReadAheadBy};
 pub use streams::{StdErr, StdInput, StdOut};
 pub use sure_input::SureInput;
 pub use sure_store::SureStore;
-
-#[cfg(test)]
-mod tests;

@@ -1,0 +1,14 @@
+//! Tests of the crates below the program, one by one: of what no contract says and no case shows, and of tables. Each
+//! expected value is published, counted by hand, or of an independent program.
+#![tactic(auto)]
+
+#[cfg(test)]
+mod files;
+#[cfg(test)]
+mod gathering;
+#[cfg(test)]
+mod memory;
+#[cfg(test)]
+mod stand_ins;
+#[cfg(test)]
+mod streams;
