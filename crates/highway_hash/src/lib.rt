@@ -10,8 +10,6 @@ mod packed;
 mod packet;
 mod scalar;
 mod state;
-#[cfg(test)]
-mod tests;
 mod whole;
 
 pub use hashed::begins_with_hash;

@@ -7,8 +7,14 @@ mod files;
 #[cfg(test)]
 mod gathering;
 #[cfg(test)]
+mod hashes;
+#[cfg(test)]
+mod layout;
+#[cfg(test)]
 mod memory;
 #[cfg(test)]
 mod stand_ins;
 #[cfg(test)]
 mod streams;
+#[cfg(test)]
+mod varints;
