@@ -13,6 +13,8 @@ mod layout;
 #[cfg(test)]
 mod memory;
 #[cfg(test)]
+mod records;
+#[cfg(test)]
 mod stand_ins;
 #[cfg(test)]
 mod streams;

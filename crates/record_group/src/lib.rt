@@ -7,6 +7,3 @@ mod pad;
 
 pub use grouper::Grouper;
 pub use pad::Pad;
-
-#[cfg(test)]
-mod tests;

@@ -15,6 +15,3 @@ pub use decoding::{SimpleFault, decode, decode_chunk};
 pub use encoding::encode;
 pub use record_list::{RECORD_COST, Records};
 pub use simple_parts::SimpleChunk;
-
-#[cfg(test)]
-mod tests;
