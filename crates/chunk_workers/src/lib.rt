@@ -6,6 +6,3 @@ pub mod laws;
 mod table;
 
 pub use draws::{DrawSeat, Draws};
-
-#[cfg(test)]
-mod tests;

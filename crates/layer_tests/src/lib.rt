@@ -3,6 +3,8 @@
 #![tactic(auto)]
 
 #[cfg(test)]
+mod draws;
+#[cfg(test)]
 mod files;
 #[cfg(test)]
 mod gathering;
@@ -14,6 +16,8 @@ mod layout;
 mod memory;
 #[cfg(test)]
 mod records;
+#[cfg(test)]
+mod resyncs;
 #[cfg(test)]
 mod stand_ins;
 #[cfg(test)]
