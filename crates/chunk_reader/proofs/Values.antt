@@ -1,5 +1,5 @@
 -- Values counted by hand, computed from the definitions. The hashes are those of an independent program.
-use Rattle.std.proofs.Common.{◌≡◌, ℕ, ◌-◌, ◌^◌, false, List, [], ◌∷◌, ◌++◌, length, take, set, replicate, slice_index, lit<, lit≤, refl, sym, ap, subst, inl, inr, arith}
+use Rattle.std.proofs.Common.{◌≡◌, ℕ, ◌-◌, ◌^◌, Bool, false, true, List, [], ◌∷◌, ◌++◌, length, take, set, replicate, slice_index, lit<, lit≤, refl, sym, ap, subst, inl, inr, arith}
 use Rattle.std.specs.Prelude.{slice_range}
 use Rattle.std.proofs.lemmas.Option.{same_Some}
 use Rattle.highway_hash.specs.HighwayHash.{hash_of, finished, after_remainder, after_packets, finishing_round, updated, mixed, multiplied, zipped, reset, lanes_of, remainder_packet}
@@ -14,7 +14,7 @@ use Rattle.meta_chunk.proofs.LaidChunks.{IsLaid-laid}
 use Rattle.meta_chunk.proofs.Chains.{IsChainOf-push}
 use Rattle.meta_chunk.specs.Laid.{IsLaid, laid_bytes}
 use Rattle.chunk_reader.specs.Places.{header_bytes_at, header_at, end_by, end_at, chunk_at}
-use Rattle.chunk_reader.specs.Reasons.{HasBadContents, ContentApplies, IsWrongBlock, Applies}
+use Rattle.chunk_reader.specs.Reasons.{HasBadContents, ContentApplies, IsWrongBlock, Applies, IsFirstOf, content_reasons}
 use Rattle.chunk_reader.specs.Faults.{BeginsWithSignature, HasNoFault, IsFault}
 use Rattle.chunk_reader.specs.declared.reasons.Why.TheVariants as why
 use Rattle.chunk_reader.proofs.SignedFiles.{signed_length}
@@ -146,7 +146,11 @@ empty_file : IsFault false [] (record { at = 0; why = why.NoSignature })
 empty_file = inl (λ begins. omega (arith, signed_length [] begins), refl)
 
 -- contents: a simple chunk without data, a metadata chunk with a record, a byte left among the sizes, and a compressed one
-no_data : HasBadContents (record { kind = 0x72; num_records = 0; decoded_size = 0; «data» = [] })
+empty : ChunkValue
+empty = record { kind = 0x72; num_records = 0; decoded_size = 0; «data» = [] }
+
+no_data : HasBadContents empty
+unfolding empty
 no_data = inr (refl, inl refl)
 
 counted_metadata : HasBadContents (record { kind = 0x6d; num_records = 1; decoded_size = 0; «data» = replicate 5 7 })
@@ -176,6 +180,12 @@ compressed_content hash (inl broken) = broken (record {
 })
 compressed_content hash (inr (simple, inl none)) = omega (arith, ap length none)
 compressed_content hash (inr (simple, inr (plain, none))) = omega (arith, same_Some 0x62 0 plain)
+
+-- where the hash is wrong and the contents are too, the hash is told
+hash_before_contents : (frame : Bool) → IsFirstOf (ContentApplies 0 empty) (content_reasons frame) why.DataHash
+unfolding empty hash_of finished after_remainder after_packets finishing_round updated mixed multiplied zipped reset lanes_of remainder_packet
+hash_before_contents false = inl (λ same. omega (arith, same), refl)
+hash_before_contents true = inl (λ same. omega (arith, same), refl)
 
 -- so the file with a changed header has that fault behind its first chunk
 changed_begins : BeginsWithSignature (set three 70 0)
