@@ -14,12 +14,13 @@ use Rattle.meta_chunk.specs.Kinds.{IsSignature}
 use Rattle.meta_chunk.specs.Files.{signature, IsFrame, begin_of}
 use Rattle.meta_chunk.specs.Laid.{laid_bytes}
 use Rattle.chunk_reader.specs.Faults.{BeginsWithSignature}
-use Rattle.chunk_reader.specs.Places.{header_bytes_at, data_at}
+use Rattle.chunk_reader.specs.Places.{header_bytes_at, data_at, end_at}
+use Rattle.chunk_reader.specs.Reasons.{IsFirstOf}
 use Rattle.chunk_reader.proofs.SignedFiles.{IsPlain-signature, IsLaid-signature}
 use Rattle.chunk_reader.specs.declared.reasons.Why.TheVariants as why
 use Rattle.damage_skip.specs.Resyncs.{landing, IsResync, Contradicts}
 use Rattle.damage_skip.specs.Damage.{Intact, LiesIn, IsNext, IsDamaged, IsIntactFrom, AreReached, DamageLeavesEach}
-use Rattle.damage_skip.specs.Pieces.{Given, Passive, Skipped, Piece, ArePieces, events_in, records_in, placed_in}
+use Rattle.damage_skip.specs.Pieces.{Given, Passive, Skipped, Piece, PassesOver, walk_reasons, ArePieces, events_in, records_in, placed_in}
 use Rattle.damage_skip.proofs.Blocks.{stands_within}
 
 -- a block met before the chunk that it interrupts leads to that chunk's begin
@@ -91,6 +92,43 @@ first_piece keep = (refl, lit≤ tt, (inl (lit≤ tt, refl), first_leads), refl)
 other_end : Contradicts first_header 0 112 0 0 64
 unfolding first_header
 other_end = record { stands = first_stands; from = lit≤ tt; below = lit≤ tt; differs = inr (λ same. omega arith) }
+
+-- behind it a right header of a chunk that ends at 72: the block header contradicts it, and that is told, though these bytes
+-- also end before the chunk does
+cut_chunk : List ℕ
+cut_chunk =
+    first_header
+    ++ 0x18 ∷ 0x09 ∷ 0xa8 ∷ 0x0e ∷ 0x07 ∷ 0xa2 ∷ 0x61 ∷ 0x2f
+    ∷ 0x08 ∷ replicate 7 0
+    ++ 0xc5 ∷ 0x3d ∷ 0x74 ∷ 0x41 ∷ 0x6c ∷ 0xa3 ∷ 0x86 ∷ 0x87
+    ∷ 0x72 ∷ 0x03 ∷ replicate 6 0
+    ++ 0x03 ∷ replicate 7 0
+
+cut_end : end_at cut_chunk 0 ≡ 72
+unfolding cut_chunk first_header usable_bytes chunk_end_of end_of hash_of finished after_remainder after_packets finishing_round updated mixed multiplied zipped reset lanes_of remainder_packet
+cut_end = refl
+
+is_cut : PassesOver cut_chunk 0 why.Truncated
+unfolding cut_chunk first_header usable_bytes chunk_end_of end_of hash_of finished after_remainder after_packets finishing_round updated mixed multiplied zipped reset lanes_of remainder_packet
+is_cut = lit< tt
+
+header_says_another_end : Contradicts cut_chunk 0 (end_at cut_chunk 0) 0 0 64
+unfolding cut_chunk first_header usable_bytes chunk_end_of end_of hash_of finished after_remainder after_packets finishing_round updated mixed multiplied zipped reset lanes_of remainder_packet
+header_says_another_end = record {
+  stands = record {
+    is_block = refl;
+    bytes = refl;
+    sane = record { back = lit≤ tt; past_itself = lit≤ tt; in_reach = lit≤ tt; from_boundary = inl refl; to_boundary = inr (lit≤ tt) };
+  };
+  from = lit≤ tt;
+  below = lit< tt;
+  differs = inr (λ same. omega (arith, same));
+}
+
+contradicted_before_cut : (keep : Bool) → IsFirstOf (PassesOver cut_chunk 0) (walk_reasons keep) why.Contradicted
+unfolding cut_chunk first_header usable_bytes end_of hash_of finished after_remainder after_packets finishing_round updated mixed multiplied zipped reset lanes_of remainder_packet
+contradicted_before_cut keep =
+    inr (λ short. omega (arith, short), inr (λ wrong. wrong (refl, refl), inl ((0, 0, 64, header_says_another_end), refl)))
 
 -- an empty file has no pieces
 no_pieces : (keep : Bool) → ArePieces keep [] []
