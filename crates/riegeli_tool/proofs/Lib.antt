@@ -1,4 +1,5 @@
 pub mod AnswerStreams
+pub mod Causes
 pub mod CommandLaws
 pub mod CommandWords
 pub mod Decimals

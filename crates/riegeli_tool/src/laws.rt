@@ -2,7 +2,7 @@
 
 ghost use Rattle.std.specs.List.{AllByRecursion, flat_map};
 ghost use Rattle.std.specs.List.Sorted.{IsStrictlyIncreasing};
-ghost use Rattle.std.specs.Prelude.{◌≡◌, ◌^◌, ◌≤◌, false, List, [], ℕ, length, map};
+ghost use Rattle.std.specs.Prelude.{◌≡◌, ◌^◌, ◌≤◌, ◌⊎◌, false, Option, List, [], ℕ, length, map};
 ghost use Rattle.chunk_header.specs.Chunks.{ChunkValue};
 ghost use Rattle.chunk_reader.specs.Faults.{HasNoFault};
 ghost use Rattle.meta_chunk.specs.Files.{IsFile, AreRecordsOf, ArePlaced};
@@ -19,13 +19,16 @@ ghost use Rattle.riegeli_tool.specs.FileAnswers.{most_file_bytes, record_line};
 ghost use Rattle.riegeli_tool.specs.Input.{taken_from, with_last_end};
 ghost use Rattle.riegeli_tool.specs.RecoverCommand.{IsRecovered};
 ghost use Rattle.riegeli_tool.specs.RepairCommand.{end_puts, IsRepaired};
+ghost use Rattle.riegeli_tool.specs.Runs.{IsSound, IsWhole, Runs, Seen};
 ghost use Rattle.riegeli_tool.specs.ShowCommand.{IsShown};
 ghost use Rattle.riegeli_tool.specs.VerifyCommand.{IsVerified};
 ghost use Rattle.riegeli_tool.specs.WalkAnswers.{regions_in, walked, refused_in, walk_text};
 ghost use Rattle.riegeli_tool.specs.WriteCommand.{options_of, stop_text, answer_to, write_answer};
+ghost use Rattle.riegeli_tool.specs.declared.command.Command.{Command};
 ghost use Rattle.riegeli_tool.specs.declared.recover_words.RecoverWords.{RecoverWords};
 ghost use Rattle.riegeli_tool.specs.declared.repair_words.RepairWords.{RepairWords};
 ghost use Rattle.riegeli_tool.specs.declared.show_words.ShowWords.{ShowWords};
+ghost use Rattle.riegeli_tool.specs.declared.status.Status.{Status};
 ghost use Rattle.riegeli_tool.specs.declared.status.Status.TheVariants as status;
 ghost use Rattle.riegeli_tool.specs.declared.write_words.WriteWords.{WriteWords};
 
@@ -37,6 +40,13 @@ pub fn answers_are_one()
     ensures one { (words : List (List ℕ)) (input : List ℕ) (files : List (List ℕ)) (a b : Answer)
         → IsAnswer (accepted words (length files)) input files a
         → IsAnswer (accepted words (length files)) input files b → a ≡ b }
+{}
+
+/// Where no object that a command uses had a fault, a run of it gives its whole answer, or tells want of memory: the status of
+/// a fault never stands without one. Own.
+pub fn no_fault_without_a_cause()
+    ensures whole { (command : Option Command) (before after : Seen) (ended : Status)
+        → Runs command before after ended → IsSound (uses_of command) before after → IsWhole ended ⊎ (ended ≡ status.Memory) }
 {}
 
 /// An answer doesn't depend on what its command doesn't use. Own.
