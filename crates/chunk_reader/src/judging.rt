@@ -115,8 +115,8 @@ pub fn data_at<S: Store>(
 }
 
 /// Judges the chunk at a place of a file of `size` bytes, which were told, at most 2^60. The place is a boundary below
-/// `size`. With `frame`, compressed and transposed chunks are left unread in place of being refused. Each byte of the
-/// chunk is read once, and its data held.
+/// `size`. With `frame`, compressed and transposed chunks are left unread in place of being refused. No more bytes are handed
+/// out than the chunk has, and its data is held.
 ///
 /// Riegeli/records file format specification, "Chunk". Own: the reasons and their order.
 ///

@@ -22,8 +22,8 @@ use chunk_header::Header;
 use record_io::{Store, Totals};
 
 /// Judges a whole file of `size` bytes, which were told, at most 2^60, and counts what it holds. Compressed and transposed
-/// chunks are left unread. It takes no memory, and holds 4096 bytes of data at most. Each byte is read once, the first 64
-/// twice.
+/// chunks are left unread. It takes no memory, and holds 4096 bytes of data at most. No more bytes are handed out than the file
+/// has, and the first 64 again.
 ///
 /// Riegeli/records file format specification, "File format". Own: the reasons of faults and their order.
 ///

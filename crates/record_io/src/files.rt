@@ -12,7 +12,7 @@ use std::rt::Files;
 
 /// A file that is read at any place, reached through the runtime by its name.
 ///
-/// It is opened at the first call. Where that fails, or the name is not that of a regular file, each call fails.
+/// It is opened at the first call, if it is a regular file. Where it couldn't be, each call fails.
 #[derive(Drop)]
 pub struct FileStore<'a, R: Files> {
     rt: &'a R,

@@ -72,14 +72,15 @@ impl From<Failed> for WriteEnd {
 /// The chunks of groups are put window by window, each in a thread of its own while the next is taken. Where no thread can
 /// be made, that is done here, and where one window holds all groups, no thread is wanted. A window of more than 8 MiB is put
 /// before more is taken. So what is held at a time are two windows, one of 8 MiB at most and one of less than 4 MiB but for
-/// its last group, in each up to 8 MiB that are kept for the next chunks; the open group; and the record behind it.
+/// its last group, in each up to 8 MiB that are kept for the next chunks; the open group; and the record behind it. No
+/// clause says how much is held.
 ///
 /// # Errors
 ///
 /// `TooLong`, `InputTooLong` and `BadLine` where that stop follows, the first and the last with the number of the
 /// records before it; `Input` where the feed failed, `Made` where the sink failed, also where a stop follows, and
-/// `Memory`. After the last three the sink took a front of the file, and after `Input` and `Memory` nothing where that has no
-/// chunk of records. Own.
+/// `Memory`. After the last three the sink took a front of the file. That it took nothing after `Input` and `Memory` where no
+/// chunk of records was whole is no clause. Own.
 pub fn write_records<R: Threads + Sync, L: RecordFeed, M: Sink + Send>(
     rt: &R,
     alloc: Global,

@@ -17,7 +17,7 @@ use simple_chunk::SimpleChunk;
 use std::marker::Model;
 
 /// A file that is being made, chunk by chunk. Its bytes gather, up to 262,144 of them, before they go to the sink, so `flush`
-/// comes last. After a failure nothing more is put. Own.
+/// comes last. After a `start` or `put` that failed there is no other. Own.
 #[derive(Drop)]
 pub struct MadeFile {
     writer: OrderedWriter,
@@ -56,7 +56,8 @@ impl MadeFile {
     ///
     /// # Errors
     ///
-    /// `Failed` only where the sink failed. A front of what was held and the signature was taken, and the rest is lost.
+    /// `Failed` only where the sink failed. It took a front of what was held and the signature, and what is held, if anything,
+    /// comes next.
     pub fn start<M: Sink>(&mut self, made: &mut M) -> Result<(), Failed>
         requires at_front { self.old ≡ nothing_made }
         ensures whole { OnOk result (Lays (M.taken made.old) (M.taken made.new) self.old self.new (signature ∷ [])) }
@@ -75,7 +76,8 @@ impl MadeFile {
     ///
     /// # Errors
     ///
-    /// `Failed` only where the sink failed. A front of what was held and the chunk was taken, and the rest is lost.
+    /// `Failed` only where the sink failed. It took a front of what was held and the chunk, and what is held, if anything, comes
+    /// next.
     pub fn put<M: Sink>(&mut self, made: &mut M, chunk: &Chunk) -> Result<(), Failed>
         requires going { self.old.spent ≡ false }
         requires in_reach { end_of_chunk self.old.place (value_of_chunk chunk.now) ≤ 2 ^ 62 }
@@ -101,7 +103,8 @@ impl MadeFile {
     ///
     /// # Errors
     ///
-    /// `Failed` only where the sink failed. A front of what was held and the chunk was taken, and the rest is lost.
+    /// `Failed` only where the sink failed. It took a front of what was held and the chunk, and what is held, if anything, comes
+    /// next.
     pub(crate) fn put_simple<M: Sink>(
         &mut self,
         made: &mut M,

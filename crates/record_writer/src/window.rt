@@ -155,8 +155,8 @@ fn size_of(chunk: &SimpleChunk) -> u64 {
 ///
 /// # Errors
 ///
-/// `Made` only where the sink failed, and `Memory`. A front of what was held and the chunk was taken or is held, and the
-/// rest is lost.
+/// `Made` only where the sink failed, and `Memory`. The sink took a front of what was held and the chunk, and what is held, if
+/// anything, comes next.
 pub fn put_group<M: Sink>(
     file: &mut MadeFile,
     alloc: Global,

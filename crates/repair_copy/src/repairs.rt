@@ -53,15 +53,15 @@ impl From<CutOff> for RepairEnd {
 /// a line `skipped`, where it begins and ends, and why. Compressed and transposed chunks are copied unread.
 ///
 /// The file's size was told, and is at most 2^60. Of the repaired file up to 262,144 bytes gather before they are put.
-/// What is held goes out before a line is put, and however the work ends. Where a file can't be read from its front on up to
-/// a first chunk or region, nothing is put.
+/// What is held goes out before a line is put, and however the work ends.
 ///
 /// # Errors
 ///
 /// `Stopped` exactly where the next region is one that the policy doesn't allow to pass over: the file of all chunks before
 /// it is made, and the lines of the regions before it are put. `Store` only where the store failed, and `Memory` only where
-/// a chunk is to be read: what was copied before is put, or a front of it where `made` failed too. `Made` and `Notes` only
-/// where that failed: what comes before the bytes that failed was put, and a front of these. Own.
+/// a chunk is to be read: what was put is that of the events up to some place, nothing where there is none, not even the
+/// signature, and a front where `made` failed too. That the place is as far as the store could be read is no clause. `Made` and
+/// `Notes` only where that failed: what comes before the bytes that failed was put, and a front of these. Own.
 pub fn repair<S: Store, F: Fn(&Region) -> bool + Drop, M: Sink, E: Sink>(
     alloc: Global,
     store: &mut S,
