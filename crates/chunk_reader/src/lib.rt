@@ -24,6 +24,3 @@ pub use judging::{Judged, LoadEnd, MAX_DATA_SIZE, What, data_at, strict_at};
 pub use own_bytes::OwnBytes;
 pub use reasons::{Fault, ReadEnd, VerifyEnd, Why};
 pub use verifying::verify;
-
-#[cfg(test)]
-mod tests;

@@ -18,6 +18,3 @@ pub use progress::Progress;
 pub use regions::{Region, region_line};
 pub use resyncs::resync;
 pub use walks::Walker;
-
-#[cfg(test)]
-mod tests;

@@ -4,8 +4,6 @@
 
 pub mod laws;
 mod laying;
-#[cfg(test)]
-mod tests;
 mod writer;
 
 pub use writer::OrderedWriter;

@@ -12,6 +12,3 @@ pub use engine::{WriteEnd, write_records};
 pub use feed::{FeedEnd, RecordFeed, Stop};
 pub use made_file::MadeFile;
 pub use options::WriteOptions;
-
-#[cfg(test)]
-mod tests;

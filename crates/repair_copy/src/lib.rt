@@ -7,6 +7,3 @@ pub mod laws;
 mod repairs;
 
 pub use repairs::{RepairEnd, Repaired, repair};
-
-#[cfg(test)]
-mod tests;
