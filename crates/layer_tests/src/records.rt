@@ -1,9 +1,7 @@
 //! Lists of records: pushed, encoded, decoded and grouped.
-use chunk_header::Chunk;
+use chunk_header::Header;
 use record_group::Grouper;
-use record_io::Bytes;
-use simple_chunk::{Records, decode, decode_chunk, encode};
-use std::alloc::{AllocError, Global};
+use simple_chunk::{Records, decode, encode};
 use std::test::Fail;
 
 /// The data of the records `a`, `bc` and an empty one, counted by hand.
@@ -32,24 +30,17 @@ fn records_are_pushed_and_encoded(rt: HostRuntime) -> Result<(), Fail> {
     Ok(())
 }
 
-/// The chunk of these records, whose data is in memory of its own.
-fn chunk_of_three(alloc: Global) -> Result<Chunk, AllocError> {
-    Ok(Chunk::new(b'r', 3, 3, Bytes::from(DATA.to_vec(alloc)?)))
-}
-
 #[test]
 fn data_is_decoded(rt: HostRuntime) -> Result<(), Fail> {
-    let header = chunk_of_three(rt.alloc())?.header;
+    let header = Header {
+        data_size: 8,
+        data_hash: 0,
+        kind: b'r',
+        num_records: 3,
+        decoded_size: 3,
+    };
     let records = decode(rt.alloc(), &header, &DATA)?;
     assert!(rt; are(&records, &[b"a", b"bc", b""]));
-    Ok(())
-}
-
-#[test]
-fn decoded_records_outlive_their_chunk_and_grow(rt: HostRuntime) -> Result<(), Fail> {
-    let mut records = decode_chunk(rt.alloc(), &chunk_of_three(rt.alloc())?)?;
-    records.push(b"d")?;
-    assert!(rt; are(&records, &[b"a", b"bc", b"", b"d"]));
     Ok(())
 }
 
