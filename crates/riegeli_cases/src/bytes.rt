@@ -1,0 +1,157 @@
+//! Bytes as a statement says them.
+
+use crate::chunks::{header_of, kind_of};
+use crate::given::Given;
+use crate::names::Known;
+use crate::running::run_in_memory;
+use crate::texts::{command_of, unescaped};
+use crate::words::{number_of, range_of};
+use anyhow::{Result, bail};
+use block_layout::BlockHeader;
+use std::alloc::{AllocError, Global};
+use std::thread::Threads;
+
+/// The bytes of these words, of which there are some.
+pub(crate) fn bytes_of<R: Threads + Sync>(
+    rt: &R,
+    alloc: Global,
+    known: &mut Known,
+    words: &[String],
+) -> Result<Vec<u8>> {
+    match words {
+        [first, rest @ ..] if first.as_str() == "written" => written(rt, alloc, known, rest),
+        _ => joined(alloc, known, words),
+    }
+}
+
+/// The file that words make of the bytes behind a `<`, silently.
+fn written<R: Threads + Sync>(
+    rt: &R,
+    alloc: Global,
+    known: &mut Known,
+    words: &[String],
+) -> Result<Vec<u8>> {
+    let place = words.iter().position(|word| word.as_str() == "<");
+    let Some((command, [_, input @ ..])) = place.and_then(|place| words.split_at_checked(place))
+    else {
+        bail!("no input");
+    };
+    let command = command_of(alloc, command)?;
+    let mut given = Given::new(alloc);
+    given.input = Some(joined(alloc, known, input)?);
+    let left = run_in_memory(rt, alloc, &command, &given, &mut known.runs)?;
+    if left.status != 0 || !left.out.taken().is_empty() || !left.notes.taken().is_empty() {
+        bail!("the file isn't written silently");
+    }
+    Ok(left.made.taken().to_vec(alloc)?)
+}
+
+/// The bytes of words that name no command.
+fn joined(alloc: Global, known: &Known, words: &[String]) -> Result<Vec<u8>> {
+    if words.is_empty() {
+        bail!("no bytes");
+    }
+    let mut bytes = Vec::new(alloc);
+    for word in words {
+        add_word(alloc, known, &mut bytes, word.as_str())?;
+    }
+    Ok(bytes)
+}
+
+/// Adds the bytes of a word, as often as it says.
+fn add_word(alloc: Global, known: &Known, bytes: &mut Vec<u8>, word: &str) -> Result<()> {
+    let (more, times) = match word.strip_prefix('"') {
+        Some(quoted) => match quoted.rsplit_once('"') {
+            Some((text, times)) => (unescaped(alloc, Some(text))?, times),
+            None => bail!("a text without an end"),
+        },
+        None => {
+            let end = word.find('*').unwrap_or(word.len());
+            let (word, times) = word.split_at_checked(end).unwrap_or((word, ""));
+            (bytes_of_word(alloc, known, word)?, times)
+        }
+    };
+    let times = match times.strip_prefix('*') {
+        Some(digits) => number_of(digits)?,
+        None if times.is_empty() => 1,
+        None => bail!("a text goes on behind its end"),
+    };
+    add_times(bytes, &more, times)?;
+    Ok(())
+}
+
+/// Adds bytes so many times.
+fn add_times(bytes: &mut Vec<u8>, more: &[u8], times: usize) -> Result<(), AllocError> {
+    if let [byte] = more {
+        return bytes.resize(bytes.len().saturating_add(times), *byte);
+    }
+    for _ in 0..times {
+        bytes.extend_from_slice(more)?;
+    }
+    Ok(())
+}
+
+/// The bytes of a word that is no text, once.
+fn bytes_of_word(alloc: Global, known: &Known, word: &str) -> Result<Vec<u8>> {
+    if let Some(digits) = word.strip_prefix("0x") {
+        return digits_of(alloc, digits);
+    }
+    if let Some((name, rest)) = word.split_once('(') {
+        return match rest.strip_suffix(')') {
+            Some(arguments) => made_of(alloc, name, arguments),
+            None => bail!("no closing bracket: {word}"),
+        };
+    }
+    let Some((name, rest)) = word.split_once('[') else {
+        return Ok(known.bytes(word)?.to_vec(alloc)?);
+    };
+    let range = range_of(rest.strip_suffix(']').unwrap_or(""))?;
+    match known.bytes(name)?.get(range) {
+        Some(part) => Ok(part.to_vec(alloc)?),
+        None => bail!("past the bytes of {name}"),
+    }
+}
+
+/// The bytes of hexadecimal digits.
+fn digits_of(alloc: Global, digits: &str) -> Result<Vec<u8>> {
+    match hex::decode(alloc, digits) {
+        Ok(bytes) => Ok(bytes),
+        Err(_) => bail!("no hexadecimal digits of whole bytes"),
+    }
+}
+
+/// The bytes of `NAME(ARGUMENTS)`.
+fn made_of(alloc: Global, name: &str, arguments: &str) -> Result<Vec<u8>> {
+    let arguments: Vec<&str> = arguments.split(',').collect(alloc)?;
+    match (name, arguments.as_slice()) {
+        ("le64", [number]) => {
+            let number = number_of(number)? as u64;
+            Ok(number.to_le_bytes().to_vec(alloc)?)
+        }
+        ("block", [previous, next]) => {
+            let previous = number_of(previous)? as u64;
+            let next = number_of(next)? as u64;
+            Ok(BlockHeader { previous, next }.to_bytes().to_vec(alloc)?)
+        }
+        ("header", [kind, records, decoded, size]) => {
+            let (kind, records) = (kind_of(alloc, kind)?, number_of(records)?);
+            let header = header_of(kind, records, number_of(decoded)?, number_of(size)?, 0)?;
+            Ok(header.to_bytes().to_vec(alloc)?)
+        }
+        ("random", [seed, count]) => Ok(random(alloc, number_of(seed)?, number_of(count)?)?),
+        _ => bail!("no such bytes: {name}(..)"),
+    }
+}
+
+/// So many bytes of a generator of numbers.
+fn random(alloc: Global, seed: usize, count: usize) -> Result<Vec<u8>, AllocError> {
+    let mut bytes = Vec::new(alloc);
+    let mut state = seed as u64;
+    for _ in 0..count {
+        state = state
+            .wrapping_mul(6_364_136_223_846_793_005)
+            .wrapping_add(1_442_695_040_888_963_407);
+        bytes.push(state.to_be_bytes()[0])?;
+    }
+    Ok(bytes)
+}

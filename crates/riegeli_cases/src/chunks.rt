@@ -1,0 +1,111 @@
+//! Chunks and their headers, laid with right hashes.
+
+use crate::texts::plain;
+use anyhow::{Result, bail};
+use block_layout::{BLOCK_HEADER_SIZE, BLOCK_SIZE, BlockHeader, chunk_end, is_boundary};
+use chunk_header::{HEADER_SIZE, Header};
+use highway_hash::{RIEGELI, hash_lanes};
+use std::alloc::Global;
+
+/// The longest chunk that is laid, with what lies between its bytes.
+const LONGEST: u64 = 1 << 27;
+
+/// The kind that a word says: its one character, or that of a text in quotes.
+pub(crate) fn kind_of(alloc: Global, word: &str) -> Result<u8> {
+    let bytes = plain(alloc, word)?;
+    match bytes.as_slice() {
+        [kind] => Ok(*kind),
+        _ => bail!("no kind: {word}"),
+    }
+}
+
+/// The header of these fields.
+pub(crate) fn header_of(
+    kind: u8,
+    records: usize,
+    decoded: usize,
+    size: usize,
+    data_hash: u64,
+) -> Result<Header> {
+    let num_records = records as u64;
+    if num_records >= 1 << 56 {
+        bail!("too many records: {records}");
+    }
+    Ok(Header {
+        data_size: size as u64,
+        data_hash,
+        kind,
+        num_records,
+        decoded_size: decoded as u64,
+    })
+}
+
+/// Lays one more chunk at the end of a file: with the block headers that interrupt it, and zero bytes up to its own end.
+pub(crate) fn lay(
+    alloc: Global,
+    file: &mut Vec<u8>,
+    kind: u8,
+    records: usize,
+    decoded: usize,
+    data: &[u8],
+) -> Result<()> {
+    let header = header_of(
+        kind,
+        records,
+        decoded,
+        data.len(),
+        hash_lanes(&RIEGELI, data),
+    )?;
+    let begin = file.len() as u64;
+    let end = end_of(begin, &header)?;
+    let mut bytes = header.to_bytes().to_vec(alloc)?;
+    bytes.extend_from_slice(data)?;
+    let mut rest = bytes.as_slice();
+    for block in begin / BLOCK_SIZE..end.div_ceil(BLOCK_SIZE) {
+        let at = block.saturating_mul(BLOCK_SIZE);
+        if at >= begin {
+            let (previous, next) = (at - begin, end.saturating_sub(at));
+            file.extend_from_slice(&BlockHeader { previous, next }.to_bytes())?;
+        }
+        let until = end.min(at.saturating_add(BLOCK_SIZE)) as usize;
+        let room = until.saturating_sub(file.len());
+        let (piece, after) = rest.split_at_checked(room).unwrap_or((rest, b""));
+        file.extend_from_slice(piece)?;
+        file.resize(until, 0)?;
+        rest = after;
+    }
+    Ok(())
+}
+
+/// Where the chunk of this header ends that begins at a place.
+fn end_of(begin: u64, header: &Header) -> Result<u64> {
+    if !is_boundary(begin) || begin > 1 << 62 {
+        bail!("no chunk begins at {begin}");
+    }
+    match chunk_end(begin, header.data_size, header.num_records) {
+        Some(end) if end.saturating_sub(begin) <= LONGEST => Ok(end),
+        _ => bail!("too long a chunk"),
+    }
+}
+
+/// Makes the hash of the chunk header right that begins at a place of a file.
+pub(crate) fn rehash(alloc: Global, file: &mut [u8], place: usize) -> Result<()> {
+    let places: Vec<usize> = (place..file.len())
+        .filter(|at| *at as u64 % BLOCK_SIZE >= BLOCK_HEADER_SIZE)
+        .take(HEADER_SIZE)
+        .collect(alloc)?;
+    if places.len() < HEADER_SIZE {
+        bail!("no chunk header at {place}");
+    }
+    let mut fields = Vec::new(alloc);
+    for at in places.iter().skip(8) {
+        fields.extend(file.get(*at).copied())?;
+    }
+    let hash = hash_lanes(&RIEGELI, &fields).to_le_bytes();
+    for (at, byte) in places.iter().zip(hash) {
+        if let Some(old) = file.get_mut(*at) {
+            *old = byte;
+        }
+    }
+    Ok(())
+}

@@ -1,0 +1,70 @@
+//! What is said of the bytes that an object took.
+
+use crate::bytes::bytes_of;
+use crate::names::Known;
+use crate::words::number_of;
+use anyhow::{Result, bail};
+use highway_hash::{RIEGELI, hash_lanes};
+use std::alloc::Global;
+use std::thread::Threads;
+
+/// What is said of the bytes that an object took.
+#[derive(Drop)]
+pub(crate) enum Fact {
+    /// They are these.
+    All(Vec<u8>),
+    /// They are so many.
+    Size(usize),
+    /// These stand at this place.
+    At(usize, Vec<u8>),
+    /// This is their hash under the key of files.
+    Hash(u64),
+    /// They may be any, and get this name.
+    Named(String),
+}
+
+impl Fact {
+    /// Whether it is so of these bytes.
+    pub(crate) fn holds(&self, taken: &[u8]) -> bool {
+        match self {
+            Fact::All(bytes) => taken == bytes.as_slice(),
+            Fact::Size(size) => taken.len() == *size,
+            Fact::At(place, bytes) => match taken.get(*place..) {
+                Some(rest) => rest.starts_with(bytes),
+                None => false,
+            },
+            Fact::Hash(hash) => hash_lanes(&RIEGELI, taken) == *hash,
+            Fact::Named(_) => true,
+        }
+    }
+}
+
+/// The fact that is said of an object.
+pub(crate) fn fact_of<R: Threads + Sync>(
+    rt: &R,
+    alloc: Global,
+    known: &mut Known,
+    words: &[String],
+) -> Result<Fact> {
+    match words {
+        [first, name] if first.as_str() == "as" => {
+            Ok(Fact::Named(String::from_str(alloc, name.as_str())?))
+        }
+        [first, size] if first.as_str() == "size" => Ok(Fact::Size(number_of(size.as_str())?)),
+        [first, place, words @ ..] if first.as_str() == "at" => {
+            let bytes = bytes_of(rt, alloc, known, words)?;
+            Ok(Fact::At(number_of(place.as_str())?, bytes))
+        }
+        [first, hash] if first.as_str() == "hash" => Ok(Fact::Hash(hash_of(hash.as_str())?)),
+        _ => Ok(Fact::All(bytes_of(rt, alloc, known, words)?)),
+    }
+}
+
+/// The number of `0xHH..`.
+fn hash_of(word: &str) -> Result<u64> {
+    let digits = word.strip_prefix("0x").unwrap_or("");
+    match u64::from_str_radix(digits, 16) {
+        Ok(hash) => Ok(hash),
+        Err(_) => bail!("no hash: {word}"),
+    }
+}

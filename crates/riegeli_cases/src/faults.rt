@@ -1,0 +1,108 @@
+//! Runs of which a call fails.
+
+use crate::answers::Answer;
+use crate::given::{Given, Object};
+use crate::names::Known;
+use crate::running::{Left, run_in_memory};
+use crate::telling::{tell_status, tell_taken};
+use anyhow::{Result, bail};
+use std::alloc::Global;
+use std::thread::Threads;
+
+/// No run makes so many calls of an object.
+const CALLS: u32 = 100_000;
+
+/// What a run ends with whose call of the object failed: its status, and its line of notes.
+fn fault_of(object: Object) -> (u8, &'static [u8]) {
+    match object {
+        Object::Input => (3, b"input fault\n"),
+        Object::File => (4, b"file fault\n"),
+        Object::Made => (5, b"made fault\n"),
+        Object::Out => (6, b"out fault\n"),
+        Object::Notes => (13, b""),
+    }
+}
+
+/// Whether notes end with the fault's line, behind a front of whole lines of what they are to take. Unless regions were
+/// skipped the last of these says how the run ends, and is no part of that front.
+fn tells_fault(notes: &[u8], line: &[u8], whole: &[u8], skipped: bool) -> bool {
+    match notes.strip_suffix(line) {
+        Some([]) => true,
+        Some(told) => {
+            told.ends_with(b"\n")
+                && whole.starts_with(told)
+                && (skipped || told.len() < whole.len())
+        }
+        None => false,
+    }
+}
+
+/// Tells of what a run left all that is not what one leaves whose call of the object failed: its status and its line, and
+/// fronts of what made and out are to take, where the object itself did not take the whole.
+fn fault_differences(
+    alloc: Global,
+    answer: &Answer,
+    left: &Left,
+    object: Object,
+) -> Result<String> {
+    let mut told = String::new(alloc);
+    let (status, line) = fault_of(object);
+    if left.status != status {
+        tell_status(&mut told, left)?;
+    }
+    for taking in Object::TAKING {
+        let (taken, whole) = (left.taken(taking), answer.whole(taking)?);
+        let good = if taking == object {
+            whole.starts_with(taken) && taken.len() < whole.len()
+        } else if taking == Object::Notes {
+            tells_fault(taken, line, whole, answer.is_status(9))
+        } else {
+            whole.starts_with(taken)
+        };
+        if !good {
+            tell_taken(alloc, &mut told, left, taking)?;
+        }
+    }
+    Ok(told)
+}
+
+/// Runs the words with one more call of the object failing.
+fn run_failing<R: Threads + Sync>(
+    rt: &R,
+    alloc: Global,
+    known: &mut Known,
+    words: &[String],
+    given: &mut Given,
+    object: Object,
+    call: u32,
+) -> Result<Left> {
+    given.fails.push((object, call))?;
+    let left = run_in_memory(rt, alloc, words, given, &mut known.runs);
+    given.fails.pop();
+    left
+}
+
+/// Runs the words with each call of the object failing in turn, until a run calls it less often and answers as it should.
+/// Tells what the first run left that does neither, or nothing.
+pub(crate) fn try_faults<R: Threads + Sync>(
+    rt: &R,
+    alloc: Global,
+    known: &mut Known,
+    words: &[String],
+    given: &mut Given,
+    answer: &Answer,
+    object: Object,
+) -> Result<String> {
+    for call in 0..CALLS {
+        let left = run_failing(rt, alloc, known, words, given, object, call)?;
+        if call > 0 && answer.differences(alloc, &left)?.is_empty() {
+            return Ok(String::new(alloc));
+        }
+        let told = fault_differences(alloc, answer, &left, object)?;
+        if !told.is_empty() {
+            let name = object.name();
+            return Ok(format!(in alloc; "\n  call {call} of {name} fails{told}")?);
+        }
+    }
+    bail!("too many calls of {}", object.name())
+}

@@ -1,0 +1,154 @@
+//! What a run is given.
+
+use crate::bytes::bytes_of;
+use crate::files::{GivenFile, change, copy};
+use crate::names::Known;
+use crate::words::{Statement, count_of, one_number, range_of};
+use anyhow::{Result, bail};
+use std::alloc::{AllocError, Global};
+use std::thread::Threads;
+
+/// An object that a run uses.
+#[derive(Clone, Copy, Debug, PartialEq, Eq)]
+pub(crate) enum Object {
+    Input,
+    File,
+    Made,
+    Out,
+    Notes,
+}
+
+impl Object {
+    /// Those that take bytes.
+    pub(crate) const TAKING: [Object; 3] = [Object::Made, Object::Out, Object::Notes];
+
+    /// The object of this name.
+    pub(crate) fn named(word: &str) -> Result<Object> {
+        match word {
+            "input" => Ok(Object::Input),
+            "file" => Ok(Object::File),
+            "made" => Ok(Object::Made),
+            "out" => Ok(Object::Out),
+            "notes" => Ok(Object::Notes),
+            _ => bail!("no such object: {word}"),
+        }
+    }
+
+    pub(crate) fn name(self) -> &'static str {
+        match self {
+            Object::Input => "input",
+            Object::File => "file",
+            Object::Made => "made",
+            Object::Out => "out",
+            Object::Notes => "notes",
+        }
+    }
+}
+
+/// What a run is given.
+#[derive(Drop)]
+pub(crate) struct Given {
+    pub(crate) input: Option<Vec<u8>>,
+    pub(crate) files: Vec<GivenFile>,
+    /// How many bytes calls move at most, by turns.
+    pub(crate) cuts: Vec<u32>,
+    /// Calls that fail.
+    pub(crate) fails: Vec<(Object, u32)>,
+    /// How many bytes the made file takes, if that is said.
+    pub(crate) room: Option<usize>,
+}
+
+impl Given {
+    /// Nothing, of which no call is cut or fails.
+    pub(crate) fn new(alloc: Global) -> Given {
+        Given {
+            input: None,
+            files: Vec::new(alloc),
+            cuts: Vec::new(alloc),
+            fails: Vec::new(alloc),
+            room: None,
+        }
+    }
+
+    /// The last file.
+    pub(crate) fn last_file(&self) -> Result<&GivenFile> {
+        match self.files.last() {
+            Some(file) => Ok(file),
+            None => bail!("no file stands above it"),
+        }
+    }
+
+    /// The calls of the object that fail.
+    pub(crate) fn fails_of(&self, alloc: Global, object: Object) -> Result<Vec<u32>, AllocError> {
+        let mut calls = Vec::new(alloc);
+        for (failing, call) in &self.fails {
+            if *failing == object {
+                calls.push(*call)?;
+            }
+        }
+        Ok(calls)
+    }
+
+    /// Carries out a statement that says what a run is given beside files, or changes these.
+    pub(crate) fn carry_out<R: Threads + Sync>(
+        &mut self,
+        rt: &R,
+        alloc: Global,
+        known: &mut Known,
+        statement: &Statement,
+    ) -> Result<()> {
+        let words = statement.rest();
+        match statement.kind() {
+            "input" => self.input = Some(bytes_of(rt, alloc, known, words)?),
+            "copies" => copy(alloc, &mut self.files, one_number(words)?)?,
+            "cuts" => self.cuts = cuts_of(alloc, words)?,
+            "fails" => set_fails(&mut self.fails, words)?,
+            "room" => self.room = Some(one_number(words)?),
+            _ => match self.files.last_mut() {
+                Some(file) => change(rt, alloc, known, file, statement)?,
+                None => bail!(
+                    "no such statement, or no file above it: {}",
+                    statement.kind()
+                ),
+            },
+        }
+        Ok(())
+    }
+}
+
+/// The numbers of bytes that these words are, of which there are some.
+fn cuts_of(alloc: Global, words: &[String]) -> Result<Vec<u32>> {
+    if words.is_empty() {
+        bail!("no number");
+    }
+    let mut cuts = Vec::new(alloc);
+    for word in words {
+        cuts.push(count_of(word.as_str())?)?;
+    }
+    Ok(cuts)
+}
+
+/// Takes in the calls of `OBJECT N .. A..B ..` in place of those of this object before.
+fn set_fails(fails: &mut Vec<(Object, u32)>, words: &[String]) -> Result<()> {
+    let Some((object, calls)) = words.split_first() else {
+        bail!("no object");
+    };
+    let object = Object::named(object.as_str())?;
+    if calls.is_empty() {
+        bail!("no number");
+    }
+    fails.retain(|(failing, _)| *failing != object);
+    for calls in calls {
+        if !calls.as_str().contains("..") {
+            fails.push((object, count_of(calls.as_str())?))?;
+            continue;
+        }
+        for call in range_of(calls.as_str())? {
+            match u32::try_from(call) {
+                Ok(call) => fails.push((object, call))?,
+                Err(_) => bail!("no call has this number: {call}"),
+            }
+        }
+    }
+    Ok(())
+}

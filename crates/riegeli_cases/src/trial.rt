@@ -1,0 +1,218 @@
+//! The statements of a case, carried out one after another.
+
+use crate::answers::{Answer, says_answer};
+use crate::bytes::bytes_of;
+use crate::faults::try_faults;
+use crate::files::GivenFile;
+use crate::given::{Given, Object};
+use crate::names::Known;
+use crate::running::run_in_memory;
+use crate::texts::command_of;
+use crate::words::Statement;
+use anyhow::{Error, Result, anyhow, bail};
+use std::alloc::{AllocError, Global};
+use std::mem;
+use std::thread::Threads;
+
+/// Why a case fails.
+#[derive(Drop)]
+pub(crate) struct Failure {
+    /// The line of the statement, or of the run.
+    pub(crate) line: u64,
+    /// The number that the case failed for, where it is for many.
+    pub(crate) number: Option<usize>,
+    /// Which way to cut calls it failed for, where it is for many, from 0.
+    pub(crate) way: Option<usize>,
+    pub(crate) why: Error,
+    /// What was got in place of the answer, each in a line of its own.
+    pub(crate) got: String,
+}
+
+impl Failure {
+    /// The failure of a statement that can't be carried out.
+    pub(crate) fn new(alloc: Global, line: u64, why: Error) -> Failure {
+        Failure {
+            line,
+            number: None,
+            way: None,
+            why,
+            got: String::new(alloc),
+        }
+    }
+}
+
+/// A run whose answer is awaited.
+#[derive(Drop)]
+struct Run {
+    line: u64,
+    words: Vec<String>,
+}
+
+/// A case that is carried out.
+#[derive(Drop)]
+pub(crate) struct Trial {
+    given: Given,
+    /// The objects whose calls fail in turn.
+    failing: Vec<Object>,
+    runs: Vec<Run>,
+    answer: Answer,
+    /// Whether a run stands behind the last file.
+    files_used: bool,
+    /// Whether there was a run.
+    ran: bool,
+}
+
+impl Trial {
+    /// Nothing is given yet, the calls of these objects fail in turn, and calls are cut in this way.
+    pub(crate) fn new(
+        alloc: Global,
+        failing: &[Object],
+        cuts: &[u32],
+    ) -> Result<Trial, AllocError> {
+        let mut given = Given::new(alloc);
+        given.cuts = cuts.to_vec(alloc)?;
+        Ok(Trial {
+            given,
+            failing: failing.to_vec(alloc)?,
+            runs: Vec::new(alloc),
+            answer: Answer::new(alloc),
+            files_used: false,
+            ran: false,
+        })
+    }
+
+    /// Carries out the statements of the case whose name stands at a line.
+    pub(crate) fn carry_out_all<R: Threads + Sync>(
+        &mut self,
+        rt: &R,
+        alloc: Global,
+        known: &mut Known,
+        line: u64,
+        statements: &[Statement],
+    ) -> Result<(), Failure> {
+        for statement in statements {
+            if self.is_settled_by(statement.kind()) {
+                self.settle(rt, alloc, known)?;
+            }
+            if let Err(why) = self.carry_out(rt, alloc, known, statement) {
+                return Err(Failure::new(alloc, statement.line, why));
+            }
+        }
+        self.settle(rt, alloc, known)?;
+        if !self.ran {
+            return Err(Failure::new(alloc, line, anyhow!("nothing is run")));
+        }
+        Ok(())
+    }
+
+    /// Whether the runs above such a statement are told their answer by what stands before it.
+    fn is_settled_by(&self, kind: &str) -> bool {
+        !says_answer(kind) && (kind != "run" || self.answer.told)
+    }
+
+    /// Carries out a statement.
+    fn carry_out<R: Threads + Sync>(
+        &mut self,
+        rt: &R,
+        alloc: Global,
+        known: &mut Known,
+        statement: &Statement,
+    ) -> Result<()> {
+        match statement.kind() {
+            "each" => {}
+            "run" => {
+                self.runs.push(Run {
+                    line: statement.line,
+                    words: command_of(alloc, statement.rest())?,
+                })?;
+                self.files_used = true;
+                self.ran = true;
+            }
+            kind if says_answer(kind) => {
+                if self.runs.is_empty() {
+                    bail!("no run stands above it");
+                }
+                self.answer.take(rt, alloc, known, &self.given, statement)?;
+            }
+            "file" => self.take_file(rt, alloc, known, statement)?,
+            _ => self.given.carry_out(rt, alloc, known, statement)?,
+        }
+        Ok(())
+    }
+
+    /// Takes in one more file, the first one where a run stands above, or gives the last one a name.
+    fn take_file<R: Threads + Sync>(
+        &mut self,
+        rt: &R,
+        alloc: Global,
+        known: &mut Known,
+        statement: &Statement,
+    ) -> Result<()> {
+        let words = statement.rest();
+        if let [first, name] = words
+            && first.as_str() == "as"
+        {
+            let bytes = self.given.last_file()?.bytes.to_vec(alloc)?;
+            return Ok(known.add(alloc, name.as_str(), bytes)?);
+        }
+        if self.files_used {
+            self.given.files.clear();
+            self.files_used = false;
+        }
+        let bytes = bytes_of(rt, alloc, known, words)?;
+        self.given.files.push(GivenFile::new(bytes))?;
+        Ok(())
+    }
+
+    /// Runs what stands above, and compares what it answers.
+    fn settle<R: Threads + Sync>(
+        &mut self,
+        rt: &R,
+        alloc: Global,
+        known: &mut Known,
+    ) -> Result<(), Failure> {
+        let runs = mem::replace(&mut self.runs, Vec::new(alloc));
+        let answer = mem::replace(&mut self.answer, Answer::new(alloc));
+        for run in &runs {
+            if !answer.told {
+                let why = anyhow!("nothing is said of this run");
+                return Err(Failure::new(alloc, run.line, why));
+            }
+            match self.try_run(rt, alloc, known, &run.words, &answer) {
+                Ok(got) if got.is_empty() => {}
+                Ok(got) => {
+                    let why = anyhow!("it answers something else");
+                    let mut failure = Failure::new(alloc, run.line, why);
+                    failure.got = got;
+                    return Err(failure);
+                }
+                Err(why) => return Err(Failure::new(alloc, run.line, why)),
+            }
+        }
+        Ok(())
+    }
+
+    /// Runs the words. Tells what was got in place of the answer, or nothing.
+    fn try_run<R: Threads + Sync>(
+        &mut self,
+        rt: &R,
+        alloc: Global,
+        known: &mut Known,
+        words: &[String],
+        answer: &Answer,
+    ) -> Result<String> {
+        for object in &self.failing {
+            let got = try_faults(rt, alloc, known, words, &mut self.given, answer, *object)?;
+            if !got.is_empty() {
+                return Ok(got);
+            }
+        }
+        if !self.failing.is_empty() {
+            return Ok(String::new(alloc));
+        }
+        let left = run_in_memory(rt, alloc, words, &self.given, &mut known.runs)?;
+        let got = answer.differences(alloc, &left)?;
+        answer.name_left(alloc, known, &left)?;
+        Ok(got)
+    }
+}

@@ -1,0 +1,154 @@
+//! Statements, and the words and numbers that they are made of.
+
+use anyhow::{Result, bail};
+use std::alloc::{AllocError, Global};
+use std::io::BufRead;
+use std::ops::Range;
+
+/// The words of a line and of the indented lines below it, each as it is written: a text with its quotes.
+#[derive(Drop)]
+pub(crate) struct Statement {
+    pub(crate) line: u64,
+    pub(crate) words: Vec<String>,
+}
+
+impl Statement {
+    /// Its first word, which says what it is.
+    pub(crate) fn kind(&self) -> &str {
+        match self.words.first() {
+            Some(word) => word.as_str(),
+            None => "",
+        }
+    }
+
+    /// The words behind the first one.
+    pub(crate) fn rest(&self) -> &[String] {
+        self.words.get(1..).unwrap_or(&[])
+    }
+
+    /// The statement with this number in place of each `{}`.
+    fn filled(&self, alloc: Global, number: &str) -> Result<Statement, AllocError> {
+        let mut words = Vec::new(alloc);
+        for word in &self.words {
+            words.push(word.as_str().replace(alloc, "{}", number)?)?;
+        }
+        Ok(Statement {
+            line: self.line,
+            words,
+        })
+    }
+}
+
+/// The statements with this number in place of each `{}`.
+pub(crate) fn filled(
+    alloc: Global,
+    statements: &[Statement],
+    number: usize,
+) -> Result<Vec<Statement>> {
+    let number = format!(in alloc; "{number}")?;
+    let mut filled = Vec::new(alloc);
+    for statement in statements {
+        filled.push(statement.filled(alloc, number.as_str())?)?;
+    }
+    Ok(filled)
+}
+
+/// The statements of these lines. A line without a word is no part of any.
+pub(crate) fn statements_of<B: BufRead + Drop>(alloc: Global, lines: B) -> Result<Vec<Statement>> {
+    let mut statements: Vec<Statement> = Vec::new(alloc);
+    for (number, line) in lines.lines(alloc).enumerate() {
+        let (line, number) = (line?, (number as u64).saturating_add(1));
+        let words = words_of(alloc, line.as_str())?;
+        if words.is_empty() {
+            continue;
+        }
+        if !line.as_str().starts_with(' ') {
+            statements.push(Statement {
+                line: number,
+                words,
+            })?;
+        } else if let Some(statement) = statements.last_mut() {
+            add_words(&mut statement.words, words)?;
+        } else {
+            bail!("line {number}: no statement stands above it");
+        }
+    }
+    Ok(statements)
+}
+
+/// Adds words to others.
+fn add_words(words: &mut Vec<String>, more: Vec<String>) -> Result<(), AllocError> {
+    for word in more {
+        words.push(word)?;
+    }
+    Ok(())
+}
+
+/// The words of a line up to a comment.
+fn words_of(alloc: Global, line: &str) -> Result<Vec<String>, AllocError> {
+    let mut words = Vec::new(alloc);
+    let mut rest = line.trim_start_matches(' ');
+    for _ in 0..line.len() {
+        if rest.is_empty() || rest.starts_with('#') {
+            break;
+        }
+        let cut = rest.split_at_checked(end_of_word(rest));
+        let (word, after) = cut.unwrap_or((rest, ""));
+        words.push(String::from_str(alloc, word)?)?;
+        rest = after.trim_start_matches(' ');
+    }
+    Ok(words)
+}
+
+/// Where the word ends that a text begins with: at its first blank, or at the first one behind its quotes.
+fn end_of_word(text: &str) -> usize {
+    let (mut quoted, mut escaped) = (false, false);
+    for (place, byte) in text.bytes().enumerate() {
+        if escaped {
+            escaped = false;
+        } else if byte == b'"' && (quoted || place == 0) {
+            quoted = !quoted;
+        } else if quoted {
+            escaped = byte == b'\\';
+        } else if byte == b' ' {
+            return place;
+        }
+    }
+    text.len()
+}
+
+/// The decimal number of these digits.
+pub(crate) fn number_of(digits: &str) -> Result<usize> {
+    match digits.parse() {
+        Ok(number) => Ok(number),
+        Err(_) => bail!("no number: {digits}"),
+    }
+}
+
+/// The same, where it has 32 bits.
+pub(crate) fn count_of(digits: &str) -> Result<u32> {
+    match digits.parse() {
+        Ok(number) => Ok(number),
+        Err(_) => bail!("no number of 32 bits: {digits}"),
+    }
+}
+
+/// The one number that the words are.
+pub(crate) fn one_number(words: &[String]) -> Result<usize> {
+    match words {
+        [word] => number_of(word.as_str()),
+        _ => bail!("not one number"),
+    }
+}
+
+/// The numbers of `A..B`, of which there are some.
+pub(crate) fn range_of(text: &str) -> Result<Range<usize>> {
+    let Some((from, to)) = text.split_once("..") else {
+        bail!("no range: {text}");
+    };
+    let (from, to) = (number_of(from)?, number_of(to)?);
+    if from >= to {
+        bail!("an empty range: {text}");
+    }
+    Ok(from..to)
+}
