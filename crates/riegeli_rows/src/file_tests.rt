@@ -1,92 +1,94 @@
-//! Tests of runs over real files, and over a file of which nothing is told.
-use crate::files::{THREE, THREE_LINES, part};
-use crate::running::{Answer, QUIET, SOUND, USAGE, ended, recovered, repaired, run_into, run_over};
-use crate::stores::Untold;
+//! Tests of runs over real files.
+use crate::running::{THREE, THREE_LINES, run_over, sink};
 use record_io::{FileSink, FileStore, MemStore};
 use riegeli_tool::Status;
 use std::fs;
 use std::test::Fail;
 
+/// What is said where the words are no command, and what a file held before.
+const USAGE: &str = "usage:
+write [--chunk=N] [--every=N] [--workers=N] [--pad=start|end|both] [--hex] FILE
+show [--recover] [--most=N] [--hex] [--positions] FILE
+verify FILE
+seek (--at=N | --key=TEXT) [--hex] FILE
+repair [--most=N] FROM TO
+sample --seed=N --records=N [--chunk=N] [--workers=N] FILE
+";
+
+/// The report of the file of three lines.
+const REPORT: &[u8] = b"chunks 2\nrecords 3\nbytes 112\nunread 0\n";
+
+/// A file that can't be opened or made.
+const ABSENT: &str = "no_such_folder/F";
+
 #[test]
 fn an_existing_file_is_kept_until_something_is_written(rt: HostRuntime) -> Result<(), Fail> {
-    let alloc = rt.alloc();
-    let (path, absent) = ("riegeli_rows_made", "no_such_folder/F");
-    let large = vec![in alloc; b'x'; (1 << 24) + 1]?;
-    fs::write(&rt, path, USAGE)?;
-    for (words, input, path_made, answer, told, kept) in [
+    let path = "riegeli_rows_made";
+    let large = vec![in rt.alloc(); b'x'; (1 << 24) + 1]?;
+    let before = USAGE.as_bytes();
+    let signature = THREE.get(..64).unwrap_or(b"");
+    fs::write(&rt, path, before)?;
+    for (words, input, made, status, told, kept) in [
         (
             ["write", path, "more"].as_slice(),
             THREE_LINES,
             path,
             Status::Usage,
             USAGE,
-            USAGE.as_bytes(),
+            before,
         ),
         (
-            &["write", absent],
+            &["write", ABSENT],
             THREE_LINES,
-            absent,
+            ABSENT,
             Status::Made,
             "made fault\n",
-            USAGE.as_bytes(),
+            before,
         ),
         (
             &["write", path],
-            large.as_slice(),
+            &large,
             path,
             Status::Limit,
             "limit record 0\n",
-            part(&THREE, 0, 64),
+            signature,
         ),
-        (
-            &["write", path],
-            THREE_LINES,
-            path,
-            Status::Ok,
-            "",
-            THREE.as_slice(),
-        ),
+        (&["write", path], THREE_LINES, path, Status::Ok, "", &THREE),
     ] {
         let mut files: [MemStore; 0] = [];
-        let mut made = FileSink::named(&rt, path_made);
-        let (status, out, notes) = run_into(
-            &rt, alloc, words, input, &mut files, &mut made, &SOUND,
-        )?;
-        assert!(rt; out.taken().is_empty());
-        assert_eq!(rt; status, answer);
-        assert_eq!(rt; notes.taken(), told.as_bytes());
+        let mut made = FileSink::named(&rt, made);
+        let left = run_over(&rt, rt.alloc(), words, input, &mut files, &mut made)?;
+        left.is(&rt, status, b"", told);
         assert_eq!(rt; fs::read(&rt, path)?.as_slice(), kept);
     }
     fs::remove_file(&rt, path)?;
     Ok(())
 }
 
-/// The calls of the damaged file fail that are named: its size, and its first bytes.
+/// The calls of the file that is read fail that are named: its size, and its first bytes.
 #[test]
 fn an_existing_file_is_kept_until_a_repair_puts_something(rt: HostRuntime) -> Result<(), Fail> {
     let alloc = rt.alloc();
     let path = "riegeli_rows_repaired";
-    fs::write(&rt, path, USAGE)?;
-    for (fails, answer, told, kept) in [
+    let before = USAGE.as_bytes();
+    fs::write(&rt, path, before)?;
+    for (fails, status, out, told, kept) in [
         (
             [0].as_slice(),
             Status::File,
+            b"".as_slice(),
             "file fault\n",
-            USAGE.as_bytes(),
+            before,
         ),
-        (&[1], Status::File, "file fault\n", USAGE.as_bytes()),
-        (&[], Status::Ok, "", &THREE),
+        (&[1], Status::File, b"", "file fault\n", before),
+        (&[], Status::Ok, REPORT, "", &THREE),
     ] {
-        let mut files = [MemStore::new(
-            THREE.to_vec(alloc)?,
-            Vec::new(alloc),
-            fails.to_vec(alloc)?,
-        )];
+        let fails = fails.to_vec(alloc)?;
+        let mut files = [MemStore::new(THREE.to_vec(alloc)?, Vec::new(alloc), fails)];
         let mut made = FileSink::named(&rt, path);
         let words = ["repair", "F", path];
-        let (status, _, notes) = run_into(&rt, alloc, &words, b"", &mut files, &mut made, &SOUND)?;
-        assert_eq!(rt; status, answer);
-        assert_eq!(rt; notes.taken(), told.as_bytes());
+        let left = run_over(&rt, alloc, &words, b"", &mut files, &mut made)?;
+        left.is(&rt, status, out, told);
         assert_eq!(rt; fs::read(&rt, path)?.as_slice(), kept);
     }
     fs::remove_file(&rt, path)?;
@@ -95,80 +97,23 @@ fn an_existing_file_is_kept_until_a_repair_puts_something(rt: HostRuntime) -> Re
 
 #[test]
 fn a_real_file_is_read_and_an_absent_one_fails(rt: HostRuntime) -> Result<(), Fail> {
-    let (path, absent) = ("riegeli_rows_read", "no_such_folder/F");
-    let fault = ended(Status::File, "file fault\n");
-    let shown = Answer {
-        out: THREE_LINES,
-        ..QUIET
-    };
-    let counted = Answer {
-        out: b"chunks 2\nrecords 3\nbytes 112\nunread 0\n",
-        ..QUIET
-    };
+    let path = "riegeli_rows_read";
     fs::write(&rt, path, THREE)?;
-    for (words, path, answer) in [
-        (["show", path].as_slice(), path, shown),
-        (&["show", "--recover", path], path, shown),
-        (&["verify", path], path, counted),
-        (&["show", absent], absent, fault),
-        (&["show", "--recover", absent], absent, fault),
-        (&["verify", absent], absent, fault),
+    for (words, printed) in [
+        (["show", "F"].as_slice(), THREE_LINES),
+        (&["show", "--recover", "F"], THREE_LINES),
+        (&["verify", "F"], REPORT),
     ] {
-        let mut files = [FileStore::named(&rt, path)];
-        let left = run_over(&rt, rt.alloc(), words, b"", &mut files, &SOUND)?;
-        left.is(&rt, &answer);
+        for (path, status, out, told) in [
+            (path, Status::Ok, printed, ""),
+            (ABSENT, Status::File, b"", "file fault\n"),
+        ] {
+            let mut files = [FileStore::named(&rt, path)];
+            let mut made = sink(rt.alloc())?;
+            let left = run_over(&rt, rt.alloc(), words, b"", &mut files, &mut made)?;
+            left.is(&rt, status, out, told);
+        }
     }
     fs::remove_file(&rt, path)?;
-    Ok(())
-}
-
-#[test]
-fn a_file_of_more_than_2_to_the_60_bytes_is_past_the_limit(rt: HostRuntime) -> Result<(), Fail> {
-    let limit = (Status::Limit, "limit file\n");
-    let refused = (Status::Refused, "refused 0 NoSignature\n");
-    for (size, (status, notes)) in [
-        (0, refused),
-        (63, refused),
-        (64, refused),
-        (1 << 60, refused),
-        ((1 << 60) + 1, limit),
-        (u64::MAX, limit),
-    ] {
-        for words in [["show", "F"].as_slice(), &["verify", "F"]] {
-            let mut files = [Untold::new(b"", size)];
-            let left = run_over(&rt, rt.alloc(), words, b"", &mut files, &SOUND)?;
-            left.is(&rt, &ended(status, notes));
-        }
-    }
-    Ok(())
-}
-
-/// A walk of so few zero bytes finds no chunk.
-#[test]
-fn a_file_of_which_nothing_is_told_is_walked(rt: HostRuntime) -> Result<(), Fail> {
-    let (made, report) = (
-        part(&THREE, 0, 64),
-        "chunks 1\nrecords 0\nbytes 64\nunread 0\n",
-    );
-    for (size, notes) in [
-        (0, ""),
-        (39, "skipped 0 39 Short\n"),
-        (64, "skipped 0 64 HeaderHash\n"),
-        ((1 << 60) + 1, "limit file\n"),
-        (u64::MAX, "limit file\n"),
-    ] {
-        for (words, answer) in [
-            (["show", "--recover", "F"].as_slice(), recovered(b"", notes)),
-            (&["repair", "F", "G"], repaired(made, report, notes)),
-        ] {
-            let mut files = [Untold::new(b"", size)];
-            let left = run_over(&rt, rt.alloc(), words, b"", &mut files, &SOUND)?;
-            if size > 1 << 60 {
-                left.is(&rt, &ended(Status::Limit, notes));
-            } else {
-                left.is(&rt, &answer);
-            }
-        }
-    }
     Ok(())
 }
