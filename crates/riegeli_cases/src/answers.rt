@@ -66,12 +66,7 @@ impl Answer {
             "silent" | "walked" if !words.is_empty() => bail!("no word follows it"),
             "silent" => self.silent = true,
             "status" => self.take_status(alloc, known, words)?,
-            "handed" => {
-                if given.last_file()?.untold.is_none() {
-                    bail!("the last file isn't an untold one");
-                }
-                self.handed = Some(one_number(words)? as u64);
-            }
+            "handed" => self.take_handed(given, words)?,
             "walked" => self.take_walk(alloc, given)?,
             object => {
                 let fact = fact_of(rt, alloc, known, words)?;
@@ -91,6 +86,15 @@ impl Answer {
             [word] => self.statuses.push(status_of(known, word.as_str())?)?,
             _ => bail!("not one status"),
         }
+        Ok(())
+    }
+
+    /// Takes in how many bytes the last file hands out at most.
+    fn take_handed(&mut self, given: &Given, words: &[String]) -> Result<()> {
+        if given.last_file()?.untold.is_none() {
+            bail!("the last file isn't an untold one");
+        }
+        self.handed = Some(one_number(words)? as u64);
         Ok(())
     }
 

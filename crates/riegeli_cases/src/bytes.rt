@@ -60,30 +60,32 @@ fn joined(alloc: Global, known: &Known, words: &[String]) -> Result<Vec<u8>> {
 
 /// Adds the bytes of a word, as often as it says.
 fn add_word(alloc: Global, known: &Known, bytes: &mut Vec<u8>, word: &str) -> Result<()> {
-    let (more, times) = match word.strip_prefix('"') {
-        Some(quoted) => match quoted.rsplit_once('"') {
-            Some((text, times)) => (unescaped(alloc, Some(text))?, times),
-            None => bail!("a text without an end"),
-        },
-        None => {
-            let end = word.find('*').unwrap_or(word.len());
-            let (word, times) = word.split_at_checked(end).unwrap_or((word, ""));
-            (bytes_of_word(alloc, known, word)?, times)
-        }
-    };
+    if let Some(quoted) = word.strip_prefix('"') {
+        let Some((text, times)) = quoted.rsplit_once('"') else {
+            bail!("a text without an end");
+        };
+        return add_times(bytes, &unescaped(alloc, text)?, times);
+    }
+    let end = word.find('*').unwrap_or(word.len());
+    let (word, times) = word.split_at_checked(end).unwrap_or((word, ""));
+    if let Some(digits) = word.strip_prefix("0x") {
+        add_times(bytes, &digits_of(alloc, digits)?, times)
+    } else if let Some((name, arguments)) = word.split_once('(') {
+        add_times(bytes, &made_of(alloc, name, arguments)?, times)
+    } else {
+        add_times(bytes, part_of(known, word)?, times)
+    }
+}
+
+/// Adds bytes once, or as often as `*N` says.
+fn add_times(bytes: &mut Vec<u8>, more: &[u8], times: &str) -> Result<()> {
     let times = match times.strip_prefix('*') {
         Some(digits) => number_of(digits)?,
         None if times.is_empty() => 1,
         None => bail!("a text goes on behind its end"),
     };
-    add_times(bytes, &more, times)?;
-    Ok(())
-}
-
-/// Adds bytes so many times.
-fn add_times(bytes: &mut Vec<u8>, more: &[u8], times: usize) -> Result<(), AllocError> {
     if let [byte] = more {
-        return bytes.resize(bytes.len().saturating_add(times), *byte);
+        return Ok(bytes.resize(bytes.len().saturating_add(times), *byte)?);
     }
     for _ in 0..times {
         bytes.extend_from_slice(more)?;
@@ -91,23 +93,14 @@ fn add_times(bytes: &mut Vec<u8>, more: &[u8], times: usize) -> Result<(), Alloc
     Ok(())
 }
 
-/// The bytes of a word that is no text, once.
-fn bytes_of_word(alloc: Global, known: &Known, word: &str) -> Result<Vec<u8>> {
-    if let Some(digits) = word.strip_prefix("0x") {
-        return digits_of(alloc, digits);
-    }
-    if let Some((name, rest)) = word.split_once('(') {
-        return match rest.strip_suffix(')') {
-            Some(arguments) => made_of(alloc, name, arguments),
-            None => bail!("no closing bracket: {word}"),
-        };
-    }
-    let Some((name, rest)) = word.split_once('[') else {
-        return Ok(known.bytes(word)?.to_vec(alloc)?);
+/// The bytes of a name, or the part of them that `[A..B]` says.
+fn part_of<'a>(known: &'a Known, word: &str) -> Result<&'a [u8]> {
+    let Some((name, range)) = word.split_once('[') else {
+        return known.bytes(word);
     };
-    let range = range_of(rest.strip_suffix(']').unwrap_or(""))?;
+    let range = range_of(range.strip_suffix(']').unwrap_or(range))?;
     match known.bytes(name)?.get(range) {
-        Some(part) => Ok(part.to_vec(alloc)?),
+        Some(part) => Ok(part),
         None => bail!("past the bytes of {name}"),
     }
 }
@@ -120,8 +113,11 @@ fn digits_of(alloc: Global, digits: &str) -> Result<Vec<u8>> {
     }
 }
 
-/// The bytes of `NAME(ARGUMENTS)`.
+/// The bytes of a name before a bracket, and of the arguments in it.
 fn made_of(alloc: Global, name: &str, arguments: &str) -> Result<Vec<u8>> {
+    let Some(arguments) = arguments.strip_suffix(')') else {
+        bail!("no closing bracket: {name}({arguments}");
+    };
     let arguments: Vec<&str> = arguments.split(',').collect(alloc)?;
     match (name, arguments.as_slice()) {
         ("le64", [number]) => {

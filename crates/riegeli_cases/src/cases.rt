@@ -33,10 +33,7 @@ pub(crate) fn try_case<R: Threads + Sync>(
         return try_ways(rt, alloc, known, line, statements, &each);
     };
     for number in numbers {
-        let filled = match filled(alloc, statements, number) {
-            Ok(filled) => filled,
-            Err(why) => return Err(Failure::new(alloc, line, why)),
-        };
+        let filled = Failure::at(alloc, line, filled(alloc, statements, number))?;
         if let Err(mut failure) = try_ways(rt, alloc, known, line, &filled, &each) {
             failure.number = Some(number);
             return Err(failure);
@@ -85,10 +82,7 @@ fn try_once<R: Threads + Sync>(
     cuts: &[u32],
 ) -> Result<(), Failure> {
     let count = known.count();
-    let mut trial = match Trial::new(alloc, failing, cuts) {
-        Ok(trial) => trial,
-        Err(why) => return Err(Failure::new(alloc, line, why.into())),
-    };
+    let mut trial = Failure::at(alloc, line, Trial::new(alloc, failing, cuts))?;
     let tried = trial.carry_out_all(rt, alloc, known, line, statements);
     known.forget(count);
     tried
@@ -102,10 +96,9 @@ fn each_of(alloc: Global, statements: &[Statement]) -> Result<Each, Failure> {
         failing: Vec::new(alloc),
     };
     for statement in statements {
-        if statement.kind() == "each"
-            && let Err(why) = each.take(alloc, statement.rest())
-        {
-            return Err(Failure::new(alloc, statement.line, why));
+        if statement.kind() == "each" {
+            let taken = each.take(alloc, statement.rest());
+            Failure::at(alloc, statement.line, taken)?;
         }
     }
     let cuts = statements.iter().find(|said| said.kind() == "cuts");

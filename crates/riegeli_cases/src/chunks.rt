@@ -5,7 +5,7 @@ use anyhow::{Result, bail};
 use block_layout::{BLOCK_HEADER_SIZE, BLOCK_SIZE, BlockHeader, chunk_end, is_boundary};
 use chunk_header::{HEADER_SIZE, Header};
 use highway_hash::{RIEGELI, hash_lanes};
-use std::alloc::Global;
+use std::alloc::{AllocError, Global};
 
 /// The longest chunk that is laid, with what lies between its bytes.
 const LONGEST: u64 = 1 << 27;
@@ -90,22 +90,40 @@ fn end_of(begin: u64, header: &Header) -> Result<u64> {
 
 /// Makes the hash of the chunk header right that begins at a place of a file.
 pub(crate) fn rehash(alloc: Global, file: &mut [u8], place: usize) -> Result<()> {
-    let places: Vec<usize> = (place..file.len())
-        .filter(|at| *at as u64 % BLOCK_SIZE >= BLOCK_HEADER_SIZE)
-        .take(HEADER_SIZE)
-        .collect(alloc)?;
-    if places.len() < HEADER_SIZE {
+    let places = places_from(alloc, file.len(), place)?;
+    let Some((hash, fields)) = places.split_first_chunk::<8>() else {
+        bail!("no chunk header at {place}");
+    };
+    if fields.len() < HEADER_SIZE - 8 {
         bail!("no chunk header at {place}");
     }
-    let mut fields = Vec::new(alloc);
-    for at in places.iter().skip(8) {
-        fields.extend(file.get(*at).copied())?;
+    let mut bytes = Vec::new(alloc);
+    for at in fields {
+        bytes.push(file.get(*at).copied().unwrap_or(0))?;
     }
-    let hash = hash_lanes(&RIEGELI, &fields).to_le_bytes();
-    for (at, byte) in places.iter().zip(hash) {
+    put_at(file, hash, hash_lanes(&RIEGELI, &bytes));
+    Ok(())
+}
+
+/// Up to 40 places of a file that are in no block header, from a place on.
+fn places_from(alloc: Global, size: usize, place: usize) -> Result<Vec<usize>, AllocError> {
+    let mut places = Vec::new(alloc);
+    for at in place..size {
+        if places.len() == HEADER_SIZE {
+            break;
+        }
+        if at as u64 % BLOCK_SIZE >= BLOCK_HEADER_SIZE {
+            places.push(at)?;
+        }
+    }
+    Ok(places)
+}
+
+/// Puts a number at these places, its lowest byte at the first one.
+fn put_at(file: &mut [u8], places: &[usize; 8], number: u64) {
+    for (at, byte) in places.iter().zip(number.to_le_bytes()) {
         if let Some(old) = file.get_mut(*at) {
             *old = byte;
         }
     }
-    Ok(())
 }

@@ -47,15 +47,16 @@ pub(crate) fn fact_of<R: Threads + Sync>(
     words: &[String],
 ) -> Result<Fact> {
     match words {
-        [first, name] if first.as_str() == "as" => {
-            Ok(Fact::Named(String::from_str(alloc, name.as_str())?))
-        }
-        [first, size] if first.as_str() == "size" => Ok(Fact::Size(number_of(size.as_str())?)),
         [first, place, words @ ..] if first.as_str() == "at" => {
             let bytes = bytes_of(rt, alloc, known, words)?;
             Ok(Fact::At(number_of(place.as_str())?, bytes))
         }
-        [first, hash] if first.as_str() == "hash" => Ok(Fact::Hash(hash_of(hash.as_str())?)),
+        [first, word] => match first.as_str() {
+            "as" => Ok(Fact::Named(String::from_str(alloc, word.as_str())?)),
+            "size" => Ok(Fact::Size(number_of(word.as_str())?)),
+            "hash" => Ok(Fact::Hash(hash_of(word.as_str())?)),
+            _ => Ok(Fact::All(bytes_of(rt, alloc, known, words)?)),
+        },
         _ => Ok(Fact::All(bytes_of(rt, alloc, known, words)?)),
     }
 }

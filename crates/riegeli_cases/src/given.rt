@@ -3,13 +3,13 @@
 use crate::bytes::bytes_of;
 use crate::files::{GivenFile, change, copy};
 use crate::names::Known;
-use crate::words::{Statement, count_of, one_number, range_of};
+use crate::words::{Statement, count_of, one_number};
 use anyhow::{Result, bail};
 use std::alloc::{AllocError, Global};
 use std::thread::Threads;
 
 /// An object that a run uses.
-#[derive(Clone, Copy, Debug, PartialEq, Eq)]
+#[derive(Clone, Copy, PartialEq, Eq)]
 pub(crate) enum Object {
     Input,
     File,
@@ -138,17 +138,23 @@ fn set_fails(fails: &mut Vec<(Object, u32)>, words: &[String]) -> Result<()> {
         bail!("no number");
     }
     fails.retain(|(failing, _)| *failing != object);
-    for calls in calls {
-        if !calls.as_str().contains("..") {
-            fails.push((object, count_of(calls.as_str())?))?;
-            continue;
-        }
-        for call in range_of(calls.as_str())? {
-            match u32::try_from(call) {
-                Ok(call) => fails.push((object, call))?,
-                Err(_) => bail!("no call has this number: {call}"),
-            }
-        }
+    for word in calls {
+        add_fails(fails, object, word.as_str())?;
+    }
+    Ok(())
+}
+
+/// Adds the calls of `N` or `A..B`.
+fn add_fails(fails: &mut Vec<(Object, u32)>, object: Object, word: &str) -> Result<()> {
+    let Some((from, to)) = word.split_once("..") else {
+        return Ok(fails.push((object, count_of(word)?))?);
+    };
+    let (from, to) = (count_of(from)?, count_of(to)?);
+    if from >= to {
+        bail!("an empty range: {word}");
+    }
+    for call in from..to {
+        fails.push((object, call))?;
     }
     Ok(())
 }

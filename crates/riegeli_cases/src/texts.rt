@@ -5,9 +5,12 @@ use std::alloc::Global;
 
 /// The bytes of a word, without its quotes where it has them.
 pub(crate) fn plain(alloc: Global, word: &str) -> Result<Vec<u8>> {
-    match word.strip_prefix('"') {
-        Some(text) => unescaped(alloc, text.strip_suffix('"')),
-        None => Ok(word.as_bytes().to_vec(alloc)?),
+    let Some(quoted) = word.strip_prefix('"') else {
+        return Ok(word.as_bytes().to_vec(alloc)?);
+    };
+    match quoted.strip_suffix('"') {
+        Some(text) => unescaped(alloc, text),
+        None => bail!("a text without an end"),
     }
 }
 
@@ -23,11 +26,8 @@ pub(crate) fn command_of(alloc: Global, words: &[String]) -> Result<Vec<String>>
     Ok(command)
 }
 
-/// The bytes of what stands between quotes, if it does.
-pub(crate) fn unescaped(alloc: Global, text: Option<&str>) -> Result<Vec<u8>> {
-    let Some(text) = text else {
-        bail!("a text without an end");
-    };
+/// The bytes of what stands between quotes.
+pub(crate) fn unescaped(alloc: Global, text: &str) -> Result<Vec<u8>> {
     let mut bytes = Vec::new(alloc);
     let mut rest = text.as_bytes();
     for _ in 0..text.len() {

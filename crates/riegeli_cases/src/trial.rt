@@ -10,7 +10,7 @@ use crate::running::run_in_memory;
 use crate::texts::command_of;
 use crate::words::Statement;
 use anyhow::{Error, Result, anyhow, bail};
-use std::alloc::{AllocError, Global};
+use std::alloc::Global;
 use std::mem;
 use std::thread::Threads;
 
@@ -39,6 +39,14 @@ impl Failure {
             got: String::new(alloc),
         }
     }
+
+    /// Makes of an error the failure of the statement at this line.
+    pub(crate) fn at<T: Drop>(alloc: Global, line: u64, tried: Result<T>) -> Result<T, Failure> {
+        match tried {
+            Ok(value) => Ok(value),
+            Err(why) => Err(Failure::new(alloc, line, why)),
+        }
+    }
 }
 
 /// A run whose answer is awaited.
@@ -64,11 +72,7 @@ pub(crate) struct Trial {
 
 impl Trial {
     /// Nothing is given yet, the calls of these objects fail in turn, and calls are cut in this way.
-    pub(crate) fn new(
-        alloc: Global,
-        failing: &[Object],
-        cuts: &[u32],
-    ) -> Result<Trial, AllocError> {
+    pub(crate) fn new(alloc: Global, failing: &[Object], cuts: &[u32]) -> Result<Trial> {
         let mut given = Given::new(alloc);
         given.cuts = cuts.to_vec(alloc)?;
         Ok(Trial {
@@ -94,9 +98,8 @@ impl Trial {
             if self.is_settled_by(statement.kind()) {
                 self.settle(rt, alloc, known)?;
             }
-            if let Err(why) = self.carry_out(rt, alloc, known, statement) {
-                return Err(Failure::new(alloc, statement.line, why));
-            }
+            let tried = self.carry_out(rt, alloc, known, statement);
+            Failure::at(alloc, statement.line, tried)?;
         }
         self.settle(rt, alloc, known)?;
         if !self.ran {
@@ -119,24 +122,22 @@ impl Trial {
         statement: &Statement,
     ) -> Result<()> {
         match statement.kind() {
-            "each" => {}
-            "run" => {
-                self.runs.push(Run {
-                    line: statement.line,
-                    words: command_of(alloc, statement.rest())?,
-                })?;
-                self.files_used = true;
-                self.ran = true;
-            }
-            kind if says_answer(kind) => {
-                if self.runs.is_empty() {
-                    bail!("no run stands above it");
-                }
-                self.answer.take(rt, alloc, known, &self.given, statement)?;
-            }
-            "file" => self.take_file(rt, alloc, known, statement)?,
-            _ => self.given.carry_out(rt, alloc, known, statement)?,
+            "each" => Ok(()),
+            "run" => self.take_run(alloc, statement),
+            "file" => self.take_file(rt, alloc, known, statement.rest()),
+            kind if !says_answer(kind) => self.given.carry_out(rt, alloc, known, statement),
+            _ if self.runs.is_empty() => bail!("no run stands above it"),
+            _ => self.answer.take(rt, alloc, known, &self.given, statement),
         }
+    }
+
+    /// Takes in one more run.
+    fn take_run(&mut self, alloc: Global, statement: &Statement) -> Result<()> {
+        let words = command_of(alloc, statement.rest())?;
+        let line = statement.line;
+        self.runs.push(Run { line, words })?;
+        self.files_used = true;
+        self.ran = true;
         Ok(())
     }
 
@@ -146,9 +147,8 @@ impl Trial {
         rt: &R,
         alloc: Global,
         known: &mut Known,
-        statement: &Statement,
+        words: &[String],
     ) -> Result<()> {
-        let words = statement.rest();
         if let [first, name] = words
             && first.as_str() == "as"
         {
@@ -178,15 +178,13 @@ impl Trial {
                 let why = anyhow!("nothing is said of this run");
                 return Err(Failure::new(alloc, run.line, why));
             }
-            match self.try_run(rt, alloc, known, &run.words, &answer) {
-                Ok(got) if got.is_empty() => {}
-                Ok(got) => {
-                    let why = anyhow!("it answers something else");
-                    let mut failure = Failure::new(alloc, run.line, why);
-                    failure.got = got;
-                    return Err(failure);
-                }
-                Err(why) => return Err(Failure::new(alloc, run.line, why)),
+            let tried = self.try_run(rt, alloc, known, &run.words, &answer);
+            let got = Failure::at(alloc, run.line, tried)?;
+            if !got.is_empty() {
+                let why = anyhow!("it answers something else");
+                let mut failure = Failure::new(alloc, run.line, why);
+                failure.got = got;
+                return Err(failure);
             }
         }
         Ok(())
