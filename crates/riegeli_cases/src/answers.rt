@@ -62,18 +62,27 @@ impl Answer {
         if self.silent || self.told && statement.kind() == "silent" {
             bail!("silent, and more is said");
         }
+        self.told = true;
         match statement.kind() {
             "silent" | "walked" if !words.is_empty() => bail!("no word follows it"),
-            "silent" => self.silent = true,
-            "status" => self.take_status(alloc, known, words)?,
-            "handed" => self.take_handed(given, words)?,
-            "walked" => self.take_walk(alloc, given)?,
+            "silent" => {
+                self.silent = true;
+                Ok(())
+            }
+            "status" => self.take_status(alloc, known, words),
+            "handed" => self.take_handed(given, words),
+            "walked" => self.take_walk(alloc, given),
             object => {
+                let object = Object::named(object)?;
                 let fact = fact_of(rt, alloc, known, words)?;
-                self.facts.push((Object::named(object)?, fact))?;
+                self.add_fact(object, fact)
             }
         }
-        self.told = true;
+    }
+
+    /// Adds what is said of the bytes of an object.
+    fn add_fact(&mut self, object: Object, fact: Fact) -> Result<()> {
+        self.facts.push((object, fact))?;
         Ok(())
     }
 
@@ -106,9 +115,8 @@ impl Answer {
         }
         let (out, notes) = walked(alloc, &file.bytes)?;
         self.statuses.push(if notes.is_empty() { 0 } else { 9 })?;
-        self.facts.push((Object::Out, Fact::All(out)))?;
-        self.facts.push((Object::Notes, Fact::All(notes)))?;
-        Ok(())
+        self.add_fact(Object::Out, Fact::All(out))?;
+        self.add_fact(Object::Notes, Fact::All(notes))
     }
 
     /// Whether the status is as it is said: 0 where nothing is.

@@ -8,7 +8,7 @@ use crate::texts::{command_of, unescaped};
 use crate::words::{number_of, range_of};
 use anyhow::{Result, bail};
 use block_layout::BlockHeader;
-use std::alloc::{AllocError, Global};
+use std::alloc::Global;
 use std::thread::Threads;
 
 /// The bytes of these words, of which there are some.
@@ -98,7 +98,7 @@ fn part_of<'a>(known: &'a Known, word: &str) -> Result<&'a [u8]> {
     let Some((name, range)) = word.split_once('[') else {
         return known.bytes(word);
     };
-    let range = range_of(range.strip_suffix(']').unwrap_or(range))?;
+    let range = range_of(range.strip_suffix(']').unwrap_or(""))?;
     match known.bytes(name)?.get(range) {
         Some(part) => Ok(part),
         None => bail!("past the bytes of {name}"),
@@ -120,27 +120,36 @@ fn made_of(alloc: Global, name: &str, arguments: &str) -> Result<Vec<u8>> {
     };
     let arguments: Vec<&str> = arguments.split(',').collect(alloc)?;
     match (name, arguments.as_slice()) {
-        ("le64", [number]) => {
-            let number = number_of(number)? as u64;
-            Ok(number.to_le_bytes().to_vec(alloc)?)
-        }
-        ("block", [previous, next]) => {
-            let previous = number_of(previous)? as u64;
-            let next = number_of(next)? as u64;
-            Ok(BlockHeader { previous, next }.to_bytes().to_vec(alloc)?)
-        }
-        ("header", [kind, records, decoded, size]) => {
-            let (kind, records) = (kind_of(alloc, kind)?, number_of(records)?);
-            let header = header_of(kind, records, number_of(decoded)?, number_of(size)?, 0)?;
-            Ok(header.to_bytes().to_vec(alloc)?)
-        }
-        ("random", [seed, count]) => Ok(random(alloc, number_of(seed)?, number_of(count)?)?),
+        ("le64", [number]) => le64(alloc, number),
+        ("block", [previous, next]) => block(alloc, previous, next),
+        ("header", [kind, records, decoded, size]) => header(alloc, kind, records, decoded, size),
+        ("random", [seed, count]) => random(alloc, number_of(seed)?, number_of(count)?),
         _ => bail!("no such bytes: {name}(..)"),
     }
 }
 
+/// A number of eight bytes, the lowest first.
+fn le64(alloc: Global, number: &str) -> Result<Vec<u8>> {
+    let number = number_of(number)? as u64;
+    Ok(number.to_le_bytes().to_vec(alloc)?)
+}
+
+/// A block header with its right hash.
+fn block(alloc: Global, previous: &str, next: &str) -> Result<Vec<u8>> {
+    let (previous, next) = (number_of(previous)? as u64, number_of(next)? as u64);
+    Ok(BlockHeader { previous, next }.to_bytes().to_vec(alloc)?)
+}
+
+/// A chunk header with its right hash.
+fn header(alloc: Global, kind: &str, records: &str, decoded: &str, size: &str) -> Result<Vec<u8>> {
+    let kind = kind_of(alloc, kind)?;
+    let (records, decoded, size) = (number_of(records)?, number_of(decoded)?, number_of(size)?);
+    let header = header_of(kind, records, decoded, size, 0)?;
+    Ok(header.to_bytes().to_vec(alloc)?)
+}
+
 /// So many bytes of a generator of numbers.
-fn random(alloc: Global, seed: usize, count: usize) -> Result<Vec<u8>, AllocError> {
+fn random(alloc: Global, seed: usize, count: usize) -> Result<Vec<u8>> {
     let mut bytes = Vec::new(alloc);
     let mut state = seed as u64;
     for _ in 0..count {

@@ -46,18 +46,27 @@ pub(crate) fn fact_of<R: Threads + Sync>(
     known: &mut Known,
     words: &[String],
 ) -> Result<Fact> {
+    if let [first, word] = words
+        && let Some(fact) = small_fact(alloc, first.as_str(), word.as_str())?
+    {
+        return Ok(fact);
+    }
     match words {
         [first, place, words @ ..] if first.as_str() == "at" => {
-            let bytes = bytes_of(rt, alloc, known, words)?;
-            Ok(Fact::At(number_of(place.as_str())?, bytes))
+            let place = number_of(place.as_str())?;
+            Ok(Fact::At(place, bytes_of(rt, alloc, known, words)?))
         }
-        [first, word] => match first.as_str() {
-            "as" => Ok(Fact::Named(String::from_str(alloc, word.as_str())?)),
-            "size" => Ok(Fact::Size(number_of(word.as_str())?)),
-            "hash" => Ok(Fact::Hash(hash_of(word.as_str())?)),
-            _ => Ok(Fact::All(bytes_of(rt, alloc, known, words)?)),
-        },
         _ => Ok(Fact::All(bytes_of(rt, alloc, known, words)?)),
+    }
+}
+
+/// The fact that two words say, if they say no bytes.
+fn small_fact(alloc: Global, first: &str, word: &str) -> Result<Option<Fact>> {
+    match first {
+        "as" => Ok(Some(Fact::Named(String::from_str(alloc, word)?))),
+        "size" => Ok(Some(Fact::Size(number_of(word)?))),
+        "hash" => Ok(Some(Fact::Hash(hash_of(word)?))),
+        _ => Ok(None),
     }
 }
 

@@ -141,7 +141,7 @@ impl Trial {
         Ok(())
     }
 
-    /// Takes in one more file, the first one where a run stands above, or gives the last one a name.
+    /// Takes in one more file, or gives the last one a name.
     fn take_file<R: Threads + Sync>(
         &mut self,
         rt: &R,
@@ -149,17 +149,21 @@ impl Trial {
         known: &mut Known,
         words: &[String],
     ) -> Result<()> {
-        if let [first, name] = words
-            && first.as_str() == "as"
-        {
-            let bytes = self.given.last_file()?.bytes.to_vec(alloc)?;
-            return Ok(known.add(alloc, name.as_str(), bytes)?);
+        match words {
+            [first, name] if first.as_str() == "as" => {
+                let bytes = self.given.last_file()?.bytes.to_vec(alloc)?;
+                Ok(known.add(alloc, name.as_str(), bytes)?)
+            }
+            _ => self.add_file(bytes_of(rt, alloc, known, words)?),
         }
+    }
+
+    /// Adds a file of these bytes, the first one where a run stands above.
+    fn add_file(&mut self, bytes: Vec<u8>) -> Result<()> {
         if self.files_used {
             self.given.files.clear();
             self.files_used = false;
         }
-        let bytes = bytes_of(rt, alloc, known, words)?;
         self.given.files.push(GivenFile::new(bytes))?;
         Ok(())
     }
@@ -173,12 +177,24 @@ impl Trial {
     ) -> Result<(), Failure> {
         let runs = mem::replace(&mut self.runs, Vec::new(alloc));
         let answer = mem::replace(&mut self.answer, Answer::new(alloc));
-        for run in &runs {
+        self.try_runs(rt, alloc, known, &runs, &answer)
+    }
+
+    /// Runs these, and compares what they answer.
+    fn try_runs<R: Threads + Sync>(
+        &mut self,
+        rt: &R,
+        alloc: Global,
+        known: &mut Known,
+        runs: &[Run],
+        answer: &Answer,
+    ) -> Result<(), Failure> {
+        for run in runs {
             if !answer.told {
                 let why = anyhow!("nothing is said of this run");
                 return Err(Failure::new(alloc, run.line, why));
             }
-            let tried = self.try_run(rt, alloc, known, &run.words, &answer);
+            let tried = self.try_run(rt, alloc, known, &run.words, answer);
             let got = Failure::at(alloc, run.line, tried)?;
             if !got.is_empty() {
                 let why = anyhow!("it answers something else");

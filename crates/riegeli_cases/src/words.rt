@@ -57,23 +57,26 @@ pub(crate) fn filled(
 pub(crate) fn statements_of<B: BufRead + Drop>(alloc: Global, lines: B) -> Result<Vec<Statement>> {
     let mut statements: Vec<Statement> = Vec::new(alloc);
     for (number, line) in lines.lines(alloc).enumerate() {
-        let (line, number) = (line?, (number as u64).saturating_add(1));
-        let words = words_of(alloc, line.as_str())?;
-        if words.is_empty() {
-            continue;
-        }
-        if !line.as_str().starts_with(' ') {
-            statements.push(Statement {
-                line: number,
-                words,
-            })?;
-        } else if let Some(statement) = statements.last_mut() {
-            add_words(&mut statement.words, words)?;
-        } else {
-            bail!("line {number}: no statement stands above it");
-        }
+        let number = (number as u64).saturating_add(1);
+        take_line(alloc, &mut statements, number, line?.as_str())?;
     }
     Ok(statements)
+}
+
+/// Takes in a line: a statement, or more words of the last one.
+fn take_line(alloc: Global, statements: &mut Vec<Statement>, line: u64, text: &str) -> Result<()> {
+    let words = words_of(alloc, text)?;
+    if words.is_empty() {
+        return Ok(());
+    }
+    if !text.starts_with(' ') {
+        statements.push(Statement { line, words })?;
+        return Ok(());
+    }
+    match statements.last_mut() {
+        Some(statement) => Ok(add_words(&mut statement.words, words)?),
+        None => bail!("line {line}: no statement stands above it"),
+    }
 }
 
 /// Adds words to others.
