@@ -1,5 +1,5 @@
 //! Numbers that seats draw, in turns and in threads.
-ghost use Rattle.std.specs.Prelude.{◌≡◌, ◌≢◌, ◌≤◌, ◌^◌, [], All, IfOk};
+ghost use Rattle.std.specs.Prelude.{◌≢◌, []};
 ghost use Rattle.chunk_workers.specs.Seats.{BelongsTo};
 
 use chunk_workers::{DrawSeat, Draws};
