@@ -1,6 +1,10 @@
 //! The program: makes the real files and streams, and hands them to the commands of `riegeli_tool`.
 #![tactic(auto)]
 
+ghost use Rattle.std.specs.Prelude.{◌≡◌, map, take, drop};
+ghost use Rattle.std.specs.String.{string_bytes};
+ghost use Rattle.riegeli_main.specs.Paths.{made_path_of};
+
 use record_io::{FileSink, FileStore, ReadAhead, StdErr, StdInput, StdOut};
 use riegeli_tool::{Names, Status, names, run};
 use std::alloc::{AllocError, Global};
@@ -20,7 +24,7 @@ fn main(rt: HostRuntime) -> ExitCode {
         Err(error) => return exit_code(unread_words(&error)),
     };
     let names = names(&words);
-    let Ok(mut files) = files(&rt, &words, &names) else {
+    let Ok(mut files) = files(&rt, paths(&words, &names)) else {
         return exit_code(Status::Memory);
     };
     let mut made = FileSink::named(&rt, made_path(&words, &names));
@@ -73,21 +77,30 @@ fn unread_words(error: &io::Error) -> Status {
     }
 }
 
-/// The files that the words name to be read, each in pieces of up to 128 KiB.
+/// The words that are the paths of the files to be read.
+fn paths<'a>(words: &'a [String], names: &Names) -> &'a [String]
+    ensures { result.now ≡ take names.now.count (drop names.now.first words.now) }
+{
+    let behind = words.get(names.first..).unwrap_or(&[]);
+    behind.get(..names.count).unwrap_or(behind)
+}
+
+/// The files of these paths, each read in pieces of up to 128 KiB.
 fn files<'a>(
     rt: &'a HostRuntime,
-    words: &'a [String],
-    names: &Names,
+    paths: &'a [String],
 ) -> Result<Vec<ReadAhead<FileStore<'a, HostRuntime>>>, AllocError> {
     let mut files = Vec::new(rt.alloc());
-    for word in words.iter().skip(names.first).take(names.count) {
-        files.push(ReadAhead::new(FileStore::named(rt, word.as_str())))?;
+    for path in paths {
+        files.push(ReadAhead::new(FileStore::named(rt, path.as_str())))?;
     }
     Ok(files)
 }
 
 /// The path of the file that is made, or an empty one where none is.
-fn made_path<'a>(words: &'a [String], names: &Names) -> &'a str {
+fn made_path<'a>(words: &'a [String], names: &Names) -> &'a str
+    ensures { result.now ≡ made_path_of (map string_bytes words.now) names.now.made }
+{
     match names.made.and_then(|place| words.get(place)) {
         Some(word) => word.as_str(),
         None => "",
