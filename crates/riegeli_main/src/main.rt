@@ -8,16 +8,19 @@ ghost use Rattle.riegeli_main.specs.Paths.{made_path_of};
 use record_io::{FileSink, FileStore, ReadAhead, StdErr, StdInput, StdOut};
 use riegeli_tool::{Names, Status, names, run};
 use std::alloc::{AllocError, Global};
+use std::env;
+use std::fs::{self, File, OpenOptions};
 use std::io::{self, ErrorKind};
 use std::os::fd::{AsRawFd, IntoRawFd};
 use std::process::ExitCode;
-use std::{env, fs};
 
 /// The greatest block of memory that is kept once it is freed, in bytes: above those of most chunks.
 const KEPT_MEMORY: usize = 16 << 20;
 
 fn main(rt: HostRuntime) -> ExitCode {
-    occupy_closed_streams(&rt);
+    if occupy_closed_streams(&rt).is_err() {
+        return exit_code(Status::Notes);
+    }
     keep_freed_memory(rt.alloc());
     let words = match words(&rt) {
         Ok(words) => words,
@@ -41,17 +44,30 @@ fn main(rt: HostRuntime) -> ExitCode {
     exit_code(status)
 }
 
-/// Puts a folder in the place of each standard stream that the caller closed, so that no file comes to stand there. A folder
-/// can be opened by anyone, and its reads and writes fail as those of a closed stream do.
-fn occupy_closed_streams(rt: &HostRuntime) {
+/// Puts a device in the place of each standard stream that the caller closed, so that no file comes to stand there: one that
+/// can't be read in place of the input, and one that can't be written in place of the others. Where there are no devices a
+/// folder serves for each.
+fn occupy_closed_streams(rt: &HostRuntime) -> io::Result<()> {
     for _ in 0..3 {
-        match fs::open(rt, "/") {
-            Ok(folder) if folder.as_raw_fd() < 3 => {
-                folder.into_raw_fd();
+        let file = fs::open(rt, "/dev/null").or_else(|_| fs::open(rt, "/"))?;
+        match file.as_raw_fd() {
+            0 => {
+                drop(file);
+                unreadable(rt)?.into_raw_fd();
             }
-            _ => return,
+            1 | 2 => {
+                file.into_raw_fd();
+            }
+            _ => break,
         }
     }
+    Ok(())
+}
+
+/// A file that can't be read.
+fn unreadable(rt: &HostRuntime) -> io::Result<File> {
+    let full = OpenOptions::new().write(true).open(rt, "/dev/full");
+    full.or_else(|_| fs::open(rt, "/"))
 }
 
 /// Takes a block of memory and gives it back untouched. The C library's allocator then keeps freed blocks up to this size for
