@@ -6,9 +6,9 @@ use Rattle.std.proofs.lemmas.List.{length-append}
 use Rattle.std.proofs.lemmas.List.Sums.{sum_by-cons}
 use Rattle.varint_wire.specs.Varint.{SpellsEach, shortest}
 use Rattle.varint_wire.proofs.Spellings.{Spells-shortest, length-shortest, shortest-lt}
-use Rattle.record_io.specs.Bytes.{AreBytes}
+use Rattle.record_values.specs.Bytes.{AreBytes}
 use Rattle.chunk_header.specs.SimpleChunks.{IsSimple, sizes_of, simple_data, simple_chunk}
-use Rattle.record_io.proofs.ByteLists.{AreBytes-append, AreBytes-from_get_or}
+use Rattle.record_values.proofs.ByteLists.{AreBytes-append, AreBytes-from_get_or}
 
 -- the sizes take from 1 to 10 bytes for each record
 pub length-sizes_of : (records : List (List ℕ)) → (length records ≤ length (sizes_of records)) × (length (sizes_of records) ≤ 10 * length records)

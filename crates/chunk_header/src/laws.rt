@@ -2,7 +2,7 @@
 
 ghost use Rattle.std.specs.Prelude.{◌≡◌, ◌≤◌, ◌⊎◌, ℕ, List, length, map, sum};
 ghost use Rattle.highway_hash.specs.Riegeli.{riegeli_hash};
-ghost use Rattle.record_io.specs.Bytes.{AreBytes};
+ghost use Rattle.record_values.specs.Bytes.{AreBytes};
 ghost use Rattle.chunk_header.specs.Chunks.{ChunkValue, IsChunk, IsRightChunkHeader, header_bytes, header_in};
 ghost use Rattle.chunk_header.specs.SimpleChunks.{IsSimple, HasRecords};
 ghost use Rattle.chunk_header.specs.Views.{IsHeader, bytes_of_header, value_of_header};

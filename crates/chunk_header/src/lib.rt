@@ -8,7 +8,7 @@ ghost use Rattle.std.specs.Prelude.{◌≡◌, ◌↔◌, ◌+◌, ◌^◌, ◌<
 ghost use Rattle.chunk_header.specs.Chunks.{IsChunk, IsRightChunkHeader};
 
 use highway_hash::{Hasher, RIEGELI, begins_with_hash, hash_lanes};
-use record_io::Bytes;
+use record_values::Bytes;
 
 /// How many bytes the header of a chunk has.
 ///

@@ -7,7 +7,7 @@ use Rattle.std.proofs.lemmas.List.{take_all, length-append, length-take-le}
 use Rattle.std.proofs.lemmas.List.Sums.{sum_by-append}
 use Rattle.std.proofs.lemmas.Option.{slice_get_cases, none-some, same_Some}
 use Rattle.block_layout.specs.Layout.{IsBoundary}
-use Rattle.record_io.specs.declared.file_totals.Totals.{Totals}
+use Rattle.record_values.specs.declared.file_totals.Totals.{Totals}
 use Rattle.chunk_header.specs.Chunks.{ChunkValue}
 use Rattle.meta_chunk.specs.Laid.{IsLaid, end_of_chunk}
 use Rattle.meta_chunk.specs.Files.{signature, BeginsSigned, AreLaid, IsChainOf, begin_of, end_of_chunks}

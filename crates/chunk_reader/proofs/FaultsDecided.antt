@@ -4,7 +4,7 @@ use Rattle.std.specs.Prelude.{slice_get, slice_index, slice_range}
 use Rattle.std.proofs.lemmas.Bool.{cases_lt}
 use Rattle.std.proofs.lemmas.Option.{none-some, same_Some}
 use Rattle.highway_hash.specs.Riegeli.{riegeli_hash, with_hash}
-use Rattle.record_io.specs.Bytes.{AreBytes}
+use Rattle.record_values.specs.Bytes.{AreBytes}
 use Rattle.block_layout.specs.Layout.{IsBlock, end_of}
 use Rattle.block_layout.specs.BlockHeaders.{block_header}
 use Rattle.chunk_header.specs.Chunks.{ChunkValue, IsRightChunkHeader}

@@ -5,7 +5,7 @@ use Rattle.std.proofs.lemmas.Bool.{cases_lt}
 use Rattle.std.proofs.lemmas.List.{take-append-drop, take-take, length-drop}
 use Rattle.std.proofs.lemmas.List.Elements.{All-from_recursion, recursion_from_All, All-take, All-drop}
 use Rattle.highway_hash.specs.Riegeli.{riegeli_hash, with_hash}
-use Rattle.record_io.specs.Bytes.{AreBytes}
+use Rattle.record_values.specs.Bytes.{AreBytes}
 use Rattle.block_layout.specs.Layout.{usable_bytes, own_bytes_at, end_of, chunk_end_of}
 use Rattle.block_layout.proofs.UsableBytes.{usable_bytes-nil, usable_bytes-usable, usable_bytes-header, own_bytes_at_whole}
 use Rattle.block_layout.proofs.ChunkEnds.{chunk_end_of_past_bytes, chunk_end_of_room}

@@ -8,7 +8,7 @@ use Rattle.block_layout.proofs.ChunkEnds.{chunk_end_of_boundary, chunk_end_of_pa
 use Rattle.block_layout.proofs.Ends.{end_of_mono}
 use Rattle.block_layout.specs.Layout.{IsOnBoundary, end_of}
 use Rattle.chunk_header.specs.Chunks.{ChunkValue}
-use Rattle.record_io.specs.declared.file_totals.Totals.{Totals}
+use Rattle.record_values.specs.declared.file_totals.Totals.{Totals}
 use Rattle.meta_chunk.specs.Laid.{IsLaid, end_of_chunk}
 use Rattle.meta_chunk.specs.Files.{IsChainOf, end_of_chunks}
 use Rattle.meta_chunk.specs.Counts.{is_unread, totals_of}

@@ -4,7 +4,7 @@ use Rattle.std.proofs.lemmas.Bool.{cases_lt, cases_Bool}
 use Rattle.std.specs.Prelude.{slice_range}
 use Rattle.std.specs.List.{AllByRecursion}
 use Rattle.highway_hash.specs.Riegeli.{riegeli_hash}
-use Rattle.record_io.specs.Bytes.{AreBytes}
+use Rattle.record_values.specs.Bytes.{AreBytes}
 use Rattle.chunk_header.specs.Chunks.{ChunkValue, HeaderValue, IsChunk}
 use Rattle.chunk_header.specs.SimpleChunks.{IsCompressed}
 use Rattle.chunk_header.specs.declared.Header.{Header}

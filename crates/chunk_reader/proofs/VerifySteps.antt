@@ -2,7 +2,7 @@
 use Rattle.std.proofs.Common.{◌≡◌, ◌∙◌, ◌+◌, ◌<◌, ◌≤◌, ℕ, Bool, true, false, Result, Option, Some, None, IfSome, IsSomeAnd, Ok, Err, List, [], ◌∷◌, ◌++◌, length, refl, sym, ap, subst, inl, inr, arith}
 use Rattle.highway_hash.specs.Riegeli.{riegeli_hash}
 use Rattle.std.proofs.lemmas.Bool.{cases_eq}
-use Rattle.record_io.specs.Bytes.{AreBytes}
+use Rattle.record_values.specs.Bytes.{AreBytes}
 use Rattle.block_layout.specs.Layout.{IsBoundary, end_of, chunk_end_of, own_bytes_at}
 use Rattle.block_layout.proofs.ChunkEnds.{chunk_end_of_boundary, chunk_end_of_past_records}
 use Rattle.block_layout.proofs.Ends.{end_of_after, end_of_room}
@@ -20,7 +20,7 @@ use Rattle.chunk_reader.specs.declared.verifying.Verified.{Verified}
 use Rattle.chunk_reader.specs.declared.reasons.Why.{Why}
 use Rattle.chunk_reader.specs.declared.reasons.Fault.{Fault}
 use Rattle.meta_chunk.specs.Counts.{is_unread, totals_of}
-use Rattle.record_io.specs.declared.file_totals.Totals.{Totals}
+use Rattle.record_values.specs.declared.file_totals.Totals.{Totals}
 use Rattle.chunk_reader.specs.Places.{header_bytes_at, end_by, end_at, data_at, chunk_at, HaveHeadersOf, IsFirstWrong}
 use Rattle.chunk_reader.proofs.PassedChunks.{length-data_at, IsLaid-right}
 use Rattle.chunk_reader.proofs.Loads.{data_given, header_within, IsOnBoundary-of}

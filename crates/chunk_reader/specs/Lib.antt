@@ -4,6 +4,7 @@ pub mod Faults
 pub mod Heads
 pub mod Contents
 pub mod Progress
+pub mod Readers
 pub mod Ends
 pub mod Pieces
 pub mod Names

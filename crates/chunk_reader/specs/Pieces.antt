@@ -2,7 +2,7 @@
 use Rattle.std.specs.Prelude.{◌≡◌, ◌≢◌, ℕ, Bool, true, Result, Ok, Err, List, MatchOption, IfSome, slice_range}
 use Rattle.highway_hash.specs.Riegeli.{riegeli_key}
 use Rattle.highway_hash.specs.Hashers.{hasher_of}
-use Rattle.record_io.specs.Bytes.{AreBytes}
+use Rattle.record_values.specs.Bytes.{AreBytes}
 use Rattle.chunk_header.specs.Chunks.{ChunkValue}
 use Rattle.chunk_header.specs.SimpleChunks.{simple_kind}
 use Rattle.simple_chunk.specs.Checkers.{HasChecked}

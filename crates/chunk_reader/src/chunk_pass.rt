@@ -1,5 +1,5 @@
-ghost use Rattle.std.specs.Prelude.{◌≡◌, ◌+◌, ◌-◌, ◌*◌, ◌^◌, ◌<◌, ◌≤◌, length, take, IfOk, IfSome, IsSomeAnd, OnOk};
-ghost use Rattle.record_io.specs.Outside.{Rose};
+ghost use Rattle.std.specs.Prelude.{◌≡◌, ◌+◌, ◌-◌, ◌*◌, ◌^◌, ◌<◌, ◌≤◌, length, take, IfOk, IfSome, IsSomeAnd, OnOk, Err};
+ghost use Rattle.record_io.specs.Calls.{OnlyAsks};
 ghost use Rattle.block_layout.specs.Layout.{block_header_size, chunk_header_size, blocks_below, IsBlock, IsOnBoundary, end_of, own_bytes_at};
 ghost use Rattle.chunk_reader.specs.Places.{HasHeaderOf, HaveHeadersOf, IsFirstWrong};
 ghost use Rattle.chunk_reader.specs.declared.reasons.Fault.{Fault};
@@ -46,12 +46,7 @@ impl ChunkPass {
         ensures wrong { (fault : Fault) → result ≡ Err (VerifyEnd.Refused fault) → (fault.why ≡ Why.BlockHeader)
             × IfSome (S.bytes store.old) (λ file. IsFirstWrong file begin end begin end fault.at) }
         ensures handed { S.handed store.new + (begin + chunk_header_size) ≤ S.handed store.old + header_end }
-        ensures same_bytes { S.bytes store.new ≡ S.bytes store.old }
-        ensures same_told { S.told store.new ≡ S.told store.old }
-        ensures same_name { S.name store.new ≡ S.name store.old }
-        ensures cause { result ≡ Err VerifyEnd.Store → Rose (S.faults store.old) (S.faults store.new) }
-        ensures never_falls { S.faults store.old ≤ S.faults store.new }
-        ensures small { S.faults store.old < 2 ^ 64 → S.faults store.new < 2 ^ 64 }
+        ensures store { OnlyAsks S.bytes S.told S.name S.faults (result ≡ Err VerifyEnd.Store) store.old store.new }
     {
         judge_blocks(store, begin, end, begin, header_end)?;
         Ok(ChunkPass {
@@ -83,12 +78,7 @@ impl ChunkPass {
             × IfSome (S.bytes store.old) (λ file. IsFirstWrong file self.old.begin self.old.end self.old.own.place self.old.end fault.at) }
         ensures handed { OnOk result (S.handed store.new + self.old.own.place ≤ S.handed store.old + self.new.own.place) }
         ensures handed_at_most { S.handed store.new + self.old.own.place ≤ S.handed store.old + self.old.end }
-        ensures same_bytes { S.bytes store.new ≡ S.bytes store.old }
-        ensures same_told { S.told store.new ≡ S.told store.old }
-        ensures same_name { S.name store.new ≡ S.name store.old }
-        ensures cause { result ≡ Err VerifyEnd.Store → Rose (S.faults store.old) (S.faults store.new) }
-        ensures never_falls { S.faults store.old ≤ S.faults store.new }
-        ensures small { S.faults store.old < 2 ^ 64 → S.faults store.new < 2 ^ 64 }
+        ensures store { OnlyAsks S.bytes S.told S.name S.faults (result ≡ Err VerifyEnd.Store) store.old store.new }
     {
         if self.own.place % BLOCK_SIZE == 0 {
             judge_block(store, self.begin, self.end, self.own.place)?;
@@ -103,12 +93,7 @@ impl ChunkPass {
         ensures wrong { (fault : Fault) → result ≡ Err (VerifyEnd.Refused fault) → (fault.why ≡ Why.BlockHeader)
             × IfSome (S.bytes store.old) (λ file. IsFirstWrong file self.begin self.end self.own.place self.end fault.at) }
         ensures handed { S.handed store.new + self.own.place ≤ S.handed store.old + self.end }
-        ensures same_bytes { S.bytes store.new ≡ S.bytes store.old }
-        ensures same_told { S.told store.new ≡ S.told store.old }
-        ensures same_name { S.name store.new ≡ S.name store.old }
-        ensures cause { result ≡ Err VerifyEnd.Store → Rose (S.faults store.old) (S.faults store.new) }
-        ensures never_falls { S.faults store.old ≤ S.faults store.new }
-        ensures small { S.faults store.old < 2 ^ 64 → S.faults store.new < 2 ^ 64 }
+        ensures store { OnlyAsks S.bytes S.told S.name S.faults (result ≡ Err VerifyEnd.Store) store.old store.new }
     {
         judge_blocks(store, self.begin, self.end, self.own.place, self.end)
     }
@@ -132,12 +117,7 @@ fn judge_blocks<S: Store>(
     ensures wrong { (fault : Fault) → result ≡ Err (VerifyEnd.Refused fault) → (fault.why ≡ Why.BlockHeader)
         × IfSome (S.bytes store.old) (λ file. IsFirstWrong file begin end from to fault.at) }
     ensures handed { S.handed store.new ≤ S.handed store.old + block_header_size * (blocks_below to - blocks_below from) }
-    ensures same_bytes { S.bytes store.new ≡ S.bytes store.old }
-    ensures same_told { S.told store.new ≡ S.told store.old }
-    ensures same_name { S.name store.new ≡ S.name store.old }
-    ensures cause { result ≡ Err VerifyEnd.Store → Rose (S.faults store.old) (S.faults store.new) }
-    ensures never_falls { S.faults store.old ≤ S.faults store.new }
-    ensures small { S.faults store.old < 2 ^ 64 → S.faults store.new < 2 ^ 64 }
+    ensures store { OnlyAsks S.bytes S.told S.name S.faults (result ≡ Err VerifyEnd.Store) store.old store.new }
 {
     let mut block = from.div_ceil(BLOCK_SIZE) * BLOCK_SIZE;
     while block < to {
@@ -158,12 +138,7 @@ fn judge_block<S: Store>(store: &mut S, begin: u64, end: u64, block: u64) -> Res
     ensures wrong { (fault : Fault) → result ≡ Err (VerifyEnd.Refused fault) → (fault.why ≡ Why.BlockHeader) × (fault.at ≡ block)
         × IfSome (S.bytes store.old) (λ file. ¬ HasHeaderOf file begin end block) }
     ensures handed { S.handed store.new ≤ S.handed store.old + block_header_size }
-    ensures same_bytes { S.bytes store.new ≡ S.bytes store.old }
-    ensures same_told { S.told store.new ≡ S.told store.old }
-    ensures same_name { S.name store.new ≡ S.name store.old }
-    ensures cause { result ≡ Err VerifyEnd.Store → Rose (S.faults store.old) (S.faults store.new) }
-    ensures never_falls { S.faults store.old ≤ S.faults store.new }
-    ensures small { S.faults store.old < 2 ^ 64 → S.faults store.new < 2 ^ 64 }
+    ensures store { OnlyAsks S.bytes S.told S.name S.faults (result ≡ Err VerifyEnd.Store) store.old store.new }
 {
     let mut bytes = [0; BLOCK_HEADER_SIZE as usize];
     get_exact(store, block, &mut bytes)?;

@@ -1,14 +1,7 @@
-ghost use Rattle.std.specs.Prelude.{◌≡◌, ◌+◌, ◌^◌, ◌<◌, ◌≤◌, ℕ, List, None, Some, [], ◌∷◌, ◌++◌, IfSome, OnErr};
-ghost use Rattle.record_io.specs.Outside.{Rose};
-ghost use Rattle.block_layout.specs.Layout.{IsBoundary};
-ghost use Rattle.chunk_header.specs.Chunks.{ChunkValue};
-ghost use Rattle.chunk_header.specs.Views.{value_of_chunk};
-ghost use Rattle.meta_chunk.specs.Counts.{totals_of};
-ghost use Rattle.meta_chunk.specs.Files.{IsChainOf, IsFileOf};
-ghost use Rattle.chunk_reader.specs.Contents.{IsJudged};
-ghost use Rattle.chunk_reader.specs.Faults.{BeginsWithSignature, IsAllowed, IsFault};
-ghost use Rattle.chunk_reader.specs.Progress.{AreTotals, AreReadFrom};
-ghost use Rattle.chunk_reader.specs.Reasons.{Applies, NoneOf, loading_reasons};
+ghost use Rattle.std.specs.Prelude.{◌≡◌, List, None, Some, OnErr, Ok, Err, ℕ};
+ghost use Rattle.record_io.specs.Calls.{OnlyAsks};
+ghost use Rattle.chunk_reader.specs.Progress.{AreReadFrom};
+ghost use Rattle.chunk_reader.specs.Readers.{ReadsIn, ReadsOn, IsNextChunk, IsReadWhole, IsFaultBehind, IsChunkAtHand, HandsOut};
 ghost use Rattle.chunk_reader.specs.declared.reasons.Fault.{Fault};
 ghost use Rattle.chunk_reader.specs.declared.judging.Judged.{Judged};
 
@@ -80,44 +73,15 @@ impl Reader {
         alloc: Global,
         store: &mut S,
     ) -> Result<Option<Judged>, ReadEnd>
-        requires told { S.told store.old ≡ Some self.old.size }
-        requires in_reach { self.old.size ≤ 2 ^ 60 }
-        requires place { IfSome (S.bytes store.old) (λ file. AreReadFrom self.old.frame file self.old.totals) }
-        ensures same_size { self.new.size ≡ self.old.size }
-        ensures same_frame { self.new.frame ≡ self.old.frame }
-        ensures judged { (j : Judged) → result ≡ Ok (Some j) → IsJudged self.old.frame self.old.size self.old.totals.bytes j }
-        ensures moved { (j : Judged) → result ≡ Ok (Some j) → self.new.totals.bytes ≡ j.end }
-        ensures given { (j : Judged) → result ≡ Ok (Some j) → IfSome (S.bytes store.old) (λ file.
-            (ks : List ChunkValue) → IsChainOf (IsAllowed self.old.frame) ks file self.old.totals.bytes → self.old.totals ≡ totals_of ks
-            → IsChainOf (IsAllowed self.old.frame) (ks ++ value_of_chunk j.chunk ∷ []) file self.new.totals.bytes
-            × (self.new.totals ≡ totals_of (ks ++ value_of_chunk j.chunk ∷ []))) }
-        ensures read { IfSome (S.bytes store.old) (λ file. AreReadFrom self.new.frame file self.new.totals) }
-        ensures totals { AreTotals self.new.size self.new.totals }
-        ensures ended { result ≡ Ok None → (self.new ≡ self.old) × (self.old.totals.bytes ≡ self.old.size) × (64 ≤ self.old.size)
-            × IsBoundary self.old.size }
-        ensures whole { result ≡ Ok None → IfSome (S.bytes store.old) (λ file. (ks : List ChunkValue)
-            → IsChainOf (IsAllowed self.old.frame) ks file self.old.totals.bytes → IsFileOf (IsAllowed self.old.frame) ks file) }
+        requires reads { ReadsIn (S.bytes store.old) (S.told store.old) self.old }
+        ensures goes_on { ReadsOn (S.bytes store.old) self.old self.new }
+        ensures chunk { (j : Judged) → result ≡ Ok (Some j) → IsNextChunk (S.bytes store.old) self.old self.new j }
+        ensures ended { result ≡ Ok None → (self.new ≡ self.old) × IsReadWhole (S.bytes store.old) self.old }
+        ensures refused { (fault : Fault) → result ≡ Err (ReadEnd.Refused fault) → IsFaultBehind (S.bytes store.old) self.old fault }
+        ensures memory { result ≡ Err ReadEnd.Memory → IsChunkAtHand (S.bytes store.old) self.old.totals.bytes }
         ensures kept { OnErr result (self.new ≡ self.old) }
-        ensures refused { (fault : Fault) → result ≡ Err (ReadEnd.Refused fault)
-            → IfSome (S.bytes store.old) (λ file. IsFault self.old.frame file fault) }
-        ensures all_given { (fault : Fault) → result ≡ Err (ReadEnd.Refused fault) → IfSome (S.bytes store.old) (λ file.
-            (ks : List ChunkValue) (place : ℕ) → IsChainOf (IsAllowed self.old.frame) ks file place → place ≤ self.old.totals.bytes) }
-        ensures memory { result ≡ Err ReadEnd.Memory
-            → IfSome (S.bytes store.old) (λ file. NoneOf (Applies file self.old.totals.bytes) loading_reasons) }
-        ensures memory_signed { result ≡ Err ReadEnd.Memory → IfSome (S.bytes store.old) BeginsWithSignature }
-        ensures handed { (j : Judged) → result ≡ Ok (Some j)
-            → S.handed store.new + self.old.totals.bytes ≤ S.handed store.old + (64 + j.end) }
-        ensures handed_behind { 0 < self.old.totals.bytes → (j : Judged) → result ≡ Ok (Some j)
-            → S.handed store.new + self.old.totals.bytes ≤ S.handed store.old + j.end }
-        ensures handed_at_most { S.handed store.new + self.old.totals.bytes ≤ S.handed store.old + (64 + self.old.size) }
-        ensures handed_at_most_behind { 0 < self.old.totals.bytes
-            → S.handed store.new + self.old.totals.bytes ≤ S.handed store.old + self.old.size }
-        ensures same_bytes { S.bytes store.new ≡ S.bytes store.old }
-        ensures same_told { S.told store.new ≡ S.told store.old }
-        ensures same_name { S.name store.new ≡ S.name store.old }
-        ensures cause { result ≡ Err ReadEnd.Store → Rose (S.faults store.old) (S.faults store.new) }
-        ensures never_falls { S.faults store.old ≤ S.faults store.new }
-        ensures small { S.faults store.old < 2 ^ 64 → S.faults store.new < 2 ^ 64 }
+        ensures handed { HandsOut self.old result (S.handed store.old) (S.handed store.new) }
+        ensures store { OnlyAsks S.bytes S.told S.name S.faults (result ≡ Err ReadEnd.Store) store.old store.new }
     {
         if self.at() == 0 {
             check_signature(store, self.size)?;

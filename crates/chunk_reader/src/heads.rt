@@ -1,5 +1,5 @@
-ghost use Rattle.std.specs.Prelude.{◌≡◌, ◌+◌, ◌^◌, ◌<◌, ◌≤◌, Option, ℕ, Some, IfOk, IfSome, OnErr, MatchOption};
-ghost use Rattle.record_io.specs.Outside.{Rose};
+ghost use Rattle.std.specs.Prelude.{◌≡◌, ◌+◌, ◌^◌, ◌<◌, ◌≤◌, Option, ℕ, Some, IfOk, IfSome, MatchOption, IsErr};
+ghost use Rattle.record_io.specs.Calls.{OnlyAsks};
 ghost use Rattle.block_layout.specs.Layout.{chunk_header_size, IsBoundary, end_of};
 ghost use Rattle.chunk_header.specs.Views.{IsHeader, value_of_header};
 ghost use Rattle.chunk_reader.specs.Places.{end_by};
@@ -47,12 +47,7 @@ pub fn head_at<S: Store>(store: &mut S, size: u64, at: u64) -> Result<Head, Fail
     ensures within { (header : Header) (end : Option ℕ) → result ≡ Ok (Head.Right header end) → end_of at chunk_header_size ≤ size }
     ensures handed { S.handed store.new ≤ S.handed store.old + chunk_header_size }
     ensures handed_at_most { S.handed store.new + at ≤ S.handed store.old + size }
-    ensures same_bytes { S.bytes store.new ≡ S.bytes store.old }
-    ensures same_told { S.told store.new ≡ S.told store.old }
-    ensures same_name { S.name store.new ≡ S.name store.old }
-    ensures cause { OnErr result (Rose (S.faults store.old) (S.faults store.new)) }
-    ensures never_falls { S.faults store.old ≤ S.faults store.new }
-    ensures small { S.faults store.old < 2 ^ 64 → S.faults store.new < 2 ^ 64 }
+    ensures store { OnlyAsks S.bytes S.told S.name S.faults (IsErr result) store.old store.new }
 {
     if header_end(at) > size {
         return Ok(Head::Short);

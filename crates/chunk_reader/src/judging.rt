@@ -1,5 +1,5 @@
-ghost use Rattle.std.specs.Prelude.{◌≡◌, ◌↔◌, ◌+◌, ◌^◌, ◌<◌, ◌≤◌, ◌⊎◌, length, Some, IsTrue, IfOk, IfSome, IsSomeAnd, OnOk};
-ghost use Rattle.record_io.specs.Outside.{Rose};
+ghost use Rattle.std.specs.Prelude.{◌≡◌, ◌↔◌, ◌+◌, ◌^◌, ◌<◌, ◌≤◌, ◌⊎◌, length, Some, IsTrue, IfOk, IfSome, IsSomeAnd, OnOk, Err};
+ghost use Rattle.record_io.specs.Calls.{OnlyAsks};
 ghost use Rattle.block_layout.specs.Layout.{chunk_header_size, IsBoundary, end_of, own_bytes_at};
 ghost use Rattle.chunk_header.specs.Chunks.{IsChunk};
 ghost use Rattle.chunk_header.specs.Views.{IsHeader, HasRightHash, bytes_of_header, value_of_chunk, value_of_header};
@@ -102,12 +102,7 @@ pub fn data_at<S: Store>(
     ensures sound { IfOk result (λ chunk. IsChunk (value_of_chunk chunk)) }
     ensures given { IfOk result (λ chunk. IfSome (S.bytes store.old) (λ file. chunk.bytes ≡ data_at file at header.now.data_size)) }
     ensures handed { S.handed store.new ≤ S.handed store.old + header.now.data_size }
-    ensures same_bytes { S.bytes store.new ≡ S.bytes store.old }
-    ensures same_told { S.told store.new ≡ S.told store.old }
-    ensures same_name { S.name store.new ≡ S.name store.old }
-    ensures cause { result ≡ Err LoadEnd.Store → Rose (S.faults store.old) (S.faults store.new) }
-    ensures never_falls { S.faults store.old ≤ S.faults store.new }
-    ensures small { S.faults store.old < 2 ^ 64 → S.faults store.new < 2 ^ 64 }
+    ensures store { OnlyAsks S.bytes S.told S.name S.faults (result ≡ Err LoadEnd.Store) store.old store.new }
 {
     let mut data = vec![in alloc; 0; header.data_size as usize]?;
     OwnBytes::from(header_end(at)).fill(store, &mut data)?;
@@ -149,12 +144,7 @@ pub fn strict_at<S: Store>(
     ensures handed_given { IfOk result (λ judged. S.handed store.new + at ≤ S.handed store.old + judged.end) }
     ensures handed_at_most { S.handed store.new + at ≤ S.handed store.old + size }
     ensures memory { result ≡ Err ReadEnd.Memory → IfSome (S.bytes store.old) (λ file. NoneOf (Applies file at) loading_reasons) }
-    ensures same_bytes { S.bytes store.new ≡ S.bytes store.old }
-    ensures same_told { S.told store.new ≡ S.told store.old }
-    ensures same_name { S.name store.new ≡ S.name store.old }
-    ensures cause { result ≡ Err ReadEnd.Store → Rose (S.faults store.old) (S.faults store.new) }
-    ensures never_falls { S.faults store.old ≤ S.faults store.new }
-    ensures small { S.faults store.old < 2 ^ 64 → S.faults store.new < 2 ^ 64 }
+    ensures store { OnlyAsks S.bytes S.told S.name S.faults (result ≡ Err ReadEnd.Store) store.old store.new }
 {
     let (header, end) = whole_head_at(store, size, at)?;
     let (chunk, right) = load(alloc, store, at, end, header)?;
@@ -207,12 +197,7 @@ pub(crate) fn whole_head_at<S: Store>(
         × IfSome (S.bytes store.old) (λ file. IsFirstOf (Applies file at) loading_reasons fault.why) }
     ensures handed { S.handed store.new ≤ S.handed store.old + chunk_header_size }
     ensures handed_at_most { S.handed store.new + at ≤ S.handed store.old + size }
-    ensures same_bytes { S.bytes store.new ≡ S.bytes store.old }
-    ensures same_told { S.told store.new ≡ S.told store.old }
-    ensures same_name { S.name store.new ≡ S.name store.old }
-    ensures cause { result ≡ Err VerifyEnd.Store → Rose (S.faults store.old) (S.faults store.new) }
-    ensures never_falls { S.faults store.old ≤ S.faults store.new }
-    ensures small_count { S.faults store.old < 2 ^ 64 → S.faults store.new < 2 ^ 64 }
+    ensures store { OnlyAsks S.bytes S.told S.name S.faults (result ≡ Err VerifyEnd.Store) store.old store.new }
 {
     let (header, end) = match head_at(store, size, at)? {
         Head::Short => return Err(refused(at, Why::Short)),
@@ -260,12 +245,7 @@ fn load<S: Store>(
     ensures wrong { (fault : Fault) → result ≡ Err (ReadEnd.Refused fault) → (fault.why ≡ Why.BlockHeader)
         × IfSome (S.bytes store.old) (λ file. IsFirstWrong file at end at end fault.at) }
     ensures handed { S.handed store.new + (at + chunk_header_size) ≤ S.handed store.old + end }
-    ensures same_bytes { S.bytes store.new ≡ S.bytes store.old }
-    ensures same_told { S.told store.new ≡ S.told store.old }
-    ensures same_name { S.name store.new ≡ S.name store.old }
-    ensures cause { result ≡ Err ReadEnd.Store → Rose (S.faults store.old) (S.faults store.new) }
-    ensures never_falls { S.faults store.old ≤ S.faults store.new }
-    ensures small { S.faults store.old < 2 ^ 64 → S.faults store.new < 2 ^ 64 }
+    ensures store { OnlyAsks S.bytes S.told S.name S.faults (result ≡ Err ReadEnd.Store) store.old store.new }
 {
     let mut pass = ChunkPass::start(store, at, header_end(at), end)?;
     let data = read_data(alloc, store, &mut pass, header.data_size)?;
@@ -293,12 +273,7 @@ fn read_data<S: Store>(
         × IfSome (S.bytes store.old) (λ file. IsFirstWrong file pass.old.begin pass.old.end pass.old.own.place pass.old.end fault.at) }
     ensures handed { OnOk result (S.handed store.new + pass.old.own.place ≤ S.handed store.old + pass.new.own.place) }
     ensures handed_at_most { S.handed store.new + pass.old.own.place ≤ S.handed store.old + pass.old.end }
-    ensures same_bytes { S.bytes store.new ≡ S.bytes store.old }
-    ensures same_told { S.told store.new ≡ S.told store.old }
-    ensures same_name { S.name store.new ≡ S.name store.old }
-    ensures cause { result ≡ Err ReadEnd.Store → Rose (S.faults store.old) (S.faults store.new) }
-    ensures never_falls { S.faults store.old ≤ S.faults store.new }
-    ensures small { S.faults store.old < 2 ^ 64 → S.faults store.new < 2 ^ 64 }
+    ensures store { OnlyAsks S.bytes S.told S.name S.faults (result ≡ Err ReadEnd.Store) store.old store.new }
 {
     let mut data = HashedData::with_room(alloc, size)?;
     let mut piece = [0; PIECE];

@@ -9,7 +9,7 @@ ghost use Rattle.highway_hash.specs.Riegeli.{riegeli_hash};
 ghost use Rattle.meta_chunk.specs.Counts.{is_unread, totals_of};
 ghost use Rattle.meta_chunk.specs.Files.{signature, IsPlain, IsUnread, IsTransposed, IsChainOf, IsFrameChain, IsFile, IsFrame, begin_of};
 ghost use Rattle.meta_chunk.specs.Laid.{IsLaid, end_of_chunk};
-ghost use Rattle.record_io.specs.Bytes.{AreBytes};
+ghost use Rattle.record_values.specs.Bytes.{AreBytes};
 ghost use Rattle.chunk_reader.specs.Faults.{IsAllowed, IsVerdict, IsLongest, BeginsWithSignature, HasNoFault, IsFault};
 ghost use Rattle.chunk_reader.specs.Places.{header_at, end_at, chunk_at, HaveHeadersOf};
 ghost use Rattle.chunk_reader.specs.Reasons.{Applies, NoneOf, IsFirstOf, strict_reasons};

@@ -1,5 +1,5 @@
-ghost use Rattle.std.specs.Prelude.{◌≡◌, ◌+◌, ◌^◌, ◌<◌, ◌≤◌, length, take, IfOk, IfSome, OnOk, OnErr};
-ghost use Rattle.record_io.specs.Outside.{Rose};
+ghost use Rattle.std.specs.Prelude.{◌≡◌, ◌+◌, ◌^◌, ◌<◌, ◌≤◌, length, take, IfOk, IfSome, OnOk, OnErr, IsErr};
+ghost use Rattle.record_io.specs.Calls.{OnlyAsks};
 ghost use Rattle.chunk_reader.specs.Places.{HasRoom};
 ghost use Rattle.block_layout.specs.Layout.{IsNextPlace, block_of, block_size, usable_from, end_of, own_bytes_at};
 
@@ -36,12 +36,7 @@ impl OwnBytes {
         ensures moved { OnOk result (self.new.place ≡ end_of self.old.place (length buf.old)) }
         ensures given { OnOk result (IfSome (S.bytes store.old) (λ file. buf.new ≡ own_bytes_at file self.old.place (length buf.old))) }
         ensures handed { S.handed store.new ≤ S.handed store.old + length buf.old }
-        ensures same_bytes { S.bytes store.new ≡ S.bytes store.old }
-        ensures same_told { S.told store.new ≡ S.told store.old }
-        ensures same_name { S.name store.new ≡ S.name store.old }
-        ensures cause { OnErr result (Rose (S.faults store.old) (S.faults store.new)) }
-        ensures never_falls { S.faults store.old ≤ S.faults store.new }
-        ensures small { S.faults store.old < 2 ^ 64 → S.faults store.new < 2 ^ 64 }
+        ensures store { OnlyAsks S.bytes S.told S.name S.faults (IsErr result) store.old store.new }
     {
         let mut filled = 0;
         while filled < buf.len() {
@@ -66,12 +61,7 @@ impl OwnBytes {
         ensures given { IfOk result (λ n. IfSome (S.bytes store.old) (λ file. take n buf.new ≡ own_bytes_at file self.old.place n)) }
         ensures handed { IfOk result (λ n. S.handed store.new ≤ S.handed store.old + n) }
         ensures handed_at_most { S.handed store.new ≤ S.handed store.old + length buf.old }
-        ensures same_bytes { S.bytes store.new ≡ S.bytes store.old }
-        ensures same_told { S.told store.new ≡ S.told store.old }
-        ensures same_name { S.name store.new ≡ S.name store.old }
-        ensures cause { OnErr result (Rose (S.faults store.old) (S.faults store.new)) }
-        ensures never_falls { S.faults store.old ≤ S.faults store.new }
-        ensures small { S.faults store.old < 2 ^ 64 → S.faults store.new < 2 ^ 64 }
+        ensures store { OnlyAsks S.bytes S.told S.name S.faults (IsErr result) store.old store.new }
     {
         let first = usable_from(self.place);
         let run = buf.len().min((BLOCK_SIZE - first % BLOCK_SIZE) as usize);

@@ -1,5 +1,5 @@
-ghost use Rattle.std.specs.Prelude.{◌≡◌, ◌+◌, ◌^◌, ◌<◌, ◌≤◌, Some, IfSome, OnOk};
-ghost use Rattle.record_io.specs.Outside.{Rose};
+ghost use Rattle.std.specs.Prelude.{◌≡◌, ◌+◌, ◌^◌, ◌<◌, ◌≤◌, Some, IfSome, OnOk, Err};
+ghost use Rattle.record_io.specs.Calls.{OnlyAsks};
 ghost use Rattle.chunk_reader.specs.Faults.{BeginsWithSignature};
 ghost use Rattle.chunk_reader.specs.Progress.{counted};
 ghost use Rattle.chunk_reader.specs.declared.reasons.Fault.{Fault};
@@ -16,12 +16,7 @@ pub(crate) fn check_signature<S: Store>(store: &mut S, size: u64) -> Result<(), 
     ensures refused { (fault : Fault) → result ≡ Err (VerifyEnd.Refused fault) → (fault.at ≡ 0) × (fault.why ≡ Why.NoSignature)
         × IfSome (S.bytes store.old) (λ file. ¬ BeginsWithSignature file) }
     ensures handed { S.handed store.new ≤ S.handed store.old + 64 }
-    ensures same_bytes { S.bytes store.new ≡ S.bytes store.old }
-    ensures same_told { S.told store.new ≡ S.told store.old }
-    ensures same_name { S.name store.new ≡ S.name store.old }
-    ensures cause { result ≡ Err VerifyEnd.Store → Rose (S.faults store.old) (S.faults store.new) }
-    ensures never_falls { S.faults store.old ≤ S.faults store.new }
-    ensures small { S.faults store.old < 2 ^ 64 → S.faults store.new < 2 ^ 64 }
+    ensures store { OnlyAsks S.bytes S.told S.name S.faults (result ≡ Err VerifyEnd.Store) store.old store.new }
 {
     let mut bytes = [0; SIGNATURE.len()];
     if size >= bytes.len() as u64 {

@@ -1,5 +1,5 @@
-ghost use Rattle.std.specs.Prelude.{◌≡◌, ◌+◌, ◌^◌, ◌<◌, ◌≤◌, List, Some, true, IfOk, IfSome, IsSomeAnd, OnOk};
-ghost use Rattle.record_io.specs.Outside.{Rose};
+ghost use Rattle.std.specs.Prelude.{◌≡◌, ◌+◌, ◌^◌, ◌<◌, ◌≤◌, List, Some, true, IfOk, IfSome, IsSomeAnd, OnOk, Err};
+ghost use Rattle.record_io.specs.Calls.{OnlyAsks};
 ghost use Rattle.block_layout.specs.Layout.{chunk_header_size, IsBoundary, end_of, own_bytes_at};
 ghost use Rattle.chunk_header.specs.Chunks.{ChunkValue};
 ghost use Rattle.chunk_header.specs.Views.{value_of_header};
@@ -39,12 +39,7 @@ pub fn verify<S: Store>(store: &mut S, size: u64) -> Result<Totals, VerifyEnd>
     ensures refused { (fault : Fault) → result ≡ Err (VerifyEnd.Refused fault)
         → IfSome (S.bytes store.old) (λ file. IsFault true file fault) }
     ensures handed { S.handed store.new ≤ S.handed store.old + (64 + size) }
-    ensures same_bytes { S.bytes store.new ≡ S.bytes store.old }
-    ensures same_told { S.told store.new ≡ S.told store.old }
-    ensures same_name { S.name store.new ≡ S.name store.old }
-    ensures cause { result ≡ Err VerifyEnd.Store → Rose (S.faults store.old) (S.faults store.new) }
-    ensures never_falls { S.faults store.old ≤ S.faults store.new }
-    ensures small { S.faults store.old < 2 ^ 64 → S.faults store.new < 2 ^ 64 }
+    ensures store { OnlyAsks S.bytes S.told S.name S.faults (result ≡ Err VerifyEnd.Store) store.old store.new }
 {
     check_signature(store, size)?;
     let mut totals = NO_CHUNKS;
@@ -76,12 +71,7 @@ fn verify_at<S: Store>(store: &mut S, size: u64, at: u64) -> Result<Verified, Ve
         → IfSome (S.bytes store.old) (λ file. IsVerdict true file at fault) }
     ensures handed { IfOk result (λ v. S.handed store.new + at ≤ S.handed store.old + v.end) }
     ensures handed_at_most { S.handed store.new + at ≤ S.handed store.old + size }
-    ensures same_bytes { S.bytes store.new ≡ S.bytes store.old }
-    ensures same_told { S.told store.new ≡ S.told store.old }
-    ensures same_name { S.name store.new ≡ S.name store.old }
-    ensures cause { result ≡ Err VerifyEnd.Store → Rose (S.faults store.old) (S.faults store.new) }
-    ensures never_falls { S.faults store.old ≤ S.faults store.new }
-    ensures small { S.faults store.old < 2 ^ 64 → S.faults store.new < 2 ^ 64 }
+    ensures store { OnlyAsks S.bytes S.told S.name S.faults (result ≡ Err VerifyEnd.Store) store.old store.new }
 {
     let (header, end) = whole_head_at(store, size, at)?;
     match judge_data(store, at, end, &header)?.finish() {
@@ -112,12 +102,7 @@ fn judge_data<S: Store>(
     ensures wrong { (fault : Fault) → result ≡ Err (VerifyEnd.Refused fault) → (fault.why ≡ Why.BlockHeader)
         × IfSome (S.bytes store.old) (λ file. IsFirstWrong file at end at end fault.at) }
     ensures handed { S.handed store.new + (at + chunk_header_size) ≤ S.handed store.old + end }
-    ensures same_bytes { S.bytes store.new ≡ S.bytes store.old }
-    ensures same_told { S.told store.new ≡ S.told store.old }
-    ensures same_name { S.name store.new ≡ S.name store.old }
-    ensures cause { result ≡ Err VerifyEnd.Store → Rose (S.faults store.old) (S.faults store.new) }
-    ensures never_falls { S.faults store.old ≤ S.faults store.new }
-    ensures small { S.faults store.old < 2 ^ 64 → S.faults store.new < 2 ^ 64 }
+    ensures store { OnlyAsks S.bytes S.told S.name S.faults (result ≡ Err VerifyEnd.Store) store.old store.new }
 {
     let mut pass = ChunkPass::start(store, at, header_end(at), end)?;
     let judge = feed_data(store, &mut pass, header)?;
@@ -146,12 +131,7 @@ fn feed_data<S: Store>(
         × IfSome (S.bytes store.old) (λ file. IsFirstWrong file pass.old.begin pass.old.end pass.old.own.place pass.old.end fault.at) }
     ensures handed { OnOk result (S.handed store.new + pass.old.own.place ≤ S.handed store.old + pass.new.own.place) }
     ensures handed_at_most { S.handed store.new + pass.old.own.place ≤ S.handed store.old + pass.old.end }
-    ensures same_bytes { S.bytes store.new ≡ S.bytes store.old }
-    ensures same_told { S.told store.new ≡ S.told store.old }
-    ensures same_name { S.name store.new ≡ S.name store.old }
-    ensures cause { result ≡ Err VerifyEnd.Store → Rose (S.faults store.old) (S.faults store.new) }
-    ensures never_falls { S.faults store.old ≤ S.faults store.new }
-    ensures small { S.faults store.old < 2 ^ 64 → S.faults store.new < 2 ^ 64 }
+    ensures store { OnlyAsks S.bytes S.told S.name S.faults (result ≡ Err VerifyEnd.Store) store.old store.new }
 {
     let mut judge = PieceJudge::new(header);
     let mut piece = [0; PIECE];

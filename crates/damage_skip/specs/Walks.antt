@@ -1,5 +1,5 @@
 -- How far a file was walked, and what was given of it. Own.
-use Rattle.std.specs.Prelude.{◌≡◌, ℕ, ◌≤◌, ◌<◌, Bool, true, false, Option, Some, None, Result, Ok, Err, IfSome, ⊤, List, [], ◌∷◌}
+use Rattle.std.specs.Prelude.{◌≡◌, ℕ, ◌≤◌, ◌<◌, ◌^◌, Bool, true, false, Option, Some, None, Result, Ok, Err, IfSome, ⊤, List, [], ◌∷◌}
 use Rattle.std.specs.Fn.{Shared, FnReturnsAt}
 use denote.Ref.{Bor}
 use Rattle.chunk_header.specs.SimpleChunks.{IsSimple}
@@ -13,6 +13,7 @@ use Rattle.damage_skip.specs.declared.events.WalkEnd.TheVariants as walk
 use Rattle.damage_skip.specs.declared.pieces.Piece as code
 use Rattle.damage_skip.specs.declared.pieces.What.{What}
 use Rattle.damage_skip.specs.declared.pieces.What.TheVariants as what
+use Rattle.damage_skip.specs.declared.progress.Progress.{Progress}
 use Rattle.damage_skip.specs.declared.regions.Region.{Region}
 use Rattle.damage_skip.specs.Pieces.{Piece, Given, Kept, Skipped, IsPieceOf, AreTiles}
 pub use Rattle.damage_skip.specs.Pieces.{GoesOn}
@@ -41,6 +42,13 @@ abbrev pub IsStoppedAt : Bool → List ℕ → ℕ → Option Region → Type 0
 IsStoppedAt keep file place stopped =
     IfSome stopped (λ region. (region.begin ≡ place) × IsPieceOf keep file place region.end (Skipped region.why))
 
+-- a walk stands in a file of the size that was told: at a piece of it or at its end, and where it has stopped, at that region
+pub record StandsIn (file : Option (List ℕ)) (told : Option ℕ) (at : Progress) : Type 0 where
+  pub size : told ≡ Some at.size
+  pub in_reach : at.size ≤ 2 ^ 60
+  pub met : IfSome file (λ bytes. IsMet at.keep bytes at.place)
+  pub stopped_there : IfSome file (λ bytes. IsStoppedAt at.keep bytes at.place at.stopped)
+
 -- the chunk of an event is intact, and holds the records that are given
 abbrev pub IsIntactIn : Event → Type 0
 IsIntactIn (event.Records begin records chunk) = IsIntact chunk × IsSimple (value_of_chunk chunk) records
@@ -53,6 +61,11 @@ pub record IsEventIn (from to : ℕ) (e : Event) : Type 0 where
   pub rises : (piece_of e).begin < (piece_of e).end
   pub to_place : (piece_of e).end ≡ to
   pub intact : IsIntactIn e
+
+-- an event that a test lets pass, where it is a region
+pub record IsAllowedEvent {F : Type 0} (test : Shared F (Bor Region × Unit {0}) Bool) (f : F) (from to : ℕ) (e : Event) : Type 0 where
+  pub bounds : IsEventIn from to e
+  pub allowed : (region : Region) → e ≡ event.Skipped region → FnReturnsAt test f region true
 
 -- what is told of what a piece from a place up to another is, if it is an event
 abbrev pub what_event : (begin end : ℕ) → What → Option Event
@@ -70,6 +83,11 @@ pub record IsStop (size place : ℕ) (region : Region) : Type 0 where
   pub begin : region.begin ≡ place
   pub onward : IsOnward size place region.end
 
+-- the same where it is one that a test refuses
+pub record IsRefusedStop {F : Type 0} (test : Shared F (Bor Region × Unit {0}) Bool) (f : F) (size place : ℕ) (region : Region) : Type 0 where
+  pub stop : IsStop size place region
+  pub refused : FnReturnsAt test f region false
+
 -- what a call of a walk gives
 abbrev pub events_of : Result (Option Event) WalkEnd → List Piece
 events_of (Ok (Some e)) = piece_of e ∷ []
@@ -79,6 +97,14 @@ events_of other = []
 abbrev pub stop_of : Result (Option Event) WalkEnd → Option Region
 stop_of (Err (walk.Stopped region)) = Some region
 stop_of other = None
+
+-- a walk went on in its file, past these events, and stops where the call does
+pub record WalksOn (file : Option (List ℕ)) (before after : Progress) (result : Result (Option Event) WalkEnd) : Type 0 where
+  pub same_size : after.size ≡ before.size
+  pub same_keep : after.keep ≡ before.keep
+  pub rises : before.place ≤ after.place
+  pub past : IfSome file (λ bytes. GoesOn before.keep bytes before.place after.place (events_of result))
+  pub stopped : after.stopped ≡ stop_of result
 
 -- the region that a piece is at a place, where a test refuses it, or none where the test allows it or the piece is none
 abbrev pub Refuses : {F : Type 0} → Shared F (Bor Region × Unit {0}) Bool → F → ℕ → code.Piece → Option Region → Type 0

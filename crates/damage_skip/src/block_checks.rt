@@ -1,5 +1,5 @@
-ghost use Rattle.std.specs.Prelude.{◌≡◌, ℕ, ◌+◌, ◌-◌, ◌^◌, ◌<◌, ◌≤◌, ◌↔◌, Some, IsTrue, IfOk, IfSome, OnErr};
-ghost use Rattle.record_io.specs.Outside.{Rose};
+ghost use Rattle.std.specs.Prelude.{◌≡◌, ℕ, ◌+◌, ◌-◌, ◌^◌, ◌<◌, ◌≤◌, ◌↔◌, Some, IsTrue, IfOk, IfSome, IsErr};
+ghost use Rattle.record_io.specs.Calls.{OnlyAsks};
 ghost use Rattle.block_layout.specs.Layout.{IsBlock, block_size};
 ghost use Rattle.block_layout.specs.BlockHeaders.{IsSane};
 ghost use Rattle.damage_skip.specs.Steps.{IsOnward, IsEndOf, IsHeaderAt, LeadsTo};
@@ -30,11 +30,7 @@ pub(crate) fn sane_header_at<S: Store>(
     requires below { block < size }
     ensures sane { IfOk result (λ found. IfSome found (λ header. IsSane block header.previous header.next)) }
     ensures found { IfOk result (λ found. IfSome (S.bytes store.old) (λ file. IsHeaderAt file block found)) }
-    ensures same_bytes { S.bytes store.new ≡ S.bytes store.old }
-    ensures same_told { S.told store.new ≡ S.told store.old }
-    ensures same_name { S.name store.new ≡ S.name store.old }
-    ensures cause { OnErr result (Rose (S.faults store.old) (S.faults store.new)) }
-    ensures never_falls { S.faults store.old ≤ S.faults store.new }
+    ensures store { OnlyAsks S.bytes S.told S.name S.faults (IsErr result) store.old store.new }
 {
     if size - block < BLOCK_HEADER_SIZE {
         return Ok(None);
@@ -71,11 +67,7 @@ impl Span {
         ensures onward { IfOk result (λ landing. IfSome landing (λ to. IsOnward size self.begin to)) }
         ensures leads { (end : ℕ) → IsEndOf self.end end
             → IfOk result (λ landing. IfSome (S.bytes store.old) (λ file. LeadsTo file self.begin end block (block + 1) landing)) }
-        ensures same_bytes { S.bytes store.new ≡ S.bytes store.old }
-        ensures same_told { S.told store.new ≡ S.told store.old }
-        ensures same_name { S.name store.new ≡ S.name store.old }
-        ensures cause { OnErr result (Rose (S.faults store.old) (S.faults store.new)) }
-        ensures never_falls { S.faults store.old ≤ S.faults store.new }
+        ensures store { OnlyAsks S.bytes S.told S.name S.faults (IsErr result) store.old store.new }
     {
         let Some(header) = sane_header_at(store, size, block)? else {
             return Ok(None);
@@ -103,11 +95,7 @@ impl Span {
         ensures onward { IfOk result (λ landing. IfSome landing (λ place. IsOnward size self.begin place)) }
         ensures leads { (end : ℕ) → IsEndOf self.end end
             → IfOk result (λ landing. IfSome (S.bytes store.old) (λ file. LeadsTo file self.begin end from to landing)) }
-        ensures same_bytes { S.bytes store.new ≡ S.bytes store.old }
-        ensures same_told { S.told store.new ≡ S.told store.old }
-        ensures same_name { S.name store.new ≡ S.name store.old }
-        ensures cause { OnErr result (Rose (S.faults store.old) (S.faults store.new)) }
-        ensures never_falls { S.faults store.old ≤ S.faults store.new }
+        ensures store { OnlyAsks S.bytes S.told S.name S.faults (IsErr result) store.old store.new }
     {
         let mut block = next_block(from);
         while block < to {

@@ -1,5 +1,5 @@
-ghost use Rattle.std.specs.Prelude.{◌≡◌, ℕ, ◌+◌, ◌^◌, ◌<◌, ◌≤◌, List, length, take, Some, None, IfOk, IfSome, OnErr};
-ghost use Rattle.record_io.specs.Outside.{Rose};
+ghost use Rattle.std.specs.Prelude.{◌≡◌, ℕ, ◌+◌, ◌^◌, ◌<◌, ◌≤◌, List, length, take, Some, None, IfOk, IfSome, IsErr, Err};
+ghost use Rattle.record_io.specs.Calls.{OnlyAsks};
 ghost use Rattle.block_layout.specs.Layout.{chunk_header_size, IsBoundary, end_of, own_bytes_at};
 ghost use Rattle.chunk_header.specs.Views.{value_of_header};
 ghost use Rattle.meta_chunk.specs.Files.{max_data_size};
@@ -43,11 +43,7 @@ pub(crate) fn load<S: Store>(
     requires small { header.data_size ≤ max_data_size }
     ensures loaded { IfOk result (λ loaded. IsLoadOf size at header loaded) }
     ensures sound { IfOk result (λ loaded. IfSome (S.bytes store.old) (λ file. IsLoadIn file at end header loaded)) }
-    ensures same_bytes { S.bytes store.new ≡ S.bytes store.old }
-    ensures same_told { S.told store.new ≡ S.told store.old }
-    ensures same_name { S.name store.new ≡ S.name store.old }
-    ensures cause { result ≡ Err LoadEnd.Store → Rose (S.faults store.old) (S.faults store.new) }
-    ensures never_falls { S.faults store.old ≤ S.faults store.new }
+    ensures store { OnlyAsks S.bytes S.told S.name S.faults (result ≡ Err LoadEnd.Store) store.old store.new }
 {
     match read_data(alloc, store, size, at, end, header.data_size)? {
         Read::Data(data) => {
@@ -89,11 +85,7 @@ fn read_data<S: Store>(
     ensures onward { (to : ℕ) → result ≡ Ok (Read.Contradicted to) → IsOnward size at to }
     ensures leads { (to : ℕ) → result ≡ Ok (Read.Contradicted to)
         → IfSome (S.bytes store.old) (λ file. LeadsTo file at end at end (Some to)) }
-    ensures same_bytes { S.bytes store.new ≡ S.bytes store.old }
-    ensures same_told { S.told store.new ≡ S.told store.old }
-    ensures same_name { S.name store.new ≡ S.name store.old }
-    ensures cause { result ≡ Err LoadEnd.Store → Rose (S.faults store.old) (S.faults store.new) }
-    ensures never_falls { S.faults store.old ≤ S.faults store.new }
+    ensures store { OnlyAsks S.bytes S.told S.name S.faults (result ≡ Err LoadEnd.Store) store.old store.new }
 {
     let span = Span {
         begin: at,
@@ -165,11 +157,7 @@ fn take<S: Store>(
     ensures onward { (to : ℕ) → result ≡ Ok (Taken.Contradicted to) → IsOnward size span.begin to }
     ensures leads { (to end : ℕ) → result ≡ Ok (Taken.Contradicted to) → IsEndOf span.end end
         → IfSome (S.bytes store.old) (λ file. LeadsTo file span.begin end own.old.place (own.old.place + 1) (Some to)) }
-    ensures same_bytes { S.bytes store.new ≡ S.bytes store.old }
-    ensures same_told { S.told store.new ≡ S.told store.old }
-    ensures same_name { S.name store.new ≡ S.name store.old }
-    ensures cause { OnErr result (Rose (S.faults store.old) (S.faults store.new)) }
-    ensures never_falls { S.faults store.old ≤ S.faults store.new }
+    ensures store { OnlyAsks S.bytes S.told S.name S.faults (IsErr result) store.old store.new }
 {
     if own.place % BLOCK_SIZE == 0 {
         if let Some(landing) = span.contradicted_at(store, size, own.place)? {

@@ -1,5 +1,5 @@
-ghost use Rattle.std.specs.Prelude.{◌≡◌, ◌↔◌, ℕ, ◌^◌, ◌<◌, ◌≤◌, ◌⊎◌, Some, IsTrue, IfOk, IfSome, OnErr};
-ghost use Rattle.record_io.specs.Outside.{Rose};
+ghost use Rattle.std.specs.Prelude.{◌≡◌, ◌↔◌, ℕ, ◌^◌, ◌<◌, ◌≤◌, ◌⊎◌, Some, IsTrue, IfOk, IfSome, OnErr, IsErr, Err};
+ghost use Rattle.record_io.specs.Calls.{OnlyAsks};
 ghost use Rattle.block_layout.specs.Layout.{IsBoundary};
 ghost use Rattle.chunk_header.specs.Views.{IsHeader, HasRightHash, value_of_header};
 ghost use Rattle.chunk_reader.specs.Heads.{IsHead};
@@ -56,11 +56,7 @@ pub(crate) fn piece_at<S: Store>(
     ensures piece { IfOk result (λ piece. IsPieceFrom size at piece) }
     ensures sound { IfOk result (λ piece. IfSome (S.bytes store.old) (λ file. IsPieceOf keep file at piece.end (value_of_what piece.what))) }
     ensures memory { result ≡ Err LoadEnd.Memory → IfSome (S.bytes store.old) (λ file. NoneOf (Applies file at) loading_reasons) }
-    ensures same_bytes { S.bytes store.new ≡ S.bytes store.old }
-    ensures same_told { S.told store.new ≡ S.told store.old }
-    ensures same_name { S.name store.new ≡ S.name store.old }
-    ensures cause { result ≡ Err LoadEnd.Store → Rose (S.faults store.old) (S.faults store.new) }
-    ensures never_falls { S.faults store.old ≤ S.faults store.new }
+    ensures store { OnlyAsks S.bytes S.told S.name S.faults (result ≡ Err LoadEnd.Store) store.old store.new }
 {
     match head_at(store, size, at)? {
         Head::Short => Ok(skipped(resync(store, size, at)?, Why::Short)),
@@ -89,11 +85,7 @@ fn headed_piece<S: Store>(
     ensures piece { IfOk result (λ piece. IsPieceFrom size at piece) }
     ensures sound { IfOk result (λ piece. IfSome (S.bytes store.old) (λ file. IsPieceOf keep file at piece.end (value_of_what piece.what))) }
     ensures memory { result ≡ Err LoadEnd.Memory → IfSome (S.bytes store.old) (λ file. NoneOf (Applies file at) loading_reasons) }
-    ensures same_bytes { S.bytes store.new ≡ S.bytes store.old }
-    ensures same_told { S.told store.new ≡ S.told store.old }
-    ensures same_name { S.name store.new ≡ S.name store.old }
-    ensures cause { result ≡ Err LoadEnd.Store → Rose (S.faults store.old) (S.faults store.new) }
-    ensures never_falls { S.faults store.old ≤ S.faults store.new }
+    ensures store { OnlyAsks S.bytes S.told S.name S.faults (result ≡ Err LoadEnd.Store) store.old store.new }
 {
     let span = Span { begin: at, end };
     match end {
@@ -122,11 +114,7 @@ fn held_piece<S: Store>(
     ensures piece { IfOk result (λ piece. IsPieceFrom size at piece) }
     ensures sound { IfOk result (λ piece. IfSome (S.bytes store.old) (λ file. IsPieceOf keep file at piece.end (value_of_what piece.what))) }
     ensures memory { result ≡ Err LoadEnd.Memory → IfSome (S.bytes store.old) (λ file. NoneOf (Applies file at) loading_reasons) }
-    ensures same_bytes { S.bytes store.new ≡ S.bytes store.old }
-    ensures same_told { S.told store.new ≡ S.told store.old }
-    ensures same_name { S.name store.new ≡ S.name store.old }
-    ensures cause { result ≡ Err LoadEnd.Store → Rose (S.faults store.old) (S.faults store.new) }
-    ensures never_falls { S.faults store.old ≤ S.faults store.new }
+    ensures store { OnlyAsks S.bytes S.told S.name S.faults (result ≡ Err LoadEnd.Store) store.old store.new }
 {
     if header.data_size > MAX_DATA_SIZE {
         let span = Span {
@@ -159,11 +147,7 @@ fn unloaded_piece<S: Store>(
     ensures piece { IfOk result (λ piece. IsPieceFrom size span.begin piece) }
     ensures unloaded { (end : ℕ) → IsEndOf span.end end
         → IfOk result (λ piece. IfSome (S.bytes store.old) (λ file. IsUnloaded file span.begin end to why piece)) }
-    ensures same_bytes { S.bytes store.new ≡ S.bytes store.old }
-    ensures same_told { S.told store.new ≡ S.told store.old }
-    ensures same_name { S.name store.new ≡ S.name store.old }
-    ensures cause { OnErr result (Rose (S.faults store.old) (S.faults store.new)) }
-    ensures never_falls { S.faults store.old ≤ S.faults store.new }
+    ensures store { OnlyAsks S.bytes S.told S.name S.faults (IsErr result) store.old store.new }
 {
     match span.contradicted_between(store, size, span.begin, to)? {
         Some(landing) => Ok(skipped(landing, Why::Contradicted)),

@@ -1,5 +1,5 @@
-ghost use Rattle.std.specs.Prelude.{◌≡◌, ◌^◌, ◌<◌, ◌≤◌, OnOk, OnErr};
-ghost use Rattle.record_io.specs.Outside.{Rose, Takes, TakesFront};
+ghost use Rattle.std.specs.Prelude.{◌<◌};
+ghost use Rattle.record_io.specs.Calls.{PutsTo};
 ghost use Rattle.damage_skip.specs.Regions.{region_text};
 
 use chunk_reader::Why;
@@ -26,12 +26,7 @@ pub struct Region {
 ///
 /// `Failed` only where the sink failed. It took a front of the line.
 pub fn region_line<E: Sink>(sink: &mut E, word: &str, region: &Region) -> Result<(), Failed>
-    ensures whole { OnOk result (Takes (E.taken sink.old) (E.taken sink.new) (region_text word.now region.now)) }
-    ensures front { OnErr result (TakesFront (E.taken sink.old) (E.taken sink.new) (region_text word.now region.now)) }
-    ensures cause { OnErr result (Rose (E.faults sink.old) (E.faults sink.new)) }
-    ensures never_falls { E.faults sink.old ≤ E.faults sink.new }
-    ensures small { E.faults sink.old < 2 ^ 64 → E.faults sink.new < 2 ^ 64 }
-    ensures same_name { E.name sink.new ≡ E.name sink.old }
+    ensures sink { PutsTo E.taken E.lent E.faults result (region_text word.now region.now) sink.old sink.new }
 {
     let mut line = PutBuffer::<LINE>::new();
     line.put(sink, word.as_bytes())?;

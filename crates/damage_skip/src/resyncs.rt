@@ -1,5 +1,5 @@
-ghost use Rattle.std.specs.Prelude.{◌≡◌, ◌^◌, ◌<◌, ◌≤◌, ◌⊎◌, Some, IfOk, IfSome, OnErr};
-ghost use Rattle.record_io.specs.Outside.{Rose};
+ghost use Rattle.std.specs.Prelude.{◌≡◌, ◌^◌, ◌<◌, ◌≤◌, ◌⊎◌, Some, IfOk, IfSome, IsErr};
+ghost use Rattle.record_io.specs.Calls.{OnlyAsks};
 ghost use Rattle.block_layout.specs.Layout.{IsBoundary};
 ghost use Rattle.block_layout.specs.BlockHeaders.{IsSane};
 ghost use Rattle.damage_skip.specs.Resyncs.{IsResync, landing};
@@ -29,11 +29,7 @@ pub fn resync<S: Store>(store: &mut S, size: u64, from: u64) -> Result<u64, Fail
     ensures past { IfOk result (λ to. from < to) }
     ensures within { IfOk result (λ to. to ≤ size) }
     ensures boundary { IfOk result (λ to. IsBoundary to ⊎ (to ≡ size)) }
-    ensures same_bytes { S.bytes store.new ≡ S.bytes store.old }
-    ensures same_told { S.told store.new ≡ S.told store.old }
-    ensures same_name { S.name store.new ≡ S.name store.old }
-    ensures cause { OnErr result (Rose (S.faults store.old) (S.faults store.new)) }
-    ensures never_falls { S.faults store.old ≤ S.faults store.new }
+    ensures store { OnlyAsks S.bytes S.told S.name S.faults (IsErr result) store.old store.new }
 {
     let mut block = next_block(from);
     while block < size {

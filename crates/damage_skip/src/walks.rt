@@ -1,11 +1,9 @@
-ghost use Rattle.std.specs.Prelude.{◌≡◌, ◌^◌, ◌<◌, ◌≤◌, ◌⊎◌, ℕ, true, false, Ok, Err, Some, None, List, IfSome};
-ghost use Rattle.std.specs.Fn.{FnReturnsAt};
-ghost use Rattle.record_io.specs.Outside.{Rose};
-ghost use Rattle.block_layout.specs.Layout.{IsBoundary};
+ghost use Rattle.std.specs.Prelude.{◌≡◌, ◌^◌, ◌<◌, ◌≤◌, ℕ, Ok, Err, Some, None, List, IfSome};
+ghost use Rattle.record_io.specs.Calls.{OnlyAsks};
 ghost use Rattle.chunk_reader.specs.Reasons.{Applies, NoneOf, loading_reasons};
 ghost use Rattle.damage_skip.specs.Policies.{IsTest};
 ghost use Rattle.damage_skip.specs.Steps.{IsPieceFrom};
-ghost use Rattle.damage_skip.specs.Walks.{GoesOn, IsMet, IsStoppedAt, IsEventIn, IsStop, Refuses, event_of, events_of, stop_of};
+ghost use Rattle.damage_skip.specs.Walks.{IsMet, IsStoppedAt, StandsIn, WalksOn, IsAllowedEvent, IsRefusedStop, Refuses, event_of};
 ghost use Rattle.damage_skip.specs.Walkers.{progress_of, test_of};
 ghost use Rattle.damage_skip.specs.declared.events.Event.{Event};
 ghost use Rattle.damage_skip.specs.declared.regions.Region.{Region};
@@ -56,41 +54,21 @@ impl<F: Fn(&Region) -> bool + Drop> Walker<F> {
     /// call. `Store` only where the store failed. `Memory` only where a chunk is at hand whose header is right, which lies
     /// in the file and whose data isn't too large. After these two no event is lost, and the call may be made again.
     pub fn next<S: Store>(&mut self, alloc: Global, store: &mut S) -> Result<Option<Event>, WalkEnd>
-        requires told { S.told store.old ≡ Some (progress_of self.old).size }
-        requires in_reach { (progress_of self.old).size ≤ 2 ^ 60 }
+        requires stands { StandsIn (S.bytes store.old) (S.told store.old) (progress_of self.old) }
         requires test { IsTest F.Fn (test_of self.old) }
-        requires met { IfSome (S.bytes store.old) (λ file. IsMet (progress_of self.old).keep file (progress_of self.old).place) }
-        requires stopped_there { IfSome (S.bytes store.old) (λ file.
-            IsStoppedAt (progress_of self.old).keep file (progress_of self.old).place (progress_of self.old).stopped) }
-        ensures same_size { (progress_of self.new).size ≡ (progress_of self.old).size }
-        ensures same_keep { (progress_of self.new).keep ≡ (progress_of self.old).keep }
+        ensures stands { StandsIn (S.bytes store.old) (S.told store.old) (progress_of self.new) }
+        ensures goes_on { WalksOn (S.bytes store.old) (progress_of self.old) (progress_of self.new) result }
         ensures same_test { test_of self.new ≡ test_of self.old }
-        ensures rises { (progress_of self.old).place ≤ (progress_of self.new).place }
-        ensures within { (progress_of self.new).place ≤ (progress_of self.new).size }
-        ensures boundary { IsBoundary (progress_of self.new).place ⊎ ((progress_of self.new).place ≡ (progress_of self.new).size) }
-        ensures met { IfSome (S.bytes store.old) (λ file. IsMet (progress_of self.new).keep file (progress_of self.new).place) }
-        ensures stopped_there { IfSome (S.bytes store.old) (λ file.
-            IsStoppedAt (progress_of self.new).keep file (progress_of self.new).place (progress_of self.new).stopped) }
-        ensures goes_on { IfSome (S.bytes store.old) (λ file. GoesOn (progress_of self.old).keep file
-            (progress_of self.old).place (progress_of self.new).place (events_of result)) }
-        ensures bounds { (event : Event) → result ≡ Ok (Some event)
-            → IsEventIn (progress_of self.old).place (progress_of self.new).place event }
-        ensures allowed { (region : Region) → result ≡ Ok (Some (Event.Skipped region)) → FnReturnsAt F.Fn (test_of self.old) region true }
+        ensures event { (event : Event) → result ≡ Ok (Some event)
+            → IsAllowedEvent F.Fn (test_of self.old) (progress_of self.old).place (progress_of self.new).place event }
         ensures ended { result ≡ Ok None → (progress_of self.new).place ≡ (progress_of self.old).size }
-        ensures stopped { (progress_of self.new).stopped ≡ stop_of result }
-        ensures stop { (region : Region) → result ≡ Err (WalkEnd.Stopped region) → (progress_of self.old).stopped ≡ None
-            → IsStop (progress_of self.new).size (progress_of self.new).place region }
         ensures refused { (region : Region) → result ≡ Err (WalkEnd.Stopped region) → (progress_of self.old).stopped ≡ None
-            → FnReturnsAt F.Fn (test_of self.old) region false }
+            → IsRefusedStop F.Fn (test_of self.old) (progress_of self.new).size (progress_of self.new).place region }
         ensures again { (region : Region) → (progress_of self.old).stopped ≡ Some region
             → (result ≡ Err (WalkEnd.Stopped region)) × (self.new ≡ self.old) × (store.new ≡ store.old) }
         ensures memory { result ≡ Err WalkEnd.Memory
             → IfSome (S.bytes store.old) (λ file. NoneOf (Applies file (progress_of self.new).place) loading_reasons) }
-        ensures same_bytes { S.bytes store.new ≡ S.bytes store.old }
-        ensures same_told { S.told store.new ≡ S.told store.old }
-        ensures same_name { S.name store.new ≡ S.name store.old }
-        ensures cause { result ≡ Err WalkEnd.Store → Rose (S.faults store.old) (S.faults store.new) }
-        ensures never_falls { S.faults store.old ≤ S.faults store.new }
+        ensures store { OnlyAsks S.bytes S.told S.name S.faults (result ≡ Err WalkEnd.Store) store.old store.new }
     {
         if let Some(region) = self.progress.stopped {
             return Err(WalkEnd::Stopped(region));

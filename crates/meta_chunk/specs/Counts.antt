@@ -1,7 +1,7 @@
 -- What is counted over a file's chunks. Own.
 use Rattle.std.specs.Prelude.{Bool, not, ◌&&◌, ◌||◌, List, length, slice_index, count_by, ◌==◌, if◌then◌else◌}
 use Rattle.std.specs.List.{sum_by}
-use Rattle.record_io.specs.declared.file_totals.Totals.{Totals}
+use Rattle.record_values.specs.declared.file_totals.Totals.{Totals}
 use Rattle.chunk_header.specs.Chunks.{ChunkValue}
 use Rattle.chunk_header.specs.SimpleChunks.{simple_kind}
 use Rattle.meta_chunk.specs.Kinds.{transposed_kind}

@@ -1,5 +1,5 @@
 -- Bytes that are laid behind others.
-use Rattle.std.proofs.Common.{◌≡◌, ◌∙◌, ℕ, ◌+◌, ◌≤◌, Option, List, ◌++◌, length, drop, refl, sym, ap, subst, arith}
+use Rattle.std.proofs.Common.{◌≡◌, ◌∙◌, ℕ, ◌≤◌, Option, List, ◌++◌, length, drop, refl, sym, ap, subst, arith}
 use Rattle.std.proofs.lemmas.List.{drop_at, length-append}
 use Rattle.block_layout.specs.Layout.{room, end_of}
 use Rattle.block_layout.proofs.Ends.{end_of_after, end_of_mono, end_of-more}

@@ -1,6 +1,6 @@
 -- Whole chunks: their header, their data and the padding behind it.
-use Rattle.std.proofs.Common.{◌≡◌, ◌∙◌, ℕ, ◌+◌, ◌≤◌, Option, List, [], ◌++◌, length, drop, inl, inr, refl, sym, ap, subst, arith}
-use Rattle.std.proofs.lemmas.List.{drop_at, drop_all, length-append}
+use Rattle.std.proofs.Common.{◌≡◌, ◌∙◌, ℕ, ◌+◌, ◌≤◌, Option, List, [], ◌++◌, length, drop, inl, inr, refl, sym, ap, arith}
+use Rattle.std.proofs.lemmas.List.{drop_all, length-append}
 use Rattle.block_layout.specs.Layout.{IsBoundary, room, end_of, chunk_end_of, IsOnBoundary}
 use Rattle.block_layout.proofs.Ends.{end_of_after, end_of-more}
 use Rattle.record_io.specs.Outside.{TakesFront}

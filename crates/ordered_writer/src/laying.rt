@@ -1,9 +1,10 @@
 // A chunk laid piece by piece.
 
-ghost use Rattle.std.specs.Prelude.{◌≡◌, ◌+◌, ◌^◌, ◌<◌, ◌≤◌, [], ◌++◌, min, length, IfOk, OnOk, OnErr};
+ghost use Rattle.std.specs.Prelude.{◌≡◌, ◌+◌, ◌^◌, ◌<◌, ◌≤◌, [], ◌++◌, min, length, IfOk, OnOk, OnErr, IsErr};
 ghost use Rattle.block_layout.specs.Layout.{end_of, IsNextPlace, IsOnBoundary, usable_from};
-ghost use Rattle.record_io.specs.Outside.{Rose, TakesFront};
+ghost use Rattle.record_io.specs.Outside.{TakesFront};
 ghost use Rattle.record_io.specs.Buffers.{TakesAndHolds};
+ghost use Rattle.record_io.specs.Calls.{OnlyCounts, PutsThrough};
 ghost use Rattle.meta_chunk.specs.Laid.{laid_bytes};
 ghost use Rattle.ordered_writer.specs.Layings.{laid_between};
 
@@ -27,16 +28,9 @@ pub(crate) fn lay_chunk<const N: usize, M: Sink>(
     requires from_boundary { IsOnBoundary begin }
     requires to_boundary { IsOnBoundary end }
     requires in_reach { end ≤ 2 ^ 62 }
-    ensures whole { OnOk result (TakesAndHolds (M.taken sink.old) (M.taken sink.new)
-        (buffer.old ++ laid_bytes begin end (header.now ++ (front.now ++ rest.now))) buffer.new) }
-    ensures front { OnErr result (TakesFront (M.taken sink.old) (M.taken sink.new)
-        (buffer.old ++ laid_bytes begin end (header.now ++ (front.now ++ rest.now)))) }
-    ensures emptied { OnErr result (buffer.new ≡ []) }
+    ensures sink { PutsThrough M.taken M.lent M.faults result buffer.old buffer.new
+        (laid_bytes begin end (header.now ++ (front.now ++ rest.now))) sink.old sink.new }
     ensures fits { length buffer.old ≤ N → length buffer.new ≤ N }
-    ensures cause { OnErr result (Rose (M.faults sink.old) (M.faults sink.new)) }
-    ensures never_falls { M.faults sink.old ≤ M.faults sink.new }
-    ensures small { M.faults sink.old < 2 ^ 64 → M.faults sink.new < 2 ^ 64 }
-    ensures same_name { M.name sink.new ≡ M.name sink.old }
 {
     let mut laying = Laying {
         begin,
@@ -73,17 +67,9 @@ impl Laying {
         ensures moved { OnOk result (self.new.place ≡ end_of self.old.place (length bytes.now)) }
         ensures same_begin { self.new.begin ≡ self.old.begin }
         ensures same_end { self.new.end ≡ self.old.end }
-        ensures whole { OnOk result (TakesAndHolds (M.taken sink.old) (M.taken sink.new)
-            (buffer.old ++ laid_between self.old.begin self.old.end self.old.place (end_of self.old.place (length bytes.now)) bytes.now)
-            buffer.new) }
-        ensures front { OnErr result (TakesFront (M.taken sink.old) (M.taken sink.new)
-            (buffer.old ++ laid_between self.old.begin self.old.end self.old.place (end_of self.old.place (length bytes.now)) bytes.now)) }
-        ensures emptied { OnErr result (buffer.new ≡ []) }
+        ensures sink { PutsThrough M.taken M.lent M.faults result buffer.old buffer.new
+            (laid_between self.old.begin self.old.end self.old.place (end_of self.old.place (length bytes.now)) bytes.now) sink.old sink.new }
         ensures fits { length buffer.old ≤ N → length buffer.new ≤ N }
-        ensures cause { OnErr result (Rose (M.faults sink.old) (M.faults sink.new)) }
-        ensures never_falls { M.faults sink.old ≤ M.faults sink.new }
-        ensures small { M.faults sink.old < 2 ^ 64 → M.faults sink.new < 2 ^ 64 }
-        ensures same_name { M.name sink.new ≡ M.name sink.old }
     {
         let mut at = 0;
         while at < bytes.len() {
@@ -104,18 +90,10 @@ impl Laying {
         ensures moved { OnOk result (self.new.place ≡ end_of self.old.place (length (front.now ++ rest.now))) }
         ensures same_begin { self.new.begin ≡ self.old.begin }
         ensures same_end { self.new.end ≡ self.old.end }
-        ensures whole { OnOk result (TakesAndHolds (M.taken sink.old) (M.taken sink.new)
-            (buffer.old ++ laid_between self.old.begin self.old.end self.old.place
-            (end_of self.old.place (length (front.now ++ rest.now))) (front.now ++ rest.now)) buffer.new) }
-        ensures front { OnErr result (TakesFront (M.taken sink.old) (M.taken sink.new)
-            (buffer.old ++ laid_between self.old.begin self.old.end self.old.place
-            (end_of self.old.place (length (front.now ++ rest.now))) (front.now ++ rest.now))) }
-        ensures emptied { OnErr result (buffer.new ≡ []) }
+        ensures sink { PutsThrough M.taken M.lent M.faults result buffer.old buffer.new
+            (laid_between self.old.begin self.old.end self.old.place
+            (end_of self.old.place (length (front.now ++ rest.now))) (front.now ++ rest.now)) sink.old sink.new }
         ensures fits { length buffer.old ≤ N → length buffer.new ≤ N }
-        ensures cause { OnErr result (Rose (M.faults sink.old) (M.faults sink.new)) }
-        ensures never_falls { M.faults sink.old ≤ M.faults sink.new }
-        ensures small { M.faults sink.old < 2 ^ 64 → M.faults sink.new < 2 ^ 64 }
-        ensures same_name { M.name sink.new ≡ M.name sink.old }
     {
         self.put(buffer, sink, front)?;
         self.put(buffer, sink, rest)
@@ -127,16 +105,9 @@ impl Laying {
         buffer: &mut PutBuffer<N>,
         sink: &mut M,
     ) -> Result<(), Failed>
-        ensures whole { OnOk result (TakesAndHolds (M.taken sink.old) (M.taken sink.new)
-            (buffer.old ++ laid_between self.old.begin self.old.end self.old.place self.old.end []) buffer.new) }
-        ensures front { OnErr result (TakesFront (M.taken sink.old) (M.taken sink.new)
-            (buffer.old ++ laid_between self.old.begin self.old.end self.old.place self.old.end [])) }
-        ensures emptied { OnErr result (buffer.new ≡ []) }
+        ensures sink { PutsThrough M.taken M.lent M.faults result buffer.old buffer.new
+            (laid_between self.old.begin self.old.end self.old.place self.old.end []) sink.old sink.new }
         ensures fits { length buffer.old ≤ N → length buffer.new ≤ N }
-        ensures cause { OnErr result (Rose (M.faults sink.old) (M.faults sink.new)) }
-        ensures never_falls { M.faults sink.old ≤ M.faults sink.new }
-        ensures small { M.faults sink.old < 2 ^ 64 → M.faults sink.new < 2 ^ 64 }
-        ensures same_name { M.name sink.new ≡ M.name sink.old }
     {
         while self.place < self.end {
             self.put_run(buffer, sink, &ZEROS)?;
@@ -166,10 +137,7 @@ impl Laying {
             (min (end_of self.old.place (length bytes.now)) self.old.end) bytes.now)) }
         ensures emptied { OnErr result (buffer.new ≡ []) }
         ensures fits { length buffer.new ≤ N }
-        ensures cause { OnErr result (Rose (M.faults sink.old) (M.faults sink.new)) }
-        ensures never_falls { M.faults sink.old ≤ M.faults sink.new }
-        ensures small { M.faults sink.old < 2 ^ 64 → M.faults sink.new < 2 ^ 64 }
-        ensures same_name { M.name sink.new ≡ M.name sink.old }
+        ensures sink { OnlyCounts M.lent M.faults (IsErr result) sink.old sink.new }
     {
         self.put_block_header(buffer, sink)?;
         let room = (BLOCK_SIZE - self.place % BLOCK_SIZE).min(self.end - self.place);
@@ -190,16 +158,8 @@ impl Laying {
         ensures before_end { OnOk result (self.new.place < self.new.end) }
         ensures same_begin { self.new.begin ≡ self.old.begin }
         ensures same_end { self.new.end ≡ self.old.end }
-        ensures whole { OnOk result (TakesAndHolds (M.taken sink.old) (M.taken sink.new)
-            (buffer.old ++ laid_between self.old.begin self.old.end self.old.place (usable_from self.old.place) [])
-            buffer.new) }
-        ensures front { OnErr result (TakesFront (M.taken sink.old) (M.taken sink.new)
-            (buffer.old ++ laid_between self.old.begin self.old.end self.old.place (usable_from self.old.place) [])) }
-        ensures emptied { OnErr result (buffer.new ≡ []) }
-        ensures cause { OnErr result (Rose (M.faults sink.old) (M.faults sink.new)) }
-        ensures never_falls { M.faults sink.old ≤ M.faults sink.new }
-        ensures small { M.faults sink.old < 2 ^ 64 → M.faults sink.new < 2 ^ 64 }
-        ensures same_name { M.name sink.new ≡ M.name sink.old }
+        ensures sink { PutsThrough M.taken M.lent M.faults result buffer.old buffer.new
+            (laid_between self.old.begin self.old.end self.old.place (usable_from self.old.place) []) sink.old sink.new }
     {
         if self.place % BLOCK_SIZE != 0 {
             return Ok(());

@@ -1,8 +1,7 @@
-ghost use Rattle.std.specs.Prelude.{◌≡◌, ◌+◌, ◌^◌, ◌<◌, ◌≤◌, ◌↔◌, false, [], ◌++◌, replicate, length, IsTrue, IfOk, OnOk, OnErr};
+ghost use Rattle.std.specs.Prelude.{◌≡◌, ◌+◌, ◌^◌, ◌<◌, ◌≤◌, ◌↔◌, false, ◌++◌, replicate, length, IsTrue, IfOk, OnOk, OnErr};
 ghost use Rattle.highway_hash.specs.Riegeli.{riegeli_hash};
 ghost use Rattle.block_layout.specs.Layout.{IsBoundary, chunk_header_size, chunk_end_of};
-ghost use Rattle.record_io.specs.Outside.{Rose, Takes, TakesFront};
-ghost use Rattle.record_io.specs.Buffers.{TakesAndHolds};
+ghost use Rattle.record_io.specs.Calls.{PutsTo, PutsThrough};
 ghost use Rattle.chunk_header.specs.Chunks.{header_bytes};
 ghost use Rattle.chunk_header.specs.Views.{bytes_of_header, value_of, value_of_chunk};
 ghost use Rattle.meta_chunk.specs.Laid.{laid_bytes, end_of_chunk};
@@ -84,12 +83,7 @@ impl OrderedWriter {
         ensures moved { OnOk result (self.new ≡ writer_at (end_of_chunk 0 signature)) }
         ensures at_64 { OnOk result (self.new.position ≡ 64) }
         ensures spent { OnErr result (self.new ≡ spent_writer_at self.old.position) }
-        ensures whole { OnOk result (Takes (M.taken sink.old) (M.taken sink.new) signature_bytes) }
-        ensures front { OnErr result (TakesFront (M.taken sink.old) (M.taken sink.new) signature_bytes) }
-        ensures cause { OnErr result (Rose (M.faults sink.old) (M.faults sink.new)) }
-        ensures never_falls { M.faults sink.old ≤ M.faults sink.new }
-        ensures small { M.faults sink.old < 2 ^ 64 → M.faults sink.new < 2 ^ 64 }
-        ensures same_name { M.name sink.new ≡ M.name sink.old }
+        ensures sink { PutsTo M.taken M.lent M.faults result signature_bytes sink.old sink.new }
     {
         self.start_into(&mut PutBuffer::<0>::new(), sink)
     }
@@ -105,12 +99,7 @@ impl OrderedWriter {
         ensures begin { IfOk result (λ begin. begin ≡ self.old.position) }
         ensures moved { OnOk result (self.new ≡ writer_at (end_of_chunk self.old.position (value_of_chunk chunk.now))) }
         ensures spent { OnErr result (self.new ≡ spent_writer_at self.old.position) }
-        ensures whole { OnOk result (Takes (M.taken sink.old) (M.taken sink.new) (laid_as self.old.position chunk.now)) }
-        ensures front { OnErr result (TakesFront (M.taken sink.old) (M.taken sink.new) (laid_as self.old.position chunk.now)) }
-        ensures cause { OnErr result (Rose (M.faults sink.old) (M.faults sink.new)) }
-        ensures never_falls { M.faults sink.old ≤ M.faults sink.new }
-        ensures small { M.faults sink.old < 2 ^ 64 → M.faults sink.new < 2 ^ 64 }
-        ensures same_name { M.name sink.new ≡ M.name sink.old }
+        ensures sink { PutsTo M.taken M.lent M.faults result (laid_as self.old.position chunk.now) sink.old sink.new }
     {
         self.put_into(&mut PutBuffer::<0>::new(), sink, chunk)
     }
@@ -126,14 +115,8 @@ impl OrderedWriter {
         requires in_reach { self.old.position ≤ 2 ^ 61 }
         ensures moved { OnOk result (self.new ≡ writer_at (end_of_chunks self.old.position (padding_at self.old.position))) }
         ensures spent { OnErr result (self.new ≡ spent_writer_at self.old.position) }
-        ensures whole { OnOk result (Takes (M.taken sink.old) (M.taken sink.new)
-            (laid_each self.old.position (padding_at self.old.position))) }
-        ensures front { OnErr result (TakesFront (M.taken sink.old) (M.taken sink.new)
-            (laid_each self.old.position (padding_at self.old.position))) }
-        ensures cause { OnErr result (Rose (M.faults sink.old) (M.faults sink.new)) }
-        ensures never_falls { M.faults sink.old ≤ M.faults sink.new }
-        ensures small { M.faults sink.old < 2 ^ 64 → M.faults sink.new < 2 ^ 64 }
-        ensures same_name { M.name sink.new ≡ M.name sink.old }
+        ensures sink { PutsTo M.taken M.lent M.faults result
+            (laid_each self.old.position (padding_at self.old.position)) sink.old sink.new }
     {
         self.pad_into(&mut PutBuffer::<0>::new(), sink)
     }
@@ -153,14 +136,8 @@ impl OrderedWriter {
         ensures moved { OnOk result (self.new ≡ writer_at (end_of_chunk 0 signature)) }
         ensures at_64 { OnOk result (self.new.position ≡ 64) }
         ensures spent { OnErr result (self.new ≡ spent_writer_at self.old.position) }
-        ensures whole { OnOk result (TakesAndHolds (M.taken sink.old) (M.taken sink.new) (buffer.old ++ signature_bytes) buffer.new) }
-        ensures front { OnErr result (TakesFront (M.taken sink.old) (M.taken sink.new) (buffer.old ++ signature_bytes)) }
-        ensures emptied { OnErr result (buffer.new ≡ []) }
+        ensures sink { PutsThrough M.taken M.lent M.faults result buffer.old buffer.new signature_bytes sink.old sink.new }
         ensures fits { length buffer.old ≤ N → length buffer.new ≤ N }
-        ensures cause { OnErr result (Rose (M.faults sink.old) (M.faults sink.new)) }
-        ensures never_falls { M.faults sink.old ≤ M.faults sink.new }
-        ensures small { M.faults sink.old < 2 ^ 64 → M.faults sink.new < 2 ^ 64 }
-        ensures same_name { M.name sink.new ≡ M.name sink.old }
     {
         self.spent = true;
         buffer.put(sink, &SIGNATURE)?;
@@ -185,16 +162,9 @@ impl OrderedWriter {
         ensures begin { IfOk result (λ begin. begin ≡ self.old.position) }
         ensures moved { OnOk result (self.new ≡ writer_at (end_of_chunk self.old.position (value_of_chunk chunk.now))) }
         ensures spent { OnErr result (self.new ≡ spent_writer_at self.old.position) }
-        ensures whole { OnOk result (TakesAndHolds (M.taken sink.old) (M.taken sink.new)
-            (buffer.old ++ laid_as self.old.position chunk.now) buffer.new) }
-        ensures front { OnErr result (TakesFront (M.taken sink.old) (M.taken sink.new)
-            (buffer.old ++ laid_as self.old.position chunk.now)) }
-        ensures emptied { OnErr result (buffer.new ≡ []) }
+        ensures sink { PutsThrough M.taken M.lent M.faults result buffer.old buffer.new
+            (laid_as self.old.position chunk.now) sink.old sink.new }
         ensures fits { length buffer.old ≤ N → length buffer.new ≤ N }
-        ensures cause { OnErr result (Rose (M.faults sink.old) (M.faults sink.new)) }
-        ensures never_falls { M.faults sink.old ≤ M.faults sink.new }
-        ensures small { M.faults sink.old < 2 ^ 64 → M.faults sink.new < 2 ^ 64 }
-        ensures same_name { M.name sink.new ≡ M.name sink.old }
     {
         self.put_parts_into(buffer, sink, &chunk.header, &[], chunk.bytes.as_slice())
     }
@@ -218,16 +188,9 @@ impl OrderedWriter {
         ensures begin { IfOk result (λ begin. begin ≡ self.old.position) }
         ensures moved { OnOk result (self.new ≡ writer_at (end_of_chunk self.old.position (value_of header.now (front.now ++ rest.now)))) }
         ensures spent { OnErr result (self.new ≡ spent_writer_at self.old.position) }
-        ensures whole { OnOk result (TakesAndHolds (M.taken sink.old) (M.taken sink.new)
-            (buffer.old ++ laid_with self.old.position header.now (front.now ++ rest.now)) buffer.new) }
-        ensures front { OnErr result (TakesFront (M.taken sink.old) (M.taken sink.new)
-            (buffer.old ++ laid_with self.old.position header.now (front.now ++ rest.now))) }
-        ensures emptied { OnErr result (buffer.new ≡ []) }
+        ensures sink { PutsThrough M.taken M.lent M.faults result buffer.old buffer.new
+            (laid_with self.old.position header.now (front.now ++ rest.now)) sink.old sink.new }
         ensures fits { length buffer.old ≤ N → length buffer.new ≤ N }
-        ensures cause { OnErr result (Rose (M.faults sink.old) (M.faults sink.new)) }
-        ensures never_falls { M.faults sink.old ≤ M.faults sink.new }
-        ensures small { M.faults sink.old < 2 ^ 64 → M.faults sink.new < 2 ^ 64 }
-        ensures same_name { M.name sink.new ≡ M.name sink.old }
     {
         let begin = self.position;
         self.lay(buffer, sink, header, front, rest)?;
@@ -248,16 +211,9 @@ impl OrderedWriter {
         requires in_reach { self.old.position ≤ 2 ^ 61 }
         ensures moved { OnOk result (self.new ≡ writer_at (end_of_chunks self.old.position (padding_at self.old.position))) }
         ensures spent { OnErr result (self.new ≡ spent_writer_at self.old.position) }
-        ensures whole { OnOk result (TakesAndHolds (M.taken sink.old) (M.taken sink.new)
-            (buffer.old ++ laid_each self.old.position (padding_at self.old.position)) buffer.new) }
-        ensures front { OnErr result (TakesFront (M.taken sink.old) (M.taken sink.new)
-            (buffer.old ++ laid_each self.old.position (padding_at self.old.position))) }
-        ensures emptied { OnErr result (buffer.new ≡ []) }
+        ensures sink { PutsThrough M.taken M.lent M.faults result buffer.old buffer.new
+            (laid_each self.old.position (padding_at self.old.position)) sink.old sink.new }
         ensures fits { length buffer.old ≤ N → length buffer.new ≤ N }
-        ensures cause { OnErr result (Rose (M.faults sink.old) (M.faults sink.new)) }
-        ensures never_falls { M.faults sink.old ≤ M.faults sink.new }
-        ensures small { M.faults sink.old < 2 ^ 64 → M.faults sink.new < 2 ^ 64 }
-        ensures same_name { M.name sink.new ≡ M.name sink.old }
     {
         let Some(size) = padding_size(self.position) else {
             return Ok(());
@@ -280,20 +236,10 @@ impl OrderedWriter {
         ensures moved { OnOk result (self.new
             ≡ writer_at (chunk_end_of self.old.position (chunk_header_size + header.now.data_size) header.now.num_records)) }
         ensures spent { OnErr result (self.new ≡ spent_writer_at self.old.position) }
-        ensures whole { OnOk result (TakesAndHolds (M.taken sink.old) (M.taken sink.new)
-            (buffer.old ++ laid_bytes self.old.position
-            (chunk_end_of self.old.position (chunk_header_size + header.now.data_size) header.now.num_records)
-            (bytes_of_header header.now ++ (front.now ++ rest.now))) buffer.new) }
-        ensures front { OnErr result (TakesFront (M.taken sink.old) (M.taken sink.new)
-            (buffer.old ++ laid_bytes self.old.position
-            (chunk_end_of self.old.position (chunk_header_size + header.now.data_size) header.now.num_records)
-            (bytes_of_header header.now ++ (front.now ++ rest.now)))) }
-        ensures emptied { OnErr result (buffer.new ≡ []) }
+        ensures sink { PutsThrough M.taken M.lent M.faults result buffer.old buffer.new
+            (laid_bytes self.old.position (chunk_end_of self.old.position (chunk_header_size + header.now.data_size) header.now.num_records)
+            (bytes_of_header header.now ++ (front.now ++ rest.now))) sink.old sink.new }
         ensures fits { length buffer.old ≤ N → length buffer.new ≤ N }
-        ensures cause { OnErr result (Rose (M.faults sink.old) (M.faults sink.new)) }
-        ensures never_falls { M.faults sink.old ≤ M.faults sink.new }
-        ensures small { M.faults sink.old < 2 ^ 64 → M.faults sink.new < 2 ^ 64 }
-        ensures same_name { M.name sink.new ≡ M.name sink.old }
     {
         let Some(end) = chunk_end(self.position, header.data_size, header.num_records) else {
             unreachable!();

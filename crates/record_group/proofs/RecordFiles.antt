@@ -6,7 +6,7 @@ use Rattle.std.specs.List.{AllByRecursion}
 use Rattle.std.proofs.lemmas.List.{take_all}
 use Rattle.std.proofs.lemmas.Grind.{flat_map-append}
 use Rattle.varint_wire.proofs.Spellings.{length-shortest}
-use Rattle.record_io.specs.Bytes.{AreBytes}
+use Rattle.record_values.specs.Bytes.{AreBytes}
 use Rattle.block_layout.specs.Layout.{IsBoundary}
 use Rattle.block_layout.proofs.ChunkEnds.{chunk_end_of_boundary}
 use Rattle.chunk_header.specs.Chunks.{ChunkValue, IsChunk}

@@ -1,7 +1,7 @@
 -- Records that can be written. Own.
 use Rattle.std.specs.Prelude.{ℕ, ◌^◌, ◌≤◌, List, length}
 use Rattle.std.specs.List.{AllByRecursion}
-use Rattle.record_io.specs.Bytes.{AreBytes}
+use Rattle.record_values.specs.Bytes.{AreBytes}
 
 -- a record: bytes, and at most 2 ^ 24 of them
 pub record IsRecord (record_bytes : List ℕ) : Type 0 where

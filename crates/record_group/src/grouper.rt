@@ -4,7 +4,7 @@ ghost use Rattle.simple_chunk.specs.Costs.{cost_of};
 ghost use Rattle.record_group.specs.Groups.{closes_before, groups, KeepsLimits};
 ghost use Rattle.record_group.specs.Groupings.{new_grouping, groups_from, IsPush};
 
-use record_io::Bytes;
+use record_values::Bytes;
 use simple_chunk::{RECORD_COST, Records};
 use std::alloc::{AllocError, Global};
 use std::marker::Model;

@@ -1,7 +1,6 @@
-pub mod Bytes
-pub mod Held
 pub mod Outside
 pub mod Buffers
+pub mod Calls
 pub mod Puts
 pub mod Memory
 pub mod Edge

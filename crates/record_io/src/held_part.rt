@@ -1,5 +1,5 @@
-ghost use Rattle.std.specs.Prelude.{◌≡◌, ◌+◌, ◌-◌, ◌^◌, ◌<◌, ◌≤◌, ◌↔◌, [], length, take, min, slice_range, Some, IsTrue, IfOk, IfSome, IsSomeAnd, OnOk, OnErr};
-ghost use Rattle.record_io.specs.Outside.{Rose};
+ghost use Rattle.std.specs.Prelude.{◌≡◌, ◌+◌, ◌-◌, ◌^◌, ◌<◌, ◌≤◌, ◌↔◌, [], length, take, min, slice_range, Some, IsTrue, IsErr, IfOk, IfSome, IsSomeAnd, OnOk, OnErr};
+ghost use Rattle.record_io.specs.Calls.{OnlyAsks};
 ghost use Rattle.record_io.specs.Buffers.{IsPartOf};
 
 use crate::outside::{Failed, Store};
@@ -52,10 +52,7 @@ impl<const N: usize> HeldPart<N> {
         ensures fits { IfOk result (λ n. n ≤ length buf.old) }
         ensures given { IfOk result (λ n. IfSome (S.bytes store.old) (λ file. take n buf.new ≡ slice_range file at (at + n))) }
         ensures part { IsPartOf (S.bytes store.new) self.new }
-        ensures same_bytes { S.bytes store.new ≡ S.bytes store.old }
-        ensures same_told { S.told store.new ≡ S.told store.old }
-        ensures same_name { S.name store.new ≡ S.name store.old }
-        ensures cause { OnErr result (Rose (S.faults store.old) (S.faults store.new)) }
+        ensures store { OnlyAsks S.bytes S.told S.name S.faults (IsErr result) store.old store.new }
     {
         if !self.holds(at) {
             if buf.len() >= N / 2 {
@@ -99,10 +96,7 @@ impl<const N: usize> HeldPart<N> {
         ensures some { OnOk result (0 < length self.new.bytes) }
         ensures part { IsPartOf (S.bytes store.new) self.new }
         ensures emptied { OnErr result (self.new.bytes ≡ []) }
-        ensures same_bytes { S.bytes store.new ≡ S.bytes store.old }
-        ensures same_told { S.told store.new ≡ S.told store.old }
-        ensures same_name { S.name store.new ≡ S.name store.old }
-        ensures cause { OnErr result (Rose (S.faults store.old) (S.faults store.new)) }
+        ensures store { OnlyAsks S.bytes S.told S.name S.faults (IsErr result) store.old store.new }
     {
         self.count = 0;
         let most = (size - at).min(N as u64) as usize;
@@ -119,10 +113,7 @@ fn ask<S: Store>(store: &mut S, at: u64, buf: &mut [u8]) -> Result<usize, Failed
     ensures some { IfOk result (λ n. 0 < n) }
     ensures fits { IfOk result (λ n. n ≤ length buf.old) }
     ensures given { IfOk result (λ n. IfSome (S.bytes store.old) (λ file. take n buf.new ≡ slice_range file at (at + n))) }
-    ensures same_bytes { S.bytes store.new ≡ S.bytes store.old }
-    ensures same_told { S.told store.new ≡ S.told store.old }
-    ensures same_name { S.name store.new ≡ S.name store.old }
-    ensures cause { OnErr result (Rose (S.faults store.old) (S.faults store.new)) }
+    ensures store { OnlyAsks S.bytes S.told S.name S.faults (IsErr result) store.old store.new }
 {
     store.read_at(at, buf)
 }

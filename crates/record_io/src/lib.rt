@@ -2,8 +2,6 @@
 //! counts are in bytes or calls. Own, as a whole.
 #![tactic(auto)]
 
-mod byte_list;
-mod file_totals;
 mod files;
 mod held_part;
 mod mem_input;
@@ -13,20 +11,20 @@ mod outside;
 mod put_buffer;
 mod read_ahead;
 mod script;
-mod std_calls;
+pub mod std_calls;
 mod streams;
 mod sure_input;
 mod sure_store;
 
-pub use byte_list::Bytes;
-pub use file_totals::Totals;
 pub use files::{FileSink, FileStore};
 pub use mem_input::MemInput;
 pub use mem_sink::MemSink;
 pub use mem_store::MemStore;
-pub use outside::{Failed, Sink, Source, Store, get_exact, put_all};
+pub use outside::{Failed, Sink, Source, Store, counted, fault, get_exact, put_all};
 pub use put_buffer::PutBuffer;
 pub use read_ahead::{ReadAhead, ReadAheadBy};
+pub use record_values::{Bytes, Totals};
+pub use script::Script;
 pub use streams::{StdErr, StdInput, StdOut};
 pub use sure_input::SureInput;
 pub use sure_store::SureStore;

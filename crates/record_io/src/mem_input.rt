@@ -23,7 +23,7 @@ impl Model for MemInput {
 
     ghost Value = { Input };
 
-    ghost view = { λ i. record { left = drop i.at i.bytes.items; number = i.script.number; cuts = i.script.cuts.items; fails = i.script.fails.items; faults = i.script.faults } };
+    ghost view = { λ i. record { left = drop i.at i.bytes.items; number = i.script.number; cuts = i.script.cuts; fails = i.script.fails; faults = i.script.faults } };
 
     ghost invariant = { λ i. i.at ≤ vec_len i.bytes };
 }

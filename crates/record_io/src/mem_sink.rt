@@ -25,7 +25,7 @@ impl Model for MemSink {
 
     ghost Value = { Output };
 
-    ghost view = { λ o. record { taken = o.taken.items; room = o.room; number = o.script.number; cuts = o.script.cuts.items; fails = o.script.fails.items; faults = o.script.faults } };
+    ghost view = { λ o. record { taken = o.taken.items; room = o.room; number = o.script.number; cuts = o.script.cuts; fails = o.script.fails; faults = o.script.faults } };
 
     ghost invariant = { λ o. (vec_len o.taken ≤ o.room) × (o.room ≤ vec_capacity o.taken) };
 }

@@ -23,7 +23,7 @@ impl Model for MemStore {
 
     ghost Value = { File };
 
-    ghost view = { λ s. record { bytes = s.bytes.items; asked = s.asked; handed = s.handed; number = s.script.number; cuts = s.script.cuts.items; fails = s.script.fails.items; faults = s.script.faults } };
+    ghost view = { λ s. record { bytes = s.bytes.items; asked = s.asked; handed = s.handed; number = s.script.number; cuts = s.script.cuts; fails = s.script.fails; faults = s.script.faults } };
 }
 
 impl MemStore {

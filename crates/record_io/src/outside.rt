@@ -1,12 +1,13 @@
 ghost use Rattle.std.specs.Prelude.{◌≡◌, ◌≢◌, ℕ, ◌+◌, ◌-◌, ◌^◌, ◌<◌, ◌≤◌, ◌↔◌, ◌⊎◌, Option, Some, is_some, List, [], length, take, min, slice_range, IsErr, IfOk, IfSome, IsSomeAnd, OnOk, OnErr};
-ghost use Rattle.record_io.specs.Outside.{one_more, faults_after, Rose, Gives, Takes, TakesFront};
+ghost use Rattle.record_io.specs.Outside.{one_more, faults_after, Rose, Gives, Takes, Lent, none_lent};
+ghost use Rattle.record_io.specs.Calls.{OnlyAsks, PutsTo};
 
 /// A call on the outside failed.
 #[derive(Clone, Copy, Debug, PartialEq, Eq)]
 pub struct Failed;
 
 /// Counts a fault, for the call that failed to answer. A count at its greatest stays there.
-pub(crate) fn fault(faults: &mut u64) -> Failed
+pub fn fault(faults: &mut u64) -> Failed
     ensures counted { faults.new ≡ one_more faults.old }
     ensures never_falls { faults.old ≤ faults.new }
     ensures small { faults.new < 2 ^ 64 }
@@ -16,7 +17,7 @@ pub(crate) fn fault(faults: &mut u64) -> Failed
 }
 
 /// What the call answered, whose failure is counted.
-pub(crate) fn counted<X: Drop, E: Drop>(answer: Result<X, E>, faults: &mut u64) -> Result<X, Failed>
+pub fn counted<X: Drop, E: Drop>(answer: Result<X, E>, faults: &mut u64) -> Result<X, Failed>
     ensures same { IfOk answer (λ value. result ≡ Ok value) }
     ensures failed { OnErr answer (IsErr result) }
     ensures counted { faults.new ≡ faults_after result faults.old }
@@ -110,8 +111,8 @@ pub trait Sink {
     /// How many faults there were.
     ghost faults: { Self → ℕ };
 
-    /// The name of what the sink borrows, if it borrows what it puts to.
-    ghost name: { Self → ℕ } = { λ _. 0 };
+    /// What the sink borrows, and what stands before all that it takes.
+    ghost lent: { Self → Lent } = { λ _. none_lent };
 
     /// Takes bytes from the front of the piece, and answers how many: at least 1.
     fn put(&mut self, piece: &[u8]) -> Result<usize, Failed>
@@ -120,7 +121,7 @@ pub trait Sink {
         ensures fits { IfOk result (λ n. n ≤ length piece.now) }
         ensures takes { IfOk result (λ n. Takes (taken self.old) (taken self.new) (take n piece.now)) }
         ensures kept { OnErr result (taken self.new ≡ taken self.old) }
-        ensures same_name { name self.new ≡ name self.old }
+        ensures same_lent { lent self.new ≡ lent self.old }
 
         ensures cause { OnErr result (Rose (faults self.old) (faults self.new)) }
         ensures never_falls { faults self.old ≤ faults self.new }
@@ -129,13 +130,8 @@ pub trait Sink {
 
 /// Puts the whole piece. After a failure the sink took a front of it.
 pub fn put_all<M: Sink>(sink: &mut M, piece: &[u8]) -> Result<(), Failed>
-    ensures whole { OnOk result (Takes (M.taken sink.old) (M.taken sink.new) piece.now) }
-    ensures front { OnErr result (TakesFront (M.taken sink.old) (M.taken sink.new) piece.now) }
+    ensures sink { PutsTo M.taken M.lent M.faults result piece.now sink.old sink.new }
     ensures some { OnErr result (piece.now ≢ []) }
-    ensures cause { OnErr result (Rose (M.faults sink.old) (M.faults sink.new)) }
-    ensures never_falls { M.faults sink.old ≤ M.faults sink.new }
-    ensures small { M.faults sink.old < 2 ^ 64 → M.faults sink.new < 2 ^ 64 }
-    ensures same_name { M.name sink.new ≡ M.name sink.old }
 {
     let mut at = 0;
     while at < piece.len() {
@@ -155,13 +151,7 @@ pub fn get_exact<S: Store>(store: &mut S, at: u64, buf: &mut [u8]) -> Result<(),
     ensures handed_out { OnOk result ((S.handed store.new ≡ S.handed store.old + length buf.old) ⊎ (S.handed store.new ≡ 2 ^ 64 - 1)) }
     ensures handed_most { S.handed store.new ≤ S.handed store.old + length buf.old }
     ensures handed_small { S.handed store.old < 2 ^ 64 → (S.handed store.old ≤ S.handed store.new) × (S.handed store.new < 2 ^ 64) }
-    ensures same_bytes { S.bytes store.new ≡ S.bytes store.old }
-    ensures same_told { S.told store.new ≡ S.told store.old }
-    ensures same_name { S.name store.new ≡ S.name store.old }
-
-    ensures cause { OnErr result (Rose (S.faults store.old) (S.faults store.new)) }
-    ensures never_falls { S.faults store.old ≤ S.faults store.new }
-    ensures small { S.faults store.old < 2 ^ 64 → S.faults store.new < 2 ^ 64 }
+    ensures store { OnlyAsks S.bytes S.told S.name S.faults (IsErr result) store.old store.new }
 {
     let mut got = 0;
     while got < buf.len() {

@@ -1,7 +1,6 @@
-ghost use Rattle.std.specs.Prelude.{◌≡◌, ◌≢◌, ◌+◌, ◌^◌, ◌<◌, ◌≤◌, [], ◌++◌, length, map, OnOk, OnErr};
+ghost use Rattle.std.specs.Prelude.{◌≡◌, ◌≢◌, ◌+◌, ◌≤◌, [], ◌++◌, length, map, OnErr};
 ghost use Rattle.std.specs.List.{concat};
-ghost use Rattle.record_io.specs.Outside.{Rose, Takes, TakesFront};
-ghost use Rattle.record_io.specs.Buffers.{TakesAndHolds};
+ghost use Rattle.record_io.specs.Calls.{PutsTo, PutsThrough};
 
 use crate::outside::{Failed, Sink, put_all};
 use std::marker::Model;
@@ -46,15 +45,9 @@ impl<const N: usize> PutBuffer<N> {
     ///
     /// `Failed` only where the sink failed. It took a front of what was held and the piece, and nothing is held.
     pub fn put<M: Sink>(&mut self, sink: &mut M, piece: &[u8]) -> Result<(), Failed>
-        ensures whole { OnOk result (TakesAndHolds (M.taken sink.old) (M.taken sink.new) (self.old ++ piece.now) self.new) }
-        ensures front { OnErr result (TakesFront (M.taken sink.old) (M.taken sink.new) (self.old ++ piece.now)) }
+        ensures sink { PutsThrough M.taken M.lent M.faults result self.old self.new piece.now sink.old sink.new }
         ensures some { OnErr result (self.old ++ piece.now ≢ []) }
-        ensures emptied { OnErr result (self.new ≡ []) }
         ensures fits { length self.new ≤ N }
-        ensures cause { OnErr result (Rose (M.faults sink.old) (M.faults sink.new)) }
-        ensures never_falls { M.faults sink.old ≤ M.faults sink.new }
-        ensures small { M.faults sink.old < 2 ^ 64 → M.faults sink.new < 2 ^ 64 }
-        ensures same_name { M.name sink.new ≡ M.name sink.old }
     {
         let large = piece.len() > N / 4;
         if large || piece.len() > N - self.count {
@@ -73,16 +66,8 @@ impl<const N: usize> PutBuffer<N> {
     ///
     /// `Failed` only where the sink failed. It took a front of what was held and the pieces, and nothing is held.
     pub fn put_each<M: Sink>(&mut self, sink: &mut M, pieces: &[&[u8]]) -> Result<(), Failed>
-        ensures whole { OnOk result (TakesAndHolds (M.taken sink.old) (M.taken sink.new)
-            (self.old ++ concat (map (λ piece. piece.now) pieces.now)) self.new) }
-        ensures front { OnErr result (TakesFront (M.taken sink.old) (M.taken sink.new)
-            (self.old ++ concat (map (λ piece. piece.now) pieces.now))) }
+        ensures sink { PutsThrough M.taken M.lent M.faults result self.old self.new (concat (map (λ piece. piece.now) pieces.now)) sink.old sink.new }
         ensures some { OnErr result (self.old ++ concat (map (λ piece. piece.now) pieces.now) ≢ []) }
-        ensures emptied { OnErr result (self.new ≡ []) }
-        ensures cause { OnErr result (Rose (M.faults sink.old) (M.faults sink.new)) }
-        ensures never_falls { M.faults sink.old ≤ M.faults sink.new }
-        ensures small { M.faults sink.old < 2 ^ 64 → M.faults sink.new < 2 ^ 64 }
-        ensures same_name { M.name sink.new ≡ M.name sink.old }
     {
         for piece in pieces {
             self.put(sink, piece)?;
@@ -96,14 +81,9 @@ impl<const N: usize> PutBuffer<N> {
     ///
     /// `Failed` only where the sink failed. It took a front of what was held.
     pub fn flush<M: Sink>(&mut self, sink: &mut M) -> Result<(), Failed>
-        ensures whole { OnOk result (Takes (M.taken sink.old) (M.taken sink.new) self.old) }
-        ensures front { OnErr result (TakesFront (M.taken sink.old) (M.taken sink.new) self.old) }
+        ensures sink { PutsTo M.taken M.lent M.faults result self.old sink.old sink.new }
         ensures some { OnErr result (self.old ≢ []) }
         ensures emptied { self.new ≡ [] }
-        ensures cause { OnErr result (Rose (M.faults sink.old) (M.faults sink.new)) }
-        ensures never_falls { M.faults sink.old ≤ M.faults sink.new }
-        ensures small { M.faults sink.old < 2 ^ 64 → M.faults sink.new < 2 ^ 64 }
-        ensures same_name { M.name sink.new ≡ M.name sink.old }
     {
         let count = self.count;
         self.count = 0;

@@ -3,21 +3,36 @@ ghost use Rattle.record_io.specs.Outside.{one_more, faults_after};
 ghost use Rattle.record_io.specs.Memory.{cut_to};
 
 use crate::outside::{Failed, fault};
+use std::marker::Model;
 
 /// Which calls on an object in memory are cut short, and which fail.
+///
+/// Calls are numbered from 0. Call i handles at most `cuts[i % cuts.len()]` bytes, where a cut of 0 counts as 1 and no
+/// cuts cut nothing, and it fails if `fails` lists it. Each call that fails counts a fault.
 #[derive(Debug, Drop)]
-pub(crate) struct Script {
+pub struct Script {
     cuts: Vec<u32>,
     fails: Vec<u32>,
     number: u64,
     faults: u64,
-    ghost small: { faults < 2 ^ 64 },
+}
+
+impl Model for Script {
+    ghost use Rattle.std.specs.Prelude.{◌<◌, ◌^◌};
+    ghost use Rattle.record_io.specs.Memory.{CallScript};
+
+    ghost Value = { CallScript };
+
+    ghost view = { λ s. record { number = s.number; cuts = s.cuts.items; fails = s.fails.items; faults = s.faults } };
+
+    ghost invariant = { λ s. s.faults < 2 ^ 64 };
 }
 
 impl Script {
-    pub(crate) fn new(cuts: Vec<u32>, fails: Vec<u32>) -> Script
-        ensures cuts { result.cuts.items ≡ cuts.items }
-        ensures fails { result.fails.items ≡ fails.items }
+    /// No call was made yet. It takes no memory.
+    pub fn new(cuts: Vec<u32>, fails: Vec<u32>) -> Script
+        ensures cuts { result.cuts ≡ cuts.items }
+        ensures fails { result.fails ≡ fails.items }
         ensures number { result.number ≡ 0 }
         ensures faults { result.faults ≡ 0 }
     {
@@ -30,13 +45,15 @@ impl Script {
     }
 
     /// Begins the next call, which could handle so many bytes, and answers how many it handles.
-    pub(crate) fn begin(&mut self, most: usize) -> Result<usize, Failed>
-        ensures fails { IsErr result ↔ Contains self.old.fails.items self.old.number }
-        ensures cut { IfOk result (λ n. n ≡ cut_to self.old.cuts.items self.old.number most) }
+    pub fn begin(&mut self, most: usize) -> Result<usize, Failed>
+        ensures fails { IsErr result ↔ Contains self.old.fails self.old.number }
+        ensures cut { IfOk result (λ n. n ≡ cut_to self.old.cuts self.old.number most) }
         ensures numbered { self.new.number ≡ one_more self.old.number }
         ensures counted { self.new.faults ≡ faults_after result self.old.faults }
-        ensures same_cuts { self.new.cuts.items ≡ self.old.cuts.items }
-        ensures same_fails { self.new.fails.items ≡ self.old.fails.items }
+        ensures never_falls { self.old.faults ≤ self.new.faults }
+        ensures small { self.new.faults < 2 ^ 64 }
+        ensures same_cuts { self.new.cuts ≡ self.old.cuts }
+        ensures same_fails { self.new.fails ≡ self.old.fails }
     {
         let number = self.number;
         self.number = number.saturating_add(1);
@@ -47,14 +64,16 @@ impl Script {
     }
 
     /// Begins the next call, which copies from the front of these bytes into that of the buffer, and answers how many.
-    pub(crate) fn copy(&mut self, from: &[u8], buf: &mut [u8]) -> Result<usize, Failed>
+    pub fn copy(&mut self, from: &[u8], buf: &mut [u8]) -> Result<usize, Failed>
         ensures given { IfOk result (λ n. take n buf.new ≡ take n from.now) }
-        ensures fails { IsErr result ↔ Contains self.old.fails.items self.old.number }
-        ensures cut { IfOk result (λ n. n ≡ cut_to self.old.cuts.items self.old.number (min (length buf.old) (length from.now))) }
+        ensures fails { IsErr result ↔ Contains self.old.fails self.old.number }
+        ensures cut { IfOk result (λ n. n ≡ cut_to self.old.cuts self.old.number (min (length buf.old) (length from.now))) }
         ensures numbered { self.new.number ≡ one_more self.old.number }
         ensures counted { self.new.faults ≡ faults_after result self.old.faults }
-        ensures same_cuts { self.new.cuts.items ≡ self.old.cuts.items }
-        ensures same_fails { self.new.fails.items ≡ self.old.fails.items }
+        ensures never_falls { self.old.faults ≤ self.new.faults }
+        ensures small { self.new.faults < 2 ^ 64 }
+        ensures same_cuts { self.new.cuts ≡ self.old.cuts }
+        ensures same_fails { self.new.fails ≡ self.old.fails }
     {
         let given = self.begin(buf.len().min(from.len()))?;
         buf[..given].copy_from_slice(&from[..given]);
@@ -62,11 +81,13 @@ impl Script {
     }
 
     /// Counts a fault, for the call that failed to answer.
-    pub(crate) fn fault(&mut self) -> Failed
+    pub fn fault(&mut self) -> Failed
         ensures counted { self.new.faults ≡ one_more self.old.faults }
+        ensures never_falls { self.old.faults ≤ self.new.faults }
+        ensures small { self.new.faults < 2 ^ 64 }
         ensures same_number { self.new.number ≡ self.old.number }
-        ensures same_cuts { self.new.cuts.items ≡ self.old.cuts.items }
-        ensures same_fails { self.new.fails.items ≡ self.old.fails.items }
+        ensures same_cuts { self.new.cuts ≡ self.old.cuts }
+        ensures same_fails { self.new.fails ≡ self.old.fails }
     {
         fault(&mut self.faults)
     }

@@ -1,4 +1,5 @@
-//! Calls on the readers, writers and files of std, each of whose failures counts one fault.
+//! Calls on the readers, writers and files of std, each of whose failures counts one fault. They serve objects over files
+//! and streams, also those of other crates.
 ghost use Rattle.std.specs.Prelude.{◌≡◌, ◌<◌, ◌≤◌, length, take, IfOk, OnErr};
 ghost use Rattle.std.specs.Io.KnownBytes.{Appends, Keeps, ReadConsumes};
 ghost use Rattle.record_io.specs.Outside.{faults_after};
@@ -22,7 +23,7 @@ pub(crate) fn take_from<T: Read>(
 }
 
 /// Reads bytes that begin at a place of the file into the front of the buffer, and answers how many: at least 1.
-pub(crate) fn read_from<F: Read + Seek>(
+pub fn read_from<F: Read + Seek>(
     file: &mut F,
     at: u64,
     buf: &mut [u8],
@@ -42,7 +43,7 @@ pub(crate) fn read_from<F: Read + Seek>(
 }
 
 /// The size of the open file, which must be a regular one.
-pub(crate) fn size_of<F: OpenFile>(file: &F, faults: &mut u64) -> Result<u64, Failed>
+pub fn size_of<F: OpenFile>(file: &F, faults: &mut u64) -> Result<u64, Failed>
     ensures counted { faults.new ≡ faults_after result faults.old }
 {
     let about = counted(file.metadata(), faults)?;
@@ -68,7 +69,7 @@ fn write_to<T: Write>(to: &mut T, piece: &[u8], faults: &mut u64) -> Result<usiz
 }
 
 /// Writes a front of the piece, of which the writer holds nothing back, and answers how many bytes: at least 1.
-pub(crate) fn put_to<T: Write>(to: &mut T, piece: &[u8], faults: &mut u64) -> Result<usize, Failed>
+pub fn put_to<T: Write>(to: &mut T, piece: &[u8], faults: &mut u64) -> Result<usize, Failed>
     ensures some { IfOk result (λ n. 0 < n) }
     ensures fits { IfOk result (λ n. n ≤ length piece.now) }
     ensures appends { IfOk result (λ n. Appends (T.contents to.old) (T.contents to.new) (take n piece.now)) }

@@ -6,7 +6,7 @@ use Rattle.record_io.specs.Outside.{Takes, TakesFront}
 use Rattle.meta_chunk.specs.Counts.{totals_of}
 use Rattle.meta_chunk.specs.Files.{laid_each}
 use Rattle.record_group.specs.Groups.{file_of}
-use Rattle.record_io.specs.declared.file_totals.Totals.{Totals}
+use Rattle.record_values.specs.declared.file_totals.Totals.{Totals}
 use Rattle.record_writer.specs.declared.cut_off.CutOff.{CutOff}
 use Rattle.record_writer.specs.declared.cut_off.CutOff.TheVariants.{Input, Made, Memory}
 use Rattle.record_writer.specs.declared.feed.Stop.{Stop}

@@ -1,6 +1,6 @@
 -- How a call that writes answers. Own.
 use Rattle.std.specs.Prelude.{Option, Some, None, Result, Ok, Err}
-use Rattle.record_io.specs.declared.file_totals.Totals.{Totals}
+use Rattle.record_values.specs.declared.file_totals.Totals.{Totals}
 use Rattle.record_writer.specs.declared.feed.Stop.{Stop}
 use Rattle.record_writer.specs.declared.feed.Stop.TheVariants.{TooLong as too_long, InputTooLong as input_too_long, BadLine as bad_line}
 use Rattle.record_writer.specs.declared.cut_off.CutOff.{CutOff}

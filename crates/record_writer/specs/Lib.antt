@@ -1,4 +1,3 @@
-pub mod Causes
 pub mod Feeds
 pub mod Written
 pub mod Progresses

@@ -2,7 +2,7 @@
 use Rattle.std.specs.Prelude.{◌≡◌, ℕ, ◌+◌, ◌*◌, Bool, false, Option, Some, List, [], ◌++◌, length, map, IfSome}
 use Rattle.record_io.specs.Outside.{Takes}
 use Rattle.record_io.specs.Buffers.{TakesAndHolds}
-use Rattle.record_io.specs.declared.file_totals.Totals.{Totals}
+use Rattle.record_values.specs.declared.file_totals.Totals.{Totals}
 use Rattle.chunk_header.specs.Chunks.{ChunkValue}
 use Rattle.chunk_header.specs.SimpleChunks.{simple_chunk}
 use Rattle.meta_chunk.specs.Counts.{totals_of}

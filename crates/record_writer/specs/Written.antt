@@ -2,7 +2,7 @@
 use Rattle.std.specs.Prelude.{◌≡◌, ℕ, ◌^◌, ◌≤◌, Option, Some, None, Result, Ok, Err, List, length}
 use Rattle.std.specs.Option.{ForSome}
 use Rattle.record_io.specs.Outside.{Takes, TakesFront}
-use Rattle.record_io.specs.declared.file_totals.Totals.{Totals}
+use Rattle.record_values.specs.declared.file_totals.Totals.{Totals}
 use Rattle.chunk_header.specs.Chunks.{ChunkValue}
 use Rattle.meta_chunk.specs.Counts.{totals_of}
 use Rattle.record_group.specs.Groups.{chunks_of, file_of}

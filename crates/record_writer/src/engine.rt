@@ -1,10 +1,9 @@
 ghost use Rattle.std.specs.Option.{option_to_list};
 ghost use Rattle.std.specs.Prelude.{◌≡◌, ◌≢◌, ℕ, ◌+◌, ◌*◌, ◌^◌, ◌<◌, ◌≤◌, true, false, Some, None, Option, List, [], ◌++◌, length, IfOk, IfSome, OnOk, OnErr};
-ghost use Rattle.record_io.specs.Outside.{Rose};
+ghost use Rattle.record_io.specs.Calls.{OnlyCounts};
 ghost use Rattle.meta_chunk.specs.Files.{end_of_chunks};
 ghost use Rattle.record_group.specs.Groups.{groups, pads_start, pads_end};
 ghost use Rattle.record_group.specs.Groupings.{groups_from, IsPush};
-ghost use Rattle.record_writer.specs.Causes.{AreCauses};
 ghost use Rattle.record_writer.specs.Ends.{answer_of};
 ghost use Rattle.record_writer.specs.Feeds.{nothing_left};
 ghost use Rattle.record_writer.specs.Progresses.{AreGiven, Lays, LaysFront, nothing_made, chunks_of_groups, reach_of};
@@ -97,14 +96,8 @@ pub fn write_records<R: Threads + Sync, L: RecordFeed, M: Sink + Send>(
         TakesFile result (M.taken made.old) (M.taken made.new) (file_under options.now rest.records)) }
     ensures read_to_end { OnOk result (IfSome (L.rest feed.old) (λ _. L.rest feed.new ≡ Some nothing_left)) }
 
-    ensures input_cause { result ≡ Err WriteEnd.Input → Rose (L.faults feed.old) (L.faults feed.new) }
-    ensures made_cause { result ≡ Err WriteEnd.Made → Rose (M.faults made.old) (M.faults made.new) }
-    ensures input_count { L.faults feed.old ≤ L.faults feed.new }
-    ensures input_small { L.faults feed.old < 2 ^ 64 → L.faults feed.new < 2 ^ 64 }
-    ensures made_count { M.faults made.old ≤ M.faults made.new }
-    ensures made_small { M.faults made.old < 2 ^ 64 → M.faults made.new < 2 ^ 64 }
-    ensures input_name { L.name feed.new ≡ L.name feed.old }
-    ensures made_name { M.name made.new ≡ M.name made.old }
+    ensures feed { OnlyCounts L.name L.faults (result ≡ Err WriteEnd.Input) feed.old feed.new }
+    ensures made_counts { OnlyCounts M.lent M.faults (result ≡ Err WriteEnd.Made) made.old made.new }
 {
     let mut file = MadeFile::new();
     let stop = put_chunks(rt, &mut file, alloc, options, feed, made);
@@ -146,9 +139,8 @@ fn put_chunks<R: Threads, L: RecordFeed, M: Sink + Send>(
     ensures front { OnErr result (IfSome (L.rest feed.old) (λ rest.
         LaysFront (M.taken made.old) (M.taken made.new) file.old file.new (chunks_under options.now rest.records))) }
     ensures drained { result ≡ Ok None → IfSome (L.rest feed.old) (λ _. L.rest feed.new ≡ Some nothing_left) }
-    ensures causes { AreCauses result (L.faults feed.old) (L.faults feed.new) (M.faults made.old) (M.faults made.new) }
-    ensures input_name { L.name feed.new ≡ L.name feed.old }
-    ensures made_name { M.name made.new ≡ M.name made.old }
+    ensures feed { OnlyCounts L.name L.faults (result ≡ Err CutOff.Input) feed.old feed.new }
+    ensures made { OnlyCounts M.lent M.faults (result ≡ Err CutOff.Made) made.old made.new }
 {
     file.start(made)?;
     file.pad_if(pads_start(options.pad), made)?;
@@ -194,9 +186,8 @@ fn put_groups<R: Threads, L: RecordFeed, M: Sink + Send>(
     ensures going { OnOk result (file.new.spent ≡ false) }
     ensures in_reach { OnOk result (file.new.place ≤ 2 ^ 60) }
     ensures drained { result ≡ Ok None → IfSome (L.rest feed.old) (λ _. L.rest feed.new ≡ Some nothing_left) }
-    ensures causes { AreCauses result (L.faults feed.old) (L.faults feed.new) (M.faults made.old) (M.faults made.new) }
-    ensures input_name { L.name feed.new ≡ L.name feed.old }
-    ensures made_name { M.name made.new ≡ M.name made.old }
+    ensures feed { OnlyCounts L.name L.faults (result ≡ Err CutOff.Input) feed.old feed.new }
+    ensures made { OnlyCounts M.lent M.faults (result ≡ Err CutOff.Made) made.old made.new }
 {
     let mut grouper = Grouper::new(alloc, options.size, options.every);
     let stop = put_closed_groups(rt, file, alloc, &mut grouper, feed, made)?;
@@ -229,9 +220,8 @@ fn put_closed_groups<R: Threads, L: RecordFeed, M: Sink + Send>(
         (chunks_of_groups (groups_from grouper.old rest.records)))) }
     ensures in_reach { OnOk result (reach_of file.new.place grouper.new 0 ≤ 2 ^ 60) }
     ensures drained { result ≡ Ok None → IfSome (L.rest feed.old) (λ _. L.rest feed.new ≡ Some nothing_left) }
-    ensures causes { AreCauses result (L.faults feed.old) (L.faults feed.new) (M.faults made.old) (M.faults made.new) }
-    ensures input_name { L.name feed.new ≡ L.name feed.old }
-    ensures made_name { M.name made.new ≡ M.name made.old }
+    ensures feed { OnlyCounts L.name L.faults (result ≡ Err CutOff.Input) feed.old feed.new }
+    ensures made { OnlyCounts M.lent M.faults (result ≡ Err CutOff.Made) made.old made.new }
 {
     let mut rec = Bytes::new(alloc);
     let mut window = Window::new(alloc);
@@ -296,10 +286,7 @@ fn take_window<L: RecordFeed>(
         ≤ reach_of place grouper.old (L.bound feed.old) }
     ensures drained { result ≡ Ok (Taken.All None) → IfSome (L.rest feed.old) (λ _. L.rest feed.new ≡ Some nothing_left) }
     ensures no_made { result ≢ Err CutOff.Made }
-    ensures cause { result ≡ Err CutOff.Input → Rose (L.faults feed.old) (L.faults feed.new) }
-    ensures count { L.faults feed.old ≤ L.faults feed.new }
-    ensures small { L.faults feed.old < 2 ^ 64 → L.faults feed.new < 2 ^ 64 }
-    ensures same_name { L.name feed.new ≡ L.name feed.old }
+    ensures feed { OnlyCounts L.name L.faults (result ≡ Err CutOff.Input) feed.old feed.new }
 {
     loop {
         take_held(grouper, feed)?;

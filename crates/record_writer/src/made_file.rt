@@ -1,5 +1,5 @@
-ghost use Rattle.std.specs.Prelude.{◌≡◌, ◌≢◌, ◌^◌, ◌<◌, ◌≤◌, true, false, [], ◌∷◌, OnOk, OnErr};
-ghost use Rattle.record_io.specs.Outside.{Rose, Takes, TakesFront};
+ghost use Rattle.std.specs.Prelude.{◌≡◌, ◌≢◌, ◌^◌, ◌≤◌, true, false, [], ◌∷◌, OnOk, OnErr, IsErr};
+ghost use Rattle.record_io.specs.Calls.{OnlyCounts, PutsTo};
 ghost use Rattle.chunk_header.specs.SimpleChunks.{simple_chunk};
 ghost use Rattle.chunk_header.specs.Views.{value_of_chunk, HasRightHash};
 ghost use Rattle.meta_chunk.specs.Counts.{is_unread};
@@ -62,10 +62,7 @@ impl MadeFile {
         requires at_front { self.old ≡ nothing_made }
         ensures whole { OnOk result (Lays (M.taken made.old) (M.taken made.new) self.old self.new (signature ∷ [])) }
         ensures front { OnErr result (LaysFront (M.taken made.old) (M.taken made.new) self.old self.new (signature ∷ [])) }
-        ensures cause { OnErr result (Rose (M.faults made.old) (M.faults made.new)) }
-        ensures never_falls { M.faults made.old ≤ M.faults made.new }
-        ensures small { M.faults made.old < 2 ^ 64 → M.faults made.new < 2 ^ 64 }
-        ensures same_name { M.name made.new ≡ M.name made.old }
+        ensures made { OnlyCounts M.lent M.faults (IsErr result) made.old made.new }
     {
         self.writer.start_into(&mut self.buffer, made)?;
         self.chunks = 1;
@@ -84,10 +81,7 @@ impl MadeFile {
         requires right { HasRightHash chunk.now }
         ensures whole { OnOk result (Lays (M.taken made.old) (M.taken made.new) self.old self.new (value_of_chunk chunk.now ∷ [])) }
         ensures front { OnErr result (LaysFront (M.taken made.old) (M.taken made.new) self.old self.new (value_of_chunk chunk.now ∷ [])) }
-        ensures cause { OnErr result (Rose (M.faults made.old) (M.faults made.new)) }
-        ensures never_falls { M.faults made.old ≤ M.faults made.new }
-        ensures small { M.faults made.old < 2 ^ 64 → M.faults made.new < 2 ^ 64 }
-        ensures same_name { M.name made.new ≡ M.name made.old }
+        ensures made { OnlyCounts M.lent M.faults (IsErr result) made.old made.new }
     {
         self.writer.put_into(&mut self.buffer, made, chunk)?;
         self.chunks += 1;
@@ -115,10 +109,7 @@ impl MadeFile {
         requires encoded { chunk.now.encoded ≡ true }
         ensures whole { OnOk result (Lays (M.taken made.old) (M.taken made.new) self.old self.new (simple_chunk chunk.now.records ∷ [])) }
         ensures front { OnErr result (LaysFront (M.taken made.old) (M.taken made.new) self.old self.new (simple_chunk chunk.now.records ∷ [])) }
-        ensures cause { OnErr result (Rose (M.faults made.old) (M.faults made.new)) }
-        ensures never_falls { M.faults made.old ≤ M.faults made.new }
-        ensures small { M.faults made.old < 2 ^ 64 → M.faults made.new < 2 ^ 64 }
-        ensures same_name { M.name made.new ≡ M.name made.old }
+        ensures made { OnlyCounts M.lent M.faults (IsErr result) made.old made.new }
     {
         let header = chunk.header();
         let (front, records) = chunk.data();
@@ -135,10 +126,7 @@ impl MadeFile {
         requires in_reach { self.old.place ≤ 2 ^ 61 }
         ensures whole { OnOk result (Lays (M.taken made.old) (M.taken made.new) self.old self.new (padding_if wanted self.old.place)) }
         ensures front { OnErr result (LaysFront (M.taken made.old) (M.taken made.new) self.old self.new (padding_if wanted self.old.place)) }
-        ensures cause { OnErr result (Rose (M.faults made.old) (M.faults made.new)) }
-        ensures never_falls { M.faults made.old ≤ M.faults made.new }
-        ensures small { M.faults made.old < 2 ^ 64 → M.faults made.new < 2 ^ 64 }
-        ensures same_name { M.name made.new ≡ M.name made.old }
+        ensures made { OnlyCounts M.lent M.faults (IsErr result) made.old made.new }
     {
         if wanted { self.pad(made) } else { Ok(()) }
     }
@@ -149,10 +137,7 @@ impl MadeFile {
         requires in_reach { self.old.place ≤ 2 ^ 61 }
         ensures whole { OnOk result (Lays (M.taken made.old) (M.taken made.new) self.old self.new (padding_at self.old.place)) }
         ensures front { OnErr result (LaysFront (M.taken made.old) (M.taken made.new) self.old self.new (padding_at self.old.place)) }
-        ensures cause { OnErr result (Rose (M.faults made.old) (M.faults made.new)) }
-        ensures never_falls { M.faults made.old ≤ M.faults made.new }
-        ensures small { M.faults made.old < 2 ^ 64 → M.faults made.new < 2 ^ 64 }
-        ensures same_name { M.name made.new ≡ M.name made.old }
+        ensures made { OnlyCounts M.lent M.faults (IsErr result) made.old made.new }
     {
         let begin = self.writer.position();
         self.writer.pad_into(&mut self.buffer, made)?;
@@ -168,15 +153,10 @@ impl MadeFile {
     ///
     /// `Failed` only where the sink failed. It took a front of what was held.
     pub fn flush<M: Sink>(&mut self, made: &mut M) -> Result<(), Failed>
-        ensures whole { OnOk result (Takes (M.taken made.old) (M.taken made.new) self.old.held) }
-        ensures front { OnErr result (TakesFront (M.taken made.old) (M.taken made.new) self.old.held) }
+        ensures made { PutsTo M.taken M.lent M.faults result self.old.held made.old made.new }
         ensures some { OnErr result (self.old.held ≢ []) }
         ensures same_totals { totals_made self.new ≡ totals_made self.old }
         ensures emptied { self.new ≡ record self.old { held = [] } }
-        ensures cause { OnErr result (Rose (M.faults made.old) (M.faults made.new)) }
-        ensures never_falls { M.faults made.old ≤ M.faults made.new }
-        ensures small { M.faults made.old < 2 ^ 64 → M.faults made.new < 2 ^ 64 }
-        ensures same_name { M.name made.new ≡ M.name made.old }
     {
         self.buffer.flush(made)
     }

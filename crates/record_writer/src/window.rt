@@ -1,5 +1,5 @@
-ghost use Rattle.std.specs.Prelude.{◌≡◌, ◌≢◌, ◌^◌, ◌<◌, ◌≤◌, false, [], ◌∷◌, ◌++◌, OnOk, OnErr};
-ghost use Rattle.record_io.specs.Outside.{Rose};
+ghost use Rattle.std.specs.Prelude.{◌≡◌, ◌≢◌, ◌^◌, ◌≤◌, false, [], ◌∷◌, ◌++◌, OnOk, OnErr, IsErr};
+ghost use Rattle.record_io.specs.Calls.{OnlyCounts};
 ghost use Rattle.chunk_header.specs.SimpleChunks.{simple_chunk};
 ghost use Rattle.meta_chunk.specs.Files.{end_of_chunks};
 ghost use Rattle.meta_chunk.specs.Laid.{end_of_chunk};
@@ -111,10 +111,7 @@ impl Window {
         ensures emptied { OnOk result (self.new ≡ []) }
         ensures whole { OnOk result (Lays (M.taken made.old) (M.taken made.new) file.old file.new (chunks_of_groups self.old)) }
         ensures front { OnErr result (LaysFront (M.taken made.old) (M.taken made.new) file.old file.new (chunks_of_groups self.old)) }
-        ensures cause { OnErr result (Rose (M.faults made.old) (M.faults made.new)) }
-        ensures never_falls { M.faults made.old ≤ M.faults made.new }
-        ensures small { M.faults made.old < 2 ^ 64 → M.faults made.new < 2 ^ 64 }
-        ensures same_name { M.name made.new ≡ M.name made.old }
+        ensures made { OnlyCounts M.lent M.faults (IsErr result) made.old made.new }
     {
         for i in 0..self.count {
             let chunk = &mut self.chunks[i];
@@ -169,10 +166,7 @@ pub fn put_group<M: Sink>(
     ensures whole { OnOk result (Lays (M.taken made.old) (M.taken made.new) file.old file.new (simple_chunk group ∷ [])) }
     ensures front { OnErr result (LaysFront (M.taken made.old) (M.taken made.new) file.old file.new (simple_chunk group ∷ [])) }
     ensures no_input { result ≢ Err CutOff.Input }
-    ensures made_cause { result ≡ Err CutOff.Made → Rose (M.faults made.old) (M.faults made.new) }
-    ensures made_count { M.faults made.old ≤ M.faults made.new }
-    ensures made_small { M.faults made.old < 2 ^ 64 → M.faults made.new < 2 ^ 64 }
-    ensures made_name { M.name made.new ≡ M.name made.old }
+    ensures made { OnlyCounts M.lent M.faults (result ≡ Err CutOff.Made) made.old made.new }
 {
     let mut chunk = SimpleChunk::new(alloc, group)?;
     chunk.encode();

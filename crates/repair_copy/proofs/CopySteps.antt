@@ -6,7 +6,7 @@ use Rattle.std.proofs.lemmas.List.Sums.{sum_by-append}
 use Rattle.std.proofs.lemmas.Grind.{flat_map-append}
 use Rattle.record_io.specs.Outside.{Rose, Takes, TakesFront}
 use Rattle.record_io.specs.declared.outside.Failed.{Failed}
-use Rattle.std.specs.Result.{OnOk, OnErr}
+use Rattle.std.specs.Result.{OnOk, OnErr, IsErr}
 use Rattle.record_group.proofs.Signed.{end_of_chunk-signature}
 use Rattle.record_io.specs.Buffers.{TakesAndHolds}
 use Rattle.record_io.specs.Puts.{Made, Notes, Put, Taken, taken_by, puts_to, GoOut, GoOutOrAreHeld, BreaksOff}
@@ -273,7 +273,7 @@ front_at_fault f g [] part rest some rose is = absurd (some refl)
 front_at_fault f g (e ∷ events) part rest some rose is = inr (rose, rest, is)
 
 pub put_at_fault : (result : Result (Unit {0}) Failed) (before : Taken) (a b n : Option (List ℕ)) (s : Copied) (events : List Piece) (f g : ℕ)
-    → OnOk result (Takes a b s.file.held) → OnErr result (TakesFront a b s.file.held) → OnErr result (s.file.held ≢ []) → OnErr result (Rose f g)
+    → OnOk result (Takes a b s.file.held) → OnErr result (TakesFront a b s.file.held) → OnErr result (s.file.held ≢ []) → (IsErr result → Rose f g)
     → HasCopied before (taken_by a None n) s events → HasPutAtFault f g before (taken_by b None n) events
 put_at_fault (Ok done) before a b n s events f g whole front some rose (inl h) =
     subst (λ (es : List Piece). HasPutAtFault f g before (taken_by b None n) es) (sym h.none)
@@ -290,7 +290,7 @@ put_at_fault (Ok done) before a b n s events f g whole front some rose (inr (h, 
 put_at_fault (Err failed) before a b n s events f g whole front some rose (inl h) = absurd (some (ap (λ (p : Progress). p.held) h.file))
 put_at_fault (Err failed) before a b n s events f g whole front some rose (inr (h, more)) =
     let broke = flush_broke before a b n (repair_puts events) s.file.held h.puts front some in
-    record { part = broke.0; went = front_at_fault f g events broke.0 broke.3 more rose broke.4; took = broke.1 }
+    record { part = broke.0; went = front_at_fault f g events broke.0 broke.3 more (rose refl) broke.4; took = broke.1 }
 
 -- the next chunk is laid behind what was made
 pub next_when_begun : (s : Copied) → s.begun ≡ true → next_place s ≡ s.file.place

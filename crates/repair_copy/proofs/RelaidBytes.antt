@@ -5,8 +5,8 @@ use Rattle.std.specs.Int.{w64, to_le_bytes}
 use Rattle.std.specs.List.{AllByRecursion, range_with_len}
 use Rattle.std.proofs.lemmas.Bool.{cases_lt, cond-true, cond-false, lt-ltb, le-ltb}
 use Rattle.highway_hash.specs.Riegeli.{riegeli_hash}
-use Rattle.record_io.specs.Bytes.{AreBytes}
-use Rattle.record_io.proofs.ByteLists.{AreBytes-append}
+use Rattle.record_values.specs.Bytes.{AreBytes}
+use Rattle.record_values.proofs.ByteLists.{AreBytes-append}
 use Rattle.block_layout.specs.Layout.{room}
 use Rattle.block_layout.specs.BlockHeaders.{block_header}
 use Rattle.block_layout.proofs.BlockHeaders.{block_header_is_bytes}

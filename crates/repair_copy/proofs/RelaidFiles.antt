@@ -2,7 +2,7 @@
 use Rattle.std.proofs.Common.{◌≡◌, ◌∙◌, ◌⊎◌, ℕ, ◌<◌, ◌≤◌, Bool, true, false, List, [], ◌∷◌, ◌++◌, length, refl, sym, ap, subst, inl, inr, arith}
 use Rattle.std.specs.List.{AllByRecursion}
 use Rattle.std.proofs.lemmas.List.{take_all, append-nil}
-use Rattle.record_io.specs.Bytes.{AreBytes}
+use Rattle.record_values.specs.Bytes.{AreBytes}
 use Rattle.chunk_header.specs.Chunks.{ChunkValue, IsChunk, IsRightChunkHeader}
 use Rattle.chunk_header.proofs.RightHeaders.{header_of_right}
 use Rattle.chunk_header.proofs.Decided.{lists_decided, equal_decided, true_where_not_false}

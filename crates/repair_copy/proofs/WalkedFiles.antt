@@ -1,5 +1,5 @@
 -- Files that are walked and copied, where their bytes may be told.
-use Rattle.std.proofs.Common.{◌≡◌, ◌≢◌, ◌∙◌, ℕ, ◌≤◌, Bool, true, false, Option, Some, None, Result, Ok, Err, IfSome, List, [], ◌∷◌, ◌++◌, length, refl, sym, ap, subst, inl, inr, arith}
+use Rattle.std.proofs.Common.{◌≡◌, ◌≢◌, ◌∙◌, ℕ, ◌≤◌, Bool, true, false, Option, Some, None, Result, Ok, Err, IfSome, List, [], ◌∷◌, ◌++◌, length, refl, sym, subst, inl, inr, arith}
 use Rattle.std.proofs.lemmas.List.{append-nil}
 use Rattle.std.specs.List.{AllByRecursion}
 use Rattle.std.specs.Fn.{Shared, FnReturnsAt}
@@ -10,12 +10,11 @@ use Rattle.record_writer.specs.Progresses.{nothing_made, totals_made}
 use Rattle.chunk_reader.specs.Reasons.{Applies, NoneOf, loading_reasons}
 use Rattle.chunk_reader.proofs.Rooms.{IsSized}
 use Rattle.damage_skip.specs.Pieces.{Piece}
-use Rattle.damage_skip.specs.Walks.{piece_of, GoesOn, IsMet, IsStop, IsStoppedAt}
+use Rattle.damage_skip.specs.Walks.{piece_of, GoesOn, IsStop, IsStoppedAt}
 use Rattle.damage_skip.specs.declared.events.Event.{Event}
 use Rattle.damage_skip.specs.declared.events.Event.TheVariants as event
-use Rattle.damage_skip.specs.declared.events.WalkEnd.{WalkEnd}
 use Rattle.damage_skip.specs.declared.regions.Region.{Region}
-use Rattle.damage_skip.proofs.Tiles.{goes_on_append, met_front}
+use Rattle.damage_skip.proofs.Tiles.{goes_on_append}
 use Rattle.repair_copy.specs.Told.{IsLetPass}
 use Rattle.repair_copy.specs.RepairPuts.{repair_puts, WentOutAtFault}
 use Rattle.repair_copy.specs.Walked.{AreWalked, EndsAt}
@@ -27,18 +26,6 @@ use Rattle.repair_copy.specs.declared.copying.CutOff.TheVariants.{Made, Notes}
 use Rattle.repair_copy.specs.declared.repairs.Repaired.{Repaired}
 use Rattle.repair_copy.specs.declared.repairs.RepairEnd.{RepairEnd}
 use Rattle.repair_copy.specs.declared.repairs.RepairEnd.TheVariants as end
-
--- a walk has not stopped before its front
-pub met_at_front : (bytes : Option (List ℕ)) (keep : Bool) (place : ℕ) → place ≡ 0 → IfSome bytes (λ file. IsMet keep file place)
-met_at_front None keep place front = tt
-met_at_front (Some file) keep place front = subst (λ (p : ℕ). IsMet keep file p) (sym front) (met_front keep file)
-
--- nor at any other place where it goes on
-pub not_stopped : (bytes : Option (List ℕ)) (keep : Bool) (place : ℕ) (stopped : Option Region) → stopped ≡ None
-    → IfSome bytes (λ file. IsStoppedAt keep file place stopped)
-not_stopped None keep place stopped going = tt
-not_stopped (Some file) keep place None going = tt
-not_stopped (Some file) keep place (Some region) going = cc
 
 -- what holds of the same bytes
 same_told : (P : List ℕ → Type 0) (a b : Option (List ℕ)) → b ≡ a → IfSome b P → IfSome a P
@@ -61,23 +48,17 @@ some_last : (events : List Piece) (e : Piece) → events ++ e ∷ [] ≢ []
 some_last [] e = λ none. cc none
 some_last (f ∷ events) e = λ none. cc none
 
--- a walk that goes on
-abbrev answered : Option Event → Result (Option Event) WalkEnd
-answered o = Ok o
-
 pub each_append : {X : Type 0} (P : X → Type 0) (xs ys : List X) → AllByRecursion P xs → AllByRecursion P ys → AllByRecursion P (xs ++ ys)
 each_append P [] ys h g = g
 each_append P (x ∷ xs) ys h g = (h.0, each_append P xs ys h.1 g)
 
 module _ {F : Type 0} (test : Shared F (Bor Region × Unit {0}) Bool) (f : F) where
   -- an event that is a region was let pass
-  pub let_pass : (t : F) (o : Option Event) (e : Event) → t ≡ f → o ≡ Some e
-      → ((region : Region) → answered o ≡ answered (Some (event.Skipped region)) → FnReturnsAt test t region true)
+  pub let_pass : (t : F) (e : Event) → t ≡ f → ((region : Region) → e ≡ event.Skipped region → FnReturnsAt test t region true)
       → IsLetPass test f (piece_of e).begin (piece_of e).end (piece_of e).what
-  let_pass t o (event.Records begin records chunk) same is h = tt
-  let_pass t o (event.Kept begin chunk) same is h = tt
-  let_pass t o (event.Skipped region) same is h =
-      subst (λ (x : F). FnReturnsAt test x region true) same (h region (ap answered is))
+  let_pass t (event.Records begin records chunk) same allowed = tt
+  let_pass t (event.Kept begin chunk) same allowed = tt
+  let_pass t (event.Skipped region) same allowed = subst (λ (x : F). FnReturnsAt test x region true) same (allowed region refl)
 
   -- the walk goes on past what is no event
   walked_on : (file : List ℕ) (place to : ℕ) (events : List Piece) → AreWalked test f file place events → GoesOn true file place to []

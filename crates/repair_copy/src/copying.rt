@@ -1,6 +1,7 @@
-ghost use Rattle.std.specs.Prelude.{◌≡◌, ◌≢◌, ℕ, ◌+◌, ◌^◌, ◌<◌, ◌≤◌, true, false, Err, Option, List, [], ◌∷◌, ◌++◌, OnOk, OnErr};
-ghost use Rattle.record_io.specs.Outside.{Rose, Takes};
+ghost use Rattle.std.specs.Prelude.{◌≡◌, ◌≢◌, ℕ, ◌+◌, ◌^◌, ◌<◌, true, false, Err, Option, List, [], ◌∷◌, ◌++◌, OnOk, OnErr, IsErr};
+ghost use Rattle.record_io.specs.Outside.{Takes};
 ghost use Rattle.record_io.specs.Puts.{Taken, taken_by};
+ghost use Rattle.record_io.specs.Calls.{OnlyCounts};
 ghost use Rattle.meta_chunk.specs.Files.{signature, end_of_chunks};
 ghost use Rattle.record_writer.specs.Progresses.{LaysFront, nothing_made};
 ghost use Rattle.damage_skip.specs.Pieces.{Piece};
@@ -80,12 +81,8 @@ impl Copied {
         ensures place { OnOk result (self.new.file.place ≡ end_of_chunks (next_place self.old) (chunks_in (piece_of event.now ∷ []))) }
         ensures regions { OnOk result (self.new.regions ≡ self.old.regions + regions_in (piece_of event.now ∷ [])) }
         ensures quiet { OnOk result (self.new.regions ≡ self.old.regions → notes.new ≡ notes.old) }
-        ensures made_cause { result ≡ Err CutOff.Made → Rose (M.faults made.old) (M.faults made.new) }
-        ensures notes_cause { result ≡ Err CutOff.Notes → Rose (E.faults notes.old) (E.faults notes.new) }
-        ensures made_count { M.faults made.old ≤ M.faults made.new }
-        ensures notes_count { E.faults notes.old ≤ E.faults notes.new }
-        ensures made_name { M.name made.new ≡ M.name made.old }
-        ensures notes_name { E.name notes.new ≡ E.name notes.old }
+        ensures made { OnlyCounts M.lent M.faults (result ≡ Err CutOff.Made) made.old made.new }
+        ensures notes { OnlyCounts E.lent E.faults (result ≡ Err CutOff.Notes) notes.old notes.new }
     {
         self.begin(made)?;
         self.put_event(event, made, notes)
@@ -103,9 +100,7 @@ impl Copied {
         ensures place { OnOk result (self.new.file.place ≡ next_place self.old) }
         ensures regions { OnOk result (self.new.regions ≡ self.old.regions) }
         ensures made_alone { result ≢ Err CutOff.Notes }
-        ensures cause { OnErr result (Rose (M.faults made.old) (M.faults made.new)) }
-        ensures never_falls { M.faults made.old ≤ M.faults made.new }
-        ensures same_name { M.name made.new ≡ M.name made.old }
+        ensures made { OnlyCounts M.lent M.faults (IsErr result) made.old made.new }
     {
         self.begin(made)?;
         Ok(self.file.flush(made)?)
@@ -117,8 +112,7 @@ impl Copied {
         ensures put { (before : Taken) (notes : Option (List ℕ)) (events : List Piece)
             → HasCopied before (taken_by (M.taken made.old) None notes) self.old events
             → HasPutAtFault (M.faults made.old) (M.faults made.new) before (taken_by (M.taken made.new) None notes) events }
-        ensures never_falls { M.faults made.old ≤ M.faults made.new }
-        ensures same_name { M.name made.new ≡ M.name made.old }
+        ensures made { OnlyCounts M.lent M.faults ⊥ made.old made.new }
     {
         let _ = self.file.flush(made);
     }
@@ -130,9 +124,7 @@ impl Copied {
         ensures front { OnErr result (LaysFront (M.taken made.old) (M.taken made.new) nothing_made self.new.file (signature ∷ [])) }
         ensures unbegun { OnErr result (self.old.begun ≡ false) }
         ensures made_alone { result ≢ Err CutOff.Notes }
-        ensures cause { OnErr result (Rose (M.faults made.old) (M.faults made.new)) }
-        ensures never_falls { M.faults made.old ≤ M.faults made.new }
-        ensures same_name { M.name made.new ≡ M.name made.old }
+        ensures made { OnlyCounts M.lent M.faults (IsErr result) made.old made.new }
     {
         if !self.begun {
             self.file.start(made)?;
@@ -159,12 +151,8 @@ impl Copied {
         ensures line_front { (cut : CutOff) → result ≡ Err cut
             → TakesLine cut (E.taken notes.old) (E.taken notes.new) (lines_in (piece_of event.now ∷ [])) }
         ensures quiet { OnOk result (self.new.regions ≡ self.old.regions → notes.new ≡ notes.old) }
-        ensures made_cause { result ≡ Err CutOff.Made → Rose (M.faults made.old) (M.faults made.new) }
-        ensures notes_cause { result ≡ Err CutOff.Notes → Rose (E.faults notes.old) (E.faults notes.new) }
-        ensures made_count { M.faults made.old ≤ M.faults made.new }
-        ensures notes_count { E.faults notes.old ≤ E.faults notes.new }
-        ensures made_name { M.name made.new ≡ M.name made.old }
-        ensures notes_name { E.name notes.new ≡ E.name notes.old }
+        ensures made { OnlyCounts M.lent M.faults (result ≡ Err CutOff.Made) made.old made.new }
+        ensures notes { OnlyCounts E.lent E.faults (result ≡ Err CutOff.Notes) notes.old notes.new }
     {
         match event {
             Event::Records { chunk, .. } => self.file.put(made, chunk)?,
@@ -190,12 +178,8 @@ impl Copied {
         ensures line { OnOk result (Takes (E.taken notes.old) (E.taken notes.new) (lines_in (piece_of (Event.Skipped region.now) ∷ []))) }
         ensures line_front { (cut : CutOff) → result ≡ Err cut
             → TakesLine cut (E.taken notes.old) (E.taken notes.new) (lines_in (piece_of (Event.Skipped region.now) ∷ [])) }
-        ensures made_cause { result ≡ Err CutOff.Made → Rose (M.faults made.old) (M.faults made.new) }
-        ensures notes_cause { result ≡ Err CutOff.Notes → Rose (E.faults notes.old) (E.faults notes.new) }
-        ensures made_count { M.faults made.old ≤ M.faults made.new }
-        ensures notes_count { E.faults notes.old ≤ E.faults notes.new }
-        ensures made_name { M.name made.new ≡ M.name made.old }
-        ensures notes_name { E.name notes.new ≡ E.name notes.old }
+        ensures made { OnlyCounts M.lent M.faults (result ≡ Err CutOff.Made) made.old made.new }
+        ensures notes { OnlyCounts E.lent E.faults (result ≡ Err CutOff.Notes) notes.old notes.new }
     {
         self.file.flush(made)?;
         match region_line(notes, "skipped", region) {

@@ -2,7 +2,7 @@
 
 ghost use Rattle.std.specs.List.{AllByRecursion};
 ghost use Rattle.std.specs.Prelude.{◌≡◌, ◌⊎◌, ℕ, ◌+◌, ◌-◌, ◌*◌, ◌^◌, ◌≤◌, Bool, true, false, Option, List, [], ◌∷◌, ◌++◌, length};
-ghost use Rattle.record_io.specs.Bytes.{AreBytes};
+ghost use Rattle.record_values.specs.Bytes.{AreBytes};
 ghost use Rattle.record_io.specs.Puts.{Put, Made, Out, Notes, BreaksOff, bytes_to};
 ghost use Rattle.block_layout.specs.Layout.{block_header_size};
 ghost use Rattle.chunk_header.specs.Chunks.{ChunkValue};

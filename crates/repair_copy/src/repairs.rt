@@ -1,6 +1,6 @@
 ghost use Rattle.std.specs.Prelude.{◌≡◌, ◌+◌, ◌*◌, ◌^◌, ◌≤◌, Some, None, Err, IfOk, IfSome};
-ghost use Rattle.record_io.specs.Outside.{Rose};
 ghost use Rattle.record_io.specs.Puts.{taken_by};
+ghost use Rattle.record_io.specs.Calls.{OnlyAsks, OnlyCounts};
 ghost use Rattle.damage_skip.specs.Policies.{IsTest};
 ghost use Rattle.damage_skip.specs.Steps.{IsOnward};
 ghost use Rattle.damage_skip.specs.declared.regions.Region.{Region};
@@ -83,17 +83,9 @@ pub fn repair<S: Store, F: Fn(&Region) -> bool + Drop, M: Sink, E: Sink>(
     ensures records { IfOk result (λ repaired. repaired.totals.records ≤ repaired.totals.bytes) }
     ensures unread { IfOk result (λ repaired. repaired.totals.unread ≤ repaired.totals.chunks) }
     ensures regions { IfOk result (λ repaired. repaired.regions ≤ size) }
-    ensures same_bytes { S.bytes store.new ≡ S.bytes store.old }
-    ensures same_told { S.told store.new ≡ S.told store.old }
-    ensures store_cause { result ≡ Err RepairEnd.Store → Rose (S.faults store.old) (S.faults store.new) }
-    ensures made_cause { result ≡ Err RepairEnd.Made → Rose (M.faults made.old) (M.faults made.new) }
-    ensures notes_cause { result ≡ Err RepairEnd.Notes → Rose (E.faults notes.old) (E.faults notes.new) }
-    ensures store_count { S.faults store.old ≤ S.faults store.new }
-    ensures made_count { M.faults made.old ≤ M.faults made.new }
-    ensures notes_count { E.faults notes.old ≤ E.faults notes.new }
-    ensures store_name { S.name store.new ≡ S.name store.old }
-    ensures made_name { M.name made.new ≡ M.name made.old }
-    ensures notes_name { E.name notes.new ≡ E.name notes.old }
+    ensures store { OnlyAsks S.bytes S.told S.name S.faults (result ≡ Err RepairEnd.Store) store.old store.new }
+    ensures made { OnlyCounts M.lent M.faults (result ≡ Err RepairEnd.Made) made.old made.new }
+    ensures notes { OnlyCounts E.lent E.faults (result ≡ Err RepairEnd.Notes) notes.old notes.new }
 {
     let mut walker = Walker::new(size, true, policy);
     let mut copied = Copied::new();

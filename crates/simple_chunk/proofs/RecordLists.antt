@@ -3,7 +3,7 @@ use Rattle.std.proofs.Common.{◌≡◌, ℕ, zero, suc, ◌+◌, ◌-◌, ◌<�
 use Rattle.std.specs.Prelude.{slice_get}
 use Rattle.std.specs.List.{AllByRecursion, concat}
 use Rattle.std.proofs.lemmas.List.{length-append, drop-drop, drop_all, drop_at, take_all, take-append-drop, take-append-le, drop-append-le, length-drop}
-use Rattle.record_io.specs.Bytes.{AreBytes}
+use Rattle.record_values.specs.Bytes.{AreBytes}
 use Rattle.simple_chunk.specs.Records.{records_from, record_begin, AreEnds}
 
 -- there are as many records as ends

@@ -7,7 +7,7 @@ ghost use Rattle.simple_chunk.specs.Sizes.{AreParts, AreSizes, IsSplit};
 
 use crate::record_list::Records;
 use chunk_header::{Chunk, Header};
-use record_io::Bytes;
+use record_values::Bytes;
 use std::alloc::{AllocError, Global};
 
 /// Why no records were read from the data of a simple chunk. Own.

@@ -8,7 +8,7 @@ ghost use Rattle.simple_chunk.specs.Sizes.{data_front};
 
 use crate::record_list::Records;
 use chunk_header::Chunk;
-use record_io::Bytes;
+use record_values::Bytes;
 use std::alloc::{AllocError, Global};
 
 /// The kind of a simple chunk.

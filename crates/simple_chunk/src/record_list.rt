@@ -1,10 +1,10 @@
 ghost use Rattle.std.specs.Prelude.{◌≡◌, ◌↔◌, ◌<◌, ◌≤◌, Some, [], ◌∷◌, ◌++◌, length, slice_get, IsTrue, OnOk, OnErr};
 ghost use Rattle.std.specs.List.{AllByRecursion, concat};
-ghost use Rattle.record_io.specs.Bytes.{AreBytes};
+ghost use Rattle.record_values.specs.Bytes.{AreBytes};
 ghost use Rattle.simple_chunk.specs.Costs.{cost_of};
 ghost use Rattle.simple_chunk.specs.Records.{records_from, record_begin, AreEnds};
 
-use record_io::Bytes;
+use record_values::Bytes;
 use std::alloc::{AllocError, Global};
 use std::marker::Model;
 use std::mem;

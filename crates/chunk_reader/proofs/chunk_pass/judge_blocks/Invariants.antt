@@ -1,4 +1,5 @@
-use Rattle.std.proofs.Common.{◌≡◌, ◌+◌, ◌-◌, ◌*◌, ◌<◌, ◌^◌, ◌≤◌, IfSome}
+use Rattle.std.proofs.Common.{◌+◌, ◌-◌, ◌*◌, ◌<◌, ◌≤◌, IfSome}
+use Rattle.record_io.specs.Calls.{OnlyAsks}
 use Rattle.block_layout.specs.Layout.{IsBlock, blocks_below}
 use Rattle.chunk_reader.specs.Places.{HaveHeadersOf}
 use Rattle.chunk_reader.proofs.chunk_pass.judge_blocks.Given as goal
@@ -10,11 +11,7 @@ invariant-loop-block g l = record {
   near : l.block < l.to + 65536;
   right : IfSome (g.S.Store.bytes l.fn.store) (λ file. HaveHeadersOf file l.begin l.end l.from l.block);
   handed : g.S.Store.handed l.store ≤ g.S.Store.handed l.fn.store + 24 * (blocks_below l.block - blocks_below l.from);
-  same_bytes : g.S.Store.bytes l.store ≡ g.S.Store.bytes l.fn.store;
-  same_told : g.S.Store.told l.store ≡ g.S.Store.told l.fn.store;
-  same_name : g.S.Store.name l.store ≡ g.S.Store.name l.fn.store;
-  counted : g.S.Store.faults l.fn.store ≤ g.S.Store.faults l.store;
-  small : g.S.Store.faults l.fn.store < 2 ^ 64 → g.S.Store.faults l.store < 2 ^ 64;
+  asks : OnlyAsks g.S.Store.bytes g.S.Store.told g.S.Store.name g.S.Store.faults ⊥ l.fn.store l.store;
 }
 
 abbrev pub decreases-loop-block : goal.decreases-loop-block

@@ -45,7 +45,7 @@ returns-in_err-data-clause-wrong g c =
     let wrong = c.in_err-data.ensures.wrong fault (ap Err (sym (rw e at c.from_residual-in_err-data.ensures.1))) in
     let after : c.args.at ≤ c.header_end.result = omega (arith, c.header_end.ensures, end_of_after c.args.at 40) in (
       wrong.0,
-      wrong-joined _ _ c.args.at c.args.end c.args.at c.header_end.result c.args.end fault.at pass.same_bytes after pass.right
+      wrong-joined _ _ c.args.at c.args.end c.args.at c.header_end.result c.args.end fault.at pass.store.same_bytes after pass.right
           (rw (pass.begin, pass.end, pass.place) at wrong.1),
     )
 
@@ -54,7 +54,7 @@ right_to_data : (g : _) (c : In_ok-data g) → IfSome (g.S.Store.bytes c.args.st
     (λ file. HaveHeadersOf file c.args.at c.args.end c.args.at c.read_data.new.pass.own.place)
 right_to_data g c =
     let pass = c.in_ok-pass.ensures in
-    headers-joined _ _ c.args.at c.args.end c.args.at c.header_end.result c.read_data.new.pass.own.place pass.same_bytes pass.right
+    headers-joined _ _ c.args.at c.args.end c.args.at c.header_end.result c.read_data.new.pass.own.place pass.store.same_bytes pass.right
     (rw (pass.begin, pass.end, pass.place) at c.in_ok-data.ensures.right)
 
 -- the pass is still that of the chunk
@@ -73,7 +73,7 @@ returns-in_err-finish-clause-wrong g c =
     omega (arith, c.header_end.ensures, end_of_after c.args.at 40, c.in_ok-pass.ensures.place, c.in_ok-data.ensures.moved, end_of_after c.in_ok-pass.pass.own.place c.args.header.data_size) in (
       wrong.0,
       wrong-joined _ _ c.args.at c.args.end c.args.at c.read_data.new.pass.own.place c.args.end fault.at
-          (c.in_ok-data.ensures.same_bytes ∙ c.in_ok-pass.ensures.same_bytes) after (right_to_data g read)
+          (c.in_ok-data.ensures.store.same_bytes ∙ c.in_ok-pass.ensures.store.same_bytes) after (right_to_data g read)
           (rw (same.0, same.1) at wrong.1),
     )
 
@@ -83,12 +83,12 @@ returns-clause-given g c =
     rw c.in_ok-into_chunk.ensures.bytes
     (data_given _ _ c.args.at c.args.header.data_size c.args.end c.in_ok-data.data (g.met.S.Store.sized c.args.store.now) c.requires.told
     (omega (arith, c.requires.end, header_within c.args.at c.args.header.data_size c.args.header.num_records))
-    (rw (pass.same_bytes, pass.place, c.header_end.ensures) at c.in_ok-data.ensures.given))
+    (rw (pass.store.same_bytes, pass.place, c.header_end.ensures) at c.in_ok-data.ensures.given))
 
 pub returns-clause-right : goal.returns-clause-right
 returns-clause-right g c =
     let read = (goal.at.returns-clause-right g c).In_ok-data in
     let same = same_pass g read in
     headers-joined _ _ c.args.at c.args.end c.args.at c.read_data.new.pass.own.place c.args.end
-    (c.in_ok-data.ensures.same_bytes ∙ c.in_ok-pass.ensures.same_bytes) (right_to_data g read)
+    (c.in_ok-data.ensures.store.same_bytes ∙ c.in_ok-pass.ensures.store.same_bytes) (right_to_data g read)
     (rw (same.0, same.1) at c.in_ok-finish.ensures.right)

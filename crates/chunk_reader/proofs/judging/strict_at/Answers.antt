@@ -23,7 +23,7 @@ loaded : (g : _) (c : In_ok-chunk g) → IsFound (g.S.Store.bytes c.args.store.n
     → IsLoaded (g.S.Store.bytes c.args.store.now) c.args.at c.in_ok-header.end c.in_ok-chunk.chunk
 loaded g c header =
     let h = c.in_ok-chunk.ensures.header in
-    let same = c.in_ok-header.ensures.same_bytes in
+    let same = c.in_ok-header.ensures.store.same_bytes in
     record {
       found = rw h header;
       sound = c.in_ok-chunk.ensures.sound;
@@ -45,7 +45,7 @@ returns-in_err-chunk-clause-refused g c =
     λ fault e.
     let at = (goal.at.returns-in_err-chunk-clause-refused g c).In_ok-header in
     let wrong = c.in_err-chunk.ensures.wrong fault (ap Err (sym (rw e at c.from_residual-in_err-chunk.ensures.1))) in
-    refused_block _ _ c.args.frame c.args.at c.in_ok-header.end c.in_ok-header.header fault c.in_ok-header.ensures.same_bytes (found g at) wrong.0 wrong.1
+    refused_block _ _ c.args.frame c.args.at c.in_ok-header.end c.in_ok-header.header fault c.in_ok-header.ensures.store.same_bytes (found g at) wrong.0 wrong.1
 
 pub returns-in-Ok-clause-judged : goal.returns-in-Ok-clause-judged
 returns-in-Ok-clause-judged g c =

@@ -1,4 +1,4 @@
-use Rattle.std.proofs.Common.{◌≡◌, ◌∙◌, ℕ, ◌+◌, ◌-◌, ◌≤◌, Err, length, take, drop, ◌++◌, ap, sym, subst, refl, arith}
+use Rattle.std.proofs.Common.{◌≡◌, ◌∙◌, ℕ, ◌+◌, ◌-◌, ◌≤◌, Err, length, take, drop, ◌++◌, ap, sym, subst, refl, arith, rules}
 use Rattle.std.proofs.lemmas.List.{length-take, length-take-le, take-append-le}
 use Rattle.block_layout.specs.Layout.{end_of}
 use Rattle.block_layout.proofs.Ends.{end_of-zero, end_of-more, end_of_after}
@@ -21,11 +21,7 @@ loop-left-init g c =
       same_end = refl;
       right = headers-none _ pass.begin pass.end pass.own.place pass.own.place (omega arith);
       handed = omega arith;
-      same_bytes = refl;
-      same_told = refl;
-      same_name = refl;
-      counted = omega arith;
-      small = λ h. h;
+      asks = search rules;
     }
 
 pub take-requires-clause-within : goal.take-requires-clause-within
@@ -47,7 +43,7 @@ returns-in_err-count-clause-wrong g c =
     let past : pass.own.place ≤ c.loop-left.pass.own.place =
     omega (arith, kept.moved, end_of_after pass.own.place (c.args.header.now.data_size - c.loop-left.left)) in (
       wrong.0,
-      wrong-joined _ _ pass.begin pass.end pass.own.place c.loop-left.pass.own.place pass.end fault.at kept.same_bytes past kept.right
+      wrong-joined _ _ pass.begin pass.end pass.own.place c.loop-left.pass.own.place pass.end fault.at kept.asks.same_bytes past kept.right
           (rw (← kept.same_begin, ← kept.same_end) wrong.1),
     )
 
@@ -74,18 +70,14 @@ loop-left-preserved g c =
       header = c.feed.ensures.header ∙ kept.header;
       left = subst (λ (k : ℕ). HasLeft c.feed.new.self k) (ap (λ (m : ℕ). left - m) size_is) (c.feed.ensures.left left kept.left);
       taken = own_more (g.S.Store.bytes c.args.store.now) (g.S.Store.bytes c.loop-left.store) (g.S.Store.told c.args.store.now)
-          (HasTaken c.loop-left.judge) (HasTaken c.feed.new.self) place front n (size - (left - n)) pass.end (take n (buf ++ behind)) kept.same_bytes
+          (HasTaken c.loop-left.judge) (HasTaken c.feed.new.self) place front n (size - (left - n)) pass.end (take n (buf ++ behind)) kept.asks.same_bytes
           (g.met.S.Store.sized c.args.store.now) c.requires.told begun joined c.feed.ensures.taken kept.taken
           (rw (front_is, ← kept.moved) given.given);
       moved = given.moved ∙ ap (λ (p : ℕ). end_of p n) kept.moved ∙ end_of-more place front n ∙ ap (end_of place) (sym joined);
       same_begin = c.take.ensures.same_begin ∙ kept.same_begin;
       same_end = c.take.ensures.same_end ∙ kept.same_end;
-      right = headers-joined _ _ pass.begin pass.end place c.loop-left.pass.own.place c.take.new.self.own.place kept.same_bytes kept.right
+      right = headers-joined _ _ pass.begin pass.end place c.loop-left.pass.own.place c.take.new.self.own.place kept.asks.same_bytes kept.right
           (rw (← kept.same_begin, ← kept.same_end) given.right);
       handed = omega (arith, given.handed, kept.handed);
-      same_bytes = cc;
-      same_told = cc;
-      same_name = cc;
-      counted = omega arith;
-      small = λ h. given.small (kept.small h);
+      asks = search rules;
     }

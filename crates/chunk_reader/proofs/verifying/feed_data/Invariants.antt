@@ -1,4 +1,5 @@
-use Rattle.std.proofs.Common.{◌≡◌, ◌+◌, ◌-◌, ◌<◌, ◌^◌, ◌≤◌, IfSome}
+use Rattle.std.proofs.Common.{◌≡◌, ◌+◌, ◌-◌, ◌≤◌, IfSome}
+use Rattle.record_io.specs.Calls.{OnlyAsks}
 use Rattle.block_layout.specs.Layout.{end_of, own_bytes_at}
 use Rattle.chunk_reader.specs.Places.{HaveHeadersOf}
 use Rattle.chunk_reader.specs.Pieces.{HasTaken, HasLeft}
@@ -16,11 +17,7 @@ invariant-loop-left g l = record {
   right : IfSome (g.S.Store.bytes l.fn.store)
       (λ file. HaveHeadersOf file l.fn.pass.begin l.fn.pass.end l.fn.pass.own.place l.pass.own.place);
   handed : g.S.Store.handed l.store + l.fn.pass.own.place ≤ g.S.Store.handed l.fn.store + l.pass.own.place;
-  same_bytes : g.S.Store.bytes l.store ≡ g.S.Store.bytes l.fn.store;
-  same_told : g.S.Store.told l.store ≡ g.S.Store.told l.fn.store;
-  same_name : g.S.Store.name l.store ≡ g.S.Store.name l.fn.store;
-  counted : g.S.Store.faults l.fn.store ≤ g.S.Store.faults l.store;
-  small : g.S.Store.faults l.fn.store < 2 ^ 64 → g.S.Store.faults l.store < 2 ^ 64;
+  asks : OnlyAsks g.S.Store.bytes g.S.Store.told g.S.Store.name g.S.Store.faults ⊥ l.fn.store l.store;
 }
 
 abbrev pub decreases-loop-left : goal.decreases-loop-left

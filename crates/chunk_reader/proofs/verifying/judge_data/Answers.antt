@@ -35,7 +35,7 @@ returns-in_err-judge-clause-wrong g c =
     let wrong = c.in_err-judge.ensures.wrong fault (ap Err (sym (rw e at c.from_residual-in_err-judge.ensures.1))) in
     let after : c.args.at ≤ c.header_end.result = omega (arith, c.header_end.ensures, end_of_after c.args.at 40) in (
       wrong.0,
-      wrong-joined _ _ c.args.at c.args.end c.args.at c.header_end.result c.args.end fault.at pass.same_bytes after pass.right
+      wrong-joined _ _ c.args.at c.args.end c.args.at c.header_end.result c.args.end fault.at pass.store.same_bytes after pass.right
           (rw (pass.begin, pass.end, pass.place) at wrong.1),
     )
 
@@ -44,7 +44,7 @@ right_to_data : (g : _) (c : In_ok-judge g) → IfSome (g.S.Store.bytes c.args.s
     (λ file. HaveHeadersOf file c.args.at c.args.end c.args.at c.feed_data.new.pass.own.place)
 right_to_data g c =
     let pass = c.in_ok-pass.ensures in
-    headers-joined _ _ c.args.at c.args.end c.args.at c.header_end.result c.feed_data.new.pass.own.place pass.same_bytes pass.right
+    headers-joined _ _ c.args.at c.args.end c.args.at c.header_end.result c.feed_data.new.pass.own.place pass.store.same_bytes pass.right
     (rw (pass.begin, pass.end, pass.place) at c.in_ok-judge.ensures.right)
 
 -- the pass is still that of the chunk
@@ -63,7 +63,7 @@ returns-in_err-finish-clause-wrong g c =
     omega (arith, c.header_end.ensures, end_of_after c.args.at 40, c.in_ok-pass.ensures.place, c.in_ok-judge.ensures.moved, end_of_after c.in_ok-pass.pass.own.place c.args.header.now.data_size) in (
       wrong.0,
       wrong-joined _ _ c.args.at c.args.end c.args.at c.feed_data.new.pass.own.place c.args.end fault.at
-          (c.in_ok-judge.ensures.same_bytes ∙ c.in_ok-pass.ensures.same_bytes) after (right_to_data g fed)
+          (c.in_ok-judge.ensures.store.same_bytes ∙ c.in_ok-pass.ensures.store.same_bytes) after (right_to_data g fed)
           (rw (same.0, same.1) at wrong.1),
     )
 
@@ -75,7 +75,7 @@ pub returns-clause-taken : goal.returns-clause-taken
 returns-clause-taken g c =
     let pass = c.in_ok-pass.ensures in
     let header = c.args.header.now in
-    taken_data _ _ (g.S.Store.told c.args.store.now) c.args.at header.data_size c.args.end c.in_ok-judge.judge pass.same_bytes
+    taken_data _ _ (g.S.Store.told c.args.store.now) c.args.at header.data_size c.args.end c.in_ok-judge.judge pass.store.same_bytes
     (g.met.S.Store.sized c.args.store.now) c.requires.told
     (omega (arith, c.requires.end, header_within c.args.at header.data_size header.num_records))
     (rw (pass.place, c.header_end.ensures) at c.in_ok-judge.ensures.taken)
@@ -85,7 +85,7 @@ returns-clause-right g c =
     let fed = (goal.at.returns-clause-right g c).In_ok-judge in
     let same = same_pass g fed in
     headers-joined _ _ c.args.at c.args.end c.args.at c.feed_data.new.pass.own.place c.args.end
-    (c.in_ok-judge.ensures.same_bytes ∙ c.in_ok-pass.ensures.same_bytes) (right_to_data g fed)
+    (c.in_ok-judge.ensures.store.same_bytes ∙ c.in_ok-pass.ensures.store.same_bytes) (right_to_data g fed)
     (rw (same.0, same.1) at c.in_ok-finish.ensures.right)
 
 pub returns-in_err-pass-clause-handed : goal.returns-in_err-pass-clause-handed

@@ -1,6 +1,6 @@
-use Rattle.std.proofs.Common.{◌≡◌, Option, true, Err, IfSome, List, ℕ, ap, sym, subst, arith}
+use Rattle.std.proofs.Common.{◌≡◌, Option, true, Err, IfSome, List, ℕ, ap, sym, subst, arith, rules}
 use Rattle.block_layout.proofs.Ends.{end_of_room}
-use Rattle.record_io.specs.declared.file_totals.Totals.{Totals}
+use Rattle.record_values.specs.declared.file_totals.Totals.{Totals}
 use Rattle.chunk_reader.specs.Faults.{IsVerdict}
 use Rattle.chunk_reader.specs.Progress.{AreTotals, AreReadFrom}
 use Rattle.chunk_reader.proofs.ChainReads.{fault_read}
@@ -14,7 +14,7 @@ returns-in_err-passed-clause-refused g c =
     let P : Option (List ℕ) → Type 0 = λ o. IfSome o (λ file. IsVerdict true file c.loop-totals.totals.bytes fault) in
     fault_read true _ _ c.loop-totals.totals c.args.size fault (g.met.S.Store.sized c.args.store.now) c.requires.told c.loop-totals-test.true
     kept.read c.in_ok-check_signature.ensures.signed
-    (subst P kept.same_bytes
+    (subst P kept.asks.same_bytes
     (c.in_err-passed.ensures.refused fault (ap Err (sym (rw e at c.from_residual-in_err-passed.ensures.1)))))
 
 pub loop-totals-smaller : goal.loop-totals-smaller
@@ -31,11 +31,7 @@ loop-totals-preserved g c =
     let P : Totals → Type 0 = λ t. IfSome (g.S.Store.bytes c.args.store.now) (λ file. AreReadFrom true file t) in record {
       bounds = subst (AreTotals c.args.size) counts (verified_totals c.args.size totals passed kept.bounds c.in_ok-passed.ensures.end);
       read = subst P counts
-          (verified_on _ _ totals passed kept.same_bytes c.in_ok-check_signature.ensures.signed c.in_ok-passed.ensures.passed kept.read);
+          (verified_on _ _ totals passed kept.asks.same_bytes c.in_ok-check_signature.ensures.signed c.in_ok-passed.ensures.passed kept.read);
       handed = omega (arith, ap (λ (t : Totals). t.bytes) c.counted-totals.ensures, c.in_ok-passed.ensures.handed, kept.handed);
-      same_bytes = cc;
-      same_told = cc;
-      same_name = cc;
-      counted = omega arith;
-      small = λ h. c.in_ok-passed.ensures.small (kept.small h);
+      asks = search rules;
     }

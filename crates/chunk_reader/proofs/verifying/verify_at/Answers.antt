@@ -31,7 +31,7 @@ found g c = record {
 through : (g : _) (c : After-finish g)
     → IsThrough (g.S.Store.bytes c.args.store.now) c.args.at c.in_ok-header.end c.in_ok-header.header c.in_ok-judge_data.field-0 c.finish.result
 through g c =
-    let same = c.in_ok-header.ensures.same_bytes in
+    let same = c.in_ok-header.ensures.store.same_bytes in
     let judge = c.in_ok-judge_data.field-0 in
     let P : Option (List ℕ) → Type 0 = λ o. IfSome o (λ file. HasTaken judge (data_at file c.args.at c.in_ok-header.header.data_size)) in
     let Q : Option (List ℕ) → Type 0 = λ o. IfSome o (λ file. HaveHeadersOf file c.args.at c.in_ok-header.end c.args.at c.in_ok-header.end) in
@@ -48,7 +48,7 @@ returns-in_err-judge_data-clause-refused g c =
     let header = (goal.at.returns-in_err-judge_data-clause-refused g c).In_ok-header in
     let wrong = c.in_err-judge_data.ensures.wrong fault (ap Err (sym (rw e at c.from_residual-in_err-judge_data.ensures.1))) in
     refused_block _ _ c.args.size c.args.at c.in_ok-header.end c.in_ok-header.header fault (found g header)
-    c.in_ok-header.ensures.same_bytes wrong.0 wrong.1
+    c.in_ok-header.ensures.store.same_bytes wrong.0 wrong.1
 
 pub returns-in-Ok-clause-end : goal.returns-in-Ok-clause-end
 returns-in-Ok-clause-end g c =

@@ -1,4 +1,4 @@
-use Rattle.std.proofs.Common.{◌≡◌, ◌∙◌, ℕ, List, ◌+◌, ◌-◌, ◌≤◌, Option, Some, None, IfSome, length, take, drop, ◌++◌, ap, sym, refl, length-append, arith}
+use Rattle.std.proofs.Common.{◌≡◌, ◌∙◌, ℕ, List, ◌+◌, ◌-◌, ◌≤◌, Option, Some, None, IfSome, length, take, drop, ◌++◌, ap, sym, refl, length-append, arith, rules}
 use Rattle.std.proofs.lemmas.List.{length-take, length-take-le, take-append-le}
 use Rattle.block_layout.specs.Layout.{end_of}
 use Rattle.block_layout.proofs.Ends.{end_of_after, end_of-zero, end_of-more}
@@ -80,10 +80,7 @@ loop-left-init g c =
       given = own_none (g.S.Store.bytes c.args.store.now) (λ (bytes : List ℕ). empty ≡ bytes) from (c.args.count - c.args.count) none c.in_ok-data.ensures;
       moved = c.from-own.ensures ∙ c.header_end.ensures ∙ sym (ap (end_of from) none ∙ end_of-zero from);
       none = leads-at _ at end at c.from-own.result.place c.in_ok-landing.field-0 None (cc) (given.leads end refl);
-      same_bytes = given.same_bytes;
-      same_told = given.same_told;
-      same_name = given.same_name;
-      counted = given.never_falls;
+      asks = search rules;
     }
 
 pub take-requires-clause-begun : goal.take-requires-clause-begun
@@ -141,17 +138,14 @@ loop-left-preserved g c =
       count = omega (arith, ap (length {A = ℕ}) grown, length-append c.loop-left.data (take n (buf ++ behind)), size_is, kept.count, joined);
       given = own_more (g.S.Store.bytes c.args.store.now) (g.S.Store.bytes c.loop-left.store) (g.S.Store.told c.args.store.now)
           (λ (bytes : List ℕ). c.loop-left.data ≡ bytes) (λ (bytes : List ℕ). c.push.new.self ≡ bytes)
-          from front n (count - (left - n)) end (take n (buf ++ behind)) kept.same_bytes
+          from front n (count - (left - n)) end (take n (buf ++ behind)) kept.asks.same_bytes
           (g.met.S.Store.sized c.args.store.now) (told_within _ c.args.size end c.requires.told c.requires.within) begun joined
           (λ bytes held. grown ∙ ap (λ (xs : List ℕ). xs ++ take n (buf ++ behind)) held) kept.given
           (rw (front_is, ← kept.moved) (given.given n (cc)));
       moved = moved ∙ ap (λ (p : ℕ). end_of p n) kept.moved ∙ end_of-more from front n ∙ ap (end_of from) (sym joined);
-      none = leads-joined _ _ at end at place c.take.new.own.place None kept.same_bytes (read_past at front place kept.moved)
+      none = leads-joined _ _ at end at place c.take.new.own.place None kept.asks.same_bytes (read_past at front place kept.moved)
           (omega (arith, moved, end_of_after place n)) kept.none (given.none n end (cc) refl);
-      same_bytes = given.same_bytes ∙ kept.same_bytes;
-      same_told = given.same_told ∙ kept.same_told;
-      same_name = given.same_name ∙ kept.same_name;
-      counted = omega (arith, given.never_falls, kept.counted);
+      asks = search rules;
     }
 
 pub returns-in-Contradicted-clause-onward : goal.returns-in-Contradicted-clause-onward
@@ -167,7 +161,7 @@ returns-in-Contradicted-clause-leads g c =
     let front = c.args.count - c.loop-left.left in
     leads-wider _ at end at (place + 1) end to
     (read_before at front place c.args.count end kept.moved (omega (arith, c.loop-left-test.true, kept.within)) c.requires.room)
-    (leads-joined _ _ at end at place (place + 1) (Some to) kept.same_bytes (read_past at front place kept.moved)
+    (leads-joined _ _ at end at place (place + 1) (Some to) kept.asks.same_bytes (read_past at front place kept.moved)
     (omega arith) kept.none (c.in_ok-taken.ensures.leads to end (cc) refl))
 
 pub contradicted_between-requires-2-clause-begun : goal.contradicted_between-requires-2-clause-begun
@@ -183,7 +177,7 @@ blocks_behind g c leads is =
     let kept = c.loop-left.invariant in
     let place = c.loop-left.own.place in
     let front = c.args.count - c.loop-left.left in
-    leads-joined _ _ at end at place end leads kept.same_bytes (read_past at front place kept.moved)
+    leads-joined _ _ at end at place end leads kept.asks.same_bytes (read_past at front place kept.moved)
     (read_within at front place c.args.count end kept.moved (omega arith) c.requires.room) kept.none
     (leads-at _ at end place end _ leads is (c.in_ok-landing-2.ensures.leads end refl))
 

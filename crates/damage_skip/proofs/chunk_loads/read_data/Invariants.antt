@@ -1,4 +1,5 @@
 use Rattle.std.proofs.Common.{◌≡◌, ◌-◌, ◌≤◌, None, length, IfSome}
+use Rattle.record_io.specs.Calls.{OnlyAsks}
 use Rattle.block_layout.specs.Layout.{end_of, own_bytes_at}
 use Rattle.damage_skip.specs.Steps.{LeadsTo}
 use Rattle.damage_skip.proofs.chunk_loads.read_data.Given as goal
@@ -10,10 +11,7 @@ invariant-loop-left g l = record {
   given : IfSome (g.S.Store.bytes l.fn.store) (λ file. l.data ≡ own_bytes_at file (end_of l.fn.at 40) (l.fn.count - l.left));
   moved : l.own.place ≡ end_of (end_of l.fn.at 40) (l.fn.count - l.left);
   none : IfSome (g.S.Store.bytes l.fn.store) (λ file. LeadsTo file l.fn.at l.fn.end l.fn.at l.own.place None);
-  same_bytes : g.S.Store.bytes l.store ≡ g.S.Store.bytes l.fn.store;
-  same_told : g.S.Store.told l.store ≡ g.S.Store.told l.fn.store;
-  same_name : g.S.Store.name l.store ≡ g.S.Store.name l.fn.store;
-  counted : g.S.Store.faults l.fn.store ≤ g.S.Store.faults l.store;
+  asks : OnlyAsks g.S.Store.bytes g.S.Store.told g.S.Store.name g.S.Store.faults ⊥ l.fn.store l.store;
 }
 
 abbrev pub decreases-loop-left : goal.decreases-loop-left

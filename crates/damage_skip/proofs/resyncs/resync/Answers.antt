@@ -1,4 +1,4 @@
-use Rattle.std.proofs.Common.{Some, ◌∙◌, subst, arith}
+use Rattle.std.proofs.Common.{Some, subst, arith, rules}
 use Rattle.chunk_reader.proofs.Rooms.{IsSized}
 use Rattle.damage_skip.proofs.Resyncing.{stand-more, resync-found, resync-none}
 use Rattle.damage_skip.proofs.resyncs.resync.Goals as goal
@@ -12,7 +12,7 @@ pub returns-in-Some-clause-resync : goal.returns-in-Some-clause-resync
 returns-in-Some-clause-resync g c =
     let kept = c.loop-block.invariant in
     rw c.landing.ensures
-    (resync-found _ _ c.args.size c.args.from c.loop-block.block _ c.in-Some.header kept.same_bytes
+    (resync-found _ _ c.args.size c.args.from c.loop-block.block _ c.in-Some.header kept.asks.same_bytes
     (sized g (goal.at.returns-in-Some-clause-resync g c).After-next_block-block) kept.from_place c.in-Some.is kept.none c.in_ok-header.ensures.found)
 
 pub loop-block-preserved : goal.loop-block-preserved
@@ -23,11 +23,8 @@ loop-block-preserved g c =
       at_block = omega (arith, kept.at_block);
       from_place = omega (arith, kept.from_place);
       near = omega (arith, c.loop-block-test.true);
-      none = stand-more _ _ c.args.from c.loop-block.block c.in_ok-header.field-0 kept.same_bytes kept.at_block (cc) kept.none given.found;
-      same_bytes = given.same_bytes ∙ kept.same_bytes;
-      same_told = given.same_told ∙ kept.same_told;
-      same_name = given.same_name ∙ kept.same_name;
-      counted = omega (arith, kept.counted, given.never_falls);
+      none = stand-more _ _ c.args.from c.loop-block.block c.in_ok-header.field-0 kept.asks.same_bytes kept.at_block (cc) kept.none given.found;
+      asks = search rules;
     }
 
 pub returns-clause-resync : goal.returns-clause-resync

@@ -1,5 +1,4 @@
 use Rattle.std.proofs.Common.{refl}
-use Rattle.chunk_header.specs.Views.{IsHeaderOf}
 use Rattle.ordered_writer.proofs.RightChunks.{laid_with-right}
 use Rattle.ordered_writer.proofs.laws.chunks_are_laid_with_their_header.Goals as goal
 

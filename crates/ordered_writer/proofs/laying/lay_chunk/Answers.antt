@@ -1,5 +1,6 @@
 use Rattle.std.proofs.Common.{ℕ, ◌+◌, ◌≤◌, ◌++◌, length, arith, rules}
-use Rattle.std.proofs.lemmas.Result.{err_from_is_err_and, on_ok_weaker, on_err_weaker}
+use Rattle.std.proofs.lemmas.Result.{on_ok_weaker, on_err_weaker}
+use Rattle.record_io.proofs.Calls.{OnErr-any}
 use Rattle.block_layout.specs.Layout.{end_of}
 use Rattle.block_layout.proofs.Ends.{end_of_after, end_of_mono, end_of-more}
 use Rattle.ordered_writer.proofs.Chunks.{TakesFront-chunk_header, TakesAndHolds-data, TakesFront-data, TakesAndHolds-padding, TakesFront-padding}
@@ -32,42 +33,45 @@ put_both-requires g c = (
       (data_within c.args.begin c.args.end (length c.args.header.now) (length (c.args.front.now ++ c.args.rest.now)) c.requires.room),
 )
 
-pub returns-in_err-put-clause-front : goal.returns-in_err-put-clause-front
-returns-in_err-put-clause-front g c =
-    let p = err_from_is_err_and c.from_residual.result c.from_residual.ensures.1 in
-    rw p.1
-    (TakesFront-chunk_header _ _ c.args.buffer.now c.args.begin c.args.end c.args.header.now (c.args.front.now ++ c.args.rest.now)
-    (omega (arith, end_of_mono c.args.begin (length c.args.header.now) (length c.args.header.now + length (c.args.front.now ++ c.args.rest.now)) (omega arith)))
-    c.in_err-put.ensures.front)
+pub returns-in_err-put-clause-sink : goal.returns-in_err-put-clause-sink
+returns-in_err-put-clause-sink g c = record {
+  whole = search rules;
+  front = OnErr-any _ (TakesFront-chunk_header _ _ c.args.buffer.now c.args.begin c.args.end c.args.header.now (c.args.front.now ++ c.args.rest.now)
+      (omega (arith, end_of_mono c.args.begin (length c.args.header.now) (length c.args.header.now + length (c.args.front.now ++ c.args.rest.now)) (omega arith)))
+      c.in_err-put.ensures.sink.front);
+  emptied = search rules;
+  counts = search rules;
+}
 
-pub returns-in_err-put_both-clause-front : goal.returns-in_err-put_both-clause-front
-returns-in_err-put_both-clause-front g c =
-    let p = err_from_is_err_and c.from_residual-in_err-put_both.result c.from_residual-in_err-put_both.ensures.1 in
+pub returns-in_err-put_both-clause-sink : goal.returns-in_err-put_both-clause-sink
+returns-in_err-put_both-clause-sink g c =
     let e = c.in_ok-put.ensures in
-    rw p.1
-    (TakesFront-data _ _ _ c.args.buffer.now c.put.new.buffer c.args.begin c.args.end c.args.header.now (c.args.front.now ++ c.args.rest.now)
-    (data_within c.args.begin c.args.end (length c.args.header.now) (length (c.args.front.now ++ c.args.rest.now)) c.requires.room)
-    e.whole
-    (rw (e.same_begin, e.same_end, e.moved) at c.in_err-put_both.ensures.front))
+    record {
+      whole = search rules;
+      front = OnErr-any _ (TakesFront-data _ _ _ c.args.buffer.now c.put.new.buffer c.args.begin c.args.end c.args.header.now (c.args.front.now ++ c.args.rest.now)
+          (data_within c.args.begin c.args.end (length c.args.header.now) (length (c.args.front.now ++ c.args.rest.now)) c.requires.room)
+          e.sink.whole
+          (rw (e.same_begin, e.same_end, e.moved) at c.in_err-put_both.ensures.sink.front));
+      emptied = search rules;
+      counts = search rules;
+    }
 
-pub returns-clause-whole : goal.returns-clause-whole
-returns-clause-whole g c =
-    let e = c.in_ok-put.ensures in
-    let f = c.in_ok-put_both.ensures in
-    let first = rw (e.same_begin, e.same_end, e.moved) at f.whole in
-    on_ok_weaker c.finish.result
-    (TakesAndHolds-padding _ _ _ c.args.buffer.now c.put_both.new.buffer c.finish.new.buffer c.args.begin c.args.end c.args.header.now (c.args.front.now ++ c.args.rest.now)
-    (data_within c.args.begin c.args.end (length c.args.header.now) (length (c.args.front.now ++ c.args.rest.now)) c.requires.room)
-    (TakesAndHolds-data _ _ _ c.args.buffer.now c.put.new.buffer c.put_both.new.buffer c.args.begin c.args.end c.args.header.now (c.args.front.now ++ c.args.rest.now) e.whole first))
-    (rw (f.same_begin, f.same_end, f.moved, e.same_begin, e.same_end, e.moved) at c.finish.ensures.whole)
-
-pub returns-clause-front : goal.returns-clause-front
-returns-clause-front g c =
+pub returns-clause-sink : goal.returns-clause-sink
+returns-clause-sink g c =
     let e = c.in_ok-put.ensures in
     let f = c.in_ok-put_both.ensures in
-    let first = rw (e.same_begin, e.same_end, e.moved) at f.whole in
-    on_err_weaker c.finish.result
-    (TakesFront-padding _ _ _ c.args.buffer.now c.put_both.new.buffer c.args.begin c.args.end c.args.header.now (c.args.front.now ++ c.args.rest.now)
-    (data_within c.args.begin c.args.end (length c.args.header.now) (length (c.args.front.now ++ c.args.rest.now)) c.requires.room)
-    (TakesAndHolds-data _ _ _ c.args.buffer.now c.put.new.buffer c.put_both.new.buffer c.args.begin c.args.end c.args.header.now (c.args.front.now ++ c.args.rest.now) e.whole first))
-    (rw (f.same_begin, f.same_end, f.moved, e.same_begin, e.same_end, e.moved) at c.finish.ensures.front)
+    let content = c.args.front.now ++ c.args.rest.now in
+    let within = data_within c.args.begin c.args.end (length c.args.header.now) (length content) c.requires.room in
+    let first = TakesAndHolds-data _ _ _ c.args.buffer.now c.put.new.buffer c.put_both.new.buffer c.args.begin c.args.end c.args.header.now content
+    e.sink.whole (rw (e.same_begin, e.same_end, e.moved) at f.sink.whole) in
+    let then = rw (f.same_begin, f.same_end, f.moved, e.same_begin, e.same_end, e.moved) at c.finish.ensures.sink in
+    record {
+      whole = on_ok_weaker c.finish.result
+          (TakesAndHolds-padding _ _ _ c.args.buffer.now c.put_both.new.buffer c.finish.new.buffer c.args.begin c.args.end c.args.header.now content within first)
+          then.whole;
+      front = on_err_weaker c.finish.result
+          (TakesFront-padding _ _ _ c.args.buffer.now c.put_both.new.buffer c.args.begin c.args.end c.args.header.now content within first)
+          then.front;
+      emptied = search rules;
+      counts = search rules;
+    }

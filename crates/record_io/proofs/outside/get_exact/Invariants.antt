@@ -1,4 +1,5 @@
 use Rattle.std.proofs.Common.{◌≡◌, length, ◌+◌, ◌-◌, ◌^◌, ◌<◌, ◌≤◌, ◌⊎◌, take, slice_range, IfSome}
+use Rattle.record_io.specs.Calls.{OnlyAsks}
 use Rattle.record_io.proofs.outside.get_exact.Given as goal
 
 abbrev pub invariant-loop-got : goal.invariant-loop-got
@@ -9,11 +10,7 @@ invariant-loop-got g l = record {
   handed : (g.S.Store.handed l.store ≡ g.S.Store.handed l.fn.store + l.got) ⊎ (g.S.Store.handed l.store ≡ 2 ^ 64 - 1);
   handed_small : g.S.Store.handed l.fn.store < 2 ^ 64 → (g.S.Store.handed l.fn.store ≤ g.S.Store.handed l.store) × (g.S.Store.handed l.store < 2 ^ 64);
   handed_most : g.S.Store.handed l.store ≤ g.S.Store.handed l.fn.store + l.got;
-  bytes : g.S.Store.bytes l.store ≡ g.S.Store.bytes l.fn.store;
-  told : g.S.Store.told l.store ≡ g.S.Store.told l.fn.store;
-  named : g.S.Store.name l.store ≡ g.S.Store.name l.fn.store;
-  counted : g.S.Store.faults l.fn.store ≤ g.S.Store.faults l.store;
-  small : g.S.Store.faults l.fn.store < 2 ^ 64 → g.S.Store.faults l.store < 2 ^ 64;
+  asks : OnlyAsks g.S.Store.bytes g.S.Store.told g.S.Store.name g.S.Store.faults ⊥ l.fn.store l.store;
 }
 
 abbrev pub decreases-loop-got : goal.decreases-loop-got

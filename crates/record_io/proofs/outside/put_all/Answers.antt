@@ -1,4 +1,4 @@
-use Rattle.std.proofs.Common.{ℕ, arith, length-drop}
+use Rattle.std.proofs.Common.{ℕ, arith, rules, length-drop}
 use Rattle.std.proofs.lemmas.List.{length-take}
 use Rattle.record_io.proofs.Pieces.{Takes-more}
 use Rattle.record_io.proofs.outside.put_all.Goals as goal
@@ -7,7 +7,5 @@ pub loop-at-preserved : goal.loop-at-preserved
 loop-at-preserved g c = record {
   within = omega (arith, c.in_ok-at.ensures.fits, length-take {A = ℕ}, length-drop {A = ℕ});
   taken = Takes-more _ _ _ c.args.piece.now c.loop-at.at c.in_ok-at.field-0 c.loop-at.invariant.taken c.in_ok-at.ensures.takes;
-  counted = omega arith;
-  small = λ _. c.in_ok-at.ensures.small;
-  named = cc;
+  counts = search rules;
 }

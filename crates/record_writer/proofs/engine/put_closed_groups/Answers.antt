@@ -1,9 +1,9 @@
-use Rattle.std.proofs.Common.{◌≡◌, ◌++◌, ℕ, List, Ok, Result, [], refl, subst, arith, rules}
+use Rattle.std.proofs.Common.{◌≡◌, ◌++◌, Ok, Result, [], refl, subst, arith, rules}
 use Rattle.record_io.proofs.Calls.{OnErr-any}
 use Rattle.record_writer.specs.declared.cut_off.CutOff.{CutOff}
 use Rattle.record_writer.specs.declared.engine.Taken.{Taken}
 use Rattle.record_writer.specs.declared.engine.Taken.TheVariants.{Window, All}
-use Rattle.record_writer.specs.Progresses.{AreGiven, Lays, chunks_of_groups}
+use Rattle.record_writer.specs.Progresses.{AreGiven}
 use Rattle.record_writer.specs.Windows.{AreTaken}
 use Rattle.record_writer.proofs.Layings.{Lays-none, LaysFront-whole}
 use Rattle.record_writer.proofs.Given.{Lays-all, LaysFront-all}
@@ -19,9 +19,8 @@ loop-taken-init g c = record {
   feed_going = c.take_window-taken.ensures.feed_going;
   in_reach = omega (arith, c.requires.in_reach, c.take_window-taken.ensures.in_reach c.args.file.now.place);
   drained = c.take_window-taken.ensures.drained;
-  causes = search rules;
-  input_name = c.take_window-taken.ensures.same_name;
-  made_name = refl;
+  feed = search rules;
+  made = search rules;
 }
 
 pub returns-in_err-put-clause-front : goal.returns-in_err-put-clause-front
@@ -66,9 +65,8 @@ loop-taken-preserved-then-is_large g c =
       feed_going = next.feed_going;
       in_reach = search (rules, reach_of-behind);
       drained = λ end. IfSome-given _ (g.L.RecordFeed.rest c.loop-taken.feed) _ c.loop-taken.grouper (before.0 ++ c.loop-taken.window) _ window (next.drained end);
-      causes = search rules;
-      input_name = search rules;
-      made_name = search rules;
+      feed = search rules;
+      made = search rules;
     }
 
 pub loop-taken-preserved : goal.loop-taken-preserved
@@ -85,9 +83,8 @@ loop-taken-preserved g c =
       feed_going = search rules;
       in_reach = search (rules, reach_of-behind);
       drained = λ end. IfSome-given _ (g.L.RecordFeed.rest c.loop-taken.feed) _ c.loop-taken.grouper (before.0 ++ c.loop-taken.window) _ window (search rules);
-      causes = search rules;
-      input_name = search rules;
-      made_name = search rules;
+      feed = search rules;
+      made = search rules;
     }
 
 pub returns-in_err-put-3-clause-front : goal.returns-in_err-put-3-clause-front

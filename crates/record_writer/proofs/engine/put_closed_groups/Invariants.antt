@@ -1,7 +1,8 @@
-use Rattle.std.proofs.Common.{◌≡◌, ℕ, ◌^◌, ◌≤◌, ◌++◌, true, Some, None, Ok, List, [], IfSome}
+use Rattle.std.proofs.Common.{◌≡◌, ℕ, ◌^◌, ◌≤◌, ◌++◌, true, Some, None, Ok, Err, List, [], IfSome}
+use Rattle.record_io.specs.Calls.{OnlyCounts}
 use Rattle.meta_chunk.specs.Files.{end_of_chunks}
+use Rattle.record_writer.specs.declared.cut_off.CutOff.TheVariants.{Input, Made}
 use Rattle.record_writer.specs.declared.engine.Taken.TheVariants.{Window, All}
-use Rattle.record_writer.specs.Causes.{AreCauses}
 use Rattle.record_writer.specs.Feeds.{nothing_left}
 use Rattle.record_writer.specs.Progresses.{Lays, chunks_of_groups, reach_of}
 use Rattle.record_writer.specs.Windows.{AreTaken}
@@ -17,9 +18,8 @@ invariant-loop-taken g l = record {
   feed_going : l.taken ≡ Ok Window → g.L.RecordFeed.going l.feed ≡ true;
   in_reach : reach_of (end_of_chunks l.file.place (chunks_of_groups l.window)) l.grouper (g.L.RecordFeed.bound l.feed) ≤ 2 ^ 60;
   drained : l.taken ≡ Ok (All None) → IfSome (g.L.RecordFeed.rest l.fn.feed) (λ _. g.L.RecordFeed.rest l.feed ≡ Some nothing_left);
-  causes : AreCauses l.taken (g.L.RecordFeed.faults l.fn.feed) (g.L.RecordFeed.faults l.feed) (g.M.Sink.faults l.fn.made) (g.M.Sink.faults l.made);
-  input_name : g.L.RecordFeed.name l.feed ≡ g.L.RecordFeed.name l.fn.feed;
-  made_name : g.M.Sink.name l.made ≡ g.M.Sink.name l.fn.made;
+  feed : OnlyCounts g.L.RecordFeed.name g.L.RecordFeed.faults (l.taken ≡ Err Input) l.fn.feed l.feed;
+  made : OnlyCounts g.M.Sink.lent g.M.Sink.faults (l.taken ≡ Err Made) l.fn.made l.made;
 }
 
 abbrev pub decreases-loop-taken : goal.decreases-loop-taken

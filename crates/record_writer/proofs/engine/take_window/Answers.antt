@@ -1,4 +1,4 @@
-use Rattle.std.proofs.Common.{◌∙◌, ◌≤◌, ℕ, Some, Ok, Err, ap, arith}
+use Rattle.std.proofs.Common.{◌≤◌, ℕ, Some, Ok, Err, ap, arith, rules}
 use Rattle.std.proofs.lemmas.Result.{err_from_is_err_and}
 use Rattle.meta_chunk.specs.Files.{end_of_chunks}
 use Rattle.record_writer.specs.Progresses.{AreGiven, chunks_of_groups, reach_of}
@@ -88,9 +88,7 @@ loop-feed-preserved g c =
             c.in-Ok-true.ensures.lowers (ap Ok c.in-Ok-true.field-0-test),
           );
       lowers = omega (arith, c.take_held.ensures.lowers);
-      count = omega (arith, c.take_held.ensures.same_faults);
-      small = λ h. c.in-Ok-true.ensures.small (rw c.take_held.ensures.same_faults (c.loop-feed.invariant.small h));
-      same_name = c.in-Ok-true.ensures.same_name ∙ c.take_held.ensures.same_name ∙ c.loop-feed.invariant.same_name;
+      counts = search rules;
     }
 
 pub returns-in-Ok-false-clause-in_reach : goal.returns-in-Ok-false-clause-in_reach

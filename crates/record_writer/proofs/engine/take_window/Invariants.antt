@@ -1,4 +1,5 @@
-use Rattle.std.proofs.Common.{◌≡◌, ℕ, ◌^◌, ◌<◌, ◌≤◌, true}
+use Rattle.std.proofs.Common.{◌≡◌, ℕ, ◌≤◌, true}
+use Rattle.record_io.specs.Calls.{OnlyCounts}
 use Rattle.meta_chunk.specs.Files.{end_of_chunks}
 use Rattle.record_writer.specs.Progresses.{AreGiven, chunks_of_groups, reach_of}
 use Rattle.record_writer.proofs.engine.take_window.Given as goal
@@ -10,9 +11,7 @@ invariant-loop-feed g l = record {
   in_reach : (place : ℕ) → reach_of (end_of_chunks place (chunks_of_groups l.window)) l.grouper (g.L.RecordFeed.bound l.feed)
       ≤ reach_of place l.fn.grouper (g.L.RecordFeed.bound l.fn.feed);
   lowers : g.L.RecordFeed.bound l.feed ≤ g.L.RecordFeed.bound l.fn.feed;
-  count : g.L.RecordFeed.faults l.fn.feed ≤ g.L.RecordFeed.faults l.feed;
-  small : g.L.RecordFeed.faults l.fn.feed < 2 ^ 64 → g.L.RecordFeed.faults l.feed < 2 ^ 64;
-  same_name : g.L.RecordFeed.name l.feed ≡ g.L.RecordFeed.name l.fn.feed;
+  counts : OnlyCounts g.L.RecordFeed.name g.L.RecordFeed.faults ⊥ l.fn.feed l.feed;
 }
 
 abbrev pub decreases-loop-feed : goal.decreases-loop-feed

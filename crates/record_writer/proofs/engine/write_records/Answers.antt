@@ -15,7 +15,7 @@ returns-in_err-flush-clause-made g c =
     let put = c.put_chunks-stop.ensures in
     rw (p.1, p.2)
     (TakesFront-ended c.args.options.now c.new-file.result c.new-file.ensures _ _ _ c.put_chunks-stop.new.file _ c.put_chunks-stop.result put.whole put.front
-    c.in_err-flush.ensures.front)
+    c.in_err-flush.ensures.made.front)
 
 pub returns-in_err-stop-clause-made : goal.returns-in_err-stop-clause-made
 returns-in_err-stop-clause-made g c =
@@ -23,7 +23,7 @@ returns-in_err-stop-clause-made g c =
     let put = c.put_chunks-stop.ensures in
     let front : TakesFront (g.M.Sink.taken c.put_chunks-stop.new.made) (g.M.Sink.taken c.if-is_ok.made) c.put_chunks-stop.new.file.held =
     elim c.if-is_ok.branch [
-      | goal.then-is_ok+in_ok-flush w ↦ rw w.made-is (TakesFront-whole _ _ _ w.in_ok-flush.ensures.whole)
+      | goal.then-is_ok+in_ok-flush w ↦ rw w.made-is (TakesFront-whole _ _ _ w.in_ok-flush.ensures.made.whole)
       | goal.else-is_ok+else-totals-gt0 w ↦ rw w.made-is (TakesFront-none _ _)
     ] in
     rw (p.1, p.2)
@@ -48,7 +48,7 @@ pub returns-clause-made : goal.returns-clause-made
 returns-clause-made g c =
     let flushed : Takes (g.M.Sink.taken c.put_chunks-stop.new.made) (g.M.Sink.taken c.if-is_ok.made) c.put_chunks-stop.new.file.held =
     elim c.if-is_ok.branch [
-      | goal.then-is_ok+in_ok-flush w ↦ rw w.made-is w.in_ok-flush.ensures.whole
+      | goal.then-is_ok+in_ok-flush w ↦ rw w.made-is w.in_ok-flush.ensures.made.whole
       | goal.else-is_ok+else-totals-gt0 w ↦ search rules
     ] in
     let whole = Takes-ended c.args.options.now c.new-file.result c.new-file.ensures _ _ _ c.put_chunks-stop.new.file _ c.put_chunks-stop.result c.put_chunks-stop.ensures.whole flushed in

@@ -1,13 +1,13 @@
-use Rattle.std.proofs.Common.{◌≡◌, ◌∙◌, ℕ, ◌+◌, ◌*◌, ◌≤◌, false, true, None, Some, Option, Ok, Err, IfSome, List, [], ◌∷◌, refl, sym, ap, subst, arith}
-use Rattle.std.specs.Fn.{FnReturnsAt}
+use Rattle.std.proofs.Common.{◌≡◌, ◌∙◌, ℕ, ◌+◌, ◌*◌, ◌≤◌, false, true, None, Some, Option, Ok, Err, IfSome, List, [], refl, sym, ap, subst, arith, rules}
 use Rattle.std.proofs.lemmas.Result.{err_from_is_err_and}
 use Rattle.record_io.specs.Puts.{taken_by}
+use Rattle.record_io.specs.Calls.{OnlyAsks, OnlyCounts}
 use Rattle.record_writer.specs.Progresses.{nothing_made}
-use Rattle.record_io.specs.declared.file_totals.Totals.{Totals}
+use Rattle.record_values.specs.declared.file_totals.Totals.{Totals}
 use Rattle.chunk_reader.specs.Reasons.{Applies, NoneOf, loading_reasons}
 use Rattle.chunk_reader.proofs.Rooms.{IsSized}
 use Rattle.damage_skip.specs.Steps.{IsOnward}
-use Rattle.damage_skip.specs.Walks.{piece_of, IsEventIn, IsMet, IsStop, IsStoppedAt, GoesOn, stop_of}
+use Rattle.damage_skip.specs.Walks.{piece_of, IsEventIn, IsAllowedEvent, IsRefusedStop, IsStop, IsStoppedAt, GoesOn, StandsIn, WalksOn, stop_of}
 use Rattle.damage_skip.specs.declared.regions.Region.{Region}
 use Rattle.repair_copy.specs.Told.{ArePassed}
 use Rattle.repair_copy.specs.Copies.{next_place, HasPassed, HasWalked}
@@ -17,37 +17,38 @@ use Rattle.repair_copy.proofs.Passed.{regions_of, event_passed, passed_next, pas
 use Rattle.repair_copy.proofs.repairs.repair.Goals as goal
 use Rattle.repair_copy.proofs.repairs.repair.Goals.{In-Ok-Some, In_ok-put-in-Ok-Some, In-Err-Stopped, After-next}
 
--- an event lies where the walk has come past
-event_in : (g : _) (c : In-Ok-Some g) → IsEventIn c.loop-event.walker.progress.place c.next.new.self.progress.place c.in-Ok-Some.event
-event_in g c = c.in-Ok-Some.ensures.bounds c.in-Ok-Some.event (ap Ok c.in-Ok-Some.field-0-is)
+-- an event that the walk gives
+given : (g : _) (c : In-Ok-Some g)
+    → IsAllowedEvent g.F.Fn c.loop-event.walker.policy.test c.loop-event.walker.progress.place c.next.new.self.progress.place c.in-Ok-Some.event
+given g c = c.in-Ok-Some.ensures.event c.in-Ok-Some.event (ap Ok c.in-Ok-Some.field-0-is)
 
 -- the walk goes on past it
-on : (g : _) (c : In-Ok-Some g) → IfSome (g.S.Store.bytes c.loop-event.store) (λ file. GoesOn c.loop-event.walker.progress.keep file
-    c.loop-event.walker.progress.place c.next.new.self.progress.place (piece_of c.in-Ok-Some.event ∷ []))
+on : (g : _) (c : In-Ok-Some g)
+    → WalksOn (g.S.Store.bytes c.loop-event.store) c.loop-event.walker.progress c.next.new.self.progress (Ok (Some c.in-Ok-Some.event))
 on g c = rw c.in-Ok-Some.field-0-is at c.in-Ok-Some.ensures.goes_on
 
 -- and was let pass where it is a region
 pass : (g : _) (c : In-Ok-Some g) → ArePassed g.F.Fn c.args.policy.test (regions_of c.in-Ok-Some.event)
 pass g c =
-    event_passed _ _ c.loop-event.walker.policy.test _ _ c.in-Ok-Some.event c.loop-event.invariant.same_test (event_in g c)
-    (omega (arith, c.in-Ok-Some.ensures.within, c.in-Ok-Some.ensures.same_size, c.loop-event.invariant.same_size, c.requires.in_reach))
-    (λ region is. c.in-Ok-Some.ensures.allowed region (ap Ok (c.in-Ok-Some.field-0-is ∙ ap Some is)))
+    let e = given g c in
+    event_passed _ _ c.loop-event.walker.policy.test _ _ c.in-Ok-Some.event c.loop-event.invariant.same_test e.bounds
+    (omega (arith, c.next.new.self.progress.within, c.in-Ok-Some.ensures.stands.in_reach)) e.allowed
 
 pub put-requires-clause-fits : goal.put-requires-clause-fits
 put-requires-clause-fits g c =
     let at = (goal.at.put-requires-clause-fits g c).In-Ok-Some in
-    fits c.loop-event.walker.progress.place c.next.new.self.progress.place (next_place c.loop-event.copied) c.in-Ok-Some.event (event_in g at)
+    fits c.loop-event.walker.progress.place c.next.new.self.progress.place (next_place c.loop-event.copied) c.in-Ok-Some.event (given g at).bounds
     (next_place_small c.loop-event.walker.progress.place c.loop-event.copied c.loop-event.invariant.small)
-    (omega (arith, c.in-Ok-Some.ensures.within, c.in-Ok-Some.ensures.same_size, c.loop-event.invariant.same_size, c.requires.in_reach))
+    (omega (arith, c.next.new.self.progress.within, c.in-Ok-Some.ensures.stands.in_reach))
 
 pub returns-in_err-put-in-Ok-Some-clause-repairs : goal.returns-in_err-put-in-Ok-Some-clause-repairs
 returns-in_err-put-in-Ok-Some-clause-repairs g c =
     let at = (goal.at.returns-in_err-put-in-Ok-Some-clause-repairs g c).In-Ok-Some in
     let kept = c.loop-event.invariant in
     let p = err_from_is_err_and c.from_residual.result c.from_residual.ensures.1 in
-    cut_within g.F.Fn c.args.policy.test _ _ c.loop-event.walker.progress.keep c.loop-event.walker.progress.place c.next.new.self.progress.place kept.same_bytes kept.keeps
-    c.loop-event.copied _ _ _ (piece_of c.in-Ok-Some.event) c.in_err-put-in-Ok-Some.field-0.0 c.from_residual.result _ _ (p.1 ∙ ap Err p.2) kept.copied (on g at)
-    (let_pass _ _ c.loop-event.walker.policy.test c.in-Ok-Some.field-0 c.in-Ok-Some.event kept.same_test c.in-Ok-Some.field-0-is c.in-Ok-Some.ensures.allowed)
+    cut_within g.F.Fn c.args.policy.test _ _ c.loop-event.walker.progress.keep c.loop-event.walker.progress.place c.next.new.self.progress.place kept.store.same_bytes kept.keeps
+    c.loop-event.copied _ _ _ (piece_of c.in-Ok-Some.event) c.in_err-put-in-Ok-Some.field-0.0 c.from_residual.result _ _ (p.1 ∙ ap Err p.2) kept.copied (on g at).past
+    (let_pass _ _ c.loop-event.walker.policy.test c.in-Ok-Some.event kept.same_test (given g at).allowed)
     (c.in_err-put-in-Ok-Some.ensures.front c.in_err-put-in-Ok-Some.field-0.0 refl)
 
 pub returns-in_err-put-in-Ok-Some-clause-passes : goal.returns-in_err-put-in-Ok-Some-clause-passes
@@ -59,17 +60,16 @@ returns-in_err-put-in-Ok-Some-clause-passes g c =
 
 -- what was copied with the event
 copied : (g : _) (c : In_ok-put-in-Ok-Some g)
-    → IfSome (g.S.Store.bytes c.loop-event.store) (λ file. GoesOn c.loop-event.walker.progress.keep file
-    c.loop-event.walker.progress.place c.next.new.self.progress.place (piece_of c.in-Ok-Some.event ∷ []))
+    → IsAllowedEvent g.F.Fn c.loop-event.walker.policy.test c.loop-event.walker.progress.place c.next.new.self.progress.place c.in-Ok-Some.event
+    → WalksOn (g.S.Store.bytes c.loop-event.store) c.loop-event.walker.progress c.next.new.self.progress (Ok (Some c.in-Ok-Some.event))
     → IfSome (g.S.Store.bytes c.args.store.now) (HasWalked g.F.Fn c.args.policy.test
     c.next.new.self.progress.place c.put.new.self (taken_by (g.M.Sink.taken c.args.made.now) None (g.E.Sink.taken c.args.notes.now))
     (taken_by (g.M.Sink.taken c.put.new.made) None (g.E.Sink.taken c.put.new.notes)))
-copied g c further =
+copied g c given on =
     let kept = c.loop-event.invariant in
-    walked_next _ _ _ _ c.loop-event.walker.progress.keep c.loop-event.walker.progress.place c.next.new.self.progress.place kept.same_bytes kept.keeps
-    c.loop-event.copied c.put.new.self _ _ _ (piece_of c.in-Ok-Some.event) kept.copied further
-    (let_pass _ _ c.loop-event.walker.policy.test c.in-Ok-Some.field-0 c.in-Ok-Some.event kept.same_test c.in-Ok-Some.field-0-is c.in-Ok-Some.ensures.allowed)
-    c.in_ok-put-in-Ok-Some.ensures.whole
+    walked_next _ _ _ _ c.loop-event.walker.progress.keep c.loop-event.walker.progress.place c.next.new.self.progress.place kept.store.same_bytes kept.keeps
+    c.loop-event.copied c.put.new.self _ _ _ (piece_of c.in-Ok-Some.event) kept.copied on.past
+    (let_pass _ _ c.loop-event.walker.policy.test c.in-Ok-Some.event kept.same_test given.allowed) c.in_ok-put-in-Ok-Some.ensures.whole
 
 -- where that is no region nothing is told
 quiet : (g : _) (c : In_ok-put-in-Ok-Some g) → c.put.new.self.regions ≡ 0 → c.put.new.notes ≡ c.args.notes.now
@@ -104,18 +104,15 @@ few g c there =
 
 -- what holds behind the event, however it is dropped
 preserved : (g : _) (c : In_ok-put-in-Ok-Some g)
-    → IsEventIn c.loop-event.walker.progress.place c.next.new.self.progress.place c.in-Ok-Some.event
-    → IfSome (g.S.Store.bytes c.loop-event.store) (λ file. GoesOn c.loop-event.walker.progress.keep file
-    c.loop-event.walker.progress.place c.next.new.self.progress.place (piece_of c.in-Ok-Some.event ∷ []))
+    → IsAllowedEvent g.F.Fn c.loop-event.walker.policy.test c.loop-event.walker.progress.place c.next.new.self.progress.place c.in-Ok-Some.event
+    → WalksOn (g.S.Store.bytes c.loop-event.store) c.loop-event.walker.progress c.next.new.self.progress (Ok (Some c.in-Ok-Some.event))
     → ArePassed g.F.Fn c.args.policy.test (regions_of c.in-Ok-Some.event)
     → record {
       same_size : c.next.new.self.progress.size ≡ c.args.size;
       keeps : c.next.new.self.progress.keep ≡ true;
       going_on : c.next.new.self.progress.stopped ≡ None;
       same_test : c.next.new.self.policy.test ≡ c.args.policy.test;
-      same_bytes : g.S.Store.bytes c.next.new.store ≡ g.S.Store.bytes c.args.store.now;
-      told : g.S.Store.told c.next.new.store ≡ Some c.args.size;
-      met : IfSome (g.S.Store.bytes c.next.new.store) (λ file. IsMet c.next.new.self.progress.keep file c.next.new.self.progress.place);
+      stands : StandsIn (g.S.Store.bytes c.next.new.store) (g.S.Store.told c.next.new.store) c.next.new.self.progress;
       copied : IfSome (g.S.Store.bytes c.args.store.now) (HasWalked g.F.Fn c.args.policy.test
           c.next.new.self.progress.place c.put.new.self (taken_by (g.M.Sink.taken c.args.made.now) None (g.E.Sink.taken c.args.notes.now))
           (taken_by (g.M.Sink.taken c.put.new.made) None (g.E.Sink.taken c.put.new.notes)));
@@ -125,70 +122,63 @@ preserved : (g : _) (c : In_ok-put-in-Ok-Some g)
       going : c.put.new.self.file.spent ≡ false;
       small : c.put.new.self.file.place ≤ 64 + 2 * c.next.new.self.progress.place;
       few : c.put.new.self.regions ≤ c.next.new.self.progress.place;
-      store_count : g.S.Store.faults c.args.store.now ≤ g.S.Store.faults c.next.new.store;
-      made_count : g.M.Sink.faults c.args.made.now ≤ g.M.Sink.faults c.put.new.made;
-      notes_count : g.E.Sink.faults c.args.notes.now ≤ g.E.Sink.faults c.put.new.notes;
-      store_name : g.S.Store.name c.next.new.store ≡ g.S.Store.name c.args.store.now;
-      made_name : g.M.Sink.name c.put.new.made ≡ g.M.Sink.name c.args.made.now;
-      notes_name : g.E.Sink.name c.put.new.notes ≡ g.E.Sink.name c.args.notes.now;
+      store : OnlyAsks g.S.Store.bytes g.S.Store.told g.S.Store.name g.S.Store.faults ⊥ c.args.store.now c.next.new.store;
+      made : OnlyCounts g.M.Sink.lent g.M.Sink.faults ⊥ c.args.made.now c.put.new.made;
+      notes : OnlyCounts g.E.Sink.lent g.E.Sink.faults ⊥ c.args.notes.now c.put.new.notes;
     }
-preserved g c there further let_pass =
+preserved g c given on passed =
     let kept = c.loop-event.invariant in
+    let e = c.in-Ok-Some.ensures in
     record {
-      same_size = c.in-Ok-Some.ensures.same_size ∙ kept.same_size;
-      keeps = c.in-Ok-Some.ensures.same_keep ∙ kept.keeps;
-      going_on = c.in-Ok-Some.ensures.stopped;
-      same_test = c.in-Ok-Some.ensures.same_test ∙ kept.same_test;
-      same_bytes = c.in-Ok-Some.ensures.same_bytes ∙ kept.same_bytes;
-      told = c.in-Ok-Some.ensures.same_told ∙ kept.told;
-      met = subst (λ (b : Option (List ℕ)). IfSome b (λ file. IsMet c.next.new.self.progress.keep file c.next.new.self.progress.place))
-          (sym c.in-Ok-Some.ensures.same_bytes) c.in-Ok-Some.ensures.met;
-      copied = copied g c further;
-      passed = passed_next _ _ _ _ _ _ _ c.in-Ok-Some.event kept.passed c.in_ok-put-in-Ok-Some.ensures.line c.in_ok-put-in-Ok-Some.ensures.regions let_pass;
+      same_size = e.goes_on.same_size ∙ kept.same_size;
+      keeps = e.goes_on.same_keep ∙ kept.keeps;
+      going_on = on.stopped;
+      same_test = e.same_test ∙ kept.same_test;
+      stands = subst (λ (told : Option ℕ). StandsIn (g.S.Store.bytes c.next.new.store) told c.next.new.self.progress) (sym e.store.same_told)
+          (subst (λ (b : Option (List ℕ)). StandsIn b (g.S.Store.told c.loop-event.store) c.next.new.self.progress) (sym e.store.same_bytes) e.stands);
+      copied = copied g c given on;
+      passed = passed_next _ _ _ _ _ _ _ c.in-Ok-Some.event kept.passed c.in_ok-put-in-Ok-Some.ensures.line c.in_ok-put-in-Ok-Some.ensures.regions passed;
       quiet = quiet g c;
       unbegun = λ unbegun. cc (unbegun, c.in_ok-put-in-Ok-Some.ensures.begun);
       going = c.in_ok-put-in-Ok-Some.ensures.going;
-      small = small g c there;
-      few = few g c there;
-      store_count = omega (arith, kept.store_count, c.in-Ok-Some.ensures.never_falls);
-      made_count = omega (arith, kept.made_count, c.in_ok-put-in-Ok-Some.ensures.made_count);
-      notes_count = omega (arith, kept.notes_count, c.in_ok-put-in-Ok-Some.ensures.notes_count);
-      store_name = c.in-Ok-Some.ensures.same_name ∙ kept.store_name;
-      made_name = c.in_ok-put-in-Ok-Some.ensures.made_name ∙ kept.made_name;
-      notes_name = c.in_ok-put-in-Ok-Some.ensures.notes_name ∙ kept.notes_name;
+      small = small g c given.bounds;
+      few = few g c given.bounds;
+      store = search rules;
+      made = search rules;
+      notes = search rules;
     }
 
 pub loop-event-preserved-in_ok-put-in-Ok-Some : goal.loop-event-preserved-in_ok-put-in-Ok-Some
 loop-event-preserved-in_ok-put-in-Ok-Some g c =
     let at = goal.at.loop-event-preserved-in_ok-put-in-Ok-Some g c in
-    preserved g at.In_ok-put-in-Ok-Some (event_in g at.In-Ok-Some) (on g at.In-Ok-Some) (pass g at.In-Ok-Some)
+    preserved g at.In_ok-put-in-Ok-Some (given g at.In-Ok-Some) (on g at.In-Ok-Some) (pass g at.In-Ok-Some)
 
 pub loop-event-preserved-in_ok-put-in-Ok-Some-2 : goal.loop-event-preserved-in_ok-put-in-Ok-Some-2
 loop-event-preserved-in_ok-put-in-Ok-Some-2 g c =
     let at = goal.at.loop-event-preserved-in_ok-put-in-Ok-Some-2 g c in
-    preserved g at.In_ok-put-in-Ok-Some (event_in g at.In-Ok-Some) (on g at.In-Ok-Some) (pass g at.In-Ok-Some)
+    preserved g at.In_ok-put-in-Ok-Some (given g at.In-Ok-Some) (on g at.In-Ok-Some) (pass g at.In-Ok-Some)
 
 pub loop-event-preserved : goal.loop-event-preserved
 loop-event-preserved g c =
     let at = goal.at.loop-event-preserved g c in
-    preserved g at.In_ok-put-in-Ok-Some (event_in g at.In-Ok-Some) (on g at.In-Ok-Some) (pass g at.In-Ok-Some)
+    preserved g at.In_ok-put-in-Ok-Some (given g at.In-Ok-Some) (on g at.In-Ok-Some) (pass g at.In-Ok-Some)
 
 -- where the walk has come to without a further event
-ended : (g : _) (c : After-next g) (events_none : IfSome (g.S.Store.bytes c.loop-event.store) (λ file. GoesOn c.loop-event.walker.progress.keep file
-    c.loop-event.walker.progress.place c.next.new.self.progress.place []))
+ended : (g : _) (c : After-next g)
+    → IfSome (g.S.Store.bytes c.loop-event.store) (λ file. GoesOn c.loop-event.walker.progress.keep file c.loop-event.walker.progress.place
+    c.next.new.self.progress.place [])
     → IfSome (g.S.Store.bytes c.args.store.now) (HasWalked g.F.Fn c.args.policy.test c.next.new.self.progress.place c.loop-event.copied
     (taken_by (g.M.Sink.taken c.args.made.now) None (g.E.Sink.taken c.args.notes.now))
     (taken_by (g.M.Sink.taken c.loop-event.made) None (g.E.Sink.taken c.loop-event.notes)))
 ended g c none =
     let kept = c.loop-event.invariant in
-    walked_to_end _ _ _ _ c.loop-event.walker.progress.keep c.loop-event.walker.progress.place c.next.new.self.progress.place kept.same_bytes kept.keeps
+    walked_to_end _ _ _ _ c.loop-event.walker.progress.keep c.loop-event.walker.progress.place c.next.new.self.progress.place kept.store.same_bytes kept.keeps
     c.loop-event.copied _ _ kept.copied none
 
 -- what the store tells has as many bytes as was told
 sized : (g : _) (c : After-next g) → IsSized (g.S.Store.bytes c.loop-event.store) (Some c.loop-event.walker.progress.size)
 sized g c =
-    subst (IsSized (g.S.Store.bytes c.loop-event.store)) (c.loop-event.invariant.told ∙ ap Some (sym c.loop-event.invariant.same_size))
-    (g.met.S.Store.sized c.loop-event.store)
+    subst (IsSized (g.S.Store.bytes c.loop-event.store)) c.loop-event.invariant.stands.size (g.met.S.Store.sized c.loop-event.store)
 
 pub returns-in_err-finish-in-Ok-None-clause-repairs : goal.returns-in_err-finish-in-Ok-None-clause-repairs
 returns-in_err-finish-in-Ok-None-clause-repairs g c =
@@ -196,7 +186,7 @@ returns-in_err-finish-in-Ok-None-clause-repairs g c =
     let p = err_from_is_err_and c.from_residual-in_err-finish-in-Ok-None.result c.from_residual-in_err-finish-in-Ok-None.ensures.1 in
     repairs_unfinished g.F.Fn c.args.policy.test _ c.next.new.self.progress.place c.loop-event.copied c.from_residual-in_err-finish-in-Ok-None.result
     c.in_err-finish-in-Ok-None.field-0.0 _ _ _ _ _ (p.1 ∙ ap Err p.2)
-    (ended g at.After-next (rw c.in-Ok-None.field-0-is at c.in-Ok-None.ensures.goes_on))
+    (ended g at.After-next (rw c.in-Ok-None.field-0-is at c.in-Ok-None.ensures.goes_on).past)
     (λ before events. c.in_err-finish-in-Ok-None.ensures.front c.in_err-finish-in-Ok-None.field-0.0 refl before (g.E.Sink.taken c.loop-event.notes) events)
 
 pub returns-in-Ok-None-clause-repairs : goal.returns-in-Ok-None-clause-repairs
@@ -204,8 +194,8 @@ returns-in-Ok-None-clause-repairs g c =
     let at = goal.at.returns-in-Ok-None-clause-repairs g c in
     let kept = c.loop-event.invariant in
     repairs_whole g.F.Fn c.args.policy.test _ c.next.new.self.progress.place c.loop-event.copied c.finish.new.self _ _ _ _ _ _
-    (ended g at.After-next (rw c.in-Ok-None.field-0-is at c.in-Ok-None.ensures.goes_on))
-    (ends_at_end g.F.Fn c.args.policy.test _ _ c.loop-event.walker.progress.keep c.loop-event.walker.progress.place c.next.new.self.progress.place kept.same_bytes kept.keeps
+    (ended g at.After-next (rw c.in-Ok-None.field-0-is at c.in-Ok-None.ensures.goes_on).past)
+    (ends_at_end g.F.Fn c.args.policy.test _ _ c.loop-event.walker.progress.keep c.loop-event.walker.progress.place c.next.new.self.progress.place kept.store.same_bytes kept.keeps
     c.loop-event.walker.progress.size (sized g at.After-next) (c.in-Ok-None.ensures.ended (ap Ok c.in-Ok-None.field-0-is)))
     (λ before events. c.in_ok-finish-in-Ok-None.ensures.whole before (g.E.Sink.taken c.loop-event.notes) events)
     c.totals.ensures.counted refl
@@ -217,18 +207,15 @@ returns-in-Ok-None-clause-bytes g c =
       ap (λ (t : Totals). t.bytes) c.totals.ensures.counted,
       c.in_ok-finish-in-Ok-None.ensures.place,
       next_place_small c.loop-event.walker.progress.place c.loop-event.copied c.loop-event.invariant.small,
-      c.in-Ok-None.ensures.rises,
-      c.in-Ok-None.ensures.within,
-      c.in-Ok-None.ensures.same_size,
+      c.in-Ok-None.ensures.goes_on.rises,
+      c.next.new.self.progress.within,
+      c.in-Ok-None.ensures.goes_on.same_size,
       c.loop-event.invariant.same_size,
     )
 
--- where the walk stops
-stop : (g : _) (c : In-Err-Stopped g) → IsStop c.next.new.self.progress.size c.next.new.self.progress.place c.in-Err-Stopped.region
-stop g c = c.in-Err-Stopped.ensures.stop c.in-Err-Stopped.region (ap Err c.in-Err-Stopped.field-0-is) c.loop-event.invariant.going_on
-
--- which the test can refuse
-refused : (g : _) (c : In-Err-Stopped g) → FnReturnsAt g.F.Fn c.args.policy.test c.in-Err-Stopped.region false
+-- where the walk stops, at a region that the test can refuse
+refused : (g : _) (c : In-Err-Stopped g)
+    → IsRefusedStop g.F.Fn c.args.policy.test c.next.new.self.progress.size c.next.new.self.progress.place c.in-Err-Stopped.region
 refused g c =
     rw (← c.loop-event.invariant.same_test)
     (c.in-Err-Stopped.ensures.refused c.in-Err-Stopped.region (ap Err c.in-Err-Stopped.field-0-is) c.loop-event.invariant.going_on)
@@ -239,61 +226,62 @@ returns-in_err-finish-in-Err-Stopped-clause-repairs g c =
     let p = err_from_is_err_and c.from_residual-in_err-finish-in-Err-Stopped.result c.from_residual-in_err-finish-in-Err-Stopped.ensures.1 in
     repairs_unfinished g.F.Fn c.args.policy.test _ c.next.new.self.progress.place c.loop-event.copied c.from_residual-in_err-finish-in-Err-Stopped.result
     c.in_err-finish-in-Err-Stopped.field-0.0 _ _ _ _ _ (p.1 ∙ ap Err p.2)
-    (ended g at.After-next c.in-Err-Stopped.ensures.goes_on)
+    (ended g at.After-next c.in-Err-Stopped.ensures.goes_on.past)
     (λ before events. c.in_err-finish-in-Err-Stopped.ensures.front c.in_err-finish-in-Err-Stopped.field-0.0 refl before (g.E.Sink.taken c.loop-event.notes) events)
 
 pub returns-in-Err-Stopped-clause-repairs : goal.returns-in-Err-Stopped-clause-repairs
 returns-in-Err-Stopped-clause-repairs g c =
     let kept = c.loop-event.invariant in
     let at = goal.at.returns-in-Err-Stopped-clause-repairs g c in
+    let e = c.in-Err-Stopped.ensures in
+    let there = refused g at.In-Err-Stopped in
     let region : Region = c.in-Err-Stopped.region in
     rw c.in-Err-Stopped.region-is
     (repairs_stopped g.F.Fn c.args.policy.test _ c.next.new.self.progress.place c.loop-event.copied c.finish-in-Err-Stopped.new.self region _ _ _ _ _
-    (ended g at.After-next c.in-Err-Stopped.ensures.goes_on)
-    (ends_at_region g.F.Fn c.args.policy.test _ _ c.next.new.self.progress.keep c.loop-event.walker.progress.place c.next.new.self.progress.place kept.same_bytes
-    (c.in-Err-Stopped.ensures.same_keep ∙ kept.keeps) c.loop-event.walker.progress.size region (sized g at.After-next)
-    (subst (λ (size : ℕ). IsStop size c.next.new.self.progress.place region) c.in-Err-Stopped.ensures.same_size (stop g at.In-Err-Stopped))
+    (ended g at.After-next c.in-Err-Stopped.ensures.goes_on.past)
+    (ends_at_region g.F.Fn c.args.policy.test _ _ c.next.new.self.progress.keep c.loop-event.walker.progress.place c.next.new.self.progress.place kept.store.same_bytes
+    (e.goes_on.same_keep ∙ kept.keeps) c.loop-event.walker.progress.size region (sized g at.After-next)
+    (subst (λ (size : ℕ). IsStop size c.next.new.self.progress.place region) e.goes_on.same_size there.stop)
     (subst (λ (stopped : Option Region). IfSome (g.S.Store.bytes c.loop-event.store) (λ file.
     IsStoppedAt c.next.new.self.progress.keep file c.next.new.self.progress.place stopped))
-    (c.in-Err-Stopped.ensures.stopped ∙ ap stop_of (ap Err c.in-Err-Stopped.field-0-is)) c.in-Err-Stopped.ensures.stopped_there)
-    (refused g at.In-Err-Stopped))
+    (e.goes_on.stopped ∙ ap stop_of (ap Err c.in-Err-Stopped.field-0-is)) e.stands.stopped_there)
+    there.refused)
     (λ before events. c.in_ok-finish-in-Err-Stopped.ensures.whole before (g.E.Sink.taken c.loop-event.notes) events))
 
 pub returns-in-Err-Stopped-clause-passes : goal.returns-in-Err-Stopped-clause-passes
 returns-in-Err-Stopped-clause-passes g c =
-    let at = (goal.at.returns-in-Err-Stopped-clause-passes g c).In-Err-Stopped in
-    let there = stop g at in
+    let there = refused g (goal.at.returns-in-Err-Stopped-clause-passes g c).In-Err-Stopped in
     rw c.in-Err-Stopped.region-is
     (passes_stopped g.F.Fn c.args.policy.test _ c.in-Err-Stopped.region _ _ c.loop-event.invariant.passed (
       record {
-        ordered = omega (arith, there.begin, there.onward.past);
-        in_reach = omega (arith, there.onward.within, c.in-Err-Stopped.ensures.same_size, c.loop-event.invariant.same_size, c.requires.in_reach);
+        ordered = omega (arith, there.stop.begin, there.stop.onward.past);
+        in_reach = omega (arith, there.stop.onward.within, c.in-Err-Stopped.ensures.stands.in_reach);
       },
-      refused g at,
+      there.refused,
     ))
 
 pub returns-in-Err-Stopped-clause-stop : goal.returns-in-Err-Stopped-clause-stop
 returns-in-Err-Stopped-clause-stop g c =
     λ region is.
-    let there = stop g (goal.at.returns-in-Err-Stopped-clause-stop g c).In-Err-Stopped in
+    let there = (refused g (goal.at.returns-in-Err-Stopped-clause-stop g c).In-Err-Stopped).stop in
     let same : c.in-Err-Stopped.region ≡ region = cc is in
     subst (λ (r : Region). IsOnward c.args.size r.begin r.end) same
-    (subst (λ (size : ℕ). IsOnward size c.in-Err-Stopped.region.begin c.in-Err-Stopped.region.end) (c.in-Err-Stopped.ensures.same_size ∙ c.loop-event.invariant.same_size)
+    (subst (λ (size : ℕ). IsOnward size c.in-Err-Stopped.region.begin c.in-Err-Stopped.region.end) (c.in-Err-Stopped.ensures.goes_on.same_size ∙ c.loop-event.invariant.same_size)
     (subst (λ (place : ℕ). IsOnward c.next.new.self.progress.size place c.in-Err-Stopped.region.end) (sym there.begin) there.onward))
 
 pub returns-in-Err-Store-clause-repairs : goal.returns-in-Err-Store-clause-repairs
 returns-in-Err-Store-clause-repairs g c =
     let at = goal.at.returns-in-Err-Store-clause-repairs g c in
-    repairs_store g.F.Fn c.args.policy.test _ c.next.new.self.progress.place c.loop-event.copied _ _ _ _ _ _ c.loop-event.invariant.made_count
-    (ended g at.After-next c.in-Err-Store.ensures.goes_on)
+    repairs_store g.F.Fn c.args.policy.test _ c.next.new.self.progress.place c.loop-event.copied _ _ _ _ _ _ c.loop-event.invariant.made.never_falls
+    (ended g at.After-next c.in-Err-Store.ensures.goes_on.past)
     (λ before events. c.break_off.ensures.put before (g.E.Sink.taken c.loop-event.notes) events)
 
 pub returns-in-Err-Memory-clause-repairs : goal.returns-in-Err-Memory-clause-repairs
 returns-in-Err-Memory-clause-repairs g c =
     let at = goal.at.returns-in-Err-Memory-clause-repairs g c in
     let kept = c.loop-event.invariant in
-    repairs_memory g.F.Fn c.args.policy.test _ c.next.new.self.progress.place c.loop-event.copied _ _ _ _ _ _ kept.made_count
-    (ended g at.After-next c.in-Err-Memory.ensures.goes_on)
-    (subst (λ (b : Option (List ℕ)). IfSome b (λ file. NoneOf (Applies file c.next.new.self.progress.place) loading_reasons)) kept.same_bytes
+    repairs_memory g.F.Fn c.args.policy.test _ c.next.new.self.progress.place c.loop-event.copied _ _ _ _ _ _ kept.made.never_falls
+    (ended g at.After-next c.in-Err-Memory.ensures.goes_on.past)
+    (subst (λ (b : Option (List ℕ)). IfSome b (λ file. NoneOf (Applies file c.next.new.self.progress.place) loading_reasons)) kept.store.same_bytes
     (c.in-Err-Memory.ensures.memory (ap Err c.in-Err-Memory.field-0-is)))
     (λ before events. c.break_off-in-Err-Memory.ensures.put before (g.E.Sink.taken c.loop-event.notes) events)

@@ -1,5 +1,5 @@
-use Rattle.std.proofs.Common.{◌≡◌, ◌∙◌, ◌<◌, IfSome, Bool, Err, refl, sym, ap, subst, arith}
-use Rattle.record_io.specs.declared.file_totals.Totals.{Totals}
+use Rattle.std.proofs.Common.{◌≡◌, ◌∙◌, ◌<◌, IfSome, Bool, Err, refl, sym, ap, subst, arith, rules}
+use Rattle.record_values.specs.declared.file_totals.Totals.{Totals}
 use Rattle.chunk_reader.specs.Faults.{BeginsWithSignature, IsVerdict}
 use Rattle.chunk_reader.specs.Progress.{counted, AreTotals, AreReadFrom}
 use Rattle.chunk_reader.specs.declared.judging.Judged.{Judged}
@@ -13,14 +13,14 @@ use Rattle.chunk_reader.proofs.file_reader.Reader.next.Goals.{After-strict_at, A
 held : (g : _) (c : After-strict_at g) → g.S.Store.bytes c.if-at-eq0.store ≡ g.S.Store.bytes c.args.store.now
 held g c =
     elim c.if-at-eq0.branch [
-      | then-at-eq0+in_ok-check_signature w ↦ ap g.S.Store.bytes w.store-is ∙ w.check_signature.ensures.same_bytes
+      | then-at-eq0+in_ok-check_signature w ↦ ap g.S.Store.bytes w.store-is ∙ w.check_signature.ensures.store.same_bytes
       | else-at-eq0 w ↦ ap g.S.Store.bytes w.store-is
     ]
 
 -- the file begins with the signature, as its chunks so far show, or the check of the front
 begins : (g : _) (c : After-strict_at g) → IfSome (g.S.Store.bytes c.args.store.now) BeginsWithSignature
 begins g c =
-    signed_where_read c.args.self.now.frame _ c.args.self.now.totals c.requires.place
+    signed_where_read c.args.self.now.frame _ c.args.self.now.totals c.requires.reads.read
     (λ front. elim c.if-at-eq0.branch [
       | then-at-eq0+in_ok-check_signature w ↦ w.in_ok-check_signature.ensures.signed
       | else-at-eq0 w ↦ absurd (w.if-at-eq0.false (c.at.ensures ∙ front))
@@ -54,28 +54,31 @@ returns-in_err-judged-clause-refused g c =
     let before = (goal.at.returns-in_err-judged-clause-refused g c).After-strict_at in
     let below : c.args.self.now.totals.bytes < c.args.self.now.size =
     omega (arith, c.self.invariant.within, size_shown g before, place_shown g before, c.at-2.ensures, c.at-3.ensures) in
-    λ fault e. fault_read c.args.self.now.frame _ _ c.args.self.now.totals c.args.self.now.size fault (g.met.S.Store.sized c.args.store.now)
-    c.requires.told below c.requires.place (begins g before) (verdict g c (held g before) fault e)
-
-pub returns-in_err-judged-clause-all_given : goal.returns-in_err-judged-clause-all_given
-returns-in_err-judged-clause-all_given g c =
-    let before = (goal.at.returns-in_err-judged-clause-all_given g c).After-strict_at in
-    λ fault e. no_further_refused c.args.self.now.frame _ c.args.self.now.totals fault c.requires.place (verdict g c (held g before) fault e)
+    λ fault e.
+    let refused = verdict g c (held g before) fault e in
+    record {
+      is_fault = fault_read c.args.self.now.frame _ _ c.args.self.now.totals c.args.self.now.size fault (g.met.S.Store.sized c.args.store.now)
+          c.requires.reads.size below c.requires.reads.read (begins g before) refused;
+      all_given = no_further_refused c.args.self.now.frame _ c.args.self.now.totals fault c.requires.reads.read refused;
+    }
 
 pub returns-in_err-judged-clause-memory : goal.returns-in_err-judged-clause-memory
 returns-in_err-judged-clause-memory g c =
     let before = (goal.at.returns-in_err-judged-clause-memory g c).After-strict_at in
-    λ e. loading_shown _ _ c.at-3.result c.args.self.now.totals.bytes (held g before) (sym c.at-3.ensures)
-    (c.in_err-judged.ensures.memory (ap Err (sym (rw e at c.from_residual-in_err-judged.ensures.1))))
+    λ e. record {
+      none = loading_shown _ _ c.at-3.result c.args.self.now.totals.bytes (held g before) (sym c.at-3.ensures)
+          (c.in_err-judged.ensures.memory (ap Err (sym (rw e at c.from_residual-in_err-judged.ensures.1))));
+      signed = begins g before;
+    }
 
-pub returns-in_err-judged-clause-memory_signed : goal.returns-in_err-judged-clause-memory_signed
-returns-in_err-judged-clause-memory_signed g c = λ e. begins g (goal.at.returns-in_err-judged-clause-memory_signed g c).After-strict_at
-
-pub returns-in_err-check_signature-clause-all_given : goal.returns-in_err-check_signature-clause-all_given
-returns-in_err-check_signature-clause-all_given g c =
+pub returns-in_err-check_signature-clause-refused : goal.returns-in_err-check_signature-clause-refused
+returns-in_err-check_signature-clause-refused g c =
     λ fault e.
     let end = refused_end _ fault (rw e at c.from_residual.ensures.1) in
-    no_further_unsigned c.args.self.now.frame _ c.args.self.now.totals.bytes (c.in_err-check_signature.ensures.refused fault (ap Err end)).2
+    record {
+      is_fault = search rules;
+      all_given = no_further_unsigned c.args.self.now.frame _ c.args.self.now.totals.bytes (c.in_err-check_signature.ensures.refused fault (ap Err end)).2;
+    }
 
 pub counted-self-inside-requires-clause-room : goal.counted-self-inside-requires-clause-room
 counted-self-inside-requires-clause-room g c =
@@ -98,10 +101,6 @@ totals g c place =
 pub invariant_of-self : goal.invariant_of-self
 invariant_of-self g c =
     let at = goal.at.invariant_of-self g c in totals g at.After-counted-self-inside (place_shown g at.After-strict_at)
-
-pub returns-clause-totals : goal.returns-clause-totals
-returns-clause-totals g c =
-    let at = goal.at.returns-clause-totals g c in totals g at.After-counted-self-inside (place_shown g at.After-strict_at)
 
 left : (g : _) (c : After-counted-self-inside g) → c.match-matches.matches ≡ is_left c.in_ok-judged.judged.what
 left g c =
@@ -129,19 +128,28 @@ goes_on g c same begins =
     (judged_in_shown c.self.inside.frame now.frame _ _ c.at-3.result now.totals.bytes j frame same (sym c.at-3.ensures) c.in_ok-judged.ensures.sound)
     (left g c))
 
-pub returns-clause-given : goal.returns-clause-given
-returns-clause-given g c =
-    let at = goal.at.returns-clause-given g c in
+pub returns-clause-chunk : goal.returns-clause-chunk
+returns-clause-chunk g c =
+    let at = goal.at.returns-clause-chunk g c in
     let on = goes_on g at.After-counted-self-inside (held g at.After-strict_at) (begins g at.After-strict_at) in
     λ j is.
     let same : c.in_ok-judged.judged ≡ j = cc in
-    subst (λ (x : Judged). IfSome (g.S.Store.bytes c.args.store.now)
-    (λ file. GoesOn c.args.self.now.frame file c.args.self.now.totals c.counted-self-inside.result x)) same on
+    record {
+      judged = search rules;
+      moved = search rules;
+      given = subst (λ (x : Judged). IfSome (g.S.Store.bytes c.args.store.now)
+          (λ file. GoesOn c.args.self.now.frame file c.args.self.now.totals c.counted-self-inside.result x)) same on;
+    }
 
-pub returns-clause-read : goal.returns-clause-read
-returns-clause-read g c =
-    let at = goal.at.returns-clause-read g c in
+pub returns-clause-goes_on : goal.returns-clause-goes_on
+returns-clause-goes_on g c =
+    let at = goal.at.returns-clause-goes_on g c in
     let on = goes_on g at.After-counted-self-inside (held g at.After-strict_at) (begins g at.After-strict_at) in
-    subst (λ (b : Bool). IfSome (g.S.Store.bytes c.args.store.now) (λ file. AreReadFrom b file c.counted-self-inside.result))
-    (frame_shown g at.After-strict_at)
-    (read_on c.args.self.now.frame _ c.args.self.now.totals c.counted-self-inside.result c.in_ok-judged.judged c.requires.place on)
+    record {
+      same_size = search rules;
+      same_frame = search rules;
+      totals = totals g at.After-counted-self-inside (place_shown g at.After-strict_at);
+      read = subst (λ (b : Bool). IfSome (g.S.Store.bytes c.args.store.now) (λ file. AreReadFrom b file c.counted-self-inside.result))
+          (frame_shown g at.After-strict_at)
+          (read_on c.args.self.now.frame _ c.args.self.now.totals c.counted-self-inside.result c.in_ok-judged.judged c.requires.reads.read on);
+    }

@@ -1,4 +1,4 @@
-use Rattle.std.proofs.Common.{◌≡◌, ℕ, ◌+◌, ◌-◌, ◌<◌, ◌≤◌, arith, length, take, drop, length-append, length-drop, refl, sym, ap, ◌∙◌}
+use Rattle.std.proofs.Common.{◌≡◌, ℕ, ◌+◌, ◌-◌, ◌<◌, ◌≤◌, arith, length, take, drop, length-append, length-drop, sym, ap, ◌∙◌, rules}
 use Rattle.std.proofs.lemmas.List.{length-take}
 use Rattle.block_layout.specs.Layout.{end_of}
 use Rattle.block_layout.proofs.Ends.{end_of-zero, end_of-more}
@@ -17,11 +17,7 @@ loop-filled-init g c = record {
   moved = sym (end_of-zero c.args.self.now.place);
   given = own_filled-none (g.S.Store.bytes c.args.store.now);
   handed = omega arith;
-  same_bytes = refl;
-  same_told = refl;
-  same_name = refl;
-  counted = omega arith;
-  small = λ h. h;
+  asks = search rules;
 }
 
 pub take-requires-clause-told : goal.take-requires-clause-told
@@ -29,7 +25,7 @@ take-requires-clause-told g c =
     let i = c.loop-filled.filled in
     let rest : length (take (length c.loop-filled.buf - i) (drop i c.loop-filled.buf)) ≡ length c.loop-filled.buf - i =
     omega (arith, length-take {A = ℕ}, length-drop {A = ℕ}) in
-    rw (c.loop-filled.invariant.same_told, c.loop-filled.invariant.moved, rest)
+    rw (c.loop-filled.invariant.asks.same_told, c.loop-filled.invariant.moved, rest)
     (HasRoom-rest _ c.args.self.now.place (length c.loop-filled.buf) i
     (rw (c.loop-filled.auto.buf) c.requires.told) (omega (arith, c.loop-filled-test.true)))
 
@@ -45,12 +41,8 @@ loop-filled-preserved g c =
       within = omega (arith, size, length-append {A = ℕ}, length-take {A = ℕ}, length-drop {A = ℕ});
       moved = c.in_ok-filled.ensures.moved ∙ ap (λ p. end_of p n) c.loop-filled.invariant.moved ∙ end_of-more place i n;
       given = own_filled _ _ (g.S.Store.told c.args.store.now) place i n c.loop-filled.buf c.take.new.buf
-          c.loop-filled.invariant.same_bytes (g.met.S.Store.sized c.args.store.now) (rw (c.loop-filled.auto.buf) c.requires.told) size fits
+          c.loop-filled.invariant.asks.same_bytes (g.met.S.Store.sized c.args.store.now) (rw (c.loop-filled.auto.buf) c.requires.told) size fits
           c.loop-filled.invariant.given (rw (← c.loop-filled.invariant.moved) c.in_ok-filled.ensures.given);
       handed = omega (arith, c.in_ok-filled.ensures.handed);
-      same_bytes = cc;
-      same_told = cc;
-      same_name = cc;
-      counted = omega arith;
-      small = λ h. c.in_ok-filled.ensures.small (c.loop-filled.invariant.small h);
+      asks = search rules;
     }

@@ -1,4 +1,5 @@
-use Rattle.std.proofs.Common.{◌≡◌, ◌+◌, ◌-◌, ◌^◌, ◌<◌, ◌≤◌, length, take, IfSome}
+use Rattle.std.proofs.Common.{◌≡◌, ◌+◌, ◌-◌, ◌≤◌, length, take, IfSome}
+use Rattle.record_io.specs.Calls.{OnlyAsks}
 use Rattle.block_layout.specs.Layout.{end_of, own_bytes_at}
 use Rattle.chunk_reader.proofs.own_bytes.OwnBytes.fill.Given as goal
 
@@ -8,11 +9,7 @@ invariant-loop-filled g l = record {
   moved : l.self.place ≡ end_of l.fn.self.place l.filled;
   given : IfSome (g.S.Store.bytes l.fn.store) (λ file. take l.filled l.buf ≡ own_bytes_at file l.fn.self.place l.filled);
   handed : g.S.Store.handed l.store ≤ g.S.Store.handed l.fn.store + l.filled;
-  same_bytes : g.S.Store.bytes l.store ≡ g.S.Store.bytes l.fn.store;
-  same_told : g.S.Store.told l.store ≡ g.S.Store.told l.fn.store;
-  same_name : g.S.Store.name l.store ≡ g.S.Store.name l.fn.store;
-  counted : g.S.Store.faults l.fn.store ≤ g.S.Store.faults l.store;
-  small : g.S.Store.faults l.fn.store < 2 ^ 64 → g.S.Store.faults l.store < 2 ^ 64;
+  asks : OnlyAsks g.S.Store.bytes g.S.Store.told g.S.Store.name g.S.Store.faults ⊥ l.fn.store l.store;
 }
 
 abbrev pub decreases-loop-filled : goal.decreases-loop-filled

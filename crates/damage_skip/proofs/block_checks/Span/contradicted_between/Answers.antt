@@ -1,4 +1,4 @@
-use Rattle.std.proofs.Common.{◌+◌, Some, None, ◌∙◌, arith}
+use Rattle.std.proofs.Common.{◌+◌, Some, None, arith, rules}
 use Rattle.damage_skip.proofs.Leads.{leads-at, leads-past, leads-joined, leads-wider, leads-narrower}
 use Rattle.damage_skip.proofs.block_checks.Span.contradicted_between.Goals as goal
 
@@ -10,7 +10,7 @@ returns-in-Some-clause-leads g c =
     let block = c.loop-block.block in
     let here = leads-at _ begin end block (block + 1) _ (Some c.in-Some.landing) c.in-Some.is (c.in_ok-landing.ensures.leads end is) in
     leads-wider _ begin end c.args.from (block + 1) c.args.to c.in-Some.landing (omega (arith, c.loop-block-test.true))
-    (leads-joined _ _ begin end c.args.from block (block + 1) (Some c.in-Some.landing) kept.same_bytes kept.from_place (omega arith)
+    (leads-joined _ _ begin end c.args.from block (block + 1) (Some c.in-Some.landing) kept.asks.same_bytes kept.from_place (omega arith)
     (kept.none end is) here)
 
 pub loop-block-preserved : goal.loop-block-preserved
@@ -25,12 +25,9 @@ loop-block-preserved g c =
       near = omega (arith, c.loop-block-test.true);
       none = λ end is.
           let here = leads-at _ begin end block (block + 1) c.in_ok-landing.field-0 None (cc) (given.leads end is) in
-          leads-joined _ _ begin end c.args.from block (block + 65536) None kept.same_bytes kept.from_place (omega arith)
+          leads-joined _ _ begin end c.args.from block (block + 65536) None kept.asks.same_bytes kept.from_place (omega arith)
           (kept.none end is) (leads-past _ begin end block (block + 65536) kept.at_block (omega arith) here);
-      same_bytes = given.same_bytes ∙ kept.same_bytes;
-      same_told = given.same_told ∙ kept.same_told;
-      same_name = given.same_name ∙ kept.same_name;
-      counted = omega (arith, kept.counted, given.never_falls);
+      asks = search rules;
     }
 
 pub returns-clause-leads : goal.returns-clause-leads

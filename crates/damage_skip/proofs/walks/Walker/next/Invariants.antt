@@ -1,20 +1,13 @@
-use Rattle.std.proofs.Common.{◌≡◌, ◌-◌, ◌≤◌, None, [], IfSome}
-use Rattle.damage_skip.specs.Walks.{GoesOn}
+use Rattle.std.proofs.Common.{◌≡◌, ◌-◌, Ok, None}
+use Rattle.record_io.specs.Calls.{OnlyAsks}
+use Rattle.damage_skip.specs.Walks.{WalksOn}
 use Rattle.damage_skip.proofs.walks.Walker.next.Given as goal
 
 abbrev pub invariant-loop-self : goal.invariant-loop-self
 invariant-loop-self g l = record {
-  same_size : l.self.progress.size ≡ l.fn.self.progress.size;
-  same_keep : l.self.progress.keep ≡ l.fn.self.progress.keep;
+  on : WalksOn (g.S.Store.bytes l.fn.store) l.fn.self.progress l.self.progress (Ok None);
   same_policy : l.self.policy ≡ l.fn.self.policy;
-  going : l.self.progress.stopped ≡ None;
-  rises : l.fn.self.progress.place ≤ l.self.progress.place;
-  goes_on : IfSome (g.S.Store.bytes l.fn.store) (λ file.
-      GoesOn l.fn.self.progress.keep file l.fn.self.progress.place l.self.progress.place []);
-  same_bytes : g.S.Store.bytes l.store ≡ g.S.Store.bytes l.fn.store;
-  same_told : g.S.Store.told l.store ≡ g.S.Store.told l.fn.store;
-  same_name : g.S.Store.name l.store ≡ g.S.Store.name l.fn.store;
-  counted : g.S.Store.faults l.fn.store ≤ g.S.Store.faults l.store;
+  asks : OnlyAsks g.S.Store.bytes g.S.Store.told g.S.Store.name g.S.Store.faults ⊥ l.fn.store l.store;
 }
 
 abbrev pub decreases-loop-self : goal.decreases-loop-self

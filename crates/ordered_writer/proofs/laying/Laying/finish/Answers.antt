@@ -1,5 +1,5 @@
-use Rattle.std.proofs.Common.{ℕ, ◌<◌, min, [], refl, arith}
-use Rattle.std.proofs.lemmas.Result.{err_from_is_err_and}
+use Rattle.std.proofs.Common.{ℕ, ◌<◌, min, [], refl, arith, rules}
+use Rattle.record_io.proofs.Calls.{OnErr-any}
 use Rattle.block_layout.specs.Layout.{end_of}
 use Rattle.block_layout.proofs.Ends.{end_of_above, end_of_after}
 use Rattle.ordered_writer.proofs.RunCalls.{TakesAndHolds-more_zeros, TakesFront-more_zeros, TakesAndHolds-nothing_laid}
@@ -14,9 +14,7 @@ loop-self-init g c =
       after = omega arith;
       taken = TakesAndHolds-nothing_laid _ c.args.buffer.now self.begin self.end self.place [];
       fits = λ h. h;
-      counted = omega arith;
-      small = λ h. h;
-      named = refl;
+      counts = search rules;
     }
 
 pub loop-self-smaller : goal.loop-self-smaller
@@ -37,19 +35,20 @@ loop-self-preserved g c =
       taken = TakesAndHolds-more_zeros _ _ _ c.args.buffer.now c.loop-self.buffer c.put_run.new.buffer self.begin self.end self.place c.loop-self.self.place c.put_run.new.self.place
           4096 i.after (omega (arith, e.moved)) i.taken (rw (i.begin, i.end) at e.whole);
       fits = λ _. c.put_run.ensures.fits;
-      counted = omega arith;
-      small = λ h. c.put_run.ensures.small (i.small h);
-      named = cc;
+      counts = search rules;
     }
 
-pub returns-in_err-put_run-clause-front : goal.returns-in_err-put_run-clause-front
-returns-in_err-put_run-clause-front g c =
+pub returns-in_err-put_run-clause-sink : goal.returns-in_err-put_run-clause-sink
+returns-in_err-put_run-clause-sink g c =
     let self = c.args.self.now in
     let i = c.loop-self.invariant in
-    let p = err_from_is_err_and c.from_residual.result c.from_residual.ensures.1 in
     let front = c.in_err-put_run.ensures.front in
     let place : ℕ = c.loop-self.self.place in
     let until : ℕ = min (end_of place 4096) self.end in
-    rw p.1
-    (TakesFront-more_zeros _ _ _ c.args.buffer.now c.loop-self.buffer self.begin self.end self.place place until
-    4096 i.after (omega (arith, end_of_after place 4096)) (omega arith) i.taken (rw (i.begin, i.end) at front))
+    record {
+      whole = search rules;
+      front = OnErr-any _ (TakesFront-more_zeros _ _ _ c.args.buffer.now c.loop-self.buffer self.begin self.end self.place place until
+          4096 i.after (omega (arith, end_of_after place 4096)) (omega arith) i.taken (rw (i.begin, i.end) at front));
+      emptied = search rules;
+      counts = search rules;
+    }

@@ -1,5 +1,6 @@
-use Rattle.std.proofs.Common.{length, ◌-◌, ◌≡◌, ◌^◌, ◌<◌, ◌≤◌, [], ◌++◌}
+use Rattle.std.proofs.Common.{length, ◌-◌, ◌≡◌, ◌≤◌, [], ◌++◌}
 use Rattle.record_io.specs.Buffers.{TakesAndHolds}
+use Rattle.record_io.specs.Calls.{OnlyCounts}
 use Rattle.ordered_writer.specs.Layings.{laid_between}
 use Rattle.ordered_writer.proofs.laying.Laying.finish.Given as goal
 
@@ -11,9 +12,7 @@ invariant-loop-self g l = record {
   taken : TakesAndHolds (g.M.Sink.taken l.fn.sink) (g.M.Sink.taken l.sink)
       (l.fn.buffer ++ laid_between l.fn.self.begin l.fn.self.end l.fn.self.place l.self.place []) l.buffer;
   fits : length l.fn.buffer ≤ g.row.N → length l.buffer ≤ g.row.N;
-  counted : g.M.Sink.faults l.fn.sink ≤ g.M.Sink.faults l.sink;
-  small : g.M.Sink.faults l.fn.sink < 2 ^ 64 → g.M.Sink.faults l.sink < 2 ^ 64;
-  named : g.M.Sink.name l.sink ≡ g.M.Sink.name l.fn.sink;
+  counts : OnlyCounts g.M.Sink.lent g.M.Sink.faults ⊥ l.fn.sink l.sink;
 }
 
 abbrev pub decreases-loop-self : goal.decreases-loop-self

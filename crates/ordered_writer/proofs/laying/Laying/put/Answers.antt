@@ -1,6 +1,6 @@
 use Rattle.std.proofs.Common.{◌≡◌, ◌∙◌, ℕ, ◌+◌, ◌-◌, List, length, take, drop, refl, sym, ap, arith, rules}
 use Rattle.std.proofs.lemmas.List.{take_rest, length-drop, length-take}
-use Rattle.std.proofs.lemmas.Result.{err_from_is_err_and}
+use Rattle.record_io.proofs.Calls.{OnErr-any}
 use Rattle.block_layout.specs.Layout.{room, end_of}
 use Rattle.block_layout.proofs.Ends.{end_of-zero, end_of_after, end_of_mono, end_of-more}
 use Rattle.ordered_writer.specs.Layings.{laid_between}
@@ -18,9 +18,7 @@ loop-at-init g c =
       end = refl;
       taken = TakesAndHolds-nothing_laid _ c.args.buffer.now self.begin self.end self.place c.args.bytes.now;
       fits = λ h. h;
-      counted = omega arith;
-      small = λ h. h;
-      named = refl;
+      counts = search rules;
     }
 
 pub put_run-requires : goal.put_run-requires
@@ -36,19 +34,22 @@ same_rest begin end place until at bytes =
     ap (laid_between begin end (end_of place at) until)
     (take_rest bytes at ∙ ap (λ (n : ℕ). drop n bytes) (sym (room-end_of place at)))
 
-pub returns-in_err-at-clause-front : goal.returns-in_err-at-clause-front
-returns-in_err-at-clause-front g c =
+pub returns-in_err-at-clause-sink : goal.returns-in_err-at-clause-sink
+returns-in_err-at-clause-sink g c =
     let self = c.args.self.now in
     let bytes = c.args.bytes.now in
-    let p = err_from_is_err_and c.from_residual.result c.from_residual.ensures.1 in
     let i = c.loop-at.invariant in
     let rest = take (length bytes - c.loop-at.at) (drop c.loop-at.at bytes) in
     let until : run_end (end_of self.place c.loop-at.at) self.end rest ≡ end_of self.place (length bytes) =
     run_end-rest self.place self.end c.loop-at.at bytes i.within c.requires.room in
     let front = rw (i.place, i.begin, i.end, until) at c.in_err-at.ensures.front in
-    rw p.1
-    (TakesFront-more _ _ _ c.args.buffer.now c.loop-at.buffer self.begin self.end self.place (end_of self.place c.loop-at.at) (end_of self.place (length bytes))
-    bytes rest (end_of_after self.place c.loop-at.at) (end_of_mono self.place c.loop-at.at (length bytes) i.within) (same_rest self.begin self.end self.place _ c.loop-at.at bytes) (rw i.place at i.taken) front)
+    record {
+      whole = search rules;
+      front = OnErr-any _ (TakesFront-more _ _ _ c.args.buffer.now c.loop-at.buffer self.begin self.end self.place (end_of self.place c.loop-at.at) (end_of self.place (length bytes))
+          bytes rest (end_of_after self.place c.loop-at.at) (end_of_mono self.place c.loop-at.at (length bytes) i.within) (same_rest self.begin self.end self.place _ c.loop-at.at bytes) (rw i.place at i.taken) front);
+      emptied = search rules;
+      counts = search rules;
+    }
 
 pub loop-at-preserved : goal.loop-at-preserved
 loop-at-preserved g c =
@@ -69,7 +70,5 @@ loop-at-preserved g c =
           (end_of_after self.place c.loop-at.at) (rw place (end_of_mono self.place c.loop-at.at (c.loop-at.at + c.in_ok-at.field-0) (omega arith)))
           (same_rest self.begin self.end self.place _ c.loop-at.at bytes) (rw i.place at i.taken) (rw (i.place, i.begin, i.end) at e.whole);
       fits = λ _. c.put_run.ensures.fits;
-      counted = omega arith;
-      small = λ h. c.put_run.ensures.small (c.loop-at.invariant.small h);
-      named = cc;
+      counts = search rules;
     }

@@ -1,5 +1,6 @@
-use Rattle.std.proofs.Common.{◌≡◌, ◌∙◌, ◌≤◌, ◌++◌, length, sym, subst, ap, ℕ, List, arith, rules}
-use Rattle.std.proofs.lemmas.Result.{err_from_is_err_and, on_ok_weaker, on_err_weaker}
+use Rattle.std.proofs.Common.{◌≡◌, ◌∙◌, ◌++◌, length, sym, ap, ℕ, arith, rules}
+use Rattle.std.proofs.lemmas.Result.{on_ok_weaker, on_err_weaker}
+use Rattle.record_io.proofs.Calls.{OnErr-any}
 use Rattle.block_layout.specs.Layout.{end_of}
 use Rattle.block_layout.proofs.Ends.{end_of_after}
 use Rattle.ordered_writer.proofs.Both.{first_end, TakesAndHolds-both, TakesFront-first, TakesFront-second, both_end, first_within}
@@ -9,14 +10,17 @@ use Rattle.ordered_writer.proofs.laying.Laying.put_both.Goals.{In_ok-put}
 pub put-requires : goal.put-requires
 put-requires g c = (search rules, first_within c.args.self.now.place c.args.self.now.end c.args.front.now c.args.rest.now c.requires.room)
 
-pub returns-in_err-put-clause-front : goal.returns-in_err-put-clause-front
-returns-in_err-put-clause-front g c =
+pub returns-in_err-put-clause-sink : goal.returns-in_err-put-clause-sink
+returns-in_err-put-clause-sink g c =
     let self = c.args.self.now in
-    let p = err_from_is_err_and c.from_residual.result c.from_residual.ensures.1 in
-    rw p.1
-    (TakesFront-first _ _ c.args.buffer.now self.begin self.end self.place (end_of self.place (length (c.args.front.now ++ c.args.rest.now)))
-    c.args.front.now c.args.rest.now (omega (arith, both_end self.place c.args.front.now c.args.rest.now, end_of_after (first_end self.place c.args.front.now) (length c.args.rest.now)))
-    c.in_err-put.ensures.front)
+    record {
+      whole = search rules;
+      front = OnErr-any _ (TakesFront-first _ _ c.args.buffer.now self.begin self.end self.place (end_of self.place (length (c.args.front.now ++ c.args.rest.now)))
+          c.args.front.now c.args.rest.now (omega (arith, both_end self.place c.args.front.now c.args.rest.now, end_of_after (first_end self.place c.args.front.now) (length c.args.rest.now)))
+          c.in_err-put.ensures.sink.front);
+      emptied = search rules;
+      counts = search rules;
+    }
 
 -- where the others end
 ends : (g : _) (c : In_ok-put g) → end_of c.put.new.self.place (length c.args.rest.now) ≡ end_of c.args.self.now.place (length (c.args.front.now ++ c.args.rest.now))
@@ -34,24 +38,20 @@ pub returns-clause-moved : goal.returns-clause-moved
 returns-clause-moved g c =
     on_ok_weaker c.put-2.result (λ moved. moved ∙ ends g (goal.at.returns-clause-moved g c).In_ok-put) c.put-2.ensures.moved
 
-pub returns-clause-whole : goal.returns-clause-whole
-returns-clause-whole g c =
+pub returns-clause-sink : goal.returns-clause-sink
+returns-clause-sink g c =
     let self = c.args.self.now in
     let e = c.in_ok-put.ensures in
     let until = end_of self.place (length (c.args.front.now ++ c.args.rest.now)) in
-    let then = rw (ends g (goal.at.returns-clause-whole g c).In_ok-put, e.same_begin, e.same_end, e.moved) at c.put-2.ensures.whole in
-    on_ok_weaker c.put-2.result
-    (TakesAndHolds-both _ _ _ c.args.buffer.now c.put.new.buffer c.put-2.new.buffer self.begin self.end self.place until c.args.front.now c.args.rest.now
-    (sym (both_end self.place c.args.front.now c.args.rest.now)) e.whole)
-    then
-
-pub returns-clause-front : goal.returns-clause-front
-returns-clause-front g c =
-    let self = c.args.self.now in
-    let e = c.in_ok-put.ensures in
-    let until = end_of self.place (length (c.args.front.now ++ c.args.rest.now)) in
-    let then = rw (ends g (goal.at.returns-clause-front g c).In_ok-put, e.same_begin, e.same_end, e.moved) at c.put-2.ensures.front in
-    on_err_weaker c.put-2.result
-    (TakesFront-second _ _ _ c.args.buffer.now c.put.new.buffer self.begin self.end self.place until c.args.front.now c.args.rest.now
-    (sym (both_end self.place c.args.front.now c.args.rest.now)) e.whole)
-    then
+    let then = rw (ends g (goal.at.returns-clause-sink g c).In_ok-put, e.same_begin, e.same_end, e.moved) at c.put-2.ensures.sink in
+    let is_until = sym (both_end self.place c.args.front.now c.args.rest.now) in
+    record {
+      whole = on_ok_weaker c.put-2.result
+          (TakesAndHolds-both _ _ _ c.args.buffer.now c.put.new.buffer c.put-2.new.buffer self.begin self.end self.place until c.args.front.now c.args.rest.now
+          is_until e.sink.whole) then.whole;
+      front = on_err_weaker c.put-2.result
+          (TakesFront-second _ _ _ c.args.buffer.now c.put.new.buffer self.begin self.end self.place until c.args.front.now c.args.rest.now
+          is_until e.sink.whole) then.front;
+      emptied = search rules;
+      counts = search rules;
+    }

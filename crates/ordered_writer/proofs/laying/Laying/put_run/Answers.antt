@@ -1,6 +1,6 @@
 use Rattle.std.proofs.Common.{◌≡◌, ℕ, ◌+◌, ◌%◌, ◌<◌, ◌≤◌, length, arith}
 use Rattle.block_layout.specs.Layout.{usable_from}
-use Rattle.std.proofs.lemmas.Result.{err_from_is_err_and}
+use Rattle.record_io.proofs.Calls.{OnErr-any}
 use Rattle.block_layout.proofs.Runs.{end_of-run}
 use Rattle.ordered_writer.proofs.RunCalls.{TakesFront-header, TakesFront-run, TakesAndHolds-run}
 use Rattle.ordered_writer.proofs.laying.Laying.put_run.Goals as goal
@@ -22,19 +22,15 @@ run g c =
 pub returns-in_err-put_block_header-clause-front : goal.returns-in_err-put_block_header-clause-front
 returns-in_err-put_block_header-clause-front g c =
     let self = c.args.self.now in
-    let p = err_from_is_err_and c.from_residual.result c.from_residual.ensures.1 in
-    rw p.1
-    (TakesFront-header _ _ c.args.buffer.now self.begin self.end self.place c.args.bytes.now
-    self.next_place self.to_boundary c.requires.before_end c.requires.some c.in_err-put_block_header.ensures.front)
+    OnErr-any _ (TakesFront-header _ _ c.args.buffer.now self.begin self.end self.place c.args.bytes.now
+    self.next_place self.to_boundary c.requires.before_end c.requires.some c.in_err-put_block_header.ensures.sink.front)
 
 pub returns-in_err-put-clause-front : goal.returns-in_err-put-clause-front
 returns-in_err-put-clause-front g c =
     let self = c.args.self.now in
-    let p = err_from_is_err_and c.from_residual-in_err-put.result c.from_residual-in_err-put.ensures.1 in
     let r = run g (goal.at.returns-in_err-put-clause-front g c).After-min-count in
-    rw p.1
-    (TakesFront-run _ _ _ c.args.buffer.now c.put_block_header.new.buffer self.begin self.end self.place c.min-count.result c.args.bytes.now
-    self.next_place r.some r.enough r.fits r.within c.in_ok-put_block_header.ensures.whole c.in_err-put.ensures.front)
+    OnErr-any _ (TakesFront-run _ _ _ c.args.buffer.now c.put_block_header.new.buffer self.begin self.end self.place c.min-count.result c.args.bytes.now
+    self.next_place r.some r.enough r.fits r.within c.in_ok-put_block_header.ensures.sink.whole c.in_err-put.ensures.sink.front)
 
 pub returns-clause-moved : goal.returns-clause-moved
 returns-clause-moved g c =
@@ -49,4 +45,4 @@ returns-clause-whole g c =
     let r = run g (goal.at.returns-clause-whole g c).After-min-count in
     rw c.in_ok-put_block_header.ensures.moved
     (TakesAndHolds-run _ _ _ c.args.buffer.now c.put_block_header.new.buffer c.put.new.self self.begin self.end self.place c.min-count.result c.args.bytes.now
-    self.next_place r.enough r.fits c.in_ok-put_block_header.ensures.whole c.in_ok-put.ensures.whole)
+    self.next_place r.enough r.fits c.in_ok-put_block_header.ensures.sink.whole c.in_ok-put.ensures.sink.whole)

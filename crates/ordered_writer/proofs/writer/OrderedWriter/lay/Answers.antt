@@ -3,8 +3,6 @@ use Rattle.std.proofs.lemmas.Result.{err_from_is_err_and}
 use Rattle.block_layout.specs.Layout.{chunk_end_of, IsOnBoundary}
 use Rattle.block_layout.proofs.Ends.{end_of_mono}
 use Rattle.block_layout.proofs.ChunkEnds.{chunk_end_of_past_bytes, chunk_end_of_boundary}
-use Rattle.record_io.specs.Outside.{TakesFront}
-use Rattle.record_io.specs.Buffers.{TakesAndHolds}
 use Rattle.chunk_header.specs.Views.{bytes_of_header}
 use Rattle.meta_chunk.specs.Laid.{laid_bytes}
 use Rattle.ordered_writer.specs.Writers.{Writer}
@@ -59,16 +57,10 @@ same_laid g c =
     ∙ ap (λ (bytes : List ℕ). laid_bytes c.args.self.now.position
     (chunk_end_of c.args.self.now.position (40 + header.data_size) header.num_records) (bytes ++ (c.args.front.now ++ c.args.rest.now))) c.to_bytes.ensures
 
-pub returns-in_err-lay_chunk-clause-front : goal.returns-in_err-lay_chunk-clause-front
-returns-in_err-lay_chunk-clause-front g c =
+pub returns-in_err-lay_chunk-clause-sink : goal.returns-in_err-lay_chunk-clause-sink
+returns-in_err-lay_chunk-clause-sink g c =
     let p = err_from_is_err_and c.from_residual.result c.from_residual.ensures.1 in
-    rw p.1
-    (subst (λ (xs : List ℕ). TakesFront (g.M.Sink.taken c.args.sink.now) (g.M.Sink.taken c.lay_chunk.new.sink) (c.args.buffer.now ++ xs))
-    (same_laid g (goal.at.returns-in_err-lay_chunk-clause-front g c).After-to_bytes)
-    c.in_err-lay_chunk.ensures.front)
+    rw (p.1, ← same_laid g (goal.at.returns-in_err-lay_chunk-clause-sink g c).After-to_bytes) c.in_err-lay_chunk.ensures.sink
 
-pub returns-clause-whole : goal.returns-clause-whole
-returns-clause-whole g c =
-    subst (λ (xs : List ℕ). TakesAndHolds (g.M.Sink.taken c.args.sink.now) (g.M.Sink.taken c.lay_chunk.new.sink) (c.args.buffer.now ++ xs) c.lay_chunk.new.buffer)
-    (same_laid g (goal.at.returns-clause-whole g c).After-to_bytes)
-    c.in_ok-lay_chunk.ensures.whole
+pub returns-clause-sink : goal.returns-clause-sink
+returns-clause-sink g c = rw (← same_laid g (goal.at.returns-clause-sink g c).After-to_bytes) c.in_ok-lay_chunk.ensures.sink

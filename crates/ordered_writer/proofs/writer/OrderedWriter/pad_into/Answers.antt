@@ -1,9 +1,7 @@
 use Rattle.std.proofs.Common.{◌≡◌, ◌∙◌, ℕ, ◌+◌, ◌%◌, ◌<◌, List, [], ◌++◌, inl, inr, refl, sym, ap, subst, arith, rules}
 use Rattle.std.proofs.lemmas.Bool.{cases_eq}
-use Rattle.std.proofs.lemmas.Result.{on_ok_weaker, on_err_weaker}
+use Rattle.std.proofs.lemmas.Result.{on_ok_weaker}
 use Rattle.block_layout.specs.Layout.{IsBlock, chunk_end_of}
-use Rattle.record_io.specs.Outside.{TakesFront}
-use Rattle.record_io.specs.Buffers.{TakesAndHolds}
 use Rattle.record_io.proofs.Buffered.{TakesAndHolds-none}
 use Rattle.chunk_header.specs.Views.{bytes_of_header}
 use Rattle.meta_chunk.specs.Laid.{laid_bytes}
@@ -23,9 +21,13 @@ returns-in_default-clause-moved g c =
     going_on c.args.self.now c.requires.unspent
     ∙ ap writer_at (sym (end_of_padding-block c.args.self.now.position (at_block g c)))
 
-pub returns-in_default-clause-whole : goal.returns-in_default-clause-whole
-returns-in_default-clause-whole g c =
-    rw (laid_padding-block c.args.self.now.position (at_block g c)) (TakesAndHolds-none (g.M.Sink.taken c.args.sink.now) c.args.buffer.now)
+pub returns-in_default-clause-sink : goal.returns-in_default-clause-sink
+returns-in_default-clause-sink g c = record {
+  whole = rw (laid_padding-block c.args.self.now.position (at_block g c)) (TakesAndHolds-none (g.M.Sink.taken c.args.sink.now) c.args.buffer.now);
+  front = search rules;
+  emptied = search rules;
+  counts = search rules;
+}
 
 -- within a block the padding is one chunk of this size
 is_inside : (g : _) (c : After-padding_header g) → 24 < c.args.self.now.position % 65536
@@ -79,16 +81,5 @@ returns-clause-moved g c =
     (λ moved. moved ∙ ap writer_at (end_is g k ∙ sym (end_of_padding-inside c.args.self.now.position c.in-Some.size (is_inside g k) (size_is g k))))
     c.lay.ensures.moved
 
-pub returns-clause-whole : goal.returns-clause-whole
-returns-clause-whole g c =
-    let k = (goal.at.returns-clause-whole g c).After-padding_header in
-    on_ok_weaker c.lay.result
-    (subst (λ (xs : List ℕ). TakesAndHolds (g.M.Sink.taken c.args.sink.now) (g.M.Sink.taken c.lay.new.sink) (c.args.buffer.now ++ xs) c.lay.new.buffer) (bytes_are g k))
-    c.lay.ensures.whole
-
-pub returns-clause-front : goal.returns-clause-front
-returns-clause-front g c =
-    let k = (goal.at.returns-clause-front g c).After-padding_header in
-    on_err_weaker c.lay.result
-    (subst (λ (xs : List ℕ). TakesFront (g.M.Sink.taken c.args.sink.now) (g.M.Sink.taken c.lay.new.sink) (c.args.buffer.now ++ xs)) (bytes_are g k))
-    c.lay.ensures.front
+pub returns-clause-sink : goal.returns-clause-sink
+returns-clause-sink g c = rw (← bytes_are g (goal.at.returns-clause-sink g c).After-padding_header) c.lay.ensures.sink

@@ -8,7 +8,7 @@ pub returns-clause-given : goal.returns-clause-given
 returns-clause-given g c =
     let part : IsPartOf (g.S.Store.bytes c.args.store.now) c.if-not-holds.self =
     elim c.if-not-holds.branch [
-      | then-not-holds+else-buf+in_ok-fill w ↦ rw w.self-is (rw w.in_ok-fill.ensures.same_bytes at w.in_ok-fill.ensures.part)
+      | then-not-holds+else-buf+in_ok-fill w ↦ rw w.self-is (rw w.in_ok-fill.ensures.store.same_bytes at w.in_ok-fill.ensures.part)
       | else-not-holds w ↦ rw w.self-is c.requires.part
     ] in
     let begins : c.if-not-holds.self.from ≤ c.args.at =

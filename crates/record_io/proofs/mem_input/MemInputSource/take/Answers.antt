@@ -12,7 +12,7 @@ returns-in_err-given-clause-fails c =
 pub returns-clause-given : goal.returns-clause-given
 returns-clause-given c =
     let cut = c.in_ok-given.ensures.cut in
-    let within = cut_to-le c.self.inside.script.cuts.items c.self.inside.script.number in
+    let within = cut_to-le c.self.inside.script.cuts c.self.inside.script.number in
     rw (← c.self.view_is)
     (Gives-from_place c.self.inside.bytes.items _ c.self.inside.at c.in_ok-given.given
     (omega (arith, cut, within, c.deref.ensures.len, length-drop {A = ℕ}, length-take {A = ℕ})) (rw c.deref.ensures.value at c.in_ok-given.ensures.given))

@@ -1,17 +1,22 @@
-use Rattle.std.proofs.Common.{◌∙◌, List, ℕ, map, arith}
+use Rattle.std.proofs.Common.{List, ℕ, map, arith, rules}
 use Rattle.std.proofs.Math.ListN.{get_or-map}
 use Rattle.std.proofs.lemmas.List.{length-map}
 use Rattle.record_io.proofs.Calls.{OnErr-any}
 use Rattle.record_io.proofs.Buffered.{pieces-next, pieces-failed, pieces-some}
 use Rattle.record_io.proofs.put_buffer.PutBuffer.put_each.Goals as goal
 
-pub returns-in_err-put-clause-front : goal.returns-in_err-put-clause-front
-returns-in_err-put-clause-front g c =
+pub returns-in_err-put-clause-sink : goal.returns-in_err-put-clause-sink
+returns-in_err-put-clause-sink g c =
     let texts : List (List ℕ) = map (λ piece. piece.now) c.args.pieces.now in
-    OnErr-any _ (pieces-failed _ _ _ c.args.self.now _ texts c.loop-piece.piece-index _
-    (omega (arith, length-map c.args.pieces.now (λ piece. piece.now)))
-    (get_or-map (λ piece. piece.now) c.args.pieces.now c.loop-piece.piece-index _)
-    c.loop-piece.invariant.whole c.in_err-put.ensures.front)
+    record {
+      whole = search rules;
+      front = OnErr-any _ (pieces-failed _ _ _ c.args.self.now _ texts c.loop-piece.piece-index _
+          (omega (arith, length-map c.args.pieces.now (λ piece. piece.now)))
+          (get_or-map (λ piece. piece.now) c.args.pieces.now c.loop-piece.piece-index _)
+          c.loop-piece.invariant.whole c.in_err-put.ensures.sink.front);
+      emptied = search rules;
+      counts = search rules;
+    }
 
 pub loop-piece-preserved : goal.loop-piece-preserved
 loop-piece-preserved g c =
@@ -20,10 +25,8 @@ loop-piece-preserved g c =
       whole = pieces-next _ _ _ c.args.self.now _ _ texts c.loop-piece.piece-index _
           (omega (arith, length-map c.args.pieces.now (λ piece. piece.now)))
           (get_or-map (λ piece. piece.now) c.args.pieces.now c.loop-piece.piece-index _)
-          c.loop-piece.invariant.whole c.in_ok-put.ensures.whole;
-      counted = omega arith;
-      small = λ h. c.in_ok-put.ensures.small (c.loop-piece.invariant.small h);
-      same_name = c.in_ok-put.ensures.same_name ∙ c.loop-piece.invariant.same_name;
+          c.loop-piece.invariant.whole c.in_ok-put.ensures.sink.whole;
+      counts = search rules;
     }
 
 pub returns-in_err-put-clause-some : goal.returns-in_err-put-clause-some

@@ -10,7 +10,7 @@ pub returns-in_err-pad_into-clause-front : goal.returns-in_err-pad_into-clause-f
 returns-in_err-pad_into-clause-front g c =
     let p = err_from_is_err_and c.from_residual.result c.from_residual.ensures.1 in
     rw (p.1, ← c.self.view_is)
-    (LaysFront-failed _ _ _ _ _ c.in_err-pad_into.ensures.emptied c.in_err-pad_into.ensures.front)
+    (LaysFront-failed _ _ _ _ _ c.in_err-pad_into.ensures.sink.emptied c.in_err-pad_into.ensures.sink.front)
 
 pub invariant_of-self-else-begin-position : goal.invariant_of-self-else-begin-position
 invariant_of-self-else-begin-position g c =
@@ -23,7 +23,7 @@ invariant_of-self-else-begin-position g c =
 pub returns-then-begin-position-clause-whole : goal.returns-then-begin-position-clause-whole
 returns-then-begin-position-clause-whole g c =
     rw (← c.self.view_is)
-    (Lays-padding _ _ _ _ c.in_ok-pad_into.ensures.whole
+    (Lays-padding _ _ _ _ c.in_ok-pad_into.ensures.sink.whole
     (ap (λ (w : Writer). w.position) c.in_ok-pad_into.ensures.moved)
     (ap (λ (w : Writer). w.spent) c.in_ok-pad_into.ensures.moved)
     refl
@@ -33,7 +33,7 @@ returns-then-begin-position-clause-whole g c =
 pub returns-else-begin-position-clause-whole : goal.returns-else-begin-position-clause-whole
 returns-else-begin-position-clause-whole g c =
     rw (← c.self.view_is)
-    (Lays-padding _ _ _ _ c.in_ok-pad_into.ensures.whole
+    (Lays-padding _ _ _ _ c.in_ok-pad_into.ensures.sink.whole
     (ap (λ (w : Writer). w.position) c.in_ok-pad_into.ensures.moved)
     (ap (λ (w : Writer). w.spent) c.in_ok-pad_into.ensures.moved)
     refl

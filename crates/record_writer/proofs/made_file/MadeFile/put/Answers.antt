@@ -12,8 +12,8 @@ returns-in_err-put_into-clause-front g c =
     let p = err_from_is_err_and c.from_residual.result c.from_residual.ensures.1 in
     let right = laid_as-right c.self.inside.writer.position c.args.chunk.now c.requires.right in
     rw (p.1, ← c.self.view_is)
-    (LaysFront-one _ _ _ _ (value_of_chunk c.args.chunk.now) c.in_err-put_into.ensures.emptied
-    (rw right at c.in_err-put_into.ensures.front))
+    (LaysFront-one _ _ _ _ (value_of_chunk c.args.chunk.now) c.in_err-put_into.ensures.sink.emptied
+    (rw right at c.in_err-put_into.ensures.sink.front))
 
 pub overflow_add-self : goal.overflow_add-self
 overflow_add-self g c =
@@ -51,7 +51,7 @@ returns-then-is_unread-clause-whole g c =
     let right = laid_as-right c.self.inside.writer.position c.args.chunk.now c.requires.right in
     rw (← c.self.view_is)
     (Lays-unread _ _ _ _ (value_of_chunk c.args.chunk.now)
-    (rw right at c.in_ok-put_into.ensures.whole)
+    (rw right at c.in_ok-put_into.ensures.sink.whole)
     (ap (λ (w : Writer). w.position) c.in_ok-put_into.ensures.moved)
     (ap (λ (w : Writer). w.spent) c.in_ok-put_into.ensures.moved)
     (omega arith)
@@ -64,7 +64,7 @@ returns-else-is_unread-clause-whole g c =
     let right = laid_as-right c.self.inside.writer.position c.args.chunk.now c.requires.right in
     rw (← c.self.view_is)
     (Lays-read _ _ _ _ (value_of_chunk c.args.chunk.now)
-    (rw right at c.in_ok-put_into.ensures.whole)
+    (rw right at c.in_ok-put_into.ensures.sink.whole)
     (ap (λ (w : Writer). w.position) c.in_ok-put_into.ensures.moved)
     (ap (λ (w : Writer). w.spent) c.in_ok-put_into.ensures.moved)
     (omega arith)

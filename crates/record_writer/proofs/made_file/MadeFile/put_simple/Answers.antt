@@ -43,8 +43,8 @@ returns-in_err-put_parts_into-clause-front g c =
     let p = err_from_is_err_and c.from_residual.result c.from_residual.ensures.1 in
     let is = laid_is g (goal.at.returns-in_err-put_parts_into-clause-front g c).After-data c.self.inside.writer.position in
     rw (p.1, ← c.self.view_is)
-    (LaysFront-one _ _ _ _ (simple_chunk c.args.chunk.now.records) c.in_err-put_parts_into.ensures.emptied
-    (rw is at c.in_err-put_parts_into.ensures.front))
+    (LaysFront-one _ _ _ _ (simple_chunk c.args.chunk.now.records) c.in_err-put_parts_into.ensures.sink.emptied
+    (rw is at c.in_err-put_parts_into.ensures.sink.front))
 
 -- the counts stay below where the chunk ends
 counts : (g : _) (c : After-put_parts_into g)
@@ -80,7 +80,7 @@ returns-clause-whole g c =
     let is = laid_is g at c.self.inside.writer.position in
     rw (← c.self.view_is)
     (Lays-read _ _ _ _ (simple_chunk c.args.chunk.now.records)
-    (rw is at c.in_ok-put_parts_into.ensures.whole)
+    (rw is at c.in_ok-put_parts_into.ensures.sink.whole)
     (ap (λ (w : Writer). w.position) c.in_ok-put_parts_into.ensures.moved ∙ end_is g at c.self.inside.writer.position)
     (ap (λ (w : Writer). w.spent) c.in_ok-put_parts_into.ensures.moved)
     (omega arith)

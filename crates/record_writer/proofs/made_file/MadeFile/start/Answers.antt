@@ -12,8 +12,8 @@ returns-in_err-start_into-clause-front g c =
     let p = err_from_is_err_and c.from_residual.result c.from_residual.ensures.1 in
     let at_front : c.self.inside.writer.position ≡ 0 = ap (λ (s : Progress). s.place) (c.self.view_is ∙ c.requires.at_front) in
     rw (p.1, ← c.self.view_is)
-    (LaysFront-one _ _ _ _ signature c.in_err-start_into.ensures.emptied
-    (rw at_front c.in_err-start_into.ensures.front))
+    (LaysFront-one _ _ _ _ signature c.in_err-start_into.ensures.sink.emptied
+    (rw at_front c.in_err-start_into.ensures.sink.front))
 
 pub invariant_of-self-2 : goal.invariant_of-self-2
 invariant_of-self-2 g c =
@@ -30,7 +30,7 @@ returns-clause-whole g c =
     let at_front : c.self.inside.writer.position ≡ 0 = ap (λ (s : Progress). s.place) (c.self.view_is ∙ c.requires.at_front) in
     rw (← c.self.view_is)
     (Lays-read _ _ _ _ signature
-    (rw at_front c.in_ok-start_into.ensures.whole)
+    (rw at_front c.in_ok-start_into.ensures.sink.whole)
     (rw at_front (ap (λ (w : Writer). w.position) c.in_ok-start_into.ensures.moved))
     (ap (λ (w : Writer). w.spent) c.in_ok-start_into.ensures.moved)
     (omega arith)

@@ -1,4 +1,4 @@
-use Rattle.std.proofs.Common.{◌≡◌, ◌∙◌, ◌^◌, ◌<◌, length, get_or, refl, ap, arith}
+use Rattle.std.proofs.Common.{◌≡◌, ◌^◌, ◌<◌, length, get_or, refl, ap, arith, rules}
 use Rattle.std.proofs.lemmas.List.{length-set}
 use Rattle.std.proofs.lemmas.Result.{err_from_is_err_and}
 use Rattle.simple_chunk.specs.SimpleParts.{SimpleValue}
@@ -13,9 +13,7 @@ loop-i-init g c = record {
   held = omega (arith, c.self.invariant);
   groups = c.self.view_is;
   laid = Lays-none _ c.args.file.now c.requires.going;
-  counted = omega arith;
-  small = λ h. h;
-  same_name = refl;
+  counts = search rules;
 }
 
 -- the chunk is that of the group which is next
@@ -50,7 +48,5 @@ loop-i-preserved g c =
           c.loop-i.invariant.groups c.index_mut-chunk.ensures.value (ap (λ (chunk : SimpleValue). chunk.records) c.encode.ensures);
       laid = Lays-chunk _ _ _ c.args.file.now c.loop-i.file _ c.args.self.now c.loop-i.i c.index_mut-chunk.result.now.records
           there.0 there.1 c.loop-i.invariant.laid (rw c.encode.ensures at c.in_ok-put_simple.ensures.whole);
-      counted = omega arith;
-      small = λ h. c.put_simple.ensures.small (c.loop-i.invariant.small h);
-      same_name = c.put_simple.ensures.same_name ∙ c.loop-i.invariant.same_name;
+      counts = search rules;
     }

@@ -1,4 +1,5 @@
-use Rattle.std.proofs.Common.{◌≡◌, ◌^◌, ◌<◌, ◌≤◌, length, take}
+use Rattle.std.proofs.Common.{◌≡◌, ◌≤◌, length, take}
+use Rattle.record_io.specs.Calls.{OnlyCounts}
 use Rattle.record_writer.specs.Progresses.{Lays, chunks_of_groups}
 use Rattle.record_writer.specs.Windows.{groups_of}
 use Rattle.record_writer.proofs.window.Window.put.Given as goal
@@ -9,7 +10,5 @@ invariant-loop-i g l = record {
   held : l.self-inside.count ≤ length l.self-inside.chunks.items;
   groups : groups_of (take l.self-inside.count l.self-inside.chunks.items) ≡ l.fn.self;
   laid : Lays (g.M.Sink.taken l.fn.made) (g.M.Sink.taken l.made) l.fn.file l.file (chunks_of_groups (take l.i l.fn.self));
-  counted : g.M.Sink.faults l.fn.made ≤ g.M.Sink.faults l.made;
-  small : g.M.Sink.faults l.fn.made < 2 ^ 64 → g.M.Sink.faults l.made < 2 ^ 64;
-  same_name : g.M.Sink.name l.made ≡ g.M.Sink.name l.fn.made;
+  counts : OnlyCounts g.M.Sink.lent g.M.Sink.faults ⊥ l.fn.made l.made;
 }

@@ -19,10 +19,10 @@ returns-in_err-flush-clause-front g c =
     let p = err_from_is_err_and c.from_residual-in_err-flush.result c.from_residual-in_err-flush.ensures.1 in
     λ cut is before notes events copied.
     finish_failed before _ _ notes c.begin.new.self events (has_begun before _ _ notes c.args.self.now c.begin.new.self events copied c.in_ok-begin.ensures.whole)
-    c.in_err-flush.ensures.some c.in_err-flush.ensures.front cut cc
+    c.in_err-flush.ensures.some c.in_err-flush.ensures.made.front cut cc
 
 pub returns-clause-whole : goal.returns-clause-whole
 returns-clause-whole g c =
     λ before notes events copied.
     put_all before _ _ notes c.begin.new.self (record { file = c.flush.new.self; begun = c.begin.new.self.begun; regions = c.begin.new.self.regions }) events (has_begun before _ _ notes c.args.self.now c.begin.new.self events copied c.in_ok-begin.ensures.whole)
-    c.in_ok-flush.ensures.whole c.flush.ensures.same_totals refl
+    c.in_ok-flush.ensures.made.whole c.flush.ensures.same_totals refl

@@ -1,6 +1,6 @@
 ghost use Rattle.std.specs.Prelude.{◌≡◌, ◌↔◌, ◌≤◌, [], ◌++◌, length, slice_range, IsTrue, IfOk, OnOk, OnErr};
-ghost use Rattle.record_io.specs.Bytes.{AreBytes};
-ghost use Rattle.record_io.specs.Held.{bytes_of};
+ghost use Rattle.record_values.specs.Bytes.{AreBytes};
+ghost use Rattle.record_values.specs.Held.{bytes_of};
 
 use std::alloc::{AllocError, Global};
 use std::marker::Model;
@@ -53,8 +53,8 @@ impl Drop for Held {
 
 impl Model for Bytes {
     ghost use Rattle.std.specs.Prelude.{List, ℕ};
-    ghost use Rattle.record_io.specs.Bytes.{AreBytes};
-    ghost use Rattle.record_io.specs.Held.{bytes_of};
+    ghost use Rattle.record_values.specs.Bytes.{AreBytes};
+    ghost use Rattle.record_values.specs.Held.{bytes_of};
 
     ghost Value = { List ℕ };
 

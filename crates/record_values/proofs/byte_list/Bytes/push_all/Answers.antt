@@ -1,8 +1,8 @@
 use Rattle.std.proofs.Common.{◌≡◌, rules}
-use Rattle.record_io.specs.Bytes.{AreBytes}
-use Rattle.record_io.proofs.ByteLists.{AreBytes-append, AreBytes-each}
-use Rattle.record_io.proofs.byte_list.Bytes.push_all.Goals as goal
-use Rattle.record_io.proofs.byte_list.Bytes.push_all.Goals.{In_ok-extend_from_slice-in-Shared}
+use Rattle.record_values.specs.Bytes.{AreBytes}
+use Rattle.record_values.proofs.ByteLists.{AreBytes-append, AreBytes-each}
+use Rattle.record_values.proofs.byte_list.Bytes.push_all.Goals as goal
+use Rattle.record_values.proofs.byte_list.Bytes.push_all.Goals.{In_ok-extend_from_slice-in-Shared}
 
 pub invariant_of-self : goal.invariant_of-self
 invariant_of-self c =
