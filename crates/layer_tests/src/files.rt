@@ -1,5 +1,6 @@
 //! Files over stand-ins, and real ones.
 use crate::stand_ins::{Call, FOLDER, FakeFiles, REPLACED, Script};
+use record_append::{Device, FileDevice};
 use record_io::{Failed, FileSink, FileStore, Sink, Store, put_all};
 use std::fs::{self, OpenFile, OpenOptions};
 use std::test::Fail;
@@ -93,7 +94,7 @@ fn a_file_is_made_anew_and_read_at_any_place(rt: HostRuntime) -> Result<(), Fail
     Ok(())
 }
 
-/// What is no regular file is written, where it can be, and not read.
+/// What is no regular file is written, where it can be, and not read, and no device.
 #[test]
 fn what_is_no_regular_file_is_not_read(rt: HostRuntime) {
     for (path, put) in [
@@ -104,5 +105,10 @@ fn what_is_no_regular_file_is_not_read(rt: HostRuntime) {
     ] {
         assert_eq!(rt; FileStore::named(&rt, path).size(), Err(Failed), "{path}");
         assert_eq!(rt; FileSink::named(&rt, path).put(b"a"), put, "{path}");
+        assert_eq!(rt;
+            FileDevice::named(&rt, path).put(b"a"),
+            Err(Failed),
+            "{path}"
+        );
     }
 }

@@ -1,0 +1,50 @@
+-- What can be relied on of devices: files that are read, cut and grown. Own.
+use Rattle.std.specs.Prelude.{◌≡◌, ℕ, ◌+◌, ◌-◌, ◌^◌, min, Bool, Option, Some, IfSome, List, drop, take, option_map}
+
+-- of the bytes of a file those from a place on, where they are told
+abbrev pub bytes_from : ℕ → Option (List ℕ) → Option (List ℕ)
+bytes_from at file = option_map (drop at) file
+
+-- of the bytes of a file those before a place, where they are told
+abbrev pub bytes_before : ℕ → Option (List ℕ) → Option (List ℕ)
+bytes_before at file = option_map (take at) file
+
+-- a device in memory
+pub record Disk : Type 0 where
+  -- the bytes that it holds
+  pub bytes : List ℕ
+  -- whether its size was asked since something was cut or put
+  pub asked : Bool
+  -- how many bytes were handed out
+  pub handed : ℕ
+  -- how many bytes it can hold
+  pub most : ℕ
+  -- the number of the next call
+  pub number : ℕ
+  -- how many bytes a call handles at most
+  pub cuts : List ℕ
+  -- the numbers of the calls that fail
+  pub fails : List ℕ
+  -- how many faults there were
+  pub faults : ℕ
+
+-- a file that is read, cut and grown
+pub record Growing : Type 0 where
+  -- its name
+  pub path : List ℕ
+  -- whether it could be opened, once that was tried
+  pub opened : Option Bool
+  -- the size that was last told, if nothing was cut or put since
+  pub told : Option ℕ
+  -- where it should end by what was told, cut and put, once there was such a call
+  pub end : Option ℕ
+  -- what the open file holds, where that is known
+  pub contents : Option (List ℕ)
+  -- how many bytes were handed out
+  pub handed : ℕ
+  -- how many faults there were
+  pub faults : ℕ
+
+-- so many bytes were put where a file should end, if that was known, and then it should end behind them
+abbrev pub EndsBehind : Option ℕ → Option ℕ → ℕ → Type 0
+EndsBehind before after n = (size : ℕ) × IfSome before (λ end. size ≡ end) × (after ≡ Some (min (size + n) (2 ^ 64 - 1)))

@@ -1,0 +1,15 @@
+//! Devices: files that are read, cut and grown at their end, and stores and sinks over them. All sizes and places are in
+//! bytes. Own, as a whole.
+#![tactic(auto)]
+
+mod as_sink;
+mod as_store;
+mod device;
+mod file_device;
+mod mem_device;
+
+pub use as_sink::AsSink;
+pub use as_store::AsStore;
+pub use device::Device;
+pub use file_device::FileDevice;
+pub use mem_device::MemDevice;
