@@ -3,6 +3,7 @@
 use crate::given::{Given, Object};
 use crate::stores::Untold;
 use anyhow::{Result, bail};
+use record_append::MemDevice;
 use record_io::{MemInput, MemSink, MemStore, Store};
 use riegeli_tool::run;
 use std::alloc::{AllocError, Global};
@@ -79,7 +80,7 @@ fn run_over_untold<R: Threads + Sync>(
 }
 
 /// Runs the words over these files, and what is given beside them.
-fn run_over<R: Threads + Sync, S: Store>(
+fn run_over<R: Threads + Sync, S: Store + Send>(
     rt: &R,
     alloc: Global,
     words: &[String],
@@ -90,8 +91,9 @@ fn run_over<R: Threads + Sync, S: Store>(
     let mut made = sink_of(alloc, given, Object::Made)?;
     let mut out = sink_of(alloc, given, Object::Out)?;
     let mut notes = sink_of(alloc, given, Object::Notes)?;
+    let mut grown = no_device(alloc)?;
     let status = run(
-        rt, alloc, words, &mut input, files, &mut made, &mut out, &mut notes,
+        rt, alloc, words, &mut input, files, &mut made, &mut grown, &mut out, &mut notes,
     );
     Ok(Left {
         status: status.number(),
@@ -114,6 +116,11 @@ fn input_of(alloc: Global, given: &Given) -> Result<MemInput, AllocError> {
         }
     };
     Ok(MemInput::new(bytes, cuts, fails))
+}
+
+/// A device that no command grows yet.
+fn no_device(alloc: Global) -> Result<MemDevice, AllocError> {
+    MemDevice::new(alloc, Vec::new(alloc), 0, Vec::new(alloc), Vec::new(alloc))
 }
 
 /// The sink that this object is.

@@ -1,7 +1,7 @@
 -- Which words are paths. Own.
 use Rattle.std.specs.Prelude.{ℕ, Option, Some, None, List, [], get_or}
 
--- the path of the file that is made, by its place among the words, and an empty one where none is
-abbrev pub made_path_of : List (List ℕ) → Option ℕ → List ℕ
-made_path_of words None = []
-made_path_of words (Some place) = get_or words place []
+-- the path of a file, by its place among the words, and an empty one where it has none
+abbrev pub path_at : List (List ℕ) → Option ℕ → List ℕ
+path_at words None = []
+path_at words (Some place) = get_or words place []

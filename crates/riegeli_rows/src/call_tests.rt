@@ -24,6 +24,8 @@ fn the_file_that_is_read_and_the_one_that_is_made_are_named(rt: HostRuntime) -> 
             first,
             count: 1,
             made: Some(made),
+            times: 1,
+            grown: None,
         };
         assert_eq!(rt; names(&words), wanted);
     }

@@ -1,4 +1,5 @@
 //! Runs of the whole program, and the file that tests read and make.
+use record_append::MemDevice;
 use record_io::{MemInput, MemSink, Sink, Store};
 use riegeli_tool::{Status, run};
 use std::alloc::{AllocError, Global};
@@ -54,7 +55,7 @@ pub(crate) fn sink(alloc: Global) -> Result<MemSink, AllocError> {
 }
 
 /// Runs the words over this input and these files. What is made goes to this sink.
-pub(crate) fn run_over<R: Threads + Sync, S: Store, M: Sink + Send>(
+pub(crate) fn run_over<R: Threads + Sync, S: Store + Send, M: Sink + Send>(
     rt: &R,
     alloc: Global,
     words: &[&str],
@@ -65,8 +66,9 @@ pub(crate) fn run_over<R: Threads + Sync, S: Store, M: Sink + Send>(
     let words = owned(alloc, words)?;
     let mut input = MemInput::new(input.to_vec(alloc)?, Vec::new(alloc), Vec::new(alloc));
     let (mut out, mut notes) = (sink(alloc)?, sink(alloc)?);
+    let mut grown = MemDevice::new(alloc, Vec::new(alloc), 0, Vec::new(alloc), Vec::new(alloc))?;
     let status = run(
-        rt, alloc, &words, &mut input, files, made, &mut out, &mut notes,
+        rt, alloc, &words, &mut input, files, made, &mut grown, &mut out, &mut notes,
     );
     Ok(Left { status, out, notes })
 }

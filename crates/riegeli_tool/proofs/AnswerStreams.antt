@@ -18,12 +18,13 @@ use Rattle.repair_copy.specs.Told.{line_of}
 use Rattle.repair_copy.specs.RepairPuts.{puts_from, repair_puts}
 use Rattle.riegeli_tool.specs.declared.recover_words.RecoverWords.{RecoverWords}
 use Rattle.riegeli_tool.specs.declared.repair_words.RepairWords.{RepairWords}
-use Rattle.riegeli_tool.specs.declared.show_words.ShowWords.{ShowWords}
-use Rattle.riegeli_tool.specs.declared.write_words.WriteWords.{WriteWords}
-use Rattle.riegeli_tool.specs.Answers.{Answer}
-use Rattle.riegeli_tool.specs.FileAnswers.{record_line, report}
-use Rattle.riegeli_tool.specs.WriteCommand.{options_of, stop_text, answer_to}
-use Rattle.riegeli_tool.specs.ShowCommand.{IsShown}
+use Rattle.show_files.specs.declared.show_words.ShowWords.{ShowWords}
+use Rattle.write_lines.specs.declared.write_words.WriteWords.{WriteWords}
+use Rattle.run_answers.specs.Answers.{Answer}
+use Rattle.show_files.specs.Readings.{record_line}
+use Rattle.run_answers.specs.FileAnswers.{report}
+use Rattle.write_lines.specs.WriteCommand.{options_of, stop_text, answer_to}
+use Rattle.show_files.specs.ShowCommand.{IsShown}
 use Rattle.riegeli_tool.specs.WalkAnswers.{region_as, regions_in, walked, refused_in, skipped_text, stopped_text, walk_text}
 use Rattle.riegeli_tool.specs.RecoverCommand.{event_puts, IsRecovered}
 use Rattle.riegeli_tool.specs.RepairCommand.{end_puts, IsRepaired}

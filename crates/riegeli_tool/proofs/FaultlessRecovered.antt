@@ -10,14 +10,14 @@ use Rattle.damage_skip.specs.Pieces.{What, Given, Kept, Passive, Skipped, Piece,
 use Rattle.damage_skip.specs.declared.regions.Region.{Region}
 use Rattle.damage_skip.proofs.FoundRecords.{events_not_skipped, events_placed}
 use Rattle.riegeli_tool.specs.declared.recover_words.RecoverWords.{RecoverWords}
-use Rattle.riegeli_tool.specs.declared.status.Status.TheVariants as status
-use Rattle.riegeli_tool.specs.Answers.{Answer}
-use Rattle.riegeli_tool.specs.ShowCommand.{IsShown}
+use Rattle.run_answers.specs.Answers.{Answer}
+use Rattle.show_files.specs.ShowCommand.{IsShown}
 use Rattle.riegeli_tool.specs.RecoverCommand.{event_puts, IsRecovered}
 use Rattle.riegeli_tool.specs.WalkAnswers.{region_as, regions_in, is_refused_as, walked, refused_in, stopped_text, walk_text, walk_status}
 use Rattle.riegeli_tool.proofs.AnswerStreams.{recovered-streams, events-unskipped}
-use Rattle.riegeli_tool.proofs.CommandLaws.{one_shown}
+use Rattle.show_files.proofs.OneReading.{one_shown}
 use Rattle.riegeli_tool.proofs.Walked.{NoneRefused, walked-all, refused-none}
+use Rattle.run_answers.specs.declared.status.Status.TheVariants as status
 
 -- events that are no regions
 abbrev NoneSkipped : List Piece → Type 0

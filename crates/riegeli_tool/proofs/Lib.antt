@@ -1,41 +1,22 @@
+pub mod AcceptedLimits
 pub mod AnswerStreams
-pub mod Causes
+mod AnswerValues
 pub mod CommandLaws
 pub mod CommandWords
-pub mod Decimals
-pub mod FaultlessRecovered
-pub mod FeedSteps
-pub mod FileAnswersExist
-pub mod LinePuts
-pub mod Lines
-pub mod NoteLines
-pub mod OptionWords
-pub mod ReadBack
-pub mod ReadingRuns
-pub mod RecoverLoop
-pub mod RecoverRuns
-pub mod RecoverSteps
-pub mod RegionTexts
-pub mod RepairEnds
-pub mod RepairSteps
-pub mod RunEnds
-pub mod ShowSteps
-pub mod TakenLines
-pub mod TakenRecords
-pub mod VerifyEnds
 pub mod Walked
-pub mod WalkedEvents
-pub mod WalkRuns
-pub mod WriteEnds
-pub mod WriteLimits
-pub mod WrittenLines
-pub mod WrittenSizes
-mod AnswerValues
-mod NumberValues
-mod OptionValues
-mod RecoverValues
-mod RepairValues
-mod ReadTextValues
+pub mod FaultlessRecovered
+pub mod FileAnswersExist
+pub mod ReadBack
 mod ReadWordValues
-mod Values
-mod WriteValues
+pub mod RegionTexts
+pub mod WalkedEvents
+pub mod RecoverSteps
+pub mod RecoverLoop
+pub mod WalkRuns
+pub mod RecoverRuns
+mod RecoverValues
+pub mod RepairSteps
+pub mod RepairEnds
+mod RepairValues
+pub mod UsageRuns
+pub mod WrittenSizes

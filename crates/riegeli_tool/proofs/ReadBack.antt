@@ -2,7 +2,7 @@
 use Rattle.std.proofs.Common.{◌≡◌, ◌∙◌, ℕ, ◌^◌, ◌≤◌, Bool, false, List, [], ◌∷◌, ◌++◌, Option, Some, None, length, map, refl, ap, subst, inl, inr, arith, append-nil}
 use Rattle.std.specs.List.{AllByRecursion, flat_map}
 use Rattle.std.specs.List.Sorted.{IsStrictlyIncreasing}
-use Rattle.record_io.specs.Bytes.{AreBytes}
+use Rattle.record_values.specs.Bytes.{AreBytes}
 use Rattle.record_io.specs.Puts.{Made, Out, Notes, puts_to, bytes_to}
 use Rattle.chunk_header.specs.Chunks.{ChunkValue}
 use Rattle.meta_chunk.specs.Files.{IsPlain, IsChainOf, AreRecordsOf, ArePlaced}
@@ -18,17 +18,19 @@ use Rattle.record_group.proofs.RecordFiles.{IsFile-file_of, AreRecordsOf-chunks_
 use Rattle.record_writer.specs.declared.feed.Stop.{Stop}
 use Rattle.record_writer.specs.declared.feed.Stop.TheVariants.{TooLong, InputTooLong, BadLine}
 use Rattle.record_writer.specs.Written.{AreInLimits}
-use Rattle.riegeli_tool.specs.declared.show_words.ShowWords.{ShowWords}
-use Rattle.riegeli_tool.specs.declared.write_words.WriteWords.{WriteWords}
-use Rattle.riegeli_tool.specs.declared.status.Status.TheVariants as status
-use Rattle.riegeli_tool.specs.Answers.{Answer, line}
-use Rattle.riegeli_tool.specs.Input.{lines, with_last_end, taken_from}
-use Rattle.riegeli_tool.specs.FileAnswers.{record_line}
-use Rattle.riegeli_tool.specs.WriteCommand.{options_of, stop_status, write_answer}
-use Rattle.riegeli_tool.specs.ShowCommand.{IsShown}
+use Rattle.show_files.specs.declared.show_words.ShowWords.{ShowWords}
+use Rattle.write_lines.specs.declared.write_words.WriteWords.{WriteWords}
+use Rattle.run_answers.specs.Answers.{Answer, line}
+use Rattle.run_answers.specs.Lines.{lines}
+use Rattle.write_lines.specs.Input.{with_last_end, taken_from}
+use Rattle.show_files.specs.Readings.{record_line}
+use Rattle.write_lines.specs.WriteCommand.{options_of, stop_status, write_answer}
+use Rattle.show_files.specs.ShowCommand.{IsShown}
 use Rattle.riegeli_tool.proofs.AnswerStreams.{written_made}
-use Rattle.riegeli_tool.proofs.CommandLaws.{EndsReading, same_answer}
-use Rattle.riegeli_tool.proofs.TakenRecords.{taken_from-records, taken_from-all, lines-joined}
+use Rattle.show_files.proofs.OneReading.{EndsReading}
+use Rattle.run_answers.proofs.OneAnswer.{same_answer}
+use Rattle.write_lines.proofs.TakenRecords.{taken_from-records, taken_from-all, lines-joined}
+use Rattle.run_answers.specs.declared.status.Status.TheVariants as status
 
 -- lists of few bytes can be written
 pub are_records : (records : List (List ℕ)) → AllByRecursion AreBytes records → AllByRecursion (λ bytes. length bytes ≤ 2 ^ 24) records → AreRecords records

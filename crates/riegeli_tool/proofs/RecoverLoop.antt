@@ -10,22 +10,22 @@ use Rattle.record_io.specs.Puts.{Out, Taken}
 use Rattle.record_io.proofs.Puts.{GoOut-nothing, GoOutOrAreHeld-none}
 use Rattle.damage_skip.specs.Walks.{piece_of, events_of, GoesOn, IsMet, IsStoppedAt, IsStop, IsEventIn}
 use Rattle.damage_skip.specs.declared.events.Event.{Event}
-use Rattle.damage_skip.specs.declared.events.Event.TheVariants as event
 use Rattle.damage_skip.specs.declared.events.WalkEnd.{WalkEnd}
-use Rattle.damage_skip.specs.declared.events.WalkEnd.TheVariants as walk
 use Rattle.damage_skip.specs.declared.regions.Region.{Region}
 use Rattle.riegeli_tool.specs.declared.recover_words.RecoverWords.{RecoverWords}
-use Rattle.riegeli_tool.specs.declared.status.Status.{Status}
-use Rattle.riegeli_tool.specs.declared.status.Status.TheVariants as status
+use Rattle.run_answers.specs.declared.status.Status.{Status}
 use Rattle.riegeli_tool.specs.declared.walking.WalkingEnd.{WalkingEnd}
-use Rattle.riegeli_tool.specs.declared.walking.WalkingEnd.TheVariants as end
-use Rattle.riegeli_tool.specs.FileAnswers.{most_file_bytes}
+use Rattle.run_answers.specs.FileAnswers.{most_file_bytes}
 use Rattle.riegeli_tool.specs.WalkAnswers.{regions_in, is_refused, may_skip, walk_status}
 use Rattle.riegeli_tool.specs.RecoverCommand.{IsRecovered, IsRecoveredSoFar}
 use Rattle.riegeli_tool.specs.RecoverProgress.{HasRoom, event_lines, event_text, status_after, GivesEvent, IsGivenTo}
-use Rattle.riegeli_tool.specs.ReadingEnds.{HasPutSoFar}
+use Rattle.run_answers.specs.PutSoFar.{HasPutSoFar}
 use Rattle.riegeli_tool.specs.WalkingEnds.{end_of_walk, IsBound, HasToldOf, IsShortWalk, Walks, TellsOf}
 use Rattle.riegeli_tool.proofs.RecoverSteps.{breaks-by, given-front, given-so_far, given-whole, given-stopped, given-on, given-event, event-unprinted, event-untold, event-passed, event-said, event-unsaid, event-front, told-event, told-still, told-front, status-event}
+use Rattle.damage_skip.specs.declared.events.Event.TheVariants as event
+use Rattle.damage_skip.specs.declared.events.WalkEnd.TheVariants as walk
+use Rattle.run_answers.specs.declared.status.Status.TheVariants as status
+use Rattle.riegeli_tool.specs.declared.walking.WalkingEnd.TheVariants as end
 
 -- nothing was given yet
 pub given-none : (words : RecoverWords) (bytes : Option (List ℕ)) (place : ℕ) (taken : Taken) (held : List ℕ)
@@ -58,11 +58,6 @@ pub same-met : (a b : Option (List ℕ)) (keep : Bool) (place : ℕ) → a ≡ b
 same-met a b keep place same not_kept h =
     subst (λ (x : Option (List ℕ)). IfSome x (λ f. IsMet keep f place)) (sym same)
     (subst (λ (k : Bool). IfSome b (λ f. IsMet k f place)) (sym not_kept) h)
-
-pub met-same : (a b : Option (List ℕ)) (keep : Bool) (place : ℕ) → a ≡ b → keep ≡ false → IfSome a (λ f. IsMet keep f place) → IfSome b (λ f. IsMet false f place)
-met-same a b keep place same not_kept h =
-    subst (λ (x : Option (List ℕ)). IfSome x (λ f. IsMet false f place)) same
-    (subst (λ (k : Bool). IfSome a (λ f. IsMet k f place)) not_kept h)
 
 pub goes-same : (a b : Option (List ℕ)) (keep : Bool) (place next : ℕ) (result known : Result (Option Event) WalkEnd) → a ≡ b → keep ≡ false → result ≡ known
     → IfSome a (λ f. GoesOn keep f place next (events_of result)) → IfSome b (λ f. GoesOn false f place next (events_of known))

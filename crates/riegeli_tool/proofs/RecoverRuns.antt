@@ -8,27 +8,33 @@ use Rattle.damage_skip.specs.Regions.{region_text}
 use lib.Chars.{codes}
 use Rattle.riegeli_tool.specs.declared.command.Command.TheVariants.{Recover}
 use Rattle.riegeli_tool.specs.declared.recover_words.RecoverWords.{RecoverWords}
-use Rattle.riegeli_tool.specs.declared.status.Status.{Status}
-use Rattle.riegeli_tool.specs.declared.status.Status.TheVariants as status
+use Rattle.run_answers.specs.declared.status.Status.{Status}
 use Rattle.riegeli_tool.specs.declared.walking.WalkingEnd.{WalkingEnd}
-use Rattle.riegeli_tool.specs.declared.walking.WalkingEnd.TheVariants as end
-use Rattle.riegeli_tool.specs.Answers.{Answer}
-use Rattle.riegeli_tool.specs.FileAnswers.{OfFile, limit_text}
-use Rattle.riegeli_tool.specs.RecoverCommand.{IsRecovered}
+use Rattle.run_answers.specs.Answers.{Answer}
+use Rattle.run_answers.specs.Meanings.{reads}
+use Rattle.run_answers.specs.FileAnswers.{OfFile, limit_text}
+use Rattle.riegeli_tool.specs.RecoverCommand.{IsRecovered, IsRecoveredSoFar, recover_meaning}
 use Rattle.riegeli_tool.specs.WalkingEnds.{end_unprinted, Walks}
 use Rattle.riegeli_tool.proofs.CommandLaws.{one_answer}
-use Rattle.riegeli_tool.proofs.FileAnswersExist.{of_file_exists, recovered_exists}
-use Rattle.riegeli_tool.proofs.ReadingRuns.{whole-flushed, front-flushed, broken-flushed, whole-unflushed, front-unflushed}
+use Rattle.run_answers.proofs.OneAnswer.{of_file_exists}
+use Rattle.riegeli_tool.proofs.FileAnswersExist.{recovered_exists}
+use Rattle.run_answers.proofs.PutSoFar.{whole-flushed, front-flushed, broken-flushed, whole-unflushed, front-unflushed}
 use Rattle.riegeli_tool.proofs.WalkRuns.{IsWalking}
+use Rattle.run_answers.specs.declared.status.Status.TheVariants as status
+use Rattle.riegeli_tool.specs.declared.walking.WalkingEnd.TheVariants as end
 
-pub recover_walks : (words : RecoverWords) → IsWalking (Recover words) (IsRecovered words) words.most
+pub recover_walks : (words : RecoverWords) → IsWalking (recover_meaning words) (IsRecovered words) (IsRecoveredSoFar words) words.most
 recover_walks words = record {
   one = record {
+    command = refl;
     input = refl;
     files = refl;
+    grown = refl;
     out = refl;
-    answers = λ input files answer is. is;
+    answers = λ r answer is. is;
+    so_far = λ r part is. is;
     may_work = λ sizes within. within;
+    may_take_of = λ r before after. tt;
     exists = λ file bytes. of_file_exists (IsRecovered words) (recovered_exists words) (file ∷ []) refl (bytes, tt);
   };
   may_end = λ sizes ended text may. may;
@@ -61,7 +67,7 @@ flushed-at words f a made b c notes held (Err end.Made) unmade none h out = absu
 
 -- or standard output fails to take it
 one_recovery : (words : RecoverWords) (f : List ℕ) (x y : Answer) → OfFile (IsRecovered words) (f ∷ []) x → OfFile (IsRecovered words) (f ∷ []) y → x ≡ y
-one_recovery words f x y is also = one_answer (Some (Recover words)) [] (f ∷ []) x y is also
+one_recovery words f x y is also = one_answer (Some (Recover words)) (reads [] (f ∷ [])) x y is also
 
 unflushed-at : (words : RecoverWords) (f : List ℕ) (a : Taken) (made b c notes : Option (List ℕ)) (held : List ℕ) (result : Result Status WalkingEnd)
     → result ≢ Err end.Made → ((result ≡ Err end.Out) ⊎ (result ≡ Err end.Notes) → held ≡ [])

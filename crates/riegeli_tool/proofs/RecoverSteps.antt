@@ -14,30 +14,30 @@ use Rattle.damage_skip.specs.Pieces.{Skipped, Piece, IsPieceOf, AreEvents}
 use Rattle.damage_skip.specs.Regions.{region_text}
 use Rattle.damage_skip.specs.Walks.{piece_of, GoesOn}
 use Rattle.damage_skip.specs.declared.events.Event.{Event}
-use Rattle.damage_skip.specs.declared.events.Event.TheVariants as event
 use Rattle.damage_skip.specs.declared.regions.Region.{Region}
 use Rattle.damage_skip.proofs.Tiles.{goes_on_whole}
 use lib.Chars.{codes}
 use Rattle.riegeli_tool.specs.declared.recover_words.RecoverWords.{RecoverWords}
-use Rattle.riegeli_tool.specs.declared.status.Status.{Status}
-use Rattle.riegeli_tool.specs.declared.status.Status.TheVariants as status
+use Rattle.run_answers.specs.declared.status.Status.{Status}
 use Rattle.riegeli_tool.specs.declared.walking.WalkingEnd.{WalkingEnd}
-use Rattle.riegeli_tool.specs.declared.walking.WalkingEnd.TheVariants as end
-use Rattle.riegeli_tool.specs.Answers.{Answer}
-use Rattle.riegeli_tool.specs.FileAnswers.{most_file_bytes, OfFile}
+use Rattle.run_answers.specs.Answers.{Answer}
+use Rattle.run_answers.specs.FileAnswers.{most_file_bytes, OfFile}
 use Rattle.riegeli_tool.specs.WalkAnswers.{regions_in, may_skip, is_refused, walked, refused_in, IsWalkedTo, skipped_text, stopped_text, walk_status, MaySkip}
-use Rattle.riegeli_tool.specs.ReadingEnds.{HasPut, HasPutSoFar, HasPutFront, HasBrokenOff}
+use Rattle.run_answers.specs.PutSoFar.{HasPut, HasPutSoFar, HasPutFront, HasBrokenOff}
 use Rattle.riegeli_tool.specs.RecoverCommand.{event_puts, IsRecovered, IsRecoveredSoFar}
 use Rattle.riegeli_tool.specs.RecoverProgress.{event_lines, event_text, status_after, GivesEvent, IsGivenTo}
-use Rattle.riegeli_tool.specs.Runs.{FailedToSay, PutsLines}
+use Rattle.run_answers.specs.Runs.{FailedToSay, PutsLines}
 use Rattle.riegeli_tool.specs.WalkingEnds.{HasToldOf}
 use Rattle.riegeli_tool.proofs.AnswerStreams.{bytes_to-second, events_notes}
 use Rattle.riegeli_tool.proofs.CommandLaws.{one_recovered}
-use Rattle.riegeli_tool.proofs.ReadingRuns.{PutsLines-same}
+use Rattle.run_answers.proofs.PutSoFar.{PutsLines-same}
 use Rattle.riegeli_tool.proofs.RegionTexts.{PutsLines-regions}
-use Rattle.riegeli_tool.proofs.ShowSteps.{in_reach}
+use Rattle.show_files.proofs.ShowSteps.{in_reach}
 use Rattle.riegeli_tool.proofs.Walked.{walked-behind, regions-append, passed-may, may-append, walked-all, refused-none, piece_at, walked-to_refused, refused-there, text-more, status-more}
 use Rattle.riegeli_tool.proofs.WalkedEvents.{walked-further, walked-on, rest_of, rest_from, status-all, status-stopped}
+use Rattle.damage_skip.specs.declared.events.Event.TheVariants as event
+use Rattle.run_answers.specs.declared.status.Status.TheVariants as status
+use Rattle.riegeli_tool.specs.declared.walking.WalkingEnd.TheVariants as end
 
 -- what is put of events
 abbrev pub puts_of : RecoverWords → List Piece → List Put

@@ -4,15 +4,15 @@ use Rattle.std.specs.List.{flat_map}
 use Rattle.std.specs.Fmt.{digits}
 use Rattle.record_io.specs.Puts.{Put, Out, Notes, puts_to}
 use Rattle.chunk_header.specs.Chunks.{ChunkValue}
-use Rattle.chunk_reader.specs.declared.reasons.Why.TheVariants as why
 use Rattle.damage_skip.specs.Pieces.{Given, Passive, Skipped, Piece}
 use Rattle.riegeli_tool.specs.declared.command.Command.TheVariants.{Recover}
-use Rattle.riegeli_tool.specs.declared.status.Status.TheVariants as status
-use Rattle.riegeli_tool.specs.ShowWords.{show_words_of}
+use Rattle.show_files.specs.ShowWords.{show_words_of}
 use Rattle.riegeli_tool.specs.RecoverWords.{recover_words_of}
 use Rattle.riegeli_tool.specs.RecoverCommand.{event_puts}
 use Rattle.riegeli_tool.specs.Commands.{command_of, accepted, names_of}
 use Rattle.riegeli_tool.specs.WalkAnswers.{regions_in, walked, refused_in, stopped_text, walk_status}
+use Rattle.chunk_reader.specs.declared.reasons.Why.TheVariants as why
+use Rattle.run_answers.specs.declared.status.Status.TheVariants as status
 
 -- a file, and the options in any place, none of them twice
 recover_file : command_of (codes "show" ∷ codes "--recover" ∷ codes "F" ∷ [])
@@ -69,7 +69,7 @@ no_file_handed_in : accepted (codes "show" ∷ codes "--recover" ∷ codes "F" �
 unfolding recover_words_of
 no_file_handed_in = refl
 
-one_read : names_of (command_of (codes "show" ∷ codes "--recover" ∷ codes "F" ∷ [])) ≡ record { first = 2; count = 1; made = None }
+one_read : names_of (command_of (codes "show" ∷ codes "--recover" ∷ codes "F" ∷ [])) ≡ record { first = 2; count = 1; made = None; times = 1; grown = None }
 unfolding recover_words_of
 one_read = refl
 

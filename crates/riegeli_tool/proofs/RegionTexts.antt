@@ -7,15 +7,14 @@ use Rattle.std.proofs.lemmas.List.{append_assoc}
 use Rattle.record_io.specs.Puts.{Put, Notes, bytes_to}
 use Rattle.chunk_reader.specs.Names.{name_of}
 use Rattle.chunk_reader.specs.declared.reasons.Why.{Why}
-use Rattle.chunk_reader.specs.declared.reasons.Why.TheVariants as why
 use Rattle.damage_skip.specs.Regions.{region_text}
 use Rattle.damage_skip.specs.declared.regions.Region.{Region}
-use Rattle.riegeli_tool.specs.Answers.{line}
-use Rattle.riegeli_tool.specs.Input.{ends_line, NoneEnds, lines}
-use Rattle.riegeli_tool.specs.Runs.{PutsLines, first_lines}
+use Rattle.run_answers.specs.Answers.{line}
+use Rattle.run_answers.specs.Lines.{ends_line, NoneEnds, lines}
+use Rattle.run_answers.specs.Runs.{PutsLines, first_lines}
 use Rattle.riegeli_tool.specs.WalkAnswers.{skipped_text}
-use Rattle.riegeli_tool.proofs.Lines.{lines-first}
-use Rattle.riegeli_tool.proofs.TakenLines.{NoneEnds-append, NoneEnds-cons}
+use Rattle.run_answers.proofs.Lines.{lines-first, NoneEnds-append, NoneEnds-cons}
+use Rattle.chunk_reader.specs.declared.reasons.Why.TheVariants as why
 
 -- bytes that a test passes
 and-parts : (a b : Bool) → (a && b) ≡ true → (a ≡ true) × (b ≡ true)

@@ -10,30 +10,34 @@ use Rattle.damage_skip.specs.declared.regions.Region.{Region}
 use Rattle.repair_copy.specs.Repairs.{Repairs, Passes}
 use Rattle.repair_copy.specs.declared.repairs.Repaired.{Repaired}
 use Rattle.repair_copy.specs.declared.repairs.RepairEnd.{RepairEnd}
-use Rattle.repair_copy.specs.declared.repairs.RepairEnd.TheVariants as repair
-use Rattle.riegeli_tool.specs.declared.command.Command.TheVariants.{Repair}
 use Rattle.riegeli_tool.specs.declared.repair_words.RepairWords.{RepairWords}
-use Rattle.riegeli_tool.specs.declared.status.Status.{Status}
+use Rattle.run_answers.specs.declared.status.Status.{Status}
 use Rattle.riegeli_tool.specs.declared.walking.WalkingEnd.{WalkingEnd}
-use Rattle.riegeli_tool.specs.declared.walking.WalkingEnd.TheVariants as end
-use Rattle.riegeli_tool.specs.FileAnswers.{most_file_bytes, report}
-use Rattle.riegeli_tool.specs.RepairCommand.{IsRepaired, IsRepairedSoFar}
+use Rattle.run_answers.specs.FileAnswers.{most_file_bytes, report}
+use Rattle.riegeli_tool.specs.RepairCommand.{IsRepaired, IsRepairedSoFar, repair_meaning}
 use Rattle.riegeli_tool.specs.WalkAnswers.{walk_status}
-use Rattle.riegeli_tool.specs.ReadingEnds.{HasPutSoFar}
+use Rattle.run_answers.specs.PutSoFar.{HasPutSoFar}
 use Rattle.riegeli_tool.specs.WalkingEnds.{end_of_repair, IsBound, IsShortWalk, Walks, TellsOf}
-use Rattle.riegeli_tool.proofs.FileAnswersExist.{of_file_exists, repaired_exists}
-use Rattle.riegeli_tool.proofs.ReadingRuns.{IsErrAnd-same}
+use Rattle.run_answers.proofs.OneAnswer.{of_file_exists}
+use Rattle.riegeli_tool.proofs.FileAnswersExist.{repaired_exists}
+use Rattle.run_answers.proofs.PutSoFar.{IsErrAnd-same}
 use Rattle.riegeli_tool.proofs.RepairSteps.{cut-so_far, cut-walked, repaired-walked, stopped-walked, told-front, told-of, unmade-walked, unreported-walked, untold-walked}
 use Rattle.riegeli_tool.proofs.WalkRuns.{IsWalking}
+use Rattle.repair_copy.specs.declared.repairs.RepairEnd.TheVariants as repair
+use Rattle.riegeli_tool.specs.declared.walking.WalkingEnd.TheVariants as end
 
-pub repair_walks : (words : RepairWords) → IsWalking (Repair words) (IsRepaired words) words.most
+pub repair_walks : (words : RepairWords) → IsWalking (repair_meaning words) (IsRepaired words) (IsRepairedSoFar words) words.most
 repair_walks words = record {
   one = record {
+    command = refl;
     input = refl;
     files = refl;
+    grown = refl;
     out = refl;
-    answers = λ input files answer is. is;
+    answers = λ r answer is. is;
+    so_far = λ r part is. is;
     may_work = λ sizes within. within;
+    may_take_of = λ r before after. tt;
     exists = λ file bytes. of_file_exists (IsRepaired words) (repaired_exists words) (file ∷ []) refl (bytes, tt);
   };
   may_end = λ sizes ended text may. may;

@@ -8,7 +8,7 @@ use Rattle.std.proofs.lemmas.List.{append-nil, nil_from_length}
 use Rattle.std.proofs.lemmas.List.Sums.{sum_by-cons}
 use Rattle.std.proofs.lemmas.Grind.{flat_map-append}
 use Rattle.record_io.specs.Outside.{Rose, Takes, TakesFront}
-use Rattle.record_io.specs.declared.file_totals.Totals.{Totals}
+use Rattle.record_values.specs.declared.file_totals.Totals.{Totals}
 use Rattle.record_io.specs.Puts.{Put, Made, Out, Notes, Taken, taken_by, GoOut, BreaksOff, puts_to, bytes_to}
 use Rattle.record_io.proofs.Calls.{Takes-nothing}
 use Rattle.record_io.proofs.Puts.{bytes_to-append, bytes_to-other, GoOut-append, GoOut-out, GoOutOrAreHeld-none, TakesFront-count, BreaksOff-front, BreaksOff-last, BreaksOff-longer}
@@ -26,26 +26,27 @@ use Rattle.repair_copy.specs.Walked.{AreWalked}
 use Rattle.repair_copy.specs.Repairs.{Repairs}
 use Rattle.repair_copy.specs.declared.repairs.Repaired.{Repaired}
 use Rattle.repair_copy.specs.declared.repairs.RepairEnd.{RepairEnd}
-use Rattle.repair_copy.specs.declared.repairs.RepairEnd.TheVariants as repair
 use Rattle.repair_copy.proofs.RepairPuts.{repair_puts-append, notes_in-repair, out_in-repair}
 use Rattle.repair_copy.proofs.WholeLines.{whole_lines}
 use lib.Chars.{codes}
 use Rattle.riegeli_tool.specs.declared.repair_words.RepairWords.{RepairWords}
-use Rattle.riegeli_tool.specs.declared.status.Status.{Status}
-use Rattle.riegeli_tool.specs.declared.status.Status.TheVariants as status
-use Rattle.riegeli_tool.specs.Answers.{Answer}
-use Rattle.riegeli_tool.specs.FileAnswers.{OfFile, most_file_bytes, report}
+use Rattle.run_answers.specs.declared.status.Status.{Status}
+use Rattle.run_answers.specs.Answers.{Answer}
+use Rattle.run_answers.specs.FileAnswers.{OfFile, most_file_bytes, report}
 use Rattle.riegeli_tool.specs.RepairCommand.{end_puts, first_puts, IsRepaired, IsRepairedSoFar}
-use Rattle.riegeli_tool.specs.ReadingEnds.{HasPut, HasPutSoFar, HasPutFront, HasBrokenOff}
-use Rattle.riegeli_tool.specs.Runs.{FailedToSay, PutsLines}
+use Rattle.run_answers.specs.PutSoFar.{HasPut, HasPutSoFar, HasPutFront, HasBrokenOff}
+use Rattle.run_answers.specs.Runs.{FailedToSay, PutsLines}
 use Rattle.riegeli_tool.specs.WalkAnswers.{region_as, regions_in, may_skip, is_refused_as, walked, refused_in, IsWalkedTo, MaySkip, skipped_text, walk_status}
 use Rattle.riegeli_tool.specs.WalkingEnds.{IsBound, HasToldOf}
-use Rattle.riegeli_tool.proofs.CommandLaws.{same_answer, one_repaired}
+use Rattle.run_answers.proofs.OneAnswer.{same_answer}
+use Rattle.riegeli_tool.proofs.CommandLaws.{one_repaired}
 use Rattle.riegeli_tool.proofs.RegionTexts.{PutsLines-regions}
-use Rattle.riegeli_tool.proofs.ShowSteps.{in_reach}
-use Rattle.riegeli_tool.proofs.VerifyEnds.{report-some}
+use Rattle.show_files.proofs.ShowSteps.{in_reach}
+use Rattle.run_answers.proofs.ReportLines.{report-some}
 use Rattle.riegeli_tool.proofs.Walked.{NoneRefused, walked-behind, walked-all, refused-none, piece_at, walked-to_refused, refused-there}
 use Rattle.riegeli_tool.proofs.WalkedEvents.{rest_of, rest_from, status-all, status-stopped}
+use Rattle.repair_copy.specs.declared.repairs.RepairEnd.TheVariants as repair
+use Rattle.run_answers.specs.declared.status.Status.TheVariants as status
 
 -- the lines of the regions among events, and their number
 line_of-region : (begin end : ℕ) (what : What) (regions : List Region)

@@ -2,12 +2,12 @@
 use Rattle.std.proofs.Common.{◌≡◌, Some, None, [], ◌∷◌, codes, refl}
 use Rattle.std.specs.Fmt.{digits}
 use Rattle.record_io.specs.Puts.{Out, Notes, puts_to}
-use Rattle.block_layout.specs.Layout as layout
-use Rattle.chunk_reader.specs.declared.reasons.Why.TheVariants as why
 use Rattle.riegeli_tool.specs.declared.command.Command.TheVariants.{Repair}
 use Rattle.riegeli_tool.specs.RepairWords.{repair_words_of}
 use Rattle.riegeli_tool.specs.RepairCommand.{end_puts}
 use Rattle.riegeli_tool.specs.Commands.{command_of, accepted, names_of}
+use Rattle.block_layout.specs.Layout as layout
+use Rattle.chunk_reader.specs.declared.reasons.Why.TheVariants as why
 
 -- two files, and the bound in any place
 two_files : command_of (codes "repair" ∷ codes "A" ∷ codes "B" ∷ []) ≡ Some (Repair (record { most = None; from = 1; to = 2 }))
@@ -50,7 +50,7 @@ unfolding repair_words_of
 recover_option = refl
 
 -- the first file is read, and the second one made
-named : names_of (command_of (codes "repair" ∷ codes "A" ∷ codes "B" ∷ [])) ≡ record { first = 1; count = 1; made = Some 2 }
+named : names_of (command_of (codes "repair" ∷ codes "A" ∷ codes "B" ∷ [])) ≡ record { first = 1; count = 1; made = Some 2; times = 1; grown = None }
 unfolding repair_words_of
 named = refl
 

@@ -10,8 +10,8 @@ use lib.Chars.{codes}
 use Rattle.damage_skip.specs.Pieces.{Skipped, Piece}
 use Rattle.damage_skip.specs.Regions.{region_text}
 use Rattle.damage_skip.specs.declared.regions.Region.{Region}
-use Rattle.riegeli_tool.specs.declared.status.Status.TheVariants as status
 use Rattle.riegeli_tool.specs.WalkAnswers.{region_of, regions_in, may_skip, is_refused_as, is_refused, walked, refused_in, skipped_text, walk_status, MaySkip}
+use Rattle.run_answers.specs.declared.status.Status.TheVariants as status
 
 -- none of the events is refused
 abbrev pub NoneRefused : Option ℕ → List Piece → Type 0

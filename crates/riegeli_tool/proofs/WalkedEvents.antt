@@ -6,9 +6,9 @@ use Rattle.damage_skip.specs.Walks.{GoesOn}
 use Rattle.damage_skip.specs.declared.regions.Region.{Region}
 use Rattle.damage_skip.proofs.OnePiece.{piece_past}
 use Rattle.damage_skip.proofs.Tiles.{tiles_within, tiles_to_end, goes_on_append, goes_on_whole}
-use Rattle.riegeli_tool.specs.declared.status.Status.TheVariants as status
 use Rattle.riegeli_tool.specs.WalkAnswers.{regions_in, may_skip, is_refused, walked, refused_in, IsWalkedTo, walk_status}
 use Rattle.riegeli_tool.proofs.Walked.{NoneRefused, none_refused-append, walked-all, refused-none, piece_at, walked-to_refused, refused-there}
+use Rattle.run_answers.specs.declared.status.Status.TheVariants as status
 
 -- no event more
 pub walked-further : (keep : Bool) (most : Option ℕ) (file : List ℕ) (place next : ℕ) (events : List Piece) → IsWalkedTo keep most file place events

@@ -20,13 +20,14 @@ use Rattle.record_group.proofs.Signed.{end_of_chunk-signature, length-file_of-si
 use Rattle.record_writer.specs.Feeds.{Rest}
 use Rattle.record_writer.specs.declared.feed.Stop.{Stop}
 use Rattle.record_writer.proofs.Reaches.{group-near}
-use Rattle.riegeli_tool.specs.declared.write_words.WriteWords.{WriteWords}
-use Rattle.riegeli_tool.specs.Input.{ends_line, lines, running, up_to_last_end, line_limit, taken_lines, stop_past_limit, taken_from}
-use Rattle.riegeli_tool.specs.WriteCommand.{write_answer}
+use Rattle.write_lines.specs.declared.write_words.WriteWords.{WriteWords}
+use Rattle.run_answers.specs.Lines.{ends_line, lines}
+use Rattle.write_lines.specs.Input.{running, up_to_last_end, line_limit, taken_lines, stop_past_limit, taken_from}
+use Rattle.write_lines.specs.WriteCommand.{write_answer}
 use Rattle.riegeli_tool.proofs.AnswerStreams.{written_made}
-use Rattle.riegeli_tool.proofs.Lines.{lines-cons}
-use Rattle.riegeli_tool.proofs.TakenLines.{taken_from-within, taken_from-past, long-refused}
-use Rattle.riegeli_tool.proofs.TakenRecords.{short-before}
+use Rattle.run_answers.proofs.Lines.{lines-cons}
+use Rattle.write_lines.proofs.TakenLines.{taken_from-within, taken_from-past, long-refused}
+use Rattle.write_lines.proofs.TakenRecords.{short-before}
 
 -- lines cost their bytes, and 8 more for each, of which each has a byte or an end
 cost-onto_first : (b : ℕ) (parts : List (List ℕ)) → cost_of (onto_first b parts) ≤ cost_of parts + 9

@@ -1,14 +1,14 @@
 -- The commands and their words. Own.
-use Rattle.std.specs.Prelude.{ℕ, Option, Some, None, List, [], ◌∷◌, option_map, ◌==◌, if◌then◌else◌}
+use Rattle.std.specs.Prelude.{ℕ, ◌*◌, Bool, Option, Some, None, List, [], ◌∷◌, option_map, ◌==◌, if◌then◌else◌}
 use Rattle.std.specs.Str.{bytes_eq}
 use lib.Chars.{codes}
 use Rattle.riegeli_tool.specs.declared.command.Command.{Command}
 use Rattle.riegeli_tool.specs.declared.command.Command.TheVariants.{Write, Show, Recover, Verify, Repair}
 use Rattle.riegeli_tool.specs.declared.command.Names.{Names}
-use Rattle.riegeli_tool.specs.WriteWords.{write_words_of}
-use Rattle.riegeli_tool.specs.ShowWords.{show_words_of}
+use Rattle.write_lines.specs.WriteWords.{write_words_of}
+use Rattle.show_files.specs.ShowWords.{show_words_of}
 use Rattle.riegeli_tool.specs.RecoverWords.{goes_past_damage, recover_words_of}
-use Rattle.riegeli_tool.specs.VerifyWords.{verify_words_of}
+use Rattle.show_files.specs.VerifyWords.{verify_words_of}
 use Rattle.riegeli_tool.specs.RepairWords.{repair_words_of}
 
 -- the command that the words of `show` are
@@ -27,28 +27,36 @@ command_of (name ∷ words) =
     else if bytes_eq name (codes "repair") then option_map Repair (repair_words_of (name ∷ words))
     else None
 
--- how many files a command reads
-abbrev pub files_read : Command → ℕ
-files_read (Write words) = 0
-files_read (Show words) = 1
-files_read (Recover words) = 1
-files_read (Verify words) = 1
-files_read (Repair words) = 1
+-- no words name a file
+abbrev pub none_named : Names
+none_named = record { first = 0; count = 0; made = None; times = 1; grown = None }
 
--- the places of the files among the words: the one that is read, how many are, and the one that is made
+-- the places of the files among the words of a command: those that are read, how many these are and how many stores there are
+-- to be of each, the one that is made and the one that is grown
+abbrev pub names_by : Command → Names
+names_by (Write words) = record none_named { made = Some words.file }
+names_by (Show words) = record none_named { first = words.file; count = 1 }
+names_by (Recover words) = record none_named { first = words.show.file; count = 1 }
+names_by (Verify words) = record none_named { first = words.file; count = 1 }
+names_by (Repair words) = record none_named { first = words.from; count = 1; made = Some words.to }
+
 abbrev pub names_of : Option Command → Names
-names_of None = record { first = 0; count = 0; made = None }
-names_of (Some (Write words)) = record { first = 0; count = 0; made = Some words.file }
-names_of (Some (Show words)) = record { first = words.file; count = 1; made = None }
-names_of (Some (Recover words)) = record { first = words.show.file; count = 1; made = None }
-names_of (Some (Verify words)) = record { first = words.file; count = 1; made = None }
-names_of (Some (Repair words)) = record { first = words.from; count = 1; made = Some words.to }
+names_of None = none_named
+names_of (Some command) = names_by command
 
--- a command where it reads so many files
+-- how many stores there are of the files that a command reads
+abbrev pub stores_of : Command → ℕ
+stores_of command = (names_by command).count * (names_by command).times
+
+-- whether these are so many
+abbrev pub takes : Command → ℕ → Bool
+takes command count = stores_of command == count
+
+-- a command where so many stores are handed in
 abbrev pub accepted_of : Option Command → ℕ → Option Command
 accepted_of None count = None
-accepted_of (Some command) count = if files_read command == count then Some command else None
+accepted_of (Some command) count = if takes command count then Some command else None
 
--- the command that words are, where it reads so many files
+-- the command that words are, where so many stores are handed in
 abbrev pub accepted : List (List ℕ) → ℕ → Option Command
 accepted words count = accepted_of (command_of words) count

@@ -5,9 +5,10 @@ use Rattle.record_io.specs.Puts.{Put, Out, Notes, puts_to}
 use Rattle.damage_skip.specs.Pieces.{Piece, AreEvents, records_of}
 use Rattle.repair_copy.specs.Told.{line_of}
 use Rattle.riegeli_tool.specs.declared.recover_words.RecoverWords.{RecoverWords}
-use Rattle.riegeli_tool.specs.Answers.{Answer}
-use Rattle.riegeli_tool.specs.FileAnswers.{record_line}
-use Rattle.riegeli_tool.specs.WalkAnswers.{regions_in, walked, refused_in, IsWalkedTo, stopped_text, walk_status}
+use Rattle.run_answers.specs.Answers.{Answer}
+use Rattle.show_files.specs.Readings.{record_line, file_meaning}
+use Rattle.riegeli_tool.specs.WalkAnswers.{regions_in, walked, refused_in, IsWalkedTo, stopped_text, walk_status, MaySayWalk, MayEndWalk}
+use Rattle.run_answers.specs.Meanings.{Meaning}
 
 -- what is put of an event: the lines of its records, or its line, if it is a region
 abbrev pub event_puts : Bool → Piece → List Put
@@ -30,3 +31,10 @@ pub record IsRecoveredSoFar (words : RecoverWords) (file : List ℕ) (part : Lis
   pub events : List Piece
   pub walked : IsWalkedTo false words.most file place events
   pub puts : part ≡ flat_map (event_puts words.show.positions) events
+
+-- what `show` means where it goes on past damage
+abbrev pub recover_meaning : RecoverWords → Meaning
+recover_meaning words = record (file_meaning (IsRecovered words) (IsRecoveredSoFar words)) {
+  may_end = MayEndWalk words.most;
+  may_say = MaySayWalk words.most;
+}

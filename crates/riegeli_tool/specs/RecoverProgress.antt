@@ -7,15 +7,15 @@ use Rattle.damage_skip.specs.Pieces.{Piece, records_of}
 use Rattle.damage_skip.specs.Regions.{region_text}
 use Rattle.damage_skip.specs.Walks.{piece_of}
 use Rattle.damage_skip.specs.declared.events.Event.{Event}
-use Rattle.damage_skip.specs.declared.events.Event.TheVariants as event
 use Rattle.riegeli_tool.specs.declared.recover_words.RecoverWords.{RecoverWords}
-use Rattle.riegeli_tool.specs.declared.status.Status.{Status}
-use Rattle.riegeli_tool.specs.declared.status.Status.TheVariants as status
+use Rattle.run_answers.specs.declared.status.Status.{Status}
 use Rattle.riegeli_tool.specs.declared.walking.WalkingEnd.{WalkingEnd}
-use Rattle.riegeli_tool.specs.declared.walking.WalkingEnd.TheVariants as end
 use Rattle.riegeli_tool.specs.RecoverCommand.{event_puts}
-use Rattle.riegeli_tool.specs.ShowProgress.{record_lines}
+use Rattle.show_files.specs.ShowProgress.{record_lines}
 use Rattle.riegeli_tool.specs.WalkAnswers.{regions_in, IsWalkedTo, walk_status}
+use Rattle.damage_skip.specs.declared.events.Event.TheVariants as event
+use Rattle.run_answers.specs.declared.status.Status.TheVariants as status
+use Rattle.riegeli_tool.specs.declared.walking.WalkingEnd.TheVariants as end
 
 -- the positions of an event's records are below 2 ^ 64
 abbrev pub HasRoom : Event → Type 0

@@ -1,9 +1,9 @@
 -- The words of `show` that go on past damage: how much of it may be skipped at once, and what those of `show` say. Own.
-use Rattle.std.specs.Prelude.{ℕ, ◌^◌, Bool, Option, Some, None, List, [], ◌∷◌, is_some, if◌then◌else◌}
+use Rattle.std.specs.Prelude.{ℕ, ◌^◌, Bool, Option, Some, None, List, is_some, if◌then◌else◌, [], ◌∷◌}
 use lib.Chars.{codes}
 use Rattle.riegeli_tool.specs.declared.recover_words.RecoverWords.{RecoverWords}
-use Rattle.riegeli_tool.specs.Numbers.{number_within}
-use Rattle.riegeli_tool.specs.Options.{◌>>=◌, value_of, optional_value, are_words_of, file_places, only}
+use Rattle.word_options.specs.Numbers.{number_within}
+use Rattle.word_options.specs.Options.{value_of, optional_value, are_words_of, file_places, only, ◌>>=◌}
 
 -- whether the words of `show` say to go on past damage
 abbrev pub goes_past_damage : List (List ℕ) → Bool

@@ -11,9 +11,11 @@ use Rattle.damage_skip.specs.declared.regions.Region.{Region}
 use Rattle.repair_copy.specs.Relaid.{chunks_in}
 use Rattle.repair_copy.specs.RepairPuts.{repair_puts}
 use Rattle.riegeli_tool.specs.declared.repair_words.RepairWords.{RepairWords}
-use Rattle.riegeli_tool.specs.Answers.{Answer}
-use Rattle.riegeli_tool.specs.FileAnswers.{report}
-use Rattle.riegeli_tool.specs.WalkAnswers.{regions_in, walked, refused_in, IsWalkedTo, walk_status}
+use Rattle.run_answers.specs.Answers.{Answer}
+use Rattle.run_answers.specs.FileAnswers.{report}
+use Rattle.show_files.specs.Readings.{file_meaning}
+use Rattle.riegeli_tool.specs.WalkAnswers.{regions_in, walked, refused_in, IsWalkedTo, walk_status, MaySayWalk, MayEndWalk}
+use Rattle.run_answers.specs.Meanings.{Meaning, none_used}
 
 -- what is put last: the report of the file of these chunks, or the line of the region that is refused
 abbrev pub end_puts : Option Region → List ChunkValue → List Put
@@ -40,3 +42,11 @@ pub record IsRepairedSoFar (words : RepairWords) (file : List ℕ) (part : List 
   pub events : List Piece
   pub walked : IsWalkedTo true words.most file place events
   pub puts : part ≡ first_puts events
+
+-- what `repair` means
+abbrev pub repair_meaning : RepairWords → Meaning
+repair_meaning words = record (file_meaning (IsRepaired words) (IsRepairedSoFar words)) {
+  uses = record none_used { files = true; made = true; out = true; memory = true };
+  may_end = MayEndWalk words.most;
+  may_say = MaySayWalk words.most;
+}

@@ -1,8 +1,8 @@
 -- The words of `repair`: how much damage may be skipped at once, the file that it reads and the one that it makes. Own.
-use Rattle.std.specs.Prelude.{ℕ, Option, Some, None, List, [], ◌∷◌, if◌then◌else◌}
+use Rattle.std.specs.Prelude.{ℕ, Option, Some, None, List, if◌then◌else◌, [], ◌∷◌}
 use lib.Chars.{codes}
 use Rattle.riegeli_tool.specs.declared.repair_words.RepairWords.{RepairWords}
-use Rattle.riegeli_tool.specs.Options.{◌>>=◌, are_words_of, file_places, only_two, is_same_at}
+use Rattle.word_options.specs.Options.{are_words_of, file_places, only_two, is_same_at, ◌>>=◌}
 use Rattle.riegeli_tool.specs.RecoverWords.{most_of}
 
 -- the options of `repair`

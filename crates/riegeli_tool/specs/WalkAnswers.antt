@@ -6,9 +6,9 @@ use Rattle.damage_skip.specs.Pieces.{What, Skipped, Piece}
 use Rattle.damage_skip.specs.Regions.{region_text}
 use Rattle.damage_skip.specs.Walks.{GoesOn}
 use Rattle.damage_skip.specs.declared.regions.Region.{Region}
-use Rattle.riegeli_tool.specs.declared.status.Status.{Status}
-use Rattle.riegeli_tool.specs.declared.status.Status.TheVariants as status
-use Rattle.riegeli_tool.specs.FileAnswers.{IsInReach, IsTooLong, limit_text}
+use Rattle.run_answers.specs.declared.status.Status.{Status}
+use Rattle.run_answers.specs.FileAnswers.{IsInReach, IsTooLong, limit_text}
+use Rattle.run_answers.specs.declared.status.Status.TheVariants as status
 
 -- the region that a piece is, if it is one
 abbrev pub region_as : (begin end : ℕ) → What → Option Region

@@ -7,22 +7,22 @@ use Rattle.record_io.specs.Outside.{Takes, TakesFront}
 use Rattle.record_io.specs.Puts.{Made, Out, Taken}
 use Rattle.damage_skip.specs.Regions.{IsRegion, region_text}
 use Rattle.damage_skip.specs.declared.events.WalkEnd.{WalkEnd}
-use Rattle.damage_skip.specs.declared.events.WalkEnd.TheVariants as walk
 use Rattle.damage_skip.specs.declared.regions.Region.{Region}
 use Rattle.repair_copy.specs.declared.repairs.RepairEnd.{RepairEnd}
-use Rattle.repair_copy.specs.declared.repairs.RepairEnd.TheVariants as repair
-use Rattle.riegeli_tool.specs.declared.sizes.SizeEnd.{SizeEnd}
-use Rattle.riegeli_tool.specs.declared.sizes.SizeEnd.TheVariants as size
-use Rattle.riegeli_tool.specs.declared.status.Status.{Status}
-use Rattle.riegeli_tool.specs.declared.status.Status.TheVariants as status
+use Rattle.run_answers.specs.declared.sizes.SizeEnd.{SizeEnd}
+use Rattle.run_answers.specs.declared.status.Status.{Status}
 use Rattle.riegeli_tool.specs.declared.walking.WalkingEnd.{WalkingEnd}
-use Rattle.riegeli_tool.specs.declared.walking.WalkingEnd.TheVariants as end
-use Rattle.riegeli_tool.specs.Answers.{Answer}
-use Rattle.riegeli_tool.specs.FileAnswers.{OfFile, IsInReach, IsTooLong, limit_text}
-use Rattle.riegeli_tool.specs.Statuses.{fault_text}
-use Rattle.riegeli_tool.specs.Runs.{Shown, SaysAtEnd, TakesThen, FailedToSay}
-use Rattle.riegeli_tool.specs.ReadingEnds.{HasPut, HasPutFront, HasBrokenOff}
+use Rattle.run_answers.specs.Answers.{Answer}
+use Rattle.run_answers.specs.FileAnswers.{OfFile, IsInReach, IsTooLong, limit_text}
+use Rattle.run_answers.specs.Statuses.{fault_text}
+use Rattle.run_answers.specs.Runs.{Shown, SaysAtEnd, TakesThen, FailedToSay}
+use Rattle.run_answers.specs.PutSoFar.{HasPut, HasPutFront, HasBrokenOff}
 use Rattle.riegeli_tool.specs.WalkAnswers.{may_skip, MaySkip, skipped_text, walk_status}
+use Rattle.damage_skip.specs.declared.events.WalkEnd.TheVariants as walk
+use Rattle.repair_copy.specs.declared.repairs.RepairEnd.TheVariants as repair
+use Rattle.run_answers.specs.declared.sizes.SizeEnd.TheVariants as size
+use Rattle.run_answers.specs.declared.status.Status.TheVariants as status
+use Rattle.riegeli_tool.specs.declared.walking.WalkingEnd.TheVariants as end
 
 -- the ends by which no size was told
 abbrev pub end_of_size : SizeEnd → WalkingEnd

@@ -1,11 +1,11 @@
 ghost use Rattle.std.specs.Prelude.{◌≡◌};
-ghost use Rattle.riegeli_tool.specs.Commands.{files_read};
+ghost use Rattle.riegeli_tool.specs.Commands.{names_by, none_named, takes};
 
 use crate::recover_words::RecoverWords;
 use crate::repair_words::RepairWords;
-use crate::show_words::ShowWords;
-use crate::verify_words::VerifyWords;
-use crate::write_words::WriteWords;
+use show_files::show_words::ShowWords;
+use show_files::verify_words::VerifyWords;
+use write_lines::write_words::WriteWords;
 
 /// A command, with what its words say.
 #[derive(Clone, Copy, Debug, PartialEq, Eq)]
@@ -22,20 +22,63 @@ pub(crate) enum Command {
 pub struct Names {
     /// The file that is read, or 0 where none is.
     pub first: usize,
-    /// How many files are read.
+    /// How many files are read, which stand one behind another.
     pub count: usize,
     /// The file that is made.
     pub made: Option<usize>,
+    /// How many stores there are to be of each file that is read.
+    pub times: usize,
+    /// The file that is grown.
+    pub grown: Option<usize>,
+}
+
+impl Names {
+    /// No file.
+    pub(crate) fn none() -> Names
+        ensures { result ≡ none_named }
+    {
+        Names {
+            first: 0,
+            count: 0,
+            made: None,
+            times: 1,
+            grown: None,
+        }
+    }
+
+    /// One file that is read.
+    fn read(&mut self, file: usize)
+        ensures { self.new ≡ record self.old { first = file; count = 1 } }
+    {
+        self.first = file;
+        self.count = 1;
+    }
 }
 
 impl Command {
-    /// How many files the command reads.
-    pub(crate) fn files_read(&self) -> usize
-        ensures { result ≡ files_read self.now }
+    /// The files that the command's words name.
+    pub(crate) fn names(&self) -> Names
+        ensures { result ≡ names_by self.now }
     {
+        let mut names = Names::none();
         match self {
-            Command::Write(_) => 0,
-            Command::Show(_) | Command::Recover(_) | Command::Verify(_) | Command::Repair(_) => 1,
+            Command::Write(words) => names.made = Some(words.file),
+            Command::Show(words) => names.read(words.file),
+            Command::Recover(words) => names.read(words.show.file),
+            Command::Verify(words) => names.read(words.file),
+            Command::Repair(words) => {
+                names.read(words.from);
+                names.made = Some(words.to);
+            }
         }
+        names
+    }
+
+    /// Whether so many stores are those of the files that the command reads.
+    pub(crate) fn takes(&self, count: usize) -> bool
+        ensures { result ≡ takes self.now count }
+    {
+        let names = self.names();
+        names.count * names.times == count
     }
 }

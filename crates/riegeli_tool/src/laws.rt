@@ -2,61 +2,67 @@
 
 ghost use Rattle.std.specs.List.{AllByRecursion, flat_map};
 ghost use Rattle.std.specs.List.Sorted.{IsStrictlyIncreasing};
-ghost use Rattle.std.specs.Prelude.{◌≡◌, ◌^◌, ◌≤◌, ◌⊎◌, false, Option, List, [], ℕ, length, map};
+ghost use Rattle.std.specs.Prelude.{◌≡◌, ◌^◌, ◌≤◌, ◌⊎◌, true, false, Option, List, [], ℕ, length, map};
 ghost use Rattle.chunk_header.specs.Chunks.{ChunkValue};
 ghost use Rattle.chunk_reader.specs.Faults.{HasNoFault};
 ghost use Rattle.meta_chunk.specs.Files.{IsFile, AreRecordsOf, ArePlaced};
-ghost use Rattle.record_io.specs.Bytes.{AreBytes};
+ghost use Rattle.record_values.specs.Bytes.{AreBytes};
 ghost use Rattle.record_io.specs.Puts.{Made, Out, Notes, puts_to, bytes_to};
 ghost use Rattle.record_writer.specs.Feeds.{Rest};
 ghost use Rattle.record_writer.specs.Written.{AreInLimits, file_under};
 ghost use Rattle.damage_skip.specs.Pieces.{placed_in};
 ghost use Rattle.repair_copy.specs.Relaid.{chunks_in, relaid};
-ghost use Rattle.riegeli_tool.specs.Answers.{Answer, line};
+ghost use Rattle.run_answers.specs.Answers.{Answer, line};
 ghost use Rattle.riegeli_tool.specs.Commands.{accepted};
-ghost use Rattle.riegeli_tool.specs.CommandAnswers.{IsAnswer, uses_of};
-ghost use Rattle.riegeli_tool.specs.FileAnswers.{most_file_bytes, record_line};
-ghost use Rattle.riegeli_tool.specs.Input.{taken_from, with_last_end};
+ghost use Rattle.run_answers.specs.Meanings.{Read};
+ghost use Rattle.riegeli_tool.specs.CommandAnswers.{IsAnswer, meaning_of};
+ghost use Rattle.run_answers.specs.FileAnswers.{most_file_bytes};
+ghost use Rattle.show_files.specs.Readings.{record_line};
+ghost use Rattle.write_lines.specs.Input.{taken_from, with_last_end};
 ghost use Rattle.riegeli_tool.specs.RecoverCommand.{IsRecovered};
 ghost use Rattle.riegeli_tool.specs.RepairCommand.{end_puts, IsRepaired};
-ghost use Rattle.riegeli_tool.specs.Runs.{IsSound, IsWhole, Runs, Seen};
-ghost use Rattle.riegeli_tool.specs.ShowCommand.{IsShown};
-ghost use Rattle.riegeli_tool.specs.VerifyCommand.{IsVerified};
+ghost use Rattle.run_answers.specs.Runs.{IsSound, IsWhole, Runs, Seen};
+ghost use Rattle.show_files.specs.ShowCommand.{IsShown};
+ghost use Rattle.show_files.specs.VerifyCommand.{IsVerified};
 ghost use Rattle.riegeli_tool.specs.WalkAnswers.{regions_in, walked, refused_in, walk_text};
-ghost use Rattle.riegeli_tool.specs.WriteCommand.{options_of, stop_text, answer_to, write_answer};
+ghost use Rattle.write_lines.specs.WriteCommand.{options_of, stop_text, answer_to, write_answer};
 ghost use Rattle.riegeli_tool.specs.declared.command.Command.{Command};
 ghost use Rattle.riegeli_tool.specs.declared.recover_words.RecoverWords.{RecoverWords};
 ghost use Rattle.riegeli_tool.specs.declared.repair_words.RepairWords.{RepairWords};
-ghost use Rattle.riegeli_tool.specs.declared.show_words.ShowWords.{ShowWords};
-ghost use Rattle.riegeli_tool.specs.declared.status.Status.{Status};
-ghost use Rattle.riegeli_tool.specs.declared.status.Status.TheVariants as status;
-ghost use Rattle.riegeli_tool.specs.declared.write_words.WriteWords.{WriteWords};
+ghost use Rattle.show_files.specs.declared.show_words.ShowWords.{ShowWords};
+ghost use Rattle.run_answers.specs.declared.status.Status.{Status};
+ghost use Rattle.run_answers.specs.declared.status.Status.TheVariants as status;
+ghost use Rattle.write_lines.specs.declared.write_words.WriteWords.{WriteWords};
 
 use record_writer::WriteOptions;
 use simple_chunk::Records;
 
-/// All words have one answer at most, of the bytes of the input and of the files. Own.
+/// Words have one answer at most, of what is read, unless their command may have several. Own.
 pub fn answers_are_one()
-    ensures one { (words : List (List ℕ)) (input : List ℕ) (files : List (List ℕ)) (a b : Answer)
-        → IsAnswer (accepted words (length files)) input files a
-        → IsAnswer (accepted words (length files)) input files b → a ≡ b }
+    ensures one { (words : List (List ℕ)) (r : Read) (a b : Answer)
+        → (meaning_of (accepted words (length r.files))).one ≡ true
+        → IsAnswer (accepted words (length r.files)) r a → IsAnswer (accepted words (length r.files)) r b → a ≡ b }
 {}
 
 /// Where no object that a command uses had a fault, a run of it gives its whole answer, or tells want of memory: the status of
 /// a fault never stands without one. Own.
 pub fn no_fault_without_a_cause()
     ensures whole { (command : Option Command) (before after : Seen) (ended : Status)
-        → Runs command before after ended → IsSound (uses_of command) before after → IsWhole ended ⊎ (ended ≡ status.Memory) }
+        → Runs (meaning_of command) before after ended → IsSound (meaning_of command).uses before after
+        → IsWhole ended ⊎ (ended ≡ status.Memory) }
 {}
 
 /// An answer doesn't depend on what its command doesn't use. Own.
 pub fn answers_stand_on_what_is_used()
-    ensures input { (words : List (List ℕ)) (input other : List ℕ) (files : List (List ℕ)) (a : Answer)
-        → (uses_of (accepted words (length files))).input ≡ false
-        → IsAnswer (accepted words (length files)) input files a → IsAnswer (accepted words (length files)) other files a }
-    ensures files { (words : List (List ℕ)) (count : ℕ) (input : List ℕ) (files others : List (List ℕ)) (a : Answer)
-        → (uses_of (accepted words count)).files ≡ false
-        → IsAnswer (accepted words count) input files a → IsAnswer (accepted words count) input others a }
+    ensures input { (words : List (List ℕ)) (r : Read) (other : List ℕ) (a : Answer)
+        → (meaning_of (accepted words (length r.files))).uses.input ≡ false
+        → IsAnswer (accepted words (length r.files)) r a → IsAnswer (accepted words (length r.files)) (record r { input = other }) a }
+    ensures files { (words : List (List ℕ)) (count : ℕ) (r : Read) (others : List (List ℕ)) (a : Answer)
+        → (meaning_of (accepted words count)).uses.files ≡ false
+        → IsAnswer (accepted words count) r a → IsAnswer (accepted words count) (record r { files = others }) a }
+    ensures grown { (words : List (List ℕ)) (r : Read) (other : List ℕ) (a : Answer)
+        → (meaning_of (accepted words (length r.files))).uses.grown ≡ false
+        → IsAnswer (accepted words (length r.files)) r a → IsAnswer (accepted words (length r.files)) (record r { grown = other }) a }
 {}
 
 /// Each file of bytes has an answer of `show`, whatever its words, also of those that go on past damage, one of `verify`,
@@ -66,8 +72,9 @@ pub fn file_answers_exist()
     ensures recover { (words : RecoverWords) (file : List ℕ) → AreBytes file → (answer : Answer) × IsRecovered words file answer }
     ensures verify { (file : List ℕ) → AreBytes file → (answer : Answer) × IsVerified file answer }
     ensures repair { (words : RepairWords) (file : List ℕ) → AreBytes file → (answer : Answer) × IsRepaired words file answer }
-    ensures all { (words : List (List ℕ)) (input : List ℕ) (files : List (List ℕ))
-        → AllByRecursion AreBytes files → (answer : Answer) × IsAnswer (accepted words (length files)) input files answer }
+    ensures all { (words : List (List ℕ)) (r : Read)
+        → AllByRecursion AreBytes r.files → AreBytes r.grown → (meaning_of (accepted words (length r.files))).supposes r
+        → (answer : Answer) × IsAnswer (accepted words (length r.files)) r answer }
 {}
 
 /// What each stream takes of an answer: the made file, standard output and notes. Of `verify` and of words that are no

@@ -1,21 +1,20 @@
 ghost use Rattle.std.specs.Prelude.{◌≡◌, false, map, length};
 ghost use Rattle.std.specs.String.{string_bytes};
 ghost use Rattle.riegeli_tool.specs.Commands.{accepted};
-ghost use Rattle.riegeli_tool.specs.CommandAnswers.{uses_of};
-ghost use Rattle.riegeli_tool.specs.Runs.{AllLeaveTooLong, Runs, seen, shown, shown_file};
+ghost use Rattle.riegeli_tool.specs.CommandAnswers.{meaning_of};
+ghost use Rattle.run_answers.specs.Runs.{Runs, seen, shown, shown_file};
 
 use crate::command::Command;
-use crate::notes::end;
 use crate::recover::recover;
 use crate::repair::repair;
-use crate::show::show;
-use crate::status::Status;
-use crate::verify::verify;
 use crate::words::accept;
-use crate::write::write;
+use record_append::Device;
 use record_io::{Sink, Source, Store};
+use run_answers::{Status, end};
+use show_files::{show, verify};
 use std::alloc::Global;
 use std::thread::Threads;
+use write_lines::write;
 
 /// What is said where the words are no command.
 const USAGE: &str = "usage:
@@ -29,7 +28,8 @@ sample --seed=N --records=N [--chunk=N] [--workers=N] FILE
 
 /// Does what the words say, which are the arguments alone.
 ///
-/// `files` are the files that the command reads, as `names` tells them, and `made` is the file that it makes.
+/// `files` are stores of the files that the command reads, as `names` tells them, `made` is the file that it makes, and
+/// `grown` the file that it grows, which no command does yet.
 /// Text goes to `out` and messages go to `notes`. For now the commands are `write`, of lines, with `--chunk`, `--every`
 /// and `--pad`; `show`, with `--positions`, and with `--recover`, which goes on past damage, and `--most`, which bounds the
 /// bytes of a region that is skipped; `verify`, which takes no memory; and `repair`, which makes the file of what is intact
@@ -41,41 +41,43 @@ sample --seed=N --records=N [--chunk=N] [--workers=N] FILE
 /// where a line has more than 2^24 bytes, the input more than 2^40 or the file more than 2^60, `Skipped` where regions of
 /// the file were skipped, `Stopped` where one has more bytes than may be skipped, `Input`, `File`, `Made`, `Out` and `Notes`
 /// where that object failed, `Memory` where there wasn't enough. Own.
-pub fn run<R: Threads + Sync, I: Source, S: Store, M: Sink + Send, O: Sink, E: Sink>(
+pub fn run<
+    R: Threads + Sync,
+    I: Source,
+    S: Store + Send,
+    M: Sink + Send,
+    G: Device + Send,
+    O: Sink,
+    E: Sink,
+>(
     rt: &R,
     alloc: Global,
     words: &[String],
     input: &mut I,
     files: &mut [S],
     made: &mut M,
+    grown: &mut G,
     out: &mut O,
     notes: &mut E,
 ) -> Status
     // What the status and the objects tell: the answer, or which of them failed and what went out before.
-    ensures runs { Runs (accepted (map string_bytes words.now) (length files.old))
-        (seen (shown (I.left input.old) (I.faults input.old))
-        (map (λ file. shown_file (S.bytes file) (S.told file) (S.handed file) (S.faults file)) files.old)
-        (shown (M.taken made.old) (M.faults made.old)) (shown (O.taken out.old) (O.faults out.old))
-        (shown (E.taken notes.old) (E.faults notes.old)))
-        (seen (shown (I.left input.new) (I.faults input.new))
-        (map (λ file. shown_file (S.bytes file) (S.told file) (S.handed file) (S.faults file)) files.new)
-        (shown (M.taken made.new) (M.faults made.new)) (shown (O.taken out.new) (O.faults out.new))
-        (shown (E.taken notes.new) (E.faults notes.new)))
+    ensures runs { Runs (meaning_of (accepted (map string_bytes words.now) (length files.old)))
+        (seen (shown I.left I.faults input.old) (map (shown_file S.bytes S.told S.handed S.faults) files.old) (shown M.taken M.faults made.old)
+        (shown_file G.bytes G.told G.handed G.faults grown.old) (shown O.taken O.faults out.old) (shown E.taken E.faults notes.old))
+        (seen (shown I.left I.faults input.new) (map (shown_file S.bytes S.told S.handed S.faults) files.new) (shown M.taken M.faults made.new)
+        (shown_file G.bytes G.told G.handed G.faults grown.new) (shown O.taken O.faults out.new) (shown E.taken E.faults notes.new))
         result }
-
-    // A file that is too long is left unread: its size is asked first.
-    ensures too_long_unread { AllLeaveTooLong (map (λ file. shown_file (S.bytes file) (S.told file) (S.handed file) (S.faults file)) files.old)
-        (map (λ file. shown_file (S.bytes file) (S.told file) (S.handed file) (S.faults file)) files.new) }
 
     // The files stay as they are.
     ensures same_bytes { map (λ file. S.bytes file) files.new ≡ map (λ file. S.bytes file) files.old }
     ensures same_names { map (λ file. S.name file) files.new ≡ map (λ file. S.name file) files.old }
 
     // What isn't used stays as it is.
-    ensures input_unused { (uses_of (accepted (map string_bytes words.now) (length files.old))).input ≡ false → input.new ≡ input.old }
-    ensures files_unused { (uses_of (accepted (map string_bytes words.now) (length files.old))).files ≡ false → files.new ≡ files.old }
-    ensures made_unused { (uses_of (accepted (map string_bytes words.now) (length files.old))).made ≡ false → made.new ≡ made.old }
-    ensures out_unused { (uses_of (accepted (map string_bytes words.now) (length files.old))).out ≡ false → out.new ≡ out.old }
+    ensures input_unused { (meaning_of (accepted (map string_bytes words.now) (length files.old))).uses.input ≡ false → input.new ≡ input.old }
+    ensures files_unused { (meaning_of (accepted (map string_bytes words.now) (length files.old))).uses.files ≡ false → files.new ≡ files.old }
+    ensures made_unused { (meaning_of (accepted (map string_bytes words.now) (length files.old))).uses.made ≡ false → made.new ≡ made.old }
+    ensures grown_unused { (meaning_of (accepted (map string_bytes words.now) (length files.old))).uses.grown ≡ false → grown.new ≡ grown.old }
+    ensures out_unused { (meaning_of (accepted (map string_bytes words.now) (length files.old))).uses.out ≡ false → out.new ≡ out.old }
     ensures notes_kept { result ≡ Status.Ok → notes.new ≡ notes.old }
 {
     match accept(words, files.len()) {

@@ -1,24 +1,23 @@
 ghost use Rattle.std.specs.Prelude.{◌≡◌, ◌≢◌, ℕ, ◌^◌, ◌≤◌, ◌⊎◌, Option, Some, None, Ok, Err, List, [], ◌∷◌, false, length, IfOk, IfSome, OnErr, IsErrAnd};
 ghost use Rattle.record_io.specs.Outside.{Rose};
 ghost use Rattle.record_io.specs.Puts.{taken_by};
+ghost use Rattle.record_io.specs.Calls.{OnlyAsks, OnlyCounts};
 ghost use Rattle.damage_skip.specs.Policies.{IsTest};
 ghost use Rattle.damage_skip.specs.Walkers.{progress_of, test_of};
-ghost use Rattle.riegeli_tool.specs.FileAnswers.{LeavesTooLong};
-ghost use Rattle.riegeli_tool.specs.RecoverCommand.{IsRecovered, IsRecoveredSoFar};
+ghost use Rattle.run_answers.specs.FileAnswers.{HandsOut};
+ghost use Rattle.riegeli_tool.specs.RecoverCommand.{IsRecovered, IsRecoveredSoFar, recover_meaning};
 ghost use Rattle.riegeli_tool.specs.RecoverProgress.{GivesEvent, HasRoom, event_lines, event_text, status_after};
-ghost use Rattle.riegeli_tool.specs.Runs.{Runs, Shown, seen, shown, shown_file};
+ghost use Rattle.run_answers.specs.Runs.{Runs, Seen, shown, shown_file};
 ghost use Rattle.riegeli_tool.specs.WalkAnswers.{may_skip};
-ghost use Rattle.riegeli_tool.specs.ReadingEnds.{HasPutSoFar};
+ghost use Rattle.run_answers.specs.PutSoFar.{HasPutSoFar};
 ghost use Rattle.riegeli_tool.specs.WalkingEnds.{IsBound, IsShortWalk, TellsOf, Walks, WalksBySize};
 
-use crate::command::Command;
 use crate::recover_words::RecoverWords;
-use crate::show::{LINES, put_records};
-use crate::sizes::size_of;
-use crate::status::Status;
 use crate::walking::{WalkingEnd, end_walk, may_skip, unprinted};
 use damage_skip::{Event, Policy, Region, Walker, region_line};
 use record_io::{Failed, PutBuffer, Sink, Store};
+use run_answers::{Status, size_of};
+use show_files::{LINES, put_records};
 use std::alloc::Global;
 
 /// Prints the records of a file past its damage, and says in notes what is skipped and why it ended before the file did.
@@ -29,13 +28,10 @@ pub(crate) fn recover<S: Store, O: Sink, E: Sink>(
     out: &mut O,
     notes: &mut E,
 ) -> Status
-    ensures runs { (input made : Shown) → Runs (Some (Command.Recover words.now))
-        (seen input (shown_file (S.bytes file.old) (S.told file.old) (S.handed file.old) (S.faults file.old) ∷ []) made
-        (shown (O.taken out.old) (O.faults out.old)) (shown (E.taken notes.old) (E.faults notes.old)))
-        (seen input (shown_file (S.bytes file.new) (S.told file.new) (S.handed file.new) (S.faults file.new) ∷ []) made
-        (shown (O.taken out.new) (O.faults out.new)) (shown (E.taken notes.new) (E.faults notes.new)))
+    ensures runs { (others : Seen) → Runs (recover_meaning words.now)
+        (record others { files = shown_file S.bytes S.told S.handed S.faults file.old ∷ []; out = shown O.taken O.faults out.old; notes = shown E.taken E.faults notes.old })
+        (record others { files = shown_file S.bytes S.told S.handed S.faults file.new ∷ []; out = shown O.taken O.faults out.new; notes = shown E.taken E.faults notes.new })
         result }
-    ensures unread { LeavesTooLong (S.told file.new) (S.handed file.old) (S.handed file.new) }
     ensures same_bytes { S.bytes file.new ≡ S.bytes file.old }
     ensures same_name { S.name file.new ≡ S.name file.old }
     ensures notes_kept { result ≡ Status.Ok → notes.new ≡ notes.old }
@@ -60,16 +56,12 @@ fn recover_file<S: Store, O: Sink, E: Sink>(
     ensures said { TellsOf words.now.most result (E.taken notes.old) (E.taken notes.new) }
     ensures sized { WalksBySize result (S.told file.new) }
     ensures notes_kept { result ≡ Ok Status.Ok → notes.new ≡ notes.old }
-    ensures unread { LeavesTooLong (S.told file.new) (S.handed file.old) (S.handed file.new) }
+    ensures handed { HandsOut (recover_meaning words.now) (S.told file.new) (S.handed file.old) (S.handed file.new) }
     ensures same_bytes { S.bytes file.new ≡ S.bytes file.old }
-    ensures same_name { S.name file.new ≡ S.name file.old }
-    ensures file_cause { result ≡ Err WalkingEnd.File → Rose (S.faults file.old) (S.faults file.new) }
+    ensures file { OnlyCounts S.name S.faults (result ≡ Err WalkingEnd.File) file.old file.new }
     ensures unmade { result ≢ Err WalkingEnd.Made }
-    ensures out_cause { result ≡ Err WalkingEnd.Out → Rose (O.faults out.old) (O.faults out.new) }
-    ensures notes_cause { result ≡ Err WalkingEnd.Notes → Rose (E.faults notes.old) (E.faults notes.new) }
-    ensures file_count { S.faults file.old ≤ S.faults file.new }
-    ensures out_count { O.faults out.old ≤ O.faults out.new }
-    ensures notes_count { E.faults notes.old ≤ E.faults notes.new }
+    ensures out { OnlyCounts O.lent O.faults (result ≡ Err WalkingEnd.Out) out.old out.new }
+    ensures notes { OnlyCounts E.lent E.faults (result ≡ Err WalkingEnd.Notes) notes.old notes.new }
 {
     let size = size_of(file)?;
     let most = words.most;
@@ -111,16 +103,10 @@ fn print_events<F: Fn(&Region) -> bool + Drop, S: Store, O: Sink, E: Sink>(
     ensures said { TellsOf words.now.most result (E.taken notes.old) (E.taken notes.new) }
     ensures in_reach { result ≢ Err WalkingEnd.Limit }
     ensures notes_kept { result ≡ Ok Status.Ok → notes.new ≡ notes.old }
-    ensures same_bytes { S.bytes file.new ≡ S.bytes file.old }
-    ensures same_told { S.told file.new ≡ S.told file.old }
-    ensures same_name { S.name file.new ≡ S.name file.old }
-    ensures file_cause { result ≡ Err WalkingEnd.File → Rose (S.faults file.old) (S.faults file.new) }
+    ensures file { OnlyAsks S.bytes S.told S.name S.faults (result ≡ Err WalkingEnd.File) file.old file.new }
     ensures unmade { result ≢ Err WalkingEnd.Made }
-    ensures out_cause { result ≡ Err WalkingEnd.Out → Rose (O.faults out.old) (O.faults out.new) }
-    ensures notes_cause { result ≡ Err WalkingEnd.Notes → Rose (E.faults notes.old) (E.faults notes.new) }
-    ensures file_count { S.faults file.old ≤ S.faults file.new }
-    ensures out_count { O.faults out.old ≤ O.faults out.new }
-    ensures notes_count { E.faults notes.old ≤ E.faults notes.new }
+    ensures out { OnlyCounts O.lent O.faults (result ≡ Err WalkingEnd.Out) out.old out.new }
+    ensures notes { OnlyCounts E.lent E.faults (result ≡ Err WalkingEnd.Notes) notes.old notes.new }
 {
     let mut status = Status::Ok;
     while let Some(event) = walker.next(alloc, file)? {
@@ -144,10 +130,8 @@ fn print_event<O: Sink, E: Sink>(
         (taken_by made (O.taken out.old) (E.taken notes.old)) (taken_by made (O.taken out.new) (E.taken notes.new)) lines.old lines.new }
     ensures emptied { OnErr result (lines.new ≡ []) }
     ensures quiet { event_text event ≡ [] → notes.new ≡ notes.old }
-    ensures out_cause { result ≡ Err WalkingEnd.Out → Rose (O.faults out.old) (O.faults out.new) }
-    ensures notes_cause { result ≡ Err WalkingEnd.Notes → Rose (E.faults notes.old) (E.faults notes.new) }
-    ensures out_count { O.faults out.old ≤ O.faults out.new }
-    ensures notes_count { E.faults notes.old ≤ E.faults notes.new }
+    ensures out { OnlyCounts O.lent O.faults (result ≡ Err WalkingEnd.Out) out.old out.new }
+    ensures notes { OnlyCounts E.lent E.faults (result ≡ Err WalkingEnd.Notes) notes.old notes.new }
 {
     match event {
         Event::Records { begin, records, .. } => {
@@ -174,10 +158,8 @@ fn tell_region<O: Sink, E: Sink>(
     ensures given { (made : Option (List ℕ)) → GivesEvent result [] (event_text (Event.Skipped region.now))
         (taken_by made (O.taken out.old) (E.taken notes.old)) (taken_by made (O.taken out.new) (E.taken notes.new)) lines.old lines.new }
     ensures emptied { lines.new ≡ [] }
-    ensures out_cause { result ≡ Err WalkingEnd.Out → Rose (O.faults out.old) (O.faults out.new) }
-    ensures notes_cause { result ≡ Err WalkingEnd.Notes → Rose (E.faults notes.old) (E.faults notes.new) }
-    ensures out_count { O.faults out.old ≤ O.faults out.new }
-    ensures notes_count { E.faults notes.old ≤ E.faults notes.new }
+    ensures out { OnlyCounts O.lent O.faults (result ≡ Err WalkingEnd.Out) out.old out.new }
+    ensures notes { OnlyCounts E.lent E.faults (result ≡ Err WalkingEnd.Notes) notes.old notes.new }
 {
     if lines.flush(out).is_err() {
         return Err(WalkingEnd::Out);

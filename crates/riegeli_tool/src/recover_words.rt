@@ -2,8 +2,8 @@ ghost use Rattle.std.specs.Prelude.{◌≡◌, map};
 ghost use Rattle.std.specs.String.{string_bytes};
 ghost use Rattle.riegeli_tool.specs.RecoverWords.{goes_past_damage, most_of, recover_words_of};
 
-use crate::options::{are_words_of, only_file, optional_number, value_of};
-use crate::show_words::ShowWords;
+use show_files::show_words::ShowWords;
+use word_options::{are_words_of, only_file, optional_number, value_of};
 
 /// The most bytes that regions may be bounded to.
 const MOST_SKIPPED: u64 = 1 << 62;

@@ -1,20 +1,18 @@
-ghost use Rattle.std.specs.Prelude.{◌≡◌, ◌≤◌, Some, Ok, Err, [], ◌∷◌, IfSome, IsErrAnd};
+ghost use Rattle.std.specs.Prelude.{◌≡◌, Ok, Err, [], ◌∷◌, IfSome, IsErrAnd};
 ghost use Rattle.record_io.specs.Outside.{Rose};
 ghost use Rattle.record_io.specs.Puts.{taken_by};
-ghost use Rattle.riegeli_tool.specs.FileAnswers.{LeavesTooLong};
-ghost use Rattle.riegeli_tool.specs.RepairCommand.{IsRepaired, IsRepairedSoFar};
-ghost use Rattle.riegeli_tool.specs.Runs.{Runs, Shown, seen, shown, shown_file};
-ghost use Rattle.riegeli_tool.specs.ReadingEnds.{HasPutSoFar};
+ghost use Rattle.record_io.specs.Calls.{OnlyCounts};
+ghost use Rattle.run_answers.specs.FileAnswers.{HandsOut};
+ghost use Rattle.riegeli_tool.specs.RepairCommand.{IsRepaired, IsRepairedSoFar, repair_meaning};
+ghost use Rattle.run_answers.specs.Runs.{Runs, Seen, shown, shown_file};
+ghost use Rattle.run_answers.specs.PutSoFar.{HasPutSoFar};
 ghost use Rattle.riegeli_tool.specs.WalkingEnds.{IsShortWalk, TellsOf, Walks, WalksBySize};
 
-use crate::command::Command;
 use crate::repair_words::RepairWords;
-use crate::sizes::size_of;
-use crate::status::Status;
-use crate::verify::put_report;
 use crate::walking::{WalkingEnd, end_walk, may_skip};
 use damage_skip::{Policy, Region};
 use record_io::{Failed, Sink, Store};
+use run_answers::{Status, put_report, size_of};
 use std::alloc::Global;
 
 /// Makes the file of what is intact of a file and prints the report of its totals, and says in notes what is skipped and why
@@ -27,13 +25,10 @@ pub(crate) fn repair<S: Store, M: Sink, O: Sink, E: Sink>(
     out: &mut O,
     notes: &mut E,
 ) -> Status
-    ensures runs { (input : Shown) → Runs (Some (Command.Repair words.now))
-        (seen input (shown_file (S.bytes file.old) (S.told file.old) (S.handed file.old) (S.faults file.old) ∷ [])
-        (shown (M.taken made.old) (M.faults made.old)) (shown (O.taken out.old) (O.faults out.old)) (shown (E.taken notes.old) (E.faults notes.old)))
-        (seen input (shown_file (S.bytes file.new) (S.told file.new) (S.handed file.new) (S.faults file.new) ∷ [])
-        (shown (M.taken made.new) (M.faults made.new)) (shown (O.taken out.new) (O.faults out.new)) (shown (E.taken notes.new) (E.faults notes.new)))
+    ensures runs { (others : Seen) → Runs (repair_meaning words.now)
+        (record others { files = shown_file S.bytes S.told S.handed S.faults file.old ∷ []; made = shown M.taken M.faults made.old; out = shown O.taken O.faults out.old; notes = shown E.taken E.faults notes.old })
+        (record others { files = shown_file S.bytes S.told S.handed S.faults file.new ∷ []; made = shown M.taken M.faults made.new; out = shown O.taken O.faults out.new; notes = shown E.taken E.faults notes.new })
         result }
-    ensures unread { LeavesTooLong (S.told file.new) (S.handed file.old) (S.handed file.new) }
     ensures same_bytes { S.bytes file.new ≡ S.bytes file.old }
     ensures same_name { S.name file.new ≡ S.name file.old }
     ensures notes_kept { result ≡ Status.Ok → notes.new ≡ notes.old }
@@ -60,17 +55,12 @@ fn repair_file<S: Store, M: Sink, O: Sink, E: Sink>(
     ensures said { TellsOf words.now.most result (E.taken notes.old) (E.taken notes.new) }
     ensures sized { WalksBySize result (S.told file.new) }
     ensures notes_kept { result ≡ Ok Status.Ok → notes.new ≡ notes.old }
-    ensures unread { LeavesTooLong (S.told file.new) (S.handed file.old) (S.handed file.new) }
+    ensures handed { HandsOut (repair_meaning words.now) (S.told file.new) (S.handed file.old) (S.handed file.new) }
     ensures same_bytes { S.bytes file.new ≡ S.bytes file.old }
-    ensures same_name { S.name file.new ≡ S.name file.old }
-    ensures file_cause { result ≡ Err WalkingEnd.File → Rose (S.faults file.old) (S.faults file.new) }
-    ensures made_cause { result ≡ Err WalkingEnd.Made → Rose (M.faults made.old) (M.faults made.new) }
-    ensures out_cause { result ≡ Err WalkingEnd.Out → Rose (O.faults out.old) (O.faults out.new) }
-    ensures notes_cause { result ≡ Err WalkingEnd.Notes → Rose (E.faults notes.old) (E.faults notes.new) }
-    ensures file_count { S.faults file.old ≤ S.faults file.new }
-    ensures made_count { M.faults made.old ≤ M.faults made.new }
-    ensures out_count { O.faults out.old ≤ O.faults out.new }
-    ensures notes_count { E.faults notes.old ≤ E.faults notes.new }
+    ensures file { OnlyCounts S.name S.faults (result ≡ Err WalkingEnd.File) file.old file.new }
+    ensures made { OnlyCounts M.lent M.faults (result ≡ Err WalkingEnd.Made) made.old made.new }
+    ensures out { OnlyCounts O.lent O.faults (result ≡ Err WalkingEnd.Out) out.old out.new }
+    ensures notes { OnlyCounts E.lent E.faults (result ≡ Err WalkingEnd.Notes) notes.old notes.new }
 {
     let size = size_of(file)?;
     let most = words.most;

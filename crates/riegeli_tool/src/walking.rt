@@ -1,16 +1,15 @@
 ghost use lib.Chars.{codes};
 ghost use Rattle.std.specs.Prelude.{◌≡◌, ◌-◌, ◌≤◌};
+ghost use Rattle.record_io.specs.Calls.{OnlyCounts};
 ghost use Rattle.riegeli_tool.specs.WalkingEnds.{SaysWalkEnd, end_unprinted};
-ghost use Rattle.riegeli_tool.specs.Runs.{SaysAtEnd, shown};
+ghost use Rattle.run_answers.specs.Runs.{SaysAtEnd, shown};
 ghost use Rattle.riegeli_tool.specs.WalkAnswers.{may_skip};
 ghost use Rattle.damage_skip.specs.Regions.{region_text};
 
-use crate::notes::{cut_off, end};
-use crate::sizes::SizeEnd;
-use crate::status::Status;
 use damage_skip::{Region, WalkEnd, region_line};
 use record_io::{Failed, Sink};
 use repair_copy::RepairEnd;
+use run_answers::{SizeEnd, Status, cut_off, end};
 
 /// Why the work of a command that walks a record file ended before the file did.
 #[derive(Clone, Copy, Debug, PartialEq, Eq)]
@@ -100,10 +99,10 @@ pub(crate) fn unprinted(ended: &Result<Status, WalkingEnd>) -> WalkingEnd
 
 /// Says in notes why a walk ended, where it did before the file.
 pub(crate) fn end_walk<E: Sink>(ended: Result<Status, WalkingEnd>, notes: &mut E) -> Status
-    ensures told { SaysWalkEnd ended result (shown (E.taken notes.old) (E.faults notes.old))
-        (shown (E.taken notes.new) (E.faults notes.new)) }
+    ensures told { SaysWalkEnd ended result (shown E.taken E.faults notes.old)
+        (shown E.taken E.faults notes.new) }
     ensures notes_kept { result ≡ Status.Ok → notes.new ≡ notes.old }
-    ensures never_falls { E.faults notes.old ≤ E.faults notes.new }
+    ensures notes { OnlyCounts E.lent E.faults ⊥ notes.old notes.new }
 {
     match ended {
         Ok(status) => status,
@@ -119,9 +118,9 @@ pub(crate) fn end_walk<E: Sink>(ended: Result<Status, WalkingEnd>, notes: &mut E
 
 /// Ends a walk at a region that may not be skipped, with its line.
 fn end_with_region<E: Sink>(notes: &mut E, region: &Region) -> Status
-    ensures told { SaysAtEnd result Status.Stopped (shown (E.taken notes.old) (E.faults notes.old))
-        (shown (E.taken notes.new) (E.faults notes.new)) (region_text (codes "stopped") region.now) }
-    ensures never_falls { E.faults notes.old ≤ E.faults notes.new }
+    ensures told { SaysAtEnd result Status.Stopped (shown E.taken E.faults notes.old)
+        (shown E.taken E.faults notes.new) (region_text (codes "stopped") region.now) }
+    ensures notes { OnlyCounts E.lent E.faults ⊥ notes.old notes.new }
 {
     match region_line(notes, "stopped", region) {
         Ok(()) => Status::Stopped,

@@ -5,23 +5,18 @@ ghost use Rattle.riegeli_tool.specs.Commands.{command_of, show_command_of, names
 use crate::command::{Command, Names};
 use crate::recover_words::{goes_past_damage, recover_words};
 use crate::repair_words::repair_words;
-use crate::show_words::show_words;
-use crate::verify_words::verify_words;
-use crate::write_words::write_words;
+use show_files::show_words::show_words;
+use show_files::verify_words::verify_words;
+use write_lines::write_words::write_words;
 
 /// The files that the words name. None for words that are no command. Own.
 pub fn names(words: &[String]) -> Names
     ensures { result ≡ names_of (command_of (map string_bytes words.now)) }
 {
-    let (first, count, made) = match parse(words) {
-        Some(Command::Write(write)) => (0, 0, Some(write.file)),
-        Some(Command::Show(show)) => (show.file, 1, None),
-        Some(Command::Recover(recover)) => (recover.show.file, 1, None),
-        Some(Command::Verify(verify)) => (verify.file, 1, None),
-        Some(Command::Repair(repair)) => (repair.from, 1, Some(repair.to)),
-        None => (0, 0, None),
-    };
-    Names { first, count, made }
+    match parse(words) {
+        Some(command) => command.names(),
+        None => Names::none(),
+    }
 }
 
 /// The command that the words are.
@@ -48,9 +43,9 @@ fn show_command(words: &[String]) -> Option<Command>
     }
 }
 
-/// The command that the words are, where it reads so many files.
+/// The command that the words are, where so many stores are handed in.
 pub(crate) fn accept(words: &[String], count: usize) -> Option<Command>
     ensures { result ≡ accepted (map string_bytes words.now) count }
 {
-    parse(words).filter(|command| command.files_read() == count)
+    parse(words).filter(|command| command.takes(count))
 }

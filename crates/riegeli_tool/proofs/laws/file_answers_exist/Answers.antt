@@ -1,5 +1,6 @@
-use Rattle.riegeli_tool.proofs.FileAnswersExist.{shown_exists, recovered_exists, verified_exists, repaired_exists, answer_exists}
+use Rattle.show_files.proofs.ReadingsExist.{shown_exists, verified_exists}
+use Rattle.riegeli_tool.proofs.FileAnswersExist.{recovered_exists, repaired_exists, answer_exists}
 use Rattle.riegeli_tool.proofs.laws.file_answers_exist.Goals as goal
 
 pub returns : goal.returns
-returns c = record { show = shown_exists; recover = recovered_exists; verify = verified_exists; repair = repaired_exists; all = answer_exists }
+returns c = record { show = shown_exists; recover = recovered_exists; verify = verified_exists; repair = repaired_exists; all = λ words r files grown supposed. answer_exists words r files }

@@ -1,7 +1,7 @@
 use Rattle.std.proofs.Common.{rules}
 use Rattle.record_io.proofs.Buffered.{TakesAndHolds-none}
 use Rattle.riegeli_tool.specs.RecoverProgress.{event_lines, event_text}
-use Rattle.riegeli_tool.specs.declared.status.Status.{Status}
+use Rattle.run_answers.specs.declared.status.Status.{Status}
 use Rattle.riegeli_tool.proofs.RecoverSteps.{gives-lines, breaks-lines}
 use Rattle.riegeli_tool.proofs.recover.print_event.Goals as goal
 

@@ -1,9 +1,11 @@
+use Rattle.std.proofs.Common.{refl, ◌∙◌}
 use Rattle.record_io.specs.Puts.{taken_by}
-use Rattle.riegeli_tool.specs.RecoverCommand.{IsRecovered, IsRecoveredSoFar}
-use Rattle.riegeli_tool.proofs.ReadingRuns.{so_far-nothing, so_far-flushed}
+use Rattle.riegeli_tool.specs.RecoverCommand.{IsRecovered, IsRecoveredSoFar, recover_meaning}
+use Rattle.run_answers.proofs.FileRuns.{handed-work}
+use Rattle.run_answers.proofs.PutSoFar.{so_far-nothing, so_far-flushed}
 use Rattle.riegeli_tool.proofs.RecoverLoop.{recovered-none}
 use Rattle.riegeli_tool.proofs.RecoverRuns.{recovers-flushed, recovers-unflushed}
-use Rattle.riegeli_tool.proofs.RunEnds.{rose-behind}
+use Rattle.run_answers.proofs.RunEnds.{rose-behind}
 use Rattle.riegeli_tool.proofs.WalkRuns.{walks-unsized, sized-unsized, tells-unsized}
 use Rattle.riegeli_tool.proofs.recover.recover_file.Goals as goal
 
@@ -14,13 +16,13 @@ returns-in_err-size-clause-printed g c = λ made.
 pub returns-in-Ok-clause-printed : goal.returns-in-Ok-clause-printed
 returns-in-Ok-clause-printed g c = λ made.
     recovers-flushed c.args.words.now c.print_events-walked.result _ _ _ made _ _ _ _ c.in_ok-size.ensures.same_bytes
-    c.print_events-walked.ensures.unmade c.print_events-walked.ensures.emptied (c.print_events-walked.ensures.printed made) c.in-Ok.ensures.whole
+    c.print_events-walked.ensures.unmade c.print_events-walked.ensures.emptied (c.print_events-walked.ensures.printed made) c.in-Ok.ensures.sink.whole
 
 pub returns-in-Err-clause-printed : goal.returns-in-Err-clause-printed
 returns-in-Err-clause-printed g c = λ made.
     recovers-unflushed c.args.words.now c.print_events-walked.result _ c.unprinted.ensures _ _ _ made _ _ _ _ c.in_ok-size.ensures.same_bytes
     c.print_events-walked.ensures.unmade c.print_events-walked.ensures.emptied (c.print_events-walked.ensures.printed made)
-    c.in-Err.ensures.front c.in-Err.ensures.some
+    c.in-Err.ensures.sink.front c.in-Err.ensures.some
 
 pub returns-in_err-size-clause-sized : goal.returns-in_err-size-clause-sized
 returns-in_err-size-clause-sized g c =
@@ -37,8 +39,18 @@ returns-in_err-size-clause-so_far g c = λ short sound made.
 pub returns-in-Ok-clause-so_far : goal.returns-in-Ok-clause-so_far
 returns-in-Ok-clause-so_far g c = λ short sound made.
     so_far-flushed (IsRecoveredSoFar c.args.words.now) _ _ (taken_by made (g.O.Sink.taken c.args.out.now) (g.E.Sink.taken c.args.notes.now)) made _ _ _ _
-    c.in_ok-size.ensures.same_bytes (c.print_events-walked.ensures.so_far short made) c.in-Ok.ensures.whole
+    c.in_ok-size.ensures.same_bytes (c.print_events-walked.ensures.so_far short made) c.in-Ok.ensures.sink.whole
 
 pub returns-in-Err-clause-so_far : goal.returns-in-Err-clause-so_far
 returns-in-Err-clause-so_far g c = λ short sound.
-    absurd (sound (rose-behind _ _ _ c.print_events-walked.ensures.out_count c.in-Err.ensures.cause))
+    absurd (sound (rose-behind _ _ _ c.print_events-walked.ensures.out.never_falls (c.in-Err.ensures.sink.counts.cause refl)))
+
+pub returns-in-Ok-clause-handed : goal.returns-in-Ok-clause-handed
+returns-in-Ok-clause-handed g c =
+    handed-work (recover_meaning c.args.words.now) _ c.in_ok-size.size _ _ (c.print_events-walked.ensures.file.same_told ∙ c.in_ok-size.ensures.told)
+    (c.in_ok-size.ensures.in_reach, tt)
+
+pub returns-in-Err-clause-handed : goal.returns-in-Err-clause-handed
+returns-in-Err-clause-handed g c =
+    handed-work (recover_meaning c.args.words.now) _ c.in_ok-size.size _ _ (c.print_events-walked.ensures.file.same_told ∙ c.in_ok-size.ensures.told)
+    (c.in_ok-size.ensures.in_reach, tt)

@@ -11,8 +11,8 @@ returns-then-is_err-clause-given g c = λ made.
 
 pub returns-in-Ok-clause-given : goal.returns-in-Ok-clause-given
 returns-in-Ok-clause-given g c = λ made.
-    gives-text (event_text (Skipped c.args.region.now)) made _ _ _ _ c.args.lines.now (search rules) c.in-Ok.field-0 _ (search rules) c.in-Ok.ensures.whole
+    gives-text (event_text (Skipped c.args.region.now)) made _ _ _ _ c.args.lines.now (search rules) c.in-Ok.field-0 _ (search rules) c.in-Ok.ensures.sink.whole
 
 pub returns-in-Err-clause-given : goal.returns-in-Err-clause-given
 returns-in-Err-clause-given g c = λ made.
-    breaks-text (event_text (Skipped c.args.region.now)) made _ _ _ _ c.args.lines.now (search rules) (Unit {0}) c.flush.new.self (λ e. cc e) c.in-Err.ensures.front
+    breaks-text (event_text (Skipped c.args.region.now)) made _ _ _ _ c.args.lines.now (search rules) (Unit {0}) c.flush.new.self (λ e. cc e) c.in-Err.ensures.sink.front

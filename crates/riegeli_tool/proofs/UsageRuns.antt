@@ -1,0 +1,26 @@
+-- How a run ends whose words are no command.
+use Rattle.std.proofs.Common.{◌≤◌, [], refl, arith}
+use Rattle.record_io.specs.Puts.{taken_by}
+use Rattle.record_io.proofs.Calls.{Takes-nothing}
+use Rattle.record_io.proofs.Puts.{GoOut-nothing}
+use Rattle.run_answers.specs.declared.status.Status.{Status}
+use Rattle.riegeli_tool.specs.Usage.{usage_text, usage}
+use Rattle.riegeli_tool.specs.CommandAnswers.{usage_meaning}
+use Rattle.run_answers.specs.Runs.{Shown, Seen, SaysAtEnd, Runs}
+use Rattle.run_answers.proofs.RunEnds.{OfSizes-unread, keeps-unread, runs-said}
+use Rattle.run_answers.specs.declared.status.Status.TheVariants as status
+
+-- words that are no command: the usage text was said, or notes failed
+pub runs-usage : (others : Seen) (notes notes_then : Shown) (ended : Status)
+    → SaysAtEnd ended status.Usage notes notes_then usage_text → notes.faults ≤ notes_then.faults
+    → Runs usage_meaning (record others { notes = notes }) (record others { notes = notes_then }) ended
+runs-usage others notes notes_then ended says counts =
+    runs-said usage_meaning _ _ notes ended status.Usage [] usage_text (Takes-nothing notes.bytes) (omega arith) says (λ e. cc e) tt (λ e. cc e)
+    (OfSizes-unread usage_meaning _ _ (λ sizes. usage_meaning.may_end sizes status.Usage usage_text) refl refl (refl, refl))
+    (λ r is. (
+      usage,
+      refl,
+      record { same_status = refl; puts = []; whole = refl; went = GoOut-nothing (taken_by others.made.bytes others.out.bytes notes.bytes) },
+    ))
+    (λ _. refl) refl
+    (keeps-unread usage_meaning others.input others.input others.files others.made others.made others.grown others.out notes notes_then refl (λ r. tt) (omega arith) (omega arith) counts)

@@ -1,0 +1,8 @@
+pub mod Causes
+pub mod RunEnds
+pub mod FileRuns
+pub mod Lines
+pub mod NoteLines
+pub mod OneAnswer
+pub mod PutSoFar
+pub mod ReportLines

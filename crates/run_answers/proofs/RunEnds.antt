@@ -1,0 +1,313 @@
+-- How a run of any command ends: what all its clauses follow from.
+use Rattle.std.proofs.Common.{◌≡◌, ◌≢◌, ◌+◌, ℕ, ◌≤◌, ◌⊎◌, true, false, Some, None, List, [], ◌∷◌, ◌++◌, length, get_or, set, take, drop, slice_get, map, refl, sym, ap, subst, ◌∙◌, inl, inr, arith}
+use Rattle.std.specs.Option.{IfSome}
+use Rattle.record_io.specs.Outside.{Rose, Takes, TakesFront}
+use Rattle.record_io.specs.Puts.{Put, Notes, Taken, taken_by, GoOut, BreaksOff, puts_to, bytes_to}
+use Rattle.record_io.proofs.Calls.{Takes-append, TakesFront-append}
+use Rattle.record_io.proofs.Puts.{GoOut-append, GoOut-notes, TakesFront-count, BreaksOff-last}
+use Rattle.run_answers.specs.declared.status.Status.{Status}
+use Rattle.run_answers.specs.Statuses.{fault_text}
+use Rattle.run_answers.specs.Answers.{Answer}
+use Rattle.run_answers.specs.Meanings.{Meaning, Read}
+use Rattle.run_answers.specs.Runs.{Shown, ShownFile, Seen, seen, IsWhole, IsCutOff, IsCutShort, IsSound, AreSinksSound, IfRead, IfTold, OfSizes, handed_by, taken_in, Gave, TakesThen, SaysAtEnd, Breaks, PutsLines, WasCutOff, WentOutSoFar, FailedToSay, HasCause, NoneFell, IfGrown, Runs}
+use Rattle.run_answers.specs.declared.status.Status.TheVariants as status
+
+-- what every end of a run keeps that grows no file
+pub record Keeps (m : Meaning) (before after : Seen) : Type 0 where
+  pub counts : NoneFell before after
+  pub ungrown : m.uses.grown ≡ false
+  pub handed : (handed_by after.files ≡ handed_by before.files)
+      ⊎ ((m.uses.files ≡ true)
+      × OfSizes m before after (λ sizes. m.may_work sizes × m.may_take sizes (handed_by before.files) (handed_by after.files)))
+  pub handed_of : IfRead m before (λ r. m.may_take_of r (handed_by before.files) (handed_by after.files))
+  pub grown_handed : after.grown.handed ≡ before.grown.handed
+  pub in_order : (place : ℕ) (file : ShownFile) → slice_get after.files place ≡ Some file → file.told ≡ None
+      → drop (place + 1) after.files ≡ drop (place + 1) before.files
+
+-- no file is grown
+ungrown : (m : Meaning) (before after : Seen) (P : Read → List ℕ → Type 0) → Keeps m before after → IfGrown m before after P
+ungrown m before after P keeps uses = absurd (cc (sym uses ∙ keeps.ungrown))
+
+-- where neither files nor a grown file is used, and no count fell of what is
+pub keeps-unread : (m : Meaning) (input input_then : Shown) (files : List ShownFile) (made made_then : Shown) (grown : ShownFile) (out notes notes_then : Shown)
+    → m.uses.grown ≡ false → ((r : Read) → m.may_take_of r (handed_by files) (handed_by files)) → input.faults ≤ input_then.faults → made.faults ≤ made_then.faults → notes.faults ≤ notes_then.faults
+    → Keeps m (seen input files made grown out notes) (seen input_then files made_then grown out notes_then)
+keeps-unread m input input_then files made made_then grown out notes notes_then none same i k n = record {
+  counts = record {
+    input = i;
+    files = λ place a b was is. let same : a ≡ b = cc in omega (arith, ap (λ (s : ShownFile). s.faults) same);
+    made = k;
+    grown = omega arith;
+    out = omega arith;
+    notes = n;
+  };
+  ungrown = none;
+  handed = inl refl;
+  handed_of = λ r is. same r;
+  grown_handed = refl;
+  in_order = λ place file is untold. refl;
+}
+
+-- a command by another name
+pub runs-of : (known m : Meaning) (before after : Seen) (ended : Status)
+    → known ≡ m → Runs known before after ended → Runs m before after ended
+runs-of known m before after ended same ran = subst (λ (c : Meaning). Runs c before after ended) same ran
+
+-- a command that reads no files asks no sizes
+pub OfSizes-unread : (m : Meaning) (before after : Seen) (P : List ℕ → Type 0)
+    → m.uses.files ≡ false → m.uses.grown ≡ false → P [] → OfSizes m before after P
+OfSizes-unread m before after P unread none holds = record {
+  sizes = [];
+  told = λ uses. absurd (cc (sym uses ∙ unread));
+  exact = λ uses. absurd (cc (sym uses ∙ unread));
+  grown_told = λ uses. absurd (cc (sym uses ∙ none));
+  grown_exact = λ uses. absurd (cc (sym uses ∙ none));
+  holds = holds;
+}
+
+pub OfSizes-map : (m : Meaning) (before after : Seen) (P Q : List ℕ → Type 0) → ((sizes : List ℕ) → P sizes → Q sizes)
+    → OfSizes m before after P → OfSizes m before after Q
+OfSizes-map m before after P Q then h =
+    record { sizes = h.sizes; told = h.told; exact = h.exact; grown_told = h.grown_told; grown_exact = h.grown_exact; holds = then h.sizes h.holds }
+
+-- no status is both whole and cut off
+whole-cut_off : (ended : Status) → IsWhole ended → IsCutOff ended → ⊥
+whole-cut_off status.Input whole cut = whole
+whole-cut_off status.File whole cut = whole
+whole-cut_off status.Made whole cut = whole
+whole-cut_off status.Grown whole cut = whole
+whole-cut_off status.Out whole cut = whole
+whole-cut_off status.Memory whole cut = whole
+whole-cut_off status.Notes whole cut = whole
+whole-cut_off other whole cut = cut
+
+-- nor whole and cut short
+whole-cut_short : (ended : Status) → IsWhole ended → IsCutShort ended → ⊥
+whole-cut_short status.Input whole short = whole
+whole-cut_short status.File whole short = whole
+whole-cut_short status.Grown whole short = whole
+whole-cut_short status.Memory whole short = whole
+whole-cut_short other whole short = short
+
+-- without a fault the status is an answer's, or tells want of memory
+complete : (m : Meaning) (before after : Seen) (ended : Status)
+    → (IsWhole ended → IfTold m before (Gave ended before after))
+    → (IsCutOff ended → IfTold m before (WasCutOff ended before after))
+    → HasCause ended m before after → IsSound m.uses before after
+    → IfTold m before (λ answer. (ended ≡ answer.status) ⊎ (ended ≡ status.Memory))
+complete m before after status.Input whole cut cause sound = absurd (sound.input cause.0 cause.1)
+complete m before after status.File whole cut cause sound = absurd (sound.files cause.0 cause.1)
+complete m before after status.Made whole cut cause sound = absurd (sound.made cause.0 cause.1)
+complete m before after status.Grown whole cut cause sound = absurd (sound.grown cause.0 cause.1)
+complete m before after status.Out whole cut cause sound = absurd (sound.out cause.0 cause.1)
+complete m before after status.Notes whole cut cause sound = absurd (sound.notes cause)
+complete m before after status.Memory whole cut cause sound = λ r is.
+    let a = cut tt r is in (a.0, a.1, inr refl)
+complete m before after ended whole cut cause sound = λ r is.
+    let a = whole tt r is in (a.0, a.1, inl a.2.same_status)
+
+-- the work was done, and notes took what there was to say
+pub runs-whole : (m : Meaning) (before after : Seen) (ended : Status) (text : List ℕ)
+    → IsWhole ended → OfSizes m before after (λ sizes. m.may_end sizes ended text) → Takes before.notes.bytes after.notes.bytes text
+    → IfTold m before (Gave ended before after)
+    → (ended ≡ status.Ok → m.uses.input ≡ true → IfSome before.input.bytes (λ _. after.input.bytes ≡ Some []))
+    → (m.is_command ≡ false → ended ≡ status.Usage) → HasCause ended m before after → Keeps m before after
+    → Runs m before after ended
+runs-whole m before after ended text whole may_end said gave read usage cause keeps = record {
+  whole = λ _. gave;
+  read_to_end = read;
+  complete = complete m before after ended (λ _. gave) (λ cut. absurd (whole-cut_off ended whole cut)) cause;
+  grown = λ _. ungrown m before after m.leaves keeps;
+  usage = λ none. inl (usage none);
+  cause = cause;
+  cut_off = λ cut. absurd (whole-cut_off ended whole cut);
+  failed_to_say = λ e. absurd (subst IsWhole e whole);
+  so_far = λ short. absurd (whole-cut_short ended whole short);
+  grown_cut = λ _. ungrown m before after m.may_leave keeps;
+  grown_kept = λ uses. absurd (cc (sym uses ∙ keeps.ungrown));
+  in_reach = λ cut. absurd (whole-cut_off ended whole cut);
+  handed = keeps.handed;
+  handed_of = keeps.handed_of;
+  grown_handed = inl keeps.grown_handed;
+  in_order = keeps.in_order;
+  end_said = λ _. OfSizes-map m before after (λ sizes. m.may_end sizes ended text)
+      (λ sizes. (t : List ℕ) × m.may_end sizes ended t × Takes before.notes.bytes after.notes.bytes t)
+      (λ sizes may. (text, may, said)) may_end;
+  cut_off_said = λ cut. absurd (whole-cut_off ended whole cut);
+  front_said = λ e. absurd (subst IsWhole e whole);
+  counts = keeps.counts;
+}
+
+-- notes failed to take what there was to say at the end
+pub runs-notes : (m : Meaning) (before after : Seen) (wanted : Status) (text : List ℕ)
+    → OfSizes m before after (λ sizes. m.may_end sizes wanted text) → TakesFront before.notes.bytes after.notes.bytes text
+    → IfTold m before (FailedToSay (taken_in before) (taken_in after))
+    → Rose before.notes.faults after.notes.faults → Keeps m before after
+    → Runs m before after status.Notes
+runs-notes m before after wanted text may_end said failed rose keeps = record {
+  whole = λ whole. absurd whole;
+  read_to_end = λ e. absurd (cc e);
+  complete = λ sound. absurd (sound.notes rose);
+  grown = λ whole. absurd whole;
+  usage = λ _. inr refl;
+  cause = rose;
+  cut_off = λ cut. absurd cut;
+  failed_to_say = λ _. failed;
+  so_far = λ short. absurd short;
+  grown_cut = λ _. ungrown m before after m.may_leave keeps;
+  grown_kept = λ uses. absurd (cc (sym uses ∙ keeps.ungrown));
+  in_reach = λ cut. absurd cut;
+  handed = keeps.handed;
+  handed_of = keeps.handed_of;
+  grown_handed = inl keeps.grown_handed;
+  in_order = keeps.in_order;
+  end_said = λ whole. absurd whole;
+  cut_off_said = λ cut. absurd cut;
+  front_said = λ _. OfSizes-map m before after (λ sizes. m.may_end sizes wanted text)
+      (λ sizes. (s : Status) × (t : List ℕ) × m.may_end sizes s t × TakesFront before.notes.bytes after.notes.bytes t)
+      (λ sizes may. (wanted, text, may, said)) may_end;
+  counts = keeps.counts;
+}
+
+-- a fault or want of memory cut the work off
+pub runs-cut_off : (m : Meaning) (before after : Seen) (ended : Status) (text : List ℕ)
+    → IsCutOff ended → (ended ≢ status.File → OfSizes m before after m.may_work)
+    → m.may_say text → TakesThen before.notes after.notes text (fault_text ended)
+    → IfTold m before (WasCutOff ended before after)
+    → (IsCutShort ended → AreSinksSound m.uses before after → IfRead m before (WentOutSoFar m ended before after))
+    → m.is_command ≡ true → HasCause ended m before after → Keeps m before after
+    → Runs m before after ended
+runs-cut_off m before after ended text cut within may_say said was so_far some cause keeps = record {
+  whole = λ whole. absurd (whole-cut_off ended whole cut);
+  read_to_end = λ e. absurd (subst IsCutOff e cut);
+  complete = complete m before after ended (λ whole. absurd (whole-cut_off ended whole cut)) (λ _. was) cause;
+  grown = λ whole. absurd (whole-cut_off ended whole cut);
+  usage = λ none. absurd (cc (sym some ∙ none));
+  cause = cause;
+  cut_off = λ _. was;
+  failed_to_say = λ e. absurd (subst IsCutOff e cut);
+  so_far = so_far;
+  grown_cut = λ _. ungrown m before after m.may_leave keeps;
+  grown_kept = λ uses. absurd (cc (sym uses ∙ keeps.ungrown));
+  in_reach = λ _ other _. within other;
+  handed = keeps.handed;
+  handed_of = keeps.handed_of;
+  grown_handed = inl keeps.grown_handed;
+  in_order = keeps.in_order;
+  end_said = λ whole. absurd (whole-cut_off ended whole cut);
+  cut_off_said = λ _. (text, may_say, said);
+  front_said = λ e. absurd (subst IsCutOff e cut);
+  counts = keeps.counts;
+}
+
+-- what the sinks had taken before an end was said, where notes showed this
+abbrev pub taken_but_end : Seen → Shown → Taken
+taken_but_end after notes = taken_by after.made.bytes after.out.bytes notes.bytes
+
+-- the work was done with a status: all that an answer puts but a last text in notes went out
+pub record GaveButNotes (wanted : Status) (before mid : Taken) (text : List ℕ) (answer : Answer) : Type 0 where
+  pub same_status : wanted ≡ answer.status
+  pub puts : List Put
+  pub whole : answer.puts ≡ puts ++ puts_to Notes text
+  pub went : GoOut before mid puts
+
+-- a count that rose behind one that didn't fall
+pub rose-behind : (l m n : ℕ) → l ≤ m → Rose m n → Rose l n
+rose-behind l m n less (inl rose) = inl (omega (arith, less, rose))
+rose-behind l m n less (inr full) = inr full
+
+-- a line behind a text
+pub then-behind : (before mid after : Shown) (text last : List ℕ) → Takes before.bytes mid.bytes text → before.faults ≤ mid.faults
+    → TakesThen mid after [] last → TakesThen before after text last
+then-behind before mid after text last took less (part, behind, how) = (
+  part,
+  Takes-append before.bytes mid.bytes after.bytes text part took behind,
+  elim how [ inl whole ↦ inl whole | inr cut ↦ inr (rose-behind before.faults mid.faults after.faults less cut.0, cut.1, cut.2) ],
+)
+
+-- the last text was said
+pub gave-said : (ended : Status) (before after : Seen) (mid : Shown) (text : List ℕ) (answer : Answer)
+    → GaveButNotes ended (taken_in before) (taken_but_end after mid) text answer → Takes mid.bytes after.notes.bytes text
+    → Gave ended before after answer
+gave-said ended before after mid text answer gave said = record {
+  same_status = gave.same_status;
+  went = subst (λ (ps : List Put). GoOut (taken_in before) (taken_in after) ps) (sym gave.whole)
+      (GoOut-append (taken_in before) (taken_but_end after mid) (taken_in after) gave.puts (puts_to Notes text) gave.went
+      (GoOut-notes after.made.bytes after.out.bytes mid.bytes after.notes.bytes text said));
+}
+
+-- or notes failed to take it
+pub failed-said : (ended : Status) (before after : Seen) (mid : Shown) (text : List ℕ) (answer : Answer)
+    → GaveButNotes ended (taken_in before) (taken_but_end after mid) text answer → text ≢ [] → TakesFront mid.bytes after.notes.bytes text
+    → FailedToSay (taken_in before) (taken_in after) answer
+failed-said ended before after mid text answer gave some front =
+    let count = TakesFront-count mid.bytes after.notes.bytes text front in
+    let last : List ℕ = take count.0 text in
+    record {
+      part = gave.puts ++ puts_to Notes last;
+      broke = subst (λ (ps : List Put). BreaksOff Notes (gave.puts ++ puts_to Notes last) ps) (sym gave.whole)
+          (BreaksOff-last Notes gave.puts text count.0 some);
+      went = GoOut-append (taken_in before) (taken_but_end after mid) (taken_in after) gave.puts (puts_to Notes last) gave.went
+          (GoOut-notes after.made.bytes after.out.bytes mid.bytes after.notes.bytes last count.1);
+    }
+
+-- where nothing was put in notes, no line was
+pub PutsLines-none : (part puts : List Put) → bytes_to Notes part ≡ [] → PutsLines part puts
+PutsLines-none part puts none = record { count = 0; lines = none }
+
+-- the work was cut off, and then notes were told of that
+pub was-cut_off : (ended : Status) (before after : Seen) (mid : Shown) (answer : Answer) (part : List Put)
+    → Breaks ended part answer.puts → PutsLines part answer.puts → GoOut (taken_in before) (taken_but_end after mid) part
+    → before.notes.faults ≤ mid.faults → TakesThen mid after.notes [] (fault_text ended) → WasCutOff ended before after answer
+was-cut_off ended before after mid answer part broke whole went less said = record {
+  part = part;
+  broke = broke;
+  made = went.made;
+  out = went.out;
+  lines = whole;
+  notes = then-behind before.notes mid after.notes (bytes_to Notes part) (fault_text ended) went.notes less said;
+}
+
+-- all that was put so far went out, and then notes were told of that
+pub went-so_far : (m : Meaning) (ended : Status) (before after : Seen) (mid : Shown) (r : Read) (part : List Put)
+    → m.may_have_put r part → GoOut (taken_in before) (taken_but_end after mid) part
+    → before.notes.faults ≤ mid.faults → TakesThen mid after.notes [] (fault_text ended) → WentOutSoFar m ended before after r
+went-so_far m ended before after mid r part found went less said = record {
+  part = part;
+  found = found;
+  made = went.made;
+  out = went.out;
+  notes = then-behind before.notes mid after.notes (bytes_to Notes part) (fault_text ended) went.notes less said;
+}
+
+-- the work was done, behind a text in notes, and there was something to say: it was said, or notes failed
+pub runs-said : (m : Meaning) (before after : Seen) (mid : Shown) (ended wanted : Status) (earlier text : List ℕ)
+    → Takes before.notes.bytes mid.bytes earlier → before.notes.faults ≤ mid.faults
+    → SaysAtEnd ended wanted mid after.notes text
+    → text ≢ [] → IsWhole wanted → wanted ≢ status.Ok → OfSizes m before after (λ sizes. m.may_end sizes wanted (earlier ++ text))
+    → IfTold m before (GaveButNotes wanted (taken_in before) (taken_but_end after mid) text)
+    → (m.is_command ≡ false → wanted ≡ status.Usage) → HasCause wanted m before after → Keeps m before after
+    → Runs m before after ended
+runs-said m before after mid ended wanted earlier text took less says some whole not_ok may_end gave usage cause keeps = elim says [
+  | inl said ↦ subst (λ (s : Status). Runs m before after s) (sym said.0)
+      (runs-whole m before after wanted (earlier ++ text) whole may_end
+      (Takes-append before.notes.bytes mid.bytes after.notes.bytes earlier text took said.1)
+      (λ r is. let a = gave r is in
+      (a.0, a.1, gave-said wanted before after mid text a.0 a.2 said.1))
+      (λ e. absurd (not_ok e)) usage cause keeps)
+  | inr failed ↦ subst (λ (s : Status). Runs m before after s) (sym failed.0)
+      (runs-notes m before after wanted (earlier ++ text) may_end
+      (TakesFront-append before.notes.bytes mid.bytes after.notes.bytes earlier text took failed.2)
+      (λ r is. let a = gave r is in
+      (a.0, a.1, failed-said wanted before after mid text a.0 a.2 some failed.2))
+      (rose-behind before.notes.faults mid.faults after.notes.faults less failed.1) keeps)
+]
+
+-- a run over the one file that was handed in
+pub runs-one_file : {X : Type 0} (show : X → ShownFile) (files : List X) (x then : X) (m : Meaning) (before after : Seen) (ended : Status)
+    → 1 ≡ length files
+    → Runs m (record before { files = show (get_or files 0 x) ∷ [] }) (record after { files = show then ∷ [] }) ended
+    → Runs m (record before { files = map show files }) (record after { files = map show (set files 0 then) }) ended
+runs-one_file show [] x then m before after ended one ran = absurd (omega arith)
+runs-one_file show (file ∷ []) x then m before after ended one ran = ran
+runs-one_file show (file ∷ other ∷ files) x then m before after ended one ran = absurd (omega (arith, one))

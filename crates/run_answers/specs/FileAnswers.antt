@@ -1,0 +1,57 @@
+-- What is answered of the one file that a command reads, and what it may take of it. Own.
+use Rattle.std.specs.Prelude.{◌≡◌, ℕ, ◌^◌, ◌<◌, ◌≤◌, ◌⊎◌, Option, IsSomeAnd, List, [], ◌∷◌, ◌++◌, length, decimal}
+use lib.Chars.{codes}
+use Rattle.record_io.specs.Puts.{Put}
+use Rattle.record_values.specs.declared.file_totals.Totals.{Totals}
+use Rattle.run_answers.specs.Answers.{Answer, line, noted}
+use Rattle.run_answers.specs.Meanings.{Meaning}
+use Rattle.run_answers.specs.declared.status.Status.TheVariants as status
+
+-- a number behind a name, as a line
+abbrev pub count_line : List ℕ → ℕ → List ℕ
+count_line name number = line (name ++ 32 ∷ decimal number)
+
+-- the report of a file's totals
+abbrev pub report : Totals → List ℕ
+report totals =
+    count_line (codes "chunks") totals.chunks
+    ++ count_line (codes "records") totals.records
+    ++ count_line (codes "bytes") totals.bytes
+    ++ count_line (codes "unread") totals.unread
+
+-- how many bytes a record file may have that is read
+abbrev pub most_file_bytes : ℕ
+most_file_bytes = 2 ^ 60
+
+-- the line that tells that a file has more
+abbrev pub limit_text : List ℕ
+limit_text = line (codes "limit file")
+
+-- an answer to the one file that is read, by its size first
+abbrev pub OfFile : (List ℕ → Answer → Type 0) → List (List ℕ) → Answer → Type 0
+OfFile P (file ∷ []) answer =
+    ((most_file_bytes < length file) × (answer ≡ noted status.Limit limit_text))
+    ⊎ ((length file ≤ most_file_bytes) × P file answer)
+OfFile P files answer = ⊥
+
+-- what was put so far of the one file that is read
+abbrev pub OfFileSoFar : (List ℕ → List Put → Type 0) → List (List ℕ) → List Put → Type 0
+OfFileSoFar P (file ∷ []) part = P file part
+OfFileSoFar P files part = ⊥
+
+-- the sizes of the files are that of one, which has so few bytes that it is read
+abbrev pub IsInReach : List ℕ → Type 0
+IsInReach (size ∷ []) = size ≤ most_file_bytes
+IsInReach sizes = ⊥
+
+-- they are that of one, which has more
+abbrev pub IsTooLong : List ℕ → Type 0
+IsTooLong (size ∷ []) = most_file_bytes < size
+IsTooLong sizes = ⊥
+
+-- what was handed out of the one file: nothing, or it has told a size by which a command goes on to its work, and no more than
+-- the command may take
+abbrev pub HandsOut : Meaning → Option ℕ → (before after : ℕ) → Type 0
+HandsOut m told before after =
+    (after ≡ before)
+    ⊎ IsSomeAnd told (λ size. m.may_work (size ∷ []) × m.may_take (size ∷ []) (before ∷ []) (after ∷ []))

@@ -1,0 +1,8 @@
+pub mod LinePuts
+pub mod OneReading
+mod ReadTextValues
+mod ReadWordValues
+pub mod ReadingsExist
+pub mod ReadingRuns
+pub mod ShowSteps
+pub mod VerifyEnds

@@ -1,0 +1,68 @@
+use Rattle.std.proofs.Common.{◌≡◌, ◌∙◌, true, false, Bool, IfSome, Option, Result, Ok, List, ℕ, ap, subst, arith, rules}
+use Rattle.record_io.specs.Puts.{taken_by}
+use Rattle.record_values.specs.declared.file_totals.Totals.{Totals}
+use Rattle.chunk_reader.specs.Progress.{AreReadFrom}
+use Rattle.show_files.specs.declared.reading.ReadingEnd.{ReadingEnd}
+use Rattle.show_files.specs.ReadingEnds.{IsShortReading}
+use Rattle.show_files.specs.ShowProgress.{PrintsOn}
+use Rattle.run_answers.proofs.PutSoFar.{IsErrAnd-same}
+use Rattle.show_files.proofs.ShowSteps.{read-none, printed-none, printed-on, printed-ended, printed-so_far}
+use Rattle.show_files.proofs.showing.print_chunks.Goals as goal
+use Rattle.show_files.proofs.showing.print_chunks.Goals.{After-print_next}
+
+pub loop-init : goal.loop-init
+loop-init g c = record {
+  same_size = c.new-reader.ensures.size;
+  strict = c.new-reader.ensures.frame;
+  within = omega (arith, ap (λ (t : Totals). t.bytes) c.new-reader.ensures.totals);
+  file = search rules;
+  read = read-none _ _ c.new-reader.ensures.at_front;
+  printed = λ made notes. printed-none c.args.words.now _ _ _ _ c.new-reader.ensures.totals c.requires.none_held;
+  out = search rules;
+}
+
+-- what was printed with the next call's answer
+printed : (g : _) (c : After-print_next g) (made notes : Option (List ℕ))
+    → IfSome (g.S.Store.bytes c.args.file.now) (λ bytes. PrintsOn c.args.words.now c.print_next.result bytes c.print_next.new.reader.totals
+    (taken_by made (g.O.Sink.taken c.args.out.now) notes) (taken_by made (g.O.Sink.taken c.print_next.new.out) notes) c.print_next.new.lines)
+printed g c made notes =
+    printed-on c.args.words.now _ _ c.loop.reader.totals c.print_next.new.reader.totals (taken_by made (g.O.Sink.taken c.args.out.now) notes) _ _ _ _
+    c.print_next.result c.loop.invariant.file.same_bytes
+    (c.print_next.ensures.printed (taken_by made (g.O.Sink.taken c.args.out.now) notes) made notes) (c.loop.invariant.printed made notes)
+
+of_answer : (g : _) (c : After-print_next g) (known : Result Bool ReadingEnd) → c.print_next.result ≡ known → (made notes : Option (List ℕ))
+    → IfSome (g.S.Store.bytes c.args.file.now) (λ bytes. PrintsOn c.args.words.now known bytes c.print_next.new.reader.totals
+    (taken_by made (g.O.Sink.taken c.args.out.now) notes) (taken_by made (g.O.Sink.taken c.print_next.new.out) notes) c.print_next.new.lines)
+of_answer g c known is made notes =
+    subst (λ (r : Result Bool ReadingEnd). IfSome (g.S.Store.bytes c.args.file.now) (λ bytes. PrintsOn c.args.words.now r bytes
+    c.print_next.new.reader.totals (taken_by made (g.O.Sink.taken c.args.out.now) notes)
+    (taken_by made (g.O.Sink.taken c.print_next.new.out) notes) c.print_next.new.lines)) is (printed g c made notes)
+
+pub loop-preserved : goal.loop-preserved
+loop-preserved g c = record {
+  same_size = c.in_ok-print_next.ensures.same_size ∙ c.loop.invariant.same_size;
+  strict = c.in_ok-print_next.ensures.same_frame ∙ c.loop.invariant.strict;
+  within = c.in_ok-print_next.ensures.within;
+  file = search rules;
+  read = subst (λ (b : Option (List ℕ)). IfSome b (λ bytes. AreReadFrom false bytes c.print_next.new.reader.totals)) c.loop.invariant.file.same_bytes c.in_ok-print_next.ensures.read;
+  printed = λ made notes. of_answer g (goal.at.loop-preserved g c).After-print_next (Ok true)
+      (c.in_ok-print_next.was ∙ ap (λ (more : Bool). Ok more) c.if-branch.true) made notes;
+  out = search rules;
+}
+
+pub returns-clause-printed : goal.returns-clause-printed
+returns-clause-printed g c = λ made notes.
+    of_answer g (goal.at.returns-clause-printed g c).After-print_next (Ok false)
+    (c.in_ok-print_next.was ∙ ap (λ (more : Bool). Ok more) c.if-branch.false) made notes
+
+pub returns-in_err-print_next-clause-printed : goal.returns-in_err-print_next-clause-printed
+returns-in_err-print_next-clause-printed g c = λ made notes.
+    printed-ended c.args.words.now _ c.print_next.new.reader.totals _ _ _ _ c.print_next.result c.from_residual.result c.in_err-print_next.was
+    c.from_residual.ensures.0 c.from_residual.ensures.1
+    (printed g (goal.at.returns-in_err-print_next-clause-printed g c).After-print_next made notes)
+
+pub returns-in_err-print_next-clause-so_far : goal.returns-in_err-print_next-clause-so_far
+returns-in_err-print_next-clause-so_far g c = λ short made notes.
+    let passed = IsErrAnd-same IsShortReading _ c.from_residual.result c.from_residual.ensures.1 short in
+    printed-so_far c.args.words.now _ c.loop.reader.totals _ made _ _ notes _ _ (ap g.O.Sink.taken (c.in_err-print_next.ensures.same_out passed))
+    (c.in_err-print_next.ensures.same_lines passed) (c.loop.invariant.printed made notes)

@@ -1,0 +1,7 @@
+pub mod Readings
+pub mod ReadingEnds
+pub mod ShowCommand
+pub mod ShowProgress
+pub mod ShowWords
+pub mod VerifyCommand
+pub mod VerifyWords

@@ -1,0 +1,43 @@
+-- How far `show` has printed a file. Own.
+use Rattle.std.specs.Prelude.{◌≡◌, ℕ, Bool, true, Result, Ok, List, []}
+use Rattle.std.specs.List.{flat_map}
+use Rattle.record_io.specs.Puts.{Out, Taken, GoOutOrAreHeld, puts_to}
+use Rattle.record_values.specs.declared.file_totals.Totals.{Totals}
+use Rattle.chunk_header.specs.Chunks.{ChunkValue}
+use Rattle.meta_chunk.specs.Counts.{totals_of}
+use Rattle.meta_chunk.specs.Files.{IsPlain, IsChainOf, ArePlaced}
+use Rattle.chunk_reader.specs.declared.judging.What.{What}
+use Rattle.chunk_reader.specs.declared.judging.What.TheVariants.{Records}
+use Rattle.show_files.specs.declared.reading.ReadingEnd.{ReadingEnd}
+use Rattle.show_files.specs.declared.show_words.ShowWords.{ShowWords}
+use Rattle.show_files.specs.Readings.{record_line}
+use Rattle.show_files.specs.ShowCommand.{IsShown}
+use Rattle.show_files.specs.ReadingEnds.{Prints}
+
+-- the lines of records with their positions
+abbrev pub record_lines : ShowWords → List (ℕ × List ℕ) → List ℕ
+record_lines words placed = flat_map (record_line words.positions) placed
+
+-- the records of a chunk that was read, of which there are none where it is none of records
+abbrev pub records_in : What → List (List ℕ)
+records_in (Records records) = records
+records_in other = []
+
+-- the text is the lines of the records of the chunks at a file's front, of which these are the totals
+pub record IsTextOf (words : ShowWords) (file : List ℕ) (totals : Totals) (text : List ℕ) : Type 0 where
+  pub ks : List ChunkValue
+  pub placed : List (ℕ × List ℕ)
+  pub chain : IsChainOf IsPlain ks file totals.bytes
+  pub counted : totals ≡ totals_of ks
+  pub records : ArePlaced ks placed
+  pub lines : text ≡ record_lines words placed
+
+-- such a text was printed, or is held
+abbrev pub IsPrinted : ShowWords → List ℕ → Totals → (before after : Taken) → List ℕ → Type 0
+IsPrinted words file totals before after held =
+    (text : List ℕ) × IsTextOf words file totals text × GoOutOrAreHeld before after Out (puts_to Out text) held
+
+-- a chunk more was printed, or the work ended
+abbrev pub PrintsOn : ShowWords → Result Bool ReadingEnd → List ℕ → Totals → (before after : Taken) → List ℕ → Type 0
+PrintsOn words (Ok true) file totals before after held = IsPrinted words file totals before after held
+PrintsOn words result file totals before after held = Prints (IsShown words) result file before after held

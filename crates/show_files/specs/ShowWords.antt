@@ -1,0 +1,18 @@
+-- The words of `show`: whether positions are printed, and the file that it reads. Own.
+use Rattle.std.specs.Prelude.{ℕ, Option, Some, None, List, is_some, if◌then◌else◌, [], ◌∷◌}
+use lib.Chars.{codes}
+use Rattle.show_files.specs.declared.show_words.ShowWords.{ShowWords}
+use Rattle.word_options.specs.Options.{value_of, are_words_of, file_places, only, ◌>>=◌}
+
+-- the options of `show`
+abbrev pub show_options : List (List ℕ)
+show_options = codes "--positions" ∷ []
+
+-- what the words of `show` say, behind its name
+unfoldable pub show_words_of : List (List ℕ) → Option ShowWords
+show_words_of words =
+    if are_words_of show_options words
+    then (do
+      file ← only (file_places words)
+      Some (record { positions = is_some (value_of (codes "--positions") words); file = file }))
+    else None

@@ -1,0 +1,36 @@
+-- What `verify` prints, says and ends with. Own.
+use Rattle.std.specs.Prelude.{◌≡◌, ℕ, ◌⊎◌, true, List, ◌+◌, ◌≤◌, [], ◌∷◌}
+use Rattle.record_io.specs.Puts.{Out, puts_to, Put}
+use Rattle.chunk_header.specs.Chunks.{ChunkValue}
+use Rattle.meta_chunk.specs.Counts.{totals_of}
+use Rattle.meta_chunk.specs.Files.{IsFrame}
+use Rattle.chunk_reader.specs.Faults.{IsFault}
+use Rattle.chunk_reader.specs.declared.reasons.Fault.{Fault}
+use Rattle.run_answers.specs.Answers.{Answer, noted}
+use Rattle.show_files.specs.Readings.{refused_text, file_meaning}
+use Rattle.run_answers.specs.FileAnswers.{report}
+use Rattle.run_answers.specs.Meanings.{Meaning, none_used}
+use Rattle.run_answers.specs.declared.status.Status.TheVariants as status
+
+-- the answer to a file: the report of its chunks, where it is well-formed chunks to its end, or else its fault
+abbrev pub IsVerified : List ℕ → Answer → Type 0
+IsVerified file answer =
+    ((ks : List ChunkValue) × IsFrame ks file
+    × (answer ≡ record { puts = puts_to Out (report (totals_of ks)); status = status.Ok }))
+    ⊎ ((fault : Fault) × IsFault true file fault × (answer ≡ noted status.Refused (refused_text fault)))
+
+-- nothing is put before the report
+abbrev pub IsVerifiedSoFar : List ℕ → List Put → Type 0
+IsVerifiedSoFar file part = part ≡ []
+
+-- how many bytes of a file judging hands out at most: each once, and the first 64 twice
+abbrev pub MayJudge : (sizes before after : List ℕ) → Type 0
+MayJudge (size ∷ []) (before ∷ []) (after ∷ []) = after ≤ before + (size + 64)
+MayJudge sizes before after = ⊥
+
+-- what `verify` means
+abbrev pub verify_meaning : Meaning
+verify_meaning = record (file_meaning IsVerified IsVerifiedSoFar) {
+  uses = record none_used { files = true; out = true };
+  may_take = MayJudge;
+}

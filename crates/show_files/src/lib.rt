@@ -1,0 +1,14 @@
+//! `show` and `verify`: record files that are read strictly. Own, as a whole.
+#![tactic(auto)]
+
+mod fault_lines;
+mod reading;
+mod record_lines;
+pub mod show_words;
+mod showing;
+pub mod verify_words;
+mod verifying;
+
+pub use record_lines::{LINES, put_records};
+pub use showing::show;
+pub use verifying::verify;

@@ -1,0 +1,151 @@
+ghost use Rattle.std.specs.Prelude.{◌≡◌, ◌≢◌, ◌+◌, ◌^◌, ◌<◌, ◌≤◌, ◌++◌, ℕ, Some, Option, Ok, Err, true, false, List, [], ◌∷◌, length, IfSome, OnErr, IsErrAnd};
+ghost use Rattle.std.specs.List.{enumerate_from};
+ghost use Rattle.record_io.specs.Outside.{Rose};
+ghost use Rattle.record_io.specs.Puts.{Taken, taken_by};
+ghost use Rattle.record_io.specs.Calls.{OnlyAsks, OnlyCounts, PutsThrough};
+ghost use Rattle.chunk_reader.specs.Progress.{AreReadFrom};
+ghost use Rattle.run_answers.specs.FileAnswers.{HandsOut};
+ghost use Rattle.show_files.specs.ShowCommand.{IsShown, IsShownSoFar, show_meaning};
+ghost use Rattle.show_files.specs.ReadingEnds.{EndsBySize, IsShortReading, Prints};
+ghost use Rattle.run_answers.specs.PutSoFar.{HasPutSoFar};
+ghost use Rattle.show_files.specs.ShowProgress.{record_lines, records_in, IsPrinted, PrintsOn};
+ghost use Rattle.run_answers.specs.Runs.{Runs, Seen, shown, shown_file};
+
+use crate::reading::{ReadingEnd, end_reading, unprinted};
+use crate::record_lines::{LINES, put_records};
+use crate::show_words::ShowWords;
+use chunk_reader::{Judged, Reader, What};
+use record_io::{Failed, PutBuffer, Sink, Store};
+use run_answers::{Status, size_of};
+use simple_chunk::Records;
+use std::alloc::Global;
+
+/// Prints the records of a file, and says in notes why it ended before the file did.
+pub fn show<S: Store, O: Sink, E: Sink>(
+    alloc: Global,
+    words: &ShowWords,
+    file: &mut S,
+    out: &mut O,
+    notes: &mut E,
+) -> Status
+    ensures runs { (others : Seen) → Runs (show_meaning words.now)
+        (record others { files = shown_file S.bytes S.told S.handed S.faults file.old ∷ []; out = shown O.taken O.faults out.old; notes = shown E.taken E.faults notes.old })
+        (record others { files = shown_file S.bytes S.told S.handed S.faults file.new ∷ []; out = shown O.taken O.faults out.new; notes = shown E.taken E.faults notes.new })
+        result }
+    ensures same_bytes { S.bytes file.new ≡ S.bytes file.old }
+    ensures same_name { S.name file.new ≡ S.name file.old }
+    ensures notes_kept { result ≡ Status.Ok → notes.new ≡ notes.old }
+{
+    let ended = print_file(alloc, words, file, out);
+    end_reading(ended, notes)
+}
+
+/// Prints the records of a file, up to its end or to its first fault.
+fn print_file<S: Store, O: Sink>(
+    alloc: Global,
+    words: &ShowWords,
+    file: &mut S,
+    out: &mut O,
+) -> Result<(), ReadingEnd>
+    ensures printed { (made notes : Option (List ℕ)) → IfSome (S.bytes file.old) (λ bytes. Prints (IsShown words.now) result bytes
+        (taken_by made (O.taken out.old) notes) (taken_by made (O.taken out.new) notes) []) }
+    ensures so_far { IsErrAnd result IsShortReading → ¬ Rose (O.faults out.old) (O.faults out.new) → (made notes : Option (List ℕ))
+        → IfSome (S.bytes file.old) (λ bytes. HasPutSoFar (IsShownSoFar words.now bytes)
+        (taken_by made (O.taken out.old) notes) (taken_by made (O.taken out.new) notes) []) }
+    ensures sized { EndsBySize result (S.told file.new) }
+    ensures handed { HandsOut (show_meaning words.now) (S.told file.new) (S.handed file.old) (S.handed file.new) }
+    ensures same_bytes { S.bytes file.new ≡ S.bytes file.old }
+    ensures file { OnlyCounts S.name S.faults (result ≡ Err ReadingEnd.File) file.old file.new }
+    ensures out { OnlyCounts O.lent O.faults (result ≡ Err ReadingEnd.Out) out.old out.new }
+{
+    let size = size_of(file)?;
+    let mut lines = PutBuffer::new();
+    let printed = print_chunks(alloc, words, size, file, &mut lines, out);
+    match lines.flush(out) {
+        Ok(()) => printed,
+        Err(Failed) => Err(unprinted(&printed)),
+    }
+}
+
+/// Prints the records of a file of so many bytes. The last lines may be held.
+fn print_chunks<S: Store, O: Sink>(
+    alloc: Global,
+    words: &ShowWords,
+    size: u64,
+    file: &mut S,
+    lines: &mut PutBuffer<LINES>,
+    out: &mut O,
+) -> Result<(), ReadingEnd>
+    requires told { S.told file.old ≡ Some size }
+    requires in_reach { size ≤ 2 ^ 60 }
+    requires exact { IfSome (S.bytes file.old) (λ bytes. size ≡ length bytes) }
+    requires none_held { lines.old ≡ [] }
+    ensures printed { (made notes : Option (List ℕ)) → IfSome (S.bytes file.old) (λ bytes. Prints (IsShown words.now) result bytes
+        (taken_by made (O.taken out.old) notes) (taken_by made (O.taken out.new) notes) lines.new) }
+    ensures so_far { IsErrAnd result IsShortReading → (made notes : Option (List ℕ))
+        → IfSome (S.bytes file.old) (λ bytes. HasPutSoFar (IsShownSoFar words.now bytes)
+        (taken_by made (O.taken out.old) notes) (taken_by made (O.taken out.new) notes) lines.new) }
+    ensures emptied { result ≡ Err ReadingEnd.Out → lines.new ≡ [] }
+    ensures sized { EndsBySize result (S.told file.new) }
+    ensures file { OnlyAsks S.bytes S.told S.name S.faults (result ≡ Err ReadingEnd.File) file.old file.new }
+    ensures out { OnlyCounts O.lent O.faults (result ≡ Err ReadingEnd.Out) out.old out.new }
+{
+    let mut reader = Reader::new(size, false);
+    while print_next(alloc, words, &mut reader, file, lines, out)? {}
+    Ok(())
+}
+
+/// Prints the records of the next chunk, and answers whether there was one.
+fn print_next<S: Store, O: Sink>(
+    alloc: Global,
+    words: &ShowWords,
+    reader: &mut Reader,
+    file: &mut S,
+    lines: &mut PutBuffer<LINES>,
+    out: &mut O,
+) -> Result<bool, ReadingEnd>
+    requires strict { reader.old.frame ≡ false }
+    requires told { S.told file.old ≡ Some reader.old.size }
+    requires in_reach { reader.old.size ≤ 2 ^ 60 }
+    requires exact { IfSome (S.bytes file.old) (λ bytes. reader.old.size ≡ length bytes) }
+    requires place { IfSome (S.bytes file.old) (λ bytes. AreReadFrom false bytes reader.old.totals) }
+    ensures same_size { reader.new.size ≡ reader.old.size }
+    ensures same_frame { reader.new.frame ≡ reader.old.frame }
+    ensures moved { result ≡ Ok true → reader.old.totals.bytes < reader.new.totals.bytes }
+    ensures within { reader.new.totals.bytes ≤ reader.new.size }
+    ensures read { IfSome (S.bytes file.old) (λ bytes. AreReadFrom false bytes reader.new.totals) }
+    ensures printed { (before : Taken) (made notes : Option (List ℕ)) → IfSome (S.bytes file.old) (λ bytes.
+        IsPrinted words.now bytes reader.old.totals before (taken_by made (O.taken out.old) notes) lines.old
+        → PrintsOn words.now result bytes reader.new.totals before (taken_by made (O.taken out.new) notes) lines.new) }
+    ensures same_lines { IsErrAnd result IsShortReading → lines.new ≡ lines.old }
+    ensures same_out { IsErrAnd result IsShortReading → out.new ≡ out.old }
+    ensures emptied { result ≡ Err ReadingEnd.Out → lines.new ≡ [] }
+    ensures sized { EndsBySize result (S.told file.new) }
+    ensures file { OnlyAsks S.bytes S.told S.name S.faults (result ≡ Err ReadingEnd.File) file.old file.new }
+    ensures out { OnlyCounts O.lent O.faults (result ≡ Err ReadingEnd.Out) out.old out.new }
+{
+    let Some(judged) = reader.next(alloc, file)? else {
+        return Ok(false);
+    };
+    match put_chunk(words, &judged, lines, out) {
+        Ok(()) => Ok(true),
+        Err(Failed) => Err(ReadingEnd::Out),
+    }
+}
+
+/// Puts a line for each record of a chunk.
+fn put_chunk<O: Sink>(
+    words: &ShowWords,
+    judged: &Judged,
+    lines: &mut PutBuffer<LINES>,
+    out: &mut O,
+) -> Result<(), Failed>
+    requires { judged.now.begin + length (records_in judged.now.what) < 2 ^ 64 }
+    ensures out { PutsThrough O.taken O.lent O.faults result lines.old lines.new (record_lines words.now (enumerate_from judged.now.begin (records_in judged.now.what))) out.old out.new }
+    ensures some { OnErr result (lines.old ++ record_lines words.now (enumerate_from judged.now.begin (records_in judged.now.what)) ≢ []) }
+{
+    match &judged.what {
+        What::Records(records) => put_records(words, judged.begin, records, lines, out),
+        What::Passive | What::Unread => Ok(()),
+    }
+}

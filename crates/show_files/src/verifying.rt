@@ -1,0 +1,45 @@
+ghost use Rattle.std.specs.Prelude.{◌≡◌, ◌≢◌, ℕ, Option, Err, List, [], ◌∷◌, IfSome, IsErrAnd};
+ghost use Rattle.record_io.specs.Puts.{taken_by};
+ghost use Rattle.record_io.specs.Calls.{OnlyCounts};
+ghost use Rattle.run_answers.specs.FileAnswers.{HandsOut, report};
+ghost use Rattle.show_files.specs.VerifyCommand.{IsVerified, verify_meaning};
+ghost use Rattle.show_files.specs.ReadingEnds.{EndsBySize, IsShortReading, Prints};
+ghost use Rattle.run_answers.specs.Runs.{Runs, Seen, shown, shown_file};
+
+use crate::reading::{ReadingEnd, end_reading};
+use record_io::{Failed, Sink, Store};
+use run_answers::{Status, put_report, size_of};
+
+/// Judges a file and prints the report of its totals, or says in notes why it is refused. It takes no memory.
+pub fn verify<S: Store, O: Sink, E: Sink>(file: &mut S, out: &mut O, notes: &mut E) -> Status
+    ensures runs { (others : Seen) → Runs verify_meaning
+        (record others { files = shown_file S.bytes S.told S.handed S.faults file.old ∷ []; out = shown O.taken O.faults out.old; notes = shown E.taken E.faults notes.old })
+        (record others { files = shown_file S.bytes S.told S.handed S.faults file.new ∷ []; out = shown O.taken O.faults out.new; notes = shown E.taken E.faults notes.new })
+        result }
+    ensures same_bytes { S.bytes file.new ≡ S.bytes file.old }
+    ensures same_name { S.name file.new ≡ S.name file.old }
+    ensures notes_kept { result ≡ Status.Ok → notes.new ≡ notes.old }
+{
+    let ended = report_file(file, out);
+    end_reading(ended, notes)
+}
+
+/// Judges a file and prints the report of its totals.
+fn report_file<S: Store, O: Sink>(file: &mut S, out: &mut O) -> Result<(), ReadingEnd>
+    ensures printed { (made notes : Option (List ℕ)) → IfSome (S.bytes file.old) (λ bytes. Prints IsVerified result bytes
+        (taken_by made (O.taken out.old) notes) (taken_by made (O.taken out.new) notes) []) }
+    ensures same_out { IsErrAnd result IsShortReading → out.new ≡ out.old }
+    ensures sized { EndsBySize result (S.told file.new) }
+    ensures handed { HandsOut verify_meaning (S.told file.new) (S.handed file.old) (S.handed file.new) }
+    ensures same_bytes { S.bytes file.new ≡ S.bytes file.old }
+    ensures file { OnlyCounts S.name S.faults (result ≡ Err ReadingEnd.File) file.old file.new }
+    ensures out { OnlyCounts O.lent O.faults (result ≡ Err ReadingEnd.Out) out.old out.new }
+    ensures memory { result ≢ Err ReadingEnd.Memory }
+{
+    let size = size_of(file)?;
+    let totals = chunk_reader::verify(file, size)?;
+    match put_report(&totals, out) {
+        Ok(()) => Ok(()),
+        Err(Failed) => Err(ReadingEnd::Out),
+    }
+}

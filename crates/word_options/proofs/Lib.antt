@@ -1,0 +1,4 @@
+pub mod Decimals
+mod NumberValues
+mod OptionValues
+pub mod OptionWords

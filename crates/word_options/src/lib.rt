@@ -1,0 +1,7 @@
+//! Words of a command line: options, numbers and files. Own, as a whole.
+#![tactic(auto)]
+
+mod numbers;
+mod options;
+
+pub use options::{are_words_of, is_same_at, only_file, optional_number, two_files, value_of};

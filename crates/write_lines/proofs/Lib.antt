@@ -1,0 +1,8 @@
+pub mod TakenLines
+pub mod FeedSteps
+pub mod TakenRecords
+mod Values
+pub mod WriteEnds
+pub mod WriteLimits
+mod WriteValues
+pub mod WrittenLines

@@ -1,0 +1,4 @@
+pub mod Input
+pub mod LineFeeds
+pub mod WriteCommand
+pub mod WriteWords

@@ -1,0 +1,50 @@
+-- The words of `write`: its options, and the file that it makes. Own.
+use Rattle.std.specs.Prelude.{ℕ, ◌^◌, Option, Some, None, List, option_map, unwrap_or, if◌then◌else◌, [], ◌∷◌}
+use Rattle.std.specs.Str.{bytes_eq}
+use lib.Chars.{codes}
+use Rattle.record_group.specs.declared.pad.Pad.{Pad}
+use Rattle.record_group.specs.declared.pad.Pad.TheVariants.{No, Start, End, Both}
+use Rattle.write_lines.specs.declared.write_words.WriteWords.{WriteWords}
+use Rattle.word_options.specs.Numbers.{number_within}
+use Rattle.word_options.specs.Options.{value_of, optional_value, are_words_of, file_places, only, ◌>>=◌}
+
+-- the chunk size where none is named
+abbrev pub default_chunk_size : ℕ
+default_chunk_size = 1048576
+
+-- the chunk size, in bytes
+abbrev pub chunk_size_of : List (List ℕ) → Option ℕ
+chunk_size_of words =
+    option_map (λ size. unwrap_or size default_chunk_size) (optional_value (number_within 1 (2 ^ 24)) (value_of (codes "--chunk=") words))
+
+-- the most records of a chunk, where they are bounded
+abbrev pub every_of : List (List ℕ) → Option (Option ℕ)
+every_of words = optional_value (number_within 1 (2 ^ 24)) (value_of (codes "--every=") words)
+
+-- where padding stands, by its name
+abbrev pub pad_named : List ℕ → Option Pad
+pad_named name =
+    if bytes_eq name (codes "start") then Some Start
+    else if bytes_eq name (codes "end") then Some End
+    else if bytes_eq name (codes "both") then Some Both
+    else None
+
+-- where padding stands, and nowhere by default
+abbrev pub pad_of : List (List ℕ) → Option Pad
+pad_of words = option_map (λ pad. unwrap_or pad No) (optional_value pad_named (value_of (codes "--pad=") words))
+
+-- the options of `write`
+abbrev pub write_options : List (List ℕ)
+write_options = codes "--chunk=" ∷ codes "--every=" ∷ codes "--pad=" ∷ []
+
+-- what the words of `write` say, behind its name
+unfoldable pub write_words_of : List (List ℕ) → Option WriteWords
+write_words_of words =
+    if are_words_of write_options words
+    then (do
+      chunk_size ← chunk_size_of words
+      every ← every_of words
+      pad ← pad_of words
+      file ← only (file_places words)
+      Some (record { chunk_size = chunk_size; every = every; pad = pad; file = file }))
+    else None
