@@ -23,4 +23,4 @@ data_at-requires-clause-told g c =
     let is : c.in-Some.end ≡ end_by c.args.at (value_of_header c.in-Right.header) =
     end_some c.in-Right.end (2 ^ 63) c.in-Some.end (end_by c.args.at (value_of_header c.in-Right.header)) c.in-Some.is (end_is g at) in
     told_end _ c.args.size (2 ^ 60) (end_by c.args.at (value_of_header c.in-Right.header))
-    (c.head_at.ensures.same_told ∙ c.requires.told) c.requires.in_reach (omega (arith, is, c.if-end-size.false))
+    (c.head_at.ensures.store.same_told ∙ c.requires.told) c.requires.in_reach (omega (arith, is, c.if-end-size.false))
