@@ -1,4 +1,4 @@
-//! A real file that is made apart from the other files of a call.
+//! A real file that is made, unless it is one that is read or that a standard stream is.
 ghost use Rattle.std.specs.Prelude.{◌≡◌, ◌+◌, ◌-◌, ◌^◌, ◌<◌, ◌≤◌, length, take, min, None, Some, true, false, is_some, IsErr, IfOk, IfSome, OnOk, OnErr};
 ghost use Rattle.std.specs.Io.KnownBytes.{Appends};
 ghost use Rattle.record_io.specs.Outside.{Rose, faults_after};
@@ -10,7 +10,7 @@ use std::marker::Model;
 use std::os::unix::fs::MetadataExt;
 use std::rt::Files;
 
-/// A file that is made as by `FileSink`, unless it is one of the other files of the call, whose bytes would be lost.
+/// A file that is made as by `FileSink`, unless it is one of the given files or streams, whose bytes would be lost.
 ///
 /// The first call looks whether its path leads to a regular file that one of the other paths leads to as well: the same
 /// inode of the same device. Where it does, each call fails, and the file is neither opened nor emptied. A path that leads

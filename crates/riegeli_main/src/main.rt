@@ -1,4 +1,4 @@
-//! The program: makes the real files and streams, and hands them to the commands of `riegeli_tool`.
+//! The program: makes the real files and streams of its words, and hands them to `run`.
 #![tactic(auto)]
 
 ghost use Rattle.std.specs.Prelude.{◌≡◌, map, take, drop};

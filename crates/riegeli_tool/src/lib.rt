@@ -1,4 +1,4 @@
-//! The commands of the program, over sources, stores and sinks that are handed in.
+//! `run`, which does what words of a command line say over the source, stores, sinks and device that are handed in.
 #![tactic(auto)]
 
 mod command;

@@ -1,3 +1,4 @@
+mod Values
 pub mod Causes
 pub mod RunEnds
 pub mod FileRuns

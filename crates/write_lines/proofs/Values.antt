@@ -2,31 +2,7 @@
 use Rattle.std.proofs.Common.{◌≡◌, ℕ, false, true, Some, None, Ok, Err, List, [], ◌∷◌, ◌++◌, length, codes, nat_lt, if◌then◌else◌, ap, refl}
 use Rattle.hex.specs.Hex.{decode_of, decode_pairs}
 use Rattle.record_writer.specs.declared.feed.Stop.TheVariants.{TooLong, InputTooLong, BadLine}
-use Rattle.run_answers.specs.Lines.{lines}
 use Rattle.write_lines.specs.Input.{running, up_to_last_end, line_limit, or_bad_line, record_of_line, stop_past_limit, taken_from, with_last_end}
-
--- `a`, `bc` and an empty line
-lines_of_three : lines (0x61 ∷ 10 ∷ 0x62 ∷ 0x63 ∷ 10 ∷ 10 ∷ []) ≡ (0x61 ∷ []) ∷ (0x62 ∷ 0x63 ∷ []) ∷ [] ∷ []
-lines_of_three = refl
-
--- a last line without a byte 10 counts, and one with it is the same line
-lines_without_end : lines (0x61 ∷ 10 ∷ 0x62 ∷ []) ≡ (0x61 ∷ []) ∷ (0x62 ∷ []) ∷ []
-lines_without_end = refl
-
-lines_with_end : lines (0x61 ∷ 10 ∷ 0x62 ∷ 10 ∷ []) ≡ (0x61 ∷ []) ∷ (0x62 ∷ []) ∷ []
-lines_with_end = refl
-
--- no bytes, no line
-lines_of_nothing : lines [] ≡ []
-lines_of_nothing = refl
-
--- each byte 10 alone is an empty line
-lines_of_ends : lines (10 ∷ 10 ∷ 10 ∷ []) ≡ [] ∷ [] ∷ [] ∷ []
-lines_of_ends = refl
-
--- an empty line before, and a byte 13 kept
-lines_with_return : lines (10 ∷ 0x61 ∷ 13 ∷ 10 ∷ []) ≡ [] ∷ (0x61 ∷ 13 ∷ []) ∷ []
-lines_with_return = refl
 
 -- the line that runs at the end, and what stands before it
 running_line : running (0x61 ∷ 10 ∷ 0x62 ∷ 0x63 ∷ []) ≡ 0x62 ∷ 0x63 ∷ []

@@ -28,7 +28,7 @@ stop_status (Some TooLong) = status.Limit
 stop_status (Some InputTooLong) = status.Limit
 stop_status (Some BadLine) = status.BadLine
 
--- how records are written, by the words: one thread encodes
+-- how records are written, by the words: with one worker
 abbrev pub options_of : WriteWords → WriteOptions
 options_of words = record { size = words.chunk_size; workers = 1; every = words.every; pad = words.pad }
 

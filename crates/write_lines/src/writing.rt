@@ -71,7 +71,7 @@ fn write_lines<R: Threads + Sync, I: Source, M: Sink + Send>(
     write_records(rt, alloc, options, &mut lines, made)
 }
 
-/// The options that the words give. One thread encodes.
+/// The options that the words give, with one worker.
 fn options(words: &WriteWords) -> WriteOptions
     ensures { result ≡ options_of words.now }
 {
