@@ -1,5 +1,6 @@
 -- What a buffer beside a sink passes on and holds, and what a store holds that reads ahead. Own.
-use Rattle.std.specs.Prelude.{◌≡◌, ℕ, ◌+◌, ◌^◌, ◌<◌, Option, Some, None, IfSome, List, ◌++◌, length, slice_range, refl}
+use Rattle.std.specs.Prelude.{◌≡◌, ℕ, ◌+◌, ◌^◌, ◌<◌, ◌==◌, max, Bool, false, Option, Some, None, IfSome, List, ◌++◌, length, slice_range, refl, if◌then◌else◌}
+use Rattle.std.specs.Int.{next_multiple_of}
 use Rattle.record_io.specs.Outside.{Takes}
 
 -- of these bytes a sink took a front, where it tells what it takes, and the rest is held
@@ -25,14 +26,28 @@ pub record ReadingAhead : Type 0 where
   pub bytes : Option (List ℕ)
   -- the size that was said last
   pub said : Option ℕ
+  -- where the last answer ended, if there was one
+  pub ended : Option ℕ
   -- how many bytes were handed out
   pub handed : ℕ
+  -- how many bytes the other store handed out
+  pub inner_handed : ℕ
   -- how many faults there were
   pub faults : ℕ
   -- how many faults the other store had
   pub inner_faults : ℕ
   -- the name of what the other store borrows
   pub name : ℕ
+
+-- whether a request at a place goes on where the last answer ended
+abbrev pub goes_on : Option ℕ → ℕ → Bool
+goes_on None at = false
+goes_on (Some end) at = end == at
+
+-- how many bytes are asked for at most to answer a request of so many at a place: where it goes on, as many as can be held,
+-- and else whole pages of 4 KiB
+abbrev pub most_asked : (room : ℕ) (ended : Option ℕ) (at wanted : ℕ) → ℕ
+most_asked room ended at wanted = if goes_on ended at then max room wanted else next_multiple_of wanted 4096
 
 -- the size that is told once one was said: where the bytes are told, it is how many there are
 abbrev pub told_by : Option ℕ → Option (List ℕ) → Option ℕ

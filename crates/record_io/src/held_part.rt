@@ -1,4 +1,4 @@
-ghost use Rattle.std.specs.Prelude.{◌≡◌, ◌+◌, ◌-◌, ◌^◌, ◌<◌, ◌≤◌, ◌↔◌, [], length, take, min, slice_range, Some, IsTrue, IsErr, IfOk, IfSome, IsSomeAnd, OnOk, OnErr};
+ghost use Rattle.std.specs.Prelude.{◌≡◌, ◌+◌, ◌-◌, ◌^◌, ◌<◌, ◌≤◌, ◌↔◌, [], length, take, max, min, slice_range, Some, IsTrue, IsErr, IfOk, IfSome, IsSomeAnd, OnOk, OnErr};
 ghost use Rattle.record_io.specs.Calls.{OnlyAsks};
 ghost use Rattle.record_io.specs.Buffers.{IsPartOf};
 
@@ -36,29 +36,33 @@ impl<const N: usize> HeldPart<N> {
         }
     }
 
-    /// Puts bytes that begin at a place of the store into the front of the buffer, and answers how many: at least 1.
+    /// Puts bytes that begin at a place of the store into the front of the buffer, and answers how many: at least 1. Where
+    /// the store is asked it is for at most so many, or for as many as the buffer has room for.
     pub(crate) fn serve<S: Store>(
         &mut self,
         store: &mut S,
         at: u64,
         size: u64,
+        most: usize,
         buf: &mut [u8],
     ) -> Result<usize, Failed>
         requires told { S.told store.old ≡ Some size }
         requires within { at + length buf.old ≤ size }
         requires room { 0 < length buf.old }
+        requires some { 0 < most }
         requires part { IsPartOf (S.bytes store.old) self.old }
         ensures some { IfOk result (λ n. 0 < n) }
         ensures fits { IfOk result (λ n. n ≤ length buf.old) }
         ensures given { IfOk result (λ n. IfSome (S.bytes store.old) (λ file. take n buf.new ≡ slice_range file at (at + n))) }
         ensures part { IsPartOf (S.bytes store.new) self.new }
+        ensures handed { S.handed store.new ≤ S.handed store.old + max most (length buf.old) }
         ensures store { OnlyAsks S.bytes S.told S.name S.faults (IsErr result) store.old store.new }
     {
         if !self.holds(at) {
             if buf.len() >= N / 2 {
                 return ask(store, at, buf);
             }
-            self.fill(store, at, size)?;
+            self.fill(store, at, size, most)?;
         }
         Ok(self.give(at, buf))
     }
@@ -87,20 +91,28 @@ impl<const N: usize> HeldPart<N> {
         count
     }
 
-    // Reads ahead from this place on. After a failure nothing is held.
-    fn fill<S: Store>(&mut self, store: &mut S, at: u64, size: u64) -> Result<(), Failed>
+    // Reads at most so many bytes from this place on. After a failure nothing is held.
+    fn fill<S: Store>(
+        &mut self,
+        store: &mut S,
+        at: u64,
+        size: u64,
+        most: usize,
+    ) -> Result<(), Failed>
         requires told { S.told store.old ≡ Some size }
         requires below { at < size }
         requires room { 0 < N }
+        requires wanted { 0 < most }
         ensures begins { OnOk result (self.new.from ≡ at) }
         ensures some { OnOk result (0 < length self.new.bytes) }
         ensures part { IsPartOf (S.bytes store.new) self.new }
         ensures emptied { OnErr result (self.new.bytes ≡ []) }
+        ensures handed { S.handed store.new ≤ S.handed store.old + most }
         ensures store { OnlyAsks S.bytes S.told S.name S.faults (IsErr result) store.old store.new }
     {
         self.count = 0;
-        let most = (size - at).min(N as u64) as usize;
-        self.count = ask(store, at, &mut self.bytes[..most])?;
+        let count = (size - at).min(most.min(N) as u64) as usize;
+        self.count = ask(store, at, &mut self.bytes[..count])?;
         self.from = at;
         Ok(())
     }
@@ -113,6 +125,7 @@ fn ask<S: Store>(store: &mut S, at: u64, buf: &mut [u8]) -> Result<usize, Failed
     ensures some { IfOk result (λ n. 0 < n) }
     ensures fits { IfOk result (λ n. n ≤ length buf.old) }
     ensures given { IfOk result (λ n. IfSome (S.bytes store.old) (λ file. take n buf.new ≡ slice_range file at (at + n))) }
+    ensures handed { S.handed store.new ≤ S.handed store.old + length buf.old }
     ensures store { OnlyAsks S.bytes S.told S.name S.faults (IsErr result) store.old store.new }
 {
     store.read_at(at, buf)

@@ -1,11 +1,14 @@
 //! A store that reads ahead of another one.
 ghost use Rattle.std.specs.Prelude.{◌≡◌, ◌+◌, ◌-◌, ◌^◌, ◌<◌, ◌≤◌, ◌↔◌, [], length, take, min, slice_range, None, Some, IsTrue, IfOk, IfSome, IsSomeAnd, OnErr};
 ghost use Rattle.record_io.specs.Outside.{Rose, faults_after};
-ghost use Rattle.record_io.specs.Buffers.{IsPartOf, told_by};
+ghost use Rattle.record_io.specs.Buffers.{IsPartOf, most_asked, told_by};
 
 use crate::held_part::HeldPart;
 use crate::outside::{Failed, Store, counted, fault};
 use std::marker::Model;
+
+/// The bytes of a page: what is asked for is a multiple of it, where nothing is read ahead.
+const PAGE: usize = 4096;
 
 /// A store over another one, of which it holds up to 128 KiB.
 pub type ReadAhead<S> = ReadAheadBy<S, 131_072>;
@@ -14,12 +17,14 @@ pub type ReadAhead<S> = ReadAheadBy<S, 131_072>;
 /// other one. It takes no memory.
 ///
 /// A request for bytes that are held is served from there. A request of at least half of `N` that isn't goes straight
-/// through. Any other is served once up to `N` bytes from there on, and none past the told size, were read ahead.
+/// through. Any other that goes on where the last answer ended is served once up to `N` bytes from there on were read ahead,
+/// and one at another place once what it wants was read, in pages of 4 KiB. None is read past the told size.
 #[derive(Drop)]
 pub struct ReadAheadBy<S: Store, const N: usize> {
     inner: S,
     told: Option<u64>,
     held: HeldPart<N>,
+    ended: Option<u64>,
     handed: u64,
     faults: u64,
 }
@@ -29,7 +34,7 @@ impl<S: Store, const N: usize> Model for ReadAheadBy<S, N> {
 
     ghost Value = { ReadingAhead };
 
-    ghost view = { λ s. record { bytes = S.bytes s.inner; said = s.told; handed = s.handed; faults = s.faults; inner_faults = S.faults s.inner; name = S.name s.inner } };
+    ghost view = { λ s. record { bytes = S.bytes s.inner; said = s.told; ended = s.ended; handed = s.handed; inner_handed = S.handed s.inner; faults = s.faults; inner_faults = S.faults s.inner; name = S.name s.inner } };
 
     ghost invariant = { λ s. IsReadingAhead (S.bytes s.inner) (S.told s.inner) s.told s.held s.faults };
 }
@@ -39,7 +44,9 @@ impl<S: Store + Drop, const N: usize> ReadAheadBy<S, N> {
     pub fn new(inner: S) -> ReadAheadBy<S, N>
         ensures bytes { result.bytes ≡ S.bytes inner }
         ensures said { result.said ≡ None }
+        ensures ended { result.ended ≡ None }
         ensures handed { result.handed ≡ 0 }
+        ensures inner_handed { result.inner_handed ≡ S.handed inner }
         ensures faults { result.faults ≡ 0 }
         ensures inner_faults { result.inner_faults ≡ S.faults inner }
         ensures name { result.name ≡ S.name inner }
@@ -48,8 +55,22 @@ impl<S: Store + Drop, const N: usize> ReadAheadBy<S, N> {
             inner,
             told: None,
             held: HeldPart::new(),
+            ended: None,
             handed: 0,
             faults: 0,
+        }
+    }
+
+    // How many bytes are asked for at most, to answer a request of so many at a place.
+    fn most_asked(&self, at: u64, wanted: usize) -> usize
+        requires { 0 < wanted }
+        ensures some { 0 < result }
+        ensures most { result ≤ most_asked N self.now.ended at wanted }
+    {
+        if self.ended == Some(at) {
+            N.max(wanted)
+        } else {
+            wanted.div_ceil(PAGE).saturating_mul(PAGE)
         }
     }
 }
@@ -75,6 +96,8 @@ impl<S: Store + Drop, const N: usize> Store for ReadAheadBy<S, N> {
         ensures untold { OnErr result (self.new.said ≡ self.old.said) }
         ensures same_bytes { self.new.bytes ≡ self.old.bytes }
         ensures same_handed { self.new.handed ≡ self.old.handed }
+        ensures same_ended { self.new.ended ≡ self.old.ended }
+        ensures same_inner_handed { self.new.inner_handed ≡ self.old.inner_handed }
         ensures same_name { self.new.name ≡ self.old.name }
 
         ensures cause { OnErr result (Rose self.old.faults self.new.faults) }
@@ -97,6 +120,9 @@ impl<S: Store + Drop, const N: usize> Store for ReadAheadBy<S, N> {
         ensures given { IfOk result (λ n. IfSome self.old.bytes (λ file. take n buf.new ≡ slice_range file at (at + n))) }
         ensures handed_out { IfOk result (λ n. self.new.handed ≡ min (self.old.handed + n) (2 ^ 64 - 1)) }
         ensures same_handed { OnErr result (self.new.handed ≡ self.old.handed) }
+        ensures ended { IfOk result (λ n. self.new.ended ≡ Some (at + n)) }
+        ensures same_ended { OnErr result (self.new.ended ≡ self.old.ended) }
+        ensures inner_handed { self.new.inner_handed ≤ self.old.inner_handed + most_asked N self.old.ended at (length buf.old) }
         ensures same_bytes { self.new.bytes ≡ self.old.bytes }
         ensures same_said { self.new.said ≡ self.old.said }
         ensures told_small { IfSome (told_by self.old.said self.old.bytes) (λ size. size < 2 ^ 64) }
@@ -111,11 +137,13 @@ impl<S: Store + Drop, const N: usize> Store for ReadAheadBy<S, N> {
         let Some(size) = self.told else {
             return Err(fault(&mut self.faults));
         };
+        let asked = self.most_asked(at, buf.len());
         let most = (size - at).min(buf.len() as u64) as usize;
         let front = &mut buf[..most];
-        let given = self.held.serve(&mut self.inner, at, size, front);
+        let given = self.held.serve(&mut self.inner, at, size, asked, front);
         let count = counted(given, &mut self.faults)?;
         self.handed = self.handed.saturating_add(count as u64);
+        self.ended = Some(at + count as u64);
         Ok(count)
     }
 }
