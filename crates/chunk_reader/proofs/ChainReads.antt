@@ -16,7 +16,7 @@ use Rattle.meta_chunk.proofs.Totals.{is_unread-iff}
 use Rattle.chunk_reader.specs.Ends.{read_end_of}
 use Rattle.chunk_reader.specs.Contents.{IsWhat, IsJudged, IsJudgedIn}
 use Rattle.chunk_reader.specs.Faults.{IsAllowed, IsVerdict, IsFault, BeginsWithSignature}
-use Rattle.chunk_reader.specs.Progress.{counted, AreTotals, AreReadFrom}
+use Rattle.chunk_reader.specs.Progress.{counted, AreInBounds, AreReadFrom}
 use Rattle.chunk_reader.specs.Places.{chunk_at}
 use Rattle.chunk_reader.specs.Reasons.{Applies, NoneOf, loading_reasons}
 use Rattle.chunk_reader.specs.declared.judging.Judged.{Judged}
@@ -55,41 +55,41 @@ unsigned_by_size (Some file) told size sized is small =
     λ begins. omega (arith, signed_length file begins)
 
 -- a file of which chunks were read begins with the signature; one of which none were, where that was seen
-pub signed_where_read : (frame : Bool) (bytes : Option (List ℕ)) (totals : Totals) → IfSome bytes (λ file. AreReadFrom frame file totals)
+pub signed_where_read : (keep : Bool) (bytes : Option (List ℕ)) (totals : Totals) → IfSome bytes (λ file. AreReadFrom keep file totals)
     → (totals.bytes ≡ 0 → IfSome bytes BeginsWithSignature) → IfSome bytes BeginsWithSignature
-signed_where_read frame None totals read seen = tt
-signed_where_read frame (Some file) totals ([], chain, same) seen = seen (no_chunks file totals.bytes chain)
-signed_where_read frame (Some file) totals (k ∷ ks, chain, same) seen = begins_signed k ks file totals.bytes chain
+signed_where_read keep None totals read seen = tt
+signed_where_read keep (Some file) totals ([], chain, same) seen = seen (no_chunks file totals.bytes chain)
+signed_where_read keep (Some file) totals (k ∷ ks, chain, same) seen = begins_signed k ks file totals.bytes chain
 
 -- a verdict on the next chunk is the fault of the file
-pub fault_read : (frame : Bool) (bytes : Option (List ℕ)) (told : Option ℕ) (totals : Totals) (size : ℕ) (fault : Fault)
+pub fault_read : (keep : Bool) (bytes : Option (List ℕ)) (told : Option ℕ) (totals : Totals) (size : ℕ) (fault : Fault)
     → IsSized bytes told → told ≡ Some size → totals.bytes < size
-    → IfSome bytes (λ file. AreReadFrom frame file totals) → IfSome bytes BeginsWithSignature
-    → IfSome bytes (λ file. IsVerdict frame file totals.bytes fault) → IfSome bytes (λ file. IsFault frame file fault)
-fault_read frame None told totals size fault sized is below read begins verdict = tt
-fault_read frame (Some file) told totals size fault sized is below (ks, chain, counts) begins verdict =
+    → IfSome bytes (λ file. AreReadFrom keep file totals) → IfSome bytes BeginsWithSignature
+    → IfSome bytes (λ file. IsVerdict keep file totals.bytes fault) → IfSome bytes (λ file. IsFault keep file fault)
+fault_read keep None told totals size fault sized is below read begins verdict = tt
+fault_read keep (Some file) told totals size fault sized is below (ks, chain, counts) begins verdict =
     let same : size ≡ length file = subst (λ (o : Option ℕ). IfSome o (λ n. n ≡ length file)) is sized in
-    fault_here frame ks file totals.bytes fault begins chain (omega arith) verdict
+    fault_here keep ks file totals.bytes fault begins chain (omega arith) verdict
 
 -- and no front of well-formed chunks reaches further than what was read
 abbrev pub ReachNoFurther : Bool → List ℕ → ℕ → Type 0
-ReachNoFurther frame file place = (others : List ChunkValue) (other : ℕ) → IsChainOf (IsAllowed frame) others file other → other ≤ place
+ReachNoFurther keep file place = (others : List ChunkValue) (other : ℕ) → IsChainOf (IsAllowed keep) others file other → other ≤ place
 
-pub no_further_refused : (frame : Bool) (bytes : Option (List ℕ)) (totals : Totals) (fault : Fault)
-    → IfSome bytes (λ file. AreReadFrom frame file totals) → IfSome bytes (λ file. IsVerdict frame file totals.bytes fault)
-    → IfSome bytes (λ file. ReachNoFurther frame file totals.bytes)
-no_further_refused frame None totals fault read verdict = tt
-no_further_refused frame (Some file) totals fault (ks, chain, counts) verdict =
-    (longest_where_refused frame ks file totals.bytes fault.why chain verdict.0).greatest
+pub no_further_refused : (keep : Bool) (bytes : Option (List ℕ)) (totals : Totals) (fault : Fault)
+    → IfSome bytes (λ file. AreReadFrom keep file totals) → IfSome bytes (λ file. IsVerdict keep file totals.bytes fault)
+    → IfSome bytes (λ file. ReachNoFurther keep file totals.bytes)
+no_further_refused keep None totals fault read verdict = tt
+no_further_refused keep (Some file) totals fault (ks, chain, counts) verdict =
+    (longest_where_refused keep ks file totals.bytes fault.why chain verdict.0).greatest
 
-reach_nothing : (frame : Bool) (file : List ℕ) (place : ℕ) → ¬ BeginsWithSignature file → ReachNoFurther frame file place
-reach_nothing frame file place unsigned [] other chain = omega (arith, no_chunks file other chain)
-reach_nothing frame file place unsigned (k ∷ ks) other chain = absurd (unsigned (begins_signed k ks file other chain))
+reach_nothing : (keep : Bool) (file : List ℕ) (place : ℕ) → ¬ BeginsWithSignature file → ReachNoFurther keep file place
+reach_nothing keep file place unsigned [] other chain = omega (arith, no_chunks file other chain)
+reach_nothing keep file place unsigned (k ∷ ks) other chain = absurd (unsigned (begins_signed k ks file other chain))
 
-pub no_further_unsigned : (frame : Bool) (bytes : Option (List ℕ)) (place : ℕ) → IfSome bytes (λ file. ¬ BeginsWithSignature file)
-    → IfSome bytes (λ file. ReachNoFurther frame file place)
-no_further_unsigned frame None place unsigned = tt
-no_further_unsigned frame (Some file) place unsigned = reach_nothing frame file place unsigned
+pub no_further_unsigned : (keep : Bool) (bytes : Option (List ℕ)) (place : ℕ) → IfSome bytes (λ file. ¬ BeginsWithSignature file)
+    → IfSome bytes (λ file. ReachNoFurther keep file place)
+no_further_unsigned keep None place unsigned = tt
+no_further_unsigned keep (Some file) place unsigned = reach_nothing keep file place unsigned
 
 -- a refusal is handed on with its fault
 pub refused_end : (end : VerifyEnd) (fault : Fault) → read.Refused fault ≡ read_end_of end → end ≡ verify.Refused fault
@@ -115,17 +115,17 @@ given_plain k plain =
       | inr read ↦ read
     ]
 
-pub left_unread : (frame : Bool) (k : ChunkValue) (what : What) → length k.«data» ≤ max_data_size → IsWhat frame k what
+pub left_unread : (keep : Bool) (k : ChunkValue) (what : What) → length k.«data» ≤ max_data_size → IsWhat keep k what
     → is_left what ≡ is_unread k
-left_unread frame k (Records records) small is = sym (given_plain k (small, inl (records, is)))
-left_unread frame k Passive small is = sym (given_plain k (small, inr is))
-left_unread frame k Unread small (framed, inl compressed) =
+left_unread keep k (Records records) small is = sym (given_plain k (small, inl (records, is)))
+left_unread keep k Passive small is = sym (given_plain k (small, inr is))
+left_unread keep k Unread small (framed, inl compressed) =
     let unread : IsUnread k = (small, inr compressed) in sym ((is_unread-iff k (inr unread)).1 unread)
-left_unread frame k Unread small (framed, inr transposed) =
+left_unread keep k Unread small (framed, inr transposed) =
     let unread : IsUnread k = (small, inl transposed) in sym ((is_unread-iff k (inr unread)).1 unread)
 
 -- and allowed
-what_passed : (frame : Bool) (k : ChunkValue) (what : What) → IsWhat frame k what → IsPassed frame k
+what_passed : (keep : Bool) (k : ChunkValue) (what : What) → IsWhat keep k what → IsPassed keep k
 what_passed false k (Records records) is = inl (records, is)
 what_passed false k Passive is = inr is
 what_passed false k Unread (framed, is) = absurd (cc framed)
@@ -134,13 +134,13 @@ what_passed true k Passive is = inl (inr is)
 what_passed true k Unread (framed, inl compressed) = inr (inr compressed)
 what_passed true k Unread (framed, inr transposed) = inr (inl transposed)
 
-pub allowed_given : (frame : Bool) (size place : ℕ) (j : Judged) → IsJudged frame size place j → IsAllowed frame (value_of_chunk j.chunk)
-allowed_given frame size place j h =
-    IsAllowed-passed frame (value_of_chunk j.chunk) h.small (what_passed frame (value_of_chunk j.chunk) j.what h.what)
+pub allowed_given : (keep : Bool) (size place : ℕ) (j : Judged) → IsJudged keep size place j → IsAllowed keep (value_of_chunk j.chunk)
+allowed_given keep size place j h =
+    IsAllowed-passed keep (value_of_chunk j.chunk) h.small (what_passed keep (value_of_chunk j.chunk) j.what h.what)
 
 -- a chunk takes up at least as many bytes as it holds records
-pub room_given : (frame : Bool) (size place : ℕ) (j : Judged) → IsJudged frame size place j → place + j.chunk.header.num_records ≤ j.end
-room_given frame size place j h =
+pub room_given : (keep : Bool) (size place : ℕ) (j : Judged) → IsJudged keep size place j → place + j.chunk.header.num_records ≤ j.end
+room_given keep size place j h =
     omega (arith, h.end, chunk_end_of_past_records place (40 + length j.chunk.bytes) j.chunk.header.num_records)
 
 -- the first chunk ends behind a block header and its own header
@@ -173,10 +173,10 @@ end_signed zero end k signed after at = omega (arith, at, first_end k)
 end_signed (suc n) end k signed after at = omega (arith, signed (omega arith))
 
 -- totals stay in their bounds
-pub AreTotals-counted : (frame : Bool) (size : ℕ) (totals : Totals) (j : Judged) (unread : Bool)
-    → AreTotals size totals → IsJudged frame size totals.bytes j
-    → AreTotals size (counted totals j.end j.chunk.header.num_records unread)
-AreTotals-counted frame size totals j unread t h =
+pub AreInBounds-counted : (keep : Bool) (size : ℕ) (totals : Totals) (j : Judged) (unread : Bool)
+    → AreInBounds size totals → IsJudged keep size totals.bytes j
+    → AreInBounds size (counted totals j.end j.chunk.header.num_records unread)
+AreInBounds-counted keep size totals j unread t h =
     let after : totals.bytes < j.end = h.after in
     let records : ℕ = j.chunk.header.num_records in
     record {
@@ -184,7 +184,7 @@ AreTotals-counted frame size totals j unread t h =
       boundary = on_boundary j.end h.to_boundary;
       signed = λ some. end_signed totals.bytes j.end (value_of_chunk j.chunk) t.signed after h.end;
       chunks = omega (arith, t.chunks);
-      records = omega (arith, t.records, room_given frame size totals.bytes j h, counted_most unread records);
+      records = omega (arith, t.records, room_given keep size totals.bytes j h, counted_most unread records);
       unread = omega (arith, t.unread, left_most unread);
     }
 
@@ -199,36 +199,36 @@ totals_given ks k totals end unread same left at =
     ∙ sym (totals_of-push ks k)
 
 -- the chunks go on by it
-chain_given : (frame : Bool) (size place : ℕ) (file : List ℕ) (j : Judged) (ks : List ChunkValue)
-    → BeginsWithSignature file → IsJudged frame size place j → IsJudgedIn frame file place j
-    → IsChainOf (IsAllowed frame) ks file place
-    → IsChainOf (IsAllowed frame) (ks ++ value_of_chunk j.chunk ∷ []) file j.end
-chain_given frame size place file j ks begins judged there chain =
-    let allowed : IsAllowed frame (chunk_at file place) = subst (IsAllowed frame) there.chunk (allowed_given frame size place j judged) in
-    subst (λ (k : ChunkValue). IsChainOf (IsAllowed frame) (ks ++ k ∷ []) file j.end) (sym there.chunk)
-    (subst (λ (e : ℕ). IsChainOf (IsAllowed frame) (ks ++ chunk_at file place ∷ []) file e) (sym there.end)
-    (chain_goes_on frame ks file place chain begins there.laid allowed))
+chain_given : (keep : Bool) (size place : ℕ) (file : List ℕ) (j : Judged) (ks : List ChunkValue)
+    → BeginsWithSignature file → IsJudged keep size place j → IsJudgedIn keep file place j
+    → IsChainOf (IsAllowed keep) ks file place
+    → IsChainOf (IsAllowed keep) (ks ++ value_of_chunk j.chunk ∷ []) file j.end
+chain_given keep size place file j ks begins judged there chain =
+    let allowed : IsAllowed keep (chunk_at file place) = subst (IsAllowed keep) there.chunk (allowed_given keep size place j judged) in
+    subst (λ (k : ChunkValue). IsChainOf (IsAllowed keep) (ks ++ k ∷ []) file j.end) (sym there.chunk)
+    (subst (λ (e : ℕ). IsChainOf (IsAllowed keep) (ks ++ chunk_at file place ∷ []) file e) (sym there.end)
+    (chain_goes_on keep ks file place chain begins there.laid allowed))
 
 -- what a call on a chunk says is said of the reader, which shows the same frame, place and bytes
-pub judged_shown : (frame now : Bool) (size told place here : ℕ) (j : Judged) → now ≡ frame → told ≡ size → here ≡ place
-    → IsJudged frame size place j → IsJudged now told here j
-judged_shown frame now size told place here j f s p h =
+pub judged_shown : (keep now : Bool) (size told place here : ℕ) (j : Judged) → now ≡ keep → told ≡ size → here ≡ place
+    → IsJudged keep size place j → IsJudged now told here j
+judged_shown keep now size told place here j f s p h =
     subst (λ (b : Bool). IsJudged b told here j) (sym f)
-    (subst (λ (n : ℕ). IsJudged frame n here j) (sym s) (subst (λ (n : ℕ). IsJudged frame size n j) (sym p) h))
+    (subst (λ (n : ℕ). IsJudged keep n here j) (sym s) (subst (λ (n : ℕ). IsJudged keep size n j) (sym p) h))
 
-pub judged_in_shown : (frame now : Bool) (bytes held : Option (List ℕ)) (place here : ℕ) (j : Judged) → now ≡ frame → held ≡ bytes → here ≡ place
-    → IfSome held (λ file. IsJudgedIn frame file place j) → IfSome bytes (λ file. IsJudgedIn now file here j)
-judged_in_shown frame now bytes held place here j f same p h =
+pub judged_in_shown : (keep now : Bool) (bytes held : Option (List ℕ)) (place here : ℕ) (j : Judged) → now ≡ keep → held ≡ bytes → here ≡ place
+    → IfSome held (λ file. IsJudgedIn keep file place j) → IfSome bytes (λ file. IsJudgedIn now file here j)
+judged_in_shown keep now bytes held place here j f same p h =
     subst (λ (b : Bool). IfSome bytes (λ file. IsJudgedIn b file here j)) (sym f)
-    (subst (λ (o : Option (List ℕ)). IfSome o (λ file. IsJudgedIn frame file here j)) same
-    (subst (λ (n : ℕ). IfSome held (λ file. IsJudgedIn frame file n j)) (sym p) h))
+    (subst (λ (o : Option (List ℕ)). IfSome o (λ file. IsJudgedIn keep file here j)) same
+    (subst (λ (n : ℕ). IfSome held (λ file. IsJudgedIn keep file n j)) (sym p) h))
 
-pub verdict_shown : (frame now : Bool) (bytes held : Option (List ℕ)) (place here : ℕ) (fault : Fault) → now ≡ frame → held ≡ bytes → here ≡ place
-    → IfSome held (λ file. IsVerdict frame file place fault) → IfSome bytes (λ file. IsVerdict now file here fault)
-verdict_shown frame now bytes held place here fault f same p h =
+pub verdict_shown : (keep now : Bool) (bytes held : Option (List ℕ)) (place here : ℕ) (fault : Fault) → now ≡ keep → held ≡ bytes → here ≡ place
+    → IfSome held (λ file. IsVerdict keep file place fault) → IfSome bytes (λ file. IsVerdict now file here fault)
+verdict_shown keep now bytes held place here fault f same p h =
     subst (λ (b : Bool). IfSome bytes (λ file. IsVerdict b file here fault)) (sym f)
-    (subst (λ (o : Option (List ℕ)). IfSome o (λ file. IsVerdict frame file here fault)) same
-    (subst (λ (n : ℕ). IfSome held (λ file. IsVerdict frame file n fault)) (sym p) h))
+    (subst (λ (o : Option (List ℕ)). IfSome o (λ file. IsVerdict keep file here fault)) same
+    (subst (λ (n : ℕ). IfSome held (λ file. IsVerdict keep file n fault)) (sym p) h))
 
 pub loading_shown : (bytes held : Option (List ℕ)) (place here : ℕ) → held ≡ bytes → here ≡ place
     → IfSome held (λ file. NoneOf (Applies file place) loading_reasons) → IfSome bytes (λ file. NoneOf (Applies file here) loading_reasons)
@@ -238,27 +238,27 @@ loading_shown bytes held place here same p h =
 
 -- totals of the chunks before go on by a chunk that was given
 abbrev pub GoesOn : Bool → List ℕ → Totals → Totals → Judged → Type 0
-GoesOn frame file before after j =
-    (ks : List ChunkValue) → IsChainOf (IsAllowed frame) ks file before.bytes → before ≡ totals_of ks
-    → IsChainOf (IsAllowed frame) (ks ++ value_of_chunk j.chunk ∷ []) file after.bytes
+GoesOn keep file before after j =
+    (ks : List ChunkValue) → IsChainOf (IsAllowed keep) ks file before.bytes → before ≡ totals_of ks
+    → IsChainOf (IsAllowed keep) (ks ++ value_of_chunk j.chunk ∷ []) file after.bytes
     × (after ≡ totals_of (ks ++ value_of_chunk j.chunk ∷ []))
 
-pub goes_on_given : (frame : Bool) (size : ℕ) (bytes : Option (List ℕ)) (before : Totals) (j : Judged) (unread : Bool)
-    → IfSome bytes BeginsWithSignature → IsJudged frame size before.bytes j
-    → IfSome bytes (λ file. IsJudgedIn frame file before.bytes j) → unread ≡ is_left j.what
-    → IfSome bytes (λ file. GoesOn frame file before (counted before j.end j.chunk.header.num_records unread) j)
-goes_on_given frame size None before j unread begins judged there left = tt
-goes_on_given frame size (Some file) before j unread begins judged there left =
+pub goes_on_given : (keep : Bool) (size : ℕ) (bytes : Option (List ℕ)) (before : Totals) (j : Judged) (unread : Bool)
+    → IfSome bytes BeginsWithSignature → IsJudged keep size before.bytes j
+    → IfSome bytes (λ file. IsJudgedIn keep file before.bytes j) → unread ≡ is_left j.what
+    → IfSome bytes (λ file. GoesOn keep file before (counted before j.end j.chunk.header.num_records unread) j)
+goes_on_given keep size None before j unread begins judged there left = tt
+goes_on_given keep size (Some file) before j unread begins judged there left =
     let k : ChunkValue = value_of_chunk j.chunk in
     λ ks chain same. (
-      chain_given frame size before.bytes file j ks begins judged there chain,
-      totals_given ks k before j.end unread same (left ∙ left_unread frame k j.what judged.small judged.what) judged.end,
+      chain_given keep size before.bytes file j ks begins judged there chain,
+      totals_given ks k before j.end unread same (left ∙ left_unread keep k j.what judged.small judged.what) judged.end,
     )
 
 -- so what was read is read on
-pub read_on : (frame : Bool) (bytes : Option (List ℕ)) (before after : Totals) (j : Judged)
-    → IfSome bytes (λ file. AreReadFrom frame file before) → IfSome bytes (λ file. GoesOn frame file before after j)
-    → IfSome bytes (λ file. AreReadFrom frame file after)
-read_on frame None before after j read on = tt
-read_on frame (Some file) before after j (ks, chain, same) on =
+pub read_on : (keep : Bool) (bytes : Option (List ℕ)) (before after : Totals) (j : Judged)
+    → IfSome bytes (λ file. AreReadFrom keep file before) → IfSome bytes (λ file. GoesOn keep file before after j)
+    → IfSome bytes (λ file. AreReadFrom keep file after)
+read_on keep None before after j read on = tt
+read_on keep (Some file) before after j (ks, chain, same) on =
     let longer = on ks chain same in (ks ++ value_of_chunk j.chunk ∷ [], longer.0, longer.1)

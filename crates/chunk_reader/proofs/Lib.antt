@@ -15,8 +15,11 @@ pub mod WholeHeads
 pub mod Loads
 pub mod StrictSteps
 pub mod FaultsDecided
+pub mod Blocks
 pub mod ReadingSteps
 pub mod Verdicts
 pub mod ChainReads
+pub mod FirstChunks
 pub mod VerifySteps
+pub mod HeadersTell
 mod Values

@@ -1,12 +1,12 @@
 -- The data of a chunk, which stands behind its header.
-use Rattle.std.proofs.Common.{◌≡◌, ◌∙◌, ℕ, ◌+◌, ◌^◌, ◌≤◌, Option, Some, None, IfSome, IsSomeAnd, List, length, drop, sym, ap, arith}
+use Rattle.std.proofs.Common.{◌≡◌, ◌∙◌, ℕ, ◌+◌, ◌^◌, ◌≤◌, Option, Some, None, IfSome, IsSomeAnd, List, length, drop, refl, sym, ap, subst, arith}
 use Rattle.std.proofs.lemmas.List.{drop_at}
 use Rattle.block_layout.specs.Layout.{IsBoundary, IsOnBoundary, IsNextPlace, end_of, chunk_end_of, own_bytes_at}
 use Rattle.block_layout.proofs.Ends.{end_of_after, end_of-more}
 use Rattle.block_layout.proofs.ChunkEnds.{chunk_end_of_boundary, chunk_end_of_past_bytes}
 use Rattle.block_layout.proofs.Runs.{end_of-next_place}
 use Rattle.block_layout.proofs.UsableBytes.{own_bytes_at_whole, own_bytes_at-more}
-use Rattle.chunk_reader.specs.Places.{HasRoom, data_at}
+use Rattle.chunk_reader.specs.Places.{HasOwnBytes, data_at}
 use Rattle.chunk_reader.specs.Ends.{read_end_of}
 use Rattle.chunk_reader.specs.declared.reasons.Fault.{Fault}
 use Rattle.chunk_reader.specs.declared.reasons.VerifyEnd.{VerifyEnd}
@@ -45,6 +45,19 @@ data_given None told at size end buf sized within header given = tt
 data_given (Some file) None at size end buf sized within header given = elim within [ ]
 data_given (Some file) (Some told) at size end buf sized within header given = given ∙ own_behind file at size (omega arith)
 
+-- and what holds of these bytes holds of the data
+pub taken_data : (bytes now : Option (List ℕ)) (told : Option ℕ) (P : List ℕ → Type 0) (at size end : ℕ) → now ≡ bytes → IsSized bytes told
+    → IsSomeAnd told (λ whole. end ≤ whole) → end_of at 40 ≤ end
+    → IfSome now (λ file. P (own_bytes_at file (end_of at 40) size))
+    → IfSome bytes (λ file. P (data_at file at size))
+taken_data None now told P at size end same sized within header taken = tt
+taken_data (Some file) None told P at size end same sized within header taken = cc
+taken_data (Some file) (Some other) told P at size end same sized within header taken =
+    let is : other ≡ file = cc in
+    let given : own_bytes_at file (end_of at 40) size ≡ data_at file at size =
+    data_given (Some file) told at size end (own_bytes_at file (end_of at 40) size) sized within header refl in
+    subst P given (subst (λ (f : List ℕ). P (own_bytes_at f (end_of at 40) size)) is taken)
+
 -- an end that refuses refused before too
 pub refused_before : (end : VerifyEnd) (fault : Fault) → read.Refused fault ≡ read_end_of end → end ≡ verify.Refused fault
 refused_before (verify.Refused other) fault same = cc
@@ -58,7 +71,7 @@ begin_in_reach (Some whole) at size num_records h =
     omega (arith, h.0, h.1, header_within at size num_records, end_of_after at 40)
 
 pub room_for_data : (told : Option ℕ) (at size num_records : ℕ)
-    → IsSomeAnd told (λ whole. (whole ≤ 2 ^ 60) × (chunk_end_of at (40 + size) num_records ≤ whole)) → HasRoom told (end_of at 40) size
+    → IsSomeAnd told (λ whole. (whole ≤ 2 ^ 60) × (chunk_end_of at (40 + size) num_records ≤ whole)) → HasOwnBytes told (end_of at 40) size
 room_for_data None at size num_records h = elim h [ ]
 room_for_data (Some whole) at size num_records h =
     (omega (arith, h.0, h.1, data_within at size num_records), omega (arith, h.1, data_within at size num_records))

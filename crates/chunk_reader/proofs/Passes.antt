@@ -5,7 +5,7 @@ use Rattle.record_io.specs.declared.outside.Failed.{Failed}
 use Rattle.block_layout.specs.Layout.{IsBlock, IsOnBoundary, blocks_below, usable_from, end_of}
 use Rattle.block_layout.proofs.Ends.{end_of-some, end_of_after}
 use Rattle.chunk_reader.proofs.Rooms.{end_of-le}
-use Rattle.chunk_reader.specs.Places.{HasRoom, HasHeaderOf, HaveHeadersOf, IsFirstWrong}
+use Rattle.chunk_reader.specs.Places.{HasOwnBytes, HasHeaderOf, HaveHeadersOf, IsFirstWrong}
 
 -- where no block lies each has its header
 pub headers-none : (bytes : Option (List ℕ)) (begin end from to : ℕ) → blocks_below to ≤ blocks_below from
@@ -70,10 +70,10 @@ wrong-wider (Some file) begin end from to further block more wrong = record {
 }
 
 -- bytes that end by a told place have room
-pub HasRoom-before : (told : Option ℕ) (place count end : ℕ) → IsSomeAnd told (λ size. end ≤ size) → end_of place count ≤ end → end ≤ 2 ^ 60
-    → HasRoom told place count
-HasRoom-before None place count end some within small = elim some [ ]
-HasRoom-before (Some size) place count end some within small = (omega arith, omega (arith, some))
+pub HasOwnBytes-before : (told : Option ℕ) (place count end : ℕ) → IsSomeAnd told (λ size. end ≤ size) → end_of place count ≤ end → end ≤ 2 ^ 60
+    → HasOwnBytes told place count
+HasOwnBytes-before None place count end some within small = elim some [ ]
+HasOwnBytes-before (Some size) place count end some within small = (omega arith, omega (arith, some))
 
 -- own bytes end past the block header before them, where there is one
 pub usable-end_of : (place n : ℕ) → 1 ≤ n → usable_from place + n ≤ end_of place n

@@ -18,7 +18,7 @@ use Rattle.chunk_reader.specs.Faults.{IsAllowed, IsVerdict, IsLongest, BeginsWit
 use Rattle.chunk_reader.specs.declared.reasons.Why.TheVariants as why
 use Rattle.chunk_reader.specs.declared.reasons.Fault.{Fault}
 use Rattle.chunk_reader.specs.Places.{end_at, chunk_at}
-use Rattle.chunk_reader.specs.Progress.{counted, AreTotals}
+use Rattle.chunk_reader.specs.Progress.{counted, AreInBounds}
 use Rattle.chunk_reader.proofs.LaidAt.{end_at-laid}
 use Rattle.chunk_reader.proofs.NoReason.{no_reason}
 use Rattle.chunk_reader.proofs.NoReasonLaid.{allowed_where_none}
@@ -27,48 +27,48 @@ use Rattle.chunk_reader.proofs.ChainSteps.{bytes-chain, totals_of-push, chain_go
 use Rattle.chunk_reader.proofs.FileFaults.{longest_is_one}
 
 -- a verdict behind a chain is the file's fault
-pub fault_here : (frame : Bool) (ks : List ChunkValue) (file : List ℕ) (place : ℕ) (fault : Fault)
-    → BeginsWithSignature file → IsChainOf (IsAllowed frame) ks file place → place < length file → IsVerdict frame file place fault
-    → IsFault frame file fault
-fault_here frame ks file place fault begins h below verdict =
-    inr (begins, (ks, place, longest_where_refused frame ks file place fault.why h verdict.0, below, verdict))
+pub fault_here : (keep : Bool) (ks : List ChunkValue) (file : List ℕ) (place : ℕ) (fault : Fault)
+    → BeginsWithSignature file → IsChainOf (IsAllowed keep) ks file place → place < length file → IsVerdict keep file place fault
+    → IsFault keep file fault
+fault_here keep ks file place fault begins h below verdict =
+    inr (begins, (ks, place, longest_where_refused keep ks file place fault.why h verdict.0, below, verdict))
 
 -- and the file's fault is the verdict behind the longest chain
-pub verdict_here : (frame : Bool) (ks : List ChunkValue) (file : List ℕ) (place : ℕ) (fault : Fault)
-    → BeginsWithSignature file → IsLongest (IsAllowed frame) ks file place → IsFault frame file fault → IsVerdict frame file place fault
-verdict_here frame ks file place fault begins h (inl (unsigned, is)) = absurd (unsigned begins)
-verdict_here frame ks file place fault begins h (inr (signed, (ls, other, longest, below, verdict))) =
-    subst (λ (p : ℕ). IsVerdict frame file p fault) (longest_is_one ls ks file other place longest h) verdict
+pub verdict_here : (keep : Bool) (ks : List ChunkValue) (file : List ℕ) (place : ℕ) (fault : Fault)
+    → BeginsWithSignature file → IsLongest (IsAllowed keep) ks file place → IsFault keep file fault → IsVerdict keep file place fault
+verdict_here keep ks file place fault begins h (inl (unsigned, is)) = absurd (unsigned begins)
+verdict_here keep ks file place fault begins h (inr (signed, (ls, other, longest, below, verdict))) =
+    subst (λ (p : ℕ). IsVerdict keep file p fault) (longest_is_one ls ks file other place longest h) verdict
 
 -- a file that doesn't begin with the signature has this fault
-pub fault_unsigned : (frame : Bool) (file : List ℕ) → ¬ BeginsWithSignature file → IsFault frame file (record { at = 0; why = why.NoSignature })
-fault_unsigned frame file unsigned = inl (unsigned, refl)
+pub fault_unsigned : (keep : Bool) (file : List ℕ) → ¬ BeginsWithSignature file → IsFault keep file (record { at = 0; why = why.NoSignature })
+fault_unsigned keep file unsigned = inl (unsigned, refl)
 
 -- where a chain of chunks reaches further, no reason applies behind the shorter one
-pub no_reason_before : (frame : Bool) (ks others : List ChunkValue) (file : List ℕ) (place other : ℕ)
-    → IsChainOf (IsAllowed frame) ks file place → IsChainOf (IsAllowed frame) others file other → place < other
-    → NoneOf (Applies file place) (strict_reasons frame)
-no_reason_before frame ks others file place other h longer below =
-    let next = further_on (IsAllowed frame) ks others file place other h.within h.laid longer below in
-    no_reason frame place next.0 file next.1 next.3 next.2
+pub no_reason_before : (keep : Bool) (ks others : List ChunkValue) (file : List ℕ) (place other : ℕ)
+    → IsChainOf (IsAllowed keep) ks file place → IsChainOf (IsAllowed keep) others file other → place < other
+    → NoneOf (Applies file place) (strict_reasons keep)
+no_reason_before keep ks others file place other h longer below =
+    let next = further_on (IsAllowed keep) ks others file place other h.within h.laid longer below in
+    no_reason keep place next.0 file next.1 next.3 next.2
 
 -- so none does in a file without fault, up to its end
-pub no_reason_without_fault : (frame : Bool) (ks : List ChunkValue) (file : List ℕ) (place : ℕ)
-    → HasNoFault frame file → IsChainOf (IsAllowed frame) ks file place → place < length file
-    → NoneOf (Applies file place) (strict_reasons frame)
-no_reason_without_fault frame ks file place (others, (some, whole)) h below =
-    no_reason_before frame ks others file place (length file) h whole below
+pub no_reason_without_fault : (keep : Bool) (ks : List ChunkValue) (file : List ℕ) (place : ℕ)
+    → HasNoFault keep file → IsChainOf (IsAllowed keep) ks file place → place < length file
+    → NoneOf (Applies file place) (strict_reasons keep)
+no_reason_without_fault keep ks file place (others, (some, whole)) h below =
+    no_reason_before keep ks others file place (length file) h whole below
 
 -- a chain to the end of the file shows that it has none
-pub no_fault_here : (frame : Bool) (ks : List ChunkValue) (file : List ℕ)
-    → BeginsWithSignature file → IsChainOf (IsAllowed frame) ks file (length file) → HasNoFault frame file
-no_fault_here frame ks file begins h = (
+pub no_fault_here : (keep : Bool) (ks : List ChunkValue) (file : List ℕ)
+    → BeginsWithSignature file → IsChainOf (IsAllowed keep) ks file (length file) → HasNoFault keep file
+no_fault_here keep ks file begins h = (
   ks,
   (
     λ none. omega (
       arith,
       signed_length file begins,
-      no_chunks file (length file) (subst (λ (xs : List ChunkValue). IsChainOf (IsAllowed frame) xs file (length file)) none h),
+      no_chunks file (length file) (subst (λ (xs : List ChunkValue). IsChainOf (IsAllowed keep) xs file (length file)) none h),
     ),
     h,
   ),
@@ -97,24 +97,24 @@ totals-le ks =
     (omega (arith, counts.0), omega (arith, counts.1), count_by-le-length is_unread ks)
 
 -- a file with chunks up to a place behind its front begins as files do
-pub begins_here : (frame : Bool) (ks : List ChunkValue) (file : List ℕ) (place : ℕ)
-    → IsChainOf (IsAllowed frame) ks file place → 0 < place → BeginsWithSignature file
-begins_here frame [] file place h some = absurd (omega (arith, no_chunks file place h))
-begins_here frame (k ∷ ks) file place h some = begins_signed k ks file place h
+pub begins_here : (keep : Bool) (ks : List ChunkValue) (file : List ℕ) (place : ℕ)
+    → IsChainOf (IsAllowed keep) ks file place → 0 < place → BeginsWithSignature file
+begins_here keep [] file place h some = absurd (omega (arith, no_chunks file place h))
+begins_here keep (k ∷ ks) file place h some = begins_signed k ks file place h
 
 -- the chain with the chunk behind it, which no reason refuses, and what is counted of it
-pub next_read : (frame : Bool) (ks : List ChunkValue) (file : List ℕ) (place end : ℕ) (k : ChunkValue) (unread : Bool)
-    → BeginsWithSignature file → IsChainOf (IsAllowed frame) ks file place
+pub next_read : (keep : Bool) (ks : List ChunkValue) (file : List ℕ) (place end : ℕ) (k : ChunkValue) (unread : Bool)
+    → BeginsWithSignature file → IsChainOf (IsAllowed keep) ks file place
     → k ≡ chunk_at file place → end ≡ end_at file place
     → IsLaid place (chunk_at file place) (slice_range file place (end_at file place))
-    → NoneOf (Applies file place) (strict_reasons frame) → unread ≡ is_unread k
-    → IsChainOf (IsAllowed frame) (ks ++ k ∷ []) file end
+    → NoneOf (Applies file place) (strict_reasons keep) → unread ≡ is_unread k
+    → IsChainOf (IsAllowed keep) (ks ++ k ∷ []) file end
     × (counted (totals_of ks) end k.num_records unread ≡ totals_of (ks ++ k ∷ []))
-next_read frame ks file place end k unread begins h chunk_is end_is laid none tested =
-    let longer : IsChainOf (IsAllowed frame) (ks ++ k ∷ []) file end =
-    subst (λ (e : ℕ). IsChainOf (IsAllowed frame) (ks ++ k ∷ []) file e) (sym end_is)
-    (subst (λ (c : ChunkValue). IsChainOf (IsAllowed frame) (ks ++ c ∷ []) file (end_at file place)) (sym chunk_is)
-    (chain_goes_on frame ks file place h begins laid (allowed_where_none frame file place none))) in
+next_read keep ks file place end k unread begins h chunk_is end_is laid none tested =
+    let longer : IsChainOf (IsAllowed keep) (ks ++ k ∷ []) file end =
+    subst (λ (e : ℕ). IsChainOf (IsAllowed keep) (ks ++ k ∷ []) file e) (sym end_is)
+    (subst (λ (c : ChunkValue). IsChainOf (IsAllowed keep) (ks ++ c ∷ []) file (end_at file place)) (sym chunk_is)
+    (chain_goes_on keep ks file place h begins laid (allowed_where_none keep file place none))) in
     let ends : end_of_chunk (totals_of ks).bytes k ≡ end =
     ap (λ (c : ChunkValue). end_of_chunk (totals_of ks).bytes c) chunk_is
     ∙ ap (λ (p : ℕ). end_of_chunk p (chunk_at file place)) (bytes-chain ks file place h)
@@ -152,10 +152,10 @@ pub unread-le : (bytes end unread_ones : ℕ) (unread : Bool) → bytes + 40 ≤
 unread-le bytes end unread_ones true past few = omega arith
 unread-le bytes end unread_ones false past few = omega arith
 
-pub AreTotals-next : (size end : ℕ) (totals : Totals) (k : ChunkValue) (unread : Bool)
-    → AreTotals size totals → end ≡ end_of_chunk totals.bytes k → end ≤ size
-    → AreTotals size (counted totals end k.num_records unread)
-AreTotals-next size end totals k unread h ends within =
+pub AreInBounds-next : (size end : ℕ) (totals : Totals) (k : ChunkValue) (unread : Bool)
+    → AreInBounds size totals → end ≡ end_of_chunk totals.bytes k → end ≤ size
+    → AreInBounds size (counted totals end k.num_records unread)
+AreInBounds-next size end totals k unread h ends within =
     let past : totals.bytes + 40 ≤ end = omega (arith, ends, end_of_chunk_after totals.bytes k) in
     let records : totals.bytes + k.num_records ≤ end =
     omega (arith, ends, chunk_end_of_past_records totals.bytes (40 + length k.«data») k.num_records) in

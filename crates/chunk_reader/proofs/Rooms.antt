@@ -4,16 +4,16 @@ use Rattle.std.specs.Prelude.{slice_range}
 use Rattle.std.proofs.lemmas.List.{take_at}
 use borrow.Rule.Slice.PartMut.{put_mid}
 use Rattle.record_io.proofs.Readings.{take-put_behind}
-use Rattle.chunk_reader.specs.Places.{HasRoom}
+use Rattle.chunk_reader.specs.Places.{HasOwnBytes}
 use Rattle.block_layout.specs.Layout.{IsNextPlace, usable_from, end_of, own_bytes_at}
 use Rattle.block_layout.proofs.Ends.{end_of_after, end_of-more}
 use Rattle.block_layout.proofs.Runs.{end_of-run, end_of-rest}
 use Rattle.block_layout.proofs.UsableBytes.{own_bytes_at-run, own_bytes_at-more}
 
 -- they end within the limit
-pub HasRoom-small : (told : Option ℕ) (place count : ℕ) → HasRoom told place count → end_of place count ≤ 2 ^ 60
-HasRoom-small None place count h = elim h [ ]
-HasRoom-small (Some size) place count h = h.0
+pub HasOwnBytes-small : (told : Option ℕ) (place count : ℕ) → HasOwnBytes told place count → end_of place count ≤ 2 ^ 60
+HasOwnBytes-small None place count h = elim h [ ]
+HasOwnBytes-small (Some size) place count h = h.0
 
 -- fewer bytes end no later
 pub end_of-le : (place m n : ℕ) → m ≤ n → end_of place m ≤ end_of place n
@@ -23,10 +23,10 @@ end_of-le place m n h =
     omega (arith, whole, end_of_after (end_of place m) (n - m))
 
 -- so a run of some of them lies in the file
-pub HasRoom-run : (told : Option ℕ) (place count n : ℕ) → HasRoom told place count → n ≤ count → 1 ≤ n → IsNextPlace place
+pub HasOwnBytes-run : (told : Option ℕ) (place count n : ℕ) → HasOwnBytes told place count → n ≤ count → 1 ≤ n → IsNextPlace place
     → usable_from place % 65536 + n ≤ 65536 → IsSomeAnd told (λ size. usable_from place + n ≤ size)
-HasRoom-run None place count n h less some next fits = elim h [ ]
-HasRoom-run (Some size) place count n h less some next fits =
+HasOwnBytes-run None place count n h less some next fits = elim h [ ]
+HasOwnBytes-run (Some size) place count n h less some next fits =
     omega (arith, h.1, end_of-le place n count less, end_of-run place n some next fits)
 
 -- where bytes are told they are as many as was told
@@ -35,24 +35,24 @@ IsSized bytes told = IfSome bytes (λ file. IfSome told (λ size. size ≡ lengt
 
 -- what came of such a run into the front of a buffer are own bytes
 pub own_run : (bytes : Option (List ℕ)) (told : Option ℕ) (place count n : ℕ) (run behind : List ℕ) → IsSized bytes told
-    → HasRoom told place count → n ≤ count → 1 ≤ n → IsNextPlace place → usable_from place % 65536 + n ≤ 65536 → length run ≡ n
+    → HasOwnBytes told place count → n ≤ count → 1 ≤ n → IsNextPlace place → usable_from place % 65536 + n ≤ 65536 → length run ≡ n
     → IfSome bytes (λ file. run ≡ slice_range file (usable_from place) (usable_from place + n))
     → IfSome bytes (λ file. take n (run ++ behind) ≡ own_bytes_at file place n)
 own_run None told place count n run behind sized room less some next fits size given = tt
 own_run (Some file) None place count n run behind sized room less some next fits size given = elim room [ ]
 own_run (Some file) (Some told) place count n run behind sized room less some next fits size given =
     take_at run behind n size ∙ given
-    ∙ sym (own_bytes_at-run file place n some next fits (omega (arith, HasRoom-run (Some told) place count n room less some next fits)))
+    ∙ sym (own_bytes_at-run file place n some next fits (omega (arith, HasOwnBytes-run (Some told) place count n room less some next fits)))
 
 -- behind some of the bytes the rest have room
-pub HasRoom-rest : (told : Option ℕ) (place count i : ℕ) → HasRoom told place count → i ≤ count → HasRoom told (end_of place i) (count - i)
-HasRoom-rest None place count i h within = elim h [ ]
-HasRoom-rest (Some size) place count i h within =
+pub HasOwnBytes-rest : (told : Option ℕ) (place count i : ℕ) → HasOwnBytes told place count → i ≤ count → HasOwnBytes told (end_of place i) (count - i)
+HasOwnBytes-rest None place count i h within = elim h [ ]
+HasOwnBytes-rest (Some size) place count i h within =
     (omega (arith, h.0, end_of-rest place i count within), omega (arith, h.1, end_of-rest place i count within))
 
 -- a buffer that holds own bytes holds them with the next ones
 pub own_filled : (bytes now : Option (List ℕ)) (told : Option ℕ) (place i n : ℕ) (xs ys : List ℕ) → now ≡ bytes → IsSized bytes told
-    → HasRoom told place (length xs) → i + length ys ≡ length xs → n ≤ length ys
+    → HasOwnBytes told place (length xs) → i + length ys ≡ length xs → n ≤ length ys
     → IfSome bytes (λ file. take i xs ≡ own_bytes_at file place i)
     → IfSome now (λ file. take n ys ≡ own_bytes_at file (end_of place i) n)
     → IfSome bytes (λ file. take (i + n) (put_mid i (length xs - i) xs ys) ≡ own_bytes_at file place (i + n))

@@ -38,7 +38,7 @@ IsPlain-signature = (
   )),
 )
 
-pub IsAllowed-signature : (frame : Bool) → IsAllowed frame signature
+pub IsAllowed-signature : (keep : Bool) → IsAllowed keep signature
 IsAllowed-signature false = IsPlain-signature
 IsAllowed-signature true = IsAllowed-frame signature IsPlain-signature
 
@@ -65,9 +65,9 @@ pub end_at-signature : (file : List ℕ) → BeginsWithSignature file → end_at
 end_at-signature file begins = end_at-laid 0 signature file 64 (IsLaid-signature file begins) ∙ end_of_chunk-signature
 
 -- and no reason applies to it
-pub no_reason-signature : (frame : Bool) (file : List ℕ) → BeginsWithSignature file → NoneOf (Applies file 0) (strict_reasons frame)
-no_reason-signature frame file begins =
-    no_reason frame 0 signature file 64 (IsLaid-signature file begins) (IsAllowed-signature frame)
+pub no_reason-signature : (keep : Bool) (file : List ℕ) → BeginsWithSignature file → NoneOf (Applies file 0) (strict_reasons keep)
+no_reason-signature keep file begins =
+    no_reason keep 0 signature file 64 (IsLaid-signature file begins) (IsAllowed-signature keep)
 
 -- such a file has at least its bytes
 pub signed_length : (file : List ℕ) → BeginsWithSignature file → 64 ≤ length file

@@ -26,11 +26,11 @@ pub record IsFound (bytes : Option (List ℕ)) (at end : ℕ) (h : Header) : Typ
   pub none : IfSome bytes (λ file. NoneOf (Applies file at) loading_reasons)
 
 -- a reason by which its data isn't read is the verdict
-pub refused_early : (bytes : Option (List ℕ)) (frame : Bool) (at : ℕ) (fault : Fault) → fault.at ≡ at
+pub refused_early : (bytes : Option (List ℕ)) (keep : Bool) (at : ℕ) (fault : Fault) → fault.at ≡ at
     → IfSome bytes (λ file. IsFirstOf (Applies file at) loading_reasons fault.why)
-    → IfSome bytes (λ file. IsVerdict frame file at fault)
-refused_early None frame at fault place first = tt
-refused_early (Some file) frame at fault place first = verdict_loading frame file at fault first place
+    → IfSome bytes (λ file. IsVerdict keep file at fault)
+refused_early None keep at fault place first = tt
+refused_early (Some file) keep at fault place first = verdict_loading keep file at fault first place
 
 -- no more is handed out than the chunk's header has
 pub handed_early : (bytes : Option (List ℕ)) (at before after : ℕ) → after ≤ before + 40
@@ -39,14 +39,14 @@ handed_early None at before after h = tt
 handed_early (Some file) at before after h = λ _. omega (arith, end_at_after file at)
 
 -- a wrong block is the verdict
-pub refused_block : (bytes now : Option (List ℕ)) (frame : Bool) (at end : ℕ) (h : Header) (fault : Fault) → now ≡ bytes
+pub refused_block : (bytes now : Option (List ℕ)) (keep : Bool) (at end : ℕ) (h : Header) (fault : Fault) → now ≡ bytes
     → IsFound bytes at end h → fault.why ≡ why.BlockHeader
     → IfSome now (λ file. IsFirstWrong file at end at end fault.at)
-    → IfSome bytes (λ file. IsVerdict frame file at fault)
-refused_block None now frame at end h fault same found is wrong = tt
-refused_block (Some file) now frame at end h fault same found is wrong =
+    → IfSome bytes (λ file. IsVerdict keep file at fault)
+refused_block None now keep at end h fault same found is wrong = tt
+refused_block (Some file) now keep at end h fault same found is wrong =
     let P : Option (List ℕ) → Type 0 = λ o. IfSome o (λ bytes. IsFirstWrong bytes at end at end fault.at) in
-    verdict_block frame file at end fault found.none (found.end_is ∙ end_by-at file at h found.fits found.header) (subst P same wrong) is
+    verdict_block keep file at end fault found.none (found.end_is ∙ end_by-at file at h found.fits found.header) (subst P same wrong) is
 
 -- what is known of a chunk whose data is read, and of its blocks
 pub record IsLoaded (bytes : Option (List ℕ)) (at end : ℕ) (c : Chunk) : Type 0 where
@@ -61,18 +61,18 @@ right_at : (file : List ℕ) (at end : ℕ) → end ≡ end_at file at → HaveH
 right_at file at end same right = subst (λ e. HaveHeadersOf file at e at e) same right
 
 -- a reason of its content is the verdict
-pub refused_content : (bytes : Option (List ℕ)) (frame : Bool) (at end : ℕ) (c : Chunk) (w : Why) (fault : Fault) → IsLoaded bytes at end c
+pub refused_content : (bytes : Option (List ℕ)) (keep : Bool) (at end : ℕ) (c : Chunk) (w : Why) (fault : Fault) → IsLoaded bytes at end c
     → record { at = at; why = w } ≡ fault
-    → IsFirstOf (ContentApplies c.header.data_hash (value_of_chunk c)) (content_reasons frame) w
-    → IfSome bytes (λ file. IsVerdict frame file at fault)
-refused_content None frame at end c w fault loaded is first = tt
-refused_content (Some file) frame at end c w fault loaded is first =
+    → IsFirstOf (ContentApplies c.header.data_hash (value_of_chunk c)) (content_reasons keep) w
+    → IfSome bytes (λ file. IsVerdict keep file at fault)
+refused_content None keep at end c w fault loaded is first = tt
+refused_content (Some file) keep at end c w fault loaded is first =
     let h = c.header in
     let found = loaded.found in
     let same_end : end ≡ end_at file at = found.end_is ∙ end_by-at file at h found.fits found.header in
-    let P : Fault → Type 0 = λ f. IsVerdict frame file at f in
+    let P : Fault → Type 0 = λ f. IsVerdict keep file at f in
     subst P is (
-    verdict_content frame file at h.data_hash (value_of_chunk c) (record { at = at; why = w }) found.none
+    verdict_content keep file at h.data_hash (value_of_chunk c) (record { at = at; why = w }) found.none
     (right_at file at end same_end loaded.right) (hash_of-at file at h found.fits found.header)
     (value_of-at file at h c.bytes found.fits found.header loaded.given) first refl)
 
@@ -95,7 +95,7 @@ early w (inr (inr (inr (inr none)))) = absurd none
 pub late_block : (w : Why) → w ≡ why.BlockHeader → ¬ IsOneOf loading_reasons w
 late_block w is one = subst IsEarly is (early w one)
 
-late : (P : Why → Type 0) (frame : Bool) (w : Why) → IsFirstOf P (content_reasons frame) w → ¬ IsEarly w
+late : (P : Why → Type 0) (keep : Bool) (w : Why) → IsFirstOf P (content_reasons keep) w → ¬ IsEarly w
 late P true w (inl h) e = subst IsEarly h.1 e
 late P true w (inr (a, inl h)) e = subst IsEarly h.1 e
 late P true w (inr (a, inr (b, inl h))) e = subst IsEarly h.1 e
@@ -107,25 +107,25 @@ late P false w (inr (a, inr (b, inr (c, inl h)))) e = subst IsEarly h.1 e
 late P false w (inr (a, inr (b, inr (c, inr (d, inl h))))) e = subst IsEarly h.1 e
 late P false w (inr (a, inr (b, inr (c, inr (d, inr (none, end)))))) e = end
 
-pub late_content : (P : Why → Type 0) (frame : Bool) (w : Why) → IsFirstOf P (content_reasons frame) w → ¬ IsOneOf loading_reasons w
-late_content P frame w first one = late P frame w first (early w one)
+pub late_content : (P : Why → Type 0) (keep : Bool) (w : Why) → IsFirstOf P (content_reasons keep) w → ¬ IsOneOf loading_reasons w
+late_content P keep w first one = late P keep w first (early w one)
 
 -- numbers that aren't different are the same
 hash_same : (a b : ℕ) → ¬ (a ≢ b) → b ≡ a
 hash_same a b same = elim (cases_eq a b) [ inl is ↦ sym is | inr other ↦ absurd (same other) ]
 
 -- where no reason of its content applies, the hash of its data is right
-pub right_hash : (frame : Bool) (c : Chunk) → NoneOf (ContentApplies c.header.data_hash (value_of_chunk c)) (content_reasons frame) → HasRightHash c
+pub right_hash : (keep : Bool) (c : Chunk) → NoneOf (ContentApplies c.header.data_hash (value_of_chunk c)) (content_reasons keep) → HasRightHash c
 right_hash true c none = hash_same (riegeli_hash c.bytes) c.header.data_hash none.0
 right_hash false c none = hash_same (riegeli_hash c.bytes) c.header.data_hash none.0
 
 -- and the chunk is judged
-pub judged_in : (bytes : Option (List ℕ)) (frame : Bool) (size at end : ℕ) (c : Chunk) (j : Judged) → IsSized bytes (Some size)
+pub judged_in : (bytes : Option (List ℕ)) (keep : Bool) (size at end : ℕ) (c : Chunk) (j : Judged) → IsSized bytes (Some size)
     → IsLoaded bytes at end c → end ≤ size → j.end ≡ end → j.chunk ≡ c
-    → NoneOf (ContentApplies c.header.data_hash (value_of_chunk c)) (content_reasons frame)
-    → IfSome bytes (λ file. IsJudgedIn frame file at j)
-judged_in None frame size at end c j sized loaded within is_end is_chunk none = tt
-judged_in (Some file) frame size at end c j sized loaded within is_end is_chunk none =
+    → NoneOf (ContentApplies c.header.data_hash (value_of_chunk c)) (content_reasons keep)
+    → IfSome bytes (λ file. IsJudgedIn keep file at j)
+judged_in None keep size at end c j sized loaded within is_end is_chunk none = tt
+judged_in (Some file) keep size at end c j sized loaded within is_end is_chunk none =
     let h = c.header in
     let found = loaded.found in
     let same_end : end ≡ end_at file at = found.end_is ∙ end_by-at file at h found.fits found.header in
@@ -133,8 +133,8 @@ judged_in (Some file) frame size at end c j sized loaded within is_end is_chunk 
     record {
       chunk = ap value_of_chunk is_chunk ∙ value_of-at file at h c.bytes found.fits found.header loaded.given;
       end = is_end ∙ same_end;
-      laid = laid_at file at h c.bytes found.fits found.header loaded.given loaded.sound (omega (arith, same_end, within)) right (right_hash frame c none);
-      none = none_at frame file at h c.bytes found.fits found.header loaded.given found.none right none;
+      laid = laid_at file at h c.bytes found.fits found.header loaded.given loaded.sound (omega (arith, same_end, within)) right (right_hash keep c none);
+      none = none_at keep file at h c.bytes found.fits found.header loaded.given found.none right none;
     }
 
 -- no more was handed out than the chunk has bytes

@@ -1,23 +1,32 @@
 -- Values counted by hand, computed from the definitions. The hashes are those of an independent program.
-use Rattle.std.proofs.Common.{◌≡◌, ℕ, ◌-◌, ◌^◌, Bool, false, true, List, [], ◌∷◌, ◌++◌, length, take, set, replicate, slice_index, lit<, lit≤, refl, sym, ap, subst, inl, inr, arith}
+use Rattle.std.proofs.Common.{◌≡◌, ◌∙◌, ℕ, ◌+◌, ◌-◌, ◌^◌, ◌<◌, ◌≤◌, Some, None, Bool, false, true, List, [], ◌∷◌, ◌++◌, length, take, set, replicate, slice_index, lit<, lit≤, refl, sym, ap, subst, inl, inr, arith}
 use Rattle.std.specs.Prelude.{slice_range}
 use Rattle.std.proofs.lemmas.Option.{same_Some}
 use Rattle.highway_hash.specs.HighwayHash.{hash_of, finished, after_remainder, after_packets, finishing_round, updated, mixed, multiplied, zipped, reset, lanes_of, remainder_packet}
 use Rattle.highway_hash.specs.Riegeli.{with_hash, riegeli_hash}
 use Rattle.varint_wire.specs.Varint.{shortest}
-use Rattle.block_layout.specs.Layout.{room, usable_bytes, end_of, chunk_end_of}
+use Rattle.block_layout.specs.BlockHeaders.{IsRightBlockHeader}
+use Rattle.block_layout.proofs.BlockHeaders.{IsRightBlockHeader-block_header}
+use Rattle.block_layout.specs.Layout.{block_of, room, usable_bytes, end_of, chunk_end_of}
 use Rattle.chunk_header.specs.Chunks.{ChunkValue, IsRightChunkHeader, header_fields}
-use Rattle.chunk_header.specs.SimpleChunks.{simple_chunk}
+use Rattle.chunk_header.specs.SimpleChunks.{IsSimple, simple_chunk}
 use Rattle.chunk_header.proofs.SimpleChunks.{IsSimple-simple_chunk}
 use Rattle.meta_chunk.specs.Files.{signature, IsPlain, IsChainOf}
 use Rattle.meta_chunk.proofs.LaidChunks.{IsLaid-laid}
 use Rattle.meta_chunk.proofs.Chains.{IsChainOf-push}
 use Rattle.meta_chunk.specs.Laid.{IsLaid, laid_bytes}
 use Rattle.chunk_reader.specs.Places.{header_bytes_at, header_at, end_by, end_at, chunk_at}
-use Rattle.chunk_reader.specs.Reasons.{HasBadContents, ContentApplies, IsWrongBlock, Applies, IsFirstOf, content_reasons}
+use Rattle.chunk_reader.specs.Reasons.{HasBadContents, ContentApplies, IsWrongBlock, Applies, NoneOf, IsFirstOf, content_reasons, passing_reasons}
+use Rattle.chunk_reader.specs.Blocks.{TellsBegin}
+use Rattle.chunk_reader.specs.Holders.{ArePlacesBetween, IsOnWay, IsHolder, IsHolderFault}
+use Rattle.chunk_reader.specs.Searches.{MayAnswerAt, AnswersAt, HasRecordsAt, SearchGives, IsSearchFault}
+use Rattle.chunk_reader.specs.SearchBounds.{length_of_chunk, chunks_without_records, greatest_length_from, digit_count_of_blocks, position_bound, key_bound}
 use Rattle.chunk_reader.specs.Faults.{BeginsWithSignature, HasNoFault, IsFault}
+use Rattle.chunk_reader.specs.declared.reasons.Fault.{Fault}
 use Rattle.chunk_reader.specs.declared.reasons.Why.TheVariants as why
-use Rattle.chunk_reader.proofs.SignedFiles.{signed_length}
+use Rattle.chunk_reader.proofs.SignedFiles.{chunk_at-signature, end_at-signature, no_reason-signature, signed_length}
+use Rattle.chunk_reader.proofs.LaidAt.{chunk_at-laid}
+use Rattle.chunk_reader.proofs.NoReason.{no_reason}
 use Rattle.chunk_reader.proofs.ChainSteps.{signature_chain}
 use Rattle.chunk_reader.proofs.ReadingSteps.{fault_here, no_fault_here}
 
@@ -182,7 +191,7 @@ compressed_content hash (inr (simple, inl none)) = omega (arith, ap length none)
 compressed_content hash (inr (simple, inr (plain, none))) = omega (arith, same_Some 0x62 0 plain)
 
 -- where the hash is wrong and the contents are too, the hash is told
-hash_before_contents : (frame : Bool) → IsFirstOf (ContentApplies 0 empty) (content_reasons frame) why.DataHash
+hash_before_contents : (keep : Bool) → IsFirstOf (ContentApplies 0 empty) (content_reasons keep) why.DataHash
 unfolding empty hash_of finished after_remainder after_packets finishing_round updated mixed multiplied zipped reset lanes_of remainder_packet
 hash_before_contents false = inl (λ same. omega (arith, same), refl)
 hash_before_contents true = inl (λ same. omega (arith, same), refl)
@@ -237,3 +246,282 @@ three_has_no_fault =
     (subst (λ (n : ℕ). IsChainOf IsPlain (signature ∷ three_chunk ∷ []) three n) (sym length_of_three)
     (IsChainOf-push (signature ∷ []) three_chunk three 64 112 (signature_chain false three three_begins) refl three_plain
     (omega (arith, length_of_three)) three_laid))
+
+-- the header of block 0 tells that a chunk begins there
+front_told : TellsBegin three 0 0
+unfolding three first_bytes three_header three_data hash_of finished after_remainder after_packets finishing_round updated mixed multiplied zipped reset lanes_of remainder_packet
+front_told = (
+  0,
+  64,
+  record {
+    is_block = refl;
+    bytes = refl;
+    sane = record {
+      back = lit≤ tt;
+      past_itself = lit< tt;
+      in_reach = lit≤ tt;
+      from_boundary = inl refl;
+      to_boundary = inr (lit< tt);
+    };
+  },
+  refl,
+)
+
+-- both chunks are whole, and stand between the file's front and its end
+front_whole : NoneOf (Applies three 0) passing_reasons
+front_whole =
+    let none = no_reason-signature false three three_begins in
+    (none.0, (none.1.0, (none.1.1.0, tt)))
+
+header_end_of_three : end_of 64 40 ≡ 104
+unfolding end_of
+header_end_of_three = refl
+
+three_whole : NoneOf (Applies three 64) passing_reasons
+three_whole = (
+  (λ short. omega (arith, short, length_of_three, header_end_of_three)),
+  ((λ wrong. wrong header_of_three_is_right), ((λ cut. omega (arith, cut, length_of_three, end_of_three)), tt)),
+)
+
+places_of_three : ArePlacesBetween three 0 112 (0 ∷ 64 ∷ [])
+places_of_three = (
+  refl,
+  front_whole,
+  subst (λ (p : ℕ). ArePlacesBetween three p 112 (64 ∷ [])) (sym first_end_of_three) (refl, three_whole, end_of_three),
+)
+
+-- a chunk holds the positions from its begin up to its end, and none holds one at the file's end
+on_way : (position place : ℕ) (places : List ℕ) → position < 112 → place ≤ position → ArePlacesBetween three 0 place places
+    → IsOnWay three position place
+on_way position place places below before between = record {
+  begin = 0;
+  places = places;
+  below = omega (arith, below, length_of_three);
+  told = subst (λ (b : ℕ). TellsBegin three b 0) (omega (arith, below)) front_told;
+  between = between;
+  before = before;
+}
+
+signature_holds : (position : ℕ) → position < 64 → IsHolder three position 0
+signature_holds position below = record {
+  on_way = on_way position 0 [] (omega (arith, below)) (omega arith) refl;
+  whole = front_whole;
+  within = omega (arith, below, first_end_of_three);
+}
+
+three_holds : (position : ℕ) → 64 ≤ position → position < 112 → IsHolder three position 64
+three_holds position past below = record {
+  on_way = on_way position 64 (0 ∷ []) below past (refl, front_whole, first_end_of_three);
+  whole = three_whole;
+  within = omega (arith, below, end_of_three);
+}
+
+signature_holds_no_more : ¬ IsHolder three 64 0
+signature_holds_no_more h = omega (arith, h.within, first_end_of_three)
+
+none_holds_the_end : (place : ℕ) → ¬ IsHolder three 112 place
+none_holds_the_end place h = omega (arith, h.on_way.below, length_of_three)
+
+-- a position before the records finds the first, each of theirs its own, and one behind them nothing
+no_records_in_front : (position : ℕ) → ¬ MayAnswerAt three position 0
+no_records_in_front position may = omega (arith, may.0, ap (λ (k : ChunkValue). k.num_records) first_of_three)
+
+records_of_three : (header_at three 64).num_records ≡ 3
+records_of_three = ap (λ (k : ChunkValue). k.num_records) chunk_of_three
+
+answers_before : (position : ℕ) → position < 64 → AnswersAt three position 64
+answers_before position before = record {
+  searched = record {
+    holder = 0;
+    places = 0 ∷ [];
+    holds = signature_holds position before;
+    between = (refl, front_whole, first_end_of_three);
+    none = (no_records_in_front position, tt);
+  };
+  whole = three_whole;
+  has = (omega (arith, records_of_three), omega (arith, records_of_three, before));
+}
+
+answers_here : (position : ℕ) → 64 ≤ position → position < 67 → AnswersAt three position 64
+answers_here position past before = record {
+  searched = record {
+    holder = 64;
+    places = [];
+    holds = three_holds position past (omega (arith, before));
+    between = refl;
+    none = tt;
+  };
+  whole = three_whole;
+  has = (omega (arith, records_of_three), omega (arith, records_of_three, before));
+}
+
+three_values : List (List ℕ)
+three_values = (0x61 ∷ []) ∷ (0x62 ∷ 0x63 ∷ []) ∷ [] ∷ []
+
+three_there : HasRecordsAt three 64 three_values
+unfolding three_values three_chunk shortest
+three_there = record {
+  without_fault = no_reason false 64 three_chunk three 112 three_laid three_plain;
+  holds = subst (λ (k : ChunkValue). IsSimple k three_values) (sym (chunk_at-laid 64 three_chunk three 112 three_laid))
+      (IsSimple-simple_chunk three_values (lit< tt, (lit< tt, (lit< tt, tt))) (lit< tt));
+}
+
+first_is_sought : SearchGives three 0 (Some (64, 0x61 ∷ []))
+unfolding three_values
+first_is_sought = record {
+  place = 64;
+  records = three_values;
+  answers = answers_before 0 (lit< tt);
+  holds = three_there;
+  record_there = refl;
+  position_there = refl;
+}
+
+second_is_sought : SearchGives three 65 (Some (65, 0x62 ∷ 0x63 ∷ []))
+unfolding three_values
+second_is_sought = record {
+  place = 64;
+  records = three_values;
+  answers = answers_here 65 (lit≤ tt) (lit< tt);
+  holds = three_there;
+  record_there = refl;
+  position_there = refl;
+}
+
+third_is_sought : SearchGives three 66 (Some (66, []))
+unfolding three_values
+third_is_sought = record {
+  place = 64;
+  records = three_values;
+  answers = answers_here 66 (lit≤ tt) (lit< tt);
+  holds = three_there;
+  record_there = refl;
+  position_there = refl;
+}
+
+nothing_behind : SearchGives three 67 None
+nothing_behind = inr (record {
+  holder = 64;
+  places = 64 ∷ [];
+  holds = three_holds 67 (lit≤ tt) (lit< tt);
+  between = (refl, three_whole, end_of_three ∙ sym length_of_three);
+  none = ((λ may. omega (arith, may.1, records_of_three)), tt);
+})
+
+nothing_at_the_end : SearchGives three 112 None
+nothing_at_the_end = inl (omega (arith, length_of_three))
+
+-- with a changed header behind it the signature still holds its positions, and the search meets the fault
+changed_told : TellsBegin (set three 70 0) 0 0
+unfolding three first_bytes three_header three_data hash_of finished after_remainder after_packets finishing_round updated mixed multiplied zipped reset lanes_of remainder_packet
+changed_told = (
+  0,
+  64,
+  record {
+    is_block = refl;
+    bytes = refl;
+    sane = record {
+      back = lit≤ tt;
+      past_itself = lit< tt;
+      in_reach = lit≤ tt;
+      from_boundary = inl refl;
+      to_boundary = inr (lit< tt);
+    };
+  },
+  refl,
+)
+
+changed_front_whole : NoneOf (Applies (set three 70 0) 0) passing_reasons
+changed_front_whole =
+    let none = no_reason-signature false (set three 70 0) changed_begins in
+    (none.0, (none.1.0, (none.1.1.0, tt)))
+
+changed_first_end : end_at (set three 70 0) 0 ≡ 64
+changed_first_end = end_at-signature (set three 70 0) changed_begins
+
+changed_signature_holds : IsHolder (set three 70 0) 63 0
+changed_signature_holds = record {
+  on_way = record {
+    begin = 0;
+    places = [];
+    below = omega (arith, changed_length);
+    told = changed_told;
+    between = refl;
+    before = lit≤ tt;
+  };
+  whole = changed_front_whole;
+  within = omega (arith, changed_first_end);
+}
+
+changed_is_met_behind : IsSearchFault (set three 70 0) 63 (record { at = 64; why = why.HeaderHash })
+changed_is_met_behind = inr (inl (
+  record {
+    holder = 0;
+    places = 0 ∷ [];
+    holds = changed_signature_holds;
+    between = (refl, changed_front_whole, changed_first_end);
+    none = (
+      (λ may. omega (arith, may.0, ap (λ (k : ChunkValue). k.num_records) (chunk_at-signature (set three 70 0) changed_begins))),
+      tt,
+    );
+  },
+  omega (arith, changed_length),
+  inr (changed_not_short, inl (changed_header, refl)),
+))
+
+-- no chunk holds a position at the changed header
+changed_is_met_on_the_way : IsHolderFault (set three 70 0) 64 (record { at = 64; why = why.HeaderHash })
+changed_is_met_on_the_way = inr (
+  record {
+    begin = 0;
+    places = 0 ∷ [];
+    below = omega (arith, changed_length);
+    told = changed_told;
+    between = (refl, changed_front_whole, changed_first_end);
+    before = lit≤ tt;
+  },
+  inr (changed_not_short, inl (changed_header, refl)),
+)
+
+-- a changed header of the block is its fault, for each position
+changed_block_length : length (set three 8 1) ≡ 112
+unfolding three first_bytes three_header three_data
+changed_block_length = refl
+
+changed_block_is_wrong : ¬ IsRightBlockHeader (slice_range (set three 8 1) 0 24)
+unfolding three first_bytes three_header three_data hash_of finished after_remainder after_packets finishing_round updated mixed multiplied zipped reset lanes_of remainder_packet
+changed_block_is_wrong right = omega (arith, ap (λ (xs : List ℕ). slice_index xs 0) right.1)
+
+fault_of_block : ℕ → Fault
+fault_of_block block = record { at = block; why = why.BlockHeader }
+
+changed_block_is_fault : (position : ℕ) → position < 112
+    → IsHolderFault (set three 8 1) position (record { at = 0; why = why.BlockHeader })
+unfolding fault_of_block
+changed_block_is_fault position below =
+    let front : block_of position ≡ 0 = omega (arith, below) in
+    inl (
+      omega (arith, below, changed_block_length),
+      record {
+        is_block = omega (arith, below);
+        below = omega (arith, below, changed_block_length);
+        unread = λ previous next h.
+            changed_block_is_wrong (subst (λ (b : ℕ). IsRightBlockHeader (slice_range (set three 8 1) b (b + 24))) front
+            (IsRightBlockHeader-block_header _ previous next h.bytes));
+        is_fault = ap (λ (b : ℕ). fault_of_block b) (sym front);
+      },
+    )
+
+-- what searches take of a file of the signature, a chunk and the same again
+bounds_of_three :
+    (length_of_chunk (signature ∷ three_chunk ∷ three_chunk ∷ []) 1 ≡ 48)
+    × (length_of_chunk (signature ∷ three_chunk ∷ three_chunk ∷ []) 3 ≡ 0)
+    × (chunks_without_records (signature ∷ three_chunk ∷ three_chunk ∷ []) ≡ 1)
+    × (greatest_length_from 0 (signature ∷ three_chunk ∷ three_chunk ∷ []) ≡ 64)
+    × (position_bound (signature ∷ three_chunk ∷ three_chunk ∷ []) 0 2 ≡ 105096)
+    × (key_bound (signature ∷ three_chunk ∷ three_chunk ∷ []) ≡ 600576)
+unfolding three_chunk shortest chunk_end_of end_of
+bounds_of_three = (refl, refl, refl, refl, refl, refl)
+
+blocks_have_digits : (digit_count_of_blocks 65536 ≡ 1) × (digit_count_of_blocks 65537 ≡ 2) × (digit_count_of_blocks 1000000000 ≡ 14)
+blocks_have_digits = (refl, refl, refl)

@@ -49,25 +49,25 @@ begin_of_first P file place at (w ∷ reasons) first each (inr (not, later)) her
     begin_of_first P file place at reasons first each.1 later here
 
 -- a reason by which a chunk is refused before its data is read is its verdict
-pub verdict_loading : (frame : Bool) (file : List ℕ) (place : ℕ) (fault : Fault)
-    → IsFirstOf (Applies file place) loading_reasons fault.why → fault.at ≡ place → IsVerdict frame file place fault
-verdict_loading frame file place fault first here = (
-  first_in_front (Applies file place) loading_reasons (why.BlockHeader ∷ content_reasons frame) fault.why first,
+pub verdict_loading : (keep : Bool) (file : List ℕ) (place : ℕ) (fault : Fault)
+    → IsFirstOf (Applies file place) loading_reasons fault.why → fault.at ≡ place → IsVerdict keep file place fault
+verdict_loading keep file place fault first here = (
+  first_in_front (Applies file place) loading_reasons (why.BlockHeader ∷ content_reasons keep) fault.why first,
   begin_of_first (Applies file place) file place fault.at loading_reasons fault.why
       ((λ e. e), ((λ e. e), ((λ e. e), ((λ e. e), tt)))) first here,
 )
 
 -- so is the first wrong block, where none of these applies
-pub verdict_block : (frame : Bool) (file : List ℕ) (place end : ℕ) (fault : Fault)
+pub verdict_block : (keep : Bool) (file : List ℕ) (place end : ℕ) (fault : Fault)
     → NoneOf (Applies file place) loading_reasons → end ≡ end_at file place
     → IsFirstWrong file place end place end fault.at → fault.why ≡ why.BlockHeader
-    → IsVerdict frame file place fault
-verdict_block frame file place end fault none is wrong reason =
+    → IsVerdict keep file place fault
+verdict_block keep file place end fault none is wrong reason =
     let there : IsFirstWrong file place (end_at file place) place (end_at file place) fault.at =
     subst (λ (e : ℕ). IsFirstWrong file place e place e fault.at) is wrong in
     let block : IsWrongBlock file place fault.at =
     record { is_block = there.is_block; from = there.from_place; below = there.below; differs = there.differs } in (
-      first_behind (Applies file place) loading_reasons (why.BlockHeader ∷ content_reasons frame) fault.why none
+      first_behind (Applies file place) loading_reasons (why.BlockHeader ∷ content_reasons keep) fault.why none
           (inl ((fault.at, block), reason)),
       subst (λ (w : Why). IsPlaceOf file place w fault.at) (sym reason) (
         block,
@@ -85,37 +85,37 @@ pub no_wrong_block : (file : List ℕ) (place : ℕ) → HaveHeadersOf file plac
 no_wrong_block file place blocks (block, wrong) = wrong.differs (blocks block wrong.is_block wrong.from wrong.below)
 
 -- the reasons of content are judged over the chunk at the place
-content_first : (frame : Bool) (file : List ℕ) (place : ℕ) (first : Why)
-    → IsFirstOf (ContentApplies (header_at file place).data_hash (chunk_at file place)) (content_reasons frame) first
-    → IsFirstOf (Applies file place) (content_reasons frame) first
+content_first : (keep : Bool) (file : List ℕ) (place : ℕ) (first : Why)
+    → IsFirstOf (ContentApplies (header_at file place).data_hash (chunk_at file place)) (content_reasons keep) first
+    → IsFirstOf (Applies file place) (content_reasons keep) first
 content_first false file place first is = is
 content_first true file place first is = is
 
-pub content_none : (frame : Bool) (file : List ℕ) (place : ℕ)
-    → NoneOf (ContentApplies (header_at file place).data_hash (chunk_at file place)) (content_reasons frame)
-    → NoneOf (Applies file place) (content_reasons frame)
+pub content_none : (keep : Bool) (file : List ℕ) (place : ℕ)
+    → NoneOf (ContentApplies (header_at file place).data_hash (chunk_at file place)) (content_reasons keep)
+    → NoneOf (Applies file place) (content_reasons keep)
 content_none false file place none = none
 content_none true file place none = none
 
 -- their fault is at the chunk's begin
-content_begin : (frame : Bool) (file : List ℕ) (place at : ℕ) → AllByRecursion (λ w. at ≡ place → IsPlaceOf file place w at) (content_reasons frame)
+content_begin : (keep : Bool) (file : List ℕ) (place at : ℕ) → AllByRecursion (λ w. at ≡ place → IsPlaceOf file place w at) (content_reasons keep)
 content_begin false file place at = ((λ e. e), ((λ e. e), ((λ e. e), ((λ e. e), ((λ e. e), tt)))))
 content_begin true file place at = ((λ e. e), ((λ e. e), ((λ e. e), tt)))
 
 -- so a reason of the content is the verdict, where the header and the blocks are right
-pub verdict_content : (frame : Bool) (file : List ℕ) (place hash : ℕ) (k : ChunkValue) (fault : Fault)
+pub verdict_content : (keep : Bool) (file : List ℕ) (place hash : ℕ) (k : ChunkValue) (fault : Fault)
     → NoneOf (Applies file place) loading_reasons → HaveHeadersOf file place (end_at file place) place (end_at file place)
     → hash ≡ (header_at file place).data_hash → k ≡ chunk_at file place
-    → IsFirstOf (ContentApplies hash k) (content_reasons frame) fault.why → fault.at ≡ place
-    → IsVerdict frame file place fault
-verdict_content frame file place hash k fault none blocks hash_is chunk_is first here =
-    let there : IsFirstOf (Applies file place) (content_reasons frame) fault.why =
-    content_first frame file place fault.why
-    (subst (λ (c : ChunkValue). IsFirstOf (ContentApplies (header_at file place).data_hash c) (content_reasons frame) fault.why) chunk_is
-    (subst (λ (h : ℕ). IsFirstOf (ContentApplies h k) (content_reasons frame) fault.why) hash_is first)) in (
-      first_behind (Applies file place) loading_reasons (why.BlockHeader ∷ content_reasons frame) fault.why none
+    → IsFirstOf (ContentApplies hash k) (content_reasons keep) fault.why → fault.at ≡ place
+    → IsVerdict keep file place fault
+verdict_content keep file place hash k fault none blocks hash_is chunk_is first here =
+    let there : IsFirstOf (Applies file place) (content_reasons keep) fault.why =
+    content_first keep file place fault.why
+    (subst (λ (c : ChunkValue). IsFirstOf (ContentApplies (header_at file place).data_hash c) (content_reasons keep) fault.why) chunk_is
+    (subst (λ (h : ℕ). IsFirstOf (ContentApplies h k) (content_reasons keep) fault.why) hash_is first)) in (
+      first_behind (Applies file place) loading_reasons (why.BlockHeader ∷ content_reasons keep) fault.why none
           (inr (no_wrong_block file place blocks, there)),
-      begin_of_first (Applies file place) file place fault.at (content_reasons frame) fault.why (content_begin frame file place fault.at) there here,
+      begin_of_first (Applies file place) file place fault.at (content_reasons keep) fault.why (content_begin keep file place fault.at) there here,
     )
 
 -- in a frame the reasons are the same but for those that name what isn't read
@@ -168,17 +168,17 @@ pub hash_of-at : (file : List ℕ) (place : ℕ) (h : Header) → IsHeader h →
 hash_of-at file place h sound same = ap (λ (v : HeaderValue). v.data_hash) (sym (header_at-header file place h sound same))
 
 -- where the header, the blocks and the content are right, no reason applies
-pub none_at : (frame : Bool) (file : List ℕ) (place : ℕ) (h : Header) (bytes : List ℕ) → IsHeader h
+pub none_at : (keep : Bool) (file : List ℕ) (place : ℕ) (h : Header) (bytes : List ℕ) → IsHeader h
     → header_bytes_at file place ≡ bytes_of_header h → bytes ≡ data_at file place h.data_size
     → NoneOf (Applies file place) loading_reasons → HaveHeadersOf file place (end_at file place) place (end_at file place)
-    → NoneOf (ContentApplies h.data_hash (value_of h bytes)) (content_reasons frame)
-    → NoneOf (Applies file place) (strict_reasons frame)
-none_at frame file place h bytes sound same given none blocks content =
-    none_behind (Applies file place) loading_reasons (why.BlockHeader ∷ content_reasons frame) none (
+    → NoneOf (ContentApplies h.data_hash (value_of h bytes)) (content_reasons keep)
+    → NoneOf (Applies file place) (strict_reasons keep)
+none_at keep file place h bytes sound same given none blocks content =
+    none_behind (Applies file place) loading_reasons (why.BlockHeader ∷ content_reasons keep) none (
       no_wrong_block file place blocks,
-      content_none frame file place
-          (subst (λ (c : ChunkValue). NoneOf (ContentApplies (header_at file place).data_hash c) (content_reasons frame)) (value_of-at file place h bytes sound same given)
-          (subst (λ (x : ℕ). NoneOf (ContentApplies x (value_of h bytes)) (content_reasons frame)) (hash_of-at file place h sound same) content)),
+      content_none keep file place
+          (subst (λ (c : ChunkValue). NoneOf (ContentApplies (header_at file place).data_hash c) (content_reasons keep)) (value_of-at file place h bytes sound same given)
+          (subst (λ (x : ℕ). NoneOf (ContentApplies x (value_of h bytes)) (content_reasons keep)) (hash_of-at file place h sound same) content)),
     )
 
 -- and the chunk is laid

@@ -25,7 +25,7 @@ use Rattle.chunk_reader.specs.Places.{header_bytes_at, end_by, end_at, data_at, 
 use Rattle.chunk_reader.proofs.PassedChunks.{length-data_at, IsLaid-right}
 use Rattle.chunk_reader.proofs.Loads.{data_given, header_within, IsOnBoundary-of}
 use Rattle.chunk_reader.proofs.ReadingSteps.{next_read, next-le, unread-le}
-use Rattle.chunk_reader.specs.Progress.{counted, AreTotals, AreReadFrom}
+use Rattle.chunk_reader.specs.Progress.{counted, AreInBounds, AreReadFrom}
 use Rattle.chunk_reader.proofs.Rooms.{IsSized}
 use Rattle.chunk_reader.proofs.Verdicts.{verdict_loading, verdict_block, verdict_content, value_of-at, end_by-at, hash_of-at, none_at, is_unread-plain, is_unread-unread}
 
@@ -40,19 +40,6 @@ tells_unread hash k right unread =
 
 pub tells_contents : (hash : ℕ) (k : ChunkValue) → riegeli_hash k.«data» ≡ hash → HasBadContents k → TellsUnread hash k (Err why.Contents)
 tells_contents hash k right bad = inr (λ wrong. wrong right, inl (bad, refl))
-
--- own bytes behind the header at a place are its data
-pub taken_data : (bytes now : Option (List ℕ)) (told : Option ℕ) (at size end : ℕ) (judge : PieceJudge) → now ≡ bytes → IsSized bytes told
-    → IsSomeAnd told (λ whole. end ≤ whole) → end_of at 40 ≤ end
-    → IfSome now (λ file. HasTaken judge (own_bytes_at file (end_of at 40) size))
-    → IfSome bytes (λ file. HasTaken judge (data_at file at size))
-taken_data None now told at size end judge same sized within header taken = tt
-taken_data (Some file) None told at size end judge same sized within header taken = cc
-taken_data (Some file) (Some other) told at size end judge same sized within header taken =
-    let is : other ≡ file = cc in
-    let given : own_bytes_at file (end_of at 40) size ≡ data_at file at size =
-    data_given (Some file) told at size end (own_bytes_at file (end_of at 40) size) sized within header refl in
-    subst (HasTaken judge) given (subst (λ (f : List ℕ). HasTaken judge (own_bytes_at f (end_of at 40) size)) is taken)
 
 -- the header of a chunk that the file has was found at a place
 pub record IsFound (bytes : Option (List ℕ)) (size at end : ℕ) (h : Header) : Type 0 where
@@ -166,9 +153,9 @@ signed_end at end signed behind =
     ]
 
 -- so totals stay in their bounds with one chunk more
-pub verified_totals : (size : ℕ) (totals : Totals) (v : Verified) → AreTotals size totals
+pub verified_totals : (size : ℕ) (totals : Totals) (v : Verified) → AreInBounds size totals
     → IsBoundary v.end × (end_of totals.bytes 40 ≤ v.end) × (v.end ≤ size) × (totals.bytes + v.num_records ≤ v.end)
-    → AreTotals size (counted totals v.end v.num_records v.unread)
+    → AreInBounds size (counted totals v.end v.num_records v.unread)
 verified_totals size totals v h (boundary, behind, within, room) =
     let past : totals.bytes + 40 ≤ v.end = omega (arith, end_of_room totals.bytes 40) in record {
       within = within;

@@ -22,14 +22,14 @@ IsContent k content.Metadata = IsMetadata k
 IsContent k content.Padding = IsPadding k
 IsContent k (content.Records records) = IsSimple k records
 
--- the same in short, where in a frame other chunks are left unread
+-- the same in short, where other chunks are left unread if these are kept
 abbrev pub IsWhat : Bool → ChunkValue → What → Type 0
-IsWhat frame k (Records records) = IsSimple k records
-IsWhat frame k Passive = IsSignature k ⊎ IsMetadata k ⊎ IsPadding k
-IsWhat frame k Unread = (frame ≡ true) × (IsCompressed k ⊎ IsTransposed k)
+IsWhat keep k (Records records) = IsSimple k records
+IsWhat keep k Passive = IsSignature k ⊎ IsMetadata k ⊎ IsPadding k
+IsWhat keep k Unread = (keep ≡ true) × (IsCompressed k ⊎ IsTransposed k)
 
 -- a chunk given from a place of a file of so many bytes
-pub record IsJudged (frame : Bool) (size place : ℕ) (j : Judged) : Type 0 where
+pub record IsJudged (keep : Bool) (size place : ℕ) (j : Judged) : Type 0 where
   pub begin : j.begin ≡ place
   pub end : j.end ≡ end_of_chunk place (value_of_chunk j.chunk)
   pub to_boundary : IsBoundary j.end
@@ -38,11 +38,11 @@ pub record IsJudged (frame : Bool) (size place : ℕ) (j : Judged) : Type 0 wher
   pub small : length j.chunk.bytes ≤ max_data_size
   pub right : HasRightHash j.chunk
   pub sound : IsChunk (value_of_chunk j.chunk)
-  pub what : IsWhat frame (value_of_chunk j.chunk) j.what
+  pub what : IsWhat keep (value_of_chunk j.chunk) j.what
 
 -- it is the chunk at a place of a file, which is laid there, and which no reason refuses
-pub record IsJudgedIn (frame : Bool) (file : List ℕ) (place : ℕ) (j : Judged) : Type 0 where
+pub record IsJudgedIn (keep : Bool) (file : List ℕ) (place : ℕ) (j : Judged) : Type 0 where
   pub chunk : value_of_chunk j.chunk ≡ chunk_at file place
   pub end : j.end ≡ end_at file place
   pub laid : IsLaid place (chunk_at file place) (slice_range file place (end_at file place))
-  pub none : NoneOf (Applies file place) (strict_reasons frame)
+  pub none : NoneOf (Applies file place) (strict_reasons keep)

@@ -7,7 +7,7 @@ use Rattle.chunk_reader.specs.declared.reasons.Why.{Why}
 use Rattle.chunk_reader.specs.declared.reasons.Why.TheVariants as why
 use Rattle.chunk_reader.specs.declared.reasons.Fault.{Fault}
 
--- the chunks that reading passes: those that are read, and in a frame also those that are left unread
+-- the chunks that reading passes: those that are read, and where unread ones are kept these too
 abbrev pub IsAllowed : Bool → ChunkValue → Type 0
 IsAllowed false = IsPlain
 IsAllowed true = IsFramed
@@ -20,8 +20,8 @@ IsPlaceOf file place other at = at ≡ place
 
 -- the strict verdict on the chunk at a place is this fault
 abbrev pub IsVerdict : Bool → List ℕ → ℕ → Fault → Type 0
-IsVerdict frame file place fault =
-    IsFirstOf (Applies file place) (strict_reasons frame) fault.why × IsPlaceOf file place fault.why fault.at
+IsVerdict keep file place fault =
+    IsFirstOf (Applies file place) (strict_reasons keep) fault.why × IsPlaceOf file place fault.why fault.at
 
 -- the chunks are the longest front of the file in which each meets P, and end at the place
 pub record IsLongest (P : ChunkValue → Type 0) (ks : List ChunkValue) (file : List ℕ) (place : ℕ) : Type 0 where
@@ -34,12 +34,12 @@ BeginsWithSignature file = take (length signature_bytes) file ≡ signature_byte
 
 -- the file has no fault: it is well-formed chunks from its front to its end
 abbrev pub HasNoFault : Bool → List ℕ → Type 0
-HasNoFault frame file = (ks : List ChunkValue) × IsFileOf (IsAllowed frame) ks file
+HasNoFault keep file = (ks : List ChunkValue) × IsFileOf (IsAllowed keep) ks file
 
 -- the fault of a file that has one: that it doesn't begin as files do, or else the verdict where its longest front of
 -- well-formed chunks ends
 abbrev pub IsFault : Bool → List ℕ → Fault → Type 0
-IsFault frame file fault =
+IsFault keep file fault =
     ((¬ BeginsWithSignature file) × (fault ≡ record { at = 0; why = why.NoSignature }))
-    ⊎ (BeginsWithSignature file × ((ks : List ChunkValue) × (place : ℕ) × IsLongest (IsAllowed frame) ks file place
-    × (place < length file) × IsVerdict frame file place fault))
+    ⊎ (BeginsWithSignature file × ((ks : List ChunkValue) × (place : ℕ) × IsLongest (IsAllowed keep) ks file place
+    × (place < length file) × IsVerdict keep file place fault))

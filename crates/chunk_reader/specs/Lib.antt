@@ -1,10 +1,15 @@
 pub mod Places
 pub mod Reasons
+pub mod Blocks
 pub mod Faults
 pub mod Heads
+pub mod HeldData
 pub mod Contents
 pub mod Progress
 pub mod Readers
 pub mod Ends
 pub mod Pieces
 pub mod Names
+pub mod Holders
+pub mod Searches
+pub mod SearchBounds

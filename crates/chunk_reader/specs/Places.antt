@@ -34,8 +34,8 @@ chunk_at file place = record {
 }
 
 -- a size was told up to which so many own bytes from a place have room, within the limit of files
-abbrev pub HasRoom : Option ℕ → ℕ → ℕ → Type 0
-HasRoom told place count = IsSomeAnd told (λ size. (end_of place count ≤ 2 ^ 60) × (end_of place count ≤ size))
+abbrev pub HasOwnBytes : Option ℕ → ℕ → ℕ → Type 0
+HasOwnBytes told place count = IsSomeAnd told (λ size. (end_of place count ≤ 2 ^ 60) × (end_of place count ≤ size))
 
 -- a block's header is the one that it has in a chunk from a begin to an end
 abbrev pub HasHeaderOf : List ℕ → ℕ → ℕ → ℕ → Type 0

@@ -8,9 +8,9 @@ use Rattle.meta_chunk.specs.Files.{IsChainOf}
 use Rattle.chunk_reader.specs.Faults.{IsAllowed}
 
 -- a reader of a file of so many bytes, and the totals of the chunks that it gave
-pub record Reading : Type 0 where
+pub record ReaderValue : Type 0 where
   pub size : ℕ
-  pub frame : Bool
+  pub keep : Bool
   pub totals : Totals
 
 -- the totals with one chunk more, which ends at a place
@@ -23,7 +23,7 @@ counted totals end records unread = record {
 }
 
 -- totals of a front of a file of so many bytes: none, or up to a boundary behind the signature, and no count passes the bytes
-pub record AreTotals (size : ℕ) (totals : Totals) : Type 0 where
+pub record AreInBounds (size : ℕ) (totals : Totals) : Type 0 where
   pub within : totals.bytes ≤ size
   pub boundary : IsOnBoundary totals.bytes
   pub signed : 0 < totals.bytes → 64 ≤ totals.bytes
@@ -33,5 +33,5 @@ pub record AreTotals (size : ℕ) (totals : Totals) : Type 0 where
 
 -- the totals are those of the chunks at the front of a file, up to where they end
 abbrev pub AreReadFrom : Bool → List ℕ → Totals → Type 0
-AreReadFrom frame file totals =
-    (ks : List ChunkValue) × IsChainOf (IsAllowed frame) ks file totals.bytes × (totals ≡ totals_of ks)
+AreReadFrom keep file totals =
+    (ks : List ChunkValue) × IsChainOf (IsAllowed keep) ks file totals.bytes × (totals ≡ totals_of ks)

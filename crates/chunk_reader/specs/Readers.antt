@@ -1,5 +1,5 @@
 -- What a call of a reader finds in a file. Own.
-use Rattle.std.specs.Prelude.{◌≡◌, ℕ, ◌+◌, ◌^◌, ◌<◌, ◌≤◌, Option, Some, Result, Ok, IfSome, List, [], ◌∷◌, ◌++◌}
+use Rattle.std.specs.Prelude.{◌≡◌, ℕ, ◌+◌, ◌^◌, ◌≤◌, Option, Some, Result, Ok, IfSome, List, [], ◌∷◌, ◌++◌}
 use Rattle.block_layout.specs.Layout.{IsBoundary}
 use Rattle.chunk_header.specs.Chunks.{ChunkValue}
 use Rattle.chunk_header.specs.Views.{value_of_chunk}
@@ -7,44 +7,44 @@ use Rattle.meta_chunk.specs.Counts.{totals_of}
 use Rattle.meta_chunk.specs.Files.{IsChainOf, IsFileOf}
 use Rattle.chunk_reader.specs.Contents.{IsJudged}
 use Rattle.chunk_reader.specs.Faults.{BeginsWithSignature, IsAllowed, IsFault}
-use Rattle.chunk_reader.specs.Progress.{Reading, AreTotals, AreReadFrom}
+use Rattle.chunk_reader.specs.Progress.{ReaderValue, AreInBounds, AreReadFrom}
 use Rattle.chunk_reader.specs.Reasons.{Applies, NoneOf, loading_reasons}
 use Rattle.chunk_reader.specs.declared.judging.Judged.{Judged}
 use Rattle.chunk_reader.specs.declared.reasons.Fault.{Fault}
 use Rattle.chunk_reader.specs.declared.reasons.ReadEnd.{ReadEnd}
 
 -- a reader stands in a file of the size that was told, behind the chunks that its totals count
-pub record ReadsIn (file : Option (List ℕ)) (told : Option ℕ) (at : Reading) : Type 0 where
+pub record ReadsIn (file : Option (List ℕ)) (told : Option ℕ) (at : ReaderValue) : Type 0 where
   pub size : told ≡ Some at.size
   pub in_reach : at.size ≤ 2 ^ 60
-  pub read : IfSome file (λ bytes. AreReadFrom at.frame bytes at.totals)
+  pub read : IfSome file (λ bytes. AreReadFrom at.keep bytes at.totals)
 
 -- a reader went on in its file
-pub record ReadsOn (file : Option (List ℕ)) (before after : Reading) : Type 0 where
+pub record ReadsOn (file : Option (List ℕ)) (before after : ReaderValue) : Type 0 where
   pub same_size : after.size ≡ before.size
-  pub same_frame : after.frame ≡ before.frame
-  pub totals : AreTotals after.size after.totals
-  pub read : IfSome file (λ bytes. AreReadFrom after.frame bytes after.totals)
+  pub same_keep : after.keep ≡ before.keep
+  pub totals : AreInBounds after.size after.totals
+  pub read : IfSome file (λ bytes. AreReadFrom after.keep bytes after.totals)
 
 -- the chunk is the next one: well formed where the reader stood, and one more behind all that were given
-pub record IsNextChunk (file : Option (List ℕ)) (before after : Reading) (j : Judged) : Type 0 where
-  pub judged : IsJudged before.frame before.size before.totals.bytes j
+pub record IsNextChunk (file : Option (List ℕ)) (before after : ReaderValue) (j : Judged) : Type 0 where
+  pub judged : IsJudged before.keep before.size before.totals.bytes j
   pub moved : after.totals.bytes ≡ j.end
-  pub given : IfSome file (λ bytes. (ks : List ChunkValue) → IsChainOf (IsAllowed before.frame) ks bytes before.totals.bytes → before.totals ≡ totals_of ks
-      → IsChainOf (IsAllowed before.frame) (ks ++ value_of_chunk j.chunk ∷ []) bytes after.totals.bytes
+  pub given : IfSome file (λ bytes. (ks : List ChunkValue) → IsChainOf (IsAllowed before.keep) ks bytes before.totals.bytes → before.totals ≡ totals_of ks
+      → IsChainOf (IsAllowed before.keep) (ks ++ value_of_chunk j.chunk ∷ []) bytes after.totals.bytes
       × (after.totals ≡ totals_of (ks ++ value_of_chunk j.chunk ∷ [])))
 
 -- a reader stands at the end of its file, which is the chunks that were given
-pub record IsReadWhole (file : Option (List ℕ)) (at : Reading) : Type 0 where
+pub record IsReadWhole (file : Option (List ℕ)) (at : ReaderValue) : Type 0 where
   pub at_end : at.totals.bytes ≡ at.size
   pub signed : 64 ≤ at.size
   pub boundary : IsBoundary at.size
-  pub whole : IfSome file (λ bytes. (ks : List ChunkValue) → IsChainOf (IsAllowed at.frame) ks bytes at.totals.bytes → IsFileOf (IsAllowed at.frame) ks bytes)
+  pub whole : IfSome file (λ bytes. (ks : List ChunkValue) → IsChainOf (IsAllowed at.keep) ks bytes at.totals.bytes → IsFileOf (IsAllowed at.keep) ks bytes)
 
 -- the fault is that of the file, and all chunks before it were given
-pub record IsFaultBehind (file : Option (List ℕ)) (at : Reading) (fault : Fault) : Type 0 where
-  pub is_fault : IfSome file (λ bytes. IsFault at.frame bytes fault)
-  pub all_given : IfSome file (λ bytes. (ks : List ChunkValue) (place : ℕ) → IsChainOf (IsAllowed at.frame) ks bytes place → place ≤ at.totals.bytes)
+pub record IsFaultBehind (file : Option (List ℕ)) (at : ReaderValue) (fault : Fault) : Type 0 where
+  pub is_fault : IfSome file (λ bytes. IsFault at.keep bytes fault)
+  pub all_given : IfSome file (λ bytes. (ks : List ChunkValue) (place : ℕ) → IsChainOf (IsAllowed at.keep) ks bytes place → place ≤ at.totals.bytes)
 
 -- at a place of a file that begins as files do is a chunk whose header is right, which lies in the file and whose data isn't too
 -- large
@@ -52,9 +52,7 @@ pub record IsChunkAtHand (file : Option (List ℕ)) (place : ℕ) : Type 0 where
   pub none : IfSome file (λ bytes. NoneOf (Applies bytes place) loading_reasons)
   pub signed : IfSome file BeginsWithSignature
 
--- how many bytes a call takes of a file at most: up to the end of the chunk that it gives, or of the file, and at the front 64 more
-pub record HandsOut (at : Reading) (result : Result (Option Judged) ReadEnd) (handed handed_then : ℕ) : Type 0 where
-  pub given : (j : Judged) → result ≡ Ok (Some j) → handed_then + at.totals.bytes ≤ handed + (64 + j.end)
-  pub given_behind : 0 < at.totals.bytes → (j : Judged) → result ≡ Ok (Some j) → handed_then + at.totals.bytes ≤ handed + j.end
-  pub at_most : handed_then + at.totals.bytes ≤ handed + (64 + at.size)
-  pub at_most_behind : 0 < at.totals.bytes → handed_then + at.totals.bytes ≤ handed + at.size
+-- how many bytes a call takes of a file at most: up to the end of the chunk that it gives, or of the file
+pub record ReadsAtMost (at : ReaderValue) (result : Result (Option Judged) ReadEnd) (handed handed_then : ℕ) : Type 0 where
+  pub given : (j : Judged) → result ≡ Ok (Some j) → handed_then + at.totals.bytes ≤ handed + j.end
+  pub at_most : handed_then + at.totals.bytes ≤ handed + at.size

@@ -56,10 +56,11 @@ abbrev pub IsOneOf : List Why → Why → Type 0
 IsOneOf [] w = ⊥
 IsOneOf (known ∷ reasons) w = (w ≡ known) ⊎ IsOneOf reasons w
 
--- the reasons by which a chunk isn't found: its header can't be read, or the file ends before it does
+-- the reasons by which a chunk's header can't be read
 abbrev pub header_reasons : List Why
 header_reasons = why.Short ∷ why.HeaderHash ∷ []
 
+-- and by which a chunk isn't passed: that, or the file ends before it does
 abbrev pub passing_reasons : List Why
 passing_reasons = why.Short ∷ why.HeaderHash ∷ why.Truncated ∷ []
 
@@ -67,12 +68,12 @@ passing_reasons = why.Short ∷ why.HeaderHash ∷ why.Truncated ∷ []
 abbrev pub loading_reasons : List Why
 loading_reasons = why.Short ∷ why.HeaderHash ∷ why.Truncated ∷ why.TooLarge ∷ []
 
--- the reasons by which a chunk's content is refused. In a frame those fall away that only name what isn't read
+-- the reasons by which a chunk's content is refused. Where unread chunks are kept, those fall away that only name them
 abbrev pub content_reasons : Bool → List Why
 content_reasons false = why.DataHash ∷ why.Contents ∷ why.Compressed ∷ why.Transposed ∷ why.UnknownKind ∷ []
 content_reasons true = why.DataHash ∷ why.Contents ∷ why.UnknownKind ∷ []
 
 -- all reasons of strict reading, in order
 abbrev pub strict_reasons : Bool → List Why
-strict_reasons frame =
-    why.Short ∷ why.HeaderHash ∷ why.Truncated ∷ why.TooLarge ∷ why.BlockHeader ∷ content_reasons frame
+strict_reasons keep =
+    why.Short ∷ why.HeaderHash ∷ why.Truncated ∷ why.TooLarge ∷ why.BlockHeader ∷ content_reasons keep

@@ -1,6 +1,6 @@
 ghost use Rattle.std.specs.Prelude.{◌≡◌, ◌+◌, ◌-◌, ◌*◌, ◌^◌, ◌<◌, ◌≤◌, length, take, IfOk, IfSome, IsSomeAnd, OnOk, Err};
 ghost use Rattle.record_io.specs.Calls.{OnlyAsks};
-ghost use Rattle.block_layout.specs.Layout.{block_header_size, chunk_header_size, blocks_below, IsBlock, IsOnBoundary, end_of, own_bytes_at};
+ghost use Rattle.block_layout.specs.Layout.{block_header_size, chunk_header_size, blocks_below, IsBlock, IsBoundary, IsOnBoundary, end_of, own_bytes_at};
 ghost use Rattle.chunk_reader.specs.Places.{HasHeaderOf, HaveHeadersOf, IsFirstWrong};
 ghost use Rattle.chunk_reader.specs.declared.reasons.Fault.{Fault};
 
@@ -9,8 +9,8 @@ use crate::reasons::{Fault, VerifyEnd, Why};
 use block_layout::{BLOCK_HEADER_SIZE, BLOCK_SIZE, BlockHeader};
 use record_io::{Store, get_exact};
 
-/// How many bytes of data are taken at a time at most.
-pub(crate) const PIECE: usize = 4096;
+/// How many bytes of data are taken at a time at most. Own.
+pub const PIECE_SIZE: usize = 4096;
 
 /// The data of a chunk of a file, which is read in order, and the headers of the blocks within the chunk, each of which
 /// is compared with the chunk's own as it is passed. No byte is read twice.
@@ -30,30 +30,25 @@ impl ChunkPass {
     pub(crate) fn start<S: Store>(
         store: &mut S,
         begin: u64,
-        header_end: u64,
         end: u64,
     ) -> Result<ChunkPass, VerifyEnd>
         requires told { IsSomeAnd (S.told store.old) (λ size. end ≤ size) }
-        requires from_boundary { IsOnBoundary begin }
-        requires header { header_end ≡ end_of begin chunk_header_size }
-        requires within { header_end ≤ end }
+        requires from_boundary { IsBoundary begin }
+        requires within { end_of begin chunk_header_size ≤ end }
         requires to_boundary { IsOnBoundary end }
         requires in_reach { end ≤ 2 ^ 60 }
         ensures begin { IfOk result (λ pass. pass.begin ≡ begin) }
         ensures end { IfOk result (λ pass. pass.end ≡ end) }
-        ensures place { IfOk result (λ pass. pass.own.place ≡ header_end) }
-        ensures right { OnOk result (IfSome (S.bytes store.old) (λ file. HaveHeadersOf file begin end begin header_end)) }
+        ensures place { IfOk result (λ pass. pass.own.place ≡ end_of begin chunk_header_size) }
+        ensures right { OnOk result (IfSome (S.bytes store.old) (λ file. HaveHeadersOf file begin end begin (end_of begin chunk_header_size))) }
         ensures wrong { (fault : Fault) → result ≡ Err (VerifyEnd.Refused fault) → (fault.why ≡ Why.BlockHeader)
             × IfSome (S.bytes store.old) (λ file. IsFirstWrong file begin end begin end fault.at) }
-        ensures handed { S.handed store.new + (begin + chunk_header_size) ≤ S.handed store.old + header_end }
+        ensures handed { S.handed store.new + (begin + chunk_header_size) ≤ S.handed store.old + end_of begin chunk_header_size }
         ensures store { OnlyAsks S.bytes S.told S.name S.faults (result ≡ Err VerifyEnd.Store) store.old store.new }
     {
-        judge_blocks(store, begin, end, begin, header_end)?;
-        Ok(ChunkPass {
-            begin,
-            end,
-            own: OwnBytes::from(header_end),
-        })
+        let own = OwnBytes::behind_header(begin);
+        judge_blocks(store, begin, end, begin, own.place)?;
+        Ok(ChunkPass { begin, end, own })
     }
 
     /// Puts the next bytes of data into the front of the buffer, at most those before the next block, and answers how

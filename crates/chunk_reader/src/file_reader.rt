@@ -1,14 +1,19 @@
-ghost use Rattle.std.specs.Prelude.{◌≡◌, List, None, Some, OnErr, Ok, Err, ℕ};
+ghost use Rattle.std.specs.Prelude.{◌≡◌, ◌+◌, ◌≤◌, Bool, List, None, Some, IfOk, IfSome, OnOk, OnErr, Ok, Err, ℕ};
 ghost use Rattle.record_io.specs.Calls.{OnlyAsks};
+ghost use Rattle.chunk_reader.specs.Contents.{IsJudged, IsJudgedIn};
+ghost use Rattle.chunk_reader.specs.Faults.{BeginsWithSignature};
 ghost use Rattle.chunk_reader.specs.Progress.{AreReadFrom};
-ghost use Rattle.chunk_reader.specs.Readers.{ReadsIn, ReadsOn, IsNextChunk, IsReadWhole, IsFaultBehind, IsChunkAtHand, HandsOut};
+ghost use Rattle.chunk_reader.specs.Readers.{ReadsIn, ReadsOn, IsNextChunk, IsReadWhole, IsFaultBehind, IsChunkAtHand, ReadsAtMost};
 ghost use Rattle.chunk_reader.specs.declared.reasons.Fault.{Fault};
+ghost use Rattle.chunk_reader.specs.declared.reasons.Why.{Why};
 ghost use Rattle.chunk_reader.specs.declared.judging.Judged.{Judged};
 
 use crate::judging::{Judged, What, strict_at};
 use crate::progress::{NO_CHUNKS, check_signature, counted};
-use crate::reasons::ReadEnd;
-use record_io::{Store, Totals};
+use crate::reasons::{ReadEnd, VerifyEnd};
+use chunk_header::Chunk;
+use meta_chunk::SIGNATURE;
+use record_io::{Bytes, Store, Totals};
 use std::alloc::Global;
 use std::marker::Model;
 
@@ -16,33 +21,33 @@ use std::marker::Model;
 #[derive(Debug, Drop)]
 pub struct Reader {
     size: u64,
-    frame: bool,
+    keep: bool,
     totals: Totals,
 }
 
 impl Model for Reader {
     ghost use Rattle.std.specs.Prelude.{◌≤◌, ◌^◌};
-    ghost use Rattle.chunk_reader.specs.Progress.{Reading, AreTotals};
+    ghost use Rattle.chunk_reader.specs.Progress.{ReaderValue, AreInBounds};
 
-    ghost Value = { Reading };
+    ghost Value = { ReaderValue };
 
-    ghost view = { λ r. record { size = r.size; frame = r.frame; totals = r.totals } };
+    ghost view = { λ r. record { size = r.size; keep = r.keep; totals = r.totals } };
 
-    ghost invariant = { λ r. AreTotals r.size r.totals };
+    ghost invariant = { λ r. AreInBounds r.size r.totals };
 }
 
 impl Reader {
-    /// A reader of a file of so many bytes, at its front. With `frame`, compressed and transposed chunks are left unread in
+    /// A reader of a file of so many bytes, at its front. With `keep`, compressed and transposed chunks are left unread in
     /// place of being refused.
-    pub fn new(size: u64, frame: bool) -> Reader
+    pub fn new(size: u64, keep: bool) -> Reader
         ensures size { result.size ≡ size }
-        ensures frame { result.frame ≡ frame }
+        ensures keep { result.keep ≡ keep }
         ensures totals { result.totals ≡ record { chunks = 0; records = 0; bytes = 0; unread = 0 } }
-        ensures at_front { (file : List ℕ) → AreReadFrom frame file result.totals }
+        ensures at_front { (file : List ℕ) → AreReadFrom keep file result.totals }
     {
         Reader {
             size,
-            frame,
+            keep,
             totals: NO_CHUNKS,
         }
     }
@@ -80,19 +85,40 @@ impl Reader {
         ensures refused { (fault : Fault) → result ≡ Err (ReadEnd.Refused fault) → IsFaultBehind (S.bytes store.old) self.old fault }
         ensures memory { result ≡ Err ReadEnd.Memory → IsChunkAtHand (S.bytes store.old) self.old.totals.bytes }
         ensures kept { OnErr result (self.new ≡ self.old) }
-        ensures handed { HandsOut self.old result (S.handed store.old) (S.handed store.new) }
+        ensures handed { ReadsAtMost self.old result (S.handed store.old) (S.handed store.new) }
         ensures store { OnlyAsks S.bytes S.told S.name S.faults (result ≡ Err ReadEnd.Store) store.old store.new }
     {
-        if self.at() == 0 {
-            check_signature(store, self.size)?;
-        }
-        if self.at() == self.size {
+        let judged = if self.at() == 0 {
+            first_chunk(alloc, store, self.size)?
+        } else if self.at() < self.size {
+            strict_at(alloc, store, self.size, self.at(), self.keep)?
+        } else {
             return Ok(None);
-        }
-        let judged = strict_at(alloc, store, self.size, self.at(), self.frame)?;
+        };
         let unread = matches!(judged.what, What::Unread);
         let records = judged.chunk.header.num_records;
         self.totals = counted(&self.totals, judged.end, records, unread);
         Ok(Some(judged))
     }
+}
+
+/// The chunk that each file begins with, where a file of so many bytes begins with its bytes.
+fn first_chunk<S: Store>(alloc: Global, store: &mut S, size: u64) -> Result<Judged, VerifyEnd>
+    requires told { S.told store.old ≡ Some size }
+    ensures judged { IfOk result (λ judged. (keep : Bool) → IsJudged keep size 0 judged) }
+    ensures sound { IfOk result (λ judged. (keep : Bool) → IfSome (S.bytes store.old) (λ file. IsJudgedIn keep file 0 judged)) }
+    ensures signed { OnOk result (IfSome (S.bytes store.old) BeginsWithSignature) }
+    ensures refused { (fault : Fault) → result ≡ Err (VerifyEnd.Refused fault) → (fault.at ≡ 0) × (fault.why ≡ Why.NoSignature)
+        × IfSome (S.bytes store.old) (λ file. ¬ BeginsWithSignature file) }
+    ensures handed_given { IfOk result (λ judged. S.handed store.new ≤ S.handed store.old + judged.end) }
+    ensures handed_at_most { S.handed store.new ≤ S.handed store.old + size }
+    ensures store { OnlyAsks S.bytes S.told S.name S.faults (result ≡ Err VerifyEnd.Store) store.old store.new }
+{
+    check_signature(store, size)?;
+    Ok(Judged {
+        begin: 0,
+        end: SIGNATURE.len() as u64,
+        chunk: Chunk::new(b's', 0, 0, Bytes::new(alloc)),
+        what: What::Passive,
+    })
 }

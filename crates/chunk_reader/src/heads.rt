@@ -7,7 +7,7 @@ ghost use Rattle.chunk_reader.specs.Heads.{IsHead};
 ghost use Rattle.chunk_header.specs.declared.Header.{Header};
 
 use crate::own_bytes::OwnBytes;
-use block_layout::{chunk_end, end_of};
+use block_layout::chunk_end;
 use chunk_header::{HEADER_SIZE, Header};
 use record_io::{Failed, Store};
 
@@ -49,7 +49,7 @@ pub fn head_at<S: Store>(store: &mut S, size: u64, at: u64) -> Result<Head, Fail
     ensures handed_at_most { S.handed store.new + at ≤ S.handed store.old + size }
     ensures store { OnlyAsks S.bytes S.told S.name S.faults (IsErr result) store.old store.new }
 {
-    if header_end(at) > size {
+    if OwnBytes::behind_header(at).place > size {
         return Ok(Head::Short);
     }
     let mut bytes = [0; HEADER_SIZE];
@@ -61,13 +61,4 @@ pub fn head_at<S: Store>(store: &mut S, size: u64, at: u64) -> Result<Head, Fail
         },
         None => Head::BadHash,
     })
-}
-
-/// Where the header of a chunk ends that begins at a boundary.
-pub(crate) fn header_end(at: u64) -> u64
-    requires in_reach { at ≤ 2 ^ 60 }
-    requires from_boundary { IsBoundary at }
-    ensures { result ≡ end_of at chunk_header_size }
-{
-    end_of(at, HEADER_SIZE as u64).unwrap()
 }

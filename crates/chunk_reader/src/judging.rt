@@ -1,6 +1,6 @@
-ghost use Rattle.std.specs.Prelude.{◌≡◌, ◌↔◌, ◌+◌, ◌^◌, ◌<◌, ◌≤◌, ◌⊎◌, length, Some, IsTrue, IfOk, IfSome, IsSomeAnd, OnOk, Err};
+ghost use Rattle.std.specs.Prelude.{◌≡◌, ◌↔◌, ◌+◌, ◌^◌, ◌<◌, ◌≤◌, ◌⊎◌, Some, IsTrue, IfOk, IfSome, IsSomeAnd, Err};
 ghost use Rattle.record_io.specs.Calls.{OnlyAsks};
-ghost use Rattle.block_layout.specs.Layout.{chunk_header_size, IsBoundary, end_of, own_bytes_at};
+ghost use Rattle.block_layout.specs.Layout.{chunk_header_size, IsBoundary};
 ghost use Rattle.chunk_header.specs.Chunks.{IsChunk};
 ghost use Rattle.chunk_header.specs.Views.{IsHeader, HasRightHash, bytes_of_header, value_of_chunk, value_of_header};
 ghost use Rattle.meta_chunk.specs.Files.{max_data_size};
@@ -12,11 +12,11 @@ ghost use Rattle.chunk_reader.specs.declared.reasons.Fault.{Fault};
 ghost use Rattle.chunk_reader.specs.declared.reasons.Why.{Why};
 
 use crate::chunk_content::{Content, ContentEnd};
-use crate::chunk_pass::{ChunkPass, PIECE};
 use crate::content_judge::content_under;
+use crate::feeding::feed_chunk;
 use crate::hashed_data::HashedData;
-use crate::heads::{Head, head_at, header_end};
 use crate::own_bytes::OwnBytes;
+use crate::passed_heads::passed_head_at;
 use crate::reasons::{Fault, ReadEnd, VerifyEnd, Why};
 use chunk_header::{Chunk, Header};
 use record_io::{Bytes, Failed, Store};
@@ -105,12 +105,12 @@ pub fn data_at<S: Store>(
     ensures store { OnlyAsks S.bytes S.told S.name S.faults (result ≡ Err LoadEnd.Store) store.old store.new }
 {
     let mut data = vec![in alloc; 0; header.data_size as usize]?;
-    OwnBytes::from(header_end(at)).fill(store, &mut data)?;
+    OwnBytes::behind_header(at).fill(store, &mut data)?;
     Ok(Chunk::read(*header, Bytes::from(data).share()?))
 }
 
 /// Judges the chunk at a place of a file of `size` bytes, which were told, at most 2^60. The place is a boundary below
-/// `size`. With `frame`, compressed and transposed chunks are left unread in place of being refused. No more bytes are handed
+/// `size`. With `keep`, compressed and transposed chunks are left unread in place of being refused. No more bytes are handed
 /// out than the chunk has, and its data is held.
 ///
 /// Riegeli/records file format specification, "Chunk". Own: the reasons and their order.
@@ -125,16 +125,16 @@ pub fn strict_at<S: Store>(
     store: &mut S,
     size: u64,
     at: u64,
-    frame: bool,
+    keep: bool,
 ) -> Result<Judged, ReadEnd>
     requires told { S.told store.old ≡ Some size }
     requires in_reach { size ≤ 2 ^ 60 }
     requires from_boundary { IsBoundary at }
     requires below { at < size }
-    ensures judged { IfOk result (λ judged. IsJudged frame size at judged) }
-    ensures sound { IfOk result (λ judged. IfSome (S.bytes store.old) (λ file. IsJudgedIn frame file at judged)) }
+    ensures judged { IfOk result (λ judged. IsJudged keep size at judged) }
+    ensures sound { IfOk result (λ judged. IfSome (S.bytes store.old) (λ file. IsJudgedIn keep file at judged)) }
     ensures refused { (fault : Fault) → result ≡ Err (ReadEnd.Refused fault)
-        → IfSome (S.bytes store.old) (λ file. IsVerdict frame file at fault) }
+        → IfSome (S.bytes store.old) (λ file. IsVerdict keep file at fault) }
     ensures early { IfSome (S.bytes store.old) (λ file. NoneOf (Applies file at) passing_reasons
         ⊎ (S.handed store.new ≤ S.handed store.old + 64)) }
     ensures handed { IfSome (S.bytes store.old) (λ file. NoneOf (Applies file at) passing_reasons
@@ -147,8 +147,8 @@ pub fn strict_at<S: Store>(
     ensures store { OnlyAsks S.bytes S.told S.name S.faults (result ≡ Err ReadEnd.Store) store.old store.new }
 {
     let (header, end) = whole_head_at(store, size, at)?;
-    let (chunk, right) = load(alloc, store, at, end, header)?;
-    match what_of(alloc, &chunk, right, frame) {
+    let (chunk, right) = read_chunk(alloc, store, at, end, header)?;
+    match what_of(alloc, &chunk, right, keep) {
         Ok(what) => Ok(Judged {
             begin: at,
             end,
@@ -160,19 +160,19 @@ pub fn strict_at<S: Store>(
     }
 }
 
-/// What a chunk holds of which it is known whether its header has the data's hash. In a frame, compressed and transposed chunks
+/// What a chunk holds of which it is known whether its header has the data's hash. With `keep`, compressed and transposed chunks
 /// are left unread in place of being refused.
-fn what_of(alloc: Global, chunk: &Chunk, right: bool, frame: bool) -> Result<What, ContentEnd>
+fn what_of(alloc: Global, chunk: &Chunk, right: bool, keep: bool) -> Result<What, ContentEnd>
     requires { IsTrue right ↔ HasRightHash chunk.now }
-    ensures what { IfOk result (λ what. IsWhat frame (value_of_chunk chunk.now) what) }
-    ensures sound { IfOk result (λ _. NoneOf (ContentApplies chunk.now.header.data_hash (value_of_chunk chunk.now)) (content_reasons frame)) }
+    ensures what { IfOk result (λ what. IsWhat keep (value_of_chunk chunk.now) what) }
+    ensures sound { IfOk result (λ _. NoneOf (ContentApplies chunk.now.header.data_hash (value_of_chunk chunk.now)) (content_reasons keep)) }
     ensures refused { (why : Why) → result ≡ Err (ContentEnd.Fault why)
-        → IsFirstOf (ContentApplies chunk.now.header.data_hash (value_of_chunk chunk.now)) (content_reasons frame) why }
+        → IsFirstOf (ContentApplies chunk.now.header.data_hash (value_of_chunk chunk.now)) (content_reasons keep) why }
 {
     match content_under(alloc, chunk, right) {
         Ok(Content::Records(records)) => Ok(What::Records(records)),
         Ok(_) => Ok(What::Passive),
-        Err(ContentEnd::Fault(Why::Compressed | Why::Transposed)) if frame => Ok(What::Unread),
+        Err(ContentEnd::Fault(Why::Compressed | Why::Transposed)) if keep => Ok(What::Unread),
         Err(end) => Err(end),
     }
 }
@@ -199,17 +199,7 @@ pub(crate) fn whole_head_at<S: Store>(
     ensures handed_at_most { S.handed store.new + at ≤ S.handed store.old + size }
     ensures store { OnlyAsks S.bytes S.told S.name S.faults (result ≡ Err VerifyEnd.Store) store.old store.new }
 {
-    let (header, end) = match head_at(store, size, at)? {
-        Head::Short => return Err(refused(at, Why::Short)),
-        Head::BadHash => return Err(refused(at, Why::HeaderHash)),
-        Head::Right { header, end } => (header, end),
-    };
-    let Some(end) = end else {
-        return Err(refused(at, Why::Truncated));
-    };
-    if end > size {
-        return Err(refused(at, Why::Truncated));
-    }
+    let (header, end) = passed_head_at(store, size, at)?;
     if header.data_size > MAX_DATA_SIZE {
         return Err(refused(at, Why::TooLarge));
     }
@@ -225,7 +215,7 @@ pub(crate) fn refused(at: u64, why: Why) -> VerifyEnd
 
 /// Reads the data of a chunk, and judges the block headers within the chunk. Answers the chunk, and whether its header has the
 /// data's hash.
-fn load<S: Store>(
+fn read_chunk<S: Store>(
     alloc: Global,
     store: &mut S,
     at: u64,
@@ -247,42 +237,7 @@ fn load<S: Store>(
     ensures handed { S.handed store.new + (at + chunk_header_size) ≤ S.handed store.old + end }
     ensures store { OnlyAsks S.bytes S.told S.name S.faults (result ≡ Err ReadEnd.Store) store.old store.new }
 {
-    let mut pass = ChunkPass::start(store, at, header_end(at), end)?;
-    let data = read_data(alloc, store, &mut pass, header.data_size)?;
-    pass.finish(store)?;
-    Ok(data.into_chunk(header)?)
-}
-
-/// Reads the data of a chunk piece by piece.
-fn read_data<S: Store>(
-    alloc: Global,
-    store: &mut S,
-    pass: &mut ChunkPass,
-    size: u64,
-) -> Result<HashedData, ReadEnd>
-    requires told { IsSomeAnd (S.told store.old) (λ size. pass.old.end ≤ size) }
-    requires within { end_of pass.old.own.place size ≤ pass.old.end }
-    ensures whole { IfOk result (λ hashed. length hashed ≡ size) }
-    ensures given { IfOk result (λ hashed. IfSome (S.bytes store.old) (λ file. hashed ≡ own_bytes_at file pass.old.own.place size)) }
-    ensures moved { OnOk result (pass.new.own.place ≡ end_of pass.old.own.place size) }
-    ensures same_begin { pass.new.begin ≡ pass.old.begin }
-    ensures same_end { pass.new.end ≡ pass.old.end }
-    ensures right { OnOk result (IfSome (S.bytes store.old) (λ file.
-        HaveHeadersOf file pass.old.begin pass.old.end pass.old.own.place pass.new.own.place)) }
-    ensures wrong { (fault : Fault) → result ≡ Err (ReadEnd.Refused fault) → (fault.why ≡ Why.BlockHeader)
-        × IfSome (S.bytes store.old) (λ file. IsFirstWrong file pass.old.begin pass.old.end pass.old.own.place pass.old.end fault.at) }
-    ensures handed { OnOk result (S.handed store.new + pass.old.own.place ≤ S.handed store.old + pass.new.own.place) }
-    ensures handed_at_most { S.handed store.new + pass.old.own.place ≤ S.handed store.old + pass.old.end }
-    ensures store { OnlyAsks S.bytes S.told S.name S.faults (result ≡ Err ReadEnd.Store) store.old store.new }
-{
-    let mut data = HashedData::with_room(alloc, size)?;
-    let mut piece = [0; PIECE];
-    let mut left = size;
-    while left > 0 {
-        let most = left.min(PIECE as u64) as usize;
-        let count = pass.take(store, &mut piece[..most])?;
-        data.push(&piece[..count])?;
-        left -= count as u64;
-    }
-    Ok(data)
+    let mut data = HashedData::new(alloc, header)?;
+    feed_chunk(store, at, end, &header, &mut data)?;
+    Ok(data.into_chunk()?)
 }

@@ -1,26 +1,33 @@
 //! Strict reading of record files: the chunk at a place, whether it is well formed, and why it is not.
 #![tactic(auto)]
 
+mod block_headers;
 mod chunk_content;
 mod chunk_pass;
 mod content_judge;
+mod feeding;
 mod file_reader;
 mod hashed_data;
 mod heads;
 mod judging;
 pub mod laws;
 mod own_bytes;
+mod passed_heads;
 mod piece_judge;
 mod progress;
 mod reasons;
 mod verifying;
 
+pub use block_headers::sane_header_at;
 pub use chunk_content::{Content, ContentEnd};
+pub use chunk_pass::PIECE_SIZE;
 pub use content_judge::{content, content_under};
+pub use feeding::TakesData;
 pub use file_reader::Reader;
 pub use hashed_data::HashedData;
 pub use heads::{Head, head_at};
 pub use judging::{Judged, LoadEnd, MAX_DATA_SIZE, What, data_at, strict_at};
 pub use own_bytes::OwnBytes;
+pub use passed_heads::passed_head_at;
 pub use reasons::{Fault, ReadEnd, VerifyEnd, Why};
 pub use verifying::verify;

@@ -1,9 +1,9 @@
 ghost use Rattle.std.specs.Prelude.{◌≡◌, ◌+◌, ◌^◌, ◌<◌, ◌≤◌, length, take, IfOk, IfSome, OnOk, OnErr, IsErr};
 ghost use Rattle.record_io.specs.Calls.{OnlyAsks};
-ghost use Rattle.chunk_reader.specs.Places.{HasRoom};
-ghost use Rattle.block_layout.specs.Layout.{IsNextPlace, block_of, block_size, usable_from, end_of, own_bytes_at};
+ghost use Rattle.chunk_reader.specs.Places.{HasOwnBytes};
+ghost use Rattle.block_layout.specs.Layout.{chunk_header_size, IsBoundary, IsNextPlace, block_of, block_size, usable_from, end_of, own_bytes_at};
 
-use block_layout::{BLOCK_HEADER_SIZE, BLOCK_SIZE};
+use block_layout::{BLOCK_HEADER_SIZE, BLOCK_SIZE, CHUNK_HEADER_SIZE, end_of};
 use record_io::{Failed, Store, get_exact};
 
 /// The own bytes of a file from a place on, which are read in order past the headers of blocks: bytes of chunk headers,
@@ -26,13 +26,22 @@ impl OwnBytes {
         OwnBytes { place }
     }
 
+    /// Those behind the header of a chunk that begins at a boundary.
+    pub fn behind_header(begin: u64) -> OwnBytes
+        requires in_reach { begin ≤ 2 ^ 60 }
+        requires from_boundary { IsBoundary begin }
+        ensures { result.place ≡ end_of begin chunk_header_size }
+    {
+        OwnBytes::from(end_of(begin, CHUNK_HEADER_SIZE).unwrap())
+    }
+
     /// Fills the buffer with the next own bytes.
     ///
     /// # Errors
     ///
     /// `Failed` only where the store failed.
     pub fn fill<S: Store>(&mut self, store: &mut S, buf: &mut [u8]) -> Result<(), Failed>
-        requires told { HasRoom (S.told store.old) self.old.place (length buf.old) }
+        requires told { HasOwnBytes (S.told store.old) self.old.place (length buf.old) }
         ensures moved { OnOk result (self.new.place ≡ end_of self.old.place (length buf.old)) }
         ensures given { OnOk result (IfSome (S.bytes store.old) (λ file. buf.new ≡ own_bytes_at file self.old.place (length buf.old))) }
         ensures handed { S.handed store.new ≤ S.handed store.old + length buf.old }
@@ -52,7 +61,7 @@ impl OwnBytes {
     /// `Failed` only where the store failed. Nothing is passed then.
     pub fn take<S: Store>(&mut self, store: &mut S, buf: &mut [u8]) -> Result<usize, Failed>
         requires room { 0 < length buf.old }
-        requires told { HasRoom (S.told store.old) self.old.place (length buf.old) }
+        requires told { HasOwnBytes (S.told store.old) self.old.place (length buf.old) }
         ensures some { IfOk result (λ n. 0 < n) }
         ensures fits { IfOk result (λ n. n ≤ length buf.old) }
         ensures moved { IfOk result (λ n. self.new.place ≡ end_of self.old.place n) }

@@ -1,4 +1,4 @@
-ghost use Rattle.std.specs.Prelude.{◌≡◌, ◌≢◌, ◌-◌, ◌≤◌, ℕ, List, [], ◌++◌, length, IfSome};
+ghost use Rattle.std.specs.Prelude.{◌≡◌, ◌≢◌, ◌≤◌, ℕ, List, [], length};
 ghost use Rattle.chunk_header.specs.SimpleChunks.{simple_kind};
 ghost use Rattle.chunk_header.specs.Views.{value_of};
 ghost use Rattle.chunk_header.specs.declared.Header.{Header};
@@ -7,6 +7,7 @@ ghost use Rattle.simple_chunk.specs.Checkers.{HasChecked};
 ghost use Rattle.meta_chunk.specs.Files.{max_data_size};
 ghost use Rattle.chunk_reader.specs.Pieces.{HasTaken, HasLeft, TellsUnread};
 
+use crate::feeding::TakesData;
 use crate::reasons::Why;
 use chunk_header::Header;
 use highway_hash::{Hasher, RIEGELI};
@@ -40,19 +41,6 @@ impl PieceJudge {
         }
     }
 
-    /// Takes the next bytes of data, of which there are no more than are still to come.
-    pub(crate) fn feed(&mut self, piece: &[u8])
-        requires { IfSome self.old.checker (λ checker. length piece.now ≤ checker.left) }
-        ensures header { self.new.header ≡ self.old.header }
-        ensures left { (count : ℕ) → HasLeft self.old count → HasLeft self.new (count - length piece.now) }
-        ensures taken { (bytes : List ℕ) → HasTaken self.old bytes → HasTaken self.new (bytes ++ piece.now) }
-    {
-        self.hasher.update(piece);
-        if let Some(checker) = &mut self.checker {
-            checker.feed(piece);
-        }
-    }
-
     /// Whether the chunk is left unread, once all of its data was taken, or the first reason by which its content is refused.
     pub(crate) fn finish(self) -> Result<bool, Why>
         requires small { self.header.data_size ≤ max_data_size }
@@ -71,6 +59,23 @@ impl PieceJudge {
         match checker {
             Some(checker) => simple_unread(checker),
             None => other_unread(&header),
+        }
+    }
+}
+
+impl TakesData for PieceJudge {
+    ghost use Rattle.chunk_reader.specs.Pieces.{HasTaken, HasLeft};
+
+    ghost header = { λ judge. judge.header };
+
+    ghost has_taken = { HasTaken };
+
+    ghost has_left = { HasLeft };
+
+    fn feed(&mut self, piece: &[u8]) {
+        self.hasher.update(piece);
+        if let Some(checker) = &mut self.checker {
+            checker.feed(piece);
         }
     }
 }

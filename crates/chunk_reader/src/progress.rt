@@ -16,6 +16,7 @@ pub(crate) fn check_signature<S: Store>(store: &mut S, size: u64) -> Result<(), 
     ensures refused { (fault : Fault) → result ≡ Err (VerifyEnd.Refused fault) → (fault.at ≡ 0) × (fault.why ≡ Why.NoSignature)
         × IfSome (S.bytes store.old) (λ file. ¬ BeginsWithSignature file) }
     ensures handed { S.handed store.new ≤ S.handed store.old + 64 }
+    ensures handed_at_most { S.handed store.new ≤ S.handed store.old + size }
     ensures store { OnlyAsks S.bytes S.told S.name S.faults (result ≡ Err VerifyEnd.Store) store.old store.new }
 {
     let mut bytes = [0; SIGNATURE.len()];
@@ -31,11 +32,19 @@ pub(crate) fn check_signature<S: Store>(store: &mut S, size: u64) -> Result<(), 
     }))
 }
 
-/// No chunks.
+/// The totals of no chunks.
 pub(crate) const NO_CHUNKS: Totals = Totals {
     chunks: 0,
     records: 0,
     bytes: 0,
+    unread: 0,
+};
+
+/// The totals of the chunk that each file begins with.
+pub(crate) const SIGNATURE_ALONE: Totals = Totals {
+    chunks: 1,
+    records: 0,
+    bytes: SIGNATURE.len() as u64,
     unread: 0,
 };
 

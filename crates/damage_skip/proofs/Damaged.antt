@@ -10,21 +10,21 @@ use Rattle.block_layout.proofs.BlockHeaders.{IsRightBlockHeader-block_header}
 use Rattle.block_layout.proofs.Room.{boundary_past_block}
 use Rattle.chunk_header.specs.Chunks.{ChunkValue, HeaderValue, IsRightChunkHeader, header_in}
 use Rattle.meta_chunk.specs.Laid.{IsLaid}
-use Rattle.meta_chunk.specs.Files.{IsFramed, begin_of}
+use Rattle.meta_chunk.specs.Files.{IsFramed, begin_of, LiesIn}
 use Rattle.meta_chunk.proofs.OneChunk.{same_chunk}
 use Rattle.meta_chunk.proofs.Begins.{begin_of-next, begin_of-place, begin_of_rises, begin_of_rises_by, begin_of_boundary, holder_one, IsLaid-in_file}
 use Rattle.chunk_reader.specs.Places.{header_bytes_at, header_at, end_by, end_at, data_at, chunk_at, HasHeaderOf}
 use Rattle.chunk_reader.specs.Reasons.{Applies, IsFirstOf, content_reasons}
 use Rattle.chunk_reader.specs.declared.reasons.Why.{Why}
 use Rattle.chunk_reader.specs.declared.reasons.Why.TheVariants as why
+use Rattle.chunk_reader.proofs.Blocks.{stands_within}
 use Rattle.chunk_reader.proofs.AllowedChunks.{allowed_small}
 use Rattle.chunk_reader.proofs.ChainSteps.{each_at}
 use Rattle.chunk_reader.proofs.LaidAt.{header_of, header_at-laid, right_header-laid, end_at-laid, headers-laid}
 use Rattle.chunk_reader.proofs.NoReason.{not_short}
 use Rattle.damage_skip.specs.Resyncs.{StandsFrom, landing, IsResync, Contradicts}
-use Rattle.damage_skip.specs.Pieces.{What, Skipped, Piece, PassesOver, walk_reasons, IsPieceOf, AreTiles, ArePieces}
-use Rattle.damage_skip.specs.Damage.{Intact, IsDamaged, LiesIn, IsIntactFrom, IsNext, DamageLeaves, DamageLeavesEach}
-use Rattle.damage_skip.proofs.Blocks.{stands_within}
+use Rattle.damage_skip.specs.Pieces.{PieceKind, Skipped, Piece, PassesOver, walk_reasons, IsPieceOf, AreTiles, ArePieces}
+use Rattle.damage_skip.specs.Damage.{Intact, IsDamaged, IsIntactFrom, IsNext, DamageLeaves, DamageLeavesEach}
 use Rattle.damage_skip.proofs.OnePiece.{piece_one}
 use Rattle.damage_skip.proofs.Tiles.{tiles_to_end}
 use Rattle.damage_skip.proofs.Found.{agrees, end_in_reach}
@@ -170,7 +170,7 @@ module _ (keep : Bool) (ks : List ChunkValue) (file damaged : List ℕ) (intact 
       not_short (begin_of ks j) k file (begin_of ks (j + 1)) (laid_at j k at) (omega (arith, short, d.same_length))
 
   -- what is left of it, with the piece that is
-  IsLeftPiece : (j : ℕ) (k : ChunkValue) (to : ℕ) (what : What) → Type 0
+  IsLeftPiece : (j : ℕ) (k : ChunkValue) (to : ℕ) (what : PieceKind) → Type 0
   IsLeftPiece j k to what =
       IsPieceOf keep damaged (begin_of ks j) to what × DamageLeaves keep (intact.header j) (intact.«data» j) k what
 
@@ -257,13 +257,13 @@ module _ (keep : Bool) (ks : List ChunkValue) (file damaged : List ℕ) (intact 
         (ap (λ (v : HeaderValue). v.decoded_size) same_fields)
         (ap (data_at damaged (begin_of ks j)) same_size ∙ (d.«data» j k at).0 kept)
 
-    left_where_kept : intact.«data» j ≡ true → (what : What) → DamageLeaves keep true true k what
+    left_where_kept : intact.«data» j ≡ true → (what : PieceKind) → DamageLeaves keep true true k what
         → DamageLeaves keep (intact.header j) (intact.«data» j) k what
     left_where_kept kept what left =
         subst (λ (h : Bool). DamageLeaves keep h (intact.«data» j) k what) (sym whole)
         (subst (λ (x : Bool). DamageLeaves keep true x k what) (sym kept) left)
 
-    kept_piece : intact.«data» j ≡ true → (what : What) × IsLeftPiece j k (begin_of ks (j + 1)) what
+    kept_piece : intact.«data» j ≡ true → (what : PieceKind) × IsLeftPiece j k (begin_of ks (j + 1)) what
     unfolding IsLeftPiece
     kept_piece kept =
         let same : chunk_at damaged (begin_of ks j) ≡ k = same_data kept in
@@ -285,7 +285,7 @@ module _ (keep : Bool) (ks : List ChunkValue) (file damaged : List ℕ) (intact 
 
   -- so the piece that begins where a chunk does is what is left of it
   left_at : (j : ℕ) (k : ChunkValue) → slice_get ks j ≡ Some k
-      → (next : ℕ) × (what : What) × IsNext ks intact j next × IsLeftPiece j k (begin_of ks next) what
+      → (next : ℕ) × (what : PieceKind) × IsNext ks intact j next × IsLeftPiece j k (begin_of ks next) what
   left_at j k at =
       elim (cases_Bool (intact.header j)) [
         | inl whole ↦ elim (cases_Bool (intact.«data» j)) [
@@ -320,7 +320,7 @@ module _ (keep : Bool) (ks : List ChunkValue) (file damaged : List ℕ) (intact 
               left.2,
               at_begin ∙ begin,
               one.0,
-              subst (λ (w : What). DamageLeaves keep (intact.header j) (intact.«data» j) k w) (sym one.1) left.3.1,
+              subst (λ (w : PieceKind). DamageLeaves keep (intact.header j) (intact.«data» j) k w) (sym one.1) left.3.1,
               tiles_left left.0 p.end pieces past.1 one.0 rest,
             )
         | inr (past, none) ↦

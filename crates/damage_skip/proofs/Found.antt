@@ -18,12 +18,12 @@ use Rattle.meta_chunk.proofs.Chains.{IsChainOf-weaker}
 use Rattle.chunk_reader.specs.Places.{end_at, HasHeaderOf}
 use Rattle.chunk_reader.specs.Reasons.{Applies, NoneOf, content_reasons}
 use Rattle.chunk_reader.specs.Faults.{IsAllowed}
+use Rattle.chunk_reader.proofs.Blocks.{stands_previous, stands_next}
 use Rattle.chunk_reader.proofs.AllowedChunks.{allowed_small, IsAllowed-frame}
 use Rattle.chunk_reader.proofs.LaidAt.{chunk_at-laid, end_at-laid, headers-laid}
 use Rattle.chunk_reader.proofs.NoReason.{no_reason, none_is_first}
 use Rattle.damage_skip.specs.Resyncs.{Contradicts}
-use Rattle.damage_skip.specs.Pieces.{What, Piece, PassesOver, walk_reasons, IsFoundAs, IsPieceOf, AreTiles, ArePieces, AreFound}
-use Rattle.damage_skip.proofs.Blocks.{stands_previous, stands_next}
+use Rattle.damage_skip.specs.Pieces.{PieceKind, Piece, PassesOver, walk_reasons, IsFoundAs, IsPieceOf, AreTiles, ArePieces, AreFound}
 use Rattle.damage_skip.proofs.OnePiece.{piece_cases}
 
 -- an end isn't far from the bytes before it
@@ -84,7 +84,7 @@ none_passes_over keep place k file end h allowed =
 
 -- and the piece there is the chunk
 pub found_laid : (keep : Bool) (place : ℕ) (k : ChunkValue) (file : List ℕ) (end : ℕ) → IsLaid place k (slice_range file place end) → IsAllowed keep k
-    → (to : ℕ) (what : What) → IsPieceOf keep file place to what → (to ≡ end_of_chunk place k) × IsFoundAs keep k what
+    → (to : ℕ) (what : PieceKind) → IsPieceOf keep file place to what → (to ≡ end_of_chunk place k) × IsFoundAs keep k what
 found_laid keep place k file end h allowed to what is =
     elim (piece_cases keep file place to what is) [
       | inl (w, same, first, at) ↦

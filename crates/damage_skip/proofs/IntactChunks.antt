@@ -12,7 +12,7 @@ use Rattle.chunk_reader.specs.declared.reasons.Why.{Why}
 use Rattle.chunk_reader.specs.declared.reasons.Why.TheVariants as why
 use Rattle.chunk_reader.proofs.AllowedChunks.{allowed_good, allowed_named, plain_read}
 use Rattle.chunk_reader.proofs.LaidAt.{chunk_at-laid, end_at-laid}
-use Rattle.damage_skip.specs.Pieces.{What, Skipped, PassesOver, IsFoundAs, IsPieceOf}
+use Rattle.damage_skip.specs.Pieces.{PieceKind, Skipped, PassesOver, IsFoundAs, IsPieceOf}
 use Rattle.damage_skip.specs.Damage.{DamageLeaves}
 use Rattle.damage_skip.proofs.OnePiece.{found_of, piece_whole}
 use Rattle.damage_skip.proofs.Found.{none_passes_over}
@@ -24,7 +24,7 @@ IsNamed keep P k w = IsFirstOf P (content_reasons keep) w × DamageLeaves keep t
 
 IsReadOrNamed : Bool → (Why → Type 0) → ChunkValue → Type 0
 IsReadOrNamed keep P k =
-    (NoneOf P (content_reasons keep) × ((what : What) × IsFoundAs keep k what × DamageLeaves keep true true k what))
+    (NoneOf P (content_reasons keep) × ((what : PieceKind) × IsFoundAs keep k what × DamageLeaves keep true true k what))
     ⊎ (IsNamed keep P k why.Compressed ⊎ IsNamed keep P k why.Transposed)
 
 read_or_named : (keep : Bool) (P : Why → Type 0) (k : ChunkValue) → IsFramed k → ¬ P why.DataHash → ¬ P why.Contents → ¬ P why.UnknownKind
@@ -65,7 +65,7 @@ pub record IsIntactAt (file : List ℕ) (place : ℕ) (k : ChunkValue) : Type 0 
 
 -- what piece it is
 pub intact_piece : (keep : Bool) (file : List ℕ) (place : ℕ) (k : ChunkValue) → IsFramed k → IsIntactAt file place k
-    → (what : What) × IsPieceOf keep file place (end_at file place) what × DamageLeaves keep true true k what
+    → (what : PieceKind) × IsPieceOf keep file place (end_at file place) what × DamageLeaves keep true true k what
 unfolding IsReadOrNamed IsNamed
 intact_piece keep file place k framed h =
     let there : ChunkValue = chunk_at file place in
@@ -97,7 +97,7 @@ intact_piece keep file place k framed h =
 
 -- one that is laid is intact
 pub laid_piece : (keep : Bool) (file : List ℕ) (place : ℕ) (k : ChunkValue) (end : ℕ) → IsFramed k → IsLaid place k (slice_range file place end)
-    → (what : What) × IsPieceOf keep file place (end_of_chunk place k) what × DamageLeaves keep true true k what
+    → (what : PieceKind) × IsPieceOf keep file place (end_of_chunk place k) what × DamageLeaves keep true true k what
 laid_piece keep file place k end framed laid =
     let none = none_passes_over true place k file end laid framed in
     let piece = intact_piece keep file place k framed (record {

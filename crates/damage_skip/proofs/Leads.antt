@@ -4,8 +4,9 @@ use Rattle.std.proofs.lemmas.Bool.{cases_lt}
 use Rattle.block_layout.specs.Layout.{IsBlock, blocks_below}
 use Rattle.block_layout.specs.BlockHeaders.{StandsAt}
 use Rattle.block_layout.specs.declared.block_header.BlockHeader.{BlockHeader}
-use Rattle.damage_skip.specs.Steps.{IsHeaderAt, LeadsTo}
-use Rattle.damage_skip.proofs.Blocks.{stands_one}
+use Rattle.chunk_reader.specs.Blocks.{IsSaneHeaderAt}
+use Rattle.chunk_reader.proofs.Blocks.{stands_one}
+use Rattle.damage_skip.specs.Steps.{LeadsTo}
 
 -- where no block lies none contradicts
 pub leads-none : (bytes : Option (List ℕ)) (begin end from to : ℕ) → blocks_below to ≤ blocks_below from
@@ -16,20 +17,20 @@ leads-none (Some file) begin end from to none =
 
 -- nor where no header stands at the only block
 pub leads-unread : (bytes : Option (List ℕ)) (begin end block : ℕ) (found : Option BlockHeader) → found ≡ None
-    → IfSome bytes (λ file. IsHeaderAt file block found) → IfSome bytes (λ file. LeadsTo file begin end block (block + 1) None)
+    → IfSome bytes (λ file. IsSaneHeaderAt file block found) → IfSome bytes (λ file. LeadsTo file begin end block (block + 1) None)
 leads-unread None begin end block found none at = tt
 leads-unread (Some file) begin end block found none at =
-    let unread : IsHeaderAt file block None = subst (IsHeaderAt file block) none at in
+    let unread : IsSaneHeaderAt file block None = subst (IsSaneHeaderAt file block) none at in
     λ b p n h.
     unread p n (subst (λ (x : ℕ). StandsAt file x p n) (omega (arith, h.from_place, h.below)) h.contradicts.stands)
 
 -- nor where the header there tells of the same chunk
 pub leads-agreed : (bytes : Option (List ℕ)) (begin end block : ℕ) (found : Option BlockHeader) (h : BlockHeader) → found ≡ Some h
-    → IfSome bytes (λ file. IsHeaderAt file block found) → (block - h.previous ≡ begin) × (block + h.next ≡ end)
+    → IfSome bytes (λ file. IsSaneHeaderAt file block found) → (block - h.previous ≡ begin) × (block + h.next ≡ end)
     → IfSome bytes (λ file. LeadsTo file begin end block (block + 1) None)
 leads-agreed None begin end block found h is at agrees = tt
 leads-agreed (Some file) begin end block found h is at agrees =
-    let here : StandsAt file block h.previous h.next = subst (IsHeaderAt file block) is at in
+    let here : StandsAt file block h.previous h.next = subst (IsSaneHeaderAt file block) is at in
     λ b p n other.
     let place : b ≡ block = omega (arith, other.from_place, other.below) in
     let same = stands_one file block p n h.previous h.next (subst (λ (x : ℕ). StandsAt file x p n) place other.contradicts.stands) here in

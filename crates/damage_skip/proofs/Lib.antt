@@ -1,4 +1,3 @@
-pub mod Blocks
 pub mod PlacesFurtherOn
 pub mod OnePiece
 pub mod Tiles

@@ -11,6 +11,7 @@ use Rattle.chunk_reader.specs.Places.{header_at, end_at, chunk_at}
 use Rattle.chunk_reader.specs.Reasons.{NoneOf, IsFirstOf, content_reasons}
 use Rattle.chunk_reader.specs.declared.reasons.Why.{Why}
 use Rattle.chunk_reader.specs.declared.reasons.Why.TheVariants as why
+use Rattle.chunk_reader.proofs.Blocks.{stands_within}
 use Rattle.chunk_reader.proofs.PassedChunks.{end_at_after}
 use Rattle.chunk_reader.proofs.FileFaults.{first_is_one, first_applies}
 use Rattle.chunk_reader.proofs.FaultsDecided.{reason_decided, first_or_none}
@@ -18,8 +19,7 @@ use Rattle.chunk_reader.proofs.NoReason.{none_is_first}
 use Rattle.chunk_reader.proofs.NoReasonLaid.{content_where_none}
 use Rattle.chunk_reader.proofs.AllowedChunks.{IsPassed}
 use Rattle.damage_skip.specs.Resyncs.{Contradicts, landing}
-use Rattle.damage_skip.specs.Pieces.{What, Given, Kept, Passive, Skipped, PassesOver, walk_reasons, SkipsTo, IsFoundAs, IsPieceOf}
-use Rattle.damage_skip.proofs.Blocks.{stands_within}
+use Rattle.damage_skip.specs.Pieces.{PieceKind, Given, Kept, LeftOut, Skipped, PassesOver, walk_reasons, SkipsTo, IsFoundAs, IsPieceOf}
 use Rattle.damage_skip.specs.Steps.{IsOnward}
 use Rattle.damage_skip.proofs.PlacesFurtherOn.{onward-landing, landing_same, first_block_one, first_block_of, resync_past, resync_one, resync_of, says_against, against_decided, some_against_decided}
 
@@ -83,7 +83,7 @@ skips_past keep file place other to below first is =
     subst (IsOnward (length file) place) (sym is)
     (end_past file place (whole_later keep file place other (λ e. cc) (λ e. cc) (λ e. cc) (λ e. cc) first))
 
--- a chunk of records is none that is kept, nor one that is passive
+-- a chunk of records is none that is kept, nor one that is left out
 pub given_or_kept : (keep : Bool) (k : ChunkValue) (records : List (List ℕ)) → IsSimple k records
     → (IsMetadata k ⊎ ((keep ≡ true) × (IsCompressed k ⊎ IsTransposed k))) → ⊥
 given_or_kept keep k records simple (inl metadata) =
@@ -93,70 +93,70 @@ given_or_kept keep k records simple (inr (kept, inl compressed)) =
 given_or_kept keep k records simple (inr (kept, inr transposed)) =
     let r : k.kind ≡ 0x72 = simple.kind in let t : k.kind ≡ 0x74 = transposed in omega arith
 
-kind_passive : (k : ChunkValue) → (IsSignature k ⊎ IsPadding k) → (k.kind ≡ 0x73) ⊎ (k.kind ≡ 0x70)
-kind_passive k (inl is) = inl is.0
-kind_passive k (inr is) = inr is.0
+kind_left_out : (k : ChunkValue) → (IsSignature k ⊎ IsPadding k) → (k.kind ≡ 0x73) ⊎ (k.kind ≡ 0x70)
+kind_left_out k (inl is) = inl is.0
+kind_left_out k (inr is) = inr is.0
 
-pub given_or_passive : (k : ChunkValue) (records : List (List ℕ)) → IsSimple k records → (IsSignature k ⊎ IsPadding k) → ⊥
-given_or_passive k records simple passive =
-    let r : k.kind ≡ 0x72 = simple.kind in elim (kind_passive k passive) [ inl s ↦ omega arith | inr p ↦ omega arith ]
+pub given_or_left_out : (k : ChunkValue) (records : List (List ℕ)) → IsSimple k records → (IsSignature k ⊎ IsPadding k) → ⊥
+given_or_left_out k records simple left_out =
+    let r : k.kind ≡ 0x72 = simple.kind in elim (kind_left_out k left_out) [ inl s ↦ omega arith | inr p ↦ omega arith ]
 
--- nor is one that is kept passive
+-- nor is one that is kept left out
 kind_kept : (keep : Bool) (k : ChunkValue) → (IsMetadata k ⊎ ((keep ≡ true) × (IsCompressed k ⊎ IsTransposed k)))
     → (k.kind ≡ 0x6d) ⊎ (k.kind ≡ 0x72) ⊎ (k.kind ≡ 0x74)
 kind_kept keep k (inl is) = inl is.0
 kind_kept keep k (inr (kept, inl compressed)) = inr (inl compressed.0)
 kind_kept keep k (inr (kept, inr transposed)) = inr (inr transposed)
 
-kept_or_passive : (keep : Bool) (k : ChunkValue) → (IsMetadata k ⊎ ((keep ≡ true) × (IsCompressed k ⊎ IsTransposed k)))
+kept_or_left_out : (keep : Bool) (k : ChunkValue) → (IsMetadata k ⊎ ((keep ≡ true) × (IsCompressed k ⊎ IsTransposed k)))
     → (IsSignature k ⊎ IsPadding k) → ⊥
-kept_or_passive keep k kept passive =
+kept_or_left_out keep k kept left_out =
     elim (kind_kept keep k kept) [
-      | inl m ↦ elim (kind_passive k passive) [ inl s ↦ omega arith | inr p ↦ omega arith ]
-      | inr (inl r) ↦ elim (kind_passive k passive) [ inl s ↦ omega arith | inr p ↦ omega arith ]
-      | inr (inr t) ↦ elim (kind_passive k passive) [ inl s ↦ omega arith | inr p ↦ omega arith ]
+      | inl m ↦ elim (kind_left_out k left_out) [ inl s ↦ omega arith | inr p ↦ omega arith ]
+      | inr (inl r) ↦ elim (kind_left_out k left_out) [ inl s ↦ omega arith | inr p ↦ omega arith ]
+      | inr (inr t) ↦ elim (kind_left_out k left_out) [ inl s ↦ omega arith | inr p ↦ omega arith ]
     ]
 
 -- what an intact chunk is found as is one
-pub found_one : (keep : Bool) (k : ChunkValue) (a b : What) → IsFoundAs keep k a → IsFoundAs keep k b → a ≡ b
+pub found_one : (keep : Bool) (k : ChunkValue) (a b : PieceKind) → IsFoundAs keep k a → IsFoundAs keep k b → a ≡ b
 found_one keep k (Given records c) (Given others d) (simple, is) (also, there) =
     ap (λ (xs : List (List ℕ)). Given xs c) (records_are_one k records others simple also) ∙ ap (Given others) (is ∙ sym there)
 found_one keep k (Given records c) (Kept d) (simple, is) (kept, there) = absurd (given_or_kept keep k records simple kept)
-found_one keep k (Given records c) Passive (simple, is) passive = absurd (given_or_passive k records simple passive)
+found_one keep k (Given records c) LeftOut (simple, is) left_out = absurd (given_or_left_out k records simple left_out)
 found_one keep k (Kept c) (Given records d) (kept, is) (simple, there) = absurd (given_or_kept keep k records simple kept)
 found_one keep k (Kept c) (Kept d) (kept, is) (also, there) = ap Kept (is ∙ sym there)
-found_one keep k (Kept c) Passive (kept, is) passive = absurd (kept_or_passive keep k kept passive)
-found_one keep k Passive (Given records d) passive (simple, there) = absurd (given_or_passive k records simple passive)
-found_one keep k Passive (Kept d) passive (kept, there) = absurd (kept_or_passive keep k kept passive)
-found_one keep k Passive Passive passive also = refl
+found_one keep k (Kept c) LeftOut (kept, is) left_out = absurd (kept_or_left_out keep k kept left_out)
+found_one keep k LeftOut (Given records d) left_out (simple, there) = absurd (given_or_left_out k records simple left_out)
+found_one keep k LeftOut (Kept d) left_out (kept, there) = absurd (kept_or_left_out keep k kept left_out)
+found_one keep k LeftOut LeftOut left_out also = refl
 found_one keep k (Skipped w) b h g = absurd h
 found_one keep k a (Skipped w) h g = absurd g
 
 -- a piece is passed over for the first reason that applies, or a chunk to which none does
-abbrev pub IsSkip : Bool → List ℕ → (begin end : ℕ) → What → Type 0
+abbrev pub IsSkip : Bool → List ℕ → (begin end : ℕ) → PieceKind → Type 0
 IsSkip keep file begin end what =
     (w : Why) × (what ≡ Skipped w) × IsFirstOf (PassesOver file begin) (walk_reasons keep) w × SkipsTo file begin w end
 
-abbrev pub IsWhole : Bool → List ℕ → (begin end : ℕ) → What → Type 0
+abbrev pub IsWhole : Bool → List ℕ → (begin end : ℕ) → PieceKind → Type 0
 IsWhole keep file begin end what =
     NoneOf (PassesOver file begin) (walk_reasons keep) × (end ≡ end_at file begin) × IsFoundAs keep (chunk_at file begin) what
 
-pub piece_cases : (keep : Bool) (file : List ℕ) (begin end : ℕ) (what : What) → IsPieceOf keep file begin end what
+pub piece_cases : (keep : Bool) (file : List ℕ) (begin end : ℕ) (what : PieceKind) → IsPieceOf keep file begin end what
     → IsSkip keep file begin end what ⊎ IsWhole keep file begin end what
 piece_cases keep file begin end (Given records c) h = inr h
 piece_cases keep file begin end (Kept c) h = inr h
-piece_cases keep file begin end Passive h = inr h
+piece_cases keep file begin end LeftOut h = inr h
 piece_cases keep file begin end (Skipped w) (first, to) = inl (w, refl, first, to)
 
-pub piece_whole : (keep : Bool) (file : List ℕ) (begin end : ℕ) (what : What) → IsWhole keep file begin end what
+pub piece_whole : (keep : Bool) (file : List ℕ) (begin end : ℕ) (what : PieceKind) → IsWhole keep file begin end what
     → IsPieceOf keep file begin end what
 piece_whole keep file begin end (Given records c) h = h
 piece_whole keep file begin end (Kept c) h = h
-piece_whole keep file begin end Passive h = h
+piece_whole keep file begin end LeftOut h = h
 piece_whole keep file begin end (Skipped w) h = absurd h.2
 
 -- so at a place one piece begins at most
-pub piece_one : (keep : Bool) (file : List ℕ) (begin end other : ℕ) (what that : What)
+pub piece_one : (keep : Bool) (file : List ℕ) (begin end other : ℕ) (what that : PieceKind)
     → IsPieceOf keep file begin end what → IsPieceOf keep file begin other that → (end ≡ other) × (what ≡ that)
 piece_one keep file begin end other what that h g =
     let reasons = walk_reasons keep in
@@ -175,7 +175,7 @@ piece_one keep file begin end other what that h g =
     ]
 
 -- it ends past the place
-pub piece_past : (keep : Bool) (file : List ℕ) (begin end : ℕ) (what : What) → begin < length file
+pub piece_past : (keep : Bool) (file : List ℕ) (begin end : ℕ) (what : PieceKind) → begin < length file
     → IsPieceOf keep file begin end what → IsOnward (length file) begin end
 piece_past keep file begin end what below h =
     elim (piece_cases keep file begin end what h) [
@@ -184,13 +184,13 @@ piece_past keep file begin end what below h =
     ]
 
 -- where no reason passes over a chunk, it is found
-found_plain : (keep : Bool) (k : ChunkValue) → IsPassed false k → (what : What) × IsFoundAs keep k what
+found_plain : (keep : Bool) (k : ChunkValue) → IsPassed false k → (what : PieceKind) × IsFoundAs keep k what
 found_plain keep k (inl (records, simple)) = (Given records k, (simple, refl))
-found_plain keep k (inr (inl s)) = (Passive, inl s)
+found_plain keep k (inr (inl s)) = (LeftOut, inl s)
 found_plain keep k (inr (inr (inl m))) = (Kept k, (inl m, refl))
-found_plain keep k (inr (inr (inr p))) = (Passive, inr p)
+found_plain keep k (inr (inr (inr p))) = (LeftOut, inr p)
 
-pub found_of : (keep : Bool) (k : ChunkValue) → IsPassed keep k → (what : What) × IsFoundAs keep k what
+pub found_of : (keep : Bool) (k : ChunkValue) → IsPassed keep k → (what : PieceKind) × IsFoundAs keep k what
 found_of false k plain = found_plain false k plain
 found_of true k (inl plain) = found_plain true k plain
 found_of true k (inr (inl t)) = (Kept k, (inr (refl, inr t), refl))
@@ -202,7 +202,7 @@ content_passed false file place none = content_where_none false file place none
 content_passed true file place none = content_where_none true file place none
 
 -- so at each place a piece begins
-pub piece_of_place : (keep : Bool) (file : List ℕ) (place : ℕ) → (end : ℕ) × (what : What) × IsPieceOf keep file place end what
+pub piece_of_place : (keep : Bool) (file : List ℕ) (place : ℕ) → (end : ℕ) × (what : PieceKind) × IsPieceOf keep file place end what
 piece_of_place keep file place =
     elim (first_or_none (PassesOver file place) (passes_decided file place) (walk_reasons keep)) [
       | inl (w, first) ↦

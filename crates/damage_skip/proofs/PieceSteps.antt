@@ -7,6 +7,7 @@ use Rattle.chunk_header.specs.Chunks.{ChunkValue, HeaderValue, IsChunk}
 use Rattle.chunk_header.specs.declared.Header.{Header}
 use Rattle.chunk_header.specs.declared.Chunk.{Chunk}
 use Rattle.chunk_header.specs.Views.{IsHeader, value_of_header, value_of, value_of_chunk}
+use Rattle.meta_chunk.specs.Counts.{is_unread}
 use Rattle.meta_chunk.specs.Files.{max_data_size}
 use Rattle.meta_chunk.specs.Laid.{end_of_chunk}
 use Rattle.chunk_reader.specs.Heads.{IsHead}
@@ -17,19 +18,19 @@ use Rattle.chunk_reader.specs.declared.heads.Head.TheVariants as head
 use Rattle.chunk_reader.specs.declared.judging.LoadEnd.{LoadEnd}
 use Rattle.chunk_reader.specs.declared.reasons.Why.{Why}
 use Rattle.chunk_reader.specs.declared.reasons.Why.TheVariants as why
+use Rattle.chunk_reader.proofs.Blocks.{stands_within}
 use Rattle.chunk_reader.proofs.PassedChunks.{header_at-header}
 use Rattle.chunk_reader.proofs.Rooms.{IsSized}
 use Rattle.chunk_reader.proofs.StrictSteps.{right_hash}
-use Rattle.chunk_reader.proofs.Verdicts.{first_behind, none_behind, value_of-at, end_by-at, hash_of-at}
-use Rattle.chunk_reader.proofs.WholeHeads.{HasRightHead, none_loading}
+use Rattle.chunk_reader.proofs.Verdicts.{first_behind, none_behind, value_of-at, end_by-at, hash_of-at, is_unread-plain, is_unread-unread}
+use Rattle.chunk_reader.proofs.WholeHeads.{HasRightHead, none_loading, none_passing}
 use Rattle.damage_skip.specs.Pieces as pieces
 use Rattle.damage_skip.specs.Pieces.{PassesOver, SkipsTo, IsPieceOf, walk_reasons}
 use Rattle.damage_skip.specs.Resyncs.{IsResync, Contradicts}
-use Rattle.damage_skip.specs.Steps.{LeadsTo, IsEndOf, IsOnward, HasIntact, IsReadAs, IsUnloaded, IsPieceFrom, value_of_what}
+use Rattle.damage_skip.specs.Steps.{LeadsTo, IsEndOf, IsOnward, HasIntact, IsKeptAs, IsReadAs, IsUnloaded, IsPieceFrom, value_of_what}
 use Rattle.damage_skip.specs.declared.pieces.Piece.{Piece}
-use Rattle.damage_skip.specs.declared.pieces.What.{What}
-use Rattle.damage_skip.specs.declared.pieces.What.TheVariants as what
-use Rattle.damage_skip.proofs.Blocks.{stands_within}
+use Rattle.damage_skip.specs.declared.pieces.PieceKind.{PieceKind}
+use Rattle.damage_skip.specs.declared.pieces.PieceKind.TheVariants as what
 
 -- a piece is the one at a place of a file
 abbrev pub IsPieceThere : Bool → ℕ → Piece → List ℕ → Type 0
@@ -97,10 +98,10 @@ unloaded_there : (keep : Bool) (file : List ℕ) (at to : ℕ) (w : Why) (piece 
     → ContradictBelow file at to → ((¬ PassesOver file at why.Contradicted) → IsPieceOf keep file at to (pieces.Skipped w))
     → IsUnloaded file at (end_at file at) to w piece → IsPieceThere keep at piece file
 unloaded_there keep file at to w piece right below otherwise (inl (is, leads)) =
-    subst (λ (x : What). IsPieceOf keep file at piece.end (value_of_what x)) (sym is)
+    subst (λ (x : PieceKind). IsPieceOf keep file at piece.end (value_of_what x)) (sym is)
     (contradicted_there keep file at to piece.end right below leads)
 unloaded_there keep file at to w piece right below otherwise (inr (is, ends, none)) =
-    subst (λ (x : What). IsPieceOf keep file at piece.end (value_of_what x)) (sym is)
+    subst (λ (x : PieceKind). IsPieceOf keep file at piece.end (value_of_what x)) (sym is)
     (subst (λ (e : ℕ). IsPieceOf keep file at e (pieces.Skipped w)) (sym ends) (otherwise (none_contradicts file at to below none)))
 
 pub unloaded_landing : (bytes : Option (List ℕ)) (begin end to place : ℕ) (w : Why) (piece : Piece) (leads : Option ℕ) → leads ≡ Some place
@@ -215,7 +216,7 @@ all_none keep file at chunk there none =
     none_behind (PassesOver file at) early_reasons (content_reasons keep) there.early
     (content_none keep file at (same_none keep _ _ _ _ there.hash there.value none))
 
-read_there : (keep : Bool) (file : List ℕ) (at : ℕ) (chunk : Chunk) (w : What) → IsThere file at chunk → IsReadAs keep chunk w
+read_there : (keep : Bool) (file : List ℕ) (at : ℕ) (chunk : Chunk) (w : PieceKind) → IsThere file at chunk → IsReadAs keep chunk w
     → IsPieceOf keep file at (end_at file at) (value_of_what w)
 read_there keep file at chunk (what.Skipped reason) there first =
     let here = same_first keep _ _ _ _ reason there.hash there.value first in (
@@ -223,13 +224,13 @@ read_there keep file at chunk (what.Skipped reason) there first =
       skips_first _ file at (end_at file at) (content_reasons keep) reason (content_skips keep file at) here,
     )
 read_there keep file at chunk (what.Given records same) there read =
-    let given : pieces.What = pieces.Given records (value_of_chunk same) in
+    let given : pieces.PieceKind = pieces.Given records (value_of_chunk same) in
     (all_none keep file at chunk there read.0, refl, subst (λ (k : ChunkValue). pieces.IsFoundAs keep k given) there.value read.1)
-read_there keep file at chunk (what.Kept same) there read =
-    let kept : pieces.What = pieces.Kept (value_of_chunk same) in
+read_there keep file at chunk (what.Kept same unread) there read =
+    let kept : pieces.PieceKind = pieces.Kept (value_of_chunk same) in
     (all_none keep file at chunk there read.0, refl, subst (λ (k : ChunkValue). pieces.IsFoundAs keep k kept) there.value read.1)
-read_there keep file at chunk what.Passive there read =
-    (all_none keep file at chunk there read.0, refl, subst (λ (k : ChunkValue). pieces.IsFoundAs keep k pieces.Passive) there.value read.1)
+read_there keep file at chunk what.LeftOut there read =
+    (all_none keep file at chunk there read.0, refl, subst (λ (k : ChunkValue). pieces.IsFoundAs keep k pieces.LeftOut) there.value read.1)
 
 -- a chunk that was read
 pub read_piece : (bytes : Option (List ℕ)) (keep : Bool) (size at end : ℕ) (h : Header) (chunk : Chunk) (piece : Piece)
@@ -240,7 +241,8 @@ pub read_piece : (bytes : Option (List ℕ)) (keep : Bool) (size at end : ℕ) (
 read_piece None keep size at end h chunk piece sized fits right is within small same loaded ends read = tt
 read_piece (Some file) keep size at end h chunk piece sized fits right is within small same loaded ends read =
     let end_is : end ≡ end_at file at = is ∙ end_by-at file at h fits right.1 in
-    let loading = none_loading (Some file) size at h sized fits right (omega (arith, is, within)) small in
+    let passing = none_passing (Some file) size at h sized fits right (omega (arith, is, within)) in
+    let loading = none_loading (Some file) at h fits right.1 passing small in
     let none : LeadsTo file at (end_at file at) at end None = subst (λ (e : ℕ). LeadsTo file at e at end None) end_is loaded.1 in
     let there : IsThere file at chunk = record {
       early = early_none file at loading (none_contradicts file at end (λ b p n c. omega (arith, end_is, c.below)) none);
@@ -276,19 +278,23 @@ chunk_ends at end h chunk same is =
     let records : chunk.header.num_records ≡ h.num_records = ap (λ (x : Header). x.num_records) same in
     rw (size, records) is
 
+-- what is known of one that is kept tells whether it is left unread
+kept_unread : (k : ChunkValue) (unread : Bool) → length k.«data» ≤ max_data_size → IsKeptAs k unread → unread ≡ is_unread k
+kept_unread k true small (inl compressed) = sym (is_unread-unread k (small, inr compressed))
+kept_unread k true small (inr transposed) = sym (is_unread-unread k (small, inl transposed))
+kept_unread k false small metadata = sym (is_unread-plain k (small, inr (inr (inl metadata))))
+
 -- and is intact
-read_intact : (keep : Bool) (at end : ℕ) (h : Header) (chunk : Chunk) (w : What) → chunk.header ≡ h → end ≡ end_by at (value_of_header h)
+read_intact : (keep : Bool) (at end : ℕ) (h : Header) (chunk : Chunk) (w : PieceKind) → chunk.header ≡ h → end ≡ end_by at (value_of_header h)
     → IsChunk (value_of_chunk chunk) → h.data_size ≤ max_data_size → IsReadAs keep chunk w → HasIntact at end w
 read_intact keep at end h chunk (what.Skipped reason) same is sound small read = tt
-read_intact keep at end h chunk what.Passive same is sound small read = tt
-read_intact keep at end h chunk (what.Kept kept) same is sound small read =
-    subst (λ (c : Chunk). HasIntact at end (what.Kept c)) (sym read.2) (
+read_intact keep at end h chunk what.LeftOut same is sound small read = tt
+read_intact keep at end h chunk (what.Kept kept unread) same is sound small read =
+    let few : length chunk.bytes ≤ max_data_size = omega (arith, chunk.sized, ap (λ (x : Header). x.data_size) same, small) in
+    subst (λ (c : Chunk). HasIntact at end (what.Kept c unread)) (sym read.2.0) (
       chunk_ends at end h chunk same is,
-      record {
-        right = right_hash keep chunk read.0;
-        sound = sound;
-        small = omega (arith, chunk.sized, ap (λ (x : Header). x.data_size) same, small);
-      },
+      record { right = right_hash keep chunk read.0; sound = sound; small = few },
+      kept_unread (value_of_chunk chunk) unread few read.2.1,
     )
 read_intact keep at end h chunk (what.Given records given) same is sound small read =
     subst (λ (c : Chunk). HasIntact at end (what.Given records c)) (sym read.2) (

@@ -4,10 +4,10 @@ use Rattle.std.proofs.lemmas.Bool.{cases_lt, cond-true, cond-false, lt-ltb, le-l
 use Rattle.block_layout.specs.Layout.{IsBoundary}
 use Rattle.block_layout.specs.BlockHeaders.{IsSane, StandsAt}
 use Rattle.chunk_header.proofs.Decided.{IsDecided, both, same_decided, less_decided, at_most_decided, equal_decided, not_decided, some_below_decided}
+use Rattle.chunk_reader.proofs.Blocks.{stands_one, stands_decided, stands_within}
 use Rattle.chunk_reader.proofs.FaultsDecided.{either_decided, least_below}
 use Rattle.damage_skip.specs.Resyncs.{IsFirstBlock, StandsFrom, landing, IsResync, Contradicts}
 use Rattle.damage_skip.specs.Steps.{IsOnward}
-use Rattle.damage_skip.proofs.Blocks.{stands_one, stands_decided, stands_within}
 
 -- a block leads to the begin of the chunk where that is past the place, and else to the chunk's end
 landing-back : (size place block previous next : ℕ) → place < block - previous → landing size place block previous next ≡ block - previous

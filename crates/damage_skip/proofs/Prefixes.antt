@@ -16,12 +16,12 @@ use Rattle.meta_chunk.proofs.Chains.{IsChainOf-take}
 use Rattle.chunk_reader.specs.Places.{header_bytes_at, end_by, end_at}
 use Rattle.chunk_reader.specs.declared.reasons.Why.{Why}
 use Rattle.chunk_reader.specs.declared.reasons.Why.TheVariants as why
+use Rattle.chunk_reader.proofs.Blocks.{stands_within}
 use Rattle.chunk_reader.proofs.ChainSteps.{each_at}
 use Rattle.chunk_reader.proofs.LaidAt.{right_header-laid, end_at-laid, headers-laid}
 use Rattle.damage_skip.specs.Resyncs.{IsResync, Contradicts}
-use Rattle.damage_skip.specs.Pieces.{What, Skipped, Piece, IsPieceOf, AreTiles, ArePieces}
+use Rattle.damage_skip.specs.Pieces.{PieceKind, Skipped, Piece, IsPieceOf, AreTiles, ArePieces}
 use Rattle.damage_skip.specs.Damage.{DamageLeaves}
-use Rattle.damage_skip.proofs.Blocks.{stands_within}
 use Rattle.damage_skip.proofs.PlacesFurtherOn.{resync_of}
 use Rattle.damage_skip.proofs.OnePiece.{piece_one}
 use Rattle.damage_skip.proofs.Tiles.{tiles_past, tiles_append}
@@ -40,7 +40,7 @@ module _ (keep : Bool) (ls : List ChunkValue) (file : List ℕ) (to : ℕ) (chai
 
   -- the piece at each
   chain_piece : (j : ℕ) (k : ChunkValue) → slice_get ls j ≡ Some k
-      → (what : What) × IsPieceOf keep file (begin_of ls j) (begin_of ls (j + 1)) what × DamageLeaves keep true true k what
+      → (what : PieceKind) × IsPieceOf keep file (begin_of ls j) (begin_of ls (j + 1)) what × DamageLeaves keep true true k what
   chain_piece j k at =
       let piece = laid_piece keep file (begin_of ls j) k (begin_of ls (j + 1)) (each_at IsFramed ls j k chain.each at)
       (IsLaid-in_file ls file to j k chain.within chain.laid at) in (

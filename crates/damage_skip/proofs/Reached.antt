@@ -8,13 +8,13 @@ use Rattle.block_layout.specs.Layout.{IsBlock}
 use Rattle.chunk_header.specs.Chunks.{ChunkValue}
 use Rattle.chunk_header.specs.SimpleChunks.{IsCompressed}
 use Rattle.chunk_header.proofs.Decided.{IsDecided, both, same_decided, less_decided, at_most_decided, equal_decided, some_below_decided}
-use Rattle.meta_chunk.specs.Files.{IsTransposed, IsFramed, begin_of}
+use Rattle.meta_chunk.specs.Files.{IsTransposed, IsFramed, begin_of, LiesIn}
 use Rattle.meta_chunk.proofs.Begins.{holder_of, holder_one}
 use Rattle.chunk_reader.proofs.ChainSteps.{each_at}
 use Rattle.chunk_reader.proofs.FaultsDecided.{least_below}
 use Rattle.chunk_reader.specs.declared.reasons.Why.TheVariants as why
-use Rattle.damage_skip.specs.Pieces.{What, Given, Kept, Passive, Skipped, Piece, IsFoundAs}
-use Rattle.damage_skip.specs.Damage.{Intact, LiesIn, IsIntactFrom, IsNext, AreReached, DamageLeaves, DamageLeavesEach}
+use Rattle.damage_skip.specs.Pieces.{PieceKind, Given, Kept, LeftOut, Skipped, Piece, IsFoundAs}
+use Rattle.damage_skip.specs.Damage.{Intact, IsIntactFrom, IsNext, AreReached, DamageLeaves, DamageLeavesEach}
 use Rattle.damage_skip.proofs.OnePiece.{found_one, found_of, given_or_kept}
 use Rattle.damage_skip.proofs.Tiles.{same_piece}
 
@@ -109,20 +109,20 @@ pub reached_of : (ks : List ChunkValue) (intact : Intact) (j : ℕ) → j ≤ le
 reached_of ks intact j inside = reached_from ks intact (length ks) j (omega arith) inside
 
 -- a chunk that is left unread is none that is found where such chunks aren't kept
-unread_or_found : (k : ChunkValue) (what : What) → (IsCompressed k ⊎ IsTransposed k) → ¬ IsFoundAs false k what
+unread_or_found : (k : ChunkValue) (what : PieceKind) → (IsCompressed k ⊎ IsTransposed k) → ¬ IsFoundAs false k what
 unread_or_found k (Given records c) unread (simple, is) = given_or_kept true k records simple (inr (refl, unread))
 unread_or_found k (Kept c) (inl compressed) (inl metadata, is) =
     let r : k.kind ≡ 0x72 = compressed.0 in let m : k.kind ≡ 0x6d = metadata.0 in omega arith
 unread_or_found k (Kept c) (inr transposed) (inl metadata, is) =
     let t : k.kind ≡ 0x74 = transposed in let m : k.kind ≡ 0x6d = metadata.0 in omega arith
 unread_or_found k (Kept c) unread (inr (kept, also), is) = cc kept
-unread_or_found k Passive (inl compressed) (inl s) =
+unread_or_found k LeftOut (inl compressed) (inl s) =
     let r : k.kind ≡ 0x72 = compressed.0 in let n : k.kind ≡ 0x73 = s.0 in omega arith
-unread_or_found k Passive (inl compressed) (inr p) =
+unread_or_found k LeftOut (inl compressed) (inr p) =
     let r : k.kind ≡ 0x72 = compressed.0 in let n : k.kind ≡ 0x70 = p.0 in omega arith
-unread_or_found k Passive (inr transposed) (inl s) =
+unread_or_found k LeftOut (inr transposed) (inl s) =
     let t : k.kind ≡ 0x74 = transposed in let n : k.kind ≡ 0x73 = s.0 in omega arith
-unread_or_found k Passive (inr transposed) (inr p) =
+unread_or_found k LeftOut (inr transposed) (inr p) =
     let t : k.kind ≡ 0x74 = transposed in let n : k.kind ≡ 0x70 = p.0 in omega arith
 unread_or_found k (Skipped w) unread found = found
 
@@ -131,7 +131,7 @@ compressed_or_transposed k compressed transposed =
     let r : k.kind ≡ 0x72 = compressed.0 in let t : k.kind ≡ 0x74 = transposed in omega arith
 
 -- what is left of a chunk is one
-pub left_as_one : (keep header «data» : Bool) (k : ChunkValue) (a b : What) → DamageLeaves keep header «data» k a → DamageLeaves keep header «data» k b → a ≡ b
+pub left_as_one : (keep header «data» : Bool) (k : ChunkValue) (a b : PieceKind) → DamageLeaves keep header «data» k a → DamageLeaves keep header «data» k b → a ≡ b
 left_as_one keep false d k a b h g = h ∙ sym g
 left_as_one keep true false k a b h g = h ∙ sym g
 left_as_one true true true k a b h g = found_one true k a b h g
@@ -146,7 +146,7 @@ left_as_one false true true k a b (inr (inr (t, h))) (inr (inl (c, g))) = absurd
 left_as_one false true true k a b (inr (inr (t, h))) (inr (inr (u, g))) = h ∙ sym g
 
 -- and there is such, where the chunk is read or left unread
-left_as_of : (keep header «data» : Bool) (k : ChunkValue) → IsFramed k → (what : What) × DamageLeaves keep header «data» k what
+left_as_of : (keep header «data» : Bool) (k : ChunkValue) → IsFramed k → (what : PieceKind) × DamageLeaves keep header «data» k what
 left_as_of keep false d k framed = (Skipped why.HeaderHash, refl)
 left_as_of keep true false k framed = (Skipped why.DataHash, refl)
 left_as_of true true true k (inl plain) = found_of true k (inl plain.1)

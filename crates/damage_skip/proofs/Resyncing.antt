@@ -4,10 +4,10 @@ use Rattle.std.proofs.lemmas.Bool.{cases_lt}
 use Rattle.block_layout.specs.Layout.{IsBlock}
 use Rattle.block_layout.specs.BlockHeaders.{StandsAt}
 use Rattle.block_layout.specs.declared.block_header.BlockHeader.{BlockHeader}
+use Rattle.chunk_reader.specs.Blocks.{IsSaneHeaderAt}
+use Rattle.chunk_reader.proofs.Blocks.{stands_within}
 use Rattle.chunk_reader.proofs.Rooms.{IsSized}
 use Rattle.damage_skip.specs.Resyncs.{StandsFrom, IsResync, landing}
-use Rattle.damage_skip.specs.Steps.{IsHeaderAt}
-use Rattle.damage_skip.proofs.Blocks.{stands_within}
 
 -- no header stands from a place on below a block
 abbrev pub StandNotBelow : List ℕ → (place block : ℕ) → Type 0
@@ -21,13 +21,13 @@ stand-none (Some file) place block at near = λ b p n h. omega (arith, at, h.sta
 
 -- behind a block where none does
 pub stand-more : (bytes now : Option (List ℕ)) (place block : ℕ) (found : Option BlockHeader) → now ≡ bytes → IsBlock block → found ≡ None
-    → IfSome bytes (λ file. StandNotBelow file place block) → IfSome now (λ file. IsHeaderAt file block found)
+    → IfSome bytes (λ file. StandNotBelow file place block) → IfSome now (λ file. IsSaneHeaderAt file block found)
     → IfSome bytes (λ file. StandNotBelow file place (block + 65536))
 stand-more None now place block found same at none before here = tt
 stand-more (Some file) None place block found same at none before here = cc
 stand-more (Some file) (Some other) place block found same at none before here =
     let is : other ≡ file = cc in
-    let unread : IsHeaderAt file block None = subst (IsHeaderAt file block) none (subst (λ (f : List ℕ). IsHeaderAt f block found) is here) in
+    let unread : IsSaneHeaderAt file block None = subst (IsSaneHeaderAt file block) none (subst (λ (f : List ℕ). IsSaneHeaderAt f block found) is here) in
     λ b p n h.
     elim (cases_lt block b) [
       | inl past ↦ omega (arith, at, h.stands.is_block, past)
@@ -38,14 +38,14 @@ stand-more (Some file) (Some other) place block found same at none before here =
 -- the first one leads on
 pub resync-found : (bytes now : Option (List ℕ)) (size place block : ℕ) (found : Option BlockHeader) (h : BlockHeader) → now ≡ bytes
     → IsSized bytes (Some size) → place ≤ block → found ≡ Some h → IfSome bytes (λ file. StandNotBelow file place block)
-    → IfSome now (λ file. IsHeaderAt file block found)
+    → IfSome now (λ file. IsSaneHeaderAt file block found)
     → IfSome bytes (λ file. IsResync file place (landing size place block h.previous h.next))
 resync-found None now size place block found h same sized from is before here = tt
 resync-found (Some file) None size place block found h same sized from is before here = cc
 resync-found (Some file) (Some other) size place block found h same sized from is before here =
     let is_file : other ≡ file = cc in
     let stands : StandsAt file block h.previous h.next =
-    subst (IsHeaderAt file block) is (subst (λ (f : List ℕ). IsHeaderAt f block found) is_file here) in
+    subst (IsSaneHeaderAt file block) is (subst (λ (f : List ℕ). IsSaneHeaderAt f block found) is_file here) in
     inl (
       block,
       h.previous,

@@ -6,7 +6,7 @@ use Rattle.std.specs.List.Sorted.{IsStrictlyIncreasing}
 use Rattle.std.proofs.lemmas.Bool.{cases_lt}
 use Rattle.std.proofs.lemmas.List.Elements.{filter-append}
 use Rattle.block_layout.specs.Layout.{IsBoundary}
-use Rattle.damage_skip.specs.Pieces.{What, Piece, IsPieceOf, AreTiles, ArePieces, is_event, events_in, AreEvents}
+use Rattle.damage_skip.specs.Pieces.{PieceKind, Piece, IsPieceOf, AreTiles, ArePieces, is_event, events_in, AreEvents}
 use Rattle.damage_skip.specs.Walks.{GoesOn, IsMet}
 use Rattle.damage_skip.proofs.OnePiece.{piece_one, piece_past, piece_of_place}
 
@@ -30,7 +30,7 @@ pub same_piece : (a b : Piece) → a.begin ≡ b.begin → a.end ≡ b.end → a
 same_piece a b begin end what =
     ap (λ (x : ℕ). record { begin = x; end = a.end; what = a.what }) begin
     ∙ ap (λ (x : ℕ). record { begin = b.begin; end = x; what = a.what }) end
-    ∙ ap (λ (x : What). record { begin = b.begin; end = b.end; what = x }) what
+    ∙ ap (λ (x : PieceKind). record { begin = b.begin; end = b.end; what = x }) what
 
 -- of two lists of pieces from a place, that which reaches further begins with the other
 pub tiles_front : (keep : Bool) (file : List ℕ) (from a b : ℕ) (ps qs : List Piece) → a ≤ b
@@ -194,7 +194,7 @@ goes_on_one keep file a b es fs (ps, h, are) (qs, g, there) =
     sym are ∙ ap events_in (tiles_one keep file a b ps qs h g) ∙ there
 
 -- by the piece at a place
-pub goes_on_piece : (keep : Bool) (file : List ℕ) (place end : ℕ) (what : What) → place < length file → IsPieceOf keep file place end what
+pub goes_on_piece : (keep : Bool) (file : List ℕ) (place end : ℕ) (what : PieceKind) → place < length file → IsPieceOf keep file place end what
     → GoesOn keep file place end (events_in (record { begin = place; end = end; what = what } ∷ []))
 goes_on_piece keep file place end what below is =
     (record { begin = place; end = end; what = what } ∷ [], (refl, below, is, refl), refl)

@@ -10,7 +10,7 @@ use Rattle.chunk_header.specs.Chunks.{ChunkValue}
 use Rattle.meta_chunk.specs.Files.{Holds, AreRecordsOf, begin_of}
 use Rattle.meta_chunk.proofs.Begins.{begin_of_rises}
 use Rattle.meta_chunk.proofs.Held.{AreRecordsOf-append}
-use Rattle.damage_skip.specs.Pieces.{What, Piece, AreEvents, records_of, records_in}
+use Rattle.damage_skip.specs.Pieces.{PieceKind, Piece, AreEvents, records_of, records_in}
 use Rattle.damage_skip.specs.Damage.{Intact, IsDamaged, IsNext, AreReached, DamageLeaves, DamageLeavesEach, untouched}
 use Rattle.damage_skip.proofs.OnePiece.{given_or_kept}
 use Rattle.damage_skip.proofs.FoundRecords.{found_holds, records_in_events}
@@ -18,7 +18,7 @@ use Rattle.damage_skip.proofs.Damaged.{pieces_left}
 use Rattle.damage_skip.proofs.Reached.{next_one}
 
 -- what an untouched chunk gives it holds
-left_holds : (keep : Bool) (k : ChunkValue) (what : What) → DamageLeaves keep true true k what → Holds k (records_of what)
+left_holds : (keep : Bool) (k : ChunkValue) (what : PieceKind) → DamageLeaves keep true true k what → Holds k (records_of what)
 left_holds true k what left = found_holds true k what left
 left_holds false k what (inl found) = found_holds false k what found
 left_holds false k what (inr (inl (compressed, is))) =
@@ -27,7 +27,7 @@ left_holds false k what (inr (inr (transposed, is))) =
     inr (λ has. given_or_kept true k has.0 has.1 (inr (refl, inr transposed)), ap records_of is)
 
 -- one that was touched gives nothing
-touched_gives : (keep header «data» : Bool) (k : ChunkValue) (what : What) → header && «data» ≡ false → DamageLeaves keep header «data» k what
+touched_gives : (keep header «data» : Bool) (k : ChunkValue) (what : PieceKind) → header && «data» ≡ false → DamageLeaves keep header «data» k what
     → records_of what ≡ []
 touched_gives keep false d k what touched left = ap records_of left
 touched_gives keep true false k what touched left = ap records_of left

@@ -11,17 +11,17 @@ use Rattle.chunk_header.specs.Chunks.{ChunkValue}
 use Rattle.chunk_header.specs.SimpleChunks.{simple_chunk, IsSimple}
 use Rattle.chunk_header.proofs.SimpleChunks.{IsSimple-simple_chunk}
 use Rattle.meta_chunk.specs.Kinds.{IsSignature}
-use Rattle.meta_chunk.specs.Files.{signature, IsFrame, begin_of}
+use Rattle.meta_chunk.specs.Files.{signature, IsFrame, begin_of, LiesIn}
 use Rattle.meta_chunk.specs.Laid.{laid_bytes}
 use Rattle.chunk_reader.specs.Faults.{BeginsWithSignature}
 use Rattle.chunk_reader.specs.Places.{header_bytes_at, data_at, end_at}
 use Rattle.chunk_reader.specs.Reasons.{IsFirstOf}
+use Rattle.chunk_reader.proofs.Blocks.{stands_within}
 use Rattle.chunk_reader.proofs.SignedFiles.{IsPlain-signature, IsLaid-signature}
 use Rattle.chunk_reader.specs.declared.reasons.Why.TheVariants as why
 use Rattle.damage_skip.specs.Resyncs.{landing, IsResync, Contradicts}
-use Rattle.damage_skip.specs.Damage.{Intact, LiesIn, IsNext, IsDamaged, IsIntactFrom, AreReached, DamageLeavesEach}
-use Rattle.damage_skip.specs.Pieces.{Given, Passive, Skipped, Piece, PassesOver, walk_reasons, ArePieces, events_in, records_in, placed_in}
-use Rattle.damage_skip.proofs.Blocks.{stands_within}
+use Rattle.damage_skip.specs.Damage.{Intact, IsNext, IsDamaged, IsIntactFrom, AreReached, DamageLeavesEach}
+use Rattle.damage_skip.specs.Pieces.{Given, LeftOut, Skipped, Piece, PassesOver, walk_reasons, ArePieces, events_in, records_in, placed_in}
 
 -- a block met before the chunk that it interrupts leads to that chunk's begin
 to_a_begin : landing 120268 64 65536 5382 24687 ≡ 60154
@@ -140,7 +140,7 @@ two a b = record { begin = 64; end = 112; what = Given (a ∷ b ∷ []) signatur
 
 three_pieces : List ℕ → List ℕ → List Piece
 three_pieces a b =
-    record { begin = 0; end = 64; what = Passive }
+    record { begin = 0; end = 64; what = LeftOut }
     ∷ two a b
     ∷ record { begin = 112; end = 65536; what = Skipped why.DataHash }
     ∷ []
@@ -197,8 +197,8 @@ given begin end = record { begin = begin; end = end; what = Given (large_record 
 skipped : (begin end : ℕ) → Piece
 skipped begin end = record { begin = begin; end = end; what = Skipped why.HeaderHash }
 
-passive : (begin end : ℕ) → Piece
-passive begin end = record { begin = begin; end = end; what = Passive }
+left_out : (begin end : ℕ) → Piece
+left_out begin end = record { begin = begin; end = end; what = LeftOut }
 
 signature_is_one : IsSignature signature
 signature_is_one =
@@ -238,8 +238,8 @@ unfolding first_hit five
 first_reached =
     (refl, lit< tt, (1, inl (refl, refl), (refl, lit< tt, (5, first_leads_on, (refl, lit< tt, (6, inl (refl, refl), refl))))))
 
-first_left : DamageLeavesEach false five first_hit 0 (passive 0 64 ∷ skipped 64 120268 ∷ given 120268 150337 ∷ [])
-unfolding first_hit passive skipped given five
+first_left : DamageLeavesEach false five first_hit 0 (left_out 0 64 ∷ skipped 64 120268 ∷ given 120268 150337 ∷ [])
+unfolding first_hit left_out skipped given five
 first_left = (
   signature,
   1,
@@ -325,8 +325,8 @@ third_left = (
 )
 
 two_left : DamageLeavesEach false five two_hit 0
-    (passive 0 64 ∷ given 64 30109 ∷ skipped 30109 60154 ∷ skipped 60154 90223 ∷ given 90223 120268 ∷ given 120268 150337 ∷ [])
-unfolding two_hit passive skipped given five
+    (left_out 0 64 ∷ given 64 30109 ∷ skipped 30109 60154 ∷ skipped 60154 90223 ∷ given 90223 120268 ∷ given 120268 150337 ∷ [])
+unfolding two_hit left_out skipped given five
 two_left = (
   signature,
   1,
@@ -373,8 +373,8 @@ unfolding blocks_hit five
 blocks_reached =
     (refl, lit< tt, (1, inl (refl, refl), (refl, lit< tt, (2, inl (refl, refl), (refl, lit< tt, (6, nothing_leads_on, refl))))))
 
-blocks_left : DamageLeavesEach false five blocks_hit 0 (passive 0 64 ∷ given 64 30109 ∷ skipped 30109 150337 ∷ [])
-unfolding blocks_hit passive skipped given five
+blocks_left : DamageLeavesEach false five blocks_hit 0 (left_out 0 64 ∷ given 64 30109 ∷ skipped 30109 150337 ∷ [])
+unfolding blocks_hit left_out skipped given five
 blocks_left = (
   signature,
   1,

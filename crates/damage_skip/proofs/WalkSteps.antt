@@ -6,14 +6,14 @@ use Rattle.chunk_reader.specs.declared.judging.LoadEnd.{LoadEnd}
 use Rattle.chunk_reader.specs.declared.judging.LoadEnd.TheVariants as load
 use Rattle.chunk_reader.proofs.Rooms.{IsSized}
 use Rattle.damage_skip.specs.Ends.{walk_end_of}
-use Rattle.damage_skip.specs.Pieces.{Piece, Given, Kept, Passive, Skipped, IsPieceOf, AreTiles, is_event, events_in}
+use Rattle.damage_skip.specs.Pieces.{Piece, Given, Kept, LeftOut, Skipped, IsPieceOf, AreTiles, is_event, events_in}
 use Rattle.damage_skip.specs.Steps.{HasIntact, value_of_what}
 use Rattle.damage_skip.specs.Walks.{piece_of, what_event, event_of, GoesOn, IsMet, IsStoppedAt}
 use Rattle.damage_skip.specs.declared.events.Event.{Event}
 use Rattle.damage_skip.specs.declared.events.WalkEnd.TheVariants as walk
 use Rattle.damage_skip.specs.declared.pieces.Piece as code
-use Rattle.damage_skip.specs.declared.pieces.What.{What}
-use Rattle.damage_skip.specs.declared.pieces.What.TheVariants as what
+use Rattle.damage_skip.specs.declared.pieces.PieceKind.{PieceKind}
+use Rattle.damage_skip.specs.declared.pieces.PieceKind.TheVariants as what
 use Rattle.damage_skip.specs.declared.regions.Region.{Region}
 use Rattle.damage_skip.proofs.PieceSteps.{IsPieceThere}
 
@@ -56,16 +56,16 @@ events_told None = []
 events_told (Some e) = piece_of e ∷ []
 
 -- what is told of it
-told_of : (at end : ℕ) (w : What) (o : Option Event) → what_event at end w ≡ o → HasIntact at end w
+told_of : (at end : ℕ) (w : PieceKind) (o : Option Event) → what_event at end w ≡ o → HasIntact at end w
     → events_in (record { begin = at; end = end; what = value_of_what w } ∷ []) ≡ events_told o
 told_of at end (what.Given records chunk) o is intact =
     subst (λ (x : Option Event). events_in (record { begin = at; end = end; what = Given records (value_of_chunk chunk) } ∷ []) ≡ events_told x) is
     (ap (λ (e : ℕ). record { begin = at; end = e; what = Given records (value_of_chunk chunk) } ∷ []) intact.0)
-told_of at end (what.Kept chunk) o is intact =
+told_of at end (what.Kept chunk unread) o is intact =
     subst (λ (x : Option Event). events_in (record { begin = at; end = end; what = Kept (value_of_chunk chunk) } ∷ []) ≡ events_told x) is
     (ap (λ (e : ℕ). record { begin = at; end = e; what = Kept (value_of_chunk chunk) } ∷ []) intact.0)
-told_of at end what.Passive o is intact =
-    subst (λ (x : Option Event). events_in (record { begin = at; end = end; what = Passive } ∷ []) ≡ events_told x) is refl
+told_of at end what.LeftOut o is intact =
+    subst (λ (x : Option Event). events_in (record { begin = at; end = end; what = LeftOut } ∷ []) ≡ events_told x) is refl
 told_of at end (what.Skipped why) o is intact =
     subst (λ (x : Option Event). events_in (record { begin = at; end = end; what = Skipped why } ∷ []) ≡ events_told x) is refl
 
@@ -94,5 +94,5 @@ stops_there (Some file) None keep kept place piece region same same_keep there b
 stops_there (Some file) (Some other) keep kept place piece region same same_keep there begins ends is =
     let is_file : other ≡ file = cc in
     let here : IsPieceThere keep place piece file = subst (λ (k : Bool). IsPieceThere k place piece file) same_keep (subst (IsPieceThere kept place piece) is_file there) in
-    let skipped : IsPieceOf keep file place piece.end (Skipped region.why) = subst (λ (w : What). IsPieceOf keep file place piece.end (value_of_what w)) is here in
+    let skipped : IsPieceOf keep file place piece.end (Skipped region.why) = subst (λ (w : PieceKind). IsPieceOf keep file place piece.end (value_of_what w)) is here in
     (begins, subst (λ (e : ℕ). IsPieceOf keep file place e (Skipped region.why)) (sym ends) skipped)

@@ -6,10 +6,10 @@ use Rattle.block_layout.specs.Layout.{block_header_size, IsBlock}
 use Rattle.block_layout.specs.BlockHeaders.{IsRightBlockHeader}
 use Rattle.chunk_header.specs.Chunks.{ChunkValue, IsRightChunkHeader}
 use Rattle.chunk_header.specs.SimpleChunks.{IsCompressed}
-use Rattle.meta_chunk.specs.Files.{IsTransposed, IsFrame, begin_of}
+use Rattle.meta_chunk.specs.Files.{IsTransposed, IsFrame, begin_of, LiesIn}
 use Rattle.chunk_reader.specs.Places.{header_bytes_at, data_at}
 use Rattle.chunk_reader.specs.declared.reasons.Why.TheVariants as why
-use Rattle.damage_skip.specs.Pieces.{What, Skipped, Piece, IsFoundAs}
+use Rattle.damage_skip.specs.Pieces.{PieceKind, Skipped, Piece, IsFoundAs}
 
 -- what is intact of a file's chunks, by their numbers, and of its block headers, by their blocks
 pub record Intact : Type 0 where
@@ -35,12 +35,6 @@ pub record IsDamaged (ks : List ChunkValue) (file damaged : List ℕ) (intact : 
   pub block_shows : (b : ℕ) → IsBlock b → b < length file → intact.block b ≡ false
       → ¬ IsRightBlockHeader (slice_range damaged b (b + block_header_size))
 
--- the position lies between the begin and the end of the chunk of this number
-pub record LiesIn (ks : List ChunkValue) (position i : ℕ) : Type 0 where
-  pub number : i < length ks
-  pub begins : begin_of ks i ≤ position
-  pub ends : position < begin_of ks (i + 1)
-
 -- a block from a chunk's begin on, below the file's end, whose header is intact
 pub record IsIntactFrom (ks : List ChunkValue) (intact : Intact) (j b : ℕ) : Type 0 where
   pub is_block : IsBlock b
@@ -65,7 +59,7 @@ AreReached ks intact j (i ∷ is) =
     (i ≡ j) × (j < length ks) × ((next : ℕ) × IsNext ks intact j next × AreReached ks intact next is)
 
 -- what damage leaves of a chunk that is reached
-abbrev pub DamageLeaves : Bool → (header «data» : Bool) → ChunkValue → What → Type 0
+abbrev pub DamageLeaves : Bool → (header «data» : Bool) → ChunkValue → PieceKind → Type 0
 DamageLeaves keep false «data» k what = what ≡ Skipped why.HeaderHash
 DamageLeaves keep true false k what = what ≡ Skipped why.DataHash
 DamageLeaves true true true k what = IsFoundAs true k what

@@ -14,17 +14,17 @@ use Rattle.damage_skip.specs.Resyncs.{IsFirstBlock, Contradicts, IsResync, landi
 
 -- what a piece is: a chunk that gives records, one that is kept as it is, one that is neither given nor told of, or bytes
 -- that are passed over for a reason
-pub data What : Type 0 where
-  Given : List (List ℕ) → ChunkValue → What
-  Kept : ChunkValue → What
-  Passive : What
-  Skipped : Why → What
+pub data PieceKind : Type 0 where
+  Given : List (List ℕ) → ChunkValue → PieceKind
+  Kept : ChunkValue → PieceKind
+  LeftOut : PieceKind
+  Skipped : Why → PieceKind
 
 -- a piece of a file
 pub record Piece : Type 0 where
   pub begin : ℕ
   pub end : ℕ
-  pub what : What
+  pub what : PieceKind
 
 -- a reason to pass over what stands at a place: the headers of blocks within a chunk are not compared with its own, but one
 -- that is right and sane may say another chunk
@@ -49,15 +49,15 @@ SkipsTo file place why.Truncated to = to ≡ length file
 SkipsTo file place other to = to ≡ end_at file place
 
 -- what a chunk is that no reason passes over
-abbrev pub IsFoundAs : Bool → ChunkValue → What → Type 0
+abbrev pub IsFoundAs : Bool → ChunkValue → PieceKind → Type 0
 IsFoundAs keep k (Given records chunk) = IsSimple k records × (chunk ≡ k)
 IsFoundAs keep k (Kept chunk) =
     (IsMetadata k ⊎ ((keep ≡ true) × (IsCompressed k ⊎ IsTransposed k))) × (chunk ≡ k)
-IsFoundAs keep k Passive = IsSignature k ⊎ IsPadding k
+IsFoundAs keep k LeftOut = IsSignature k ⊎ IsPadding k
 IsFoundAs keep k (Skipped why) = ⊥
 
 -- what the piece is that begins at a place of a file, and where it ends
-abbrev pub IsPieceOf : Bool → List ℕ → (begin end : ℕ) → What → Type 0
+abbrev pub IsPieceOf : Bool → List ℕ → (begin end : ℕ) → PieceKind → Type 0
 IsPieceOf keep file begin end (Skipped why) =
     IsFirstOf (PassesOver file begin) (walk_reasons keep) why × SkipsTo file begin why end
 IsPieceOf keep file begin end what =
@@ -76,8 +76,8 @@ abbrev pub ArePieces : Bool → List ℕ → List Piece → Type 0
 ArePieces keep file pieces = AreTiles keep file 0 (length file) pieces
 
 -- whether a piece is an event: given, kept or skipped
-abbrev pub is_event : What → Bool
-is_event Passive = false
+abbrev pub is_event : PieceKind → Bool
+is_event LeftOut = false
 is_event other = true
 
 -- the pieces that are events
@@ -94,7 +94,7 @@ abbrev pub AreEvents : Bool → List ℕ → List Piece → Type 0
 AreEvents keep file events = GoesOn keep file 0 (length file) events
 
 -- the records that a piece gives
-abbrev pub records_of : What → List (List ℕ)
+abbrev pub records_of : PieceKind → List (List ℕ)
 records_of (Given records chunk) = records
 records_of other = []
 

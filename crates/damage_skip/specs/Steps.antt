@@ -1,15 +1,15 @@
 -- What the steps of a walk find. Own.
-use Rattle.std.specs.Prelude.{◌≡◌, ◌↔◌, ℕ, ◌^◌, ◌<◌, ◌≤◌, ◌⊎◌, Option, Some, None, MatchOption, ⊤, Bool, IsTrue, List, length}
+use Rattle.std.specs.Prelude.{◌≡◌, ◌↔◌, ℕ, ◌^◌, ◌<◌, ◌≤◌, ◌⊎◌, Option, Some, None, MatchOption, ⊤, Bool, true, false, IsTrue, List, length}
 use Rattle.block_layout.specs.Layout.{IsBoundary}
-use Rattle.block_layout.specs.BlockHeaders.{StandsAt}
-use Rattle.block_layout.specs.declared.block_header.BlockHeader.{BlockHeader}
-use Rattle.chunk_header.specs.Chunks.{IsChunk}
-use Rattle.chunk_header.specs.SimpleChunks.{IsSimple}
+use Rattle.chunk_header.specs.Chunks.{ChunkValue, IsChunk}
+use Rattle.chunk_header.specs.SimpleChunks.{IsSimple, IsCompressed}
 use Rattle.chunk_header.specs.Views.{HasRightHash, value_of_chunk}
 use Rattle.chunk_header.specs.declared.Header.{Header}
 use Rattle.chunk_header.specs.declared.Chunk.{Chunk}
+use Rattle.meta_chunk.specs.Counts.{is_unread}
+use Rattle.meta_chunk.specs.Kinds.{IsMetadata}
 use Rattle.meta_chunk.specs.Laid.{end_of_chunk}
-use Rattle.meta_chunk.specs.Files.{max_data_size}
+use Rattle.meta_chunk.specs.Files.{max_data_size, IsTransposed}
 use Rattle.chunk_reader.specs.Places.{data_at}
 use Rattle.chunk_reader.specs.Reasons.{ContentApplies, NoneOf, IsFirstOf, content_reasons}
 use Rattle.chunk_reader.specs.declared.reasons.Why.{Why}
@@ -19,8 +19,8 @@ use Rattle.damage_skip.specs.Pieces as pieces
 use Rattle.damage_skip.specs.declared.chunk_loads.Loaded.{Loaded}
 use Rattle.damage_skip.specs.declared.chunk_loads.Loaded.TheVariants as load
 use Rattle.damage_skip.specs.declared.pieces.Piece.{Piece}
-use Rattle.damage_skip.specs.declared.pieces.What.{What}
-use Rattle.damage_skip.specs.declared.pieces.What.TheVariants as what
+use Rattle.damage_skip.specs.declared.pieces.PieceKind.{PieceKind}
+use Rattle.damage_skip.specs.declared.pieces.PieceKind.TheVariants as what
 
 -- a place behind another of a file of so many bytes: a boundary, or the file's end
 pub record IsOnward (size from to : ℕ) : Type 0 where
@@ -31,11 +31,6 @@ pub record IsOnward (size from to : ℕ) : Type 0 where
 -- the end of a chunk, where one past 2 ^ 63 is not told
 abbrev pub IsEndOf : Option ℕ → ℕ → Type 0
 IsEndOf told end = MatchOption told (2 ^ 63 < end) (λ e. e ≡ end)
-
--- the header that stands at a block, if one does that is right and sane
-abbrev pub IsHeaderAt : List ℕ → ℕ → Option BlockHeader → Type 0
-IsHeaderAt file block None = (previous next : ℕ) → ¬ StandsAt file block previous next
-IsHeaderAt file block (Some header) = StandsAt file block header.previous header.next
 
 -- at a block from a place up to another a header contradicts a chunk from a begin to an end
 pub record ContradictsIn (file : List ℕ) (begin end from to block previous next : ℕ) : Type 0 where
@@ -68,27 +63,34 @@ IsLoadIn file begin end header (load.Whole chunk right) = (chunk.bytes ≡ data_
 IsLoadIn file begin end header (load.Contradicted to) = LeadsTo file begin end begin end (Some to)
 
 -- what a piece is, as the definition has it
-abbrev pub value_of_what : What → pieces.What
+abbrev pub value_of_what : PieceKind → pieces.PieceKind
 value_of_what (what.Given records chunk) = pieces.Given records (value_of_chunk chunk)
-value_of_what (what.Kept chunk) = pieces.Kept (value_of_chunk chunk)
-value_of_what what.Passive = pieces.Passive
+value_of_what (what.Kept chunk unread) = pieces.Kept (value_of_chunk chunk)
+value_of_what what.LeftOut = pieces.LeftOut
 value_of_what (what.Skipped why) = pieces.Skipped why
 
+-- a chunk that is kept is one that is left unread, or one that isn't
+abbrev pub IsKeptAs : ChunkValue → Bool → Type 0
+IsKeptAs k true = IsCompressed k ⊎ IsTransposed k
+IsKeptAs k false = IsMetadata k
+
 -- the chunk that a piece has is this one
-abbrev pub HasChunk : Chunk → What → Type 0
+abbrev pub HasChunk : Chunk → PieceKind → Type 0
 HasChunk chunk (what.Given records same) = same ≡ chunk
-HasChunk chunk (what.Kept same) = same ≡ chunk
+HasChunk chunk (what.Kept same unread) = (same ≡ chunk) × IsKeptAs (value_of_chunk chunk) unread
 HasChunk chunk other = ⊤
 
--- the chunk of a piece from a place up to another is intact, ends there, and holds the records that are given
-abbrev pub HasIntact : (begin end : ℕ) → What → Type 0
+-- the chunk of a piece from a place up to another is intact, ends there, and holds the records that are given or is known to be
+-- left unread
+abbrev pub HasIntact : (begin end : ℕ) → PieceKind → Type 0
 HasIntact begin end (what.Given records chunk) =
     (end ≡ end_of_chunk begin (value_of_chunk chunk)) × IsIntact chunk × IsSimple (value_of_chunk chunk) records
-HasIntact begin end (what.Kept chunk) = (end ≡ end_of_chunk begin (value_of_chunk chunk)) × IsIntact chunk
+HasIntact begin end (what.Kept chunk unread) =
+    (end ≡ end_of_chunk begin (value_of_chunk chunk)) × IsIntact chunk × (unread ≡ is_unread (value_of_chunk chunk))
 HasIntact begin end other = ⊤
 
 -- what a chunk is that was read: the first reason of its content to pass over it, or what it holds
-abbrev pub IsReadAs : Bool → Chunk → What → Type 0
+abbrev pub IsReadAs : Bool → Chunk → PieceKind → Type 0
 IsReadAs keep chunk (what.Skipped why) =
     IsFirstOf (ContentApplies chunk.header.data_hash (value_of_chunk chunk)) (content_reasons keep) why
 IsReadAs keep chunk other =

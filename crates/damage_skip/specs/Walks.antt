@@ -4,6 +4,7 @@ use Rattle.std.specs.Fn.{Shared, FnReturnsAt}
 use denote.Ref.{Bor}
 use Rattle.chunk_header.specs.SimpleChunks.{IsSimple}
 use Rattle.chunk_header.specs.Views.{value_of_chunk}
+use Rattle.meta_chunk.specs.Counts.{is_unread}
 use Rattle.meta_chunk.specs.Laid.{end_of_chunk}
 use Rattle.chunk_reader.specs.declared.reasons.Why.{Why}
 use Rattle.damage_skip.specs.declared.events.Event.{Event}
@@ -11,8 +12,8 @@ use Rattle.damage_skip.specs.declared.events.Event.TheVariants as event
 use Rattle.damage_skip.specs.declared.events.WalkEnd.{WalkEnd}
 use Rattle.damage_skip.specs.declared.events.WalkEnd.TheVariants as walk
 use Rattle.damage_skip.specs.declared.pieces.Piece as code
-use Rattle.damage_skip.specs.declared.pieces.What.{What}
-use Rattle.damage_skip.specs.declared.pieces.What.TheVariants as what
+use Rattle.damage_skip.specs.declared.pieces.PieceKind.{PieceKind}
+use Rattle.damage_skip.specs.declared.pieces.PieceKind.TheVariants as what
 use Rattle.damage_skip.specs.declared.progress.Progress.{Progress}
 use Rattle.damage_skip.specs.declared.regions.Region.{Region}
 use Rattle.damage_skip.specs.Pieces.{Piece, Given, Kept, Skipped, IsPieceOf, AreTiles}
@@ -26,7 +27,7 @@ piece_of (event.Records begin records chunk) = record {
   end = end_of_chunk begin (value_of_chunk chunk);
   what = Given records (value_of_chunk chunk);
 }
-piece_of (event.Kept begin chunk) = record {
+piece_of (event.Kept begin chunk unread) = record {
   begin = begin;
   end = end_of_chunk begin (value_of_chunk chunk);
   what = Kept (value_of_chunk chunk);
@@ -49,10 +50,10 @@ pub record StandsIn (file : Option (List ℕ)) (told : Option ℕ) (at : Progres
   pub met : IfSome file (λ bytes. IsMet at.keep bytes at.place)
   pub stopped_there : IfSome file (λ bytes. IsStoppedAt at.keep bytes at.place at.stopped)
 
--- the chunk of an event is intact, and holds the records that are given
+-- the chunk of an event is intact, and holds the records that are given or is known to be left unread
 abbrev pub IsIntactIn : Event → Type 0
 IsIntactIn (event.Records begin records chunk) = IsIntact chunk × IsSimple (value_of_chunk chunk) records
-IsIntactIn (event.Kept begin chunk) = IsIntact chunk
+IsIntactIn (event.Kept begin chunk unread) = IsIntact chunk × (unread ≡ is_unread (value_of_chunk chunk))
 IsIntactIn (event.Skipped region) = ⊤
 
 -- an event of a walk that it takes from a place up to another
@@ -68,10 +69,10 @@ pub record IsAllowedEvent {F : Type 0} (test : Shared F (Bor Region × Unit {0})
   pub allowed : (region : Region) → e ≡ event.Skipped region → FnReturnsAt test f region true
 
 -- what is told of what a piece from a place up to another is, if it is an event
-abbrev pub what_event : (begin end : ℕ) → What → Option Event
+abbrev pub what_event : (begin end : ℕ) → PieceKind → Option Event
 what_event begin end (what.Given records chunk) = Some (event.Records begin records chunk)
-what_event begin end (what.Kept chunk) = Some (event.Kept begin chunk)
-what_event begin end what.Passive = None
+what_event begin end (what.Kept chunk unread) = Some (event.Kept begin chunk unread)
+what_event begin end what.LeftOut = None
 what_event begin end (what.Skipped why) = Some (event.Skipped (record { begin = begin; end = end; why = why }))
 
 -- what is told of a piece

@@ -2,11 +2,12 @@ ghost use Rattle.std.specs.Prelude.{◌≡◌, ℕ, ◌+◌, ◌-◌, ◌^◌, �
 ghost use Rattle.record_io.specs.Calls.{OnlyAsks};
 ghost use Rattle.block_layout.specs.Layout.{IsBlock, block_size};
 ghost use Rattle.block_layout.specs.BlockHeaders.{IsSane};
-ghost use Rattle.damage_skip.specs.Steps.{IsOnward, IsEndOf, IsHeaderAt, LeadsTo};
+ghost use Rattle.damage_skip.specs.Steps.{IsOnward, IsEndOf, LeadsTo};
 
 use crate::resyncs::landing;
-use block_layout::{BLOCK_HEADER_SIZE, BLOCK_SIZE, BlockHeader};
-use record_io::{Failed, Store, get_exact};
+use block_layout::{BLOCK_SIZE, BlockHeader};
+use chunk_reader::sane_header_at;
+use record_io::{Failed, Store};
 
 /// The first block at or past a place.
 pub(crate) fn next_block(place: u64) -> u64
@@ -16,31 +17,6 @@ pub(crate) fn next_block(place: u64) -> u64
     ensures near { result < place + block_size }
 {
     place.div_ceil(BLOCK_SIZE) * BLOCK_SIZE
-}
-
-/// The header at a block of a file of so many bytes, where it lies in the file, and is right and sane.
-pub(crate) fn sane_header_at<S: Store>(
-    store: &mut S,
-    size: u64,
-    block: u64,
-) -> Result<Option<BlockHeader>, Failed>
-    requires told { S.told store.old ≡ Some size }
-    requires in_reach { size ≤ 2 ^ 60 }
-    requires at_block { IsBlock block }
-    requires below { block < size }
-    ensures sane { IfOk result (λ found. IfSome found (λ header. IsSane block header.previous header.next)) }
-    ensures found { IfOk result (λ found. IfSome (S.bytes store.old) (λ file. IsHeaderAt file block found)) }
-    ensures store { OnlyAsks S.bytes S.told S.name S.faults (IsErr result) store.old store.new }
-{
-    if size - block < BLOCK_HEADER_SIZE {
-        return Ok(None);
-    }
-    let mut bytes = [0; BLOCK_HEADER_SIZE as usize];
-    get_exact(store, block, &mut bytes)?;
-    match BlockHeader::from_bytes(&bytes) {
-        Some(header) if header.sane(block) => Ok(Some(header)),
-        _ => Ok(None),
-    }
 }
 
 /// The begin of a chunk and its end by its header, which may lie past 2^63 (`None`).

@@ -1,20 +1,18 @@
-ghost use Rattle.std.specs.Prelude.{◌≡◌, ℕ, ◌+◌, ◌^◌, ◌<◌, ◌≤◌, List, length, take, Some, None, IfOk, IfSome, IsErr, Err};
+ghost use Rattle.std.specs.Prelude.{◌≡◌, ℕ, ◌+◌, ◌^◌, ◌<◌, ◌≤◌, length, take, Some, None, IfOk, IfSome, IsErr, Err};
 ghost use Rattle.record_io.specs.Calls.{OnlyAsks};
 ghost use Rattle.block_layout.specs.Layout.{chunk_header_size, IsBoundary, end_of, own_bytes_at};
 ghost use Rattle.chunk_header.specs.Views.{value_of_header};
 ghost use Rattle.meta_chunk.specs.Files.{max_data_size};
+ghost use Rattle.chunk_reader.specs.HeldData.{HeldData};
 ghost use Rattle.chunk_reader.specs.Places.{end_by};
 ghost use Rattle.damage_skip.specs.Steps.{IsOnward, IsEndOf, LeadsTo, IsLoadOf, IsLoadIn};
 
 use crate::block_checks::Span;
-use block_layout::{BLOCK_SIZE, CHUNK_HEADER_SIZE, end_of};
+use block_layout::BLOCK_SIZE;
 use chunk_header::{Chunk, Header};
-use chunk_reader::{HashedData, LoadEnd, OwnBytes};
+use chunk_reader::{HashedData, LoadEnd, OwnBytes, PIECE_SIZE, TakesData};
 use record_io::{Failed, Store};
 use std::alloc::Global;
-
-/// How many bytes of data are taken at a time at most.
-const PIECE: usize = 4096;
 
 /// What came of a chunk whose data was to be read.
 #[derive(Debug, Drop)]
@@ -45,9 +43,9 @@ pub(crate) fn load<S: Store>(
     ensures sound { IfOk result (λ loaded. IfSome (S.bytes store.old) (λ file. IsLoadIn file at end header loaded)) }
     ensures store { OnlyAsks S.bytes S.told S.name S.faults (result ≡ Err LoadEnd.Store) store.old store.new }
 {
-    match read_data(alloc, store, size, at, end, header.data_size)? {
+    match read_data(alloc, store, size, at, end, header)? {
         Read::Data(data) => {
-            let (chunk, right) = data.into_chunk(header)?;
+            let (chunk, right) = data.into_chunk()?;
             Ok(Loaded::Whole(chunk, right))
         }
         Read::Contradicted(landing) => Ok(Loaded::Contradicted(landing)),
@@ -63,24 +61,25 @@ enum Read {
     Contradicted(u64),
 }
 
-/// Reads so many bytes of data of a chunk piece by piece, unless a block header within the chunk tells of another one.
+/// Reads the data of a chunk piece by piece, unless a block header within the chunk tells of another one.
 fn read_data<S: Store>(
     alloc: Global,
     store: &mut S,
     size: u64,
     at: u64,
     end: u64,
-    count: u64,
+    header: Header,
 ) -> Result<Read, LoadEnd>
     requires told { S.told store.old ≡ Some size }
     requires in_reach { size ≤ 2 ^ 60 }
     requires from_boundary { IsBoundary at }
-    requires room { end_of (end_of at chunk_header_size) count ≤ end }
+    requires room { end_of (end_of at chunk_header_size) header.data_size ≤ end }
     requires within { end ≤ size }
-    ensures whole { (bytes : List ℕ) → result ≡ Ok (Read.Data bytes) → length bytes ≡ count }
-    ensures given { (bytes : List ℕ) → result ≡ Ok (Read.Data bytes)
-        → IfSome (S.bytes store.old) (λ file. bytes ≡ own_bytes_at file (end_of at chunk_header_size) count) }
-    ensures none { (bytes : List ℕ) → result ≡ Ok (Read.Data bytes)
+    ensures header { (held : HeldData) → result ≡ Ok (Read.Data held) → held.header ≡ header }
+    ensures whole { (held : HeldData) → result ≡ Ok (Read.Data held) → length held.bytes ≡ header.data_size }
+    ensures given { (held : HeldData) → result ≡ Ok (Read.Data held)
+        → IfSome (S.bytes store.old) (λ file. held.bytes ≡ own_bytes_at file (end_of at chunk_header_size) header.data_size) }
+    ensures none { (held : HeldData) → result ≡ Ok (Read.Data held)
         → IfSome (S.bytes store.old) (λ file. LeadsTo file at end at end None) }
     ensures onward { (to : ℕ) → result ≡ Ok (Read.Contradicted to) → IsOnward size at to }
     ensures leads { (to : ℕ) → result ≡ Ok (Read.Contradicted to)
@@ -91,21 +90,21 @@ fn read_data<S: Store>(
         begin: at,
         end: Some(end),
     };
-    let mut own = OwnBytes::from(header_end(at));
+    let mut own = OwnBytes::behind_header(at);
     if let Some(landing) = span.contradicted_between(store, size, at, own.place)? {
         return Ok(Read::Contradicted(landing));
     }
-    let mut data = HashedData::with_room(alloc, count)?;
-    let mut piece = [0; PIECE];
-    let mut left = count;
+    let mut data = HashedData::new(alloc, header)?;
+    let mut piece = [0; PIECE_SIZE];
+    let mut left = header.data_size;
     while left > 0 {
-        let most = left.min(PIECE as u64) as usize;
-        match take(store, size, span, &mut own, &mut piece[..most])? {
-            Taken::Bytes(taken) => {
-                data.push(&piece[..taken])?;
-                left -= taken as u64;
+        let most = left.min(PIECE_SIZE as u64) as usize;
+        match take_next(store, size, span, &mut own, &mut piece[..most])? {
+            NextBytes::Count(count) => {
+                data.feed(&piece[..count]);
+                left -= count as u64;
             }
-            Taken::Contradicted(landing) => return Ok(Read::Contradicted(landing)),
+            NextBytes::Contradicted(landing) => return Ok(Read::Contradicted(landing)),
         }
     }
     match span.contradicted_between(store, size, own.place, end)? {
@@ -114,55 +113,46 @@ fn read_data<S: Store>(
     }
 }
 
-/// Where the header of a chunk ends that begins at a boundary.
-fn header_end(at: u64) -> u64
-    requires in_reach { at ≤ 2 ^ 60 }
-    requires from_boundary { IsBoundary at }
-    ensures { result ≡ end_of at chunk_header_size }
-{
-    end_of(at, CHUNK_HEADER_SIZE).unwrap()
-}
-
 /// What came of reading the next bytes of data.
 #[derive(Clone, Copy, Debug)]
-enum Taken {
-    /// So many bytes.
-    Bytes(usize),
+enum NextBytes {
+    /// How many were read.
+    Count(usize),
     /// Where the block leads whose header stands before them and tells of another chunk.
     Contradicted(u64),
 }
 
 /// Puts the next bytes of data into the front of the buffer, at most those before the next block, unless the header before
 /// them tells of another chunk.
-fn take<S: Store>(
+fn take_next<S: Store>(
     store: &mut S,
     size: u64,
     span: Span,
     own: &mut OwnBytes,
     buf: &mut [u8],
-) -> Result<Taken, Failed>
+) -> Result<NextBytes, Failed>
     requires told { S.told store.old ≡ Some size }
     requires in_reach { size ≤ 2 ^ 60 }
     requires begun { span.begin ≤ own.old.place }
     requires room { 0 < length buf.old }
     requires within_file { end_of own.old.place (length buf.old) ≤ size }
     requires within { IfSome span.end (λ e. end_of own.old.place (length buf.old) ≤ e) }
-    ensures some { (n : ℕ) → result ≡ Ok (Taken.Bytes n) → 0 < n }
-    ensures fits { (n : ℕ) → result ≡ Ok (Taken.Bytes n) → n ≤ length buf.old }
-    ensures moved { (n : ℕ) → result ≡ Ok (Taken.Bytes n) → own.new.place ≡ end_of own.old.place n }
-    ensures given { (n : ℕ) → result ≡ Ok (Taken.Bytes n)
+    ensures some { (n : ℕ) → result ≡ Ok (NextBytes.Count n) → 0 < n }
+    ensures fits { (n : ℕ) → result ≡ Ok (NextBytes.Count n) → n ≤ length buf.old }
+    ensures moved { (n : ℕ) → result ≡ Ok (NextBytes.Count n) → own.new.place ≡ end_of own.old.place n }
+    ensures given { (n : ℕ) → result ≡ Ok (NextBytes.Count n)
         → IfSome (S.bytes store.old) (λ file. take n buf.new ≡ own_bytes_at file own.old.place n) }
-    ensures none { (n end : ℕ) → result ≡ Ok (Taken.Bytes n) → IsEndOf span.end end
+    ensures none { (n end : ℕ) → result ≡ Ok (NextBytes.Count n) → IsEndOf span.end end
         → IfSome (S.bytes store.old) (λ file. LeadsTo file span.begin end own.old.place own.new.place None) }
-    ensures onward { (to : ℕ) → result ≡ Ok (Taken.Contradicted to) → IsOnward size span.begin to }
-    ensures leads { (to end : ℕ) → result ≡ Ok (Taken.Contradicted to) → IsEndOf span.end end
+    ensures onward { (to : ℕ) → result ≡ Ok (NextBytes.Contradicted to) → IsOnward size span.begin to }
+    ensures leads { (to end : ℕ) → result ≡ Ok (NextBytes.Contradicted to) → IsEndOf span.end end
         → IfSome (S.bytes store.old) (λ file. LeadsTo file span.begin end own.old.place (own.old.place + 1) (Some to)) }
     ensures store { OnlyAsks S.bytes S.told S.name S.faults (IsErr result) store.old store.new }
 {
     if own.place % BLOCK_SIZE == 0 {
         if let Some(landing) = span.contradicted_at(store, size, own.place)? {
-            return Ok(Taken::Contradicted(landing));
+            return Ok(NextBytes::Contradicted(landing));
         }
     }
-    Ok(Taken::Bytes(own.take(store, buf)?))
+    Ok(NextBytes::Count(own.take(store, buf)?))
 }

@@ -21,6 +21,8 @@ pub enum Event {
         begin: u64,
         /// The chunk.
         chunk: Chunk,
+        /// Whether it is compressed or transposed, and left unread.
+        unread: bool,
     },
     /// Bytes that are passed over.
     Skipped(Region),

@@ -9,7 +9,7 @@ ghost use Rattle.chunk_reader.specs.Faults.{IsAllowed};
 ghost use Rattle.chunk_reader.specs.declared.reasons.Why.{Why};
 ghost use Rattle.chunk_reader.specs.declared.reasons.Why.TheVariants as why;
 ghost use Rattle.damage_skip.specs.Damage.{Intact, IsDamaged, IsNext, AreReached, DamageLeavesEach, untouched};
-ghost use Rattle.damage_skip.specs.Pieces.{What, Skipped, Piece, IsFoundAs, IsPieceOf, AreTiles, ArePieces, is_event, events_in, AreEvents, records_in, placed_in, AreFound};
+ghost use Rattle.damage_skip.specs.Pieces.{PieceKind, Skipped, Piece, IsFoundAs, IsPieceOf, AreTiles, ArePieces, is_event, events_in, AreEvents, records_in, placed_in, AreFound};
 ghost use Rattle.damage_skip.specs.Resyncs.{IsResync};
 ghost use Rattle.damage_skip.specs.Walks.{GoesOn, IsMet};
 ghost use Rattle.meta_chunk.specs.Files.{IsFramed, IsFile, IsFrame, IsFileOf, AreRecordsOf, ArePlaced, begin_of};
@@ -27,14 +27,14 @@ pub fn reading_goes_on_past_damage()
 /// At each place of a file below its end one piece begins. It ends past that place, at a boundary of the file or at its end.
 /// Own.
 pub fn one_piece_begins_at_a_place()
-    ensures one { (keep : Bool) (file : List ℕ) (begin end other : ℕ) (what that : What)
+    ensures one { (keep : Bool) (file : List ℕ) (begin end other : ℕ) (what that : PieceKind)
         → IsPieceOf keep file begin end what → IsPieceOf keep file begin other that
         → (end ≡ other) × (what ≡ that) }
-    ensures past { (keep : Bool) (file : List ℕ) (begin end : ℕ) (what : What)
+    ensures past { (keep : Bool) (file : List ℕ) (begin end : ℕ) (what : PieceKind)
         → begin < length file → IsPieceOf keep file begin end what
         → (begin < end) × (end ≤ length file) × (IsBoundary end ⊎ (end ≡ length file)) }
     ensures some { (keep : Bool) (file : List ℕ) (begin : ℕ)
-        → (end : ℕ) × (what : What) × IsPieceOf keep file begin end what }
+        → (end : ℕ) × (what : PieceKind) × IsPieceOf keep file begin end what }
 {}
 
 /// From each place of a file there is one list of pieces to its end, and up to a place one at most: of two lists from a
@@ -94,7 +94,7 @@ pub fn walks_go_on()
         → IsMet keep file from → GoesOn keep file from to events → IsMet keep file to }
     ensures within { (keep : Bool) (file : List ℕ) (place : ℕ)
         → IsMet keep file place → (place ≤ length file) × (IsBoundary place ⊎ (place ≡ length file)) }
-    ensures piece { (keep : Bool) (file : List ℕ) (place end : ℕ) (what : What)
+    ensures piece { (keep : Bool) (file : List ℕ) (place end : ℕ) (what : PieceKind)
         → place < length file → IsPieceOf keep file place end what
         → GoesOn keep file place end (events_in (record { begin = place; end = end; what = what } ∷ [])) }
     ensures joined { (keep : Bool) (file : List ℕ) (from middle to : ℕ) (es fs : List Piece)

@@ -25,18 +25,18 @@ pub(crate) struct Piece {
     /// Where it ends.
     pub end: u64,
     /// What it is.
-    pub what: What,
+    pub what: PieceKind,
 }
 
 /// What a piece is.
 #[derive(Debug, Drop)]
-pub(crate) enum What {
+pub(crate) enum PieceKind {
     /// A chunk of records.
     Given(Records, Chunk),
-    /// A chunk that is kept.
-    Kept(Chunk),
+    /// A chunk that is kept, and whether it is left unread.
+    Kept(Chunk, bool),
     /// A signature or a padding chunk.
-    Passive,
+    LeftOut,
     /// Bytes that are passed over.
     Skipped(Why),
 }
@@ -168,32 +168,34 @@ fn whole_piece(
     ensures read { IfOk result (λ piece. IsReadAs keep chunk piece.what) }
     ensures memory { OnErr result (result ≡ Err LoadEnd.Memory) }
 {
-    let what = what_of(alloc, chunk, right, keep)?;
+    let what = read_as(alloc, chunk, right, keep)?;
     Ok(Piece { end, what })
 }
 
 /// What a chunk is that was read, of which it is known whether its header has the data's hash.
-fn what_of(alloc: Global, chunk: Chunk, right: bool, keep: bool) -> Result<What, LoadEnd>
+fn read_as(alloc: Global, chunk: Chunk, right: bool, keep: bool) -> Result<PieceKind, LoadEnd>
     requires { IsTrue right ↔ HasRightHash chunk }
     ensures read { IfOk result (λ what. IsReadAs keep chunk what) }
     ensures memory { OnErr result (result ≡ Err LoadEnd.Memory) }
 {
     match content_under(alloc, &chunk, right) {
-        Ok(Content::Records(records)) => Ok(What::Given(records, chunk)),
-        Ok(Content::Metadata) => Ok(What::Kept(chunk)),
-        Ok(Content::Signature | Content::Padding) => Ok(What::Passive),
-        Err(ContentEnd::Fault(Why::Compressed | Why::Transposed)) if keep => Ok(What::Kept(chunk)),
-        Err(ContentEnd::Fault(why)) => Ok(What::Skipped(why)),
+        Ok(Content::Records(records)) => Ok(PieceKind::Given(records, chunk)),
+        Ok(Content::Metadata) => Ok(PieceKind::Kept(chunk, false)),
+        Ok(Content::Signature | Content::Padding) => Ok(PieceKind::LeftOut),
+        Err(ContentEnd::Fault(Why::Compressed | Why::Transposed)) if keep => {
+            Ok(PieceKind::Kept(chunk, true))
+        }
+        Err(ContentEnd::Fault(why)) => Ok(PieceKind::Skipped(why)),
         Err(ContentEnd::Memory) => Err(LoadEnd::Memory),
     }
 }
 
 /// Bytes that are passed over to a place.
 fn skipped(end: u64, why: Why) -> Piece
-    ensures { result ≡ record { end = end; what = What.Skipped why } }
+    ensures { result ≡ record { end = end; what = PieceKind.Skipped why } }
 {
     Piece {
         end,
-        what: What::Skipped(why),
+        what: PieceKind::Skipped(why),
     }
 }

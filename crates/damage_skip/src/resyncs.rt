@@ -4,8 +4,9 @@ ghost use Rattle.block_layout.specs.Layout.{IsBoundary};
 ghost use Rattle.block_layout.specs.BlockHeaders.{IsSane};
 ghost use Rattle.damage_skip.specs.Resyncs.{IsResync, landing};
 
-use crate::block_checks::{next_block, sane_header_at};
+use crate::block_checks::next_block;
 use block_layout::{BLOCK_SIZE, BlockHeader};
+use chunk_reader::sane_header_at;
 use record_io::{Failed, Store};
 
 /// Where reading goes on from a place of a file of `size` bytes, which were told, at most 2^60, where no chunk header can

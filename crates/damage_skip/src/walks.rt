@@ -9,7 +9,7 @@ ghost use Rattle.damage_skip.specs.declared.events.Event.{Event};
 ghost use Rattle.damage_skip.specs.declared.regions.Region.{Region};
 
 use crate::events::{Event, WalkEnd};
-use crate::pieces::{Piece, What, piece_at};
+use crate::pieces::{Piece, PieceKind, piece_at};
 use crate::policies::Policy;
 use crate::progress::Progress;
 use crate::regions::Region;
@@ -100,7 +100,7 @@ impl<F: Fn(&Region) -> bool + Drop> Walker<F> {
         requires piece { IsPieceFrom self.now.progress.size self.now.progress.place piece.now }
         ensures { Refuses F.Fn self.now.policy.test self.now.progress.place piece.now result }
     {
-        let What::Skipped(why) = &piece.what else {
+        let PieceKind::Skipped(why) = &piece.what else {
             return None;
         };
         let region = Region {
@@ -121,14 +121,18 @@ fn event(begin: u64, piece: Piece) -> Option<Event>
     ensures { result ≡ event_of begin piece }
 {
     match piece.what {
-        What::Given(records, chunk) => Some(Event::Records {
+        PieceKind::Given(records, chunk) => Some(Event::Records {
             begin,
             records,
             chunk,
         }),
-        What::Kept(chunk) => Some(Event::Kept { begin, chunk }),
-        What::Passive => None,
-        What::Skipped(why) => Some(Event::Skipped(Region {
+        PieceKind::Kept(chunk, unread) => Some(Event::Kept {
+            begin,
+            chunk,
+            unread,
+        }),
+        PieceKind::LeftOut => None,
+        PieceKind::Skipped(why) => Some(Event::Skipped(Region {
             begin,
             end: piece.end,
             why,

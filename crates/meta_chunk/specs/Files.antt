@@ -1,6 +1,6 @@
 -- Files of chunks. Source: the Riegeli/records file format specification, "File format", "File signature" and "Chunk types". Own:
 -- which chunks are plain and which are unread, and the limit on their data.
-use Rattle.std.specs.Prelude.{◌≡◌, ◌≢◌, ℕ, ◌+◌, ◌^◌, ◌≤◌, ◌⊎◌, List, [], ◌∷◌, ◌++◌, length, take}
+use Rattle.std.specs.Prelude.{◌≡◌, ◌≢◌, ℕ, ◌+◌, ◌^◌, ◌<◌, ◌≤◌, ◌⊎◌, List, [], ◌∷◌, ◌++◌, length, take}
 use Rattle.std.specs.List.{AllByRecursion, flat_map, enumerate_from}
 use Rattle.chunk_header.specs.Chunks.{ChunkValue}
 use Rattle.chunk_header.specs.SimpleChunks.{IsSimple, HasRecords, IsCompressed}
@@ -95,6 +95,12 @@ end_of_chunks place (k ∷ ks) = end_of_chunks (end_of_chunk place k) ks
 -- where chunk j of a file begins; for j past the last chunk, where that one ends
 abbrev pub begin_of : List ChunkValue → ℕ → ℕ
 begin_of ks j = end_of_chunks 0 (take j ks)
+
+-- the position lies between the begin and the end of the chunk of this number
+pub record LiesIn (ks : List ChunkValue) (position i : ℕ) : Type 0 where
+  pub number : i < length ks
+  pub begins : begin_of ks i ≤ position
+  pub ends : position < begin_of ks (i + 1)
 
 -- the records of chunks that begin at a place, each with its position: its chunk's begin, and its number in the chunk
 abbrev pub placed_from : ℕ → List ChunkValue → List (List (List ℕ)) → List (ℕ × List ℕ)

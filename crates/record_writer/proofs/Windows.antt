@@ -11,8 +11,8 @@ use Rattle.meta_chunk.proofs.Joins.{end_of_chunks-append, end_of_chunks_past}
 use Rattle.simple_chunk.specs.SimpleParts.{SimpleValue}
 use Rattle.record_group.specs.Groupings.{Grouping, groups_from}
 use Rattle.record_writer.specs.declared.cut_off.CutOff.{CutOff}
-use Rattle.record_writer.specs.declared.engine.Taken.{Taken}
-use Rattle.record_writer.specs.declared.engine.Taken.TheVariants.{Window, All}
+use Rattle.record_writer.specs.declared.engine.FeedPart.{FeedPart}
+use Rattle.record_writer.specs.declared.engine.FeedPart.TheVariants.{Window, All}
 use Rattle.record_writer.specs.Feeds.{Rest}
 use Rattle.record_writer.specs.Progresses.{Progress, AreGiven, Lays, LaysFront, chunks_of_groups}
 use Rattle.record_writer.specs.Windows.{AreFront, AreTaken, groups_of}
@@ -124,14 +124,14 @@ AreGiven-front None b old new given h = tt
 AreGiven-front (Some all) b old new given (rest, told, of) = (groups_from new rest.records, of.groups)
 
 -- as are those that were taken, however that ended
-AreTaken-front : (t : Result Taken CutOff) (a b : Option Rest) (old new : Grouping) (given : List (List (List ℕ))) → AreTaken t a b old new given → AreFront a old given
+AreTaken-front : (t : Result FeedPart CutOff) (a b : Option Rest) (old new : Grouping) (given : List (List (List ℕ))) → AreTaken t a b old new given → AreFront a old given
 AreTaken-front (Ok Window) a b old new given h = AreGiven-front a b old new given h
 AreTaken-front (Ok (All stop)) None b old new given h = tt
 AreTaken-front (Ok (All stop)) (Some all) b old new given h = (groups_from new [], h.1)
 AreTaken-front (Err cut) a b old new given h = h
 
 -- so where a front of their chunks was put, that is one of all
-pub LaysFront-taken : (t : Result Taken CutOff) (ra rb : Option Rest) (old new : Grouping) (given : List (List (List ℕ))) (a b : Option (List ℕ)) (s u : Progress)
+pub LaysFront-taken : (t : Result FeedPart CutOff) (ra rb : Option Rest) (old new : Grouping) (given : List (List (List ℕ))) (a b : Option (List ℕ)) (s u : Progress)
     → AreTaken t ra rb old new given → LaysFront a b s u (chunks_of_groups given)
     → IfSome ra (λ rest. LaysFront a b s u (chunks_of_groups (groups_from old rest.records)))
 LaysFront-taken t None rb old new given a b s u taken front = tt
@@ -142,18 +142,18 @@ LaysFront-taken t (Some all) rb old new given a b s u taken front =
     (LaysFront-longer a b s u (chunks_of_groups given) (chunks_of_groups rest.0) front)
 
 -- a number that falls with each window
-abbrev pub to_take : Result Taken CutOff → ℕ → ℕ
+abbrev pub to_take : Result FeedPart CutOff → ℕ → ℕ
 to_take (Ok Window) bound = bound + 1
 to_take (Ok (All stop)) bound = 0
 to_take (Err cut) bound = 0
 
-falls : (t : Result Taken CutOff) (old new : ℕ) → (t ≡ Ok Window → new < old) → to_take t new < to_take (Ok Window) old
+falls : (t : Result FeedPart CutOff) (old new : ℕ) → (t ≡ Ok Window → new < old) → to_take t new < to_take (Ok Window) old
 falls (Ok Window) old new lowers = omega (arith, lowers refl)
 falls (Ok (All stop)) old new lowers = omega arith
 falls (Err cut) old new lowers = omega arith
 
-pub to_take-falls : (s t : Result Taken CutOff) (old new : ℕ) → s ≡ Ok Window → (t ≡ Ok Window → new < old) → to_take t new < to_take s old
-to_take-falls s t old new more lowers = subst (λ (s : Result Taken CutOff). to_take t new < to_take s old) (sym more) (falls t old new lowers)
+pub to_take-falls : (s t : Result FeedPart CutOff) (old new : ℕ) → s ≡ Ok Window → (t ≡ Ok Window → new < old) → to_take t new < to_take s old
+to_take-falls s t old new more lowers = subst (λ (s : Result FeedPart CutOff). to_take t new < to_take s old) (sym more) (falls t old new lowers)
 
 -- what holds of whatever a feed has left behind a window, where it tells that
 pub IfSome-given : (a b : Option Rest) (old new : Grouping) (given : List (List (List ℕ))) (P : Type 0)
@@ -162,7 +162,7 @@ IfSome-given None b old new given P h p = tt
 IfSome-given (Some all) b old new given P (rest, told, of) p = subst (λ (o : Option Rest). IfSome o (λ _. P)) told p
 
 -- groups that were taken behind a window
-pub AreTaken-append : (t : Result Taken CutOff) (a b c : Option Rest) (old between new : Grouping) (given more : List (List (List ℕ)))
+pub AreTaken-append : (t : Result FeedPart CutOff) (a b c : Option Rest) (old between new : Grouping) (given more : List (List (List ℕ)))
     → AreGiven a b old between given → AreTaken t b c between new more → AreTaken t a c old new (given ++ more)
 AreTaken-append (Ok Window) a b c old between new given more h then = AreGiven-append a b c old between new given more h then
 AreTaken-append (Ok (All stop)) None b c old between new given more h then = tt

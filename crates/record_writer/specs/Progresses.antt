@@ -1,5 +1,5 @@
 -- How far a file is that is being made. Own.
-use Rattle.std.specs.Prelude.{◌≡◌, ℕ, ◌+◌, ◌*◌, Bool, false, Option, Some, List, [], ◌++◌, length, map, IfSome}
+use Rattle.std.specs.Prelude.{◌≡◌, ℕ, ◌+◌, ◌*◌, Bool, true, false, Option, Some, List, [], ◌++◌, length, map, IfSome}
 use Rattle.record_io.specs.Outside.{Takes}
 use Rattle.record_io.specs.Buffers.{TakesAndHolds}
 use Rattle.record_values.specs.declared.file_totals.Totals.{Totals}
@@ -24,6 +24,10 @@ pub record Progress : Type 0 where
 -- nothing is written yet
 abbrev pub nothing_made : Progress
 nothing_made = record { place = 0; spent = false; held = []; chunks = 0; records = 0; unread = 0 }
+
+-- what a put leaves that failed: no other follows, nothing is held, and the counts are as before
+abbrev pub spent_in : Progress → Progress
+spent_in p = record p { spent = true; held = [] }
 
 -- what was counted
 abbrev pub totals_made : Progress → Totals

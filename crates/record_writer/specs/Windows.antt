@@ -3,8 +3,8 @@ use Rattle.std.specs.Prelude.{◌≡◌, ℕ, Option, Result, Ok, Err, List, [],
 use Rattle.simple_chunk.specs.SimpleParts.{SimpleValue}
 use Rattle.record_group.specs.Groupings.{Grouping, groups_from}
 use Rattle.record_writer.specs.declared.cut_off.CutOff.{CutOff}
-use Rattle.record_writer.specs.declared.engine.Taken.{Taken}
-use Rattle.record_writer.specs.declared.engine.Taken.TheVariants.{Window, All}
+use Rattle.record_writer.specs.declared.engine.FeedPart.{FeedPart}
+use Rattle.record_writer.specs.declared.engine.FeedPart.TheVariants.{Window, All}
 use Rattle.record_writer.specs.Feeds.{Rest}
 use Rattle.record_writer.specs.Progresses.{AreGiven}
 
@@ -19,7 +19,7 @@ AreFront before old given =
 
 -- groups that were taken of a feed: those that were given; or all groups but the open one, where no record is left and
 -- this stop follows, or none; or a front of all groups, where the work was cut off
-abbrev pub AreTaken : Result Taken CutOff → Option Rest → Option Rest → Grouping → Grouping → List (List (List ℕ)) → Type 0
+abbrev pub AreTaken : Result FeedPart CutOff → Option Rest → Option Rest → Grouping → Grouping → List (List (List ℕ)) → Type 0
 AreTaken (Ok Window) before after old new given = AreGiven before after old new given
 AreTaken (Ok (All stop)) before after old new given =
     IfSome before (λ rest. (rest.stop ≡ stop) × (groups_from old rest.records ≡ given ++ groups_from new []))

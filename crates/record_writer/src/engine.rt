@@ -231,8 +231,8 @@ fn put_closed_groups<R: Threads, L: RecordFeed, M: Sink + Send>(
     let mut taken = take_window(alloc, grouper, feed, &mut rec, &mut window, &full);
     let end = loop {
         match taken {
-            Ok(Taken::Window) => {}
-            Ok(Taken::All(stop)) => break Ok(stop),
+            Ok(FeedPart::Window) => {}
+            Ok(FeedPart::All(stop)) => break Ok(stop),
             Err(cut) => break Err(cut),
         }
         if window.is_large() {
@@ -261,7 +261,7 @@ fn put_closed_groups<R: Threads, L: RecordFeed, M: Sink + Send>(
 
 /// How much of a feed was taken.
 #[derive(Clone, Copy, Debug, PartialEq, Eq)]
-enum Taken {
+enum FeedPart {
     /// A window of its groups.
     Window,
     /// All of its records, and the stop behind them.
@@ -276,15 +276,15 @@ fn take_window<L: RecordFeed>(
     rec: &mut Bytes,
     window: &mut Window,
     full: &AtomicU64,
-) -> Result<Taken, CutOff>
+) -> Result<FeedPart, CutOff>
     requires feed_going { L.going feed.old ≡ true }
     requires empty { window.old ≡ [] }
     ensures taken { AreTaken result (L.rest feed.old) (L.rest feed.new) grouper.old grouper.new window.new }
-    ensures feed_going { result ≡ Ok Taken.Window → L.going feed.new ≡ true }
-    ensures lowers { result ≡ Ok Taken.Window → L.bound feed.new < L.bound feed.old }
+    ensures feed_going { result ≡ Ok FeedPart.Window → L.going feed.new ≡ true }
+    ensures lowers { result ≡ Ok FeedPart.Window → L.bound feed.new < L.bound feed.old }
     ensures in_reach { (place : ℕ) → reach_of (end_of_chunks place (chunks_of_groups window.new)) grouper.new (L.bound feed.new)
         ≤ reach_of place grouper.old (L.bound feed.old) }
-    ensures drained { result ≡ Ok (Taken.All None) → IfSome (L.rest feed.old) (λ _. L.rest feed.new ≡ Some nothing_left) }
+    ensures drained { result ≡ Ok (FeedPart.All None) → IfSome (L.rest feed.old) (λ _. L.rest feed.new ≡ Some nothing_left) }
     ensures no_made { result ≢ Err CutOff.Made }
     ensures feed { OnlyCounts L.name L.faults (result ≡ Err CutOff.Input) feed.old feed.new }
 {
@@ -292,13 +292,13 @@ fn take_window<L: RecordFeed>(
         take_held(grouper, feed)?;
         match feed.pull(alloc, rec) {
             Ok(true) => take_record(alloc, grouper, rec, window, full)?,
-            Ok(false) => return Ok(Taken::All(None)),
-            Err(FeedEnd::Stop(stop)) => return Ok(Taken::All(Some(stop))),
+            Ok(false) => return Ok(FeedPart::All(None)),
+            Err(FeedEnd::Stop(stop)) => return Ok(FeedPart::All(Some(stop))),
             Err(FeedEnd::Failed) => return Err(CutOff::Input),
             Err(FeedEnd::Memory) => return Err(CutOff::Memory),
         }
         if window.is_full(full) {
-            return Ok(Taken::Window);
+            return Ok(FeedPart::Window);
         }
     }
 }

@@ -7,17 +7,16 @@ ghost use Rattle.meta_chunk.specs.Files.{signature};
 ghost use Rattle.meta_chunk.specs.Laid.{end_of_chunk};
 ghost use Rattle.meta_chunk.specs.PaddingSizes.{padding_at};
 ghost use Rattle.record_group.specs.Groups.{padding_if};
-ghost use Rattle.record_writer.specs.Progresses.{Lays, LaysFront, nothing_made, totals_made};
+ghost use Rattle.record_writer.specs.Progresses.{Lays, LaysFront, nothing_made, spent_in, totals_made};
 
 use chunk_header::Chunk;
-use meta_chunk::{Kind, kind_of};
 use ordered_writer::OrderedWriter;
 use record_io::{Failed, PutBuffer, Sink, Totals};
 use simple_chunk::SimpleChunk;
 use std::marker::Model;
 
 /// A file that is being made, chunk by chunk. Its bytes gather, up to 262,144 of them, before they go to the sink, so `flush`
-/// comes last. After a `start` or `put` that failed there is no other. Own.
+/// comes last. After a `start` or `put` that failed there is no other, and nothing is held. Own.
 #[derive(Drop)]
 pub struct MadeFile {
     writer: OrderedWriter,
@@ -56,12 +55,13 @@ impl MadeFile {
     ///
     /// # Errors
     ///
-    /// `Failed` only where the sink failed. It took a front of what was held and the signature, and what is held, if anything,
-    /// comes next.
+    /// `Failed` only where the sink failed. It took a front of what was held and the signature. Nothing is held then, and the
+    /// counts are as before.
     pub fn start<M: Sink>(&mut self, made: &mut M) -> Result<(), Failed>
         requires at_front { self.old ≡ nothing_made }
         ensures whole { OnOk result (Lays (M.taken made.old) (M.taken made.new) self.old self.new (signature ∷ [])) }
         ensures front { OnErr result (LaysFront (M.taken made.old) (M.taken made.new) self.old self.new (signature ∷ [])) }
+        ensures spent { OnErr result (self.new ≡ spent_in self.old) }
         ensures made { OnlyCounts M.lent M.faults (IsErr result) made.old made.new }
     {
         self.writer.start_into(&mut self.buffer, made)?;
@@ -69,23 +69,25 @@ impl MadeFile {
         Ok(())
     }
 
-    /// Puts a chunk that has the hash of its data, where the one before ends.
+    /// Puts a chunk that has the hash of its data, where the one before ends, and counts its records unless it is left unread.
     ///
     /// # Errors
     ///
-    /// `Failed` only where the sink failed. It took a front of what was held and the chunk, and what is held, if anything, comes
-    /// next.
-    pub fn put<M: Sink>(&mut self, made: &mut M, chunk: &Chunk) -> Result<(), Failed>
+    /// `Failed` only where the sink failed. It took a front of what was held and the chunk. Nothing is held then, and the counts
+    /// are as before.
+    pub fn put<M: Sink>(&mut self, made: &mut M, chunk: &Chunk, unread: bool) -> Result<(), Failed>
         requires going { self.old.spent ≡ false }
         requires in_reach { end_of_chunk self.old.place (value_of_chunk chunk.now) ≤ 2 ^ 62 }
         requires right { HasRightHash chunk.now }
+        requires unread { unread ≡ is_unread (value_of_chunk chunk.now) }
         ensures whole { OnOk result (Lays (M.taken made.old) (M.taken made.new) self.old self.new (value_of_chunk chunk.now ∷ [])) }
         ensures front { OnErr result (LaysFront (M.taken made.old) (M.taken made.new) self.old self.new (value_of_chunk chunk.now ∷ [])) }
+        ensures spent { OnErr result (self.new ≡ spent_in self.old) }
         ensures made { OnlyCounts M.lent M.faults (IsErr result) made.old made.new }
     {
         self.writer.put_into(&mut self.buffer, made, chunk)?;
         self.chunks += 1;
-        if is_unread(chunk) {
+        if unread {
             self.unread += 1;
         } else {
             self.records += chunk.header.num_records;
@@ -97,8 +99,8 @@ impl MadeFile {
     ///
     /// # Errors
     ///
-    /// `Failed` only where the sink failed. It took a front of what was held and the chunk, and what is held, if anything, comes
-    /// next.
+    /// `Failed` only where the sink failed. It took a front of what was held and the chunk. Nothing is held then, and the counts
+    /// are as before.
     pub(crate) fn put_simple<M: Sink>(
         &mut self,
         made: &mut M,
@@ -109,6 +111,7 @@ impl MadeFile {
         requires encoded { chunk.now.encoded ≡ true }
         ensures whole { OnOk result (Lays (M.taken made.old) (M.taken made.new) self.old self.new (simple_chunk chunk.now.records ∷ [])) }
         ensures front { OnErr result (LaysFront (M.taken made.old) (M.taken made.new) self.old self.new (simple_chunk chunk.now.records ∷ [])) }
+        ensures spent { OnErr result (self.new ≡ spent_in self.old) }
         ensures made { OnlyCounts M.lent M.faults (IsErr result) made.old made.new }
     {
         let header = chunk.header();
@@ -126,6 +129,7 @@ impl MadeFile {
         requires in_reach { self.old.place ≤ 2 ^ 61 }
         ensures whole { OnOk result (Lays (M.taken made.old) (M.taken made.new) self.old self.new (padding_if wanted self.old.place)) }
         ensures front { OnErr result (LaysFront (M.taken made.old) (M.taken made.new) self.old self.new (padding_if wanted self.old.place)) }
+        ensures spent { OnErr result (self.new ≡ spent_in self.old) }
         ensures made { OnlyCounts M.lent M.faults (IsErr result) made.old made.new }
     {
         if wanted { self.pad(made) } else { Ok(()) }
@@ -137,6 +141,7 @@ impl MadeFile {
         requires in_reach { self.old.place ≤ 2 ^ 61 }
         ensures whole { OnOk result (Lays (M.taken made.old) (M.taken made.new) self.old self.new (padding_at self.old.place)) }
         ensures front { OnErr result (LaysFront (M.taken made.old) (M.taken made.new) self.old self.new (padding_at self.old.place)) }
+        ensures spent { OnErr result (self.new ≡ spent_in self.old) }
         ensures made { OnlyCounts M.lent M.faults (IsErr result) made.old made.new }
     {
         let begin = self.writer.position();
@@ -174,19 +179,5 @@ impl MadeFile {
             bytes: self.writer.position(),
             unread: self.unread,
         }
-    }
-}
-
-/// Whether a chunk is transposed or compressed.
-fn is_unread(chunk: &Chunk) -> bool
-    ensures { result ≡ is_unread (value_of_chunk chunk.now) }
-{
-    match kind_of(chunk.header.kind) {
-        Kind::Transposed => true,
-        Kind::Simple => match chunk.bytes.as_slice().first() {
-            Some(compression) => *compression != 0,
-            None => false,
-        },
-        _ => false,
     }
 }

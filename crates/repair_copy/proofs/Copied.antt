@@ -12,7 +12,7 @@ use Rattle.meta_chunk.specs.Laid.{end_of_chunk}
 use Rattle.chunk_reader.specs.Faults.{IsAllowed}
 use Rattle.chunk_reader.proofs.AllowedChunks.{allowed_small}
 use Rattle.chunk_reader.proofs.Verdicts.{is_unread-plain, is_unread-unread}
-use Rattle.damage_skip.specs.Pieces.{What, Given, Kept, Passive, Skipped, Piece, IsFoundAs, AreFound}
+use Rattle.damage_skip.specs.Pieces.{PieceKind, Given, Kept, LeftOut, Skipped, Piece, IsFoundAs, AreFound}
 use Rattle.repair_copy.specs.Relaid.{chunk_in, chunks_in, is_copied, copied}
 
 -- whether a chunk of a kind is copied
@@ -42,9 +42,9 @@ transposed_copied : (keep : Bool) (k : ChunkValue) → k.kind ≡ 0x74 → IsWan
 transposed_copied keep k is h = copied_kind keep k 0x74 is ∙ wanted keep k h
 
 -- signatures and padding are not copied
-pub passive_stays : (keep : Bool) (k : ChunkValue) → (IsSignature k ⊎ IsPadding k) → is_copied keep k ≡ false
-passive_stays keep k (inl s) = copied_kind keep k 0x73 s.0
-passive_stays keep k (inr p) = copied_kind keep k 0x70 p.0
+pub left_out_stays : (keep : Bool) (k : ChunkValue) → (IsSignature k ⊎ IsPadding k) → is_copied keep k ≡ false
+left_out_stays keep k (inl s) = copied_kind keep k 0x73 s.0
+left_out_stays keep k (inr p) = copied_kind keep k 0x70 p.0
 
 -- nor are unread chunks where they aren't kept
 pub unread_stays : (k : ChunkValue) → length k.«data» ≤ 2 ^ 26 → (IsTransposed k ⊎ IsCompressed k) → is_copied false k ≡ false
@@ -69,7 +69,7 @@ unfolding IsWanted
 plain_wanted keep k plain = inr (is_unread-plain k plain)
 
 -- a chunk that is found is the piece's where it is copied
-pub found_chunk : (keep : Bool) (k : ChunkValue) (what : What) (xs : List ChunkValue) → length k.«data» ≤ 2 ^ 26 → IsFoundAs keep k what
+pub found_chunk : (keep : Bool) (k : ChunkValue) (what : PieceKind) (xs : List ChunkValue) → length k.«data» ≤ 2 ^ 26 → IsFoundAs keep k what
     → chunk_in what ++ xs ≡ (if is_copied keep k then k ∷ xs else xs)
 unfolding IsWanted
 found_chunk keep k (Given records c) xs small (simple, is) =
@@ -84,7 +84,7 @@ found_chunk keep k (Kept c) xs small (inr (kept, inl compressed), is) =
     one_before keep k (c ∷ []) xs (simple_copied keep k compressed.0 (inl kept)) (ap (λ (x : ChunkValue). x ∷ []) is)
 found_chunk keep k (Kept c) xs small (inr (kept, inr transposed), is) =
     one_before keep k (c ∷ []) xs (transposed_copied keep k transposed (inl kept)) (ap (λ (x : ChunkValue). x ∷ []) is)
-found_chunk keep k Passive xs small passive = none_before keep k [] xs (passive_stays keep k passive) refl
+found_chunk keep k LeftOut xs small left_out = none_before keep k [] xs (left_out_stays keep k left_out) refl
 found_chunk keep k (Skipped w) xs small found = absurd found
 
 -- so the pieces of chunks that are found have those that are copied
@@ -100,7 +100,7 @@ found_chunks keep place (k ∷ ks) (p ∷ pieces) each (begin, end, found, rest)
 one_copied : (keep : Bool) (k c : ChunkValue) → c ≡ k → is_copied keep k ≡ true → AllByRecursion (λ x. is_copied keep x ≡ true) (c ∷ [])
 one_copied keep k c same is = (subst (λ (x : ChunkValue). is_copied keep x ≡ true) (sym same) is, tt)
 
-pub found_copied : (keep : Bool) (k : ChunkValue) (what : What) → length k.«data» ≤ 2 ^ 26 → IsFoundAs keep k what
+pub found_copied : (keep : Bool) (k : ChunkValue) (what : PieceKind) → length k.«data» ≤ 2 ^ 26 → IsFoundAs keep k what
     → AllByRecursion (λ c. is_copied keep c ≡ true) (chunk_in what)
 unfolding IsWanted
 found_copied keep k (Given records c) small (simple, is) =
@@ -111,7 +111,7 @@ found_copied keep k (Kept c) small (inr (kept, inl compressed), is) =
     one_copied keep k c is (simple_copied keep k compressed.0 (inl kept))
 found_copied keep k (Kept c) small (inr (kept, inr transposed), is) =
     one_copied keep k c is (transposed_copied keep k transposed (inl kept))
-found_copied keep k Passive small passive = tt
+found_copied keep k LeftOut small left_out = tt
 found_copied keep k (Skipped w) small found = tt
 
 -- so is an allowed chunk that is neither a signature nor padding

@@ -16,6 +16,7 @@ use Rattle.chunk_header.specs.Views.{value_of_chunk}
 use Rattle.meta_chunk.specs.Files.{signature, end_of_chunks, laid_each}
 use Rattle.meta_chunk.proofs.Joins.{length-laid_each}
 use Rattle.meta_chunk.proofs.LaidChunks.{end_of_chunk_after}
+use Rattle.chunk_reader.proofs.Verdicts.{is_unread-plain}
 use Rattle.record_writer.specs.Progresses.{Progress, Lays, LaysFront, nothing_made, totals_made}
 use Rattle.record_writer.proofs.Layings.{Lays-append}
 use Rattle.record_writer.proofs.Counted.{totals_made-laid}
@@ -24,12 +25,12 @@ use Rattle.damage_skip.specs.Walks.{piece_of, IsEventIn}
 use Rattle.damage_skip.specs.declared.events.Event.{Event}
 use Rattle.damage_skip.specs.declared.events.Event.TheVariants as event
 use Rattle.repair_copy.specs.Relaid.{chunk_in, chunks_in}
-use Rattle.repair_copy.specs.Told.{line_of, lines_in, is_skipped, regions_in}
+use Rattle.repair_copy.specs.Told.{line_of, lines_in, is_skipped, number_of_regions}
 use Rattle.repair_copy.specs.RepairPuts.{puts_from, repair_puts, WentOutAtFault}
 use Rattle.repair_copy.specs.Copies.{FitsAt, stream_of, next_place, puts_behind, Begins, Copies, CopiesFront, HasBegun, HasCopied, HasPutAll, HasBrokenOff, HasPutAtFault}
 use Rattle.repair_copy.specs.declared.copying.Copied.{Copied}
-use Rattle.repair_copy.specs.declared.copying.CutOff.{CutOff}
-use Rattle.repair_copy.specs.declared.copying.CutOff.TheVariants as cut
+use Rattle.repair_copy.specs.declared.copying.FailedSink.{FailedSink}
+use Rattle.repair_copy.specs.declared.copying.FailedSink.TheVariants as cut
 use Rattle.repair_copy.proofs.EventChunks.{chunks_in-append}
 use Rattle.repair_copy.proofs.Growth.{place_moved}
 use Rattle.repair_copy.proofs.HeldPuts.{held_more, held_broken, breaks_off-front, held_made, held_flushed}
@@ -39,7 +40,7 @@ use Rattle.repair_copy.proofs.RepairPuts.{repair_puts-append}
 pub lines_in-append : (ps qs : List Piece) → lines_in (ps ++ qs) ≡ lines_in ps ++ lines_in qs
 lines_in-append ps qs = flat_map-append (λ (p : Piece). line_of p.begin p.end p.what) ps qs
 
-regions_in-append : (ps qs : List Piece) → regions_in (ps ++ qs) ≡ regions_in ps + regions_in qs
+regions_in-append : (ps qs : List Piece) → number_of_regions (ps ++ qs) ≡ number_of_regions ps + number_of_regions qs
 regions_in-append ps qs = sum_by-append (λ (p : Piece). cond (is_skipped p.what) 1 0) ps qs
 
 -- what is held went out: no chunk is laid then
@@ -76,7 +77,7 @@ some_laid held place ks past = λ none.
     omega (arith, ap length none, length-append held (laid_each place ks), length-laid_each place ks, past)
 
 -- what cut a call off that never answers that notes failed
-pub made_alone : {T : Type 0} (r : Result T CutOff) (c : CutOff) → r ≡ Err c → r ≢ Err cut.Notes → cut.Made ≡ c
+pub made_alone : {T : Type 0} (r : Result T FailedSink) (c : FailedSink) → r ≡ Err c → r ≢ Err cut.Notes → cut.Made ≡ c
 made_alone r cut.Made is never = refl
 made_alone r cut.Notes is never = absurd (never is)
 
@@ -96,10 +97,10 @@ chunk_put a b n s t p k one none kept lays begun counted = record {
 
 -- or not whole
 pub chunk_failed : (a b n : Option (List ℕ)) (s t : Progress) (p : Piece) (k : ChunkValue) → chunk_in p.what ≡ k ∷ [] → line_of p.begin p.end p.what ≡ []
-    → LaysFront a b s t (k ∷ []) → (c : CutOff) → cut.Made ≡ c
+    → LaysFront a b s t (k ∷ []) → (c : FailedSink) → cut.Made ≡ c
     → CopiesFront c (taken_by a None n) (taken_by b None n) s p
 chunk_failed a b n s t p k one none front c is =
-    subst (λ (x : CutOff). CopiesFront x (taken_by a None n) (taken_by b None n) s p) is (record {
+    subst (λ (x : FailedSink). CopiesFront x (taken_by a None n) (taken_by b None n) s p) is (record {
       part = puts_to Made front.bytes.passed;
       went = GoOut-made a b None n front.bytes.passed front.bytes.taken;
       broken = subst (λ (ps : List Put). BreaksOff Made (puts_to Made front.bytes.passed) ps) (sym (puts_of-chunk s p none))
@@ -130,10 +131,10 @@ line_put a b n m s t p none skipped going taken held line begun counted = record
 
 -- or what was held before it was not put whole
 pub flush_failed : (a b n : Option (List ℕ)) (s : Progress) (p : Piece) → chunk_in p.what ≡ [] → s.held ≢ [] → TakesFront a b s.held
-    → (c : CutOff) → cut.Made ≡ c → CopiesFront c (taken_by a None n) (taken_by b None n) s p
+    → (c : FailedSink) → cut.Made ≡ c → CopiesFront c (taken_by a None n) (taken_by b None n) s p
 flush_failed a b n s p none some front c is =
     let took = TakesFront-count a b s.held front in
-    subst (λ (x : CutOff). CopiesFront x (taken_by a None n) (taken_by b None n) s p) is (record {
+    subst (λ (x : FailedSink). CopiesFront x (taken_by a None n) (taken_by b None n) s p) is (record {
       part = puts_to Made (take took.0 s.held);
       went = GoOut-made a b None n (take took.0 s.held) took.1;
       broken = subst (λ (ps : List Put). BreaksOff Made (puts_to Made (take took.0 s.held)) ps) (sym (puts_of-line s p none))
@@ -143,12 +144,12 @@ flush_failed a b n s p none some front c is =
 
 -- or the line itself
 pub line_failed : (a b n m : Option (List ℕ)) (s : Progress) (p : Piece) → chunk_in p.what ≡ [] → Takes a b s.held
-    → line_of p.begin p.end p.what ≢ [] → TakesFront n m (line_of p.begin p.end p.what) → (c : CutOff) → cut.Notes ≡ c
+    → line_of p.begin p.end p.what ≢ [] → TakesFront n m (line_of p.begin p.end p.what) → (c : FailedSink) → cut.Notes ≡ c
     → CopiesFront c (taken_by a None n) (taken_by b None m) s p
 line_failed a b n m s p none taken some front c is =
     let line : List ℕ = line_of p.begin p.end p.what in
     let took = TakesFront-count n m line front in
-    subst (λ (x : CutOff). CopiesFront x (taken_by a None n) (taken_by b None m) s p) is (record {
+    subst (λ (x : FailedSink). CopiesFront x (taken_by a None n) (taken_by b None m) s p) is (record {
       part = puts_to Made s.held ++ puts_to Notes (take took.0 line);
       went = GoOut-append (taken_by a None n) (taken_by b None n) (taken_by b None m) (puts_to Made s.held) (puts_to Notes (take took.0 line))
           (GoOut-made a b None n s.held taken) (GoOut-notes b None n m (take took.0 line) took.1);
@@ -179,11 +180,11 @@ has_begun before a b n s t events (inr (h, some)) (inr (unbegun, begun, counted,
 -- or that was cut off
 pub begin_failed : (before : Taken) (a b n : Option (List ℕ)) (s : Copied) (t : Progress) (events more : List Piece)
     → HasCopied before (taken_by a None n) s events → s.begun ≡ false → LaysFront a b nothing_made t (signature ∷ [])
-    → (c : CutOff) → cut.Made ≡ c → HasBrokenOff c before (taken_by b None n) (events ++ more)
+    → (c : FailedSink) → cut.Made ≡ c → HasBrokenOff c before (taken_by b None n) (events ++ more)
 begin_failed before a b n s t events more (inr (h, some)) unbegun front c is = cc (h.begun, unbegun)
 begin_failed before a b n s t events more (inl h) unbegun front c is =
     let bytes : List ℕ = laid_each 0 (signature ∷ []) in
-    subst (λ (x : CutOff). HasBrokenOff x before (taken_by b None n) (events ++ more)) is
+    subst (λ (x : FailedSink). HasBrokenOff x before (taken_by b None n) (events ++ more)) is
     (subst (λ (es : List Piece). HasBrokenOff cut.Made before (taken_by b None n) (es ++ more)) (sym h.none)
     (subst (λ (x : Taken). HasBrokenOff cut.Made x (taken_by b None n) more) h.same (record {
       part = puts_to Made front.bytes.passed;
@@ -212,7 +213,7 @@ copies_more before now then s t events e h more = record {
 }
 
 -- or that was cut off
-pub copies_cut : (c : CutOff) (before now then : Taken) (s : Copied) (events : List Piece) (e : Piece) → HasBegun before now s events
+pub copies_cut : (c : FailedSink) (before now then : Taken) (s : Copied) (events : List Piece) (e : Piece) → HasBegun before now s events
     → CopiesFront c now then s.file e → HasBrokenOff c before then (events ++ e ∷ [])
 copies_cut c before now then s events e h front = record {
   part = h.puts.passed ++ front.part;
@@ -222,7 +223,7 @@ copies_cut c before now then s events e h front = record {
 }
 
 -- so it is behind the signature
-pub event_copied : (r : Result (Unit {0}) CutOff) (a b n : Option (List ℕ)) (then : Taken) (s t u : Copied) (e : Piece) → Begins a b s t
+pub event_copied : (r : Result (Unit {0}) FailedSink) (a b n : Option (List ℕ)) (then : Taken) (s t u : Copied) (e : Piece) → Begins a b s t
     → OnOk r (Copies (taken_by b None n) then t u e)
     → OnOk r ((before : Taken) (events : List Piece) → HasCopied before (taken_by a None n) s events → HasBegun before then u (events ++ e ∷ []))
 event_copied (Err c) a b n then s t u e begins copies = tt
@@ -257,10 +258,10 @@ flush_broke before a b n ps held h front some =
     )
 
 pub finish_failed : (before : Taken) (a b n : Option (List ℕ)) (s : Copied) (events : List Piece) → HasBegun before (taken_by a None n) s events
-    → s.file.held ≢ [] → TakesFront a b s.file.held → (c : CutOff) → cut.Made ≡ c → HasBrokenOff c before (taken_by b None n) events
+    → s.file.held ≢ [] → TakesFront a b s.file.held → (c : FailedSink) → cut.Made ≡ c → HasBrokenOff c before (taken_by b None n) events
 finish_failed before a b n s events h some front c is =
     let broke = flush_broke before a b n (repair_puts events) s.file.held h.puts front some in
-    subst (λ (x : CutOff). HasBrokenOff x before (taken_by b None n) events) is (record { part = broke.0; went = broke.1; broken = broke.2 })
+    subst (λ (x : FailedSink). HasBrokenOff x before (taken_by b None n) events) is (record { part = broke.0; went = broke.1; broken = broke.2 })
 
 -- at a fault too, but for what wasn't begun
 all_at_fault : (f g : ℕ) (events : List Piece) → events ≢ [] → WentOutAtFault f g events (repair_puts events)
@@ -309,12 +310,18 @@ next_place_small from s small = elim (cases_Bool s.begun) [
   | inr unbegun ↦ omega (arith, next_when_unbegun s unbegun)
 ]
 
--- an event's chunk ends within reach
+-- an event's chunk can be laid
 pub fits : (from to place : ℕ) (e : Event) → IsEventIn from to e → place ≤ 64 + 2 * from → to ≤ 2 ^ 60 → FitsAt place e
-fits from to place (event.Records begin records chunk) h small reach =
-    (h.intact.0.right, omega (arith, h.from_place, h.to_place, place_moved begin place (value_of_chunk chunk) (omega (arith, h.from_place))))
-fits from to place (event.Kept begin chunk) h small reach =
-    (h.intact.right, omega (arith, h.from_place, h.to_place, place_moved begin place (value_of_chunk chunk) (omega (arith, h.from_place))))
+fits from to place (event.Records begin records chunk) h small reach = record {
+  right = h.intact.0.right;
+  in_reach = omega (arith, h.from_place, h.to_place, place_moved begin place (value_of_chunk chunk) (omega (arith, h.from_place)));
+  unread_is = sym (is_unread-plain (value_of_chunk chunk) (h.intact.0.small, inl (records, h.intact.1)));
+}
+fits from to place (event.Kept begin chunk unread) h small reach = record {
+  right = h.intact.0.right;
+  in_reach = omega (arith, h.from_place, h.to_place, place_moved begin place (value_of_chunk chunk) (omega (arith, h.from_place)));
+  unread_is = h.intact.1;
+}
 fits from to place (event.Skipped region) h small reach = tt
 
 -- and moves the place where the next one is laid by at most twice its size
@@ -322,12 +329,12 @@ pub grows : (from to place : ℕ) (e : Event) → IsEventIn from to e → place 
     → end_of_chunks place (chunks_in (piece_of e ∷ [])) ≤ 64 + 2 * to
 grows from to place (event.Records begin records chunk) h small =
     omega (arith, h.from_place, h.to_place, place_moved begin place (value_of_chunk chunk) (omega (arith, h.from_place)))
-grows from to place (event.Kept begin chunk) h small =
+grows from to place (event.Kept begin chunk unread) h small =
     omega (arith, h.from_place, h.to_place, place_moved begin place (value_of_chunk chunk) (omega (arith, h.from_place)))
 grows from to place (event.Skipped region) h small = omega (arith, h.from_place, h.rises, h.to_place)
 
 -- it is one region at most
-pub one_region : (e : Piece) → regions_in (e ∷ []) ≤ 1
+pub one_region : (e : Piece) → number_of_regions (e ∷ []) ≤ 1
 one_region e = elim (cases_Bool (is_skipped e.what)) [
   | inl skipped ↦ omega (arith, ap (λ (b : Bool). cond {A = ℕ} b 1 0) skipped)
   | inr other ↦ omega (arith, ap (λ (b : Bool). cond {A = ℕ} b 1 0) other)

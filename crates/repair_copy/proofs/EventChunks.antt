@@ -5,14 +5,14 @@ use Rattle.std.proofs.lemmas.Grind.{flat_map-append}
 use Rattle.chunk_header.specs.Chunks.{ChunkValue}
 use Rattle.meta_chunk.specs.Files.{signature, end_of_chunks, laid_each}
 use Rattle.meta_chunk.proofs.Joins.{laid_each-append, end-laid_each}
-use Rattle.damage_skip.specs.Pieces.{What, Given, Kept, Passive, Skipped, Piece, is_event, events_in}
+use Rattle.damage_skip.specs.Pieces.{PieceKind, Given, Kept, LeftOut, Skipped, Piece, is_event, events_in}
 use Rattle.repair_copy.specs.Relaid.{chunk_in, chunks_in, relaid}
 
 -- a piece that is no event has no chunk
-no_event_no_chunk : (what : What) → is_event what ≡ false → chunk_in what ≡ []
+no_event_no_chunk : (what : PieceKind) → is_event what ≡ false → chunk_in what ≡ []
 no_event_no_chunk (Given records c) h = cc
 no_event_no_chunk (Kept c) h = cc
-no_event_no_chunk Passive h = refl
+no_event_no_chunk LeftOut h = refl
 no_event_no_chunk (Skipped w) h = refl
 
 pub chunks_in_events : (pieces : List Piece) → chunks_in (events_in pieces) ≡ chunks_in pieces

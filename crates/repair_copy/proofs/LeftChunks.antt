@@ -9,7 +9,7 @@ use Rattle.meta_chunk.specs.Files.{IsFramed, begin_of}
 use Rattle.meta_chunk.proofs.Begins.{begin_of-place, begin_of_rises, begin_of_rises_by}
 use Rattle.chunk_reader.proofs.AllowedChunks.{allowed_small}
 use Rattle.chunk_reader.proofs.ChainSteps.{each_at}
-use Rattle.damage_skip.specs.Pieces.{What, Piece, AreTiles, ArePieces}
+use Rattle.damage_skip.specs.Pieces.{PieceKind, Piece, AreTiles, ArePieces}
 use Rattle.damage_skip.specs.Damage.{Intact, IsDamaged, AreReached, DamageLeaves, DamageLeavesEach, untouched}
 use Rattle.damage_skip.specs.Walks.{GoesOn}
 use Rattle.damage_skip.proofs.Tiles.{tiles_within, tiles_past, tiles_front, tiles_to_end}
@@ -20,7 +20,7 @@ use Rattle.repair_copy.proofs.EventChunks.{chunks_in_events}
 use Rattle.repair_copy.proofs.Copied.{unread_stays, none_before, found_chunk}
 
 -- the chunk of an untouched one's piece
-left_untouched : (keep : Bool) (k : ChunkValue) (what : What) (xs : List ChunkValue) → length k.«data» ≤ 2 ^ 26 → DamageLeaves keep true true k what
+left_untouched : (keep : Bool) (k : ChunkValue) (what : PieceKind) (xs : List ChunkValue) → length k.«data» ≤ 2 ^ 26 → DamageLeaves keep true true k what
     → chunk_in what ++ xs ≡ (if is_copied keep k then k ∷ xs else xs)
 left_untouched true k what xs small found = found_chunk true k what xs small found
 left_untouched false k what xs small (inl found) = found_chunk false k what xs small found
@@ -30,7 +30,7 @@ left_untouched false k what xs small (inr (inr (transposed, is))) =
     none_before false k (chunk_in what) xs (unread_stays k small (inl transposed)) (ap chunk_in is)
 
 -- that of a touched one has none
-left_touched : (keep header «data» : Bool) (k : ChunkValue) (what : What) → header && «data» ≡ false → DamageLeaves keep header «data» k what
+left_touched : (keep header «data» : Bool) (k : ChunkValue) (what : PieceKind) → header && «data» ≡ false → DamageLeaves keep header «data» k what
     → chunk_in what ≡ []
 left_touched keep false d k what touched left = ap chunk_in left
 left_touched keep true false k what touched left = ap chunk_in left
@@ -51,7 +51,7 @@ touched-cons ks intact j is touched = rw touched
 
 module _ (keep : Bool) (ks : List ChunkValue) (intact : Intact) (framed : AllByRecursion IsFramed ks) where
   -- so the piece of a chunk that is reached has it where it is copied
-  left_chunk : (j : ℕ) (k : ChunkValue) (what : What) (is : List ℕ) → slice_get ks j ≡ Some k
+  left_chunk : (j : ℕ) (k : ChunkValue) (what : PieceKind) (is : List ℕ) → slice_get ks j ≡ Some k
       → DamageLeaves keep (intact.header j) (intact.«data» j) k what
       → chunk_in what ++ copied keep (untouched ks intact is) ≡ copied keep (untouched ks intact (j ∷ is))
   left_chunk j k what is at left =

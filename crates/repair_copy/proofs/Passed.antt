@@ -11,11 +11,11 @@ use Rattle.damage_skip.specs.declared.events.Event.{Event}
 use Rattle.damage_skip.specs.declared.events.Event.TheVariants as event
 use Rattle.damage_skip.specs.declared.regions.Region.{Region}
 use lib.Chars.{codes}
-use Rattle.repair_copy.specs.Told.{lines_in, regions_in, lines_of, ArePassed}
+use Rattle.repair_copy.specs.Told.{lines_in, number_of_regions, lines_of, ArePassed}
 use Rattle.repair_copy.specs.Copies.{TakesLine, HasPassed}
-use Rattle.repair_copy.specs.Repairs.{Passes, end_of_cut}
-use Rattle.repair_copy.specs.declared.copying.CutOff.{CutOff}
-use Rattle.repair_copy.specs.declared.copying.CutOff.TheVariants.{Made, Notes}
+use Rattle.repair_copy.specs.Repairs.{Passes, end_of_failed}
+use Rattle.repair_copy.specs.declared.copying.FailedSink.{FailedSink}
+use Rattle.repair_copy.specs.declared.copying.FailedSink.TheVariants.{Made, Notes}
 use Rattle.repair_copy.specs.declared.repairs.Repaired.{Repaired}
 use Rattle.repair_copy.specs.declared.repairs.RepairEnd.{RepairEnd}
 use Rattle.repair_copy.specs.declared.repairs.RepairEnd.TheVariants as end
@@ -29,12 +29,12 @@ regions_of other = []
 -- its line, and its number
 lines_of-event : (e : Event) → lines_in (piece_of e ∷ []) ≡ lines_of (regions_of e)
 lines_of-event (event.Records begin records chunk) = refl
-lines_of-event (event.Kept begin chunk) = refl
+lines_of-event (event.Kept begin chunk unread) = refl
 lines_of-event (event.Skipped region) = refl
 
-count_of-event : (e : Event) → regions_in (piece_of e ∷ []) ≡ length (regions_of e)
+count_of-event : (e : Event) → number_of_regions (piece_of e ∷ []) ≡ length (regions_of e)
 count_of-event (event.Records begin records chunk) = refl
-count_of-event (event.Kept begin chunk) = refl
+count_of-event (event.Kept begin chunk unread) = refl
 count_of-event (event.Skipped region) = refl
 
 lines_of-append : (rs ss : List Region) → lines_of (rs ++ ss) ≡ lines_of rs ++ lines_of ss
@@ -50,7 +50,7 @@ module _ {F : Type 0} (test : Shared F (Bor Region × Unit {0}) Bool) (f : F) wh
   pub event_passed : (t : F) (from to : ℕ) (e : Event) → t ≡ f → IsEventIn from to e → to ≤ 2 ^ 60
       → ((region : Region) → e ≡ event.Skipped region → FnReturnsAt test t region true) → ArePassed test f (regions_of e)
   event_passed t from to (event.Records begin records chunk) same h reach allowed = tt
-  event_passed t from to (event.Kept begin chunk) same h reach allowed = tt
+  event_passed t from to (event.Kept begin chunk unread) same h reach allowed = tt
   event_passed t from to (event.Skipped region) same h reach allowed = (
     (
       record { ordered = omega (arith, h.rises); in_reach = omega (arith, h.to_place, reach) },
@@ -65,7 +65,7 @@ module _ {F : Type 0} (test : Shared F (Bor Region × Unit {0}) Bool) (f : F) wh
 
   -- an event was copied
   pub passed_next : (count now : ℕ) (n m o : Option (List ℕ)) (e : Event) → HasPassed test f count n m
-      → Takes m o (lines_in (piece_of e ∷ [])) → now ≡ count + regions_in (piece_of e ∷ []) → ArePassed test f (regions_of e)
+      → Takes m o (lines_in (piece_of e ∷ [])) → now ≡ count + number_of_regions (piece_of e ∷ []) → ArePassed test f (regions_of e)
       → HasPassed test f now n o
   passed_next count now n m o e h line more pass = record {
     regions = h.regions ++ regions_of e;
@@ -77,8 +77,8 @@ module _ {F : Type 0} (test : Shared F (Bor Region × Unit {0}) Bool) (f : F) wh
   }
 
   -- or that was cut off
-  passes_cut_off : (cut : CutOff) (count : ℕ) (n m o : Option (List ℕ)) (e : Event) → HasPassed test f count n m
-      → TakesLine cut m o (lines_in (piece_of e ∷ [])) → ArePassed test f (regions_of e) → Passes test f (Err (end_of_cut cut)) n o
+  passes_cut_off : (cut : FailedSink) (count : ℕ) (n m o : Option (List ℕ)) (e : Event) → HasPassed test f count n m
+      → TakesLine cut m o (lines_in (piece_of e ∷ [])) → ArePassed test f (regions_of e) → Passes test f (Err (end_of_failed cut)) n o
   passes_cut_off Made count n m o e h line pass = record {
     regions = h.regions;
     passed = h.passed;
@@ -96,17 +96,17 @@ module _ {F : Type 0} (test : Shared F (Bor Region × Unit {0}) Bool) (f : F) wh
         ));
   }
 
-  pub passes_cut : (result : Result Repaired RepairEnd) (cut : CutOff) (count : ℕ) (n m o : Option (List ℕ)) (e : Event)
-      → result ≡ Err (end_of_cut cut) → HasPassed test f count n m → TakesLine cut m o (lines_in (piece_of e ∷ []))
+  pub passes_cut : (result : Result Repaired RepairEnd) (cut : FailedSink) (count : ℕ) (n m o : Option (List ℕ)) (e : Event)
+      → result ≡ Err (end_of_failed cut) → HasPassed test f count n m → TakesLine cut m o (lines_in (piece_of e ∷ []))
       → ArePassed test f (regions_of e) → Passes test f result n o
   passes_cut result cut count n m o e is h line pass =
       subst (λ (x : Result Repaired RepairEnd). Passes test f x n o) (sym is) (passes_cut_off cut count n m o e h line pass)
 
   -- what is held of the made file was not put whole
-  pub passes_made : (result : Result Repaired RepairEnd) (cut : CutOff) (count : ℕ) (n m : Option (List ℕ)) → result ≡ Err (end_of_cut cut)
+  pub passes_made : (result : Result Repaired RepairEnd) (cut : FailedSink) (count : ℕ) (n m : Option (List ℕ)) → result ≡ Err (end_of_failed cut)
       → cut ≡ Made → HasPassed test f count n m → Passes test f result n m
   passes_made result cut count n m is made h =
-      subst (λ (x : Result Repaired RepairEnd). Passes test f x n m) (sym (is ∙ ap (λ (c : CutOff). Err (end_of_cut c)) made))
+      subst (λ (x : Result Repaired RepairEnd). Passes test f x n m) (sym (is ∙ ap (λ (c : FailedSink). Err (end_of_failed c)) made))
       (record { regions = h.regions; passed = h.passed; answer = tt; lines = h.lines })
 
   -- also up to one that was refused

@@ -21,13 +21,13 @@ use Rattle.record_group.specs.Groups.{groups, pads_start, pads_end, padding_if, 
 use Rattle.record_group.specs.Records.{AreRecords}
 use Rattle.record_group.proofs.RecordFiles.{IsFile-file_of}
 use Rattle.repair_copy.specs.Relaid.{relaid, is_copied, copied}
-use Rattle.repair_copy.proofs.Copied.{passive_stays, copied_all, copied_none}
+use Rattle.repair_copy.proofs.Copied.{left_out_stays, copied_all, copied_none}
 use Rattle.repair_copy.proofs.RelaidFiles.{whole_chunks}
 
 -- no padding is copied
 each_padding : (keep : Bool) (ks : List ChunkValue) → AllByRecursion IsPadding ks → AllByRecursion (λ k. is_copied keep k ≡ false) ks
 each_padding keep [] h = tt
-each_padding keep (k ∷ ks) h = (passive_stays keep k (inr h.0), each_padding keep ks h.1)
+each_padding keep (k ∷ ks) h = (left_out_stays keep k (inr h.0), each_padding keep ks h.1)
 
 padding_stays : (keep wanted : Bool) (place : ℕ) → IsBoundary place → copied keep (padding_if wanted place) ≡ []
 padding_stays keep true place boundary = copied_none keep (padding_at place) (each_padding keep (padding_at place) (padding_at_are_padding place boundary))

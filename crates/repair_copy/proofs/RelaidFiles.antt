@@ -19,7 +19,7 @@ use Rattle.chunk_reader.proofs.PassedChunks.{AreBytes-own_bytes_at, AreBytes-dat
 use Rattle.chunk_reader.proofs.AllowedChunks.{IsAllowed-passed, IsAllowed-frame, allowed_small}
 use Rattle.chunk_reader.proofs.NoReasonLaid.{content_where_none}
 use Rattle.chunk_reader.proofs.SignedFiles.{IsChunk-signature, IsAllowed-signature}
-use Rattle.damage_skip.specs.Pieces.{What, Given, Kept, Passive, Skipped, Piece, PassesOver, walk_reasons, IsFoundAs, IsPieceOf, AreTiles, ArePieces, records_of, records_in}
+use Rattle.damage_skip.specs.Pieces.{PieceKind, Given, Kept, LeftOut, Skipped, Piece, PassesOver, walk_reasons, IsFoundAs, IsPieceOf, AreTiles, ArePieces, records_of, records_in}
 use Rattle.damage_skip.specs.Walks.{GoesOn}
 use Rattle.damage_skip.proofs.OnePiece.{piece_cases}
 use Rattle.damage_skip.proofs.Found.{file_of_plain, pieces_found}
@@ -64,19 +64,19 @@ module _ (keep : Bool) (file : List ℕ) where
 
   -- what holds of the chunk of each whole piece holds of the chunks of pieces
   module _ (P : ChunkValue → Type 0)
-      (of_whole : (place : ℕ) (what : What) → NoneOf (PassesOver file place) (walk_reasons keep)
+      (of_whole : (place : ℕ) (what : PieceKind) → NoneOf (PassesOver file place) (walk_reasons keep)
       → IsFoundAs keep (chunk_at file place) what → AllByRecursion P (chunk_in what)) where
-    of_piece : (begin end : ℕ) (what : What) → IsPieceOf keep file begin end what → AllByRecursion P (chunk_in what)
+    of_piece : (begin end : ℕ) (what : PieceKind) → IsPieceOf keep file begin end what → AllByRecursion P (chunk_in what)
     of_piece begin end what is =
         elim (piece_cases keep file begin end what is) [
-          | inl (w, skipped, first, to) ↦ subst (λ (x : What). AllByRecursion P (chunk_in x)) (sym skipped) tt
+          | inl (w, skipped, first, to) ↦ subst (λ (x : PieceKind). AllByRecursion P (chunk_in x)) (sym skipped) tt
           | inr (none, to, found) ↦ of_whole begin what none found
         ]
 
-    each_before : (what : What) (ks : List ChunkValue) → AllByRecursion P (chunk_in what) → AllByRecursion P ks → AllByRecursion P (chunk_in what ++ ks)
+    each_before : (what : PieceKind) (ks : List ChunkValue) → AllByRecursion P (chunk_in what) → AllByRecursion P ks → AllByRecursion P (chunk_in what ++ ks)
     each_before (Given records c) ks h rest = (h.0, rest)
     each_before (Kept c) ks h rest = (h.0, rest)
-    each_before Passive ks h rest = rest
+    each_before LeftOut ks h rest = rest
     each_before (Skipped w) ks h rest = rest
 
     pub of_tiles : (from to : ℕ) (pieces : List Piece) → AreTiles keep file from to pieces → AllByRecursion P (chunks_in pieces)
@@ -85,11 +85,11 @@ module _ (keep : Bool) (file : List ℕ) where
         each_before p.what (chunks_in pieces) (of_piece from p.end p.what is) (of_tiles p.end to pieces rest)
 
   -- where it holds of each chunk to which no reason applies
-  of_chunk : (P : ChunkValue → Type 0) (place : ℕ) (what : What) → P (chunk_at file place) → IsFoundAs keep (chunk_at file place) what
+  of_chunk : (P : ChunkValue → Type 0) (place : ℕ) (what : PieceKind) → P (chunk_at file place) → IsFoundAs keep (chunk_at file place) what
       → AllByRecursion P (chunk_in what)
   of_chunk P place (Given records c) h (simple, is) = (subst P (sym is) h, tt)
   of_chunk P place (Kept c) h (kept, is) = (subst P (sym is) h, tt)
-  of_chunk P place Passive h passive = tt
+  of_chunk P place LeftOut h left_out = tt
   of_chunk P place (Skipped w) h found = tt
 
   pub tiles_allowed : (from to : ℕ) (pieces : List Piece) → AreTiles keep file from to pieces → AllByRecursion (IsAllowed keep) (chunks_in pieces)
@@ -120,14 +120,14 @@ module _ (keep : Bool) (file : List ℕ) where
       )
 
   -- which hold the records of the pieces
-  piece_records : (begin end : ℕ) (what : What) → IsPieceOf keep file begin end what → AreRecordsOf (chunk_in what) (records_of what)
+  piece_records : (begin end : ℕ) (what : PieceKind) → IsPieceOf keep file begin end what → AreRecordsOf (chunk_in what) (records_of what)
   piece_records begin end (Given records c) (none, to, found) =
       let holds : Holds c records = subst (λ (x : ChunkValue). Holds x records) (sym found.1) (found_holds keep (chunk_at file begin) (Given records c) found) in
       (records ∷ [], (holds, refl), sym (append-nil records))
   piece_records begin end (Kept c) (none, to, found) =
       let holds : Holds c [] = subst (λ (x : ChunkValue). Holds x []) (sym found.1) (found_holds keep (chunk_at file begin) (Kept c) found) in
       ([] ∷ [], (holds, refl), refl)
-  piece_records begin end Passive h = ([], refl, refl)
+  piece_records begin end LeftOut h = ([], refl, refl)
   piece_records begin end (Skipped w) h = ([], refl, refl)
 
   pub tiles_records : (from to : ℕ) (pieces : List Piece) → AreTiles keep file from to pieces → AreRecordsOf (chunks_in pieces) (records_in pieces)
@@ -139,7 +139,7 @@ module _ (keep : Bool) (file : List ℕ) where
   pub relaid_records : (from to : ℕ) (pieces : List Piece) → AreTiles keep file from to pieces
       → AreRecordsOf (signature ∷ chunks_in pieces) (records_in pieces)
   relaid_records from to pieces h =
-      let holds : Holds signature [] = found_holds keep signature Passive (inl ((IsSignature-one signature).1 refl)) in
+      let holds : Holds signature [] = found_holds keep signature LeftOut (inl ((IsSignature-one signature).1 refl)) in
       AreRecordsOf-append (signature ∷ []) (chunks_in pieces) [] (records_in pieces) ([] ∷ [], (holds, refl), refl)
       (tiles_records from to pieces h)
 

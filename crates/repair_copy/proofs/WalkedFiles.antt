@@ -19,10 +19,10 @@ use Rattle.repair_copy.specs.Told.{IsLetPass}
 use Rattle.repair_copy.specs.RepairPuts.{repair_puts, WentOutAtFault}
 use Rattle.repair_copy.specs.Walked.{AreWalked, EndsAt}
 use Rattle.repair_copy.specs.Copies.{HasCopied, HasBegun, HasPutAll, HasBrokenOff, HasPutAtFault, HasWalked}
-use Rattle.repair_copy.specs.Repairs.{Repairs, end_of_cut}
+use Rattle.repair_copy.specs.Repairs.{Repairs, end_of_failed}
 use Rattle.repair_copy.specs.declared.copying.Copied.{Copied}
-use Rattle.repair_copy.specs.declared.copying.CutOff.{CutOff}
-use Rattle.repair_copy.specs.declared.copying.CutOff.TheVariants.{Made, Notes}
+use Rattle.repair_copy.specs.declared.copying.FailedSink.{FailedSink}
+use Rattle.repair_copy.specs.declared.copying.FailedSink.TheVariants.{Made, Notes}
 use Rattle.repair_copy.specs.declared.repairs.Repaired.{Repaired}
 use Rattle.repair_copy.specs.declared.repairs.RepairEnd.{RepairEnd}
 use Rattle.repair_copy.specs.declared.repairs.RepairEnd.TheVariants as end
@@ -57,7 +57,7 @@ module _ {F : Type 0} (test : Shared F (Bor Region × Unit {0}) Bool) (f : F) wh
   pub let_pass : (t : F) (e : Event) → t ≡ f → ((region : Region) → e ≡ event.Skipped region → FnReturnsAt test t region true)
       → IsLetPass test f (piece_of e).begin (piece_of e).end (piece_of e).what
   let_pass t (event.Records begin records chunk) same allowed = tt
-  let_pass t (event.Kept begin chunk) same allowed = tt
+  let_pass t (event.Kept begin chunk unread) same allowed = tt
   let_pass t (event.Skipped region) same allowed = subst (λ (x : F). FnReturnsAt test x region true) same (allowed region refl)
 
   -- the walk goes on past what is no event
@@ -87,16 +87,16 @@ module _ {F : Type 0} (test : Shared F (Bor Region × Unit {0}) Bool) (f : F) wh
   }
 
   -- what is put of the events broke off
-  repairs_broken_off : (cut : CutOff) (faults faults_then : ℕ) (before after : Taken) (file : List ℕ) (place : ℕ) (events : List Piece)
+  repairs_broken_off : (cut : FailedSink) (faults faults_then : ℕ) (before after : Taken) (file : List ℕ) (place : ℕ) (events : List Piece)
       → AreWalked test f file place events → HasBrokenOff cut before after events
-      → Repairs test f (Err (end_of_cut cut)) faults faults_then before after file
+      → Repairs test f (Err (end_of_failed cut)) faults faults_then before after file
   repairs_broken_off Made faults faults_then before after file place events walked h =
       record { place = place; events = events; walked = walked; answer = tt; part = h.part; went = h.broken; took = h.went }
   repairs_broken_off Notes faults faults_then before after file place events walked h =
       record { place = place; events = events; walked = walked; answer = tt; part = h.part; went = h.broken; took = h.went }
 
-  repairs_cut : (result : Result Repaired RepairEnd) (cut : CutOff) (faults faults_then : ℕ) (before after : Taken) (file : List ℕ) (place : ℕ)
-      (events : List Piece) → result ≡ Err (end_of_cut cut) → AreWalked test f file place events → HasBrokenOff cut before after events
+  repairs_cut : (result : Result Repaired RepairEnd) (cut : FailedSink) (faults faults_then : ℕ) (before after : Taken) (file : List ℕ) (place : ℕ)
+      (events : List Piece) → result ≡ Err (end_of_failed cut) → AreWalked test f file place events → HasBrokenOff cut before after events
       → Repairs test f result faults faults_then before after file
   repairs_cut result cut faults faults_then before after file place events is walked h =
       subst (λ (x : Result Repaired RepairEnd). Repairs test f x faults faults_then before after file) (sym is)
@@ -133,8 +133,8 @@ module _ {F : Type 0} (test : Shared F (Bor Region × Unit {0}) Bool) (f : F) wh
       }
 
     -- or that was cut off
-    pub cut_within : (s : Copied) (before now_taken then : Taken) (e : Piece) (cut : CutOff) (result : Result Repaired RepairEnd) (faults faults_then : ℕ)
-        → result ≡ Err (end_of_cut cut)
+    pub cut_within : (s : Copied) (before now_taken then : Taken) (e : Piece) (cut : FailedSink) (result : Result Repaired RepairEnd) (faults faults_then : ℕ)
+        → result ≡ Err (end_of_failed cut)
         → IfSome bytes (HasWalked test f place s before now_taken)
         → IfSome now (λ file. GoesOn keep file place to (e ∷ [])) → IsLetPass test f e.begin e.end e.what
         → ((b : Taken) (events : List Piece) → HasCopied b now_taken s events → HasBrokenOff cut b then (events ++ e ∷ []))
@@ -203,8 +203,8 @@ module _ {F : Type 0} (test : Shared F (Bor Region × Unit {0}) Bool) (f : F) wh
   }
 
   -- or what was held was not put whole
-  pub repairs_unfinished : (bytes : Option (List ℕ)) (place : ℕ) (s : Copied) (result : Result Repaired RepairEnd) (cut : CutOff)
-      (faults faults_then : ℕ) (before a b : Taken) → result ≡ Err (end_of_cut cut) → IfSome bytes (HasWalked test f place s before a)
+  pub repairs_unfinished : (bytes : Option (List ℕ)) (place : ℕ) (s : Copied) (result : Result Repaired RepairEnd) (cut : FailedSink)
+      (faults faults_then : ℕ) (before a b : Taken) → result ≡ Err (end_of_failed cut) → IfSome bytes (HasWalked test f place s before a)
       → ((x : Taken) (events : List Piece) → HasCopied x a s events → HasBrokenOff cut x b events)
       → IfSome bytes (Repairs test f result faults faults_then before b)
   repairs_unfinished None place s result cut faults faults_then before a b is h front = tt

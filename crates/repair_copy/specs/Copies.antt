@@ -5,7 +5,8 @@ use denote.Ref.{Bor}
 use Rattle.record_io.specs.Outside.{Takes, TakesFront}
 use Rattle.record_io.specs.Puts.{Stream, Made, Notes, Put, Taken, puts_to, GoOut, GoOutOrAreHeld, BreaksOff}
 use Rattle.chunk_header.specs.Views.{HasRightHash, value_of_chunk}
-use Rattle.meta_chunk.specs.Counts.{totals_of}
+use Rattle.chunk_header.specs.declared.Chunk.{Chunk}
+use Rattle.meta_chunk.specs.Counts.{is_unread, totals_of}
 use Rattle.meta_chunk.specs.Files.{signature, end_of_chunks}
 use Rattle.meta_chunk.specs.Laid.{end_of_chunk}
 use Rattle.record_writer.specs.Progresses.{Progress, Lays, nothing_made, totals_made}
@@ -14,21 +15,28 @@ use Rattle.damage_skip.specs.declared.events.Event.{Event}
 use Rattle.damage_skip.specs.declared.events.Event.TheVariants as event
 use Rattle.damage_skip.specs.declared.regions.Region.{Region}
 use Rattle.repair_copy.specs.Relaid.{chunks_in}
-use Rattle.repair_copy.specs.Told.{regions_in, lines_of, ArePassed}
+use Rattle.repair_copy.specs.Told.{number_of_regions, lines_of, ArePassed}
 use Rattle.repair_copy.specs.RepairPuts.{puts_from, repair_puts, WentOutAtFault}
 use Rattle.repair_copy.specs.Walked.{AreWalked}
 use Rattle.repair_copy.specs.declared.copying.Copied.{Copied}
-use Rattle.repair_copy.specs.declared.copying.CutOff.{CutOff}
-use Rattle.repair_copy.specs.declared.copying.CutOff.TheVariants as cut
+use Rattle.repair_copy.specs.declared.copying.FailedSink.{FailedSink}
+use Rattle.repair_copy.specs.declared.copying.FailedSink.TheVariants as cut
 
--- the chunk of an event, if it has one, has the hash of its data, and ends within reach where it is laid at a place
+-- a chunk of which it is said whether it is left unread has the hash of its data, and ends within reach where it is laid at a
+-- place
+pub record IsFit (place : ℕ) (chunk : Chunk) (unread : Bool) : Type 0 where
+  pub right : HasRightHash chunk
+  pub in_reach : end_of_chunk place (value_of_chunk chunk) ≤ 2 ^ 62
+  pub unread_is : unread ≡ is_unread (value_of_chunk chunk)
+
+-- so has the chunk of an event, if it has one
 abbrev pub FitsAt : ℕ → Event → Type 0
-FitsAt place (event.Records begin records chunk) = HasRightHash chunk × (end_of_chunk place (value_of_chunk chunk) ≤ 2 ^ 62)
-FitsAt place (event.Kept begin chunk) = HasRightHash chunk × (end_of_chunk place (value_of_chunk chunk) ≤ 2 ^ 62)
+FitsAt place (event.Records begin records chunk) = IsFit place chunk false
+FitsAt place (event.Kept begin chunk unread) = IsFit place chunk unread
 FitsAt place (event.Skipped region) = ⊤
 
 -- the stream whose sink failed
-abbrev pub stream_of : CutOff → Stream
+abbrev pub stream_of : FailedSink → Stream
 stream_of cut.Made = Made
 stream_of cut.Notes = Notes
 
@@ -52,16 +60,16 @@ pub record Copies (before after : Taken) (old new : Copied) (event : Piece) : Ty
   pub chunks : Lays before.made after.made old.file new.file (chunks_in (event ∷ []))
   pub puts : GoOutOrAreHeld before after Made (puts_behind old.file event) new.file.held
   pub begun : new.begun ≡ old.begun
-  pub regions : new.regions ≡ old.regions + regions_in (event ∷ [])
+  pub regions : new.regions ≡ old.regions + number_of_regions (event ∷ [])
 
 -- the copying of an event was cut off
-pub record CopiesFront (cut : CutOff) (before after : Taken) (old : Progress) (event : Piece) : Type 0 where
+pub record CopiesFront (cut : FailedSink) (before after : Taken) (old : Progress) (event : Piece) : Type 0 where
   pub part : List Put
   pub went : GoOut before after part
   pub broken : BreaksOff (stream_of cut) part (puts_behind old event)
 
 -- what notes took of a line where the work was cut off: a front of some where they failed, and else nothing
-abbrev pub TakesLine : CutOff → Option (List ℕ) → Option (List ℕ) → List ℕ → Type 0
+abbrev pub TakesLine : FailedSink → Option (List ℕ) → Option (List ℕ) → List ℕ → Type 0
 TakesLine cut.Made before after line = Takes before after []
 TakesLine cut.Notes before after line = (line ≢ []) × TakesFront before after line
 
@@ -70,7 +78,7 @@ pub record HasBegun (before after : Taken) (copied : Copied) (events : List Piec
   pub begun : copied.begun ≡ true
   pub chunks : Lays before.made after.made nothing_made copied.file (signature ∷ chunks_in events)
   pub puts : GoOutOrAreHeld before after Made (repair_puts events) copied.file.held
-  pub regions : copied.regions ≡ regions_in events
+  pub regions : copied.regions ≡ number_of_regions events
 
 -- nothing was put yet
 pub record IsUnbegun (before after : Taken) (copied : Copied) (events : List Piece) : Type 0 where
@@ -89,10 +97,10 @@ HasCopied before after copied events =
 pub record HasPutAll (before after : Taken) (copied : Copied) (events : List Piece) : Type 0 where
   pub puts : GoOut before after (repair_puts events)
   pub totals : totals_made copied.file ≡ totals_of (signature ∷ chunks_in events)
-  pub regions : copied.regions ≡ regions_in events
+  pub regions : copied.regions ≡ number_of_regions events
 
 -- what is put of these events broke off
-pub record HasBrokenOff (cut : CutOff) (before after : Taken) (events : List Piece) : Type 0 where
+pub record HasBrokenOff (cut : FailedSink) (before after : Taken) (events : List Piece) : Type 0 where
   pub part : List Put
   pub went : GoOut before after part
   pub broken : BreaksOff (stream_of cut) part (repair_puts events)

@@ -7,10 +7,10 @@ use Rattle.chunk_header.specs.SimpleChunks.{simple_kind}
 use Rattle.meta_chunk.specs.Kinds.{metadata_kind, transposed_kind}
 use Rattle.meta_chunk.specs.Counts.{is_unread}
 use Rattle.meta_chunk.specs.Files.{signature, begin_of, laid_each}
-use Rattle.damage_skip.specs.Pieces.{What, Given, Kept, Piece}
+use Rattle.damage_skip.specs.Pieces.{PieceKind, Given, Kept, Piece}
 
 -- the chunk of a piece that gives records or is kept; other pieces have none
-abbrev pub chunk_in : What → List ChunkValue
+abbrev pub chunk_in : PieceKind → List ChunkValue
 chunk_in (Given records chunk) = chunk ∷ []
 chunk_in (Kept chunk) = chunk ∷ []
 chunk_in other = []

@@ -11,22 +11,22 @@ use Rattle.damage_skip.specs.Pieces.{Piece}
 use Rattle.damage_skip.specs.Regions.{IsRegion}
 use Rattle.damage_skip.specs.declared.regions.Region.{Region}
 use Rattle.repair_copy.specs.Relaid.{chunks_in}
-use Rattle.repair_copy.specs.Told.{regions_in, lines_of, ArePassed}
+use Rattle.repair_copy.specs.Told.{number_of_regions, lines_of, ArePassed}
 use Rattle.repair_copy.specs.RepairPuts.{repair_puts, WentOutAtFault}
 use Rattle.repair_copy.specs.Walked.{AreWalked, EndsAt}
-use Rattle.repair_copy.specs.declared.copying.CutOff.{CutOff}
-use Rattle.repair_copy.specs.declared.copying.CutOff.TheVariants as cut
+use Rattle.repair_copy.specs.declared.copying.FailedSink.{FailedSink}
+use Rattle.repair_copy.specs.declared.copying.FailedSink.TheVariants as cut
 use Rattle.repair_copy.specs.declared.repairs.Repaired.{Repaired}
 use Rattle.repair_copy.specs.declared.repairs.RepairEnd.{RepairEnd}
 use Rattle.repair_copy.specs.declared.repairs.RepairEnd.TheVariants as end
 
 -- what is answered where events up to a place were copied. Memory is wanting only where a chunk stands that is read
-abbrev pub Answers : {F : Type 0} → Shared F (Bor Region × Unit {0}) Bool → F → Result Repaired RepairEnd → List ℕ → ℕ → List Piece → Type 0
-Answers test f (Ok repaired) file place events =
-    EndsAt test f file place None × (repaired.totals ≡ totals_of (signature ∷ chunks_in events)) × (repaired.regions ≡ regions_in events)
-Answers test f (Err (end.Stopped region)) file place events = EndsAt test f file place (Some region)
-Answers test f (Err end.Memory) file place events = NoneOf (Applies file place) loading_reasons
-Answers test f (Err other) file place events = ⊤
+abbrev pub AnswersRepair : {F : Type 0} → Shared F (Bor Region × Unit {0}) Bool → F → Result Repaired RepairEnd → List ℕ → ℕ → List Piece → Type 0
+AnswersRepair test f (Ok repaired) file place events =
+    EndsAt test f file place None × (repaired.totals ≡ totals_of (signature ∷ chunks_in events)) × (repaired.regions ≡ number_of_regions events)
+AnswersRepair test f (Err (end.Stopped region)) file place events = EndsAt test f file place (Some region)
+AnswersRepair test f (Err end.Memory) file place events = NoneOf (Applies file place) loading_reasons
+AnswersRepair test f (Err other) file place events = ⊤
 
 -- of what is put of these events a part went out with that answer: all, or a front where the made file or notes failed. Where
 -- the store failed or memory was wanting all went out too, but nothing where no event was met, and a front where the made
@@ -49,7 +49,7 @@ pub record Repairs {F : Type 0} (test : Shared F (Bor Region × Unit {0}) Bool) 
   pub place : ℕ
   pub events : List Piece
   pub walked : AreWalked test f file place events
-  pub answer : Answers test f result file place events
+  pub answer : AnswersRepair test f result file place events
   pub part : List Put
   pub went : WentOut result faults faults_then events part
   pub took : GoOut before after part
@@ -68,6 +68,6 @@ pub record Passes {F : Type 0} (test : Shared F (Bor Region × Unit {0}) Bool) (
   pub lines : TakesNotes result before after (lines_of regions)
 
 -- why a repair ended that was cut off
-abbrev pub end_of_cut : CutOff → RepairEnd
-end_of_cut cut.Made = end.Made
-end_of_cut cut.Notes = end.Notes
+abbrev pub end_of_failed : FailedSink → RepairEnd
+end_of_failed cut.Made = end.Made
+end_of_failed cut.Notes = end.Notes

@@ -4,12 +4,12 @@ use lib.Chars.{codes}
 use Rattle.std.specs.List.{AllByRecursion, flat_map}
 use Rattle.std.specs.Fn.{Shared, FnReturnsAt}
 use denote.Ref.{Bor}
-use Rattle.damage_skip.specs.Pieces.{What, Skipped, Piece}
+use Rattle.damage_skip.specs.Pieces.{PieceKind, Skipped, Piece}
 use Rattle.damage_skip.specs.Regions.{IsRegion, region_text}
 use Rattle.damage_skip.specs.declared.regions.Region.{Region}
 
 -- the line of a piece that is skipped; other pieces have none
-abbrev pub line_of : (begin end : ℕ) → What → List ℕ
+abbrev pub line_of : (begin end : ℕ) → PieceKind → List ℕ
 line_of begin end (Skipped why) = region_text (codes "skipped") (record { begin = begin; end = end; why = why })
 line_of begin end other = []
 
@@ -17,16 +17,16 @@ line_of begin end other = []
 abbrev pub lines_in : List Piece → List ℕ
 lines_in pieces = flat_map (λ piece. line_of piece.begin piece.end piece.what) pieces
 
-abbrev pub is_skipped : What → Bool
+abbrev pub is_skipped : PieceKind → Bool
 is_skipped (Skipped why) = true
 is_skipped other = false
 
 -- how many of the pieces are skipped
-abbrev pub regions_in : List Piece → ℕ
-regions_in pieces = count_by (λ piece. is_skipped piece.what) pieces
+abbrev pub number_of_regions : List Piece → ℕ
+number_of_regions pieces = count_by (λ piece. is_skipped piece.what) pieces
 
 -- a test can answer that the piece may be passed over, if it is skipped
-abbrev pub IsLetPass : {F : Type 0} → Shared F (Bor Region × Unit {0}) Bool → F → (begin end : ℕ) → What → Type 0
+abbrev pub IsLetPass : {F : Type 0} → Shared F (Bor Region × Unit {0}) Bool → F → (begin end : ℕ) → PieceKind → Type 0
 IsLetPass test f begin end (Skipped why) = FnReturnsAt test f (record { begin = begin; end = end; why = why }) true
 IsLetPass test f begin end other = ⊤
 

@@ -7,7 +7,7 @@ ghost use Rattle.record_writer.specs.Progresses.{LaysFront, nothing_made};
 ghost use Rattle.damage_skip.specs.Pieces.{Piece};
 ghost use Rattle.damage_skip.specs.Walks.{piece_of};
 ghost use Rattle.repair_copy.specs.Relaid.{chunks_in};
-ghost use Rattle.repair_copy.specs.Told.{lines_in, regions_in};
+ghost use Rattle.repair_copy.specs.Told.{lines_in, number_of_regions};
 ghost use Rattle.repair_copy.specs.Copies.{FitsAt, next_place, Begins, Copies, CopiesFront, TakesLine, HasCopied, HasBegun, HasPutAll, HasBrokenOff, HasPutAtFault};
 
 use damage_skip::{Event, Region, region_line};
@@ -25,20 +25,20 @@ pub(crate) struct Copied {
     pub regions: u64,
 }
 
-/// What cut the work off.
+/// The sink that failed, which cut the work off.
 #[derive(Clone, Copy, Debug, PartialEq, Eq)]
-pub(crate) enum CutOff {
+pub(crate) enum FailedSink {
     Made,
     Notes,
 }
 
-impl From<Failed> for CutOff {
-    ghost use Rattle.repair_copy.specs.declared.copying.CutOff.TheVariants.{Made};
+impl From<Failed> for FailedSink {
+    ghost use Rattle.repair_copy.specs.declared.copying.FailedSink.TheVariants.{Made};
 
     ghost from_gives = { λ _ cut. cut ≡ Made };
 
-    fn from(_: Failed) -> CutOff {
-        CutOff::Made
+    fn from(_: Failed) -> FailedSink {
+        FailedSink::Made
     }
 }
 
@@ -62,7 +62,7 @@ impl Copied {
         event: &Event,
         made: &mut M,
         notes: &mut E,
-    ) -> Result<(), CutOff>
+    ) -> Result<(), FailedSink>
         requires unbegun { self.old.begun ≡ false → self.old.file ≡ nothing_made }
         requires going { self.old.file.spent ≡ false }
         requires fits { FitsAt (next_place self.old) event.now }
@@ -70,36 +70,36 @@ impl Copied {
         ensures whole { OnOk result ((before : Taken) (events : List Piece)
             → HasCopied before (taken_by (M.taken made.old) None (E.taken notes.old)) self.old events
             → HasBegun before (taken_by (M.taken made.new) None (E.taken notes.new)) self.new (events ++ piece_of event.now ∷ [])) }
-        ensures front { (cut : CutOff) → result ≡ Err cut → (before : Taken) (events : List Piece)
+        ensures front { (cut : FailedSink) → result ≡ Err cut → (before : Taken) (events : List Piece)
             → HasCopied before (taken_by (M.taken made.old) None (E.taken notes.old)) self.old events
             → HasBrokenOff cut before (taken_by (M.taken made.new) None (E.taken notes.new)) (events ++ piece_of event.now ∷ []) }
         ensures line { OnOk result (Takes (E.taken notes.old) (E.taken notes.new) (lines_in (piece_of event.now ∷ []))) }
-        ensures line_front { (cut : CutOff) → result ≡ Err cut
+        ensures line_front { (cut : FailedSink) → result ≡ Err cut
             → TakesLine cut (E.taken notes.old) (E.taken notes.new) (lines_in (piece_of event.now ∷ [])) }
         ensures begun { OnOk result (self.new.begun ≡ true) }
         ensures going { OnOk result (self.new.file.spent ≡ false) }
         ensures place { OnOk result (self.new.file.place ≡ end_of_chunks (next_place self.old) (chunks_in (piece_of event.now ∷ []))) }
-        ensures regions { OnOk result (self.new.regions ≡ self.old.regions + regions_in (piece_of event.now ∷ [])) }
+        ensures regions { OnOk result (self.new.regions ≡ self.old.regions + number_of_regions (piece_of event.now ∷ [])) }
         ensures quiet { OnOk result (self.new.regions ≡ self.old.regions → notes.new ≡ notes.old) }
-        ensures made { OnlyCounts M.lent M.faults (result ≡ Err CutOff.Made) made.old made.new }
-        ensures notes { OnlyCounts E.lent E.faults (result ≡ Err CutOff.Notes) notes.old notes.new }
+        ensures made { OnlyCounts M.lent M.faults (result ≡ Err FailedSink.Made) made.old made.new }
+        ensures notes { OnlyCounts E.lent E.faults (result ≡ Err FailedSink.Notes) notes.old notes.new }
     {
         self.begin(made)?;
         self.put_event(event, made, notes)
     }
 
     /// Puts out what is held of a file that was copied whole, or up to a region that stops the work. Nothing is held then.
-    pub fn finish<M: Sink>(&mut self, made: &mut M) -> Result<(), CutOff>
+    pub fn finish<M: Sink>(&mut self, made: &mut M) -> Result<(), FailedSink>
         requires unbegun { self.old.begun ≡ false → self.old.file ≡ nothing_made }
         ensures whole { OnOk result ((before : Taken) (notes : Option (List ℕ)) (events : List Piece)
             → HasCopied before (taken_by (M.taken made.old) None notes) self.old events
             → HasPutAll before (taken_by (M.taken made.new) None notes) self.new events) }
-        ensures front { (cut : CutOff) → result ≡ Err cut → (before : Taken) (notes : Option (List ℕ)) (events : List Piece)
+        ensures front { (cut : FailedSink) → result ≡ Err cut → (before : Taken) (notes : Option (List ℕ)) (events : List Piece)
             → HasCopied before (taken_by (M.taken made.old) None notes) self.old events
             → HasBrokenOff cut before (taken_by (M.taken made.new) None notes) events }
         ensures place { OnOk result (self.new.file.place ≡ next_place self.old) }
         ensures regions { OnOk result (self.new.regions ≡ self.old.regions) }
-        ensures made_alone { result ≢ Err CutOff.Notes }
+        ensures made_alone { result ≢ Err FailedSink.Notes }
         ensures made { OnlyCounts M.lent M.faults (IsErr result) made.old made.new }
     {
         self.begin(made)?;
@@ -118,12 +118,12 @@ impl Copied {
     }
 
     /// Puts the signature, where it wasn't put yet.
-    fn begin<M: Sink>(&mut self, made: &mut M) -> Result<(), CutOff>
+    fn begin<M: Sink>(&mut self, made: &mut M) -> Result<(), FailedSink>
         requires unbegun { self.old.begun ≡ false → self.old.file ≡ nothing_made }
         ensures whole { OnOk result (Begins (M.taken made.old) (M.taken made.new) self.old self.new) }
         ensures front { OnErr result (LaysFront (M.taken made.old) (M.taken made.new) nothing_made self.new.file (signature ∷ [])) }
         ensures unbegun { OnErr result (self.old.begun ≡ false) }
-        ensures made_alone { result ≢ Err CutOff.Notes }
+        ensures made_alone { result ≢ Err FailedSink.Notes }
         ensures made { OnlyCounts M.lent M.faults (IsErr result) made.old made.new }
     {
         if !self.begun {
@@ -139,24 +139,24 @@ impl Copied {
         event: &Event,
         made: &mut M,
         notes: &mut E,
-    ) -> Result<(), CutOff>
+    ) -> Result<(), FailedSink>
         requires going { self.old.file.spent ≡ false }
         requires fits { FitsAt self.old.file.place event.now }
         requires few { self.old.regions < 2 ^ 63 }
         ensures whole { OnOk result (Copies (taken_by (M.taken made.old) None (E.taken notes.old))
             (taken_by (M.taken made.new) None (E.taken notes.new)) self.old self.new (piece_of event.now)) }
-        ensures front { (cut : CutOff) → result ≡ Err cut → CopiesFront cut (taken_by (M.taken made.old) None (E.taken notes.old))
+        ensures front { (cut : FailedSink) → result ≡ Err cut → CopiesFront cut (taken_by (M.taken made.old) None (E.taken notes.old))
             (taken_by (M.taken made.new) None (E.taken notes.new)) self.old.file (piece_of event.now) }
         ensures line { OnOk result (Takes (E.taken notes.old) (E.taken notes.new) (lines_in (piece_of event.now ∷ []))) }
-        ensures line_front { (cut : CutOff) → result ≡ Err cut
+        ensures line_front { (cut : FailedSink) → result ≡ Err cut
             → TakesLine cut (E.taken notes.old) (E.taken notes.new) (lines_in (piece_of event.now ∷ [])) }
         ensures quiet { OnOk result (self.new.regions ≡ self.old.regions → notes.new ≡ notes.old) }
-        ensures made { OnlyCounts M.lent M.faults (result ≡ Err CutOff.Made) made.old made.new }
-        ensures notes { OnlyCounts E.lent E.faults (result ≡ Err CutOff.Notes) notes.old notes.new }
+        ensures made { OnlyCounts M.lent M.faults (result ≡ Err FailedSink.Made) made.old made.new }
+        ensures notes { OnlyCounts E.lent E.faults (result ≡ Err FailedSink.Notes) notes.old notes.new }
     {
         match event {
-            Event::Records { chunk, .. } => self.file.put(made, chunk)?,
-            Event::Kept { chunk, .. } => self.file.put(made, chunk)?,
+            Event::Records { chunk, .. } => self.file.put(made, chunk, false)?,
+            Event::Kept { chunk, unread, .. } => self.file.put(made, chunk, *unread)?,
             Event::Skipped(region) => self.tell(region, made, notes)?,
         }
         Ok(())
@@ -168,18 +168,18 @@ impl Copied {
         region: &Region,
         made: &mut M,
         notes: &mut E,
-    ) -> Result<(), CutOff>
+    ) -> Result<(), FailedSink>
         requires going { self.old.file.spent ≡ false }
         requires few { self.old.regions < 2 ^ 63 }
         ensures whole { OnOk result (Copies (taken_by (M.taken made.old) None (E.taken notes.old))
             (taken_by (M.taken made.new) None (E.taken notes.new)) self.old self.new (piece_of (Event.Skipped region.now))) }
-        ensures front { (cut : CutOff) → result ≡ Err cut → CopiesFront cut (taken_by (M.taken made.old) None (E.taken notes.old))
+        ensures front { (cut : FailedSink) → result ≡ Err cut → CopiesFront cut (taken_by (M.taken made.old) None (E.taken notes.old))
             (taken_by (M.taken made.new) None (E.taken notes.new)) self.old.file (piece_of (Event.Skipped region.now)) }
         ensures line { OnOk result (Takes (E.taken notes.old) (E.taken notes.new) (lines_in (piece_of (Event.Skipped region.now) ∷ []))) }
-        ensures line_front { (cut : CutOff) → result ≡ Err cut
+        ensures line_front { (cut : FailedSink) → result ≡ Err cut
             → TakesLine cut (E.taken notes.old) (E.taken notes.new) (lines_in (piece_of (Event.Skipped region.now) ∷ [])) }
-        ensures made { OnlyCounts M.lent M.faults (result ≡ Err CutOff.Made) made.old made.new }
-        ensures notes { OnlyCounts E.lent E.faults (result ≡ Err CutOff.Notes) notes.old notes.new }
+        ensures made { OnlyCounts M.lent M.faults (result ≡ Err FailedSink.Made) made.old made.new }
+        ensures notes { OnlyCounts E.lent E.faults (result ≡ Err FailedSink.Notes) notes.old notes.new }
     {
         self.file.flush(made)?;
         match region_line(notes, "skipped", region) {
@@ -187,7 +187,7 @@ impl Copied {
                 self.regions += 1;
                 Ok(())
             }
-            Err(Failed) => Err(CutOff::Notes),
+            Err(Failed) => Err(FailedSink::Notes),
         }
     }
 }

@@ -6,7 +6,7 @@ ghost use Rattle.damage_skip.specs.Steps.{IsOnward};
 ghost use Rattle.damage_skip.specs.declared.regions.Region.{Region};
 ghost use Rattle.repair_copy.specs.Repairs.{Passes, Repairs};
 
-use crate::copying::{Copied, CutOff};
+use crate::copying::{Copied, FailedSink};
 use damage_skip::{Policy, Region, WalkEnd, Walker};
 use record_io::{Sink, Store, Totals};
 use std::alloc::Global;
@@ -35,16 +35,16 @@ pub enum RepairEnd {
     Memory,
 }
 
-impl From<CutOff> for RepairEnd {
+impl From<FailedSink> for RepairEnd {
     ghost use Rattle.std.specs.Prelude.{◌≡◌};
-    ghost use Rattle.repair_copy.specs.Repairs.{end_of_cut};
+    ghost use Rattle.repair_copy.specs.Repairs.{end_of_failed};
 
-    ghost from_gives = { λ cut end. end ≡ end_of_cut cut };
+    ghost from_gives = { λ cut end. end ≡ end_of_failed cut };
 
-    fn from(cut: CutOff) -> RepairEnd {
+    fn from(cut: FailedSink) -> RepairEnd {
         match cut {
-            CutOff::Made => RepairEnd::Made,
-            CutOff::Notes => RepairEnd::Notes,
+            FailedSink::Made => RepairEnd::Made,
+            FailedSink::Notes => RepairEnd::Notes,
         }
     }
 }

@@ -5,9 +5,9 @@ use Rattle.chunk_reader.proofs.laws.fronts_go_on_up_to_a_reason.Goals as goal
 
 pub returns : goal.returns
 returns c = record {
-  none = λ frame file. IsChainOf-nil file;
-  goes_on = λ frame ks file place bytes begins h none.
-      chain_goes_on frame ks file place h begins (laid_where_none frame file place bytes none) (allowed_where_none frame file place none);
+  none = λ keep file. IsChainOf-nil file;
+  goes_on = λ keep ks file place bytes begins h none.
+      chain_goes_on keep ks file place h begins (laid_where_none keep file place bytes none) (allowed_where_none keep file place none);
   longest = longest_where_refused;
   totals = totals_of-push;
   counts = totals-le;

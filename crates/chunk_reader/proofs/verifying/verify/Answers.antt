@@ -2,10 +2,19 @@ use Rattle.std.proofs.Common.{◌≡◌, Option, true, Err, IfSome, List, ℕ, a
 use Rattle.block_layout.proofs.Ends.{end_of_room}
 use Rattle.record_values.specs.declared.file_totals.Totals.{Totals}
 use Rattle.chunk_reader.specs.Faults.{IsVerdict}
-use Rattle.chunk_reader.specs.Progress.{AreTotals, AreReadFrom}
+use Rattle.chunk_reader.specs.Progress.{AreInBounds, AreReadFrom}
 use Rattle.chunk_reader.proofs.ChainReads.{fault_read}
+use Rattle.chunk_reader.proofs.FirstChunks.{AreInBounds-signature, signature_read}
 use Rattle.chunk_reader.proofs.VerifySteps.{verified_totals, verified_on}
 use Rattle.chunk_reader.proofs.verifying.verify.Goals as goal
+
+pub loop-totals-init : goal.loop-totals-init
+loop-totals-init g c = record {
+  bounds = AreInBounds-signature c.args.size c.in_ok-check_signature.ensures.long;
+  read = signature_read true _ c.in_ok-check_signature.ensures.signed;
+  handed = omega (arith, c.check_signature.ensures.handed);
+  asks = search rules;
+}
 
 pub returns-in_err-passed-clause-refused : goal.returns-in_err-passed-clause-refused
 returns-in_err-passed-clause-refused g c =
@@ -29,7 +38,7 @@ loop-totals-preserved g c =
     let passed = c.in_ok-passed.passed in
     let counts = sym c.counted-totals.ensures in
     let P : Totals → Type 0 = λ t. IfSome (g.S.Store.bytes c.args.store.now) (λ file. AreReadFrom true file t) in record {
-      bounds = subst (AreTotals c.args.size) counts (verified_totals c.args.size totals passed kept.bounds c.in_ok-passed.ensures.end);
+      bounds = subst (AreInBounds c.args.size) counts (verified_totals c.args.size totals passed kept.bounds c.in_ok-passed.ensures.end);
       read = subst P counts
           (verified_on _ _ totals passed kept.asks.same_bytes c.in_ok-check_signature.ensures.signed c.in_ok-passed.ensures.passed kept.read);
       handed = omega (arith, ap (λ (t : Totals). t.bytes) c.counted-totals.ensures, c.in_ok-passed.ensures.handed, kept.handed);

@@ -1,4 +1,4 @@
-use Rattle.std.proofs.Common.{◌≡◌, true, Option, Result, Bool, Err, IfSome, List, ℕ, refl, ap, sym, subst}
+use Rattle.std.proofs.Common.{◌≡◌, ◌∙◌, true, Option, Result, Bool, Err, IfSome, List, ℕ, refl, ap, sym, subst}
 use Rattle.chunk_reader.specs.Places.{data_at, HaveHeadersOf}
 use Rattle.chunk_reader.specs.Pieces.{HasTaken}
 use Rattle.chunk_reader.specs.Faults.{IsVerdict}
@@ -29,24 +29,24 @@ found g c = record {
 
 -- the data behind it, which was judged
 through : (g : _) (c : After-finish g)
-    → IsThrough (g.S.Store.bytes c.args.store.now) c.args.at c.in_ok-header.end c.in_ok-header.header c.in_ok-judge_data.field-0 c.finish.result
+    → IsThrough (g.S.Store.bytes c.args.store.now) c.args.at c.in_ok-header.end c.in_ok-header.header c.feed_chunk.new.taker c.finish.result
 through g c =
     let same = c.in_ok-header.ensures.store.same_bytes in
-    let judge = c.in_ok-judge_data.field-0 in
+    let judge = c.feed_chunk.new.taker in
     let P : Option (List ℕ) → Type 0 = λ o. IfSome o (λ file. HasTaken judge (data_at file c.args.at c.in_ok-header.header.data_size)) in
     let Q : Option (List ℕ) → Type 0 = λ o. IfSome o (λ file. HaveHeadersOf file c.args.at c.in_ok-header.end c.args.at c.in_ok-header.end) in
     record {
-      header = c.in_ok-judge_data.ensures.header;
-      taken = subst P same c.in_ok-judge_data.ensures.taken;
-      right = subst Q same c.in_ok-judge_data.ensures.right;
+      header = c.in_ok-feed_chunk.ensures.same_header ∙ c.new-judge.ensures.header;
+      taken = subst P same c.in_ok-feed_chunk.ensures.taken;
+      right = subst Q same c.in_ok-feed_chunk.ensures.right;
       tells = c.finish.ensures;
     }
 
-pub returns-in_err-judge_data-clause-refused : goal.returns-in_err-judge_data-clause-refused
-returns-in_err-judge_data-clause-refused g c =
+pub returns-in_err-feed_chunk-clause-refused : goal.returns-in_err-feed_chunk-clause-refused
+returns-in_err-feed_chunk-clause-refused g c =
     λ fault e.
-    let header = (goal.at.returns-in_err-judge_data-clause-refused g c).In_ok-header in
-    let wrong = c.in_err-judge_data.ensures.wrong fault (ap Err (sym (rw e at c.from_residual-in_err-judge_data.ensures.1))) in
+    let header = (goal.at.returns-in_err-feed_chunk-clause-refused g c).In_ok-header in
+    let wrong = c.in_err-feed_chunk.ensures.wrong fault (ap Err (sym (rw e at c.from_residual-in_err-feed_chunk.ensures.1))) in
     refused_block _ _ c.args.size c.args.at c.in_ok-header.end c.in_ok-header.header fault (found g header)
     c.in_ok-header.ensures.store.same_bytes wrong.0 wrong.1
 
@@ -63,8 +63,8 @@ returns-in-Ok-clause-passed g c =
       num_records = c.in_ok-header.header.num_records;
       unread = c.in-Ok.unread;
     } in
-    let P : Result Bool Why → Type 0 = IsThrough (g.S.Store.bytes c.args.store.now) c.args.at c.in_ok-header.end c.in_ok-header.header c.in_ok-judge_data.field-0 in
-    passed (g.S.Store.bytes c.args.store.now) c.args.size c.args.at c.in_ok-header.header c.in_ok-judge_data.field-0 v
+    let P : Result Bool Why → Type 0 = IsThrough (g.S.Store.bytes c.args.store.now) c.args.at c.in_ok-header.end c.in_ok-header.header c.feed_chunk.new.taker in
+    passed (g.S.Store.bytes c.args.store.now) c.args.size c.args.at c.in_ok-header.header c.feed_chunk.new.taker v
     (found g at.In_ok-header) (subst P c.in-Ok.is (through g at.After-finish)) refl
 
 pub returns-in-Err-clause-refused : goal.returns-in-Err-clause-refused
@@ -73,7 +73,7 @@ returns-in-Err-clause-refused g c =
     let at = goal.at.returns-in-Err-clause-refused g c in
     let here : Fault = record { at = c.args.at; why = c.in-Err.why } in
     let is : here ≡ fault = cc (c.refused.ensures) in
-    let P : Result Bool Why → Type 0 = IsThrough (g.S.Store.bytes c.args.store.now) c.args.at c.in_ok-header.end c.in_ok-header.header c.in_ok-judge_data.field-0 in
+    let P : Result Bool Why → Type 0 = IsThrough (g.S.Store.bytes c.args.store.now) c.args.at c.in_ok-header.end c.in_ok-header.header c.feed_chunk.new.taker in
     subst (λ (f : Fault). IfSome (g.S.Store.bytes c.args.store.now) (λ file. IsVerdict true file c.args.at f)) is
-    (refused_content (g.S.Store.bytes c.args.store.now) c.args.size c.args.at c.in_ok-header.end c.in_ok-header.header c.in_ok-judge_data.field-0 here
+    (refused_content (g.S.Store.bytes c.args.store.now) c.args.size c.args.at c.in_ok-header.end c.in_ok-header.header c.feed_chunk.new.taker here
     (found g at.In_ok-header) (subst P c.in-Err.is (through g at.After-finish)) refl)

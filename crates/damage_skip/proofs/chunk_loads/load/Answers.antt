@@ -15,7 +15,7 @@ returns-in_ok-chunk-in-Data-clause-sound g c =
     let loaded = c.in_ok-chunk-in-Data in
     loaded_whole _ at c.args.end h loaded.chunk loaded.right
     (rw loaded.ensures.bytes
-    (data_given _ _ at h.data_size c.args.end held (g.met.S.Store.sized c.args.store.now)
+    (data_given _ _ at h.data_size c.args.end held.bytes (g.met.S.Store.sized c.args.store.now)
     (told_within _ c.args.size c.args.end c.requires.told c.requires.within)
     (omega (arith, c.requires.end, header_within at h.data_size h.num_records))
     (read.given held (ap Ok c.in-Data.is))))

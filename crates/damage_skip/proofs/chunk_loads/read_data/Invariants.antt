@@ -6,10 +6,11 @@ use Rattle.damage_skip.proofs.chunk_loads.read_data.Given as goal
 
 abbrev pub invariant-loop-left : goal.invariant-loop-left
 invariant-loop-left g l = record {
-  within : l.left ≤ l.fn.count;
-  count : length l.data ≡ l.fn.count - l.left;
-  given : IfSome (g.S.Store.bytes l.fn.store) (λ file. l.data ≡ own_bytes_at file (end_of l.fn.at 40) (l.fn.count - l.left));
-  moved : l.own.place ≡ end_of (end_of l.fn.at 40) (l.fn.count - l.left);
+  within : l.left ≤ l.fn.header.data_size;
+  header : l.data.header ≡ l.fn.header;
+  count : length l.data.bytes ≡ l.fn.header.data_size - l.left;
+  given : IfSome (g.S.Store.bytes l.fn.store) (λ file. l.data.bytes ≡ own_bytes_at file (end_of l.fn.at 40) (l.fn.header.data_size - l.left));
+  moved : l.own.place ≡ end_of (end_of l.fn.at 40) (l.fn.header.data_size - l.left);
   none : IfSome (g.S.Store.bytes l.fn.store) (λ file. LeadsTo file l.fn.at l.fn.end l.fn.at l.own.place None);
   asks : OnlyAsks g.S.Store.bytes g.S.Store.told g.S.Store.name g.S.Store.faults ⊥ l.fn.store l.store;
 }

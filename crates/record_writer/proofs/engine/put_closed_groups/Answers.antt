@@ -1,8 +1,8 @@
 use Rattle.std.proofs.Common.{◌≡◌, ◌++◌, Ok, Result, [], refl, subst, arith, rules}
 use Rattle.record_io.proofs.Calls.{OnErr-any}
 use Rattle.record_writer.specs.declared.cut_off.CutOff.{CutOff}
-use Rattle.record_writer.specs.declared.engine.Taken.{Taken}
-use Rattle.record_writer.specs.declared.engine.Taken.TheVariants.{Window, All}
+use Rattle.record_writer.specs.declared.engine.FeedPart.{FeedPart}
+use Rattle.record_writer.specs.declared.engine.FeedPart.TheVariants.{Window, All}
 use Rattle.record_writer.specs.Progresses.{AreGiven}
 use Rattle.record_writer.specs.Windows.{AreTaken}
 use Rattle.record_writer.proofs.Layings.{Lays-none, LaysFront-whole}
@@ -47,7 +47,7 @@ window : (g : _) (c : In-Ok-Window g)
     (c.loop-taken.invariant.laid.0 ++ c.loop-taken.window)
 window g c =
     let more : c.loop-taken.taken ≡ Ok Window = search rules in
-    subst (λ (t : Result Taken CutOff). AreTaken t (g.L.RecordFeed.rest c.args.feed.now) (g.L.RecordFeed.rest c.loop-taken.feed) c.args.grouper.now c.loop-taken.grouper
+    subst (λ (t : Result FeedPart CutOff). AreTaken t (g.L.RecordFeed.rest c.args.feed.now) (g.L.RecordFeed.rest c.loop-taken.feed) c.args.grouper.now c.loop-taken.grouper
     (c.loop-taken.invariant.laid.0 ++ c.loop-taken.window)) more c.loop-taken.invariant.laid.2
 
 pub loop-taken-preserved-then-is_large : goal.loop-taken-preserved-then-is_large
@@ -104,7 +104,7 @@ returns-clause-whole g c =
           rw w.end-is (
             before.0 ++ c.loop-taken.window,
             laid,
-            subst (λ (t : Result Taken CutOff). AreTaken t (g.L.RecordFeed.rest c.args.feed.now) (g.L.RecordFeed.rest c.loop-taken.feed) c.args.grouper.now c.loop-taken.grouper
+            subst (λ (t : Result FeedPart CutOff). AreTaken t (g.L.RecordFeed.rest c.args.feed.now) (g.L.RecordFeed.rest c.loop-taken.feed) c.args.grouper.now c.loop-taken.grouper
                 (before.0 ++ c.loop-taken.window)) ended before.2,
           )
       | goal.in-Err w ↦ rw w.end-is tt

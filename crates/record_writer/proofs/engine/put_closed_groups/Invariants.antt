@@ -2,7 +2,7 @@ use Rattle.std.proofs.Common.{◌≡◌, ℕ, ◌^◌, ◌≤◌, ◌++◌, true
 use Rattle.record_io.specs.Calls.{OnlyCounts}
 use Rattle.meta_chunk.specs.Files.{end_of_chunks}
 use Rattle.record_writer.specs.declared.cut_off.CutOff.TheVariants.{Input, Made}
-use Rattle.record_writer.specs.declared.engine.Taken.TheVariants.{Window, All}
+use Rattle.record_writer.specs.declared.engine.FeedPart.TheVariants.{Window, All}
 use Rattle.record_writer.specs.Feeds.{nothing_left}
 use Rattle.record_writer.specs.Progresses.{Lays, chunks_of_groups, reach_of}
 use Rattle.record_writer.specs.Windows.{AreTaken}

@@ -2,7 +2,7 @@ use Rattle.std.proofs.Common.{◌≡◌, ℕ, ◌+◌, ◌-◌, ◌<◌, ◌≤�
 use Rattle.std.proofs.lemmas.List.{length-take}
 use Rattle.block_layout.specs.Layout.{end_of}
 use Rattle.block_layout.proofs.Ends.{end_of-zero, end_of-more}
-use Rattle.chunk_reader.proofs.Rooms.{HasRoom-rest, own_filled, own_filled-none}
+use Rattle.chunk_reader.proofs.Rooms.{HasOwnBytes-rest, own_filled, own_filled-none}
 use Rattle.chunk_reader.proofs.own_bytes.OwnBytes.fill.Goals as goal
 
 -- the rest of the buffer, which keeps its length
@@ -26,7 +26,7 @@ take-requires-clause-told g c =
     let rest : length (take (length c.loop-filled.buf - i) (drop i c.loop-filled.buf)) ≡ length c.loop-filled.buf - i =
     omega (arith, length-take {A = ℕ}, length-drop {A = ℕ}) in
     rw (c.loop-filled.invariant.asks.same_told, c.loop-filled.invariant.moved, rest)
-    (HasRoom-rest _ c.args.self.now.place (length c.loop-filled.buf) i
+    (HasOwnBytes-rest _ c.args.self.now.place (length c.loop-filled.buf) i
     (rw (c.loop-filled.auto.buf) c.requires.told) (omega (arith, c.loop-filled-test.true)))
 
 pub loop-filled-preserved : goal.loop-filled-preserved

@@ -3,7 +3,7 @@ use Rattle.std.proofs.lemmas.List.{length-take-le}
 use Rattle.block_layout.specs.Layout.{IsNextPlace, usable_from}
 use Rattle.block_layout.proofs.Ends.{end_of_after}
 use Rattle.block_layout.proofs.Runs.{end_of-run}
-use Rattle.chunk_reader.proofs.Rooms.{HasRoom-small, HasRoom-run, end_of-le, own_run}
+use Rattle.chunk_reader.proofs.Rooms.{HasOwnBytes-small, HasOwnBytes-run, end_of-le, own_run}
 use Rattle.chunk_reader.proofs.own_bytes.OwnBytes.take.Goals as goal
 use Rattle.chunk_reader.proofs.own_bytes.OwnBytes.take.Goals.{After-min-run}
 
@@ -22,14 +22,14 @@ run g c =
 pub usable_from-first-requires-clause-small : goal.usable_from-first-requires-clause-small
 usable_from-first-requires-clause-small g c =
     let place = c.args.self.now.place in
-    omega (arith, end_of_after place (length c.args.buf.now), HasRoom-small _ place (length c.args.buf.now) c.requires.told)
+    omega (arith, end_of_after place (length c.args.buf.now), HasOwnBytes-small _ place (length c.args.buf.now) c.requires.told)
 
 pub get_exact-requires : goal.get_exact-requires
 get_exact-requires g c =
     let r = run g (goal.at.get_exact-requires g c).After-min-run in
     let first : c.usable_from-first.result ≡ usable_from c.args.self.now.place = c.usable_from-first.ensures in
     let size : length (take c.min-run.result c.args.buf.now) ≡ c.min-run.result = length-take-le c.min-run.result c.args.buf.now r.enough in
-    record { within = λ _. rw (first, size) (HasRoom-run _ c.args.self.now.place (length c.args.buf.now) c.min-run.result c.requires.told r.enough r.some r.next r.fits) }
+    record { within = λ _. rw (first, size) (HasOwnBytes-run _ c.args.self.now.place (length c.args.buf.now) c.min-run.result c.requires.told r.enough r.some r.next r.fits) }
 
 pub overflow_add-self : goal.overflow_add-self
 overflow_add-self g c =
@@ -40,7 +40,7 @@ overflow_add-self g c =
       c.usable_from-first.ensures,
       end_of-run place c.min-run.result r.some r.next r.fits,
       end_of-le place c.min-run.result (length c.args.buf.now) r.enough,
-      HasRoom-small _ place (length c.args.buf.now) c.requires.told,
+      HasOwnBytes-small _ place (length c.args.buf.now) c.requires.told,
     )
 
 pub returns-clause-moved : goal.returns-clause-moved

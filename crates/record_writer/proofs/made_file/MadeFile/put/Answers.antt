@@ -20,34 +20,34 @@ overflow_add-self g c =
     let reach = rw (← c.self.view_is) at c.requires.in_reach in
     omega (arith, reach, ends_past c.self.inside.writer.position c.self.inside.records (value_of_chunk c.args.chunk.now) c.self.invariant.1)
 
-pub overflow_add-self-then-is_unread : goal.overflow_add-self-then-is_unread
-overflow_add-self-then-is_unread g c =
+pub overflow_add-self-then-unread : goal.overflow_add-self-then-unread
+overflow_add-self-then-unread g c =
     let reach = rw (← c.self.view_is) at c.requires.in_reach in
     omega (arith, reach, c.self.invariant, ends_past c.self.inside.writer.position c.self.inside.records (value_of_chunk c.args.chunk.now) c.self.invariant.1)
 
-pub overflow_add-self-else-is_unread : goal.overflow_add-self-else-is_unread
-overflow_add-self-else-is_unread g c =
+pub overflow_add-self-else-unread : goal.overflow_add-self-else-unread
+overflow_add-self-else-unread g c =
     let reach = rw (← c.self.view_is) at c.requires.in_reach in
     omega (arith, reach, ends_past c.self.inside.writer.position c.self.inside.records (value_of_chunk c.args.chunk.now) c.self.invariant.1)
 
-pub invariant_of-self-then-is_unread : goal.invariant_of-self-then-is_unread
-invariant_of-self-then-is_unread g c =
+pub invariant_of-self-then-unread : goal.invariant_of-self-then-unread
+invariant_of-self-then-unread g c =
     omega (
       arith,
       ap (λ (w : Writer). w.position) c.in_ok-put_into.ensures.moved,
       ends_past c.self.inside.writer.position c.self.inside.records (value_of_chunk c.args.chunk.now) c.self.invariant.1,
     )
 
-pub invariant_of-self-else-is_unread : goal.invariant_of-self-else-is_unread
-invariant_of-self-else-is_unread g c =
+pub invariant_of-self-else-unread : goal.invariant_of-self-else-unread
+invariant_of-self-else-unread g c =
     omega (
       arith,
       ap (λ (w : Writer). w.position) c.in_ok-put_into.ensures.moved,
       ends_past c.self.inside.writer.position c.self.inside.records (value_of_chunk c.args.chunk.now) c.self.invariant.1,
     )
 
-pub returns-then-is_unread-clause-whole : goal.returns-then-is_unread-clause-whole
-returns-then-is_unread-clause-whole g c =
+pub returns-then-unread-clause-whole : goal.returns-then-unread-clause-whole
+returns-then-unread-clause-whole g c =
     let right = laid_as-right c.self.inside.writer.position c.args.chunk.now c.requires.right in
     rw (← c.self.view_is)
     (Lays-unread _ _ _ _ (value_of_chunk c.args.chunk.now)
@@ -55,12 +55,12 @@ returns-then-is_unread-clause-whole g c =
     (ap (λ (w : Writer). w.position) c.in_ok-put_into.ensures.moved)
     (ap (λ (w : Writer). w.spent) c.in_ok-put_into.ensures.moved)
     (omega arith)
-    (sym c.is_unread.ensures ∙ c.if-is_unread.true)
+    (sym c.requires.unread ∙ c.if-unread.true)
     (omega arith)
     (omega arith))
 
-pub returns-else-is_unread-clause-whole : goal.returns-else-is_unread-clause-whole
-returns-else-is_unread-clause-whole g c =
+pub returns-else-unread-clause-whole : goal.returns-else-unread-clause-whole
+returns-else-unread-clause-whole g c =
     let right = laid_as-right c.self.inside.writer.position c.args.chunk.now c.requires.right in
     rw (← c.self.view_is)
     (Lays-read _ _ _ _ (value_of_chunk c.args.chunk.now)
@@ -68,6 +68,6 @@ returns-else-is_unread-clause-whole g c =
     (ap (λ (w : Writer). w.position) c.in_ok-put_into.ensures.moved)
     (ap (λ (w : Writer). w.spent) c.in_ok-put_into.ensures.moved)
     (omega arith)
-    (sym c.is_unread.ensures ∙ c.if-is_unread.false)
+    (sym c.requires.unread ∙ c.if-unread.false)
     (omega arith)
     (omega arith))

@@ -4,7 +4,7 @@ use Rattle.highway_hash.specs.Riegeli.{riegeli_key}
 use Rattle.record_values.proofs.ByteLists.{AreBytes-append, AreBytes-each}
 use Rattle.chunk_header.specs.SimpleChunks.{simple_kind}
 use Rattle.simple_chunk.specs.Checkers.{CheckerValue, HasChecked}
-use Rattle.chunk_reader.proofs.piece_judge.PieceJudge.feed.Goals as goal
+use Rattle.chunk_reader.proofs.piece_judge.PieceJudgeTakesData.feed.Goals as goal
 
 pub returns-in-Some-clause-taken : goal.returns-in-Some-clause-taken
 returns-in-Some-clause-taken c =

@@ -2,16 +2,16 @@ use Rattle.std.proofs.Common.{◌≡◌, ◌+◌, ◌-◌, ◌≤◌, IfSome}
 use Rattle.record_io.specs.Calls.{OnlyAsks}
 use Rattle.block_layout.specs.Layout.{end_of, own_bytes_at}
 use Rattle.chunk_reader.specs.Places.{HaveHeadersOf}
-use Rattle.chunk_reader.specs.Pieces.{HasTaken, HasLeft}
-use Rattle.chunk_reader.proofs.verifying.feed_data.Given as goal
+use Rattle.chunk_reader.proofs.feeding.feed_data.Given as goal
 
 abbrev pub invariant-loop-left : goal.invariant-loop-left
 invariant-loop-left g l = record {
-  within : l.left ≤ l.fn.header.data_size;
-  header : l.judge.header ≡ l.fn.header;
-  left : HasLeft l.judge l.left;
-  taken : IfSome (g.S.Store.bytes l.fn.store) (λ file. HasTaken l.judge (own_bytes_at file l.fn.pass.own.place (l.fn.header.data_size - l.left)));
-  moved : l.pass.own.place ≡ end_of l.fn.pass.own.place (l.fn.header.data_size - l.left);
+  within : l.left ≤ l.fn.size;
+  header : g.T.TakesData.header l.taker ≡ g.T.TakesData.header l.fn.taker;
+  left : g.T.TakesData.has_left l.taker l.left;
+  taken : IfSome (g.S.Store.bytes l.fn.store)
+      (λ file. g.T.TakesData.has_taken l.taker (own_bytes_at file l.fn.pass.own.place (l.fn.size - l.left)));
+  moved : l.pass.own.place ≡ end_of l.fn.pass.own.place (l.fn.size - l.left);
   same_begin : l.pass.begin ≡ l.fn.pass.begin;
   same_end : l.pass.end ≡ l.fn.pass.end;
   right : IfSome (g.S.Store.bytes l.fn.store)

@@ -1,20 +1,20 @@
-use Rattle.std.proofs.Common.{◌≡◌, ◌∙◌, ℕ, List, ◌+◌, ◌-◌, ◌≤◌, Err, length, take, drop, ◌++◌, ap, sym, refl, length-append, arith, rules}
+use Rattle.std.proofs.Common.{◌≡◌, ◌∙◌, ℕ, ◌+◌, ◌-◌, ◌≤◌, Err, length, take, drop, ◌++◌, ap, sym, subst, refl, arith, rules}
 use Rattle.std.proofs.lemmas.List.{length-take, length-take-le, take-append-le}
 use Rattle.block_layout.specs.Layout.{end_of}
 use Rattle.block_layout.proofs.Ends.{end_of-zero, end_of-more, end_of_after}
-use Rattle.chunk_reader.proofs.Loads.{refused_before}
 use Rattle.chunk_reader.proofs.Rooms.{end_of-le, own_none, own_more}
 use Rattle.chunk_reader.proofs.Passes.{headers-none, headers-joined, wrong-joined}
-use Rattle.chunk_reader.proofs.judging.read_data.Goals as goal
+use Rattle.chunk_reader.proofs.feeding.feed_data.Goals as goal
 
 pub loop-left-init : goal.loop-left-init
 loop-left-init g c =
     let pass = c.args.pass.now in
-    let empty = c.in_ok-data.data in
-    let none : c.args.size - c.args.size ≡ 0 = omega arith in record {
+    let size = c.args.size in
+    let none : size - size ≡ 0 = omega arith in record {
       within = omega arith;
-      count = ap (length {A = ℕ}) c.in_ok-data.ensures ∙ sym none;
-      given = own_none (g.S.Store.bytes c.args.store.now) (λ (bytes : List ℕ). empty ≡ bytes) pass.own.place (c.args.size - c.args.size) none c.in_ok-data.ensures;
+      header = refl;
+      left = c.requires.all_left;
+      taken = own_none (g.S.Store.bytes c.args.store.now) (g.T.TakesData.has_taken c.args.taker.now) pass.own.place (size - size) none c.requires.none;
       moved = sym (ap (end_of pass.own.place) none ∙ end_of-zero pass.own.place);
       same_begin = refl;
       same_end = refl;
@@ -38,7 +38,7 @@ returns-in_err-count-clause-wrong g c =
     λ fault e.
     let pass = c.args.pass.now in
     let kept = c.loop-left.invariant in
-    let wrong = c.in_err-count.ensures.wrong fault (ap Err (refused_before c.in_err-count.field-0.0 fault (rw e at c.from_residual-in_err-count.ensures.1))) in
+    let wrong = c.in_err-count.ensures.wrong fault (ap Err (sym (rw e at c.from_residual.ensures.1))) in
     let past : pass.own.place ≤ c.loop-left.pass.own.place =
     omega (arith, kept.moved, end_of_after pass.own.place (c.args.size - c.loop-left.left)) in (
       wrong.0,
@@ -63,16 +63,14 @@ loop-left-preserved g c =
     let fits : n ≤ length buf = omega (arith, given.fits, c.take.auto.buf) in
     let front_is : take n (buf ++ behind) ≡ take n buf = take-append-le n buf behind fits in
     let size_is : length (take n (buf ++ behind)) ≡ n = ap length front_is ∙ length-take-le n buf fits in
-    let grown : c.push.new.self ≡ c.loop-left.data ++ take n (buf ++ behind) = c.in_ok-push.ensures.appends in
     let begun : end_of place front ≤ pass.end = omega (arith, end_of-le place front size (omega arith), c.requires.within) in
     record {
       within = omega (arith, kept.within);
-      count = omega (arith, ap (length {A = ℕ}) grown, length-append c.loop-left.data (take n (buf ++ behind)), size_is, kept.count, joined);
-      given = own_more (g.S.Store.bytes c.args.store.now) (g.S.Store.bytes c.loop-left.store) (g.S.Store.told c.args.store.now)
-          (λ (bytes : List ℕ). c.loop-left.data ≡ bytes) (λ (bytes : List ℕ). c.push.new.self ≡ bytes)
-          place front n (size - (left - n)) pass.end (take n (buf ++ behind)) kept.asks.same_bytes
-          (g.met.S.Store.sized c.args.store.now) c.requires.told begun joined
-          (λ bytes held. grown ∙ ap (λ (xs : List ℕ). xs ++ take n (buf ++ behind)) held) kept.given
+      header = c.feed.ensures.same_header ∙ kept.header;
+      left = subst (λ (k : ℕ). g.T.TakesData.has_left c.feed.new.self k) (ap (λ (m : ℕ). left - m) size_is) (c.feed.ensures.left left kept.left);
+      taken = own_more (g.S.Store.bytes c.args.store.now) (g.S.Store.bytes c.loop-left.store) (g.S.Store.told c.args.store.now)
+          (g.T.TakesData.has_taken c.loop-left.taker) (g.T.TakesData.has_taken c.feed.new.self) place front n (size - (left - n)) pass.end (take n (buf ++ behind)) kept.asks.same_bytes
+          (g.met.S.Store.sized c.args.store.now) c.requires.told begun joined c.feed.ensures.taken kept.taken
           (rw (front_is, ← kept.moved) given.given);
       moved = given.moved ∙ ap (λ (p : ℕ). end_of p n) kept.moved ∙ end_of-more place front n ∙ ap (end_of place) (sym joined);
       same_begin = c.take.ensures.same_begin ∙ kept.same_begin;

@@ -1,8 +1,8 @@
 use Rattle.std.proofs.Common.{◌≡◌, ◌≢◌, ◌+◌, ◌*◌, ◌/◌, ◌%◌, ◌≤◌, Some, None, length, arith}
 use Rattle.block_layout.proofs.Ends.{end_of_above}
 use Rattle.damage_skip.proofs.Leads.{leads-at, leads-past, leads-none, ends-past}
-use Rattle.damage_skip.proofs.chunk_loads.take.Goals as goal
-use Rattle.damage_skip.proofs.chunk_loads.take.Goals.{then-own-eq0+in_ok-landing+in_default, else-own-eq0}
+use Rattle.damage_skip.proofs.chunk_loads.take_next.Goals as goal
+use Rattle.damage_skip.proofs.chunk_loads.take_next.Goals.{then-own-eq0+in_ok-landing+in_default, else-own-eq0}
 
 pub contradicted_at-requires-clause-below : goal.contradicted_at-requires-clause-below
 contradicted_at-requires-clause-below g c =

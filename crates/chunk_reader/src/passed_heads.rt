@@ -1,0 +1,56 @@
+ghost use Rattle.std.specs.Prelude.{◌≡◌, ◌+◌, ◌^◌, ◌<◌, ◌≤◌, Some, IfOk, IfSome, Err};
+ghost use Rattle.record_io.specs.Calls.{OnlyAsks};
+ghost use Rattle.block_layout.specs.Layout.{chunk_header_size, IsBoundary};
+ghost use Rattle.chunk_header.specs.Views.{IsHeader, bytes_of_header, value_of_header};
+ghost use Rattle.chunk_reader.specs.Places.{header_bytes_at, end_by};
+ghost use Rattle.chunk_reader.specs.Reasons.{Applies, NoneOf, IsFirstOf, passing_reasons};
+ghost use Rattle.chunk_reader.specs.declared.reasons.Fault.{Fault};
+
+use crate::heads::{Head, head_at};
+use crate::judging::refused;
+use crate::reasons::{VerifyEnd, Why};
+use chunk_header::Header;
+use record_io::Store;
+
+/// The header of the chunk at a place of a file of `size` bytes, which were told, at most 2^60, and where that chunk ends. The
+/// place is a boundary below `size`. At most 40 bytes are handed out. It takes no memory.
+///
+/// Riegeli/records file format specification, "Chunk header". Own: the reasons and their order.
+///
+/// # Errors
+///
+/// `Refused` exactly where a reason applies by which a chunk isn't passed, with the first: `Short`, `HeaderHash`, `Truncated`.
+/// `Store` only where the store failed.
+pub fn passed_head_at<S: Store>(
+    store: &mut S,
+    size: u64,
+    at: u64,
+) -> Result<(Header, u64), VerifyEnd>
+    requires told { S.told store.old ≡ Some size }
+    requires in_reach { size ≤ 2 ^ 60 }
+    requires from_boundary { IsBoundary at }
+    requires below { at < size }
+    ensures end { IfOk result (λ found. found.1 ≡ end_by at (value_of_header found.0)) }
+    ensures within { IfOk result (λ found. found.1 ≤ size) }
+    ensures fits { IfOk result (λ found. IsHeader found.0) }
+    ensures header { IfOk result (λ found. IfSome (S.bytes store.old) (λ file. header_bytes_at file at ≡ bytes_of_header found.0)) }
+    ensures sound { IfOk result (λ _. IfSome (S.bytes store.old) (λ file. NoneOf (Applies file at) passing_reasons)) }
+    ensures refused { (fault : Fault) → result ≡ Err (VerifyEnd.Refused fault) → (fault.at ≡ at)
+        × IfSome (S.bytes store.old) (λ file. IsFirstOf (Applies file at) passing_reasons fault.why) }
+    ensures handed { S.handed store.new ≤ S.handed store.old + chunk_header_size }
+    ensures handed_at_most { S.handed store.new + at ≤ S.handed store.old + size }
+    ensures store { OnlyAsks S.bytes S.told S.name S.faults (result ≡ Err VerifyEnd.Store) store.old store.new }
+{
+    let (header, end) = match head_at(store, size, at)? {
+        Head::Short => return Err(refused(at, Why::Short)),
+        Head::BadHash => return Err(refused(at, Why::HeaderHash)),
+        Head::Right { header, end } => (header, end),
+    };
+    let Some(end) = end else {
+        return Err(refused(at, Why::Truncated));
+    };
+    if end > size {
+        return Err(refused(at, Why::Truncated));
+    }
+    Ok((header, end))
+}
