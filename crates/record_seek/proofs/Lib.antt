@@ -1,1 +1,11 @@
 mod Values
+pub mod Ways
+pub mod ChunkRecords
+pub mod Asking
+pub mod Searching
+pub mod HolderEnds
+pub mod Seeking
+pub mod FirstRecords
+pub mod ReadingOn
+pub mod Finding
+pub mod MetPlaces

@@ -1,5 +1,5 @@
 -- Values counted by hand, computed from the definitions.
-use Rattle.std.proofs.Common.{◌≡◌, ◌∙◌, ℕ, zero, suc, false, ◌<◌, ◌≤◌, Some, None, List, [], ◌∷◌, replicate, nat_cmp, Less, lit<, lit≤, refl, sym, ap, subst, inl, inr, arith}
+use Rattle.std.proofs.Common.{◌≡◌, ◌∙◌, ◌⊎◌, ℕ, zero, suc, ◌-◌, false, ◌<◌, ◌≤◌, Some, None, List, [], ◌∷◌, length, replicate, nat_cmp, Less, lit<, lit≤, refl, sym, ap, subst, inl, inr, arith}
 use Rattle.std.specs.Prelude.{slice_get}
 use Rattle.std.specs.Cmp.Lexicographic.{slice_cmp}
 use Rattle.std.proofs.lemmas.Bool.{cases_lt}
@@ -9,10 +9,14 @@ use Rattle.block_layout.specs.BlockHeaders.{StandsAt}
 use Rattle.chunk_header.specs.Chunks.{ChunkValue}
 use Rattle.meta_chunk.specs.Files.{signature, begin_of, placed_from}
 use Rattle.chunk_reader.specs.Faults.{BeginsWithSignature}
-use Rattle.chunk_reader.proofs.SignedFiles.{no_reason-signature, end_at-signature}
-use Rattle.record_seek.specs.Found.{Reaches, IsAnswering, IsFirstAt, IsKeyFound}
+use Rattle.chunk_reader.specs.Holders.{ArePlacesBetween}
+use Rattle.chunk_reader.specs.Places.{end_at}
+use Rattle.chunk_reader.specs.Reasons.{Applies, NoneOf, passing_reasons}
+use Rattle.chunk_reader.specs.Searches.{HasRecordsAt}
+use Rattle.chunk_reader.proofs.SignedFiles.{chunk_at-signature, no_reason-signature, end_at-signature}
+use Rattle.record_seek.specs.Found.{MayAnswer, IsAnswering, IsFirstAt, IsKeyFound, BytesStandBefore, OnlyFrontStandsBefore}
 use Rattle.record_seek.specs.Met as met
-use Rattle.record_seek.specs.Met.{IsMetPlace}
+use Rattle.record_seek.specs.Met.{IsMetBySearch, LeadsWithoutRecords, LeadsPastAll}
 
 -- a file of four chunks of one record each, as large as those of 30000 bytes
 large : ChunkValue
@@ -77,24 +81,24 @@ stands_at = (refl, refl, refl)
 -- the chunk that answers a position
 answer_at_a_begin : IsAnswering four 60154 3 large
 answer_at_a_begin = record {
-  reaches = record { stands = stands_at.1; some = omega (arith, large_has_one); past = omega (arith, begins.3, large_has_one) };
+  may = record { stands = stands_at.1; has = (omega (arith, large_has_one), omega (arith, begins.3, large_has_one)) };
   first = λ i k h.
-      let one = counted i k h.stands h.some in
+      let one = counted i k h.stands h.has.0 in
       let place = place_of i one.0 one.1 in
       elim (cases_lt i 3) [
-        | inl before ↦ absurd (omega (arith, h.past, one.2, place.second before))
+        | inl before ↦ absurd (omega (arith, h.has.1, one.2, place.second before))
         | inr past ↦ past
       ];
 }
 
 answer_past : (position : ℕ) → 60155 ≤ position → position ≤ 90223 → IsAnswering four position 4 large
 answer_past position low high = record {
-  reaches = record { stands = stands_at.2; some = omega (arith, large_has_one); past = omega (arith, begins.4, large_has_one, high) };
+  may = record { stands = stands_at.2; has = (omega (arith, large_has_one), omega (arith, begins.4, large_has_one, high)) };
   first = λ i k h.
-      let one = counted i k h.stands h.some in
+      let one = counted i k h.stands h.has.0 in
       let place = place_of i one.0 one.1 in
       elim (cases_lt i 4) [
-        | inl before ↦ absurd (omega (arith, h.past, one.2, low, place.third before))
+        | inl before ↦ absurd (omega (arith, h.has.1, one.2, low, place.third before))
         | inr past ↦ past
       ];
 }
@@ -107,16 +111,16 @@ answer_further_on = answer_past 70000 (lit≤ tt) (lit≤ tt)
 
 answer_at_the_front : IsAnswering four 0 1 large
 answer_at_the_front = record {
-  reaches = record { stands = stands_at.0; some = omega (arith, large_has_one); past = omega (arith, begins.1) };
-  first = λ i k h. (counted i k h.stands h.some).0;
+  may = record { stands = stands_at.0; has = (omega (arith, large_has_one), omega (arith, begins.1, large_has_one)) };
+  first = λ i k h. (counted i k h.stands h.has.0).0;
 }
 
-none_at_the_end : (i : ℕ) (k : ChunkValue) → (¬ Reaches four 120267 i k) × (¬ Reaches four 120268 i k)
+none_at_the_end : (i : ℕ) (k : ChunkValue) → (¬ MayAnswer four 120267 i k) × (¬ MayAnswer four 120268 i k)
 none_at_the_end i k =
-    let past : (position : ℕ) → 120267 ≤ position → ¬ Reaches four position i k = λ position high h.
-    let one = counted i k h.stands h.some in
+    let past : (position : ℕ) → 120267 ≤ position → ¬ MayAnswer four position i k = λ position high h.
+    let one = counted i k h.stands h.has.0 in
     let place = place_of i one.0 one.1 in
-    absurd (omega (arith, high, h.past, one.2, place.last)) in
+    absurd (omega (arith, high, h.has.1, one.2, place.last)) in
     (past 120267 (lit≤ tt), past 120268 (lit≤ tt))
 
 -- the records with their positions, of which the first at or past one is found
@@ -176,28 +180,73 @@ nothing_at_the_end a b c d = λ i other same. omega (arith, (positions a b c d i
 Before : List ℕ → List ℕ → Type 0
 Before key bytes = slice_cmp nat_cmp bytes key ≡ Less
 
-a_b_c : List (List ℕ)
-a_b_c = (0x61 ∷ []) ∷ (0x62 ∷ []) ∷ (0x63 ∷ []) ∷ []
+a : List ℕ
+a = 0x61 ∷ []
 
-key_of_a_record : IsKeyFound (Before (0x62 ∷ [])) a_b_c (Some (0x62 ∷ []))
-unfolding Before a_b_c
-key_of_a_record = ((λ same. cc), (1, refl, inr (0x61 ∷ [], refl, refl)))
+b : List ℕ
+b = 0x62 ∷ []
 
-key_between_records : IsKeyFound (Before (0x62 ∷ 0x62 ∷ [])) a_b_c (Some (0x63 ∷ []))
-unfolding Before a_b_c
-key_between_records = ((λ same. cc), (2, refl, inr (0x62 ∷ [], refl, refl)))
+c : List ℕ
+c = 0x63 ∷ []
 
-empty_key : IsKeyFound (Before []) a_b_c (Some (0x61 ∷ []))
-unfolding Before a_b_c
+a_b_c : List (ℕ × List ℕ)
+a_b_c = (64, a) ∷ (108, b) ∷ (152, c) ∷ []
+
+key_of_a_record : IsKeyFound (BytesStandBefore (Before (0x62 ∷ []))) a_b_c (Some (108, b))
+unfolding Before a_b_c a b
+key_of_a_record = ((λ same. cc), (1, refl, inr ((64, a), refl, refl)))
+
+key_between_records : IsKeyFound (BytesStandBefore (Before (0x62 ∷ 0x62 ∷ []))) a_b_c (Some (152, c))
+unfolding Before a_b_c b c
+key_between_records = ((λ same. cc), (2, refl, inr ((108, b), refl, refl)))
+
+empty_key : IsKeyFound (BytesStandBefore (Before [])) a_b_c (Some (64, a))
+unfolding Before a_b_c a
 empty_key = ((λ same. cc), (0, refl, inl refl))
 
-key_past_all : IsKeyFound (Before (0x64 ∷ [])) a_b_c None
-unfolding Before a_b_c
-key_past_all = inr (0x63 ∷ [], refl, refl)
+key_past_all : IsKeyFound (BytesStandBefore (Before (0x64 ∷ []))) a_b_c None
+unfolding Before a_b_c c
+key_past_all = inr ((152, c), refl, refl)
+
+front_one : (i : ℕ) (r : ℕ × List ℕ) → slice_get a_b_c i ≡ Some r → i < 1 → BytesStandBefore (Before (0x62 ∷ [])) r
+unfolding Before a_b_c a b c
+front_one zero r stands before = subst (BytesStandBefore (Before (0x62 ∷ []))) (same_Some (64, a) r stands) refl
+front_one (suc i) r stands before = absurd (omega (arith, before))
+
+others_one : (i : ℕ) (r : ℕ × List ℕ) → slice_get a_b_c i ≡ Some r → 1 ≤ i → ¬ BytesStandBefore (Before (0x62 ∷ [])) r
+unfolding Before a_b_c a b c
+others_one zero r stands past = absurd (omega (arith, past))
+others_one (suc zero) r stands past =
+    subst (λ (x : ℕ × List ℕ). ¬ BytesStandBefore (Before (0x62 ∷ [])) x) (same_Some (108, b) r stands) (λ same. cc)
+others_one (suc (suc zero)) r stands past =
+    subst (λ (x : ℕ × List ℕ). ¬ BytesStandBefore (Before (0x62 ∷ [])) x) (same_Some (152, c) r stands) (λ same. cc)
+others_one (suc (suc (suc i))) r stands past = absurd (cc)
+
+front_before_a_key : OnlyFrontStandsBefore (BytesStandBefore (Before (0x62 ∷ []))) a_b_c 1
+unfolding Before a_b_c a b c
+front_before_a_key = record { front = front_one; others = others_one }
+
+-- of two equal records the second isn't found, though its bytes are those of the first
+b_b : List (ℕ × List ℕ)
+b_b = (64, b) ∷ (108, b) ∷ []
+
+second_of_equals : (i : ℕ) → slice_get b_b i ≡ Some (108, b)
+    → (i ≡ 0) ⊎ ((last : ℕ × List ℕ) × (slice_get b_b (i - 1) ≡ Some last) × BytesStandBefore (Before (0x62 ∷ [])) last) → ⊥
+unfolding Before b_b b
+second_of_equals zero stands around = omega (arith, ap (λ (r : ℕ × List ℕ). r.0) (same_Some (64, b) (108, b) stands))
+second_of_equals (suc zero) stands (inl first) = omega (arith, first)
+second_of_equals (suc zero) stands (inr (last, there, before)) =
+    let same : BytesStandBefore (Before (0x62 ∷ [])) (64, b) = subst (BytesStandBefore (Before (0x62 ∷ []))) (sym (same_Some (64, b) last there)) before in
+    cc
+second_of_equals (suc (suc i)) stands around = cc
+
+equal_records : ¬ IsKeyFound (BytesStandBefore (Before (0x62 ∷ []))) b_b (Some (108, b))
+unfolding Before b_b b
+equal_records (apart, (i, stands, around)) = second_of_equals i stands around
 
 -- a file of no records answers nothing
-none_of_signature : (position i : ℕ) (k : ChunkValue) → ¬ Reaches (signature ∷ []) position i k
-none_of_signature position zero k h = absurd (omega (arith, h.some, no_record k h.stands))
+none_of_signature : (position i : ℕ) (k : ChunkValue) → ¬ MayAnswer (signature ∷ []) position i k
+none_of_signature position zero k h = absurd (omega (arith, h.has.0, no_record k h.stands))
 none_of_signature position (suc i) k h =
     let nothing : None ≡ Some k = h.stands in
     absurd (cc)
@@ -205,7 +254,7 @@ none_of_signature position (suc i) k h =
 nothing_of_none : (position : ℕ) → IsFirstAt [] position None
 nothing_of_none position = λ i other same. absurd (cc)
 
-no_key_of_none : (key : List ℕ) → IsKeyFound (Before key) [] None
+no_key_of_none : (key : List ℕ) → IsKeyFound (BytesStandBefore (Before key)) [] None
 no_key_of_none key = inl refl
 
 -- a chunk that is left unread answers too, as its header tells how many records it has
@@ -215,12 +264,12 @@ unread = record { kind = 0x74; num_records = 65480; decoded_size = 0; «data» =
 unread_answers : IsAnswering (signature ∷ unread ∷ []) 70 1 unread
 unfolding unread chunk_end_of end_of
 unread_answers = record {
-  reaches = record { stands = refl; some = lit< tt; past = lit< tt };
+  may = record { stands = refl; has = (lit< tt, lit< tt) };
   first = λ i k h. elim (cases_lt i 1) [
     | inl before ↦
         let first : i ≡ 0 = omega (arith, before) in
         let front = subst (λ (n : ℕ). slice_get (signature ∷ unread ∷ []) n ≡ Some k) first h.stands in
-        absurd (omega (arith, h.some, no_record k front))
+        absurd (omega (arith, h.has.0, no_record k front))
     | inr past ↦ past
   ];
 }
@@ -244,14 +293,48 @@ unfolding one chunk_end_of end_of
 placed_of_three_chunks a b c = refl
 
 -- a file's front is met, and the end of its signature
-met_at_the_front : (file : List ℕ) → IsMetPlace file 0
+met_at_the_front : (file : List ℕ) → IsMetBySearch file 0
 met_at_the_front file = met.front
 
-met_behind_the_signature : (file : List ℕ) → BeginsWithSignature file → IsMetPlace file 64
+met_behind_the_signature : (file : List ℕ) → BeginsWithSignature file → IsMetBySearch file 64
 met_behind_the_signature file begins =
     let none = no_reason-signature false file begins in
-    subst (λ (place : ℕ). IsMetPlace file place) (end_at-signature file begins) (met.behind met.front (none.0, (none.1.0, (none.1.1.0, tt))))
+    subst (λ (place : ℕ). IsMetBySearch file place) (end_at-signature file begins) (met.behind met.front (none.0, (none.1.0, (none.1.1.0, tt))))
 
 -- and the begin that a block header tells
-met_before_a_block : (file : List ℕ) → StandsAt file 65536 5382 24687 → IsMetPlace file 60154
-met_before_a_block file stands = met.told stands
+met_before_a_block : (file : List ℕ) → StandsAt file 65536 5382 24687 → IsMetBySearch file 60154
+met_before_a_block file stands = met.told (5382, 24687, stands, refl)
+
+-- a file of the signature alone leads to its end without records
+signature_leads : (file : List ℕ) → BeginsWithSignature file → length file ≡ 64 → LeadsWithoutRecords file
+signature_leads file begins size =
+    let none = no_reason-signature false file begins in (
+      0 ∷ [],
+      (refl, (none.0, (none.1.0, (none.1.1.0, tt))), end_at-signature file begins ∙ sym size),
+      (ap (λ (k : ChunkValue). k.num_records) (chunk_at-signature file begins), tt),
+    )
+
+-- and with a chunk behind it, of `a` and `b`, it leads past all that stand before `c`
+records_lead : (file : List ℕ) → BeginsWithSignature file → NoneOf (Applies file 64) passing_reasons → end_at file 64 ≡ length file
+    → HasRecordsAt file 64 (a ∷ b ∷ []) → LeadsPastAll file (Before (0x63 ∷ []))
+unfolding Before a b
+records_lead file begins whole end holds =
+    let none = no_reason-signature false file begins in
+    record {
+      begin = 0;
+      front = 0 ∷ [];
+      place = 64;
+      rest = [];
+      records = a ∷ b ∷ [];
+      last = b;
+      from = inl refl;
+      between = (
+        refl,
+        (none.0, (none.1.0, (none.1.1.0, tt))),
+        subst (λ (p : ℕ). ArePlacesBetween file p (length file) (64 ∷ [])) (sym (end_at-signature file begins)) (refl, whole, end),
+      );
+      none_behind = tt;
+      holds = holds;
+      last_there = refl;
+      before = refl;
+    }

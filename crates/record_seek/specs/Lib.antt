@@ -1,2 +1,5 @@
 pub mod Found
 pub mod Met
+pub mod KeyTests
+pub mod Steps
+pub mod Ends

@@ -1,13 +1,59 @@
--- The places of a file that a search may come to. Own.
-use Rattle.std.specs.Prelude.{ℕ, ◌-◌, List}
-use Rattle.block_layout.specs.BlockHeaders.{StandsAt}
-use Rattle.chunk_reader.specs.Places.{end_at}
+-- The places of a file that a search by key may come to, and what it may answer there of a file with a fault. Own.
+use Rattle.std.specs.Prelude.{◌≡◌, ℕ, ◌+◌, ◌-◌, ◌<◌, ◌⊎◌, false, Some, List, ◌∷◌, ◌++◌, length, slice_get}
+use Rattle.std.specs.List.{AllByRecursion}
+use Rattle.chunk_reader.specs.Blocks.{TellsBegin, IsBlockFault}
+use Rattle.chunk_reader.specs.Faults.{IsVerdict}
+use Rattle.chunk_reader.specs.Holders.{ArePlacesBetween}
+use Rattle.chunk_reader.specs.Places.{header_at, end_at}
 use Rattle.chunk_reader.specs.Reasons.{Applies, NoneOf, passing_reasons}
+use Rattle.chunk_reader.specs.Searches.{HasRecordsAt}
+use Rattle.chunk_reader.specs.declared.reasons.Fault.{Fault}
 
 -- the file's front is met; so is the begin of a chunk that a right and sane block header tells, and the end of a chunk at a
 -- place that is met, where its header is right and the file has the chunk to its end
-pub data IsMetPlace : List ℕ → ℕ → Type 0 where
-  front : {file : List ℕ} → IsMetPlace file 0
-  told : {file : List ℕ} {block previous next : ℕ} → StandsAt file block previous next → IsMetPlace file (block - previous)
-  behind : {file : List ℕ} {place : ℕ} → IsMetPlace file place → NoneOf (Applies file place) passing_reasons
-      → IsMetPlace file (end_at file place)
+pub data IsMetBySearch : List ℕ → ℕ → Type 0 where
+  front : {file : List ℕ} → IsMetBySearch file 0
+  told : {file : List ℕ} {block place : ℕ} → TellsBegin file block place → IsMetBySearch file place
+  behind : {file : List ℕ} {place : ℕ} → IsMetBySearch file place → NoneOf (Applies file place) passing_reasons
+      → IsMetBySearch file (end_at file place)
+
+-- a fault that is met: of a block that tells no begin, or of a chunk at a place that is met
+abbrev pub IsMetFault : List ℕ → Fault → Type 0
+IsMetFault file fault =
+    ((block : ℕ) × IsBlockFault file block fault)
+    ⊎ ((place : ℕ) × IsMetBySearch file place × (place < length file) × IsVerdict false file place fault)
+
+-- a record, with its position, of a chunk without fault at a place that is met
+pub record IsMetRecord (file : List ℕ) (found : ℕ × List ℕ) : Type 0 where
+  pub place : ℕ
+  pub records : List (List ℕ)
+  pub number : ℕ
+  pub met : IsMetBySearch file place
+  pub holds : HasRecordsAt file place records
+  pub stands : slice_get records number ≡ Some found.1
+  pub position : found.0 ≡ place + number
+
+-- the chunks at these places have no records
+abbrev pub HaveNoRecords : List ℕ → List ℕ → Type 0
+HaveNoRecords file places = AllByRecursion (λ place. (header_at file place).num_records ≡ 0) places
+
+-- chunks lead from the file's front to its end, and none has records
+abbrev pub LeadsWithoutRecords : List ℕ → Type 0
+LeadsWithoutRecords file =
+    (places : List ℕ) × ArePlacesBetween file 0 (length file) places × HaveNoRecords file places
+
+-- chunks lead to the file's end from its front, or from a begin that a block tells, and of the last of them that has records,
+-- which has no fault, the last record stands before
+pub record LeadsPastAll (file : List ℕ) (Before : List ℕ → Type 0) : Type 0 where
+  pub begin : ℕ
+  pub front : List ℕ
+  pub place : ℕ
+  pub rest : List ℕ
+  pub records : List (List ℕ)
+  pub last : List ℕ
+  pub from : (begin ≡ 0) ⊎ ((block : ℕ) × TellsBegin file block begin)
+  pub between : ArePlacesBetween file begin (length file) (front ++ place ∷ rest)
+  pub none_behind : HaveNoRecords file rest
+  pub holds : HasRecordsAt file place records
+  pub last_there : slice_get records (length records - 1) ≡ Some last
+  pub before : Before last

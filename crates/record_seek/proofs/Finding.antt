@@ -1,0 +1,158 @@
+-- What a search by key comes to, and what it may answer.
+use Rattle.std.proofs.Common.{◌≡◌, ◌∙◌, ◌⊎◌, ℕ, ◌*◌, ◌<◌, Option, Some, None, IfSome, List, [], ◌∷◌, length, refl, sym, ap, subst, inl, inr, arith}
+use Rattle.std.proofs.lemmas.Option.{slice_get_within}
+use Rattle.chunk_reader.specs.Blocks.{TellsBegin, IsBlockFault}
+use Rattle.chunk_reader.specs.Holders.{ArePlacesBetween}
+use Rattle.chunk_reader.specs.Places.{header_at, end_at}
+use Rattle.chunk_reader.specs.Reasons.{Applies, NoneOf, passing_reasons}
+use Rattle.chunk_reader.specs.declared.reasons.Fault.{Fault}
+use Rattle.chunk_reader.proofs.Blocks.{stands_one}
+use Rattle.chunk_reader.proofs.HeadersTell.{passed_below}
+use Rattle.record_seek.specs.Met as met
+use Rattle.record_seek.specs.Met.{IsMetBySearch, IsMetFault, IsMetRecord, HaveNoRecords, LeadsWithoutRecords, LeadsPastAll}
+use Rattle.record_seek.specs.Steps.{AreReadTo, IsReadRecord, IsFaultOn, IsFirstFrom, FirstStandsBefore}
+use Rattle.record_seek.specs.declared.chunk_records.Found.{Found}
+use Rattle.record_seek.proofs.Ways.{same_told}
+
+-- from a place that is met, each further one is
+met-on : (file places : List ℕ) (from place : ℕ) → IsMetBySearch file from → ArePlacesBetween file from place places → IsMetBySearch file place
+met-on file [] from place here same = subst (IsMetBySearch file) same here
+met-on file (p ∷ places) from place here (same, none, rest) = met-on file places (end_at file from) place (met.behind here none) rest
+
+-- a fault of a block is met
+pub block-met : (bytes now : Option (List ℕ)) (block : ℕ) (fault : Fault) → now ≡ bytes → IfSome now (λ file. IsBlockFault file block fault)
+    → IfSome bytes (λ file. IsMetFault file fault)
+block-met None now block fault same refused = tt
+block-met (Some file) now block fault same refused = inl (block, same_told (λ f. IsBlockFault f block fault) (Some file) now same refused)
+
+-- reading begins at the file's front, or where a block tells
+abbrev pub IsBeginFrom : (low begin : ℕ) → List ℕ → Type 0
+IsBeginFrom low begin file = ((low ≡ 0) × (begin ≡ 0)) ⊎ ((0 < low) × TellsBegin file (low * 65536) begin)
+
+begin_met : (file : List ℕ) (low begin : ℕ) → IsBeginFrom low begin file → IsMetBySearch file begin
+begin_met file low begin (inl (first, front)) = subst (IsMetBySearch file) (sym front) met.front
+begin_met file low begin (inr told) = met.told told.1
+
+-- and a fault on the way from there is met
+pub told-met : (bytes now : Option (List ℕ)) (block begin : ℕ) (fault : Fault) → now ≡ bytes → IfSome bytes (λ file. TellsBegin file block begin)
+    → IfSome now (λ file. IsFaultOn file begin fault) → IfSome bytes (λ file. IsMetFault file fault)
+told-met None now block begin fault same told refused = tt
+told-met (Some file) now block begin fault same told refused =
+    let on : IsFaultOn file begin fault = same_told (λ f. IsFaultOn f begin fault) (Some file) now same refused in
+    inr (on.place, met-on file on.places begin on.place (met.told told) on.between, on.below, on.verdict)
+
+pub fault-met : (bytes now then : Option (List ℕ)) (low begin : ℕ) (fault : Fault) → now ≡ bytes → then ≡ bytes → IfSome now (IsBeginFrom low begin)
+    → IfSome then (λ file. IsFaultOn file begin fault) → IfSome bytes (λ file. IsMetFault file fault)
+fault-met None now then low begin fault same also from refused = tt
+fault-met (Some file) now then low begin fault same also from refused =
+    let start : IsBeginFrom low begin file = same_told (IsBeginFrom low begin) (Some file) now same from in
+    let on : IsFaultOn file begin fault = same_told (λ f. IsFaultOn f begin fault) (Some file) then also refused in
+    inr (on.place, met-on file on.places begin on.place (begin_met file low begin start) on.between, on.below, on.verdict)
+
+-- so is a record
+pub record-met : (Before : List ℕ → Type 0) (bytes now then : Option (List ℕ)) (low begin : ℕ) (found : Found) → now ≡ bytes → then ≡ bytes
+    → IfSome now (IsBeginFrom low begin) → IfSome then (λ file. IsReadRecord Before file begin found)
+    → IfSome bytes (λ file. IsMetRecord file (found.position, found.bytes))
+record-met Before None now then low begin found same also from read = tt
+record-met Before (Some file) now then low begin found same also from read =
+    let start : IsBeginFrom low begin file = same_told (IsBeginFrom low begin) (Some file) now same from in
+    let on : IsReadRecord Before file begin found = same_told (λ f. IsReadRecord Before f begin found) (Some file) then also read in
+    record {
+      place = on.place;
+      records = on.records;
+      number = on.number;
+      met = met-on file on.read.places begin on.place (begin_met file low begin start) on.read.between;
+      holds = on.holds;
+      stands = on.stands;
+      position = on.position;
+    }
+
+-- where the first record stands before
+abbrev pub BeginsBefore : (Before : List ℕ → Type 0) → (low : ℕ) → List ℕ → Type 0
+BeginsBefore Before low file =
+    (low ≡ 0) ⊎ ((begin : ℕ) × TellsBegin file (low * 65536) begin × FirstStandsBefore Before file begin)
+
+pub begins-front : (Before : List ℕ → Type 0) (bytes : Option (List ℕ)) → IfSome bytes (BeginsBefore Before 0)
+begins-front Before None = tt
+begins-front Before (Some file) = inl refl
+
+pub begins-at : (Before : List ℕ → Type 0) (bytes now : Option (List ℕ)) (low : ℕ) → now ≡ bytes
+    → IfSome now (λ file. (begin : ℕ) × TellsBegin file (low * 65536) begin × FirstStandsBefore Before file begin)
+    → IfSome bytes (BeginsBefore Before low)
+begins-at Before None now low same looked = tt
+begins-at Before (Some file) now low same looked =
+    inr (same_told (λ f. (begin : ℕ) × TellsBegin f (low * 65536) begin × FirstStandsBefore Before f begin) (Some file) now same looked)
+
+-- from one place there aren't both a record and no record up to the file's end
+one_way : (file ps qs : List ℕ) (from place : ℕ) → ArePlacesBetween file from (length file) ps → HaveNoRecords file ps
+    → ArePlacesBetween file from place qs → NoneOf (Applies file place) passing_reasons → 0 < (header_at file place).num_records → ⊥
+one_way file [] [] from place end none same whole some = omega (arith, end, same, passed_below file place whole)
+one_way file (p ∷ ps) [] from place (is, passed, rest) none same whole some =
+    let there : p ≡ place = is ∙ same in
+    omega (arith, some, none.0, ap (λ (q : ℕ). (header_at file q).num_records) there)
+one_way file [] (q ∷ qs) from place end none (same, passed, rest) whole some = omega (arith, end, passed_below file from passed)
+one_way file (p ∷ ps) (q ∷ qs) from place (is, passed, rest) none (same, also, further) whole some =
+    one_way file ps qs (end_at file from) place rest none.1 further whole some
+
+first_some : (file : List ℕ) (from : ℕ) (found : Found) (first : IsFirstFrom file from found) → 0 < (header_at file first.place).num_records
+first_some file from found first =
+    omega (arith, first.holds.holds.num_records, slice_get_within first.records 0 found.bytes first.stands)
+
+-- one begin is told
+told_one : (file : List ℕ) (block begin other : ℕ) → TellsBegin file block begin → TellsBegin file block other → begin ≡ other
+told_one file block begin other (p, n, stands, is) (q, m, also, there) =
+    let same = stands_one file block p n q m stands also in
+    omega (arith, is, there, same.0)
+
+-- nothing is answered where no record is read that doesn't stand before
+nothing_left : (Before : List ℕ → Type 0) (file : List ℕ) (low begin : ℕ) → BeginsBefore Before low file → IsBeginFrom low begin file
+    → AreReadTo Before file begin (length file) → LeadsWithoutRecords file ⊎ LeadsPastAll file Before
+nothing_left Before file low begin before start read =
+    elim read.last [
+      | inr end ↦ inr (record {
+        begin = begin;
+        front = end.front;
+        place = end.place;
+        rest = end.rest;
+        records = end.records;
+        last = end.last;
+        from = elim start [
+          | inl first ↦ inl first.1
+          | inr told ↦ inr (low * 65536, told.1)
+        ];
+        between = subst (ArePlacesBetween file begin (length file)) end.parts read.between;
+        none_behind = end.none_behind;
+        holds = end.holds;
+        last_there = end.last_there;
+        before = end.before;
+      })
+      | inl none ↦ elim start [
+        | inl first ↦
+            inl (read.places, subst (λ (b : ℕ). ArePlacesBetween file b (length file) read.places) first.1 read.between, none)
+        | inr told ↦ elim before [
+          | inl zero ↦ absurd (omega (arith, zero, told.0))
+          | inr (other, there, (found, first, stands)) ↦
+              let same : begin ≡ other = told_one file (low * 65536) begin other told.1 there in
+              absurd (one_way file read.places first.places other first.place
+              (subst (λ (b : ℕ). ArePlacesBetween file b (length file) read.places) same read.between) none first.between first.whole
+              (first_some file other found first))
+        ]
+      ]
+    ]
+
+pub nothing-left : (Before : List ℕ → Type 0) (bytes now then : Option (List ℕ)) (low begin : ℕ) → now ≡ bytes → then ≡ bytes
+    → IfSome bytes (BeginsBefore Before low) → IfSome now (IsBeginFrom low begin)
+    → IfSome then (λ file. AreReadTo Before file begin (length file))
+    → IfSome bytes (λ file. LeadsWithoutRecords file ⊎ LeadsPastAll file Before)
+nothing-left Before None now then low begin same also before from read = tt
+nothing-left Before (Some file) now then low begin same also before from read =
+    nothing_left Before file low begin before (same_told (IsBeginFrom low begin) (Some file) now same from)
+    (same_told (λ f. AreReadTo Before f begin (length f)) (Some file) then also read)
+
+-- the first record from a begin that a block tells, which stands before
+pub first-before : (Before : List ℕ → Type 0) (bytes now : Option (List ℕ)) (block begin : ℕ) (found : Found) → now ≡ bytes
+    → IfSome bytes (λ file. TellsBegin file block begin) → IfSome now (λ file. IsFirstFrom file begin found) → Before found.bytes
+    → IfSome bytes (λ file. (b : ℕ) × TellsBegin file block b × FirstStandsBefore Before file b)
+first-before Before None now block begin found same told first before = tt
+first-before Before (Some file) now block begin found same told first before =
+    (begin, told, (found, same_told (λ f. IsFirstFrom f begin found) (Some file) now same first, before))

@@ -1,0 +1,233 @@
+-- Reading on from chunk to chunk.
+use Rattle.std.proofs.Common.{◌≡◌, ◌∙◌, ◌⊎◌, ℕ, ◌-◌, ◌<◌, ◌≤◌, false, Option, Some, None, Result, Ok, Err, IfOk, IfSome, List, [], ◌∷◌, ◌++◌, length, refl, sym, ap, subst, inl, inr, arith}
+use Rattle.std.specs.Prelude.{slice_get}
+use Rattle.std.proofs.lemmas.Option.{slice_get_cases}
+use Rattle.chunk_reader.specs.Faults.{IsVerdict}
+use Rattle.chunk_reader.specs.Holders.{ArePlacesBetween}
+use Rattle.chunk_reader.specs.Places.{header_at}
+use Rattle.chunk_reader.specs.Reasons.{Applies, IsFirstOf, passing_reasons}
+use Rattle.chunk_reader.specs.declared.reasons.Fault.{Fault}
+use Rattle.chunk_reader.proofs.Rooms.{IsSized}
+use Rattle.record_seek.specs.Met.{HaveNoRecords}
+use Rattle.record_seek.specs.Steps.{IsPassedAt, IsRecordAt, IsFirstNotAt, EndBefore, AreReadTo, IsReadRecord, IsFaultOn, IsFirstFrom}
+use Rattle.record_seek.specs.declared.chunk_records.Found.{Found}
+use Rattle.record_seek.specs.declared.passes.Passed.{Passed}
+use Rattle.record_seek.proofs.Searching.{all-push}
+use Rattle.record_seek.proofs.Ways.{between-push, same_told}
+
+-- a list with one more at its end, and with one more in front of a part of it
+push-parts : (front rest : List ℕ) (x y : ℕ) → (front ++ x ∷ rest) ++ y ∷ [] ≡ front ++ x ∷ (rest ++ y ∷ [])
+push-parts [] rest x y = refl
+push-parts (z ∷ front) rest x y = ap (λ (zs : List ℕ). z ∷ zs) (push-parts front rest x y)
+
+none-push : (file places : List ℕ) (place : ℕ) → HaveNoRecords file places → (header_at file place).num_records ≡ 0
+    → HaveNoRecords file (places ++ place ∷ [])
+none-push file places place none here = all-push (λ p. (header_at file p).num_records ≡ 0) places place none here
+
+-- chunks without records come to a place
+pub record IsEmptyTo (file : List ℕ) (from to : ℕ) : Type 0 where
+  pub places : List ℕ
+  pub between : ArePlacesBetween file from to places
+  pub none : HaveNoRecords file places
+
+pub empty-begun : (bytes : Option (List ℕ)) (from : ℕ) → IfSome bytes (λ file. IsEmptyTo file from from)
+empty-begun None from = tt
+empty-begun (Some file) from = record { places = []; between = refl; none = tt }
+
+pub empty-on : (bytes now : Option (List ℕ)) (from place : ℕ) (chunk : Passed) → now ≡ bytes → IfSome bytes (λ file. IsEmptyTo file from place)
+    → IfSome now (λ file. IsPassedAt file place chunk) → chunk.num_records ≤ 0 → IfSome bytes (λ file. IsEmptyTo file from chunk.end)
+empty-on None now from place chunk same empty passed few = tt
+empty-on (Some file) now from place chunk same empty passed few =
+    let here : IsPassedAt file place chunk = same_told (λ f. IsPassedAt f place chunk) (Some file) now same passed in
+    record {
+      places = empty.places ++ place ∷ [];
+      between = subst (λ (p : ℕ). ArePlacesBetween file from p (empty.places ++ place ∷ [])) (sym here.end)
+          (between-push file empty.places from place empty.between here.none);
+      none = none-push file empty.places place empty.none (omega (arith, few, here.num_records));
+    }
+
+-- up to the first record
+first_there : (file : List ℕ) (from place : ℕ) (chunk : Passed) (found : Found) → IsEmptyTo file from place → IsPassedAt file place chunk
+    → IsRecordAt file place 0 (Some found) → IsFirstFrom file from found
+first_there file from place chunk found empty passed (none, (records, simple, (stands, position))) = record {
+  place = place;
+  places = empty.places;
+  records = records;
+  between = empty.between;
+  none_before = empty.none;
+  whole = passed.none;
+  holds = record { without_fault = none; holds = simple };
+  stands = stands;
+}
+
+pub first-found : (bytes now then : Option (List ℕ)) (from place : ℕ) (chunk : Passed) (found : Found) → now ≡ bytes → then ≡ bytes
+    → IfSome bytes (λ file. IsEmptyTo file from place) → IfSome now (λ file. IsPassedAt file place chunk)
+    → IfSome then (λ file. IsRecordAt file place 0 (Some found)) → IfSome bytes (λ file. IsFirstFrom file from found)
+first-found None now then from place chunk found same also empty passed there = tt
+first-found (Some file) now then from place chunk found same also empty passed there =
+    first_there file from place chunk found empty (same_told (λ f. IsPassedAt f place chunk) (Some file) now same passed)
+    (same_told (λ f. IsRecordAt f place 0 (Some found)) (Some file) then also there)
+
+pub ok_at : {E : Type 0} (P : Option Found → Type 0) (result : Result (Option Found) E) (x : Option Found) → IfOk result P → result ≡ Ok x → P x
+ok_at P (Ok found) x holds is = subst (λ (r : Result (Option Found) _). IfOk r P) is holds
+ok_at P (Err end) x holds is = cc
+
+-- a fault of the next chunk header
+passing_verdict : (file : List ℕ) (place : ℕ) (fault : Fault) → fault.at ≡ place → IsFirstOf (Applies file place) passing_reasons fault.why
+    → IsVerdict false file place fault
+passing_verdict file place fault at (inl (short, is)) = (inl (short, is), rw is at)
+passing_verdict file place fault at (inr (not_short, inl (hash, is))) = (inr (not_short, inl (hash, is)), rw is at)
+passing_verdict file place fault at (inr (not_short, inr (right, inl (cut, is)))) = (inr (not_short, inr (right, inl (cut, is))), rw is at)
+passing_verdict file place fault at (inr (not_short, inr (right, inr (whole, none)))) = absurd none
+
+-- the chunks on the way, whatever they hold
+abbrev pub IsComeTo : (from place : ℕ) → List ℕ → Type 0
+IsComeTo from place file = (places : List ℕ) × ArePlacesBetween file from place places
+
+pub empty-come : (bytes : Option (List ℕ)) (from place : ℕ) → IfSome bytes (λ file. IsEmptyTo file from place) → IfSome bytes (IsComeTo from place)
+empty-come None from place empty = tt
+empty-come (Some file) from place empty = (empty.places, empty.between)
+
+pub read-come : (Before : List ℕ → Type 0) (bytes : Option (List ℕ)) (from place : ℕ) → IfSome bytes (λ file. AreReadTo Before file from place)
+    → IfSome bytes (IsComeTo from place)
+read-come Before None from place read = tt
+read-come Before (Some file) from place read = (read.places, read.between)
+
+pub fault-header : (bytes now : Option (List ℕ)) (size from place : ℕ) (fault : Fault) → now ≡ bytes → IsSized bytes (Some size) → place < size
+    → IfSome bytes (IsComeTo from place)
+    → (fault.at ≡ place) × IfSome now (λ file. IsFirstOf (Applies file place) passing_reasons fault.why)
+    → IfSome bytes (λ file. IsFaultOn file from fault)
+fault-header None now size from place fault same sized below come refused = tt
+fault-header (Some file) now size from place fault same sized below come refused = record {
+  place = place;
+  places = come.0;
+  between = come.1;
+  below = omega (arith, sized, below);
+  verdict = passing_verdict file place fault refused.0
+      (same_told (λ f. IsFirstOf (Applies f place) passing_reasons fault.why) (Some file) now same refused.1);
+}
+
+-- or of the chunk that is judged
+pub fault-chunk : (bytes now : Option (List ℕ)) (size from place : ℕ) (fault : Fault) → now ≡ bytes → IsSized bytes (Some size) → place < size
+    → IfSome bytes (IsComeTo from place) → IfSome now (λ file. IsVerdict false file place fault)
+    → IfSome bytes (λ file. IsFaultOn file from fault)
+fault-chunk None now size from place fault same sized below come refused = tt
+fault-chunk (Some file) now size from place fault same sized below come refused = record {
+  place = place;
+  places = come.0;
+  between = come.1;
+  below = omega (arith, sized, below);
+  verdict = same_told (λ f. IsVerdict false f place fault) (Some file) now same refused;
+}
+
+-- records are read from chunk to chunk
+pub read-begun : (Before : List ℕ → Type 0) (bytes : Option (List ℕ)) (from : ℕ) → IfSome bytes (λ file. AreReadTo Before file from from)
+read-begun Before None from = tt
+read-begun Before (Some file) from = record { places = []; between = refl; last = inl tt }
+
+-- past a chunk without records
+last-empty : (Before : List ℕ → Type 0) (file places : List ℕ) (place : ℕ) → (header_at file place).num_records ≡ 0
+    → HaveNoRecords file places ⊎ EndBefore Before file places
+    → HaveNoRecords file (places ++ place ∷ []) ⊎ EndBefore Before file (places ++ place ∷ [])
+last-empty Before file places place here (inl none) = inl (none-push file places place none here)
+last-empty Before file places place here (inr end) = inr (record {
+  front = end.front;
+  place = end.place;
+  rest = end.rest ++ place ∷ [];
+  records = end.records;
+  last = end.last;
+  parts = ap (λ (ps : List ℕ). ps ++ place ∷ []) end.parts ∙ push-parts end.front end.rest end.place place;
+  none_behind = none-push file end.rest place end.none_behind here;
+  holds = end.holds;
+  last_there = end.last_there;
+  before = end.before;
+})
+
+pub read-empty : (Before : List ℕ → Type 0) (bytes now : Option (List ℕ)) (from place : ℕ) (chunk : Passed) → now ≡ bytes
+    → IfSome bytes (λ file. AreReadTo Before file from place) → IfSome now (λ file. IsPassedAt file place chunk) → chunk.num_records ≤ 0
+    → IfSome bytes (λ file. AreReadTo Before file from chunk.end)
+read-empty Before None now from place chunk same read passed few = tt
+read-empty Before (Some file) now from place chunk same read passed few =
+    let here : IsPassedAt file place chunk = same_told (λ f. IsPassedAt f place chunk) (Some file) now same passed in
+    record {
+      places = read.places ++ place ∷ [];
+      between = subst (λ (p : ℕ). ArePlacesBetween file from p (read.places ++ place ∷ [])) (sym here.end)
+          (between-push file read.places from place read.between here.none);
+      last = last-empty Before file read.places place (omega (arith, few, here.num_records)) read.last;
+    }
+
+-- past one whose records stand before
+last_of : (records : List (List ℕ)) → 0 < length records → (last : List ℕ) × (slice_get records (length records - 1) ≡ Some last)
+last_of records some =
+    elim (slice_get_cases records (length records - 1)).1 [
+      | inl (last, inside, at, same) ↦ (last, at)
+      | inr (past, none) ↦ absurd (omega (arith, some, past))
+    ]
+
+end-before : (Before : List ℕ → Type 0) (file places : List ℕ) (place : ℕ) → 0 < (header_at file place).num_records
+    → IsFirstNotAt Before file place None → EndBefore Before file (places ++ place ∷ [])
+end-before Before file places place some (none, (records, inr few, all)) = absurd (omega (arith, some, few))
+end-before Before file places place some (none, (records, inl simple, all)) =
+    let last = last_of records (omega (arith, some, simple.num_records)) in
+    record {
+      front = places;
+      place = place;
+      rest = [];
+      records = records;
+      last = last.0;
+      parts = refl;
+      none_behind = tt;
+      holds = record { without_fault = none; holds = simple };
+      last_there = last.1;
+      before = all (length records - 1) last.0 last.1;
+    }
+
+pub read-records : (Before : List ℕ → Type 0) (bytes now then : Option (List ℕ)) (from place : ℕ) (chunk : Passed) (found : Option Found) → now ≡ bytes
+    → then ≡ bytes → IfSome bytes (λ file. AreReadTo Before file from place) → IfSome now (λ file. IsPassedAt file place chunk)
+    → 0 < chunk.num_records → found ≡ None → IfSome then (λ file. IsFirstNotAt Before file place found)
+    → IfSome bytes (λ file. AreReadTo Before file from chunk.end)
+read-records Before None now then from place chunk found same also read passed some is first = tt
+read-records Before (Some file) now then from place chunk found same also read passed some is first =
+    let here : IsPassedAt file place chunk = same_told (λ f. IsPassedAt f place chunk) (Some file) now same passed in
+    let none : IsFirstNotAt Before file place None =
+    subst (IsFirstNotAt Before file place) is (same_told (λ f. IsFirstNotAt Before f place found) (Some file) then also first) in
+    record {
+      places = read.places ++ place ∷ [];
+      between = subst (λ (p : ℕ). ArePlacesBetween file from p (read.places ++ place ∷ [])) (sym here.end)
+          (between-push file read.places from place read.between here.none);
+      last = inr (end-before Before file read.places place (omega (arith, some, here.num_records)) none);
+    }
+
+-- to a record that doesn't
+read_record : (Before : List ℕ → Type 0) (file : List ℕ) (from place : ℕ) (chunk : Passed) (found : Found) → AreReadTo Before file from place
+    → IsPassedAt file place chunk → 0 < chunk.num_records → IsFirstNotAt Before file place (Some found) → IsReadRecord Before file from found
+read_record Before file from place chunk found read passed some (none, (records, inr few, first)) =
+    absurd (omega (arith, some, few, passed.num_records))
+read_record Before file from place chunk found read passed some (none, (records, inl simple, (number, stands, position, apart, before))) = record {
+  place = place;
+  records = records;
+  number = number;
+  read = read;
+  whole = passed.none;
+  holds = record { without_fault = none; holds = simple };
+  stands = stands;
+  position = position;
+  apart = apart;
+  before = before;
+}
+
+pub read-found : (Before : List ℕ → Type 0) (bytes now then : Option (List ℕ)) (from place : ℕ) (chunk : Passed) (found : Option Found) (f : Found) → now ≡ bytes
+    → then ≡ bytes → IfSome bytes (λ file. AreReadTo Before file from place) → IfSome now (λ file. IsPassedAt file place chunk)
+    → 0 < chunk.num_records → found ≡ Some f → IfSome then (λ file. IsFirstNotAt Before file place found)
+    → IfSome bytes (λ file. IsReadRecord Before file from f)
+read-found Before None now then from place chunk found f same also read passed some is first = tt
+read-found Before (Some file) now then from place chunk found f same also read passed some is first =
+    read_record Before file from place chunk f read (same_told (λ g. IsPassedAt g place chunk) (Some file) now same passed) some
+    (subst (IsFirstNotAt Before file place) is (same_told (λ g. IsFirstNotAt Before g place found) (Some file) then also first))
+
+-- or to the file's end
+pub read-ended : (Before : List ℕ → Type 0) (bytes : Option (List ℕ)) (size from place : ℕ) → IsSized bytes (Some size) → place ≤ size → size ≤ place
+    → IfSome bytes (λ file. AreReadTo Before file from place) → IfSome bytes (λ file. AreReadTo Before file from (length file))
+read-ended Before None size from place sized within past read = tt
+read-ended Before (Some file) size from place sized within past read =
+    subst (AreReadTo Before file from) (omega (arith, sized, within, past)) read

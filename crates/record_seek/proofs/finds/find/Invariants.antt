@@ -1,0 +1,17 @@
+use Rattle.std.proofs.Common.{◌+◌, ◌-◌, ◌*◌, ◌/◌, ◌<◌, ◌≤◌, IfSome}
+use Rattle.record_io.specs.Calls.{OnlyAsks}
+use Rattle.record_seek.specs.KeyTests.{StandsBefore}
+use Rattle.record_seek.proofs.Finding.{BeginsBefore}
+use Rattle.record_seek.proofs.finds.find.Given as goal
+
+abbrev pub invariant-loop-high : goal.invariant-loop-high
+invariant-loop-high g l = record {
+  ordered : l.low ≤ l.high;
+  within : l.high ≤ (l.size + 65535) / 65536;
+  below : 0 < l.low → l.low * 65536 < l.size;
+  begins : IfSome (g.S.Store.bytes l.fn.store) (BeginsBefore (StandsBefore g.F.Fn l.test.test) l.low);
+  asks : OnlyAsks g.S.Store.bytes g.S.Store.told g.S.Store.name g.S.Store.faults ⊥ l.fn.store l.store;
+}
+
+abbrev pub decreases-loop-high : goal.decreases-loop-high
+decreases-loop-high g l = l.high - l.low

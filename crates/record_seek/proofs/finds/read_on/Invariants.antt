@@ -1,0 +1,17 @@
+use Rattle.std.proofs.Common.{◌-◌, ◌≤◌, IfSome}
+use Rattle.record_io.specs.Calls.{OnlyAsks}
+use Rattle.block_layout.specs.Layout.{IsBoundary}
+use Rattle.record_seek.specs.KeyTests.{StandsBefore}
+use Rattle.record_seek.specs.Steps.{AreReadTo}
+use Rattle.record_seek.proofs.finds.read_on.Given as goal
+
+abbrev pub invariant-loop-place : goal.invariant-loop-place
+invariant-loop-place g l = record {
+  boundary : IsBoundary l.place;
+  within : l.place ≤ l.size;
+  read : IfSome (g.S.Store.bytes l.fn.store) (λ file. AreReadTo (StandsBefore g.F.Fn l.test.test) file l.begin l.place);
+  asks : OnlyAsks g.S.Store.bytes g.S.Store.told g.S.Store.name g.S.Store.faults ⊥ l.fn.store l.store;
+}
+
+abbrev pub decreases-loop-place : goal.decreases-loop-place
+decreases-loop-place g l = l.size - l.place

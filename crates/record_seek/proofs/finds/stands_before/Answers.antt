@@ -1,0 +1,26 @@
+use Rattle.std.proofs.Common.{◌≡◌, ℕ, List, Ok, Err, true, refl, sym, ap, subst}
+use Rattle.std.specs.Fn.{FnReturnsAt}
+use Rattle.chunk_reader.proofs.Loads as loads
+use Rattle.record_seek.specs.KeyTests.{StandsBefore}
+use Rattle.record_seek.proofs.Finding.{block-met, told-met, first-before}
+use Rattle.record_seek.proofs.finds.stands_before.Goals as goal
+
+pub returns-in_err-begin-clause-refused : goal.returns-in_err-begin-clause-refused
+returns-in_err-begin-clause-refused g c =
+    λ fault e.
+    block-met _ _ c.args.block fault refl
+    (c.in_err-begin.ensures.refused fault (ap Err (loads.refused_before c.in_err-begin.field-0.0 fault (rw e at c.from_residual.ensures.1))))
+
+pub returns-in_err-found-clause-refused : goal.returns-in_err-found-clause-refused
+returns-in_err-found-clause-refused g c =
+    λ fault e.
+    told-met _ _ c.args.block c.in_ok-begin.begin fault c.in_ok-begin.ensures.store.same_bytes c.in_ok-begin.ensures.told
+    (c.in_err-found.ensures.refused fault (ap Err (sym (rw e at c.from_residual-in_err-found.ensures.1))))
+
+pub returns-in-Some-clause-before : goal.returns-in-Some-clause-before
+returns-in-Some-clause-before g c =
+    λ e.
+    let yes : c.before-in-Some.result ≡ true = cc in
+    first-before (StandsBefore g.F.Fn c.args.test.now.test) _ _ c.args.block c.in_ok-begin.begin c.in-Some.found
+    c.in_ok-begin.ensures.store.same_bytes c.in_ok-begin.ensures.told (c.in_ok-found.ensures.first c.in-Some.found (ap Ok c.in-Some.is))
+    (subst (λ (b : List ℕ). FnReturnsAt g.F.Fn c.args.test.now.test b true) c.as_slice.ensures.value (rw yes at c.before-in-Some.ensures.answers))

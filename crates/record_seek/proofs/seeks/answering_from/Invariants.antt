@@ -1,0 +1,16 @@
+use Rattle.std.proofs.Common.{◌-◌, ◌≤◌, IfSome}
+use Rattle.record_io.specs.Calls.{OnlyAsks}
+use Rattle.block_layout.specs.Layout.{IsBoundary}
+use Rattle.record_seek.proofs.Searching.{IsSearchTo}
+use Rattle.record_seek.proofs.seeks.answering_from.Given as goal
+
+abbrev pub invariant-loop-place : goal.invariant-loop-place
+invariant-loop-place g l = record {
+  boundary : IsBoundary l.place;
+  within : l.place ≤ l.size;
+  search : IfSome (g.S.Store.bytes l.fn.store) (IsSearchTo l.at l.begin l.place (g.S.Store.handed l.fn.store) (g.S.Store.handed l.store));
+  asks : OnlyAsks g.S.Store.bytes g.S.Store.told g.S.Store.name g.S.Store.faults ⊥ l.fn.store l.store;
+}
+
+abbrev pub decreases-loop-place : goal.decreases-loop-place
+decreases-loop-place g l = l.size - l.place

@@ -1,0 +1,105 @@
+use Rattle.std.proofs.Common.{◌∙◌, ◌<◌, Some, None, Err, Ok, IfSome, ap, subst, arith}
+use Rattle.chunk_reader.specs.Holders.{IsHolder}
+use Rattle.chunk_reader.specs.Searches.{AnswersAt}
+use Rattle.chunk_reader.proofs.Loads as loads
+use Rattle.chunk_reader.proofs.Rooms.{IsSized}
+use Rattle.record_seek.proofs.Seeking.{refused_before, refused-holder, refused-search, answers, refused-answer, gives-answer, gives-nothing, memory-for, takes-headers, takes-record}
+use Rattle.record_seek.proofs.seeks.seek.Goals as goal
+use Rattle.record_seek.proofs.seeks.seek.Goals.{Start, In-Some, In-Some-2}
+
+-- the told size is that of the file
+sized : (g : _) (c : Start g) → IsSized (g.S.Store.bytes c.args.store.now) (Some c.args.size)
+sized g c = subst (IsSized (g.S.Store.bytes c.args.store.now)) c.requires.told (g.met.S.Store.sized c.args.store.now)
+
+-- the chunk at the begin holds the position
+holds : (g : _) (c : In-Some g) → IfSome (g.S.Store.bytes c.args.store.now) (λ file. IsHolder file c.args.at c.in-Some.begin)
+holds g c = c.in_ok-begin.ensures.holder c.in-Some.begin (ap Ok c.in-Some.is)
+
+below : (g : _) (c : In-Some g) → c.args.at < c.args.size
+below g c = (c.in_ok-begin.ensures.begin c.in-Some.begin (ap Ok c.in-Some.is)).2
+
+-- the chunk that answers
+answering : (g : _) (c : In-Some-2 g) → IfSome (g.S.Store.bytes c.args.store.now) (λ file. AnswersAt file c.args.at c.in-Some-2.place)
+answering g c =
+    answers _ _ c.args.at c.in-Some.begin c.in_ok-place.field-0 (Some c.in-Some-2.place) c.in_ok-begin.ensures.store.same_bytes c.in-Some-2.is
+    (c.in_ok-begin.ensures.holder c.in-Some.begin (ap Ok c.in-Some.is)) c.in_ok-place.ensures.answer
+
+pub returns-in_err-begin-clause-refused : goal.returns-in_err-begin-clause-refused
+returns-in_err-begin-clause-refused g c =
+    λ fault e.
+    refused-holder _ c.args.at fault
+    (c.in_err-begin.ensures.refused fault (ap Err (refused_before c.in_err-begin.field-0.0 fault (rw e at c.from_residual.ensures.1))))
+
+pub answering_from-requires-clause-below : goal.answering_from-requires-clause-below
+answering_from-requires-clause-below g c =
+    let begin = c.in_ok-begin.ensures.begin c.in-Some.begin (ap Ok c.in-Some.is) in
+    omega (arith, begin.1, begin.2)
+
+pub returns-in_err-place-clause-refused : goal.returns-in_err-place-clause-refused
+returns-in_err-place-clause-refused g c =
+    λ fault e.
+    let at = goal.at.returns-in_err-place-clause-refused g c in
+    refused-search _ _ c.args.size c.args.at c.in-Some.begin fault c.in_ok-begin.ensures.store.same_bytes (sized g at.Start) (holds g at.In-Some)
+    (c.in_err-place.ensures.refused fault
+    (ap Err (loads.refused_before c.in_err-place.field-0.0 fault (rw e at c.from_residual-in_err-place.ensures.1))))
+
+pub returns-in_err-place-clause-handed : goal.returns-in_err-place-clause-handed
+returns-in_err-place-clause-handed g c =
+    let at = goal.at.returns-in_err-place-clause-handed g c in
+    takes-headers _ _ c.args.size c.args.at c.in-Some.begin _ _ _ c.in_ok-begin.ensures.store.same_bytes (sized g at.Start) c.requires.in_reach
+    (holds g at.In-Some) c.holder.ensures.handed c.answering_from.ensures.handed
+
+pub returns-in_err-place-clause-handed_past : goal.returns-in_err-place-clause-handed_past
+returns-in_err-place-clause-handed_past g c =
+    λ past. absurd (omega (arith, past, below g (goal.at.returns-in_err-place-clause-handed_past g c).In-Some))
+
+pub returns-in_default-2-clause-found : goal.returns-in_default-2-clause-found
+returns-in_default-2-clause-found g c =
+    let at = goal.at.returns-in_default-2-clause-found g c in
+    gives-nothing _ c.args.at
+    (answers _ _ c.args.at c.in-Some.begin c.in_ok-place.field-0 None c.in_ok-begin.ensures.store.same_bytes c.in_default-2.is
+    (holds g at.In-Some) c.in_ok-place.ensures.answer)
+
+pub returns-in_default-2-clause-handed : goal.returns-in_default-2-clause-handed
+returns-in_default-2-clause-handed g c =
+    let at = goal.at.returns-in_default-2-clause-handed g c in
+    takes-headers _ _ c.args.size c.args.at c.in-Some.begin _ _ _ c.in_ok-begin.ensures.store.same_bytes (sized g at.Start) c.requires.in_reach
+    (holds g at.In-Some) c.holder.ensures.handed c.answering_from.ensures.handed
+
+pub returns-in_default-2-clause-handed_past : goal.returns-in_default-2-clause-handed_past
+returns-in_default-2-clause-handed_past g c =
+    λ past. absurd (omega (arith, past, below g (goal.at.returns-in_default-2-clause-handed_past g c).In-Some))
+
+pub returns-clause-found : goal.returns-clause-found
+returns-clause-found g c =
+    let at = goal.at.returns-clause-found g c in
+    gives-answer _ _ c.args.at c.in-Some-2.place _ c.record_at.result
+    (c.in_ok-place.ensures.store.same_bytes ∙ c.in_ok-begin.ensures.store.same_bytes) (omega arith) (answering g at.In-Some-2)
+    c.record_at.ensures.found
+
+pub returns-clause-refused : goal.returns-clause-refused
+returns-clause-refused g c =
+    λ fault e.
+    let at = goal.at.returns-clause-refused g c in
+    refused-answer _ _ c.args.at c.in-Some-2.place fault
+    (c.in_ok-place.ensures.store.same_bytes ∙ c.in_ok-begin.ensures.store.same_bytes) (answering g at.In-Some-2)
+    (c.record_at.ensures.refused fault e)
+
+pub returns-clause-handed : goal.returns-clause-handed
+returns-clause-handed g c =
+    let at = goal.at.returns-clause-handed g c in
+    takes-record _ _ _ c.args.size c.args.at c.in-Some.begin c.in-Some-2.place _ _ _ _ c.in_ok-begin.ensures.store.same_bytes
+    (c.in_ok-place.ensures.store.same_bytes ∙ c.in_ok-begin.ensures.store.same_bytes) (sized g at.Start) c.requires.in_reach
+    (holds g at.In-Some) c.holder.ensures.handed c.answering_from.ensures.handed (answering g at.In-Some-2) c.record_at.ensures.handed
+
+pub returns-clause-handed_past : goal.returns-clause-handed_past
+returns-clause-handed_past g c =
+    λ past. absurd (omega (arith, past, below g (goal.at.returns-clause-handed_past g c).In-Some))
+
+pub returns-clause-memory : goal.returns-clause-memory
+returns-clause-memory g c =
+    λ e.
+    let at = goal.at.returns-clause-memory g c in
+    memory-for _ _ c.args.at c.in-Some-2.place
+    (c.in_ok-place.ensures.store.same_bytes ∙ c.in_ok-begin.ensures.store.same_bytes) (answering g at.In-Some-2)
+    (c.record_at.ensures.memory e)

@@ -1,0 +1,165 @@
+ghost use Rattle.std.specs.Prelude.{◌≡◌, ℕ, ◌*◌, ◌/◌, ◌^◌, ◌<◌, ◌≤◌, ◌⊎◌, true, List, Some, None, Ok, IfOk, IfSome, Err, length};
+ghost use Rattle.record_io.specs.Calls.{OnlyAsks};
+ghost use Rattle.block_layout.specs.Layout.{block_size, IsBlock, IsBoundary};
+ghost use Rattle.chunk_reader.specs.Blocks.{TellsBegin, IsBlockFault};
+ghost use Rattle.chunk_reader.specs.Reasons.{Applies, NoneOf, loading_reasons};
+ghost use Rattle.chunk_reader.specs.declared.reasons.Fault.{Fault};
+ghost use Rattle.record_seek.specs.KeyTests.{IsKeyTest, StandsBefore};
+ghost use Rattle.record_seek.specs.Met.{IsMetFault, IsMetRecord, LeadsWithoutRecords, LeadsPastAll};
+ghost use Rattle.record_seek.specs.Steps.{IsFaultOn, IsFirstFrom, FirstStandsBefore, IsReadOn};
+
+use crate::chunk_records::{Found, first_not_at, record_at};
+use crate::key_tests::KeyTest;
+use crate::passes::{passed_at, told_begin};
+use block_layout::BLOCK_SIZE;
+use chunk_reader::{ReadEnd, VerifyEnd};
+use record_io::Store;
+use std::alloc::Global;
+
+/// A record that doesn't stand before what is looked for, as a test tells, of a file of `size` bytes, which were told, at most
+/// 2^60: the first, or one with a record right before it that does; `None` where there is no record, or the last one stands
+/// before. So in a file whose records that stand before are at its front, it is the first one behind them.
+///
+/// Own: how records are looked for, by blocks.
+///
+/// # Errors
+///
+/// `Refused` only with a fault that the search meets, and never in a file without fault. `Store` only where the store failed.
+pub fn find<S: Store, F: Fn(&[u8]) -> bool + Drop>(
+    alloc: Global,
+    store: &mut S,
+    size: u64,
+    test: &KeyTest<F>,
+) -> Result<Option<Found>, ReadEnd>
+    requires told { S.told store.old ≡ Some size }
+    requires in_reach { size ≤ 2 ^ 60 }
+    requires test { IsKeyTest F.Fn test.now.test }
+    ensures apart { IfOk result (λ found. IfSome found (λ f. ¬ StandsBefore F.Fn test.now.test f.bytes)) }
+    ensures met { (found : Found) → result ≡ Ok (Some found)
+        → IfSome (S.bytes store.old) (λ file. IsMetRecord file (found.position, found.bytes)) }
+    ensures none { result ≡ Ok None
+        → IfSome (S.bytes store.old) (λ file. LeadsWithoutRecords file ⊎ LeadsPastAll file (StandsBefore F.Fn test.now.test)) }
+    ensures refused { (fault : Fault) → result ≡ Err (ReadEnd.Refused fault)
+        → IfSome (S.bytes store.old) (λ file. IsMetFault file fault) }
+    ensures store { OnlyAsks S.bytes S.told S.name S.faults (result ≡ Err ReadEnd.Store) store.old store.new }
+{
+    let mut low = 0;
+    let mut high = size.div_ceil(BLOCK_SIZE);
+    while high - low > 1 {
+        let middle = low + (high - low) / 2;
+        if stands_before(alloc, store, size, test, middle * BLOCK_SIZE)? {
+            low = middle;
+        } else {
+            high = middle;
+        }
+    }
+    let begin = reading_begin(store, size, low)?;
+    read_on(alloc, store, size, test, begin)
+}
+
+/// Where reading begins from the block of a number: at the file's front from block 0, and from another one where its header
+/// tells.
+fn reading_begin<S: Store>(store: &mut S, size: u64, low: u64) -> Result<u64, VerifyEnd>
+    requires told { S.told store.old ≡ Some size }
+    requires in_reach { size ≤ 2 ^ 60 }
+    requires below { 0 < low → low * block_size < size }
+    ensures begin { IfOk result (λ begin. IfSome (S.bytes store.old) (λ file.
+        ((low ≡ 0) × (begin ≡ 0)) ⊎ ((0 < low) × TellsBegin file (low * block_size) begin))) }
+    ensures boundary { IfOk result IsBoundary }
+    ensures within { IfOk result (λ begin. begin ≤ size) }
+    ensures refused { (fault : Fault) → result ≡ Err (VerifyEnd.Refused fault)
+        → IfSome (S.bytes store.old) (λ file. IsBlockFault file (low * block_size) fault) }
+    ensures store { OnlyAsks S.bytes S.told S.name S.faults (result ≡ Err VerifyEnd.Store) store.old store.new }
+{
+    if low == 0 {
+        return Ok(0);
+    }
+    told_begin(store, size, low * BLOCK_SIZE)
+}
+
+/// Whether there is a record from the begin on that a block tells, and the first stands before.
+fn stands_before<S: Store, F: Fn(&[u8]) -> bool + Drop>(
+    alloc: Global,
+    store: &mut S,
+    size: u64,
+    test: &KeyTest<F>,
+    block: u64,
+) -> Result<bool, ReadEnd>
+    requires told { S.told store.old ≡ Some size }
+    requires in_reach { size ≤ 2 ^ 60 }
+    requires at_block { IsBlock block }
+    requires below { block < size }
+    requires test { IsKeyTest F.Fn test.now.test }
+    ensures before { result ≡ Ok true → IfSome (S.bytes store.old) (λ file. (begin : ℕ)
+        × TellsBegin file block begin × FirstStandsBefore (StandsBefore F.Fn test.now.test) file begin) }
+    ensures refused { (fault : Fault) → result ≡ Err (ReadEnd.Refused fault)
+        → IfSome (S.bytes store.old) (λ file. IsMetFault file fault) }
+    ensures store { OnlyAsks S.bytes S.told S.name S.faults (result ≡ Err ReadEnd.Store) store.old store.new }
+{
+    let begin = told_begin(store, size, block)?;
+    match first_from(alloc, store, size, begin)? {
+        Some(found) => Ok(test.before(found.bytes.as_slice())),
+        None => Ok(false),
+    }
+}
+
+/// The first record from a place on.
+fn first_from<S: Store>(
+    alloc: Global,
+    store: &mut S,
+    size: u64,
+    begin: u64,
+) -> Result<Option<Found>, ReadEnd>
+    requires told { S.told store.old ≡ Some size }
+    requires in_reach { size ≤ 2 ^ 60 }
+    requires from_boundary { IsBoundary begin }
+    requires within { begin ≤ size }
+    ensures first { (found : Found) → result ≡ Ok (Some found) → IfSome (S.bytes store.old) (λ file. IsFirstFrom file begin found) }
+    ensures small { IfOk result (λ found. IfSome found (λ f. length f.bytes ≤ 2 ^ 26)) }
+    ensures refused { (fault : Fault) → result ≡ Err (ReadEnd.Refused fault)
+        → IfSome (S.bytes store.old) (λ file. IsFaultOn file begin fault) }
+    ensures store { OnlyAsks S.bytes S.told S.name S.faults (result ≡ Err ReadEnd.Store) store.old store.new }
+{
+    let mut place = begin;
+    while place < size {
+        let passed = passed_at(store, size, place)?;
+        if passed.num_records > 0 {
+            return record_at(alloc, store, size, place, 0);
+        }
+        place = passed.end;
+    }
+    Ok(None)
+}
+
+/// The first record from a place on that doesn't stand before.
+fn read_on<S: Store, F: Fn(&[u8]) -> bool + Drop>(
+    alloc: Global,
+    store: &mut S,
+    size: u64,
+    test: &KeyTest<F>,
+    begin: u64,
+) -> Result<Option<Found>, ReadEnd>
+    requires told { S.told store.old ≡ Some size }
+    requires in_reach { size ≤ 2 ^ 60 }
+    requires from_boundary { IsBoundary begin }
+    requires within { begin ≤ size }
+    requires test { IsKeyTest F.Fn test.now.test }
+    ensures read { IfOk result (λ found. IfSome (S.bytes store.old) (λ file.
+        IsReadOn (StandsBefore F.Fn test.now.test) file begin found)) }
+    ensures apart { IfOk result (λ found. IfSome found (λ f. ¬ StandsBefore F.Fn test.now.test f.bytes)) }
+    ensures refused { (fault : Fault) → result ≡ Err (ReadEnd.Refused fault)
+        → IfSome (S.bytes store.old) (λ file. IsFaultOn file begin fault) }
+    ensures store { OnlyAsks S.bytes S.told S.name S.faults (result ≡ Err ReadEnd.Store) store.old store.new }
+{
+    let mut place = begin;
+    while place < size {
+        let passed = passed_at(store, size, place)?;
+        if passed.num_records > 0 {
+            if let Some(found) = first_not_at(alloc, store, size, place, test)? {
+                return Ok(Some(found));
+            }
+        }
+        place = passed.end;
+    }
+    Ok(None)
+}

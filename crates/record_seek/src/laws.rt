@@ -1,0 +1,36 @@
+//! Laws of the definitions that contracts cite. Nothing runs here.
+
+ghost use Rattle.std.specs.Prelude.{◌≡◌, ◌↔◌, ℕ, ◌^◌, ◌<◌, ◌≤◌, Some, None, List, length};
+ghost use Rattle.block_layout.specs.Layout.{IsBoundary};
+ghost use Rattle.chunk_header.specs.Chunks.{ChunkValue};
+ghost use Rattle.meta_chunk.specs.Files.{IsFile, IsFrame, ArePlaced, begin_of};
+ghost use Rattle.chunk_reader.specs.Searches.{AnswersAt, SearchGives};
+ghost use Rattle.chunk_reader.specs.declared.reasons.Fault.{Fault};
+ghost use Rattle.record_seek.specs.Found.{MayAnswer, IsAnswering, IsFirstAt};
+ghost use Rattle.record_seek.specs.Met.{IsMetBySearch, IsMetFault};
+
+/// In a file of chunks a search by position comes to the chunk that answers, as it is told without blocks, and gives the first
+/// record at or past the position; it gives nothing exactly where no chunk answers. Own.
+pub fn positions_find_their_records()
+    ensures answers { (ks : List ChunkValue) (file : List ℕ) (position place : ℕ)
+        → IsFrame ks file → length file ≤ 2 ^ 60 → position < length file → AnswersAt file position place
+        → (j : ℕ) × (k : ChunkValue) × (place ≡ begin_of ks j) × IsAnswering ks position j k }
+    ensures answering { (ks : List ChunkValue) (file : List ℕ) (position j : ℕ) (k : ChunkValue)
+        → IsFrame ks file → length file ≤ 2 ^ 60 → IsAnswering ks position j k → AnswersAt file position (begin_of ks j) }
+    ensures nothing { (ks : List ChunkValue) (file : List ℕ) (position : ℕ)
+        → IsFrame ks file → length file ≤ 2 ^ 60
+        → SearchGives file position None ↔ ((j : ℕ) (k : ChunkValue) → ¬ MayAnswer ks position j k) }
+    ensures first { (ks : List ChunkValue) (file : List ℕ) (position : ℕ) (placed : List (ℕ × List ℕ)) (found : ℕ × List ℕ)
+        → IsFrame ks file → length file ≤ 2 ^ 60 → ArePlaced ks placed
+        → SearchGives file position (Some found) → IsFirstAt placed position (Some found) }
+{}
+
+/// A place that a search by key comes to is a boundary of the file, and in a file of chunks it is where one begins, or where
+/// the last one ends. So the search meets no fault in a file without fault. Own.
+pub fn met_places_are_boundaries()
+    ensures boundary { (file : List ℕ) (place : ℕ) → IsMetBySearch file place → IsBoundary place × (place ≤ length file) }
+    ensures begins { (ks : List ChunkValue) (file : List ℕ) (place : ℕ)
+        → IsFrame ks file → length file ≤ 2 ^ 60 → IsMetBySearch file place → (j : ℕ) × (place ≡ begin_of ks j) }
+    ensures no_fault { (ks : List ChunkValue) (file : List ℕ) (fault : Fault)
+        → IsFile ks file → length file ≤ 2 ^ 60 → ¬ IsMetFault file fault }
+{}
