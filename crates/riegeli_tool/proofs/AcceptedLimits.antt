@@ -5,17 +5,16 @@ use Rattle.record_writer.specs.Written.{AreInLimits}
 use Rattle.riegeli_tool.specs.declared.command.Command.{Command}
 use Rattle.riegeli_tool.specs.declared.command.Command.TheVariants.{Write, Show, Recover, Verify, Repair}
 use Rattle.write_lines.specs.declared.write_words.WriteWords.{WriteWords}
-use Rattle.riegeli_tool.specs.declared.recover_words.RecoverWords.{RecoverWords}
+use Rattle.show_damaged.specs.declared.recover_words.RecoverWords.{RecoverWords}
 use Rattle.show_files.specs.declared.show_words.ShowWords.{ShowWords}
 use Rattle.riegeli_tool.specs.declared.repair_words.RepairWords.{RepairWords}
 use Rattle.show_files.specs.declared.verify_words.VerifyWords.{VerifyWords}
 use Rattle.show_files.specs.ShowWords.{show_words_of}
-use Rattle.riegeli_tool.specs.RecoverWords.{goes_past_damage, recover_words_of}
+use Rattle.show_damaged.specs.RecoverWords.{goes_past_damage, recover_words_of}
 use Rattle.show_files.specs.VerifyWords.{verify_words_of}
 use Rattle.riegeli_tool.specs.RepairWords.{repair_words_of}
 use Rattle.write_lines.specs.WriteWords.{write_words_of}
 use Rattle.riegeli_tool.specs.Commands.{command_of, takes, accepted_of, accepted}
-use Rattle.write_lines.specs.WriteCommand.{options_of}
 use Rattle.write_lines.proofs.WriteLimits.{if_some, write_words_of-within}
 
 -- a command that is `write` is so by its name
@@ -43,7 +42,7 @@ if_write false false recover false true written recovered shown verified (Some x
 if_write false false recover false false written recovered shown verified repaired w is = absurd (cc is)
 
 -- so are the options of an accepted command
-command_of-within : (words : List (List ℕ)) (w : WriteWords) → command_of words ≡ Some (Write w) → AreInLimits (options_of w)
+command_of-within : (words : List (List ℕ)) (w : WriteWords) → command_of words ≡ Some (Write w) → AreInLimits w.options × (w.options.workers ≡ 1)
 command_of-within [] w is = absurd (cc is)
 command_of-within (name ∷ words) w is =
     write_words_of-within (name ∷ words) w
@@ -55,5 +54,5 @@ accepted_of-is : (command : Option Command) (count : ℕ) (known : Command) → 
 accepted_of-is None count known is = absurd (cc is)
 accepted_of-is (Some command) count known is = if_some (takes command count) (Some command) known is
 
-pub accepted-within : (words : List (List ℕ)) (count : ℕ) (w : WriteWords) → Some (Write w) ≡ accepted words count → AreInLimits (options_of w)
+pub accepted-within : (words : List (List ℕ)) (count : ℕ) (w : WriteWords) → Some (Write w) ≡ accepted words count → AreInLimits w.options × (w.options.workers ≡ 1)
 accepted-within words count w is = command_of-within words w (accepted_of-is (command_of words) count (Write w) (sym is))

@@ -1,5 +1,5 @@
 -- Commands and their answers, judged by hand, computed from the definitions.
-use Rattle.std.proofs.Common.{◌≡◌, Some, None, [], ◌∷◌, ◌++◌, length, take, drop, codes, refl}
+use Rattle.std.proofs.Common.{◌≡◌, false, Some, None, [], ◌∷◌, ◌++◌, length, take, drop, codes, refl}
 use Rattle.std.specs.Fmt.{digits}
 use Rattle.record_io.specs.Puts.{Made, Out, Notes, puts_to, bytes_to}
 use Rattle.record_group.specs.declared.pad.Pad.TheVariants.{No, Both}
@@ -20,7 +20,7 @@ use Rattle.run_answers.specs.declared.status.Status.TheVariants as status
 
 -- what the words `write F` say
 abbrev plain : WriteWords
-plain = record { chunk_size = 1048576; every = None; pad = No; file = 1 }
+plain = record { options = record { size = 1048576; workers = 1; every = None; pad = No }; hex = false; file = 1 }
 
 -- the one command of now, where no file is handed in, and words that are none
 write_file : accepted (codes "write" ∷ codes "F" ∷ []) 0 ≡ Some (Write plain)

@@ -1,37 +1,25 @@
 -- What the answers to commands keep, command by command.
 use Rattle.std.proofs.Common.{◌≡◌, ℕ, true, false, Option, Some, None, List, ◌++◌, sym, ◌∙◌, ap}
-use Rattle.std.specs.List.{flat_map}
-use Rattle.record_io.specs.Puts.{Notes, puts_to}
 use Rattle.damage_skip.specs.Pieces.{Piece}
 use Rattle.damage_skip.proofs.Tiles.{events_one}
 use Rattle.repair_copy.specs.Relaid.{chunks_in}
 use Rattle.repair_copy.specs.RepairPuts.{repair_puts}
 use Rattle.riegeli_tool.specs.declared.command.Command.{Command}
 use Rattle.riegeli_tool.specs.declared.command.Command.TheVariants.{Write, Show, Recover, Verify, Repair}
-use Rattle.riegeli_tool.specs.declared.recover_words.RecoverWords.{RecoverWords}
 use Rattle.riegeli_tool.specs.declared.repair_words.RepairWords.{RepairWords}
 use Rattle.run_answers.specs.Answers.{Answer}
 use Rattle.show_files.specs.ShowCommand.{IsShown}
-use Rattle.riegeli_tool.specs.WalkAnswers.{regions_in, walked, refused_in, stopped_text, walk_status}
-use Rattle.riegeli_tool.specs.RecoverCommand.{event_puts, IsRecovered}
+use Rattle.show_damaged.specs.WalkAnswers.{regions_in, walked, refused_in, walk_status}
+use Rattle.show_damaged.specs.RecoverCommand.{IsRecovered}
 use Rattle.show_files.specs.VerifyCommand.{IsVerified}
 use Rattle.riegeli_tool.specs.RepairCommand.{end_puts, IsRepaired}
 use Rattle.riegeli_tool.specs.CommandAnswers.{IsAnswer, meaning_of}
 use Rattle.run_answers.specs.Meanings.{Read}
 use Rattle.run_answers.proofs.OneAnswer.{one_of_file, same_answer}
+use Rattle.show_damaged.proofs.OneRecovery.{one_recovered}
 use Rattle.show_files.proofs.OneReading.{one_shown, one_verified}
 
--- also where it goes on past damage
-pub one_recovered : (words : RecoverWords) (file : List ℕ) (a b : Answer) → IsRecovered words file a → IsRecovered words file b → a ≡ b
-one_recovered words file a b h g =
-    let same : h.events ≡ g.events = events_one false file h.events g.events h.are g.are in
-    same_answer a b
-    (h.puts
-    ∙ ap (λ (es : List Piece). flat_map (event_puts words.show.positions) (walked words.most es) ++ puts_to Notes (stopped_text (refused_in words.most es))) same
-    ∙ sym g.puts)
-    (h.status ∙ ap (λ (es : List Piece). walk_status (regions_in (walked words.most es)) (refused_in words.most es)) same ∙ sym g.status)
-
--- so has `repair`
+-- `repair` has one answer to a file
 pub one_repaired : (words : RepairWords) (file : List ℕ) (a b : Answer) → IsRepaired words file a → IsRepaired words file b → a ≡ b
 one_repaired words file a b h g =
     let same : h.events ≡ g.events = events_one true file h.events g.events h.are g.are in

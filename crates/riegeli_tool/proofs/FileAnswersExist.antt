@@ -1,43 +1,30 @@
 -- Each file of bytes has an answer of each command that reads one.
 use Rattle.std.proofs.Common.{◌≡◌, ℕ, Bool, true, false, Option, Some, None, List, ◌++◌, length, refl, sym, subst, if◌then◌else◌}
-use Rattle.std.specs.List.{AllByRecursion, flat_map}
+use Rattle.std.specs.List.{AllByRecursion}
 use Rattle.std.proofs.lemmas.Bool.{eqb-true}
 use Rattle.record_values.specs.Bytes.{AreBytes}
-use Rattle.record_io.specs.Puts.{Notes, puts_to}
 use Rattle.damage_skip.proofs.Tiles.{events_of}
 use Rattle.repair_copy.specs.Relaid.{chunks_in}
 use Rattle.repair_copy.specs.RepairPuts.{repair_puts}
 use Rattle.riegeli_tool.specs.declared.command.Command.{Command}
 use Rattle.riegeli_tool.specs.declared.command.Command.TheVariants.{Write, Show, Recover, Verify, Repair}
-use Rattle.riegeli_tool.specs.declared.recover_words.RecoverWords.{RecoverWords}
 use Rattle.riegeli_tool.specs.declared.repair_words.RepairWords.{RepairWords}
 use Rattle.run_answers.specs.Answers.{Answer}
 use Rattle.riegeli_tool.specs.Usage.{usage}
 use Rattle.write_lines.specs.WriteCommand.{write_answer}
 use Rattle.show_files.specs.ShowCommand.{IsShown}
-use Rattle.riegeli_tool.specs.WalkAnswers.{regions_in, walked, refused_in, stopped_text, walk_status}
-use Rattle.riegeli_tool.specs.RecoverCommand.{event_puts, IsRecovered}
+use Rattle.show_damaged.specs.WalkAnswers.{regions_in, walked, refused_in, walk_status}
+use Rattle.show_damaged.specs.RecoverCommand.{IsRecovered}
 use Rattle.show_files.specs.VerifyCommand.{IsVerified}
 use Rattle.riegeli_tool.specs.RepairCommand.{end_puts, IsRepaired}
 use Rattle.riegeli_tool.specs.Commands.{stores_of, takes, command_of, accepted_of, accepted}
 use Rattle.riegeli_tool.specs.CommandAnswers.{IsAnswer}
 use Rattle.run_answers.specs.Meanings.{Read}
 use Rattle.run_answers.proofs.OneAnswer.{of_file_exists}
+use Rattle.show_damaged.proofs.OneRecovery.{recovered_exists}
 use Rattle.show_files.proofs.ReadingsExist.{shown_exists, verified_exists}
 
--- also where it goes on past damage
-pub recovered_exists : (words : RecoverWords) (file : List ℕ) → AreBytes file → (answer : Answer) × IsRecovered words file answer
-recovered_exists words file bytes =
-    let events = events_of false file in (
-      record {
-        puts = flat_map (event_puts words.show.positions) (walked words.most events.0)
-            ++ puts_to Notes (stopped_text (refused_in words.most events.0));
-        status = walk_status (regions_in (walked words.most events.0)) (refused_in words.most events.0);
-      },
-      record { events = events.0; are = events.1; puts = refl; status = refl },
-    )
-
--- and `repair`
+-- `repair` has an answer
 pub repaired_exists : (words : RepairWords) (file : List ℕ) → AreBytes file → (answer : Answer) × IsRepaired words file answer
 repaired_exists words file bytes =
     let events = events_of true file in (

@@ -1,5 +1,5 @@
 -- What was written reads back, and `show` prints it.
-use Rattle.std.proofs.Common.{◌≡◌, ◌∙◌, ℕ, ◌^◌, ◌≤◌, Bool, false, List, [], ◌∷◌, ◌++◌, Option, Some, None, length, map, refl, ap, subst, inl, inr, arith, append-nil}
+use Rattle.std.proofs.Common.{◌≡◌, ◌∙◌, ℕ, ◌^◌, ◌≤◌, Bool, false, List, [], ◌∷◌, ◌++◌, Option, Some, None, length, map, refl, ap, subst, inl, inr, arith, append-nil, sym}
 use Rattle.std.specs.List.{AllByRecursion, flat_map}
 use Rattle.std.specs.List.Sorted.{IsStrictlyIncreasing}
 use Rattle.record_values.specs.Bytes.{AreBytes}
@@ -23,8 +23,9 @@ use Rattle.write_lines.specs.declared.write_words.WriteWords.{WriteWords}
 use Rattle.run_answers.specs.Answers.{Answer, line}
 use Rattle.run_answers.specs.Lines.{lines}
 use Rattle.write_lines.specs.Input.{with_last_end, taken_from}
-use Rattle.show_files.specs.Readings.{record_line}
-use Rattle.write_lines.specs.WriteCommand.{options_of, stop_status, write_answer}
+use Rattle.show_files.specs.declared.show_words.RecordForm.{RecordForm}
+use Rattle.show_files.specs.Readings.{bare, record_line}
+use Rattle.write_lines.specs.WriteCommand.{stop_status, write_answer}
 use Rattle.show_files.specs.ShowCommand.{IsShown}
 use Rattle.riegeli_tool.proofs.AnswerStreams.{written_made}
 use Rattle.show_files.proofs.OneReading.{EndsReading}
@@ -64,8 +65,8 @@ pub written-faultless : (records : List (List ℕ)) (size : ℕ) (every : Option
 written-faultless records size every pad each small =
     (chunks_of records size every pad, IsFile-file_of records size every pad each small)
 
--- without positions the records are printed as lines
-record_lines : (placed : List (ℕ × List ℕ)) → flat_map (record_line false) placed ≡ flat_map line (map (λ p. p.1) placed)
+-- records that are printed as they are, and nothing before them, are printed as lines
+record_lines : (placed : List (ℕ × List ℕ)) → flat_map (record_line bare) placed ≡ flat_map line (map (λ p. p.1) placed)
 record_lines [] = refl
 record_lines (first ∷ placed) = ap (λ (rest : List ℕ). line first.1 ++ rest) (record_lines placed)
 
@@ -80,34 +81,34 @@ printed out = record { puts = puts_to Out out; status = status.Ok }
 
 -- so `show` prints what was written
 shown-written : (words : ShowWords) (answer : Answer) (records : List (List ℕ)) (size : ℕ) (every : Option ℕ) (pad : Pad)
-    → AreRecords records → size ≤ 2 ^ 24 → words.positions ≡ false → IsShown words (file_of records size every pad) answer
+    → AreRecords records → size ≤ 2 ^ 24 → words.form ≡ bare → IsShown words (file_of records size every pad) answer
     → answer ≡ printed (flat_map line records)
-shown-written words answer records size every pad each small bare h =
+shown-written words answer records size every pad each small is_bare h =
     let file : List ℕ = file_of records size every pad in
     let none = written-faultless records size every pad each small in
     let last : h.place ≡ length file = omega (arith, h.longest.chain.within, h.longest.greatest none.0 (length file) none.1.1) in
     let chain : IsChainOf IsPlain h.ks file (length file) = subst (λ (p : ℕ). IsChainOf IsPlain h.ks file p) last h.longest.chain in
     let taken = written-placed records size every pad each small h.ks h.placed chain h.records in
     let said = faultless-end file h.said answer none h.ended in
-    let lines : flat_map (record_line words.positions) h.placed ≡ flat_map line records =
-    ap (λ (positions : Bool). flat_map (record_line positions) h.placed) bare
+    let lines : flat_map (record_line words.form) h.placed ≡ flat_map line records =
+    ap (λ (form : RecordForm). flat_map (record_line form) h.placed) is_bare
     ∙ record_lines h.placed
     ∙ ap (flat_map line) taken.0 in
     same_answer answer (printed (flat_map line records))
     (h.puts
-    ∙ ap (λ (t : List ℕ). puts_to Out (flat_map (record_line words.positions) h.placed) ++ puts_to Notes t) said.0
-    ∙ append-nil (puts_to Out (flat_map (record_line words.positions) h.placed))
+    ∙ ap (λ (t : List ℕ). puts_to Out (flat_map (record_line words.form) h.placed) ++ puts_to Notes t) said.0
+    ∙ append-nil (puts_to Out (flat_map (record_line words.form) h.placed))
     ∙ ap (puts_to Out) lines)
     said.1
 
 -- of what `write` made of an input that is the records that were taken
 pub shown-taken : (write : WriteWords) (words : ShowWords) (input : List ℕ) (answer : Answer)
-    → AreInLimits (options_of write) → AreBytes input → words.positions ≡ false → IsShown words (bytes_to Made (write_answer write input).puts) answer
-    → answer ≡ printed (flat_map line (taken_from input false (2 ^ 40)).records)
-shown-taken write words input answer limits bytes bare h =
-    shown-written words answer (taken_from input false (2 ^ 40)).records write.chunk_size write.every write.pad
-    (taken_from-records input (2 ^ 40) bytes) limits.size bare
-    (subst (λ (file : List ℕ). IsShown words file answer) (written_made write (taken_from input false (2 ^ 40))) h)
+    → AreInLimits write.options → AreBytes input → words.form ≡ bare → IsShown words (bytes_to Made (write_answer write input).puts) answer
+    → answer ≡ printed (flat_map line (taken_from input write.hex (2 ^ 40)).records)
+shown-taken write words input answer limits bytes is_bare h =
+    shown-written words answer (taken_from input write.hex (2 ^ 40)).records write.options.size write.options.every write.options.pad
+    (taken_from-records input write.hex (2 ^ 40) bytes) limits.size is_bare
+    (subst (λ (file : List ℕ). IsShown words file answer) (written_made write (taken_from input write.hex (2 ^ 40))) h)
 
 -- and where nothing stopped it the input
 no_stop : (stop : Option Stop) → stop_status stop ≡ status.Ok → stop ≡ None
@@ -117,12 +118,13 @@ no_stop (Some InputTooLong) is = absurd (cc is)
 no_stop (Some BadLine) is = absurd (cc is)
 
 pub shown-input : (write : WriteWords) (words : ShowWords) (input : List ℕ) (answer : Answer)
-    → AreInLimits (options_of write) → AreBytes input → words.positions ≡ false → (write_answer write input).status ≡ status.Ok
+    → AreInLimits write.options → AreBytes input → write.hex ≡ false → words.form ≡ bare → (write_answer write input).status ≡ status.Ok
     → IsShown words (bytes_to Made (write_answer write input).puts) answer
     → answer ≡ printed (with_last_end input)
-shown-input write words input answer limits bytes bare whole h =
-    let all : (taken_from input false (2 ^ 40)).records ≡ lines input =
-    taken_from-all input (2 ^ 40) (no_stop (taken_from input false (2 ^ 40)).stop whole) in
-    shown-taken write words input answer limits bytes bare h
+shown-input write words input answer limits bytes plain is_bare whole h =
+    let all : (taken_from input write.hex (2 ^ 40)).records ≡ lines input =
+    ap (λ (hex : Bool). (taken_from input hex (2 ^ 40)).records) plain
+    ∙ taken_from-all input (2 ^ 40) (ap (λ (hex : Bool). (taken_from input hex (2 ^ 40)).stop) (sym plain) ∙ no_stop (taken_from input write.hex (2 ^ 40)).stop whole) in
+    shown-taken write words input answer limits bytes is_bare h
     ∙ ap (λ (records : List (List ℕ)). printed (flat_map line records)) all
     ∙ ap printed (lines-joined input)

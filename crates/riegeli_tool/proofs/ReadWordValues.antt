@@ -9,7 +9,7 @@ use Rattle.riegeli_tool.specs.CommandAnswers.{IsAnswer}
 use Rattle.run_answers.specs.Meanings.{reads}
 
 -- the names of commands, whole and in small letters
-command_of_show : command_of (codes "show" ∷ codes "--positions" ∷ codes "A" ∷ []) ≡ Some (Show (record { positions = true; file = 2 }))
+command_of_show : command_of (codes "show" ∷ codes "--positions" ∷ codes "A" ∷ []) ≡ Some (Show (record { form = record { positions = true; hex = false }; file = 2 }))
 unfolding show_words_of verify_words_of
 command_of_show = refl
 
@@ -66,7 +66,7 @@ names_of_none : names_of (command_of (codes "show" ∷ codes "A" ∷ codes "B" �
 unfolding show_words_of verify_words_of
 names_of_none = refl
 
-show_of_one : accepted (codes "show" ∷ codes "A" ∷ []) 1 ≡ Some (Show (record { positions = false; file = 1 }))
+show_of_one : accepted (codes "show" ∷ codes "A" ∷ []) 1 ≡ Some (Show (record { form = record { positions = false; hex = false }; file = 1 }))
 unfolding show_words_of verify_words_of
 show_of_one = refl
 

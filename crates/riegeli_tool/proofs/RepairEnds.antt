@@ -1,8 +1,7 @@
 -- How the work of `repair` ends, by how the repair of its file did, where the file may tell its bytes.
-use Rattle.std.proofs.Common.{◌≡◌, ℕ, ◌≤◌, Bool, false, Option, Some, None, Result, Ok, Err, IfSome, List, [], ◌∷◌, length, refl, sym, subst}
+use Rattle.std.proofs.Common.{◌≡◌, ℕ, ◌≤◌, Bool, false, Option, Some, None, Ok, Err, IfSome, IsSomeAnd, List, [], ◌∷◌, length, refl, sym, subst}
 use Rattle.std.specs.Fn.{Shared}
 use denote.Ref.{Bor}
-use Rattle.std.specs.Result.{IsErr, IsErrAnd}
 use Rattle.std.proofs.lemmas.Option.{MatchOption-at_some}
 use Rattle.record_io.specs.Outside.{Rose, Takes, TakesFront}
 use Rattle.record_io.specs.Puts.{taken_by}
@@ -12,37 +11,28 @@ use Rattle.repair_copy.specs.declared.repairs.Repaired.{Repaired}
 use Rattle.repair_copy.specs.declared.repairs.RepairEnd.{RepairEnd}
 use Rattle.riegeli_tool.specs.declared.repair_words.RepairWords.{RepairWords}
 use Rattle.run_answers.specs.declared.status.Status.{Status}
-use Rattle.riegeli_tool.specs.declared.walking.WalkingEnd.{WalkingEnd}
-use Rattle.run_answers.specs.FileAnswers.{most_file_bytes, report}
+use Rattle.run_answers.specs.declared.ending.Ending.{Ending}
+use Rattle.run_answers.specs.FileAnswers.{IsInReach, most_file_bytes, report}
 use Rattle.riegeli_tool.specs.RepairCommand.{IsRepaired, IsRepairedSoFar, repair_meaning}
-use Rattle.riegeli_tool.specs.WalkAnswers.{walk_status}
-use Rattle.run_answers.specs.PutSoFar.{HasPutSoFar}
-use Rattle.riegeli_tool.specs.WalkingEnds.{end_of_repair, IsBound, IsShortWalk, Walks, TellsOf}
-use Rattle.run_answers.proofs.OneAnswer.{of_file_exists}
+use Rattle.riegeli_tool.specs.RepairingEnds.{end_of_repair}
+use Rattle.show_damaged.specs.WalkAnswers.{walk_status}
+use Rattle.run_answers.specs.PutSoFar.{HasPut, HasPutSoFar}
+use Rattle.run_answers.specs.Endings.{IsAllowedEnd, IsShort, HasPutToCut, HasPutAtEnd}
+use Rattle.show_damaged.specs.WalkingEnds.{walk_ends, IsBound, TellsOf}
+use Rattle.run_answers.proofs.FileEnds.{some-answer}
+use Rattle.run_answers.proofs.FileRuns.{reads_file}
 use Rattle.riegeli_tool.proofs.FileAnswersExist.{repaired_exists}
-use Rattle.run_answers.proofs.PutSoFar.{IsErrAnd-same}
 use Rattle.riegeli_tool.proofs.RepairSteps.{cut-so_far, cut-walked, repaired-walked, stopped-walked, told-front, told-of, unmade-walked, unreported-walked, untold-walked}
-use Rattle.riegeli_tool.proofs.WalkRuns.{IsWalking}
+use Rattle.show_damaged.proofs.WalkRuns.{IsWalking, untold-may}
 use Rattle.repair_copy.specs.declared.repairs.RepairEnd.TheVariants as repair
-use Rattle.riegeli_tool.specs.declared.walking.WalkingEnd.TheVariants as end
+use Rattle.run_answers.specs.declared.ending.Cut.TheVariants as cut
+use Rattle.run_answers.specs.declared.ending.Ending.TheVariants as end
 
 pub repair_walks : (words : RepairWords) → IsWalking (repair_meaning words) (IsRepaired words) (IsRepairedSoFar words) words.most
 repair_walks words = record {
-  one = record {
-    command = refl;
-    input = refl;
-    files = refl;
-    grown = refl;
-    out = refl;
-    answers = λ r answer is. is;
-    so_far = λ r part is. is;
-    may_work = λ sizes within. within;
-    may_take_of = λ r before after. tt;
-    exists = λ file bytes. of_file_exists (IsRepaired words) (repaired_exists words) (file ∷ []) refl (bytes, tt);
-  };
+  one = reads_file (IsRepaired words) (IsRepairedSoFar words) _ _ _ _ refl refl refl refl;
   may_end = λ sizes ended text may. may;
   may_say = λ text may. may;
-  memory = refl;
 }
 
 -- before the first event nothing is put
@@ -53,20 +43,24 @@ module _ {F : Type 0} (g : Shared F (Bor Region × Unit {0}) Bool) (f : F) (word
   -- why the repair of a file ended
   cut-walks : (file : List ℕ) → length file ≤ most_file_bytes → (e : RepairEnd) (x y : ℕ) (a b o n m : Option (List ℕ))
       → Repairs g f (Err e) x y (taken_by a None n) (taken_by b None m) file
-      → Walks (IsRepaired words) (Err (end_of_repair e)) file (taken_by a o n) (taken_by b o m) []
+      → HasPutAtEnd walk_ends (IsRepaired words) (Err (end_of_repair e)) file (taken_by a o n) (taken_by b o m) []
   cut-walks file short (repair.Stopped region) x y a b o n m h = stopped-walked g f words bound file short x y a b o n m region h
   cut-walks file short repair.Store x y a b o n m h =
-      λ answer is. cut-walked g f words bound file short x y a b o n m h.place h.events h.walked h.part h.took answer is h.went
+      some-answer (IsRepaired words) (repaired_exists words) (HasPutToCut cut.File (taken_by a o n) (taken_by b o m) []) file
+      (λ answer is. cut-walked g f words bound file short x y a b o n m h.place h.events h.walked h.part h.took answer is h.went)
   cut-walks file short repair.Made x y a b o n m h =
-      λ answer is. unmade-walked g f words bound file short x y a b o n m h.place h.events h.walked h.part h.took answer is h.went
+      some-answer (IsRepaired words) (repaired_exists words) (HasPutToCut cut.Made (taken_by a o n) (taken_by b o m) []) file
+      (λ answer is. unmade-walked g f words bound file short x y a b o n m h.place h.events h.walked h.part h.took answer is h.went)
   cut-walks file short repair.Memory x y a b o n m h =
-      λ answer is. cut-walked g f words bound file short x y a b o n m h.place h.events h.walked h.part h.took answer is h.went
+      some-answer (IsRepaired words) (repaired_exists words) (HasPutToCut cut.Memory (taken_by a o n) (taken_by b o m) []) file
+      (λ answer is. cut-walked g f words bound file short x y a b o n m h.place h.events h.walked h.part h.took answer is h.went)
   cut-walks file short repair.Notes x y a b o n m h =
-      λ answer is. untold-walked g f words bound file short x y a b o n m h.place h.events h.walked h.part h.took answer is h.went
+      some-answer (IsRepaired words) (repaired_exists words) (HasPutToCut cut.Notes (taken_by a o n) (taken_by b o m) []) file
+      (λ answer is. (refl, untold-walked g f words bound file short x y a b o n m h.place h.events h.walked h.part h.took answer is h.went))
 
   -- all that was put so far went out
   cut-short : (file : List ℕ) → length file ≤ most_file_bytes → (e : RepairEnd) (x y : ℕ) (a b o n m : Option (List ℕ))
-      → Repairs g f (Err e) x y (taken_by a None n) (taken_by b None m) file → IsShortWalk (end_of_repair e) → ¬ Rose x y
+      → Repairs g f (Err e) x y (taken_by a None n) (taken_by b None m) file → IsShort (end_of_repair e) → ¬ Rose x y
       → HasPutSoFar (IsRepairedSoFar words file) (taken_by a o n) (taken_by b o m) []
   cut-short file few (repair.Stopped region) x y a b o n m h short sound = absurd short
   cut-short file few repair.Store x y a b o n m h short sound =
@@ -85,38 +79,38 @@ module _ {F : Type 0} (g : Shared F (Bor Region × Unit {0}) Bool) (f : F) (word
   tells repair.Notes n m h = told-front g f words bound n m h.regions h.passed h.lines.0 h.lines.1
 
   module _ (told bytes : Option (List ℕ)) (same : told ≡ bytes) (short : IfSome bytes (λ file. length file ≤ most_file_bytes)) where
-    pub ended-walks : (e : RepairEnd) (result : Result Status WalkingEnd) (x y : ℕ) (a b o n m : Option (List ℕ)) → IsErr result
-        → IsErrAnd result (λ z. z ≡ end_of_repair e) → IfSome told (Repairs g f (Err e) x y (taken_by a None n) (taken_by b None m))
-        → IfSome bytes (λ file. Walks (IsRepaired words) result file (taken_by a o n) (taken_by b o m) [])
-    ended-walks e (Ok done) x y a b o n m err is h = absurd (cc err)
-    ended-walks e (Err ended) x y a b o n m err is h =
-        subst (λ (z : WalkingEnd). IfSome bytes (λ file. Walks (IsRepaired words) (Err z) file (taken_by a o n) (taken_by b o m) [])) (sym is) (both bytes same short) where
+    pub ended-walks : (e : RepairEnd) (why : Ending Region) (x y : ℕ) (a b o n m : Option (List ℕ)) → why ≡ end_of_repair e
+        → IfSome told (Repairs g f (Err e) x y (taken_by a None n) (taken_by b None m))
+        → IfSome bytes (λ file. HasPutAtEnd walk_ends (IsRepaired words) (Err why) file (taken_by a o n) (taken_by b o m) [])
+    ended-walks e why x y a b o n m is h =
+        subst (λ (z : Ending Region). IfSome bytes (λ file. HasPutAtEnd walk_ends (IsRepaired words) (Err z) file (taken_by a o n) (taken_by b o m) [])) (sym is)
+        (both bytes same short) where
           both : (bs : Option (List ℕ)) → told ≡ bs → IfSome bs (λ file. length file ≤ most_file_bytes)
-              → IfSome bs (λ file. Walks (IsRepaired words) (Err (end_of_repair e)) file (taken_by a o n) (taken_by b o m) [])
+              → IfSome bs (λ file. HasPutAtEnd walk_ends (IsRepaired words) (Err (end_of_repair e)) file (taken_by a o n) (taken_by b o m) [])
           both None is few = tt
           both (Some file) is few =
               cut-walks file few e x y a b o n m (MatchOption-at_some _ (Repairs g f (Err e) x y (taken_by a None n) (taken_by b None m)) file is h)
 
-    pub ended-so_far : (e : RepairEnd) (result : Result Status WalkingEnd) (x y : ℕ) (a b o n m : Option (List ℕ))
-        → IsErrAnd result (λ z. z ≡ end_of_repair e) → IfSome told (Repairs g f (Err e) x y (taken_by a None n) (taken_by b None m))
-        → IsErrAnd result IsShortWalk → ¬ Rose x y
+    pub ended-so_far : (e : RepairEnd) (why : Ending Region) (x y : ℕ) (a b o n m : Option (List ℕ))
+        → why ≡ end_of_repair e → IfSome told (Repairs g f (Err e) x y (taken_by a None n) (taken_by b None m))
+        → IsShort why → ¬ Rose x y
         → IfSome bytes (λ file. HasPutSoFar (IsRepairedSoFar words file) (taken_by a o n) (taken_by b o m) [])
-    ended-so_far e result x y a b o n m is h ends sound = both bytes same short where
+    ended-so_far e why x y a b o n m is h ends sound = both bytes same short where
       both : (bs : Option (List ℕ)) → told ≡ bs → IfSome bs (λ file. length file ≤ most_file_bytes)
           → IfSome bs (λ file. HasPutSoFar (IsRepairedSoFar words file) (taken_by a o n) (taken_by b o m) [])
       both None same few = tt
       both (Some file) same few =
           cut-short file few e x y a b o n m (MatchOption-at_some _ (Repairs g f (Err e) x y (taken_by a None n) (taken_by b None m)) file same h)
-          (IsErrAnd-same IsShortWalk (end_of_repair e) result is ends) sound
+          (subst (IsShort {W = Region}) is ends) sound
 
     -- the file was repaired, and the report printed
     pub done-walks : (repaired : Repaired) (x y : ℕ) (a b o p n m : Option (List ℕ)) (ended : Status)
         → IfSome told (Repairs g f (Ok repaired) x y (taken_by a None n) (taken_by b None m))
         → Takes o p (report repaired.totals) → ((regions : List Region) → repaired.regions ≡ length regions → ended ≡ walk_status regions None)
-        → IfSome bytes (λ file. Walks (IsRepaired words) (Ok ended) file (taken_by a o n) (taken_by b p m) [])
+        → IfSome bytes (λ file. HasPut (IsRepaired words) file (taken_by a o n) (taken_by b p m) [] [] ended)
     done-walks repaired x y a b o p n m ended h printed status_is = both bytes same short where
       both : (bs : Option (List ℕ)) → told ≡ bs → IfSome bs (λ file. length file ≤ most_file_bytes)
-          → IfSome bs (λ file. Walks (IsRepaired words) (Ok ended) file (taken_by a o n) (taken_by b p m) [])
+          → IfSome bs (λ file. HasPut (IsRepaired words) file (taken_by a o n) (taken_by b p m) [] [] ended)
       both None is few = tt
       both (Some file) is few =
           repaired-walked g f words bound file few x y a b o n m repaired p ended
@@ -125,25 +119,38 @@ module _ {F : Type 0} (g : Shared F (Bor Region × Unit {0}) Bool) (f : F) (word
     -- or a front of it was
     pub unreported-ends : (repaired : Repaired) (x y : ℕ) (a b o p n m : Option (List ℕ))
         → IfSome told (Repairs g f (Ok repaired) x y (taken_by a None n) (taken_by b None m)) → TakesFront o p (report repaired.totals)
-        → IfSome bytes (λ file. Walks (IsRepaired words) (Err end.Out) file (taken_by a o n) (taken_by b p m) [])
+        → IfSome bytes (λ file. HasPutAtEnd walk_ends (IsRepaired words) (Err (end.Cut cut.Out)) file (taken_by a o n) (taken_by b p m) [])
     unreported-ends repaired x y a b o p n m h printed = both bytes same short where
       both : (bs : Option (List ℕ)) → told ≡ bs → IfSome bs (λ file. length file ≤ most_file_bytes)
-          → IfSome bs (λ file. Walks (IsRepaired words) (Err end.Out) file (taken_by a o n) (taken_by b p m) [])
+          → IfSome bs (λ file. HasPutAtEnd walk_ends (IsRepaired words) (Err (end.Cut cut.Out)) file (taken_by a o n) (taken_by b p m) [])
       both None is few = tt
       both (Some file) is few =
-          unreported-walked g f words bound file few x y a b o n m repaired p
-          (MatchOption-at_some _ (Repairs g f (Ok repaired) x y (taken_by a None n) (taken_by b None m)) file is h) printed
+          some-answer (IsRepaired words) (repaired_exists words) (HasPutToCut cut.Out (taken_by a o n) (taken_by b p m) []) file
+          (unreported-walked g f words bound file few x y a b o n m repaired p
+          (MatchOption-at_some _ (Repairs g f (Ok repaired) x y (taken_by a None n) (taken_by b None m)) file is h) printed)
 
   -- what was told, whatever the file tells
-  pub ended-tells : (e : RepairEnd) (result : Result Status WalkingEnd) (n m : Option (List ℕ)) → IsErr result → IsErrAnd result (λ x. x ≡ end_of_repair e)
-      → Passes g f (Err e) n m → TellsOf words.most result n m
-  ended-tells e (Ok x) n m err is h = absurd (cc err)
-  ended-tells e (Err x) n m err is h = subst (λ (y : WalkingEnd). TellsOf words.most (Err y) n m) (sym is) (tells e n m h)
+  pub ended-tells : (e : RepairEnd) (why : Ending Region) (n m : Option (List ℕ)) → why ≡ end_of_repair e
+      → Passes g f (Err e) n m → TellsOf words.most (Err why) n m
+  ended-tells e why n m is h = subst (λ (y : Ending Region). TellsOf words.most (Err y) n m) (sym is) (tells e n m h)
+
+  -- it may end so
+  pub ended-allowed : (e : RepairEnd) (why : Ending Region) (told : Option ℕ) (n m : Option (List ℕ)) → why ≡ end_of_repair e
+      → Passes g f (Err e) n m → IsSomeAnd told (λ size. IsInReach (size ∷ []))
+      → IsAllowedEnd {X = Status} (repair_meaning words) (Err why) told
+  ended-allowed e why told n m is h reach =
+      subst (λ (y : Ending Region). IsAllowedEnd {X = Status} (repair_meaning words) (Err y) told) (sym is) (by_end e h) where
+        by_end : (e : RepairEnd) → Passes g f (Err e) n m → IsAllowedEnd {X = Status} (repair_meaning words) (Err (end_of_repair e)) told
+        by_end (repair.Stopped region) h = reach
+        by_end repair.Store h = refl
+        by_end repair.Made h = (refl, reach)
+        by_end repair.Notes h = (untold-may words.most n m (tells repair.Notes n m h), reach)
+        by_end repair.Memory h = (refl, reach)
 
   pub done-tells : (repaired : Repaired) (n m : Option (List ℕ)) (ended : Status) → Passes g f (Ok repaired) n m
       → ((regions : List Region) → repaired.regions ≡ length regions → ended ≡ walk_status regions None) → TellsOf words.most (Ok ended) n m
   done-tells repaired n m ended h status_is =
       (h.regions, told-of g f words bound n m h.regions h.passed h.lines, status_is h.regions h.answer)
 
-  pub unreported-tells : (repaired : Repaired) (n m : Option (List ℕ)) → Passes g f (Ok repaired) n m → TellsOf words.most (Err end.Out) n m
+  pub unreported-tells : (repaired : Repaired) (n m : Option (List ℕ)) → Passes g f (Ok repaired) n m → TellsOf words.most (Err (end.Cut cut.Out)) n m
   unreported-tells repaired n m h = (h.regions, told-of g f words bound n m h.regions h.passed h.lines)

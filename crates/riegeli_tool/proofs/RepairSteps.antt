@@ -14,14 +14,14 @@ use Rattle.record_io.proofs.Calls.{Takes-nothing}
 use Rattle.record_io.proofs.Puts.{bytes_to-append, bytes_to-other, GoOut-append, GoOut-out, GoOutOrAreHeld-none, TakesFront-count, BreaksOff-front, BreaksOff-last, BreaksOff-longer}
 use Rattle.meta_chunk.specs.Counts.{totals_of}
 use Rattle.meta_chunk.specs.Files.{signature, end_of_chunks}
-use Rattle.damage_skip.specs.Pieces.{What, Given, Kept, Passive, Skipped, Piece, AreEvents, is_event, events_in}
+use Rattle.damage_skip.specs.Pieces.{PieceKind, Given, Kept, LeftOut, Skipped, Piece, AreEvents, is_event, events_in}
 use Rattle.damage_skip.specs.Regions.{region_text}
 use Rattle.damage_skip.specs.declared.regions.Region.{Region}
 use Rattle.damage_skip.proofs.OnePiece.{piece_past}
 use Rattle.damage_skip.proofs.Tiles.{IsTile, tiles_each, goes_on_whole}
 use Rattle.repair_copy.specs.Relaid.{chunks_in}
 use Rattle.repair_copy.specs.RepairPuts.{puts_from, repair_puts, WentOutAtFault}
-use Rattle.repair_copy.specs.Told.{line_of, lines_in, is_skipped, regions_in as told_in, IsLetPass, lines_of, ArePassed}
+use Rattle.repair_copy.specs.Told.{line_of, lines_in, is_skipped, number_of_regions, IsLetPass, lines_of, ArePassed}
 use Rattle.repair_copy.specs.Walked.{AreWalked}
 use Rattle.repair_copy.specs.Repairs.{Repairs}
 use Rattle.repair_copy.specs.declared.repairs.Repaired.{Repaired}
@@ -36,24 +36,24 @@ use Rattle.run_answers.specs.FileAnswers.{OfFile, most_file_bytes, report}
 use Rattle.riegeli_tool.specs.RepairCommand.{end_puts, first_puts, IsRepaired, IsRepairedSoFar}
 use Rattle.run_answers.specs.PutSoFar.{HasPut, HasPutSoFar, HasPutFront, HasBrokenOff}
 use Rattle.run_answers.specs.Runs.{FailedToSay, PutsLines}
-use Rattle.riegeli_tool.specs.WalkAnswers.{region_as, regions_in, may_skip, is_refused_as, walked, refused_in, IsWalkedTo, MaySkip, skipped_text, walk_status}
-use Rattle.riegeli_tool.specs.WalkingEnds.{IsBound, HasToldOf}
+use Rattle.show_damaged.specs.WalkAnswers.{region_as, regions_in, may_skip, is_refused_as, walked, refused_in, IsWalkedTo, MaySkip, skipped_text, walk_status}
+use Rattle.show_damaged.specs.WalkingEnds.{IsBound, HasToldOf}
 use Rattle.run_answers.proofs.OneAnswer.{same_answer}
 use Rattle.riegeli_tool.proofs.CommandLaws.{one_repaired}
-use Rattle.riegeli_tool.proofs.RegionTexts.{PutsLines-regions}
+use Rattle.show_damaged.proofs.RegionTexts.{PutsLines-regions}
 use Rattle.show_files.proofs.ShowSteps.{in_reach}
 use Rattle.run_answers.proofs.ReportLines.{report-some}
-use Rattle.riegeli_tool.proofs.Walked.{NoneRefused, walked-behind, walked-all, refused-none, piece_at, walked-to_refused, refused-there}
-use Rattle.riegeli_tool.proofs.WalkedEvents.{rest_of, rest_from, status-all, status-stopped}
+use Rattle.show_damaged.proofs.Walked.{NoneRefused, walked-behind, walked-all, refused-none, piece_at, walked-to_refused, refused-there}
+use Rattle.show_damaged.proofs.WalkedEvents.{rest_of, rest_from, status-all, status-stopped}
 use Rattle.repair_copy.specs.declared.repairs.RepairEnd.TheVariants as repair
 use Rattle.run_answers.specs.declared.status.Status.TheVariants as status
 
 -- the lines of the regions among events, and their number
-line_of-region : (begin end : ℕ) (what : What) (regions : List Region)
+pub line_of-region : (begin end : ℕ) (what : PieceKind) (regions : List Region)
     → line_of begin end what ++ skipped_text regions ≡ skipped_text (cons_option (region_as begin end what) regions)
 line_of-region begin end (Given records chunk) regions = refl
 line_of-region begin end (Kept chunk) regions = refl
-line_of-region begin end Passive regions = refl
+line_of-region begin end LeftOut regions = refl
 line_of-region begin end (Skipped why) regions = refl
 
 lines-regions : (events : List Piece) → lines_in events ≡ skipped_text (regions_in events)
@@ -62,14 +62,14 @@ lines-regions (e ∷ events) =
     ap (λ (t : List ℕ). line_of e.begin e.end e.what ++ t) (lines-regions events)
     ∙ line_of-region e.begin e.end e.what (regions_in events)
 
-count_of-region : (begin end : ℕ) (what : What) (regions : List Region)
+count_of-region : (begin end : ℕ) (what : PieceKind) (regions : List Region)
     → cond (is_skipped what) 1 0 + length regions ≡ length (cons_option (region_as begin end what) regions)
 count_of-region begin end (Given records chunk) regions = omega arith
 count_of-region begin end (Kept chunk) regions = omega arith
-count_of-region begin end Passive regions = omega arith
+count_of-region begin end LeftOut regions = omega arith
 count_of-region begin end (Skipped why) regions = omega arith
 
-count-regions : (events : List Piece) → told_in events ≡ length (regions_in events)
+count-regions : (events : List Piece) → number_of_regions events ≡ length (regions_in events)
 count-regions [] = refl
 count-regions (e ∷ events) =
     sum_by-cons (λ (p : Piece). cond (is_skipped p.what) 1 0) e events
@@ -187,11 +187,11 @@ notes-behind events bytes =
 
 module _ {F : Type 0} (g : Shared F (Bor Region × Unit {0}) Bool) (f : F) (words : RepairWords) (bound : IsBound g f words.most) where
   -- what a test lets pass is not refused
-  passed-may : (begin end size : ℕ) (what : What) → begin < end → end ≤ size → size ≤ most_file_bytes → IsLetPass g f begin end what
+  passed-may : (begin end size : ℕ) (what : PieceKind) → begin < end → end ≤ size → size ≤ most_file_bytes → IsLetPass g f begin end what
       → is_refused_as words.most (region_as begin end what) ≡ false
   passed-may begin end size (Given records chunk) past within short pass = refl
   passed-may begin end size (Kept chunk) past within short pass = refl
-  passed-may begin end size Passive past within short pass = refl
+  passed-may begin end size LeftOut past within short pass = refl
   passed-may begin end size (Skipped why) past within short pass =
       let region : Region = record { begin = begin; end = end; why = why } in
       ap not (sym (bound region true (record { ordered = omega (arith, past); in_reach = omega (arith, within, short) }) pass))
@@ -278,13 +278,14 @@ module _ {F : Type 0} (g : Shared F (Bor Region × Unit {0}) Bool) (f : F) (word
 
     -- of its report a front was printed
     pub unreported-walked : (repaired : Repaired) (p : Option (List ℕ)) → Repaired_by (Ok repaired) → TakesFront o p (report repaired.totals)
-        → (answer : Answer) → OfFile (IsRepaired words) (file ∷ []) answer → HasBrokenOff Out Start (taken_by b p m) answer
+        → (answer : Answer) → OfFile (IsRepaired words) (file ∷ []) answer → HasBrokenOff Out Start (taken_by b p m) [] answer
     unreported-walked repaired p h printed answer is =
         let text : List ℕ = report (totals_of (signature ∷ chunks_in h.events)) in
         let same : answer.puts ≡ repair_puts h.events ++ puts_to Out text = ap (λ (x : Answer). x.puts) (repaired-answer repaired h answer is) in
         let took = TakesFront-count o p text (subst (λ (t : Totals). TakesFront o p (report t)) h.answer.1 printed) in
         let part : List Put = repair_puts h.events ++ puts_to Out (take took.0 text) in
         record {
+          none_held = refl;
           part = part;
           broke = subst (λ (ps : List Put). BreaksOff Out part ps) (sym same)
               (BreaksOff-last Out (repair_puts h.events) text took.0 (report-some (totals_of (signature ∷ chunks_in h.events))));
@@ -395,11 +396,12 @@ module _ {F : Type 0} (g : Shared F (Bor Region × Unit {0}) Bool) (f : F) (word
       cut-walked went = at_fault events refl went
 
       -- while bytes of the made file were put
-      pub unmade-walked : BreaksOff Made part (repair_puts events) → HasBrokenOff Made Start Then answer
+      pub unmade-walked : BreaksOff Made part (repair_puts events) → HasBrokenOff Made Start Then [] answer
       unmade-walked broke =
           let front = BreaksOff-front Made part (repair_puts events) broke in
           let whole_lines = whole_lines events part broke in
           record {
+            none_held = refl;
             part = part;
             broke = subst (λ (ps : List Put). BreaksOff Made part ps) (sym more.1) (BreaksOff-longer Made part (repair_puts events) more.0 broke);
             lines = lines_first events whole_lines.0 whole_lines.1 part more.0 answer.puts whole_lines.2 whole_lines.3 more.1;

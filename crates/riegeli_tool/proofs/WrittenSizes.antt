@@ -1,5 +1,5 @@
 -- How large the file of an input is: small enough to be read.
-use Rattle.std.proofs.Common.{ℕ, ◌+◌, ◌-◌, ◌*◌, ◌^◌, ◌≤◌, Bool, true, false, List, [], ◌∷◌, Option, Some, None, length, take, map, refl, ap, inl, inr, arith}
+use Rattle.std.proofs.Common.{◌≡◌, ℕ, ◌+◌, ◌-◌, ◌*◌, ◌^◌, ◌≤◌, Bool, true, false, List, [], ◌∷◌, Option, Some, None, Result, Ok, Err, length, take, map, refl, ap, inl, inr, arith}
 use Rattle.std.specs.List.{AllByRecursion, onto_first}
 use Rattle.std.proofs.lemmas.Bool.{cond-true, cases_Bool, cases_lt}
 use Rattle.std.proofs.lemmas.List.{length-take}
@@ -22,12 +22,12 @@ use Rattle.record_writer.specs.declared.feed.Stop.{Stop}
 use Rattle.record_writer.proofs.Reaches.{group-near}
 use Rattle.write_lines.specs.declared.write_words.WriteWords.{WriteWords}
 use Rattle.run_answers.specs.Lines.{ends_line, lines}
-use Rattle.write_lines.specs.Input.{running, up_to_last_end, line_limit, taken_lines, stop_past_limit, taken_from}
+use Rattle.write_lines.specs.Input.{running, up_to_last_end, record_of_line, taken_before, taken_lines, stop_past_limit, taken_from}
 use Rattle.write_lines.specs.WriteCommand.{write_answer}
 use Rattle.riegeli_tool.proofs.AnswerStreams.{written_made}
 use Rattle.run_answers.proofs.Lines.{lines-cons}
-use Rattle.write_lines.proofs.TakenLines.{taken_from-within, taken_from-past, long-refused}
-use Rattle.write_lines.proofs.TakenRecords.{short-before}
+use Rattle.write_lines.proofs.TakenLines.{taken_from-within, taken_from-past}
+use Rattle.write_lines.proofs.TakenRecords.{record_of_line-shorter}
 
 -- lines cost their bytes, and 8 more for each, of which each has a byte or an end
 cost-onto_first : (b : ℕ) (parts : List (List ℕ)) → cost_of (onto_first b parts) ≤ cost_of parts + 9
@@ -48,31 +48,31 @@ cost-lines (b ∷ bs) = elim (cases_Bool (ends_line b)) [
 ]
 
 -- the records that are taken cost no more
-cost-taken_lines : (parts : List (List ℕ)) (stop : Option Stop) → cost_of (taken_lines false parts stop).records ≤ cost_of parts
-cost-taken_lines [] stop = omega arith
-cost-taken_lines (part ∷ parts) stop = elim (cases_lt (line_limit false) (length part)) [
-  | inl long ↦
-      omega (arith, ap (λ (r : Rest). cost_of r.records) (long-refused part false (taken_lines false parts stop) long))
-  | inr short ↦
-      omega (
-        arith,
-        ap (λ (r : Rest). cost_of r.records) (short-before part (taken_lines false parts stop) short),
-        sum_by-cons cost part (taken_lines false parts stop).records,
-        sum_by-cons cost part parts,
-        cost-taken_lines parts stop,
-      )
-]
+cost-taken_before : (line : List ℕ) (first : Result (List ℕ) Stop) (rest : Rest) → ((bytes : List ℕ) → first ≡ Ok bytes → length bytes ≤ length line)
+    → cost_of (taken_before first rest).records ≤ cost line + cost_of rest.records
+cost-taken_before line (Ok bytes) rest shorter = omega (arith, shorter bytes refl, sum_by-cons cost bytes rest.records)
+cost-taken_before line (Err stop) rest shorter = omega arith
+
+cost-taken_lines : (hex : Bool) (parts : List (List ℕ)) (stop : Option Stop) → cost_of (taken_lines hex parts stop).records ≤ cost_of parts
+cost-taken_lines hex [] stop = omega arith
+cost-taken_lines hex (part ∷ parts) stop =
+    omega (
+      arith,
+      cost-taken_before part (record_of_line hex part) (taken_lines hex parts stop) (record_of_line-shorter hex part),
+      sum_by-cons cost part parts,
+      cost-taken_lines hex parts stop,
+    )
 
 -- so do those of an input
-cost-taken_from : (input : List ℕ) (limit : ℕ) → cost_of (taken_from input false limit).records ≤ 9 * limit
-cost-taken_from input limit = elim (cases_lt limit (length input)) [
+cost-taken_from : (input : List ℕ) (hex : Bool) (limit : ℕ) → cost_of (taken_from input hex limit).records ≤ 9 * limit
+cost-taken_from input hex limit = elim (cases_lt limit (length input)) [
   | inl past ↦
       let front : List ℕ = take limit input in
       let kept : List ℕ = up_to_last_end front in
       omega (
         arith,
-        ap (λ (r : Rest). cost_of r.records) (taken_from-past input false limit past),
-        cost-taken_lines (lines kept) (Some (stop_past_limit false (running front))),
+        ap (λ (r : Rest). cost_of r.records) (taken_from-past input hex limit past),
+        cost-taken_lines hex (lines kept) (Some (stop_past_limit hex (running front))),
         cost-lines kept,
         length-take (length front - length (running front)) front,
         length-take limit input,
@@ -80,8 +80,8 @@ cost-taken_from input limit = elim (cases_lt limit (length input)) [
   | inr within ↦
       omega (
         arith,
-        ap (λ (r : Rest). cost_of r.records) (taken_from-within input false limit within),
-        cost-taken_lines (lines input) None,
+        ap (λ (r : Rest). cost_of r.records) (taken_from-within input hex limit within),
+        cost-taken_lines hex (lines input) None,
         cost-lines input,
       )
 ]
@@ -123,14 +123,14 @@ records-near place records size every pad boundary =
 -- so the file of an input can be read
 pub written-fits : (write : WriteWords) (input : List ℕ) → length (bytes_to Made (write_answer write input).puts) ≤ 2 ^ 60
 written-fits write input =
-    let records : List (List ℕ) = (taken_from input false (2 ^ 40)).records in
+    let records : List (List ℕ) = (taken_from input write.hex (2 ^ 40)).records in
     let place : ℕ = end_of_chunk 0 signature in
     omega (
       arith,
-      ap length (written_made write (taken_from input false (2 ^ 40))),
-      length-file_of-signed records write.chunk_size write.every write.pad,
-      end-laid_each place (record_chunks place records write.chunk_size write.every write.pad),
-      records-near place records write.chunk_size write.every write.pad (end_of_chunks_boundary 0 (signature ∷ []) (inl refl)),
-      cost-taken_from input (2 ^ 40),
+      ap length (written_made write (taken_from input write.hex (2 ^ 40))),
+      length-file_of-signed records write.options.size write.options.every write.options.pad,
+      end-laid_each place (record_chunks place records write.options.size write.options.every write.options.pad),
+      records-near place records write.options.size write.options.every write.options.pad (end_of_chunks_boundary 0 (signature ∷ []) (inl refl)),
+      cost-taken_from input write.hex (2 ^ 40),
       end_of_chunk-signature,
     )

@@ -7,7 +7,7 @@ use Rattle.riegeli_tool.specs.Usage.{usage_text, usage}
 use Rattle.run_answers.specs.Meanings.{Read, Meaning, meaning, none_used}
 use Rattle.write_lines.specs.WriteCommand.{write_meaning}
 use Rattle.show_files.specs.ShowCommand.{show_meaning}
-use Rattle.riegeli_tool.specs.RecoverCommand.{recover_meaning}
+use Rattle.show_damaged.specs.RecoverCommand.{recover_meaning}
 use Rattle.show_files.specs.VerifyCommand.{verify_meaning}
 use Rattle.riegeli_tool.specs.RepairCommand.{repair_meaning}
 use Rattle.run_answers.specs.declared.status.Status.TheVariants as status

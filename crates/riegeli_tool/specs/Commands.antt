@@ -7,7 +7,7 @@ use Rattle.riegeli_tool.specs.declared.command.Command.TheVariants.{Write, Show,
 use Rattle.riegeli_tool.specs.declared.command.Names.{Names}
 use Rattle.write_lines.specs.WriteWords.{write_words_of}
 use Rattle.show_files.specs.ShowWords.{show_words_of}
-use Rattle.riegeli_tool.specs.RecoverWords.{goes_past_damage, recover_words_of}
+use Rattle.show_damaged.specs.RecoverWords.{goes_past_damage, recover_words_of}
 use Rattle.show_files.specs.VerifyWords.{verify_words_of}
 use Rattle.riegeli_tool.specs.RepairWords.{repair_words_of}
 

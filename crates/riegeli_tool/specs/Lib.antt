@@ -1,10 +1,6 @@
 pub mod Usage
-pub mod WalkAnswers
-pub mod RecoverCommand
 pub mod RepairCommand
+pub mod RepairingEnds
 pub mod CommandAnswers
-pub mod RecoverWords
 pub mod RepairWords
 pub mod Commands
-pub mod RecoverProgress
-pub mod WalkingEnds

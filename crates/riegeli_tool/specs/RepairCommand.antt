@@ -12,9 +12,8 @@ use Rattle.repair_copy.specs.Relaid.{chunks_in}
 use Rattle.repair_copy.specs.RepairPuts.{repair_puts}
 use Rattle.riegeli_tool.specs.declared.repair_words.RepairWords.{RepairWords}
 use Rattle.run_answers.specs.Answers.{Answer}
-use Rattle.run_answers.specs.FileAnswers.{report}
-use Rattle.show_files.specs.Readings.{file_meaning}
-use Rattle.riegeli_tool.specs.WalkAnswers.{regions_in, walked, refused_in, IsWalkedTo, walk_status, MaySayWalk, MayEndWalk}
+use Rattle.run_answers.specs.FileAnswers.{file_meaning, report}
+use Rattle.show_damaged.specs.WalkAnswers.{regions_in, walked, refused_in, IsWalkedTo, walk_status, MaySayWalk, MayEndWalk}
 use Rattle.run_answers.specs.Meanings.{Meaning, none_used}
 
 -- what is put last: the report of the file of these chunks, or the line of the region that is refused

@@ -1,8 +1,8 @@
 ghost use Rattle.std.specs.Prelude.{◌≡◌};
 ghost use Rattle.riegeli_tool.specs.Commands.{names_by, none_named, takes};
 
-use crate::recover_words::RecoverWords;
 use crate::repair_words::RepairWords;
+use show_damaged::recover_words::RecoverWords;
 use show_files::show_words::ShowWords;
 use show_files::verify_words::VerifyWords;
 use write_lines::write_words::WriteWords;

@@ -2,10 +2,11 @@
 
 ghost use Rattle.std.specs.List.{AllByRecursion, flat_map};
 ghost use Rattle.std.specs.List.Sorted.{IsStrictlyIncreasing};
-ghost use Rattle.std.specs.Prelude.{◌≡◌, ◌^◌, ◌≤◌, ◌⊎◌, true, false, Option, List, [], ℕ, length, map};
+ghost use Rattle.std.specs.Prelude.{◌≡◌, ◌^◌, ◌≤◌, ◌⊎◌, true, false, Option, None, List, [], ℕ, length, map};
 ghost use Rattle.chunk_header.specs.Chunks.{ChunkValue};
 ghost use Rattle.chunk_reader.specs.Faults.{HasNoFault};
 ghost use Rattle.meta_chunk.specs.Files.{IsFile, AreRecordsOf, ArePlaced};
+ghost use Rattle.record_group.specs.Records.{AreRecords};
 ghost use Rattle.record_values.specs.Bytes.{AreBytes};
 ghost use Rattle.record_io.specs.Puts.{Made, Out, Notes, puts_to, bytes_to};
 ghost use Rattle.record_writer.specs.Feeds.{Rest};
@@ -17,17 +18,17 @@ ghost use Rattle.riegeli_tool.specs.Commands.{accepted};
 ghost use Rattle.run_answers.specs.Meanings.{Read};
 ghost use Rattle.riegeli_tool.specs.CommandAnswers.{IsAnswer, meaning_of};
 ghost use Rattle.run_answers.specs.FileAnswers.{most_file_bytes};
-ghost use Rattle.show_files.specs.Readings.{record_line};
+ghost use Rattle.show_files.specs.Readings.{bare, digits_alone, record_line};
 ghost use Rattle.write_lines.specs.Input.{taken_from, with_last_end};
-ghost use Rattle.riegeli_tool.specs.RecoverCommand.{IsRecovered};
+ghost use Rattle.show_damaged.specs.RecoverCommand.{IsRecovered};
 ghost use Rattle.riegeli_tool.specs.RepairCommand.{end_puts, IsRepaired};
 ghost use Rattle.run_answers.specs.Runs.{IsSound, IsWhole, Runs, Seen};
 ghost use Rattle.show_files.specs.ShowCommand.{IsShown};
 ghost use Rattle.show_files.specs.VerifyCommand.{IsVerified};
-ghost use Rattle.riegeli_tool.specs.WalkAnswers.{regions_in, walked, refused_in, walk_text};
-ghost use Rattle.write_lines.specs.WriteCommand.{options_of, stop_text, answer_to, write_answer};
+ghost use Rattle.show_damaged.specs.WalkAnswers.{regions_in, walked, refused_in, walk_text};
+ghost use Rattle.write_lines.specs.WriteCommand.{stop_text, answer_to, write_answer};
 ghost use Rattle.riegeli_tool.specs.declared.command.Command.{Command};
-ghost use Rattle.riegeli_tool.specs.declared.recover_words.RecoverWords.{RecoverWords};
+ghost use Rattle.show_damaged.specs.declared.recover_words.RecoverWords.{RecoverWords};
 ghost use Rattle.riegeli_tool.specs.declared.repair_words.RepairWords.{RepairWords};
 ghost use Rattle.show_files.specs.declared.show_words.ShowWords.{ShowWords};
 ghost use Rattle.run_answers.specs.declared.status.Status.{Status};
@@ -81,16 +82,16 @@ pub fn file_answers_exist()
 /// command the definition says it: their answers go to one stream. Own.
 pub fn streams_take_their_parts()
     ensures write { (words : WriteWords) (rest : Rest)
-        → (bytes_to Made (answer_to words rest).puts ≡ file_under (options_of words) rest.records)
+        → (bytes_to Made (answer_to words rest).puts ≡ file_under words.options rest.records)
         × (bytes_to Out (answer_to words rest).puts ≡ [])
         × (bytes_to Notes (answer_to words rest).puts ≡ stop_text (length rest.records) rest.stop) }
     ensures show { (words : ShowWords) (file : List ℕ) (answer : Answer) (is : IsShown words file answer)
         → (bytes_to Made answer.puts ≡ [])
-        × (bytes_to Out answer.puts ≡ flat_map (record_line words.positions) is.placed)
+        × (bytes_to Out answer.puts ≡ flat_map (record_line words.form) is.placed)
         × (bytes_to Notes answer.puts ≡ is.said) }
     ensures recover { (words : RecoverWords) (file : List ℕ) (answer : Answer) (is : IsRecovered words file answer)
         → (bytes_to Made answer.puts ≡ [])
-        × (bytes_to Out answer.puts ≡ flat_map (record_line words.show.positions) (placed_in (walked words.most is.events)))
+        × (bytes_to Out answer.puts ≡ flat_map (record_line words.show.form) (placed_in (walked words.most is.events)))
         × (bytes_to Notes answer.puts ≡ walk_text (regions_in (walked words.most is.events)) (refused_in words.most is.events)) }
     ensures repair { (words : RepairWords) (file : List ℕ) (answer : Answer) (is : IsRepaired words file answer)
         → (bytes_to Made answer.puts ≡ relaid (walked words.most is.events))
@@ -122,17 +123,25 @@ pub fn read_back(records: &Records, options: &WriteOptions)
 }
 
 /// `show` of the file that `write` made, which is never too large to be read, prints the records that `write` took, each
-/// as a line, and says nothing. Where nothing stopped `write`, it prints the input, with a byte 10 behind the last line
-/// too. Own.
+/// as a line, and says nothing. Where nothing stopped `write`, which read no hexadecimal form, it prints the input, with a
+/// byte 10 behind the last line too. Own.
 pub fn show_prints_what_was_written()
     ensures fits { (write : WriteWords) (input : List ℕ) → length (bytes_to Made (write_answer write input).puts) ≤ most_file_bytes }
     ensures records { (write : WriteWords) (words : ShowWords) (input : List ℕ) (answer : Answer)
-        → AreInLimits (options_of write) → AreBytes input → words.positions ≡ false
+        → AreInLimits write.options → AreBytes input → words.form ≡ bare
         → IsShown words (bytes_to Made (write_answer write input).puts) answer
-        → answer ≡ record { puts = puts_to Out (flat_map line (taken_from input false (2 ^ 40)).records); status = status.Ok } }
+        → answer ≡ record { puts = puts_to Out (flat_map line (taken_from input write.hex (2 ^ 40)).records); status = status.Ok } }
     ensures input { (write : WriteWords) (words : ShowWords) (input : List ℕ) (answer : Answer)
-        → AreInLimits (options_of write) → AreBytes input → words.positions ≡ false
+        → AreInLimits write.options → AreBytes input → write.hex ≡ false → words.form ≡ bare
         → (write_answer write input).status ≡ status.Ok
         → IsShown words (bytes_to Made (write_answer write input).puts) answer
         → answer ≡ record { puts = puts_to Out (with_last_end input); status = status.Ok } }
+{}
+
+/// Records that `show` prints in the hexadecimal form, without positions, are those that `write` takes of the text in that form,
+/// where it is no longer than `write` reads. Own.
+pub fn digits_are_read_back()
+    ensures { (placed : List (ℕ × List ℕ)) (limit : ℕ) → AreRecords (map (λ p. p.1) placed)
+        → length (flat_map (record_line digits_alone) placed) ≤ limit
+        → taken_from (flat_map (record_line digits_alone) placed) true limit ≡ record { records = map (λ p. p.1) placed; stop = None } }
 {}

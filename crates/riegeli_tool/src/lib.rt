@@ -4,11 +4,8 @@
 mod command;
 pub mod laws;
 mod program;
-mod recover;
-mod recover_words;
 mod repair;
 mod repair_words;
-mod walking;
 mod words;
 
 pub use command::Names;

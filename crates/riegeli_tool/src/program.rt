@@ -5,12 +5,12 @@ ghost use Rattle.riegeli_tool.specs.CommandAnswers.{meaning_of};
 ghost use Rattle.run_answers.specs.Runs.{Runs, seen, shown, shown_file};
 
 use crate::command::Command;
-use crate::recover::recover;
 use crate::repair::repair;
 use crate::words::accept;
 use record_append::Device;
 use record_io::{Sink, Source, Store};
 use run_answers::{Status, end};
+use show_damaged::recover;
 use show_files::{show, verify};
 use std::alloc::Global;
 use std::thread::Threads;

@@ -4,15 +4,18 @@ ghost use Rattle.record_io.specs.Puts.{taken_by};
 ghost use Rattle.record_io.specs.Calls.{OnlyCounts};
 ghost use Rattle.run_answers.specs.FileAnswers.{HandsOut};
 ghost use Rattle.riegeli_tool.specs.RepairCommand.{IsRepaired, IsRepairedSoFar, repair_meaning};
+ghost use Rattle.riegeli_tool.specs.RepairingEnds.{end_of_repair};
 ghost use Rattle.run_answers.specs.Runs.{Runs, Seen, shown, shown_file};
 ghost use Rattle.run_answers.specs.PutSoFar.{HasPutSoFar};
-ghost use Rattle.riegeli_tool.specs.WalkingEnds.{IsShortWalk, TellsOf, Walks, WalksBySize};
+ghost use Rattle.run_answers.specs.Endings.{HasPutAtEnd, IsAllowedEnd, IsShort};
+ghost use Rattle.show_damaged.specs.WalkingEnds.{TellsOf, walk_ends};
 
 use crate::repair_words::RepairWords;
-use crate::walking::{WalkingEnd, end_walk, may_skip};
 use damage_skip::{Policy, Region};
 use record_io::{Failed, Sink, Store};
-use run_answers::{Status, put_report, size_of};
+use repair_copy::RepairEnd;
+use run_answers::{Cut, Ending, Status, put_report, size_of};
+use show_damaged::{end_walk, may_skip};
 use std::alloc::Global;
 
 /// Makes the file of what is intact of a file and prints the report of its totals, and says in notes what is skipped and why
@@ -46,29 +49,45 @@ fn repair_file<S: Store, M: Sink, O: Sink, E: Sink>(
     made: &mut M,
     out: &mut O,
     notes: &mut E,
-) -> Result<Status, WalkingEnd>
-    ensures walks { IfSome (S.bytes file.old) (λ bytes. Walks (IsRepaired words.now) result bytes
+) -> Result<Status, Ending<Region>>
+    ensures walks { IfSome (S.bytes file.old) (λ bytes. HasPutAtEnd walk_ends (IsRepaired words.now) result bytes
         (taken_by (M.taken made.old) (O.taken out.old) (E.taken notes.old)) (taken_by (M.taken made.new) (O.taken out.new) (E.taken notes.new)) []) }
-    ensures so_far { IsErrAnd result IsShortWalk → ¬ Rose (M.faults made.old) (M.faults made.new)
+    ensures so_far { IsErrAnd result IsShort → ¬ Rose (M.faults made.old) (M.faults made.new)
         → IfSome (S.bytes file.old) (λ bytes. HasPutSoFar (IsRepairedSoFar words.now bytes)
         (taken_by (M.taken made.old) (O.taken out.old) (E.taken notes.old)) (taken_by (M.taken made.new) (O.taken out.new) (E.taken notes.new)) []) }
     ensures said { TellsOf words.now.most result (E.taken notes.old) (E.taken notes.new) }
-    ensures sized { WalksBySize result (S.told file.new) }
+    ensures allowed { IsAllowedEnd (repair_meaning words.now) result (S.told file.new) }
     ensures notes_kept { result ≡ Ok Status.Ok → notes.new ≡ notes.old }
     ensures handed { HandsOut (repair_meaning words.now) (S.told file.new) (S.handed file.old) (S.handed file.new) }
     ensures same_bytes { S.bytes file.new ≡ S.bytes file.old }
-    ensures file { OnlyCounts S.name S.faults (result ≡ Err WalkingEnd.File) file.old file.new }
-    ensures made { OnlyCounts M.lent M.faults (result ≡ Err WalkingEnd.Made) made.old made.new }
-    ensures out { OnlyCounts O.lent O.faults (result ≡ Err WalkingEnd.Out) out.old out.new }
-    ensures notes { OnlyCounts E.lent E.faults (result ≡ Err WalkingEnd.Notes) notes.old notes.new }
+    ensures file { OnlyCounts S.name S.faults (result ≡ Err (Ending.Cut Cut.File)) file.old file.new }
+    ensures made { OnlyCounts M.lent M.faults (result ≡ Err (Ending.Cut Cut.Made)) made.old made.new }
+    ensures out { OnlyCounts O.lent O.faults (result ≡ Err (Ending.Cut Cut.Out)) out.old out.new }
+    ensures notes { OnlyCounts E.lent E.faults (result ≡ Err (Ending.Cut Cut.Notes)) notes.old notes.new }
 {
     let size = size_of(file)?;
     let most = words.most;
     let policy = Policy::new(|region: &Region| may_skip(most, region));
-    let repaired = repair_copy::repair(alloc, file, size, policy, made, notes)?;
+    let repaired = match repair_copy::repair(alloc, file, size, policy, made, notes) {
+        Ok(repaired) => repaired,
+        Err(end) => return Err(end_of_repair(end)),
+    };
     match put_report(&repaired.totals, out) {
         Ok(()) if repaired.regions == 0 => Ok(Status::Ok),
         Ok(()) => Ok(Status::Skipped),
-        Err(Failed) => Err(WalkingEnd::Out),
+        Err(Failed) => Err(Ending::Cut(Cut::Out)),
+    }
+}
+
+/// The end by which the repair of a file ended.
+fn end_of_repair(end: RepairEnd) -> Ending<Region>
+    ensures { result ≡ end_of_repair end }
+{
+    match end {
+        RepairEnd::Stopped(region) => Ending::At(region),
+        RepairEnd::Store => Ending::Cut(Cut::File),
+        RepairEnd::Made => Ending::Cut(Cut::Made),
+        RepairEnd::Notes => Ending::Cut(Cut::Notes),
+        RepairEnd::Memory => Ending::Cut(Cut::Memory),
     }
 }

@@ -2,7 +2,7 @@ ghost use Rattle.std.specs.Prelude.{◌≡◌, map};
 ghost use Rattle.std.specs.String.{string_bytes};
 ghost use Rattle.riegeli_tool.specs.RepairWords.{repair_words_of};
 
-use crate::recover_words::most;
+use show_damaged::recover_words::most;
 use word_options::{are_words_of, is_same_at, two_files};
 
 /// What the words of `repair` say.

@@ -3,8 +3,8 @@ ghost use Rattle.std.specs.String.{string_bytes};
 ghost use Rattle.riegeli_tool.specs.Commands.{command_of, show_command_of, names_of, accepted};
 
 use crate::command::{Command, Names};
-use crate::recover_words::{goes_past_damage, recover_words};
 use crate::repair_words::repair_words;
+use show_damaged::recover_words::{goes_past_damage, recover_words};
 use show_files::show_words::show_words;
 use show_files::verify_words::verify_words;
 use write_lines::write_words::write_words;

@@ -7,8 +7,8 @@ use Rattle.record_io.specs.Puts.{Put, Out, Taken, taken_by}
 use Rattle.record_io.proofs.Puts.{GoOut-none_held}
 use Rattle.run_answers.specs.declared.status.Status.{Status}
 use Rattle.run_answers.specs.Answers.{Answer}
-use Rattle.run_answers.specs.FileAnswers.{OfFile, OfFileSoFar, HandsOut, IsInReach}
-use Rattle.run_answers.specs.Meanings.{Meaning, Read}
+use Rattle.run_answers.specs.FileAnswers.{OfFile, OfFileSoFar, HandsOut, IsInReach, file_meaning, most_file_bytes}
+use Rattle.run_answers.specs.Meanings.{Uses, Meaning, Read}
 use Rattle.run_answers.specs.Statuses.{fault_text}
 use Rattle.run_answers.specs.Runs.{Shown, ShownFile, Seen, seen, IfRead, IfTold, OfSizes, TakesThen, WentOutSoFar}
 use Rattle.run_answers.specs.PutSoFar.{HasPutSoFar}
@@ -25,7 +25,23 @@ pub record ReadsFile (m : Meaning) (P : List ℕ → Answer → Type 0) (Q : Lis
   pub so_far : (r : Read) (part : List Put) → OfFileSoFar Q r.files part → m.may_have_put r part
   pub may_work : (sizes : List ℕ) → IsInReach sizes → m.may_work sizes
   pub may_take_of : (r : Read) (before after : List ℕ) → m.may_take_of r before after
-  pub exists : (file : List ℕ) → AreBytes file → (answer : Answer) × OfFile P (file ∷ []) answer
+
+-- so of one whose meaning is that, whatever else it means
+pub reads_file : (P : List ℕ → Answer → Type 0) (Q : List ℕ → List Put → Type 0) (uses : Uses) (may_take : List ℕ → List ℕ → List ℕ → Type 0)
+    (may_end : List ℕ → Status → List ℕ → Type 0) (may_say : List ℕ → Type 0)
+    → uses.input ≡ false → uses.files ≡ true → uses.grown ≡ false → uses.out ≡ true
+    → ReadsFile (record (file_meaning P Q) { uses = uses; may_take = may_take; may_end = may_end; may_say = may_say }) P Q
+reads_file P Q uses may_take may_end may_say input files grown out = record {
+  command = refl;
+  input = input;
+  files = files;
+  grown = grown;
+  out = out;
+  answers = λ r answer is. is;
+  so_far = λ r part is. is;
+  may_work = λ sizes within. within;
+  may_take_of = λ r before after. tt;
+}
 
 -- behind the one file there is none
 one_alone : {X : Type 0} (place : ℕ) (x only other : X) → slice_get (only ∷ []) place ≡ Some x → drop (place + 1) (only ∷ []) ≡ drop (place + 1) (other ∷ [])
@@ -48,6 +64,10 @@ still-sized bytes bytes_then told same sized = subst (λ (b : Option (List ℕ))
 told_size : (told : Option ℕ) (P : ℕ → Type 0) → IsSomeAnd told P → (size : ℕ) × (told ≡ Some size) × P size
 told_size None P h = absurd h
 told_size (Some size) P h = (size, refl, h)
+
+-- a size that was told of a file that may be read
+pub told-in_reach : (told : Option ℕ) (size : ℕ) → told ≡ Some size → size ≤ most_file_bytes → IsSomeAnd told (λ n. IsInReach (n ∷ []))
+told-in_reach told size is within = subst (λ (t : Option ℕ). IsSomeAnd t (λ n. IsInReach (n ∷ []))) (sym is) within
 
 -- what is handed out of a file that told a size by which it is read
 pub handed-work : (m : Meaning) (told : Option ℕ) (size before after : ℕ) → told ≡ Some size

@@ -2,8 +2,10 @@ mod Values
 pub mod Causes
 pub mod RunEnds
 pub mod FileRuns
+pub mod FileEnds
 pub mod Lines
 pub mod NoteLines
 pub mod OneAnswer
 pub mod PutSoFar
 pub mod ReportLines
+pub mod TwoStreams

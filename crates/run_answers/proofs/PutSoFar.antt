@@ -9,7 +9,7 @@ use Rattle.record_io.proofs.Puts.{GoOut-nothing, GoOutOrAreHeld-none, GoOut-none
 use Rattle.run_answers.specs.declared.status.Status.{Status}
 use Rattle.run_answers.specs.Answers.{Answer, noted}
 use Rattle.run_answers.specs.FileAnswers.{OfFile}
-use Rattle.run_answers.specs.Runs.{PutsLines}
+use Rattle.run_answers.specs.Runs.{FailedToSay, PutsLines}
 use Rattle.run_answers.specs.PutSoFar.{HasPut, HasPutSoFar, HasPutFront, HasBrokenOff}
 use Rattle.run_answers.proofs.RunEnds.{GaveButNotes, PutsLines-none}
 
@@ -81,28 +81,42 @@ module _ (a : Taken) (made b c notes : Option (List ℕ)) (held : List ℕ) wher
   }
 
   -- nothing is held of what broke off
-  pub broken-flushed : (s : Stream) (answer : Answer) → held ≡ [] → HasBrokenOff s a Unflushed answer → Takes b c held → HasBrokenOff s a Flushed answer
-  broken-flushed s answer none h out = record {
+  pub broken-flushed : (s : Stream) (answer : Answer) → HasBrokenOff s a Unflushed held answer → Takes b c held → HasBrokenOff s a Flushed [] answer
+  broken-flushed s answer h out = record {
+    none_held = refl;
     part = h.part;
     broke = h.broke;
     lines = h.lines;
+    went = GoOut-flushed a made b c notes h.part []
+        (GoOutOrAreHeld-none a Unflushed Out h.part h.went) (subst (λ (xs : List ℕ). Takes b c xs) h.none_held out);
+  }
+
+  -- nor of what notes failed to take
+  pub untold-flushed : (answer : Answer) → held ≡ [] → FailedToSay a Unflushed answer → Takes b c held → FailedToSay a Flushed answer
+  untold-flushed answer none h out = record {
+    part = h.part;
+    broke = h.broke;
     went = GoOut-flushed a made b c notes h.part []
         (GoOutOrAreHeld-none a Unflushed Out h.part h.went) (subst (λ (xs : List ℕ). Takes b c xs) none out);
   }
 
   -- or standard output fails
-  pub whole-unflushed : (P : List ℕ → Answer → Type 0) → ((f : List ℕ) (x y : Answer) → OfFile P (f ∷ []) x → OfFile P (f ∷ []) y → x ≡ y)
-      → (f last : List ℕ) (ended : Status) → HasPut P f a Unflushed held last ended → TakesFront b c held → held ≢ []
-      → (answer : Answer) → OfFile P (f ∷ []) answer → HasBrokenOff Out a Flushed answer
-  whole-unflushed P one f last ended h out some answer is =
-      let broken = GoOut-unflushed a made b c notes h.puts held h.went out some in
-      subst (λ (x : Answer). HasBrokenOff Out a Flushed x) (one f h.answer answer h.is is) (record {
-        part = broken.0;
-        broke = subst (λ (ps : List Put). BreaksOff Out broken.0 ps) (sym h.whole)
-            (BreaksOff-longer Out broken.0 h.puts (puts_to Notes last) broken.1);
-        lines = PutsLines-same broken.0 h.puts h.answer.puts broken.3 h.lines;
-        went = broken.2;
-      })
+  pub whole-unflushed : (P : List ℕ → Answer → Type 0) (f last : List ℕ) (ended : Status)
+      → HasPut P f a Unflushed held last ended → TakesFront b c held → held ≢ []
+      → (answer : Answer) × OfFile P (f ∷ []) answer × HasBrokenOff Out a Flushed [] answer
+  whole-unflushed P f last ended h out some =
+      let broken = GoOut-unflushed a made b c notes h.puts held h.went out some in (
+        h.answer,
+        h.is,
+        record {
+          none_held = refl;
+          part = broken.0;
+          broke = subst (λ (ps : List Put). BreaksOff Out broken.0 ps) (sym h.whole)
+              (BreaksOff-longer Out broken.0 h.puts (puts_to Notes last) broken.1);
+          lines = PutsLines-same broken.0 h.puts h.answer.puts broken.3 h.lines;
+          went = broken.2;
+        },
+      )
 
   pub front-unflushed : (answer : Answer) → HasPutFront a Unflushed held answer → TakesFront b c held → held ≢ [] → HasPutFront a Flushed [] answer
   front-unflushed answer h out some =

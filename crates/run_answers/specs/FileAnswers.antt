@@ -1,10 +1,10 @@
 -- What is answered of the one file that a command reads, and what it may take of it. Own.
-use Rattle.std.specs.Prelude.{◌≡◌, ℕ, ◌^◌, ◌<◌, ◌≤◌, ◌⊎◌, Option, IsSomeAnd, List, [], ◌∷◌, ◌++◌, length, decimal}
+use Rattle.std.specs.Prelude.{◌≡◌, ℕ, ◌^◌, ◌<◌, ◌≤◌, ◌⊎◌, true, Option, IsSomeAnd, List, [], ◌∷◌, ◌++◌, length, decimal}
 use lib.Chars.{codes}
 use Rattle.record_io.specs.Puts.{Put}
 use Rattle.record_values.specs.declared.file_totals.Totals.{Totals}
 use Rattle.run_answers.specs.Answers.{Answer, line, noted}
-use Rattle.run_answers.specs.Meanings.{Meaning}
+use Rattle.run_answers.specs.Meanings.{Meaning, meaning, none_used}
 use Rattle.run_answers.specs.declared.status.Status.TheVariants as status
 
 -- a number behind a name, as a line
@@ -48,6 +48,16 @@ IsInReach sizes = ⊥
 abbrev pub IsTooLong : List ℕ → Type 0
 IsTooLong (size ∷ []) = most_file_bytes < size
 IsTooLong sizes = ⊥
+
+-- what a command means that reads one file and prints, of which these are the answers and what it may have put so far: it says
+-- nothing before its end
+abbrev pub file_meaning : (List ℕ → Answer → Type 0) → (List ℕ → List Put → Type 0) → Meaning
+file_meaning Answers SoFar =
+    record (meaning (record none_used { files = true; out = true; memory = true }) (λ r answer. OfFile Answers r.files answer)) {
+      may_have_put = λ r part. OfFileSoFar SoFar r.files part;
+      may_work = IsInReach;
+      may_take = λ sizes before after. Unit {0};
+    }
 
 -- what was handed out of the one file: nothing, or it has told a size by which a command goes on to its work, and no more than
 -- the command may take

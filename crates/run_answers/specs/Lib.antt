@@ -6,3 +6,4 @@ pub mod Lines
 pub mod Statuses
 pub mod Runs
 pub mod PutSoFar
+pub mod Endings

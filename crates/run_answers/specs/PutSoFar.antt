@@ -30,8 +30,9 @@ pub record HasPutFront (before after : Taken) (held : List ℕ) (answer : Answer
   pub lines : PutsLines part answer.puts
   pub went : GoOutOrAreHeld before after Out part held
 
--- a front of what an answer puts went out, up to bytes that go to a sink that failed
-pub record HasBrokenOff (stream : Stream) (before after : Taken) (answer : Answer) : Type 0 where
+-- a front of what an answer puts went out, up to bytes that go to a sink that failed, and nothing is held
+pub record HasBrokenOff (stream : Stream) (before after : Taken) (held : List ℕ) (answer : Answer) : Type 0 where
+  pub none_held : held ≡ []
   pub part : List Put
   pub broke : BreaksOff stream part answer.puts
   pub lines : PutsLines part answer.puts

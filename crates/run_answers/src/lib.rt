@@ -1,11 +1,13 @@
 //! How a run of a command ends, and what it tells: of any command, by what that means. Own, as a whole.
 #![tactic(auto)]
 
+mod ending;
 mod notes;
 mod reports;
 mod sizes;
 mod status;
 
+pub use ending::{Cut, Ending, unprinted};
 pub use notes::{LINE, cut_off, end, end_with_number};
 pub use reports::put_report;
 pub use sizes::{SizeEnd, size_of};

@@ -1,9 +1,11 @@
 ghost use Rattle.std.specs.Prelude.{◌≡◌, ◌++◌, [], decimal};
 ghost use Rattle.record_io.specs.Calls.{OnlyCounts, PutsTo};
 ghost use Rattle.run_answers.specs.Answers.{line};
+ghost use Rattle.run_answers.specs.Endings.{status_of};
 ghost use Rattle.run_answers.specs.Runs.{SaysAtEnd, TakesThen, shown};
 ghost use Rattle.run_answers.specs.Statuses.{fault_text};
 
+use crate::ending::Cut;
 use crate::status::Status;
 use itoa::Buffer;
 use record_io::{Failed, PutBuffer, Sink, put_all};
@@ -46,28 +48,31 @@ fn put_number<E: Sink>(notes: &mut E, text: &str, number: u64) -> Result<(), Fai
     line.flush(notes)
 }
 
-/// Ends the work that a fault or want of memory cut off. The status stays where notes fail too.
-pub fn cut_off<E: Sink>(notes: &mut E, status: Status) -> Status
-    ensures status { result ≡ status }
+/// Ends the work that was cut off, with the line that tells it. The status stays where notes fail too.
+pub fn cut_off<E: Sink>(notes: &mut E, cut: Cut) -> Status
+    ensures status { result ≡ status_of cut }
     ensures told { TakesThen (shown E.taken E.faults notes.old)
-        (shown E.taken E.faults notes.new) [] (fault_text status) }
+        (shown E.taken E.faults notes.new) [] (fault_text (status_of cut)) }
+    ensures kept { cut ≡ Cut.Notes → notes.new ≡ notes.old }
     ensures notes { OnlyCounts E.lent E.faults ⊥ notes.old notes.new }
 {
-    let _ = put_all(notes, fault_line(status).as_bytes());
-    status
+    if cut == Cut::Notes {
+        return Status::Notes;
+    }
+    let _ = put_all(notes, fault_line(cut).as_bytes());
+    cut.status()
 }
 
 /// The line that tells a fault or want of memory.
-fn fault_line(status: Status) -> &'static str
-    ensures { result.now ≡ fault_text status }
+fn fault_line(cut: Cut) -> &'static str
+    ensures { result.now ≡ fault_text (status_of cut) }
 {
-    match status {
-        Status::Input => "input fault\n",
-        Status::File => "file fault\n",
-        Status::Made => "made fault\n",
-        Status::Grown => "grown fault\n",
-        Status::Out => "out fault\n",
-        Status::Memory => "out of memory\n",
-        _ => "",
+    match cut {
+        Cut::Input => "input fault\n",
+        Cut::File => "file fault\n",
+        Cut::Made => "made fault\n",
+        Cut::Out => "out fault\n",
+        Cut::Notes => "",
+        Cut::Memory => "out of memory\n",
     }
 }

@@ -1,3 +1,4 @@
+pub mod Digits
 pub mod LinePuts
 pub mod OneReading
 mod ReadTextValues

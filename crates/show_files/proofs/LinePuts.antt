@@ -1,11 +1,13 @@
 -- What a buffer beside a sink passed on and holds after the lists of some of the elements.
-use Rattle.std.proofs.Common.{◌≡◌, ◌≢◌, ◌∙◌, ℕ, ◌+◌, ◌<◌, Option, List, [], ◌∷◌, ◌++◌, length, get_or, take, drop, sym, ap, subst, arith, add-one, length-append}
+use Rattle.std.proofs.Common.{◌≡◌, ◌≢◌, ◌∙◌, ℕ, ◌+◌, ◌<◌, Option, Result, List, [], ◌∷◌, ◌++◌, length, get_or, take, drop, sym, ap, subst, arith, add-one, length-append, rules}
 use Rattle.std.specs.List.{flat_map}
 use Rattle.std.proofs.Math.Seq.{take-suc}
+use Rattle.std.proofs.lemmas.Result.{on_ok_weaker, on_err_weaker}
 use Rattle.std.proofs.lemmas.List.{append-nil, nil_from_length, take-append-drop}
 use Rattle.std.proofs.lemmas.Grind.{flat_map-append}
 use Rattle.record_io.specs.Outside.{TakesFront}
 use Rattle.record_io.specs.Buffers.{TakesAndHolds}
+use Rattle.record_io.specs.Calls.{OnlyCounts, PutsThrough}
 use Rattle.record_io.proofs.Buffered.{TakesAndHolds-append, TakesFront-behind, TakesFront-held_longer}
 
 -- the lists of one element more
@@ -62,3 +64,19 @@ lines-some f a b before held xs i x within is first some = λ none.
       length-append first.passed held,
       length-append held (f x),
     )))
+
+-- bytes behind others that were put
+pub puts-then : {M L X E : Type 0} (taken : M → Option (List ℕ)) (lent : M → L) (faults : M → ℕ) (result : Result X E)
+    (held between then x y : List ℕ) (before mid after : M)
+    → TakesAndHolds (taken before) (taken mid) (held ++ x) between → OnlyCounts lent faults ⊥ before mid
+    → PutsThrough taken lent faults result between then y mid after → PutsThrough taken lent faults result held then (x ++ y) before after
+puts-then taken lent faults result held between then x y before mid after first counts next = record {
+  whole = on_ok_weaker result (TakesAndHolds-append (taken before) (taken mid) (taken after) held between then x y first) next.whole;
+  front = on_err_weaker result (TakesFront-behind (taken before) (taken mid) (taken after) held between x y first) next.front;
+  emptied = next.emptied;
+  counts = search rules;
+}
+
+-- a line is never nothing
+pub line-some : (held text : List ℕ) → held ++ (text ++ 10 ∷ []) ≢ []
+line-some held text = λ none. absurd (omega (arith, ap length none, length-append held (text ++ 10 ∷ []), length-append text (10 ∷ [])))

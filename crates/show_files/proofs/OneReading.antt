@@ -43,18 +43,18 @@ one_shown words file a b h g =
     let said = one_end file h.said g.said a b h.ended g.ended in
     same_answer a b
     (h.puts
-    ∙ ap (λ (ps : List (ℕ × List ℕ)). puts_to Out (flat_map (record_line words.positions) ps) ++ puts_to Notes h.said) records
-    ∙ ap (λ (t : List ℕ). puts_to Out (flat_map (record_line words.positions) g.placed) ++ puts_to Notes t) said.0
+    ∙ ap (λ (ps : List (ℕ × List ℕ)). puts_to Out (flat_map (record_line words.form) ps) ++ puts_to Notes h.said) records
+    ∙ ap (λ (t : List ℕ). puts_to Out (flat_map (record_line words.form) g.placed) ++ puts_to Notes t) said.0
     ∙ sym g.puts)
     said.1
 
 -- so has `verify`
 pub one_verified : (file : List ℕ) (a b : Answer) → IsVerified file a → IsVerified file b → a ≡ b
-one_verified file a b (inl (ks, frame, is)) (inl (ls, other, also)) =
+one_verified file a b (inl (ks, keep, is)) (inl (ls, other, also)) =
     is
-    ∙ ap (λ (xs : List ChunkValue). record { puts = puts_to Out (report (totals_of xs)); status = status.Ok }) (frame_is_one ks ls file frame other)
+    ∙ ap (λ (xs : List ChunkValue). record { puts = puts_to Out (report (totals_of xs)); status = status.Ok }) (frame_is_one ks ls file keep other)
     ∙ sym also
-one_verified file a b (inl (ks, frame, is)) (inr (fault, faulty, also)) = absurd (fault_or_none true file fault faulty (ks, frame))
-one_verified file a b (inr (fault, faulty, is)) (inl (ks, frame, also)) = absurd (fault_or_none true file fault faulty (ks, frame))
+one_verified file a b (inl (ks, keep, is)) (inr (fault, faulty, also)) = absurd (fault_or_none true file fault faulty (ks, keep))
+one_verified file a b (inr (fault, faulty, is)) (inl (ks, keep, also)) = absurd (fault_or_none true file fault faulty (ks, keep))
 one_verified file a b (inr (fault, faulty, is)) (inr (other, too, also)) =
     is ∙ ap (λ (f : Fault). noted status.Refused (refused_text f)) (fault_is_one true file fault other faulty too) ∙ sym also

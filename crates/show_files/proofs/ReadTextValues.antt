@@ -1,7 +1,9 @@
 -- What `show` and `verify` print and say, counted by hand, computed from the definitions.
 use Rattle.std.proofs.Common.{◌≡◌, true, false, [], ◌∷◌, codes, refl}
 use Rattle.std.specs.Fmt.{digits}
-use Rattle.show_files.specs.Readings.{refused_text, record_line}
+use Rattle.hex.specs.Hex.{encode_with}
+use Rattle.show_files.specs.declared.show_words.RecordForm.{RecordForm}
+use Rattle.show_files.specs.Readings.{bare, refused_text, record_line}
 use Rattle.run_answers.specs.FileAnswers.{report, limit_text, most_file_bytes}
 use Rattle.chunk_reader.specs.declared.reasons.Why.TheVariants as why
 
@@ -72,31 +74,51 @@ report_of_many : report (record { chunks = 12; records = 100000; bytes = 1010423
 unfolding digits
 report_of_many = refl
 
+-- records with their positions, in either form
+abbrev with_positions : RecordForm
+with_positions = record bare { positions = true }
+
+abbrev digits_with_positions : RecordForm
+digits_with_positions = record { positions = true; hex = true }
+
 -- a record, with its position or without; an empty one keeps the space before it
-bare_record : record_line false (64, codes "a") ≡ codes "a\n"
+bare_record : record_line bare (64, codes "a") ≡ codes "a\n"
 unfolding digits
 bare_record = refl
 
-bare_empty_record : record_line false (66, []) ≡ codes "\n"
+bare_empty_record : record_line bare (66, []) ≡ codes "\n"
 unfolding digits
 bare_empty_record = refl
 
-placed_record : record_line true (64, codes "a") ≡ codes "64 a\n"
+placed_record : record_line with_positions (64, codes "a") ≡ codes "64 a\n"
 unfolding digits
 placed_record = refl
 
-placed_record_of_two : record_line true (65, codes "bc") ≡ codes "65 bc\n"
+placed_record_of_two : record_line with_positions (65, codes "bc") ≡ codes "65 bc\n"
 unfolding digits
 placed_record_of_two = refl
 
-placed_empty_record : record_line true (66, []) ≡ codes "66 \n"
+placed_empty_record : record_line with_positions (66, []) ≡ codes "66 \n"
 unfolding digits
 placed_empty_record = refl
 
 -- a record's bytes are printed as they are, an end of a line too
-record_with_end : record_line true (64, 10 ∷ 0xff ∷ []) ≡ 0x36 ∷ 0x34 ∷ 32 ∷ 10 ∷ 0xff ∷ 10 ∷ []
+record_with_end : record_line with_positions (64, 10 ∷ 0xff ∷ []) ≡ 0x36 ∷ 0x34 ∷ 32 ∷ 10 ∷ 0xff ∷ 10 ∷ []
 unfolding digits
 record_with_end = refl
+
+-- digits of its bytes, in lower case
+record_of_digits : record_line (record bare { hex = true }) (64, 0x00 ∷ 0xaf ∷ 10 ∷ []) ≡ codes "00af0a\n"
+unfolding digits encode_with
+record_of_digits = refl
+
+placed_digits : record_line digits_with_positions (65, codes "bc") ≡ codes "65 6263\n"
+unfolding digits encode_with
+placed_digits = refl
+
+placed_no_digits : record_line digits_with_positions (66, []) ≡ codes "66 \n"
+unfolding digits encode_with
+placed_no_digits = refl
 
 -- a file that is too long
 limit_of_file : limit_text ≡ codes "limit file\n"

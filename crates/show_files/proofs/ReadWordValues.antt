@@ -1,5 +1,5 @@
 -- The words of `show` and `verify`, judged by hand, computed from the definitions.
-use Rattle.std.proofs.Common.{◌≡◌, ℕ, false, Option, Some, None, List, [], ◌∷◌, codes, refl, true}
+use Rattle.std.proofs.Common.{◌≡◌, ℕ, Bool, false, Option, Some, None, List, [], ◌∷◌, codes, refl, true}
 use Rattle.show_files.specs.declared.show_words.ShowWords.{ShowWords}
 use Rattle.show_files.specs.declared.verify_words.VerifyWords.{VerifyWords}
 use Rattle.show_files.specs.ShowWords.{show_words_of}
@@ -12,25 +12,37 @@ shown words = show_words_of (codes "show" ∷ words)
 abbrev verified : List (List ℕ) → Option VerifyWords
 verified words = verify_words_of (codes "verify" ∷ words)
 
+-- that they say so much
+abbrev says : (positions hex : Bool) → (file : ℕ) → ShowWords
+says positions hex file = record { form = record { positions = positions; hex = hex }; file = file }
+
 -- a file, with its positions or without, and the option before or behind it
-file_alone : shown (codes "A" ∷ []) ≡ Some (record { positions = false; file = 1 })
+file_alone : shown (codes "A" ∷ []) ≡ Some (says false false 1)
 unfolding show_words_of
 file_alone = refl
 
-positions_before : shown (codes "--positions" ∷ codes "A" ∷ []) ≡ Some (record { positions = true; file = 2 })
+positions_before : shown (codes "--positions" ∷ codes "A" ∷ []) ≡ Some (says true false 2)
 unfolding show_words_of
 positions_before = refl
 
-positions_behind : shown (codes "A" ∷ codes "--positions" ∷ []) ≡ Some (record { positions = true; file = 1 })
+hex_before : shown (codes "--hex" ∷ codes "A" ∷ []) ≡ Some (says false true 2)
+unfolding show_words_of
+hex_before = refl
+
+both_options : shown (codes "--hex" ∷ codes "A" ∷ codes "--positions" ∷ []) ≡ Some (says true true 2)
+unfolding show_words_of
+both_options = refl
+
+positions_behind : shown (codes "A" ∷ codes "--positions" ∷ []) ≡ Some (says true false 1)
 unfolding show_words_of
 positions_behind = refl
 
 -- a file of the option's letters without the dashes, and one of the command's name
-file_like_option : shown (codes "positions" ∷ []) ≡ Some (record { positions = false; file = 1 })
+file_like_option : shown (codes "positions" ∷ []) ≡ Some (says false false 1)
 unfolding show_words_of
 file_like_option = refl
 
-file_like_command : shown (codes "--positions" ∷ codes "show" ∷ []) ≡ Some (record { positions = true; file = 2 })
+file_like_command : shown (codes "--positions" ∷ codes "show" ∷ []) ≡ Some (says true false 2)
 unfolding show_words_of
 file_like_command = refl
 

@@ -46,7 +46,7 @@ shown_exists words file bytes =
     let judged = file_judged false file bytes in
     let front = longest_of file judged in
     let placed = placed_of front.0 file front.1 front.2.chain in
-    let out : List ℕ = flat_map (record_line words.positions) placed.0 in
+    let out : List ℕ = flat_map (record_line words.form) placed.0 in
     elim judged [
       | inl none ↦ (
         record { puts = puts_to Out out ++ puts_to Notes []; status = status.Ok },

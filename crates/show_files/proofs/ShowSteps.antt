@@ -8,6 +8,7 @@ use Rattle.record_io.specs.Outside.{TakesFront}
 use Rattle.record_io.specs.Buffers.{TakesAndHolds}
 use Rattle.record_io.specs.Puts.{Put, Out, Notes, Taken, taken_by, GoOutOrAreHeld, BreaksOff, puts_to, bytes_to}
 use Rattle.record_io.proofs.Puts.{GoOut-nothing, GoOutOrAreHeld-none, GoOutOrAreHeld-more, GoOut-broken, BreaksOff-longer, bytes_to-other, puts_to-append}
+use Rattle.record_values.specs.Bytes.{AreBytes}
 use Rattle.record_values.specs.declared.file_totals.Totals.{Totals}
 use Rattle.chunk_header.specs.Chunks.{ChunkValue}
 use Rattle.chunk_header.specs.Views.{value_of_chunk}
@@ -24,20 +25,20 @@ use Rattle.chunk_reader.specs.declared.judging.What.TheVariants.{Records, Passiv
 use Rattle.chunk_reader.specs.Faults.{IsAllowed, IsFault}
 use Rattle.chunk_reader.specs.declared.reasons.Fault.{Fault}
 use Rattle.chunk_reader.proofs.ChainSteps.{IsChainOf-nil, longest_where_whole}
-use Rattle.chunk_reader.specs.declared.reasons.ReadEnd.{ReadEnd}
 use Rattle.chunk_reader.specs.declared.judging.Judged.{Judged}
-use Rattle.show_files.specs.declared.reading.ReadingEnd.{ReadingEnd}
+use Rattle.run_answers.specs.declared.ending.Ending.{Ending}
 use Rattle.show_files.specs.declared.show_words.ShowWords.{ShowWords}
 use Rattle.run_answers.specs.Answers.{Answer}
+use Rattle.show_files.specs.ReadingEnds.{reading_ends}
 use Rattle.show_files.specs.Readings.{record_line, refused_text}
 use Rattle.run_answers.specs.FileAnswers.{most_file_bytes, OfFile}
 use Rattle.show_files.specs.ShowCommand.{IsShown, IsShownSoFar}
-use Rattle.show_files.specs.ReadingEnds.{end_of_read, Prints}
+use Rattle.run_answers.specs.Endings.{HasPutEarly, HasPutAtEnd}
 use Rattle.run_answers.specs.PutSoFar.{HasPut, HasPutSoFar, HasPutFront, HasBrokenOff}
-use Rattle.show_files.specs.ShowProgress.{record_lines, records_in, IsTextOf, IsPrinted, PrintsOn}
+use Rattle.show_files.specs.ShowProgress.{record_lines, records_given, IsTextOf, IsPrinted, PrintsOn}
 use Rattle.run_answers.proofs.RunEnds.{PutsLines-none}
-use Rattle.chunk_reader.specs.declared.reasons.ReadEnd.TheVariants as read
-use Rattle.show_files.specs.declared.reading.ReadingEnd.TheVariants as end
+use Rattle.run_answers.proofs.FileEnds.{some-answer}
+use Rattle.show_files.proofs.ReadingsExist.{shown_exists}
 use Rattle.run_answers.specs.declared.status.Status.TheVariants as status
 
 -- what chunks hold with one chunk more
@@ -125,7 +126,7 @@ Given file before after k =
 -- its lines come behind those of the chunks before
 pub text-more : (words : ShowWords) (file : List ℕ) (before after : Totals) (text : List ℕ) (k : ChunkValue) (records : List (List ℕ)) (place : ℕ)
     → IsTextOf words file before text → Given file before after k → Holds k records → place ≡ before.bytes
-    → IsTextOf words file after (text ++ record_lines words (enumerate_from place records))
+    → IsTextOf words file after (text ++ record_lines words.form (enumerate_from place records))
 text-more words file before after text k records place h given holds here =
     let next = given h.ks h.chain h.counted in
     let end : end_of_chunks 0 h.ks ≡ place = ap (λ (t : Totals). t.bytes) (sym h.counted) ∙ sym here in
@@ -136,8 +137,8 @@ text-more words file before after text k records place h given holds here =
       counted = next.1;
       records = subst (λ (p : ℕ). ArePlaced (h.ks ++ k ∷ []) (h.placed ++ enumerate_from p records)) end
           (ArePlaced-push h.ks k h.placed records h.records holds);
-      lines = ap (λ (t : List ℕ). t ++ record_lines words (enumerate_from place records)) h.lines
-          ∙ sym (flat_map-append (record_line words.positions) h.placed (enumerate_from place records));
+      lines = ap (λ (t : List ℕ). t ++ record_lines words.form (enumerate_from place records)) h.lines
+          ∙ sym (flat_map-append (record_line words.form) h.placed (enumerate_from place records));
     }
 
 -- a chunk of another kind than simple ones holds no records
@@ -147,14 +148,14 @@ passive_holds k (inr (inl is)) = inr ((λ some. omega (arith, is.0, some.1.kind)
 passive_holds k (inr (inr is)) = inr ((λ some. omega (arith, is.0, some.1.kind)), refl)
 
 -- so in what strict reading made of a chunk are its records
-pub what_holds : (k : ChunkValue) (what : What) → IsWhat false k what → Holds k (records_in what)
+pub what_holds : (k : ChunkValue) (what : What) → IsWhat false k what → Holds k (records_given what)
 what_holds k (Records records) is = inl is
 what_holds k Passive is = passive_holds k is
 what_holds k Unread is = absurd (cc is.0)
 
 -- the lines of the chunks so far are a front of those of the longest front
 text-front : (words : ShowWords) (file : List ℕ) (totals : Totals) (text : List ℕ) (answer : Answer)
-    → IsTextOf words file totals text → (is : IsShown words file answer) → (rest : List ℕ) × (record_lines words is.placed ≡ text ++ rest)
+    → IsTextOf words file totals text → (is : IsShown words file answer) → (rest : List ℕ) × (record_lines words.form is.placed ≡ text ++ rest)
 text-front words file totals text answer h is =
     let within : totals.bytes ≤ is.place = is.longest.greatest h.ks totals.bytes h.chain in
     let front : h.ks ≡ take (length h.ks) is.ks =
@@ -162,10 +163,10 @@ text-front words file totals text answer h is =
     let more : List ChunkValue = drop (length h.ks) is.ks in
     let all : is.ks ≡ h.ks ++ more = sym (take-append-drop (length h.ks) is.ks) ∙ ap (λ (xs : List ChunkValue). xs ++ more) (sym front) in
     let others = ArePlaced-front h.ks more h.placed is.placed h.records (subst (λ (xs : List ChunkValue). ArePlaced xs is.placed) all is.records) in (
-      record_lines words others.0,
-      ap (record_lines words) others.1
-          ∙ flat_map-append (record_line words.positions) h.placed others.0
-          ∙ ap (λ (t : List ℕ). t ++ record_lines words others.0) (sym h.lines),
+      record_lines words.form others.0,
+      ap (record_lines words.form) others.1
+          ∙ flat_map-append (record_line words.form) h.placed others.0
+          ∙ ap (λ (t : List ℕ). t ++ record_lines words.form others.0) (sym h.lines),
     )
 
 -- so they are a front of what the answer puts
@@ -215,18 +216,19 @@ module _ (words : ShowWords) (file : List ℕ) (before after : Totals) (a : Take
     (k : ChunkValue) (records : List (List ℕ)) (place : ℕ) where
   -- the lines of a chunk more
   abbrev More : List ℕ
-  More = record_lines words (enumerate_from place records)
+  More = record_lines words.form (enumerate_from place records)
 
   -- they failed to go out
   pub printed-failed : length file ≤ most_file_bytes → IsPrinted words file before a (taken_by made b notes) held → Given file before after k → Holds k records
-      → place ≡ before.bytes → TakesFront b c (held ++ More) → held ++ More ≢ []
-      → (answer : Answer) → OfFile (IsShown words) (file ∷ []) answer → HasBrokenOff Out a (taken_by made c notes) answer
-  printed-failed short (text, h, out) given holds here front some answer is =
+      → place ≡ before.bytes → TakesFront b c (held ++ More) → held ++ More ≢ [] → then ≡ []
+      → (answer : Answer) → OfFile (IsShown words) (file ∷ []) answer → HasBrokenOff Out a (taken_by made c notes) then answer
+  printed-failed short (text, h, out) given holds here front some none answer is =
       let rest = puts-front words file after (text ++ More) answer (text-more words file before after text k records place h given holds here)
       (in_reach (IsShown words) file answer short is) in
       let puts : List Put = puts_to Out text ++ puts_to Out More in
       let broken = GoOut-broken a made b c notes (puts_to Out text) held More out front some in
       record {
+        none_held = none;
         part = broken.0;
         broke = subst (λ (ps : List Put). BreaksOff Out broken.0 ps)
             (sym (rest.1 ∙ ap (λ (ps : List Put). ps ++ rest.0) (puts_to-append Out text More)))
@@ -308,33 +310,24 @@ printed-refused words file totals before after held fault short is greatest (tex
       status = refl;
     }
 
--- the reader's call ended the work
-pub read-ended : (words : ShowWords) (frame : Bool) (bytes : Option (List ℕ)) (totals then : Totals) (before out : Taken) (held : List ℕ)
-    (e : ReadEnd) (result : Result Bool ReadingEnd)
-    → frame ≡ false → IsErr result → IsErrAnd result (λ made. made ≡ end_of_read e) → IfSome bytes (λ f. length f ≤ most_file_bytes)
-    → ((fault : Fault) → e ≡ read.Refused fault → IfSome bytes (λ f. IsFault frame f fault))
-    → ((fault : Fault) → e ≡ read.Refused fault
-    → IfSome bytes (λ f. (ks : List ChunkValue) (place : ℕ) → IsChainOf (IsAllowed frame) ks f place → place ≤ totals.bytes))
-    → IfSome bytes (λ f. IsPrinted words f totals before out held → PrintsOn words result f then before out held)
-read-ended words true bytes totals then before out held e result strict err is short refused given = absurd (cc strict)
-read-ended words false None totals then before out held e result strict err is short refused given = tt
-read-ended words false (Some f) totals then before out held e (Ok x) strict err is short refused given = absurd (cc err)
-read-ended words false (Some f) totals then before out held (read.Refused fault) (Err made) strict err is short refused given = λ h.
-    subst (λ (x : ReadingEnd). Prints {X = Bool} (IsShown words) (Err x) f before out held) (sym is)
-    (printed-refused words f totals before out held fault short (refused fault refl) (given fault refl) h)
-read-ended words false (Some f) totals then before out held read.Store (Err made) strict err is short refused given = λ h.
-    subst (λ (x : ReadingEnd). Prints {X = Bool} (IsShown words) (Err x) f before out held) (sym is)
-    (printed-front words f totals before out held short h)
-read-ended words false (Some f) totals then before out held read.Memory (Err made) strict err is short refused given = λ h.
-    subst (λ (x : ReadingEnd). Prints {X = Bool} (IsShown words) (Err x) f before out held) (sym is)
-    (printed-front words f totals before out held short h)
+-- the reader refused the file
+pub read-refused : (words : ShowWords) (keep : Bool) (bytes : Option (List ℕ)) (totals : Totals) (before out : Taken) (held : List ℕ) (fault : Fault)
+    → keep ≡ false → IfSome bytes (λ f. length f ≤ most_file_bytes) → IfSome bytes (λ f. IsFault keep f fault)
+    → IfSome bytes (λ f. (ks : List ChunkValue) (place : ℕ) → IsChainOf (IsAllowed keep) ks f place → place ≤ totals.bytes)
+    → IfSome bytes (λ f. IsPrinted words f totals before out held → HasPut (IsShown words) f before out held (refused_text fault) status.Refused)
+read-refused words true bytes totals before out held fault strict short refused given = absurd (cc strict)
+read-refused words false None totals before out held fault strict short refused given = tt
+read-refused words false (Some f) totals before out held fault strict short refused given = λ h.
+    printed-refused words f totals before out held fault short refused given h
 
--- standard output is not what failed then
-pub read-not_out : (e : ReadEnd) (result : Result Bool ReadingEnd) → IsErr result → IsErrAnd result (λ made. made ≡ end_of_read e) → result ≢ Err end.Out
-read-not_out e (Ok x) err is out = cc out
-read-not_out (read.Refused fault) (Err made) err is out = cc (ap Err (sym is) ∙ out)
-read-not_out read.Store (Err made) err is out = cc (ap Err (sym is) ∙ out)
-read-not_out read.Memory (Err made) err is out = cc (ap Err (sym is) ∙ out)
+-- or it failed to read on
+pub read-short : (words : ShowWords) (bytes : Option (List ℕ)) (totals : Totals) (before out : Taken) (held : List ℕ)
+    → IfSome bytes (λ f. length f ≤ most_file_bytes)
+    → IfSome bytes (λ f. IsPrinted words f totals before out held
+    → AreBytes f → (answer : Answer) × OfFile (IsShown words) (f ∷ []) answer × HasPutFront before out held answer)
+read-short words None totals before out held short = tt
+read-short words (Some f) totals before out held short = λ h.
+    some-answer (IsShown words) (shown_exists words) (HasPutFront before out held) f (printed-front words f totals before out held short h)
 
 -- the file that is read is not too long
 pub short_told : (bytes : Option (List ℕ)) (size : ℕ) → size ≤ most_file_bytes → IfSome bytes (λ f. size ≡ length f) → IfSome bytes (λ f. length f ≤ most_file_bytes)
@@ -342,9 +335,9 @@ short_told None size short exact = tt
 short_told (Some f) size short exact = omega (arith, short, exact)
 
 -- it has no further chunk
-pub read-through : (words : ShowWords) (frame : Bool) (bytes : Option (List ℕ)) (totals : Totals) (before out : Taken) (held : List ℕ) (size : ℕ)
-    → frame ≡ false → size ≤ most_file_bytes → IfSome bytes (λ f. size ≡ length f) → totals.bytes ≡ size
-    → IfSome bytes (λ f. (ks : List ChunkValue) → IsChainOf (IsAllowed frame) ks f totals.bytes → IsFileOf (IsAllowed frame) ks f)
+pub read-through : (words : ShowWords) (keep : Bool) (bytes : Option (List ℕ)) (totals : Totals) (before out : Taken) (held : List ℕ) (size : ℕ)
+    → keep ≡ false → size ≤ most_file_bytes → IfSome bytes (λ f. size ≡ length f) → totals.bytes ≡ size
+    → IfSome bytes (λ f. (ks : List ChunkValue) → IsChainOf (IsAllowed keep) ks f totals.bytes → IsFileOf (IsAllowed keep) ks f)
     → IfSome bytes (λ f. IsPrinted words f totals before out held → HasPut (IsShown words) f before out held [] status.Ok)
 read-through words true bytes totals before out held size strict short exact end whole = absurd (cc strict)
 read-through words false None totals before out held size strict short exact end whole = tt
@@ -352,38 +345,39 @@ read-through words false (Some f) totals before out held size strict short exact
     printed-whole words f totals before out held (omega (arith, short, exact)) (end ∙ exact) whole h
 
 -- a chunk was read: it is given, and what it holds is known
-pub record IsNext (frame : Bool) (bytes : Option (List ℕ)) (totals then : Totals) (size : ℕ) (j : Judged) : Type 0 where
-  pub strict : frame ≡ false
+pub record IsNext (keep : Bool) (bytes : Option (List ℕ)) (totals then : Totals) (size : ℕ) (j : Judged) : Type 0 where
+  pub strict : keep ≡ false
   pub short : IfSome bytes (λ f. length f ≤ most_file_bytes)
-  pub judged : IsJudged frame size totals.bytes j
-  pub given : IfSome bytes (λ f. (ks : List ChunkValue) → IsChainOf (IsAllowed frame) ks f totals.bytes → totals ≡ totals_of ks
-      → IsChainOf (IsAllowed frame) (ks ++ value_of_chunk j.chunk ∷ []) f then.bytes × (then ≡ totals_of (ks ++ value_of_chunk j.chunk ∷ [])))
+  pub judged : IsJudged keep size totals.bytes j
+  pub given : IfSome bytes (λ f. (ks : List ChunkValue) → IsChainOf (IsAllowed keep) ks f totals.bytes → totals ≡ totals_of ks
+      → IsChainOf (IsAllowed keep) (ks ++ value_of_chunk j.chunk ∷ []) f then.bytes × (then ≡ totals_of (ks ++ value_of_chunk j.chunk ∷ [])))
 
 -- and its lines went out, or are held
-pub next-printed : (words : ShowWords) (frame : Bool) (bytes : Option (List ℕ)) (totals then : Totals) (size : ℕ) (j : Judged)
+pub next-printed : (words : ShowWords) (keep : Bool) (bytes : Option (List ℕ)) (totals then : Totals) (size : ℕ) (j : Judged)
     (before : Taken) (made out out_then notes : Option (List ℕ)) (held held_then : List ℕ)
-    → IsNext frame bytes totals then size j
-    → TakesAndHolds out out_then (held ++ record_lines words (enumerate_from j.begin (records_in j.what))) held_then
+    → IsNext keep bytes totals then size j
+    → TakesAndHolds out out_then (held ++ record_lines words.form (enumerate_from j.begin (records_given j.what))) held_then
     → IfSome bytes (λ f. IsPrinted words f totals before (taken_by made out notes) held → IsPrinted words f then before (taken_by made out_then notes) held_then)
 next-printed words true bytes totals then size j before made out out_then notes held held_then next whole = absurd (cc next.strict)
 next-printed words false None totals then size j before made out out_then notes held held_then next whole = tt
 next-printed words false (Some f) totals then size j before made out out_then notes held held_then next whole = λ h.
-    printed-more words f totals then before made out out_then notes held held_then (value_of_chunk j.chunk) (records_in j.what) j.begin h next.given
+    printed-more words f totals then before made out out_then notes held held_then (value_of_chunk j.chunk) (records_given j.what) j.begin h next.given
     (what_holds (value_of_chunk j.chunk) j.what next.judged.what) next.judged.begin whole
 
 -- or they failed to
-pub next-failed : (words : ShowWords) (frame : Bool) (bytes : Option (List ℕ)) (totals then : Totals) (size : ℕ) (j : Judged)
-    (before : Taken) (made out out_then notes : Option (List ℕ)) (held : List ℕ)
-    → IsNext frame bytes totals then size j
-    → TakesFront out out_then (held ++ record_lines words (enumerate_from j.begin (records_in j.what)))
-    → held ++ record_lines words (enumerate_from j.begin (records_in j.what)) ≢ []
+pub next-failed : (words : ShowWords) (keep : Bool) (bytes : Option (List ℕ)) (totals then : Totals) (size : ℕ) (j : Judged)
+    (before : Taken) (made out out_then notes : Option (List ℕ)) (held held_then : List ℕ)
+    → IsNext keep bytes totals then size j
+    → TakesFront out out_then (held ++ record_lines words.form (enumerate_from j.begin (records_given j.what)))
+    → held ++ record_lines words.form (enumerate_from j.begin (records_given j.what)) ≢ [] → held_then ≡ []
     → IfSome bytes (λ f. IsPrinted words f totals before (taken_by made out notes) held
-    → (answer : Answer) → OfFile (IsShown words) (f ∷ []) answer → HasBrokenOff Out before (taken_by made out_then notes) answer)
-next-failed words true bytes totals then size j before made out out_then notes held next front some = absurd (cc next.strict)
-next-failed words false None totals then size j before made out out_then notes held next front some = tt
-next-failed words false (Some f) totals then size j before made out out_then notes held next front some = λ h.
-    printed-failed words f totals then before made out out_then notes held [] (value_of_chunk j.chunk) (records_in j.what) j.begin next.short h next.given
-    (what_holds (value_of_chunk j.chunk) j.what next.judged.what) next.judged.begin front some
+    → AreBytes f → (answer : Answer) × OfFile (IsShown words) (f ∷ []) answer × HasBrokenOff Out before (taken_by made out_then notes) held_then answer)
+next-failed words true bytes totals then size j before made out out_then notes held held_then next front some none = absurd (cc next.strict)
+next-failed words false None totals then size j before made out out_then notes held held_then next front some none = tt
+next-failed words false (Some f) totals then size j before made out out_then notes held held_then next front some none = λ h.
+    some-answer (IsShown words) (shown_exists words) (HasBrokenOff Out before (taken_by made out_then notes) held_then) f
+    (printed-failed words f totals then before made out out_then notes held held_then (value_of_chunk j.chunk) (records_given j.what) j.begin next.short h next.given
+    (what_holds (value_of_chunk j.chunk) j.what next.judged.what) next.judged.begin front some none)
 
 -- before the first chunk nothing was printed
 pub printed-none : (words : ShowWords) (bytes : Option (List ℕ)) (totals : Totals) (out : Taken) (held : List ℕ)
@@ -397,7 +391,7 @@ printed-none words (Some f) totals out held front none =
 
 -- one step more, of a file whose bytes stayed
 pub printed-on : (words : ShowWords) (a b : Option (List ℕ)) (totals then : Totals) (before out out_then : Taken) (held held_then : List ℕ)
-    (result : Result Bool ReadingEnd) → a ≡ b
+    (result : Result Bool (Ending Fault)) → a ≡ b
     → IfSome a (λ f. IsPrinted words f totals before out held → PrintsOn words result f then before out_then held_then)
     → IfSome b (λ f. IsPrinted words f totals before out held) → IfSome b (λ f. PrintsOn words result f then before out_then held_then)
 printed-on words a None totals then before out out_then held held_then result same on h = tt
@@ -408,24 +402,15 @@ printed-on words (Some e) (Some f) totals then before out out_then held held_the
     (on (subst (λ (x : List ℕ). IsPrinted words x totals before out held) (sym one) h))
 
 -- an end that is passed on
-prints-any : (X Y : Type 0) (P : List ℕ → Answer → Type 0) (why : ReadingEnd) (file : List ℕ) (before after : Taken) (held : List ℕ)
-    → Prints {X = X} P (Err why) file before after held → Prints {X = Y} P (Err why) file before after held
-prints-any X Y P end.Limit file before after held h = h
-prints-any X Y P (end.Refused fault) file before after held h = h
-prints-any X Y P end.File file before after held h = h
-prints-any X Y P end.Out file before after held h = h
-prints-any X Y P end.Memory file before after held h = h
-
-pub printed-ended : (words : ShowWords) (bytes : Option (List ℕ)) (then : Totals) (before after : Taken) (held : List ℕ) (why : ReadingEnd)
-    (ended : Result Bool ReadingEnd) (result : Result (Unit {0}) ReadingEnd)
+pub printed-ended : (words : ShowWords) (bytes : Option (List ℕ)) (then : Totals) (before after : Taken) (held : List ℕ) (why : Ending Fault)
+    (ended : Result Bool (Ending Fault)) (result : Result (Unit {0}) (Ending Fault))
     → ended ≡ Err why → IsErr result → IsErrAnd result (λ made. made ≡ why)
-    → IfSome bytes (λ f. PrintsOn words ended f then before after held) → IfSome bytes (λ f. Prints (IsShown words) result f before after held)
+    → IfSome bytes (λ f. PrintsOn words ended f then before after held) → IfSome bytes (λ f. HasPutAtEnd reading_ends (IsShown words) result f before after held)
 printed-ended words None then before after held why ended result same err is h = tt
 printed-ended words (Some f) then before after held why ended (Ok x) same err is h = absurd (cc err)
 printed-ended words (Some f) then before after held why ended (Err made) same err is h =
-    subst (λ (w : ReadingEnd). Prints {X = ℕ} (IsShown words) (Err w) f before after held) (sym is)
-    (prints-any Bool ℕ (IsShown words) why f before after held
-    (subst (λ (r : Result Bool ReadingEnd). PrintsOn words r f then before after held) same h))
+    subst (λ (w : Ending Fault). HasPutEarly refused_text status.Refused (IsShown words) w f before after held) (sym is)
+    (subst (λ (r : Result Bool (Ending Fault)). PrintsOn words r f then before after held) same h)
 
 -- what holds of each file holds of the one that is told
 pub read-none : (bytes : Option (List ℕ)) (totals : Totals) → ((f : List ℕ) → AreReadFrom false f totals) → IfSome bytes (λ f. AreReadFrom false f totals)

@@ -1,22 +1,38 @@
--- What strict reading of a record file says, and what a command means that reads so. Own.
-use Rattle.std.specs.Prelude.{◌≡◌, ℕ, ◌⊎◌, Bool, true, List, [], ◌∷◌, ◌++◌, decimal, if◌then◌else◌}
+-- What strict reading of a record file says, and how it ends. Own.
+use Rattle.std.specs.Prelude.{◌≡◌, ℕ, ◌⊎◌, Bool, true, false, List, [], ◌∷◌, ◌++◌, decimal, if◌then◌else◌}
 use lib.Chars.{codes}
-use Rattle.record_io.specs.Puts.{Put}
+use Rattle.hex.specs.Hex.{encode_lower}
 use Rattle.chunk_reader.specs.declared.reasons.Fault.{Fault}
 use Rattle.chunk_reader.specs.Names.{name_of}
+use Rattle.show_files.specs.declared.show_words.RecordForm.{RecordForm}
 use Rattle.run_answers.specs.declared.status.Status.{Status}
-use Rattle.run_answers.specs.Answers.{Answer, line}
-use Rattle.run_answers.specs.Meanings.{Meaning, meaning, none_used}
-use Rattle.run_answers.specs.FileAnswers.{IsInReach, IsTooLong, OfFile, OfFileSoFar, limit_text}
+use Rattle.run_answers.specs.Answers.{line}
+use Rattle.run_answers.specs.FileAnswers.{IsInReach, IsTooLong, limit_text}
 use Rattle.run_answers.specs.declared.status.Status.TheVariants as status
 
 -- the line that tells a fault
 abbrev pub refused_text : Fault → List ℕ
 refused_text fault = line (codes "refused " ++ decimal fault.at ++ 32 ∷ name_of fault.why)
 
--- a record as a line, behind its position where that is wanted
-abbrev pub record_line : Bool → ℕ × List ℕ → List ℕ
-record_line positions placed = line (if positions then decimal placed.0 ++ 32 ∷ placed.1 else placed.1)
+-- records as they are, and nothing before them
+abbrev pub bare : RecordForm
+bare = record { positions = false; hex = false }
+
+-- their digits, and nothing before them
+abbrev pub digits_alone : RecordForm
+digits_alone = record bare { hex = true }
+
+-- what is printed before a record: its position where that is wanted
+abbrev pub position_text : Bool → ℕ → List ℕ
+position_text positions position = if positions then decimal position ++ 32 ∷ [] else []
+
+-- what is printed of its bytes: themselves, or their digits in the hexadecimal form
+abbrev pub bytes_text : Bool → List ℕ → List ℕ
+bytes_text hex bytes = if hex then encode_lower bytes else bytes
+
+-- a record as a line
+abbrev pub record_line : RecordForm → ℕ × List ℕ → List ℕ
+record_line form placed = line (position_text form.positions placed.0 ++ bytes_text form.hex placed.1)
 
 -- how strict reading of a file of such a size may end, whatever it holds: with its work done or with a fault, or as the
 -- file is too long
@@ -25,13 +41,3 @@ MayEndReading sizes ended text =
     (IsInReach sizes × (ended ≡ status.Ok) × (text ≡ []))
     ⊎ (IsInReach sizes × (fault : Fault) × (ended ≡ status.Refused) × (text ≡ refused_text fault))
     ⊎ (IsTooLong sizes × (ended ≡ status.Limit) × (text ≡ limit_text))
-
--- what a command means that reads one file strictly and prints, of which these are the answers and what it may have put so far
-abbrev pub file_meaning : (List ℕ → Answer → Type 0) → (List ℕ → List Put → Type 0) → Meaning
-file_meaning Answers SoFar =
-    record (meaning (record none_used { files = true; out = true; memory = true }) (λ r answer. OfFile Answers r.files answer)) {
-      may_have_put = λ r part. OfFileSoFar SoFar r.files part;
-      may_work = IsInReach;
-      may_take = λ sizes before after. Unit {0};
-      may_end = MayEndReading;
-    }

@@ -8,7 +8,8 @@ use Rattle.chunk_reader.specs.Faults.{IsLongest, HasNoFault, IsFault}
 use Rattle.chunk_reader.specs.declared.reasons.Fault.{Fault}
 use Rattle.show_files.specs.declared.show_words.ShowWords.{ShowWords}
 use Rattle.run_answers.specs.Answers.{Answer}
-use Rattle.show_files.specs.Readings.{refused_text, record_line, file_meaning}
+use Rattle.show_files.specs.Readings.{refused_text, record_line, MayEndReading}
+use Rattle.run_answers.specs.FileAnswers.{file_meaning}
 use Rattle.run_answers.specs.Meanings.{Meaning}
 use Rattle.run_answers.specs.declared.status.Status.TheVariants as status
 
@@ -20,7 +21,7 @@ pub record IsShown (words : ShowWords) (file : List ℕ) (answer : Answer) : Typ
   pub longest : IsLongest IsPlain ks file place
   pub records : ArePlaced ks placed
   pub said : List ℕ
-  pub puts : answer.puts ≡ puts_to Out (flat_map (record_line words.positions) placed) ++ puts_to Notes said
+  pub puts : answer.puts ≡ puts_to Out (flat_map (record_line words.form) placed) ++ puts_to Notes said
   pub ended : (HasNoFault false file × (said ≡ []) × (answer.status ≡ status.Ok))
       ⊎ ((fault : Fault) × IsFault false file fault × (said ≡ refused_text fault) × (answer.status ≡ status.Refused))
 
@@ -31,8 +32,8 @@ pub record IsShownSoFar (words : ShowWords) (file : List ℕ) (part : List Put) 
   pub placed : List (ℕ × List ℕ)
   pub chain : IsChainOf IsPlain ks file place
   pub records : ArePlaced ks placed
-  pub puts : part ≡ puts_to Out (flat_map (record_line words.positions) placed)
+  pub puts : part ≡ puts_to Out (flat_map (record_line words.form) placed)
 
 -- what `show` means
 abbrev pub show_meaning : ShowWords → Meaning
-show_meaning words = file_meaning (IsShown words) (IsShownSoFar words)
+show_meaning words = record (file_meaning (IsShown words) (IsShownSoFar words)) { may_end = MayEndReading }

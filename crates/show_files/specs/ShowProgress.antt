@@ -8,20 +8,23 @@ use Rattle.meta_chunk.specs.Counts.{totals_of}
 use Rattle.meta_chunk.specs.Files.{IsPlain, IsChainOf, ArePlaced}
 use Rattle.chunk_reader.specs.declared.judging.What.{What}
 use Rattle.chunk_reader.specs.declared.judging.What.TheVariants.{Records}
-use Rattle.show_files.specs.declared.reading.ReadingEnd.{ReadingEnd}
+use Rattle.chunk_reader.specs.declared.reasons.Fault.{Fault}
+use Rattle.run_answers.specs.declared.ending.Ending.{Ending}
+use Rattle.run_answers.specs.Endings.{HasPutAtEnd}
+use Rattle.show_files.specs.declared.show_words.RecordForm.{RecordForm}
 use Rattle.show_files.specs.declared.show_words.ShowWords.{ShowWords}
+use Rattle.show_files.specs.ReadingEnds.{reading_ends}
 use Rattle.show_files.specs.Readings.{record_line}
 use Rattle.show_files.specs.ShowCommand.{IsShown}
-use Rattle.show_files.specs.ReadingEnds.{Prints}
 
 -- the lines of records with their positions
-abbrev pub record_lines : ShowWords → List (ℕ × List ℕ) → List ℕ
-record_lines words placed = flat_map (record_line words.positions) placed
+abbrev pub record_lines : RecordForm → List (ℕ × List ℕ) → List ℕ
+record_lines form placed = flat_map (record_line form) placed
 
 -- the records of a chunk that was read, of which there are none where it is none of records
-abbrev pub records_in : What → List (List ℕ)
-records_in (Records records) = records
-records_in other = []
+abbrev pub records_given : What → List (List ℕ)
+records_given (Records records) = records
+records_given other = []
 
 -- the text is the lines of the records of the chunks at a file's front, of which these are the totals
 pub record IsTextOf (words : ShowWords) (file : List ℕ) (totals : Totals) (text : List ℕ) : Type 0 where
@@ -30,7 +33,7 @@ pub record IsTextOf (words : ShowWords) (file : List ℕ) (totals : Totals) (tex
   pub chain : IsChainOf IsPlain ks file totals.bytes
   pub counted : totals ≡ totals_of ks
   pub records : ArePlaced ks placed
-  pub lines : text ≡ record_lines words placed
+  pub lines : text ≡ record_lines words.form placed
 
 -- such a text was printed, or is held
 abbrev pub IsPrinted : ShowWords → List ℕ → Totals → (before after : Taken) → List ℕ → Type 0
@@ -38,6 +41,6 @@ IsPrinted words file totals before after held =
     (text : List ℕ) × IsTextOf words file totals text × GoOutOrAreHeld before after Out (puts_to Out text) held
 
 -- a chunk more was printed, or the work ended
-abbrev pub PrintsOn : ShowWords → Result Bool ReadingEnd → List ℕ → Totals → (before after : Taken) → List ℕ → Type 0
+abbrev pub PrintsOn : ShowWords → Result Bool (Ending Fault) → List ℕ → Totals → (before after : Taken) → List ℕ → Type 0
 PrintsOn words (Ok true) file totals before after held = IsPrinted words file totals before after held
-PrintsOn words result file totals before after held = Prints (IsShown words) result file before after held
+PrintsOn words result file totals before after held = HasPutAtEnd reading_ends (IsShown words) result file before after held

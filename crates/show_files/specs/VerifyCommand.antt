@@ -7,8 +7,8 @@ use Rattle.meta_chunk.specs.Files.{IsFrame}
 use Rattle.chunk_reader.specs.Faults.{IsFault}
 use Rattle.chunk_reader.specs.declared.reasons.Fault.{Fault}
 use Rattle.run_answers.specs.Answers.{Answer, noted}
-use Rattle.show_files.specs.Readings.{refused_text, file_meaning}
-use Rattle.run_answers.specs.FileAnswers.{report}
+use Rattle.show_files.specs.Readings.{refused_text, MayEndReading}
+use Rattle.run_answers.specs.FileAnswers.{file_meaning, report}
 use Rattle.run_answers.specs.Meanings.{Meaning, none_used}
 use Rattle.run_answers.specs.declared.status.Status.TheVariants as status
 
@@ -23,9 +23,9 @@ IsVerified file answer =
 abbrev pub IsVerifiedSoFar : List ℕ → List Put → Type 0
 IsVerifiedSoFar file part = part ≡ []
 
--- how many bytes of a file judging hands out at most: each once, and the first 64 twice
+-- how many bytes of a file judging hands out at most: each once
 abbrev pub MayJudge : (sizes before after : List ℕ) → Type 0
-MayJudge (size ∷ []) (before ∷ []) (after ∷ []) = after ≤ before + (size + 64)
+MayJudge (size ∷ []) (before ∷ []) (after ∷ []) = after ≤ before + size
 MayJudge sizes before after = ⊥
 
 -- what `verify` means
@@ -33,4 +33,5 @@ abbrev pub verify_meaning : Meaning
 verify_meaning = record (file_meaning IsVerified IsVerifiedSoFar) {
   uses = record none_used { files = true; out = true };
   may_take = MayJudge;
+  may_end = MayEndReading;
 }

@@ -4,19 +4,20 @@ ghost use Rattle.record_io.specs.Outside.{Rose};
 ghost use Rattle.record_io.specs.Puts.{Taken, taken_by};
 ghost use Rattle.record_io.specs.Calls.{OnlyAsks, OnlyCounts, PutsThrough};
 ghost use Rattle.chunk_reader.specs.Progress.{AreReadFrom};
+ghost use Rattle.run_answers.specs.Endings.{HasPutAtEnd, IsAllowedEnd, IsShort};
 ghost use Rattle.run_answers.specs.FileAnswers.{HandsOut};
+ghost use Rattle.show_files.specs.ReadingEnds.{reading_ends};
 ghost use Rattle.show_files.specs.ShowCommand.{IsShown, IsShownSoFar, show_meaning};
-ghost use Rattle.show_files.specs.ReadingEnds.{EndsBySize, IsShortReading, Prints};
 ghost use Rattle.run_answers.specs.PutSoFar.{HasPutSoFar};
-ghost use Rattle.show_files.specs.ShowProgress.{record_lines, records_in, IsPrinted, PrintsOn};
+ghost use Rattle.show_files.specs.ShowProgress.{record_lines, records_given, IsPrinted, PrintsOn};
 ghost use Rattle.run_answers.specs.Runs.{Runs, Seen, shown, shown_file};
 
-use crate::reading::{ReadingEnd, end_reading, unprinted};
+use crate::reading::end_reading;
 use crate::record_lines::{LINES, put_records};
 use crate::show_words::ShowWords;
-use chunk_reader::{Judged, Reader, What};
+use chunk_reader::{Fault, Judged, ReadEnd, Reader, What};
 use record_io::{Failed, PutBuffer, Sink, Store};
-use run_answers::{Status, size_of};
+use run_answers::{Cut, Ending, Status, size_of, unprinted};
 use simple_chunk::Records;
 use std::alloc::Global;
 
@@ -46,24 +47,24 @@ fn print_file<S: Store, O: Sink>(
     words: &ShowWords,
     file: &mut S,
     out: &mut O,
-) -> Result<(), ReadingEnd>
-    ensures printed { (made notes : Option (List ℕ)) → IfSome (S.bytes file.old) (λ bytes. Prints (IsShown words.now) result bytes
+) -> Result<(), Ending<Fault>>
+    ensures printed { (made notes : Option (List ℕ)) → IfSome (S.bytes file.old) (λ bytes. HasPutAtEnd reading_ends (IsShown words.now) result bytes
         (taken_by made (O.taken out.old) notes) (taken_by made (O.taken out.new) notes) []) }
-    ensures so_far { IsErrAnd result IsShortReading → ¬ Rose (O.faults out.old) (O.faults out.new) → (made notes : Option (List ℕ))
+    ensures so_far { IsErrAnd result IsShort → ¬ Rose (O.faults out.old) (O.faults out.new) → (made notes : Option (List ℕ))
         → IfSome (S.bytes file.old) (λ bytes. HasPutSoFar (IsShownSoFar words.now bytes)
         (taken_by made (O.taken out.old) notes) (taken_by made (O.taken out.new) notes) []) }
-    ensures sized { EndsBySize result (S.told file.new) }
+    ensures allowed { IsAllowedEnd (show_meaning words.now) result (S.told file.new) }
     ensures handed { HandsOut (show_meaning words.now) (S.told file.new) (S.handed file.old) (S.handed file.new) }
     ensures same_bytes { S.bytes file.new ≡ S.bytes file.old }
-    ensures file { OnlyCounts S.name S.faults (result ≡ Err ReadingEnd.File) file.old file.new }
-    ensures out { OnlyCounts O.lent O.faults (result ≡ Err ReadingEnd.Out) out.old out.new }
+    ensures file { OnlyCounts S.name S.faults (result ≡ Err (Ending.Cut Cut.File)) file.old file.new }
+    ensures out { OnlyCounts O.lent O.faults (result ≡ Err (Ending.Cut Cut.Out)) out.old out.new }
 {
     let size = size_of(file)?;
     let mut lines = PutBuffer::new();
     let printed = print_chunks(alloc, words, size, file, &mut lines, out);
     match lines.flush(out) {
         Ok(()) => printed,
-        Err(Failed) => Err(unprinted(&printed)),
+        Err(Failed) => Err(Ending::Cut(unprinted(&printed))),
     }
 }
 
@@ -75,20 +76,19 @@ fn print_chunks<S: Store, O: Sink>(
     file: &mut S,
     lines: &mut PutBuffer<LINES>,
     out: &mut O,
-) -> Result<(), ReadingEnd>
+) -> Result<(), Ending<Fault>>
     requires told { S.told file.old ≡ Some size }
     requires in_reach { size ≤ 2 ^ 60 }
     requires exact { IfSome (S.bytes file.old) (λ bytes. size ≡ length bytes) }
     requires none_held { lines.old ≡ [] }
-    ensures printed { (made notes : Option (List ℕ)) → IfSome (S.bytes file.old) (λ bytes. Prints (IsShown words.now) result bytes
+    ensures printed { (made notes : Option (List ℕ)) → IfSome (S.bytes file.old) (λ bytes. HasPutAtEnd reading_ends (IsShown words.now) result bytes
         (taken_by made (O.taken out.old) notes) (taken_by made (O.taken out.new) notes) lines.new) }
-    ensures so_far { IsErrAnd result IsShortReading → (made notes : Option (List ℕ))
+    ensures so_far { IsErrAnd result IsShort → (made notes : Option (List ℕ))
         → IfSome (S.bytes file.old) (λ bytes. HasPutSoFar (IsShownSoFar words.now bytes)
         (taken_by made (O.taken out.old) notes) (taken_by made (O.taken out.new) notes) lines.new) }
-    ensures emptied { result ≡ Err ReadingEnd.Out → lines.new ≡ [] }
-    ensures sized { EndsBySize result (S.told file.new) }
-    ensures file { OnlyAsks S.bytes S.told S.name S.faults (result ≡ Err ReadingEnd.File) file.old file.new }
-    ensures out { OnlyCounts O.lent O.faults (result ≡ Err ReadingEnd.Out) out.old out.new }
+    ensures allowed { IsAllowedEnd (show_meaning words.now) result (S.told file.new) }
+    ensures file { OnlyAsks S.bytes S.told S.name S.faults (result ≡ Err (Ending.Cut Cut.File)) file.old file.new }
+    ensures out { OnlyCounts O.lent O.faults (result ≡ Err (Ending.Cut Cut.Out)) out.old out.new }
 {
     let mut reader = Reader::new(size, false);
     while print_next(alloc, words, &mut reader, file, lines, out)? {}
@@ -103,33 +103,36 @@ fn print_next<S: Store, O: Sink>(
     file: &mut S,
     lines: &mut PutBuffer<LINES>,
     out: &mut O,
-) -> Result<bool, ReadingEnd>
-    requires strict { reader.old.frame ≡ false }
+) -> Result<bool, Ending<Fault>>
+    requires strict { reader.old.keep ≡ false }
     requires told { S.told file.old ≡ Some reader.old.size }
     requires in_reach { reader.old.size ≤ 2 ^ 60 }
     requires exact { IfSome (S.bytes file.old) (λ bytes. reader.old.size ≡ length bytes) }
     requires place { IfSome (S.bytes file.old) (λ bytes. AreReadFrom false bytes reader.old.totals) }
     ensures same_size { reader.new.size ≡ reader.old.size }
-    ensures same_frame { reader.new.frame ≡ reader.old.frame }
+    ensures same_keep { reader.new.keep ≡ reader.old.keep }
     ensures moved { result ≡ Ok true → reader.old.totals.bytes < reader.new.totals.bytes }
     ensures within { reader.new.totals.bytes ≤ reader.new.size }
     ensures read { IfSome (S.bytes file.old) (λ bytes. AreReadFrom false bytes reader.new.totals) }
     ensures printed { (before : Taken) (made notes : Option (List ℕ)) → IfSome (S.bytes file.old) (λ bytes.
         IsPrinted words.now bytes reader.old.totals before (taken_by made (O.taken out.old) notes) lines.old
         → PrintsOn words.now result bytes reader.new.totals before (taken_by made (O.taken out.new) notes) lines.new) }
-    ensures same_lines { IsErrAnd result IsShortReading → lines.new ≡ lines.old }
-    ensures same_out { IsErrAnd result IsShortReading → out.new ≡ out.old }
-    ensures emptied { result ≡ Err ReadingEnd.Out → lines.new ≡ [] }
-    ensures sized { EndsBySize result (S.told file.new) }
-    ensures file { OnlyAsks S.bytes S.told S.name S.faults (result ≡ Err ReadingEnd.File) file.old file.new }
-    ensures out { OnlyCounts O.lent O.faults (result ≡ Err ReadingEnd.Out) out.old out.new }
+    ensures same_lines { IsErrAnd result IsShort → lines.new ≡ lines.old }
+    ensures same_out { IsErrAnd result IsShort → out.new ≡ out.old }
+    ensures allowed { IsAllowedEnd (show_meaning words.now) result (S.told file.new) }
+    ensures file { OnlyAsks S.bytes S.told S.name S.faults (result ≡ Err (Ending.Cut Cut.File)) file.old file.new }
+    ensures out { OnlyCounts O.lent O.faults (result ≡ Err (Ending.Cut Cut.Out)) out.old out.new }
 {
-    let Some(judged) = reader.next(alloc, file)? else {
-        return Ok(false);
+    let judged = match reader.next(alloc, file) {
+        Ok(Some(judged)) => judged,
+        Ok(None) => return Ok(false),
+        Err(ReadEnd::Refused(fault)) => return Err(Ending::At(fault)),
+        Err(ReadEnd::Store) => return Err(Ending::Cut(Cut::File)),
+        Err(ReadEnd::Memory) => return Err(Ending::Cut(Cut::Memory)),
     };
     match put_chunk(words, &judged, lines, out) {
         Ok(()) => Ok(true),
-        Err(Failed) => Err(ReadingEnd::Out),
+        Err(Failed) => Err(Ending::Cut(Cut::Out)),
     }
 }
 
@@ -140,12 +143,12 @@ fn put_chunk<O: Sink>(
     lines: &mut PutBuffer<LINES>,
     out: &mut O,
 ) -> Result<(), Failed>
-    requires { judged.now.begin + length (records_in judged.now.what) < 2 ^ 64 }
-    ensures out { PutsThrough O.taken O.lent O.faults result lines.old lines.new (record_lines words.now (enumerate_from judged.now.begin (records_in judged.now.what))) out.old out.new }
-    ensures some { OnErr result (lines.old ++ record_lines words.now (enumerate_from judged.now.begin (records_in judged.now.what)) ≢ []) }
+    requires { judged.now.begin + length (records_given judged.now.what) < 2 ^ 64 }
+    ensures out { PutsThrough O.taken O.lent O.faults result lines.old lines.new (record_lines words.now.form (enumerate_from judged.now.begin (records_given judged.now.what))) out.old out.new }
+    ensures some { OnErr result (lines.old ++ record_lines words.now.form (enumerate_from judged.now.begin (records_given judged.now.what)) ≢ []) }
 {
     match &judged.what {
-        What::Records(records) => put_records(words, judged.begin, records, lines, out),
+        What::Records(records) => put_records(&words.form, judged.begin, records, lines, out),
         What::Passive | What::Unread => Ok(()),
     }
 }

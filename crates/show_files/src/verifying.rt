@@ -1,14 +1,16 @@
-ghost use Rattle.std.specs.Prelude.{◌≡◌, ◌≢◌, ℕ, Option, Err, List, [], ◌∷◌, IfSome, IsErrAnd};
+ghost use Rattle.std.specs.Prelude.{◌≡◌, ℕ, Option, Err, List, [], ◌∷◌, IfSome, IsErrAnd};
 ghost use Rattle.record_io.specs.Puts.{taken_by};
 ghost use Rattle.record_io.specs.Calls.{OnlyCounts};
+ghost use Rattle.run_answers.specs.Endings.{HasPutAtEnd, IsAllowedEnd, IsShort};
 ghost use Rattle.run_answers.specs.FileAnswers.{HandsOut, report};
+ghost use Rattle.show_files.specs.ReadingEnds.{reading_ends};
 ghost use Rattle.show_files.specs.VerifyCommand.{IsVerified, verify_meaning};
-ghost use Rattle.show_files.specs.ReadingEnds.{EndsBySize, IsShortReading, Prints};
 ghost use Rattle.run_answers.specs.Runs.{Runs, Seen, shown, shown_file};
 
-use crate::reading::{ReadingEnd, end_reading};
+use crate::reading::end_reading;
+use chunk_reader::{Fault, VerifyEnd};
 use record_io::{Failed, Sink, Store};
-use run_answers::{Status, put_report, size_of};
+use run_answers::{Cut, Ending, Status, put_report, size_of};
 
 /// Judges a file and prints the report of its totals, or says in notes why it is refused. It takes no memory.
 pub fn verify<S: Store, O: Sink, E: Sink>(file: &mut S, out: &mut O, notes: &mut E) -> Status
@@ -25,21 +27,24 @@ pub fn verify<S: Store, O: Sink, E: Sink>(file: &mut S, out: &mut O, notes: &mut
 }
 
 /// Judges a file and prints the report of its totals.
-fn report_file<S: Store, O: Sink>(file: &mut S, out: &mut O) -> Result<(), ReadingEnd>
-    ensures printed { (made notes : Option (List ℕ)) → IfSome (S.bytes file.old) (λ bytes. Prints IsVerified result bytes
+fn report_file<S: Store, O: Sink>(file: &mut S, out: &mut O) -> Result<(), Ending<Fault>>
+    ensures printed { (made notes : Option (List ℕ)) → IfSome (S.bytes file.old) (λ bytes. HasPutAtEnd reading_ends IsVerified result bytes
         (taken_by made (O.taken out.old) notes) (taken_by made (O.taken out.new) notes) []) }
-    ensures same_out { IsErrAnd result IsShortReading → out.new ≡ out.old }
-    ensures sized { EndsBySize result (S.told file.new) }
+    ensures same_out { IsErrAnd result IsShort → out.new ≡ out.old }
+    ensures allowed { IsAllowedEnd verify_meaning result (S.told file.new) }
     ensures handed { HandsOut verify_meaning (S.told file.new) (S.handed file.old) (S.handed file.new) }
     ensures same_bytes { S.bytes file.new ≡ S.bytes file.old }
-    ensures file { OnlyCounts S.name S.faults (result ≡ Err ReadingEnd.File) file.old file.new }
-    ensures out { OnlyCounts O.lent O.faults (result ≡ Err ReadingEnd.Out) out.old out.new }
-    ensures memory { result ≢ Err ReadingEnd.Memory }
+    ensures file { OnlyCounts S.name S.faults (result ≡ Err (Ending.Cut Cut.File)) file.old file.new }
+    ensures out { OnlyCounts O.lent O.faults (result ≡ Err (Ending.Cut Cut.Out)) out.old out.new }
 {
     let size = size_of(file)?;
-    let totals = chunk_reader::verify(file, size)?;
+    let totals = match chunk_reader::verify(file, size) {
+        Ok(totals) => totals,
+        Err(VerifyEnd::Refused(fault)) => return Err(Ending::At(fault)),
+        Err(VerifyEnd::Store) => return Err(Ending::Cut(Cut::File)),
+    };
     match put_report(&totals, out) {
         Ok(()) => Ok(()),
-        Err(Failed) => Err(ReadingEnd::Out),
+        Err(Failed) => Err(Ending::Cut(Cut::Out)),
     }
 }

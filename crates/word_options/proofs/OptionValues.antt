@@ -1,6 +1,6 @@
 -- Words of commands, judged by hand, computed from the definitions.
 use Rattle.std.proofs.Common.{◌≡◌, ◌++◌, ℕ, true, false, Some, None, List, [], ◌∷◌, codes, refl}
-use Rattle.word_options.specs.Options.{is_file_word, value_in, values_of, value_of, are_words_of, file_places, only}
+use Rattle.word_options.specs.Options.{is_file_word, value_in, values_of, value_given, are_words_of, file_places, only}
 
 -- an option with a value
 value : value_in (codes "--chunk=") (codes "--chunk=16") ≡ Some (codes "16")
@@ -124,10 +124,10 @@ show_dash = refl
 show_dashes : are_words_of show_options (codes "show" ∷ codes "--" ∷ codes "F" ∷ []) ≡ false
 show_dashes = refl
 
-show_no_flag : value_of (codes "--hex") (codes "show" ∷ codes "--recover" ∷ codes "F" ∷ []) ≡ None
+show_no_flag : value_given (codes "--hex") (codes "show" ∷ codes "--recover" ∷ codes "F" ∷ []) ≡ None
 show_no_flag = refl
 
-show_flag : value_of (codes "--hex") (codes "show" ∷ codes "F" ∷ codes "--hex" ∷ []) ≡ Some []
+show_flag : value_given (codes "--hex") (codes "show" ∷ codes "F" ∷ codes "--hex" ∷ []) ≡ Some []
 show_flag = refl
 
 -- a key of the same letters as an option, and an empty one
@@ -137,7 +137,7 @@ seek_key = refl
 seek_both : values_of (codes "--at=") (codes "seek" ∷ codes "--at=1" ∷ codes "--key=--at=2" ∷ codes "F" ∷ []) ≡ codes "1" ∷ []
 seek_both = refl
 
-seek_empty_key : value_of (codes "--key=") (codes "seek" ∷ codes "F" ∷ codes "--key=" ∷ []) ≡ Some []
+seek_empty_key : value_given (codes "--key=") (codes "seek" ∷ codes "F" ∷ codes "--key=" ∷ []) ≡ Some []
 seek_empty_key = refl
 
 -- a command without options

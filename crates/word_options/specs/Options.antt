@@ -23,8 +23,8 @@ abbrev pub values_of : List ℕ → List (List ℕ) → List (List ℕ)
 values_of option words = filter_map (value_in option) words
 
 -- the option's value, where it stands
-abbrev pub value_of : List ℕ → List (List ℕ) → Option (List ℕ)
-value_of option words = slice_get (values_of option words) 0
+abbrev pub value_given : List ℕ → List (List ℕ) → Option (List ℕ)
+value_given option words = slice_get (values_of option words) 0
 
 -- whether a word may stand in a command of these options: it names a file, or is one of them
 abbrev pub is_word_of : List (List ℕ) → List ℕ → Bool

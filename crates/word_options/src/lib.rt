@@ -4,4 +4,4 @@
 mod numbers;
 mod options;
 
-pub use options::{are_words_of, is_same_at, only_file, optional_number, two_files, value_of};
+pub use options::{are_words_of, is_same_at, only_file, optional_number, two_files, value_given};

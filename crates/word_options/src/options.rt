@@ -2,7 +2,7 @@ ghost use Rattle.std.specs.Prelude.{◌≡◌, length, map, nat_le, slice_get};
 ghost use Rattle.std.specs.Option.{option_copied};
 ghost use Rattle.std.specs.String.{string_bytes};
 ghost use Rattle.word_options.specs.Numbers.{number_within};
-ghost use Rattle.word_options.specs.Options.{is_file_word, has_value, value_in, values_of, value_of, is_word_of, are_words_of, is_file_at, file_places, only, only_two, is_same_at, optional_value};
+ghost use Rattle.word_options.specs.Options.{is_file_word, has_value, value_in, values_of, value_given, is_word_of, are_words_of, is_file_at, file_places, only, only_two, is_same_at, optional_value};
 
 use crate::numbers::number_within;
 
@@ -45,8 +45,8 @@ fn stands_once_at_most(option: &str, words: &[String]) -> bool
 }
 
 /// The option's value, where it stands among the words. A flag's is empty.
-pub fn value_of<'a>(option: &str, words: &'a [String]) -> Option<&'a str>
-    ensures { option_copied result ≡ value_of option.now (map string_bytes words.now) }
+pub fn value_given<'a>(option: &str, words: &'a [String]) -> Option<&'a str>
+    ensures { option_copied result ≡ value_given option.now (map string_bytes words.now) }
 {
     for word in words {
         if let Some(value) = value_in(option, word.as_str()) {
@@ -72,9 +72,9 @@ fn has_value(option: &str) -> bool
 
 /// The number that an option has, if it stands among the words, and None where it isn't one from `least` to `most`.
 pub fn optional_number(option: &str, words: &[String], least: u64, most: u64) -> Option<Option<u64>>
-    ensures { result ≡ optional_value (number_within least most) (value_of option.now (map string_bytes words.now)) }
+    ensures { result ≡ optional_value (number_within least most) (value_given option.now (map string_bytes words.now)) }
 {
-    match value_of(option, words) {
+    match value_given(option, words) {
         Some(value) => number_within(value, least, most).map(Some),
         None => Some(None),
     }

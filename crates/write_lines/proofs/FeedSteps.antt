@@ -1,14 +1,16 @@
 -- What a feed of lines gave of its text, and what is left of it then.
-use Rattle.std.proofs.Common.{◌≡◌, ◌∙◌, ℕ, zero as nought, suc, ◌+◌, ◌-◌, ◌<◌, ◌≤◌, ◌↔◌, Bool, true, false, not, IsTrue, List, [], ◌∷◌, ◌++◌, Option, Some, None, Result, Ok, length, take, drop, option_map, unwrap_or, refl, sym, ap, subst, arith, length-append, length-drop, append_assoc, append-nil}
+use Rattle.std.proofs.Common.{◌≡◌, ◌∙◌, ℕ, zero as nought, suc, ◌+◌, ◌-◌, ◌<◌, ◌≤◌, ◌↔◌, Bool, true, false, not, IsTrue, List, [], ◌∷◌, ◌++◌, Option, Some, None, Result, Ok, Err, length, take, drop, option_map, unwrap_or, refl, sym, ap, subst, arith, length-append, length-drop, append_assoc, append-nil}
 use Rattle.std.specs.Option.{IfSome}
 use Rattle.std.proofs.lemmas.List.{take-append-drop, length-take-le, drop-drop}
 use Rattle.std.proofs.Math.Seq.{take-add}
+use Rattle.hex.specs.Hex.{decode_of}
+use Rattle.hex.specs.declared.error.FromHexError.{FromHexError}
 use Rattle.record_writer.specs.declared.feed.Stop.{Stop}
-use Rattle.record_writer.specs.declared.feed.Stop.TheVariants.{TooLong, InputTooLong}
+use Rattle.record_writer.specs.declared.feed.Stop.TheVariants.{TooLong, InputTooLong, BadLine}
 use Rattle.record_writer.specs.Feeds.{Rest, GivesRecord, nothing_left, stop_alone}
 use Rattle.run_answers.specs.Lines.{NoneEnds}
-use Rattle.write_lines.specs.Input.{line_limit, taken_before, taken_from}
-use Rattle.write_lines.specs.LineFeeds.{LineEndsAt, text_of, rest_of}
+use Rattle.write_lines.specs.Input.{line_limit, or_bad_line, record_of_line, taken_before, taken_from}
+use Rattle.write_lines.specs.LineFeeds.{GivesLine, LineEndsAt, text_of, rest_of}
 use Rattle.run_answers.proofs.Lines.{NoneEnds-append}
 use Rattle.write_lines.proofs.TakenLines.{taken_from-line, taken_from-nothing, taken_from-last, taken_from-running, taken_from-long, taken_from-spent, short-record}
 
@@ -24,9 +26,31 @@ text_of-kept line held held_then left left_then text same kept =
     text_of-append line held_then left_then ∙ ap (option_map (λ (bytes : List ℕ). line ++ bytes)) kept ∙ sym (text_of-append line held left) ∙ same
 
 -- rests that are the same give the same
-GivesRecord-same : (before before_is after after_is : Option Rest) (given : List ℕ) → before ≡ before_is → after ≡ after_is → GivesRecord before after given → GivesRecord before_is after_is given
-GivesRecord-same before before_is after after_is given b a gives =
-    subst (λ (r : Option Rest). GivesRecord before_is r given) a (subst (λ (r : Option Rest). GivesRecord r after given) b gives)
+GivesLine-same : (hex : Bool) (before before_is after after_is : Option Rest) (line : List ℕ) → before ≡ before_is → after ≡ after_is → GivesLine hex before after line → GivesLine hex before_is after_is line
+GivesLine-same hex before before_is after after_is line b a gives =
+    subst (λ (r : Option Rest). GivesLine hex before_is r line) a (subst (λ (r : Option Rest). GivesLine hex r after line) b gives)
+
+-- the record of a line that was given is the line, or what its digits stand for, or they are none and the line is refused
+pub line-record : (hex : Bool) (before after : Option Rest) (line : List ℕ) → hex ≡ false → length line ≤ line_limit hex → GivesLine hex before after line
+    → GivesRecord before after line
+line-record true before after line plain short gives = absurd (cc plain)
+line-record false None after line plain short gives = tt
+line-record false (Some r) after line plain short gives =
+    (gives.0, gives.1, gives.2 ∙ ap (λ b. taken_before b gives.0) (short-record false line short))
+
+pub digits-record : (hex : Bool) (before after : Option Rest) (line bytes : List ℕ) → hex ≡ true → length line ≤ line_limit hex → decode_of line ≡ Ok bytes
+    → GivesLine hex before after line → GivesRecord before after bytes
+digits-record false before after line bytes digits short decoded gives = absurd (cc digits)
+digits-record true None after line bytes digits short decoded gives = tt
+digits-record true (Some r) after line bytes digits short decoded gives =
+    (gives.0, gives.1, gives.2 ∙ ap (λ b. taken_before b gives.0) (short-record true line short ∙ ap or_bad_line decoded))
+
+pub digits-refused : (hex : Bool) (before after : Option Rest) (line : List ℕ) (stop : Stop) → hex ≡ true → length line ≤ line_limit hex
+    → (stop ≡ BadLine) × ((e : FromHexError) × (decode_of line ≡ Err e)) → GivesLine hex before after line → IfSome before (λ r. r ≡ stop_alone stop)
+digits-refused false before after line stop digits short bad gives = absurd (cc digits)
+digits-refused true None after line stop digits short bad gives = tt
+digits-refused true (Some r) after line stop digits short bad gives =
+    gives.2 ∙ ap (λ b. taken_before b gives.0) (short-record true line short ∙ ap or_bad_line bad.1.1) ∙ ap stop_alone (sym bad.0)
 
 -- a line that runs where the limit is passed
 past-told : (hex : Bool) (bound : ℕ) (line : List ℕ) (left : Option (List ℕ)) → NoneEnds line → length line ≤ line_limit hex
@@ -69,28 +93,24 @@ stop-long hex hex_held bound asked line held left text stop form none is asking 
     (long-told hex bound line held long.1.0 left none long.1.1.0 long.1.1.1 over (omega arith)))
 
 -- a line that ended
-line-told : (bound after : ℕ) (line held : List ℕ) (left : Option (List ℕ)) → NoneEnds line → length line ≤ line_limit false → bound ≡ length line + 1 + after → 0 < after
-    → GivesRecord (rest_of false bound (text_of (line ++ 10 ∷ held) left)) (rest_of false after (text_of held left)) line
-line-told bound after line held None none short is some = tt
-line-told bound after line held (Some bytes) none short is some =
+line-told : (hex : Bool) (bound after : ℕ) (line held : List ℕ) (left : Option (List ℕ)) → NoneEnds line → bound ≡ length line + 1 + after → 0 < after
+    → GivesLine hex (rest_of hex bound (text_of (line ++ 10 ∷ held) left)) (rest_of hex after (text_of held left)) line
+line-told hex bound after line held None none is some = tt
+line-told hex bound after line held (Some bytes) none is some =
     let limit : bound - 1 - (length line + 1) ≡ after - 1 = omega arith in (
-      taken_from (held ++ bytes) false (after - 1),
+      taken_from (held ++ bytes) hex (after - 1),
       refl,
-      ap (λ (l : List ℕ). taken_from l false (bound - 1)) (append_assoc line (10 ∷ held) bytes)
-          ∙ taken_from-line line (held ++ bytes) false (bound - 1) none (omega arith)
-          ∙ ap (λ r. taken_before r (taken_from (held ++ bytes) false (bound - 1 - (length line + 1)))) (short-record line short)
-          ∙ ap (λ (m : ℕ). taken_before (Ok line) (taken_from (held ++ bytes) false m)) limit,
+      ap (λ (l : List ℕ). taken_from l hex (bound - 1)) (append_assoc line (10 ∷ held) bytes)
+          ∙ taken_from-line line (held ++ bytes) hex (bound - 1) none (omega arith)
+          ∙ ap (λ (m : ℕ). taken_before (record_of_line hex line) (taken_from (held ++ bytes) hex m)) limit,
     )
 
--- the record that ends a text
-last-told : (bound : ℕ) (line : List ℕ) (left : Option (List ℕ)) → NoneEnds line → length line ≤ line_limit false → 0 < length line → length line < bound
-    → GivesRecord (rest_of false bound (option_map (λ _. line) left)) (rest_of false 0 (option_map (λ _. []) left)) line
-last-told bound line None none short some within = tt
-last-told bound line (Some bytes) none short some within = (
-  nothing_left,
-  ap Some (taken_from-nothing false 0),
-  taken_from-last line false (bound - 1) none some (omega arith) ∙ ap (λ r. taken_before r nothing_left) (short-record line short),
-)
+-- the line that ends a text
+last-told : (hex : Bool) (bound : ℕ) (line : List ℕ) (left : Option (List ℕ)) → NoneEnds line → 0 < length line → length line < bound
+    → GivesLine hex (rest_of hex bound (option_map (λ _. line) left)) (rest_of hex 0 (option_map (λ _. []) left)) line
+last-told hex bound line None none some within = tt
+last-told hex bound line (Some bytes) none some within =
+    (nothing_left, ap Some (taken_from-nothing hex 0), taken_from-last line hex (bound - 1) none some (omega arith))
 
 -- a text of which nothing is left but the line
 spent : (line held held_then : List ℕ) (left left_then text : Option (List ℕ)) → text_of (line ++ held) left ≡ text
@@ -109,17 +129,17 @@ nothing_held held None empty ended = refl
 nothing_held held (Some bytes) empty ended = ap Some (ap (λ (l : List ℕ). l ++ bytes) empty ∙ ended)
 
 -- the last line, which no byte 10 ended
-pub next-last : (hex hex_then : Bool) (bound bound_then asked : ℕ) (line held held_then : List ℕ) (left left_then text : Option (List ℕ)) → hex ≡ false → hex_then ≡ false
-    → NoneEnds line → length line ≤ line_limit false → 0 < length line → length line + (length held + asked) ≡ bound → 0 < asked → bound_then ≡ 0
+pub next-last : (hex hex_then : Bool) (bound bound_then asked : ℕ) (line held held_then : List ℕ) (left left_then text : Option (List ℕ)) → hex_then ≡ hex
+    → NoneEnds line → 0 < length line → length line + (length held + asked) ≡ bound → 0 < asked → bound_then ≡ 0
     → text_of (line ++ held) left ≡ text → text_of held_then left_then ≡ text_of held left → held_then ≡ [] → unwrap_or left_then [] ≡ []
-    → GivesRecord (rest_of hex bound text) (rest_of hex_then bound_then (text_of held_then left_then)) line
-next-last hex hex_then bound bound_then asked line held held_then left left_then text plain plain_then none short some is asking zero same kept empty ended =
-    let before : rest_of false bound (option_map (λ _. line) left_then) ≡ rest_of hex bound text =
-    ap (rest_of false bound) (sym (spent line held held_then left left_then text same kept empty ended)) ∙ ap (λ (h : Bool). rest_of h bound text) (sym plain) in
-    let after : rest_of false 0 (option_map (λ _. []) left_then) ≡ rest_of hex_then bound_then (text_of held_then left_then) =
-    ap (rest_of false 0) (sym (nothing_held held_then left_then empty ended)) ∙ ap (λ (h : Bool). rest_of h 0 (text_of held_then left_then)) (sym plain_then)
+    → GivesLine hex (rest_of hex bound text) (rest_of hex_then bound_then (text_of held_then left_then)) line
+next-last hex hex_then bound bound_then asked line held held_then left left_then text form none some is asking zero same kept empty ended =
+    let before : rest_of hex bound (option_map (λ _. line) left_then) ≡ rest_of hex bound text =
+    ap (rest_of hex bound) (sym (spent line held held_then left left_then text same kept empty ended)) in
+    let after : rest_of hex 0 (option_map (λ _. []) left_then) ≡ rest_of hex_then bound_then (text_of held_then left_then) =
+    ap (rest_of hex 0) (sym (nothing_held held_then left_then empty ended)) ∙ ap (λ (h : Bool). rest_of h 0 (text_of held_then left_then)) (sym form)
     ∙ ap (λ (m : ℕ). rest_of hex_then m (text_of held_then left_then)) (sym zero) in
-    GivesRecord-same _ _ _ _ line before after (last-told bound line left_then none short some (omega arith))
+    GivesLine-same hex _ _ _ _ line before after (last-told hex bound line left_then none some (omega arith))
 
 -- what an answer at the end of a text says of the line that was read
 pub some-line : {E : Type 0} (line : List ℕ) (r : Bool) → (IsTrue r ↔ (line ≡ [])) → ◌≡◌ {A = Result Bool E} (Ok (not r)) (Ok true) → 0 < length line
@@ -154,23 +174,23 @@ told-spent (Some r) None is = absurd (cc is)
 told-spent (Some r) (Some bytes) is = (let e : Some r ≡ Some nothing_left = is in cc)
 
 -- a line that ended, as it was held
-pub next-line : (hex hex_then : Bool) (bound asked asked_then n : ℕ) (line held held_then given : List ℕ) (left left_then text : Option (List ℕ)) → hex ≡ false → hex_then ≡ false
-    → NoneEnds line → NoneEnds (take n held) → given ≡ line ++ take n held → held ≡ take n held ++ 10 ∷ held_then → length given ≤ line_limit false
+pub next-line : (hex hex_then : Bool) (bound asked asked_then n : ℕ) (line held held_then given : List ℕ) (left left_then text : Option (List ℕ)) → hex_then ≡ hex
+    → NoneEnds line → NoneEnds (take n held) → given ≡ line ++ take n held → held ≡ take n held ++ 10 ∷ held_then
     → length line + (length held + asked) ≡ bound → 0 < asked_then → asked_then ≡ asked → left_then ≡ left → text_of (line ++ held) left ≡ text
-    → GivesRecord (rest_of hex bound text) (rest_of hex_then (length held_then + asked_then) (text_of held_then left_then)) given
-next-line hex hex_then bound asked asked_then n line held held_then given left left_then text plain plain_then front back is parts short counted asking same_asked same_left same =
+    → GivesLine hex (rest_of hex bound text) (rest_of hex_then (length held_then + asked_then) (text_of held_then left_then)) given
+next-line hex hex_then bound asked asked_then n line held held_then given left left_then text form front back is parts counted asking same_asked same_left same =
     let piece : List ℕ = take n held in
     let whole : given ++ 10 ∷ held_then ≡ line ++ held =
     ap (λ (l : List ℕ). l ++ 10 ∷ held_then) is ∙ append_assoc line piece (10 ∷ held_then) ∙ ap (λ (l : List ℕ). line ++ l) (sym parts) in
-    let before : rest_of false bound (text_of (given ++ 10 ∷ held_then) left) ≡ rest_of hex bound text =
-    ap (rest_of false bound) (ap (λ (l : List ℕ). text_of l left) whole ∙ same) ∙ ap (λ (h : Bool). rest_of h bound text) (sym plain) in
-    let after : rest_of false (length held_then + asked_then) (text_of held_then left) ≡ rest_of hex_then (length held_then + asked_then) (text_of held_then left_then) =
-    ap (λ (l : Option (List ℕ)). rest_of false (length held_then + asked_then) (text_of held_then l)) (sym same_left)
-    ∙ ap (λ (h : Bool). rest_of h (length held_then + asked_then) (text_of held_then left_then)) (sym plain_then) in
+    let before : rest_of hex bound (text_of (given ++ 10 ∷ held_then) left) ≡ rest_of hex bound text =
+    ap (rest_of hex bound) (ap (λ (l : List ℕ). text_of l left) whole ∙ same) in
+    let after : rest_of hex (length held_then + asked_then) (text_of held_then left) ≡ rest_of hex_then (length held_then + asked_then) (text_of held_then left_then) =
+    ap (λ (l : Option (List ℕ)). rest_of hex (length held_then + asked_then) (text_of held_then l)) (sym same_left)
+    ∙ ap (λ (h : Bool). rest_of h (length held_then + asked_then) (text_of held_then left_then)) (sym form) in
     let size : bound ≡ length given + 1 + (length held_then + asked_then) =
     omega (arith, ap length is, length-append line piece, ap length parts, length-append piece (10 ∷ held_then)) in
-    GivesRecord-same _ _ _ _ given before after
-    (line-told bound (length held_then + asked_then) given held_then left (subst NoneEnds (sym is) (NoneEnds-append line piece front back)) short size (omega arith))
+    GivesLine-same hex _ _ _ _ given before after
+    (line-told hex bound (length held_then + asked_then) given held_then left (subst NoneEnds (sym is) (NoneEnds-append line piece front back)) size (omega arith))
 
 -- no byte of none ends a line
 pub NoneEnds-none : NoneEnds []

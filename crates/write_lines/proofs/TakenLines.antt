@@ -1,15 +1,16 @@
 -- What is taken from an input, line by line, as a feed meets its bytes.
-use Rattle.std.proofs.Common.{◌≡◌, ◌∙◌, ℕ, suc, ◌+◌, ◌-◌, ◌<◌, ◌≤◌, ◌⊎◌, Bool, false, not, cond, nat_le, nat_lt, List, [], ◌∷◌, ◌++◌, Option, Some, None, Result, Ok, Err, length, take, drop, reverse, refl, sym, ap, inl, inr, subst, arith, length-append, length-take, length-drop, append_assoc}
+use Rattle.std.proofs.Common.{◌≡◌, ◌∙◌, ℕ, suc, ◌+◌, ◌-◌, ◌<◌, ◌≤◌, ◌⊎◌, Bool, false, not, cond, if◌then◌else◌, nat_le, nat_lt, List, [], ◌∷◌, ◌++◌, Option, Some, None, Result, Ok, Err, length, take, drop, reverse, refl, sym, ap, inl, inr, subst, arith, length-append, length-take, length-drop, append_assoc}
 use Rattle.std.specs.List.{concat, prefix_len, suffix_len}
 use Rattle.std.proofs.lemmas.Bool.{cond-true, cond-false, cases_Bool, cases_lt, eqb-true, le-leb, lt-leb, lt-ltb, le-ltb, not_from_false, false_from_ne_true}
 use Rattle.std.proofs.lemmas.List.{reverse-append, take-append-le, get_or-take, length-take-le}
 use Rattle.std.proofs.lemmas.List.Sums.{suffix_len_is, suffix_len-le-length}
 use Rattle.std.proofs.Math.Seq.{take-append-add, take-append_seam, drop-append-add}
+use Rattle.hex.specs.Hex.{decode_of}
 use Rattle.record_writer.specs.declared.feed.Stop.{Stop}
 use Rattle.record_writer.specs.declared.feed.Stop.TheVariants.{TooLong, InputTooLong}
 use Rattle.record_writer.specs.Feeds.{Rest, nothing_left, stop_alone}
 use Rattle.run_answers.specs.Lines.{ends_line, NoneEnds, lines}
-use Rattle.write_lines.specs.Input.{running, up_to_last_end, line_limit, record_of_line, taken_before, taken_lines, stop_past_limit, taken_from}
+use Rattle.write_lines.specs.Input.{running, up_to_last_end, line_limit, or_bad_line, record_of_line, taken_before, taken_lines, stop_past_limit, taken_from}
 use Rattle.run_answers.proofs.Lines.{lines-first, lines-last, length-le-lines, NoneEnds-append, NoneEnds-cons}
 
 NoneEnds-take : (n : ℕ) (bytes : List ℕ) → NoneEnds bytes → NoneEnds (take n bytes)
@@ -151,9 +152,10 @@ taken_from-running line rest hex none short some =
     ∙ ap (λ (l : List ℕ). stop_alone (stop_past_limit hex l)) front
     ∙ ap stop_alone (cond-false (nat_lt (line_limit hex) (length line)) _ _ (le-ltb (line_limit hex) (length line) short))
 
--- a short line is its record, where the form is not the hexadecimal one
-pub short-record : (line : List ℕ) → length line ≤ line_limit false → record_of_line false line ≡ Ok line
-short-record line short = cond-false (nat_lt (line_limit false) (length line)) _ _ (le-ltb (line_limit false) (length line) short)
+-- a short line is its record, or stands for it in the hexadecimal form
+pub short-record : (hex : Bool) (line : List ℕ) → length line ≤ line_limit hex
+    → record_of_line hex line ≡ (if hex then or_bad_line (decode_of line) else Ok line)
+short-record hex line short = cond-false (nat_lt (line_limit hex) (length line)) _ _ (le-ltb (line_limit hex) (length line) short)
 
 -- a line that is too long is refused, and so is one that runs at the limit
 pub long-refused : (line : List ℕ) (hex : Bool) (rest : Rest) → line_limit hex < length line → taken_before (record_of_line hex line) rest ≡ stop_alone TooLong

@@ -1,17 +1,21 @@
 -- The records that are taken from an input: they can be written, and where nothing stops them they are its lines.
-use Rattle.std.proofs.Common.{◌≡◌, ◌≢◌, ◌∙◌, ℕ, ◌-◌, ◌<◌, ◌≤◌, Bool, true, false, List, [], ◌∷◌, ◌++◌, Option, Some, None, Result, Ok, length, take, refl, sym, ap, subst, inl, inr, if◌then◌else◌}
+use Rattle.std.proofs.Common.{◌≡◌, ◌≢◌, ◌∙◌, ℕ, ◌-◌, ◌<◌, ◌≤◌, Bool, true, false, List, [], ◌∷◌, ◌++◌, Option, Some, None, Result, Ok, Err, length, take, arith, nat_lt, refl, sym, ap, subst, inl, inr, if◌then◌else◌}
 use Rattle.std.specs.Prelude.{slice_index}
 use Rattle.std.specs.List.{AllByRecursion, flat_map, onto_first}
-use Rattle.std.proofs.lemmas.Bool.{cond-true, cond-false, cases_Bool, cases_lt, eqb-true}
+use Rattle.std.proofs.lemmas.Bool.{cond-true, cond-false, cases_Bool, cases_lt, eqb-true, lt-ltb}
+use Rattle.std.proofs.lemmas.List.{get_or_default}
 use Rattle.std.proofs.lemmas.List.Elements.{All-from_recursion, recursion_from_All, All-take}
+use Rattle.hex.specs.Hex.{decode_of}
+use Rattle.hex.specs.declared.error.FromHexError.{FromHexError}
+use Rattle.hex.proofs.HexLemmas.{decode_of-ok}
 use Rattle.record_values.specs.Bytes.{AreBytes}
-use Rattle.record_group.specs.Records.{AreRecords}
+use Rattle.record_group.specs.Records.{AreRecords, IsRecord}
 use Rattle.record_writer.specs.declared.feed.Stop.{Stop}
 use Rattle.record_writer.specs.declared.feed.Stop.TheVariants.{TooLong}
 use Rattle.record_writer.specs.Feeds.{Rest}
 use Rattle.run_answers.specs.Answers.{line}
 use Rattle.run_answers.specs.Lines.{ends_line, lines}
-use Rattle.write_lines.specs.Input.{running, up_to_last_end, with_last_end, line_limit, record_of_line, taken_before, taken_lines, stop_past_limit, taken_from}
+use Rattle.write_lines.specs.Input.{running, up_to_last_end, with_last_end, line_limit, or_bad_line, record_of_line, taken_before, taken_lines, stop_past_limit, taken_from}
 use Rattle.run_answers.proofs.Lines.{lines-cons}
 use Rattle.write_lines.proofs.TakenLines.{taken_from-within, taken_from-past, short-record, long-refused, no_lines}
 
@@ -35,31 +39,71 @@ lines-bytes (b ∷ bs) h = elim (cases_Bool (ends_line b)) [
 ]
 
 -- a short line comes before the records of the lines behind it
-pub short-before : (text : List ℕ) (rest : Rest) → length text ≤ line_limit false
+short-before : (text : List ℕ) (rest : Rest) → length text ≤ line_limit false
     → taken_before (record_of_line false text) rest ≡ taken_before (Ok text) rest
-short-before text rest short = ap (λ (r : Result (List ℕ) Stop). taken_before r rest) (short-record text short)
+short-before text rest short = ap (λ (r : Result (List ℕ) Stop). taken_before r rest) (short-record false text short)
 
--- records that are taken can be written
-taken_lines-records : (parts : List (List ℕ)) (stop : Option Stop) → AllByRecursion AreBytes parts → AreRecords (taken_lines false parts stop).records
-taken_lines-records [] stop h = tt
-taken_lines-records (part ∷ parts) stop h = elim (cases_lt (line_limit false) (length part)) [
+-- digits that stand for bytes
+or_bad_line-ok : (decoded : Result (List ℕ) FromHexError) (bytes : List ℕ) → or_bad_line decoded ≡ Ok bytes → decoded ≡ Ok bytes
+or_bad_line-ok (Ok found) bytes is = ap Ok (let e : ◌≡◌ {A = Result (List ℕ) Stop} (Ok found) (Ok bytes) = is in cc)
+or_bad_line-ok (Err e) bytes is = absurd (cc is)
+
+-- a line that is a record isn't too long
+short-line : (hex : Bool) (part bytes : List ℕ) → record_of_line hex part ≡ Ok bytes
+    → (length part ≤ line_limit hex) × ((if hex then or_bad_line (decode_of part) else Ok part) ≡ Ok bytes)
+short-line hex part bytes is = elim (cases_lt (line_limit hex) (length part)) [
   | inl long ↦
-      subst (λ (r : Rest). AreRecords r.records) (sym (long-refused part false (taken_lines false parts stop) long)) tt
-  | inr short ↦
-      subst (λ (r : Rest). AreRecords r.records) (sym (short-before part (taken_lines false parts stop) short))
-      (record { are_bytes = h.0; at_most = short }, taken_lines-records parts stop h.1)
+      let refused : ◌≡◌ {A = Result (List ℕ) Stop} (Err TooLong) (Ok bytes) = sym (cond-true (nat_lt (line_limit hex) (length part)) _ _ (lt-ltb (line_limit hex) (length part) long)) ∙ is in
+      absurd (cc refused)
+  | inr short ↦ (short, sym (short-record hex part short) ∙ is)
 ]
 
-pub taken_from-records : (input : List ℕ) (limit : ℕ) → AreBytes input → AreRecords (taken_from input false limit).records
-taken_from-records input limit h = elim (cases_lt limit (length input)) [
+same-bytes : (part bytes : List ℕ) → ◌≡◌ {A = Result (List ℕ) Stop} (Ok part) (Ok bytes) → part ≡ bytes
+same-bytes part bytes is = cc is
+
+-- its record can be written
+record-of_short : (hex : Bool) (part bytes : List ℕ) → AreBytes part → length part ≤ line_limit hex
+    → (if hex then or_bad_line (decode_of part) else Ok part) ≡ Ok bytes → IsRecord bytes
+record-of_short true part bytes h short is =
+    let ok = decode_of-ok part bytes (or_bad_line-ok (decode_of part) bytes is) in record {
+      are_bytes = recursion_from_All (λ b. b < 256) bytes (λ k d within. subst (λ (b : ℕ). b < 256) (get_or_default bytes k 0 d within) (ok.3 k));
+      at_most = omega (arith, ok.2);
+    }
+record-of_short false part bytes h short is = subst IsRecord (same-bytes part bytes is) (record { are_bytes = h; at_most = short })
+
+-- and is no longer than the line
+shorter-of_short : (hex : Bool) (part bytes : List ℕ) → (if hex then or_bad_line (decode_of part) else Ok part) ≡ Ok bytes → length bytes ≤ length part
+shorter-of_short true part bytes is = omega (arith, decode_of-ok part bytes (or_bad_line-ok (decode_of part) bytes is))
+shorter-of_short false part bytes is = omega (arith, ap length (same-bytes part bytes is))
+
+record_of_line-record : (hex : Bool) (part bytes : List ℕ) → AreBytes part → record_of_line hex part ≡ Ok bytes → IsRecord bytes
+record_of_line-record hex part bytes h is = let short = short-line hex part bytes is in record-of_short hex part bytes h short.0 short.1
+
+pub record_of_line-shorter : (hex : Bool) (part bytes : List ℕ) → record_of_line hex part ≡ Ok bytes → length bytes ≤ length part
+record_of_line-shorter hex part bytes is = shorter-of_short hex part bytes (short-line hex part bytes is).1
+
+-- records that are taken can be written
+before-records : (first : Result (List ℕ) Stop) (rest : Rest) → ((bytes : List ℕ) → first ≡ Ok bytes → IsRecord bytes) → AreRecords rest.records
+    → AreRecords (taken_before first rest).records
+before-records (Ok bytes) rest first h = (first bytes refl, h)
+before-records (Err stop) rest first h = tt
+
+taken_lines-records : (hex : Bool) (parts : List (List ℕ)) (stop : Option Stop) → AllByRecursion AreBytes parts → AreRecords (taken_lines hex parts stop).records
+taken_lines-records hex [] stop h = tt
+taken_lines-records hex (part ∷ parts) stop h =
+    before-records (record_of_line hex part) (taken_lines hex parts stop)
+    (λ bytes is. record_of_line-record hex part bytes h.0 is) (taken_lines-records hex parts stop h.1)
+
+pub taken_from-records : (input : List ℕ) (hex : Bool) (limit : ℕ) → AreBytes input → AreRecords (taken_from input hex limit).records
+taken_from-records input hex limit h = elim (cases_lt limit (length input)) [
   | inl past ↦
       let front : List ℕ = take limit input in
-      subst (λ (r : Rest). AreRecords r.records) (sym (taken_from-past input false limit past))
-      (taken_lines-records (lines (up_to_last_end front)) (Some (stop_past_limit false (running front)))
+      subst (λ (r : Rest). AreRecords r.records) (sym (taken_from-past input hex limit past))
+      (taken_lines-records hex (lines (up_to_last_end front)) (Some (stop_past_limit hex (running front)))
       (lines-bytes (up_to_last_end front) (AreBytes-take (length front - length (running front)) front (AreBytes-take limit input h))))
   | inr within ↦
-      subst (λ (r : Rest). AreRecords r.records) (sym (taken_from-within input false limit within))
-      (taken_lines-records (lines input) None (lines-bytes input h))
+      subst (λ (r : Rest). AreRecords r.records) (sym (taken_from-within input hex limit within))
+      (taken_lines-records hex (lines input) None (lines-bytes input h))
 ]
 
 -- lines that nothing stops are all taken

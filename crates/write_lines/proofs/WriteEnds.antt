@@ -10,14 +10,13 @@ use Rattle.record_values.specs.declared.file_totals.Totals.{Totals}
 use Rattle.record_group.proofs.Signed.{end_of_chunk-signature, length-file_of-signed}
 use Rattle.record_writer.specs.declared.engine.WriteEnd.{WriteEnd}
 use Rattle.record_writer.specs.declared.feed.Stop.{Stop}
-use Rattle.record_writer.specs.declared.options.WriteOptions.{WriteOptions}
 use Rattle.record_writer.specs.Written.{Answers, TakesFile, file_under}
 use Rattle.run_answers.specs.declared.status.Status.{Status}
 use Rattle.write_lines.specs.declared.write_words.WriteWords.{WriteWords}
 use Rattle.run_answers.specs.Statuses.{fault_text}
 use Rattle.write_lines.specs.Input.{taken_from}
 use Rattle.run_answers.specs.Answers.{Answer, line}
-use Rattle.write_lines.specs.WriteCommand.{write_meaning, options_of, stop_text, stop_status, write_answer}
+use Rattle.write_lines.specs.WriteCommand.{write_meaning, stop_text, stop_status, write_answer}
 use Rattle.run_answers.specs.Runs.{Shown, ShownFile, Seen, seen, IsWhole, IsCutOff, Breaks, TakesThen, SaysAtEnd, HasCause, Runs}
 use Rattle.run_answers.proofs.RunEnds.{GaveButNotes, Keeps, OfSizes-unread, PutsLines-none, gave-said, was-cut_off, went-so_far, runs-whole, runs-said, runs-cut_off}
 use Rattle.record_writer.specs.declared.engine.WriteEnd.TheVariants as end
@@ -26,34 +25,29 @@ use Rattle.run_answers.specs.declared.status.Status.TheVariants as status
 
 -- the file of an input's records
 abbrev made_of : WriteWords → List ℕ → List ℕ
-made_of words bytes = file_under (options_of words) (taken_from bytes false (2 ^ 40)).records
+made_of words bytes = file_under words.options (taken_from bytes words.hex (2 ^ 40)).records
 
 -- which begins with the signature
 made-some : (words : WriteWords) (bytes : List ℕ) → made_of words bytes ≢ []
 made-some words bytes = λ none.
-    let records : List (List ℕ) = (taken_from bytes false (2 ^ 40)).records in
-    omega (arith, ap length none, length-file_of-signed records words.chunk_size words.every words.pad, end_of_chunk-signature)
+    let records : List (List ℕ) = (taken_from bytes words.hex (2 ^ 40)).records in
+    omega (arith, ap length none, length-file_of-signed records words.options.size words.options.every words.options.pad, end_of_chunk-signature)
 
 -- the write engine's answer to an input that tells its bytes, and what the made file took of that file
 pub record Wrote (words : WriteWords) (input made made_then : Shown) (result : Result Totals WriteEnd) : Type 0 where
   pub told : (bytes : List ℕ) → input.bytes ≡ Some bytes
-      → Answers result (options_of words) (taken_from bytes false (2 ^ 40))
+      → Answers result words.options (taken_from bytes words.hex (2 ^ 40))
       × TakesFile result made.bytes made_then.bytes (made_of words bytes)
 
-pub wrote : (words : WriteWords) (options : WriteOptions) (input made made_then : Shown) (result : Result Totals WriteEnd)
-    → options ≡ options_of words
-    → IfSome input.bytes (λ bytes. Answers result options (taken_from bytes false (2 ^ 40)))
-    → IfSome input.bytes (λ bytes. TakesFile result made.bytes made_then.bytes (file_under options (taken_from bytes false (2 ^ 40)).records))
+pub wrote : (words : WriteWords) (input made made_then : Shown) (result : Result Totals WriteEnd)
+    → IfSome input.bytes (λ bytes. Answers result words.options (taken_from bytes words.hex (2 ^ 40)))
+    → IfSome input.bytes (λ bytes. TakesFile result made.bytes made_then.bytes (made_of words bytes))
     → Wrote words input made made_then result
-wrote words options input made made_then result same answer took = record {
-  told = λ bytes told.
-      let by_options : Answers result options (taken_from bytes false (2 ^ 40))
-      × TakesFile result made.bytes made_then.bytes (file_under options (taken_from bytes false (2 ^ 40)).records) = (
-        MatchOption-at_some _ (λ (b : List ℕ). Answers result options (taken_from b false (2 ^ 40))) bytes told answer,
-        MatchOption-at_some _ (λ (b : List ℕ). TakesFile result made.bytes made_then.bytes (file_under options (taken_from b false (2 ^ 40)).records)) bytes told took,
-      ) in
-      subst (λ (o : WriteOptions). Answers result o (taken_from bytes false (2 ^ 40))
-      × TakesFile result made.bytes made_then.bytes (file_under o (taken_from bytes false (2 ^ 40)).records)) same by_options;
+wrote words input made made_then result answer took = record {
+  told = λ bytes told. (
+    MatchOption-at_some _ (λ (b : List ℕ). Answers result words.options (taken_from b words.hex (2 ^ 40))) bytes told answer,
+    MatchOption-at_some _ (λ (b : List ℕ). TakesFile result made.bytes made_then.bytes (made_of words b)) bytes told took,
+  );
 }
 
 -- the same of an error that is known
@@ -63,15 +57,15 @@ wrote-err words input made made_then known e is wrote = subst (λ (x : WriteEnd)
 
 -- the whole file went out
 all-made : (words : WriteWords) (bytes : List ℕ) (made made_then out notes : Option (List ℕ)) (wanted : Status) (text : List ℕ) (stop : Option Stop)
-    → (taken_from bytes false (2 ^ 40)).stop ≡ stop → stop_status stop ≡ wanted
-    → stop_text (length (taken_from bytes false (2 ^ 40)).records) stop ≡ text
+    → (taken_from bytes words.hex (2 ^ 40)).stop ≡ stop → stop_status stop ≡ wanted
+    → stop_text (length (taken_from bytes words.hex (2 ^ 40)).records) stop ≡ text
     → Takes made made_then (made_of words bytes)
     → GaveButNotes wanted (taken_by made out notes) (taken_by made_then out notes) text (write_answer words bytes)
 all-made words bytes made made_then out notes wanted text stop is ended said took = record {
   same_status = sym (ap stop_status is ∙ ended);
   puts = puts_to Made (made_of words bytes);
   whole = ap (λ (t : List ℕ). puts_to Made (made_of words bytes) ++ puts_to Notes t)
-      (ap (stop_text (length (taken_from bytes false (2 ^ 40)).records)) is ∙ said);
+      (ap (stop_text (length (taken_from bytes words.hex (2 ^ 40)).records)) is ∙ said);
   went = GoOut-made made made_then out notes (made_of words bytes) took;
 }
 
@@ -113,8 +107,8 @@ module _ (words : WriteWords) (input input_then : Shown) (files : List ShownFile
       → stop_text count (Some s) ≢ [] → IsWhole (stop_status (Some s)) → stop_status (Some s) ≢ status.Ok
       → HasCause (stop_status (Some s)) (write_meaning words) Before After
       → ((bytes : List ℕ) → input.bytes ≡ Some bytes
-      → ((taken_from bytes false (2 ^ 40)).stop ≡ Some s)
-      × (stop_text (length (taken_from bytes false (2 ^ 40)).records) (Some s) ≡ stop_text count (Some s))
+      → ((taken_from bytes words.hex (2 ^ 40)).stop ≡ Some s)
+      × (stop_text (length (taken_from bytes words.hex (2 ^ 40)).records) (Some s) ≡ stop_text count (Some s))
       × Takes made.bytes made_then.bytes (made_of words bytes))
       → Ended ended
   stopped count s ended says some whole not_ok cause known =
@@ -154,7 +148,7 @@ module _ (words : WriteWords) (input input_then : Shown) (files : List ShownFile
   broken bytes count = record {
     before = [];
     bytes = made_of words bytes;
-    rest = puts_to Notes (stop_text (length (taken_from bytes false (2 ^ 40)).records) (taken_from bytes false (2 ^ 40)).stop);
+    rest = puts_to Notes (stop_text (length (taken_from bytes words.hex (2 ^ 40)).records) (taken_from bytes words.hex (2 ^ 40)).stop);
     parts = refl;
     some = made-some words bytes;
     count = count;

@@ -1,6 +1,6 @@
 -- What the words of `write` say is within its limits.
-use Rattle.std.proofs.Common.{if◌then◌else◌, ◌≡◌, ℕ, ◌≤◌, ◌^◌, Bool, true, false, Option, Some, None, List, nat_le, option_map, unwrap_or, codes, refl, ap, subst, arith, ◌&&◌}
-use Rattle.std.specs.Prelude.{option_and_then}
+use Rattle.std.proofs.Common.{if◌then◌else◌, ◌≡◌, ℕ, ◌≤◌, ◌^◌, Bool, true, false, Option, Some, None, List, nat_le, option_map, unwrap_or, codes, refl, sym, ap, subst, arith, ◌&&◌}
+use Rattle.std.specs.Prelude.{option_and_then, is_some}
 use Rattle.std.specs.Bool.{then_some}
 use Rattle.std.specs.Option.{ForSome}
 use Rattle.std.proofs.lemmas.Bool.{and_parts, leb-true}
@@ -8,9 +8,8 @@ use Rattle.record_group.specs.declared.pad.Pad.{Pad}
 use Rattle.record_writer.specs.Written.{AreInLimits}
 use Rattle.write_lines.specs.declared.write_words.WriteWords.{WriteWords}
 use Rattle.word_options.specs.Numbers.{number_in, number_within}
-use Rattle.word_options.specs.Options.{value_of, optional_value, are_words_of, file_places, only, ◌>>=◌}
+use Rattle.word_options.specs.Options.{value_given, optional_value, are_words_of, file_places, only, ◌>>=◌}
 use Rattle.write_lines.specs.WriteWords.{default_chunk_size, chunk_size_of, every_of, pad_of, write_options, write_words_of}
-use Rattle.write_lines.specs.WriteCommand.{options_of}
 
 pub if_some : {X : Type 0} (b : Bool) (o : Option X) (x : X) → (if b then o else None) ≡ Some x → o ≡ Some x
 if_some true o x is = is
@@ -57,35 +56,40 @@ size-within None h = record { least_bound = omega arith; most_bound = omega arit
 size-within (Some n) h = h n refl
 
 -- the words of `write`, where each of their parts can be read
-read_parts : (size : Option ℕ) (every : Option (Option ℕ)) (pad : Option Pad) (file : Option ℕ) (w : WriteWords)
+read_parts : (size : Option ℕ) (every : Option (Option ℕ)) (pad : Option Pad) (hex : Bool) (file : Option ℕ) (w : WriteWords)
     → (do
       chunk_size ← size
       each ← every
       where_padded ← pad
       place ← file
-      Some (record { chunk_size = chunk_size; every = each; pad = where_padded; file = place })) ≡ Some w
-    → (size ≡ Some w.chunk_size) × (every ≡ Some w.every)
-read_parts None every pad file w is = absurd (cc is)
-read_parts (Some s) None pad file w is = absurd (cc is)
-read_parts (Some s) (Some e) None file w is = absurd (cc is)
-read_parts (Some s) (Some e) (Some p) None w is = absurd (cc is)
-read_parts (Some s) (Some e) (Some p) (Some f) w is =
-    let same : ◌≡◌ {A = WriteWords} (record { chunk_size = s; every = e; pad = p; file = f }) w = cc is in
-    (ap (λ (x : WriteWords). Some x.chunk_size) same, ap (λ (x : WriteWords). Some x.every) same)
+      Some (record { options = record { size = chunk_size; workers = 1; every = each; pad = where_padded }; hex = hex; file = place })) ≡ Some w
+    → (size ≡ Some w.options.size) × (every ≡ Some w.options.every) × (w.options.workers ≡ 1)
+read_parts None every pad hex file w is = absurd (cc is)
+read_parts (Some s) None pad hex file w is = absurd (cc is)
+read_parts (Some s) (Some e) None hex file w is = absurd (cc is)
+read_parts (Some s) (Some e) (Some p) hex None w is = absurd (cc is)
+read_parts (Some s) (Some e) (Some p) hex (Some f) w is =
+    let same : ◌≡◌ {A = WriteWords} (record { options = record { size = s; workers = 1; every = e; pad = p }; hex = hex; file = f }) w = cc is in (
+      ap (λ (x : WriteWords). Some x.options.size) same,
+      ap (λ (x : WriteWords). Some x.options.every) same,
+      sym (ap (λ (x : WriteWords). x.options.workers) same),
+    )
 
 -- what the words of `write` say
-pub write_words_of-within : (words : List (List ℕ)) (w : WriteWords) → write_words_of words ≡ Some w → AreInLimits (options_of w)
+pub write_words_of-within : (words : List (List ℕ)) (w : WriteWords) → write_words_of words ≡ Some w → AreInLimits w.options × (w.options.workers ≡ 1)
 unfolding write_words_of
 write_words_of-within words w is =
-    let parts = read_parts (chunk_size_of words) (every_of words) (pad_of words) (only (file_places words)) w (if_some (are_words_of write_options words) _ w is) in
-    let size = map_some (optional_value (number_within 1 (2 ^ 24)) (value_of (codes "--chunk=") words)) (λ size. unwrap_or size default_chunk_size) w.chunk_size parts.0 in
-    let in_size : IsWithin 1 (2 ^ 24) w.chunk_size = subst (IsWithin 1 (2 ^ 24)) size.2 (size-within size.0 (optional_value-within 1 (2 ^ 24) (value_of (codes "--chunk=") words) size.0 size.1)) in
-    let in_every = optional_value-within 1 (2 ^ 24) (value_of (codes "--every=") words) w.every parts.1 in
-    record {
-      some_size = in_size.least_bound;
-      size = in_size.most_bound;
-      some_workers = omega arith;
-      workers = omega arith;
-      some_records = λ n e. (in_every n e).least_bound;
-      every = λ n e. (in_every n e).most_bound;
-    }
+    let parts = read_parts (chunk_size_of words) (every_of words) (pad_of words) (is_some (value_given (codes "--hex") words)) (only (file_places words)) w (if_some (are_words_of write_options words) _ w is) in
+    let size = map_some (optional_value (number_within 1 (2 ^ 24)) (value_given (codes "--chunk=") words)) (λ size. unwrap_or size default_chunk_size) w.options.size parts.0 in
+    let in_size : IsWithin 1 (2 ^ 24) w.options.size = subst (IsWithin 1 (2 ^ 24)) size.2 (size-within size.0 (optional_value-within 1 (2 ^ 24) (value_given (codes "--chunk=") words) size.0 size.1)) in
+    let in_every = optional_value-within 1 (2 ^ 24) (value_given (codes "--every=") words) w.options.every parts.1 in (
+      record {
+        some_size = in_size.least_bound;
+        size = in_size.most_bound;
+        some_workers = omega (arith, parts.2);
+        workers = omega (arith, parts.2);
+        some_records = λ n e. (in_every n e).least_bound;
+        every = λ n e. (in_every n e).most_bound;
+      },
+      parts.2,
+    )

@@ -1,5 +1,6 @@
 -- The words of `write`, judged by hand, computed from the definitions.
-use Rattle.std.proofs.Common.{◌≡◌, ℕ, Option, Some, None, List, [], ◌∷◌, codes, refl}
+use Rattle.std.proofs.Common.{◌≡◌, ℕ, Bool, true, false, Option, Some, None, List, [], ◌∷◌, codes, refl}
+use Rattle.record_group.specs.declared.pad.Pad.{Pad}
 use Rattle.record_group.specs.declared.pad.Pad.TheVariants.{No, Both, Start, End}
 use Rattle.write_lines.specs.declared.write_words.WriteWords.{WriteWords}
 use Rattle.write_lines.specs.WriteWords.{write_words_of}
@@ -8,38 +9,46 @@ use Rattle.write_lines.specs.WriteWords.{write_words_of}
 abbrev written : List (List ℕ) → Option WriteWords
 written words = write_words_of (codes "write" ∷ words)
 
-file_alone : written (codes "F" ∷ []) ≡ Some (record { chunk_size = 1048576; every = None; pad = No; file = 1 })
+-- that they say so much
+abbrev says : ℕ → Option ℕ → Pad → (hex : Bool) → (file : ℕ) → WriteWords
+says size every pad hex file = record { options = record { size = size; workers = 1; every = every; pad = pad }; hex = hex; file = file }
+
+file_alone : written (codes "F" ∷ []) ≡ Some (says 1048576 None No false 1)
 unfolding write_words_of
 file_alone = refl
 
-chunk : written (codes "--chunk=1" ∷ codes "F" ∷ []) ≡ Some (record { chunk_size = 1; every = None; pad = No; file = 2 })
+chunk : written (codes "--chunk=1" ∷ codes "F" ∷ []) ≡ Some (says 1 None No false 2)
 unfolding write_words_of
 chunk = refl
 
-every : written (codes "F" ∷ codes "--every=2" ∷ []) ≡ Some (record { chunk_size = 1048576; every = Some 2; pad = No; file = 1 })
+every : written (codes "F" ∷ codes "--every=2" ∷ []) ≡ Some (says 1048576 (Some 2) No false 1)
 unfolding write_words_of
 every = refl
 
-pad_start : written (codes "--pad=start" ∷ codes "F" ∷ []) ≡ Some (record { chunk_size = 1048576; every = None; pad = Start; file = 2 })
+pad_start : written (codes "--pad=start" ∷ codes "F" ∷ []) ≡ Some (says 1048576 None Start false 2)
 unfolding write_words_of
 pad_start = refl
 
-pad_end : written (codes "--pad=end" ∷ codes "F" ∷ []) ≡ Some (record { chunk_size = 1048576; every = None; pad = End; file = 2 })
+pad_end : written (codes "--pad=end" ∷ codes "F" ∷ []) ≡ Some (says 1048576 None End false 2)
 unfolding write_words_of
 pad_end = refl
 
-pad_both : written (codes "--pad=both" ∷ codes "F" ∷ []) ≡ Some (record { chunk_size = 1048576; every = None; pad = Both; file = 2 })
+pad_both : written (codes "--pad=both" ∷ codes "F" ∷ []) ≡ Some (says 1048576 None Both false 2)
 unfolding write_words_of
 pad_both = refl
 
+hex_form : written (codes "F" ∷ codes "--hex" ∷ []) ≡ Some (says 1048576 None No true 1)
+unfolding write_words_of
+hex_form = refl
+
 -- all options, before and behind the file, with the greatest numbers
-all_options : written (codes "--pad=both" ∷ codes "--every=16777216" ∷ codes "F" ∷ codes "--chunk=0000000016777216" ∷ [])
-    ≡ Some (record { chunk_size = 16777216; every = Some 16777216; pad = Both; file = 3 })
+all_options : written (codes "--pad=both" ∷ codes "--every=16777216" ∷ codes "F" ∷ codes "--chunk=0000000016777216" ∷ codes "--hex" ∷ [])
+    ≡ Some (says 16777216 (Some 16777216) Both true 3)
 unfolding write_words_of
 all_options = refl
 
 -- a file of an option's letters without the dashes
-file_like_option : written (codes "chunk=1" ∷ []) ≡ Some (record { chunk_size = 1048576; every = None; pad = No; file = 1 })
+file_like_option : written (codes "chunk=1" ∷ []) ≡ Some (says 1048576 None No false 1)
 unfolding write_words_of
 file_like_option = refl
 

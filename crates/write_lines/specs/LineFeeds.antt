@@ -1,8 +1,8 @@
 -- What a feed of lines still gives. Own.
-use Rattle.std.specs.Prelude.{◌≡◌, ℕ, ◌+◌, ◌-◌, ◌<◌, Bool, Option, List, ◌∷◌, ◌++◌, length, take, drop, option_map}
+use Rattle.std.specs.Prelude.{◌≡◌, ℕ, ◌+◌, ◌-◌, ◌<◌, Bool, Option, Some, IfSome, List, ◌∷◌, ◌++◌, length, take, drop, option_map}
 use Rattle.record_writer.specs.Feeds.{Rest}
 use Rattle.run_answers.specs.Lines.{NoneEnds}
-use Rattle.write_lines.specs.Input.{taken_from}
+use Rattle.write_lines.specs.Input.{record_of_line, taken_before, taken_from}
 
 -- the bytes that are held, and then those that the input has left, where it tells them
 abbrev pub text_of : List ℕ → Option (List ℕ) → Option (List ℕ)
@@ -11,6 +11,11 @@ text_of held left = option_map (λ bytes. held ++ bytes) left
 -- what is taken from a text of which fewer than so many bytes are read
 abbrev pub rest_of : Bool → ℕ → Option (List ℕ) → Option Rest
 rest_of hex bound text = option_map (λ bytes. taken_from bytes hex (bound - 1)) text
+
+-- where a feed told what was to come, the first of it was what this line stands for
+abbrev pub GivesLine : Bool → Option Rest → Option Rest → List ℕ → Type 0
+GivesLine hex before after line =
+    IfSome before (λ r. (later : Rest) × (after ≡ Some later) × (r ≡ taken_before (record_of_line hex line) later))
 
 -- the first byte 10 stands behind so many others
 abbrev pub LineEndsAt : List ℕ → ℕ → Type 0

@@ -1,10 +1,9 @@
 -- What `write` makes, says and ends with. Own.
-use Rattle.std.specs.Prelude.{◌≡◌, ℕ, ◌^◌, false, Option, Some, None, List, [], ◌++◌, length, decimal, true}
+use Rattle.std.specs.Prelude.{◌≡◌, ℕ, ◌^◌, Option, Some, None, List, [], ◌++◌, length, decimal, true}
 use lib.Chars.{codes}
 use Rattle.record_io.specs.Puts.{Put, Made, Notes, puts_to}
 use Rattle.record_writer.specs.declared.feed.Stop.{Stop}
 use Rattle.record_writer.specs.declared.feed.Stop.TheVariants.{TooLong, InputTooLong, BadLine}
-use Rattle.record_writer.specs.declared.options.WriteOptions.{WriteOptions}
 use Rattle.record_writer.specs.Feeds.{Rest}
 use Rattle.record_writer.specs.Written.{file_under}
 use Rattle.write_lines.specs.declared.write_words.WriteWords.{WriteWords}
@@ -28,20 +27,16 @@ stop_status (Some TooLong) = status.Limit
 stop_status (Some InputTooLong) = status.Limit
 stop_status (Some BadLine) = status.BadLine
 
--- how records are written, by the words: with one worker
-abbrev pub options_of : WriteWords → WriteOptions
-options_of words = record { size = words.chunk_size; workers = 1; every = words.every; pad = words.pad }
-
 -- the answer to records and the stop behind them: the file of the records, and the stop's line
 abbrev pub answer_to : WriteWords → Rest → Answer
 answer_to words rest = record {
-  puts = puts_to Made (file_under (options_of words) rest.records) ++ puts_to Notes (stop_text (length rest.records) rest.stop);
+  puts = puts_to Made (file_under words.options rest.records) ++ puts_to Notes (stop_text (length rest.records) rest.stop);
   status = stop_status rest.stop;
 }
 
 -- the answer to an input, of which 2 ^ 40 bytes are read
 abbrev pub write_answer : WriteWords → List ℕ → Answer
-write_answer words input = answer_to words (taken_from input false (2 ^ 40))
+write_answer words input = answer_to words (taken_from input words.hex (2 ^ 40))
 
 -- what was put so far: a front of what the answer puts
 abbrev pub IsWrittenSoFar : WriteWords → List ℕ → List Put → Type 0

@@ -1,12 +1,12 @@
 -- The words of `write`: its options, and the file that it makes. Own.
-use Rattle.std.specs.Prelude.{ℕ, ◌^◌, Option, Some, None, List, option_map, unwrap_or, if◌then◌else◌, [], ◌∷◌}
+use Rattle.std.specs.Prelude.{ℕ, ◌^◌, Option, Some, None, List, option_map, unwrap_or, is_some, if◌then◌else◌, [], ◌∷◌}
 use Rattle.std.specs.Str.{bytes_eq}
 use lib.Chars.{codes}
 use Rattle.record_group.specs.declared.pad.Pad.{Pad}
 use Rattle.record_group.specs.declared.pad.Pad.TheVariants.{No, Start, End, Both}
 use Rattle.write_lines.specs.declared.write_words.WriteWords.{WriteWords}
 use Rattle.word_options.specs.Numbers.{number_within}
-use Rattle.word_options.specs.Options.{value_of, optional_value, are_words_of, file_places, only, ◌>>=◌}
+use Rattle.word_options.specs.Options.{value_given, optional_value, are_words_of, file_places, only, ◌>>=◌}
 
 -- the chunk size where none is named
 abbrev pub default_chunk_size : ℕ
@@ -15,11 +15,11 @@ default_chunk_size = 1048576
 -- the chunk size, in bytes
 abbrev pub chunk_size_of : List (List ℕ) → Option ℕ
 chunk_size_of words =
-    option_map (λ size. unwrap_or size default_chunk_size) (optional_value (number_within 1 (2 ^ 24)) (value_of (codes "--chunk=") words))
+    option_map (λ size. unwrap_or size default_chunk_size) (optional_value (number_within 1 (2 ^ 24)) (value_given (codes "--chunk=") words))
 
 -- the most records of a chunk, where they are bounded
 abbrev pub every_of : List (List ℕ) → Option (Option ℕ)
-every_of words = optional_value (number_within 1 (2 ^ 24)) (value_of (codes "--every=") words)
+every_of words = optional_value (number_within 1 (2 ^ 24)) (value_given (codes "--every=") words)
 
 -- where padding stands, by its name
 abbrev pub pad_named : List ℕ → Option Pad
@@ -31,11 +31,11 @@ pad_named name =
 
 -- where padding stands, and nowhere by default
 abbrev pub pad_of : List (List ℕ) → Option Pad
-pad_of words = option_map (λ pad. unwrap_or pad No) (optional_value pad_named (value_of (codes "--pad=") words))
+pad_of words = option_map (λ pad. unwrap_or pad No) (optional_value pad_named (value_given (codes "--pad=") words))
 
 -- the options of `write`
 abbrev pub write_options : List (List ℕ)
-write_options = codes "--chunk=" ∷ codes "--every=" ∷ codes "--pad=" ∷ []
+write_options = codes "--chunk=" ∷ codes "--every=" ∷ codes "--pad=" ∷ codes "--hex" ∷ []
 
 -- what the words of `write` say, behind its name
 unfoldable pub write_words_of : List (List ℕ) → Option WriteWords
@@ -46,5 +46,9 @@ write_words_of words =
       every ← every_of words
       pad ← pad_of words
       file ← only (file_places words)
-      Some (record { chunk_size = chunk_size; every = every; pad = pad; file = file }))
+      Some (record {
+        options = record { size = chunk_size; workers = 1; every = every; pad = pad };
+        hex = is_some (value_given (codes "--hex") words);
+        file = file;
+      }))
     else None

@@ -1,8 +1,8 @@
 //! `write`: lines as records. Own, as a whole.
 #![tactic(auto)]
 
+mod held_input;
 mod line_feed;
-mod window;
 pub mod write_words;
 mod writing;
 

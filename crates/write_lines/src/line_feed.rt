@@ -1,10 +1,14 @@
-ghost use Rattle.std.specs.Prelude.{◌≡◌, ◌≢◌, ◌+◌, ◌^◌, ◌<◌, ◌≤◌, ℕ, [], ◌∷◌, ◌++◌, Option, Some, true, false, length, take, option_map, unwrap_or, None, IfOk, IfSome, OnErr};
+ghost use Rattle.std.specs.Prelude.{◌≡◌, ◌≢◌, ◌+◌, ◌^◌, ◌<◌, ◌≤◌, ℕ, [], ◌∷◌, ◌++◌, Option, Some, true, false, length, take, option_map, unwrap_or, None, Ok, Err, IfOk, IfSome, OnOk, OnErr};
 ghost use Rattle.record_io.specs.Outside.{Rose};
 ghost use Rattle.run_answers.specs.Lines.{NoneEnds};
 ghost use Rattle.write_lines.specs.Input.{line_limit, taken_from};
-ghost use Rattle.write_lines.specs.LineFeeds.{LineEndsAt, text_of, rest_of};
+ghost use Rattle.write_lines.specs.LineFeeds.{GivesLine, LineEndsAt, text_of, rest_of};
+ghost use Rattle.record_writer.specs.Feeds.{nothing_left, stop_alone};
+ghost use Rattle.hex.specs.Hex.{decode_of};
+ghost use Rattle.hex.specs.declared.error.FromHexError.{FromHexError};
 
-use crate::window::Window;
+use crate::held_input::HeldInput;
+use hex::FromHexError;
 use memchr::memchr;
 use record_group::Grouper;
 use record_io::{Bytes, Source};
@@ -13,7 +17,8 @@ use std::alloc::{AllocError, Global};
 
 /// The lines of an input as a feed of records.
 ///
-/// A line is the bytes before a byte 10, or those after the last one if there are any, and has at most 2^24 bytes.
+/// A line is the bytes before a byte 10, or those after the last one if there are any, and has at most 2^24 bytes, or 2^25
+/// hexadecimal digits.
 /// Of the input at most `limit` bytes are read, and one more to see that it goes past. At most 64 KiB of it are held,
 /// beside the line that is given.
 #[derive(Drop)]
@@ -23,24 +28,22 @@ pub struct LineFeed<'a, I: Source> {
     /// How many more bytes are asked of the input: those that the limit still allows and one more, or none once its
     /// end was seen.
     asked: u64,
-    window: Window,
-    /// How many bytes of the window are known not to end a line.
+    held: HeldInput,
+    /// How many of the bytes that are held are known not to end a line.
     seen: usize,
-    /// How many bytes the last line had that `pull` gave, for which a long one takes room at once.
+    /// How many bytes the last line had that was pulled, for which a long one takes room at once.
     room: usize,
-    ghost plain: { hex ≡ false },
-    ghost some_seen: { seen ≤ length window },
-    ghost none_ends: { NoneEnds (take seen window) },
-    ghost all_given: { asked ≡ 0 → window ≡ [] },
+    ghost some_seen: { seen ≤ length held },
+    ghost none_ends: { NoneEnds (take seen held) },
+    ghost all_given: { asked ≡ 0 → held ≡ [] },
     ghost ended: { asked ≡ 0 → unwrap_or (I.left input.now) [] ≡ [] },
 }
 
 impl<'a, I: Source> LineFeed<'a, I> {
-    /// The lines of what the input has left, of which `limit` bytes are read, 2^40 or fewer. For now `hex` is false: the
-    /// hexadecimal form isn't read yet. It takes no memory.
+    /// The lines of what the input has left, of which `limit` bytes are read, 2^40 or fewer. With `hex` each line has the
+    /// digits of its record in the hexadecimal form. It takes no memory.
     pub fn new(_alloc: Global, input: &'a mut I, hex: bool, limit: u64) -> LineFeed<'a, I>
         requires limit { limit ≤ 2 ^ 40 }
-        requires plain { hex ≡ false }
         ensures rest { ⟦<LineFeed<'a, I> as RecordFeed>⟧.rest result
             ≡ option_map (λ bytes. taken_from bytes hex limit) (I.left input.old) }
         ensures bound { ⟦<LineFeed<'a, I> as RecordFeed>⟧.bound result ≡ limit + 1 }
@@ -51,7 +54,7 @@ impl<'a, I: Source> LineFeed<'a, I> {
             input,
             hex,
             asked: limit + 1,
-            window: Window::new(),
+            held: HeldInput::new(),
             seen: 0,
             room: 0,
         }
@@ -59,15 +62,15 @@ impl<'a, I: Source> LineFeed<'a, I> {
 
     /// How many bytes the next line has, where its end is held.
     fn line_end(&mut self) -> Option<usize>
-        ensures found { IfSome result (LineEndsAt self.old.window) }
-        ensures none { result ≡ None → NoneEnds self.old.window }
-        ensures same_window { self.new.window ≡ self.old.window }
+        ensures found { IfSome result (LineEndsAt self.old.held) }
+        ensures none { result ≡ None → NoneEnds self.old.held }
+        ensures same_held { self.new.held ≡ self.old.held }
         ensures same_asked { self.new.asked ≡ self.old.asked }
         ensures same_form { self.new.hex ≡ self.old.hex }
         ensures same_input { self.new.input.now ≡ self.old.input.now }
         ensures same_name { self.new.input.ghost_name ≡ self.old.input.ghost_name }
     {
-        let held = self.window.as_slice();
+        let held = self.held.as_slice();
         let end = end_behind(held, self.seen);
         self.seen = end.unwrap_or(held.len());
         end
@@ -75,22 +78,22 @@ impl<'a, I: Source> LineFeed<'a, I> {
 
     /// Takes bytes of the input where none are held, and answers whether some are held then.
     fn refill(&mut self) -> Result<bool, FeedEnd>
-        ensures some { result ≡ Ok true → 0 < length self.new.window }
-        ensures at_end { result ≡ Ok false → (self.new.window ≡ []) × (self.new.asked ≡ 0) }
-        ensures text { IfOk result (λ _. text_of self.new.window (I.left self.new.input.now)
-            ≡ text_of self.old.window (I.left self.old.input.now)) }
+        ensures some { result ≡ Ok true → 0 < length self.new.held }
+        ensures at_end { result ≡ Ok false → (self.new.held ≡ []) × (self.new.asked ≡ 0) }
+        ensures text { IfOk result (λ _. text_of self.new.held (I.left self.new.input.now)
+            ≡ text_of self.old.held (I.left self.old.input.now)) }
         ensures bound { result ≡ Ok true
-            → length self.new.window + self.new.asked ≡ length self.old.window + self.old.asked }
-        ensures past { (s : Stop) → result ≡ Err (FeedEnd.Stop s) → (s ≡ Stop.InputTooLong) × (self.old.window ≡ [])
+            → length self.new.held + self.new.asked ≡ length self.old.held + self.old.asked }
+        ensures past { (s : Stop) → result ≡ Err (FeedEnd.Stop s) → (s ≡ Stop.InputTooLong) × (self.old.held ≡ [])
             × (self.old.asked ≡ 1) × IfSome (I.left self.old.input.now) (λ bytes. 0 < length bytes) }
-        ensures never_rises { length self.new.window + self.new.asked ≤ length self.old.window + self.old.asked }
+        ensures never_rises { length self.new.held + self.new.asked ≤ length self.old.held + self.old.asked }
         ensures same_form { self.new.hex ≡ self.old.hex }
         ensures same_name { self.new.input.ghost_name ≡ self.old.input.ghost_name }
         ensures cause { result ≡ Err FeedEnd.Failed → Rose (I.faults self.old.input.now) (I.faults self.new.input.now) }
         ensures never_falls { I.faults self.old.input.now ≤ I.faults self.new.input.now }
         ensures small { I.faults self.old.input.now < 2 ^ 64 → I.faults self.new.input.now < 2 ^ 64 }
     {
-        if !self.window.is_empty() {
+        if !self.held.is_empty() {
             return Ok(true);
         }
         if self.asked == 0 {
@@ -98,32 +101,58 @@ impl<'a, I: Source> LineFeed<'a, I> {
         }
         let allowed = self.asked - 1;
         self.seen = 0;
-        let taken = self.window.fill(&mut *self.input, allowed.max(1))?;
+        let taken = self.held.fill(&mut *self.input, allowed.max(1))?;
         if taken == 0 {
             self.asked = 0;
             return Ok(false);
         }
         if allowed == 0 {
-            self.window.skip(taken);
+            self.held.skip(taken);
             return Err(FeedEnd::Stop(Stop::InputTooLong));
         }
         self.asked -= taken as u64;
         Ok(true)
     }
 
+    /// The next line, and whether there is one.
+    fn pull_line(&mut self, line: &mut Bytes) -> Result<bool, FeedEnd>
+        ensures next { result ≡ Ok true → GivesLine self.old.hex (⟦<LineFeed<'a, I> as RecordFeed>⟧.rest self.old)
+            (⟦<LineFeed<'a, I> as RecordFeed>⟧.rest self.new) line.new }
+        ensures short { result ≡ Ok true → length line.new ≤ line_limit self.old.hex }
+        ensures lowers { result ≡ Ok true → length self.new.held + self.new.asked + length line.new + 1 ≤ length self.old.held + self.old.asked }
+        ensures at_end { result ≡ Ok false → IfSome (⟦<LineFeed<'a, I> as RecordFeed>⟧.rest self.old) (λ r. r ≡ nothing_left) }
+        ensures end_kept { result ≡ Ok false → ⟦<LineFeed<'a, I> as RecordFeed>⟧.rest self.new ≡ ⟦<LineFeed<'a, I> as RecordFeed>⟧.rest self.old }
+        ensures stop { (s : Stop) → result ≡ Err (FeedEnd.Stop s) → IfSome (⟦<LineFeed<'a, I> as RecordFeed>⟧.rest self.old) (λ r. r ≡ stop_alone s) }
+        ensures never_rises { length self.new.held + self.new.asked ≤ length self.old.held + self.old.asked }
+        ensures same_form { self.new.hex ≡ self.old.hex }
+        ensures same_name { self.new.input.ghost_name ≡ self.old.input.ghost_name }
+        ensures cause { result ≡ Err FeedEnd.Failed → Rose (I.faults self.old.input.now) (I.faults self.new.input.now) }
+        ensures never_falls { I.faults self.old.input.now ≤ I.faults self.new.input.now }
+        ensures small { I.faults self.old.input.now < 2 ^ 64 → I.faults self.new.input.now < 2 ^ 64 }
+    {
+        line.clear();
+        while self.refill()? {
+            if self.grow(line)? {
+                self.room = line.len();
+                return Ok(true);
+            }
+        }
+        Ok(!line.is_empty())
+    }
+
     /// Moves bytes that are held to the end of a line, up to the next byte 10, and answers whether it came.
     fn grow(&mut self, line: &mut Bytes) -> Result<bool, FeedEnd>
-        requires some { 0 < length self.old.window }
+        requires some { 0 < length self.old.held }
         requires short { length line.old ≤ line_limit self.old.hex }
-        ensures ended { result ≡ Ok true → (n : ℕ) × ((line.new ≡ line.old ++ take n self.old.window)
-            × (self.old.window ≡ take n self.old.window ++ 10 ∷ self.new.window) × NoneEnds (take n self.old.window)) }
-        ensures runs { result ≡ Ok false → (line.new ≡ line.old ++ self.old.window) × (self.new.window ≡ [])
-            × NoneEnds self.old.window }
+        ensures ended { result ≡ Ok true → (n : ℕ) × ((line.new ≡ line.old ++ take n self.old.held)
+            × (self.old.held ≡ take n self.old.held ++ 10 ∷ self.new.held) × NoneEnds (take n self.old.held)) }
+        ensures runs { result ≡ Ok false → (line.new ≡ line.old ++ self.old.held) × (self.new.held ≡ [])
+            × NoneEnds self.old.held }
         ensures short { IfOk result (λ _. length line.new ≤ line_limit self.old.hex) }
-        ensures long { (s : Stop) → result ≡ Err (FeedEnd.Stop s) → (s ≡ Stop.TooLong) × ((n : ℕ) × (NoneEnds (take n self.old.window)
-            × (n ≤ length self.old.window) × (line_limit self.old.hex < length line.old + n))) }
+        ensures long { (s : Stop) → result ≡ Err (FeedEnd.Stop s) → (s ≡ Stop.TooLong) × ((n : ℕ) × (NoneEnds (take n self.old.held)
+            × (n ≤ length self.old.held) × (line_limit self.old.hex < length line.old + n))) }
         ensures sound { result ≢ Err FeedEnd.Failed }
-        ensures kept { OnErr result (self.new.window ≡ self.old.window) }
+        ensures kept { OnErr result (self.new.held ≡ self.old.held) }
         ensures asking { 0 < self.new.asked }
         ensures same_asked { self.new.asked ≡ self.old.asked }
         ensures same_form { self.new.hex ≡ self.old.hex }
@@ -131,7 +160,7 @@ impl<'a, I: Source> LineFeed<'a, I> {
         ensures same_name { self.new.input.ghost_name ≡ self.old.input.ghost_name }
     {
         let end = self.line_end();
-        let held = self.window.as_slice();
+        let held = self.held.as_slice();
         let piece = &held[..end.unwrap_or(held.len())];
         if piece.len() > most_bytes(self.hex) - line.len() {
             return Err(FeedEnd::Stop(Stop::TooLong));
@@ -142,9 +171,25 @@ impl<'a, I: Source> LineFeed<'a, I> {
         }
         line.push_all(piece)?;
         let used = piece.len() + usize::from(end.is_some());
-        self.window.skip(used);
+        self.held.skip(used);
         self.seen = 0;
         Ok(end.is_some())
+    }
+}
+
+/// Puts the bytes that a line's hexadecimal digits stand for in their place.
+fn decode_digits(alloc: Global, line: &mut Bytes) -> Result<(), FeedEnd>
+    ensures decoded { OnOk result (decode_of line.old ≡ Ok line.new) }
+    ensures bad { (s : Stop) → result ≡ Err (FeedEnd.Stop s) → (s ≡ Stop.BadLine) × ((e : FromHexError) × (decode_of line.old ≡ Err e)) }
+    ensures sound { result ≢ Err FeedEnd.Failed }
+{
+    match hex::decode(alloc, line.as_slice()) {
+        Ok(bytes) => {
+            *line = Bytes::from(bytes);
+            Ok(())
+        }
+        Err(FromHexError::OutOfMemory) => Err(FeedEnd::Memory),
+        Err(_) => Err(FeedEnd::Stop(Stop::BadLine)),
     }
 }
 
@@ -175,33 +220,35 @@ fn most_bytes(hex: bool) -> usize
 }
 
 impl<'a, I: Source> RecordFeed for LineFeed<'a, I> {
-    ghost rest = { λ f. rest_of f.hex (length f.window + f.asked) (text_of f.window (I.left f.input.now)) };
+    ghost rest = { λ f. rest_of f.hex (length f.held + f.asked) (text_of f.held (I.left f.input.now)) };
 
-    ghost bound = { λ f. length f.window + f.asked };
+    ghost bound = { λ f. length f.held + f.asked };
 
     ghost faults = { λ f. I.faults f.input.now };
 
     ghost name = { λ f. f.input.ghost_name };
 
-    fn pull(&mut self, _alloc: Global, into: &mut Bytes) -> Result<bool, FeedEnd> {
-        into.clear();
-        while self.refill()? {
-            if self.grow(into)? {
-                self.room = into.len();
-                return Ok(true);
-            }
+    fn pull(&mut self, alloc: Global, into: &mut Bytes) -> Result<bool, FeedEnd> {
+        if !self.pull_line(into)? {
+            return Ok(false);
         }
-        Ok(!into.is_empty())
+        if self.hex {
+            decode_digits(alloc, into)?;
+        }
+        Ok(true)
     }
 
     fn push_held(&mut self, grouper: &mut Grouper) -> Result<bool, AllocError> {
+        if self.hex {
+            return Ok(false);
+        }
         let Some(len) = self.line_end() else {
             return Ok(false);
         };
-        if !grouper.push_open(&self.window.as_slice()[..len])? {
+        if !grouper.push_open(&self.held.as_slice()[..len])? {
             return Ok(false);
         }
-        self.window.skip(len + 1);
+        self.held.skip(len + 1);
         self.seen = 0;
         Ok(true)
     }

@@ -3,7 +3,8 @@ ghost use Rattle.std.specs.String.{string_bytes};
 ghost use Rattle.write_lines.specs.WriteWords.{chunk_size_of, every_of, pad_named, pad_of, write_words_of};
 
 use record_group::Pad;
-use word_options::{are_words_of, only_file, optional_number, value_of};
+use record_writer::WriteOptions;
+use word_options::{are_words_of, only_file, optional_number, value_given};
 
 /// The chunk size where none is named.
 const DEFAULT_CHUNK_SIZE: u64 = 1 << 20;
@@ -17,12 +18,10 @@ const MOST_EVERY: u64 = 1 << 24;
 /// What the words of `write` say.
 #[derive(Clone, Copy, Debug, PartialEq, Eq)]
 pub struct WriteWords {
-    /// The chunk size, in bytes.
-    pub chunk_size: u64,
-    /// The most records of a chunk, where they are bounded.
-    pub every: Option<u64>,
-    /// Where padding stands.
-    pub pad: Pad,
+    /// How records are written: with one worker.
+    pub options: WriteOptions,
+    /// Whether lines are in the hexadecimal form.
+    pub hex: bool,
     /// The place of the made file among the words.
     pub file: usize,
 }
@@ -32,13 +31,17 @@ pub struct WriteWords {
 pub fn write_words(words: &[String]) -> Option<WriteWords>
     ensures { result ≡ write_words_of (map string_bytes words.now) }
 {
-    if !are_words_of(&["--chunk=", "--every=", "--pad="], words) {
+    if !are_words_of(&["--chunk=", "--every=", "--pad=", "--hex"], words) {
         return None;
     }
     Some(WriteWords {
-        chunk_size: chunk_size(words)?,
-        every: every(words)?,
-        pad: pad(words)?,
+        options: WriteOptions {
+            size: chunk_size(words)?,
+            workers: 1,
+            every: every(words)?,
+            pad: pad(words)?,
+        },
+        hex: value_given("--hex", words).is_some(),
         file: only_file(words)?,
     })
 }
@@ -59,7 +62,7 @@ fn every(words: &[String]) -> Option<Option<u64>>
 fn pad(words: &[String]) -> Option<Pad>
     ensures { result ≡ pad_of (map string_bytes words.now) }
 {
-    match value_of("--pad=", words) {
+    match value_given("--pad=", words) {
         Some(name) => pad_named(name),
         None => Some(Pad::No),
     }

@@ -1,16 +1,16 @@
-ghost use Rattle.std.specs.Prelude.{◌≡◌, ◌^◌, ◌≤◌, Some, [], false, IfSome, OnOk, Err};
+ghost use Rattle.std.specs.Prelude.{◌≡◌, ◌^◌, ◌≤◌, Some, [], IfSome, OnOk, Err};
 ghost use Rattle.record_io.specs.Outside.{Rose};
 ghost use Rattle.record_io.specs.Calls.{OnlyCounts};
 ghost use Rattle.record_writer.specs.Written.{AreInLimits, Answers, TakesFile, file_under};
 ghost use Rattle.write_lines.specs.Input.{taken_from};
-ghost use Rattle.write_lines.specs.WriteCommand.{options_of, write_meaning};
+ghost use Rattle.write_lines.specs.WriteCommand.{write_meaning};
 ghost use Rattle.run_answers.specs.Runs.{Runs, Seen, shown};
 
 use crate::line_feed::LineFeed;
 use crate::write_words::WriteWords;
 use record_io::{Sink, Source, Totals};
-use record_writer::{WriteEnd, WriteOptions, write_records};
-use run_answers::{Status, cut_off, end, end_with_number};
+use record_writer::{WriteEnd, write_records};
+use run_answers::{Cut, Status, cut_off, end, end_with_number};
 use std::alloc::Global;
 use std::thread::Threads;
 
@@ -26,14 +26,15 @@ pub fn write<R: Threads + Sync, I: Source, M: Sink + Send, E: Sink>(
     made: &mut M,
     notes: &mut E,
 ) -> Status
-    requires { AreInLimits (options_of words.now) }
+    requires in_limits { AreInLimits words.now.options }
+    requires one_worker { words.now.options.workers ≡ 1 }
     ensures runs { (others : Seen) → Runs (write_meaning words.now)
         (record others { input = shown I.left I.faults input.old; made = shown M.taken M.faults made.old; notes = shown E.taken E.faults notes.old })
         (record others { input = shown I.left I.faults input.new; made = shown M.taken M.faults made.new; notes = shown E.taken E.faults notes.new })
         result }
     ensures notes_kept { result ≡ Status.Ok → notes.new ≡ notes.old }
 {
-    match write_lines(rt, alloc, &options(words), input, made) {
+    match write_lines(rt, alloc, words, input, made) {
         Ok(_) => Status::Ok,
         Err(WriteEnd::TooLong(line)) => end_with_number(
             notes,
@@ -43,42 +44,30 @@ pub fn write<R: Threads + Sync, I: Source, M: Sink + Send, E: Sink>(
         ),
         Err(WriteEnd::InputTooLong) => end(notes, "limit input\n", Status::Limit),
         Err(WriteEnd::BadLine(line)) => end_with_number(notes, "bad line ", line, Status::BadLine),
-        Err(WriteEnd::Input) => cut_off(notes, Status::Input),
-        Err(WriteEnd::Made) => cut_off(notes, Status::Made),
-        Err(WriteEnd::Memory) => cut_off(notes, Status::Memory),
+        Err(WriteEnd::Input) => cut_off(notes, Cut::Input),
+        Err(WriteEnd::Made) => cut_off(notes, Cut::Made),
+        Err(WriteEnd::Memory) => cut_off(notes, Cut::Memory),
     }
 }
 
-/// Writes the file of the input's lines.
+/// Writes the file of the records of the input's lines.
 fn write_lines<R: Threads + Sync, I: Source, M: Sink + Send>(
     rt: &R,
     alloc: Global,
-    options: &WriteOptions,
+    words: &WriteWords,
     input: &mut I,
     made: &mut M,
 ) -> Result<Totals, WriteEnd>
-    requires in_limits { AreInLimits options.now }
-    requires one_worker { options.now.workers ≡ 1 }
-    ensures answer { IfSome (I.left input.old) (λ bytes. Answers result options.now (taken_from bytes false (2 ^ 40))) }
+    requires in_limits { AreInLimits words.now.options }
+    requires one_worker { words.now.options.workers ≡ 1 }
+    ensures answer { IfSome (I.left input.old) (λ bytes. Answers result words.now.options (taken_from bytes words.now.hex (2 ^ 40))) }
     ensures made { IfSome (I.left input.old) (λ bytes. TakesFile result (M.taken made.old) (M.taken made.new)
-        (file_under options.now (taken_from bytes false (2 ^ 40)).records)) }
+        (file_under words.now.options (taken_from bytes words.now.hex (2 ^ 40)).records)) }
     ensures read_to_end { OnOk result (IfSome (I.left input.old) (λ _. I.left input.new ≡ Some [])) }
     ensures input_cause { result ≡ Err WriteEnd.Input → Rose (I.faults input.old) (I.faults input.new) }
     ensures made_counts { OnlyCounts M.lent M.faults (result ≡ Err WriteEnd.Made) made.old made.new }
     ensures input_count { I.faults input.old ≤ I.faults input.new }
 {
-    let mut lines = LineFeed::new(alloc, input, false, MOST_INPUT);
-    write_records(rt, alloc, options, &mut lines, made)
-}
-
-/// The options that the words give, with one worker.
-fn options(words: &WriteWords) -> WriteOptions
-    ensures { result ≡ options_of words.now }
-{
-    WriteOptions {
-        size: words.chunk_size,
-        workers: 1,
-        every: words.every,
-        pad: words.pad,
-    }
+    let mut lines = LineFeed::new(alloc, input, words.hex, MOST_INPUT);
+    write_records(rt, alloc, &words.options, &mut lines, made)
 }

@@ -1,5 +1,6 @@
 use Rattle.show_files.proofs.ReadingsExist.{shown_exists, verified_exists}
-use Rattle.riegeli_tool.proofs.FileAnswersExist.{recovered_exists, repaired_exists, answer_exists}
+use Rattle.show_damaged.proofs.OneRecovery.{recovered_exists}
+use Rattle.riegeli_tool.proofs.FileAnswersExist.{repaired_exists, answer_exists}
 use Rattle.riegeli_tool.proofs.laws.file_answers_exist.Goals as goal
 
 pub returns : goal.returns

@@ -1,4 +1,5 @@
-use Rattle.riegeli_tool.proofs.AnswerStreams.{written-streams, shown-streams, recovered-streams, repaired-streams}
+use Rattle.show_damaged.proofs.RecoverStreams.{recovered-streams}
+use Rattle.riegeli_tool.proofs.AnswerStreams.{written-streams, shown-streams, repaired-streams}
 use Rattle.riegeli_tool.proofs.laws.streams_take_their_parts.Goals as goal
 
 pub returns : goal.returns

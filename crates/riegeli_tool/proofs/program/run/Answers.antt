@@ -10,10 +10,15 @@ use Rattle.riegeli_tool.proofs.FileAnswersExist.{accepted-takes}
 use Rattle.riegeli_tool.proofs.AcceptedLimits.{accepted-within}
 use Rattle.riegeli_tool.proofs.program.run.Goals as goal
 
-pub write-requires-after_bounds : goal.write-requires-after_bounds
-write-requires-after_bounds g c κs within =
-    accepted-within (map string_bytes c.args.words.now) (length c.args.files.now) c.in-Some-Write.words
-    (ap Some (sym c.in-Some-Write.field-0-is) ∙ c.in-Some-Write.ensures)
+pub write-requires-clause-in_limits : goal.write-requires-clause-in_limits
+write-requires-clause-in_limits g c κs within =
+    (accepted-within (map string_bytes c.args.words.now) (length c.args.files.now) c.in-Some-Write.words
+    (ap Some (sym c.in-Some-Write.field-0-is) ∙ c.in-Some-Write.ensures)).0
+
+pub write-requires-clause-one_worker : goal.write-requires-clause-one_worker
+write-requires-clause-one_worker g c κs within =
+    (accepted-within (map string_bytes c.args.words.now) (length c.args.files.now) c.in-Some-Write.words
+    (ap Some (sym c.in-Some-Write.field-0-is) ∙ c.in-Some-Write.ensures)).1
 
 pub bounds-files-0 : goal.bounds-files-0
 bounds-files-0 g c =

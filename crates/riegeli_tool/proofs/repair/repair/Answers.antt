@@ -2,7 +2,7 @@ use Rattle.std.proofs.Common.{arith, refl}
 use Rattle.riegeli_tool.specs.RepairCommand.{IsRepaired, IsRepairedSoFar, repair_meaning}
 use Rattle.run_answers.proofs.FileRuns.{still-sized, file-keeps}
 use Rattle.riegeli_tool.proofs.RepairEnds.{repair_walks}
-use Rattle.riegeli_tool.proofs.WalkRuns.{runs-walking}
+use Rattle.show_damaged.proofs.WalkRuns.{runs-walking}
 use Rattle.riegeli_tool.proofs.repair.repair.Goals as goal
 
 pub returns-clause-runs : goal.returns-clause-runs
@@ -13,6 +13,6 @@ returns-clause-runs g c = λ others.
     runs-walking (repair_meaning words) (IsRepaired words) (IsRepairedSoFar words) words.most (repair_walks words) others.input _ _ _ _ others.grown _ _ _ _ _
     (file-keeps (repair_meaning words) (IsRepaired words) (IsRepairedSoFar words) (repair_walks words).one others.input _ _ _ _ others.grown _ _ _ _
     did.file.never_falls did.made.never_falls did.out.never_falls (omega (arith, did.notes.never_falls, c.end_walk.ensures.notes.never_falls)) exact did.handed)
-    c.repair_file-ended.result _ did.sized exact
+    c.repair_file-ended.result _ did.allowed exact
     did.walks (λ short sound. did.so_far short (sound.made refl)) did.said c.end_walk.ensures.told did.notes.never_falls
-    did.file.cause (λ is. (refl, did.made.cause is)) did.out.cause did.notes.cause
+    did.file.cause did.made.cause did.out.cause did.notes.cause

@@ -18,7 +18,7 @@ numbered begin records i bytes within is =
 pub returns-in_err-put_record-clause-out : goal.returns-in_err-put_record-clause-out
 returns-in_err-put_record-clause-out g c = record {
   whole = search rules;
-  front = OnErr-any _ (lines-failed (record_line c.args.words.now.positions) _ _ _ c.args.lines.now _
+  front = OnErr-any _ (lines-failed (record_line c.args.form.now) _ _ _ c.args.lines.now _
       (enumerate_from c.args.begin c.args.records.now) c.loop-number.number (c.args.begin + c.loop-number.number, c.get.result.now)
       (omega (arith, length-enumerate_from c.args.begin c.args.records.now, c.loop-number-test.true, c.len-number-end.ensures))
       (numbered c.args.begin c.args.records.now c.loop-number.number c.get.result.now
@@ -31,7 +31,7 @@ returns-in_err-put_record-clause-out g c = record {
 
 pub returns-in_err-put_record-clause-some : goal.returns-in_err-put_record-clause-some
 returns-in_err-put_record-clause-some g c =
-    OnErr-any _ (lines-some (record_line c.args.words.now.positions) _ _ c.args.lines.now _
+    OnErr-any _ (lines-some (record_line c.args.form.now) _ _ c.args.lines.now _
     (enumerate_from c.args.begin c.args.records.now) c.loop-number.number (c.args.begin + c.loop-number.number, c.get.result.now)
     (omega (arith, length-enumerate_from c.args.begin c.args.records.now, c.loop-number-test.true, c.len-number-end.ensures))
     (numbered c.args.begin c.args.records.now c.loop-number.number c.get.result.now
@@ -41,7 +41,7 @@ returns-in_err-put_record-clause-some g c =
 
 pub loop-number-preserved : goal.loop-number-preserved
 loop-number-preserved g c = record {
-  whole = lines-next (record_line c.args.words.now.positions) _ _ _ c.args.lines.now _ _
+  whole = lines-next (record_line c.args.form.now) _ _ _ c.args.lines.now _ _
       (enumerate_from c.args.begin c.args.records.now) c.loop-number.number (c.args.begin + c.loop-number.number, c.get.result.now)
       (omega (arith, length-enumerate_from c.args.begin c.args.records.now, c.loop-number-test.true, c.len-number-end.ensures))
       (numbered c.args.begin c.args.records.now c.loop-number.number c.get.result.now
@@ -53,7 +53,7 @@ loop-number-preserved g c = record {
 
 pub returns-clause-out : goal.returns-clause-out
 returns-clause-out g c = record {
-  whole = subst (λ ps. TakesAndHolds (g.O.Sink.taken c.args.out.now) (g.O.Sink.taken c.loop-number.out) (c.args.lines.now ++ record_lines c.args.words.now ps) c.loop-number.lines)
+  whole = subst (λ ps. TakesAndHolds (g.O.Sink.taken c.args.out.now) (g.O.Sink.taken c.loop-number.out) (c.args.lines.now ++ record_lines c.args.form.now ps) c.loop-number.lines)
       (take_all c.loop-number.number (enumerate_from c.args.begin c.args.records.now)
       (omega (arith, length-enumerate_from c.args.begin c.args.records.now, c.loop-number-test.false, c.len-number-end.ensures)))
       c.loop-number.invariant.whole;

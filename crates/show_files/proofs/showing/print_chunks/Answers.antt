@@ -2,8 +2,9 @@ use Rattle.std.proofs.Common.{◌≡◌, ◌∙◌, true, false, Bool, IfSome, O
 use Rattle.record_io.specs.Puts.{taken_by}
 use Rattle.record_values.specs.declared.file_totals.Totals.{Totals}
 use Rattle.chunk_reader.specs.Progress.{AreReadFrom}
-use Rattle.show_files.specs.declared.reading.ReadingEnd.{ReadingEnd}
-use Rattle.show_files.specs.ReadingEnds.{IsShortReading}
+use Rattle.chunk_reader.specs.declared.reasons.Fault.{Fault}
+use Rattle.run_answers.specs.declared.ending.Ending.{Ending}
+use Rattle.run_answers.specs.Endings.{IsShort}
 use Rattle.show_files.specs.ShowProgress.{PrintsOn}
 use Rattle.run_answers.proofs.PutSoFar.{IsErrAnd-same}
 use Rattle.show_files.proofs.ShowSteps.{read-none, printed-none, printed-on, printed-ended, printed-so_far}
@@ -13,7 +14,7 @@ use Rattle.show_files.proofs.showing.print_chunks.Goals.{After-print_next}
 pub loop-init : goal.loop-init
 loop-init g c = record {
   same_size = c.new-reader.ensures.size;
-  strict = c.new-reader.ensures.frame;
+  strict = c.new-reader.ensures.keep;
   within = omega (arith, ap (λ (t : Totals). t.bytes) c.new-reader.ensures.totals);
   file = search rules;
   read = read-none _ _ c.new-reader.ensures.at_front;
@@ -30,18 +31,18 @@ printed g c made notes =
     c.print_next.result c.loop.invariant.file.same_bytes
     (c.print_next.ensures.printed (taken_by made (g.O.Sink.taken c.args.out.now) notes) made notes) (c.loop.invariant.printed made notes)
 
-of_answer : (g : _) (c : After-print_next g) (known : Result Bool ReadingEnd) → c.print_next.result ≡ known → (made notes : Option (List ℕ))
+of_answer : (g : _) (c : After-print_next g) (known : Result Bool (Ending Fault)) → c.print_next.result ≡ known → (made notes : Option (List ℕ))
     → IfSome (g.S.Store.bytes c.args.file.now) (λ bytes. PrintsOn c.args.words.now known bytes c.print_next.new.reader.totals
     (taken_by made (g.O.Sink.taken c.args.out.now) notes) (taken_by made (g.O.Sink.taken c.print_next.new.out) notes) c.print_next.new.lines)
 of_answer g c known is made notes =
-    subst (λ (r : Result Bool ReadingEnd). IfSome (g.S.Store.bytes c.args.file.now) (λ bytes. PrintsOn c.args.words.now r bytes
+    subst (λ (r : Result Bool (Ending Fault)). IfSome (g.S.Store.bytes c.args.file.now) (λ bytes. PrintsOn c.args.words.now r bytes
     c.print_next.new.reader.totals (taken_by made (g.O.Sink.taken c.args.out.now) notes)
     (taken_by made (g.O.Sink.taken c.print_next.new.out) notes) c.print_next.new.lines)) is (printed g c made notes)
 
 pub loop-preserved : goal.loop-preserved
 loop-preserved g c = record {
   same_size = c.in_ok-print_next.ensures.same_size ∙ c.loop.invariant.same_size;
-  strict = c.in_ok-print_next.ensures.same_frame ∙ c.loop.invariant.strict;
+  strict = c.in_ok-print_next.ensures.same_keep ∙ c.loop.invariant.strict;
   within = c.in_ok-print_next.ensures.within;
   file = search rules;
   read = subst (λ (b : Option (List ℕ)). IfSome b (λ bytes. AreReadFrom false bytes c.print_next.new.reader.totals)) c.loop.invariant.file.same_bytes c.in_ok-print_next.ensures.read;
@@ -63,6 +64,6 @@ returns-in_err-print_next-clause-printed g c = λ made notes.
 
 pub returns-in_err-print_next-clause-so_far : goal.returns-in_err-print_next-clause-so_far
 returns-in_err-print_next-clause-so_far g c = λ short made notes.
-    let passed = IsErrAnd-same IsShortReading _ c.from_residual.result c.from_residual.ensures.1 short in
+    let passed = IsErrAnd-same IsShort _ c.from_residual.result c.from_residual.ensures.1 short in
     printed-so_far c.args.words.now _ c.loop.reader.totals _ made _ _ notes _ _ (ap g.O.Sink.taken (c.in_err-print_next.ensures.same_out passed))
     (c.in_err-print_next.ensures.same_lines passed) (c.loop.invariant.printed made notes)

@@ -1,10 +1,10 @@
-use Rattle.std.proofs.Common.{refl, [], ◌∷◌, ◌∙◌}
+use Rattle.std.proofs.Common.{refl, ◌∙◌}
 use Rattle.record_io.specs.Puts.{taken_by}
 use Rattle.show_files.specs.ShowCommand.{IsShown, IsShownSoFar, show_meaning}
-use Rattle.run_answers.proofs.OneAnswer.{one_of_file}
-use Rattle.show_files.proofs.OneReading.{one_shown}
+use Rattle.show_files.specs.ReadingEnds.{reading_ends}
+use Rattle.run_answers.proofs.FileEnds.{unsized-put, unsized-allowed, end-flushed, end-unflushed}
 use Rattle.run_answers.proofs.FileRuns.{handed-work}
-use Rattle.show_files.proofs.ReadingRuns.{ends-unsized, prints-unsized, prints-flushed, prints-unflushed}
+use Rattle.show_files.proofs.ReadingsExist.{shown_exists}
 use Rattle.run_answers.proofs.PutSoFar.{so_far-nothing, so_far-flushed}
 use Rattle.run_answers.proofs.RunEnds.{rose-behind}
 use Rattle.show_files.proofs.ShowSteps.{shown-none}
@@ -12,24 +12,22 @@ use Rattle.show_files.proofs.showing.print_file.Goals as goal
 
 pub returns-in_err-size-clause-printed : goal.returns-in_err-size-clause-printed
 returns-in_err-size-clause-printed g c = λ made notes.
-    prints-unsized (IsShown c.args.words.now) _ _ _ _ _ _ c.from_residual.result c.from_residual.ensures.0 c.from_residual.ensures.1 c.in_err-size.ensures.unread
+    unsized-put reading_ends (IsShown c.args.words.now) (shown_exists c.args.words.now) _ _ _ _ _ _ c.from_residual.result c.from_residual.ensures.0 c.from_residual.ensures.1 c.in_err-size.ensures.unread
 
 pub returns-in-Ok-clause-printed : goal.returns-in-Ok-clause-printed
 returns-in-Ok-clause-printed g c = λ made notes.
-    prints-flushed (IsShown c.args.words.now) c.print_chunks-printed.result _ _ (taken_by made (g.O.Sink.taken c.args.out.now) notes) made _ _ notes _
-    c.in_ok-size.ensures.same_bytes c.print_chunks-printed.ensures.emptied (c.print_chunks-printed.ensures.printed made notes) c.in-Ok.ensures.sink.whole
+    end-flushed reading_ends (IsShown c.args.words.now) c.print_chunks-printed.result _ _ (taken_by made (g.O.Sink.taken c.args.out.now) notes) made _ _ notes _
+    c.in_ok-size.ensures.same_bytes (c.print_chunks-printed.ensures.printed made notes) c.in-Ok.ensures.sink.whole
 
 pub returns-in-Err-clause-printed : goal.returns-in-Err-clause-printed
 returns-in-Err-clause-printed g c = λ made notes.
-    prints-unflushed (Unit {0}) (IsShown c.args.words.now)
-    (λ f. one_of_file (IsShown c.args.words.now) (one_shown c.args.words.now) (f ∷ []))
-    c.print_chunks-printed.result _ c.unprinted.ensures _ _ (taken_by made (g.O.Sink.taken c.args.out.now) notes) made _ _ notes _
-    c.in_ok-size.ensures.same_bytes c.print_chunks-printed.ensures.emptied (c.print_chunks-printed.ensures.printed made notes)
+    end-unflushed reading_ends (IsShown c.args.words.now) c.print_chunks-printed.result _ c.unprinted.ensures _ _ (taken_by made (g.O.Sink.taken c.args.out.now) notes) made _ _ notes _
+    c.in_ok-size.ensures.same_bytes (c.print_chunks-printed.ensures.printed made notes)
     c.in-Err.ensures.sink.front c.in-Err.ensures.some
 
-pub returns-in_err-size-clause-sized : goal.returns-in_err-size-clause-sized
-returns-in_err-size-clause-sized g c =
-    ends-unsized _ _ _ _ _ c.from_residual.result c.from_residual.ensures.0 c.from_residual.ensures.1 c.in_err-size.ensures.unread
+pub returns-in_err-size-clause-allowed : goal.returns-in_err-size-clause-allowed
+returns-in_err-size-clause-allowed g c =
+    unsized-allowed (show_meaning c.args.words.now) refl _ _ _ _ _ c.from_residual.result c.from_residual.ensures.0 c.from_residual.ensures.1 c.in_err-size.ensures.unread
 
 pub returns-in_err-size-clause-so_far : goal.returns-in_err-size-clause-so_far
 returns-in_err-size-clause-so_far g c = λ short sound made notes.

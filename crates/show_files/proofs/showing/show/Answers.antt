@@ -1,4 +1,4 @@
-use Rattle.std.proofs.Common.{refl, arith}
+use Rattle.std.proofs.Common.{arith}
 use Rattle.show_files.specs.ShowCommand.{IsShown, IsShownSoFar, show_meaning}
 use Rattle.show_files.proofs.ReadingRuns.{show_reads, runs-reading}
 use Rattle.run_answers.proofs.FileRuns.{still-sized, file-keeps}
@@ -12,7 +12,7 @@ returns-clause-runs g c = λ others.
     runs-reading (show_meaning words) (IsShown words) (IsShownSoFar words) (show_reads words) others.input others.made _ _ others.grown _ _ _ _
     (file-keeps (show_meaning words) (IsShown words) (IsShownSoFar words) (show_reads words).one others.input others.made others.made _ _ others.grown _ _ _ _
     did.file.never_falls (omega arith) did.out.never_falls c.end_reading.ensures.notes.never_falls exact did.handed)
-    c.print_file-ended.result _ did.sized exact
+    c.print_file-ended.result _ did.allowed exact
     (did.printed others.made.bytes (g.E.Sink.taken c.args.notes.now))
     (λ short sound. did.so_far short sound others.made.bytes (g.E.Sink.taken c.args.notes.now)) c.end_reading.ensures.told
-    did.file.cause did.out.cause (λ _. refl)
+    did.file.cause did.out.cause

@@ -12,8 +12,8 @@ returns-clause-runs g c = λ others.
     runs-reading verify_meaning IsVerified IsVerifiedSoFar verify_reads others.input others.made _ _ others.grown _ _ _ _
     (file-keeps verify_meaning IsVerified IsVerifiedSoFar verify_reads.one others.input others.made others.made _ _ others.grown _ _ _ _
     did.file.never_falls (omega arith) did.out.never_falls c.end_reading.ensures.notes.never_falls exact did.handed)
-    c.report_file-ended.result _ did.sized exact
+    c.report_file-ended.result _ did.allowed exact
     (did.printed others.made.bytes (g.E.Sink.taken c.args.notes.now))
     (λ short sound. unprinted-so_far _ others.made.bytes _ _ (g.E.Sink.taken c.args.notes.now)
     (ap g.O.Sink.taken (did.same_out short))) c.end_reading.ensures.told
-    did.file.cause did.out.cause (λ e. absurd (did.memory e))
+    did.file.cause did.out.cause

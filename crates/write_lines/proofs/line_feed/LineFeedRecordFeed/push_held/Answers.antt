@@ -1,6 +1,6 @@
 use Rattle.std.proofs.Common.{◌+◌, ◌≡◌, ◌∙◌, ◌≤◌, ◌<◌, ℕ, List, [], ◌∷◌, ◌++◌, take, drop, length, length-take, length-append, false, refl, sym, ap, arith, rules}
 use Rattle.write_lines.specs.Input.{line_limit}
-use Rattle.write_lines.proofs.FeedSteps.{next-line, NoneEnds-none, asked-some}
+use Rattle.write_lines.proofs.FeedSteps.{next-line, line-record, NoneEnds-none, asked-some}
 use Rattle.write_lines.proofs.line_feed.LineFeedRecordFeed.push_held.Goals as goal
 
 pub push_open-requires : goal.push_open-requires
@@ -11,18 +11,19 @@ pub returns-clause-pushed : goal.returns-clause-pushed
 returns-clause-pushed g c = λ _.
     let self = c.args.self.now in
     let ends = c.in-Some.ensures.found in
-    let line : List ℕ = take c.in-Some.len self.window in
-    let asking : 0 < self.asked = asked-some self.asked self.window self.all_given (omega (arith, ends.0)) in
-    let short : length line ≤ line_limit false =
-    omega (arith, c.as_slice.ensures.short, ap length c.in-Some.ensures.same_window, length-take c.in-Some.len self.window) in
-    let rest : c.skip.new.self ≡ drop (c.in-Some.len + 1) self.window = c.skip.ensures ∙ ap (λ (l : List ℕ). drop (c.in-Some.len + 1) l) c.in-Some.ensures.same_window in
-    let slice : take c.in-Some.len c.as_slice.result.now ≡ line = ap (λ (l : List ℕ). take c.in-Some.len l) (c.as_slice.ensures.value ∙ c.in-Some.ensures.same_window) in
-    let parts : self.window ≡ line ++ 10 ∷ c.skip.new.self = ends.2 ∙ ap (λ (l : List ℕ). line ++ 10 ∷ l) (sym rest) in
+    let line : List ℕ = take c.in-Some.len self.held in
+    let asking : 0 < self.asked = asked-some self.asked self.held self.all_given (omega (arith, ends.0)) in
+    let short : length line ≤ line_limit self.hex =
+    rw c.if-self.false (omega (arith, c.as_slice.ensures.short, ap length c.in-Some.ensures.same_held, length-take c.in-Some.len self.held)) in
+    let rest : c.skip.new.self ≡ drop (c.in-Some.len + 1) self.held = c.skip.ensures ∙ ap (λ (l : List ℕ). drop (c.in-Some.len + 1) l) c.in-Some.ensures.same_held in
+    let slice : take c.in-Some.len c.as_slice.result.now ≡ line = ap (λ (l : List ℕ). take c.in-Some.len l) (c.as_slice.ensures.value ∙ c.in-Some.ensures.same_held) in
+    let parts : self.held ≡ line ++ 10 ∷ c.skip.new.self = ends.2 ∙ ap (λ (l : List ℕ). line ++ 10 ∷ l) (sym rest) in
     record {
       record_bytes = line;
-      gives = next-line self.hex c.line_end.new.self.hex (length self.window + self.asked) self.asked c.line_end.new.self.asked c.in-Some.len [] self.window c.skip.new.self line _ _ _
-          self.plain c.line_end.new.self.plain NoneEnds-none ends.1 refl parts short (omega arith) (omega (arith, asking, c.in-Some.ensures.same_asked)) c.in-Some.ensures.same_asked
-          (ap g.I.Source.left c.in-Some.ensures.same_input) refl;
+      gives = line-record self.hex _ _ line c.if-self.false short
+          (next-line self.hex c.line_end.new.self.hex (length self.held + self.asked) self.asked c.line_end.new.self.asked c.in-Some.len [] self.held c.skip.new.self line _ _ _
+          c.in-Some.ensures.same_form NoneEnds-none ends.1 refl parts (omega arith) (omega (arith, asking, c.in-Some.ensures.same_asked)) c.in-Some.ensures.same_asked
+          (ap g.I.Source.left c.in-Some.ensures.same_input) refl);
       takes = rw slice at c.push_open.ensures.push (search rules);
       lowers = omega (arith, c.in-Some.ensures.same_asked, ap length parts, length-append line (10 ∷ c.skip.new.self));
     }

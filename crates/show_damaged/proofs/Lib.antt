@@ -1,0 +1,11 @@
+pub mod FaultlessRecovered
+pub mod OneRecovery
+pub mod RecoverLoop
+pub mod RecoverRuns
+pub mod RecoverSteps
+pub mod RecoverStreams
+pub mod RegionTexts
+pub mod WalkRuns
+mod WalkValues
+pub mod Walked
+pub mod WalkedEvents

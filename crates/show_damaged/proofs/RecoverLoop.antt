@@ -1,0 +1,235 @@
+-- How the loop of `show` gets on past damage, where the file may tell its bytes.
+use Rattle.std.proofs.Common.{◌≡◌, ◌∙◌, ℕ, ◌^◌, ◌≤◌, ◌⊎◌, Bool, true, false, Option, Some, None, Result, Ok, Err, IfSome, List, [], ◌∷◌, ◌++◌, length, take, refl, sym, ap, subst, inl, inr, arith}
+use Rattle.std.specs.Fn.{Shared, FnReturnsAt}
+use denote.Ref.{Bor}
+use Rattle.std.specs.Result.{IsErr, IsErrAnd}
+use Rattle.chunk_header.specs.Views.{value_of_chunk}
+use Rattle.meta_chunk.specs.Laid.{end_of_chunk}
+use Rattle.chunk_reader.proofs.ReadingSteps.{counted-room}
+use Rattle.record_values.specs.Bytes.{AreBytes}
+use Rattle.record_io.specs.Puts.{Out, Taken}
+use Rattle.record_io.proofs.Puts.{GoOut-nothing, GoOutOrAreHeld-none}
+use Rattle.damage_skip.specs.Walks.{piece_of, events_of, GoesOn, IsMet, IsStoppedAt, IsStop, IsEventIn}
+use Rattle.damage_skip.specs.declared.events.Event.{Event}
+use Rattle.damage_skip.specs.declared.events.WalkEnd.{WalkEnd}
+use Rattle.damage_skip.specs.declared.regions.Region.{Region}
+use Rattle.show_damaged.specs.declared.recover_words.RecoverWords.{RecoverWords}
+use Rattle.run_answers.specs.declared.status.Status.{Status}
+use Rattle.run_answers.specs.declared.ending.Ending.{Ending}
+use Rattle.run_answers.specs.Answers.{Answer}
+use Rattle.run_answers.specs.FileAnswers.{OfFile, most_file_bytes}
+use Rattle.show_damaged.specs.WalkAnswers.{regions_in, is_refused, may_skip, walk_status}
+use Rattle.show_damaged.specs.RecoverCommand.{IsRecovered, IsRecoveredSoFar}
+use Rattle.show_damaged.specs.RecoverProgress.{HasPositions, end_of_walk, event_lines, event_text, status_after, GivesEvent, IsGivenTo}
+use Rattle.run_answers.specs.PutSoFar.{HasPut, HasPutSoFar, HasPutFront}
+use Rattle.run_answers.specs.Endings.{IsShort, HasPutToCut, HasPutAtEnd}
+use Rattle.show_damaged.specs.WalkingEnds.{walk_ends, IsBound, HasToldOf, TellsOf}
+use Rattle.run_answers.proofs.FileEnds.{some-answer}
+use Rattle.show_damaged.proofs.OneRecovery.{recovered_exists}
+use Rattle.show_damaged.proofs.RecoverSteps.{by_sink, given-front, given-so_far, given-whole, given-stopped, given-on, given-event, event-unprinted, event-untold, event-passed, event-said, event-unsaid, event-front, told-event, told-still, told-front, status-event}
+use Rattle.damage_skip.specs.declared.events.Event.TheVariants as event
+use Rattle.damage_skip.specs.declared.events.WalkEnd.TheVariants as walk
+use Rattle.run_answers.specs.declared.status.Status.TheVariants as status
+use Rattle.run_answers.specs.declared.ending.Cut.TheVariants as cut
+use Rattle.run_answers.specs.declared.ending.Ending.TheVariants as end
+
+-- nothing was given yet
+pub given-none : (words : RecoverWords) (bytes : Option (List ℕ)) (place : ℕ) (taken : Taken) (held : List ℕ)
+    → place ≡ 0 → held ≡ [] → IfSome bytes (λ f. IsGivenTo words f place taken taken held status.Ok)
+given-none words None place taken held front none = tt
+given-none words (Some f) place taken held front none =
+    subst (λ (p : ℕ). IsGivenTo words f p taken taken held status.Ok) (sym front)
+    (subst (λ (h : List ℕ). IsGivenTo words f 0 taken taken h status.Ok) (sym none)
+    (record {
+      events = [];
+      walked = record { walked = ([], refl, refl); passed = tt };
+      went = GoOutOrAreHeld-none taken taken Out [] (GoOut-nothing taken);
+      status = refl;
+    }))
+
+pub recovered-none : (words : RecoverWords) (f : List ℕ) → IsRecoveredSoFar words f []
+recovered-none words f = record { place = 0; events = []; walked = record { walked = ([], refl, refl); passed = tt }; puts = refl }
+
+pub met-none : (bytes : Option (List ℕ)) (place : ℕ) → place ≡ 0 → IfSome bytes (λ f. IsMet false f place)
+met-none None place front = tt
+met-none (Some f) place front = ([], sym front)
+
+-- nothing is stopped at
+pub stopped-none : (keep : Bool) (bytes : Option (List ℕ)) (place : ℕ) (stopped : Option Region) → stopped ≡ None → IfSome bytes (λ f. IsStoppedAt keep f place stopped)
+stopped-none keep None place stopped none = tt
+stopped-none keep (Some f) place stopped none = subst (λ (s : Option Region). IsStoppedAt keep f place s) (sym none) tt
+
+-- what is told of the same bytes
+pub same-met : (a b : Option (List ℕ)) (keep : Bool) (place : ℕ) → a ≡ b → keep ≡ false → IfSome b (λ f. IsMet false f place) → IfSome a (λ f. IsMet keep f place)
+same-met a b keep place same not_kept h =
+    subst (λ (x : Option (List ℕ)). IfSome x (λ f. IsMet keep f place)) (sym same)
+    (subst (λ (k : Bool). IfSome b (λ f. IsMet k f place)) (sym not_kept) h)
+
+pub goes-same : (a b : Option (List ℕ)) (keep : Bool) (place next : ℕ) (result known : Result (Option Event) WalkEnd) → a ≡ b → keep ≡ false → result ≡ known
+    → IfSome a (λ f. GoesOn keep f place next (events_of result)) → IfSome b (λ f. GoesOn false f place next (events_of known))
+goes-same a b keep place next result known same not_kept is h =
+    subst (λ (r : Result (Option Event) WalkEnd). IfSome b (λ f. GoesOn false f place next (events_of r))) is
+    (subst (λ (x : Option (List ℕ)). IfSome x (λ f. GoesOn false f place next (events_of result))) same
+    (subst (λ (k : Bool). IfSome a (λ f. GoesOn k f place next (events_of result))) not_kept h))
+
+pub stop-same : (a b : Option (List ℕ)) (keep keep_then : Bool) (next : ℕ) (stopped : Option Region) (region : Region) → a ≡ b → keep_then ≡ keep → keep ≡ false → stopped ≡ Some region
+    → IfSome a (λ f. IsStoppedAt keep_then f next stopped) → IfSome b (λ f. IsStoppedAt false f next (Some region))
+stop-same a b keep keep_then next stopped region same kept not_kept is h =
+    subst (λ (s : Option Region). IfSome b (λ f. IsStoppedAt false f next s)) is
+    (subst (λ (x : Option (List ℕ)). IfSome x (λ f. IsStoppedAt false f next stopped)) same
+    (subst (λ (k : Bool). IfSome a (λ f. IsStoppedAt k f next stopped)) (kept ∙ not_kept) h))
+
+-- an event of a walk has room for its positions
+pub event-room : (from to size : ℕ) (e : Event) → IsEventIn from to e → to ≤ size → size ≤ 2 ^ 60 → HasPositions e
+event-room from to size (event.Records begin records chunk) h within reach =
+    let last = counted-room (record { chunks = 0; records = 0; bytes = begin; unread = 0 }) (end_of_chunk begin (value_of_chunk chunk)) (value_of_chunk chunk) refl in
+    omega (arith, last, h.intact.1.num_records, h.to_place, within, reach)
+event-room from to size (event.Kept begin chunk unread) h within reach = omega (arith, h.rises, h.to_place, within, reach)
+event-room from to size (event.Skipped region) h within reach = omega (arith, h.rises, h.to_place, within, reach)
+
+-- and is not refused
+pub event-allowed : {F : Type 0} (g : Shared F (Bor Region × Unit {0}) Bool) (f : F) (most : Option ℕ) (from to size : ℕ) (e : Event) → IsBound g f most
+    → IsEventIn from to e → to ≤ size → size ≤ 2 ^ 60 → ((region : Region) → e ≡ event.Skipped region → FnReturnsAt g f region true)
+    → is_refused most (piece_of e) ≡ false
+event-allowed g f most from to size e bound h within reach asked =
+    event-passed most e (λ region is.
+    let there : IsEventIn from to (event.Skipped region) = subst (IsEventIn from to) is h in
+    sym (bound region true
+    (record { ordered = omega (arith, there.rises); in_reach = omega (arith, there.to_place, within, reach) })
+    (asked region is)))
+
+-- the bound of the same test
+pub bound-same : {F : Type 0} (g : Shared F (Bor Region × Unit {0}) Bool) (f known : F) (most : Option ℕ) → f ≡ known → IsBound g known most → IsBound g f most
+bound-same {F} g f known most same bound = subst (λ (t : F). IsBound g t most) (sym same) bound
+
+-- where a walk stops it is refused
+pub stop-refused : {F : Type 0} (g : Shared F (Bor Region × Unit {0}) Bool) (f : F) (most : Option ℕ) (size place : ℕ) (region : Region) → IsBound g f most
+    → IsStop size place region → size ≤ 2 ^ 60 → FnReturnsAt g f region false → may_skip most region ≡ false
+stop-refused g f most size place region bound h reach asked =
+    sym (bound region false
+    (record { ordered = omega (arith, h.begin, h.onward.past); in_reach = omega (arith, h.onward.within, reach) }) asked)
+
+-- one event more was given
+pub step-given : (words : RecoverWords) (bytes : Option (List ℕ)) (place next : ℕ) (a b c : Taken) (held held_then : List ℕ) (ended : Status)
+    (e : Event) (then : Status) → then ≡ status_after ended e
+    → IfSome bytes (λ f. IsGivenTo words f place a b held ended) → IfSome bytes (λ f. GoesOn false f place next (piece_of e ∷ []))
+    → is_refused words.most (piece_of e) ≡ false → GivesEvent {X = Status} (Ok then) (event_lines words e) (event_text e) b c held held_then
+    → IfSome bytes (λ f. IsGivenTo words f next a c held_then then)
+step-given words None place next a b c held held_then ended e then is h on passed gives = tt
+step-given words (Some f) place next a b c held held_then ended e then is h on passed gives =
+    subst (λ (s : Status). IsGivenTo words f next a c held_then s) (sym is)
+    (given-event words f place next a b c held held_then ended e then h on passed gives)
+
+pub step-told : (words : RecoverWords) (l : Option (List ℕ)) (b c : Taken) (held held_then : List ℕ) (ended : Status) (e : Event) (then : Status)
+    → then ≡ status_after ended e
+    → (skipped : List Region) × HasToldOf words.most l b.notes skipped × (ended ≡ walk_status skipped None)
+    → is_refused words.most (piece_of e) ≡ false → GivesEvent {X = Status} (Ok then) (event_lines words e) (event_text e) b c held held_then
+    → (skipped : List Region) × HasToldOf words.most l c.notes skipped × (then ≡ walk_status skipped None)
+step-told words l b c held held_then ended e then same (skipped, told, is) passed gives = (
+  skipped ++ regions_in (piece_of e ∷ []),
+  told-event words.most l b.notes c.notes skipped e told passed (event-said b c (held ++ event_lines words e) (event_text e) held_then gives),
+  same ∙ status-event skipped ended e is,
+)
+
+-- or it failed to be
+pub step-failed : (X : Type 0) (words : RecoverWords) (bytes : Option (List ℕ)) (place next : ℕ) (a b c : Taken) (held held_then : List ℕ) (ended : Status)
+    (e : Event) (why : Ending Region) (result : Result Status (Ending Region)) → IsErr result → IsErrAnd result (λ end. end ≡ why)
+    → IfSome bytes (λ f. length f ≤ most_file_bytes)
+    → IfSome bytes (λ f. IsGivenTo words f place a b held ended) → IfSome bytes (λ f. GoesOn false f place next (piece_of e ∷ []))
+    → is_refused words.most (piece_of e) ≡ false → GivesEvent {X = X} (Err why) (event_lines words e) (event_text e) b c held held_then
+    → held_then ≡ []
+    → IfSome bytes (λ f. HasPutAtEnd walk_ends (IsRecovered words) result f a c held_then)
+step-failed X words None place next a b c held held_then ended e why result err is short h on passed gives none = tt
+step-failed X words (Some f) place next a b c held held_then ended e why (Ok x) err is short h on passed gives none = absurd (cc err)
+step-failed X words (Some f) place next a b c held held_then ended e why (Err result) err is short h on passed gives none =
+    subst (λ (x : Ending Region). HasPutAtEnd walk_ends (IsRecovered words) (Err x) f a c held_then) (sym is)
+    (by_sink X (λ x. HasPutAtEnd walk_ends (IsRecovered words) (Err x) f a c held_then) why (event_lines words e) (event_text e) b c held held_then gives
+    (λ failed.
+    some-answer (IsRecovered words) (recovered_exists words) (HasPutToCut cut.Out a c held_then) f
+    (event-unprinted X words f place next a b c held held_then ended e short h on passed failed none))
+    (λ failed.
+    some-answer (IsRecovered words) (recovered_exists words) (HasPutToCut cut.Notes a c held_then) f
+    (λ answer is. (none, event-untold X words f place next a b c held held_then ended e short h on passed failed answer is))))
+
+pub step-untold : (X : Type 0) (words : RecoverWords) (l : Option (List ℕ)) (b c : Taken) (held held_then : List ℕ) (ended : Status)
+    (e : Event) (why : Ending Region) (result : Result Status (Ending Region)) → IsErr result → IsErrAnd result (λ end. end ≡ why)
+    → (skipped : List Region) × HasToldOf words.most l b.notes skipped × (ended ≡ walk_status skipped None)
+    → is_refused words.most (piece_of e) ≡ false → GivesEvent {X = X} (Err why) (event_lines words e) (event_text e) b c held held_then
+    → TellsOf words.most result l c.notes
+step-untold X words l b c held held_then ended e why (Ok x) err is told passed gives = absurd (cc err)
+step-untold X words l b c held held_then ended e why (Err result) err is (skipped, told, status) passed gives =
+    subst (λ (x : Ending Region). TellsOf words.most (Err x) l c.notes) (sym is)
+    (by_sink X (λ x. TellsOf words.most (Err x) l c.notes) why (event_lines words e) (event_text e) b c held held_then gives
+    (λ failed.
+    (skipped, told-still words.most l b.notes c.notes skipped told (event-unsaid b c (take failed.1 (held ++ event_lines words e)) failed.2)))
+    (λ failed.
+    told-front words.most l b.notes c.notes skipped e told passed failed.0 (event-front b c (held ++ event_lines words e) (event_text e) failed.1 failed.2)))
+
+-- which is by a sink
+pub step-by : (X : Type 0) (why : Ending Region) (result : Result Status (Ending Region)) → IsErr result → IsErrAnd result (λ end. end ≡ why)
+    → (lines text : List ℕ) (b c : Taken) (held held_then : List ℕ) → GivesEvent {X = X} (Err why) lines text b c held held_then
+    → (result ≡ Err (end.Cut cut.Out)) ⊎ (result ≡ Err (end.Cut cut.Notes))
+step-by X why (Ok x) err is lines text b c held held_then gives = absurd (cc err)
+step-by X why (Err result) err is lines text b c held held_then gives =
+    elim (by_sink X (λ x. (x ≡ end.Cut cut.Out) ⊎ (x ≡ end.Cut cut.Notes)) why lines text b c held held_then gives (λ _. inl refl) (λ _. inr refl)) [
+      | inl out ↦ inl (ap Err (is ∙ out))
+      | inr notes ↦ inr (ap Err (is ∙ notes))
+    ]
+
+-- and not by what is read
+pub step-not_short : (result : Result Status (Ending Region)) → (result ≡ Err (end.Cut cut.Out)) ⊎ (result ≡ Err (end.Cut cut.Notes)) → ¬ IsErrAnd result IsShort
+step-not_short result (inl out) short = subst (λ (r : Result Status (Ending Region)). IsErrAnd r IsShort) out short
+step-not_short result (inr notes) short = subst (λ (r : Result Status (Ending Region)). IsErrAnd r IsShort) notes short
+
+-- the walk ended before the file
+pub step-ended : (words : RecoverWords) (bytes : Option (List ℕ)) (place next size size_then : ℕ) (a b : Taken) (held : List ℕ) (ended : Status)
+    (e : WalkEnd) (why : Ending Region) → why ≡ end_of_walk e
+    → size ≤ most_file_bytes → IfSome bytes (λ f. size ≡ length f) → size_then ≡ size
+    → IfSome bytes (λ f. IsGivenTo words f place a b held ended) → IfSome bytes (λ f. GoesOn false f place next (events_of (Err e)))
+    → ((region : Region) → e ≡ walk.Stopped region → IsStop size_then next region × (may_skip words.most region ≡ false) × IfSome bytes (λ f. IsStoppedAt false f next (Some region)))
+    → IfSome bytes (λ f. HasPutAtEnd walk_ends (IsRecovered words) (Err why) f a b held)
+step-ended words None place next size size_then a b held ended e why is short exact same h on stops = tt
+step-ended words (Some f) place next size size_then a b held ended e why is short exact same h on stops =
+    subst (λ (x : Ending Region). HasPutAtEnd walk_ends (IsRecovered words) (Err x) f a b held) (sym is) (by_end e on stops) where
+      front : AreBytes f → (answer : Answer) × OfFile (IsRecovered words) (f ∷ []) answer × HasPutFront a b held answer
+      front =
+          some-answer (IsRecovered words) (recovered_exists words) (HasPutFront a b held) f
+          (given-front words f place a b held ended (omega (arith, short, exact)) h)
+
+      by_end : (e : WalkEnd) → GoesOn false f place next (events_of (Err e))
+          → ((region : Region) → e ≡ walk.Stopped region → IsStop size_then next region × (may_skip words.most region ≡ false) × IsStoppedAt false f next (Some region))
+          → HasPutAtEnd walk_ends (IsRecovered words) (Err (end_of_walk e)) f a b held
+      by_end (walk.Stopped region) on stops =
+          let stop = stops region refl in
+          given-stopped words f next a b held ended region (omega (arith, short, exact))
+          (given-on words f place next a b held ended h on)
+          stop.2.0 (omega (arith, stop.0.onward.past, stop.0.onward.within, exact, same)) stop.2.1 stop.1
+      by_end walk.Store on stops = front
+      by_end walk.Memory on stops = front
+
+pub step-said : (words : RecoverWords) (l m : Option (List ℕ)) (ended : Status) (e : WalkEnd) (why : Ending Region) → why ≡ end_of_walk e
+    → (skipped : List Region) × HasToldOf words.most l m skipped × (ended ≡ walk_status skipped None)
+    → ((region : Region) → e ≡ walk.Stopped region → may_skip words.most region ≡ false)
+    → TellsOf words.most (Err why) l m
+step-said words l m ended e why is (skipped, told, status) stops =
+    subst (λ (x : Ending Region). TellsOf words.most (Err x) l m) (sym is) (by_end e stops) where
+      by_end : (e : WalkEnd) → ((region : Region) → e ≡ walk.Stopped region → may_skip words.most region ≡ false)
+          → TellsOf words.most (Err (end_of_walk e)) l m
+      by_end (walk.Stopped region) stops = (skipped, told, stops region refl)
+      by_end walk.Store stops = (skipped, told)
+      by_end walk.Memory stops = (skipped, told)
+
+pub step-so_far : (words : RecoverWords) (bytes : Option (List ℕ)) (place : ℕ) (a b : Taken) (held : List ℕ) (ended : Status)
+    → IfSome bytes (λ f. IsGivenTo words f place a b held ended) → IfSome bytes (λ f. HasPutSoFar (IsRecoveredSoFar words f) a b held)
+step-so_far words None place a b held ended h = tt
+step-so_far words (Some f) place a b held ended h = given-so_far words f place a b held ended h
+
+-- the file's end was come to
+pub step-done : (words : RecoverWords) (bytes : Option (List ℕ)) (place next size : ℕ) (a b : Taken) (held : List ℕ) (ended : Status)
+    → size ≤ most_file_bytes → IfSome bytes (λ f. size ≡ length f) → next ≡ size
+    → IfSome bytes (λ f. IsGivenTo words f place a b held ended) → IfSome bytes (λ f. GoesOn false f place next [])
+    → IfSome bytes (λ f. HasPut (IsRecovered words) f a b held [] ended)
+step-done words None place next size a b held ended short exact end h on = tt
+step-done words (Some f) place next size a b held ended short exact end h on =
+    given-whole words f a b held ended (omega (arith, short, exact))
+    (subst (λ (p : ℕ). IsGivenTo words f p a b held ended) (end ∙ exact) (given-on words f place next a b held ended h on))

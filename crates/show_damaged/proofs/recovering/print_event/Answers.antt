@@ -1,0 +1,19 @@
+use Rattle.std.proofs.Common.{rules}
+use Rattle.record_io.proofs.Buffered.{TakesAndHolds-none}
+use Rattle.show_damaged.specs.RecoverProgress.{event_lines, event_text}
+use Rattle.run_answers.specs.declared.status.Status.{Status}
+use Rattle.show_damaged.proofs.RecoverSteps.{gives-lines, breaks-lines}
+use Rattle.show_damaged.proofs.recovering.print_event.Goals as goal
+
+pub returns-in-Ok-clause-given : goal.returns-in-Ok-clause-given
+returns-in-Ok-clause-given g c = λ made.
+    gives-lines c.args.status c.args.words.now c.args.event made _ _ _ c.args.lines.now _ (search rules) (search rules)
+
+pub returns-in-Records-clause-given : goal.returns-in-Records-clause-given
+returns-in-Records-clause-given g c = λ made.
+    breaks-lines Status (event_lines c.args.words.now c.args.event) (event_text c.args.event) made _ _ _ c.args.lines.now c.put_records.new.lines
+    (search rules) (search rules)
+
+pub returns-in-Kept-clause-given : goal.returns-in-Kept-clause-given
+returns-in-Kept-clause-given g c = λ made.
+    gives-lines c.args.status c.args.words.now c.args.event made _ _ _ c.args.lines.now _ (search rules) (search (rules, TakesAndHolds-none))

@@ -1,0 +1,183 @@
+ghost use Rattle.std.specs.Prelude.{◌≡◌, ◌≢◌, ℕ, ◌^◌, ◌≤◌, ◌⊎◌, Option, Some, None, Ok, Err, List, [], ◌∷◌, false, length, IfOk, IfSome, OnErr, IsErrAnd};
+ghost use Rattle.record_io.specs.Outside.{Rose};
+ghost use Rattle.record_io.specs.Puts.{taken_by};
+ghost use Rattle.record_io.specs.Calls.{OnlyAsks, OnlyCounts};
+ghost use Rattle.damage_skip.specs.Policies.{IsTest};
+ghost use Rattle.damage_skip.specs.Walkers.{progress_of, test_of};
+ghost use Rattle.run_answers.specs.FileAnswers.{HandsOut};
+ghost use Rattle.show_damaged.specs.RecoverCommand.{IsRecovered, IsRecoveredSoFar, recover_meaning};
+ghost use Rattle.show_damaged.specs.RecoverProgress.{GivesEvent, HasPositions, end_of_walk, event_lines, event_text, status_after};
+ghost use Rattle.run_answers.specs.Runs.{Runs, Seen, shown, shown_file};
+ghost use Rattle.show_damaged.specs.WalkAnswers.{may_skip};
+ghost use Rattle.run_answers.specs.PutSoFar.{HasPutSoFar};
+ghost use Rattle.run_answers.specs.Endings.{HasPutAtEnd, IsAllowedEnd, IsShort};
+ghost use Rattle.show_damaged.specs.WalkingEnds.{IsBound, TellsOf, walk_ends};
+
+use crate::recover_words::RecoverWords;
+use crate::walking::{end_walk, may_skip};
+use damage_skip::{Event, Policy, Region, WalkEnd, Walker, region_line};
+use record_io::{Failed, PutBuffer, Sink, Store};
+use run_answers::{Cut, Ending, Status, size_of, unprinted};
+use show_files::{LINES, put_records};
+use std::alloc::Global;
+
+/// Prints the records of a file past its damage, and says in notes what is skipped and why it ended before the file did.
+pub fn recover<S: Store, O: Sink, E: Sink>(
+    alloc: Global,
+    words: &RecoverWords,
+    file: &mut S,
+    out: &mut O,
+    notes: &mut E,
+) -> Status
+    ensures runs { (others : Seen) → Runs (recover_meaning words.now)
+        (record others { files = shown_file S.bytes S.told S.handed S.faults file.old ∷ []; out = shown O.taken O.faults out.old; notes = shown E.taken E.faults notes.old })
+        (record others { files = shown_file S.bytes S.told S.handed S.faults file.new ∷ []; out = shown O.taken O.faults out.new; notes = shown E.taken E.faults notes.new })
+        result }
+    ensures same_bytes { S.bytes file.new ≡ S.bytes file.old }
+    ensures same_name { S.name file.new ≡ S.name file.old }
+    ensures notes_kept { result ≡ Status.Ok → notes.new ≡ notes.old }
+{
+    let ended = recover_file(alloc, words, file, out, notes);
+    end_walk(ended, notes)
+}
+
+/// Prints the records of a file past its damage, up to its end or to a region that may not be skipped.
+fn recover_file<S: Store, O: Sink, E: Sink>(
+    alloc: Global,
+    words: &RecoverWords,
+    file: &mut S,
+    out: &mut O,
+    notes: &mut E,
+) -> Result<Status, Ending<Region>>
+    ensures printed { (made : Option (List ℕ)) → IfSome (S.bytes file.old) (λ bytes. HasPutAtEnd walk_ends (IsRecovered words.now) result bytes
+        (taken_by made (O.taken out.old) (E.taken notes.old)) (taken_by made (O.taken out.new) (E.taken notes.new)) []) }
+    ensures so_far { IsErrAnd result IsShort → ¬ Rose (O.faults out.old) (O.faults out.new) → (made : Option (List ℕ))
+        → IfSome (S.bytes file.old) (λ bytes. HasPutSoFar (IsRecoveredSoFar words.now bytes)
+        (taken_by made (O.taken out.old) (E.taken notes.old)) (taken_by made (O.taken out.new) (E.taken notes.new)) []) }
+    ensures said { TellsOf words.now.most result (E.taken notes.old) (E.taken notes.new) }
+    ensures allowed { IsAllowedEnd (recover_meaning words.now) result (S.told file.new) }
+    ensures notes_kept { result ≡ Ok Status.Ok → notes.new ≡ notes.old }
+    ensures handed { HandsOut (recover_meaning words.now) (S.told file.new) (S.handed file.old) (S.handed file.new) }
+    ensures same_bytes { S.bytes file.new ≡ S.bytes file.old }
+    ensures file { OnlyCounts S.name S.faults (result ≡ Err (Ending.Cut Cut.File)) file.old file.new }
+    ensures out { OnlyCounts O.lent O.faults (result ≡ Err (Ending.Cut Cut.Out)) out.old out.new }
+    ensures notes { OnlyCounts E.lent E.faults (result ≡ Err (Ending.Cut Cut.Notes)) notes.old notes.new }
+{
+    let size = size_of(file)?;
+    let most = words.most;
+    let policy = Policy::new(|region: &Region| may_skip(most, region));
+    let mut walker = Walker::new(size, false, policy);
+    let mut lines = PutBuffer::new();
+    let walked = print_events(alloc, words, &mut walker, file, &mut lines, out, notes);
+    match lines.flush(out) {
+        Ok(()) => walked,
+        Err(Failed) => Err(Ending::Cut(unprinted(&walked))),
+    }
+}
+
+/// Prints the records of the events of a walk, and tells its regions. The last lines may be held.
+fn print_events<F: Fn(&Region) -> bool + Drop, S: Store, O: Sink, E: Sink>(
+    alloc: Global,
+    words: &RecoverWords,
+    walker: &mut Walker<F>,
+    file: &mut S,
+    lines: &mut PutBuffer<LINES>,
+    out: &mut O,
+    notes: &mut E,
+) -> Result<Status, Ending<Region>>
+    requires told { S.told file.old ≡ Some (progress_of walker.old).size }
+    requires in_reach { (progress_of walker.old).size ≤ 2 ^ 60 }
+    requires exact { IfSome (S.bytes file.old) (λ bytes. (progress_of walker.old).size ≡ length bytes) }
+    requires not_kept { (progress_of walker.old).keep ≡ false }
+    requires at_front { (progress_of walker.old).place ≡ 0 }
+    requires going { (progress_of walker.old).stopped ≡ None }
+    requires test { IsTest F.Fn (test_of walker.old) }
+    requires bound { IsBound F.Fn (test_of walker.old) words.now.most }
+    requires none_held { lines.old ≡ [] }
+    ensures printed { (made : Option (List ℕ)) → IfSome (S.bytes file.old) (λ bytes. HasPutAtEnd walk_ends (IsRecovered words.now) result bytes
+        (taken_by made (O.taken out.old) (E.taken notes.old)) (taken_by made (O.taken out.new) (E.taken notes.new)) lines.new) }
+    ensures so_far { IsErrAnd result IsShort → (made : Option (List ℕ))
+        → IfSome (S.bytes file.old) (λ bytes. HasPutSoFar (IsRecoveredSoFar words.now bytes)
+        (taken_by made (O.taken out.old) (E.taken notes.old)) (taken_by made (O.taken out.new) (E.taken notes.new)) lines.new) }
+    ensures said { TellsOf words.now.most result (E.taken notes.old) (E.taken notes.new) }
+    ensures allowed { IsAllowedEnd (recover_meaning words.now) result (S.told file.new) }
+    ensures notes_kept { result ≡ Ok Status.Ok → notes.new ≡ notes.old }
+    ensures file { OnlyAsks S.bytes S.told S.name S.faults (result ≡ Err (Ending.Cut Cut.File)) file.old file.new }
+    ensures out { OnlyCounts O.lent O.faults (result ≡ Err (Ending.Cut Cut.Out)) out.old out.new }
+    ensures notes { OnlyCounts E.lent E.faults (result ≡ Err (Ending.Cut Cut.Notes)) notes.old notes.new }
+{
+    let mut status = Status::Ok;
+    loop {
+        match walker.next(alloc, file) {
+            Ok(Some(event)) => status = print_event(words, status, event, lines, out, notes)?,
+            Ok(None) => return Ok(status),
+            Err(end) => return Err(end_of_walk(end)),
+        }
+    }
+}
+
+/// The end by which a walk ended.
+fn end_of_walk(end: WalkEnd) -> Ending<Region>
+    ensures { result ≡ end_of_walk end }
+{
+    match end {
+        WalkEnd::Stopped(region) => Ending::At(region),
+        WalkEnd::Store => Ending::Cut(Cut::File),
+        WalkEnd::Memory => Ending::Cut(Cut::Memory),
+    }
+}
+
+/// Puts a line for each record of an event, or tells the region that it is. Gives the status behind it.
+fn print_event<O: Sink, E: Sink>(
+    words: &RecoverWords,
+    status: Status,
+    event: Event,
+    lines: &mut PutBuffer<LINES>,
+    out: &mut O,
+    notes: &mut E,
+) -> Result<Status, Ending<Region>>
+    requires { HasPositions event }
+    ensures status { IfOk result (λ ended. ended ≡ status_after status event) }
+    ensures given { (made : Option (List ℕ)) → GivesEvent result (event_lines words.now event) (event_text event)
+        (taken_by made (O.taken out.old) (E.taken notes.old)) (taken_by made (O.taken out.new) (E.taken notes.new)) lines.old lines.new }
+    ensures emptied { OnErr result (lines.new ≡ []) }
+    ensures quiet { event_text event ≡ [] → notes.new ≡ notes.old }
+    ensures out { OnlyCounts O.lent O.faults (result ≡ Err (Ending.Cut Cut.Out)) out.old out.new }
+    ensures notes { OnlyCounts E.lent E.faults (result ≡ Err (Ending.Cut Cut.Notes)) notes.old notes.new }
+{
+    match event {
+        Event::Records { begin, records, .. } => {
+            match put_records(&words.show.form, begin, &records, lines, out) {
+                Ok(()) => Ok(status),
+                Err(Failed) => Err(Ending::Cut(Cut::Out)),
+            }
+        }
+        Event::Kept { .. } => Ok(status),
+        Event::Skipped(region) => {
+            tell_region(&region, lines, out, notes)?;
+            Ok(Status::Skipped)
+        }
+    }
+}
+
+/// Puts out all lines that are held, and then tells a region that is skipped.
+fn tell_region<O: Sink, E: Sink>(
+    region: &Region,
+    lines: &mut PutBuffer<LINES>,
+    out: &mut O,
+    notes: &mut E,
+) -> Result<(), Ending<Region>>
+    ensures given { (made : Option (List ℕ)) → GivesEvent result [] (event_text (Event.Skipped region.now))
+        (taken_by made (O.taken out.old) (E.taken notes.old)) (taken_by made (O.taken out.new) (E.taken notes.new)) lines.old lines.new }
+    ensures emptied { lines.new ≡ [] }
+    ensures out { OnlyCounts O.lent O.faults (result ≡ Err (Ending.Cut Cut.Out)) out.old out.new }
+    ensures notes { OnlyCounts E.lent E.faults (result ≡ Err (Ending.Cut Cut.Notes)) notes.old notes.new }
+{
+    if lines.flush(out).is_err() {
+        return Err(Ending::Cut(Cut::Out));
+    }
+    match region_line(notes, "skipped", region) {
+        Ok(()) => Ok(()),
+        Err(Failed) => Err(Ending::Cut(Cut::Notes)),
+    }
+}

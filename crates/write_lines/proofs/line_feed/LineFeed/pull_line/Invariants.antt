@@ -1,0 +1,21 @@
+use Rattle.std.proofs.Common.{◌≡◌, ◌+◌, ◌^◌, ◌<◌, ◌≤◌, ◌++◌, length}
+use Rattle.run_answers.specs.Lines.{NoneEnds}
+use Rattle.write_lines.specs.Input.{line_limit}
+use Rattle.write_lines.specs.LineFeeds.{text_of}
+use Rattle.write_lines.proofs.line_feed.LineFeed.pull_line.Given as goal
+
+abbrev pub invariant-loop-self : goal.invariant-loop-self
+invariant-loop-self g l = record {
+  text : text_of (l.line ++ l.self.held) (g.I.Source.left l.self.input.now) ≡ text_of l.fn.self.held (g.I.Source.left l.fn.self.input.now);
+  bound : length l.line + (length l.self.held + l.self.asked) ≡ length l.fn.self.held + l.fn.self.asked;
+  none : NoneEnds l.line;
+  short : length l.line ≤ line_limit l.self.hex;
+  asking : 0 < length l.line → 0 < l.self.asked;
+  form : l.self.hex ≡ l.fn.self.hex;
+  named : l.self.input.ghost_name ≡ l.fn.self.input.ghost_name;
+  counted : g.I.Source.faults l.fn.self.input.now ≤ g.I.Source.faults l.self.input.now;
+  small : g.I.Source.faults l.fn.self.input.now < 2 ^ 64 → g.I.Source.faults l.self.input.now < 2 ^ 64;
+}
+
+abbrev pub decreases-loop-self : goal.decreases-loop-self
+decreases-loop-self g l = length l.self.held + l.self.asked
