@@ -1,16 +1,14 @@
 //! The program: makes the real files and streams of its words, and hands them to `run`.
 #![tactic(auto)]
 
-ghost use Rattle.std.specs.Prelude.{◌≡◌, map, take, drop};
-ghost use Rattle.std.specs.String.{string_bytes};
-ghost use Rattle.riegeli_main.specs.Paths.{path_at};
-
 mod apart_sink;
+mod real_files;
+#[cfg(test)]
+mod tests;
 
-use apart_sink::ApartSink;
-use record_append::FileDevice;
-use record_io::{FileStore, ReadAhead, StdErr, StdInput, StdOut};
-use riegeli_tool::{Names, Status, names, run};
+use real_files::run_on_files;
+use record_io::{StdErr, StdInput, StdOut};
+use riegeli_tool::Status;
 use std::alloc::{AllocError, Global};
 use std::env;
 use std::fs::{self, File, OpenOptions};
@@ -21,9 +19,6 @@ use std::process::ExitCode;
 /// The greatest block of memory that is kept once it is freed, in bytes: above those of most chunks.
 const KEPT_MEMORY: usize = 16 << 20;
 
-/// The paths of the files behind standard input, output and error.
-const STREAMS: [&str; 3] = ["/dev/stdin", "/dev/stdout", "/dev/stderr"];
-
 fn main(rt: HostRuntime) -> ExitCode {
     if occupy_closed_streams(&rt).is_err() {
         return exit_code(Status::Notes);
@@ -33,21 +28,11 @@ fn main(rt: HostRuntime) -> ExitCode {
         Ok(words) => words,
         Err(error) => return exit_code(unread_words(&error)),
     };
-    let names = names(&words);
-    let read = paths(&words, &names);
-    let Ok(mut files) = files(&rt, read, names.times) else {
-        return exit_code(Status::Memory);
-    };
-    let mut made = ApartSink::named(&rt, made_path(&words, &names), read, &STREAMS);
-    let mut grown = FileDevice::named(&rt, grown_path(&words, &names));
-    let status = run(
+    let status = run_on_files(
         &rt,
-        rt.alloc(),
+        &rt,
         &words,
         &mut StdInput::new(rt.reader()),
-        &mut files,
-        &mut made,
-        &mut grown,
         &mut StdOut::new(io::writer(&rt)),
         &mut StdErr::new(rt.stderr()),
     );
@@ -100,52 +85,5 @@ fn unread_words(error: &io::Error) -> Status {
     match error.kind() {
         ErrorKind::OutOfMemory => Status::Memory,
         _ => Status::Usage,
-    }
-}
-
-/// The words that are the paths of the files to be read.
-fn paths<'a>(words: &'a [String], names: &Names) -> &'a [String]
-    ensures { result.now ≡ take names.now.count (drop names.now.first words.now) }
-{
-    let behind = words.get(names.first..).unwrap_or(&[]);
-    behind.get(..names.count).unwrap_or(behind)
-}
-
-/// So many stores of each of the files of these paths, which are read in pieces of up to 128 KiB.
-fn files<'a>(
-    rt: &'a HostRuntime,
-    paths: &'a [String],
-    times: usize,
-) -> Result<Vec<ReadAhead<FileStore<'a, HostRuntime>>>, AllocError> {
-    let mut files = Vec::new(rt.alloc());
-    for path in paths {
-        for _ in 0..times {
-            files.push(ReadAhead::new(FileStore::named(rt, path.as_str())))?;
-        }
-    }
-    Ok(files)
-}
-
-/// The path of the file that is made, or an empty one where none is.
-fn made_path<'a>(words: &'a [String], names: &Names) -> &'a str
-    ensures { result.now ≡ path_at (map string_bytes words.now) names.now.made }
-{
-    path_at(words, names.made)
-}
-
-/// The path of the file that is grown, or an empty one where none is.
-fn grown_path<'a>(words: &'a [String], names: &Names) -> &'a str
-    ensures { result.now ≡ path_at (map string_bytes words.now) names.now.grown }
-{
-    path_at(words, names.grown)
-}
-
-/// The word at this place, or an empty one.
-fn path_at(words: &[String], place: Option<usize>) -> &str
-    ensures { result.now ≡ path_at (map string_bytes words.now) place }
-{
-    match place.and_then(|place| words.get(place)) {
-        Some(word) => word.as_str(),
-        None => "",
     }
 }

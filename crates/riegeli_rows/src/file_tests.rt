@@ -1,6 +1,6 @@
 //! Tests of runs over real files.
-use crate::running::{THREE, THREE_LINES, run_over, sink};
-use record_io::{FileSink, FileStore, MemStore};
+use crate::running::{THREE, THREE_LINES, run_over};
+use record_io::{FileSink, MemStore};
 use riegeli_tool::Status;
 use std::fs;
 use std::test::Fail;
@@ -90,29 +90,6 @@ fn an_existing_file_is_kept_until_a_repair_puts_something(rt: HostRuntime) -> Re
         let left = run_over(&rt, alloc, &words, b"", &mut files, &mut made)?;
         left.is(&rt, status, out, told);
         assert_eq!(rt; fs::read(&rt, path)?.as_slice(), kept);
-    }
-    fs::remove_file(&rt, path)?;
-    Ok(())
-}
-
-#[test]
-fn a_real_file_is_read_and_an_absent_one_fails(rt: HostRuntime) -> Result<(), Fail> {
-    let path = "riegeli_rows_read";
-    fs::write(&rt, path, THREE)?;
-    for (words, printed) in [
-        (["show", "F"].as_slice(), THREE_LINES),
-        (&["show", "--recover", "F"], THREE_LINES),
-        (&["verify", "F"], REPORT),
-    ] {
-        for (path, status, out, told) in [
-            (path, Status::Ok, printed, ""),
-            (ABSENT, Status::File, b"", "file fault\n"),
-        ] {
-            let mut files = [FileStore::named(&rt, path)];
-            let mut made = sink(rt.alloc())?;
-            let left = run_over(&rt, rt.alloc(), words, b"", &mut files, &mut made)?;
-            left.is(&rt, status, out, told);
-        }
     }
     fs::remove_file(&rt, path)?;
     Ok(())
