@@ -17,14 +17,14 @@ use record_io::Store;
 use std::alloc::Global;
 
 /// A record that doesn't stand before what is looked for, as a test tells, of a file of `size` bytes, which were told, at most
-/// 2^60: the first, or one with a record right before it that does; `None` where there is no record, or the last one stands
-/// before. So in a file whose records that stand before are at its front, it is the first one behind them.
+/// 2^60, and of a chunk without fault to which the search comes; `None` only where chunks lead to the file's end without
+/// records, or past a last one that stands before.
 ///
 /// Own: how records are looked for, by blocks.
 ///
 /// # Errors
 ///
-/// `Refused` only with a fault that the search meets, and never in a file without fault. `Store` only where the store failed.
+/// `Refused` only with a fault that the search meets. `Store` only where the store failed.
 pub fn find<S: Store, F: Fn(&[u8]) -> bool + Drop>(
     alloc: Global,
     store: &mut S,

@@ -30,17 +30,18 @@ sample --seed=N --records=N [--chunk=N] [--workers=N] FILE
 ///
 /// `files` are stores of the files that the command reads, as `names` tells them, `made` is the file that it makes, and
 /// `grown` the file that it grows, which no command does yet.
-/// Text goes to `out` and messages go to `notes`. For now the commands are `write`, of lines, with `--chunk`, `--every`
-/// and `--pad`; `show`, with `--positions`, and with `--recover`, which goes on past damage, and `--most`, which bounds the
-/// bytes of a region that is skipped; `verify`, which takes no memory; and `repair`, which makes the file of what is intact
-/// of another one, with `--most` too.
+/// Text goes to `out` and messages go to `notes`. For now the commands are `write`, of lines, with `--chunk`, `--every`,
+/// `--pad` and `--hex`; `show`, with `--hex` and `--positions`, and with `--recover`, which goes on past damage, and `--most`,
+/// which bounds the bytes of a region that is skipped; `verify`, which takes no memory; and `repair`, which makes the file of
+/// what is intact of another one, with `--most` too.
 ///
 /// # Errors
 ///
 /// `Usage` where the words are no command that reads so many files, `Refused` where the file is not well formed, `Limit`
-/// where a line has more than 2^24 bytes, the input more than 2^40 or the file more than 2^60, `Skipped` where regions of
-/// the file were skipped, `Stopped` where one has more bytes than may be skipped, `Input`, `File`, `Made`, `Out` and `Notes`
-/// where that object failed, `Memory` where there wasn't enough. Own.
+/// where a line has more than 2^24 bytes, or 2^25 in the hexadecimal form, the input more than 2^40 or the file more than 2^60,
+/// `BadLine` where a line isn't in that form, `Skipped` where regions of the file were skipped, `Stopped` where one has more
+/// bytes than may be skipped, `Input`, `File`, `Made`, `Out` and `Notes` where that object failed, `Memory` where there wasn't
+/// enough. Own.
 pub fn run<
     R: Threads + Sync,
     I: Source,

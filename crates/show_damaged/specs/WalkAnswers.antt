@@ -2,9 +2,8 @@
 use Rattle.std.specs.Prelude.{◌≡◌, ℕ, ◌-◌, ◌⊎◌, Bool, true, false, not, Option, Some, None, IfSome, List, [], ◌∷◌, ◌++◌, nat_le}
 use Rattle.std.specs.List.{AllByRecursion, before_first, filter_map, find, flat_map}
 use lib.Chars.{codes}
-use Rattle.damage_skip.specs.Pieces.{PieceKind, Skipped, Piece}
+use Rattle.damage_skip.specs.Pieces.{PieceKind, Skipped, Piece, GoesOn}
 use Rattle.damage_skip.specs.Regions.{region_text}
-use Rattle.damage_skip.specs.Walks.{GoesOn}
 use Rattle.damage_skip.specs.declared.regions.Region.{Region}
 use Rattle.run_answers.specs.declared.status.Status.{Status}
 use Rattle.run_answers.specs.FileAnswers.{IsInReach, IsTooLong, limit_text}
