@@ -1,13 +1,10 @@
 -- The places that a search by key comes to.
-use Rattle.std.proofs.Common.{◌≡◌, ◌∙◌, ℕ, ◌+◌, ◌-◌, ◌^◌, ◌<◌, ◌≤◌, false, List, length, refl, sym, ap, subst, inl, inr, arith}
+use Rattle.std.proofs.Common.{◌≡◌, ◌∙◌, ℕ, ◌+◌, ◌^◌, ◌≤◌, false, List, length, refl, sym, ap, subst, inl, inr, arith}
 use Rattle.std.proofs.lemmas.Bool.{cases_lt}
-use Rattle.std.proofs.lemmas.Option.{slice_get_within}
 use Rattle.block_layout.specs.Layout.{IsBoundary}
 use Rattle.block_layout.proofs.ChunkEnds.{chunk_end_of_boundary}
 use Rattle.chunk_header.specs.Chunks.{ChunkValue}
 use Rattle.meta_chunk.specs.Files.{IsPlain, IsFrame, IsFile, begin_of}
-use Rattle.chunk_reader.specs.Blocks.{IsBlockFault}
-use Rattle.chunk_reader.specs.Faults.{IsVerdict}
 use Rattle.chunk_reader.specs.Places.{header_at, end_at}
 use Rattle.chunk_reader.specs.Reasons.{Applies, IsFirstOf, strict_reasons}
 use Rattle.chunk_reader.specs.declared.reasons.Fault.{Fault}
