@@ -99,7 +99,7 @@ first_some file from found first =
     omega (arith, first.holds.holds.num_records, slice_get_within first.records 0 found.bytes first.stands)
 
 -- one begin is told
-told_one : (file : List ℕ) (block begin other : ℕ) → TellsBegin file block begin → TellsBegin file block other → begin ≡ other
+pub told_one : (file : List ℕ) (block begin other : ℕ) → TellsBegin file block begin → TellsBegin file block other → begin ≡ other
 told_one file block begin other (p, n, stands, is) (q, m, also, there) =
     let same = stands_one file block p n q m stands also in
     omega (arith, is, there, same.0)

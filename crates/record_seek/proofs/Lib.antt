@@ -9,3 +9,6 @@ pub mod FirstRecords
 pub mod ReadingOn
 pub mod Finding
 pub mod MetPlaces
+pub mod OneHolder
+pub mod OneSearch
+pub mod JudgedSearch

@@ -1,10 +1,11 @@
 //! Laws of the definitions that contracts cite. Nothing runs here.
 
-ghost use Rattle.std.specs.Prelude.{◌≡◌, ◌↔◌, ℕ, ◌^◌, ◌<◌, ◌≤◌, Some, None, List, length};
+ghost use Rattle.std.specs.Prelude.{◌≡◌, ◌⊎◌, ◌↔◌, ℕ, ◌^◌, ◌<◌, ◌≤◌, Option, Some, None, List, length};
 ghost use Rattle.block_layout.specs.Layout.{IsBoundary};
 ghost use Rattle.chunk_header.specs.Chunks.{ChunkValue};
 ghost use Rattle.meta_chunk.specs.Files.{IsFile, IsFrame, ArePlaced, begin_of};
-ghost use Rattle.chunk_reader.specs.Searches.{AnswersAt, SearchGives};
+ghost use Rattle.chunk_reader.specs.Holders.{IsHolder, IsHolderFault};
+ghost use Rattle.chunk_reader.specs.Searches.{AnswersAt, SearchGives, IsSearchFault};
 ghost use Rattle.chunk_reader.specs.declared.reasons.Fault.{Fault};
 ghost use Rattle.record_seek.specs.Found.{MayAnswer, IsAnswering, IsFirstAt};
 ghost use Rattle.record_seek.specs.Met.{IsMetBySearch, IsMetFault};
@@ -23,6 +24,33 @@ pub fn positions_find_their_records()
     ensures first { (ks : List ChunkValue) (file : List ℕ) (position : ℕ) (placed : List (ℕ × List ℕ)) (found : ℕ × List ℕ)
         → IsFrame ks file → length file ≤ 2 ^ 60 → ArePlaced ks placed
         → SearchGives file position (Some found) → IsFirstAt placed position (Some found) }
+{}
+
+/// In each list of bytes, and of each position below its end, one chunk holds the position, or one fault tells why none is
+/// found to: never both. Own.
+pub fn a_position_has_one_holder()
+    ensures one { (file : List ℕ) (position a b : ℕ)
+        → IsHolder file position a → IsHolder file position b → a ≡ b }
+    ensures one_fault { (file : List ℕ) (position : ℕ) (a b : Fault)
+        → IsHolderFault file position a → IsHolderFault file position b → a ≡ b }
+    ensures apart { (file : List ℕ) (position place : ℕ) (fault : Fault)
+        → IsHolder file position place → ¬ IsHolderFault file position fault }
+    ensures judged { (file : List ℕ) (position : ℕ)
+        → position < length file
+        → ((place : ℕ) × IsHolder file position place) ⊎ ((fault : Fault) × IsHolderFault file position fault) }
+{}
+
+/// In each list of bytes, and of each position, a search by position gives one answer, a record or nothing, or is refused with
+/// one fault: never both. Own.
+pub fn a_search_by_position_has_one_answer()
+    ensures one { (file : List ℕ) (position : ℕ) (a b : Option (ℕ × List ℕ))
+        → SearchGives file position a → SearchGives file position b → a ≡ b }
+    ensures one_fault { (file : List ℕ) (position : ℕ) (a b : Fault)
+        → IsSearchFault file position a → IsSearchFault file position b → a ≡ b }
+    ensures apart { (file : List ℕ) (position : ℕ) (given : Option (ℕ × List ℕ)) (fault : Fault)
+        → SearchGives file position given → ¬ IsSearchFault file position fault }
+    ensures judged { (file : List ℕ) (position : ℕ)
+        → ((given : Option (ℕ × List ℕ)) × SearchGives file position given) ⊎ ((fault : Fault) × IsSearchFault file position fault) }
 {}
 
 /// A place that a search by key comes to is a boundary of the file, and in a file of chunks it is where one begins, or where
