@@ -7,7 +7,6 @@ use Rattle.std.proofs.lemmas.Option.{same_Some, slice_get_within}
 use Rattle.block_layout.proofs.ChunkEnds.{chunk_end_of_past_records}
 use Rattle.chunk_header.specs.Chunks.{ChunkValue}
 use Rattle.chunk_header.specs.SimpleChunks.{IsSimple}
-use Rattle.chunk_header.proofs.OneList.{records_are_one}
 use Rattle.meta_chunk.specs.Files.{IsFrame, Holds, HoldEach, ArePlaced, begin_of, end_of_chunks, placed_from, LiesIn}
 use Rattle.meta_chunk.specs.Laid.{end_of_chunk}
 use Rattle.meta_chunk.proofs.Begins.{begin_of-next, begin_of_rises, begin_of_rises_by}
@@ -17,18 +16,10 @@ use Rattle.chunk_reader.specs.Searches.{MayAnswerAt, SearchComesTo, AnswersAt, I
 use Rattle.chunk_reader.proofs.HeadersTell.{laid_at, last_end, told_end, told_records, passes, passed_below, stands_below, places_are, places_of, lies_of, holder_there}
 use Rattle.chunk_reader.proofs.LaidAt.{chunk_at-laid}
 use Rattle.record_seek.specs.Found.{MayAnswer, IsAnswering, IsFirstAt}
+use Rattle.record_seek.proofs.PlacedRecords.{records_before, placed-stands}
 use Rattle.record_seek.proofs.Searching.{not_before, none_passed, searched_to, answering_of}
 
--- what stands in a list stands in one that begins or ends with it
-stands-left : {X : Type 0} (xs ys : List X) (i : ℕ) (x : X) → slice_get xs i ≡ Some x → slice_get (xs ++ ys) i ≡ Some x
-stands-left [] ys i x stands = absurd (cc)
-stands-left (y ∷ xs) ys zero x stands = stands
-stands-left (y ∷ xs) ys (suc i) x stands = stands-left xs ys i x stands
-
-stands-right : {X : Type 0} (xs ys : List X) (i : ℕ) (x : X) → slice_get ys i ≡ Some x → (j : ℕ) × (slice_get (xs ++ ys) j ≡ Some x)
-stands-right [] ys i x stands = (i, stands)
-stands-right (y ∷ xs) ys i x stands = let rest = stands-right xs ys i x stands in (suc rest.0, rest.1)
-
+-- what stands in a list that another is joined to stands in one of them
 stands-cases : {X : Type 0} (xs ys : List X) (i : ℕ) (x : X) → slice_get (xs ++ ys) i ≡ Some x
     → (slice_get xs i ≡ Some x) ⊎ ((j : ℕ) × (slice_get ys j ≡ Some x))
 stands-cases [] ys i x stands = inr (i, stands)
@@ -36,16 +27,6 @@ stands-cases (y ∷ xs) ys zero x stands = inl stands
 stands-cases (y ∷ xs) ys (suc i) x stands = stands-cases xs ys i x stands
 
 -- the records of a chunk with their positions
-stands-enumerate : (place : ℕ) (records : List (List ℕ)) (n : ℕ) (r : List ℕ) → slice_get records n ≡ Some r
-    → slice_get (enumerate_from place records) n ≡ Some (place + n, r)
-stands-enumerate place [] n r stands = absurd (cc)
-stands-enumerate place (x ∷ records) zero r stands =
-    let first : place ≡ place + 0 = omega arith in
-    ap (λ (y : List ℕ). Some (place, y)) (same_Some x r stands) ∙ ap (λ (p : ℕ). Some (p, r)) first
-stands-enumerate place (x ∷ records) (suc n) r stands =
-    let next : place + 1 + n ≡ place + suc n = omega arith in
-    stands-enumerate (place + 1) records n r stands ∙ ap (λ (p : ℕ). Some (p, r)) next
-
 enumerate-stands : (place : ℕ) (records : List (List ℕ)) (n : ℕ) (x : ℕ × List ℕ) → slice_get (enumerate_from place records) n ≡ Some x
     → (slice_get records n ≡ Some x.1) × (x.0 ≡ place + n)
 enumerate-stands place [] n x stands = absurd (cc)
@@ -56,23 +37,7 @@ enumerate-stands place (r ∷ records) (suc n) x stands =
     let rest = enumerate-stands (place + 1) records n x stands in
     (rest.0, omega (arith, rest.1))
 
--- a record of a chunk stands among those of the file
-placed-stands : (place : ℕ) (ks : List ChunkValue) (lists : List (List (List ℕ))) (j : ℕ) (k : ChunkValue) (records : List (List ℕ)) (n : ℕ) (r : List ℕ)
-    → HoldEach ks lists → slice_get ks j ≡ Some k → IsSimple k records → slice_get records n ≡ Some r
-    → (i : ℕ) × (slice_get (placed_from place ks lists) i ≡ Some (end_of_chunks place (take j ks) + n, r))
-placed-stands place [] lists j k records n r each at simple stands = absurd (cc)
-placed-stands place (x ∷ ks) [] j k records n r each at simple stands = elim each [ ]
-placed-stands place (x ∷ ks) (held ∷ lists) zero k records n r (inl there, rest) at simple stands =
-    let same : held ≡ records = records_are_one x held records there (subst (λ (c : ChunkValue). IsSimple c records) (sym (same_Some x k at)) simple) in
-    let stands' : slice_get held n ≡ Some r = subst (λ (rs : List (List ℕ)). slice_get rs n ≡ Some r) (sym same) stands in
-    (n, stands-left (enumerate_from place held) (placed_from (end_of_chunk place x) ks lists) n (place + n, r) (stands-enumerate place held n r stands'))
-placed-stands place (x ∷ ks) (held ∷ lists) zero k records n r (inr (never, none), rest) at simple stands =
-    absurd (never (records, subst (λ (c : ChunkValue). IsSimple c records) (sym (same_Some x k at)) simple))
-placed-stands place (x ∷ ks) (held ∷ lists) (suc j) k records n r each at simple stands =
-    let rest = placed-stands (end_of_chunk place x) ks lists j k records n r each.1 at simple stands in
-    stands-right (enumerate_from place held) (placed_from (end_of_chunk place x) ks lists) rest.0 _ rest.1
-
--- and each of these is one of a chunk
+-- each of a file's records is one of a chunk
 pub record IsOfChunk (place : ℕ) (ks : List ChunkValue) (x : ℕ × List ℕ) : Type 0 where
   pub chunk : ℕ
   pub k : ChunkValue
@@ -122,14 +87,15 @@ module _ (ks : List ChunkValue) (file : List ℕ) (frame : IsFrame ks file) (rea
       ap (chunk_at file) there ∙ chunk_at-laid (begin_of ks j) k file (begin_of ks (j + 1)) (laid_at ks file frame j k answers.may.stands) in
       let simple : IsSimple k sought.records = subst (λ (c : ChunkValue). IsSimple c sought.records) same sought.holds.holds in
       let number : ℕ = position - sought.place in
+      let index : ℕ = records_before lists j + number in
       let at = placed-stands 0 ks lists j k sought.records number found.1 each answers.may.stands simple sought.record_there in
       let pair : (begin_of ks j + number, found.1) ≡ found =
       ap (λ (p : ℕ). (p, found.1)) (omega (arith, there, sought.position_there)) in
-      let stands : slice_get placed at.0 ≡ Some found =
-      ap (λ (xs : List (ℕ × List ℕ)). slice_get xs at.0) is ∙ at.1 ∙ ap (λ (x : ℕ × List ℕ). Some x) pair in
+      let stands : slice_get placed index ≡ Some found =
+      ap (λ (xs : List (ℕ × List ℕ)). slice_get xs index) is ∙ at ∙ ap (λ (x : ℕ × List ℕ). Some x) pair in
       let few : number < k.num_records =
       omega (arith, simple.num_records, slice_get_within sought.records number found.1 sought.record_there) in (
-        (at.0, stands),
+        (index, stands),
         omega (arith, sought.position_there),
         λ i other stands past.
             let of = placed-of 0 ks lists i other each (ap (λ (xs : List (ℕ × List ℕ)). slice_get xs i) (sym is) ∙ stands) in

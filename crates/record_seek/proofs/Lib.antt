@@ -5,10 +5,12 @@ pub mod Asking
 pub mod Searching
 pub mod HolderEnds
 pub mod Seeking
+pub mod PlacedRecords
 pub mod FirstRecords
 pub mod ReadingOn
 pub mod Finding
 pub mod MetPlaces
+pub mod FoundByKey
 pub mod OneHolder
 pub mod OneSearch
 pub mod JudgedSearch

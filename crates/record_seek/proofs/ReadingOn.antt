@@ -156,19 +156,19 @@ read-empty Before (Some file) now from place chunk same read passed few =
       last = last-empty Before file read.places place (omega (arith, few, here.num_records)) read.last;
     }
 
--- past one whose records stand before
-last_of : (records : List (List ℕ)) → 0 < length records → (last : List ℕ) × (slice_get records (length records - 1) ≡ Some last)
-last_of records some =
-    elim (slice_get_cases records (length records - 1)).1 [
-      | inl (last, inside, at, same) ↦ (last, at)
-      | inr (past, none) ↦ absurd (omega (arith, some, past))
+pub item_at : (records : List (List ℕ)) (i : ℕ) → i < length records → (r : List ℕ) × (slice_get records i ≡ Some r)
+item_at records i within =
+    elim (slice_get_cases records i).1 [
+      | inl (r, inside, at, same) ↦ (r, at)
+      | inr (past, none) ↦ absurd (omega (arith, past, within))
     ]
 
+-- past one whose records stand before
 end-before : (Before : List ℕ → Type 0) (file places : List ℕ) (place : ℕ) → 0 < (header_at file place).num_records
     → IsFirstNotAt Before file place None → EndBefore Before file (places ++ place ∷ [])
 end-before Before file places place some (none, (records, inr few, all)) = absurd (omega (arith, some, few))
 end-before Before file places place some (none, (records, inl simple, all)) =
-    let last = last_of records (omega (arith, some, simple.num_records)) in
+    let last = item_at records (length records - 1) (omega (arith, some, simple.num_records)) in
     record {
       front = places;
       place = place;

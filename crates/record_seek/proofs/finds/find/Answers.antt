@@ -1,10 +1,27 @@
-use Rattle.std.proofs.Common.{◌∙◌, ◌*◌, Some, None, Err, IfSome, ap}
+use Rattle.std.proofs.Common.{◌∙◌, ◌*◌, Some, None, Err, IfSome, sym, ap, subst}
 use Rattle.chunk_reader.proofs.Loads as loads
+use Rattle.chunk_reader.proofs.Rooms.{IsSized}
 use Rattle.record_seek.specs.KeyTests.{StandsBefore}
+use Rattle.record_seek.specs.Met.{IsMetFault}
 use Rattle.record_seek.specs.Steps.{IsReadOn}
 use Rattle.record_seek.proofs.Finding.{block-met, fault-met, record-met, nothing-left}
+use Rattle.record_seek.proofs.FoundByKey.{found-in, met-not_whole}
 use Rattle.record_seek.proofs.ReadingOn.{ok_at}
+use Rattle.record_seek.proofs.Ways.{same_told}
 use Rattle.record_seek.proofs.finds.find.Goals as goal
+use Rattle.record_seek.proofs.finds.find.Goals.{Start}
+
+-- the told size is that of the file
+sized : (g : _) (c : Start g) → IsSized (g.S.Store.bytes c.args.store.now) (Some c.args.size)
+sized g c = subst (IsSized (g.S.Store.bytes c.args.store.now)) c.requires.told (g.met.S.Store.sized c.args.store.now)
+
+pub returns-clause-found : goal.returns-clause-found
+returns-clause-found g c =
+    let kept = c.loop-high.invariant in
+    let given = c.in_ok-begin.ensures in
+    found-in (StandsBefore g.F.Fn c.args.test.now.test) _ _ _ c.args.size c.loop-high.low c.in_ok-begin.begin c.read_on.result kept.asks.same_bytes
+    (given.store.same_bytes ∙ kept.asks.same_bytes) (sized g (goal.at.returns-clause-found g c).Start) c.requires.in_reach kept.begins given.begin
+    c.read_on.ensures.read
 
 pub returns-in_err-begin-clause-refused : goal.returns-in_err-begin-clause-refused
 returns-in_err-begin-clause-refused g c =
@@ -40,3 +57,22 @@ returns-clause-refused g c =
     let given = c.in_ok-begin.ensures in
     fault-met _ _ _ c.loop-high.low c.in_ok-begin.begin fault kept.asks.same_bytes (given.store.same_bytes ∙ kept.asks.same_bytes) given.begin
     (c.read_on.ensures.refused fault e)
+
+pub returns-in_err-stands_before-clause-whole : goal.returns-in_err-stands_before-clause-whole
+returns-in_err-stands_before-clause-whole g c =
+    λ fault e.
+    met-not_whole _ c.args.size fault (sized g (goal.at.returns-in_err-stands_before-clause-whole g c).Start) c.requires.in_reach
+    (same_told (λ file. IsMetFault file fault) _ _ c.loop-high.invariant.asks.same_bytes
+    (c.in_err-stands_before.ensures.refused fault (ap Err (sym (rw e at c.from_residual.ensures.1)))))
+
+pub returns-in_err-begin-clause-whole : goal.returns-in_err-begin-clause-whole
+returns-in_err-begin-clause-whole g c =
+    λ fault e.
+    met-not_whole _ c.args.size fault (sized g (goal.at.returns-in_err-begin-clause-whole g c).Start) c.requires.in_reach
+    (returns-in_err-begin-clause-refused g c fault e)
+
+pub returns-clause-whole : goal.returns-clause-whole
+returns-clause-whole g c =
+    λ fault e.
+    met-not_whole _ c.args.size fault (sized g (goal.at.returns-clause-whole g c).Start) c.requires.in_reach
+    (returns-clause-refused g c fault e)
