@@ -18,12 +18,13 @@ use Rattle.chunk_reader.proofs.Frames.{file_of_frame}
 use Rattle.chunk_reader.proofs.HeadersTell.{passed_below, laid_at, last_end, stands_below, told_end, told_records, told_is, places_are, lies_of}
 use Rattle.chunk_reader.proofs.LaidAt.{chunk_at-laid}
 use Rattle.chunk_reader.proofs.Rooms.{IsSized}
-use Rattle.record_seek.specs.Found.{IsKeyFound, BytesStandBefore}
+use Rattle.record_seek.specs.Found.{IsKeyFound, BytesStandBefore, OnlyFrontStandsBefore}
 use Rattle.record_seek.specs.Met.{IsMetFault, HaveNoRecords}
 use Rattle.record_seek.specs.Steps.{EndBefore, AreReadTo, IsReadRecord, IsReadOn, IsFirstFrom, placed_of}
 use Rattle.record_seek.specs.declared.chunk_records.Found.{Found}
 use Rattle.record_seek.proofs.Finding.{IsBeginFrom, BeginsBefore}
 use Rattle.record_seek.proofs.MetPlaces.{no_met_fault}
+use Rattle.record_seek.proofs.OneFound.{found_in_order}
 use Rattle.record_seek.proofs.PlacedRecords.{records_before, none_before_first, placed-stands, length-placed, records_before_next}
 use Rattle.record_seek.proofs.ReadingOn.{item_at}
 use Rattle.record_seek.proofs.Ways.{same_told}
@@ -255,6 +256,16 @@ pub found-in : {E : Type 0} (Before : List ℕ → Type 0) (bytes now then : Opt
 found-in Before bytes now then size low begin (Ok found) same also sized reach before from read =
     found_in Before bytes now then size low begin found same also sized reach before from read
 found-in Before bytes now then size low begin (Err end) same also sized reach before from read = tt
+
+-- where only a front of them stands before, it is the first behind that
+pub in-order : {E : Type 0} (Before : List ℕ → Type 0) (bytes : Option (List ℕ)) (result : Result (Option Found) E)
+    → IfOk result (λ found. IfSome bytes (IsFoundIn Before found))
+    → IfOk result (λ found. IfSome bytes (λ file. (ks : List ChunkValue) (placed : List (ℕ × List ℕ)) (count : ℕ) → IsFile ks file → ArePlaced ks placed
+    → OnlyFrontStandsBefore (BytesStandBefore Before) placed count → placed_of found ≡ slice_get placed count))
+in-order Before bytes (Err end) found = tt
+in-order Before None (Ok found) is = tt
+in-order Before (Some file) (Ok found) is =
+    λ ks placed count whole are front. (found_in_order (BytesStandBefore Before) placed count front (placed_of found)).0 (is ks placed whole are)
 
 -- and a fault is met in a file with a fault alone
 pub met-not_whole : (bytes : Option (List ℕ)) (size : ℕ) (fault : Fault) → IsSized bytes (Some size) → size ≤ 2 ^ 60

@@ -10,6 +10,7 @@ pub mod FirstRecords
 pub mod ReadingOn
 pub mod Finding
 pub mod MetPlaces
+pub mod OneFound
 pub mod FoundByKey
 pub mod OneHolder
 pub mod OneSearch

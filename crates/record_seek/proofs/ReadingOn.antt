@@ -156,7 +156,7 @@ read-empty Before (Some file) now from place chunk same read passed few =
       last = last-empty Before file read.places place (omega (arith, few, here.num_records)) read.last;
     }
 
-pub item_at : (records : List (List ℕ)) (i : ℕ) → i < length records → (r : List ℕ) × (slice_get records i ≡ Some r)
+pub item_at : {R : Type 0} (records : List R) (i : ℕ) → i < length records → (r : R) × (slice_get records i ≡ Some r)
 item_at records i within =
     elim (slice_get_cases records i).1 [
       | inl (r, inside, at, same) ↦ (r, at)

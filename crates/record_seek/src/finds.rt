@@ -1,4 +1,4 @@
-ghost use Rattle.std.specs.Prelude.{◌≡◌, ℕ, ◌*◌, ◌/◌, ◌^◌, ◌<◌, ◌≤◌, ◌⊎◌, true, List, Some, None, Ok, IfOk, IfSome, Err, length};
+ghost use Rattle.std.specs.Prelude.{◌≡◌, ℕ, ◌*◌, ◌/◌, ◌^◌, ◌<◌, ◌≤◌, ◌⊎◌, true, List, Some, None, Ok, IfOk, IfSome, Err, length, slice_get};
 ghost use Rattle.chunk_header.specs.Chunks.{ChunkValue};
 ghost use Rattle.meta_chunk.specs.Files.{IsFile, ArePlaced};
 ghost use Rattle.record_io.specs.Calls.{OnlyAsks};
@@ -6,7 +6,7 @@ ghost use Rattle.block_layout.specs.Layout.{block_size, IsBlock, IsBoundary};
 ghost use Rattle.chunk_reader.specs.Blocks.{TellsBegin, IsBlockFault};
 ghost use Rattle.chunk_reader.specs.Reasons.{Applies, NoneOf, loading_reasons};
 ghost use Rattle.chunk_reader.specs.declared.reasons.Fault.{Fault};
-ghost use Rattle.record_seek.specs.Found.{IsKeyFound, BytesStandBefore};
+ghost use Rattle.record_seek.specs.Found.{IsKeyFound, BytesStandBefore, OnlyFrontStandsBefore};
 ghost use Rattle.record_seek.specs.KeyTests.{IsKeyTest, StandsBefore};
 ghost use Rattle.record_seek.specs.Met.{IsMetFault, IsMetRecord, LeadsWithoutRecords, LeadsPastAll};
 ghost use Rattle.record_seek.specs.Steps.{IsFaultOn, IsFirstFrom, FirstStandsBefore, IsReadOn, placed_of};
@@ -22,7 +22,7 @@ use std::alloc::Global;
 /// A record that doesn't stand before what is looked for, as a test tells, of a file of `size` bytes, which were told, at most
 /// 2^60, and of a chunk without fault to which the search comes; `None` only where chunks lead to the file's end without
 /// records, or past a last one that stands before. In a file without fault what is found is the first record, or stands right
-/// behind one that stands before.
+/// behind one that stands before; it is the first that doesn't stand before where only a front of the records does.
 ///
 /// Own: how records are looked for, by blocks.
 ///
@@ -40,6 +40,9 @@ pub fn find<S: Store, F: Fn(&[u8]) -> bool + Drop>(
     requires test { IsKeyTest F.Fn test.now.test }
     ensures found { IfOk result (λ found. IfSome (S.bytes store.old) (λ file. (ks : List ChunkValue) (placed : List (ℕ × List ℕ))
         → IsFile ks file → ArePlaced ks placed → IsKeyFound (BytesStandBefore (StandsBefore F.Fn test.now.test)) placed (placed_of found))) }
+    ensures in_order { IfOk result (λ found. IfSome (S.bytes store.old) (λ file. (ks : List ChunkValue) (placed : List (ℕ × List ℕ)) (count : ℕ)
+        → IsFile ks file → ArePlaced ks placed → OnlyFrontStandsBefore (BytesStandBefore (StandsBefore F.Fn test.now.test)) placed count
+        → placed_of found ≡ slice_get placed count)) }
     ensures whole { (fault : Fault) → result ≡ Err (ReadEnd.Refused fault)
         → IfSome (S.bytes store.old) (λ file. (ks : List ChunkValue) → ¬ IsFile ks file) }
     ensures apart { IfOk result (λ found. IfSome found (λ f. ¬ StandsBefore F.Fn test.now.test f.bytes)) }

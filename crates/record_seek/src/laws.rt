@@ -1,13 +1,13 @@
 //! Laws of the definitions that contracts cite. Nothing runs here.
 
-ghost use Rattle.std.specs.Prelude.{◌≡◌, ◌⊎◌, ◌↔◌, ℕ, ◌^◌, ◌<◌, ◌≤◌, Option, Some, None, List, length};
+ghost use Rattle.std.specs.Prelude.{◌≡◌, ◌⊎◌, ◌↔◌, ℕ, ◌^◌, ◌<◌, ◌≤◌, Bool, IsTrue, Option, Some, None, List, length, slice_get};
 ghost use Rattle.block_layout.specs.Layout.{IsBoundary};
 ghost use Rattle.chunk_header.specs.Chunks.{ChunkValue};
 ghost use Rattle.meta_chunk.specs.Files.{IsFile, IsFrame, ArePlaced, begin_of};
 ghost use Rattle.chunk_reader.specs.Holders.{IsHolder, IsHolderFault};
 ghost use Rattle.chunk_reader.specs.Searches.{AnswersAt, SearchGives, IsSearchFault};
 ghost use Rattle.chunk_reader.specs.declared.reasons.Fault.{Fault};
-ghost use Rattle.record_seek.specs.Found.{MayAnswer, IsAnswering, IsFirstAt};
+ghost use Rattle.record_seek.specs.Found.{MayAnswer, IsAnswering, IsFirstAt, IsKeyFound, OnlyFrontStandsBefore};
 ghost use Rattle.record_seek.specs.Met.{IsMetBySearch, IsMetFault};
 
 /// In a file of chunks a search by position comes to the chunk that answers, as it is told without blocks, and gives the first
@@ -61,4 +61,12 @@ pub fn met_places_are_boundaries()
         → IsFrame ks file → length file ≤ 2 ^ 60 → IsMetBySearch file place → (j : ℕ) × (place ≡ begin_of ks j) }
     ensures no_fault { (ks : List ChunkValue) (file : List ℕ) (fault : Fault)
         → IsFile ks file → length file ≤ 2 ^ 60 → ¬ IsMetFault file fault }
+{}
+
+/// Where a test tells of a front of records with their positions alone that they stand before, a search by key may find the first
+/// behind that front, or nothing where there is none, and nothing else. Own.
+pub fn keys_find_their_records()
+    ensures { (before : ℕ × List ℕ → Bool) (placed : List (ℕ × List ℕ)) (count : ℕ) (found : Option (ℕ × List ℕ))
+        → OnlyFrontStandsBefore (λ p. IsTrue (before p)) placed count
+        → IsKeyFound (λ p. IsTrue (before p)) placed found ↔ (found ≡ slice_get placed count) }
 {}

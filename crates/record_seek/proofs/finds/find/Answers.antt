@@ -5,7 +5,7 @@ use Rattle.record_seek.specs.KeyTests.{StandsBefore}
 use Rattle.record_seek.specs.Met.{IsMetFault}
 use Rattle.record_seek.specs.Steps.{IsReadOn}
 use Rattle.record_seek.proofs.Finding.{block-met, fault-met, record-met, nothing-left}
-use Rattle.record_seek.proofs.FoundByKey.{found-in, met-not_whole}
+use Rattle.record_seek.proofs.FoundByKey.{found-in, in-order, met-not_whole}
 use Rattle.record_seek.proofs.ReadingOn.{ok_at}
 use Rattle.record_seek.proofs.Ways.{same_told}
 use Rattle.record_seek.proofs.finds.find.Goals as goal
@@ -22,6 +22,9 @@ returns-clause-found g c =
     found-in (StandsBefore g.F.Fn c.args.test.now.test) _ _ _ c.args.size c.loop-high.low c.in_ok-begin.begin c.read_on.result kept.asks.same_bytes
     (given.store.same_bytes ∙ kept.asks.same_bytes) (sized g (goal.at.returns-clause-found g c).Start) c.requires.in_reach kept.begins given.begin
     c.read_on.ensures.read
+
+pub returns-clause-in_order : goal.returns-clause-in_order
+returns-clause-in_order g c = in-order (StandsBefore g.F.Fn c.args.test.now.test) _ c.read_on.result (returns-clause-found g c)
 
 pub returns-in_err-begin-clause-refused : goal.returns-in_err-begin-clause-refused
 returns-in_err-begin-clause-refused g c =
