@@ -8,6 +8,7 @@ pub mod Seeking
 pub mod PlacedRecords
 pub mod FirstRecords
 pub mod ReadingOn
+pub mod LookCosts
 pub mod Finding
 pub mod MetPlaces
 pub mod OneFound

@@ -1,6 +1,7 @@
 -- Reading on from chunk to chunk.
-use Rattle.std.proofs.Common.{◌≡◌, ◌∙◌, ◌⊎◌, ℕ, ◌-◌, ◌<◌, ◌≤◌, false, Option, Some, None, Result, Ok, Err, IfOk, IfSome, List, [], ◌∷◌, ◌++◌, length, refl, sym, ap, subst, inl, inr, arith}
+use Rattle.std.proofs.Common.{◌≡◌, ◌∙◌, ◌⊎◌, ℕ, ◌+◌, ◌-◌, ◌*◌, ◌<◌, ◌≤◌, false, Option, Some, None, Result, Ok, Err, IfOk, IfSome, List, [], ◌∷◌, ◌++◌, length, refl, sym, ap, subst, inl, inr, arith}
 use Rattle.std.specs.Prelude.{slice_get}
+use Rattle.std.proofs.lemmas.List.{length-append}
 use Rattle.std.proofs.lemmas.Option.{slice_get_cases}
 use Rattle.chunk_reader.specs.Faults.{IsVerdict}
 use Rattle.chunk_reader.specs.Holders.{ArePlacesBetween}
@@ -24,32 +25,35 @@ none-push : (file places : List ℕ) (place : ℕ) → HaveNoRecords file places
     → HaveNoRecords file (places ++ place ∷ [])
 none-push file places place none here = all-push (λ p. (header_at file p).num_records ≡ 0) places place none here
 
--- chunks without records come to a place
-pub record IsEmptyTo (file : List ℕ) (from to : ℕ) : Type 0 where
+-- chunks without records come to a place, each of which cost its header
+pub record IsEmptyTo (file : List ℕ) (from to spent now : ℕ) : Type 0 where
   pub places : List ℕ
   pub between : ArePlacesBetween file from to places
   pub none : HaveNoRecords file places
+  pub paid : now ≤ spent + 40 * length places
 
-pub empty-begun : (bytes : Option (List ℕ)) (from : ℕ) → IfSome bytes (λ file. IsEmptyTo file from from)
-empty-begun None from = tt
-empty-begun (Some file) from = record { places = []; between = refl; none = tt }
+pub empty-begun : (bytes : Option (List ℕ)) (from spent : ℕ) → IfSome bytes (λ file. IsEmptyTo file from from spent spent)
+empty-begun None from spent = tt
+empty-begun (Some file) from spent = record { places = []; between = refl; none = tt; paid = omega arith }
 
-pub empty-on : (bytes now : Option (List ℕ)) (from place : ℕ) (chunk : Passed) → now ≡ bytes → IfSome bytes (λ file. IsEmptyTo file from place)
-    → IfSome now (λ file. IsPassedAt file place chunk) → chunk.num_records ≤ 0 → IfSome bytes (λ file. IsEmptyTo file from chunk.end)
-empty-on None now from place chunk same empty passed few = tt
-empty-on (Some file) now from place chunk same empty passed few =
-    let here : IsPassedAt file place chunk = same_told (λ f. IsPassedAt f place chunk) (Some file) now same passed in
+pub empty-on : (bytes bytes_now : Option (List ℕ)) (from place : ℕ) (chunk : Passed) (spent now then : ℕ) → bytes_now ≡ bytes
+    → IfSome bytes (λ file. IsEmptyTo file from place spent now) → IfSome bytes_now (λ file. IsPassedAt file place chunk) → chunk.num_records ≤ 0
+    → then ≤ now + 40 → IfSome bytes (λ file. IsEmptyTo file from chunk.end spent then)
+empty-on None bytes_now from place chunk spent now then same empty passed few more = tt
+empty-on (Some file) bytes_now from place chunk spent now then same empty passed few more =
+    let here : IsPassedAt file place chunk = same_told (λ f. IsPassedAt f place chunk) (Some file) bytes_now same passed in
     record {
       places = empty.places ++ place ∷ [];
       between = subst (λ (p : ℕ). ArePlacesBetween file from p (empty.places ++ place ∷ [])) (sym here.end)
           (between-push file empty.places from place empty.between here.none);
       none = none-push file empty.places place empty.none (omega (arith, few, here.num_records));
+      paid = omega (arith, more, empty.paid, length-append empty.places (place ∷ []));
     }
 
 -- up to the first record
-first_there : (file : List ℕ) (from place : ℕ) (chunk : Passed) (found : Found) → IsEmptyTo file from place → IsPassedAt file place chunk
-    → IsRecordAt file place 0 (Some found) → IsFirstFrom file from found
-first_there file from place chunk found empty passed (none, (records, simple, (stands, position))) = record {
+first_there : (file : List ℕ) (from place spent paid : ℕ) (chunk : Passed) (found : Found) → IsEmptyTo file from place spent paid
+    → IsPassedAt file place chunk → IsRecordAt file place 0 (Some found) → IsFirstFrom file from found
+first_there file from place spent paid chunk found empty passed (none, (records, simple, (stands, position))) = record {
   place = place;
   places = empty.places;
   records = records;
@@ -60,12 +64,12 @@ first_there file from place chunk found empty passed (none, (records, simple, (s
   stands = stands;
 }
 
-pub first-found : (bytes now then : Option (List ℕ)) (from place : ℕ) (chunk : Passed) (found : Found) → now ≡ bytes → then ≡ bytes
-    → IfSome bytes (λ file. IsEmptyTo file from place) → IfSome now (λ file. IsPassedAt file place chunk)
+pub first-found : (bytes now then : Option (List ℕ)) (from place spent paid : ℕ) (chunk : Passed) (found : Found) → now ≡ bytes → then ≡ bytes
+    → IfSome bytes (λ file. IsEmptyTo file from place spent paid) → IfSome now (λ file. IsPassedAt file place chunk)
     → IfSome then (λ file. IsRecordAt file place 0 (Some found)) → IfSome bytes (λ file. IsFirstFrom file from found)
-first-found None now then from place chunk found same also empty passed there = tt
-first-found (Some file) now then from place chunk found same also empty passed there =
-    first_there file from place chunk found empty (same_told (λ f. IsPassedAt f place chunk) (Some file) now same passed)
+first-found None now then from place spent paid chunk found same also empty passed there = tt
+first-found (Some file) now then from place spent paid chunk found same also empty passed there =
+    first_there file from place spent paid chunk found empty (same_told (λ f. IsPassedAt f place chunk) (Some file) now same passed)
     (same_told (λ f. IsRecordAt f place 0 (Some found)) (Some file) then also there)
 
 pub ok_at : {E : Type 0} (P : Option Found → Type 0) (result : Result (Option Found) E) (x : Option Found) → IfOk result P → result ≡ Ok x → P x
@@ -84,9 +88,10 @@ passing_verdict file place fault at (inr (not_short, inr (right, inr (whole, non
 abbrev pub IsComeTo : (from place : ℕ) → List ℕ → Type 0
 IsComeTo from place file = (places : List ℕ) × ArePlacesBetween file from place places
 
-pub empty-come : (bytes : Option (List ℕ)) (from place : ℕ) → IfSome bytes (λ file. IsEmptyTo file from place) → IfSome bytes (IsComeTo from place)
-empty-come None from place empty = tt
-empty-come (Some file) from place empty = (empty.places, empty.between)
+pub empty-come : (bytes : Option (List ℕ)) (from place spent now : ℕ) → IfSome bytes (λ file. IsEmptyTo file from place spent now)
+    → IfSome bytes (IsComeTo from place)
+empty-come None from place spent now empty = tt
+empty-come (Some file) from place spent now empty = (empty.places, empty.between)
 
 pub read-come : (Before : List ℕ → Type 0) (bytes : Option (List ℕ)) (from place : ℕ) → IfSome bytes (λ file. AreReadTo Before file from place)
     → IfSome bytes (IsComeTo from place)

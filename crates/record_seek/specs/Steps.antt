@@ -1,11 +1,13 @@
 -- What the steps of a search find. Own.
-use Rattle.std.specs.Prelude.{◌≡◌, ℕ, ◌+◌, ◌-◌, ◌<◌, ◌≤◌, ◌⊎◌, false, Option, Some, None, List, ◌∷◌, ◌++◌, length, slice_get}
+use Rattle.std.specs.Prelude.{◌≡◌, ℕ, ◌+◌, ◌-◌, ◌*◌, ◌<◌, ◌≤◌, ◌⊎◌, false, Option, Some, None, List, ◌∷◌, ◌++◌, length, slice_get}
+use Rattle.block_layout.specs.Layout.{chunk_header_size}
 use Rattle.chunk_header.specs.Chunks.{ChunkValue}
 use Rattle.chunk_header.specs.SimpleChunks.{IsSimple}
 use Rattle.chunk_reader.specs.Faults.{IsVerdict}
 use Rattle.chunk_reader.specs.Holders.{ArePlacesBetween}
 use Rattle.chunk_reader.specs.Places.{header_at, end_at, chunk_at}
 use Rattle.chunk_reader.specs.Reasons.{Applies, NoneOf, passing_reasons, strict_reasons}
+use Rattle.chunk_reader.specs.SearchBounds.{chunks_without_records, greatest_length_from}
 use Rattle.chunk_reader.specs.Searches.{HasRecordsAt, SearchComesTo, AnswersAt}
 use Rattle.chunk_reader.specs.declared.reasons.Fault.{Fault}
 use Rattle.record_seek.specs.Met.{HaveNoRecords}
@@ -110,6 +112,10 @@ pub record IsFirstFrom (file : List ℕ) (from : ℕ) (found : Found) : Type 0 w
   pub whole : NoneOf (Applies file place) passing_reasons
   pub holds : HasRecordsAt file place records
   pub stands : slice_get records 0 ≡ Some found.bytes
+
+-- what a look at it takes of a file of chunks at most: the headers of chunks without records, and a chunk
+abbrev pub look_bound : List ChunkValue → ℕ
+look_bound ks = chunk_header_size * (chunks_without_records ks + 1) + greatest_length_from 0 ks
 
 -- it stands before
 abbrev pub FirstStandsBefore : (Before : List ℕ → Type 0) → List ℕ → (from : ℕ) → Type 0

@@ -1,15 +1,15 @@
-ghost use Rattle.std.specs.Prelude.{◌≡◌, ℕ, ◌*◌, ◌/◌, ◌^◌, ◌<◌, ◌≤◌, ◌⊎◌, true, List, Some, None, Ok, IfOk, IfSome, Err, length, slice_get};
+ghost use Rattle.std.specs.Prelude.{◌≡◌, ℕ, ◌+◌, ◌*◌, ◌/◌, ◌^◌, ◌<◌, ◌≤◌, ◌⊎◌, true, List, Some, None, Ok, IfOk, IfSome, Err, length, slice_get};
 ghost use Rattle.chunk_header.specs.Chunks.{ChunkValue};
-ghost use Rattle.meta_chunk.specs.Files.{IsFile, ArePlaced};
+ghost use Rattle.meta_chunk.specs.Files.{IsFile, IsFrame, ArePlaced, begin_of};
 ghost use Rattle.record_io.specs.Calls.{OnlyAsks};
-ghost use Rattle.block_layout.specs.Layout.{block_size, IsBlock, IsBoundary};
+ghost use Rattle.block_layout.specs.Layout.{block_size, block_header_size, IsBlock, IsBoundary};
 ghost use Rattle.chunk_reader.specs.Blocks.{TellsBegin, IsBlockFault};
 ghost use Rattle.chunk_reader.specs.Reasons.{Applies, NoneOf, loading_reasons};
 ghost use Rattle.chunk_reader.specs.declared.reasons.Fault.{Fault};
 ghost use Rattle.record_seek.specs.Found.{IsKeyFound, BytesStandBefore, OnlyFrontStandsBefore};
 ghost use Rattle.record_seek.specs.KeyTests.{IsKeyTest, StandsBefore};
 ghost use Rattle.record_seek.specs.Met.{IsMetFault, IsMetRecord, LeadsWithoutRecords, LeadsPastAll};
-ghost use Rattle.record_seek.specs.Steps.{IsFaultOn, IsFirstFrom, FirstStandsBefore, IsReadOn, placed_of};
+ghost use Rattle.record_seek.specs.Steps.{IsFaultOn, IsFirstFrom, FirstStandsBefore, IsReadOn, look_bound, placed_of};
 
 use crate::chunk_records::{Found, first_not_at, record_at};
 use crate::key_tests::KeyTest;
@@ -80,6 +80,7 @@ fn reading_begin<S: Store>(store: &mut S, size: u64, low: u64) -> Result<u64, Ve
     ensures within { IfOk result (λ begin. begin ≤ size) }
     ensures refused { (fault : Fault) → result ≡ Err (VerifyEnd.Refused fault)
         → IfSome (S.bytes store.old) (λ file. IsBlockFault file (low * block_size) fault) }
+    ensures handed { S.handed store.new ≤ S.handed store.old + block_header_size }
     ensures store { OnlyAsks S.bytes S.told S.name S.faults (result ≡ Err VerifyEnd.Store) store.old store.new }
 {
     if low == 0 {
@@ -105,6 +106,8 @@ fn stands_before<S: Store, F: Fn(&[u8]) -> bool + Drop>(
         × TellsBegin file block begin × FirstStandsBefore (StandsBefore F.Fn test.now.test) file begin) }
     ensures refused { (fault : Fault) → result ≡ Err (ReadEnd.Refused fault)
         → IfSome (S.bytes store.old) (λ file. IsMetFault file fault) }
+    ensures handed { IfSome (S.bytes store.old) (λ file. (ks : List ChunkValue)
+        → IsFrame ks file → S.handed store.new ≤ S.handed store.old + (block_header_size + look_bound ks)) }
     ensures store { OnlyAsks S.bytes S.told S.name S.faults (result ≡ Err ReadEnd.Store) store.old store.new }
 {
     let begin = told_begin(store, size, block)?;
@@ -129,6 +132,8 @@ fn first_from<S: Store>(
     ensures small { IfOk result (λ found. IfSome found (λ f. length f.bytes ≤ 2 ^ 26)) }
     ensures refused { (fault : Fault) → result ≡ Err (ReadEnd.Refused fault)
         → IfSome (S.bytes store.old) (λ file. IsFaultOn file begin fault) }
+    ensures handed { IfSome (S.bytes store.old) (λ file. (ks : List ChunkValue) (h : ℕ)
+        → IsFrame ks file → begin ≡ begin_of ks h → h ≤ length ks → S.handed store.new ≤ S.handed store.old + look_bound ks) }
     ensures store { OnlyAsks S.bytes S.told S.name S.faults (result ≡ Err ReadEnd.Store) store.old store.new }
 {
     let mut place = begin;

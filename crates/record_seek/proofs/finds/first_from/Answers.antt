@@ -1,7 +1,8 @@
-use Rattle.std.proofs.Common.{◌∙◌, Some, Err, IfSome, ap, subst, rules}
+use Rattle.std.proofs.Common.{◌∙◌, Some, Err, IfSome, ap, subst, arith, rules}
 use Rattle.chunk_reader.proofs.Loads as loads
 use Rattle.chunk_reader.proofs.Rooms.{IsSized}
 use Rattle.record_seek.specs.Steps.{IsRecordAt}
+use Rattle.record_seek.proofs.LookCosts.{look-header, look-record}
 use Rattle.record_seek.proofs.ReadingOn.{empty-on, empty-come, first-found, fault-header, fault-chunk, ok_at}
 use Rattle.record_seek.proofs.finds.first_from.Goals as goal
 use Rattle.record_seek.proofs.finds.first_from.Goals.{Start}
@@ -16,7 +17,7 @@ returns-in_err-passed-clause-refused g c =
     let kept = c.loop-place.invariant in
     fault-header _ _ c.args.size c.args.begin c.loop-place.place fault kept.asks.same_bytes
     (sized g (goal.at.returns-in_err-passed-clause-refused g c).Start) c.loop-place-test.true
-    (empty-come _ c.args.begin c.loop-place.place kept.empty)
+    (empty-come _ c.args.begin c.loop-place.place _ _ kept.empty)
     (c.in_err-passed.ensures.refused fault (ap Err (loads.refused_before c.in_err-passed.field-0.0 fault (rw e at c.from_residual.ensures.1))))
 
 pub returns-then-passed-gt0-clause-first : goal.returns-then-passed-gt0-clause-first
@@ -24,7 +25,7 @@ returns-then-passed-gt0-clause-first g c =
     λ found is.
     let kept = c.loop-place.invariant in
     let place = c.loop-place.place in
-    first-found _ _ _ c.args.begin place c.in_ok-passed.passed found kept.asks.same_bytes
+    first-found _ _ _ c.args.begin place _ _ c.in_ok-passed.passed found kept.asks.same_bytes
     (c.in_ok-passed.ensures.store.same_bytes ∙ kept.asks.same_bytes) kept.empty c.in_ok-passed.ensures.passed
     (ok_at (λ f. IfSome (g.S.Store.bytes c.passed_at.new.store) (λ file. IsRecordAt file place 0 f)) c.record_at.result (Some found) c.record_at.ensures.found is)
 
@@ -34,7 +35,7 @@ returns-then-passed-gt0-clause-refused g c =
     let kept = c.loop-place.invariant in
     fault-chunk _ _ c.args.size c.args.begin c.loop-place.place fault (c.in_ok-passed.ensures.store.same_bytes ∙ kept.asks.same_bytes)
     (sized g (goal.at.returns-then-passed-gt0-clause-refused g c).Start) c.loop-place-test.true
-    (empty-come _ c.args.begin c.loop-place.place kept.empty) (c.record_at.ensures.refused fault e)
+    (empty-come _ c.args.begin c.loop-place.place _ _ kept.empty) (c.record_at.ensures.refused fault e)
 
 pub loop-place-preserved : goal.loop-place-preserved
 loop-place-preserved g c =
@@ -43,7 +44,21 @@ loop-place-preserved g c =
     record {
       boundary = given.boundary;
       within = given.within;
-      empty = empty-on _ _ c.args.begin c.loop-place.place c.in_ok-passed.passed kept.asks.same_bytes kept.empty given.passed
-          c.if-passed-gt0.false;
+      empty = empty-on _ _ c.args.begin c.loop-place.place c.in_ok-passed.passed _ _ _ kept.asks.same_bytes kept.empty given.passed
+          c.if-passed-gt0.false given.handed;
       asks = search rules;
     }
+
+pub returns-in_err-passed-clause-handed : goal.returns-in_err-passed-clause-handed
+returns-in_err-passed-clause-handed g c =
+    look-header _ c.args.begin c.loop-place.place _ _ _ c.loop-place.invariant.empty c.in_err-passed.ensures.handed
+
+pub returns-then-passed-gt0-clause-handed : goal.returns-then-passed-gt0-clause-handed
+returns-then-passed-gt0-clause-handed g c =
+    let kept = c.loop-place.invariant in
+    let given = c.in_ok-passed.ensures in
+    look-record _ _ _ c.args.begin c.loop-place.place c.in_ok-passed.passed _ _ _ _ kept.asks.same_bytes
+    (given.store.same_bytes ∙ kept.asks.same_bytes) kept.empty given.passed given.handed c.record_at.ensures.handed
+
+pub returns-clause-handed : goal.returns-clause-handed
+returns-clause-handed g c = look-header _ c.args.begin c.loop-place.place _ _ _ c.loop-place.invariant.empty (omega arith)

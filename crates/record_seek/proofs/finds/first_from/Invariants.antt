@@ -8,7 +8,7 @@ abbrev pub invariant-loop-place : goal.invariant-loop-place
 invariant-loop-place g l = record {
   boundary : IsBoundary l.place;
   within : l.place ≤ l.size;
-  empty : IfSome (g.S.Store.bytes l.fn.store) (λ file. IsEmptyTo file l.begin l.place);
+  empty : IfSome (g.S.Store.bytes l.fn.store) (λ file. IsEmptyTo file l.begin l.place (g.S.Store.handed l.fn.store) (g.S.Store.handed l.store));
   asks : OnlyAsks g.S.Store.bytes g.S.Store.told g.S.Store.name g.S.Store.faults ⊥ l.fn.store l.store;
 }
 
