@@ -10,7 +10,7 @@ use Rattle.chunk_reader.proofs.Blocks.{stands_one}
 use Rattle.chunk_reader.proofs.HeadersTell.{passed_below}
 use Rattle.record_seek.specs.Met as met
 use Rattle.record_seek.specs.Met.{IsMetBySearch, IsMetFault, IsMetRecord, HaveNoRecords, LeadsWithoutRecords, LeadsPastAll}
-use Rattle.record_seek.specs.Steps.{AreReadTo, IsReadRecord, IsFaultOn, IsFirstFrom, FirstStandsBefore}
+use Rattle.record_seek.specs.Steps.{AreReadTo, IsReadRecord, IsFaultOn, IsFirstFrom, FirstStandsBefore, NoneFrom, FirstNotBefore}
 use Rattle.record_seek.specs.declared.chunk_records.Found.{Found}
 use Rattle.record_seek.proofs.Ways.{same_told}
 
@@ -156,3 +156,18 @@ pub first-before : (Before : List ℕ → Type 0) (bytes now : Option (List ℕ)
 first-before Before None now block begin found same told first before = tt
 first-before Before (Some file) now block begin found same told first before =
     (begin, told, (found, same_told (λ f. IsFirstFrom f begin found) (Some file) now same first, before))
+
+-- or which doesn't, or there is none
+pub first-not : (Before : List ℕ → Type 0) (bytes now : Option (List ℕ)) (block begin : ℕ) (found : Found) → now ≡ bytes
+    → IfSome bytes (λ file. TellsBegin file block begin) → IfSome now (λ file. IsFirstFrom file begin found) → ¬ Before found.bytes
+    → IfSome bytes (λ file. (b : ℕ) × TellsBegin file block b × FirstNotBefore Before file b)
+first-not Before None now block begin found same told first apart = tt
+first-not Before (Some file) now block begin found same told first apart =
+    (begin, told, inl (found, same_told (λ f. IsFirstFrom f begin found) (Some file) now same first, apart))
+
+pub none-first : (Before : List ℕ → Type 0) (bytes now : Option (List ℕ)) (block begin : ℕ) → now ≡ bytes
+    → IfSome bytes (λ file. TellsBegin file block begin) → IfSome now (λ file. NoneFrom file begin)
+    → IfSome bytes (λ file. (b : ℕ) × TellsBegin file block b × FirstNotBefore Before file b)
+none-first Before None now block begin same told none = tt
+none-first Before (Some file) now block begin same told none =
+    (begin, told, inr (same_told (λ f. NoneFrom f begin) (Some file) now same none))

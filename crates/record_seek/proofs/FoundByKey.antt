@@ -6,17 +6,15 @@ use Rattle.std.proofs.lemmas.Bool.{cases_lt}
 use Rattle.std.proofs.lemmas.List.{length-append, nil_from_length}
 use Rattle.std.proofs.lemmas.Option.{same_Some, slice_get_within}
 use Rattle.chunk_header.specs.Chunks.{ChunkValue}
-use Rattle.chunk_header.specs.SimpleChunks.{IsSimple}
 use Rattle.meta_chunk.specs.Files.{IsPlain, IsFrame, IsFile, HoldEach, ArePlaced, begin_of, placed_from}
 use Rattle.meta_chunk.proofs.Begins.{begin_of_rises, begin_of_rises_by}
 use Rattle.chunk_reader.specs.Holders.{ArePlacesBetween}
-use Rattle.chunk_reader.specs.Places.{header_at, chunk_at}
+use Rattle.chunk_reader.specs.Places.{header_at}
 use Rattle.chunk_reader.specs.Searches.{HasRecordsAt}
 use Rattle.chunk_reader.specs.declared.reasons.Fault.{Fault}
 use Rattle.chunk_reader.proofs.Blocks.{stands_within}
 use Rattle.chunk_reader.proofs.Frames.{file_of_frame}
-use Rattle.chunk_reader.proofs.HeadersTell.{passed_below, laid_at, last_end, stands_below, told_end, told_records, told_is, places_are, lies_of}
-use Rattle.chunk_reader.proofs.LaidAt.{chunk_at-laid}
+use Rattle.chunk_reader.proofs.HeadersTell.{passed_below, last_end, stands_below, told_end, told_records, told_is, places_are, lies_of}
 use Rattle.chunk_reader.proofs.Rooms.{IsSized}
 use Rattle.record_seek.specs.Found.{IsKeyFound, BytesStandBefore, OnlyFrontStandsBefore}
 use Rattle.record_seek.specs.Met.{IsMetFault, HaveNoRecords}
@@ -25,7 +23,7 @@ use Rattle.record_seek.specs.declared.chunk_records.Found.{Found}
 use Rattle.record_seek.proofs.Finding.{IsBeginFrom, BeginsBefore}
 use Rattle.record_seek.proofs.MetPlaces.{no_met_fault}
 use Rattle.record_seek.proofs.OneFound.{found_in_order}
-use Rattle.record_seek.proofs.PlacedRecords.{records_before, none_before_first, placed-stands, length-placed, records_before_next}
+use Rattle.record_seek.proofs.PlacedRecords.{records_before, holds_there, none_before_first, placed-stands, length-placed, records_before_next}
 use Rattle.record_seek.proofs.ReadingOn.{item_at}
 use Rattle.record_seek.proofs.Ways.{same_told}
 
@@ -54,20 +52,12 @@ module _ (Before : List ℕ → Type 0) (ks : List ChunkValue) (file : List ℕ)
       let index : h + length (place ∷ places) ≡ h + 1 + length places = omega arith in
       ap (records_before lists) index ∙ omega (arith, on, next, count, none.0)
 
-  -- the chunk at a place holds the records that it has there
-  holds_there : (j place : ℕ) (records : List (List ℕ)) → place ≡ begin_of ks j → place < length file → HasRecordsAt file place records
-      → (k : ChunkValue) × (slice_get ks j ≡ Some k) × IsSimple k records
-  holds_there j place records is below holds =
-      let k = stands_below ks file frame j (omega (arith, is, below)) in
-      let same : chunk_at file place ≡ k.0 =
-      ap (chunk_at file) is ∙ chunk_at-laid (begin_of ks j) k.0 file (begin_of ks (j + 1)) (laid_at ks file frame j k.0 k.1) in
-      (k.0, k.1, subst (λ (c : ChunkValue). IsSimple c records) same holds.holds)
-
+  -- a record of a chunk stands among those of the file
   record_stands : (j place number : ℕ) (records : List (List ℕ)) (r : List ℕ) → place ≡ begin_of ks j → place < length file
       → HasRecordsAt file place records → slice_get records number ≡ Some r
       → slice_get (placed_from 0 ks lists) (records_before lists j + number) ≡ Some (place + number, r)
   record_stands j place number records r is below holds stands =
-      let (k, at, simple) = holds_there j place records is below holds in
+      let (k, at, simple) = holds_there ks file frame j place records is below holds in
       placed-stands 0 ks lists j k records number r each at simple stands
       ∙ ap (λ (p : ℕ). Some (p + number, r)) (sym is)
 
@@ -95,7 +85,7 @@ module _ (Before : List ℕ → Type 0) (ks : List ChunkValue) (file : List ℕ)
   end_behind h to places between end =
       let e : ℕ = h + length end.front in
       let at = place_at end.front h end.place to end.rest (subst (ArePlacesBetween file (begin_of ks h) to) end.parts between) in
-      let (k, there, simple) = holds_there e end.place end.records at.0 at.1 end.holds in
+      let (k, there, simple) = holds_there ks file frame e end.place end.records at.0 at.1 end.holds in
       let next : records_before lists (e + 1) ≡ records_before lists e + k.num_records = records_before_next ks lists e k plain each there in
       let on : records_before lists (e + 1 + length end.rest) ≡ records_before lists (e + 1) = none_more end.rest (e + 1) to at.2 end.none_behind in
       let count : e + 1 + length end.rest ≡ h + length places =

@@ -9,6 +9,8 @@ pub mod PlacedRecords
 pub mod FirstRecords
 pub mod ReadingOn
 pub mod LookCosts
+pub mod ReadCosts
+pub mod Turns
 pub mod Finding
 pub mod MetPlaces
 pub mod OneFound

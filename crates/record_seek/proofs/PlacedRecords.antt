@@ -1,5 +1,5 @@
 -- The records of chunks among those of the file, by their numbers.
-use Rattle.std.proofs.Common.{◌≡◌, ◌∙◌, ℕ, zero, suc, ◌+◌, ◌≤◌, Some, List, [], ◌∷◌, ◌++◌, length, take, refl, sym, ap, subst, inl, inr, add-one, arith}
+use Rattle.std.proofs.Common.{◌≡◌, ◌∙◌, ℕ, zero, suc, ◌+◌, ◌<◌, ◌≤◌, Some, List, [], ◌∷◌, ◌++◌, length, take, refl, sym, ap, subst, inl, inr, add-one, arith}
 use Rattle.std.specs.Prelude.{slice_get}
 use Rattle.std.specs.List.{AllByRecursion, enumerate_from}
 use Rattle.std.proofs.lemmas.List.{length-append}
@@ -7,9 +7,13 @@ use Rattle.std.proofs.lemmas.Option.{same_Some}
 use Rattle.chunk_header.specs.Chunks.{ChunkValue}
 use Rattle.chunk_header.specs.SimpleChunks.{IsSimple}
 use Rattle.chunk_header.proofs.OneList.{records_are_one}
-use Rattle.meta_chunk.specs.Files.{IsPlain, HoldEach, end_of_chunks, placed_from}
+use Rattle.meta_chunk.specs.Files.{IsPlain, IsFrame, HoldEach, begin_of, end_of_chunks, placed_from}
 use Rattle.meta_chunk.specs.Laid.{end_of_chunk}
 use Rattle.meta_chunk.proofs.Held.{Holds-counted}
+use Rattle.chunk_reader.specs.Places.{chunk_at}
+use Rattle.chunk_reader.specs.Searches.{HasRecordsAt}
+use Rattle.chunk_reader.proofs.HeadersTell.{laid_at, stands_below}
+use Rattle.chunk_reader.proofs.LaidAt.{chunk_at-laid}
 
 -- what stands in a list stands in one that begins or ends with it
 stands-left : {X : Type 0} (xs ys : List X) (i : ℕ) (x : X) → slice_get xs i ≡ Some x → slice_get (xs ++ ys) i ≡ Some x
@@ -104,3 +108,12 @@ before_next (x ∷ ks) (records ∷ lists) (suc j) k plain each at = omega (arit
 pub records_before_next : (ks : List ChunkValue) (lists : List (List (List ℕ))) (j : ℕ) (k : ChunkValue) → AllByRecursion IsPlain ks
     → HoldEach ks lists → slice_get ks j ≡ Some k → records_before lists (j + 1) ≡ records_before lists j + k.num_records
 records_before_next ks lists j k plain each at = rw (add-one j) (before_next ks lists j k plain each at)
+
+-- the chunk at a place holds the records that it has there
+pub holds_there : (ks : List ChunkValue) (file : List ℕ) (frame : IsFrame ks file) (j place : ℕ) (records : List (List ℕ)) → place ≡ begin_of ks j → place < length file → HasRecordsAt file place records
+    → (k : ChunkValue) × (slice_get ks j ≡ Some k) × IsSimple k records
+holds_there ks file frame j place records is below holds =
+    let k = stands_below ks file frame j (omega (arith, is, below)) in
+    let same : chunk_at file place ≡ k.0 =
+    ap (chunk_at file) is ∙ chunk_at-laid (begin_of ks j) k.0 file (begin_of ks (j + 1)) (laid_at ks file frame j k.0 k.1) in
+    (k.0, k.1, subst (λ (c : ChunkValue). IsSimple c records) same holds.holds)

@@ -10,7 +10,7 @@ use Rattle.chunk_reader.specs.Reasons.{Applies, IsFirstOf, passing_reasons}
 use Rattle.chunk_reader.specs.declared.reasons.Fault.{Fault}
 use Rattle.chunk_reader.proofs.Rooms.{IsSized}
 use Rattle.record_seek.specs.Met.{HaveNoRecords}
-use Rattle.record_seek.specs.Steps.{IsPassedAt, IsRecordAt, IsFirstNotAt, EndBefore, AreReadTo, IsReadRecord, IsFaultOn, IsFirstFrom}
+use Rattle.record_seek.specs.Steps.{IsPassedAt, IsRecordAt, IsFirstNotAt, EndBefore, AreReadTo, IsReadRecord, IsFaultOn, IsFirstFrom, NoneFrom}
 use Rattle.record_seek.specs.declared.chunk_records.Found.{Found}
 use Rattle.record_seek.specs.declared.passes.Passed.{Passed}
 use Rattle.record_seek.proofs.Searching.{all-push}
@@ -71,6 +71,24 @@ first-found None now then from place spent paid chunk found same also empty pass
 first-found (Some file) now then from place spent paid chunk found same also empty passed there =
     first_there file from place spent paid chunk found empty (same_told (λ f. IsPassedAt f place chunk) (Some file) now same passed)
     (same_told (λ f. IsRecordAt f place 0 (Some found)) (Some file) then also there)
+
+-- or to the file's end
+pub empty-ended : (bytes : Option (List ℕ)) (size from place spent now : ℕ) → IsSized bytes (Some size) → place ≤ size → size ≤ place
+    → IfSome bytes (λ file. IsEmptyTo file from place spent now) → IfSome bytes (λ file. NoneFrom file from)
+empty-ended None size from place spent now sized within past empty = tt
+empty-ended (Some file) size from place spent now sized within past empty =
+    let end : place ≡ length file = omega (arith, sized, within, past) in
+    (empty.places, subst (λ (p : ℕ). ArePlacesBetween file from p empty.places) end empty.between, empty.none)
+
+-- a chunk that has records has a first one
+pub none-not : (bytes now then : Option (List ℕ)) (from place : ℕ) (chunk : Passed) → now ≡ bytes → then ≡ bytes
+    → IfSome now (λ file. IsPassedAt file place chunk) → 0 < chunk.num_records → IfSome then (λ file. IsRecordAt file place 0 None)
+    → IfSome bytes (λ file. NoneFrom file from)
+none-not None now then from place chunk same also passed some there = tt
+none-not (Some file) now then from place chunk same also passed some there =
+    let here : IsPassedAt file place chunk = same_told (λ f. IsPassedAt f place chunk) (Some file) now same passed in
+    let none : IsRecordAt file place 0 None = same_told (λ f. IsRecordAt f place 0 None) (Some file) then also there in
+    absurd (omega (arith, some, here.num_records, none.1))
 
 pub ok_at : {E : Type 0} (P : Option Found → Type 0) (result : Result (Option Found) E) (x : Option Found) → IfOk result P → result ≡ Ok x → P x
 ok_at P (Ok found) x holds is = subst (λ (r : Result (Option Found) _). IfOk r P) is holds

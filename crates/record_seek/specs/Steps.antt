@@ -1,13 +1,14 @@
 -- What the steps of a search find. Own.
-use Rattle.std.specs.Prelude.{◌≡◌, ℕ, ◌+◌, ◌-◌, ◌*◌, ◌<◌, ◌≤◌, ◌⊎◌, false, Option, Some, None, List, ◌∷◌, ◌++◌, length, slice_get}
+use Rattle.std.specs.Prelude.{◌≡◌, ℕ, zero, suc, ◌+◌, ◌-◌, ◌*◌, ◌<◌, ◌≤◌, ◌⊎◌, false, Option, Some, None, List, ◌∷◌, ◌++◌, length, slice_get, get_or}
 use Rattle.block_layout.specs.Layout.{chunk_header_size}
 use Rattle.chunk_header.specs.Chunks.{ChunkValue}
 use Rattle.chunk_header.specs.SimpleChunks.{IsSimple}
+use Rattle.meta_chunk.specs.Files.{signature}
 use Rattle.chunk_reader.specs.Faults.{IsVerdict}
 use Rattle.chunk_reader.specs.Holders.{ArePlacesBetween}
 use Rattle.chunk_reader.specs.Places.{header_at, end_at, chunk_at}
 use Rattle.chunk_reader.specs.Reasons.{Applies, NoneOf, passing_reasons, strict_reasons}
-use Rattle.chunk_reader.specs.SearchBounds.{chunks_without_records, greatest_length_from}
+use Rattle.chunk_reader.specs.SearchBounds.{length_of_chunk, chunks_without_records, greatest_length_from}
 use Rattle.chunk_reader.specs.Searches.{HasRecordsAt, SearchComesTo, AnswersAt}
 use Rattle.chunk_reader.specs.declared.reasons.Fault.{Fault}
 use Rattle.record_seek.specs.Met.{HaveNoRecords}
@@ -120,6 +121,31 @@ look_bound ks = chunk_header_size * (chunks_without_records ks + 1) + greatest_l
 -- it stands before
 abbrev pub FirstStandsBefore : (Before : List ℕ → Type 0) → List ℕ → (from : ℕ) → Type 0
 FirstStandsBefore Before file from = (found : Found) × IsFirstFrom file from found × Before found.bytes
+
+-- chunks without records lead from a place to the file's end
+abbrev pub NoneFrom : List ℕ → (from : ℕ) → Type 0
+NoneFrom file from = (places : List ℕ) × ArePlacesBetween file from (length file) places × HaveNoRecords file places
+
+-- the first record from a place on doesn't stand before, or there is none
+abbrev pub FirstNotBefore : (Before : List ℕ → Type 0) → List ℕ → (from : ℕ) → Type 0
+FirstNotBefore Before file from = ((found : Found) × IsFirstFrom file from found × (¬ Before found.bytes)) ⊎ NoneFrom file from
+
+-- reading goes no further than the chunk of this number: its first record doesn't stand before, or there is no such chunk
+abbrev pub EndsReading : (Before : List ℕ → Type 0) → List ChunkValue → ℕ → Type 0
+EndsReading Before ks to =
+    (to ≡ length ks)
+    ⊎ ((k : ChunkValue) × (records : List (List ℕ)) × (r : List ℕ)
+    × (slice_get ks to ≡ Some k) × IsSimple k records × (slice_get records 0 ≡ Some r) × (¬ Before r))
+
+-- what reading takes of a chunk of so many records and bytes: its header, and the whole of it where it has records
+abbrev pub cost_of_chunk : (num_records size : ℕ) → ℕ
+cost_of_chunk zero size = chunk_header_size
+cost_of_chunk (suc n) size = chunk_header_size + size
+
+-- and of the chunks before one
+abbrev pub reading_cost : List ChunkValue → ℕ → ℕ
+reading_cost ks zero = 0
+reading_cost ks (suc j) = reading_cost ks j + cost_of_chunk (get_or ks j signature).num_records (length_of_chunk ks j)
 
 -- what is found, as the definitions have it
 abbrev pub placed_of : Option Found → Option (ℕ × List ℕ)

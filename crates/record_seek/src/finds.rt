@@ -1,4 +1,4 @@
-ghost use Rattle.std.specs.Prelude.{◌≡◌, ℕ, ◌+◌, ◌*◌, ◌/◌, ◌^◌, ◌<◌, ◌≤◌, ◌⊎◌, true, List, Some, None, Ok, IfOk, IfSome, Err, length, slice_get};
+ghost use Rattle.std.specs.Prelude.{◌≡◌, ℕ, ◌+◌, ◌*◌, ◌/◌, ◌^◌, ◌<◌, ◌≤◌, ◌⊎◌, true, false, List, Some, None, Ok, IfOk, IfSome, Err, length, slice_get};
 ghost use Rattle.chunk_header.specs.Chunks.{ChunkValue};
 ghost use Rattle.meta_chunk.specs.Files.{IsFile, IsFrame, ArePlaced, begin_of};
 ghost use Rattle.record_io.specs.Calls.{OnlyAsks};
@@ -9,7 +9,7 @@ ghost use Rattle.chunk_reader.specs.declared.reasons.Fault.{Fault};
 ghost use Rattle.record_seek.specs.Found.{IsKeyFound, BytesStandBefore, OnlyFrontStandsBefore};
 ghost use Rattle.record_seek.specs.KeyTests.{IsKeyTest, StandsBefore};
 ghost use Rattle.record_seek.specs.Met.{IsMetFault, IsMetRecord, LeadsWithoutRecords, LeadsPastAll};
-ghost use Rattle.record_seek.specs.Steps.{IsFaultOn, IsFirstFrom, FirstStandsBefore, IsReadOn, look_bound, placed_of};
+ghost use Rattle.record_seek.specs.Steps.{IsFaultOn, IsFirstFrom, FirstStandsBefore, IsReadOn, NoneFrom, FirstNotBefore, EndsReading, look_bound, reading_cost, placed_of};
 
 use crate::chunk_records::{Found, first_not_at, record_at};
 use crate::key_tests::KeyTest;
@@ -104,6 +104,8 @@ fn stands_before<S: Store, F: Fn(&[u8]) -> bool + Drop>(
     requires test { IsKeyTest F.Fn test.now.test }
     ensures before { result ≡ Ok true → IfSome (S.bytes store.old) (λ file. (begin : ℕ)
         × TellsBegin file block begin × FirstStandsBefore (StandsBefore F.Fn test.now.test) file begin) }
+    ensures not_before { result ≡ Ok false → IfSome (S.bytes store.old) (λ file. (begin : ℕ)
+        × TellsBegin file block begin × FirstNotBefore (StandsBefore F.Fn test.now.test) file begin) }
     ensures refused { (fault : Fault) → result ≡ Err (ReadEnd.Refused fault)
         → IfSome (S.bytes store.old) (λ file. IsMetFault file fault) }
     ensures handed { IfSome (S.bytes store.old) (λ file. (ks : List ChunkValue)
@@ -132,6 +134,7 @@ fn first_from<S: Store>(
     ensures small { IfOk result (λ found. IfSome found (λ f. length f.bytes ≤ 2 ^ 26)) }
     ensures refused { (fault : Fault) → result ≡ Err (ReadEnd.Refused fault)
         → IfSome (S.bytes store.old) (λ file. IsFaultOn file begin fault) }
+    ensures none { result ≡ Ok None → IfSome (S.bytes store.old) (λ file. NoneFrom file begin) }
     ensures handed { IfSome (S.bytes store.old) (λ file. (ks : List ChunkValue) (h : ℕ)
         → IsFrame ks file → begin ≡ begin_of ks h → h ≤ length ks → S.handed store.new ≤ S.handed store.old + look_bound ks) }
     ensures store { OnlyAsks S.bytes S.told S.name S.faults (result ≡ Err ReadEnd.Store) store.old store.new }
@@ -165,6 +168,9 @@ fn read_on<S: Store, F: Fn(&[u8]) -> bool + Drop>(
     ensures apart { IfOk result (λ found. IfSome found (λ f. ¬ StandsBefore F.Fn test.now.test f.bytes)) }
     ensures refused { (fault : Fault) → result ≡ Err (ReadEnd.Refused fault)
         → IfSome (S.bytes store.old) (λ file. IsFaultOn file begin fault) }
+    ensures handed { IfSome (S.bytes store.old) (λ file. (ks : List ChunkValue) (h to : ℕ)
+        → IsFrame ks file → begin ≡ begin_of ks h → h ≤ to → EndsReading (StandsBefore F.Fn test.now.test) ks to
+        → S.handed store.new + reading_cost ks h ≤ S.handed store.old + reading_cost ks (to + 1)) }
     ensures store { OnlyAsks S.bytes S.told S.name S.faults (result ≡ Err ReadEnd.Store) store.old store.new }
 {
     let mut place = begin;

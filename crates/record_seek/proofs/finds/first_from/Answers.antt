@@ -1,9 +1,9 @@
-use Rattle.std.proofs.Common.{◌∙◌, Some, Err, IfSome, ap, subst, arith, rules}
+use Rattle.std.proofs.Common.{◌∙◌, Some, None, Err, IfSome, ap, subst, arith, rules}
 use Rattle.chunk_reader.proofs.Loads as loads
 use Rattle.chunk_reader.proofs.Rooms.{IsSized}
 use Rattle.record_seek.specs.Steps.{IsRecordAt}
 use Rattle.record_seek.proofs.LookCosts.{look-header, look-record}
-use Rattle.record_seek.proofs.ReadingOn.{empty-on, empty-come, first-found, fault-header, fault-chunk, ok_at}
+use Rattle.record_seek.proofs.ReadingOn.{empty-on, empty-ended, none-not, empty-come, first-found, fault-header, fault-chunk, ok_at}
 use Rattle.record_seek.proofs.finds.first_from.Goals as goal
 use Rattle.record_seek.proofs.finds.first_from.Goals.{Start}
 
@@ -62,3 +62,19 @@ returns-then-passed-gt0-clause-handed g c =
 
 pub returns-clause-handed : goal.returns-clause-handed
 returns-clause-handed g c = look-header _ c.args.begin c.loop-place.place _ _ _ c.loop-place.invariant.empty (omega arith)
+
+pub returns-then-passed-gt0-clause-none : goal.returns-then-passed-gt0-clause-none
+returns-then-passed-gt0-clause-none g c =
+    λ is.
+    let place = c.loop-place.place in
+    let kept = c.loop-place.invariant in
+    none-not _ _ _ c.args.begin place c.in_ok-passed.passed kept.asks.same_bytes (c.in_ok-passed.ensures.store.same_bytes ∙ kept.asks.same_bytes)
+    c.in_ok-passed.ensures.passed c.if-passed-gt0.true
+    (ok_at (λ f. IfSome (g.S.Store.bytes c.passed_at.new.store) (λ file. IsRecordAt file place 0 f)) c.record_at.result None c.record_at.ensures.found is)
+
+pub returns-clause-none : goal.returns-clause-none
+returns-clause-none g c =
+    λ is.
+    let kept = c.loop-place.invariant in
+    empty-ended _ c.args.size c.args.begin c.loop-place.place _ _ (sized g (goal.at.returns-clause-none g c).Start) kept.within
+    (omega (arith, c.loop-place-test.false)) kept.empty

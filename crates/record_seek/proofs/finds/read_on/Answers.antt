@@ -1,7 +1,8 @@
-use Rattle.std.proofs.Common.{◌∙◌, Some, Err, sym, ap, subst, rules}
+use Rattle.std.proofs.Common.{◌∙◌, Some, Err, sym, ap, subst, arith, rules}
 use Rattle.chunk_reader.proofs.Loads as loads
 use Rattle.chunk_reader.proofs.Rooms.{IsSized}
 use Rattle.record_seek.specs.KeyTests.{StandsBefore}
+use Rattle.record_seek.proofs.ReadCosts.{paid_read-empty, paid_read-records, reading-header, reading-record}
 use Rattle.record_seek.proofs.ReadingOn.{read-come, read-empty, read-records, read-found, fault-header, fault-chunk}
 use Rattle.record_seek.proofs.finds.read_on.Goals as goal
 use Rattle.record_seek.proofs.finds.read_on.Goals.{Start}
@@ -45,6 +46,9 @@ loop-place-preserved-in_default g c =
       read = read-records (StandsBefore g.F.Fn c.args.test.now.test) _ _ _ c.args.begin c.loop-place.place c.in_ok-passed.passed
           c.in_ok-found.field-0 kept.asks.same_bytes (given.store.same_bytes ∙ kept.asks.same_bytes) kept.read given.passed
           c.if-passed-gt0.true c.in_default.is c.in_ok-found.ensures.found;
+      paid = paid_read-records (StandsBefore g.F.Fn c.args.test.now.test) _ _ _ c.args.begin c.loop-place.place c.in_ok-passed.passed
+          c.in_ok-found.field-0 _ _ _ _ kept.asks.same_bytes (given.store.same_bytes ∙ kept.asks.same_bytes) kept.paid given.passed
+          c.if-passed-gt0.true given.handed c.in_default.is c.in_ok-found.ensures.found c.in_ok-found.ensures.handed;
       asks = search rules;
     }
 
@@ -57,5 +61,32 @@ loop-place-preserved g c =
       within = given.within;
       read = read-empty (StandsBefore g.F.Fn c.args.test.now.test) _ _ c.args.begin c.loop-place.place c.in_ok-passed.passed
           kept.asks.same_bytes kept.read given.passed c.if-passed-gt0.false;
+      paid = paid_read-empty (StandsBefore g.F.Fn c.args.test.now.test) _ _ c.args.begin c.loop-place.place c.in_ok-passed.passed _ _ _
+          kept.asks.same_bytes kept.paid given.passed c.if-passed-gt0.false given.handed;
       asks = search rules;
     }
+
+pub returns-in_err-passed-clause-handed : goal.returns-in_err-passed-clause-handed
+returns-in_err-passed-clause-handed g c =
+    reading-header (StandsBefore g.F.Fn c.args.test.now.test) _ c.args.begin c.loop-place.place _ _ _ c.loop-place.invariant.paid
+    c.in_err-passed.ensures.handed
+
+pub returns-in_err-found-clause-handed : goal.returns-in_err-found-clause-handed
+returns-in_err-found-clause-handed g c =
+    let kept = c.loop-place.invariant in
+    let given = c.in_ok-passed.ensures in
+    reading-record (StandsBefore g.F.Fn c.args.test.now.test) _ _ _ c.args.begin c.loop-place.place c.in_ok-passed.passed _ _ _ _
+    kept.asks.same_bytes (given.store.same_bytes ∙ kept.asks.same_bytes) kept.paid given.passed c.if-passed-gt0.true given.handed
+    c.in_err-found.ensures.handed
+
+pub returns-in-Some-clause-handed : goal.returns-in-Some-clause-handed
+returns-in-Some-clause-handed g c =
+    let kept = c.loop-place.invariant in
+    let given = c.in_ok-passed.ensures in
+    reading-record (StandsBefore g.F.Fn c.args.test.now.test) _ _ _ c.args.begin c.loop-place.place c.in_ok-passed.passed _ _ _ _
+    kept.asks.same_bytes (given.store.same_bytes ∙ kept.asks.same_bytes) kept.paid given.passed c.if-passed-gt0.true given.handed
+    c.in_ok-found.ensures.handed
+
+pub returns-clause-handed : goal.returns-clause-handed
+returns-clause-handed g c =
+    reading-header (StandsBefore g.F.Fn c.args.test.now.test) _ c.args.begin c.loop-place.place _ _ _ c.loop-place.invariant.paid (omega arith)

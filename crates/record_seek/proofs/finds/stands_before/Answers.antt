@@ -1,9 +1,9 @@
-use Rattle.std.proofs.Common.{◌≡◌, ℕ, List, Some, Ok, Err, true, refl, sym, ap, subst}
+use Rattle.std.proofs.Common.{◌≡◌, ℕ, List, Some, Ok, Err, true, false, refl, sym, ap, subst}
 use Rattle.std.specs.Fn.{FnReturnsAt}
 use Rattle.chunk_reader.proofs.Loads as loads
 use Rattle.chunk_reader.proofs.Rooms.{IsSized}
 use Rattle.record_seek.specs.KeyTests.{StandsBefore}
-use Rattle.record_seek.proofs.Finding.{block-met, told-met, first-before}
+use Rattle.record_seek.proofs.Finding.{block-met, told-met, first-before, first-not, none-first}
 use Rattle.record_seek.proofs.LookCosts.{block-takes, told-takes}
 use Rattle.record_seek.proofs.finds.stands_before.Goals as goal
 use Rattle.record_seek.proofs.finds.stands_before.Goals.{Start}
@@ -52,3 +52,18 @@ returns-in-None-clause-handed g c =
     let given = c.in_ok-begin.ensures in
     told-takes _ _ c.args.size c.args.block c.in_ok-begin.begin _ _ _ given.store.same_bytes (sized g (goal.at.returns-in-None-clause-handed g c).Start)
     c.requires.in_reach given.told given.handed c.in_ok-found.ensures.handed
+
+pub returns-in-Some-clause-not_before : goal.returns-in-Some-clause-not_before
+returns-in-Some-clause-not_before g c =
+    λ e.
+    let no : c.before-in-Some.result ≡ false = cc in
+    first-not (StandsBefore g.F.Fn c.args.test.now.test) _ _ c.args.block c.in_ok-begin.begin c.in-Some.found
+    c.in_ok-begin.ensures.store.same_bytes c.in_ok-begin.ensures.told (c.in_ok-found.ensures.first c.in-Some.found (ap Ok c.in-Some.is))
+    (λ stands. cc (c.before-in-Some.ensures.exact.1
+    (subst (λ (b : List ℕ). FnReturnsAt g.F.Fn c.args.test.now.test b true) (sym c.as_slice.ensures.value) stands)))
+
+pub returns-in-None-clause-not_before : goal.returns-in-None-clause-not_before
+returns-in-None-clause-not_before g c =
+    λ e.
+    none-first (StandsBefore g.F.Fn c.args.test.now.test) _ _ c.args.block c.in_ok-begin.begin c.in_ok-begin.ensures.store.same_bytes
+    c.in_ok-begin.ensures.told (c.in_ok-found.ensures.none (ap Ok c.in-None.is))
