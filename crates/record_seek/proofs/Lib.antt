@@ -11,6 +11,7 @@ pub mod ReadingOn
 pub mod LookCosts
 pub mod ReadCosts
 pub mod Turns
+pub mod Halves
 pub mod Finding
 pub mod MetPlaces
 pub mod OneFound

@@ -30,7 +30,7 @@ without_cons k ks = sum_by-cons (λ (c : ChunkValue). cond (c.num_records == 0) 
 without_more : (k : ChunkValue) (ks : List ChunkValue) → k.num_records ≡ 0 → chunks_without_records (k ∷ ks) ≡ 1 + chunks_without_records ks
 without_more k ks none = without_cons k ks ∙ ap (λ (n : ℕ). cond (n == 0) 1 0 + chunks_without_records ks) none
 
-without_drop : (ks : List ChunkValue) (h : ℕ) → chunks_without_records (drop h ks) ≤ chunks_without_records ks
+pub without_drop : (ks : List ChunkValue) (h : ℕ) → chunks_without_records (drop h ks) ≤ chunks_without_records ks
 without_drop [] zero = omega arith
 without_drop [] (suc h) = omega arith
 without_drop (k ∷ ks) zero = omega arith
@@ -52,13 +52,13 @@ longest_from place (x ∷ ks) (suc j) k at =
     let rest = longest_from (end_of_chunk place x) ks j k at in
     grind (arith)
 
-longest : (ks : List ChunkValue) (j : ℕ) (k : ChunkValue) → slice_get ks j ≡ Some k
+pub longest : (ks : List ChunkValue) (j : ℕ) (k : ChunkValue) → slice_get ks j ≡ Some k
     → begin_of ks (j + 1) ≤ begin_of ks j + greatest_length_from 0 ks
 longest ks j k at = omega (arith, begin_of-next ks j k at, longest_from 0 ks j k at)
 
 module _ (ks : List ChunkValue) (file : List ℕ) (frame : IsFrame ks file) where
   -- chunks that have no records are some of those without
-  empties_within : (places : List ℕ) (h to : ℕ) → ArePlacesBetween file (begin_of ks h) to places → HaveNoRecords file places
+  pub empties_within : (places : List ℕ) (h to : ℕ) → ArePlacesBetween file (begin_of ks h) to places → HaveNoRecords file places
       → length places ≤ chunks_without_records (drop h ks)
   empties_within [] h to same none = omega arith
   empties_within (place ∷ places) h to (same, passed, rest) none =

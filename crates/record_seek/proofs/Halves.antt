@@ -1,0 +1,164 @@
+-- How far a search by halves has come, and what it took of a file of chunks.
+use Rattle.std.proofs.Common.{◌≡◌, ◌∙◌, ◌⊎◌, ℕ, zero, suc, ◌+◌, ◌-◌, ◌*◌, ◌/◌, ◌^◌, ◌<◌, ◌≤◌, Option, Some, None, IfSome, List, [], ◌∷◌, length, get_or, refl, sym, ap, subst, inl, inr, arith}
+use Rattle.std.specs.Prelude.{slice_get}
+use Rattle.std.proofs.lemmas.Bool.{cases_lt}
+use Rattle.std.proofs.lemmas.Option.{slice_get_cases}
+use Rattle.chunk_header.specs.Chunks.{ChunkValue}
+use Rattle.meta_chunk.specs.Files.{IsFrame, begin_of, LiesIn, signature}
+use Rattle.meta_chunk.proofs.Begins.{begin_of-past, begin_of_rises, begin_of_rises_by}
+use Rattle.chunk_reader.specs.Blocks.{TellsBegin}
+use Rattle.chunk_reader.specs.Holders.{ArePlacesBetween}
+use Rattle.chunk_reader.specs.Places.{header_at}
+use Rattle.chunk_reader.specs.SearchBounds.{length_of_chunk, chunks_without_records, greatest_length_from, digit_count_of_blocks, key_bound}
+use Rattle.chunk_reader.proofs.Blocks.{stands_within}
+use Rattle.chunk_reader.proofs.HeadersTell.{passed_below, last_end, stands_below, told_end, told_records, told_is, places_are, lies_of}
+use Rattle.chunk_reader.proofs.Rooms.{IsSized}
+use Rattle.record_seek.specs.Met.{HaveNoRecords}
+use Rattle.record_seek.specs.Steps.{IsFirstFrom, NoneFrom, FirstNotBefore, EndsReading, cost_of_chunk, reading_cost, look_bound}
+use Rattle.record_seek.specs.declared.chunk_records.Found.{Found}
+use Rattle.record_seek.proofs.Finding.{IsBeginFrom}
+use Rattle.record_seek.proofs.LookCosts.{empties_within, without_drop, longest, BlockTakes}
+use Rattle.record_seek.proofs.PlacedRecords.{holds_there}
+use Rattle.record_seek.proofs.ReadCosts.{cost_most, cost_step, cost_next, cost_rises, ReadingTakes}
+use Rattle.record_seek.proofs.Turns.{AreTurnsPaid, after_turn, digits_above}
+use Rattle.record_seek.proofs.Ways.{same_told}
+
+-- what a turn takes at most
+abbrev pub turn_cost : List ChunkValue → ℕ
+turn_cost ks = 200000 + 64 * chunks_without_records ks + 2 * greatest_length_from 0 ks
+
+-- from the chunk at or before a place on, reading ends behind chunks without records
+pub record EndsBehind (Before : List ℕ → Type 0) (ks : List ChunkValue) (place : ℕ) : Type 0 where
+  pub n : ℕ
+  pub to : ℕ
+  pub order : n ≤ to
+  pub within : n ≤ length ks
+  pub ends : EndsReading Before ks to
+  pub cost : reading_cost ks to ≤ reading_cost ks n + 40 * chunks_without_records ks
+  pub begins : begin_of ks n ≤ place
+  pub holds : (n ≡ length ks) ⊎ (place < begin_of ks (n + 1))
+
+module _ (ks : List ChunkValue) (file : List ℕ) (frame : IsFrame ks file) where
+  -- chunks without records cost their headers
+  empties_cost : (places : List ℕ) (h to : ℕ) → ArePlacesBetween file (begin_of ks h) to places → HaveNoRecords file places
+      → reading_cost ks (h + length places) ≤ reading_cost ks h + 40 * length places
+  empties_cost [] h to same none =
+      let index : h + length {A = ℕ} [] ≡ h = omega arith in
+      omega (arith, ap (reading_cost ks) index)
+  empties_cost (place ∷ places) h to (same, passed, rest) none =
+      let k = stands_below ks file frame h (passed_below file (begin_of ks h) passed) in
+      let count : k.0.num_records ≡ 0 =
+      sym (ap (λ (p : ℕ). (header_at file p).num_records) same ∙ told_records ks file frame h k.0 k.1) ∙ none.0 in
+      let one : cost_of_chunk k.0.num_records (length_of_chunk ks h) ≡ 40 = ap (λ (n : ℕ). cost_of_chunk n (length_of_chunk ks h)) count in
+      let index : h + length (place ∷ places) ≡ h + 1 + length places = omega arith in
+      let on = empties_cost places (h + 1) to (subst (λ (p : ℕ). ArePlacesBetween file p to places) (told_end ks file frame h k.0 k.1) rest) none.1 in
+      omega (arith, ap (reading_cost ks) index, on, cost_next ks h k.0 k.1, one)
+
+  -- chunks between two cost their headers and bytes
+  span_cost : (i d : ℕ) → i + d ≤ length ks → reading_cost ks (i + d) + 2 * begin_of ks i ≤ reading_cost ks i + 2 * begin_of ks (i + d)
+  span_cost i zero inside =
+      let index : i + 0 ≡ i = omega arith in
+      omega (arith, ap (reading_cost ks) index, ap (begin_of ks) index)
+  span_cost i (suc d) inside =
+      let index : i + suc d ≡ i + d + 1 = omega arith in
+      let rises = begin_of_rises_by ks (i + d) (omega (arith, inside)) in
+      let most = cost_most (get_or ks (i + d) signature).num_records (length_of_chunk ks (i + d)) in
+      omega (
+        arith,
+        ap (reading_cost ks) index,
+        ap (begin_of ks) index,
+        span_cost i d (omega (arith, inside)),
+        cost_step ks (i + d),
+        most,
+        rises,
+      )
+
+  short : (j : ℕ) → length_of_chunk ks j ≤ greatest_length_from 0 ks
+  short j =
+      elim (slice_get_cases ks j).1 [
+        | inl (k, inside, at, same) ↦ omega (arith, longest ks j k at)
+        | inr (past, none) ↦ omega (arith, begin_of-past ks j past, begin_of-past ks (j + 1) (omega (arith, past)))
+      ]
+
+  -- a chunk costs its header and at most as many bytes as the longest has
+  one_cost : (j : ℕ) → reading_cost ks (j + 1) ≤ reading_cost ks j + 40 + greatest_length_from 0 ks
+  one_cost j =
+      let most = cost_most (get_or ks j signature).num_records (length_of_chunk ks j) in
+      omega (arith, cost_step ks j, most, short j)
+
+  -- behind a chunk whose first record doesn't stand before reading ends
+  ends_behind : (Before : List ℕ → Type 0) (place h : ℕ) → LiesIn ks place h → FirstNotBefore Before file (begin_of ks h) → EndsBehind Before ks place
+  ends_behind Before place h lies (inl (found, first, apart)) =
+      let inside : h ≤ length ks = omega (arith, lies.number) in
+      let there = places_are ks file frame first.places h first.place inside first.between in
+      let (k, at, simple) = holds_there ks file frame (h + length first.places) first.place first.records there.1 (passed_below file first.place first.whole) first.holds in
+      let few = empties_within ks file frame first.places h first.place first.between first.none_before in
+      record {
+        n = h;
+        to = h + length first.places;
+        order = omega arith;
+        within = inside;
+        ends = inr (k, first.records, found.bytes, at, simple, first.stands, apart);
+        cost = omega (arith, empties_cost first.places h first.place first.between first.none_before, few, without_drop ks h);
+        begins = lies.begins;
+        holds = inr lies.ends;
+      }
+  ends_behind Before place h lies (inr (places, between, none)) =
+      let inside : h ≤ length ks = omega (arith, lies.number) in
+      let there = places_are ks file frame places h (length file) inside between in
+      let few = empties_within ks file frame places h (length file) between none in
+      let j : ℕ = h + length places in
+      let end : j ≡ length ks =
+      elim (cases_lt j (length ks)) [
+        | inl less ↦
+            absurd (omega (arith, there.1, begin_of_rises_by ks j less, begin_of_rises ks (j + 1) (length ks) (omega (arith, less)), last_end ks file frame))
+        | inr past ↦ omega (arith, past, there.0)
+      ] in
+      record {
+        n = h;
+        to = j;
+        order = omega arith;
+        within = inside;
+        ends = inl end;
+        cost = omega (arith, empties_cost places h (length file) between none, few, without_drop ks h);
+        begins = lies.begins;
+        holds = inr lies.ends;
+      }
+
+  -- so reading on from the block before it takes no more than a turn
+  pub read_near : (Before : List ℕ → Type 0) (low high h : ℕ) → LiesIn ks (low * 65536) h → low ≤ high → high ≤ low + 1
+      → (e : EndsBehind Before ks (high * 65536)) → (h ≤ e.to) × (reading_cost ks (e.to + 1) + 24 ≤ reading_cost ks h + turn_cost ks)
+  read_near Before low high h lies order next e =
+      let h_first : h ≤ e.n =
+      elim e.holds [
+        | inl end ↦ omega (arith, end, lies.number)
+        | inr below ↦ elim (cases_lt e.n h) [
+          | inl past ↦ absurd (omega (arith, below, order, lies.begins, begin_of_rises ks (e.n + 1) h (omega (arith, past))))
+          | inr not ↦ not
+        ]
+      ] in
+      let last = one_cost e.to in
+      elim (cases_lt h e.n) [
+        | inl more ↦
+            let d : ℕ = e.n - (h + 1) in
+            let index : h + 1 + d ≡ e.n = omega (arith, more) in
+            let span = span_cost (h + 1) d (omega (arith, index, e.within)) in
+            (
+              omega (arith, h_first, e.order),
+              omega (
+                arith,
+                last,
+                e.cost,
+                span,
+                ap (reading_cost ks) index,
+                ap (begin_of ks) index,
+                one_cost h,
+                e.begins,
+                lies.ends,
+                next,
+              ),
+            )
+        | inr same ↦
+            let one : e.n ≡ h = omega (arith, same, h_first) in
+            (omega (arith, h_first, e.order), omega (arith, last, e.cost, ap (reading_cost ks) one))
+      ]
