@@ -1,8 +1,9 @@
 -- How far a search by halves has come, and what it took of a file of chunks.
 use Rattle.std.proofs.Common.{◌≡◌, ◌∙◌, ◌⊎◌, ℕ, zero, suc, ◌+◌, ◌-◌, ◌*◌, ◌/◌, ◌^◌, ◌<◌, ◌≤◌, Option, Some, None, IfSome, List, [], ◌∷◌, length, get_or, refl, sym, ap, subst, inl, inr, arith}
-use Rattle.std.specs.Prelude.{slice_get}
 use Rattle.std.proofs.lemmas.Bool.{cases_lt}
+use Rattle.std.proofs.lemmas.List.{nil_from_length}
 use Rattle.std.proofs.lemmas.Option.{slice_get_cases}
+use Rattle.block_layout.specs.Layout.{blocks_below}
 use Rattle.chunk_header.specs.Chunks.{ChunkValue}
 use Rattle.meta_chunk.specs.Files.{IsFrame, begin_of, LiesIn, signature}
 use Rattle.meta_chunk.proofs.Begins.{begin_of-past, begin_of_rises, begin_of_rises_by}
@@ -14,12 +15,11 @@ use Rattle.chunk_reader.proofs.Blocks.{stands_within}
 use Rattle.chunk_reader.proofs.HeadersTell.{passed_below, last_end, stands_below, told_end, told_records, told_is, places_are, lies_of}
 use Rattle.chunk_reader.proofs.Rooms.{IsSized}
 use Rattle.record_seek.specs.Met.{HaveNoRecords}
-use Rattle.record_seek.specs.Steps.{IsFirstFrom, NoneFrom, FirstNotBefore, EndsReading, cost_of_chunk, reading_cost, look_bound}
-use Rattle.record_seek.specs.declared.chunk_records.Found.{Found}
+use Rattle.record_seek.specs.Steps.{FirstNotBefore, EndsReading, cost_of_chunk, reading_cost}
 use Rattle.record_seek.proofs.Finding.{IsBeginFrom}
 use Rattle.record_seek.proofs.LookCosts.{empties_within, without_drop, longest, BlockTakes}
 use Rattle.record_seek.proofs.PlacedRecords.{holds_there}
-use Rattle.record_seek.proofs.ReadCosts.{cost_most, cost_step, cost_next, cost_rises, ReadingTakes}
+use Rattle.record_seek.proofs.ReadCosts.{cost_most, cost_step, cost_next, ReadingTakes}
 use Rattle.record_seek.proofs.Turns.{AreTurnsPaid, after_turn, digits_above}
 use Rattle.record_seek.proofs.Ways.{same_told}
 
@@ -142,8 +142,7 @@ module _ (ks : List ChunkValue) (file : List ℕ) (frame : IsFrame ks file) wher
         | inl more ↦
             let d : ℕ = e.n - (h + 1) in
             let index : h + 1 + d ≡ e.n = omega (arith, more) in
-            let span = span_cost (h + 1) d (omega (arith, index, e.within)) in
-            (
+            let span = span_cost (h + 1) d (omega (arith, index, e.within)) in (
               omega (arith, h_first, e.order),
               omega (
                 arith,
@@ -162,3 +161,115 @@ module _ (ks : List ChunkValue) (file : List ℕ) (frame : IsFrame ks file) wher
             let one : e.n ≡ h = omega (arith, same, h_first) in
             (omega (arith, h_first, e.order), omega (arith, last, e.cost, ap (reading_cost ks) one))
       ]
+
+  -- where reading begins
+  begin_lies : length file ≤ 2 ^ 60 → (low begin : ℕ) → IsBeginFrom low begin file → (h : ℕ) × (begin ≡ begin_of ks h) × LiesIn ks (low * 65536) h
+  begin_lies reach low begin (inl (first, front)) =
+      let below : 0 < length file =
+      elim (cases_lt 0 (length ks)) [
+        | inl some ↦ omega (arith, begin_of_rises_by ks 0 some, begin_of_rises ks (0 + 1) (length ks) (omega (arith, some)), last_end ks file frame)
+        | inr none ↦ absurd (frame.0 (nil_from_length ks (omega (arith, none))))
+      ] in
+      let holder = lies_of ks file frame (low * 65536) (omega (arith, first, below)) in
+      (holder.0, omega (arith, front, first, holder.1.begins), holder.1)
+  begin_lies reach low begin (inr (some, told)) =
+      let (previous, next, stands, is) = told in
+      let holder = lies_of ks file frame (low * 65536) (omega (arith, stands_within file (low * 65536) previous next stands)) in
+      (holder.0, told_is ks file frame (low * 65536) begin holder.0 reach stands.is_block holder.1 told, holder.1)
+
+-- the search goes on between two blocks, and the turns that are left are paid
+abbrev pub IsHalved : (Before : List ℕ → Type 0) → (size low high spent now : ℕ) → List ℕ → Type 0
+IsHalved Before size low high spent now file =
+    (ks : List ChunkValue) → IsFrame ks file
+    → EndsBehind Before ks (high * 65536) × AreTurnsPaid (high - low) now (turn_cost ks) (spent + digit_count_of_blocks size * turn_cost ks)
+
+pub halved-begun : (Before : List ℕ → Type 0) (bytes : Option (List ℕ)) (size high spent : ℕ) → IsSized bytes (Some size)
+    → high ≡ (size + 65535) / 65536 → IfSome bytes (IsHalved Before size 0 high spent spent)
+halved-begun Before None size high spent sized is = tt
+halved-begun Before (Some file) size high spent sized is =
+    λ ks frame. (
+      record {
+        n = length ks;
+        to = length ks;
+        order = omega arith;
+        within = omega arith;
+        ends = inl refl;
+        cost = omega arith;
+        begins = omega (arith, last_end ks file frame, sized, is);
+        holds = inl refl;
+      },
+      record { turns = digit_count_of_blocks size; narrow = omega (arith, digits_above (blocks_below size), is); paid = omega arith },
+    )
+
+pub halved-up : (Before : List ℕ → Type 0) (bytes bytes_now : Option (List ℕ)) (size low high spent now then : ℕ) → bytes_now ≡ bytes
+    → IfSome bytes (IsHalved Before size low high spent now) → 1 < high - low → IfSome bytes_now (BlockTakes now then)
+    → IfSome bytes (IsHalved Before size (low + (high - low) / 2) high spent then)
+halved-up Before None bytes_now size low high spent now then same halved wide takes = tt
+halved-up Before (Some file) bytes_now size low high spent now then same halved wide takes =
+    let more : BlockTakes now then file = same_told (BlockTakes now then) (Some file) bytes_now same takes in
+    λ ks frame.
+    let (e, paid) = halved ks frame in
+    (e, after_turn _ _ _ _ _ _ paid wide (omega (arith, wide)) (omega (arith, more ks frame)))
+
+pub halved-down : (Before : List ℕ → Type 0) (bytes bytes_now : Option (List ℕ)) (size low high spent now then : ℕ) → bytes_now ≡ bytes
+    → IsSized bytes (Some size) → size ≤ 2 ^ 60 → IfSome bytes (IsHalved Before size low high spent now) → 1 < high - low
+    → IfSome bytes_now (BlockTakes now then)
+    → IfSome bytes_now (λ file. (begin : ℕ) × TellsBegin file ((low + (high - low) / 2) * 65536) begin × FirstNotBefore Before file begin)
+    → IfSome bytes (IsHalved Before size low (low + (high - low) / 2) spent then)
+halved-down Before None bytes_now size low high spent now then same sized reach halved wide takes looked = tt
+halved-down Before (Some file) bytes_now size low high spent now then same sized reach halved wide takes looked =
+    let more : BlockTakes now then file = same_told (BlockTakes now then) (Some file) bytes_now same takes in
+    let block : ℕ = (low + (high - low) / 2) * 65536 in
+    let (begin, told, first) =
+    same_told (λ f. (b : ℕ) × TellsBegin f block b × FirstNotBefore Before f b) (Some file) bytes_now same looked in
+    let (previous, next, stands, is) = told in
+    λ ks frame.
+    let (e, paid) = halved ks frame in
+    let holder = lies_of ks file frame block (omega (arith, stands_within file block previous next stands)) in
+    let begins = told_is ks file frame block begin holder.0 (omega (arith, sized, reach)) stands.is_block holder.1 told in (
+      ends_behind ks file frame Before block holder.0 holder.1 (subst (FirstNotBefore Before file) begins first),
+      after_turn _ _ _ _ _ _ paid wide (omega (arith, wide)) (omega (arith, more ks frame)),
+    )
+
+-- so much a search takes
+abbrev pub KeyTakes : (spent now : ℕ) → List ℕ → Type 0
+KeyTakes spent now file = (ks : List ChunkValue) → IsFrame ks file → now ≤ spent + key_bound ks
+
+-- a turn more at the end
+turn_more : (ks : List ChunkValue) (file : List ℕ) (size width spent now then : ℕ) → IsFrame ks file → size ≡ length file
+    → AreTurnsPaid width now (turn_cost ks) (spent + digit_count_of_blocks size * turn_cost ks) → then ≤ now + turn_cost ks
+    → then ≤ spent + key_bound ks
+turn_more ks file size width spent now then frame sized paid more =
+    let d : ℕ = digit_count_of_blocks (begin_of ks (length ks)) in
+    let same : digit_count_of_blocks size ≡ d = ap digit_count_of_blocks (sized ∙ sym (last_end ks file frame)) in
+    let all : (d + 2) * turn_cost ks ≡ d * turn_cost ks + turn_cost ks + turn_cost ks = grind arith in
+    let one : digit_count_of_blocks size * turn_cost ks ≡ d * turn_cost ks = ap (λ (n : ℕ). n * turn_cost ks) same in
+    omega (arith, paid.paid, more, all, one)
+
+pub takes-look : (Before : List ℕ → Type 0) (bytes bytes_now : Option (List ℕ)) (size low high spent now then : ℕ) → bytes_now ≡ bytes
+    → IsSized bytes (Some size) → IfSome bytes (IsHalved Before size low high spent now) → IfSome bytes_now (BlockTakes now then)
+    → IfSome bytes (KeyTakes spent then)
+takes-look Before None bytes_now size low high spent now then same sized halved takes = tt
+takes-look Before (Some file) bytes_now size low high spent now then same sized halved takes =
+    let more : BlockTakes now then file = same_told (BlockTakes now then) (Some file) bytes_now same takes in
+    λ ks frame. turn_more ks file size (high - low) spent now then frame sized (halved ks frame).1 (omega (arith, more ks frame))
+
+pub takes-begin : (Before : List ℕ → Type 0) (bytes : Option (List ℕ)) (size low high spent now then : ℕ) → IsSized bytes (Some size)
+    → IfSome bytes (IsHalved Before size low high spent now) → then ≤ now + 24 → IfSome bytes (KeyTakes spent then)
+takes-begin Before None size low high spent now then sized halved more = tt
+takes-begin Before (Some file) size low high spent now then sized halved more =
+    λ ks frame. turn_more ks file size (high - low) spent now then frame sized (halved ks frame).1 (omega (arith, more))
+
+pub takes-reading : (Before : List ℕ → Type 0) (bytes bytes_now bytes_then : Option (List ℕ)) (size low high begin spent now then last : ℕ) → bytes_now ≡ bytes
+    → bytes_then ≡ bytes → IsSized bytes (Some size) → size ≤ 2 ^ 60 → IfSome bytes (IsHalved Before size low high spent now) → low ≤ high
+    → high ≤ low + 1 → IfSome bytes_now (IsBeginFrom low begin) → then ≤ now + 24 → IfSome bytes_then (ReadingTakes Before begin then last)
+    → IfSome bytes (KeyTakes spent last)
+takes-reading Before None bytes_now bytes_then size low high begin spent now then last same also sized reach halved order near from more read = tt
+takes-reading Before (Some file) bytes_now bytes_then size low high begin spent now then last same also sized reach halved order near from more read =
+    let start : IsBeginFrom low begin file = same_told (IsBeginFrom low begin) (Some file) bytes_now same from in
+    let takes : ReadingTakes Before begin then last file = same_told (ReadingTakes Before begin then last) (Some file) bytes_then also read in
+    λ ks frame.
+    let (e, paid) = halved ks frame in
+    let (h, is, lies) = begin_lies ks file frame (omega (arith, sized, reach)) low begin start in
+    let (inside, cost) = read_near ks file frame Before low high h lies order near e in
+    turn_more ks file size (high - low) spent now last frame sized paid (omega (arith, takes ks h e.to frame is inside e.ends, cost, more))

@@ -5,6 +5,7 @@ ghost use Rattle.record_io.specs.Calls.{OnlyAsks};
 ghost use Rattle.block_layout.specs.Layout.{block_size, block_header_size, IsBlock, IsBoundary};
 ghost use Rattle.chunk_reader.specs.Blocks.{TellsBegin, IsBlockFault};
 ghost use Rattle.chunk_reader.specs.Reasons.{Applies, NoneOf, loading_reasons};
+ghost use Rattle.chunk_reader.specs.SearchBounds.{key_bound};
 ghost use Rattle.chunk_reader.specs.declared.reasons.Fault.{Fault};
 ghost use Rattle.record_seek.specs.Found.{IsKeyFound, BytesStandBefore, OnlyFrontStandsBefore};
 ghost use Rattle.record_seek.specs.KeyTests.{IsKeyTest, StandsBefore};
@@ -52,6 +53,8 @@ pub fn find<S: Store, F: Fn(&[u8]) -> bool + Drop>(
         → IfSome (S.bytes store.old) (λ file. LeadsWithoutRecords file ⊎ LeadsPastAll file (StandsBefore F.Fn test.now.test)) }
     ensures refused { (fault : Fault) → result ≡ Err (ReadEnd.Refused fault)
         → IfSome (S.bytes store.old) (λ file. IsMetFault file fault) }
+    ensures handed { IfSome (S.bytes store.old) (λ file. (ks : List ChunkValue)
+        → IsFrame ks file → S.handed store.new ≤ S.handed store.old + key_bound ks) }
     ensures store { OnlyAsks S.bytes S.told S.name S.faults (result ≡ Err ReadEnd.Store) store.old store.new }
 {
     let mut low = 0;

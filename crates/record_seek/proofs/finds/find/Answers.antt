@@ -1,11 +1,12 @@
-use Rattle.std.proofs.Common.{◌∙◌, ◌*◌, Some, None, Err, IfSome, sym, ap, subst}
+use Rattle.std.proofs.Common.{◌∙◌, ◌+◌, ◌-◌, ◌*◌, ◌/◌, Some, None, Ok, Err, IfSome, sym, ap, subst, arith, rules}
 use Rattle.chunk_reader.proofs.Loads as loads
 use Rattle.chunk_reader.proofs.Rooms.{IsSized}
 use Rattle.record_seek.specs.KeyTests.{StandsBefore}
 use Rattle.record_seek.specs.Met.{IsMetFault}
 use Rattle.record_seek.specs.Steps.{IsReadOn}
-use Rattle.record_seek.proofs.Finding.{block-met, fault-met, record-met, nothing-left}
+use Rattle.record_seek.proofs.Finding.{begins-front, begins-at, block-met, fault-met, record-met, nothing-left}
 use Rattle.record_seek.proofs.FoundByKey.{found-in, in-order, met-not_whole}
+use Rattle.record_seek.proofs.Halves.{halved-begun, halved-up, halved-down, takes-look, takes-begin, takes-reading}
 use Rattle.record_seek.proofs.ReadingOn.{ok_at}
 use Rattle.record_seek.proofs.Ways.{same_told}
 use Rattle.record_seek.proofs.finds.find.Goals as goal
@@ -79,3 +80,63 @@ returns-clause-whole g c =
     λ fault e.
     met-not_whole _ c.args.size fault (sized g (goal.at.returns-clause-whole g c).Start) c.requires.in_reach
     (returns-clause-refused g c fault e)
+
+pub returns-in_err-stands_before-clause-handed : goal.returns-in_err-stands_before-clause-handed
+returns-in_err-stands_before-clause-handed g c =
+    let kept = c.loop-high.invariant in
+    takes-look (StandsBefore g.F.Fn c.args.test.now.test) _ _ c.args.size c.loop-high.low c.loop-high.high _ _ _ kept.asks.same_bytes
+    (sized g (goal.at.returns-in_err-stands_before-clause-handed g c).Start) kept.halved c.in_err-stands_before.ensures.handed
+
+pub returns-in_err-begin-clause-handed : goal.returns-in_err-begin-clause-handed
+returns-in_err-begin-clause-handed g c =
+    takes-begin (StandsBefore g.F.Fn c.args.test.now.test) _ c.args.size c.loop-high.low c.loop-high.high _ _ _
+    (sized g (goal.at.returns-in_err-begin-clause-handed g c).Start) c.loop-high.invariant.halved c.in_err-begin.ensures.handed
+
+pub returns-clause-handed : goal.returns-clause-handed
+returns-clause-handed g c =
+    let kept = c.loop-high.invariant in
+    let given = c.in_ok-begin.ensures in
+    takes-reading (StandsBefore g.F.Fn c.args.test.now.test) _ _ _ c.args.size c.loop-high.low c.loop-high.high c.in_ok-begin.begin _ _ _ _
+    kept.asks.same_bytes (given.store.same_bytes ∙ kept.asks.same_bytes) (sized g (goal.at.returns-clause-handed g c).Start)
+    c.requires.in_reach kept.halved kept.ordered (omega (arith, c.loop-high-test.false)) given.begin given.handed c.read_on.ensures.handed
+
+pub loop-high-init : goal.loop-high-init
+loop-high-init g c = record {
+  ordered = omega arith;
+  within = omega (arith, c.div_ceil-high.ensures);
+  below = λ some. absurd (omega (arith, some));
+  begins = begins-front (StandsBefore g.F.Fn c.args.test.now.test) _;
+  halved = halved-begun (StandsBefore g.F.Fn c.args.test.now.test) _ c.args.size c.div_ceil-high.result _
+      (sized g (goal.at.loop-high-init g c).Start) (omega (arith, c.div_ceil-high.ensures));
+  asks = search rules;
+}
+
+pub loop-high-preserved-then-branch : goal.loop-high-preserved-then-branch
+loop-high-preserved-then-branch g c =
+    let kept = c.loop-high.invariant in
+    let given = c.in_ok-stands_before.ensures in
+    record {
+      ordered = omega (arith, kept.ordered, c.loop-high-test.true);
+      within = kept.within;
+      below = λ some. omega (arith, kept.ordered, kept.within, c.loop-high-test.true);
+      begins = begins-at (StandsBefore g.F.Fn c.args.test.now.test) _ _ (c.loop-high.low + (c.loop-high.high - c.loop-high.low) / 2)
+          kept.asks.same_bytes (given.before (ap Ok c.if-branch.true));
+      halved = halved-up (StandsBefore g.F.Fn c.args.test.now.test) _ _ c.args.size c.loop-high.low c.loop-high.high _ _ _
+          kept.asks.same_bytes kept.halved c.loop-high-test.true given.handed;
+      asks = search rules;
+    }
+
+pub loop-high-preserved : goal.loop-high-preserved
+loop-high-preserved g c =
+    let kept = c.loop-high.invariant in
+    let given = c.in_ok-stands_before.ensures in
+    record {
+      ordered = omega arith;
+      within = omega (arith, kept.within, kept.ordered);
+      below = kept.below;
+      begins = kept.begins;
+      halved = halved-down (StandsBefore g.F.Fn c.args.test.now.test) _ _ c.args.size c.loop-high.low c.loop-high.high _ _ _
+          kept.asks.same_bytes (sized g (goal.at.loop-high-preserved g c).Start) c.requires.in_reach kept.halved c.loop-high-test.true
+          given.handed (given.not_before (ap Ok c.if-branch.false));
+      asks = search rules;
+    }
