@@ -1,5 +1,6 @@
 //! Calls that are saved: of a sink by a buffer before it, and of a store by reading ahead.
-use record_io::{Failed, MemSink, MemStore, PutBuffer, ReadAheadBy, Sink, Store, get_exact};
+use read_ahead::ReadAheadBy;
+use record_io::{Failed, MemSink, MemStore, PutBuffer, Sink, Store, get_exact};
 use std::alloc::{AllocError, Global};
 use std::test::Fail;
 

@@ -3,13 +3,11 @@
 #![tactic(auto)]
 
 mod files;
-mod held_part;
 mod mem_input;
 mod mem_sink;
 mod mem_store;
 mod outside;
 mod put_buffer;
-mod read_ahead;
 mod script;
 pub mod std_calls;
 mod streams;
@@ -22,7 +20,6 @@ pub use mem_sink::MemSink;
 pub use mem_store::MemStore;
 pub use outside::{Failed, Sink, Source, Store, counted, fault, get_exact, put_all};
 pub use put_buffer::PutBuffer;
-pub use read_ahead::{ReadAhead, ReadAheadBy};
 pub use record_values::{Bytes, Totals};
 pub use script::Script;
 pub use streams::{StdErr, StdInput, StdOut};

@@ -4,8 +4,9 @@ ghost use Rattle.std.specs.String.{string_bytes};
 ghost use Rattle.riegeli_main.specs.Paths.{path_at};
 
 use crate::apart_sink::ApartSink;
+use read_ahead::ReadAhead;
 use record_append::FileDevice;
-use record_io::{FileStore, ReadAhead, Sink, Source};
+use record_io::{FileStore, Sink, Source};
 use riegeli_tool::{Names, Status, names, run};
 use std::alloc::AllocError;
 use std::thread::Threads;

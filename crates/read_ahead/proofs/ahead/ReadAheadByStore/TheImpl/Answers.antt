@@ -1,6 +1,6 @@
 use Rattle.std.proofs.lemmas.Result.{on_err_weaker}
-use Rattle.record_io.specs.Buffers.{told_by}
-use Rattle.record_io.proofs.read_ahead.ReadAheadByStore.TheImpl.Goals as goal
+use Rattle.read_ahead.specs.AheadStores.{told_by}
+use Rattle.read_ahead.proofs.ahead.ReadAheadByStore.TheImpl.Goals as goal
 
 pub size-tells : goal.size-tells
 size-tells g c = record {

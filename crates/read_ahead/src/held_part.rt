@@ -1,8 +1,8 @@
 ghost use Rattle.std.specs.Prelude.{◌≡◌, ◌+◌, ◌-◌, ◌^◌, ◌<◌, ◌≤◌, ◌↔◌, [], length, take, max, min, slice_range, Some, IsTrue, IsErr, IfOk, IfSome, IsSomeAnd, OnOk, OnErr};
 ghost use Rattle.record_io.specs.Calls.{OnlyAsks};
-ghost use Rattle.record_io.specs.Buffers.{IsPartOf};
+ghost use Rattle.read_ahead.specs.AheadStores.{IsPartOf};
 
-use crate::outside::{Failed, Store};
+use record_io::{Failed, Store};
 use std::marker::Model;
 
 /// Bytes that stand at a place of a store, of which there are up to `N`.
@@ -15,7 +15,7 @@ pub(crate) struct HeldPart<const N: usize> {
 
 impl<const N: usize> Model for HeldPart<N> {
     ghost use Rattle.std.specs.Prelude.{◌≤◌, take};
-    ghost use Rattle.record_io.specs.Buffers.{Part};
+    ghost use Rattle.read_ahead.specs.AheadStores.{Part};
 
     ghost Value = { Part };
 

@@ -1,10 +1,9 @@
-//! A store that reads ahead of another one.
 ghost use Rattle.std.specs.Prelude.{◌≡◌, ◌+◌, ◌-◌, ◌^◌, ◌<◌, ◌≤◌, ◌↔◌, [], length, take, min, slice_range, None, Some, IsTrue, IfOk, IfSome, IsSomeAnd, OnErr};
 ghost use Rattle.record_io.specs.Outside.{Rose, faults_after};
-ghost use Rattle.record_io.specs.Buffers.{IsPartOf, most_asked, told_by};
+ghost use Rattle.read_ahead.specs.AheadStores.{IsPartOf, most_asked, told_by};
 
 use crate::held_part::HeldPart;
-use crate::outside::{Failed, Store, counted, fault};
+use record_io::{Failed, Store, counted, fault};
 use std::marker::Model;
 
 /// The bytes of a page: what is asked for is a multiple of it, where nothing is read ahead.
@@ -30,7 +29,7 @@ pub struct ReadAheadBy<S: Store, const N: usize> {
 }
 
 impl<S: Store, const N: usize> Model for ReadAheadBy<S, N> {
-    ghost use Rattle.record_io.specs.Buffers.{ReadingAhead, IsReadingAhead};
+    ghost use Rattle.read_ahead.specs.AheadStores.{ReadingAhead, IsReadingAhead};
 
     ghost Value = { ReadingAhead };
 
@@ -76,7 +75,7 @@ impl<S: Store + Drop, const N: usize> ReadAheadBy<S, N> {
 }
 
 impl<S: Store + Drop, const N: usize> Store for ReadAheadBy<S, N> {
-    ghost use Rattle.record_io.specs.Buffers.{told_by-sized};
+    ghost use Rattle.read_ahead.specs.AheadStores.{told_by-sized};
 
     ghost bytes = { λ s. s.bytes };
 

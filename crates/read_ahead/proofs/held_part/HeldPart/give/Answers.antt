@@ -1,7 +1,7 @@
 use Rattle.std.proofs.Common.{ℕ, ◌-◌, arith}
 use Rattle.std.proofs.lemmas.List.{length-take}
-use Rattle.record_io.proofs.Readings.{copied-from_front}
-use Rattle.record_io.proofs.held_part.HeldPart.give.Goals as goal
+use Rattle.read_ahead.proofs.Parts.{copied-from_front}
+use Rattle.read_ahead.proofs.held_part.HeldPart.give.Goals as goal
 
 pub returns-clause-given : goal.returns-clause-given
 returns-clause-given g c =

@@ -1,8 +1,8 @@
 use Rattle.std.proofs.Common.{◌≤◌, arith, rules}
-use Rattle.record_io.specs.Buffers.{IsPartOf}
-use Rattle.record_io.proofs.Readings.{part-gives}
-use Rattle.record_io.proofs.held_part.HeldPart.serve.Goals as goal
-use Rattle.record_io.proofs.held_part.HeldPart.serve.Goals.{then-not-holds+else-buf+in_ok-fill, else-not-holds}
+use Rattle.read_ahead.specs.AheadStores.{IsPartOf}
+use Rattle.read_ahead.proofs.Parts.{part-gives}
+use Rattle.read_ahead.proofs.held_part.HeldPart.serve.Goals as goal
+use Rattle.read_ahead.proofs.held_part.HeldPart.serve.Goals.{then-not-holds+else-buf+in_ok-fill, else-not-holds}
 
 pub returns-clause-given : goal.returns-clause-given
 returns-clause-given g c =
