@@ -152,13 +152,28 @@ first_unread begin k file end first h unread later =
       ),
     )
 
--- a chunk behind plain ones for which strict reading has a reason that is its begin's: that is the file's fault
+-- so the strict verdict on it is its name
+pub verdict_compressed : (begin : ℕ) (k : ChunkValue) (file : List ℕ) (end : ℕ) → IsLaid begin k (slice_range file begin end)
+    → IsUnread k → IsCompressed k → IsVerdict false file begin (record { at = begin; why = why.Compressed })
+verdict_compressed begin k file end laid unread compressed =
+    let there : IsCompressed (chunk_at file begin) = subst IsCompressed (sym (chunk_at-laid begin k file end laid)) compressed in
+    (first_unread begin k file end why.Compressed laid unread (inl (there, refl)), refl)
+
+pub verdict_transposed : (begin : ℕ) (k : ChunkValue) (file : List ℕ) (end : ℕ) → IsLaid begin k (slice_range file begin end)
+    → IsUnread k → IsTransposed k → IsVerdict false file begin (record { at = begin; why = why.Transposed })
+verdict_transposed begin k file end laid unread transposed =
+    let there : IsTransposed (chunk_at file begin) = subst IsTransposed (sym (chunk_at-laid begin k file end laid)) transposed in (
+      first_unread begin k file end why.Transposed laid unread
+          (inr (λ compressed. kinds_differ (chunk_at file begin) there compressed.0, inl (there, refl))),
+      refl,
+    )
+
+-- a chunk behind plain ones on which the strict verdict is a fault at its begin: that is the file's fault
 fault_behind : (ks : List ChunkValue) (file : List ℕ) (place j : ℕ) (k : ChunkValue) (w : Why)
     → IsChainOf IsFramed ks file place → slice_get ks j ≡ Some k → AllByRecursion IsPlain (take j ks)
-    → IsFirstOf (Applies file (begin_of ks j)) (strict_reasons false) w
-    → ((at : ℕ) → at ≡ begin_of ks j → IsVerdict false file (begin_of ks j) (record { at = at; why = w }))
+    → IsVerdict false file (begin_of ks j) (record { at = begin_of ks j; why = w })
     → IsFault false file (record { at = begin_of ks j; why = w })
-fault_behind ks file place j k w h at plain first verdict =
+fault_behind ks file place j k w h at plain verdict =
     let begin : ℕ = begin_of ks j in
     let end : ℕ = begin_of ks (j + 1) in
     let laid : IsLaid begin k (slice_range file begin end) = IsLaid-in_file ks file place j k h.within h.laid at in
@@ -169,9 +184,9 @@ fault_behind ks file place j k w h at plain first verdict =
       (
         take j ks,
         begin,
-        longest_where_refused false (take j ks) file begin w front first,
+        longest_where_refused false (take j ks) file begin w front verdict.0,
         omega (arith, end-laid_in begin k file end laid, end_of_chunk_after begin k),
-        verdict begin refl,
+        verdict,
       ),
     )
 
@@ -181,22 +196,15 @@ pub fault_compressed : (ks : List ChunkValue) (file : List ℕ) (place j : ℕ) 
     → IsUnread k → IsCompressed k
     → IsFault false file (record { at = begin_of ks j; why = why.Compressed })
 fault_compressed ks file place j k h at plain unread compressed =
-    let begin : ℕ = begin_of ks j in
-    let end : ℕ = begin_of ks (j + 1) in
-    let laid : IsLaid begin k (slice_range file begin end) = IsLaid-in_file ks file place j k h.within h.laid at in
-    let there : IsCompressed (chunk_at file begin) = subst IsCompressed (sym (chunk_at-laid begin k file end laid)) compressed in
-    let first = first_unread begin k file end why.Compressed laid unread (inl (there, refl)) in
-    fault_behind ks file place j k why.Compressed h at plain first (λ p is. (first, is))
+    let laid = IsLaid-in_file ks file place j k h.within h.laid at in
+    fault_behind ks file place j k why.Compressed h at plain
+    (verdict_compressed (begin_of ks j) k file (begin_of ks (j + 1)) laid unread compressed)
 
 pub fault_transposed : (ks : List ChunkValue) (file : List ℕ) (place j : ℕ) (k : ChunkValue)
     → IsChainOf IsFramed ks file place → slice_get ks j ≡ Some k → AllByRecursion IsPlain (take j ks)
     → IsUnread k → IsTransposed k
     → IsFault false file (record { at = begin_of ks j; why = why.Transposed })
 fault_transposed ks file place j k h at plain unread transposed =
-    let begin : ℕ = begin_of ks j in
-    let end : ℕ = begin_of ks (j + 1) in
-    let laid : IsLaid begin k (slice_range file begin end) = IsLaid-in_file ks file place j k h.within h.laid at in
-    let there : IsTransposed (chunk_at file begin) = subst IsTransposed (sym (chunk_at-laid begin k file end laid)) transposed in
-    let first = first_unread begin k file end why.Transposed laid unread
-    (inr (λ compressed. kinds_differ (chunk_at file begin) there compressed.0, inl (there, refl))) in
-    fault_behind ks file place j k why.Transposed h at plain first (λ p is. (first, is))
+    let laid = IsLaid-in_file ks file place j k h.within h.laid at in
+    fault_behind ks file place j k why.Transposed h at plain
+    (verdict_transposed (begin_of ks j) k file (begin_of ks (j + 1)) laid unread transposed)

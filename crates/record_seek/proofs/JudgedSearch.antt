@@ -9,8 +9,8 @@ use Rattle.chunk_header.proofs.Decided.{IsDecided, both, less_decided}
 use Rattle.meta_chunk.specs.Files.{IsPlain}
 use Rattle.chunk_reader.specs.Holders.{IsOnWay, IsHolder, IsHolderFault}
 use Rattle.chunk_reader.specs.Places.{header_at, end_at, chunk_at}
-use Rattle.chunk_reader.specs.Reasons.{Applies, passing_reasons}
-use Rattle.chunk_reader.specs.Searches.{MayAnswerAt, SearchComesTo, AnswersAt, SearchGives, IsSearchFault}
+use Rattle.chunk_reader.specs.Reasons.{Applies, NoneOf, passing_reasons, strict_reasons}
+use Rattle.chunk_reader.specs.Searches.{MayAnswerAt, SearchComesTo, AnswersAt, IsSought, SearchGives, IsSearchFault}
 use Rattle.chunk_reader.specs.declared.reasons.Fault.{Fault}
 use Rattle.chunk_reader.specs.declared.reasons.Why.TheVariants as why
 use Rattle.chunk_reader.proofs.Blocks.{stands_decided}
@@ -87,28 +87,33 @@ holds_counted k (small, inr (inl (kind, rule))) some = absurd (omega (arith, som
 holds_counted k (small, inr (inr (inl (kind, rule)))) some = absurd (omega (arith, some, rule.metadata refl))
 holds_counted k (small, inr (inr (inr (kind, rule)))) some = absurd (omega (arith, some, (rule.padding refl).0))
 
--- at the chunk that answers
+-- of the chunk that answers, where it has no fault
+pub sought_at : (file : List ℕ) (position place : ℕ) → AnswersAt file position place → NoneOf (Applies file place) (strict_reasons false)
+    → (found : ℕ × List ℕ) × IsSought file position found
+sought_at file position place answers none =
+    let (records, simple) = holds_counted (chunk_at file place) (allowed_where_none false file place none) answers.has.0 in
+    elim (slice_get_cases records (position - place)).1 [
+      | inr (few, nothing) ↦ absurd (omega (arith, few, simple.num_records, answers.has.0, answers.has.1))
+      | inl (bytes, within, there, same) ↦ (
+        (place + (position - place), bytes),
+        record {
+          place = place;
+          records = records;
+          answers = answers;
+          holds = record { without_fault = none; holds = simple };
+          record_there = there;
+          position_there = refl;
+        },
+      )
+    ]
+
 given_at : (file : List ℕ) (position place : ℕ) → AnswersAt file position place → IsGivenOrNot file position
 given_at file position place answers =
     elim (judged false file place) [
       | inl (fault, verdict) ↦ inr (fault, inr (inr (place, answers, verdict)))
       | inr none ↦
-          let (records, simple) = holds_counted (chunk_at file place) (allowed_where_none false file place none) answers.has.0 in
-          elim (slice_get_cases records (position - place)).1 [
-            | inr (few, nothing) ↦ absurd (omega (arith, few, simple.num_records, answers.has.0, answers.has.1))
-            | inl (bytes, within, there, same) ↦
-                inl (
-                  Some (place + (position - place), bytes),
-                  record {
-                    place = place;
-                    records = records;
-                    answers = answers;
-                    holds = record { without_fault = none; holds = simple };
-                    record_there = there;
-                    position_there = refl;
-                  },
-                )
-          ]
+          let (found, sought) = sought_at file position place answers none in
+          inl (Some found, sought)
     ]
 
 may_decided : (file : List ℕ) (position place : ℕ) → IsDecided (MayAnswerAt file position place)

@@ -19,3 +19,4 @@ pub mod FoundByKey
 pub mod OneHolder
 pub mod OneSearch
 pub mod JudgedSearch
+pub mod AnsweringChunks

@@ -73,7 +73,7 @@ fault_cases file position fault (inr (inr (place, answers, verdict))) =
     )
 
 -- it has one below the file's end alone
-fault_below : (file : List ℕ) (position : ℕ) (fault : Fault) → IsSearchFault file position fault → position < length file
+pub fault_below : (file : List ℕ) (position : ℕ) (fault : Fault) → IsSearchFault file position fault → position < length file
 fault_below file position fault (inl (inl (below, refused))) = below
 fault_below file position fault (inl (inr (way, first))) = way.below
 fault_below file position fault (inr (inl (searched, below, first))) = searched.holds.on_way.below

@@ -3,15 +3,17 @@
 ghost use Rattle.std.specs.Prelude.{◌≡◌, ◌⊎◌, ◌↔◌, ℕ, ◌^◌, ◌<◌, ◌≤◌, Bool, IsTrue, Option, Some, None, List, length, slice_get};
 ghost use Rattle.block_layout.specs.Layout.{IsBoundary};
 ghost use Rattle.chunk_header.specs.Chunks.{ChunkValue};
-ghost use Rattle.meta_chunk.specs.Files.{IsFile, IsFrame, ArePlaced, begin_of};
+ghost use Rattle.chunk_header.specs.SimpleChunks.{IsCompressed};
+ghost use Rattle.meta_chunk.specs.Files.{IsPlain, IsUnread, IsTransposed, IsFile, IsFrame, ArePlaced, begin_of};
 ghost use Rattle.chunk_reader.specs.Holders.{IsHolder, IsHolderFault};
 ghost use Rattle.chunk_reader.specs.Searches.{AnswersAt, SearchGives, IsSearchFault};
 ghost use Rattle.chunk_reader.specs.declared.reasons.Fault.{Fault};
+ghost use Rattle.chunk_reader.specs.declared.reasons.Why.TheVariants as why;
 ghost use Rattle.record_seek.specs.Found.{MayAnswer, IsAnswering, IsFirstAt, IsKeyFound, OnlyFrontStandsBefore};
 ghost use Rattle.record_seek.specs.Met.{IsMetBySearch, IsMetFault};
 
-/// In a file of chunks a search by position comes to the chunk that answers, as it is told without blocks, and gives the first
-/// record at or past the position; it gives nothing exactly where no chunk answers. Own.
+/// In a file of chunks a search by position comes to the chunk that answers, as it is told without blocks, and where that is
+/// read gives the first record at or past the position; it gives nothing exactly where no chunk answers. Own.
 pub fn positions_find_their_records()
     ensures answers { (ks : List ChunkValue) (file : List ℕ) (position place : ℕ)
         → IsFrame ks file → length file ≤ 2 ^ 60 → position < length file → AnswersAt file position place
@@ -24,6 +26,23 @@ pub fn positions_find_their_records()
     ensures first { (ks : List ChunkValue) (file : List ℕ) (position : ℕ) (placed : List (ℕ × List ℕ)) (found : ℕ × List ℕ)
         → IsFrame ks file → length file ≤ 2 ^ 60 → ArePlaced ks placed
         → SearchGives file position (Some found) → IsFirstAt placed position (Some found) }
+    ensures read { (ks : List ChunkValue) (file : List ℕ) (position j : ℕ) (k : ChunkValue) (placed : List (ℕ × List ℕ))
+        → IsFrame ks file → length file ≤ 2 ^ 60 → ArePlaced ks placed → IsAnswering ks position j k → IsPlain k
+        → (found : ℕ × List ℕ) × IsFirstAt placed position (Some found) × SearchGives file position (Some found) }
+{}
+
+/// In a file of chunks a search by position is refused exactly where the chunk that answers, as it is told without blocks, is
+/// left unread: at its begin, by its name. Own.
+pub fn unread_chunks_that_answer_are_refused()
+    ensures compressed { (ks : List ChunkValue) (file : List ℕ) (position j : ℕ) (k : ChunkValue)
+        → IsFrame ks file → length file ≤ 2 ^ 60 → IsAnswering ks position j k → IsUnread k → IsCompressed k
+        → IsSearchFault file position (record { at = begin_of ks j; why = why.Compressed }) }
+    ensures transposed { (ks : List ChunkValue) (file : List ℕ) (position j : ℕ) (k : ChunkValue)
+        → IsFrame ks file → length file ≤ 2 ^ 60 → IsAnswering ks position j k → IsUnread k → IsTransposed k
+        → IsSearchFault file position (record { at = begin_of ks j; why = why.Transposed }) }
+    ensures no_other { (ks : List ChunkValue) (file : List ℕ) (position : ℕ) (fault : Fault)
+        → IsFrame ks file → length file ≤ 2 ^ 60 → IsSearchFault file position fault
+        → (j : ℕ) × (k : ChunkValue) × IsAnswering ks position j k × IsUnread k }
 {}
 
 /// In each list of bytes, and of each position below its end, one chunk holds the position, or one fault tells why none is
