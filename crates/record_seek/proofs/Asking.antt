@@ -1,5 +1,5 @@
 -- The records of a chunk that are asked whether they stand before.
-use Rattle.std.proofs.Common.{◌≡◌, ℕ, ◌^◌, ◌<◌, ◌≤◌, ◌⊎◌, false, true, Option, Some, None, Result, Ok, Err, IfOk, IfSome, List, [], zero, suc, ◌∷◌, ◌++◌, length, refl, sym, ap, ◌∙◌, subst, inl, inr, arith}
+use Rattle.std.proofs.Common.{◌≡◌, ℕ, ◌^◌, ◌<◌, ◌≤◌, ◌⊎◌, false, true, Option, Some, None, Result, Ok, Err, IfOk, List, [], zero, suc, ◌∷◌, ◌++◌, length, refl, sym, ap, ◌∙◌, subst, inl, inr, arith}
 use Rattle.std.specs.Prelude.{slice_get}
 use Rattle.std.specs.List.{concat}
 use Rattle.std.proofs.lemmas.List.{length-append}
@@ -62,11 +62,3 @@ passive_none k w holds (inr is) =
     let unread : IsWhat false k what.Unread = subst (IsWhat false k) is holds in
     let never : false ≡ true = unread.0 in
     absurd (cc)
-
--- one of its records is no longer than data that is read
-pub numbered-small : {E : Type 0} (size place : ℕ) (j : Judged) (records : List (List ℕ)) (begin number : ℕ) (result : Result (Option Found) E)
-    → IsJudged false size place j → j.what ≡ what.Records records → IfOk result (λ found. IsNumbered records begin number found)
-    → IfOk result (λ found. IfSome found (λ f. length f.bytes ≤ 2 ^ 26))
-numbered-small size place j records begin number (Ok None) h is there = tt
-numbered-small size place j records begin number (Ok (Some found)) h is there = records-asked size place j records h is number found.bytes there.0
-numbered-small size place j records begin number (Err end) h is there = tt

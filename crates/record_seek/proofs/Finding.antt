@@ -10,7 +10,7 @@ use Rattle.chunk_reader.proofs.Blocks.{stands_one}
 use Rattle.chunk_reader.proofs.HeadersTell.{passed_below}
 use Rattle.record_seek.specs.Met as met
 use Rattle.record_seek.specs.Met.{IsMetBySearch, IsMetFault, IsMetRecord, HaveNoRecords, LeadsWithoutRecords, LeadsPastAll}
-use Rattle.record_seek.specs.Steps.{AreReadTo, IsReadRecord, IsFaultOn, IsFirstFrom, FirstStandsBefore, NoneFrom, FirstNotBefore}
+use Rattle.record_seek.specs.Steps.{AreReadTo, IsReadRecord, IsFaultOn, IsFirstFrom, FirstStandsBefore}
 use Rattle.record_seek.specs.declared.chunk_records.Found.{Found}
 use Rattle.record_seek.proofs.Ways.{same_told}
 
@@ -94,9 +94,9 @@ one_way file [] (q ∷ qs) from place end none (same, passed, rest) whole some =
 one_way file (p ∷ ps) (q ∷ qs) from place (is, passed, rest) none (same, also, further) whole some =
     one_way file ps qs (end_at file from) place rest none.1 further whole some
 
-first_some : (file : List ℕ) (from : ℕ) (found : Found) (first : IsFirstFrom file from found) → 0 < (header_at file first.place).num_records
-first_some file from found first =
-    omega (arith, first.holds.holds.num_records, slice_get_within first.records 0 found.bytes first.stands)
+first_some : (file : List ℕ) (from : ℕ) (bytes : List ℕ) (first : IsFirstFrom file from bytes) → 0 < (header_at file first.place).num_records
+first_some file from bytes first =
+    omega (arith, first.holds.holds.num_records, slice_get_within first.records 0 bytes first.stands)
 
 -- one begin is told
 pub told_one : (file : List ℕ) (block begin other : ℕ) → TellsBegin file block begin → TellsBegin file block other → begin ≡ other
@@ -131,11 +131,11 @@ nothing_left Before file low begin before start read =
             inl (read.places, subst (λ (b : ℕ). ArePlacesBetween file b (length file) read.places) first.1 read.between, none)
         | inr told ↦ elim before [
           | inl zero ↦ absurd (omega (arith, zero, told.0))
-          | inr (other, there, (found, first, stands)) ↦
+          | inr (other, there, (bytes, first, stands)) ↦
               let same : begin ≡ other = told_one file (low * 65536) begin other told.1 there in
               absurd (one_way file read.places first.places other first.place
               (subst (λ (b : ℕ). ArePlacesBetween file b (length file) read.places) same read.between) none first.between first.whole
-              (first_some file other found first))
+              (first_some file other bytes first))
         ]
       ]
     ]
@@ -149,25 +149,9 @@ nothing-left Before (Some file) now then low begin same also before from read =
     nothing_left Before file low begin before (same_told (IsBeginFrom low begin) (Some file) now same from)
     (same_told (λ f. AreReadTo Before f begin (length f)) (Some file) then also read)
 
--- the first record from a begin that a block tells, which stands before
-pub first-before : (Before : List ℕ → Type 0) (bytes now : Option (List ℕ)) (block begin : ℕ) (found : Found) → now ≡ bytes
-    → IfSome bytes (λ file. TellsBegin file block begin) → IfSome now (λ file. IsFirstFrom file begin found) → Before found.bytes
-    → IfSome bytes (λ file. (b : ℕ) × TellsBegin file block b × FirstStandsBefore Before file b)
-first-before Before None now block begin found same told first before = tt
-first-before Before (Some file) now block begin found same told first before =
-    (begin, told, (found, same_told (λ f. IsFirstFrom f begin found) (Some file) now same first, before))
-
--- or which doesn't, or there is none
-pub first-not : (Before : List ℕ → Type 0) (bytes now : Option (List ℕ)) (block begin : ℕ) (found : Found) → now ≡ bytes
-    → IfSome bytes (λ file. TellsBegin file block begin) → IfSome now (λ file. IsFirstFrom file begin found) → ¬ Before found.bytes
-    → IfSome bytes (λ file. (b : ℕ) × TellsBegin file block b × FirstNotBefore Before file b)
-first-not Before None now block begin found same told first apart = tt
-first-not Before (Some file) now block begin found same told first apart =
-    (begin, told, inl (found, same_told (λ f. IsFirstFrom f begin found) (Some file) now same first, apart))
-
-pub none-first : (Before : List ℕ → Type 0) (bytes now : Option (List ℕ)) (block begin : ℕ) → now ≡ bytes
-    → IfSome bytes (λ file. TellsBegin file block begin) → IfSome now (λ file. NoneFrom file begin)
-    → IfSome bytes (λ file. (b : ℕ) × TellsBegin file block b × FirstNotBefore Before file b)
-none-first Before None now block begin same told none = tt
-none-first Before (Some file) now block begin same told none =
-    (begin, told, inr (same_told (λ f. NoneFrom f begin) (Some file) now same none))
+-- what holds from the begin that a block tells
+pub from-told : (P : List ℕ → ℕ → Type 0) (bytes now : Option (List ℕ)) (block begin : ℕ) → now ≡ bytes
+    → IfSome bytes (λ file. TellsBegin file block begin) → IfSome now (λ file. P file begin)
+    → IfSome bytes (λ file. (b : ℕ) × TellsBegin file block b × P file b)
+from-told P None now block begin same told holds = tt
+from-told P (Some file) now block begin same told holds = (begin, told, same_told (λ f. P f begin) (Some file) now same holds)

@@ -115,17 +115,17 @@ module _ (Before : List ℕ → Type 0) (ks : List ChunkValue) (file : List ℕ)
       )
 
   -- the first record from a chunk on, which stands before
-  first_low : (h : ℕ) (found : Found) → h ≤ length ks → IsFirstFrom file (begin_of ks h) found → Before found.bytes
+  first_low : (h : ℕ) (bytes : List ℕ) → h ≤ length ks → IsFirstFrom file (begin_of ks h) bytes → Before bytes
       → IsLow Before (placed_from 0 ks lists) (records_before lists h)
-  first_low h found inside first before =
+  first_low h bytes inside first before =
       let there = places_are ks file frame first.places h first.place inside first.between in
       let j : ℕ = h + length first.places in
       let index : records_before lists j + 0 ≡ records_before lists h =
       omega (arith, none_more first.places h first.place first.between first.none_before) in
       inr (
-        (first.place + 0, found.bytes),
-        subst (λ (i : ℕ). slice_get (placed_from 0 ks lists) i ≡ Some (first.place + 0, found.bytes)) index
-            (record_stands j first.place 0 first.records found.bytes there.1 (passed_below file first.place first.whole) first.holds first.stands),
+        (first.place + 0, bytes),
+        subst (λ (i : ℕ). slice_get (placed_from 0 ks lists) i ≡ Some (first.place + 0, bytes)) index
+            (record_stands j first.place 0 first.records bytes there.1 (passed_below file first.place first.whole) first.holds first.stands),
         before,
       )
 
@@ -134,7 +134,7 @@ module _ (Before : List ℕ → Type 0) (ks : List ChunkValue) (file : List ℕ)
       → (h : ℕ) × (begin ≡ begin_of ks h) × (h ≤ length ks) × IsLow Before (placed_from 0 ks lists) (records_before lists h)
   begins_low low begin before (inl (first, front)) = (0, front, omega arith, inl (none_before_first lists))
   begins_low low begin (inl first) (inr (past, told)) = absurd (omega (arith, first, past))
-  begins_low low begin (inr (other, also, (found, is_first, stands))) (inr (past, told)) =
+  begins_low low begin (inr (other, also, (bytes, is_first, stands))) (inr (past, told)) =
       let (previous, next, there, is) = told in
       let block : ℕ = low * 65536 in
       let holder = lies_of ks file frame block (omega (arith, stands_within file block previous next there)) in
@@ -144,7 +144,7 @@ module _ (Before : List ℕ → Type 0) (ks : List ChunkValue) (file : List ℕ)
         holder.0,
         begins,
         inside,
-        first_low holder.0 found inside (subst (λ (b : ℕ). IsFirstFrom file b found) same is_first) stands,
+        first_low holder.0 bytes inside (subst (λ (b : ℕ). IsFirstFrom file b bytes) same is_first) stands,
       )
 
   -- the record that is found

@@ -88,7 +88,7 @@ module _ (ks : List ChunkValue) (file : List ℕ) (frame : IsFrame ks file) wher
 
   -- behind a chunk whose first record doesn't stand before reading ends
   ends_behind : (Before : List ℕ → Type 0) (place h : ℕ) → LiesIn ks place h → FirstNotBefore Before file (begin_of ks h) → EndsBehind Before ks place
-  ends_behind Before place h lies (inl (found, first, apart)) =
+  ends_behind Before place h lies (inl (bytes, first, apart)) =
       let inside : h ≤ length ks = omega (arith, lies.number) in
       let there = places_are ks file frame first.places h first.place inside first.between in
       let (k, at, simple) = holds_there ks file frame (h + length first.places) first.place first.records there.1 (passed_below file first.place first.whole) first.holds in
@@ -98,7 +98,7 @@ module _ (ks : List ChunkValue) (file : List ℕ) (frame : IsFrame ks file) wher
         to = h + length first.places;
         order = omega arith;
         within = inside;
-        ends = inr (k, first.records, found.bytes, at, simple, first.stands, apart);
+        ends = inr (k, first.records, bytes, at, simple, first.stands, apart);
         cost = omega (arith, empties_cost first.places h first.place first.between first.none_before, few, without_drop ks h);
         begins = lies.begins;
         holds = inr lies.ends;

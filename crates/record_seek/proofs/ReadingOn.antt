@@ -1,5 +1,5 @@
 -- Reading on from chunk to chunk.
-use Rattle.std.proofs.Common.{◌≡◌, ◌∙◌, ◌⊎◌, ℕ, ◌+◌, ◌-◌, ◌*◌, ◌<◌, ◌≤◌, false, Option, Some, None, Result, Ok, Err, IfOk, IfSome, List, [], ◌∷◌, ◌++◌, length, refl, sym, ap, subst, inl, inr, arith}
+use Rattle.std.proofs.Common.{◌≡◌, ◌∙◌, ◌⊎◌, ℕ, ◌+◌, ◌-◌, ◌*◌, ◌<◌, ◌≤◌, ◌↔◌, Bool, IsTrue, true, false, Option, Some, None, Result, Ok, Err, IfOk, IfSome, List, [], ◌∷◌, ◌++◌, length, refl, sym, ap, subst, inl, inr, arith}
 use Rattle.std.specs.Prelude.{slice_get}
 use Rattle.std.proofs.lemmas.List.{length-append}
 use Rattle.std.proofs.lemmas.Option.{slice_get_cases}
@@ -10,7 +10,7 @@ use Rattle.chunk_reader.specs.Reasons.{Applies, IsFirstOf, passing_reasons}
 use Rattle.chunk_reader.specs.declared.reasons.Fault.{Fault}
 use Rattle.chunk_reader.proofs.Rooms.{IsSized}
 use Rattle.record_seek.specs.Met.{HaveNoRecords}
-use Rattle.record_seek.specs.Steps.{IsPassedAt, IsRecordAt, IsFirstNotAt, EndBefore, AreReadTo, IsReadRecord, IsFaultOn, IsFirstFrom, NoneFrom}
+use Rattle.record_seek.specs.Steps.{IsPassedAt, IsFirstAskedAt, IsFirstNotAt, EndBefore, AreReadTo, IsReadRecord, IsFaultOn, IsFirstFrom, FirstStandsBefore, FirstNotBefore}
 use Rattle.record_seek.specs.declared.chunk_records.Found.{Found}
 use Rattle.record_seek.specs.declared.passes.Passed.{Passed}
 use Rattle.record_seek.proofs.Searching.{all-push}
@@ -50,49 +50,72 @@ empty-on (Some file) bytes_now from place chunk spent now then same empty passed
       paid = omega (arith, more, empty.paid, length-append empty.places (place ∷ []));
     }
 
--- up to the first record
-first_there : (file : List ℕ) (from place spent paid : ℕ) (chunk : Passed) (found : Found) → IsEmptyTo file from place spent paid
-    → IsPassedAt file place chunk → IsRecordAt file place 0 (Some found) → IsFirstFrom file from found
-first_there file from place spent paid chunk found empty passed (none, (records, simple, (stands, position))) = record {
-  place = place;
-  places = empty.places;
-  records = records;
-  between = empty.between;
-  none_before = empty.none;
-  whole = passed.none;
-  holds = record { without_fault = none; holds = simple };
-  stands = stands;
-}
+-- up to the first record, of which it is asked whether it stands before
+first_there : (Before : List ℕ → Type 0) (file : List ℕ) (from place spent paid : ℕ) (chunk : Passed) (before : Bool) → IsEmptyTo file from place spent paid
+    → IsPassedAt file place chunk → 0 < chunk.num_records → IsFirstAskedAt Before file place before
+    → (bytes : List ℕ) × IsFirstFrom file from bytes × (IsTrue before ↔ Before bytes)
+first_there Before file from place spent paid chunk before empty passed some (none, inr (few, nothing)) =
+    absurd (omega (arith, some, few, passed.num_records))
+first_there Before file from place spent paid chunk before empty passed some (none, inl (records, bytes, simple, stands, asked)) = (
+  bytes,
+  record {
+    place = place;
+    places = empty.places;
+    records = records;
+    between = empty.between;
+    none_before = empty.none;
+    whole = passed.none;
+    holds = record { without_fault = none; holds = simple };
+    stands = stands;
+  },
+  asked,
+)
 
-pub first-found : (bytes now then : Option (List ℕ)) (from place spent paid : ℕ) (chunk : Passed) (found : Found) → now ≡ bytes → then ≡ bytes
-    → IfSome bytes (λ file. IsEmptyTo file from place spent paid) → IfSome now (λ file. IsPassedAt file place chunk)
-    → IfSome then (λ file. IsRecordAt file place 0 (Some found)) → IfSome bytes (λ file. IsFirstFrom file from found)
-first-found None now then from place spent paid chunk found same also empty passed there = tt
-first-found (Some file) now then from place spent paid chunk found same also empty passed there =
-    first_there file from place spent paid chunk found empty (same_told (λ f. IsPassedAt f place chunk) (Some file) now same passed)
-    (same_told (λ f. IsRecordAt f place 0 (Some found)) (Some file) then also there)
+pub ok_at : {X E : Type 0} (P : X → Type 0) (result : Result X E) (x : X) → IfOk result P → result ≡ Ok x → P x
+ok_at P (Ok found) x holds is = subst (λ (r : Result _ _). IfOk r P) is holds
+ok_at P (Err end) x holds is = cc
+
+-- it does
+pub first-before : {E : Type 0} (Before : List ℕ → Type 0) (bytes now then : Option (List ℕ)) (from place spent paid : ℕ) (chunk : Passed) (result : Result Bool E)
+    → now ≡ bytes → then ≡ bytes
+    → IfSome bytes (λ file. IsEmptyTo file from place spent paid) → IfSome now (λ file. IsPassedAt file place chunk) → 0 < chunk.num_records
+    → IfOk result (λ before. IfSome then (λ file. IsFirstAskedAt Before file place before)) → result ≡ Ok true
+    → IfSome bytes (λ file. FirstStandsBefore Before file from)
+first-before Before None now then from place spent paid chunk result same also empty passed some asked is = tt
+first-before Before (Some file) now then from place spent paid chunk result same also empty passed some asked is =
+    let (bytes, first, asks) =
+    first_there Before file from place spent paid chunk true empty (same_told (λ f. IsPassedAt f place chunk) (Some file) now same passed) some
+    (same_told (λ f. IsFirstAskedAt Before f place true) (Some file) then also
+    (ok_at (λ before. IfSome then (λ f. IsFirstAskedAt Before f place before)) result true asked is)) in
+    (bytes, first, asks.0 refl)
+
+-- or it doesn't
+pub first-not : {E : Type 0} (Before : List ℕ → Type 0) (bytes now then : Option (List ℕ)) (from place spent paid : ℕ) (chunk : Passed) (result : Result Bool E)
+    → now ≡ bytes → then ≡ bytes
+    → IfSome bytes (λ file. IsEmptyTo file from place spent paid) → IfSome now (λ file. IsPassedAt file place chunk) → 0 < chunk.num_records
+    → IfOk result (λ before. IfSome then (λ file. IsFirstAskedAt Before file place before)) → result ≡ Ok false
+    → IfSome bytes (λ file. FirstNotBefore Before file from)
+first-not Before None now then from place spent paid chunk result same also empty passed some asked is = tt
+first-not Before (Some file) now then from place spent paid chunk result same also empty passed some asked is =
+    let (bytes, first, asks) =
+    first_there Before file from place spent paid chunk false empty (same_told (λ f. IsPassedAt f place chunk) (Some file) now same passed) some
+    (same_told (λ f. IsFirstAskedAt Before f place false) (Some file) then also
+    (ok_at (λ before. IfSome then (λ f. IsFirstAskedAt Before f place before)) result false asked is)) in
+    inl (
+      bytes,
+      first,
+      λ before.
+          let never : false ≡ true = asks.1 before in
+          absurd (cc),
+    )
 
 -- or to the file's end
-pub empty-ended : (bytes : Option (List ℕ)) (size from place spent now : ℕ) → IsSized bytes (Some size) → place ≤ size → size ≤ place
-    → IfSome bytes (λ file. IsEmptyTo file from place spent now) → IfSome bytes (λ file. NoneFrom file from)
-empty-ended None size from place spent now sized within past empty = tt
-empty-ended (Some file) size from place spent now sized within past empty =
+pub empty-ended : (Before : List ℕ → Type 0) (bytes : Option (List ℕ)) (size from place spent now : ℕ) → IsSized bytes (Some size) → place ≤ size → size ≤ place
+    → IfSome bytes (λ file. IsEmptyTo file from place spent now) → IfSome bytes (λ file. FirstNotBefore Before file from)
+empty-ended Before None size from place spent now sized within past empty = tt
+empty-ended Before (Some file) size from place spent now sized within past empty =
     let end : place ≡ length file = omega (arith, sized, within, past) in
-    (empty.places, subst (λ (p : ℕ). ArePlacesBetween file from p empty.places) end empty.between, empty.none)
-
--- a chunk that has records has a first one
-pub none-not : (bytes now then : Option (List ℕ)) (from place : ℕ) (chunk : Passed) → now ≡ bytes → then ≡ bytes
-    → IfSome now (λ file. IsPassedAt file place chunk) → 0 < chunk.num_records → IfSome then (λ file. IsRecordAt file place 0 None)
-    → IfSome bytes (λ file. NoneFrom file from)
-none-not None now then from place chunk same also passed some there = tt
-none-not (Some file) now then from place chunk same also passed some there =
-    let here : IsPassedAt file place chunk = same_told (λ f. IsPassedAt f place chunk) (Some file) now same passed in
-    let none : IsRecordAt file place 0 None = same_told (λ f. IsRecordAt f place 0 None) (Some file) then also there in
-    absurd (omega (arith, some, here.num_records, none.1))
-
-pub ok_at : {E : Type 0} (P : Option Found → Type 0) (result : Result (Option Found) E) (x : Option Found) → IfOk result P → result ≡ Ok x → P x
-ok_at P (Ok found) x holds is = subst (λ (r : Result (Option Found) _). IfOk r P) is holds
-ok_at P (Err end) x holds is = cc
+    inr (empty.places, subst (λ (p : ℕ). ArePlacesBetween file from p empty.places) end empty.between, empty.none)
 
 -- a fault of the next chunk header
 passing_verdict : (file : List ℕ) (place : ℕ) (fault : Fault) → fault.at ≡ place → IsFirstOf (Applies file place) passing_reasons fault.why

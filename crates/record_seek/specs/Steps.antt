@@ -1,5 +1,5 @@
 -- What the steps of a search find. Own.
-use Rattle.std.specs.Prelude.{◌≡◌, ℕ, zero, suc, ◌+◌, ◌-◌, ◌*◌, ◌<◌, ◌≤◌, ◌⊎◌, false, Option, Some, None, List, ◌∷◌, ◌++◌, length, slice_get, get_or}
+use Rattle.std.specs.Prelude.{◌≡◌, ℕ, zero, suc, ◌+◌, ◌-◌, ◌*◌, ◌<◌, ◌≤◌, ◌↔◌, ◌⊎◌, Bool, IsTrue, false, Option, Some, None, List, ◌∷◌, ◌++◌, length, slice_get, get_or}
 use Rattle.block_layout.specs.Layout.{chunk_header_size}
 use Rattle.chunk_header.specs.Chunks.{ChunkValue}
 use Rattle.chunk_header.specs.SimpleChunks.{IsSimple}
@@ -40,6 +40,17 @@ IsRecordIn k begin number None = k.num_records ≤ number
 abbrev pub IsRecordAt : List ℕ → (place number : ℕ) → Option Found → Type 0
 IsRecordAt file place number found =
     NoneOf (Applies file place) (strict_reasons false) × IsRecordIn (chunk_at file place) place number found
+
+-- whether the first record of a chunk stands before: no where the chunk has none
+abbrev pub IsFirstAskedIn : (Before : List ℕ → Type 0) → ChunkValue → Bool → Type 0
+IsFirstAskedIn Before k before =
+    ((records : List (List ℕ)) × (bytes : List ℕ) × IsSimple k records × (slice_get records 0 ≡ Some bytes) × (IsTrue before ↔ Before bytes))
+    ⊎ ((k.num_records ≡ 0) × (before ≡ false))
+
+-- the same of the chunk at a place of a file, which has no fault
+abbrev pub IsFirstAskedAt : (Before : List ℕ → Type 0) → List ℕ → (place : ℕ) → Bool → Type 0
+IsFirstAskedAt Before file place before =
+    NoneOf (Applies file place) (strict_reasons false) × IsFirstAskedIn Before (chunk_at file place) before
 
 -- of the records of a chunk that begins at a place, the first that doesn't stand before, or nothing where each does
 abbrev pub IsFirstNot : (Before : List ℕ → Type 0) → List (List ℕ) → (begin : ℕ) → Option Found → Type 0
@@ -104,7 +115,7 @@ pub record IsFaultOn (file : List ℕ) (from : ℕ) (fault : Fault) : Type 0 whe
   pub verdict : IsVerdict false file place fault
 
 -- the first record from a place on
-pub record IsFirstFrom (file : List ℕ) (from : ℕ) (found : Found) : Type 0 where
+pub record IsFirstFrom (file : List ℕ) (from : ℕ) (bytes : List ℕ) : Type 0 where
   pub place : ℕ
   pub places : List ℕ
   pub records : List (List ℕ)
@@ -112,7 +123,7 @@ pub record IsFirstFrom (file : List ℕ) (from : ℕ) (found : Found) : Type 0 w
   pub none_before : HaveNoRecords file places
   pub whole : NoneOf (Applies file place) passing_reasons
   pub holds : HasRecordsAt file place records
-  pub stands : slice_get records 0 ≡ Some found.bytes
+  pub stands : slice_get records 0 ≡ Some bytes
 
 -- what a look at it takes of a file of chunks at most: the headers of chunks without records, and a chunk
 abbrev pub look_bound : List ChunkValue → ℕ
@@ -120,7 +131,7 @@ look_bound ks = chunk_header_size * (chunks_without_records ks + 1) + greatest_l
 
 -- it stands before
 abbrev pub FirstStandsBefore : (Before : List ℕ → Type 0) → List ℕ → (from : ℕ) → Type 0
-FirstStandsBefore Before file from = (found : Found) × IsFirstFrom file from found × Before found.bytes
+FirstStandsBefore Before file from = (bytes : List ℕ) × IsFirstFrom file from bytes × Before bytes
 
 -- chunks without records lead from a place to the file's end
 abbrev pub NoneFrom : List ℕ → (from : ℕ) → Type 0
@@ -128,7 +139,7 @@ NoneFrom file from = (places : List ℕ) × ArePlacesBetween file from (length f
 
 -- the first record from a place on doesn't stand before, or there is none
 abbrev pub FirstNotBefore : (Before : List ℕ → Type 0) → List ℕ → (from : ℕ) → Type 0
-FirstNotBefore Before file from = ((found : Found) × IsFirstFrom file from found × (¬ Before found.bytes)) ⊎ NoneFrom file from
+FirstNotBefore Before file from = ((bytes : List ℕ) × IsFirstFrom file from bytes × (¬ Before bytes)) ⊎ NoneFrom file from
 
 -- reading goes no further than the chunk of this number: its first record doesn't stand before, or there is no such chunk
 abbrev pub EndsReading : (Before : List ℕ → Type 0) → List ChunkValue → ℕ → Type 0

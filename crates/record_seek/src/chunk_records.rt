@@ -8,7 +8,7 @@ ghost use Rattle.chunk_reader.specs.Places.{end_at};
 ghost use Rattle.chunk_reader.specs.Reasons.{Applies, NoneOf, passing_reasons, loading_reasons};
 ghost use Rattle.chunk_reader.specs.declared.reasons.Fault.{Fault};
 ghost use Rattle.record_seek.specs.KeyTests.{IsKeyTest, StandsBefore};
-ghost use Rattle.record_seek.specs.Steps.{IsNumbered, IsRecordIn, IsRecordAt, IsFirstNot, IsFirstNotIn, IsFirstNotAt};
+ghost use Rattle.record_seek.specs.Steps.{IsNumbered, IsRecordIn, IsRecordAt, IsFirstAskedIn, IsFirstAskedAt, IsFirstNot, IsFirstNotIn, IsFirstNotAt};
 
 use crate::key_tests::KeyTest;
 use chunk_reader::{Judged, ReadEnd, What, strict_at};
@@ -38,7 +38,6 @@ pub(crate) fn record_at<S: Store>(
     requires from_boundary { IsBoundary place }
     requires below { place < size }
     ensures found { IfOk result (λ found. IfSome (S.bytes store.old) (λ file. IsRecordAt file place number found)) }
-    ensures small { IfOk result (λ found. IfSome found (λ f. length f.bytes ≤ 2 ^ 26)) }
     ensures refused { (fault : Fault) → result ≡ Err (ReadEnd.Refused fault)
         → IfSome (S.bytes store.old) (λ file. IsVerdict false file place fault) }
     ensures handed { IfSome (S.bytes store.old) (λ file. NoneOf (Applies file place) passing_reasons
@@ -53,8 +52,7 @@ pub(crate) fn record_at<S: Store>(
 /// The record of this number of a chunk, which was judged strictly.
 fn record_in(alloc: Global, judged: &Judged, number: u64) -> Result<Option<Found>, AllocError>
     requires { (size place : ℕ) × (size ≤ 2 ^ 60) × IsJudged false size place judged.now }
-    ensures found { IfOk result (λ found. IsRecordIn (value_of_chunk judged.now.chunk) judged.now.begin number found) }
-    ensures small { IfOk result (λ found. IfSome found (λ f. length f.bytes ≤ 2 ^ 26)) }
+    ensures { IfOk result (λ found. IsRecordIn (value_of_chunk judged.now.chunk) judged.now.begin number found) }
 {
     match &judged.what {
         What::Records(records) => record_of(alloc, records, judged.begin, number),
@@ -81,6 +79,42 @@ fn record_of(
         position: begin + number,
         bytes,
     }))
+}
+
+/// Whether the first record of the chunk at a place of a file stands before; no where it has none. The chunk is judged strictly.
+pub(crate) fn first_before_at<S: Store, F: Fn(&[u8]) -> bool + Drop>(
+    alloc: Global,
+    store: &mut S,
+    size: u64,
+    place: u64,
+    test: &KeyTest<F>,
+) -> Result<bool, ReadEnd>
+    requires told { S.told store.old ≡ Some size }
+    requires in_reach { size ≤ 2 ^ 60 }
+    requires from_boundary { IsBoundary place }
+    requires below { place < size }
+    requires test { IsKeyTest F.Fn test.now.test }
+    ensures asked { IfOk result (λ before. IfSome (S.bytes store.old) (λ file. IsFirstAskedAt (StandsBefore F.Fn test.now.test) file place before)) }
+    ensures refused { (fault : Fault) → result ≡ Err (ReadEnd.Refused fault)
+        → IfSome (S.bytes store.old) (λ file. IsVerdict false file place fault) }
+    ensures handed { IfSome (S.bytes store.old) (λ file. NoneOf (Applies file place) passing_reasons
+        → S.handed store.new + place ≤ S.handed store.old + end_at file place) }
+    ensures store { OnlyAsks S.bytes S.told S.name S.faults (result ≡ Err ReadEnd.Store) store.old store.new }
+{
+    let judged = strict_at(alloc, store, size, place, false)?;
+    Ok(first_before_in(&judged, test))
+}
+
+/// Whether the first record of a chunk, which was judged strictly, stands before; no where it has none.
+fn first_before_in<F: Fn(&[u8]) -> bool + Drop>(judged: &Judged, test: &KeyTest<F>) -> bool
+    requires judged { (size place : ℕ) × (size ≤ 2 ^ 60) × IsJudged false size place judged.now }
+    requires test { IsKeyTest F.Fn test.now.test }
+    ensures { IsFirstAskedIn (StandsBefore F.Fn test.now.test) (value_of_chunk judged.now.chunk) result }
+{
+    match &judged.what {
+        What::Records(records) => records.len() > 0 && test.before(records.get(0)),
+        What::Passive | What::Unread => false,
+    }
 }
 
 /// The first record of the chunk at a place of a file that doesn't stand before. The chunk is judged strictly.

@@ -10,9 +10,9 @@ ghost use Rattle.chunk_reader.specs.declared.reasons.Fault.{Fault};
 ghost use Rattle.record_seek.specs.Found.{IsKeyFound, BytesStandBefore, OnlyFrontStandsBefore};
 ghost use Rattle.record_seek.specs.KeyTests.{IsKeyTest, StandsBefore};
 ghost use Rattle.record_seek.specs.Met.{IsMetFault, IsMetRecord, LeadsWithoutRecords, LeadsPastAll};
-ghost use Rattle.record_seek.specs.Steps.{IsFaultOn, IsFirstFrom, FirstStandsBefore, IsReadOn, NoneFrom, FirstNotBefore, EndsReading, look_bound, reading_cost, placed_of};
+ghost use Rattle.record_seek.specs.Steps.{IsFaultOn, FirstStandsBefore, IsReadOn, FirstNotBefore, EndsReading, look_bound, reading_cost, placed_of};
 
-use crate::chunk_records::{Found, first_not_at, record_at};
+use crate::chunk_records::{Found, first_before_at, first_not_at};
 use crate::key_tests::KeyTest;
 use crate::passes::{passed_at, told_begin};
 use block_layout::BLOCK_SIZE;
@@ -116,28 +116,28 @@ fn stands_before<S: Store, F: Fn(&[u8]) -> bool + Drop>(
     ensures store { OnlyAsks S.bytes S.told S.name S.faults (result ≡ Err ReadEnd.Store) store.old store.new }
 {
     let begin = told_begin(store, size, block)?;
-    match first_from(alloc, store, size, begin)? {
-        Some(found) => Ok(test.before(found.bytes.as_slice())),
-        None => Ok(false),
-    }
+    first_stands_before(alloc, store, size, test, begin)
 }
 
-/// The first record from a place on.
-fn first_from<S: Store>(
+/// Whether there is a record from a place on, and the first stands before.
+fn first_stands_before<S: Store, F: Fn(&[u8]) -> bool + Drop>(
     alloc: Global,
     store: &mut S,
     size: u64,
+    test: &KeyTest<F>,
     begin: u64,
-) -> Result<Option<Found>, ReadEnd>
+) -> Result<bool, ReadEnd>
     requires told { S.told store.old ≡ Some size }
     requires in_reach { size ≤ 2 ^ 60 }
     requires from_boundary { IsBoundary begin }
     requires within { begin ≤ size }
-    ensures first { (found : Found) → result ≡ Ok (Some found) → IfSome (S.bytes store.old) (λ file. IsFirstFrom file begin found) }
-    ensures small { IfOk result (λ found. IfSome found (λ f. length f.bytes ≤ 2 ^ 26)) }
+    requires test { IsKeyTest F.Fn test.now.test }
+    ensures before { result ≡ Ok true
+        → IfSome (S.bytes store.old) (λ file. FirstStandsBefore (StandsBefore F.Fn test.now.test) file begin) }
+    ensures not_before { result ≡ Ok false
+        → IfSome (S.bytes store.old) (λ file. FirstNotBefore (StandsBefore F.Fn test.now.test) file begin) }
     ensures refused { (fault : Fault) → result ≡ Err (ReadEnd.Refused fault)
         → IfSome (S.bytes store.old) (λ file. IsFaultOn file begin fault) }
-    ensures none { result ≡ Ok None → IfSome (S.bytes store.old) (λ file. NoneFrom file begin) }
     ensures handed { IfSome (S.bytes store.old) (λ file. (ks : List ChunkValue) (h : ℕ)
         → IsFrame ks file → begin ≡ begin_of ks h → h ≤ length ks → S.handed store.new ≤ S.handed store.old + look_bound ks) }
     ensures store { OnlyAsks S.bytes S.told S.name S.faults (result ≡ Err ReadEnd.Store) store.old store.new }
@@ -146,11 +146,11 @@ fn first_from<S: Store>(
     while place < size {
         let passed = passed_at(store, size, place)?;
         if passed.num_records > 0 {
-            return record_at(alloc, store, size, place, 0);
+            return first_before_at(alloc, store, size, place, test);
         }
         place = passed.end;
     }
-    Ok(None)
+    Ok(false)
 }
 
 /// The first record from a place on that doesn't stand before.

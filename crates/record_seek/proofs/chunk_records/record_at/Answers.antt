@@ -7,4 +7,4 @@ returns-in_err-record_in-clause-memory g c = λ same. strict_none_loading _ c.ar
 pub returns-clause-found : goal.returns-clause-found
 returns-clause-found g c =
     record-there _ c.args.size c.args.place c.args.number c.in_ok-judged.judged _ c.in_ok-judged.ensures.judged c.in_ok-judged.ensures.sound
-    c.in_ok-record_in.ensures.found
+    c.in_ok-record_in.ensures

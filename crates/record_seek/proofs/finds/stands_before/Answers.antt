@@ -1,9 +1,9 @@
-use Rattle.std.proofs.Common.{◌≡◌, ℕ, List, Some, Ok, Err, true, false, refl, sym, ap, subst}
-use Rattle.std.specs.Fn.{FnReturnsAt}
+use Rattle.std.proofs.Common.{Some, Err, refl, ap, subst}
 use Rattle.chunk_reader.proofs.Loads as loads
 use Rattle.chunk_reader.proofs.Rooms.{IsSized}
 use Rattle.record_seek.specs.KeyTests.{StandsBefore}
-use Rattle.record_seek.proofs.Finding.{block-met, told-met, first-before, first-not, none-first}
+use Rattle.record_seek.specs.Steps.{FirstStandsBefore, FirstNotBefore}
+use Rattle.record_seek.proofs.Finding.{block-met, told-met, from-told}
 use Rattle.record_seek.proofs.LookCosts.{block-takes, told-takes}
 use Rattle.record_seek.proofs.finds.stands_before.Goals as goal
 use Rattle.record_seek.proofs.finds.stands_before.Goals.{Start}
@@ -18,52 +18,29 @@ returns-in_err-begin-clause-refused g c =
     block-met _ _ c.args.block fault refl
     (c.in_err-begin.ensures.refused fault (ap Err (loads.refused_before c.in_err-begin.field-0.0 fault (rw e at c.from_residual.ensures.1))))
 
-pub returns-in_err-found-clause-refused : goal.returns-in_err-found-clause-refused
-returns-in_err-found-clause-refused g c =
-    λ fault e.
-    told-met _ _ c.args.block c.in_ok-begin.begin fault c.in_ok-begin.ensures.store.same_bytes c.in_ok-begin.ensures.told
-    (c.in_err-found.ensures.refused fault (ap Err (sym (rw e at c.from_residual-in_err-found.ensures.1))))
-
-pub returns-in-Some-clause-before : goal.returns-in-Some-clause-before
-returns-in-Some-clause-before g c =
-    λ e.
-    let yes : c.before-in-Some.result ≡ true = cc in
-    first-before (StandsBefore g.F.Fn c.args.test.now.test) _ _ c.args.block c.in_ok-begin.begin c.in-Some.found
-    c.in_ok-begin.ensures.store.same_bytes c.in_ok-begin.ensures.told (c.in_ok-found.ensures.first c.in-Some.found (ap Ok c.in-Some.is))
-    (subst (λ (b : List ℕ). FnReturnsAt g.F.Fn c.args.test.now.test b true) c.as_slice.ensures.value (rw yes at c.before-in-Some.ensures.answers))
-
 pub returns-in_err-begin-clause-handed : goal.returns-in_err-begin-clause-handed
 returns-in_err-begin-clause-handed g c = block-takes _ _ _ c.in_err-begin.ensures.handed
 
-pub returns-in_err-found-clause-handed : goal.returns-in_err-found-clause-handed
-returns-in_err-found-clause-handed g c =
-    let given = c.in_ok-begin.ensures in
-    told-takes _ _ c.args.size c.args.block c.in_ok-begin.begin _ _ _ given.store.same_bytes (sized g (goal.at.returns-in_err-found-clause-handed g c).Start)
-    c.requires.in_reach given.told given.handed c.in_err-found.ensures.handed
-
-pub returns-in-Some-clause-handed : goal.returns-in-Some-clause-handed
-returns-in-Some-clause-handed g c =
-    let given = c.in_ok-begin.ensures in
-    told-takes _ _ c.args.size c.args.block c.in_ok-begin.begin _ _ _ given.store.same_bytes (sized g (goal.at.returns-in-Some-clause-handed g c).Start)
-    c.requires.in_reach given.told given.handed c.in_ok-found.ensures.handed
-
-pub returns-in-None-clause-handed : goal.returns-in-None-clause-handed
-returns-in-None-clause-handed g c =
-    let given = c.in_ok-begin.ensures in
-    told-takes _ _ c.args.size c.args.block c.in_ok-begin.begin _ _ _ given.store.same_bytes (sized g (goal.at.returns-in-None-clause-handed g c).Start)
-    c.requires.in_reach given.told given.handed c.in_ok-found.ensures.handed
-
-pub returns-in-Some-clause-not_before : goal.returns-in-Some-clause-not_before
-returns-in-Some-clause-not_before g c =
+pub returns-clause-before : goal.returns-clause-before
+returns-clause-before g c =
     λ e.
-    let no : c.before-in-Some.result ≡ false = cc in
-    first-not (StandsBefore g.F.Fn c.args.test.now.test) _ _ c.args.block c.in_ok-begin.begin c.in-Some.found
-    c.in_ok-begin.ensures.store.same_bytes c.in_ok-begin.ensures.told (c.in_ok-found.ensures.first c.in-Some.found (ap Ok c.in-Some.is))
-    (λ stands. cc (c.before-in-Some.ensures.exact.1
-    (subst (λ (b : List ℕ). FnReturnsAt g.F.Fn c.args.test.now.test b true) (sym c.as_slice.ensures.value) stands)))
+    from-told (FirstStandsBefore (StandsBefore g.F.Fn c.args.test.now.test)) _ _ c.args.block c.in_ok-begin.begin
+    c.in_ok-begin.ensures.store.same_bytes c.in_ok-begin.ensures.told (c.first_stands_before.ensures.before e)
 
-pub returns-in-None-clause-not_before : goal.returns-in-None-clause-not_before
-returns-in-None-clause-not_before g c =
+pub returns-clause-not_before : goal.returns-clause-not_before
+returns-clause-not_before g c =
     λ e.
-    none-first (StandsBefore g.F.Fn c.args.test.now.test) _ _ c.args.block c.in_ok-begin.begin c.in_ok-begin.ensures.store.same_bytes
-    c.in_ok-begin.ensures.told (c.in_ok-found.ensures.none (ap Ok c.in-None.is))
+    from-told (FirstNotBefore (StandsBefore g.F.Fn c.args.test.now.test)) _ _ c.args.block c.in_ok-begin.begin
+    c.in_ok-begin.ensures.store.same_bytes c.in_ok-begin.ensures.told (c.first_stands_before.ensures.not_before e)
+
+pub returns-clause-refused : goal.returns-clause-refused
+returns-clause-refused g c =
+    λ fault e.
+    told-met _ _ c.args.block c.in_ok-begin.begin fault c.in_ok-begin.ensures.store.same_bytes c.in_ok-begin.ensures.told
+    (c.first_stands_before.ensures.refused fault e)
+
+pub returns-clause-handed : goal.returns-clause-handed
+returns-clause-handed g c =
+    let given = c.in_ok-begin.ensures in
+    told-takes _ _ c.args.size c.args.block c.in_ok-begin.begin _ _ _ given.store.same_bytes (sized g (goal.at.returns-clause-handed g c).Start)
+    c.requires.in_reach given.told given.handed c.first_stands_before.ensures.handed
