@@ -10,9 +10,9 @@ use Rattle.block_layout.proofs.Room.{boundary_past_block}
 use Rattle.chunk_header.specs.Chunks.{ChunkValue, HeaderValue}
 use Rattle.meta_chunk.specs.Files.{IsFrame, begin_of, LiesIn}
 use Rattle.meta_chunk.specs.Laid.{IsLaid}
-use Rattle.meta_chunk.proofs.Begins.{begin_of-next, begin_of-past, begin_of-place, begin_of_rises, begin_of_rises_by, begin_of_boundary, holder_of, holder_one, IsLaid-in_file}
+use Rattle.meta_chunk.proofs.Begins.{begin_of-next, begin_of-past, begin_of-place, begin_of_rises, begin_of_boundary, holder_of, holder_one, IsLaid-in_file}
 use Rattle.chunk_reader.specs.Blocks.{TellsBegin}
-use Rattle.chunk_reader.specs.Holders.{ArePlacesBetween, IsOnWay, IsHolder}
+use Rattle.chunk_reader.specs.Holders.{ArePlacesBetween, IsHolder}
 use Rattle.chunk_reader.specs.Places.{header_at, end_at}
 use Rattle.chunk_reader.specs.Reasons.{Applies, NoneOf, passing_reasons}
 use Rattle.chunk_reader.proofs.Blocks.{stands_one}

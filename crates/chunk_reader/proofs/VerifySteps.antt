@@ -1,9 +1,9 @@
 -- A chunk that is judged while its data comes in pieces.
-use Rattle.std.proofs.Common.{◌≡◌, ◌∙◌, ◌+◌, ◌<◌, ◌≤◌, ℕ, Bool, true, false, Result, Option, Some, None, IfSome, IsSomeAnd, Ok, Err, List, [], ◌∷◌, ◌++◌, length, refl, sym, ap, subst, inl, inr, arith}
+use Rattle.std.proofs.Common.{◌≡◌, ◌∙◌, ◌+◌, ◌<◌, ◌≤◌, ℕ, Bool, true, false, Result, Option, Some, None, IfSome, Ok, Err, List, [], ◌∷◌, ◌++◌, length, refl, sym, ap, subst, inl, inr, arith}
 use Rattle.highway_hash.specs.Riegeli.{riegeli_hash}
 use Rattle.std.proofs.lemmas.Bool.{cases_eq}
 use Rattle.record_values.specs.Bytes.{AreBytes}
-use Rattle.block_layout.specs.Layout.{IsBoundary, end_of, chunk_end_of, own_bytes_at}
+use Rattle.block_layout.specs.Layout.{IsBoundary, end_of, chunk_end_of}
 use Rattle.block_layout.proofs.ChunkEnds.{chunk_end_of_boundary, chunk_end_of_past_records}
 use Rattle.block_layout.proofs.Ends.{end_of_after, end_of_room}
 use Rattle.chunk_header.specs.Chunks.{ChunkValue}
@@ -23,7 +23,7 @@ use Rattle.meta_chunk.specs.Counts.{is_unread, totals_of}
 use Rattle.record_values.specs.declared.file_totals.Totals.{Totals}
 use Rattle.chunk_reader.specs.Places.{header_bytes_at, end_by, end_at, data_at, chunk_at, HaveHeadersOf, IsFirstWrong}
 use Rattle.chunk_reader.proofs.PassedChunks.{length-data_at, IsLaid-right}
-use Rattle.chunk_reader.proofs.Loads.{data_given, header_within, IsOnBoundary-of}
+use Rattle.chunk_reader.proofs.Loads.{header_within, IsOnBoundary-of}
 use Rattle.chunk_reader.proofs.ReadingSteps.{next_read, next-le, unread-le}
 use Rattle.chunk_reader.specs.Progress.{counted, AreInBounds, AreReadFrom}
 use Rattle.chunk_reader.proofs.Rooms.{IsSized}

@@ -1,5 +1,4 @@
-use Rattle.std.proofs.Common.{◌≤◌, Err, sym, ap, arith}
-use Rattle.block_layout.specs.Layout.{IsOnBoundary, end_of}
+use Rattle.std.proofs.Common.{Err, sym, ap, arith}
 use Rattle.block_layout.proofs.Ends.{end_of_after}
 use Rattle.chunk_reader.proofs.Loads.{IsOnBoundary-of}
 use Rattle.chunk_reader.proofs.Passes.{headers-of_header, wrong-wider}
