@@ -9,8 +9,8 @@ use Rattle.chunk_reader.specs.declared.reasons.Fault.{Fault}
 use Rattle.chunk_reader.proofs.Blocks.{stands_one}
 use Rattle.chunk_reader.proofs.HeadersTell.{passed_below}
 use Rattle.record_seek.specs.Met as met
-use Rattle.record_seek.specs.Met.{IsMetBySearch, IsMetFault, IsMetRecord, HaveNoRecords, LeadsWithoutRecords, LeadsPastAll}
-use Rattle.record_seek.specs.Steps.{AreReadTo, IsReadRecord, IsFaultOn, IsFirstFrom, FirstStandsBefore}
+use Rattle.record_seek.specs.Met.{IsMetBySearch, IsMetFault, LoadsMetChunk, IsMetRecord, HaveNoRecords, LeadsWithoutRecords, LeadsPastAll}
+use Rattle.record_seek.specs.Steps.{AreReadTo, IsReadRecord, IsFaultOn, LoadsOn, IsFirstFrom, FirstStandsBefore}
 use Rattle.record_seek.specs.declared.chunk_records.Found.{Found}
 use Rattle.record_seek.proofs.Ways.{same_told}
 
@@ -48,6 +48,22 @@ fault-met (Some file) now then low begin fault same also from refused =
     let start : IsBeginFrom low begin file = same_told (IsBeginFrom low begin) (Some file) now same from in
     let on : IsFaultOn file begin fault = same_told (λ f. IsFaultOn f begin fault) (Some file) then also refused in
     inr (on.place, met-on file on.places begin on.place (begin_met file low begin start) on.between, on.below, on.verdict)
+
+-- so is a chunk whose data may be read
+pub loads-told : (bytes now : Option (List ℕ)) (block begin : ℕ) → now ≡ bytes → IfSome bytes (λ file. TellsBegin file block begin)
+    → IfSome now (λ file. LoadsOn file begin) → IfSome bytes LoadsMetChunk
+loads-told None now block begin same told loads = tt
+loads-told (Some file) now block begin same told loads =
+    let (place, places, between, none) = same_told (λ f. LoadsOn f begin) (Some file) now same loads in
+    (place, met-on file places begin place (met.told told) between, none)
+
+pub loads-met : (bytes now then : Option (List ℕ)) (low begin : ℕ) → now ≡ bytes → then ≡ bytes → IfSome now (IsBeginFrom low begin)
+    → IfSome then (λ file. LoadsOn file begin) → IfSome bytes LoadsMetChunk
+loads-met None now then low begin same also from loads = tt
+loads-met (Some file) now then low begin same also from loads =
+    let start : IsBeginFrom low begin file = same_told (IsBeginFrom low begin) (Some file) now same from in
+    let (place, places, between, none) = same_told (λ f. LoadsOn f begin) (Some file) then also loads in
+    (place, met-on file places begin place (begin_met file low begin start) between, none)
 
 -- so is a record
 pub record-met : (Before : List ℕ → Type 0) (bytes now then : Option (List ℕ)) (low begin : ℕ) (found : Found) → now ≡ bytes → then ≡ bytes

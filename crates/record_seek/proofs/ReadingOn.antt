@@ -6,11 +6,11 @@ use Rattle.std.proofs.lemmas.Option.{slice_get_cases}
 use Rattle.chunk_reader.specs.Faults.{IsVerdict}
 use Rattle.chunk_reader.specs.Holders.{ArePlacesBetween}
 use Rattle.chunk_reader.specs.Places.{header_at}
-use Rattle.chunk_reader.specs.Reasons.{Applies, IsFirstOf, passing_reasons}
+use Rattle.chunk_reader.specs.Reasons.{Applies, NoneOf, IsFirstOf, passing_reasons, loading_reasons}
 use Rattle.chunk_reader.specs.declared.reasons.Fault.{Fault}
 use Rattle.chunk_reader.proofs.Rooms.{IsSized}
 use Rattle.record_seek.specs.Met.{HaveNoRecords}
-use Rattle.record_seek.specs.Steps.{IsPassedAt, IsFirstAskedAt, IsFirstNotAt, EndBefore, AreReadTo, IsReadRecord, IsFaultOn, IsFirstFrom, FirstStandsBefore, FirstNotBefore}
+use Rattle.record_seek.specs.Steps.{IsPassedAt, IsFirstAskedAt, IsFirstNotAt, EndBefore, AreReadTo, IsReadRecord, IsFaultOn, LoadsOn, IsFirstFrom, FirstStandsBefore, FirstNotBefore}
 use Rattle.record_seek.specs.declared.chunk_records.Found.{Found}
 use Rattle.record_seek.specs.declared.passes.Passed.{Passed}
 use Rattle.record_seek.proofs.Searching.{all-push}
@@ -165,6 +165,13 @@ fault-chunk (Some file) now size from place fault same sized below come refused 
   below = omega (arith, sized, below);
   verdict = same_told (λ f. IsVerdict false f place fault) (Some file) now same refused;
 }
+
+-- or its data may be read
+pub loads-on : (bytes now : Option (List ℕ)) (from place : ℕ) → now ≡ bytes → IfSome bytes (IsComeTo from place)
+    → IfSome now (λ file. NoneOf (Applies file place) loading_reasons) → IfSome bytes (λ file. LoadsOn file from)
+loads-on None now from place same come none = tt
+loads-on (Some file) now from place same come none =
+    (place, come.0, come.1, same_told (λ f. NoneOf (Applies f place) loading_reasons) (Some file) now same none)
 
 -- records are read from chunk to chunk
 pub read-begun : (Before : List ℕ → Type 0) (bytes : Option (List ℕ)) (from : ℕ) → IfSome bytes (λ file. AreReadTo Before file from from)

@@ -5,7 +5,7 @@ use Rattle.chunk_reader.specs.Blocks.{TellsBegin, IsBlockFault}
 use Rattle.chunk_reader.specs.Faults.{IsVerdict}
 use Rattle.chunk_reader.specs.Holders.{ArePlacesBetween}
 use Rattle.chunk_reader.specs.Places.{header_at, end_at}
-use Rattle.chunk_reader.specs.Reasons.{Applies, NoneOf, passing_reasons}
+use Rattle.chunk_reader.specs.Reasons.{Applies, NoneOf, passing_reasons, loading_reasons}
 use Rattle.chunk_reader.specs.Searches.{HasRecordsAt}
 use Rattle.chunk_reader.specs.declared.reasons.Fault.{Fault}
 
@@ -22,6 +22,10 @@ abbrev pub IsMetFault : List ℕ → Fault → Type 0
 IsMetFault file fault =
     ((block : ℕ) × IsBlockFault file block fault)
     ⊎ ((place : ℕ) × IsMetBySearch file place × (place < length file) × IsVerdict false file place fault)
+
+-- at a place that is met the data of a chunk may be read: none of the reasons applies that come before
+abbrev pub LoadsMetChunk : List ℕ → Type 0
+LoadsMetChunk file = (place : ℕ) × IsMetBySearch file place × NoneOf (Applies file place) loading_reasons
 
 -- a record, with its position, of a chunk without fault at a place that is met
 pub record IsMetRecord (file : List ℕ) (found : ℕ × List ℕ) : Type 0 where

@@ -7,7 +7,7 @@ use Rattle.meta_chunk.specs.Files.{signature}
 use Rattle.chunk_reader.specs.Faults.{IsVerdict}
 use Rattle.chunk_reader.specs.Holders.{ArePlacesBetween}
 use Rattle.chunk_reader.specs.Places.{header_at, end_at, chunk_at}
-use Rattle.chunk_reader.specs.Reasons.{Applies, NoneOf, passing_reasons, strict_reasons}
+use Rattle.chunk_reader.specs.Reasons.{Applies, NoneOf, passing_reasons, loading_reasons, strict_reasons}
 use Rattle.chunk_reader.specs.SearchBounds.{length_of_chunk, chunks_without_records, greatest_length_from}
 use Rattle.chunk_reader.specs.Searches.{HasRecordsAt, SearchComesTo, AnswersAt}
 use Rattle.chunk_reader.specs.declared.reasons.Fault.{Fault}
@@ -113,6 +113,11 @@ pub record IsFaultOn (file : List ℕ) (from : ℕ) (fault : Fault) : Type 0 whe
   pub between : ArePlacesBetween file from place places
   pub below : place < length file
   pub verdict : IsVerdict false file place fault
+
+-- chunks lead from a place to one at which the data of a chunk may be read: none of the reasons applies that come before
+abbrev pub LoadsOn : List ℕ → (from : ℕ) → Type 0
+LoadsOn file from =
+    (place : ℕ) × (places : List ℕ) × ArePlacesBetween file from place places × NoneOf (Applies file place) loading_reasons
 
 -- the first record from a place on
 pub record IsFirstFrom (file : List ℕ) (from : ℕ) (bytes : List ℕ) : Type 0 where

@@ -99,6 +99,7 @@ pub(crate) fn first_before_at<S: Store, F: Fn(&[u8]) -> bool + Drop>(
         → IfSome (S.bytes store.old) (λ file. IsVerdict false file place fault) }
     ensures handed { IfSome (S.bytes store.old) (λ file. NoneOf (Applies file place) passing_reasons
         → S.handed store.new + place ≤ S.handed store.old + end_at file place) }
+    ensures memory { result ≡ Err ReadEnd.Memory → IfSome (S.bytes store.old) (λ file. NoneOf (Applies file place) loading_reasons) }
     ensures store { OnlyAsks S.bytes S.told S.name S.faults (result ≡ Err ReadEnd.Store) store.old store.new }
 {
     let judged = strict_at(alloc, store, size, place, false)?;

@@ -9,8 +9,8 @@ ghost use Rattle.chunk_reader.specs.SearchBounds.{key_bound};
 ghost use Rattle.chunk_reader.specs.declared.reasons.Fault.{Fault};
 ghost use Rattle.record_seek.specs.Found.{IsKeyFound, BytesStandBefore, OnlyFrontStandsBefore};
 ghost use Rattle.record_seek.specs.KeyTests.{IsKeyTest, StandsBefore};
-ghost use Rattle.record_seek.specs.Met.{IsMetFault, IsMetRecord, LeadsWithoutRecords, LeadsPastAll};
-ghost use Rattle.record_seek.specs.Steps.{IsFaultOn, FirstStandsBefore, IsReadOn, FirstNotBefore, EndsReading, look_bound, reading_cost, placed_of};
+ghost use Rattle.record_seek.specs.Met.{IsMetFault, LoadsMetChunk, IsMetRecord, LeadsWithoutRecords, LeadsPastAll};
+ghost use Rattle.record_seek.specs.Steps.{IsFaultOn, LoadsOn, FirstStandsBefore, IsReadOn, FirstNotBefore, EndsReading, look_bound, reading_cost, placed_of};
 
 use crate::chunk_records::{Found, first_before_at, first_not_at};
 use crate::key_tests::KeyTest;
@@ -30,6 +30,7 @@ use std::alloc::Global;
 /// # Errors
 ///
 /// `Refused` only with a fault that the search meets, and so never of a file without fault. `Store` only where the store failed.
+/// `Memory` only for a chunk to which the search comes, and to which none of the first four reasons applies.
 pub fn find<S: Store, F: Fn(&[u8]) -> bool + Drop>(
     alloc: Global,
     store: &mut S,
@@ -55,6 +56,7 @@ pub fn find<S: Store, F: Fn(&[u8]) -> bool + Drop>(
         → IfSome (S.bytes store.old) (λ file. IsMetFault file fault) }
     ensures handed { IfSome (S.bytes store.old) (λ file. (ks : List ChunkValue)
         → IsFrame ks file → S.handed store.new ≤ S.handed store.old + key_bound ks) }
+    ensures memory { result ≡ Err ReadEnd.Memory → IfSome (S.bytes store.old) LoadsMetChunk }
     ensures store { OnlyAsks S.bytes S.told S.name S.faults (result ≡ Err ReadEnd.Store) store.old store.new }
 {
     let mut low = 0;
@@ -113,6 +115,7 @@ fn stands_before<S: Store, F: Fn(&[u8]) -> bool + Drop>(
         → IfSome (S.bytes store.old) (λ file. IsMetFault file fault) }
     ensures handed { IfSome (S.bytes store.old) (λ file. (ks : List ChunkValue)
         → IsFrame ks file → S.handed store.new ≤ S.handed store.old + (block_header_size + look_bound ks)) }
+    ensures memory { result ≡ Err ReadEnd.Memory → IfSome (S.bytes store.old) LoadsMetChunk }
     ensures store { OnlyAsks S.bytes S.told S.name S.faults (result ≡ Err ReadEnd.Store) store.old store.new }
 {
     let begin = told_begin(store, size, block)?;
@@ -140,6 +143,7 @@ fn first_stands_before<S: Store, F: Fn(&[u8]) -> bool + Drop>(
         → IfSome (S.bytes store.old) (λ file. IsFaultOn file begin fault) }
     ensures handed { IfSome (S.bytes store.old) (λ file. (ks : List ChunkValue) (h : ℕ)
         → IsFrame ks file → begin ≡ begin_of ks h → h ≤ length ks → S.handed store.new ≤ S.handed store.old + look_bound ks) }
+    ensures memory { result ≡ Err ReadEnd.Memory → IfSome (S.bytes store.old) (λ file. LoadsOn file begin) }
     ensures store { OnlyAsks S.bytes S.told S.name S.faults (result ≡ Err ReadEnd.Store) store.old store.new }
 {
     let mut place = begin;
@@ -174,6 +178,7 @@ fn read_on<S: Store, F: Fn(&[u8]) -> bool + Drop>(
     ensures handed { IfSome (S.bytes store.old) (λ file. (ks : List ChunkValue) (h to : ℕ)
         → IsFrame ks file → begin ≡ begin_of ks h → h ≤ to → EndsReading (StandsBefore F.Fn test.now.test) ks to
         → S.handed store.new + reading_cost ks h ≤ S.handed store.old + reading_cost ks (to + 1)) }
+    ensures memory { result ≡ Err ReadEnd.Memory → IfSome (S.bytes store.old) (λ file. LoadsOn file begin) }
     ensures store { OnlyAsks S.bytes S.told S.name S.faults (result ≡ Err ReadEnd.Store) store.old store.new }
 {
     let mut place = begin;

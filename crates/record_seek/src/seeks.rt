@@ -26,7 +26,8 @@ use std::alloc::Global;
 /// # Errors
 ///
 /// `Refused` exactly with the fault that the search meets: of the block at or before the position, of a chunk header that can't
-/// be passed, or the strict verdict on the chunk that answers. `Store` only where the store failed.
+/// be passed, or the strict verdict on the chunk that answers. `Store` only where the store failed. `Memory` only for the chunk
+/// that answers, where none of the first four reasons applies to it.
 pub fn seek<S: Store>(
     alloc: Global,
     store: &mut S,

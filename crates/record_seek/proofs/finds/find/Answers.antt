@@ -4,7 +4,7 @@ use Rattle.chunk_reader.proofs.Rooms.{IsSized}
 use Rattle.record_seek.specs.KeyTests.{StandsBefore}
 use Rattle.record_seek.specs.Met.{IsMetFault}
 use Rattle.record_seek.specs.Steps.{IsReadOn}
-use Rattle.record_seek.proofs.Finding.{begins-front, begins-at, block-met, fault-met, record-met, nothing-left}
+use Rattle.record_seek.proofs.Finding.{begins-front, begins-at, block-met, fault-met, loads-met, record-met, nothing-left}
 use Rattle.record_seek.proofs.FoundByKey.{found-in, in-order, met-not_whole}
 use Rattle.record_seek.proofs.Halves.{halved-begun, halved-up, halved-down, takes-look, takes-begin, takes-reading}
 use Rattle.record_seek.proofs.ReadingOn.{ok_at}
@@ -140,3 +140,11 @@ loop-high-preserved g c =
           given.handed (given.not_before (ap Ok c.if-branch.false));
       asks = search rules;
     }
+
+pub returns-clause-memory : goal.returns-clause-memory
+returns-clause-memory g c =
+    λ e.
+    let kept = c.loop-high.invariant in
+    let given = c.in_ok-begin.ensures in
+    loads-met _ _ _ c.loop-high.low c.in_ok-begin.begin kept.asks.same_bytes (given.store.same_bytes ∙ kept.asks.same_bytes) given.begin
+    (c.read_on.ensures.memory e)

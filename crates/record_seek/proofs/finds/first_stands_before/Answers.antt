@@ -3,7 +3,7 @@ use Rattle.chunk_reader.proofs.Loads as loads
 use Rattle.chunk_reader.proofs.Rooms.{IsSized}
 use Rattle.record_seek.specs.KeyTests.{StandsBefore}
 use Rattle.record_seek.proofs.LookCosts.{look-header, look-record}
-use Rattle.record_seek.proofs.ReadingOn.{empty-on, empty-ended, empty-come, first-before, first-not, fault-header, fault-chunk}
+use Rattle.record_seek.proofs.ReadingOn.{empty-on, empty-ended, empty-come, first-before, first-not, fault-header, fault-chunk, loads-on}
 use Rattle.record_seek.proofs.finds.first_stands_before.Goals as goal
 use Rattle.record_seek.proofs.finds.first_stands_before.Goals.{Start}
 
@@ -74,3 +74,10 @@ returns-clause-not_before g c =
     let kept = c.loop-place.invariant in
     empty-ended (StandsBefore g.F.Fn c.args.test.now.test) _ c.args.size c.args.begin c.loop-place.place _ _
     (sized g (goal.at.returns-clause-not_before g c).Start) kept.within (omega (arith, c.loop-place-test.false)) kept.empty
+
+pub returns-then-passed-gt0-clause-memory : goal.returns-then-passed-gt0-clause-memory
+returns-then-passed-gt0-clause-memory g c =
+    λ e.
+    let kept = c.loop-place.invariant in
+    loads-on _ _ c.args.begin c.loop-place.place (c.in_ok-passed.ensures.store.same_bytes ∙ kept.asks.same_bytes)
+    (empty-come _ c.args.begin c.loop-place.place _ _ kept.empty) (c.first_before_at.ensures.memory e)

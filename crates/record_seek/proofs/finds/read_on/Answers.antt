@@ -3,7 +3,7 @@ use Rattle.chunk_reader.proofs.Loads as loads
 use Rattle.chunk_reader.proofs.Rooms.{IsSized}
 use Rattle.record_seek.specs.KeyTests.{StandsBefore}
 use Rattle.record_seek.proofs.ReadCosts.{paid_read-empty, paid_read-records, reading-header, reading-record}
-use Rattle.record_seek.proofs.ReadingOn.{read-come, read-empty, read-records, read-found, fault-header, fault-chunk}
+use Rattle.record_seek.proofs.ReadingOn.{read-come, read-empty, read-records, read-found, fault-header, fault-chunk, loads-on}
 use Rattle.record_seek.proofs.finds.read_on.Goals as goal
 use Rattle.record_seek.proofs.finds.read_on.Goals.{Start}
 
@@ -90,3 +90,11 @@ returns-in-Some-clause-handed g c =
 pub returns-clause-handed : goal.returns-clause-handed
 returns-clause-handed g c =
     reading-header (StandsBefore g.F.Fn c.args.test.now.test) _ c.args.begin c.loop-place.place _ _ _ c.loop-place.invariant.paid (omega arith)
+
+pub returns-in_err-found-clause-memory : goal.returns-in_err-found-clause-memory
+returns-in_err-found-clause-memory g c =
+    λ e.
+    let kept = c.loop-place.invariant in
+    loads-on _ _ c.args.begin c.loop-place.place (c.in_ok-passed.ensures.store.same_bytes ∙ kept.asks.same_bytes)
+    (read-come (StandsBefore g.F.Fn c.args.test.now.test) _ c.args.begin c.loop-place.place kept.read)
+    (c.in_err-found.ensures.memory (ap Err (sym (rw e at c.from_residual-in_err-found.ensures.1))))

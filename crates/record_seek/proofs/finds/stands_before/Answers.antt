@@ -3,7 +3,7 @@ use Rattle.chunk_reader.proofs.Loads as loads
 use Rattle.chunk_reader.proofs.Rooms.{IsSized}
 use Rattle.record_seek.specs.KeyTests.{StandsBefore}
 use Rattle.record_seek.specs.Steps.{FirstStandsBefore, FirstNotBefore}
-use Rattle.record_seek.proofs.Finding.{block-met, told-met, from-told}
+use Rattle.record_seek.proofs.Finding.{block-met, told-met, loads-told, from-told}
 use Rattle.record_seek.proofs.LookCosts.{block-takes, told-takes}
 use Rattle.record_seek.proofs.finds.stands_before.Goals as goal
 use Rattle.record_seek.proofs.finds.stands_before.Goals.{Start}
@@ -44,3 +44,9 @@ returns-clause-handed g c =
     let given = c.in_ok-begin.ensures in
     told-takes _ _ c.args.size c.args.block c.in_ok-begin.begin _ _ _ given.store.same_bytes (sized g (goal.at.returns-clause-handed g c).Start)
     c.requires.in_reach given.told given.handed c.first_stands_before.ensures.handed
+
+pub returns-clause-memory : goal.returns-clause-memory
+returns-clause-memory g c =
+    λ e.
+    loads-told _ _ c.args.block c.in_ok-begin.begin c.in_ok-begin.ensures.store.same_bytes c.in_ok-begin.ensures.told
+    (c.first_stands_before.ensures.memory e)
