@@ -1,4 +1,4 @@
-ghost use Rattle.std.specs.Prelude.{◌≡◌, ℕ, ◌+◌, ◌*◌, ◌^◌, ◌<◌, ◌≤◌, List, Some, None, IfOk, IfSome, Ok, Err};
+ghost use Rattle.std.specs.Prelude.{◌≡◌, ℕ, ◌+◌, ◌*◌, ◌^◌, ◌<◌, ◌≤◌, ◌↔◌, List, Some, None, IfOk, IfSome, Ok, Err};
 ghost use Rattle.record_io.specs.Calls.{OnlyAsks};
 ghost use Rattle.block_layout.specs.Layout.{block_size, chunk_header_size, block_of, IsBoundary};
 ghost use Rattle.chunk_header.specs.Chunks.{ChunkValue};
@@ -66,7 +66,7 @@ pub fn holder<S: Store>(store: &mut S, size: u64, at: u64) -> Result<Option<u64>
     requires in_reach { size ≤ 2 ^ 60 }
     ensures holder { (begin : ℕ) → result ≡ Ok (Some begin) → IfSome (S.bytes store.old) (λ file. IsHolder file at begin) }
     ensures begin { (begin : ℕ) → result ≡ Ok (Some begin) → IsBoundary begin × (begin ≤ at) × (at < size) }
-    ensures none { result ≡ Ok None → size ≤ at }
+    ensures none { (result ≡ Ok None) ↔ (size ≤ at) }
     ensures refused { (fault : Fault) → result ≡ Err (HolderEnd.Refused fault)
         → IfSome (S.bytes store.old) (λ file. IsHolderFault file at fault) }
     ensures handed { IfSome (S.bytes store.old) (λ file. (ks : List ChunkValue)
