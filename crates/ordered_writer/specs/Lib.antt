@@ -1,2 +1,3 @@
 pub mod Writers
 pub mod Layings
+pub mod Reorders

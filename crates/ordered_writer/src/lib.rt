@@ -4,6 +4,8 @@
 
 pub mod laws;
 mod laying;
+mod reorder;
 mod writer;
 
-pub use writer::OrderedWriter;
+pub use reorder::Reorder;
+pub use writer::{OrderedWriter, padded};

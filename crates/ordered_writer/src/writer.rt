@@ -1,6 +1,6 @@
-ghost use Rattle.std.specs.Prelude.{◌≡◌, ◌+◌, ◌^◌, ◌<◌, ◌≤◌, ◌↔◌, false, ◌++◌, replicate, length, IsTrue, IfOk, OnOk, OnErr};
+ghost use Rattle.std.specs.Prelude.{◌≡◌, ◌+◌, ◌*◌, ◌^◌, ◌<◌, ◌≤◌, ◌↔◌, false, ◌++◌, replicate, length, IsTrue, IfOk, OnOk, OnErr};
 ghost use Rattle.highway_hash.specs.Riegeli.{riegeli_hash};
-ghost use Rattle.block_layout.specs.Layout.{IsBoundary, chunk_header_size, chunk_end_of};
+ghost use Rattle.block_layout.specs.Layout.{IsBlock, IsBoundary, block_size, chunk_header_size, chunk_end_of};
 ghost use Rattle.record_io.specs.Calls.{PutsTo, PutsThrough};
 ghost use Rattle.chunk_header.specs.Chunks.{header_bytes};
 ghost use Rattle.chunk_header.specs.Views.{bytes_of_header, value_of, value_of_chunk};
@@ -52,6 +52,18 @@ impl OrderedWriter {
     {
         OrderedWriter {
             position: 0,
+            spent: false,
+        }
+    }
+
+    /// A writer that goes on at a position: a boundary, at most 2^61.
+    pub fn resume(position: u64) -> OrderedWriter
+        requires boundary { IsBoundary position }
+        requires in_reach { position ≤ 2 ^ 61 }
+        ensures { result ≡ writer_at position }
+    {
+        OrderedWriter {
+            position,
             spent: false,
         }
     }
@@ -258,6 +270,25 @@ impl OrderedWriter {
         self.spent = false;
         Ok(())
     }
+}
+
+/// Where the padding at a position ends, which is a block: the position itself where it is one. It must be a boundary, at
+/// most 2^61. "Padding chunk".
+pub fn padded(at: u64) -> u64
+    requires boundary { IsBoundary at }
+    requires in_reach { at ≤ 2 ^ 61 }
+    ensures end { result ≡ end_of_chunks at (padding_at at) }
+    ensures block { IsBlock result }
+    ensures same { IsBlock at → result ≡ at }
+    ensures near { result < at + 2 * block_size }
+{
+    let Some(size) = padding_size(at) else {
+        return at;
+    };
+    let Some(end) = chunk_end(at, size, 0) else {
+        unreachable!();
+    };
+    end
 }
 
 // The header of a padding chunk of so many zero bytes.
