@@ -5,3 +5,5 @@ pub mod Both
 pub mod Chunks
 pub mod Paddings
 pub mod RightChunks
+pub mod Ring
+pub mod Reorderings
