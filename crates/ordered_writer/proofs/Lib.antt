@@ -7,3 +7,5 @@ pub mod Paddings
 pub mod RightChunks
 pub mod Ring
 pub mod Reorderings
+pub mod ByNumber
+pub mod Moves

@@ -1,6 +1,6 @@
 //! Laws of the definitions that contracts cite. Nothing runs here.
 
-ghost use Rattle.std.specs.Prelude.{◌≡◌, ◌≢◌, ℕ, ◌+◌, ◌*◌, ◌<◌, ◌≤◌, ◌↔◌, ◌==◌, Contains, Some, List, [], ◌∷◌, ◌++◌, count_by, length, map};
+ghost use Rattle.std.specs.Prelude.{◌≡◌, ◌≢◌, ℕ, ◌+◌, ◌*◌, ◌%◌, ◌<◌, ◌≤◌, ◌==◌, Contains, Some, List, [], ◌∷◌, ◌++◌, count_by, length, map};
 ghost use Rattle.std.specs.List.{AllByRecursion, enumerate_from, range_with_len};
 ghost use Rattle.block_layout.specs.Layout.{block_size, IsBoundary, chunk_end_of, end_of, room};
 ghost use Rattle.chunk_header.specs.Chunks.{ChunkValue};
@@ -26,8 +26,9 @@ pub fn right_chunks_are_laid()
         → laid_each place (ks ++ value_of_chunk c ∷ []) ≡ laid_each place ks ++ laid_as (end_of_chunks place ks) c }
 {}
 
-/// What is laid is the same so many blocks further on: how much room there is, where bytes and chunks end, what bytes
-/// chunks have, and what padding. Own.
+/// What is laid moves by whole blocks: there is as much room so many blocks further on, and bytes and chunks end so many
+/// blocks further on. At places that lie alike in their blocks, chunks have the same bytes, and there is the same padding.
+/// Own.
 pub fn laying_moves_by_blocks()
     ensures room { (a b blocks : ℕ) → room (a + blocks * block_size) (b + blocks * block_size) ≡ room a b }
     ensures end { (begin size blocks : ℕ)
@@ -36,16 +37,16 @@ pub fn laying_moves_by_blocks()
         → chunk_end_of (begin + blocks * block_size) size num_records ≡ chunk_end_of begin size num_records + blocks * block_size }
     ensures chunks_end { (place blocks : ℕ) (ks : List ChunkValue)
         → end_of_chunks (place + blocks * block_size) ks ≡ end_of_chunks place ks + blocks * block_size }
-    ensures boundary { (p blocks : ℕ) → IsBoundary (p + blocks * block_size) ↔ IsBoundary p }
-    ensures is_laid { (begin blocks : ℕ) (k : ChunkValue) (bytes : List ℕ)
-        → IsLaid (begin + blocks * block_size) k bytes ↔ IsLaid begin k bytes }
-    ensures are_laid { (place blocks : ℕ) (ks : List ChunkValue) (bytes : List ℕ)
-        → AreLaid (place + blocks * block_size) ks bytes ↔ AreLaid place ks bytes }
-    ensures laid { (begin blocks : ℕ) (k : ChunkValue) → laid (begin + blocks * block_size) k ≡ laid begin k }
-    ensures laid_each { (place blocks : ℕ) (ks : List ChunkValue)
-        → laid_each (place + blocks * block_size) ks ≡ laid_each place ks }
-    ensures padding { (place blocks : ℕ) → padding_at (place + blocks * block_size) ≡ padding_at place }
-    ensures padding_bytes { (place blocks : ℕ) → padding_bytes (place + blocks * block_size) ≡ padding_bytes place }
+    ensures boundary { (p q : ℕ) → p % block_size ≡ q % block_size → IsBoundary p → IsBoundary q }
+    ensures is_laid { (p q : ℕ) (k : ChunkValue) (bytes : List ℕ)
+        → p % block_size ≡ q % block_size → IsLaid p k bytes → IsLaid q k bytes }
+    ensures are_laid { (p q : ℕ) (ks : List ChunkValue) (bytes : List ℕ)
+        → p % block_size ≡ q % block_size → AreLaid p ks bytes → AreLaid q ks bytes }
+    ensures laid { (p q : ℕ) (k : ChunkValue) → p % block_size ≡ q % block_size → laid p k ≡ laid q k }
+    ensures laid_each { (p q : ℕ) (ks : List ChunkValue)
+        → p % block_size ≡ q % block_size → laid_each p ks ≡ laid_each q ks }
+    ensures padding { (p q : ℕ) → p % block_size ≡ q % block_size → padding_at p ≡ padding_at q }
+    ensures padding_bytes { (p q : ℕ) → p % block_size ≡ q % block_size → padding_bytes p ≡ padding_bytes q }
 {}
 
 /// A file of chunks, the padding at its end, and another file behind that are one file, of the chunks of both and the
