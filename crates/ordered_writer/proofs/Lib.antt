@@ -9,3 +9,4 @@ pub mod Ring
 pub mod Reorderings
 pub mod ByNumber
 pub mod Moves
+pub mod JoinedFiles

@@ -1,9 +1,9 @@
 -- Chunks moved by whole blocks keep their bytes.
-use Rattle.std.proofs.Common.{◌≡◌, ◌∙◌, ℕ, ◌+◌, ◌-◌, ◌*◌, ◌/◌, ◌%◌, ◌<◌, ◌≤◌, List, [], ◌∷◌, ◌++◌, cond, length, get_or, ltb, refl, sym, ap, subst, inl, inr, arith}
+use Rattle.std.proofs.Common.{◌≡◌, ◌∙◌, ℕ, ◌+◌, ◌-◌, ◌*◌, ◌/◌, ◌%◌, ◌<◌, List, [], ◌∷◌, ◌++◌, cond, length, get_or, ltb, refl, sym, ap, inl, inr, arith}
 use Rattle.std.specs.Prelude.{nat_le, slice_get, slice_range, ◌==◌}
 use Rattle.std.proofs.lemmas.List.{ext_get_or}
 use Rattle.std.proofs.lemmas.List.FromFn.{get_or-map-range_with_len, length-map-range_with_len}
-use Rattle.block_layout.specs.Layout.{IsBlock, IsBoundary, chunk_end_of, room}
+use Rattle.block_layout.specs.Layout.{IsBoundary, chunk_end_of, room}
 use Rattle.block_layout.specs.BlockHeaders.{block_header}
 use Rattle.block_layout.proofs.Room.{room-closed, room_shift}
 use Rattle.block_layout.proofs.ChunkEnds.{chunk_end_of_shift, chunk_end_from_number}

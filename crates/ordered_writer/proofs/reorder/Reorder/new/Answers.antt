@@ -1,6 +1,6 @@
 use Rattle.std.proofs.Common.{◌≡◌, ◌∙◌, ℕ, Option, None, List, replicate, ap, arith}
 use Rattle.chunk_header.specs.declared.Chunk.{Chunk}
-use Rattle.ordered_writer.specs.Reorders.{Reordering, in_ring}
+use Rattle.ordered_writer.specs.Reorders.{in_ring}
 use Rattle.ordered_writer.proofs.Ring.{in_ring-empty}
 use Rattle.ordered_writer.proofs.reorder.Reorder.new.Goals as goal
 
