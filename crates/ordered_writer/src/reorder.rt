@@ -59,6 +59,7 @@ impl Reorder {
         requires in_reach { self.old.wanted + room_of self.old ≤ 2 ^ 40 }
         requires free { CanHold self.old number }
         ensures held { self.new ≡ with_held self.old number chunk }
+        ensures room { room_of self.new ≡ room_of self.old }
         ensures count { count_held self.new ≡ count_held self.old + 1 }
         ensures few { count_held self.new ≤ room_of self.old }
     {
@@ -73,6 +74,7 @@ impl Reorder {
         ensures gives { result ≡ held_at self.old self.old.wanted }
         ensures some { IfSome result (λ _. self.new ≡ moved_on self.old) }
         ensures none { IfNone result (self.new ≡ self.old) }
+        ensures room { room_of self.new ≡ room_of self.old }
         ensures coming { coming self.old ≡ option_to_list result ++ coming self.new }
         ensures count { count_held self.old ≡ length (option_to_list result) + count_held self.new }
     {

@@ -1,10 +1,10 @@
 use Rattle.std.proofs.Common.{◌≡◌, ◌∙◌, ℕ, ◌+◌, ◌%◌, ◌<◌, ◌∷◌, Option, None, List, length, get_or, set, sym, ap, arith}
-use Rattle.std.proofs.lemmas.List.{get_or_default}
+use Rattle.std.proofs.lemmas.List.{get_or_default, length-set}
 use Rattle.std.proofs.lemmas.Nat.{mod_below}
 use Rattle.chunk_header.specs.declared.Chunk.{Chunk}
-use Rattle.ordered_writer.specs.Reorders.{Reordering, count_held, coming, held_at, in_ring, moved_on}
+use Rattle.ordered_writer.specs.Reorders.{Reordering, count_held, coming, held_at, in_ring, moved_on, room_of}
 use Rattle.ordered_writer.proofs.Reorderings.{coming-moved, count_held-moved}
-use Rattle.ordered_writer.proofs.Ring.{first-in_ring, in_ring-next}
+use Rattle.ordered_writer.proofs.Ring.{first-in_ring, in_ring-next, length-in_ring}
 use Rattle.ordered_writer.proofs.reorder.Reorder.next.Goals as goal
 
 pub returns-clause-gives : goal.returns-clause-gives
@@ -43,3 +43,11 @@ pub returns-clause-count : goal.returns-clause-count
 returns-clause-count c =
     count_held-moved c.args.self.now c.in_ok-chunk.chunk (sym (returns-clause-gives c))
     ∙ ap (λ (r : Reordering). 1 + count_held r) (sym (returns-clause-some c))
+
+pub returns-clause-room : goal.returns-clause-room
+returns-clause-room c =
+    let slots = c.self.inside.slots.items in
+    length-in_ring (c.self.inside.wanted + 1) (set slots c.slot_of-slot.result c.take.new.self)
+    ∙ length-set slots c.slot_of-slot.result c.take.new.self
+    ∙ sym (length-in_ring c.self.inside.wanted slots)
+    ∙ ap room_of c.self.view_is
