@@ -10,3 +10,4 @@ pub mod Reorderings
 pub mod ByNumber
 pub mod Moves
 pub mod JoinedFiles
+mod Values

@@ -1,13 +1,18 @@
 -- What is held while numbers move on.
 use Rattle.std.proofs.Common.{◌≡◌, ◌∙◌, ℕ, ◌+◌, ◌-◌, ◌<◌, cond, Option, Some, None, List, [], ◌∷◌, ◌++◌, length, get_or, drop, refl, sym, ap, arith}
 use Rattle.std.specs.Prelude.{count_by, is_some}
+use Rattle.std.proofs.lemmas.List.Folds.{sum_by-replicate}
 use Rattle.std.proofs.lemmas.List.Sums.{sum_by-append, sum_by-cons, sum_by-set}
 use Rattle.chunk_header.specs.declared.Chunk.{Chunk}
-use Rattle.ordered_writer.specs.Reorders.{CanHold, Reordering, coming, count_held, held_at, held_in_row, moved_on, with_held}
+use Rattle.ordered_writer.specs.Reorders.{CanHold, Reordering, coming, count_held, held_at, held_in_row, moved_on, reordering_from, with_held}
 
 -- whether there is one, as a number
 abbrev one_if : Option Chunk → ℕ
 one_if held = cond (is_some held) 1 0
+
+-- nothing is held at first
+pub count_held-empty : (first room : ℕ) → count_held (reordering_from first room) ≡ 0
+count_held-empty first room = omega (arith, sum_by-replicate one_if room None)
 
 -- one more is held for a number that had none
 pub count_held-held : (r : Reordering) (number : ℕ) (c : Chunk) → CanHold r number → count_held (with_held r number c) ≡ count_held r + 1

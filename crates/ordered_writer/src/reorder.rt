@@ -34,7 +34,8 @@ impl Reorder {
     pub fn new(alloc: Global, first: u64, room: usize) -> Result<Reorder, AllocError>
         requires some { 1 ≤ room }
         requires in_reach { first + room ≤ 2 ^ 40 }
-        ensures { IfOk result (λ r. r ≡ reordering_from first room) }
+        ensures value { IfOk result (λ r. r ≡ reordering_from first room) }
+        ensures empty { IfOk result (λ r. count_held r ≡ 0) }
     {
         let mut slots = Vec::with_capacity(alloc, room)?;
         for _ in 0..room {

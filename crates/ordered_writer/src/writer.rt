@@ -50,10 +50,7 @@ impl OrderedWriter {
     pub fn new() -> OrderedWriter
         ensures { result ≡ writer_at 0 }
     {
-        OrderedWriter {
-            position: 0,
-            spent: false,
-        }
+        OrderedWriter::resume(0)
     }
 
     /// A writer that goes on at a position: a boundary, at most 2^61.
