@@ -17,6 +17,8 @@ mod layout;
 #[cfg(test)]
 mod memory;
 #[cfg(test)]
+mod order;
+#[cfg(test)]
 mod records;
 #[cfg(test)]
 mod resyncs;

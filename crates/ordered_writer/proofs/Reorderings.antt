@@ -7,18 +7,18 @@ use Rattle.chunk_header.specs.declared.Chunk.{Chunk}
 use Rattle.ordered_writer.specs.Reorders.{CanHold, Reordering, coming, count_held, held_at, held_in_row, moved_on, reordering_from, with_held}
 
 -- whether there is one, as a number
-abbrev one_if : Option Chunk → ℕ
-one_if held = cond (is_some held) 1 0
+abbrev one_if_some : Option Chunk → ℕ
+one_if_some held = cond (is_some held) 1 0
 
 -- nothing is held at first
 pub count_held-empty : (first room : ℕ) → count_held (reordering_from first room) ≡ 0
-count_held-empty first room = omega (arith, sum_by-replicate one_if room None)
+count_held-empty first room = omega (arith, sum_by-replicate one_if_some room None)
 
 -- one more is held for a number that had none
 pub count_held-held : (r : Reordering) (number : ℕ) (c : Chunk) → CanHold r number → count_held (with_held r number c) ≡ count_held r + 1
 count_held-held r number c h =
     let place : number - r.wanted < length r.held = omega (arith, h.low, h.high) in
-    omega (arith, sum_by-set one_if r.held (number - r.wanted) (Some c) None place, ap one_if h.free)
+    omega (arith, sum_by-set one_if_some r.held (number - r.wanted) (Some c) None place, ap one_if_some h.free)
 
 -- and one less once the next number's is given
 pub count_held-moved : (r : Reordering) (c : Chunk) → held_at r r.wanted ≡ Some c → count_held r ≡ 1 + count_held (moved_on r)
@@ -27,9 +27,9 @@ count_held-moved r c h = count_moved r.held (ap (λ (n : ℕ). get_or r.held n N
     count_moved : (held : List (Option Chunk)) → get_or held 0 None ≡ Some c → count_by is_some held ≡ 1 + count_by is_some (drop 1 held ++ None ∷ [])
     count_moved [] first = absurd cc
     count_moved (x ∷ held) first =
-        let whole : count_by is_some (x ∷ held) ≡ one_if x + count_by is_some held = sum_by-cons one_if x held in
-        let rest : count_by is_some (held ++ None ∷ []) ≡ count_by is_some held + 0 = sum_by-append one_if held (None ∷ []) in
-        omega (arith, whole, ap one_if first, rest)
+        let whole : count_by is_some (x ∷ held) ≡ one_if_some x + count_by is_some held = sum_by-cons one_if_some x held in
+        let rest : count_by is_some (held ++ None ∷ []) ≡ count_by is_some held + 0 = sum_by-append one_if_some held (None ∷ []) in
+        omega (arith, whole, ap one_if_some first, rest)
 
 -- a gap behind all others doesn't show
 row-gap : (held : List (Option Chunk)) → held_in_row (held ++ None ∷ []) ≡ held_in_row held

@@ -75,9 +75,9 @@ pub fn files_are_joined_at_blocks()
         } }
 {}
 
-/// Where a chunk is held for a number, what is held for the others stays, and the numbers that come next stay; where the
-/// next number is past, what is held for those behind it stays. There is as much room as before, and no more chunks are
-/// held than there is room for. Own.
+/// A chunk that is held for a number leaves what is held for the others, and once the next number is past, what is held
+/// for those behind it is as before. There is as much room as before, and no more chunks are held than there is room for.
+/// Own.
 pub fn numbers_keep_their_chunks()
     ensures held { (r : Reordering) (number : ℕ) (c : Chunk) → CanHold r number → held_at (with_held r number c) number ≡ Some c }
     ensures others { (r : Reordering) (number p : ℕ) (c : Chunk) → CanHold r number → r.wanted ≤ p → p ≢ number

@@ -1,5 +1,5 @@
-//! Chunks laid one after another in a file, with the block headers between them. The headings that items name are
-//! those of the Riegeli/records file format specification; "Own." stands where this project decided.
+//! Chunks laid one after another in a file, with the block headers between them, and put in order before. The headings
+//! that items name are those of the Riegeli/records file format specification; "Own." stands where this project decided.
 #![tactic(auto)]
 
 pub mod laws;

@@ -29,8 +29,8 @@ impl Model for Reorder {
 }
 
 impl Reorder {
-    /// Room for the chunks of so many numbers at a time, at least one, of which `first` comes first. `first + room` must
-    /// be at most 2^40.
+    /// Holds nothing yet, and has room for the chunks of `room` numbers at a time, at least one. The number `first` comes
+    /// first. Both together must be at most 2^40.
     pub fn new(alloc: Global, first: u64, room: usize) -> Result<Reorder, AllocError>
         requires some { 1 ≤ room }
         requires in_reach { first + room ≤ 2 ^ 40 }
@@ -68,8 +68,8 @@ impl Reorder {
         self.slots[slot] = Some(chunk);
     }
 
-    /// The chunk of the number that comes next, behind which the next one comes then; `None` exactly where it is not held.
-    /// The next number and the room together must be at most 2^40. Takes no memory.
+    /// Gives the chunk of the number that comes next, and goes on to the number behind it; `None` exactly where that chunk is
+    /// not held, and then all stays. The next number and the room together must be at most 2^40. Takes no memory.
     pub fn next(&mut self) -> Option<Chunk>
         requires in_reach { self.old.wanted + room_of self.old ≤ 2 ^ 40 }
         ensures gives { result ≡ held_at self.old self.old.wanted }
