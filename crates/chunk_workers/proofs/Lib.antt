@@ -5,3 +5,4 @@ pub mod Runs
 pub mod SeatLists
 pub mod Tables
 mod Values
+pub mod Windows

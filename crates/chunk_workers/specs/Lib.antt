@@ -1,3 +1,4 @@
 pub mod DrawMachine
 pub mod DrawRule
 pub mod Seats
+pub mod Windows
