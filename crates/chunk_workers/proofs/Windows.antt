@@ -1,9 +1,20 @@
 -- Chunks of a window, each with the number of its group.
-use Rattle.std.proofs.Common.{◌≡◌, ◌∙◌, ℕ, List, [], ◌∷◌, ◌++◌, ap}
+use Rattle.std.proofs.Common.{◌≡◌, ◌∙◌, ℕ, zero, suc, ◌+◌, ◌<◌, ◌≤◌, Option, Some, None, List, [], ◌∷◌, ◌++◌, All, length, map, get_or, inl, inr, refl, sym, ap, subst, arith}
+use Rattle.std.specs.List.{flat_map, range_with_len, slice_get}
+use Rattle.std.specs.Option.{option_to_list}
+use Rattle.std.proofs.lemmas.Bool.{cond-true, cond-false, cases_eq, eq-eqb, ne_eqb}
 use Rattle.std.proofs.lemmas.List.{flat_map_more, map-append}
+use Rattle.std.proofs.lemmas.List.Elements.{All-append}
+use Rattle.std.proofs.lemmas.Option.{none-some, same_Some, slice_get_cases, slice_get_within}
+use Rattle.std.proofs.Math.Dec.{eqb}
+use Rattle.chunk_header.specs.Chunks.{ChunkValue}
+use Rattle.chunk_header.specs.Views.{HasRightHash, value_of_chunk}
+use Rattle.chunk_header.specs.declared.Chunk.{Chunk}
+use Rattle.chunk_workers.specs.DrawMachine.{HasEachBelow, times}
 use Rattle.chunk_workers.specs.Seats.{SeatValue, drawn_by}
 use Rattle.chunk_workers.specs.declared.numbered.Numbered.{Numbered}
-use Rattle.chunk_workers.specs.Windows.{numbers_of}
+use Rattle.chunk_workers.specs.Windows.{IsChunkOfGroup, IsWindow, by_number, chunk_at, numbers_of}
+use Rattle.chunk_workers.proofs.Counting.{one_if-same, one_if-other, times-cons, times-each_below-le}
 
 -- the numbers of what seats left, and of what one more left
 pub numbers-more : (window coded : List Numbered) (seats : List SeatValue) (seat : SeatValue) → numbers_of window ≡ drawn_by seats → numbers_of coded ≡ seat.hand.mine
@@ -13,3 +24,142 @@ numbers-more window coded seats seat before one =
     ∙ ap (λ (ns : List ℕ). ns ++ numbers_of coded) before
     ∙ ap (λ (ns : List ℕ). drawn_by seats ++ ns) one
     ∙ flat_map_more (λ (s : SeatValue). s.hand.mine) [] seats seat
+
+-- what was coded of the numbers that were drawn, each once
+pub window_of : (chunk_of : List (List ℕ) → ChunkValue) (groups : List (List (List ℕ))) (window : List Numbered) (drawn : List ℕ)
+    → numbers_of window ≡ drawn → HasEachBelow (length groups) drawn → All (IsChunkOfGroup chunk_of groups) window → IsWindow chunk_of groups window
+window_of chunk_of groups window drawn same each chunks =
+    record { each = subst (HasEachBelow (length groups)) (sym same) each; chunks = chunks }
+
+-- the chunk of a number is the first one's, where that has the number, and else stands behind it
+chunk_at-first : (c : Numbered) (window : List Numbered) (p : ℕ) → c.number ≡ p → chunk_at (c ∷ window) p ≡ Some c.chunk
+chunk_at-first c window p same = cond-true (eqb c.number p) (Some c.chunk) (chunk_at window p) (eq-eqb c.number p same)
+
+chunk_at-behind : (c : Numbered) (window : List Numbered) (p : ℕ) → ¬ (c.number ≡ p) → chunk_at (c ∷ window) p ≡ chunk_at window p
+chunk_at-behind c window p other = cond-false (eqb c.number p) (Some c.chunk) (chunk_at window p) (ne_eqb c.number p other)
+
+-- a number that stands in the list has a chunk, of which holds what holds of all
+pub chunk_found : (P : Numbered → Type 0) (window : List Numbered) (p : ℕ) → All P window → 1 ≤ times p (numbers_of window)
+    → (c : Numbered) × (c.number ≡ p) × (chunk_at window p ≡ Some c.chunk) × P c
+chunk_found P [] p all some = absurd (omega (arith, some))
+chunk_found P (c ∷ window) p all some =
+    elim (cases_eq c.number p) [
+      | inl same ↦ (c, same, chunk_at-first c window p same, all 0 c (omega arith))
+      | inr other ↦
+          let f = chunk_found P window p (λ k d within. all (suc k) d (omega (arith, within))) (omega (arith, some, times-cons p c.number (numbers_of window), one_if-other p c.number other)) in
+          (f.0, f.1, chunk_at-behind c window p other ∙ f.2, f.3)
+    ]
+
+-- and a number that has a chunk stands in the list
+times-chunk_at : (window : List Numbered) (p : ℕ) (chunk : Chunk) → chunk_at window p ≡ Some chunk → 1 ≤ times p (numbers_of window)
+times-chunk_at [] p chunk found = absurd (none-some chunk found)
+times-chunk_at (c ∷ window) p chunk found =
+    elim (cases_eq c.number p) [
+      | inl same ↦ omega (arith, times-cons p c.number (numbers_of window), one_if-same p c.number same)
+      | inr other ↦ omega (arith, times-cons p c.number (numbers_of window), times-chunk_at window p chunk (sym (chunk_at-behind c window p other) ∙ found))
+    ]
+
+-- where no number comes twice, each chunk is the one of its number
+pub chunk_at-own : (window : List Numbered) → ((p : ℕ) → times p (numbers_of window) ≤ 1) → All (λ c. chunk_at window c.number ≡ Some c.chunk) window
+chunk_at-own [] once k d within = absurd (omega (arith, within))
+chunk_at-own (c ∷ window) once zero d within = chunk_at-first c window c.number refl
+chunk_at-own (c ∷ window) once (suc k) d within =
+    let e : Numbered = get_or window k d in
+    let own : chunk_at window e.number ≡ Some e.chunk = chunk_at-own window (λ p. omega (arith, once p, times-cons p c.number (numbers_of window))) k d (omega (arith, within)) in
+    elim (cases_eq c.number e.number) [
+      | inl same ↦ absurd (omega (arith, once e.number, times-cons e.number c.number (numbers_of window), one_if-same e.number c.number same, times-chunk_at window e.number e.chunk own))
+      | inr other ↦ chunk_at-behind c window e.number other ∙ own
+    ]
+
+pub chunk_at-each : (chunk_of : List (List ℕ) → ChunkValue) (groups : List (List (List ℕ))) (window : List Numbered) → IsWindow chunk_of groups window
+    → All (λ c. chunk_at window c.number ≡ Some c.chunk) window
+chunk_at-each chunk_of groups window h = chunk_at-own window (λ p. times-each_below-le (length groups) p (numbers_of window) h.each)
+
+-- each group has a chunk, the one of its number
+pub chunk_at-group : (chunk_of : List (List ℕ) → ChunkValue) (groups : List (List (List ℕ))) (window : List Numbered) → IsWindow chunk_of groups window
+    → (p : ℕ) (group : List (List ℕ)) → slice_get groups p ≡ Some group
+    → (chunk : Chunk) × (chunk_at window p ≡ Some chunk) × (value_of_chunk chunk ≡ chunk_of group) × HasRightHash chunk
+chunk_at-group chunk_of groups window h p group stands =
+    let once = h.each.once p (slice_get_within groups p group stands) in
+    let f = chunk_found (IsChunkOfGroup chunk_of groups) window p h.chunks (omega (arith, once)) in
+    let same : group ≡ f.3.group = same_Some group f.3.group (sym stands ∙ ap (slice_get groups) (sym f.1) ∙ f.3.stands) in
+    (f.0.chunk, f.2, f.3.value ∙ ap chunk_of (sym same), f.3.right)
+
+-- what is there for numbers from one on, in order
+abbrev listed : {X : Type 0} → (ℕ → Option X) → ℕ → ℕ → List X
+listed f begin n = flat_map (λ number. option_to_list (f number)) (range_with_len begin n)
+
+listed-one : {X : Type 0} (f : ℕ → Option X) (begin n : ℕ) (x : X) → f begin ≡ Some x → listed f begin (suc n) ≡ x ∷ listed f (begin + 1) n
+listed-one f begin n x is = ap (λ o. option_to_list o ++ listed f (begin + 1) n) is
+
+listed-values : {X Y Z : Type 0} (f : ℕ → Option X) (value : X → Y) (of : Z → Y) (begin : ℕ) (zs : List Z)
+    → ((i : ℕ) (z : Z) → slice_get zs i ≡ Some z → (x : X) × (f (begin + i) ≡ Some x) × (value x ≡ of z))
+    → map value (listed f begin (length zs)) ≡ map of zs
+listed-values f value of begin [] each = refl
+listed-values f value of begin (z ∷ zs) each =
+    let one = each 0 z refl in
+    let here : f begin ≡ Some one.0 = ap f (omega arith) ∙ one.1 in
+    let rest = listed-values f value of (begin + 1) zs (λ i y at. let e = each (suc i) y at in (e.0, ap f (omega arith) ∙ e.1, e.2)) in
+    ap (map value) (listed-one f begin (length zs) one.0 here)
+    ∙ ap (λ y. y ∷ map value (listed f (begin + 1) (length zs))) one.2
+    ∙ ap (λ ys. of z ∷ ys) rest
+
+listed-same : {X : Type 0} (f : ℕ → Option X) (begin : ℕ) (xs : List X) → ((i : ℕ) → i < length xs → f (begin + i) ≡ slice_get xs i) → listed f begin (length xs) ≡ xs
+listed-same f begin [] each = refl
+listed-same f begin (x ∷ xs) each =
+    listed-one f begin (length xs) x (ap f (omega arith) ∙ each 0 (omega arith))
+    ∙ ap (λ ys. x ∷ ys) (listed-same f (begin + 1) xs (λ i within. ap f (omega arith) ∙ each (suc i) (omega (arith, within))))
+
+all_optional : {X : Type 0} (P : X → Type 0) (o : Option X) → ((x : X) → o ≡ Some x → P x) → All P (option_to_list o)
+all_optional P None each k d within = absurd (omega (arith, within))
+all_optional P (Some x) each zero d within = each x refl
+all_optional P (Some x) each (suc k) d within = absurd (omega (arith, within))
+
+listed-all : {X : Type 0} (P : X → Type 0) (f : ℕ → Option X) (begin n : ℕ) → ((p : ℕ) (x : X) → f p ≡ Some x → P x) → All P (listed f begin n)
+listed-all P f begin zero each = λ k d within. absurd (omega (arith, within))
+listed-all P f begin (suc n) each =
+    All-append P (option_to_list (f begin)) (listed f (begin + 1) n) (all_optional P (f begin) (each begin)) (listed-all P f (begin + 1) n each)
+
+-- by rising number they are the chunks of the groups
+pub by_number-values : (chunk_of : List (List ℕ) → ChunkValue) (groups : List (List (List ℕ))) (window : List Numbered) → IsWindow chunk_of groups window
+    → map value_of_chunk (by_number (length groups) window) ≡ map chunk_of groups
+by_number-values chunk_of groups window h =
+    listed-values (chunk_at window) value_of_chunk chunk_of 0 groups
+    (λ p group stands. let c = chunk_at-group chunk_of groups window h p group stands in (c.0, ap (chunk_at window) (omega arith) ∙ c.1, c.2))
+
+-- and have right hashes
+pub by_number-right : (chunk_of : List (List ℕ) → ChunkValue) (groups : List (List (List ℕ))) (window : List Numbered) → IsWindow chunk_of groups window
+    → All HasRightHash (by_number (length groups) window)
+by_number-right chunk_of groups window h =
+    listed-all HasRightHash (chunk_at window) 0 (length groups)
+    (λ p chunk at.
+    let f = chunk_found (IsChunkOfGroup chunk_of groups) window p h.chunks (times-chunk_at window p chunk at) in
+    subst HasRightHash (same_Some f.0.chunk chunk (sym f.2 ∙ at)) f.3.right)
+
+-- a list that has each chunk at its number has them by rising number
+pub by_number-each : (chunk_of : List (List ℕ) → ChunkValue) (groups : List (List (List ℕ))) (window : List Numbered) (chunks : List Chunk) → IsWindow chunk_of groups window
+    → length chunks ≡ length groups → All (λ c. slice_get chunks c.number ≡ Some c.chunk) window → by_number (length groups) window ≡ chunks
+by_number-each chunk_of groups window chunks h many each =
+    ap (λ n. by_number n window) (sym many)
+    ∙ listed-same (chunk_at window) 0 chunks
+    (λ i within.
+    let once = h.each.once i (omega (arith, within, many)) in
+    let f = chunk_found (λ c. slice_get chunks c.number ≡ Some c.chunk) window i each (omega (arith, once)) in
+    ap (chunk_at window) (omega arith) ∙ f.2 ∙ sym f.3 ∙ ap (slice_get chunks) f.1)
+
+-- chunks of which each is that of the group at its place
+pub placed-values : (chunk_of : List (List ℕ) → ChunkValue) (groups : List (List (List ℕ))) (chunks : List Chunk) → length chunks ≡ length groups
+    → ((p : ℕ) (chunk : Chunk) → slice_get chunks p ≡ Some chunk → IsChunkOfGroup chunk_of groups (record { number = p; chunk = chunk }))
+    → map value_of_chunk chunks ≡ map chunk_of groups
+placed-values chunk_of groups chunks many each =
+    ap (map value_of_chunk) (sym (listed-same (slice_get chunks) 0 chunks (λ i within. ap (slice_get chunks) (omega arith))))
+    ∙ ap (λ n. map value_of_chunk (listed (slice_get chunks) 0 n)) many
+    ∙ listed-values (slice_get chunks) value_of_chunk chunk_of 0 groups
+    (λ p group stands.
+    elim ((slice_get_cases chunks p).1) [
+      | inl here ↦
+          let one = each p here.0 here.2 in
+          let same : group ≡ one.group = same_Some group one.group (sym stands ∙ one.stands) in
+          (here.0, ap (slice_get chunks) (omega arith) ∙ here.2, one.value ∙ ap chunk_of (sym same))
+      | inr past ↦ absurd (omega (arith, past.0, many, slice_get_within groups p group stands))
+    ])

@@ -1,14 +1,20 @@
 //! Laws of the definitions that contracts cite. Nothing runs here.
 
-ghost use Rattle.std.specs.Prelude.{◌≡◌, ◌≢◌, ℕ, ◌+◌, ◌%◌, ◌^◌, ◌≤◌, List, [], ◌∷◌, ◌++◌, length, slice_index, slice_set};
+ghost use Rattle.std.specs.Prelude.{◌≡◌, ◌≢◌, ℕ, ◌+◌, ◌%◌, ◌^◌, ◌≤◌, Some, List, [], ◌∷◌, ◌++◌, All, length, map, slice_get, slice_index, slice_set};
 ghost use Rattle.std.specs.List.{AllByRecursion, flat_map};
 ghost use mathlib.Core.Option.{some, none};
 ghost use lib.ListN.{get_elem?};
 ghost use Rattle.atomic_table.specs.Table.{State, Me, Allows, Joins, Splits, keeps, opening, step, stepped};
+ghost use Rattle.chunk_header.specs.Chunks.{ChunkValue};
+ghost use Rattle.chunk_header.specs.Views.{HasRightHash, value_of_chunk};
+ghost use Rattle.chunk_header.specs.declared.Chunk.{Chunk};
+ghost use Rattle.chunk_workers.specs.declared.numbered.Numbered.{Numbered};
 ghost use Rattle.chunk_workers.specs.declared.table.SeatView.{SeatView};
 ghost use Rattle.chunk_workers.specs.declared.table.Terms.{Terms};
 ghost use Rattle.chunk_workers.specs.DrawMachine.{AreDraws, HasEachBelow, IsCounted, IsDraw, Machine, drawn, start_of, times};
 ghost use Rattle.chunk_workers.specs.DrawRule.{IsKept, TellsDraw, first_view, hand_of, joined_view, machine_of, spent_view, view_less_one, view_of_one, with_hand};
+ghost use Rattle.chunk_workers.specs.Seats.{SeatValue, drawn_by};
+ghost use Rattle.chunk_workers.specs.Windows.{IsChunkOfGroup, IsWindow, by_number, chunk_at, numbers_of};
 
 /// After any run of draws each number below the one that comes next stands in the seats' lists once, and no other;
 /// `mine` has those below n, `past` those that are not, and at most one. Where each seat has ended, and there is one,
@@ -54,4 +60,30 @@ pub fn steps_keep_the_rule()
     ensures closes { (terms : Terms) (s : State (Unit {0}) SeatView) (id : ℕ) (v : SeatView)
         → IsKept terms s → get_elem? s.views id ≡ some v → v.weight ≡ terms.workers → v.past ≢ [] → HasEachBelow terms.n v.mine }
     ensures word { (terms : Terms) (s : State (Unit {0}) SeatView) → IsKept terms s → slice_index s.words 0 ≤ terms.n + 16 }
+{}
+
+/// Where numbers were drawn of which each below the number of the groups is there once, the chunks of the groups of these
+/// numbers are a window. In it each group has one chunk, under its own number. By rising number they are the chunks of the
+/// groups, in their order, each with its data's right hash; and so is each list that has each chunk at its number, or at each
+/// place the chunk of the group of that place. Own.
+pub fn windows_have_the_chunks_of_their_groups()
+    ensures drawn { (chunk_of : List (List ℕ) → ChunkValue) (groups : List (List (List ℕ))) (window : List Numbered) (seats : List SeatValue)
+        → numbers_of window ≡ drawn_by seats → HasEachBelow (length groups) (drawn_by seats)
+        → All (IsChunkOfGroup chunk_of groups) window → IsWindow chunk_of groups window }
+    ensures own { (chunk_of : List (List ℕ) → ChunkValue) (groups : List (List (List ℕ))) (window : List Numbered)
+        → IsWindow chunk_of groups window → All (λ c. chunk_at window c.number ≡ Some c.chunk) window }
+    ensures group { (chunk_of : List (List ℕ) → ChunkValue) (groups : List (List (List ℕ))) (window : List Numbered)
+        → IsWindow chunk_of groups window → (p : ℕ) (group : List (List ℕ)) → slice_get groups p ≡ Some group
+        → (chunk : Chunk) × (chunk_at window p ≡ Some chunk) × (value_of_chunk chunk ≡ chunk_of group) × HasRightHash chunk }
+    ensures in_order { (chunk_of : List (List ℕ) → ChunkValue) (groups : List (List (List ℕ))) (window : List Numbered)
+        → IsWindow chunk_of groups window → map value_of_chunk (by_number (length groups) window) ≡ map chunk_of groups }
+    ensures right { (chunk_of : List (List ℕ) → ChunkValue) (groups : List (List (List ℕ))) (window : List Numbered)
+        → IsWindow chunk_of groups window → All HasRightHash (by_number (length groups) window) }
+    ensures by_number { (chunk_of : List (List ℕ) → ChunkValue) (groups : List (List (List ℕ))) (window : List Numbered) (chunks : List Chunk)
+        → IsWindow chunk_of groups window → length chunks ≡ length groups
+        → All (λ c. slice_get chunks c.number ≡ Some c.chunk) window → by_number (length groups) window ≡ chunks }
+    ensures placed { (chunk_of : List (List ℕ) → ChunkValue) (groups : List (List (List ℕ))) (chunks : List Chunk)
+        → length chunks ≡ length groups
+        → ((p : ℕ) (chunk : Chunk) → slice_get chunks p ≡ Some chunk → IsChunkOfGroup chunk_of groups (record { number = p; chunk = chunk }))
+        → map value_of_chunk chunks ≡ map chunk_of groups }
 {}

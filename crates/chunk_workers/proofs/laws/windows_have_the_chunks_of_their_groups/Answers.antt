@@ -1,0 +1,24 @@
+use Rattle.chunk_workers.proofs.Windows.{by_number-each, by_number-right, by_number-values, chunk_at-each, chunk_at-group, placed-values, window_of}
+use Rattle.chunk_workers.specs.Seats.{drawn_by}
+use Rattle.chunk_workers.proofs.laws.windows_have_the_chunks_of_their_groups.Goals as goal
+
+pub returns-clause-drawn : goal.returns-clause-drawn
+returns-clause-drawn c = λ chunk_of groups window seats. window_of chunk_of groups window (drawn_by seats)
+
+pub returns-clause-own : goal.returns-clause-own
+returns-clause-own c = chunk_at-each
+
+pub returns-clause-group : goal.returns-clause-group
+returns-clause-group c = chunk_at-group
+
+pub returns-clause-in_order : goal.returns-clause-in_order
+returns-clause-in_order c = by_number-values
+
+pub returns-clause-right : goal.returns-clause-right
+returns-clause-right c = by_number-right
+
+pub returns-clause-by_number : goal.returns-clause-by_number
+returns-clause-by_number c = by_number-each
+
+pub returns-clause-placed : goal.returns-clause-placed
+returns-clause-placed c = placed-values
