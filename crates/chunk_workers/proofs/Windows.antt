@@ -1,11 +1,11 @@
 -- Chunks of a window, each with the number of its group.
-use Rattle.std.proofs.Common.{◌≡◌, ◌∙◌, ℕ, zero, suc, ◌+◌, ◌<◌, ◌≤◌, Option, Some, None, List, [], ◌∷◌, ◌++◌, All, length, map, get_or, inl, inr, refl, sym, ap, subst, arith}
-use Rattle.std.specs.List.{flat_map, range_with_len, slice_get}
+use Rattle.std.proofs.Common.{◌≡◌, ◌∙◌, ℕ, zero, suc, ◌+◌, ◌≤◌, Option, Some, None, List, [], ◌∷◌, ◌++◌, All, length, map, get_or, inl, inr, refl, sym, ap, subst, arith}
+use Rattle.std.specs.List.{AllByRecursion, flat_map, range_with_len, slice_get}
 use Rattle.std.specs.Option.{option_to_list}
 use Rattle.std.proofs.lemmas.Bool.{cond-true, cond-false, cases_eq, eq-eqb, ne_eqb}
 use Rattle.std.proofs.lemmas.List.{flat_map_more, map-append}
 use Rattle.std.proofs.lemmas.List.Elements.{All-append}
-use Rattle.std.proofs.lemmas.Option.{none-some, same_Some, slice_get_cases, slice_get_within}
+use Rattle.std.proofs.lemmas.Option.{none-some, same_Some, get_or_from_slice_get, slice_get_within}
 use Rattle.std.proofs.Math.Dec.{eqb}
 use Rattle.chunk_header.specs.Chunks.{ChunkValue}
 use Rattle.chunk_header.specs.Views.{HasRightHash, value_of_chunk}
@@ -13,7 +13,7 @@ use Rattle.chunk_header.specs.declared.Chunk.{Chunk}
 use Rattle.chunk_workers.specs.DrawMachine.{HasEachBelow, times}
 use Rattle.chunk_workers.specs.Seats.{SeatValue, drawn_by}
 use Rattle.chunk_workers.specs.declared.numbered.Numbered.{Numbered}
-use Rattle.chunk_workers.specs.Windows.{IsChunkOfGroup, IsWindow, by_number, chunk_at, numbers_of}
+use Rattle.chunk_workers.specs.Windows.{IsChunkOfGroup, IsWindow, by_number, chunk_at, numbers_of, paired}
 use Rattle.chunk_workers.proofs.Counting.{one_if-same, one_if-other, times-cons, times-each_below-le}
 
 -- the numbers of what seats left, and of what one more left
@@ -104,12 +104,6 @@ listed-values f value of begin (z ∷ zs) each =
     ∙ ap (λ y. y ∷ map value (listed f (begin + 1) (length zs))) one.2
     ∙ ap (λ ys. of z ∷ ys) rest
 
-listed-same : {X : Type 0} (f : ℕ → Option X) (begin : ℕ) (xs : List X) → ((i : ℕ) → i < length xs → f (begin + i) ≡ slice_get xs i) → listed f begin (length xs) ≡ xs
-listed-same f begin [] each = refl
-listed-same f begin (x ∷ xs) each =
-    listed-one f begin (length xs) x (ap f (omega arith) ∙ each 0 (omega arith))
-    ∙ ap (λ ys. x ∷ ys) (listed-same f (begin + 1) xs (λ i within. ap f (omega arith) ∙ each (suc i) (omega (arith, within))))
-
 all_optional : {X : Type 0} (P : X → Type 0) (o : Option X) → ((x : X) → o ≡ Some x → P x) → All P (option_to_list o)
 all_optional P None each k d within = absurd (omega (arith, within))
 all_optional P (Some x) each zero d within = each x refl
@@ -136,30 +130,37 @@ by_number-right chunk_of groups window h =
     let f = chunk_found (IsChunkOfGroup chunk_of groups) window p h.chunks (times-chunk_at window p chunk at) in
     subst HasRightHash (same_Some f.0.chunk chunk (sym f.2 ∙ at)) f.3.right)
 
--- a list that has each chunk at its number has them by rising number
-pub by_number-each : (chunk_of : List (List ℕ) → ChunkValue) (groups : List (List (List ℕ))) (window : List Numbered) (chunks : List Chunk) → IsWindow chunk_of groups window
-    → length chunks ≡ length groups → All (λ c. slice_get chunks c.number ≡ Some c.chunk) window → by_number (length groups) window ≡ chunks
-by_number-each chunk_of groups window chunks h many each =
-    ap (λ n. by_number n window) (sym many)
-    ∙ listed-same (chunk_at window) 0 chunks
-    (λ i within.
-    let once = h.each.once i (omega (arith, within, many)) in
-    let f = chunk_found (λ c. slice_get chunks c.number ≡ Some c.chunk) window i each (omega (arith, once)) in
-    ap (chunk_at window) (omega arith) ∙ f.2 ∙ sym f.3 ∙ ap (slice_get chunks) f.1)
+-- numbers and chunks as pairs, which a caller can hold until they are wanted
+pub paired-numbers : (window : List Numbered) → map (λ c. c.0) (paired window) ≡ numbers_of window
+paired-numbers [] = refl
+paired-numbers (c ∷ window) = ap (λ ns. c.number ∷ ns) (paired-numbers window)
 
--- chunks of which each is that of the group at its place
-pub placed-values : (chunk_of : List (List ℕ) → ChunkValue) (groups : List (List (List ℕ))) (chunks : List Chunk) → length chunks ≡ length groups
-    → ((p : ℕ) (chunk : Chunk) → slice_get chunks p ≡ Some chunk → IsChunkOfGroup chunk_of groups (record { number = p; chunk = chunk }))
-    → map value_of_chunk chunks ≡ map chunk_of groups
-placed-values chunk_of groups chunks many each =
-    ap (map value_of_chunk) (sym (listed-same (slice_get chunks) 0 chunks (λ i within. ap (slice_get chunks) (omega arith))))
-    ∙ ap (λ n. map value_of_chunk (listed (slice_get chunks) 0 n)) many
-    ∙ listed-values (slice_get chunks) value_of_chunk chunk_of 0 groups
-    (λ p group stands.
-    elim ((slice_get_cases chunks p).1) [
-      | inl here ↦
-          let one = each p here.0 here.2 in
-          let same : group ≡ one.group = same_Some group one.group (sym stands ∙ one.stands) in
-          (here.0, ap (slice_get chunks) (omega arith) ∙ here.2, one.value ∙ ap chunk_of (sym same))
-      | inr past ↦ absurd (omega (arith, past.0, many, slice_get_within groups p group stands))
-    ])
+paired-all : (P : ℕ → Chunk → Type 0) (window : List Numbered) → All (λ c. P c.number c.chunk) window → AllByRecursion (λ c. P c.0 c.1) (paired window)
+paired-all P [] all = tt
+paired-all P (c ∷ window) all = (all 0 c (omega arith), paired-all P window (λ k d within. all (suc k) d (omega (arith, within))))
+
+pub paired-values : (chunk_of : List (List ℕ) → ChunkValue) (groups : List (List (List ℕ))) (window : List Numbered) → IsWindow chunk_of groups window
+    → AllByRecursion (λ c. value_of_chunk c.1 ≡ chunk_of (get_or groups c.0 [])) (paired window)
+paired-values chunk_of groups window h =
+    paired-all (λ number chunk. value_of_chunk chunk ≡ chunk_of (get_or groups number [])) window
+    (λ k d within.
+    let c : Numbered = get_or window k d in
+    let one = h.chunks k d within in
+    one.value ∙ ap chunk_of (sym (get_or_from_slice_get groups c.number one.group [] one.stands)))
+
+pub paired-right : (chunk_of : List (List ℕ) → ChunkValue) (groups : List (List (List ℕ))) (window : List Numbered) → IsWindow chunk_of groups window
+    → AllByRecursion (λ c. HasRightHash c.1) (paired window)
+paired-right chunk_of groups window h = paired-all (λ number chunk. HasRightHash chunk) window (λ k d within. (h.chunks k d within).right)
+
+-- the chunks of the groups, by number
+values_from : (chunk_of : List (List ℕ) → ChunkValue) (value : ℕ → ChunkValue) (begin : ℕ) (groups : List (List (List ℕ)))
+    → ((i : ℕ) → value (begin + i) ≡ chunk_of (get_or groups i [])) → map value (range_with_len begin (length groups)) ≡ map chunk_of groups
+values_from chunk_of value begin [] each = refl
+values_from chunk_of value begin (group ∷ groups) each =
+    ap (λ k. k ∷ map value (range_with_len (begin + 1) (length groups))) (ap value (omega arith) ∙ each 0)
+    ∙ ap (λ ks. chunk_of group ∷ ks) (values_from chunk_of value (begin + 1) groups (λ i. ap value (omega arith) ∙ each (suc i)))
+
+pub values_in_order : (chunk_of : List (List ℕ) → ChunkValue) (groups : List (List (List ℕ)))
+    → map (λ p. chunk_of (get_or groups p [])) (range_with_len 0 (length groups)) ≡ map chunk_of groups
+values_in_order chunk_of groups =
+    values_from chunk_of (λ p. chunk_of (get_or groups p [])) 0 groups (λ i. ap (λ p. chunk_of (get_or groups p [])) (omega arith))

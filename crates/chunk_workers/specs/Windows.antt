@@ -13,6 +13,10 @@ use Rattle.chunk_workers.specs.declared.numbered.Numbered.{Numbered}
 abbrev pub numbers_of : List Numbered → List ℕ
 numbers_of chunks = map (λ c. c.number) chunks
 
+-- the same chunks as pairs
+abbrev pub paired : List Numbered → List (ℕ × Chunk)
+paired chunks = map (λ c. (c.number, c.chunk)) chunks
+
 -- there is a group of this number, and the chunk is the one that belongs to it, with its data's right hash
 pub record IsChunkOfGroup (chunk_of : List (List ℕ) → ChunkValue) (groups : List (List (List ℕ))) (c : Numbered) : Type 0 where
   pub group : List (List ℕ)

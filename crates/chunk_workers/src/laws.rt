@@ -62,10 +62,9 @@ pub fn steps_keep_the_rule()
     ensures word { (terms : Terms) (s : State (Unit {0}) SeatView) → IsKept terms s → slice_index s.words 0 ≤ terms.n + 16 }
 {}
 
-/// Where numbers were drawn of which each below the number of the groups is there once, the chunks of the groups of these
-/// numbers are a window. In it each group has one chunk, under its own number. By rising number they are the chunks of the
-/// groups, in their order, each with its data's right hash; and so is each list that has each chunk at its number, or at each
-/// place the chunk of the group of that place. Own.
+/// Where each number below that of the groups was drawn once, and no other, the chunks of the groups of these numbers are
+/// a window. In it each group has one chunk, under its own number; and by rising number they are the chunks of the groups,
+/// in their order, each with its data's right hash. Own.
 pub fn windows_have_the_chunks_of_their_groups()
     ensures drawn { (chunk_of : List (List ℕ) → ChunkValue) (groups : List (List (List ℕ))) (window : List Numbered) (seats : List SeatValue)
         → numbers_of window ≡ drawn_by seats → HasEachBelow (length groups) (drawn_by seats)
@@ -79,11 +78,4 @@ pub fn windows_have_the_chunks_of_their_groups()
         → IsWindow chunk_of groups window → map value_of_chunk (by_number (length groups) window) ≡ map chunk_of groups }
     ensures right { (chunk_of : List (List ℕ) → ChunkValue) (groups : List (List (List ℕ))) (window : List Numbered)
         → IsWindow chunk_of groups window → All HasRightHash (by_number (length groups) window) }
-    ensures by_number { (chunk_of : List (List ℕ) → ChunkValue) (groups : List (List (List ℕ))) (window : List Numbered) (chunks : List Chunk)
-        → IsWindow chunk_of groups window → length chunks ≡ length groups
-        → All (λ c. slice_get chunks c.number ≡ Some c.chunk) window → by_number (length groups) window ≡ chunks }
-    ensures placed { (chunk_of : List (List ℕ) → ChunkValue) (groups : List (List (List ℕ))) (chunks : List Chunk)
-        → length chunks ≡ length groups
-        → ((p : ℕ) (chunk : Chunk) → slice_get chunks p ≡ Some chunk → IsChunkOfGroup chunk_of groups (record { number = p; chunk = chunk }))
-        → map value_of_chunk chunks ≡ map chunk_of groups }
 {}

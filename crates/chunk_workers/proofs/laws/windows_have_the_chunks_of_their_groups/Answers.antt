@@ -1,4 +1,4 @@
-use Rattle.chunk_workers.proofs.Windows.{by_number-each, by_number-right, by_number-values, chunk_at-each, chunk_at-group, placed-values, window_of}
+use Rattle.chunk_workers.proofs.Windows.{by_number-right, by_number-values, chunk_at-each, chunk_at-group, window_of}
 use Rattle.chunk_workers.specs.Seats.{drawn_by}
 use Rattle.chunk_workers.proofs.laws.windows_have_the_chunks_of_their_groups.Goals as goal
 
@@ -16,9 +16,3 @@ returns-clause-in_order c = by_number-values
 
 pub returns-clause-right : goal.returns-clause-right
 returns-clause-right c = by_number-right
-
-pub returns-clause-by_number : goal.returns-clause-by_number
-returns-clause-by_number c = by_number-each
-
-pub returns-clause-placed : goal.returns-clause-placed
-returns-clause-placed c = placed-values
