@@ -1,7 +1,10 @@
 -- Values counted by hand, which the checker computes from the definitions.
 use Rattle.std.proofs.Common.{◌≡◌, ℕ, ◌+◌, Some, None, List, [], ◌∷◌, set, refl}
 use Rattle.std.specs.List.{slice_get}
+use Rattle.chunk_header.specs.declared.Chunk.{Chunk}
+use Rattle.chunk_workers.specs.declared.numbered.Numbered.{Numbered}
 use Rattle.chunk_workers.specs.DrawMachine.{Hand, Machine, AreDraws, IsDraw, answer_for, drawn, start_of, times}
+use Rattle.chunk_workers.specs.Windows.{by_number, chunk_at}
 
 -- a seat's lists, and a state
 abbrev has : List ℕ → List ℕ → Hand
@@ -42,3 +45,16 @@ first_without = refl
 -- how often a number stands in a list
 twice : times 7 (7 ∷ 1 ∷ 7 ∷ []) ≡ 2
 twice = refl
+
+-- chunks in another order, by rising number, and the one of a number
+abbrev numbered : ℕ → Chunk → Numbered
+numbered number chunk = record { number = number; chunk = chunk }
+
+by_rising_number : (a b c : Chunk) → by_number 3 (numbered 2 c ∷ numbered 0 a ∷ numbered 1 b ∷ []) ≡ a ∷ b ∷ c ∷ []
+by_rising_number a b c = refl
+
+at_its_number : (a b : Chunk) → chunk_at (numbered 1 b ∷ numbered 0 a ∷ []) 0 ≡ Some a
+at_its_number a b = refl
+
+none_at_another : (a b : Chunk) → chunk_at (numbered 1 b ∷ numbered 0 a ∷ []) 2 ≡ None
+none_at_another a b = refl

@@ -13,14 +13,16 @@ use std::alloc::{AllocError, Global};
 use std::thread;
 use std::thread::Threads;
 
-/// Codes the groups of a window, each in one of as many threads as there are seats: a thread draws a number from its seat,
-/// codes the group of this number, and draws the next, until its seat has ended. Where no thread can be made, that is done
-/// here.
+/// Codes the groups of a window in threads, one for each seat: it draws a number, codes the group of that number, and draws
+/// the next, until its seat has ended. Where no thread can be made, that is done here, for one seat after another.
 ///
-/// There are as many numbers to draw as groups, and none is drawn yet; there is a seat for each worker of the draws; and each
-/// group costs at most 2^25. The seats come back ended, so that `Draws::finish` tells that each group was coded once.
+/// The draws are of as many numbers as there are groups, and there is a seat for each of their workers, none of which has
+/// drawn yet. Each group costs at most 2^25. The seats come back ended, so `Draws::finish` tells that each group was coded
+/// once.
 ///
-/// It fails only for want of memory. The seats are gone then. Own.
+/// # Errors
+///
+/// Want of memory. The seats are gone then. Own.
 pub fn encode_window<R: Threads + Sync, C: Coder + Sync>(
     rt: &R,
     alloc: Global,

@@ -28,3 +28,5 @@ mod stand_ins;
 mod streams;
 #[cfg(test)]
 mod varints;
+#[cfg(test)]
+mod windows;

@@ -1,0 +1,107 @@
+//! Windows of groups, coded by workers.
+ghost use Rattle.std.specs.Prelude.{◌≡◌, ◌^◌, ◌≤◌, ◌∷◌, [], All, IfOk, vec_len};
+ghost use Rattle.simple_chunk.specs.Costs.{cost_of};
+
+use chunk_header::Chunk;
+use chunk_workers::{Coder, Draws, SimpleCoder, encode_window};
+use simple_chunk::{Records, encode};
+use std::alloc::{AllocError, Global};
+use std::hint;
+use std::process::Abort;
+use std::sync::atomic::{AtomicBool, AtomicU64, Ordering};
+use std::test::Fail;
+use std::thread::Threads;
+
+/// A group of one record, which has this one byte.
+fn group_of(alloc: Global, byte: u8) -> Result<Records, AllocError>
+    ensures { IfOk result (λ group. group ≡ (byte ∷ []) ∷ []) }
+{
+    let mut group = Records::new(alloc);
+    group.push(&[byte])?;
+    Ok(group)
+}
+
+/// So many groups, each of its own number.
+fn groups_of(alloc: Global, count: u8) -> Result<Vec<Records>, AllocError>
+    ensures count { IfOk result (λ groups. vec_len groups ≡ count) }
+    ensures short { IfOk result (λ groups. All (λ group. cost_of group ≤ 2 ^ 25) groups.items) }
+{
+    let mut groups = Vec::new(alloc);
+    for byte in 0..count {
+        groups.push(group_of(alloc, byte)?)?;
+    }
+    Ok(groups)
+}
+
+/// Codes so many groups by two workers, and asserts that there is one chunk for each number, and the right one.
+fn code_each_once<R: Threads + Abort + Sync, C: Coder + Sync>(
+    rt: &R,
+    alloc: Global,
+    coder: &C,
+    count: u8,
+) -> Result<(), Fail> {
+    let groups = groups_of(alloc, count)?;
+    let (draws, seats) = Draws::new(alloc, count as u64, 2)?;
+    let (chunks, ended) = encode_window(rt, alloc, &draws, seats, coder, &groups)?;
+    draws.finish(ended);
+    assert_eq!(rt; chunks.len(), count as usize);
+    for byte in 0..count {
+        // No compression, one byte of sizes, a size of 1, and the record.
+        let data = [0, 1, 1, byte];
+        let is_coded = chunks.iter().any(|c| {
+            c.number == byte as u64 && c.chunk.bytes.as_slice() == data.as_slice()
+        });
+        assert!(rt; is_coded, "number {byte}");
+    }
+    Ok(())
+}
+
+#[test]
+fn two_groups_have_numbers_0_and_1(rt: HostRuntime) -> Result<(), Fail> {
+    code_each_once(&rt, rt.alloc(), &SimpleCoder, 2)
+}
+
+/// Codes the group of byte 0 only once seven others are coded, or gives up.
+#[derive(Drop)]
+struct LastOfEight {
+    coded: AtomicU64,
+    gave_up: AtomicBool,
+}
+
+impl LastOfEight {
+    fn wait_for_the_others(&self) {
+        for _ in 0..100_000_000 {
+            if self.coded.load(Ordering::SeqCst) == 7 {
+                return;
+            }
+            hint::spin_loop();
+        }
+        self.gave_up.store(true, Ordering::SeqCst);
+    }
+}
+
+impl Coder for LastOfEight {
+    ghost use Rattle.chunk_header.specs.SimpleChunks.{simple_chunk};
+
+    ghost chunk_of = { λ _ records. simple_chunk records };
+
+    fn code(&self, alloc: Global, records: &Records) -> Result<Chunk, AllocError> {
+        if records.values() == [0].as_slice() {
+            self.wait_for_the_others();
+        }
+        let chunk = encode(alloc, records)?;
+        self.coded.fetch_add(1, Ordering::SeqCst);
+        Ok(chunk)
+    }
+}
+
+#[test]
+fn groups_are_coded_while_another_is(rt: HostRuntime) -> Result<(), Fail> {
+    let coder = LastOfEight {
+        coded: AtomicU64::new(0),
+        gave_up: AtomicBool::new(false),
+    };
+    code_each_once(&rt, rt.alloc(), &coder, 8)?;
+    assert!(rt; !coder.gave_up.load(Ordering::SeqCst));
+    Ok(())
+}
