@@ -4,7 +4,7 @@ use Rattle.std.specs.List.{slice_get}
 use Rattle.chunk_header.specs.declared.Chunk.{Chunk}
 use Rattle.chunk_workers.specs.declared.numbered.Numbered.{Numbered}
 use Rattle.chunk_workers.specs.DrawMachine.{Hand, Machine, AreDraws, IsDraw, answer_for, drawn, start_of, times}
-use Rattle.chunk_workers.specs.Windows.{by_number, chunk_at}
+use Rattle.chunk_workers.specs.Windows.{by_number, chunk_of_number}
 
 -- a seat's lists, and a state
 abbrev has : List ℕ → List ℕ → Hand
@@ -53,8 +53,8 @@ numbered number chunk = record { number = number; chunk = chunk }
 by_rising_number : (a b c : Chunk) → by_number 3 (numbered 2 c ∷ numbered 0 a ∷ numbered 1 b ∷ []) ≡ a ∷ b ∷ c ∷ []
 by_rising_number a b c = refl
 
-at_its_number : (a b : Chunk) → chunk_at (numbered 1 b ∷ numbered 0 a ∷ []) 0 ≡ Some a
+at_its_number : (a b : Chunk) → chunk_of_number (numbered 1 b ∷ numbered 0 a ∷ []) 0 ≡ Some a
 at_its_number a b = refl
 
-none_at_another : (a b : Chunk) → chunk_at (numbered 1 b ∷ numbered 0 a ∷ []) 2 ≡ None
+none_at_another : (a b : Chunk) → chunk_of_number (numbered 1 b ∷ numbered 0 a ∷ []) 2 ≡ None
 none_at_another a b = refl

@@ -13,7 +13,7 @@ use Rattle.chunk_header.specs.declared.Chunk.{Chunk}
 use Rattle.chunk_workers.specs.DrawMachine.{HasEachBelow, times}
 use Rattle.chunk_workers.specs.Seats.{SeatValue, drawn_by}
 use Rattle.chunk_workers.specs.declared.numbered.Numbered.{Numbered}
-use Rattle.chunk_workers.specs.Windows.{IsChunkOfGroup, IsWindow, by_number, chunk_at, numbers_of, paired}
+use Rattle.chunk_workers.specs.Windows.{IsChunkOfGroup, IsWindow, by_number, chunk_of_number, numbers_of, paired}
 use Rattle.chunk_workers.proofs.Counting.{one_if-same, one_if-other, times-cons, times-each_below-le}
 
 -- the numbers of what seats left, and of what one more left
@@ -32,54 +32,54 @@ window_of chunk_of groups window drawn same each chunks =
     record { each = subst (HasEachBelow (length groups)) (sym same) each; chunks = chunks }
 
 -- the chunk of a number is the first one's, where that has the number, and else stands behind it
-chunk_at-first : (c : Numbered) (window : List Numbered) (p : ℕ) → c.number ≡ p → chunk_at (c ∷ window) p ≡ Some c.chunk
-chunk_at-first c window p same = cond-true (eqb c.number p) (Some c.chunk) (chunk_at window p) (eq-eqb c.number p same)
+chunk_of_number-first : (c : Numbered) (window : List Numbered) (p : ℕ) → c.number ≡ p → chunk_of_number (c ∷ window) p ≡ Some c.chunk
+chunk_of_number-first c window p same = cond-true (eqb c.number p) (Some c.chunk) (chunk_of_number window p) (eq-eqb c.number p same)
 
-chunk_at-behind : (c : Numbered) (window : List Numbered) (p : ℕ) → ¬ (c.number ≡ p) → chunk_at (c ∷ window) p ≡ chunk_at window p
-chunk_at-behind c window p other = cond-false (eqb c.number p) (Some c.chunk) (chunk_at window p) (ne_eqb c.number p other)
+chunk_of_number-behind : (c : Numbered) (window : List Numbered) (p : ℕ) → ¬ (c.number ≡ p) → chunk_of_number (c ∷ window) p ≡ chunk_of_number window p
+chunk_of_number-behind c window p other = cond-false (eqb c.number p) (Some c.chunk) (chunk_of_number window p) (ne_eqb c.number p other)
 
 -- a number that stands in the list has a chunk, of which holds what holds of all
 pub chunk_found : (P : Numbered → Type 0) (window : List Numbered) (p : ℕ) → All P window → 1 ≤ times p (numbers_of window)
-    → (c : Numbered) × (c.number ≡ p) × (chunk_at window p ≡ Some c.chunk) × P c
+    → (c : Numbered) × (c.number ≡ p) × (chunk_of_number window p ≡ Some c.chunk) × P c
 chunk_found P [] p all some = absurd (omega (arith, some))
 chunk_found P (c ∷ window) p all some =
     elim (cases_eq c.number p) [
-      | inl same ↦ (c, same, chunk_at-first c window p same, all 0 c (omega arith))
+      | inl same ↦ (c, same, chunk_of_number-first c window p same, all 0 c (omega arith))
       | inr other ↦
           let f = chunk_found P window p (λ k d within. all (suc k) d (omega (arith, within))) (omega (arith, some, times-cons p c.number (numbers_of window), one_if-other p c.number other)) in
-          (f.0, f.1, chunk_at-behind c window p other ∙ f.2, f.3)
+          (f.0, f.1, chunk_of_number-behind c window p other ∙ f.2, f.3)
     ]
 
 -- and a number that has a chunk stands in the list
-times-chunk_at : (window : List Numbered) (p : ℕ) (chunk : Chunk) → chunk_at window p ≡ Some chunk → 1 ≤ times p (numbers_of window)
-times-chunk_at [] p chunk found = absurd (none-some chunk found)
-times-chunk_at (c ∷ window) p chunk found =
+times-chunk_of_number : (window : List Numbered) (p : ℕ) (chunk : Chunk) → chunk_of_number window p ≡ Some chunk → 1 ≤ times p (numbers_of window)
+times-chunk_of_number [] p chunk found = absurd (none-some chunk found)
+times-chunk_of_number (c ∷ window) p chunk found =
     elim (cases_eq c.number p) [
       | inl same ↦ omega (arith, times-cons p c.number (numbers_of window), one_if-same p c.number same)
-      | inr other ↦ omega (arith, times-cons p c.number (numbers_of window), times-chunk_at window p chunk (sym (chunk_at-behind c window p other) ∙ found))
+      | inr other ↦ omega (arith, times-cons p c.number (numbers_of window), times-chunk_of_number window p chunk (sym (chunk_of_number-behind c window p other) ∙ found))
     ]
 
 -- where no number comes twice, each chunk is the one of its number
-pub chunk_at-own : (window : List Numbered) → ((p : ℕ) → times p (numbers_of window) ≤ 1) → All (λ c. chunk_at window c.number ≡ Some c.chunk) window
-chunk_at-own [] once k d within = absurd (omega (arith, within))
-chunk_at-own (c ∷ window) once zero d within = chunk_at-first c window c.number refl
-chunk_at-own (c ∷ window) once (suc k) d within =
+pub chunk_of_number-own : (window : List Numbered) → ((p : ℕ) → times p (numbers_of window) ≤ 1) → All (λ c. chunk_of_number window c.number ≡ Some c.chunk) window
+chunk_of_number-own [] once k d within = absurd (omega (arith, within))
+chunk_of_number-own (c ∷ window) once zero d within = chunk_of_number-first c window c.number refl
+chunk_of_number-own (c ∷ window) once (suc k) d within =
     let e : Numbered = get_or window k d in
-    let own : chunk_at window e.number ≡ Some e.chunk = chunk_at-own window (λ p. omega (arith, once p, times-cons p c.number (numbers_of window))) k d (omega (arith, within)) in
+    let own : chunk_of_number window e.number ≡ Some e.chunk = chunk_of_number-own window (λ p. omega (arith, once p, times-cons p c.number (numbers_of window))) k d (omega (arith, within)) in
     elim (cases_eq c.number e.number) [
-      | inl same ↦ absurd (omega (arith, once e.number, times-cons e.number c.number (numbers_of window), one_if-same e.number c.number same, times-chunk_at window e.number e.chunk own))
-      | inr other ↦ chunk_at-behind c window e.number other ∙ own
+      | inl same ↦ absurd (omega (arith, once e.number, times-cons e.number c.number (numbers_of window), one_if-same e.number c.number same, times-chunk_of_number window e.number e.chunk own))
+      | inr other ↦ chunk_of_number-behind c window e.number other ∙ own
     ]
 
-pub chunk_at-each : (chunk_of : List (List ℕ) → ChunkValue) (groups : List (List (List ℕ))) (window : List Numbered) → IsWindow chunk_of groups window
-    → All (λ c. chunk_at window c.number ≡ Some c.chunk) window
-chunk_at-each chunk_of groups window h = chunk_at-own window (λ p. times-each_below-le (length groups) p (numbers_of window) h.each)
+pub chunk_of_number-each : (chunk_of : List (List ℕ) → ChunkValue) (groups : List (List (List ℕ))) (window : List Numbered) → IsWindow chunk_of groups window
+    → All (λ c. chunk_of_number window c.number ≡ Some c.chunk) window
+chunk_of_number-each chunk_of groups window h = chunk_of_number-own window (λ p. times-each_below-le (length groups) p (numbers_of window) h.each)
 
 -- each group has a chunk, the one of its number
-pub chunk_at-group : (chunk_of : List (List ℕ) → ChunkValue) (groups : List (List (List ℕ))) (window : List Numbered) → IsWindow chunk_of groups window
+pub chunk_of_number-group : (chunk_of : List (List ℕ) → ChunkValue) (groups : List (List (List ℕ))) (window : List Numbered) → IsWindow chunk_of groups window
     → (p : ℕ) (group : List (List ℕ)) → slice_get groups p ≡ Some group
-    → (chunk : Chunk) × (chunk_at window p ≡ Some chunk) × (value_of_chunk chunk ≡ chunk_of group) × HasRightHash chunk
-chunk_at-group chunk_of groups window h p group stands =
+    → (chunk : Chunk) × (chunk_of_number window p ≡ Some chunk) × (value_of_chunk chunk ≡ chunk_of group) × HasRightHash chunk
+chunk_of_number-group chunk_of groups window h p group stands =
     let once = h.each.once p (slice_get_within groups p group stands) in
     let f = chunk_found (IsChunkOfGroup chunk_of groups) window p h.chunks (omega (arith, once)) in
     let same : group ≡ f.3.group = same_Some group f.3.group (sym stands ∙ ap (slice_get groups) (sym f.1) ∙ f.3.stands) in
@@ -118,16 +118,16 @@ listed-all P f begin (suc n) each =
 pub by_number-values : (chunk_of : List (List ℕ) → ChunkValue) (groups : List (List (List ℕ))) (window : List Numbered) → IsWindow chunk_of groups window
     → map value_of_chunk (by_number (length groups) window) ≡ map chunk_of groups
 by_number-values chunk_of groups window h =
-    listed-values (chunk_at window) value_of_chunk chunk_of 0 groups
-    (λ p group stands. let c = chunk_at-group chunk_of groups window h p group stands in (c.0, ap (chunk_at window) (omega arith) ∙ c.1, c.2))
+    listed-values (chunk_of_number window) value_of_chunk chunk_of 0 groups
+    (λ p group stands. let c = chunk_of_number-group chunk_of groups window h p group stands in (c.0, ap (chunk_of_number window) (omega arith) ∙ c.1, c.2))
 
 -- and have right hashes
 pub by_number-right : (chunk_of : List (List ℕ) → ChunkValue) (groups : List (List (List ℕ))) (window : List Numbered) → IsWindow chunk_of groups window
     → All HasRightHash (by_number (length groups) window)
 by_number-right chunk_of groups window h =
-    listed-all HasRightHash (chunk_at window) 0 (length groups)
+    listed-all HasRightHash (chunk_of_number window) 0 (length groups)
     (λ p chunk at.
-    let f = chunk_found (IsChunkOfGroup chunk_of groups) window p h.chunks (times-chunk_at window p chunk at) in
+    let f = chunk_found (IsChunkOfGroup chunk_of groups) window p h.chunks (times-chunk_of_number window p chunk at) in
     subst HasRightHash (same_Some f.0.chunk chunk (sym f.2 ∙ at)) f.3.right)
 
 -- numbers and chunks as pairs, which a caller can hold until they are wanted

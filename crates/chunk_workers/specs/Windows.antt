@@ -37,10 +37,10 @@ pub record IsWindow (chunk_of : List (List ℕ) → ChunkValue) (groups : List (
   pub chunks : All (IsChunkOfGroup chunk_of groups) window
 
 -- the chunk of a number: of the first that has it
-abbrev pub chunk_at : List Numbered → ℕ → Option Chunk
-chunk_at [] number = None
-chunk_at (c ∷ window) number = if c.number == number then Some c.chunk else chunk_at window number
+abbrev pub chunk_of_number : List Numbered → ℕ → Option Chunk
+chunk_of_number [] number = None
+chunk_of_number (c ∷ window) number = if c.number == number then Some c.chunk else chunk_of_number window number
 
 -- the chunks by rising number, of the numbers below n
 abbrev pub by_number : ℕ → List Numbered → List Chunk
-by_number n window = flat_map (λ number. option_to_list (chunk_at window number)) (range_with_len 0 n)
+by_number n window = flat_map (λ number. option_to_list (chunk_of_number window number)) (range_with_len 0 n)

@@ -14,7 +14,7 @@ ghost use Rattle.chunk_workers.specs.declared.table.Terms.{Terms};
 ghost use Rattle.chunk_workers.specs.DrawMachine.{AreDraws, HasEachBelow, IsCounted, IsDraw, Machine, drawn, start_of, times};
 ghost use Rattle.chunk_workers.specs.DrawRule.{IsKept, TellsDraw, first_view, hand_of, joined_view, machine_of, spent_view, view_less_one, view_of_one, with_hand};
 ghost use Rattle.chunk_workers.specs.Seats.{SeatValue, drawn_by};
-ghost use Rattle.chunk_workers.specs.Windows.{IsChunkOfGroup, IsWindow, by_number, chunk_at, numbers_of};
+ghost use Rattle.chunk_workers.specs.Windows.{IsChunkOfGroup, IsWindow, by_number, chunk_of_number, numbers_of};
 
 /// After any run of draws each number below the one that comes next stands in the seats' lists once, and no other;
 /// `mine` has those below n, `past` those that are not, and at most one. Where each seat has ended, and there is one,
@@ -70,10 +70,10 @@ pub fn windows_have_the_chunks_of_their_groups()
         → numbers_of window ≡ drawn_by seats → HasEachBelow (length groups) (drawn_by seats)
         → All (IsChunkOfGroup chunk_of groups) window → IsWindow chunk_of groups window }
     ensures own { (chunk_of : List (List ℕ) → ChunkValue) (groups : List (List (List ℕ))) (window : List Numbered)
-        → IsWindow chunk_of groups window → All (λ c. chunk_at window c.number ≡ Some c.chunk) window }
+        → IsWindow chunk_of groups window → All (λ c. chunk_of_number window c.number ≡ Some c.chunk) window }
     ensures group { (chunk_of : List (List ℕ) → ChunkValue) (groups : List (List (List ℕ))) (window : List Numbered)
         → IsWindow chunk_of groups window → (p : ℕ) (group : List (List ℕ)) → slice_get groups p ≡ Some group
-        → (chunk : Chunk) × (chunk_at window p ≡ Some chunk) × (value_of_chunk chunk ≡ chunk_of group) × HasRightHash chunk }
+        → (chunk : Chunk) × (chunk_of_number window p ≡ Some chunk) × (value_of_chunk chunk ≡ chunk_of group) × HasRightHash chunk }
     ensures in_order { (chunk_of : List (List ℕ) → ChunkValue) (groups : List (List (List ℕ))) (window : List Numbered)
         → IsWindow chunk_of groups window → map value_of_chunk (by_number (length groups) window) ≡ map chunk_of groups }
     ensures right { (chunk_of : List (List ℕ) → ChunkValue) (groups : List (List (List ℕ))) (window : List Numbered)

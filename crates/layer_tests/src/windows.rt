@@ -22,7 +22,7 @@ fn group_of(alloc: Global, byte: u8) -> Result<Records, AllocError>
 }
 
 /// So many groups, each of its own number.
-fn groups_of(alloc: Global, count: u8) -> Result<Vec<Records>, AllocError>
+fn numbered_groups(alloc: Global, count: u8) -> Result<Vec<Records>, AllocError>
     ensures count { IfOk result (λ groups. vec_len groups ≡ count) }
     ensures short { IfOk result (λ groups. All (λ group. cost_of group ≤ 2 ^ 25) groups.items) }
 {
@@ -40,7 +40,7 @@ fn code_each_once<R: Threads + Abort + Sync, C: Coder + Sync>(
     coder: &C,
     count: u8,
 ) -> Result<(), Fail> {
-    let groups = groups_of(alloc, count)?;
+    let groups = numbered_groups(alloc, count)?;
     let (draws, seats) = Draws::new(alloc, count as u64, 2)?;
     let (chunks, ended) = encode_window(rt, alloc, &draws, seats, coder, &groups)?;
     draws.finish(ended);

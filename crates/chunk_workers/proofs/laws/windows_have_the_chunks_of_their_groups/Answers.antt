@@ -1,4 +1,4 @@
-use Rattle.chunk_workers.proofs.Windows.{by_number-right, by_number-values, chunk_at-each, chunk_at-group, window_of}
+use Rattle.chunk_workers.proofs.Windows.{by_number-right, by_number-values, chunk_of_number-each, chunk_of_number-group, window_of}
 use Rattle.chunk_workers.specs.Seats.{drawn_by}
 use Rattle.chunk_workers.proofs.laws.windows_have_the_chunks_of_their_groups.Goals as goal
 
@@ -6,10 +6,10 @@ pub returns-clause-drawn : goal.returns-clause-drawn
 returns-clause-drawn c = λ chunk_of groups window seats. window_of chunk_of groups window (drawn_by seats)
 
 pub returns-clause-own : goal.returns-clause-own
-returns-clause-own c = chunk_at-each
+returns-clause-own c = chunk_of_number-each
 
 pub returns-clause-group : goal.returns-clause-group
-returns-clause-group c = chunk_at-group
+returns-clause-group c = chunk_of_number-group
 
 pub returns-clause-in_order : goal.returns-clause-in_order
 returns-clause-in_order c = by_number-values

@@ -1,6 +1,6 @@
 use Rattle.std.proofs.Common.{◌≡◌, ◌^◌, ◌≤◌, All, vec_len}
 use Rattle.simple_chunk.specs.Costs.{cost_of}
-use Rattle.layer_tests.proofs.windows.groups_of.Given as goal
+use Rattle.layer_tests.proofs.windows.numbered_groups.Given as goal
 
 abbrev pub invariant-loop-byte : goal.invariant-loop-byte
 invariant-loop-byte l = record {
