@@ -1,5 +1,5 @@
 -- How `show` gets on: the lines of the chunks that were read, one chunk more, and how they stand to the answer.
-use Rattle.std.proofs.Common.{◌≡◌, ◌≢◌, ◌∙◌, ℕ, ◌≤◌, ◌⊎◌, Bool, true, false, Option, Some, None, Result, Ok, Err, IfSome, List, [], ◌∷◌, ◌++◌, length, take, drop, refl, sym, ap, subst, inl, inr, arith, append_assoc}
+use Rattle.std.proofs.Common.{◌≡◌, ◌≢◌, ◌∙◌, ℕ, ◌^◌, ◌≤◌, ◌⊎◌, Bool, true, false, Option, Some, None, Result, Ok, Err, IfSome, List, [], ◌∷◌, ◌++◌, length, take, drop, refl, sym, ap, subst, inl, inr, arith, append_assoc}
 use Rattle.std.specs.Result.{IsErr, IsErrAnd}
 use Rattle.std.specs.List.{enumerate_from}
 use Rattle.std.proofs.lemmas.List.{append-nil, take-append-drop}
@@ -18,7 +18,9 @@ use Rattle.meta_chunk.specs.Counts.{totals_of}
 use Rattle.meta_chunk.specs.Files.{IsPlain, IsChainOf, IsFileOf, Holds, HoldEach, ArePlaced, placed_from, end_of_chunks}
 use Rattle.meta_chunk.proofs.Held.{HoldEach-one}
 use Rattle.meta_chunk.proofs.Chains.{AreLaid-front_of}
-use Rattle.chunk_reader.specs.Progress.{AreReadFrom}
+use Rattle.chunk_reader.specs.Progress.{AreReadFrom, ReaderValue}
+use Rattle.chunk_reader.specs.Readers.{ReadsIn, ReadsOn}
+use Rattle.chunk_reader.proofs.Rooms.{IsSized}
 use Rattle.chunk_reader.specs.Contents.{IsWhat, IsJudged}
 use Rattle.chunk_reader.specs.declared.judging.What.{What}
 use Rattle.chunk_reader.specs.declared.judging.What.TheVariants.{Records, Passive, Unread}
@@ -329,7 +331,11 @@ read-short words None totals before out held short = tt
 read-short words (Some f) totals before out held short = λ h.
     some-answer (IsShown words) (shown_exists words) (HasPutFront before out held) f (printed-front words f totals before out held short h)
 
--- the file that is read is not too long
+-- the file that is read has as many bytes as was told, and is not too long
+pub exact_told : (bytes : Option (List ℕ)) (told : Option ℕ) (size : ℕ) → told ≡ Some size → IsSized bytes told → IfSome bytes (λ f. size ≡ length f)
+exact_told bytes told size is sized =
+    subst (λ (t : Option ℕ). IfSome bytes (λ f. IfSome t (λ n. n ≡ length f))) is sized
+
 pub short_told : (bytes : Option (List ℕ)) (size : ℕ) → size ≤ most_file_bytes → IfSome bytes (λ f. size ≡ length f) → IfSome bytes (λ f. length f ≤ most_file_bytes)
 short_told None size short exact = tt
 short_told (Some f) size short exact = omega (arith, short, exact)
@@ -413,6 +419,22 @@ printed-ended words (Some f) then before after held why ended (Err made) same er
     (subst (λ (r : Result Bool (Ending Fault)). PrintsOn words r f then before after held) same h)
 
 -- what holds of each file holds of the one that is told
-pub read-none : (bytes : Option (List ℕ)) (totals : Totals) → ((f : List ℕ) → AreReadFrom false f totals) → IfSome bytes (λ f. AreReadFrom false f totals)
-read-none None totals each = tt
-read-none (Some f) totals each = each f
+pub reads-none : (bytes : Option (List ℕ)) (told : Option ℕ) (size : ℕ) (at : ReaderValue) → told ≡ Some size → size ≤ 2 ^ 60 → at.size ≡ size
+    → at.keep ≡ false → ((f : List ℕ) → AreReadFrom false f at.totals) → ReadsIn bytes told at
+reads-none bytes told size at is reach same strict each = record {
+  size = is ∙ ap Some (sym same);
+  in_reach = omega (arith, reach, same);
+  read = subst (λ (keep : Bool). IfSome bytes (λ f. AreReadFrom keep f at.totals)) (sym strict) (of_any bytes);
+} where
+  of_any : (bytes : Option (List ℕ)) → IfSome bytes (λ f. AreReadFrom false f at.totals)
+  of_any None = tt
+  of_any (Some f) = each f
+
+-- and behind the next one the reader stands in the same file
+pub reads-on : (bytes now : Option (List ℕ)) (told told_now : Option ℕ) (before after : ReaderValue) → now ≡ bytes → told_now ≡ told
+    → ReadsIn bytes told before → ReadsOn bytes before after → ReadsIn now told_now after
+reads-on bytes now told told_now before after same same_told h on = record {
+  size = same_told ∙ h.size ∙ ap Some (sym on.same_size);
+  in_reach = omega (arith, h.in_reach, on.same_size);
+  read = subst (λ (b : Option (List ℕ)). IfSome b (λ f. AreReadFrom after.keep f after.totals)) (sym same) on.read;
+}

@@ -3,7 +3,7 @@ ghost use Rattle.std.specs.List.{enumerate_from};
 ghost use Rattle.record_io.specs.Outside.{Rose};
 ghost use Rattle.record_io.specs.Puts.{Taken, taken_by};
 ghost use Rattle.record_io.specs.Calls.{OnlyAsks, OnlyCounts, PutsThrough};
-ghost use Rattle.chunk_reader.specs.Progress.{AreReadFrom};
+ghost use Rattle.chunk_reader.specs.Readers.{ReadsIn, ReadsOn};
 ghost use Rattle.run_answers.specs.Endings.{HasPutAtEnd, IsAllowedEnd, IsShort};
 ghost use Rattle.run_answers.specs.FileAnswers.{HandsOut};
 ghost use Rattle.show_files.specs.ReadingEnds.{reading_ends};
@@ -79,7 +79,6 @@ fn print_chunks<S: Store, O: Sink>(
 ) -> Result<(), Ending<Fault>>
     requires told { S.told file.old ≡ Some size }
     requires in_reach { size ≤ 2 ^ 60 }
-    requires exact { IfSome (S.bytes file.old) (λ bytes. size ≡ length bytes) }
     requires none_held { lines.old ≡ [] }
     ensures printed { (made notes : Option (List ℕ)) → IfSome (S.bytes file.old) (λ bytes. HasPutAtEnd reading_ends (IsShown words.now) result bytes
         (taken_by made (O.taken out.old) notes) (taken_by made (O.taken out.new) notes) lines.new) }
@@ -105,15 +104,9 @@ fn print_next<S: Store, O: Sink>(
     out: &mut O,
 ) -> Result<bool, Ending<Fault>>
     requires strict { reader.old.keep ≡ false }
-    requires told { S.told file.old ≡ Some reader.old.size }
-    requires in_reach { reader.old.size ≤ 2 ^ 60 }
-    requires exact { IfSome (S.bytes file.old) (λ bytes. reader.old.size ≡ length bytes) }
-    requires place { IfSome (S.bytes file.old) (λ bytes. AreReadFrom false bytes reader.old.totals) }
-    ensures same_size { reader.new.size ≡ reader.old.size }
-    ensures same_keep { reader.new.keep ≡ reader.old.keep }
+    requires reads { ReadsIn (S.bytes file.old) (S.told file.old) reader.old }
+    ensures goes_on { ReadsOn (S.bytes file.old) reader.old reader.new }
     ensures moved { result ≡ Ok true → reader.old.totals.bytes < reader.new.totals.bytes }
-    ensures within { reader.new.totals.bytes ≤ reader.new.size }
-    ensures read { IfSome (S.bytes file.old) (λ bytes. AreReadFrom false bytes reader.new.totals) }
     ensures printed { (before : Taken) (made notes : Option (List ℕ)) → IfSome (S.bytes file.old) (λ bytes.
         IsPrinted words.now bytes reader.old.totals before (taken_by made (O.taken out.old) notes) lines.old
         → PrintsOn words.now result bytes reader.new.totals before (taken_by made (O.taken out.new) notes) lines.new) }

@@ -1,13 +1,12 @@
 use Rattle.std.proofs.Common.{◌≡◌, ◌∙◌, true, false, Bool, IfSome, Option, Result, Ok, List, ℕ, ap, subst, arith, rules}
 use Rattle.record_io.specs.Puts.{taken_by}
 use Rattle.record_values.specs.declared.file_totals.Totals.{Totals}
-use Rattle.chunk_reader.specs.Progress.{AreReadFrom}
 use Rattle.chunk_reader.specs.declared.reasons.Fault.{Fault}
 use Rattle.run_answers.specs.declared.ending.Ending.{Ending}
 use Rattle.run_answers.specs.Endings.{IsShort}
 use Rattle.show_files.specs.ShowProgress.{PrintsOn}
 use Rattle.run_answers.proofs.PutSoFar.{IsErrAnd-same}
-use Rattle.show_files.proofs.ShowSteps.{read-none, printed-none, printed-on, printed-ended, printed-so_far}
+use Rattle.show_files.proofs.ShowSteps.{reads-none, reads-on, printed-none, printed-on, printed-ended, printed-so_far}
 use Rattle.show_files.proofs.showing.print_chunks.Goals as goal
 use Rattle.show_files.proofs.showing.print_chunks.Goals.{After-print_next}
 
@@ -17,7 +16,7 @@ loop-init g c = record {
   strict = c.new-reader.ensures.keep;
   within = omega (arith, ap (λ (t : Totals). t.bytes) c.new-reader.ensures.totals);
   file = search rules;
-  read = read-none _ _ c.new-reader.ensures.at_front;
+  reads = reads-none _ _ c.args.size _ c.requires.told c.requires.in_reach c.new-reader.ensures.size c.new-reader.ensures.keep c.new-reader.ensures.at_front;
   printed = λ made notes. printed-none c.args.words.now _ _ _ _ c.new-reader.ensures.totals c.requires.none_held;
   out = search rules;
 }
@@ -41,11 +40,12 @@ of_answer g c known is made notes =
 
 pub loop-preserved : goal.loop-preserved
 loop-preserved g c = record {
-  same_size = c.in_ok-print_next.ensures.same_size ∙ c.loop.invariant.same_size;
-  strict = c.in_ok-print_next.ensures.same_keep ∙ c.loop.invariant.strict;
-  within = c.in_ok-print_next.ensures.within;
+  same_size = c.in_ok-print_next.ensures.goes_on.same_size ∙ c.loop.invariant.same_size;
+  strict = c.in_ok-print_next.ensures.goes_on.same_keep ∙ c.loop.invariant.strict;
+  within = c.in_ok-print_next.ensures.goes_on.totals.within;
   file = search rules;
-  read = subst (λ (b : Option (List ℕ)). IfSome b (λ bytes. AreReadFrom false bytes c.print_next.new.reader.totals)) c.loop.invariant.file.same_bytes c.in_ok-print_next.ensures.read;
+  reads = reads-on _ _ _ _ c.loop.reader _ c.in_ok-print_next.ensures.file.same_bytes c.in_ok-print_next.ensures.file.same_told c.loop.invariant.reads
+      c.in_ok-print_next.ensures.goes_on;
   printed = λ made notes. of_answer g (goal.at.loop-preserved g c).After-print_next (Ok true)
       (c.in_ok-print_next.was ∙ ap (λ (more : Bool). Ok more) c.if-branch.true) made notes;
   out = search rules;

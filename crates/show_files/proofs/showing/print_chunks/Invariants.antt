@@ -1,7 +1,7 @@
 use Rattle.std.proofs.Common.{◌≡◌, ◌-◌, ◌≤◌, ℕ, false, Option, IfSome, List}
 use Rattle.record_io.specs.Puts.{taken_by}
 use Rattle.record_io.specs.Calls.{OnlyAsks, OnlyCounts}
-use Rattle.chunk_reader.specs.Progress.{AreReadFrom}
+use Rattle.chunk_reader.specs.Readers.{ReadsIn}
 use Rattle.show_files.specs.ShowProgress.{IsPrinted}
 use Rattle.show_files.proofs.showing.print_chunks.Given as goal
 
@@ -11,7 +11,7 @@ invariant-loop g l = record {
   strict : l.reader.keep ≡ false;
   within : l.reader.totals.bytes ≤ l.reader.size;
   file : OnlyAsks g.S.Store.bytes g.S.Store.told g.S.Store.name g.S.Store.faults ⊥ l.fn.file l.file;
-  read : IfSome (g.S.Store.bytes l.fn.file) (λ bytes. AreReadFrom false bytes l.reader.totals);
+  reads : ReadsIn (g.S.Store.bytes l.file) (g.S.Store.told l.file) l.reader;
   printed : (made notes : Option (List ℕ)) → IfSome (g.S.Store.bytes l.fn.file) (λ bytes. IsPrinted l.words bytes l.reader.totals
       (taken_by made (g.O.Sink.taken l.fn.out) notes) (taken_by made (g.O.Sink.taken l.out) notes) l.lines);
   out : OnlyCounts g.O.Sink.lent g.O.Sink.faults ⊥ l.fn.out l.out;
