@@ -15,4 +15,7 @@ pub mod Resyncing
 pub mod Fills
 pub mod PieceSteps
 pub mod WalkSteps
+pub mod RegionsIn
+pub mod WalkedTo
+pub mod BoundedWalks
 mod Values

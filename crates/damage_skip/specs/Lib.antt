@@ -1,6 +1,7 @@
 pub mod Resyncs
 pub mod Pieces
 pub mod Regions
+pub mod Bounds
 pub mod Policies
 pub mod Ends
 pub mod Walks

@@ -9,3 +9,11 @@ use Rattle.damage_skip.specs.Regions.{IsRegion}
 pub record IsTest {F : Type 0} (g : Shared F (Bor Region × Unit {0}) Bool) (f : F) : Type 0 where
   pub callable : (p : Bor Region) → IsRegion p.now → g.pre f (p, tt)
   pub one_way : (region : Region) → IsRegion region → FnReturnsAt g f region true → FnReturnsAt g f region false → ⊥
+
+-- a region that a test can allow
+abbrev pub IsAllowedRegion : {F : Type 0} → Shared F (Bor Region × Unit {0}) Bool → F → Region → Type 0
+IsAllowedRegion test f region = IsRegion region × FnReturnsAt test f region true
+
+-- or refuse
+abbrev pub IsRefusedRegion : {F : Type 0} → Shared F (Bor Region × Unit {0}) Bool → F → Region → Type 0
+IsRefusedRegion test f region = IsRegion region × FnReturnsAt test f region false

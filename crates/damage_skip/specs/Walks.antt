@@ -17,6 +17,7 @@ use Rattle.damage_skip.specs.declared.pieces.PieceKind.TheVariants as what
 use Rattle.damage_skip.specs.declared.progress.Progress.{Progress}
 use Rattle.damage_skip.specs.declared.regions.Region.{Region}
 use Rattle.damage_skip.specs.Pieces.{Piece, Given, Kept, Skipped, IsPieceOf, AreTiles}
+use Rattle.damage_skip.specs.Regions.{region_of, told_text}
 pub use Rattle.damage_skip.specs.Pieces.{GoesOn}
 use Rattle.damage_skip.specs.Steps.{IsIntact, IsOnward}
 
@@ -33,6 +34,10 @@ piece_of (event.Kept begin chunk unread) = record {
   what = Kept (value_of_chunk chunk);
 }
 piece_of (event.Skipped region) = record { begin = region.begin; end = region.end; what = Skipped region.why }
+
+-- the line of an event that is a region; other events have none
+abbrev pub event_text : Event → List ℕ
+event_text e = told_text (region_of (piece_of e))
 
 -- the place is the begin of a piece of the file, or its end
 abbrev pub IsMet : Bool → List ℕ → ℕ → Type 0

@@ -1,9 +1,8 @@
 -- The steps of copying a file, whatever the file tells.
-use Rattle.std.proofs.Common.{◌≡◌, ◌≢◌, ◌∙◌, ℕ, ◌+◌, ◌*◌, ◌^◌, ◌<◌, ◌≤◌, Bool, true, false, Option, None, Result, Ok, Err, List, [], ◌∷◌, ◌++◌, length, take, drop, cond, refl, sym, ap, subst, inl, inr, arith, append_assoc, length-append}
+use Rattle.std.proofs.Common.{◌≡◌, ◌≢◌, ◌∙◌, ℕ, ◌+◌, ◌*◌, ◌^◌, ◌<◌, ◌≤◌, true, false, Option, None, Result, Ok, Err, List, [], ◌∷◌, ◌++◌, length, take, drop, refl, sym, ap, subst, inl, inr, arith, append_assoc, length-append}
 use Rattle.std.proofs.lemmas.Bool.{cases_Bool, cond-true, cond-false}
+use Rattle.std.specs.List.{cons_option}
 use Rattle.std.proofs.lemmas.List.{append-nil, take-append-drop}
-use Rattle.std.proofs.lemmas.List.Sums.{sum_by-append}
-use Rattle.std.proofs.lemmas.Grind.{flat_map-append}
 use Rattle.record_io.specs.Outside.{Rose, Takes, TakesFront}
 use Rattle.record_io.specs.declared.outside.Failed.{Failed}
 use Rattle.std.specs.Result.{OnOk, OnErr, IsErr}
@@ -21,27 +20,22 @@ use Rattle.record_writer.specs.Progresses.{Progress, Lays, LaysFront, nothing_ma
 use Rattle.record_writer.proofs.Layings.{Lays-append}
 use Rattle.record_writer.proofs.Counted.{totals_made-laid}
 use Rattle.damage_skip.specs.Pieces.{Piece}
+use Rattle.damage_skip.specs.Regions.{region_of, regions_in, told_text}
 use Rattle.damage_skip.specs.Walks.{piece_of, IsEventIn}
 use Rattle.damage_skip.specs.declared.events.Event.{Event}
 use Rattle.damage_skip.specs.declared.events.Event.TheVariants as event
+use Rattle.damage_skip.specs.declared.regions.Region.{Region}
 use Rattle.repair_copy.specs.Relaid.{chunk_in, chunks_in}
-use Rattle.repair_copy.specs.Told.{line_of, lines_in, is_skipped, number_of_regions}
 use Rattle.repair_copy.specs.RepairPuts.{puts_from, repair_puts, WentOutAtFault}
 use Rattle.repair_copy.specs.Copies.{FitsAt, stream_of, next_place, puts_behind, Begins, Copies, CopiesFront, HasBegun, HasCopied, HasPutAll, HasBrokenOff, HasPutAtFault}
 use Rattle.repair_copy.specs.declared.copying.Copied.{Copied}
 use Rattle.repair_copy.specs.declared.copying.FailedSink.{FailedSink}
 use Rattle.repair_copy.specs.declared.copying.FailedSink.TheVariants as cut
+use Rattle.damage_skip.proofs.RegionsIn.{regions_in-append}
 use Rattle.repair_copy.proofs.EventChunks.{chunks_in-append}
 use Rattle.repair_copy.proofs.Growth.{place_moved}
 use Rattle.repair_copy.proofs.HeldPuts.{held_more, held_broken, breaks_off-front, held_made, held_flushed}
 use Rattle.repair_copy.proofs.RepairPuts.{repair_puts-append}
-
--- lines and numbers of pieces behind others
-pub lines_in-append : (ps qs : List Piece) → lines_in (ps ++ qs) ≡ lines_in ps ++ lines_in qs
-lines_in-append ps qs = flat_map-append (λ (p : Piece). line_of p.begin p.end p.what) ps qs
-
-regions_in-append : (ps qs : List Piece) → number_of_regions (ps ++ qs) ≡ number_of_regions ps + number_of_regions qs
-regions_in-append ps qs = sum_by-append (λ (p : Piece). cond (is_skipped p.what) 1 0) ps qs
 
 -- what is held went out: no chunk is laid then
 Lays-flushed : (a b : Option (List ℕ)) (s t : Progress) → s.spent ≡ false → Takes a b s.held → t ≡ record s { held = [] } → Lays a b s t []
@@ -56,20 +50,20 @@ Lays-flushed a b s t going taken is = record {
 }
 
 -- what is put of a piece without a line, or without a chunk
-puts_of-chunk : (s : Progress) (p : Piece) → line_of p.begin p.end p.what ≡ []
+puts_of-chunk : (s : Progress) (p : Piece) → region_of p ≡ None
     → puts_behind s p ≡ puts_to Made (s.held ++ laid_each s.place (chunk_in p.what))
 unfolding puts_from
 puts_of-chunk s p none =
-    ap (λ (xs : List ℕ). puts_to Made s.held ++ (puts_to Made (laid_each s.place (chunk_in p.what)) ++ (puts_to Notes xs ++ []))) none
+    ap (λ (r : Option Region). puts_to Made s.held ++ (puts_to Made (laid_each s.place (chunk_in p.what)) ++ (puts_to Notes (told_text r) ++ []))) none
     ∙ ap (λ (xs : List Put). puts_to Made s.held ++ xs) (append-nil (puts_to Made (laid_each s.place (chunk_in p.what))))
     ∙ sym (puts_to-append Made s.held (laid_each s.place (chunk_in p.what)))
 
 puts_of-line : (s : Progress) (p : Piece) → chunk_in p.what ≡ []
-    → puts_behind s p ≡ puts_to Made s.held ++ puts_to Notes (line_of p.begin p.end p.what)
+    → puts_behind s p ≡ puts_to Made s.held ++ puts_to Notes (told_text (region_of p))
 unfolding puts_from laid_each
 puts_of-line s p none =
-    ap (λ (ks : List ChunkValue). puts_to Made s.held ++ (puts_to Made (laid_each s.place ks) ++ (puts_to Notes (line_of p.begin p.end p.what) ++ []))) none
-    ∙ ap (λ (xs : List Put). puts_to Made s.held ++ xs) (append-nil (puts_to Notes (line_of p.begin p.end p.what)))
+    ap (λ (ks : List ChunkValue). puts_to Made s.held ++ (puts_to Made (laid_each s.place ks) ++ (puts_to Notes (told_text (region_of p)) ++ []))) none
+    ∙ ap (λ (xs : List Put). puts_to Made s.held ++ xs) (append-nil (puts_to Notes (told_text (region_of p))))
 
 -- bytes of chunks are some
 some_laid : (held : List ℕ) (place : ℕ) (ks : List ChunkValue) → place < end_of_chunks place ks → held ++ laid_each place ks ≢ []
@@ -82,21 +76,21 @@ made_alone r cut.Made is never = refl
 made_alone r cut.Notes is never = absurd (never is)
 
 -- a chunk was put
-pub chunk_put : (a b n : Option (List ℕ)) (s t : Copied) (p : Piece) (k : ChunkValue) → chunk_in p.what ≡ k ∷ [] → line_of p.begin p.end p.what ≡ []
-    → is_skipped p.what ≡ false → Lays a b s.file t.file (k ∷ []) → t.begun ≡ s.begun → t.regions ≡ s.regions
+pub chunk_put : (a b n : Option (List ℕ)) (s t : Copied) (p : Piece) (k : ChunkValue) → chunk_in p.what ≡ k ∷ [] → region_of p ≡ None
+    → Lays a b s.file t.file (k ∷ []) → t.begun ≡ s.begun → t.regions ≡ s.regions
     → Copies (taken_by a None n) (taken_by b None n) s t p
-chunk_put a b n s t p k one none kept lays begun counted = record {
+chunk_put a b n s t p k one none lays begun counted = record {
   chunks = subst (λ (ks : List ChunkValue). Lays a b s.file t.file (ks ++ [])) (sym one) lays;
   puts = subst (λ (ps : List Put). GoOutOrAreHeld (taken_by a None n) (taken_by b None n) Made ps t.file.held)
       (sym (puts_of-chunk s.file p none))
       (held_made a b n (s.file.held ++ laid_each s.file.place (chunk_in p.what)) t.file.held
       (subst (λ (ks : List ChunkValue). TakesAndHolds a b (s.file.held ++ laid_each s.file.place ks) t.file.held) (sym one) lays.bytes));
   begun = begun;
-  regions = omega (arith, counted, ap (λ (b : Bool). cond {A = ℕ} b 1 0) kept);
+  regions = omega (arith, counted, ap (λ (r : Option Region). length (cons_option r [])) none);
 }
 
 -- or not whole
-pub chunk_failed : (a b n : Option (List ℕ)) (s t : Progress) (p : Piece) (k : ChunkValue) → chunk_in p.what ≡ k ∷ [] → line_of p.begin p.end p.what ≡ []
+pub chunk_failed : (a b n : Option (List ℕ)) (s t : Progress) (p : Piece) (k : ChunkValue) → chunk_in p.what ≡ k ∷ [] → region_of p ≡ None
     → LaysFront a b s t (k ∷ []) → (c : FailedSink) → cut.Made ≡ c
     → CopiesFront c (taken_by a None n) (taken_by b None n) s p
 chunk_failed a b n s t p k one none front c is =
@@ -110,23 +104,23 @@ chunk_failed a b n s t p k one none front c is =
     })
 
 -- a line was put, behind what was held
-pub line_put : (a b n m : Option (List ℕ)) (s t : Copied) (p : Piece) → chunk_in p.what ≡ [] → is_skipped p.what ≡ true → s.file.spent ≡ false
-    → Takes a b s.file.held → t.file ≡ record s.file { held = [] } → Takes n m (line_of p.begin p.end p.what) → t.begun ≡ s.begun
+pub line_put : (a b n m : Option (List ℕ)) (s t : Copied) (p : Piece) → chunk_in p.what ≡ [] → length (regions_in (p ∷ [])) ≡ 1 → s.file.spent ≡ false
+    → Takes a b s.file.held → t.file ≡ record s.file { held = [] } → Takes n m (told_text (region_of p)) → t.begun ≡ s.begun
     → t.regions ≡ s.regions + 1 → Copies (taken_by a None n) (taken_by b None m) s t p
-line_put a b n m s t p none skipped going taken held line begun counted = record {
+line_put a b n m s t p none one going taken held line begun counted = record {
   chunks = subst (λ (ks : List ChunkValue). Lays a b s.file t.file (ks ++ [])) (sym none) (Lays-flushed a b s.file t.file going taken held);
   puts = record {
-    passed = puts_to Made s.file.held ++ puts_to Notes (line_of p.begin p.end p.what);
+    passed = puts_to Made s.file.held ++ puts_to Notes (told_text (region_of p));
     parts = puts_of-line s.file p none
-        ∙ sym (append-nil (puts_to Made s.file.held ++ puts_to Notes (line_of p.begin p.end p.what)))
-        ∙ ap (λ (xs : List ℕ). (puts_to Made s.file.held ++ puts_to Notes (line_of p.begin p.end p.what)) ++ puts_to Made xs)
+        ∙ sym (append-nil (puts_to Made s.file.held ++ puts_to Notes (told_text (region_of p))))
+        ∙ ap (λ (xs : List ℕ). (puts_to Made s.file.held ++ puts_to Notes (told_text (region_of p))) ++ puts_to Made xs)
         (sym (ap (λ (f : Progress). f.held) held));
     went = GoOut-append (taken_by a None n) (taken_by b None n) (taken_by b None m) (puts_to Made s.file.held)
-        (puts_to Notes (line_of p.begin p.end p.what)) (GoOut-made a b None n s.file.held taken)
-        (GoOut-notes b None n m (line_of p.begin p.end p.what) line);
+        (puts_to Notes (told_text (region_of p))) (GoOut-made a b None n s.file.held taken)
+        (GoOut-notes b None n m (told_text (region_of p)) line);
   };
   begun = begun;
-  regions = omega (arith, counted, ap (λ (b : Bool). cond {A = ℕ} b 1 0) skipped);
+  regions = omega (arith, counted, one);
 }
 
 -- or what was held before it was not put whole
@@ -138,16 +132,16 @@ flush_failed a b n s p none some front c is =
       part = puts_to Made (take took.0 s.held);
       went = GoOut-made a b None n (take took.0 s.held) took.1;
       broken = subst (λ (ps : List Put). BreaksOff Made (puts_to Made (take took.0 s.held)) ps) (sym (puts_of-line s p none))
-          (BreaksOff-longer Made (puts_to Made (take took.0 s.held)) (puts_to Made s.held) (puts_to Notes (line_of p.begin p.end p.what))
+          (BreaksOff-longer Made (puts_to Made (take took.0 s.held)) (puts_to Made s.held) (puts_to Notes (told_text (region_of p)))
           (BreaksOff-last Made [] s.held took.0 some));
     })
 
 -- or the line itself
 pub line_failed : (a b n m : Option (List ℕ)) (s : Progress) (p : Piece) → chunk_in p.what ≡ [] → Takes a b s.held
-    → line_of p.begin p.end p.what ≢ [] → TakesFront n m (line_of p.begin p.end p.what) → (c : FailedSink) → cut.Notes ≡ c
+    → told_text (region_of p) ≢ [] → TakesFront n m (told_text (region_of p)) → (c : FailedSink) → cut.Notes ≡ c
     → CopiesFront c (taken_by a None n) (taken_by b None m) s p
 line_failed a b n m s p none taken some front c is =
-    let line : List ℕ = line_of p.begin p.end p.what in
+    let line : List ℕ = told_text (region_of p) in
     let took = TakesFront-count n m line front in
     subst (λ (x : FailedSink). CopiesFront x (taken_by a None n) (taken_by b None m) s p) is (record {
       part = puts_to Made s.held ++ puts_to Notes (take took.0 line);
@@ -209,7 +203,13 @@ copies_more before now then s t events e h more = record {
       (Lays-append before.made now.made then.made nothing_made s.file t.file (signature ∷ chunks_in events) (chunks_in (e ∷ [])) h.chunks more.chunks);
   puts = subst (λ (ps : List Put). GoOutOrAreHeld before then Made ps t.file.held) (sym (puts_more before now s events e h))
       (held_more before now then (repair_puts events) (puts_from s.file.place (e ∷ [])) s.file.held t.file.held h.puts more.puts);
-  regions = omega (arith, h.regions, more.regions, regions_in-append events (e ∷ []));
+  regions = omega (
+    arith,
+    h.regions,
+    more.regions,
+    ap length (regions_in-append events (e ∷ [])),
+    length-append (regions_in events) (regions_in (e ∷ [])),
+  );
 }
 
 -- or that was cut off
@@ -332,10 +332,3 @@ grows from to place (event.Records begin records chunk) h small =
 grows from to place (event.Kept begin chunk unread) h small =
     omega (arith, h.from_place, h.to_place, place_moved begin place (value_of_chunk chunk) (omega (arith, h.from_place)))
 grows from to place (event.Skipped region) h small = omega (arith, h.from_place, h.rises, h.to_place)
-
--- it is one region at most
-pub one_region : (e : Piece) → number_of_regions (e ∷ []) ≤ 1
-one_region e = elim (cases_Bool (is_skipped e.what)) [
-  | inl skipped ↦ omega (arith, ap (λ (b : Bool). cond {A = ℕ} b 1 0) skipped)
-  | inr other ↦ omega (arith, ap (λ (b : Bool). cond {A = ℕ} b 1 0) other)
-]

@@ -5,8 +5,9 @@ use Rattle.record_io.proofs.Puts.{bytes_to-append, bytes_to-own, bytes_to-other}
 use Rattle.meta_chunk.specs.Files.{signature, end_of_chunks, laid_each}
 use Rattle.meta_chunk.proofs.Joins.{end_of_chunks-append, laid_each-append}
 use Rattle.damage_skip.specs.Pieces.{Piece}
+use Rattle.damage_skip.specs.Regions.{region_of, regions_in, told_text, skipped_text}
+use Rattle.damage_skip.proofs.RegionsIn.{told_first}
 use Rattle.repair_copy.specs.Relaid.{chunk_in, chunks_in, relaid}
-use Rattle.repair_copy.specs.Told.{line_of, lines_in}
 use Rattle.repair_copy.specs.RepairPuts.{puts_from, repair_puts}
 
 -- where the chunks of pieces end
@@ -21,7 +22,7 @@ unfolding puts_from
 puts_from-append place [] qs = refl
 puts_from-append place (p ∷ ps) qs =
     let chunk : List Put = puts_to Made (laid_each place (chunk_in p.what)) in
-    let line : List Put = puts_to Notes (line_of p.begin p.end p.what) in
+    let line : List Put = puts_to Notes (told_text (region_of p)) in
     let behind : ℕ = end_of_chunks place (chunk_in p.what) in
     ap (λ (xs : List Put). chunk ++ (line ++ xs)) (puts_from-append behind ps qs)
     ∙ ap (λ (n : ℕ). chunk ++ (line ++ (puts_from behind ps ++ puts_from n qs))) (end_of-more place p ps)
@@ -42,7 +43,7 @@ unfolding puts_from laid_each
 made_from place [] = refl
 made_from place (p ∷ ps) =
     let chunk : List ℕ = laid_each place (chunk_in p.what) in
-    let line : List ℕ = line_of p.begin p.end p.what in
+    let line : List ℕ = told_text (region_of p) in
     let behind : ℕ = end_of_chunks place (chunk_in p.what) in
     bytes_to-append Made (puts_to Made chunk) (puts_to Notes line ++ puts_from behind ps)
     ∙ ap (λ (xs : List ℕ). xs ++ bytes_to Made (puts_to Notes line ++ puts_from behind ps)) (bytes_to-own Made chunk)
@@ -61,20 +62,21 @@ made_in-repair ps =
     ∙ sym (laid_each-append 0 (signature ∷ []) (chunks_in ps))
 
 -- and those of notes their lines
-notes_from : (place : ℕ) (ps : List Piece) → bytes_to Notes (puts_from place ps) ≡ lines_in ps
+notes_from : (place : ℕ) (ps : List Piece) → bytes_to Notes (puts_from place ps) ≡ skipped_text (regions_in ps)
 unfolding puts_from
 notes_from place [] = refl
 notes_from place (p ∷ ps) =
     let chunk : List ℕ = laid_each place (chunk_in p.what) in
-    let line : List ℕ = line_of p.begin p.end p.what in
+    let line : List ℕ = told_text (region_of p) in
     let behind : ℕ = end_of_chunks place (chunk_in p.what) in
     bytes_to-append Notes (puts_to Made chunk) (puts_to Notes line ++ puts_from behind ps)
     ∙ ap (λ (xs : List ℕ). xs ++ bytes_to Notes (puts_to Notes line ++ puts_from behind ps)) (bytes_to-other Notes Made chunk refl)
     ∙ bytes_to-append Notes (puts_to Notes line) (puts_from behind ps)
     ∙ ap (λ (xs : List ℕ). xs ++ bytes_to Notes (puts_from behind ps)) (bytes_to-own Notes line)
     ∙ ap (λ (xs : List ℕ). line ++ xs) (notes_from behind ps)
+    ∙ sym (told_first (region_of p) (regions_in ps))
 
-pub notes_in-repair : (ps : List Piece) → bytes_to Notes (repair_puts ps) ≡ lines_in ps
+pub notes_in-repair : (ps : List Piece) → bytes_to Notes (repair_puts ps) ≡ skipped_text (regions_in ps)
 notes_in-repair ps =
     let first : List ℕ = laid_each 0 (signature ∷ []) in
     let place : ℕ = end_of_chunks 0 (signature ∷ []) in
@@ -88,7 +90,7 @@ unfolding puts_from
 out_from place [] = refl
 out_from place (p ∷ ps) =
     let chunk : List ℕ = laid_each place (chunk_in p.what) in
-    let line : List ℕ = line_of p.begin p.end p.what in
+    let line : List ℕ = told_text (region_of p) in
     let behind : ℕ = end_of_chunks place (chunk_in p.what) in
     bytes_to-append Out (puts_to Made chunk) (puts_to Notes line ++ puts_from behind ps)
     ∙ ap (λ (xs : List ℕ). xs ++ bytes_to Out (puts_to Notes line ++ puts_from behind ps)) (bytes_to-other Out Made chunk refl)

@@ -1,6 +1,5 @@
 -- Files that are walked and copied, where their bytes may be told.
 use Rattle.std.proofs.Common.{◌≡◌, ◌≢◌, ◌∙◌, ℕ, ◌≤◌, Bool, true, false, Option, Some, None, Result, Ok, Err, IfSome, List, [], ◌∷◌, ◌++◌, length, refl, sym, subst, inl, inr, arith}
-use Rattle.std.proofs.lemmas.List.{append-nil}
 use Rattle.std.specs.List.{AllByRecursion}
 use Rattle.std.specs.Fn.{Shared, FnReturnsAt}
 use denote.Ref.{Bor}
@@ -10,14 +9,13 @@ use Rattle.record_writer.specs.Progresses.{nothing_made, totals_made}
 use Rattle.chunk_reader.specs.Reasons.{Applies, NoneOf, loading_reasons}
 use Rattle.chunk_reader.proofs.Rooms.{IsSized}
 use Rattle.damage_skip.specs.Pieces.{Piece}
-use Rattle.damage_skip.specs.Walks.{piece_of, GoesOn, IsStop, IsStoppedAt}
-use Rattle.damage_skip.specs.declared.events.Event.{Event}
-use Rattle.damage_skip.specs.declared.events.Event.TheVariants as event
+use Rattle.damage_skip.specs.Policies.{IsAllowedRegion}
+use Rattle.damage_skip.specs.Regions.{regions_in, IsWalkedTo}
+use Rattle.damage_skip.specs.Walks.{GoesOn, IsStop, IsStoppedAt}
 use Rattle.damage_skip.specs.declared.regions.Region.{Region}
-use Rattle.damage_skip.proofs.Tiles.{goes_on_append}
-use Rattle.repair_copy.specs.Told.{IsLetPass}
+use Rattle.damage_skip.proofs.WalkedTo.{walked-further, walked-on}
 use Rattle.repair_copy.specs.RepairPuts.{repair_puts, WentOutAtFault}
-use Rattle.repair_copy.specs.Walked.{AreWalked, EndsAt}
+use Rattle.repair_copy.specs.Walked.{EndsAt}
 use Rattle.repair_copy.specs.Copies.{HasCopied, HasBegun, HasPutAll, HasBrokenOff, HasPutAtFault, HasWalked}
 use Rattle.repair_copy.specs.Repairs.{Repairs, end_of_failed}
 use Rattle.repair_copy.specs.declared.copying.Copied.{Copied}
@@ -48,47 +46,20 @@ some_last : (events : List Piece) (e : Piece) → events ++ e ∷ [] ≢ []
 some_last [] e = λ none. cc none
 some_last (f ∷ events) e = λ none. cc none
 
-pub each_append : {X : Type 0} (P : X → Type 0) (xs ys : List X) → AllByRecursion P xs → AllByRecursion P ys → AllByRecursion P (xs ++ ys)
-each_append P [] ys h g = g
-each_append P (x ∷ xs) ys h g = (h.0, each_append P xs ys h.1 g)
-
 module _ {F : Type 0} (test : Shared F (Bor Region × Unit {0}) Bool) (f : F) where
-  -- an event that is a region was let pass
-  pub let_pass : (t : F) (e : Event) → t ≡ f → ((region : Region) → e ≡ event.Skipped region → FnReturnsAt test t region true)
-      → IsLetPass test f (piece_of e).begin (piece_of e).end (piece_of e).what
-  let_pass t (event.Records begin records chunk) same allowed = tt
-  let_pass t (event.Kept begin chunk unread) same allowed = tt
-  let_pass t (event.Skipped region) same allowed = subst (λ (x : F). FnReturnsAt test x region true) same (allowed region refl)
-
-  -- the walk goes on past what is no event
-  walked_on : (file : List ℕ) (place to : ℕ) (events : List Piece) → AreWalked test f file place events → GoesOn true file place to []
-      → AreWalked test f file to events
-  walked_on file place to events h on = record {
-    walked = subst (λ (es : List Piece). GoesOn true file 0 to es) (append-nil events) (goes_on_append true file 0 place to events [] h.walked on);
-    let_pass = h.let_pass;
-  }
-
-  -- and past events
-  walked_more : (file : List ℕ) (place to : ℕ) (events : List Piece) (e : Piece) → AreWalked test f file place events
-      → GoesOn true file place to (e ∷ []) → IsLetPass test f e.begin e.end e.what → AreWalked test f file to (events ++ e ∷ [])
-  walked_more file place to events e h on pass = record {
-    walked = goes_on_append true file 0 place to events (e ∷ []) h.walked on;
-    let_pass = each_append (λ (p : Piece). IsLetPass test f p.begin p.end p.what) events (e ∷ []) h.let_pass (pass, tt);
-  }
-
   -- before the first event
   pub walked_none : (bytes : Option (List ℕ)) (place : ℕ) (before : Taken) (s : Copied) → place ≡ 0 → s.begun ≡ false → s.file ≡ nothing_made
       → s.regions ≡ 0 → IfSome bytes (HasWalked test f place s before before)
   walked_none None place before s front unbegun file none = tt
   walked_none (Some file) place before s front unbegun at none = record {
     events = [];
-    walked = record { walked = ([], sym front, refl); let_pass = tt };
+    walked = record { walked = ([], sym front, refl); each = tt };
     copies = inl (record { unbegun = unbegun; file = at; regions = none; none = refl; same = refl });
   }
 
   -- what is put of the events broke off
   repairs_broken_off : (cut : FailedSink) (faults faults_then : ℕ) (before after : Taken) (file : List ℕ) (place : ℕ) (events : List Piece)
-      → AreWalked test f file place events → HasBrokenOff cut before after events
+      → IsWalkedTo true (IsAllowedRegion test f) file place events → HasBrokenOff cut before after events
       → Repairs test f (Err (end_of_failed cut)) faults faults_then before after file
   repairs_broken_off Made faults faults_then before after file place events walked h =
       record { place = place; events = events; walked = walked; answer = tt; part = h.part; went = h.broken; took = h.went }
@@ -96,7 +67,7 @@ module _ {F : Type 0} (test : Shared F (Bor Region × Unit {0}) Bool) (f : F) wh
       record { place = place; events = events; walked = walked; answer = tt; part = h.part; went = h.broken; took = h.went }
 
   repairs_cut : (result : Result Repaired RepairEnd) (cut : FailedSink) (faults faults_then : ℕ) (before after : Taken) (file : List ℕ) (place : ℕ)
-      (events : List Piece) → result ≡ Err (end_of_failed cut) → AreWalked test f file place events → HasBrokenOff cut before after events
+      (events : List Piece) → result ≡ Err (end_of_failed cut) → IsWalkedTo true (IsAllowedRegion test f) file place events → HasBrokenOff cut before after events
       → Repairs test f result faults faults_then before after file
   repairs_cut result cut faults faults_then before after file place events is walked h =
       subst (λ (x : Result Repaired RepairEnd). Repairs test f x faults faults_then before after file) (sym is)
@@ -115,11 +86,11 @@ module _ {F : Type 0} (test : Shared F (Bor Region × Unit {0}) Bool) (f : F) wh
       both : (o : Option (List ℕ)) → IfSome o (HasWalked test f place s before now_taken) → IfSome o (λ file. GoesOn true file place to [])
           → IfSome o (HasWalked test f to s before now_taken)
       both None h on = tt
-      both (Some file) h on = record { events = h.events; walked = walked_on file place to h.events h.walked on; copies = h.copies }
+      both (Some file) h on = record { events = h.events; walked = walked-further true (IsAllowedRegion test f) file place to h.events h.walked on; copies = h.copies }
 
     -- an event was copied
     pub walked_next : (s t : Copied) (before now_taken then : Taken) (e : Piece) → IfSome bytes (HasWalked test f place s before now_taken)
-        → IfSome now (λ file. GoesOn keep file place to (e ∷ [])) → IsLetPass test f e.begin e.end e.what
+        → IfSome now (λ file. GoesOn keep file place to (e ∷ [])) → AllByRecursion (IsAllowedRegion test f) (regions_in (e ∷ []))
         → ((b : Taken) (events : List Piece) → HasCopied b now_taken s events → HasBegun b then t (events ++ e ∷ []))
         → IfSome bytes (HasWalked test f to t before then)
     walked_next s t before now_taken then e h on pass copies = both bytes h (goes_on (e ∷ []) on) where
@@ -128,7 +99,7 @@ module _ {F : Type 0} (test : Shared F (Bor Region × Unit {0}) Bool) (f : F) wh
       both None h on = tt
       both (Some file) h on = record {
         events = h.events ++ e ∷ [];
-        walked = walked_more file place to h.events e h.walked on pass;
+        walked = walked-on true (IsAllowedRegion test f) file place to h.events (e ∷ []) h.walked on pass;
         copies = inr (copies before h.events h.copies, some_last h.events e);
       }
 
@@ -136,7 +107,7 @@ module _ {F : Type 0} (test : Shared F (Bor Region × Unit {0}) Bool) (f : F) wh
     pub cut_within : (s : Copied) (before now_taken then : Taken) (e : Piece) (cut : FailedSink) (result : Result Repaired RepairEnd) (faults faults_then : ℕ)
         → result ≡ Err (end_of_failed cut)
         → IfSome bytes (HasWalked test f place s before now_taken)
-        → IfSome now (λ file. GoesOn keep file place to (e ∷ [])) → IsLetPass test f e.begin e.end e.what
+        → IfSome now (λ file. GoesOn keep file place to (e ∷ [])) → AllByRecursion (IsAllowedRegion test f) (regions_in (e ∷ []))
         → ((b : Taken) (events : List Piece) → HasCopied b now_taken s events → HasBrokenOff cut b then (events ++ e ∷ []))
         → IfSome bytes (Repairs test f result faults faults_then before then)
     cut_within s before now_taken then e cut result faults faults_then is h on pass front = both bytes h (goes_on (e ∷ []) on) where
@@ -145,7 +116,7 @@ module _ {F : Type 0} (test : Shared F (Bor Region × Unit {0}) Bool) (f : F) wh
       both None h on = tt
       both (Some file) h on =
           repairs_cut result cut faults faults_then before then file to (h.events ++ e ∷ []) is
-          (walked_more file place to h.events e h.walked on pass) (front before h.events h.copies)
+          (walked-on true (IsAllowedRegion test f) file place to h.events (e ∷ []) h.walked on pass) (front before h.events h.copies)
 
     -- it ends at the file's end
     pub ends_at_end : (size : ℕ) → IsSized now (Some size) → to ≡ size → IfSome bytes (λ file. EndsAt test f file to None)

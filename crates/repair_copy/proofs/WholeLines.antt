@@ -5,8 +5,9 @@ use Rattle.record_io.specs.Puts.{Made, Notes, Put, puts_to, bytes_to, BreaksOff}
 use Rattle.record_io.proofs.Puts.{bytes_to-append, bytes_to-own, bytes_to-other}
 use Rattle.meta_chunk.specs.Files.{signature, end_of_chunks, laid_each}
 use Rattle.damage_skip.specs.Pieces.{Piece}
+use Rattle.damage_skip.specs.Regions.{region_of, regions_in, told_text, skipped_text}
+use Rattle.damage_skip.proofs.RegionsIn.{told_first}
 use Rattle.repair_copy.specs.Relaid.{chunk_in}
-use Rattle.repair_copy.specs.Told.{line_of, lines_in}
 use Rattle.repair_copy.specs.RepairPuts.{puts_from, repair_puts}
 
 abbrev made : ℕ → Put
@@ -51,13 +52,13 @@ between_lines (b ∷ bytes) qs (p ∷ before) more m is =
 
 -- so it has the lines of the first pieces
 whole_before : (place : ℕ) (ps : List Piece) (before more : List Put) (m : ℕ) → puts_from place ps ≡ before ++ (made m ∷ more)
-    → (front behind : List Piece) × (ps ≡ front ++ behind) × (bytes_to Notes before ≡ lines_in front)
+    → (front behind : List Piece) × (ps ≡ front ++ behind) × (bytes_to Notes before ≡ skipped_text (regions_in front))
 unfolding puts_from
 whole_before place [] [] more m is = absurd (cc is)
 whole_before place [] (p ∷ before) more m is = absurd (cc is)
 whole_before place (p ∷ ps) before more m is =
     let chunk : List ℕ = laid_each place (chunk_in p.what) in
-    let line : List ℕ = line_of p.begin p.end p.what in
+    let line : List ℕ = told_text (region_of p) in
     let then : ℕ = end_of_chunks place (chunk_in p.what) in
     elim (within_chunk chunk (puts_to Notes line ++ puts_from then ps) before more m is) [
       | inl none ↦ ([], p ∷ ps, refl, none)
@@ -73,12 +74,13 @@ whole_before place (p ∷ ps) before more m is =
                 ∙ ap (bytes_to Notes) past.1
                 ∙ bytes_to-append Notes (puts_to Notes line) past.0
                 ∙ ap (λ (xs : List ℕ). xs ++ bytes_to Notes past.0) (bytes_to-own Notes line)
-                ∙ ap (λ (xs : List ℕ). line ++ xs) found.3,
+                ∙ ap (λ (xs : List ℕ). line ++ xs) found.3
+                ∙ sym (told_first (region_of p) (regions_in found.0)),
           )
     ]
 
 whole_in : (ps : List Piece) (before rest : List Put) (bytes : List ℕ) → repair_puts ps ≡ before ++ (puts_to Made bytes ++ rest) → bytes ≢ []
-    → (front behind : List Piece) × (ps ≡ front ++ behind) × (bytes_to Notes before ≡ lines_in front)
+    → (front behind : List Piece) × (ps ≡ front ++ behind) × (bytes_to Notes before ≡ skipped_text (regions_in front))
 whole_in ps before rest [] is some = absurd (some refl)
 whole_in ps before rest (m ∷ bytes) is some =
     let first : List ℕ = laid_each 0 (signature ∷ []) in
@@ -97,7 +99,7 @@ whole_in ps before rest (m ∷ bytes) is some =
     ]
 
 pub whole_lines : (ps : List Piece) (part : List Put) → BreaksOff Made part (repair_puts ps)
-    → (front behind : List Piece) × (ps ≡ front ++ behind) × (bytes_to Notes part ≡ lines_in front)
+    → (front behind : List Piece) × (ps ≡ front ++ behind) × (bytes_to Notes part ≡ skipped_text (regions_in front))
 whole_lines ps part h =
     let found = whole_in ps h.before h.rest h.bytes h.parts h.some in
     let last : List ℕ = take h.count h.bytes in (

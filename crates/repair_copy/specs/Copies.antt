@@ -1,5 +1,6 @@
 -- How far a damaged file is copied. Own.
 use Rattle.std.specs.Prelude.{◌≡◌, ◌≢◌, ℕ, Bool, true, false, ◌+◌, ◌^◌, ◌≤◌, ◌⊎◌, ⊤, Option, List, [], ◌∷◌, ◌++◌, length, if◌then◌else◌}
+use Rattle.std.specs.List.{AllByRecursion}
 use Rattle.std.specs.Fn.{Shared}
 use denote.Ref.{Bor}
 use Rattle.record_io.specs.Outside.{Takes, TakesFront}
@@ -11,13 +12,13 @@ use Rattle.meta_chunk.specs.Files.{signature, end_of_chunks}
 use Rattle.meta_chunk.specs.Laid.{end_of_chunk}
 use Rattle.record_writer.specs.Progresses.{Progress, Lays, nothing_made, totals_made}
 use Rattle.damage_skip.specs.Pieces.{Piece}
+use Rattle.damage_skip.specs.Policies.{IsAllowedRegion}
+use Rattle.damage_skip.specs.Regions.{regions_in, skipped_text, IsWalkedTo}
 use Rattle.damage_skip.specs.declared.events.Event.{Event}
 use Rattle.damage_skip.specs.declared.events.Event.TheVariants as event
 use Rattle.damage_skip.specs.declared.regions.Region.{Region}
 use Rattle.repair_copy.specs.Relaid.{chunks_in}
-use Rattle.repair_copy.specs.Told.{number_of_regions, lines_of, ArePassed}
 use Rattle.repair_copy.specs.RepairPuts.{puts_from, repair_puts, WentOutAtFault}
-use Rattle.repair_copy.specs.Walked.{AreWalked}
 use Rattle.repair_copy.specs.declared.copying.Copied.{Copied}
 use Rattle.repair_copy.specs.declared.copying.FailedSink.{FailedSink}
 use Rattle.repair_copy.specs.declared.copying.FailedSink.TheVariants as cut
@@ -60,7 +61,7 @@ pub record Copies (before after : Taken) (old new : Copied) (event : Piece) : Ty
   pub chunks : Lays before.made after.made old.file new.file (chunks_in (event ∷ []))
   pub puts : GoOutOrAreHeld before after Made (puts_behind old.file event) new.file.held
   pub begun : new.begun ≡ old.begun
-  pub regions : new.regions ≡ old.regions + number_of_regions (event ∷ [])
+  pub regions : new.regions ≡ old.regions + length (regions_in (event ∷ []))
 
 -- the copying of an event was cut off
 pub record CopiesFront (cut : FailedSink) (before after : Taken) (old : Progress) (event : Piece) : Type 0 where
@@ -78,7 +79,7 @@ pub record HasBegun (before after : Taken) (copied : Copied) (events : List Piec
   pub begun : copied.begun ≡ true
   pub chunks : Lays before.made after.made nothing_made copied.file (signature ∷ chunks_in events)
   pub puts : GoOutOrAreHeld before after Made (repair_puts events) copied.file.held
-  pub regions : copied.regions ≡ number_of_regions events
+  pub regions : copied.regions ≡ length (regions_in events)
 
 -- nothing was put yet
 pub record IsUnbegun (before after : Taken) (copied : Copied) (events : List Piece) : Type 0 where
@@ -97,7 +98,7 @@ HasCopied before after copied events =
 pub record HasPutAll (before after : Taken) (copied : Copied) (events : List Piece) : Type 0 where
   pub puts : GoOut before after (repair_puts events)
   pub totals : totals_made copied.file ≡ totals_of (signature ∷ chunks_in events)
-  pub regions : copied.regions ≡ number_of_regions events
+  pub regions : copied.regions ≡ length (regions_in events)
 
 -- what is put of these events broke off
 pub record HasBrokenOff (cut : FailedSink) (before after : Taken) (events : List Piece) : Type 0 where
@@ -115,12 +116,12 @@ pub record HasPutAtFault (faults faults_then : ℕ) (before after : Taken) (even
 pub record HasWalked {F : Type 0} (test : Shared F (Bor Region × Unit {0}) Bool) (f : F) (place : ℕ) (copied : Copied)
     (before after : Taken) (file : List ℕ) : Type 0 where
   pub events : List Piece
-  pub walked : AreWalked test f file place events
+  pub walked : IsWalkedTo true (IsAllowedRegion test f) file place events
   pub copies : HasCopied before after copied events
 
 -- so many regions were passed over, and their lines taken
 pub record HasPassed {F : Type 0} (test : Shared F (Bor Region × Unit {0}) Bool) (f : F) (count : ℕ) (before after : Option (List ℕ)) : Type 0 where
   pub regions : List Region
-  pub passed : ArePassed test f regions
-  pub lines : Takes before after (lines_of regions)
+  pub passed : AllByRecursion (IsAllowedRegion test f) regions
+  pub lines : Takes before after (skipped_text regions)
   pub counted : count ≡ length regions

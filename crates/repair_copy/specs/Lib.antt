@@ -1,5 +1,4 @@
 pub mod Relaid
-pub mod Told
 pub mod RepairPuts
 pub mod Walked
 pub mod Copies

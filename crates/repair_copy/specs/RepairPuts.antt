@@ -4,15 +4,15 @@ use Rattle.record_io.specs.Outside.{Rose}
 use Rattle.record_io.specs.Puts.{Put, Made, Notes, puts_to}
 use Rattle.meta_chunk.specs.Files.{signature, end_of_chunks, laid_each}
 use Rattle.damage_skip.specs.Pieces.{Piece}
+use Rattle.damage_skip.specs.Regions.{region_of, told_text}
 use Rattle.repair_copy.specs.Relaid.{chunk_in}
-use Rattle.repair_copy.specs.Told.{line_of}
 
 -- of pieces whose chunks are laid from a place on: of each its chunk, if it has one, and its line, if it is skipped
 unfoldable pub puts_from : ℕ → List Piece → List Put
 puts_from place [] = []
 puts_from place (piece ∷ pieces) =
     puts_to Made (laid_each place (chunk_in piece.what))
-    ++ (puts_to Notes (line_of piece.begin piece.end piece.what) ++ puts_from (end_of_chunks place (chunk_in piece.what)) pieces)
+    ++ (puts_to Notes (told_text (region_of piece)) ++ puts_from (end_of_chunks place (chunk_in piece.what)) pieces)
 
 -- of a whole file: the signature first
 abbrev pub repair_puts : List Piece → List Put

@@ -1,6 +1,7 @@
 -- What a damaged file is repaired to under a test of regions, and how that ends. Own.
-use Rattle.std.specs.Prelude.{◌≡◌, ◌≢◌, ℕ, Bool, false, ⊤, Option, Some, None, Result, Ok, Err, List, [], ◌∷◌, length}
-use Rattle.std.specs.Fn.{Shared, FnReturnsAt}
+use Rattle.std.specs.Prelude.{◌≡◌, ◌≢◌, ℕ, Bool, true, ⊤, Option, Some, None, Result, Ok, Err, List, [], ◌∷◌, length}
+use Rattle.std.specs.List.{AllByRecursion}
+use Rattle.std.specs.Fn.{Shared}
 use denote.Ref.{Bor}
 use Rattle.record_io.specs.Outside.{Takes, TakesFront}
 use Rattle.record_io.specs.Puts.{Put, Taken, Made, Notes, GoOut, BreaksOff}
@@ -8,12 +9,12 @@ use Rattle.meta_chunk.specs.Counts.{totals_of}
 use Rattle.meta_chunk.specs.Files.{signature}
 use Rattle.chunk_reader.specs.Reasons.{Applies, NoneOf, loading_reasons}
 use Rattle.damage_skip.specs.Pieces.{Piece}
-use Rattle.damage_skip.specs.Regions.{IsRegion}
+use Rattle.damage_skip.specs.Policies.{IsAllowedRegion, IsRefusedRegion}
+use Rattle.damage_skip.specs.Regions.{regions_in, skipped_text, IsWalkedTo}
 use Rattle.damage_skip.specs.declared.regions.Region.{Region}
 use Rattle.repair_copy.specs.Relaid.{chunks_in}
-use Rattle.repair_copy.specs.Told.{number_of_regions, lines_of, ArePassed}
 use Rattle.repair_copy.specs.RepairPuts.{repair_puts, WentOutAtFault}
-use Rattle.repair_copy.specs.Walked.{AreWalked, EndsAt}
+use Rattle.repair_copy.specs.Walked.{EndsAt}
 use Rattle.repair_copy.specs.declared.copying.FailedSink.{FailedSink}
 use Rattle.repair_copy.specs.declared.copying.FailedSink.TheVariants as cut
 use Rattle.repair_copy.specs.declared.repairs.Repaired.{Repaired}
@@ -23,7 +24,7 @@ use Rattle.repair_copy.specs.declared.repairs.RepairEnd.TheVariants as end
 -- what is answered where events up to a place were copied. Memory is wanting only where a chunk stands that is read
 abbrev pub AnswersRepair : {F : Type 0} → Shared F (Bor Region × Unit {0}) Bool → F → Result Repaired RepairEnd → List ℕ → ℕ → List Piece → Type 0
 AnswersRepair test f (Ok repaired) file place events =
-    EndsAt test f file place None × (repaired.totals ≡ totals_of (signature ∷ chunks_in events)) × (repaired.regions ≡ number_of_regions events)
+    EndsAt test f file place None × (repaired.totals ≡ totals_of (signature ∷ chunks_in events)) × (repaired.regions ≡ length (regions_in events))
 AnswersRepair test f (Err (end.Stopped region)) file place events = EndsAt test f file place (Some region)
 AnswersRepair test f (Err end.Memory) file place events = NoneOf (Applies file place) loading_reasons
 AnswersRepair test f (Err other) file place events = ⊤
@@ -48,7 +49,7 @@ pub record Repairs {F : Type 0} (test : Shared F (Bor Region × Unit {0}) Bool) 
     (faults faults_then : ℕ) (before after : Taken) (file : List ℕ) : Type 0 where
   pub place : ℕ
   pub events : List Piece
-  pub walked : AreWalked test f file place events
+  pub walked : IsWalkedTo true (IsAllowedRegion test f) file place events
   pub answer : AnswersRepair test f result file place events
   pub part : List Put
   pub went : WentOut result faults faults_then events part
@@ -57,15 +58,15 @@ pub record Repairs {F : Type 0} (test : Shared F (Bor Region × Unit {0}) Bool) 
 -- what is answered where these regions were passed over
 abbrev pub AnswersPassed : {F : Type 0} → Shared F (Bor Region × Unit {0}) Bool → F → Result Repaired RepairEnd → List Region → Type 0
 AnswersPassed test f (Ok repaired) regions = repaired.regions ≡ length regions
-AnswersPassed test f (Err (end.Stopped region)) regions = IsRegion region × FnReturnsAt test f region false
+AnswersPassed test f (Err (end.Stopped region)) regions = IsRefusedRegion test f region
 AnswersPassed test f (Err other) regions = ⊤
 
 -- these regions were passed over, also where the store doesn't tell its bytes: what was answered, and what notes took
 pub record Passes {F : Type 0} (test : Shared F (Bor Region × Unit {0}) Bool) (f : F) (result : Result Repaired RepairEnd) (before after : Option (List ℕ)) : Type 0 where
   pub regions : List Region
-  pub passed : ArePassed test f regions
+  pub passed : AllByRecursion (IsAllowedRegion test f) regions
   pub answer : AnswersPassed test f result regions
-  pub lines : TakesNotes result before after (lines_of regions)
+  pub lines : TakesNotes result before after (skipped_text regions)
 
 -- why a repair ended that was cut off
 abbrev pub end_of_failed : FailedSink → RepairEnd

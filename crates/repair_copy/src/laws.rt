@@ -17,9 +17,9 @@ ghost use Rattle.chunk_reader.specs.Faults.{IsAllowed, HasNoFault};
 ghost use Rattle.damage_skip.specs.Damage.{Intact, IsDamaged, AreReached, untouched};
 ghost use Rattle.damage_skip.specs.Pieces.{Piece, AreTiles, ArePieces, events_in, records_in};
 ghost use Rattle.damage_skip.specs.Walks.{GoesOn};
-ghost use Rattle.damage_skip.specs.Policies.{IsTest};
-ghost use Rattle.repair_copy.specs.Told.{lines_in};
-ghost use Rattle.repair_copy.specs.Walked.{AreWalked, EndsAt};
+ghost use Rattle.damage_skip.specs.Policies.{IsTest, IsAllowedRegion};
+ghost use Rattle.damage_skip.specs.Regions.{regions_in, skipped_text, IsWalkedTo};
+ghost use Rattle.repair_copy.specs.Walked.{EndsAt};
 ghost use Rattle.repair_copy.specs.RepairPuts.{puts_from, repair_puts};
 ghost use Rattle.repair_copy.specs.Relaid.{chunk_in, chunks_in, relaid, copied, begun_before};
 
@@ -39,12 +39,12 @@ pub fn events_have_the_chunks_of_pieces()
 /// nothing. What it puts of more events comes behind. Where it breaks off at bytes to the made file, notes have whole lines. Own.
 pub fn each_stream_takes_its_part()
     ensures made { (events : List Piece) → bytes_to Made (repair_puts events) ≡ relaid events }
-    ensures notes { (events : List Piece) → bytes_to Notes (repair_puts events) ≡ lines_in events }
+    ensures notes { (events : List Piece) → bytes_to Notes (repair_puts events) ≡ skipped_text (regions_in events) }
     ensures out { (events : List Piece) → bytes_to Out (repair_puts events) ≡ [] }
     ensures more { (events more : List Piece)
         → repair_puts (events ++ more) ≡ repair_puts events ++ puts_from (end_of_chunks 0 (signature ∷ chunks_in events)) more }
     ensures lines { (events : List Piece) (part : List Put) → BreaksOff Made part (repair_puts events)
-        → (front behind : List Piece) × (events ≡ front ++ behind) × (bytes_to Notes part ≡ lines_in front) }
+        → (front behind : List Piece) × (events ≡ front ++ behind) × (bytes_to Notes part ≡ skipped_text (regions_in front)) }
 {}
 
 /// The chunks of a file's pieces up to a place, laid anew, are a frame of bytes, behind the signature; where unread ones
@@ -137,11 +137,13 @@ pub fn what_damage_leaves_is_repaired()
 pub fn walks_under_a_policy_are_one<F: Fn(&Region) -> bool>(policy: &Policy<F>)
     requires test { IsTest F.Fn policy.now.test }
     ensures front { (file : List ℕ) (place end : ℕ) (es fs : List Piece) (stopped : Option Region)
-        → length file ≤ 2 ^ 60 → AreWalked F.Fn policy.now.test file place es → AreWalked F.Fn policy.now.test file end fs
+        → length file ≤ 2 ^ 60 → IsWalkedTo true (IsAllowedRegion F.Fn policy.now.test) file place es
+        → IsWalkedTo true (IsAllowedRegion F.Fn policy.now.test) file end fs
         → EndsAt F.Fn policy.now.test file end stopped → (rest : List Piece) × (fs ≡ es ++ rest) }
     ensures one { (file : List ℕ) (end other : ℕ) (es fs : List Piece) (stopped stops : Option Region)
-        → length file ≤ 2 ^ 60 → AreWalked F.Fn policy.now.test file end es → AreWalked F.Fn policy.now.test file other fs
+        → length file ≤ 2 ^ 60 → IsWalkedTo true (IsAllowedRegion F.Fn policy.now.test) file end es
+        → IsWalkedTo true (IsAllowedRegion F.Fn policy.now.test) file other fs
         → EndsAt F.Fn policy.now.test file end stopped → EndsAt F.Fn policy.now.test file other stops → es ≡ fs }
     ensures made { (es rest : List Piece) → relaid (es ++ rest) ≡ relaid es ++ laid_each (length (relaid es)) (chunks_in rest) }
-    ensures lines { (es rest : List Piece) → lines_in (es ++ rest) ≡ lines_in es ++ lines_in rest }
+    ensures lines { (es rest : List Piece) → skipped_text (regions_in (es ++ rest)) ≡ skipped_text (regions_in es) ++ skipped_text (regions_in rest) }
 {}

@@ -1,31 +1,29 @@
 -- What each stream takes of an answer.
-use Rattle.std.proofs.Common.{◌≡◌, ◌∙◌, ℕ, Option, Some, None, List, [], ◌∷◌, ◌++◌, length, refl, sym, ap, append-nil}
+use Rattle.std.proofs.Common.{◌≡◌, ◌∙◌, ℕ, Option, Some, None, List, [], ◌∷◌, ◌++◌, length, refl, ap, append-nil}
 use Rattle.std.specs.List.{flat_map}
-use Rattle.record_io.specs.Puts.{Put, Made, Out, Notes, puts_to, bytes_to}
+use Rattle.record_io.specs.Puts.{Put, Made, Out, Notes, bytes_to}
 use Rattle.record_io.proofs.Puts.{bytes_to-append, bytes_to-own, bytes_to-other}
 use Rattle.chunk_header.specs.Chunks.{ChunkValue}
 use Rattle.meta_chunk.specs.Counts.{totals_of}
-use Rattle.meta_chunk.specs.Files.{signature, end_of_chunks, laid_each}
-use Rattle.meta_chunk.proofs.Joins.{laid_each-append}
+use Rattle.meta_chunk.specs.Files.{signature}
 use Rattle.damage_skip.specs.Pieces.{Piece}
 use Rattle.damage_skip.specs.declared.regions.Region.{Region}
 use Rattle.record_writer.specs.Feeds.{Rest}
 use Rattle.record_writer.specs.Written.{file_under}
-use Rattle.repair_copy.specs.Relaid.{chunk_in, chunks_in, relaid}
-use Rattle.repair_copy.specs.Told.{line_of}
-use Rattle.repair_copy.specs.RepairPuts.{puts_from, repair_puts}
+use Rattle.repair_copy.specs.Relaid.{chunks_in, relaid}
+use Rattle.repair_copy.specs.RepairPuts.{repair_puts}
+use Rattle.repair_copy.proofs.RepairPuts.{made_in-repair, out_in-repair, notes_in-repair}
 use Rattle.riegeli_tool.specs.declared.repair_words.RepairWords.{RepairWords}
 use Rattle.show_files.specs.declared.show_words.ShowWords.{ShowWords}
 use Rattle.write_lines.specs.declared.write_words.WriteWords.{WriteWords}
 use Rattle.run_answers.specs.Answers.{Answer}
-use Rattle.show_files.specs.declared.show_words.RecordForm.{RecordForm}
 use Rattle.show_files.specs.Readings.{record_line}
 use Rattle.run_answers.specs.FileAnswers.{report}
 use Rattle.write_lines.specs.WriteCommand.{stop_text, answer_to}
 use Rattle.show_files.specs.ShowCommand.{IsShown}
-use Rattle.show_damaged.specs.WalkAnswers.{regions_in, walked, refused_in, skipped_text, stopped_text, walk_text}
+use Rattle.damage_skip.specs.Bounds.{walked, refused_in}
+use Rattle.damage_skip.specs.Regions.{regions_in, skipped_text, stopped_text, walk_text}
 use Rattle.riegeli_tool.specs.RepairCommand.{end_puts, IsRepaired}
-use Rattle.riegeli_tool.proofs.RepairSteps.{line_of-region}
 use Rattle.run_answers.proofs.TwoStreams.{bytes_to-first, bytes_to-second, bytes_to-neither}
 
 -- of the answer of `write`
@@ -53,48 +51,6 @@ shown-streams words file answer is =
       ap (bytes_to Notes) is.puts ∙ bytes_to-second Out Notes lines is.said refl,
     )
 
--- of what is put of pieces whose chunks are laid from a place on
-pieces_made : (place : ℕ) (pieces : List Piece) → bytes_to Made (puts_from place pieces) ≡ laid_each place (chunks_in pieces)
-unfolding puts_from laid_each
-pieces_made place [] = refl
-pieces_made place (p ∷ ps) =
-    let laid : List ℕ = laid_each place (chunk_in p.what) in
-    let line : List ℕ = line_of p.begin p.end p.what in
-    let rest : List Put = puts_from (end_of_chunks place (chunk_in p.what)) ps in
-    bytes_to-append Made (puts_to Made laid) (puts_to Notes line ++ rest)
-    ∙ ap (λ (xs : List ℕ). xs ++ bytes_to Made (puts_to Notes line ++ rest)) (bytes_to-own Made laid)
-    ∙ ap (λ (xs : List ℕ). laid ++ xs) (bytes_to-append Made (puts_to Notes line) rest
-    ∙ ap (λ (xs : List ℕ). xs ++ bytes_to Made rest) (bytes_to-other Made Notes line refl)
-    ∙ pieces_made (end_of_chunks place (chunk_in p.what)) ps)
-    ∙ sym (laid_each-append place (chunk_in p.what) (chunks_in ps))
-
-pieces_out : (place : ℕ) (pieces : List Piece) → bytes_to Out (puts_from place pieces) ≡ []
-unfolding puts_from
-pieces_out place [] = refl
-pieces_out place (p ∷ ps) =
-    let laid : List ℕ = laid_each place (chunk_in p.what) in
-    let line : List ℕ = line_of p.begin p.end p.what in
-    let rest : List Put = puts_from (end_of_chunks place (chunk_in p.what)) ps in
-    bytes_to-append Out (puts_to Made laid) (puts_to Notes line ++ rest)
-    ∙ ap (λ (xs : List ℕ). xs ++ bytes_to Out (puts_to Notes line ++ rest)) (bytes_to-other Out Made laid refl)
-    ∙ bytes_to-append Out (puts_to Notes line) rest
-    ∙ ap (λ (xs : List ℕ). xs ++ bytes_to Out rest) (bytes_to-other Out Notes line refl)
-    ∙ pieces_out (end_of_chunks place (chunk_in p.what)) ps
-
-pieces_notes : (place : ℕ) (pieces : List Piece) → bytes_to Notes (puts_from place pieces) ≡ skipped_text (regions_in pieces)
-unfolding puts_from
-pieces_notes place [] = refl
-pieces_notes place (p ∷ ps) =
-    let laid : List ℕ = laid_each place (chunk_in p.what) in
-    let line : List ℕ = line_of p.begin p.end p.what in
-    let rest : List Put = puts_from (end_of_chunks place (chunk_in p.what)) ps in
-    bytes_to-append Notes (puts_to Made laid) (puts_to Notes line ++ rest)
-    ∙ ap (λ (xs : List ℕ). xs ++ bytes_to Notes (puts_to Notes line ++ rest)) (bytes_to-other Notes Made laid refl)
-    ∙ bytes_to-append Notes (puts_to Notes line) rest
-    ∙ ap (λ (xs : List ℕ). xs ++ bytes_to Notes rest) (bytes_to-own Notes line)
-    ∙ ap (λ (xs : List ℕ). line ++ xs) (pieces_notes (end_of_chunks place (chunk_in p.what)) ps)
-    ∙ line_of-region p.begin p.end p.what (regions_in ps)
-
 -- of what is put last
 end_made : (refused : Option Region) (ks : List ChunkValue) → bytes_to Made (end_puts refused ks) ≡ []
 end_made None ks = bytes_to-other Made Out (report (totals_of (signature ∷ ks))) refl
@@ -111,28 +67,17 @@ pub repaired-streams : (words : RepairWords) (file : List ℕ) (answer : Answer)
     × (bytes_to Notes answer.puts ≡ walk_text (regions_in (walked words.most is.events)) (refused_in words.most is.events))
 repaired-streams words file answer is =
     let es : List Piece = walked words.most is.events in
-    let first : List ℕ = laid_each 0 (signature ∷ []) in
-    let rest : List Put = puts_from (end_of_chunks 0 (signature ∷ [])) es in
     let last : List Put = end_puts (refused_in words.most is.events) (chunks_in es) in (
       ap (bytes_to Made) is.puts
           ∙ bytes_to-append Made (repair_puts es) last
           ∙ ap (λ (xs : List ℕ). bytes_to Made (repair_puts es) ++ xs) (end_made (refused_in words.most is.events) (chunks_in es))
           ∙ append-nil (bytes_to Made (repair_puts es))
-          ∙ bytes_to-append Made (puts_to Made first) rest
-          ∙ ap (λ (xs : List ℕ). xs ++ bytes_to Made rest) (bytes_to-own Made first)
-          ∙ ap (λ (xs : List ℕ). first ++ xs) (pieces_made (end_of_chunks 0 (signature ∷ [])) es)
-          ∙ sym (laid_each-append 0 (signature ∷ []) (chunks_in es)),
+          ∙ made_in-repair es,
       ap (bytes_to Out) is.puts
           ∙ bytes_to-append Out (repair_puts es) last
-          ∙ ap (λ (xs : List ℕ). xs ++ bytes_to Out last)
-          (bytes_to-append Out (puts_to Made first) rest
-          ∙ ap (λ (xs : List ℕ). xs ++ bytes_to Out rest) (bytes_to-other Out Made first refl)
-          ∙ pieces_out (end_of_chunks 0 (signature ∷ [])) es),
+          ∙ ap (λ (xs : List ℕ). xs ++ bytes_to Out last) (out_in-repair es),
       ap (bytes_to Notes) is.puts
           ∙ bytes_to-append Notes (repair_puts es) last
-          ∙ ap (λ (xs : List ℕ). xs ++ bytes_to Notes last)
-          (bytes_to-append Notes (puts_to Made first) rest
-          ∙ ap (λ (xs : List ℕ). xs ++ bytes_to Notes rest) (bytes_to-other Notes Made first refl)
-          ∙ pieces_notes (end_of_chunks 0 (signature ∷ [])) es)
+          ∙ ap (λ (xs : List ℕ). xs ++ bytes_to Notes last) (notes_in-repair es)
           ∙ ap (λ (xs : List ℕ). skipped_text (regions_in es) ++ xs) (end_notes (refused_in words.most is.events) (chunks_in es)),
     )

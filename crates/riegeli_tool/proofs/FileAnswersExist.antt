@@ -13,7 +13,9 @@ use Rattle.run_answers.specs.Answers.{Answer}
 use Rattle.riegeli_tool.specs.Usage.{usage}
 use Rattle.write_lines.specs.WriteCommand.{write_answer}
 use Rattle.show_files.specs.ShowCommand.{IsShown}
-use Rattle.show_damaged.specs.WalkAnswers.{regions_in, walked, refused_in, walk_status}
+use Rattle.damage_skip.specs.Bounds.{walked, refused_in}
+use Rattle.damage_skip.specs.Regions.{regions_in}
+use Rattle.show_damaged.specs.WalkAnswers.{walk_status}
 use Rattle.show_damaged.specs.RecoverCommand.{IsRecovered}
 use Rattle.show_files.specs.VerifyCommand.{IsVerified}
 use Rattle.riegeli_tool.specs.RepairCommand.{end_puts, IsRepaired}

@@ -9,6 +9,8 @@ use Rattle.damage_skip.specs.declared.regions.Region.{Region}
 use Rattle.repair_copy.specs.Repairs.{Repairs, Passes}
 use Rattle.repair_copy.specs.declared.repairs.Repaired.{Repaired}
 use Rattle.repair_copy.specs.declared.repairs.RepairEnd.{RepairEnd}
+use Rattle.damage_skip.specs.Bounds.{MaySkip}
+use Rattle.damage_skip.proofs.WalkedTo.{walked-none}
 use Rattle.riegeli_tool.specs.declared.repair_words.RepairWords.{RepairWords}
 use Rattle.run_answers.specs.declared.status.Status.{Status}
 use Rattle.run_answers.specs.declared.ending.Ending.{Ending}
@@ -37,7 +39,7 @@ repair_walks words = record {
 
 -- before the first event nothing is put
 pub repaired-none : (words : RepairWords) (file : List ℕ) → IsRepairedSoFar words file []
-repaired-none words file = record { place = 0; events = []; walked = record { walked = ([], refl, refl); passed = tt }; puts = refl }
+repaired-none words file = record { place = 0; events = []; walked = walked-none true (MaySkip words.most) file; puts = refl }
 
 module _ {F : Type 0} (g : Shared F (Bor Region × Unit {0}) Bool) (f : F) (words : RepairWords) (bound : IsBound g f words.most) where
   -- why the repair of a file ended

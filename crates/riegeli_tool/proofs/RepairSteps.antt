@@ -1,12 +1,9 @@
 -- How the repair of a file stands to the answer.
-use Rattle.std.proofs.Common.{◌≡◌, ◌≢◌, ◌∙◌, ℕ, ◌+◌, ◌<◌, ◌≤◌, Bool, true, false, not, cond, Option, None, Result, Ok, Err, List, [], ◌∷◌, ◌++◌, length, length-append, append_assoc, take, refl, sym, ap, subst, inl, inr, arith}
+use Rattle.std.proofs.Common.{◌≡◌, ◌≢◌, ◌∙◌, ℕ, ◌+◌, ◌≤◌, Bool, true, false, Option, None, Result, Ok, Err, List, [], ◌∷◌, ◌++◌, length, length-append, append_assoc, take, refl, sym, ap, subst, inl, inr, arith}
 use Rattle.std.specs.Fn.{Shared}
 use denote.Ref.{Bor}
-use Rattle.std.specs.List.{AllByRecursion, cons_option}
-use Rattle.std.proofs.lemmas.Bool.{cases_Bool, cond-true, cond-false}
+use Rattle.std.specs.List.{AllByRecursion}
 use Rattle.std.proofs.lemmas.List.{append-nil, nil_from_length}
-use Rattle.std.proofs.lemmas.List.Sums.{sum_by-cons}
-use Rattle.std.proofs.lemmas.Grind.{flat_map-append}
 use Rattle.record_io.specs.Outside.{Rose, Takes, TakesFront}
 use Rattle.record_values.specs.declared.file_totals.Totals.{Totals}
 use Rattle.record_io.specs.Puts.{Put, Made, Out, Notes, Taken, taken_by, GoOut, BreaksOff, puts_to, bytes_to}
@@ -14,15 +11,20 @@ use Rattle.record_io.proofs.Calls.{Takes-nothing}
 use Rattle.record_io.proofs.Puts.{bytes_to-append, bytes_to-other, GoOut-append, GoOut-out, GoOutOrAreHeld-none, TakesFront-count, BreaksOff-front, BreaksOff-last, BreaksOff-longer}
 use Rattle.meta_chunk.specs.Counts.{totals_of}
 use Rattle.meta_chunk.specs.Files.{signature, end_of_chunks}
-use Rattle.damage_skip.specs.Pieces.{PieceKind, Given, Kept, LeftOut, Skipped, Piece, AreEvents, is_event, events_in}
-use Rattle.damage_skip.specs.Regions.{region_text}
+use Rattle.damage_skip.specs.Pieces.{Skipped, Piece, AreEvents}
+use Rattle.damage_skip.specs.Bounds.{may_skip, MaySkip, walked, refused_in}
+use Rattle.damage_skip.specs.Policies.{IsAllowedRegion}
+use Rattle.damage_skip.specs.Regions.{region_text, regions_in, skipped_text, IsWalkedTo}
+use Rattle.damage_skip.proofs.BoundedWalks.{MaySkipEach, walked-behind, walked-all, refused-none, walked-to_refused, refused-there}
+use Rattle.damage_skip.proofs.RegionsIn.{each_so, skipped_text-pieces}
+use Rattle.damage_skip.proofs.WalkedTo.{piece_at, walked-so, rest_of, rest_from}
+use Rattle.show_damaged.proofs.WalkStatuses.{status-all, status-stopped}
+use Rattle.show_damaged.specs.WalkAnswers.{walk_status}
 use Rattle.damage_skip.specs.declared.regions.Region.{Region}
 use Rattle.damage_skip.proofs.OnePiece.{piece_past}
-use Rattle.damage_skip.proofs.Tiles.{IsTile, tiles_each, goes_on_whole}
+use Rattle.damage_skip.proofs.Tiles.{goes_on_whole}
 use Rattle.repair_copy.specs.Relaid.{chunks_in}
 use Rattle.repair_copy.specs.RepairPuts.{puts_from, repair_puts, WentOutAtFault}
-use Rattle.repair_copy.specs.Told.{line_of, lines_in, is_skipped, number_of_regions, IsLetPass, lines_of, ArePassed}
-use Rattle.repair_copy.specs.Walked.{AreWalked}
 use Rattle.repair_copy.specs.Repairs.{Repairs}
 use Rattle.repair_copy.specs.declared.repairs.Repaired.{Repaired}
 use Rattle.repair_copy.specs.declared.repairs.RepairEnd.{RepairEnd}
@@ -36,47 +38,16 @@ use Rattle.run_answers.specs.FileAnswers.{OfFile, most_file_bytes, report}
 use Rattle.riegeli_tool.specs.RepairCommand.{end_puts, first_puts, IsRepaired, IsRepairedSoFar}
 use Rattle.run_answers.specs.PutSoFar.{HasPut, HasPutSoFar, HasPutFront, HasBrokenOff}
 use Rattle.run_answers.specs.Runs.{FailedToSay, PutsLines}
-use Rattle.show_damaged.specs.WalkAnswers.{region_as, regions_in, may_skip, is_refused_as, walked, refused_in, IsWalkedTo, MaySkip, skipped_text, walk_status}
 use Rattle.show_damaged.specs.WalkingEnds.{IsBound, HasToldOf}
 use Rattle.run_answers.proofs.OneAnswer.{same_answer}
 use Rattle.riegeli_tool.proofs.CommandLaws.{one_repaired}
 use Rattle.show_damaged.proofs.RegionTexts.{PutsLines-regions}
 use Rattle.show_files.proofs.ShowSteps.{in_reach}
 use Rattle.run_answers.proofs.ReportLines.{report-some}
-use Rattle.show_damaged.proofs.Walked.{NoneRefused, walked-behind, walked-all, refused-none, piece_at, walked-to_refused, refused-there}
-use Rattle.show_damaged.proofs.WalkedEvents.{rest_of, rest_from, status-all, status-stopped}
 use Rattle.repair_copy.specs.declared.repairs.RepairEnd.TheVariants as repair
 use Rattle.run_answers.specs.declared.status.Status.TheVariants as status
 
--- the lines of the regions among events, and their number
-pub line_of-region : (begin end : ℕ) (what : PieceKind) (regions : List Region)
-    → line_of begin end what ++ skipped_text regions ≡ skipped_text (cons_option (region_as begin end what) regions)
-line_of-region begin end (Given records chunk) regions = refl
-line_of-region begin end (Kept chunk) regions = refl
-line_of-region begin end LeftOut regions = refl
-line_of-region begin end (Skipped why) regions = refl
-
-lines-regions : (events : List Piece) → lines_in events ≡ skipped_text (regions_in events)
-lines-regions [] = refl
-lines-regions (e ∷ events) =
-    ap (λ (t : List ℕ). line_of e.begin e.end e.what ++ t) (lines-regions events)
-    ∙ line_of-region e.begin e.end e.what (regions_in events)
-
-count_of-region : (begin end : ℕ) (what : PieceKind) (regions : List Region)
-    → cond (is_skipped what) 1 0 + length regions ≡ length (cons_option (region_as begin end what) regions)
-count_of-region begin end (Given records chunk) regions = omega arith
-count_of-region begin end (Kept chunk) regions = omega arith
-count_of-region begin end LeftOut regions = omega arith
-count_of-region begin end (Skipped why) regions = omega arith
-
-count-regions : (events : List Piece) → number_of_regions events ≡ length (regions_in events)
-count-regions [] = refl
-count-regions (e ∷ events) =
-    sum_by-cons (λ (p : Piece). cond (is_skipped p.what) 1 0) e events
-    ∙ ap (λ (n : ℕ). cond (is_skipped e.what) 1 0 + n) (count-regions events)
-    ∙ count_of-region e.begin e.end e.what (regions_in events)
-
--- the status by their number
+-- the status by the number of regions
 pub status_of-none : (count : ℕ) → count ≡ 0 → (regions : List Region) → count ≡ length regions → status.Ok ≡ walk_status regions None
 status_of-none count none [] is = refl
 status_of-none count none (r ∷ regions) is = absurd (omega (arith, none, is))
@@ -84,19 +55,6 @@ status_of-none count none (r ∷ regions) is = absurd (omega (arith, none, is))
 pub status_of-some : (count : ℕ) → count ≢ 0 → (regions : List Region) → count ≡ length regions → status.Skipped ≡ walk_status regions None
 status_of-some count some [] is = absurd (some is)
 status_of-some count some (r ∷ regions) is = refl
-
--- what holds of each piece holds of each event
-events_each : (P : Piece → Type 0) (pieces : List Piece) → AllByRecursion P pieces → AllByRecursion P (events_in pieces)
-events_each P [] h = tt
-events_each P (p ∷ pieces) h =
-    elim (cases_Bool (is_event p.what)) [
-      | inl event ↦
-          subst (λ (es : List Piece). AllByRecursion P es) (sym (cond-true (is_event p.what) (p ∷ events_in pieces) (events_in pieces) event))
-          (h.0, events_each P pieces h.1)
-      | inr other ↦
-          subst (λ (es : List Piece). AllByRecursion P es) (sym (cond-false (is_event p.what) (p ∷ events_in pieces) (events_in pieces) other))
-          (events_each P pieces h.1)
-    ]
 
 -- the answer of events
 abbrev answer_of : RepairWords → List Piece → Answer
@@ -120,7 +78,7 @@ whole_answer events = record {
   status = walk_status (regions_in events) None;
 }
 
-whole_is : (words : RepairWords) (events : List Piece) → NoneRefused words.most events → answer_of words events ≡ whole_answer events
+whole_is : (words : RepairWords) (events : List Piece) → MaySkipEach words.most events → answer_of words events ≡ whole_answer events
 whole_is words events h =
     same_answer (answer_of words events) (whole_answer events)
     (ap (λ (es : List Piece). repair_puts es ++ end_puts (refused_in words.most events) (chunks_in es)) (walked-all words.most events h)
@@ -134,7 +92,7 @@ stopped_answer events region = record {
   status = status.Stopped;
 }
 
-stopped_is : (words : RepairWords) (events fs : List Piece) (region : Region) → NoneRefused words.most events → may_skip words.most region ≡ false
+stopped_is : (words : RepairWords) (events fs : List Piece) (region : Region) → MaySkipEach words.most events → may_skip words.most region ≡ false
     → answer_of words (events ++ piece_at region ∷ fs) ≡ stopped_answer events region
 stopped_is words events fs region h refused =
     let all : List Piece = events ++ piece_at region ∷ fs in
@@ -167,18 +125,19 @@ beside_out a b o n m part h none =
 
 -- lines of the first events are whole lines of all
 lines_first : (events front behind : List Piece) (part more : List Put) (puts : List Put) → events ≡ front ++ behind
-    → bytes_to Notes part ≡ lines_in front → puts ≡ repair_puts events ++ more → PutsLines part puts
+    → bytes_to Notes part ≡ skipped_text (regions_in front) → puts ≡ repair_puts events ++ more → PutsLines part puts
 lines_first events front behind part more puts parts has is =
-    let rest : List ℕ = lines_in behind ++ bytes_to Notes more in
-    PutsLines-regions (regions_in front) part puts rest (has ∙ lines-regions front)
+    let said : List ℕ = skipped_text (regions_in front) in
+    let others : List ℕ = skipped_text (regions_in behind) in
+    PutsLines-regions (regions_in front) part puts (others ++ bytes_to Notes more) has
     (ap (bytes_to Notes) is
     ∙ bytes_to-append Notes (repair_puts events) more
-    ∙ ap (λ (t : List ℕ). t ++ bytes_to Notes more) (notes_in-repair events ∙ ap lines_in parts ∙ flat_map-append (λ (p : Piece). line_of p.begin p.end p.what) front behind)
-    ∙ append_assoc (lines_in front) (lines_in behind) (bytes_to Notes more)
-    ∙ ap (λ (t : List ℕ). t ++ rest) (lines-regions front))
+    ∙ ap (λ (t : List ℕ). t ++ bytes_to Notes more)
+    (notes_in-repair events ∙ ap (λ (es : List Piece). skipped_text (regions_in es)) parts ∙ skipped_text-pieces front behind)
+    ∙ append_assoc said others (bytes_to Notes more))
 
 -- bytes to another stream behind what is put of events add no line
-notes-behind : (events : List Piece) (bytes : List ℕ) → bytes_to Notes (repair_puts events ++ puts_to Out bytes) ≡ lines_in events
+notes-behind : (events : List Piece) (bytes : List ℕ) → bytes_to Notes (repair_puts events ++ puts_to Out bytes) ≡ skipped_text (regions_in events)
 notes-behind events bytes =
     bytes_to-append Notes (repair_puts events) (puts_to Out bytes)
     ∙ ap (λ (t : List ℕ). bytes_to Notes (repair_puts events) ++ t) (bytes_to-other Notes Out bytes refl)
@@ -186,46 +145,23 @@ notes-behind events bytes =
     ∙ notes_in-repair events
 
 module _ {F : Type 0} (g : Shared F (Bor Region × Unit {0}) Bool) (f : F) (words : RepairWords) (bound : IsBound g f words.most) where
-  -- what a test lets pass is not refused
-  passed-may : (begin end size : ℕ) (what : PieceKind) → begin < end → end ≤ size → size ≤ most_file_bytes → IsLetPass g f begin end what
-      → is_refused_as words.most (region_as begin end what) ≡ false
-  passed-may begin end size (Given records chunk) past within short pass = refl
-  passed-may begin end size (Kept chunk) past within short pass = refl
-  passed-may begin end size LeftOut past within short pass = refl
-  passed-may begin end size (Skipped why) past within short pass =
-      let region : Region = record { begin = begin; end = end; why = why } in
-      ap not (sym (bound region true (record { ordered = omega (arith, past); in_reach = omega (arith, within, short) }) pass))
+  -- what a test allows may be skipped
+  may : (region : Region) → IsAllowedRegion g f region → MaySkip words.most region
+  may region allowed = sym (bound region true allowed.0 allowed.1)
 
-  each-passed : (size : ℕ) (events : List Piece) → size ≤ most_file_bytes → AllByRecursion (IsTile size) events
-      → AllByRecursion (λ e. IsLetPass g f e.begin e.end e.what) events → NoneRefused words.most events
-  each-passed size [] short tiles h = tt
-  each-passed size (e ∷ events) short tiles h = (
-    passed-may e.begin e.end size e.what tiles.0.after tiles.0.within short h.0,
-    each-passed size events short tiles.1 h.1,
-  )
+  walked-to : (file : List ℕ) (place : ℕ) (events : List Piece) → IsWalkedTo true (IsAllowedRegion g f) file place events
+      → IsWalkedTo true (MaySkip words.most) file place events
+  walked-to file place events h = walked-so true (IsAllowedRegion g f) file (MaySkip words.most) place events may h
 
-  walked-to : (file : List ℕ) (place : ℕ) (events : List Piece) → length file ≤ most_file_bytes → AreWalked g f file place events
-      → IsWalkedTo true words.most file place events
-  walked-to file place events short h =
-      let tiles = tiles_each true file 0 place h.walked.0 (inl (inl refl)) h.walked.1 in
-      record {
-        walked = h.walked;
-        passed = each-passed (length file) events short
-            (subst (λ (es : List Piece). AllByRecursion (IsTile (length file)) es) h.walked.2 (events_each (IsTile (length file)) h.walked.0 tiles))
-            h.let_pass;
-      }
+  regions-may : (regions : List Region) → AllByRecursion (IsAllowedRegion g f) regions → AllByRecursion (MaySkip words.most) regions
+  regions-may regions h = each_so (IsAllowedRegion g f) (MaySkip words.most) may regions h
 
-  -- so are regions
-  regions-may : (regions : List Region) → ArePassed g f regions → MaySkip words.most regions
-  regions-may [] h = tt
-  regions-may (r ∷ regions) h = (sym (bound r true h.0.0 h.0.1), regions-may regions h.1)
-
-  pub told-of : (n m : Option (List ℕ)) (regions : List Region) → ArePassed g f regions → Takes n m (lines_of regions) → HasToldOf words.most n m regions
+  pub told-of : (n m : Option (List ℕ)) (regions : List Region) → AllByRecursion (IsAllowedRegion g f) regions → Takes n m (skipped_text regions) → HasToldOf words.most n m regions
   told-of n m regions passed says = record { may = regions-may regions passed; says = says }
 
-  pub told-front : (n m : Option (List ℕ)) (regions : List Region) → ArePassed g f regions → lines_of regions ≢ [] → TakesFront n m (lines_of regions)
-      → (skipped : List Region) × MaySkip words.most skipped × (skipped ≢ []) × TakesFront n m (skipped_text skipped)
-  told-front n m regions passed some says = (regions, regions-may regions passed, λ none. some (ap lines_of none), says)
+  pub told-front : (n m : Option (List ℕ)) (regions : List Region) → AllByRecursion (IsAllowedRegion g f) regions → skipped_text regions ≢ [] → TakesFront n m (skipped_text regions)
+      → (skipped : List Region) × AllByRecursion (MaySkip words.most) skipped × (skipped ≢ []) × TakesFront n m (skipped_text skipped)
+  told-front n m regions passed some says = (regions, regions-may regions passed, λ none. some (ap skipped_text none), says)
 
   module _ (file : List ℕ) (short : length file ≤ most_file_bytes) (faults faults_then : ℕ) (a b o n m : Option (List ℕ)) where
     -- what the sinks of the repair took, and what those of the command did when it ended
@@ -239,9 +175,9 @@ module _ {F : Type 0} (g : Shared F (Bor Region × Unit {0}) Bool) (f : F) (word
     Then = taken_by b o m
 
     -- the whole file was repaired: its answer
-    whole : (repaired : Repaired) → (h : Repaired_by (Ok repaired)) → IsWalkedTo true words.most file (length file) h.events
+    whole : (repaired : Repaired) → (h : Repaired_by (Ok repaired)) → IsWalkedTo true (MaySkip words.most) file (length file) h.events
     whole repaired h =
-        subst (λ (p : ℕ). IsWalkedTo true words.most file p h.events) h.answer.0 (walked-to file h.place h.events short h.walked)
+        subst (λ (p : ℕ). IsWalkedTo true (MaySkip words.most) file p h.events) h.answer.0 (walked-to file h.place h.events h.walked)
 
     all : (repaired : Repaired) → (h : Repaired_by (Ok repaired)) → AreEvents true file h.events
     all repaired h = goes_on_whole true file h.events (whole repaired h).walked
@@ -249,7 +185,7 @@ module _ {F : Type 0} (g : Shared F (Bor Region × Unit {0}) Bool) (f : F) (word
     repaired-answer : (repaired : Repaired) → (h : Repaired_by (Ok repaired)) → (answer : Answer) → OfFile (IsRepaired words) (file ∷ []) answer
         → answer ≡ whole_answer h.events
     repaired-answer repaired h answer is =
-        is_answer words file h.events answer short (all repaired h) is ∙ whole_is words h.events (whole repaired h).passed
+        is_answer words file h.events answer short (all repaired h) is ∙ whole_is words h.events (whole repaired h).each
 
     -- all that is put of events went out
     went-all : (events : List Piece) (part : List Put) → part ≡ repair_puts events → GoOut (taken_by a None n) (taken_by b None m) part
@@ -266,14 +202,14 @@ module _ {F : Type 0} (g : Shared F (Bor Region × Unit {0}) Bool) (f : F) (word
         let puts : List Put = repair_puts h.events ++ puts_to Out text in
         record {
           answer = whole_answer h.events;
-          is = inr (short, subst (λ (x : Answer). IsRepaired words file x) (whole_is words h.events (whole repaired h).passed) (answered words file h.events (all repaired h)));
+          is = inr (short, subst (λ (x : Answer). IsRepaired words file x) (whole_is words h.events (whole repaired h).each) (answered words file h.events (all repaired h)));
           puts = puts;
           whole = sym (append-nil puts);
           lines = lines_first h.events h.events [] puts (puts_to Out text) puts (sym (append-nil h.events)) (notes-behind h.events text) refl;
           went = GoOutOrAreHeld-none Start (taken_by b p m) Out puts
               (GoOut-append Start Then (taken_by b p m) (repair_puts h.events) (puts_to Out text) (went-all h.events h.part h.went h.took)
               (GoOut-out b o p m text (subst (λ (t : Totals). Takes o p (report t)) h.answer.1 printed)));
-          status = status_is (regions_in h.events) (h.answer.2 ∙ count-regions h.events);
+          status = status_is (regions_in h.events) h.answer.2;
         }
 
     -- of its report a front was printed
@@ -304,12 +240,12 @@ module _ {F : Type 0} (g : Shared F (Bor Region × Unit {0}) Bool) (f : F) (word
     stop : (region : Region) → (h : Repaired_by (Err (repair.Stopped region)))
         → (fs : List Piece) × AreEvents true file (h.events ++ piece_at region ∷ fs)
     stop region h =
-        rest_from true words.most file h.place h.events region (walked-to file h.place h.events short h.walked) h.answer.begin h.answer.below h.answer.piece
+        rest_from true (MaySkip words.most) file h.place h.events region (walked-to file h.place h.events h.walked) h.answer.begin h.answer.below h.answer.piece
 
     stop_is : (region : Region) → (h : Repaired_by (Err (repair.Stopped region)))
         → answer_of words (h.events ++ piece_at region ∷ (stop region h).0) ≡ stopped_answer h.events region
     stop_is region h =
-        stopped_is words h.events (stop region h).0 region (walked-to file h.place h.events short h.walked).passed (refused region h)
+        stopped_is words h.events (stop region h).0 region (walked-to file h.place h.events h.walked).each (refused region h)
 
     pub stopped-walked : (region : Region) → Repaired_by (Err (repair.Stopped region))
         → HasPut (IsRepaired words) file Start Then [] (region_text (codes "stopped") region) status.Stopped
@@ -331,26 +267,26 @@ module _ {F : Type 0} (g : Shared F (Bor Region × Unit {0}) Bool) (f : F) (word
     all-first sound (e ∷ events) part (inl same) = same
     all-first sound (e ∷ events) part (inr (rose, left, parts)) = absurd (sound rose)
 
-    pub cut-so_far : ¬ Rose faults faults_then → (place : ℕ) (events : List Piece) → AreWalked g f file place events
+    pub cut-so_far : ¬ Rose faults faults_then → (place : ℕ) (events : List Piece) → IsWalkedTo true (IsAllowedRegion g f) file place events
         → (part : List Put) → WentOutAtFault faults faults_then events part → GoOut (taken_by a None n) (taken_by b None m) part
         → HasPutSoFar (IsRepairedSoFar words file) Start Then []
     cut-so_far sound place events walk part went took =
         let same = all-first sound events part went in
         record {
           part = part;
-          is = record { place = place; events = events; walked = walked-to file place events short walk; puts = same };
+          is = record { place = place; events = events; walked = walked-to file place events walk; puts = same };
           went = GoOutOrAreHeld-none Start Then Out part
               (beside_out a b o n m part took (ap (bytes_to Out) same ∙ none_out-first events));
         }
 
     -- it was cut off behind some events
-    module _ (place : ℕ) (events : List Piece) (walk : AreWalked g f file place events) (part : List Put)
+    module _ (place : ℕ) (events : List Piece) (walk : IsWalkedTo true (IsAllowedRegion g f) file place events) (part : List Put)
         (took : GoOut (taken_by a None n) (taken_by b None m) part) (answer : Answer) (is : OfFile (IsRepaired words) (file ∷ []) answer) where
-      to : IsWalkedTo true words.most file place events
-      to = walked-to file place events short walk
+      to : IsWalkedTo true (MaySkip words.most) file place events
+      to = walked-to file place events walk
 
       rest : (fs : List Piece) × AreEvents true file (events ++ fs)
-      rest = rest_of true words.most file place events to
+      rest = rest_of true (MaySkip words.most) file place events to
 
       -- what an answer puts behind what is put of these
       more : (puts : List Put) × (answer.puts ≡ repair_puts events ++ puts)
@@ -360,14 +296,14 @@ module _ {F : Type 0} (g : Shared F (Bor Region × Unit {0}) Bool) (f : F) (word
           let next : List Put = puts_from (end_of_chunks 0 (signature ∷ chunks_in events)) fs in (
             next ++ last,
             ap (λ (x : Answer). x.puts) (is_answer words file (events ++ rest.0) answer short rest.1 is)
-                ∙ ap (λ (es : List Piece). repair_puts es ++ last) (walked-behind words.most events rest.0 to.passed)
+                ∙ ap (λ (es : List Piece). repair_puts es ++ last) (walked-behind words.most events rest.0 to.each)
                 ∙ ap (λ (ps : List Put). ps ++ last) (repair_puts-append events fs)
                 ∙ append_assoc (repair_puts events) next last,
           )
 
       -- a front went out
       front-walked : (left : List Put) (front behind : List Piece) → repair_puts events ≡ part ++ left → events ≡ front ++ behind
-          → bytes_to Notes part ≡ lines_in front → HasPutFront Start Then [] answer
+          → bytes_to Notes part ≡ skipped_text (regions_in front) → HasPutFront Start Then [] answer
       front-walked left front behind parts first has = record {
         part = part;
         rest = left ++ more.0;

@@ -6,14 +6,15 @@ use Rattle.chunk_header.specs.Chunks.{ChunkValue}
 use Rattle.meta_chunk.specs.Counts.{totals_of}
 use Rattle.meta_chunk.specs.Files.{signature}
 use Rattle.damage_skip.specs.Pieces.{Piece, AreEvents}
-use Rattle.damage_skip.specs.Regions.{region_text}
+use Rattle.damage_skip.specs.Bounds.{MaySkip, walked, refused_in}
+use Rattle.damage_skip.specs.Regions.{region_text, regions_in, IsWalkedTo}
+use Rattle.show_damaged.specs.WalkAnswers.{walk_status, MaySayWalk, MayEndWalk}
 use Rattle.damage_skip.specs.declared.regions.Region.{Region}
 use Rattle.repair_copy.specs.Relaid.{chunks_in}
 use Rattle.repair_copy.specs.RepairPuts.{repair_puts}
 use Rattle.riegeli_tool.specs.declared.repair_words.RepairWords.{RepairWords}
 use Rattle.run_answers.specs.Answers.{Answer}
 use Rattle.run_answers.specs.FileAnswers.{file_meaning, report}
-use Rattle.show_damaged.specs.WalkAnswers.{regions_in, walked, refused_in, IsWalkedTo, walk_status, MaySayWalk, MayEndWalk}
 use Rattle.run_answers.specs.Meanings.{Meaning, none_used}
 
 -- what is put last: the report of the file of these chunks, or the line of the region that is refused
@@ -39,7 +40,7 @@ first_puts (event ∷ events) = repair_puts (event ∷ events)
 pub record IsRepairedSoFar (words : RepairWords) (file : List ℕ) (part : List Put) : Type 0 where
   pub place : ℕ
   pub events : List Piece
-  pub walked : IsWalkedTo true words.most file place events
+  pub walked : IsWalkedTo true (MaySkip words.most) file place events
   pub puts : part ≡ first_puts events
 
 -- what `repair` means

@@ -1,5 +1,5 @@
 -- A file without fault has the same answer where `show` goes on past damage as where it doesn't.
-use Rattle.std.proofs.Common.{◌≡◌, ◌≢◌, ◌∙◌, ℕ, false, Option, None, List, [], ◌∷◌, ◌++◌, length, refl, ap, inl}
+use Rattle.std.proofs.Common.{◌≡◌, ◌≢◌, ◌∙◌, ℕ, false, Option, None, List, [], ◌∷◌, ◌++◌, length, refl, sym, ap, subst, inl}
 use Rattle.std.specs.List.{AllByRecursion, cons_option, flat_map}
 use Rattle.record_io.specs.Puts.{Put, Notes, puts_to, bytes_to}
 use Rattle.meta_chunk.specs.Files.{IsPlain, IsFileOf}
@@ -13,20 +13,18 @@ use Rattle.show_damaged.specs.declared.recover_words.RecoverWords.{RecoverWords}
 use Rattle.run_answers.specs.Answers.{Answer}
 use Rattle.show_files.specs.ShowCommand.{IsShown}
 use Rattle.show_damaged.specs.RecoverCommand.{event_puts, IsRecovered}
-use Rattle.show_damaged.specs.WalkAnswers.{regions_in, is_refused_as, walked, refused_in, stopped_text, walk_text, walk_status}
-use Rattle.show_damaged.proofs.RecoverStreams.{recovered-streams, no_region, events-unskipped}
+use Rattle.damage_skip.specs.Bounds.{MaySkip, walked, refused_in}
+use Rattle.damage_skip.specs.Regions.{regions_in, stopped_text, walk_text}
+use Rattle.damage_skip.proofs.BoundedWalks.{MaySkipEach, walked-all, refused-none}
+use Rattle.damage_skip.proofs.RegionsIn.{no_region}
+use Rattle.show_damaged.proofs.RecoverStreams.{recovered-streams, events-unskipped}
+use Rattle.show_damaged.specs.WalkAnswers.{walk_status}
 use Rattle.show_files.proofs.OneReading.{one_shown}
-use Rattle.show_damaged.proofs.Walked.{NoneRefused, walked-all, refused-none}
 use Rattle.run_answers.specs.declared.status.Status.TheVariants as status
 
 -- events that are no regions
 abbrev NoneSkipped : List Piece → Type 0
 NoneSkipped events = AllByRecursion (λ event. (w : Why) → event.what ≢ Skipped w) events
-
-none_refused : (most : Option ℕ) (events : List Piece) → NoneSkipped events → NoneRefused most events
-none_refused most [] h = tt
-none_refused most (event ∷ events) h =
-    (ap (is_refused_as most) (no_region event.begin event.end event.what h.0), none_refused most events h.1)
 
 no_regions : (events : List Piece) → NoneSkipped events → regions_in events ≡ []
 no_regions [] h = refl
@@ -42,7 +40,7 @@ account : (words : RecoverWords) (file : List ℕ) (answer : Answer) → HasNoFa
     → (walked words.most is.events ≡ is.events) × (regions_in is.events ≡ []) × (refused_in words.most is.events ≡ None)
 account words file answer none is =
     let no : NoneSkipped is.events = none_skipped words file answer none is in
-    let free : NoneRefused words.most is.events = none_refused words.most is.events no in
+    let free : MaySkipEach words.most is.events = subst (AllByRecursion (MaySkip words.most)) (sym (no_regions is.events no)) tt in
     (walked-all words.most is.events free, no_regions is.events no, refused-none words.most is.events free)
 
 pub recovered-ok : (words : RecoverWords) (file : List ℕ) (answer : Answer) → HasNoFault false file → IsRecovered words file answer

@@ -6,6 +6,5 @@ pub mod RecoverSteps
 pub mod RecoverStreams
 pub mod RegionTexts
 pub mod WalkRuns
+pub mod WalkStatuses
 mod WalkValues
-pub mod Walked
-pub mod WalkedEvents

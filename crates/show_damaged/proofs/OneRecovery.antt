@@ -7,7 +7,9 @@ use Rattle.damage_skip.specs.Pieces.{Piece}
 use Rattle.damage_skip.proofs.Tiles.{events_of, events_one}
 use Rattle.show_damaged.specs.declared.recover_words.RecoverWords.{RecoverWords}
 use Rattle.run_answers.specs.Answers.{Answer}
-use Rattle.show_damaged.specs.WalkAnswers.{regions_in, walked, refused_in, stopped_text, walk_status}
+use Rattle.damage_skip.specs.Bounds.{walked, refused_in}
+use Rattle.damage_skip.specs.Regions.{regions_in, stopped_text}
+use Rattle.show_damaged.specs.WalkAnswers.{walk_status}
 use Rattle.show_damaged.specs.RecoverCommand.{event_puts, IsRecovered}
 use Rattle.run_answers.proofs.OneAnswer.{same_answer}
 

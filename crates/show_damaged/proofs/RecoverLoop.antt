@@ -9,7 +9,14 @@ use Rattle.chunk_reader.proofs.ReadingSteps.{counted-room}
 use Rattle.record_values.specs.Bytes.{AreBytes}
 use Rattle.record_io.specs.Puts.{Out, Taken}
 use Rattle.record_io.proofs.Puts.{GoOut-nothing, GoOutOrAreHeld-none}
-use Rattle.damage_skip.specs.Walks.{piece_of, events_of, GoesOn, IsMet, IsStoppedAt, IsStop, IsEventIn}
+use Rattle.damage_skip.specs.Bounds.{may_skip, MaySkip}
+use Rattle.damage_skip.proofs.WalkedTo.{walked-none}
+use Rattle.damage_skip.proofs.BoundedWalks.{MaySkipEach}
+use Rattle.damage_skip.specs.Regions.{regions_in}
+use Rattle.damage_skip.specs.Walks.{piece_of, events_of, GoesOn, IsMet, IsStoppedAt, IsStop, IsEventIn, event_text}
+use Rattle.show_damaged.proofs.RecoverSteps.{by_sink, given-front, given-so_far, given-whole, given-stopped, given-on, given-event, event-unprinted, event-untold, event-passed, event-said, event-unsaid, event-front, told-event, told-still, told-front, status-event}
+use Rattle.show_damaged.specs.RecoverProgress.{HasPositions, end_of_walk, event_lines, status_after, GivesEvent, IsGivenTo}
+use Rattle.show_damaged.specs.WalkAnswers.{walk_status}
 use Rattle.damage_skip.specs.declared.events.Event.{Event}
 use Rattle.damage_skip.specs.declared.events.WalkEnd.{WalkEnd}
 use Rattle.damage_skip.specs.declared.regions.Region.{Region}
@@ -18,15 +25,12 @@ use Rattle.run_answers.specs.declared.status.Status.{Status}
 use Rattle.run_answers.specs.declared.ending.Ending.{Ending}
 use Rattle.run_answers.specs.Answers.{Answer}
 use Rattle.run_answers.specs.FileAnswers.{OfFile, most_file_bytes}
-use Rattle.show_damaged.specs.WalkAnswers.{regions_in, is_refused, may_skip, walk_status}
 use Rattle.show_damaged.specs.RecoverCommand.{IsRecovered, IsRecoveredSoFar}
-use Rattle.show_damaged.specs.RecoverProgress.{HasPositions, end_of_walk, event_lines, event_text, status_after, GivesEvent, IsGivenTo}
 use Rattle.run_answers.specs.PutSoFar.{HasPut, HasPutSoFar, HasPutFront}
 use Rattle.run_answers.specs.Endings.{IsShort, HasPutToCut, HasPutAtEnd}
 use Rattle.show_damaged.specs.WalkingEnds.{walk_ends, IsBound, HasToldOf, TellsOf}
 use Rattle.run_answers.proofs.FileEnds.{some-answer}
 use Rattle.show_damaged.proofs.OneRecovery.{recovered_exists}
-use Rattle.show_damaged.proofs.RecoverSteps.{by_sink, given-front, given-so_far, given-whole, given-stopped, given-on, given-event, event-unprinted, event-untold, event-passed, event-said, event-unsaid, event-front, told-event, told-still, told-front, status-event}
 use Rattle.damage_skip.specs.declared.events.Event.TheVariants as event
 use Rattle.damage_skip.specs.declared.events.WalkEnd.TheVariants as walk
 use Rattle.run_answers.specs.declared.status.Status.TheVariants as status
@@ -42,13 +46,13 @@ given-none words (Some f) place taken held front none =
     (subst (λ (h : List ℕ). IsGivenTo words f 0 taken taken h status.Ok) (sym none)
     (record {
       events = [];
-      walked = record { walked = ([], refl, refl); passed = tt };
+      walked = walked-none false (MaySkip words.most) f;
       went = GoOutOrAreHeld-none taken taken Out [] (GoOut-nothing taken);
       status = refl;
     }))
 
 pub recovered-none : (words : RecoverWords) (f : List ℕ) → IsRecoveredSoFar words f []
-recovered-none words f = record { place = 0; events = []; walked = record { walked = ([], refl, refl); passed = tt }; puts = refl }
+recovered-none words f = record { place = 0; events = []; walked = walked-none false (MaySkip words.most) f; puts = refl }
 
 pub met-none : (bytes : Option (List ℕ)) (place : ℕ) → place ≡ 0 → IfSome bytes (λ f. IsMet false f place)
 met-none None place front = tt
@@ -90,7 +94,7 @@ event-room from to size (event.Skipped region) h within reach = omega (arith, h.
 -- and is not refused
 pub event-allowed : {F : Type 0} (g : Shared F (Bor Region × Unit {0}) Bool) (f : F) (most : Option ℕ) (from to size : ℕ) (e : Event) → IsBound g f most
     → IsEventIn from to e → to ≤ size → size ≤ 2 ^ 60 → ((region : Region) → e ≡ event.Skipped region → FnReturnsAt g f region true)
-    → is_refused most (piece_of e) ≡ false
+    → MaySkipEach most (piece_of e ∷ [])
 event-allowed g f most from to size e bound h within reach asked =
     event-passed most e (λ region is.
     let there : IsEventIn from to (event.Skipped region) = subst (IsEventIn from to) is h in
@@ -113,7 +117,7 @@ stop-refused g f most size place region bound h reach asked =
 pub step-given : (words : RecoverWords) (bytes : Option (List ℕ)) (place next : ℕ) (a b c : Taken) (held held_then : List ℕ) (ended : Status)
     (e : Event) (then : Status) → then ≡ status_after ended e
     → IfSome bytes (λ f. IsGivenTo words f place a b held ended) → IfSome bytes (λ f. GoesOn false f place next (piece_of e ∷ []))
-    → is_refused words.most (piece_of e) ≡ false → GivesEvent {X = Status} (Ok then) (event_lines words e) (event_text e) b c held held_then
+    → MaySkipEach words.most (piece_of e ∷ []) → GivesEvent {X = Status} (Ok then) (event_lines words e) (event_text e) b c held held_then
     → IfSome bytes (λ f. IsGivenTo words f next a c held_then then)
 step-given words None place next a b c held held_then ended e then is h on passed gives = tt
 step-given words (Some f) place next a b c held held_then ended e then is h on passed gives =
@@ -123,7 +127,7 @@ step-given words (Some f) place next a b c held held_then ended e then is h on p
 pub step-told : (words : RecoverWords) (l : Option (List ℕ)) (b c : Taken) (held held_then : List ℕ) (ended : Status) (e : Event) (then : Status)
     → then ≡ status_after ended e
     → (skipped : List Region) × HasToldOf words.most l b.notes skipped × (ended ≡ walk_status skipped None)
-    → is_refused words.most (piece_of e) ≡ false → GivesEvent {X = Status} (Ok then) (event_lines words e) (event_text e) b c held held_then
+    → MaySkipEach words.most (piece_of e ∷ []) → GivesEvent {X = Status} (Ok then) (event_lines words e) (event_text e) b c held held_then
     → (skipped : List Region) × HasToldOf words.most l c.notes skipped × (then ≡ walk_status skipped None)
 step-told words l b c held held_then ended e then same (skipped, told, is) passed gives = (
   skipped ++ regions_in (piece_of e ∷ []),
@@ -136,7 +140,7 @@ pub step-failed : (X : Type 0) (words : RecoverWords) (bytes : Option (List ℕ)
     (e : Event) (why : Ending Region) (result : Result Status (Ending Region)) → IsErr result → IsErrAnd result (λ end. end ≡ why)
     → IfSome bytes (λ f. length f ≤ most_file_bytes)
     → IfSome bytes (λ f. IsGivenTo words f place a b held ended) → IfSome bytes (λ f. GoesOn false f place next (piece_of e ∷ []))
-    → is_refused words.most (piece_of e) ≡ false → GivesEvent {X = X} (Err why) (event_lines words e) (event_text e) b c held held_then
+    → MaySkipEach words.most (piece_of e ∷ []) → GivesEvent {X = X} (Err why) (event_lines words e) (event_text e) b c held held_then
     → held_then ≡ []
     → IfSome bytes (λ f. HasPutAtEnd walk_ends (IsRecovered words) result f a c held_then)
 step-failed X words None place next a b c held held_then ended e why result err is short h on passed gives none = tt
@@ -154,7 +158,7 @@ step-failed X words (Some f) place next a b c held held_then ended e why (Err re
 pub step-untold : (X : Type 0) (words : RecoverWords) (l : Option (List ℕ)) (b c : Taken) (held held_then : List ℕ) (ended : Status)
     (e : Event) (why : Ending Region) (result : Result Status (Ending Region)) → IsErr result → IsErrAnd result (λ end. end ≡ why)
     → (skipped : List Region) × HasToldOf words.most l b.notes skipped × (ended ≡ walk_status skipped None)
-    → is_refused words.most (piece_of e) ≡ false → GivesEvent {X = X} (Err why) (event_lines words e) (event_text e) b c held held_then
+    → MaySkipEach words.most (piece_of e ∷ []) → GivesEvent {X = X} (Err why) (event_lines words e) (event_text e) b c held held_then
     → TellsOf words.most result l c.notes
 step-untold X words l b c held held_then ended e why (Ok x) err is told passed gives = absurd (cc err)
 step-untold X words l b c held held_then ended e why (Err result) err is (skipped, told, status) passed gives =

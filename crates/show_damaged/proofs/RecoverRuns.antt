@@ -1,8 +1,13 @@
 -- `show` walks one file past its damage, and its ends are those that it may have.
-use Rattle.std.proofs.Common.{◌≡◌, ℕ, false, Option, Result, Ok, Err, List, [], ◌∷◌, refl, sym, subst, IsSomeAnd}
+use Rattle.std.proofs.Common.{◌≡◌, ℕ, Option, Result, Ok, Err, List, [], ◌∷◌, refl, sym, subst, IsSomeAnd}
 use Rattle.std.specs.Result.{IsErr, IsErrAnd}
 use Rattle.record_io.specs.Puts.{Taken}
-use Rattle.damage_skip.specs.Walks.{piece_of}
+use Rattle.damage_skip.proofs.BoundedWalks.{MaySkipEach}
+use Rattle.damage_skip.specs.Regions.{regions_in}
+use Rattle.damage_skip.specs.Walks.{piece_of, event_text}
+use Rattle.damage_skip.proofs.RegionsIn.{skipped_text-event}
+use Rattle.show_damaged.proofs.RecoverSteps.{by_sink}
+use Rattle.show_damaged.specs.RecoverProgress.{end_of_walk, event_lines, GivesEvent}
 use Rattle.damage_skip.specs.declared.events.Event.{Event}
 use Rattle.damage_skip.specs.declared.events.WalkEnd.{WalkEnd}
 use Rattle.damage_skip.specs.declared.regions.Region.{Region}
@@ -12,11 +17,7 @@ use Rattle.run_answers.specs.declared.status.Status.{Status}
 use Rattle.run_answers.specs.Endings.{IsAllowedEnd}
 use Rattle.run_answers.specs.FileAnswers.{IsInReach}
 use Rattle.show_damaged.specs.RecoverCommand.{IsRecovered, IsRecoveredSoFar, recover_meaning}
-use Rattle.show_damaged.specs.RecoverProgress.{end_of_walk, event_lines, event_text, GivesEvent}
-use Rattle.show_damaged.specs.WalkAnswers.{regions_in, is_refused}
 use Rattle.run_answers.proofs.FileRuns.{reads_file}
-use Rattle.show_damaged.proofs.RecoverSteps.{by_sink, text-event}
-use Rattle.show_damaged.proofs.Walked.{passed-may}
 use Rattle.show_damaged.proofs.WalkRuns.{IsWalking}
 use Rattle.damage_skip.specs.declared.events.WalkEnd.TheVariants as walk
 
@@ -30,7 +31,7 @@ recover_walks words = record {
 -- an event fails by a sink that takes what is printed or told
 pub step-allowed : (X : Type 0) (words : RecoverWords) (b c : Taken) (held held_then : List ℕ) (e : Event) (why : Ending Region)
     (result : Result Status (Ending Region)) (told : Option ℕ) → IsErr result → IsErrAnd result (λ made. made ≡ why)
-    → is_refused words.most (piece_of e) ≡ false → GivesEvent {X = X} (Err why) (event_lines words e) (event_text e) b c held held_then
+    → MaySkipEach words.most (piece_of e ∷ []) → GivesEvent {X = X} (Err why) (event_lines words e) (event_text e) b c held held_then
     → IsSomeAnd told (λ size. IsInReach (size ∷ []))
     → IsAllowedEnd (recover_meaning words) result told
 step-allowed X words b c held held_then e why (Ok x) told err is passed gives reach = absurd (cc err)
@@ -39,7 +40,7 @@ step-allowed X words b c held held_then e why (Err made) told err is passed give
     (by_sink X (λ x. IsAllowedEnd {X = Status} (recover_meaning words) (Err x) told) why (event_lines words e) (event_text e) b c held held_then gives
     (λ _. (refl, reach))
     (λ failed.
-    ((event_text e, (regions_in (piece_of e ∷ []), passed-may words.most (piece_of e ∷ []) (passed, tt), sym (text-event [] e)), failed.0), reach)))
+    ((event_text e, (regions_in (piece_of e ∷ []), passed, sym (skipped_text-event [] e)), failed.0), reach)))
 
 -- or by the walk
 pub walk-allowed : (words : RecoverWords) (e : WalkEnd) (why : Ending Region) (told : Option ℕ) → why ≡ end_of_walk e

@@ -1,6 +1,6 @@
 -- How `show` gets on past damage: the events so far, one more, and how they stand to the answer.
-use Rattle.std.proofs.Common.{◌≡◌, ◌≢◌, ◌∙◌, ℕ, ◌<◌, ◌≤◌, true, false, not, Option, Some, None, Ok, Err, List, [], ◌∷◌, ◌++◌, length, take, refl, sym, ap, subst, inl, inr, arith, length-append}
-use Rattle.std.specs.List.{flat_map}
+use Rattle.std.proofs.Common.{◌≡◌, ◌≢◌, ◌∙◌, ℕ, ◌<◌, ◌≤◌, true, false, Option, Some, None, Ok, Err, List, [], ◌∷◌, ◌++◌, length, take, refl, sym, ap, subst, inl, inr, arith, length-append}
+use Rattle.std.specs.List.{AllByRecursion, flat_map}
 use Rattle.std.proofs.Math.Seq.{take-length}
 use Rattle.std.proofs.lemmas.Bool.{cases_lt}
 use Rattle.std.proofs.lemmas.List.{append-nil, append_assoc, nil_from_length, take_all}
@@ -11,8 +11,16 @@ use Rattle.record_io.specs.Puts.{Put, Out, Notes, Taken, taken_by, GoOut, GoOutO
 use Rattle.record_io.proofs.Calls.{Takes-append, TakesFront-append}
 use Rattle.record_io.proofs.Puts.{GoOut-append, GoOut-notes, GoOut-out, GoOutOrAreHeld-none, TakesFront-count, bytes_to-append, bytes_to-other, puts_to-append}
 use Rattle.damage_skip.specs.Pieces.{Skipped, Piece, IsPieceOf, AreEvents}
-use Rattle.damage_skip.specs.Regions.{region_text}
-use Rattle.damage_skip.specs.Walks.{piece_of, GoesOn}
+use Rattle.damage_skip.specs.Bounds.{may_skip, walked, refused_in, MaySkip}
+use Rattle.damage_skip.specs.Regions.{region_text, regions_in, IsWalkedTo, skipped_text, stopped_text}
+use Rattle.damage_skip.specs.Walks.{piece_of, GoesOn, event_text}
+use Rattle.damage_skip.proofs.BoundedWalks.{MaySkipEach, walked-behind, walked-all, refused-none, walked-to_refused, refused-there}
+use Rattle.damage_skip.proofs.RegionsIn.{regions_in-append, each_append, skipped_text-event}
+use Rattle.damage_skip.proofs.WalkedTo.{piece_at, walked-further, walked-on, rest_of, rest_from}
+use Rattle.show_damaged.proofs.RecoverStreams.{events_notes}
+use Rattle.show_damaged.proofs.WalkStatuses.{status-more, status-all, status-stopped}
+use Rattle.show_damaged.specs.RecoverProgress.{event_lines, status_after, GivesEvent, IsGivenTo}
+use Rattle.show_damaged.specs.WalkAnswers.{walk_status}
 use Rattle.damage_skip.specs.declared.events.Event.{Event}
 use Rattle.damage_skip.specs.declared.regions.Region.{Region}
 use Rattle.damage_skip.proofs.Tiles.{goes_on_whole}
@@ -22,20 +30,15 @@ use Rattle.run_answers.specs.declared.status.Status.{Status}
 use Rattle.run_answers.specs.declared.ending.Ending.{Ending}
 use Rattle.run_answers.specs.Answers.{Answer}
 use Rattle.run_answers.specs.FileAnswers.{most_file_bytes, OfFile}
-use Rattle.show_damaged.specs.WalkAnswers.{regions_in, may_skip, is_refused, walked, refused_in, IsWalkedTo, skipped_text, stopped_text, walk_status, MaySkip}
 use Rattle.run_answers.specs.PutSoFar.{HasPut, HasPutSoFar, HasPutFront, HasBrokenOff}
 use Rattle.show_damaged.specs.RecoverCommand.{event_puts, IsRecovered, IsRecoveredSoFar}
-use Rattle.show_damaged.specs.RecoverProgress.{event_lines, event_text, status_after, GivesEvent, IsGivenTo}
 use Rattle.run_answers.specs.Runs.{FailedToSay, PutsLines}
 use Rattle.show_damaged.specs.WalkingEnds.{HasToldOf}
 use Rattle.run_answers.proofs.TwoStreams.{bytes_to-second}
-use Rattle.show_damaged.proofs.RecoverStreams.{events_notes}
 use Rattle.show_damaged.proofs.OneRecovery.{one_recovered}
 use Rattle.run_answers.proofs.PutSoFar.{PutsLines-same}
 use Rattle.show_damaged.proofs.RegionTexts.{PutsLines-regions}
 use Rattle.show_files.proofs.ShowSteps.{in_reach}
-use Rattle.show_damaged.proofs.Walked.{walked-behind, regions-append, passed-may, may-append, walked-all, refused-none, piece_at, walked-to_refused, refused-there, text-more, status-more}
-use Rattle.show_damaged.proofs.WalkedEvents.{walked-further, walked-on, rest_of, rest_from, status-all, status-stopped}
 use Rattle.damage_skip.specs.declared.events.Event.TheVariants as event
 use Rattle.run_answers.specs.declared.status.Status.TheVariants as status
 use Rattle.run_answers.specs.declared.ending.Cut.TheVariants as cut
@@ -62,15 +65,15 @@ is_answer words file events answer short are is =
 
 -- what the first events put comes first in the answer
 puts-front : (words : RecoverWords) (file : List ℕ) (place : ℕ) (events : List Piece) (answer : Answer) → length file ≤ most_file_bytes
-    → IsWalkedTo false words.most file place events → OfFile (IsRecovered words) (file ∷ []) answer
+    → IsWalkedTo false (MaySkip words.most) file place events → OfFile (IsRecovered words) (file ∷ []) answer
     → (rest : List Put) × (answer.puts ≡ puts_of words events ++ rest)
 puts-front words file place events answer short h is =
-    let behind = rest_of false words.most file place events h in
+    let behind = rest_of false (MaySkip words.most) file place events h in
     let fs : List Piece = behind.0 in
     let last : List Put = puts_to Notes (stopped_text (refused_in words.most (events ++ fs))) in (
       puts_of words (walked words.most fs) ++ last,
       ap (λ (a : Answer). a.puts) (is_answer words file (events ++ fs) answer short behind.1 is)
-          ∙ ap (λ (es : List Piece). puts_of words es ++ last) (walked-behind words.most events fs h.passed)
+          ∙ ap (λ (es : List Piece). puts_of words es ++ last) (walked-behind words.most events fs h.each)
           ∙ ap (λ (ps : List Put). ps ++ last) (flat_map-append (event_puts words.show.form) events (walked words.most fs))
           ∙ append_assoc (puts_of words events) (puts_of words (walked words.most fs)) last,
     )
@@ -120,8 +123,8 @@ pub given-whole : (words : RecoverWords) (file : List ℕ) (before after : Taken
     → HasPut (IsRecovered words) file before after held [] ended
 given-whole words file before after held ended short h =
     let whole : (answer_of words h.events).puts ≡ puts_of words h.events ++ [] =
-    ap (λ (es : List Piece). puts_of words es ++ puts_to Notes (stopped_text (refused_in words.most h.events))) (walked-all words.most h.events h.walked.passed)
-    ∙ ap (λ (s : Option Region). puts_of words h.events ++ puts_to Notes (stopped_text s)) (refused-none words.most h.events h.walked.passed) in
+    ap (λ (es : List Piece). puts_of words es ++ puts_to Notes (stopped_text (refused_in words.most h.events))) (walked-all words.most h.events h.walked.each)
+    ∙ ap (λ (s : Option Region). puts_of words h.events ++ puts_to Notes (stopped_text s)) (refused-none words.most h.events h.walked.each) in
     record {
       answer = answer_of words h.events;
       is = inr (short, answered words file h.events (goes_on_whole false file h.events h.walked.walked));
@@ -129,7 +132,7 @@ given-whole words file before after held ended short h =
       whole = whole;
       lines = lines-front words h.events [] (answer_of words h.events).puts whole;
       went = h.went;
-      status = h.status ∙ sym (status-all words.most h.events h.walked.passed);
+      status = h.status ∙ sym (status-all words.most h.events h.walked.each);
     }
 
 -- or those before the one that is refused
@@ -138,14 +141,14 @@ pub given-stopped : (words : RecoverWords) (file : List ℕ) (place : ℕ) (befo
     → region.begin ≡ place → place < length file → IsPieceOf false file place region.end (Skipped region.why) → may_skip words.most region ≡ false
     → HasPut (IsRecovered words) file before after held (region_text (codes "stopped") region) status.Stopped
 given-stopped words file place before after held ended region short h begin below is refused =
-    let rest = rest_from false words.most file place h.events region h.walked begin below is in
+    let rest = rest_from false (MaySkip words.most) file place h.events region h.walked begin below is in
     let all : List Piece = h.events ++ piece_at region ∷ rest.0 in
     let last : List Put = puts_to Notes (region_text (codes "stopped") region) in
     let whole : (answer_of words all).puts ≡ puts_of words h.events ++ last =
     ap (λ (es : List Piece). puts_of words es ++ puts_to Notes (stopped_text (refused_in words.most all)))
-    (walked-to_refused words.most h.events rest.0 region h.walked.passed refused)
+    (walked-to_refused words.most h.events rest.0 region h.walked.each refused)
     ∙ ap (λ (s : Option Region). puts_of words h.events ++ puts_to Notes (stopped_text s))
-    (refused-there words.most h.events rest.0 region h.walked.passed refused) in
+    (refused-there words.most h.events rest.0 region h.walked.each refused) in
     record {
       answer = answer_of words all;
       is = inr (short, answered words file all rest.1);
@@ -153,7 +156,7 @@ given-stopped words file place before after held ended region short h begin belo
       whole = whole;
       lines = lines-front words h.events last (answer_of words all).puts whole;
       went = h.went;
-      status = sym (status-stopped words.most h.events rest.0 region h.walked.passed refused);
+      status = sym (status-stopped words.most h.events rest.0 region h.walked.each refused);
     }
 
 -- what one event more adds
@@ -175,11 +178,6 @@ puts-on words es e passed held parts =
     ∙ ap (λ (ps : List Put). passed ++ ps) (sym (append_assoc (puts_to Out held) lines text)
     ∙ ap (λ (ps : List Put). ps ++ text) (sym (puts_to-append Out held (event_lines words e))))
 
-pub text-event : (rs : List Region) (e : Event) → skipped_text (rs ++ regions_in (piece_of e ∷ [])) ≡ skipped_text rs ++ event_text e
-text-event rs (event.Records begin records chunk) = ap skipped_text (append-nil rs) ∙ sym (append-nil (skipped_text rs))
-text-event rs (event.Kept begin chunk unread) = ap skipped_text (append-nil rs) ∙ sym (append-nil (skipped_text rs))
-text-event rs (event.Skipped region) = text-more rs region
-
 pub status-event : (rs : List Region) (ended : Status) (e : Event) → ended ≡ walk_status rs None
     → status_after ended e ≡ walk_status (rs ++ regions_in (piece_of e ∷ [])) None
 status-event rs ended (event.Records begin records chunk) is = is ∙ sym (ap (λ (xs : List Region). walk_status xs None) (append-nil rs))
@@ -187,10 +185,10 @@ status-event rs ended (event.Kept begin chunk unread) is = is ∙ sym (ap (λ (x
 status-event rs ended (event.Skipped region) is = sym (status-more rs region)
 
 -- an event that is no region, or one that may be skipped, is not refused
-pub event-passed : (most : Option ℕ) (e : Event) → ((region : Region) → e ≡ event.Skipped region → may_skip most region ≡ true) → is_refused most (piece_of e) ≡ false
-event-passed most (event.Records begin records chunk) allowed = refl
-event-passed most (event.Kept begin chunk unread) allowed = refl
-event-passed most (event.Skipped region) allowed = ap not (allowed region refl)
+pub event-passed : (most : Option ℕ) (e : Event) → ((region : Region) → e ≡ event.Skipped region → may_skip most region ≡ true) → MaySkipEach most (piece_of e ∷ [])
+event-passed most (event.Records begin records chunk) allowed = tt
+event-passed most (event.Kept begin chunk unread) allowed = tt
+event-passed most (event.Skipped region) allowed = (allowed region refl, tt)
 
 -- an event that was given leaves the status as it was, unless it is a region
 pub after-ok : (ended : Status) (e : Event) → status_after ended e ≡ status.Ok → (ended ≡ status.Ok) × (event_text e ≡ [])
@@ -257,19 +255,19 @@ pub given-on : (words : RecoverWords) (file : List ℕ) (place next : ℕ) (befo
     → IsGivenTo words file place before after held ended → GoesOn false file place next [] → IsGivenTo words file next before after held ended
 given-on words file place next before after held ended h on = record {
   events = h.events;
-  walked = walked-further false words.most file place next h.events h.walked on;
+  walked = walked-further false (MaySkip words.most) file place next h.events h.walked on;
   went = h.went;
   status = h.status;
 }
 
 -- one event more
 pub given-event : {X : Type 0} (words : RecoverWords) (file : List ℕ) (place next : ℕ) (a b c : Taken) (held held_then : List ℕ) (ended : Status)
-    (e : Event) (x : X) → IsGivenTo words file place a b held ended → GoesOn false file place next (piece_of e ∷ []) → is_refused words.most (piece_of e) ≡ false
+    (e : Event) (x : X) → IsGivenTo words file place a b held ended → GoesOn false file place next (piece_of e ∷ []) → MaySkipEach words.most (piece_of e ∷ [])
     → GivesEvent {X = X} (Ok x) (event_lines words e) (event_text e) b c held held_then
     → IsGivenTo words file next a c held_then (status_after ended e)
 given-event words file place next a b c held held_then ended e x h on passed gives = record {
   events = h.events ++ piece_of e ∷ [];
-  walked = walked-on false words.most file place next h.events (piece_of e) h.walked on passed;
+  walked = walked-on false (MaySkip words.most) file place next h.events (piece_of e ∷ []) h.walked on passed;
   went = record {
     passed = h.went.passed ++ gives.passed;
     parts = puts-on words h.events e h.went.passed held h.went.parts
@@ -278,18 +276,18 @@ given-event words file place next a b c held held_then ended e x h on passed giv
     went = GoOut-append a b c h.went.passed gives.passed h.went.went gives.went;
   };
   status = status-event (regions_in h.events) ended e h.status
-      ∙ sym (ap (λ (rs : List Region). walk_status rs None) (regions-append h.events (piece_of e ∷ [])));
+      ∙ sym (ap (λ (rs : List Region). walk_status rs None) (regions_in-append h.events (piece_of e ∷ [])));
 }
 
 -- standard output failed to take its lines
 pub event-unprinted : (X : Type 0) (words : RecoverWords) (file : List ℕ) (place next : ℕ) (a b c : Taken) (held held_then : List ℕ) (ended : Status)
     (e : Event) → length file ≤ most_file_bytes → IsGivenTo words file place a b held ended → GoesOn false file place next (piece_of e ∷ [])
-    → is_refused words.most (piece_of e) ≡ false
+    → MaySkipEach words.most (piece_of e ∷ [])
     → GivesEvent {X = X} (Err (end.Cut cut.Out)) (event_lines words e) (event_text e) b c held held_then → held_then ≡ []
     → (answer : Answer) → OfFile (IsRecovered words) (file ∷ []) answer → HasBrokenOff Out a c held_then answer
 event-unprinted X words file place next a b c held held_then ended e short h on passed (some, count, gives) none answer is =
     let more = puts-front words file next (h.events ++ piece_of e ∷ []) answer short
-    (walked-on false words.most file place next h.events (piece_of e) h.walked on passed) is in
+    (walked-on false (MaySkip words.most) file place next h.events (piece_of e ∷ []) h.walked on passed) is in
     let front = puts-front words file place h.events answer short h.walked is in
     let bytes : List ℕ = held ++ event_lines words e in
     let broken : List Put = puts_to Out (take count bytes) in
@@ -318,12 +316,12 @@ event-unprinted X words file place next a b c held held_then ended e short h on 
 -- notes failed to take its text
 pub event-untold : (X : Type 0) (words : RecoverWords) (file : List ℕ) (place next : ℕ) (a b c : Taken) (held held_then : List ℕ) (ended : Status)
     (e : Event) → length file ≤ most_file_bytes → IsGivenTo words file place a b held ended → GoesOn false file place next (piece_of e ∷ [])
-    → is_refused words.most (piece_of e) ≡ false
+    → MaySkipEach words.most (piece_of e ∷ [])
     → GivesEvent {X = X} (Err (end.Cut cut.Notes)) (event_lines words e) (event_text e) b c held held_then
     → (answer : Answer) → OfFile (IsRecovered words) (file ∷ []) answer → FailedToSay a c answer
 event-untold X words file place next a b c held held_then ended e short h on passed (some, count, gives) answer is =
     let more = puts-front words file next (h.events ++ piece_of e ∷ []) answer short
-    (walked-on false words.most file place next h.events (piece_of e) h.walked on passed) is in
+    (walked-on false (MaySkip words.most) file place next h.events (piece_of e ∷ []) h.walked on passed) is in
     let lines : List Put = puts_to Out (held ++ event_lines words e) in
     let broken : List Put = puts_to Notes (take count (event_text e)) in
     record {
@@ -366,11 +364,11 @@ event-front b c lines text count h =
     Takes-front b.notes c.notes text count (subst (λ (t : List ℕ). Takes b.notes c.notes t) (bytes_to-second Out Notes lines (take count text) refl) h.notes)
 
 -- what was told of regions, and of one event more
-pub told-event : (most : Option ℕ) (l m n : Option (List ℕ)) (skipped : List Region) (e : Event) → HasToldOf most l m skipped → is_refused most (piece_of e) ≡ false
+pub told-event : (most : Option ℕ) (l m n : Option (List ℕ)) (skipped : List Region) (e : Event) → HasToldOf most l m skipped → MaySkipEach most (piece_of e ∷ [])
     → Takes m n (event_text e) → HasToldOf most l n (skipped ++ regions_in (piece_of e ∷ []))
 told-event most l m n skipped e h passed more = record {
-  may = may-append most skipped (regions_in (piece_of e ∷ [])) h.may (passed-may most (piece_of e ∷ []) (passed, tt));
-  says = subst (λ (t : List ℕ). Takes l n t) (sym (text-event skipped e))
+  may = each_append (MaySkip most) skipped (regions_in (piece_of e ∷ [])) h.may passed;
+  says = subst (λ (t : List ℕ). Takes l n t) (sym (skipped_text-event skipped e))
       (Takes-append l m n (skipped_text skipped) (event_text e) h.says more);
 }
 
@@ -381,15 +379,15 @@ told-still most l m n skipped h none = record {
   says = subst (λ (t : List ℕ). Takes l n t) (append-nil (skipped_text skipped)) (Takes-append l m n (skipped_text skipped) [] h.says none);
 }
 
-pub told-front : (most : Option ℕ) (l m n : Option (List ℕ)) (skipped : List Region) (e : Event) → HasToldOf most l m skipped → is_refused most (piece_of e) ≡ false
+pub told-front : (most : Option ℕ) (l m n : Option (List ℕ)) (skipped : List Region) (e : Event) → HasToldOf most l m skipped → MaySkipEach most (piece_of e ∷ [])
     → event_text e ≢ [] → TakesFront m n (event_text e)
-    → (all : List Region) × MaySkip most all × (all ≢ []) × TakesFront l n (skipped_text all)
+    → (all : List Region) × AllByRecursion (MaySkip most) all × (all ≢ []) × TakesFront l n (skipped_text all)
 told-front most l m n skipped e h passed some more = (
   skipped ++ regions_in (piece_of e ∷ []),
-  may-append most skipped (regions_in (piece_of e ∷ [])) h.may (passed-may most (piece_of e ∷ []) (passed, tt)),
+  each_append (MaySkip most) skipped (regions_in (piece_of e ∷ [])) h.may passed,
   λ none.
-      let text : skipped_text skipped ++ event_text e ≡ [] = sym (text-event skipped e) ∙ ap skipped_text none in
+      let text : skipped_text skipped ++ event_text e ≡ [] = sym (skipped_text-event skipped e) ∙ ap skipped_text none in
       some (nil_from_length (event_text e) (omega (arith, ap length text, length-append (skipped_text skipped) (event_text e)))),
-  subst (λ (t : List ℕ). TakesFront l n t) (sym (text-event skipped e))
+  subst (λ (t : List ℕ). TakesFront l n t) (sym (skipped_text-event skipped e))
       (TakesFront-append l m n (skipped_text skipped) (event_text e) h.says more),
 )

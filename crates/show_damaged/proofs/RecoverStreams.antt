@@ -1,17 +1,18 @@
 -- What each stream takes of the answer of `show` where it goes on past damage.
-use Rattle.std.proofs.Common.{◌≡◌, ◌≢◌, ◌∙◌, ℕ, Option, Some, None, List, [], ◌∷◌, ◌++◌, refl, sym, ap, append-nil}
-use Rattle.std.specs.List.{AllByRecursion, cons_option, enumerate_from, flat_map}
+use Rattle.std.proofs.Common.{◌≡◌, ◌≢◌, ◌∙◌, ℕ, List, [], ◌∷◌, ◌++◌, refl, sym, ap, append-nil}
+use Rattle.std.specs.List.{AllByRecursion, enumerate_from, flat_map}
 use Rattle.std.proofs.lemmas.Grind.{flat_map-append}
 use Rattle.record_io.specs.Puts.{Put, Made, Out, Notes, puts_to, bytes_to}
 use Rattle.record_io.proofs.Puts.{bytes_to-append, bytes_to-own, bytes_to-other, puts_to-append}
 use Rattle.chunk_reader.specs.declared.reasons.Why.{Why}
-use Rattle.damage_skip.specs.Pieces.{PieceKind, Given, Kept, LeftOut, Skipped, Piece, placed_in, records_of}
-use Rattle.damage_skip.specs.declared.regions.Region.{Region}
+use Rattle.damage_skip.specs.Pieces.{Skipped, Piece, placed_in, records_of}
 use Rattle.show_damaged.specs.declared.recover_words.RecoverWords.{RecoverWords}
 use Rattle.run_answers.specs.Answers.{Answer}
 use Rattle.show_files.specs.declared.show_words.RecordForm.{RecordForm}
 use Rattle.show_files.specs.Readings.{record_line}
-use Rattle.show_damaged.specs.WalkAnswers.{region_as, region_of, regions_in, told_text, walked, refused_in, skipped_text, stopped_text, walk_text}
+use Rattle.damage_skip.specs.Bounds.{walked, refused_in}
+use Rattle.damage_skip.proofs.RegionsIn.{told_first, no_region}
+use Rattle.damage_skip.specs.Regions.{region_of, regions_in, told_text, skipped_text, stopped_text, walk_text}
 use Rattle.show_damaged.specs.RecoverCommand.{event_puts, IsRecovered}
 use Rattle.run_answers.proofs.TwoStreams.{bytes_to-first, bytes_to-second, bytes_to-neither}
 
@@ -34,10 +35,6 @@ events_out form (e ∷ es) =
     ∙ ap (λ (xs : List ℕ). lines ++ xs) (events_out form es)
     ∙ sym (flat_map-append (record_line form) placed (placed_in es))
 
-told-first : (region : Option Region) (regions : List Region) → skipped_text (cons_option region regions) ≡ told_text region ++ skipped_text regions
-told-first None regions = refl
-told-first (Some region) regions = refl
-
 pub events_notes : (form : RecordForm) (es : List Piece) → bytes_to Notes (flat_map (event_puts form) es) ≡ skipped_text (regions_in es)
 events_notes form [] = refl
 events_notes form (e ∷ es) =
@@ -46,7 +43,7 @@ events_notes form (e ∷ es) =
     ∙ ap (λ (xs : List ℕ). xs ++ bytes_to Notes (flat_map (event_puts form) es))
     (bytes_to-second Out Notes (flat_map (record_line form) (enumerate_from e.begin (records_of e.what))) line refl)
     ∙ ap (λ (xs : List ℕ). line ++ xs) (events_notes form es)
-    ∙ sym (told-first (region_of e) (regions_in es))
+    ∙ sym (told_first (region_of e) (regions_in es))
 
 -- of the answer of `show` where it goes on past damage
 pub recovered-streams : (words : RecoverWords) (file : List ℕ) (answer : Answer) (is : IsRecovered words file answer)
@@ -73,12 +70,6 @@ recovered-streams words file answer is =
     )
 
 -- what is put of events of which none is a region
-pub no_region : (begin end : ℕ) (what : PieceKind) → ((why : Why) → what ≢ Skipped why) → region_as begin end what ≡ None
-no_region begin end (Given records chunk) other = refl
-no_region begin end (Kept chunk) other = refl
-no_region begin end LeftOut other = refl
-no_region begin end (Skipped why) other = absurd (other why refl)
-
 pub events-unskipped : (form : RecordForm) (es : List Piece) → AllByRecursion (λ event. (why : Why) → event.what ≢ Skipped why) es
     → flat_map (event_puts form) es ≡ puts_to Out (flat_map (record_line form) (placed_in es))
 events-unskipped form [] h = refl

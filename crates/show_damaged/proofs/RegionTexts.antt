@@ -7,12 +7,11 @@ use Rattle.std.proofs.lemmas.List.{append_assoc}
 use Rattle.record_io.specs.Puts.{Put, Notes, bytes_to}
 use Rattle.chunk_reader.specs.Names.{name_of}
 use Rattle.chunk_reader.specs.declared.reasons.Why.{Why}
-use Rattle.damage_skip.specs.Regions.{region_text}
+use Rattle.damage_skip.specs.Regions.{region_text, skipped_text}
 use Rattle.damage_skip.specs.declared.regions.Region.{Region}
 use Rattle.run_answers.specs.Answers.{line}
 use Rattle.run_answers.specs.Lines.{ends_line, NoneEnds, lines}
 use Rattle.run_answers.specs.Runs.{PutsLines, first_lines}
-use Rattle.show_damaged.specs.WalkAnswers.{skipped_text}
 use Rattle.run_answers.proofs.Lines.{lines-first, NoneEnds-append, NoneEnds-cons}
 use Rattle.chunk_reader.specs.declared.reasons.Why.TheVariants as why
 

@@ -1,5 +1,6 @@
 -- How a run of a command ends that walks a file past its damage, by how its walk ended.
 use Rattle.std.proofs.Common.{◌≡◌, ◌≢◌, ℕ, ◌≤◌, false, Option, Some, None, Result, Ok, Err, List, [], ◌∷◌, length, refl, sym, subst, inl, inr, IfSome}
+use Rattle.std.specs.List.{AllByRecursion}
 use Rattle.std.specs.Result.{IsErr, IsErrAnd}
 use Rattle.std.proofs.lemmas.List.{append-nil}
 use Rattle.record_io.specs.Outside.{Rose, Takes, TakesFront}
@@ -12,7 +13,9 @@ use Rattle.run_answers.specs.declared.status.Status.{Status}
 use Rattle.run_answers.specs.Answers.{Answer}
 use Rattle.run_answers.specs.Endings.{end_of_size, IsAllowedEnd, IsShort, HasPutAtEnd, SaysEnd}
 use Rattle.run_answers.specs.FileSizes.{IsUnsized}
-use Rattle.show_damaged.specs.WalkAnswers.{may_skip, skipped_text, walk_text, walk_status, MaySkip, MaySayWalk, MayEndWalk}
+use Rattle.damage_skip.specs.Bounds.{may_skip, MaySkip}
+use Rattle.damage_skip.specs.Regions.{skipped_text, walk_text}
+use Rattle.show_damaged.specs.WalkAnswers.{walk_status, MaySayWalk, MayEndWalk}
 use Rattle.run_answers.specs.Meanings.{Meaning}
 use Rattle.run_answers.specs.Runs.{Shown, ShownFile, Seen, seen, AreSinksSound, Runs}
 use Rattle.run_answers.specs.PutSoFar.{HasPutSoFar}
@@ -62,7 +65,7 @@ module _ (m : Meaning) (P : List ℕ → Answer → Type 0) (Q : List ℕ → Li
   }
 
   -- it may end so, by the size
-  may : (skipped : List Region) (stopped : Option Region) → MaySkip most skipped → IfSome stopped (λ region. may_skip most region ≡ false)
+  may : (skipped : List Region) (stopped : Option Region) → AllByRecursion (MaySkip most) skipped → IfSome stopped (λ region. may_skip most region ≡ false)
       → MayEndInReach m (walk_status skipped stopped) (walk_text skipped stopped)
   may skipped stopped each refused sizes reach =
       walks.may_end sizes (walk_status skipped stopped) (walk_text skipped stopped) (inl (reach, skipped, stopped, each, refused, refl, refl))

@@ -1,12 +1,14 @@
 -- What is given and said past damage, judged by hand, computed from the definitions.
-use Rattle.std.proofs.Common.{◌≡◌, ℕ, true, false, Option, Some, None, List, [], ◌∷◌, ◌++◌, codes, refl}
+use Rattle.std.proofs.Common.{◌≡◌, ℕ, true, Option, Some, None, List, [], ◌∷◌, ◌++◌, codes, refl}
 use Rattle.std.specs.List.{flat_map}
 use Rattle.std.specs.Fmt.{digits}
 use Rattle.record_io.specs.Puts.{Put, Out, Notes, puts_to}
 use Rattle.chunk_header.specs.Chunks.{ChunkValue}
 use Rattle.damage_skip.specs.Pieces.{Given, LeftOut, Skipped, Piece}
 use Rattle.show_damaged.specs.RecoverCommand.{event_puts}
-use Rattle.show_damaged.specs.WalkAnswers.{regions_in, walked, refused_in, stopped_text, walk_status}
+use Rattle.damage_skip.specs.Bounds.{walked, refused_in}
+use Rattle.damage_skip.specs.Regions.{regions_in, stopped_text}
+use Rattle.show_damaged.specs.WalkAnswers.{walk_status}
 use Rattle.chunk_reader.specs.declared.reasons.Why.TheVariants as why
 use Rattle.run_answers.specs.declared.status.Status.TheVariants as status
 use Rattle.show_files.specs.declared.show_words.RecordForm.{RecordForm}

@@ -8,7 +8,9 @@ use Rattle.run_answers.specs.Answers.{Answer}
 use Rattle.run_answers.specs.FileAnswers.{file_meaning}
 use Rattle.show_files.specs.declared.show_words.RecordForm.{RecordForm}
 use Rattle.show_files.specs.Readings.{record_line}
-use Rattle.show_damaged.specs.WalkAnswers.{region_of, regions_in, told_text, walked, refused_in, IsWalkedTo, stopped_text, walk_status, MaySayWalk, MayEndWalk}
+use Rattle.damage_skip.specs.Bounds.{MaySkip, walked, refused_in}
+use Rattle.damage_skip.specs.Regions.{region_of, regions_in, told_text, IsWalkedTo, stopped_text}
+use Rattle.show_damaged.specs.WalkAnswers.{walk_status, MaySayWalk, MayEndWalk}
 use Rattle.run_answers.specs.Meanings.{Meaning}
 
 -- what is put of an event: the lines of its records, or its line, if it is a region
@@ -30,7 +32,7 @@ pub record IsRecovered (words : RecoverWords) (file : List ℕ) (answer : Answer
 pub record IsRecoveredSoFar (words : RecoverWords) (file : List ℕ) (part : List Put) : Type 0 where
   pub place : ℕ
   pub events : List Piece
-  pub walked : IsWalkedTo false words.most file place events
+  pub walked : IsWalkedTo false (MaySkip words.most) file place events
   pub puts : part ≡ flat_map (event_puts words.show.form) events
 
 -- what `show` means where it goes on past damage

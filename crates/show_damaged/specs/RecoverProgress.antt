@@ -1,11 +1,12 @@
 -- How far `show` has gone on past damage. Own.
 use Rattle.std.specs.Prelude.{◌≡◌, ◌≢◌, ℕ, ◌+◌, ◌^◌, ◌<◌, false, None, Result, Ok, Err, List, [], ◌++◌, length, take}
 use Rattle.std.specs.List.{enumerate_from, flat_map}
-use lib.Chars.{codes}
 use Rattle.record_io.specs.Puts.{Out, Notes, Taken, GoOut, GoOutOrAreHeld, puts_to}
 use Rattle.damage_skip.specs.Pieces.{Piece, records_of}
-use Rattle.damage_skip.specs.Regions.{region_text}
+use Rattle.damage_skip.specs.Bounds.{MaySkip}
+use Rattle.damage_skip.specs.Regions.{regions_in, IsWalkedTo}
 use Rattle.damage_skip.specs.Walks.{piece_of}
+use Rattle.show_damaged.specs.WalkAnswers.{walk_status}
 use Rattle.damage_skip.specs.declared.events.Event.{Event}
 use Rattle.damage_skip.specs.declared.events.WalkEnd.{WalkEnd}
 use Rattle.show_damaged.specs.declared.recover_words.RecoverWords.{RecoverWords}
@@ -14,7 +15,6 @@ use Rattle.damage_skip.specs.declared.regions.Region.{Region}
 use Rattle.run_answers.specs.declared.ending.Ending.{Ending}
 use Rattle.show_damaged.specs.RecoverCommand.{event_puts}
 use Rattle.show_files.specs.ShowProgress.{record_lines}
-use Rattle.show_damaged.specs.WalkAnswers.{regions_in, IsWalkedTo, walk_status}
 use Rattle.damage_skip.specs.declared.events.Event.TheVariants as event
 use Rattle.damage_skip.specs.declared.events.WalkEnd.TheVariants as walk
 use Rattle.run_answers.specs.declared.status.Status.TheVariants as status
@@ -29,11 +29,6 @@ HasPositions e = (piece_of e).begin + length (records_of (piece_of e).what) < 2 
 abbrev pub event_lines : RecoverWords → Event → List ℕ
 event_lines words (event.Records begin records chunk) = record_lines words.show.form (enumerate_from begin records)
 event_lines words other = []
-
--- the line of an event that is a region
-abbrev pub event_text : Event → List ℕ
-event_text (event.Skipped region) = region_text (codes "skipped") region
-event_text other = []
 
 -- the status behind an event
 abbrev pub status_after : Status → Event → Status
@@ -60,6 +55,6 @@ GivesEvent (Err other) lines text before after held held_then = ⊥
 -- all that events up to a place put went out, but for lines that are held
 pub record IsGivenTo (words : RecoverWords) (file : List ℕ) (place : ℕ) (before after : Taken) (held : List ℕ) (ended : Status) : Type 0 where
   pub events : List Piece
-  pub walked : IsWalkedTo false words.most file place events
+  pub walked : IsWalkedTo false (MaySkip words.most) file place events
   pub went : GoOutOrAreHeld before after Out (flat_map (event_puts words.show.form) events) held
   pub status : ended ≡ walk_status (regions_in events) None

@@ -1,15 +1,17 @@
 -- How the work of a command that walks a record file ends, and what it has said then. Own.
 use Rattle.std.specs.Prelude.{◌≡◌, ◌≢◌, ℕ, Bool, false, Option, None, Result, Ok, Err, List, []}
+use Rattle.std.specs.List.{AllByRecursion}
 use Rattle.std.specs.Fn.{Shared, FnReturnsAt}
 use denote.Ref.{Bor}
 use lib.Chars.{codes}
 use Rattle.record_io.specs.Outside.{Takes, TakesFront}
-use Rattle.damage_skip.specs.Regions.{IsRegion, region_text}
+use Rattle.damage_skip.specs.Bounds.{may_skip, MaySkip}
+use Rattle.damage_skip.specs.Regions.{IsRegion, region_text, skipped_text}
+use Rattle.show_damaged.specs.WalkAnswers.{walk_status}
 use Rattle.damage_skip.specs.declared.regions.Region.{Region}
 use Rattle.run_answers.specs.declared.ending.Ending.{Ending}
 use Rattle.run_answers.specs.declared.status.Status.{Status}
 use Rattle.run_answers.specs.Endings.{Endings}
-use Rattle.show_damaged.specs.WalkAnswers.{may_skip, MaySkip, skipped_text, walk_status}
 use Rattle.run_answers.specs.declared.ending.Cut.TheVariants as cut
 use Rattle.run_answers.specs.declared.ending.Ending.TheVariants as end
 use Rattle.run_answers.specs.declared.status.Status.TheVariants as status
@@ -24,7 +26,7 @@ IsBound g f most = (region : Region) (allowed : Bool) → IsRegion region → Fn
 
 -- what was said of a walk, also where the file doesn't tell its bytes: the lines of regions that may be skipped
 pub record HasToldOf (most : Option ℕ) (notes notes_then : Option (List ℕ)) (skipped : List Region) : Type 0 where
-  pub may : MaySkip most skipped
+  pub may : AllByRecursion (MaySkip most) skipped
   pub says : Takes notes notes_then (skipped_text skipped)
 
 abbrev pub TellsOf : Option ℕ → Result Status (Ending Region) → (notes notes_then : Option (List ℕ)) → Type 0
@@ -33,5 +35,5 @@ TellsOf most (Err end.Limit) notes notes_then = Takes notes notes_then []
 TellsOf most (Err (end.At region)) notes notes_then =
     (skipped : List Region) × HasToldOf most notes notes_then skipped × (may_skip most region ≡ false)
 TellsOf most (Err (end.Cut cut.Notes)) notes notes_then =
-    (skipped : List Region) × MaySkip most skipped × (skipped ≢ []) × TakesFront notes notes_then (skipped_text skipped)
+    (skipped : List Region) × AllByRecursion (MaySkip most) skipped × (skipped ≢ []) × TakesFront notes notes_then (skipped_text skipped)
 TellsOf most (Err (end.Cut cut)) notes notes_then = (skipped : List Region) × HasToldOf most notes notes_then skipped

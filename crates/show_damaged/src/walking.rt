@@ -4,7 +4,7 @@ ghost use Rattle.record_io.specs.Calls.{OnlyCounts};
 ghost use Rattle.run_answers.specs.Endings.{SaysEnd};
 ghost use Rattle.run_answers.specs.Runs.{SaysAtEnd, shown};
 ghost use Rattle.show_damaged.specs.WalkingEnds.{walk_ends};
-ghost use Rattle.show_damaged.specs.WalkAnswers.{may_skip};
+ghost use Rattle.damage_skip.specs.Bounds.{may_skip};
 ghost use Rattle.damage_skip.specs.Regions.{region_text};
 
 use damage_skip::{Region, region_line};

@@ -1,4 +1,4 @@
-use Rattle.repair_copy.proofs.CopySteps.{lines_in-append}
+use Rattle.damage_skip.proofs.RegionsIn.{skipped_text-pieces}
 use Rattle.repair_copy.proofs.EventChunks.{relaid-append}
 use Rattle.repair_copy.proofs.OneWalk.{walk_is_front, walks_are_one}
 use Rattle.repair_copy.proofs.laws.walks_under_a_policy_are_one.Goals as goal
@@ -15,4 +15,4 @@ pub returns-clause-made : goal.returns-clause-made
 returns-clause-made g c = relaid-append
 
 pub returns-clause-lines : goal.returns-clause-lines
-returns-clause-lines g c = lines_in-append
+returns-clause-lines g c = skipped_text-pieces

@@ -1,4 +1,5 @@
 use Rattle.std.proofs.Common.{◌≡◌, ◌∙◌, ℕ, ◌+◌, ◌*◌, ◌≤◌, false, true, None, Some, Option, Ok, Err, IfSome, List, [], refl, sym, ap, subst, arith, rules}
+use Rattle.std.specs.List.{AllByRecursion}
 use Rattle.std.proofs.lemmas.Result.{err_from_is_err_and}
 use Rattle.record_io.specs.Puts.{taken_by}
 use Rattle.record_io.specs.Calls.{OnlyAsks, OnlyCounts}
@@ -6,13 +7,14 @@ use Rattle.record_writer.specs.Progresses.{nothing_made}
 use Rattle.record_values.specs.declared.file_totals.Totals.{Totals}
 use Rattle.chunk_reader.specs.Reasons.{Applies, NoneOf, loading_reasons}
 use Rattle.chunk_reader.proofs.Rooms.{IsSized}
+use Rattle.damage_skip.specs.Policies.{IsAllowedRegion}
 use Rattle.damage_skip.specs.Steps.{IsOnward}
 use Rattle.damage_skip.specs.Walks.{piece_of, IsEventIn, IsAllowedEvent, IsRefusedStop, IsStop, IsStoppedAt, GoesOn, StandsIn, WalksOn, stop_of}
 use Rattle.damage_skip.specs.declared.regions.Region.{Region}
-use Rattle.repair_copy.specs.Told.{ArePassed}
 use Rattle.repair_copy.specs.Copies.{next_place, HasPassed, HasWalked}
-use Rattle.repair_copy.proofs.CopySteps.{fits, grows, one_region, next_place_small}
-use Rattle.repair_copy.proofs.WalkedFiles.{let_pass, walked_to_end, walked_next, cut_within, ends_at_end, ends_at_region, repairs_whole, repairs_stopped, repairs_unfinished, repairs_store, repairs_memory}
+use Rattle.damage_skip.proofs.RegionsIn.{one_region}
+use Rattle.repair_copy.proofs.CopySteps.{fits, grows, next_place_small}
+use Rattle.repair_copy.proofs.WalkedFiles.{walked_to_end, walked_next, cut_within, ends_at_end, ends_at_region, repairs_whole, repairs_stopped, repairs_unfinished, repairs_store, repairs_memory}
 use Rattle.repair_copy.proofs.Passed.{regions_of, event_passed, passed_next, passes_cut, passes_stopped}
 use Rattle.repair_copy.proofs.repairs.repair.Goals as goal
 use Rattle.repair_copy.proofs.repairs.repair.Goals.{In-Ok-Some, In_ok-put-in-Ok-Some, In-Err-Stopped, After-next}
@@ -28,7 +30,7 @@ on : (g : _) (c : In-Ok-Some g)
 on g c = rw c.in-Ok-Some.field-0-is at c.in-Ok-Some.ensures.goes_on
 
 -- and was let pass where it is a region
-pass : (g : _) (c : In-Ok-Some g) → ArePassed g.F.Fn c.args.policy.test (regions_of c.in-Ok-Some.event)
+pass : (g : _) (c : In-Ok-Some g) → AllByRecursion (IsAllowedRegion g.F.Fn c.args.policy.test) (regions_of c.in-Ok-Some.event)
 pass g c =
     let e = given g c in
     event_passed _ _ c.loop-event.walker.policy.test _ _ c.in-Ok-Some.event c.loop-event.invariant.same_test e.bounds
@@ -48,7 +50,7 @@ returns-in_err-put-in-Ok-Some-clause-repairs g c =
     let p = err_from_is_err_and c.from_residual.result c.from_residual.ensures.1 in
     cut_within g.F.Fn c.args.policy.test _ _ c.loop-event.walker.progress.keep c.loop-event.walker.progress.place c.next.new.self.progress.place kept.store.same_bytes kept.keeps
     c.loop-event.copied _ _ _ (piece_of c.in-Ok-Some.event) c.in_err-put-in-Ok-Some.field-0.0 c.from_residual.result _ _ (p.1 ∙ ap Err p.2) kept.copied (on g at).past
-    (let_pass _ _ c.loop-event.walker.policy.test c.in-Ok-Some.event kept.same_test (given g at).allowed)
+    (pass g at)
     (c.in_err-put-in-Ok-Some.ensures.front c.in_err-put-in-Ok-Some.field-0.0 refl)
 
 pub returns-in_err-put-in-Ok-Some-clause-passes : goal.returns-in_err-put-in-Ok-Some-clause-passes
@@ -60,16 +62,16 @@ returns-in_err-put-in-Ok-Some-clause-passes g c =
 
 -- what was copied with the event
 copied : (g : _) (c : In_ok-put-in-Ok-Some g)
-    → IsAllowedEvent g.F.Fn c.loop-event.walker.policy.test c.loop-event.walker.progress.place c.next.new.self.progress.place c.in-Ok-Some.event
     → WalksOn (g.S.Store.bytes c.loop-event.store) c.loop-event.walker.progress c.next.new.self.progress (Ok (Some c.in-Ok-Some.event))
+    → AllByRecursion (IsAllowedRegion g.F.Fn c.args.policy.test) (regions_of c.in-Ok-Some.event)
     → IfSome (g.S.Store.bytes c.args.store.now) (HasWalked g.F.Fn c.args.policy.test
     c.next.new.self.progress.place c.put.new.self (taken_by (g.M.Sink.taken c.args.made.now) None (g.E.Sink.taken c.args.notes.now))
     (taken_by (g.M.Sink.taken c.put.new.made) None (g.E.Sink.taken c.put.new.notes)))
-copied g c given on =
+copied g c on allowed =
     let kept = c.loop-event.invariant in
     walked_next _ _ _ _ c.loop-event.walker.progress.keep c.loop-event.walker.progress.place c.next.new.self.progress.place kept.store.same_bytes kept.keeps
     c.loop-event.copied c.put.new.self _ _ _ (piece_of c.in-Ok-Some.event) kept.copied on.past
-    (let_pass _ _ c.loop-event.walker.policy.test c.in-Ok-Some.event kept.same_test given.allowed) c.in_ok-put-in-Ok-Some.ensures.whole
+    allowed c.in_ok-put-in-Ok-Some.ensures.whole
 
 -- where that is no region nothing is told
 quiet : (g : _) (c : In_ok-put-in-Ok-Some g) → c.put.new.self.regions ≡ 0 → c.put.new.notes ≡ c.args.notes.now
@@ -95,7 +97,7 @@ few g c there =
     omega (
       arith,
       c.in_ok-put-in-Ok-Some.ensures.regions,
-      one_region (piece_of c.in-Ok-Some.event),
+      one_region c.in-Ok-Some.event,
       c.loop-event.invariant.few,
       there.from_place,
       there.rises,
@@ -106,7 +108,7 @@ few g c there =
 preserved : (g : _) (c : In_ok-put-in-Ok-Some g)
     → IsAllowedEvent g.F.Fn c.loop-event.walker.policy.test c.loop-event.walker.progress.place c.next.new.self.progress.place c.in-Ok-Some.event
     → WalksOn (g.S.Store.bytes c.loop-event.store) c.loop-event.walker.progress c.next.new.self.progress (Ok (Some c.in-Ok-Some.event))
-    → ArePassed g.F.Fn c.args.policy.test (regions_of c.in-Ok-Some.event)
+    → AllByRecursion (IsAllowedRegion g.F.Fn c.args.policy.test) (regions_of c.in-Ok-Some.event)
     → record {
       same_size : c.next.new.self.progress.size ≡ c.args.size;
       keeps : c.next.new.self.progress.keep ≡ true;
@@ -136,7 +138,7 @@ preserved g c given on passed =
       same_test = e.same_test ∙ kept.same_test;
       stands = subst (λ (told : Option ℕ). StandsIn (g.S.Store.bytes c.next.new.store) told c.next.new.self.progress) (sym e.store.same_told)
           (subst (λ (b : Option (List ℕ)). StandsIn b (g.S.Store.told c.loop-event.store) c.next.new.self.progress) (sym e.store.same_bytes) e.stands);
-      copied = copied g c given on;
+      copied = copied g c on passed;
       passed = passed_next _ _ _ _ _ _ _ c.in-Ok-Some.event kept.passed c.in_ok-put-in-Ok-Some.ensures.line c.in_ok-put-in-Ok-Some.ensures.regions passed;
       quiet = quiet g c;
       unbegun = λ unbegun. cc (unbegun, c.in_ok-put-in-Ok-Some.ensures.begun);

@@ -1,8 +1,9 @@
 use Rattle.std.proofs.Common.{rules}
 use Rattle.record_io.proofs.Buffered.{TakesAndHolds-none}
-use Rattle.show_damaged.specs.RecoverProgress.{event_lines, event_text}
-use Rattle.run_answers.specs.declared.status.Status.{Status}
+use Rattle.damage_skip.specs.Walks.{event_text}
 use Rattle.show_damaged.proofs.RecoverSteps.{gives-lines, breaks-lines}
+use Rattle.show_damaged.specs.RecoverProgress.{event_lines}
+use Rattle.run_answers.specs.declared.status.Status.{Status}
 use Rattle.show_damaged.proofs.recovering.print_event.Goals as goal
 
 pub returns-in-Ok-clause-given : goal.returns-in-Ok-clause-given

@@ -2,14 +2,14 @@ use Rattle.std.proofs.Common.{◌≡◌, ◌∙◌, false, ℕ, Option, List, Ok
 use Rattle.record_io.proofs.Calls.{Takes-nothing}
 use Rattle.damage_skip.specs.Policies.{IsTest}
 use Rattle.damage_skip.specs.Walkers.{progress_of, test_of}
+use Rattle.damage_skip.specs.Bounds.{may_skip}
 use Rattle.damage_skip.specs.Walks.{StandsIn, stop_of}
+use Rattle.show_damaged.proofs.RecoverSteps.{after-ok}
 use Rattle.damage_skip.specs.declared.events.WalkEnd.TheVariants.{Stopped}
 use Rattle.damage_skip.specs.declared.regions.Region.{Region}
 use Rattle.run_answers.specs.declared.status.Status.{Status}
 use Rattle.run_answers.proofs.FileRuns.{told-in_reach}
-use Rattle.show_damaged.specs.WalkAnswers.{may_skip}
 use Rattle.show_damaged.proofs.RecoverRuns.{step-allowed, walk-allowed}
-use Rattle.show_damaged.proofs.RecoverSteps.{after-ok}
 use Rattle.show_damaged.proofs.RecoverLoop.{bound-same, event-allowed, given-none, goes-same, met-none, same-met, stopped-none, step-by, step-done, step-ended, step-failed, step-given, step-not_short, step-said, step-so_far, step-told, step-untold, stop-refused, stop-same}
 use Rattle.show_files.proofs.ShowSteps.{short_told}
 use Rattle.show_damaged.proofs.recovering.print_events.Goals as goal

@@ -3,10 +3,10 @@ use Rattle.record_io.specs.Puts.{taken_by}
 use Rattle.record_io.specs.Calls.{OnlyAsks, OnlyCounts}
 use Rattle.damage_skip.specs.Walkers.{progress_of, test_of}
 use Rattle.damage_skip.specs.Walks.{StandsIn}
-use Rattle.damage_skip.specs.declared.regions.Region.{Region}
-use Rattle.run_answers.specs.declared.status.Status.TheVariants as status
 use Rattle.show_damaged.specs.RecoverProgress.{IsGivenTo}
 use Rattle.show_damaged.specs.WalkAnswers.{walk_status}
+use Rattle.damage_skip.specs.declared.regions.Region.{Region}
+use Rattle.run_answers.specs.declared.status.Status.TheVariants as status
 use Rattle.show_damaged.specs.WalkingEnds.{HasToldOf}
 use Rattle.show_damaged.proofs.recovering.print_events.Given as goal
 

@@ -1,7 +1,7 @@
 use Rattle.std.proofs.Common.{rules, append-nil, []}
-use Rattle.show_damaged.specs.RecoverProgress.{event_text}
-use Rattle.damage_skip.specs.declared.events.Event.TheVariants.{Skipped}
+use Rattle.damage_skip.specs.Walks.{event_text}
 use Rattle.show_damaged.proofs.RecoverSteps.{breaks-lines, breaks-text, gives-text}
+use Rattle.damage_skip.specs.declared.events.Event.TheVariants.{Skipped}
 use Rattle.show_damaged.proofs.recovering.tell_region.Goals as goal
 
 pub returns-then-is_err-clause-given : goal.returns-then-is_err-clause-given

@@ -21,9 +21,9 @@ returns-in_err-put-in-Kept-clause-front g c =
 pub returns-in_ok-put-in-Records-clause-whole : goal.returns-in_ok-put-in-Records-clause-whole
 returns-in_ok-put-in-Records-clause-whole g c =
     rw c.in-Records.is
-    (chunk_put _ _ _ c.args.self.now _ _ (value_of_chunk c.in-Records.chunk) refl refl refl c.in_ok-put-in-Records.ensures.whole refl refl)
+    (chunk_put _ _ _ c.args.self.now _ _ (value_of_chunk c.in-Records.chunk) refl refl c.in_ok-put-in-Records.ensures.whole refl refl)
 
 pub returns-in_ok-put-in-Kept-clause-whole : goal.returns-in_ok-put-in-Kept-clause-whole
 returns-in_ok-put-in-Kept-clause-whole g c =
     rw c.in-Kept.is
-    (chunk_put _ _ _ c.args.self.now _ _ (value_of_chunk c.in-Kept.chunk) refl refl refl c.in_ok-put-in-Kept.ensures.whole refl refl)
+    (chunk_put _ _ _ c.args.self.now _ _ (value_of_chunk c.in-Kept.chunk) refl refl c.in_ok-put-in-Kept.ensures.whole refl refl)
