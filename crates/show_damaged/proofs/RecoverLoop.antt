@@ -13,7 +13,7 @@ use Rattle.damage_skip.specs.Bounds.{may_skip, MaySkip}
 use Rattle.damage_skip.proofs.WalkedTo.{walked-none}
 use Rattle.damage_skip.proofs.BoundedWalks.{MaySkipEach}
 use Rattle.damage_skip.specs.Regions.{regions_in}
-use Rattle.damage_skip.specs.Walks.{piece_of, events_of, GoesOn, IsMet, IsStoppedAt, IsStop, IsEventIn, event_text}
+use Rattle.damage_skip.specs.Walks.{piece_of, events_of, GoesOn, IsStoppedAt, IsStop, IsEventIn, event_text}
 use Rattle.show_damaged.proofs.RecoverSteps.{by_sink, given-front, given-so_far, given-whole, given-stopped, given-on, given-event, event-unprinted, event-untold, event-passed, event-said, event-unsaid, event-front, told-event, told-still, told-front, status-event}
 use Rattle.show_damaged.specs.RecoverProgress.{HasPositions, end_of_walk, event_lines, status_after, GivesEvent, IsGivenTo}
 use Rattle.show_damaged.specs.WalkAnswers.{walk_status}
@@ -54,21 +54,7 @@ given-none words (Some f) place taken held front none =
 pub recovered-none : (words : RecoverWords) (f : List ℕ) → IsRecoveredSoFar words f []
 recovered-none words f = record { place = 0; events = []; walked = walked-none false (MaySkip words.most) f; puts = refl }
 
-pub met-none : (bytes : Option (List ℕ)) (place : ℕ) → place ≡ 0 → IfSome bytes (λ f. IsMet false f place)
-met-none None place front = tt
-met-none (Some f) place front = ([], sym front)
-
--- nothing is stopped at
-pub stopped-none : (keep : Bool) (bytes : Option (List ℕ)) (place : ℕ) (stopped : Option Region) → stopped ≡ None → IfSome bytes (λ f. IsStoppedAt keep f place stopped)
-stopped-none keep None place stopped none = tt
-stopped-none keep (Some f) place stopped none = subst (λ (s : Option Region). IsStoppedAt keep f place s) (sym none) tt
-
 -- what is told of the same bytes
-pub same-met : (a b : Option (List ℕ)) (keep : Bool) (place : ℕ) → a ≡ b → keep ≡ false → IfSome b (λ f. IsMet false f place) → IfSome a (λ f. IsMet keep f place)
-same-met a b keep place same not_kept h =
-    subst (λ (x : Option (List ℕ)). IfSome x (λ f. IsMet keep f place)) (sym same)
-    (subst (λ (k : Bool). IfSome b (λ f. IsMet k f place)) (sym not_kept) h)
-
 pub goes-same : (a b : Option (List ℕ)) (keep : Bool) (place next : ℕ) (result known : Result (Option Event) WalkEnd) → a ≡ b → keep ≡ false → result ≡ known
     → IfSome a (λ f. GoesOn keep f place next (events_of result)) → IfSome b (λ f. GoesOn false f place next (events_of known))
 goes-same a b keep place next result known same not_kept is h =

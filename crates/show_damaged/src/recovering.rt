@@ -7,7 +7,7 @@ ghost use Rattle.damage_skip.specs.Walkers.{progress_of, test_of};
 ghost use Rattle.run_answers.specs.FileAnswers.{HandsOut};
 ghost use Rattle.show_damaged.specs.RecoverCommand.{IsRecovered, IsRecoveredSoFar, recover_meaning};
 ghost use Rattle.damage_skip.specs.Bounds.{may_skip};
-ghost use Rattle.damage_skip.specs.Walks.{event_text};
+ghost use Rattle.damage_skip.specs.Walks.{StandsIn, event_text};
 ghost use Rattle.show_damaged.specs.RecoverProgress.{GivesEvent, HasPositions, end_of_walk, event_lines, status_after};
 ghost use Rattle.run_answers.specs.Runs.{Runs, Seen, shown, shown_file};
 ghost use Rattle.run_answers.specs.PutSoFar.{HasPutSoFar};
@@ -86,11 +86,9 @@ fn print_events<F: Fn(&Region) -> bool + Drop, S: Store, O: Sink, E: Sink>(
     out: &mut O,
     notes: &mut E,
 ) -> Result<Status, Ending<Region>>
-    requires told { S.told file.old ≡ Some (progress_of walker.old).size }
-    requires in_reach { (progress_of walker.old).size ≤ 2 ^ 60 }
-    requires exact { IfSome (S.bytes file.old) (λ bytes. (progress_of walker.old).size ≡ length bytes) }
-    requires not_kept { (progress_of walker.old).keep ≡ false }
+    requires stands { StandsIn (S.bytes file.old) (S.told file.old) (progress_of walker.old) }
     requires at_front { (progress_of walker.old).place ≡ 0 }
+    requires not_kept { (progress_of walker.old).keep ≡ false }
     requires going { (progress_of walker.old).stopped ≡ None }
     requires test { IsTest F.Fn (test_of walker.old) }
     requires bound { IsBound F.Fn (test_of walker.old) words.now.most }

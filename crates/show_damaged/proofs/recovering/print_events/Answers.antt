@@ -10,8 +10,8 @@ use Rattle.damage_skip.specs.declared.regions.Region.{Region}
 use Rattle.run_answers.specs.declared.status.Status.{Status}
 use Rattle.run_answers.proofs.FileRuns.{told-in_reach}
 use Rattle.show_damaged.proofs.RecoverRuns.{step-allowed, walk-allowed}
-use Rattle.show_damaged.proofs.RecoverLoop.{bound-same, event-allowed, given-none, goes-same, met-none, same-met, stopped-none, step-by, step-done, step-ended, step-failed, step-given, step-not_short, step-said, step-so_far, step-told, step-untold, stop-refused, stop-same}
-use Rattle.show_files.proofs.ShowSteps.{short_told}
+use Rattle.show_damaged.proofs.RecoverLoop.{bound-same, event-allowed, given-none, goes-same, step-by, step-done, step-ended, step-failed, step-given, step-not_short, step-said, step-so_far, step-told, step-untold, stop-refused, stop-same}
+use Rattle.show_files.proofs.ShowSteps.{exact_told, short_told}
 use Rattle.show_damaged.proofs.recovering.print_events.Goals as goal
 use Rattle.show_damaged.proofs.recovering.print_events.Goals.{In-Err}
 
@@ -22,12 +22,7 @@ loop-event-init g c = record {
   going = c.requires.going;
   same_test = refl;
   file = search rules;
-  stands = record {
-    size = c.requires.told;
-    in_reach = c.requires.in_reach;
-    met = same-met _ _ _ _ refl c.requires.not_kept (met-none _ _ c.requires.at_front);
-    stopped_there = stopped-none _ _ _ _ c.requires.going;
-  };
+  stands = c.requires.stands;
   given = λ made. given-none c.args.words.now _ _ _ _ c.requires.at_front c.requires.none_held;
   told_of = ([], record { may = tt; says = Takes-nothing _ }, refl);
   kept = λ _. refl;
@@ -50,7 +45,7 @@ pub returns-in-Err-clause-printed : goal.returns-in-Err-clause-printed
 returns-in-Err-clause-printed g c = λ made.
     step-ended c.args.words.now _ (progress_of c.loop-event.walker).place (progress_of c.next.new.self).place (progress_of c.args.walker.now).size (progress_of c.next.new.self).size
     _ _ _ c.loop-event.status c.in-Err.end _ c.end_of_walk.ensures
-    c.requires.in_reach c.requires.exact (c.in-Err.ensures.goes_on.same_size ∙ c.loop-event.invariant.same_size) (c.loop-event.invariant.given made)
+    c.requires.stands.in_reach (exact_told _ _ _ c.requires.stands.size (g.met.S.Store.sized c.args.file.now)) (c.in-Err.ensures.goes_on.same_size ∙ c.loop-event.invariant.same_size) (c.loop-event.invariant.given made)
     (goes-same _ _ _ _ _ (Err c.in-Err.end) (Err c.in-Err.end) c.loop-event.invariant.file.same_bytes c.loop-event.invariant.not_kept refl
     c.in-Err.ensures.goes_on.past)
     (λ region is. (
@@ -72,7 +67,7 @@ returns-in-Err-clause-said g c =
 pub returns-in-Err-clause-allowed : goal.returns-in-Err-clause-allowed
 returns-in-Err-clause-allowed g c =
     walk-allowed c.args.words.now c.in-Err.end _ _ c.end_of_walk.ensures
-    (told-in_reach _ _ (c.in-Err.ensures.store.same_told ∙ c.loop-event.invariant.file.same_told ∙ c.requires.told) c.requires.in_reach)
+    (told-in_reach _ _ (c.in-Err.ensures.store.same_told ∙ c.loop-event.invariant.file.same_told ∙ c.requires.stands.size) c.requires.stands.in_reach)
 
 pub returns-in_err-status-in-Ok-Some-clause-so_far : goal.returns-in_err-status-in-Ok-Some-clause-so_far
 returns-in_err-status-in-Ok-Some-clause-so_far g c = λ short.
@@ -84,7 +79,7 @@ returns-in_err-status-in-Ok-Some-clause-printed g c = λ made.
     let e = c.in-Ok-Some.ensures.event c.in-Ok-Some.event (ap Ok c.in-Ok-Some.field-0-is) in
     step-failed Status c.args.words.now _ (progress_of c.loop-event.walker).place (progress_of c.next.new.self).place _ _ _ _ _ c.loop-event.status
     c.in-Ok-Some.event c.in_err-status-in-Ok-Some.field-0.0 c.from_residual.result c.from_residual.ensures.0 c.from_residual.ensures.1
-    (short_told _ _ c.requires.in_reach c.requires.exact) (c.loop-event.invariant.given made)
+    (short_told _ _ c.requires.stands.in_reach (exact_told _ _ _ c.requires.stands.size (g.met.S.Store.sized c.args.file.now))) (c.loop-event.invariant.given made)
     (goes-same _ _ _ _ _ _ (Ok (Some c.in-Ok-Some.event)) c.loop-event.invariant.file.same_bytes c.loop-event.invariant.not_kept (ap Ok c.in-Ok-Some.field-0-is) c.in-Ok-Some.ensures.goes_on.past)
     (event-allowed g.F.Fn (test_of c.loop-event.walker) c.args.words.now.most _ _ (progress_of c.next.new.self).size c.in-Ok-Some.event
     (bound-same g.F.Fn _ _ c.args.words.now.most c.loop-event.invariant.same_test c.requires.bound)
@@ -111,7 +106,7 @@ returns-in_err-status-in-Ok-Some-clause-allowed g c =
     (bound-same g.F.Fn _ _ c.args.words.now.most c.loop-event.invariant.same_test c.requires.bound)
     e.bounds (progress_of c.next.new.self).within c.in-Ok-Some.ensures.stands.in_reach e.allowed)
     (c.in_err-status-in-Ok-Some.ensures.given None)
-    (told-in_reach _ _ (c.in-Ok-Some.ensures.store.same_told ∙ c.loop-event.invariant.file.same_told ∙ c.requires.told) c.requires.in_reach)
+    (told-in_reach _ _ (c.in-Ok-Some.ensures.store.same_told ∙ c.loop-event.invariant.file.same_told ∙ c.requires.stands.size) c.requires.stands.in_reach)
 
 pub returns-in_err-status-in-Ok-Some-clause-file : goal.returns-in_err-status-in-Ok-Some-clause-file
 returns-in_err-status-in-Ok-Some-clause-file g c =
@@ -165,5 +160,5 @@ loop-event-preserved g c =
 pub returns-in-Ok-None-clause-printed : goal.returns-in-Ok-None-clause-printed
 returns-in-Ok-None-clause-printed g c = λ made.
     step-done c.args.words.now _ (progress_of c.loop-event.walker).place (progress_of c.next.new.self).place (progress_of c.args.walker.now).size _ _ _ c.loop-event.status
-    c.requires.in_reach c.requires.exact (c.in-Ok-None.ensures.ended (ap Ok c.in-Ok-None.field-0-is) ∙ c.loop-event.invariant.same_size) (c.loop-event.invariant.given made)
+    c.requires.stands.in_reach (exact_told _ _ _ c.requires.stands.size (g.met.S.Store.sized c.args.file.now)) (c.in-Ok-None.ensures.ended (ap Ok c.in-Ok-None.field-0-is) ∙ c.loop-event.invariant.same_size) (c.loop-event.invariant.given made)
     (goes-same _ _ _ _ _ _ (Ok None) c.loop-event.invariant.file.same_bytes c.loop-event.invariant.not_kept (ap Ok c.in-Ok-None.field-0-is) c.in-Ok-None.ensures.goes_on.past)
