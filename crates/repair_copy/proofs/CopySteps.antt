@@ -70,11 +70,6 @@ some_laid : (held : List ℕ) (place : ℕ) (ks : List ChunkValue) → place < e
 some_laid held place ks past = λ none.
     omega (arith, ap length none, length-append held (laid_each place ks), length-laid_each place ks, past)
 
--- what cut a call off that never answers that notes failed
-pub made_alone : {T : Type 0} (r : Result T FailedSink) (c : FailedSink) → r ≡ Err c → r ≢ Err cut.Notes → cut.Made ≡ c
-made_alone r cut.Made is never = refl
-made_alone r cut.Notes is never = absurd (never is)
-
 -- a chunk was put
 pub chunk_put : (a b n : Option (List ℕ)) (s t : Copied) (p : Piece) (k : ChunkValue) → chunk_in p.what ≡ k ∷ [] → region_of p ≡ None
     → Lays a b s.file t.file (k ∷ []) → t.begun ≡ s.begun → t.regions ≡ s.regions

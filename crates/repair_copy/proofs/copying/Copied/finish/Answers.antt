@@ -3,7 +3,7 @@ use Rattle.std.proofs.lemmas.Result.{err_from_is_err_and}
 use Rattle.record_io.specs.Puts.{taken_by}
 use Rattle.damage_skip.specs.Pieces.{Piece}
 use Rattle.repair_copy.specs.Copies.{HasBrokenOff}
-use Rattle.repair_copy.proofs.CopySteps.{made_alone, begin_failed, has_begun, finish_failed, put_all}
+use Rattle.repair_copy.proofs.CopySteps.{begin_failed, has_begun, finish_failed, put_all}
 use Rattle.repair_copy.proofs.copying.Copied.finish.Goals as goal
 
 pub returns-in_err-begin-clause-front : goal.returns-in_err-begin-clause-front
@@ -12,7 +12,7 @@ returns-in_err-begin-clause-front g c =
     λ cut is before notes events copied.
     subst (λ (es : List Piece). HasBrokenOff cut before (taken_by (g.M.Sink.taken c.begin.new.made) None notes) es) (append-nil events)
     (begin_failed before _ _ notes c.args.self.now c.begin.new.self.file events [] copied c.in_err-begin.ensures.unbegun c.in_err-begin.ensures.front cut
-    (made_alone c.begin.result cut (cc) c.begin.ensures.made_alone))
+    cc)
 
 pub returns-in_err-flush-clause-front : goal.returns-in_err-flush-clause-front
 returns-in_err-flush-clause-front g c =
