@@ -209,7 +209,7 @@ chain_given keep size place file j ks begins judged there chain =
     (subst (λ (e : ℕ). IsChainOf (IsAllowed keep) (ks ++ chunk_at file place ∷ []) file e) (sym there.end)
     (chain_goes_on keep ks file place chain begins there.laid allowed))
 
--- what a call on a chunk says is said of the reader, which shows the same frame, place and bytes
+-- what a call on a chunk says is said of the reader, which has the same `keep`, size and place
 pub judged_shown : (keep now : Bool) (size told place here : ℕ) (j : Judged) → now ≡ keep → told ≡ size → here ≡ place
     → IsJudged keep size place j → IsJudged now told here j
 judged_shown keep now size told place here j f s p h =

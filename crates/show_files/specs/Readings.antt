@@ -1,4 +1,4 @@
--- What strict reading of a record file says, and how it ends. Own.
+-- What strict reading of a record file prints and says. Own.
 use Rattle.std.specs.Prelude.{◌≡◌, ℕ, ◌⊎◌, Bool, true, false, List, [], ◌∷◌, ◌++◌, decimal, if◌then◌else◌}
 use lib.Chars.{codes}
 use Rattle.hex.specs.Hex.{encode_lower}
