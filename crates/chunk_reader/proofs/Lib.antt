@@ -1,7 +1,7 @@
 pub mod BadContents
 pub mod HeaderEnds
 pub mod Rooms
-pub mod Passes
+pub mod Scans
 pub mod LaidAt
 pub mod PassedChunks
 pub mod AllowedChunks

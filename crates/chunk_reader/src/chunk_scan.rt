@@ -15,7 +15,7 @@ pub const PIECE_SIZE: usize = 4096;
 /// The data of a chunk of a file, which is read in order, and the headers of the blocks within the chunk, each of which
 /// is compared with the chunk's own as it is passed. No byte is read twice.
 #[derive(Debug, Drop)]
-pub(crate) struct ChunkPass {
+pub(crate) struct ChunkScan {
     pub begin: u64,
     pub end: u64,
     pub own: OwnBytes,
@@ -25,21 +25,21 @@ pub(crate) struct ChunkPass {
     pub ghost in_reach: { end ≤ 2 ^ 60 },
 }
 
-impl ChunkPass {
+impl ChunkScan {
     /// Begins where the header of the chunk ends, and passes the block before or within the header.
     pub(crate) fn start<S: Store>(
         store: &mut S,
         begin: u64,
         end: u64,
-    ) -> Result<ChunkPass, VerifyEnd>
+    ) -> Result<ChunkScan, VerifyEnd>
         requires told { IsSomeAnd (S.told store.old) (λ size. end ≤ size) }
         requires from_boundary { IsBoundary begin }
         requires within { end_of begin chunk_header_size ≤ end }
         requires to_boundary { IsOnBoundary end }
         requires in_reach { end ≤ 2 ^ 60 }
-        ensures begin { IfOk result (λ pass. pass.begin ≡ begin) }
-        ensures end { IfOk result (λ pass. pass.end ≡ end) }
-        ensures place { IfOk result (λ pass. pass.own.place ≡ end_of begin chunk_header_size) }
+        ensures begin { IfOk result (λ scan. scan.begin ≡ begin) }
+        ensures end { IfOk result (λ scan. scan.end ≡ end) }
+        ensures place { IfOk result (λ scan. scan.own.place ≡ end_of begin chunk_header_size) }
         ensures right { OnOk result (IfSome (S.bytes store.old) (λ file. HaveHeadersOf file begin end begin (end_of begin chunk_header_size))) }
         ensures wrong { (fault : Fault) → result ≡ Err (VerifyEnd.Refused fault) → (fault.why ≡ Why.BlockHeader)
             × IfSome (S.bytes store.old) (λ file. IsFirstWrong file begin end begin end fault.at) }
@@ -48,7 +48,7 @@ impl ChunkPass {
     {
         let own = OwnBytes::behind_header(begin);
         judge_blocks(store, begin, end, begin, own.place)?;
-        Ok(ChunkPass { begin, end, own })
+        Ok(ChunkScan { begin, end, own })
     }
 
     /// Puts the next bytes of data into the front of the buffer, at most those before the next block, and answers how

@@ -7,7 +7,7 @@ ghost use Rattle.chunk_reader.specs.Places.{end_by, data_at, HaveHeadersOf, IsFi
 ghost use Rattle.chunk_reader.specs.declared.reasons.Fault.{Fault};
 ghost use Rattle.chunk_reader.specs.declared.reasons.Why.{Why};
 
-use crate::chunk_pass::{ChunkPass, PIECE_SIZE};
+use crate::chunk_scan::{ChunkScan, PIECE_SIZE};
 use crate::reasons::VerifyEnd;
 use chunk_header::Header;
 use record_io::Store;
@@ -54,41 +54,41 @@ pub(crate) fn feed_chunk<S: Store, T: TakesData>(
     ensures handed { S.handed store.new + (at + chunk_header_size) ≤ S.handed store.old + end }
     ensures store { OnlyAsks S.bytes S.told S.name S.faults (result ≡ Err VerifyEnd.Store) store.old store.new }
 {
-    let mut pass = ChunkPass::start(store, at, end)?;
-    feed_data(store, &mut pass, header.data_size, taker)?;
-    pass.finish(store)
+    let mut scan = ChunkScan::start(store, at, end)?;
+    feed_data(store, &mut scan, header.data_size, taker)?;
+    scan.finish(store)
 }
 
 /// Reads so many bytes of data piece by piece, and gives them to what takes them.
 fn feed_data<S: Store, T: TakesData>(
     store: &mut S,
-    pass: &mut ChunkPass,
+    scan: &mut ChunkScan,
     size: u64,
     taker: &mut T,
 ) -> Result<(), VerifyEnd>
-    requires told { IsSomeAnd (S.told store.old) (λ size. pass.old.end ≤ size) }
-    requires within { end_of pass.old.own.place size ≤ pass.old.end }
+    requires told { IsSomeAnd (S.told store.old) (λ size. scan.old.end ≤ size) }
+    requires within { end_of scan.old.own.place size ≤ scan.old.end }
     requires none { T.has_taken taker.old [] }
     requires all_left { T.has_left taker.old size }
     ensures same_header { OnOk result (T.header taker.new ≡ T.header taker.old) }
-    ensures taken { OnOk result (IfSome (S.bytes store.old) (λ file. T.has_taken taker.new (own_bytes_at file pass.old.own.place size))) }
+    ensures taken { OnOk result (IfSome (S.bytes store.old) (λ file. T.has_taken taker.new (own_bytes_at file scan.old.own.place size))) }
     ensures none_left { OnOk result (T.has_left taker.new 0) }
-    ensures moved { OnOk result (pass.new.own.place ≡ end_of pass.old.own.place size) }
-    ensures same_begin { pass.new.begin ≡ pass.old.begin }
-    ensures same_end { pass.new.end ≡ pass.old.end }
+    ensures moved { OnOk result (scan.new.own.place ≡ end_of scan.old.own.place size) }
+    ensures same_begin { scan.new.begin ≡ scan.old.begin }
+    ensures same_end { scan.new.end ≡ scan.old.end }
     ensures right { OnOk result (IfSome (S.bytes store.old) (λ file.
-        HaveHeadersOf file pass.old.begin pass.old.end pass.old.own.place pass.new.own.place)) }
+        HaveHeadersOf file scan.old.begin scan.old.end scan.old.own.place scan.new.own.place)) }
     ensures wrong { (fault : Fault) → result ≡ Err (VerifyEnd.Refused fault) → (fault.why ≡ Why.BlockHeader)
-        × IfSome (S.bytes store.old) (λ file. IsFirstWrong file pass.old.begin pass.old.end pass.old.own.place pass.old.end fault.at) }
-    ensures handed { OnOk result (S.handed store.new + pass.old.own.place ≤ S.handed store.old + pass.new.own.place) }
-    ensures handed_at_most { S.handed store.new + pass.old.own.place ≤ S.handed store.old + pass.old.end }
+        × IfSome (S.bytes store.old) (λ file. IsFirstWrong file scan.old.begin scan.old.end scan.old.own.place scan.old.end fault.at) }
+    ensures handed { OnOk result (S.handed store.new + scan.old.own.place ≤ S.handed store.old + scan.new.own.place) }
+    ensures handed_at_most { S.handed store.new + scan.old.own.place ≤ S.handed store.old + scan.old.end }
     ensures store { OnlyAsks S.bytes S.told S.name S.faults (result ≡ Err VerifyEnd.Store) store.old store.new }
 {
     let mut piece = [0; PIECE_SIZE];
     let mut left = size;
     while left > 0 {
         let most = left.min(PIECE_SIZE as u64) as usize;
-        let count = pass.take(store, &mut piece[..most])?;
+        let count = scan.take(store, &mut piece[..most])?;
         taker.feed(&piece[..count]);
         left -= count as u64;
     }

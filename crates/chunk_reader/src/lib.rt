@@ -3,7 +3,7 @@
 
 mod block_headers;
 mod chunk_content;
-mod chunk_pass;
+mod chunk_scan;
 mod content_judge;
 mod feeding;
 mod file_reader;
@@ -20,7 +20,7 @@ mod verifying;
 
 pub use block_headers::sane_header_at;
 pub use chunk_content::{Content, ContentEnd};
-pub use chunk_pass::PIECE_SIZE;
+pub use chunk_scan::PIECE_SIZE;
 pub use content_judge::{content, content_under};
 pub use feeding::TakesData;
 pub use file_reader::Reader;

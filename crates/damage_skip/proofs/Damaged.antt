@@ -23,7 +23,7 @@ use Rattle.chunk_reader.proofs.ChainSteps.{each_at}
 use Rattle.chunk_reader.proofs.LaidAt.{header_of, header_at-laid, right_header-laid, end_at-laid, headers-laid}
 use Rattle.chunk_reader.proofs.NoReason.{not_short}
 use Rattle.damage_skip.specs.Resyncs.{StandsFrom, landing, IsResync, Contradicts}
-use Rattle.damage_skip.specs.Pieces.{PieceKind, Skipped, Piece, PassesOver, walk_reasons, IsPieceOf, AreTiles, ArePieces}
+use Rattle.damage_skip.specs.Pieces.{PieceKind, Skipped, Piece, SkipsFor, walk_reasons, IsPieceOf, AreTiles, ArePieces}
 use Rattle.damage_skip.specs.Damage.{Intact, IsDamaged, IsIntactFrom, IsNext, DamageLeaves, DamageLeavesEach}
 use Rattle.damage_skip.proofs.OnePiece.{piece_one}
 use Rattle.damage_skip.proofs.Tiles.{tiles_to_end}
@@ -229,10 +229,10 @@ module _ (keep : Bool) (ks : List ChunkValue) (file damaged : List ℕ) (intact 
         → IsFirstOf P (content_reasons keep) w → IsFirstOf P (walk_reasons keep) w
     behind_those P w a b c e f first = inr (a, inr (b, inr (c, inr (e, inr (f, first)))))
 
-    first_there : (w : Why) → IsFirstOf (PassesOver damaged (begin_of ks j)) (content_reasons keep) w
-        → IsFirstOf (PassesOver damaged (begin_of ks j)) (walk_reasons keep) w
+    first_there : (w : Why) → IsFirstOf (SkipsFor damaged (begin_of ks j)) (content_reasons keep) w
+        → IsFirstOf (SkipsFor damaged (begin_of ks j)) (walk_reasons keep) w
     first_there w first =
-        behind_those (PassesOver damaged (begin_of ks j)) w (long_enough j k at) right_header not_against in_file small_data first
+        behind_those (SkipsFor damaged (begin_of ks j)) w (long_enough j k at) right_header not_against in_file small_data first
 
     -- its data has changed
     changed_data : intact.«data» j ≡ false → Applies damaged (begin_of ks j) why.DataHash
@@ -243,7 +243,7 @@ module _ (keep : Bool) (ks : List ChunkValue) (file damaged : List ℕ) (intact 
     changed_piece : intact.«data» j ≡ false → IsLeftPiece j k (begin_of ks (j + 1)) (Skipped why.DataHash)
     unfolding IsLeftPiece
     changed_piece changed = (
-      (first_there why.DataHash (first_of_content keep (PassesOver damaged (begin_of ks j)) (changed_data changed)), sym same_end),
+      (first_there why.DataHash (first_of_content keep (SkipsFor damaged (begin_of ks j)) (changed_data changed)), sym same_end),
       subst (λ (h : Bool). DamageLeaves keep h (intact.«data» j) k (Skipped why.DataHash)) (sym whole)
           (subst (λ (x : Bool). DamageLeaves keep true x k (Skipped why.DataHash)) (sym changed) refl),
     )

@@ -23,7 +23,7 @@ use Rattle.chunk_reader.proofs.AllowedChunks.{allowed_small, IsAllowed-frame}
 use Rattle.chunk_reader.proofs.LaidAt.{chunk_at-laid, end_at-laid, headers-laid}
 use Rattle.chunk_reader.proofs.NoReason.{no_reason, none_is_first}
 use Rattle.damage_skip.specs.Resyncs.{Contradicts}
-use Rattle.damage_skip.specs.Pieces.{PieceKind, Piece, PassesOver, walk_reasons, IsFoundAs, IsPieceOf, AreTiles, ArePieces, AreFound}
+use Rattle.damage_skip.specs.Pieces.{PieceKind, Piece, SkipsFor, walk_reasons, IsFoundAs, IsPieceOf, AreTiles, ArePieces, AreFound}
 use Rattle.damage_skip.proofs.OnePiece.{piece_cases}
 
 -- an end isn't far from the bytes before it
@@ -71,13 +71,13 @@ not_contradicted keep place k file end h allowed (block, previous, next, against
 
 -- so no reason passes over it
 content_kept : (keep : Bool) (file : List ℕ) (place : ℕ) → NoneOf (Applies file place) (content_reasons keep)
-    → NoneOf (PassesOver file place) (content_reasons keep)
+    → NoneOf (SkipsFor file place) (content_reasons keep)
 content_kept false file place none = none
 content_kept true file place none = none
 
 pub none_passes_over : (keep : Bool) (place : ℕ) (k : ChunkValue) (file : List ℕ) (end : ℕ)
     → IsLaid place k (slice_range file place end) → IsAllowed keep k
-    → NoneOf (PassesOver file place) (walk_reasons keep)
+    → NoneOf (SkipsFor file place) (walk_reasons keep)
 none_passes_over keep place k file end h allowed =
     let none = no_reason keep place k file end h allowed in
     (none.0, (none.1.0, (not_contradicted keep place k file end h allowed, (none.1.1.0, (none.1.1.1.0, content_kept keep file place none.1.1.1.1.1)))))
@@ -88,7 +88,7 @@ pub found_laid : (keep : Bool) (place : ℕ) (k : ChunkValue) (file : List ℕ) 
 found_laid keep place k file end h allowed to what is =
     elim (piece_cases keep file place to what is) [
       | inl (w, same, first, at) ↦
-          absurd (none_is_first (PassesOver file place) (walk_reasons keep) w (none_passes_over keep place k file end h allowed) first)
+          absurd (none_is_first (SkipsFor file place) (walk_reasons keep) w (none_passes_over keep place k file end h allowed) first)
       | inr whole ↦ (
         whole.1 ∙ end_at-laid place k file end h,
         subst (λ (x : ChunkValue). IsFoundAs keep x what) (chunk_at-laid place k file end h) whole.2,

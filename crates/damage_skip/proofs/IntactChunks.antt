@@ -12,7 +12,7 @@ use Rattle.chunk_reader.specs.declared.reasons.Why.{Why}
 use Rattle.chunk_reader.specs.declared.reasons.Why.TheVariants as why
 use Rattle.chunk_reader.proofs.AllowedChunks.{allowed_good, allowed_named, plain_read}
 use Rattle.chunk_reader.proofs.LaidAt.{chunk_at-laid, end_at-laid}
-use Rattle.damage_skip.specs.Pieces.{PieceKind, Skipped, PassesOver, IsFoundAs, IsPieceOf}
+use Rattle.damage_skip.specs.Pieces.{PieceKind, Skipped, SkipsFor, IsFoundAs, IsPieceOf}
 use Rattle.damage_skip.specs.Damage.{DamageLeaves}
 use Rattle.damage_skip.proofs.OnePiece.{found_of, piece_whole}
 use Rattle.damage_skip.proofs.Found.{none_passes_over}
@@ -55,12 +55,12 @@ same_for P k l same = (λ h. subst P same h, λ h. subst P (sym same) h)
 -- the chunk at a place is this one, its header and its data are right, the file has it whole, it isn't too large, and no block
 -- header within says otherwise
 pub record IsIntactAt (file : List ℕ) (place : ℕ) (k : ChunkValue) : Type 0 where
-  pub long : ¬ PassesOver file place why.Short
-  pub header : ¬ PassesOver file place why.HeaderHash
-  pub agrees : ¬ PassesOver file place why.Contradicted
-  pub whole : ¬ PassesOver file place why.Truncated
-  pub small : ¬ PassesOver file place why.TooLarge
-  pub hash : ¬ PassesOver file place why.DataHash
+  pub long : ¬ SkipsFor file place why.Short
+  pub header : ¬ SkipsFor file place why.HeaderHash
+  pub agrees : ¬ SkipsFor file place why.Contradicted
+  pub whole : ¬ SkipsFor file place why.Truncated
+  pub small : ¬ SkipsFor file place why.TooLarge
+  pub hash : ¬ SkipsFor file place why.DataHash
   pub chunk : chunk_at file place ≡ k
 
 -- what piece it is
@@ -72,7 +72,7 @@ intact_piece keep file place k framed h =
     let good : ¬ Applies file place why.Contents = λ bad. allowed_good true k framed (subst HasBadContents h.chunk bad) in
     let named : ¬ Applies file place why.UnknownKind =
     λ none. allowed_named true k framed (subst (λ (c : ChunkValue). IsOfNoName c.kind) h.chunk none) in
-    elim (read_or_named keep (PassesOver file place) k framed h.hash good named
+    elim (read_or_named keep (SkipsFor file place) k framed h.hash good named
     (same_for IsCompressed there k h.chunk) (same_for IsTransposed there k h.chunk)) [
       | inl (none, (what, found, left)) ↦ (
         what,

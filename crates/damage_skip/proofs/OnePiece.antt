@@ -19,17 +19,17 @@ use Rattle.chunk_reader.proofs.NoReason.{none_is_first}
 use Rattle.chunk_reader.proofs.NoReasonLaid.{content_where_none}
 use Rattle.chunk_reader.proofs.AllowedChunks.{IsPassed}
 use Rattle.damage_skip.specs.Resyncs.{Contradicts, landing}
-use Rattle.damage_skip.specs.Pieces.{PieceKind, Given, Kept, LeftOut, Skipped, PassesOver, walk_reasons, SkipsTo, IsFoundAs, IsPieceOf}
+use Rattle.damage_skip.specs.Pieces.{PieceKind, Given, Kept, LeftOut, Skipped, SkipsFor, walk_reasons, SkipsTo, IsFoundAs, IsPieceOf}
 use Rattle.damage_skip.specs.Steps.{IsOnward}
 use Rattle.damage_skip.proofs.PlacesFurtherOn.{onward-landing, landing_same, first_block_one, first_block_of, resync_past, resync_one, resync_of, says_against, against_decided, some_against_decided}
 
 -- whether a reason passes over
-pub passes_decided : (file : List ℕ) (place : ℕ) (w : Why) → IsDecided (PassesOver file place w)
+pub passes_decided : (file : List ℕ) (place : ℕ) (w : Why) → IsDecided (SkipsFor file place w)
 passes_decided file place why.Contradicted = some_against_decided file place (end_at file place)
 passes_decided file place other = reason_decided file place other
 
 -- where it does, bytes are passed over up to a place
-skips_of : (file : List ℕ) (place : ℕ) (w : Why) → PassesOver file place w → (to : ℕ) × SkipsTo file place w to
+skips_of : (file : List ℕ) (place : ℕ) (w : Why) → SkipsFor file place w → (to : ℕ) × SkipsTo file place w to
 skips_of file place why.Short h = resync_of file place
 skips_of file place why.HeaderHash h = resync_of file place
 skips_of file place why.Contradicted (b, p, n, h) =
@@ -61,7 +61,7 @@ end_past file place whole = record {
 
 -- a reason behind the first four is the first only of a chunk that the file has whole
 whole_later : (keep : Bool) (file : List ℕ) (place : ℕ) (w : Why) → w ≢ why.Short → w ≢ why.HeaderHash → w ≢ why.Contradicted → w ≢ why.Truncated
-    → IsFirstOf (PassesOver file place) (walk_reasons keep) w → end_at file place ≤ length file
+    → IsFirstOf (SkipsFor file place) (walk_reasons keep) w → end_at file place ≤ length file
 whole_later keep file place w short header against cut (inl (applies, is)) = absurd (short is)
 whole_later keep file place w short header against cut (inr (not, inl (applies, is))) = absurd (header is)
 whole_later keep file place w short header against cut (inr (not, inr (nor, inl (applies, is)))) = absurd (against is)
@@ -70,7 +70,7 @@ whole_later keep file place w short header against cut (inr (not, inr (nor, inr 
 
 -- it is past the place that is passed over
 pub skips_past : (keep : Bool) (file : List ℕ) (place : ℕ) (w : Why) (to : ℕ) → place < length file
-    → IsFirstOf (PassesOver file place) (walk_reasons keep) w → SkipsTo file place w to → IsOnward (length file) place to
+    → IsFirstOf (SkipsFor file place) (walk_reasons keep) w → SkipsTo file place w to → IsOnward (length file) place to
 skips_past keep file place why.Short to below first h = resync_past file place to below h
 skips_past keep file place why.HeaderHash to below first h = resync_past file place to below h
 skips_past keep file place why.Contradicted to below first (b, p, n, against, is) =
@@ -135,11 +135,11 @@ found_one keep k a (Skipped w) h g = absurd g
 -- a piece is passed over for the first reason that applies, or a chunk to which none does
 abbrev pub IsSkip : Bool → List ℕ → (begin end : ℕ) → PieceKind → Type 0
 IsSkip keep file begin end what =
-    (w : Why) × (what ≡ Skipped w) × IsFirstOf (PassesOver file begin) (walk_reasons keep) w × SkipsTo file begin w end
+    (w : Why) × (what ≡ Skipped w) × IsFirstOf (SkipsFor file begin) (walk_reasons keep) w × SkipsTo file begin w end
 
 abbrev pub IsWhole : Bool → List ℕ → (begin end : ℕ) → PieceKind → Type 0
 IsWhole keep file begin end what =
-    NoneOf (PassesOver file begin) (walk_reasons keep) × (end ≡ end_at file begin) × IsFoundAs keep (chunk_at file begin) what
+    NoneOf (SkipsFor file begin) (walk_reasons keep) × (end ≡ end_at file begin) × IsFoundAs keep (chunk_at file begin) what
 
 pub piece_cases : (keep : Bool) (file : List ℕ) (begin end : ℕ) (what : PieceKind) → IsPieceOf keep file begin end what
     → IsSkip keep file begin end what ⊎ IsWhole keep file begin end what
@@ -163,12 +163,12 @@ piece_one keep file begin end other what that h g =
     elim (piece_cases keep file begin end what h) [
       | inl (w, is, first, to) ↦ elim (piece_cases keep file begin other that g) [
         | inl (v, there, also, at) ↦
-            let same : w ≡ v = first_is_one (PassesOver file begin) reasons w v first also in
+            let same : w ≡ v = first_is_one (SkipsFor file begin) reasons w v first also in
             (skips_one file begin v end other (subst (λ (x : Why). SkipsTo file begin x end) same to) at, is ∙ ap Skipped same ∙ sym there)
-        | inr whole ↦ absurd (none_is_first (PassesOver file begin) reasons w whole.0 first)
+        | inr whole ↦ absurd (none_is_first (SkipsFor file begin) reasons w whole.0 first)
       ]
       | inr whole ↦ elim (piece_cases keep file begin other that g) [
-        | inl (v, there, also, at) ↦ absurd (none_is_first (PassesOver file begin) reasons v whole.0 also)
+        | inl (v, there, also, at) ↦ absurd (none_is_first (SkipsFor file begin) reasons v whole.0 also)
         | inr other_whole ↦
             (whole.1 ∙ sym other_whole.1, found_one keep (chunk_at file begin) what that whole.2 other_whole.2)
       ]
@@ -196,7 +196,7 @@ found_of true k (inl plain) = found_plain true k plain
 found_of true k (inr (inl t)) = (Kept k, (inr (refl, inr t), refl))
 found_of true k (inr (inr c)) = (Kept k, (inr (refl, inl c), refl))
 
-content_passed : (keep : Bool) (file : List ℕ) (place : ℕ) → NoneOf (PassesOver file place) (content_reasons keep)
+content_passed : (keep : Bool) (file : List ℕ) (place : ℕ) → NoneOf (SkipsFor file place) (content_reasons keep)
     → IsPassed keep (chunk_at file place)
 content_passed false file place none = content_where_none false file place none
 content_passed true file place none = content_where_none true file place none
@@ -204,9 +204,9 @@ content_passed true file place none = content_where_none true file place none
 -- so at each place a piece begins
 pub piece_of_place : (keep : Bool) (file : List ℕ) (place : ℕ) → (end : ℕ) × (what : PieceKind) × IsPieceOf keep file place end what
 piece_of_place keep file place =
-    elim (first_or_none (PassesOver file place) (passes_decided file place) (walk_reasons keep)) [
+    elim (first_or_none (SkipsFor file place) (passes_decided file place) (walk_reasons keep)) [
       | inl (w, first) ↦
-          let to = skips_of file place w (first_applies (PassesOver file place) (walk_reasons keep) w first) in
+          let to = skips_of file place w (first_applies (SkipsFor file place) (walk_reasons keep) w first) in
           (to.0, Skipped w, (first, to.1))
       | inr none ↦
           let found = found_of keep (chunk_at file place) (content_passed keep file place none.1.1.1.1.1) in

@@ -25,16 +25,16 @@ use Rattle.chunk_reader.proofs.StrictSteps.{right_hash}
 use Rattle.chunk_reader.proofs.Verdicts.{first_behind, none_behind, value_of-at, end_by-at, hash_of-at, is_unread-plain, is_unread-unread}
 use Rattle.chunk_reader.proofs.WholeHeads.{HasRightHead, none_loading, none_passing}
 use Rattle.damage_skip.specs.Pieces as pieces
-use Rattle.damage_skip.specs.Pieces.{PassesOver, SkipsTo, IsPieceOf, walk_reasons}
+use Rattle.damage_skip.specs.Pieces.{SkipsFor, SkipsTo, IsPieceOf, walk_reasons}
 use Rattle.damage_skip.specs.Resyncs.{IsResync, Contradicts}
-use Rattle.damage_skip.specs.Steps.{LeadsTo, IsEndOf, IsOnward, HasIntact, IsKeptAs, IsReadAs, IsUnloaded, IsPieceFrom, value_of_what}
+use Rattle.damage_skip.specs.Steps.{LeadsTo, IsEndOf, IsOnward, HasIntact, IsKeptAs, IsReadAs, IsUnloaded, IsPieceFrom, value_of_piece_kind}
 use Rattle.damage_skip.specs.declared.pieces.Piece.{Piece}
 use Rattle.damage_skip.specs.declared.pieces.PieceKind.{PieceKind}
 use Rattle.damage_skip.specs.declared.pieces.PieceKind.TheVariants as what
 
 -- a piece is the one at a place of a file
 abbrev pub IsPieceThere : Bool → ℕ → Piece → List ℕ → Type 0
-IsPieceThere keep at piece file = IsPieceOf keep file at piece.end (value_of_what piece.what)
+IsPieceThere keep at piece file = IsPieceOf keep file at piece.end (value_of_piece_kind piece.what)
 
 -- bytes that are passed over up to a place
 abbrev pub IsSkipped : Piece → ℕ → Why → Type 0
@@ -73,7 +73,7 @@ ContradictBelow file at to = (b p n : ℕ) → Contradicts file at (end_at file 
 
 -- where none does up to there, none does
 none_contradicts : (file : List ℕ) (at to : ℕ) → ContradictBelow file at to → LeadsTo file at (end_at file at) at to None
-    → ¬ PassesOver file at why.Contradicted
+    → ¬ SkipsFor file at why.Contradicted
 none_contradicts file at to below none (b, p, n, h) = none b p n (record { contradicts = h; from_place = h.from; below = below b p n h })
 
 -- and the first one up to there is the first of all
@@ -95,13 +95,13 @@ contradicted_there keep file at to place right below (b, p, n, first, leads) = (
 
 -- a chunk whose data isn't read
 unloaded_there : (keep : Bool) (file : List ℕ) (at to : ℕ) (w : Why) (piece : Piece) → NoneOf (Applies file at) header_reasons
-    → ContradictBelow file at to → ((¬ PassesOver file at why.Contradicted) → IsPieceOf keep file at to (pieces.Skipped w))
+    → ContradictBelow file at to → ((¬ SkipsFor file at why.Contradicted) → IsPieceOf keep file at to (pieces.Skipped w))
     → IsUnloaded file at (end_at file at) to w piece → IsPieceThere keep at piece file
 unloaded_there keep file at to w piece right below otherwise (inl (is, leads)) =
-    subst (λ (x : PieceKind). IsPieceOf keep file at piece.end (value_of_what x)) (sym is)
+    subst (λ (x : PieceKind). IsPieceOf keep file at piece.end (value_of_piece_kind x)) (sym is)
     (contradicted_there keep file at to piece.end right below leads)
 unloaded_there keep file at to w piece right below otherwise (inr (is, ends, none)) =
-    subst (λ (x : PieceKind). IsPieceOf keep file at piece.end (value_of_what x)) (sym is)
+    subst (λ (x : PieceKind). IsPieceOf keep file at piece.end (value_of_piece_kind x)) (sym is)
     (subst (λ (e : ℕ). IsPieceOf keep file at e (pieces.Skipped w)) (sym ends) (otherwise (none_contradicts file at to below none)))
 
 pub unloaded_landing : (bytes : Option (List ℕ)) (begin end to place : ℕ) (w : Why) (piece : Piece) (leads : Option ℕ) → leads ≡ Some place
@@ -161,20 +161,20 @@ contradicted_piece (Some file) keep at end place h piece fits right is skipped f
 abbrev early_reasons : List Why
 early_reasons = why.Short ∷ why.HeaderHash ∷ why.Contradicted ∷ why.Truncated ∷ why.TooLarge ∷ []
 
-early_none : (file : List ℕ) (at : ℕ) → NoneOf (Applies file at) loading_reasons → ¬ PassesOver file at why.Contradicted
-    → NoneOf (PassesOver file at) early_reasons
+early_none : (file : List ℕ) (at : ℕ) → NoneOf (Applies file at) loading_reasons → ¬ SkipsFor file at why.Contradicted
+    → NoneOf (SkipsFor file at) early_reasons
 early_none file at none agrees = (none.0, (none.1.0, (agrees, (none.1.1.0, (none.1.1.1.0, tt)))))
 
 -- a reason of content passes over the chunk at a place
 content_passes : (keep : Bool) (file : List ℕ) (at : ℕ) (first : Why)
     → IsFirstOf (ContentApplies (header_at file at).data_hash (chunk_at file at)) (content_reasons keep) first
-    → IsFirstOf (PassesOver file at) (content_reasons keep) first
+    → IsFirstOf (SkipsFor file at) (content_reasons keep) first
 content_passes false file at first is = is
 content_passes true file at first is = is
 
 content_none : (keep : Bool) (file : List ℕ) (at : ℕ)
     → NoneOf (ContentApplies (header_at file at).data_hash (chunk_at file at)) (content_reasons keep)
-    → NoneOf (PassesOver file at) (content_reasons keep)
+    → NoneOf (SkipsFor file at) (content_reasons keep)
 content_none false file at none = none
 content_none true file at none = none
 
@@ -205,22 +205,22 @@ same_none keep hash other k l same is h =
 
 -- the chunk at a place is the one that was read, and no reason before those of content applies
 record IsThere (file : List ℕ) (at : ℕ) (chunk : Chunk) : Type 0 where
-  early : NoneOf (PassesOver file at) early_reasons
+  early : NoneOf (SkipsFor file at) early_reasons
   hash : chunk.header.data_hash ≡ (header_at file at).data_hash
   value : value_of_chunk chunk ≡ chunk_at file at
 
 all_none : (keep : Bool) (file : List ℕ) (at : ℕ) (chunk : Chunk) → IsThere file at chunk
     → NoneOf (ContentApplies chunk.header.data_hash (value_of_chunk chunk)) (content_reasons keep)
-    → NoneOf (PassesOver file at) (walk_reasons keep)
+    → NoneOf (SkipsFor file at) (walk_reasons keep)
 all_none keep file at chunk there none =
-    none_behind (PassesOver file at) early_reasons (content_reasons keep) there.early
+    none_behind (SkipsFor file at) early_reasons (content_reasons keep) there.early
     (content_none keep file at (same_none keep _ _ _ _ there.hash there.value none))
 
 read_there : (keep : Bool) (file : List ℕ) (at : ℕ) (chunk : Chunk) (w : PieceKind) → IsThere file at chunk → IsReadAs keep chunk w
-    → IsPieceOf keep file at (end_at file at) (value_of_what w)
+    → IsPieceOf keep file at (end_at file at) (value_of_piece_kind w)
 read_there keep file at chunk (what.Skipped reason) there first =
     let here = same_first keep _ _ _ _ reason there.hash there.value first in (
-      first_behind (PassesOver file at) early_reasons (content_reasons keep) reason there.early (content_passes keep file at reason here),
+      first_behind (SkipsFor file at) early_reasons (content_reasons keep) reason there.early (content_passes keep file at reason here),
       skips_first _ file at (end_at file at) (content_reasons keep) reason (content_skips keep file at) here,
     )
 read_there keep file at chunk (what.Given records same) there read =
@@ -249,7 +249,7 @@ read_piece (Some file) keep size at end h chunk piece sized fits right is within
       hash = ap (λ (x : Header). x.data_hash) same ∙ hash_of-at file at h fits right.1;
       value = ap (λ (x : Header). value_of x chunk.bytes) same ∙ value_of-at file at h chunk.bytes fits right.1 loaded.0;
     } in
-    subst (λ (e : ℕ). IsPieceOf keep file at e (value_of_what piece.what)) (sym (ends ∙ end_is))
+    subst (λ (e : ℕ). IsPieceOf keep file at e (value_of_piece_kind piece.what)) (sym (ends ∙ end_is))
     (read_there keep file at chunk piece.what there read)
 
 pub read_pieces : (result : Result Piece LoadEnd) (bytes : Option (List ℕ)) (keep : Bool) (size at end : ℕ) (h : Header) (chunk : Chunk)

@@ -21,7 +21,7 @@ use Rattle.chunk_reader.proofs.SignedFiles.{IsPlain-signature, IsLaid-signature}
 use Rattle.chunk_reader.specs.declared.reasons.Why.TheVariants as why
 use Rattle.damage_skip.specs.Resyncs.{landing, IsResync, Contradicts}
 use Rattle.damage_skip.specs.Damage.{Intact, IsNext, IsDamaged, IsIntactFrom, AreReached, DamageLeavesEach}
-use Rattle.damage_skip.specs.Pieces.{Given, LeftOut, Skipped, Piece, PassesOver, walk_reasons, ArePieces, events_in, records_in, placed_in}
+use Rattle.damage_skip.specs.Pieces.{Given, LeftOut, Skipped, Piece, SkipsFor, walk_reasons, ArePieces, events_in, records_in, placed_in}
 
 -- a block met before the chunk that it interrupts leads to that chunk's begin
 to_a_begin : landing 120268 64 65536 5382 24687 ≡ 60154
@@ -108,7 +108,7 @@ cut_end : end_at cut_chunk 0 ≡ 72
 unfolding cut_chunk first_header usable_bytes chunk_end_of end_of hash_of finished after_remainder after_packets finishing_round updated mixed multiplied zipped reset lanes_of remainder_packet
 cut_end = refl
 
-is_cut : PassesOver cut_chunk 0 why.Truncated
+is_cut : SkipsFor cut_chunk 0 why.Truncated
 unfolding cut_chunk first_header usable_bytes chunk_end_of end_of hash_of finished after_remainder after_packets finishing_round updated mixed multiplied zipped reset lanes_of remainder_packet
 is_cut = lit< tt
 
@@ -125,7 +125,7 @@ header_says_another_end = record {
   differs = inr (λ same. omega (arith, same));
 }
 
-contradicted_before_cut : (keep : Bool) → IsFirstOf (PassesOver cut_chunk 0) (walk_reasons keep) why.Contradicted
+contradicted_before_cut : (keep : Bool) → IsFirstOf (SkipsFor cut_chunk 0) (walk_reasons keep) why.Contradicted
 unfolding cut_chunk first_header usable_bytes end_of hash_of finished after_remainder after_packets finishing_round updated mixed multiplied zipped reset lanes_of remainder_packet
 contradicted_before_cut keep =
     inr (λ short. omega (arith, short), inr (λ wrong. wrong (refl, refl), inl ((0, 0, 64, header_says_another_end), refl)))

@@ -7,7 +7,7 @@ use Rattle.chunk_reader.specs.declared.judging.LoadEnd.TheVariants as load
 use Rattle.chunk_reader.proofs.Rooms.{IsSized}
 use Rattle.damage_skip.specs.Ends.{walk_end_of}
 use Rattle.damage_skip.specs.Pieces.{Piece, Given, Kept, LeftOut, Skipped, IsPieceOf, AreTiles, is_event, events_in}
-use Rattle.damage_skip.specs.Steps.{HasIntact, value_of_what}
+use Rattle.damage_skip.specs.Steps.{HasIntact, value_of_piece_kind}
 use Rattle.damage_skip.specs.Walks.{piece_of, what_event, event_of, GoesOn, IsMet, IsStoppedAt}
 use Rattle.damage_skip.specs.declared.events.Event.{Event}
 use Rattle.damage_skip.specs.declared.events.WalkEnd.TheVariants as walk
@@ -38,7 +38,7 @@ met_on (Some file) keep kept from to events same (front, tiles) (rest, more, are
 
 -- the piece that begins at a place, as the definition has it
 abbrev piece_value : ℕ → code.Piece → Piece
-piece_value at piece = record { begin = at; end = piece.end; what = value_of_what piece.what }
+piece_value at piece = record { begin = at; end = piece.end; what = value_of_piece_kind piece.what }
 
 -- one piece more
 one_more : (keep : Bool) (file : List ℕ) (from at : ℕ) (piece : code.Piece) (events : List Piece) → GoesOn keep file from at []
@@ -57,7 +57,7 @@ events_told (Some e) = piece_of e ∷ []
 
 -- what is told of it
 told_of : (at end : ℕ) (w : PieceKind) (o : Option Event) → what_event at end w ≡ o → HasIntact at end w
-    → events_in (record { begin = at; end = end; what = value_of_what w } ∷ []) ≡ events_told o
+    → events_in (record { begin = at; end = end; what = value_of_piece_kind w } ∷ []) ≡ events_told o
 told_of at end (what.Given records chunk) o is intact =
     subst (λ (x : Option Event). events_in (record { begin = at; end = end; what = Given records (value_of_chunk chunk) } ∷ []) ≡ events_told x) is
     (ap (λ (e : ℕ). record { begin = at; end = e; what = Given records (value_of_chunk chunk) } ∷ []) intact.0)
@@ -94,5 +94,5 @@ stops_there (Some file) None keep kept place piece region same same_keep there b
 stops_there (Some file) (Some other) keep kept place piece region same same_keep there begins ends is =
     let is_file : other ≡ file = cc in
     let here : IsPieceThere keep place piece file = subst (λ (k : Bool). IsPieceThere k place piece file) same_keep (subst (IsPieceThere kept place piece) is_file there) in
-    let skipped : IsPieceOf keep file place piece.end (Skipped region.why) = subst (λ (w : PieceKind). IsPieceOf keep file place piece.end (value_of_what w)) is here in
+    let skipped : IsPieceOf keep file place piece.end (Skipped region.why) = subst (λ (w : PieceKind). IsPieceOf keep file place piece.end (value_of_piece_kind w)) is here in
     (begins, subst (λ (e : ℕ). IsPieceOf keep file place e (Skipped region.why)) (sym ends) skipped)

@@ -28,10 +28,10 @@ pub record Piece : Type 0 where
 
 -- a reason to pass over what stands at a place: the headers of blocks within a chunk are not compared with its own, but one
 -- that is right and sane may say another chunk
-abbrev pub PassesOver : List ℕ → ℕ → Why → Type 0
-PassesOver file place why.Contradicted =
+abbrev pub SkipsFor : List ℕ → ℕ → Why → Type 0
+SkipsFor file place why.Contradicted =
     (block previous next : ℕ) × Contradicts file place (end_at file place) block previous next
-PassesOver file place other = Applies file place other
+SkipsFor file place other = Applies file place other
 
 -- these reasons, in their order. Where unread chunks are kept, those fall away that only name them
 abbrev pub walk_reasons : Bool → List Why
@@ -59,9 +59,9 @@ IsFoundAs keep k (Skipped why) = ⊥
 -- what the piece is that begins at a place of a file, and where it ends
 abbrev pub IsPieceOf : Bool → List ℕ → (begin end : ℕ) → PieceKind → Type 0
 IsPieceOf keep file begin end (Skipped why) =
-    IsFirstOf (PassesOver file begin) (walk_reasons keep) why × SkipsTo file begin why end
+    IsFirstOf (SkipsFor file begin) (walk_reasons keep) why × SkipsTo file begin why end
 IsPieceOf keep file begin end what =
-    NoneOf (PassesOver file begin) (walk_reasons keep) × (end ≡ end_at file begin)
+    NoneOf (SkipsFor file begin) (walk_reasons keep) × (end ≡ end_at file begin)
     × IsFoundAs keep (chunk_at file begin) what
 
 -- the pieces of a file from a place up to another, each of which begins where the one before ends

@@ -63,11 +63,11 @@ IsLoadIn file begin end header (load.Whole chunk right) = (chunk.bytes ≡ data_
 IsLoadIn file begin end header (load.Contradicted to) = LeadsTo file begin end begin end (Some to)
 
 -- what a piece is, as the definition has it
-abbrev pub value_of_what : PieceKind → pieces.PieceKind
-value_of_what (what.Given records chunk) = pieces.Given records (value_of_chunk chunk)
-value_of_what (what.Kept chunk unread) = pieces.Kept (value_of_chunk chunk)
-value_of_what what.LeftOut = pieces.LeftOut
-value_of_what (what.Skipped why) = pieces.Skipped why
+abbrev pub value_of_piece_kind : PieceKind → pieces.PieceKind
+value_of_piece_kind (what.Given records chunk) = pieces.Given records (value_of_chunk chunk)
+value_of_piece_kind (what.Kept chunk unread) = pieces.Kept (value_of_chunk chunk)
+value_of_piece_kind what.LeftOut = pieces.LeftOut
+value_of_piece_kind (what.Skipped why) = pieces.Skipped why
 
 -- a chunk that is kept is one that is left unread, or one that isn't
 abbrev pub IsKeptAs : ChunkValue → Bool → Type 0
@@ -95,7 +95,7 @@ IsReadAs keep chunk (what.Skipped why) =
     IsFirstOf (ContentApplies chunk.header.data_hash (value_of_chunk chunk)) (content_reasons keep) why
 IsReadAs keep chunk other =
     NoneOf (ContentApplies chunk.header.data_hash (value_of_chunk chunk)) (content_reasons keep)
-    × pieces.IsFoundAs keep (value_of_chunk chunk) (value_of_what other) × HasChunk chunk other
+    × pieces.IsFoundAs keep (value_of_chunk chunk) (value_of_piece_kind other) × HasChunk chunk other
 
 -- a piece up to a place for a reason, or where a block before it leads that tells of another chunk
 abbrev pub IsUnloaded : List ℕ → (begin end to : ℕ) → Why → Piece → Type 0

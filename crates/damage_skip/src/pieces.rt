@@ -6,7 +6,7 @@ ghost use Rattle.chunk_reader.specs.Heads.{IsHead};
 ghost use Rattle.chunk_reader.specs.Places.{end_by};
 ghost use Rattle.chunk_reader.specs.Reasons.{Applies, NoneOf, loading_reasons};
 ghost use Rattle.damage_skip.specs.Pieces.{IsPieceOf};
-ghost use Rattle.damage_skip.specs.Steps.{IsEndOf, IsReadAs, IsUnloaded, IsPieceFrom, value_of_what};
+ghost use Rattle.damage_skip.specs.Steps.{IsEndOf, IsReadAs, IsUnloaded, IsPieceFrom, value_of_piece_kind};
 
 use crate::block_checks::Span;
 use crate::chunk_loads::{Loaded, load};
@@ -54,7 +54,7 @@ pub(crate) fn piece_at<S: Store>(
     requires from_boundary { IsBoundary at }
     requires below { at < size }
     ensures piece { IfOk result (λ piece. IsPieceFrom size at piece) }
-    ensures sound { IfOk result (λ piece. IfSome (S.bytes store.old) (λ file. IsPieceOf keep file at piece.end (value_of_what piece.what))) }
+    ensures sound { IfOk result (λ piece. IfSome (S.bytes store.old) (λ file. IsPieceOf keep file at piece.end (value_of_piece_kind piece.what))) }
     ensures memory { result ≡ Err LoadEnd.Memory → IfSome (S.bytes store.old) (λ file. NoneOf (Applies file at) loading_reasons) }
     ensures store { OnlyAsks S.bytes S.told S.name S.faults (result ≡ Err LoadEnd.Store) store.old store.new }
 {
@@ -83,7 +83,7 @@ fn headed_piece<S: Store>(
     requires end { IsEndOf end (end_by at (value_of_header header)) }
     requires head { IfSome (S.bytes store.old) (λ file. IsHead file at (Head.Right header end)) }
     ensures piece { IfOk result (λ piece. IsPieceFrom size at piece) }
-    ensures sound { IfOk result (λ piece. IfSome (S.bytes store.old) (λ file. IsPieceOf keep file at piece.end (value_of_what piece.what))) }
+    ensures sound { IfOk result (λ piece. IfSome (S.bytes store.old) (λ file. IsPieceOf keep file at piece.end (value_of_piece_kind piece.what))) }
     ensures memory { result ≡ Err LoadEnd.Memory → IfSome (S.bytes store.old) (λ file. NoneOf (Applies file at) loading_reasons) }
     ensures store { OnlyAsks S.bytes S.told S.name S.faults (result ≡ Err LoadEnd.Store) store.old store.new }
 {
@@ -112,7 +112,7 @@ fn held_piece<S: Store>(
     requires within { end ≤ size }
     requires head { IfSome (S.bytes store.old) (λ file. IsHead file at (Head.Right header (Some end))) }
     ensures piece { IfOk result (λ piece. IsPieceFrom size at piece) }
-    ensures sound { IfOk result (λ piece. IfSome (S.bytes store.old) (λ file. IsPieceOf keep file at piece.end (value_of_what piece.what))) }
+    ensures sound { IfOk result (λ piece. IfSome (S.bytes store.old) (λ file. IsPieceOf keep file at piece.end (value_of_piece_kind piece.what))) }
     ensures memory { result ≡ Err LoadEnd.Memory → IfSome (S.bytes store.old) (λ file. NoneOf (Applies file at) loading_reasons) }
     ensures store { OnlyAsks S.bytes S.told S.name S.faults (result ≡ Err LoadEnd.Store) store.old store.new }
 {

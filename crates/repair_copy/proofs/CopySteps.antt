@@ -27,7 +27,7 @@ use Rattle.damage_skip.specs.declared.events.Event.TheVariants as event
 use Rattle.damage_skip.specs.declared.regions.Region.{Region}
 use Rattle.repair_copy.specs.Relaid.{chunk_in, chunks_in}
 use Rattle.repair_copy.specs.RepairPuts.{puts_from, repair_puts, WentOutAtFault}
-use Rattle.repair_copy.specs.Copies.{FitsAt, stream_of, next_place, puts_behind, Begins, Copies, CopiesFront, HasBegun, HasCopied, HasPutAll, HasBrokenOff, HasPutAtFault}
+use Rattle.repair_copy.specs.Copies.{FitsAt, stream_of, next_place, puts_behind, Begins, Copies, CopiesFront, HasBegun, HasCopied, HasPutAll, HasCopiedFront, HasPutAtFault}
 use Rattle.repair_copy.specs.declared.copying.Copied.{Copied}
 use Rattle.repair_copy.specs.declared.copying.FailedSink.{FailedSink}
 use Rattle.repair_copy.specs.declared.copying.FailedSink.TheVariants as cut
@@ -169,13 +169,13 @@ has_begun before a b n s t events (inr (h, some)) (inr (unbegun, begun, counted,
 -- or that was cut off
 pub begin_failed : (before : Taken) (a b n : Option (List ℕ)) (s : Copied) (t : Progress) (events more : List Piece)
     → HasCopied before (taken_by a None n) s events → s.begun ≡ false → LaysFront a b nothing_made t (signature ∷ [])
-    → (c : FailedSink) → cut.Made ≡ c → HasBrokenOff c before (taken_by b None n) (events ++ more)
+    → (c : FailedSink) → cut.Made ≡ c → HasCopiedFront c before (taken_by b None n) (events ++ more)
 begin_failed before a b n s t events more (inr (h, some)) unbegun front c is = cc (h.begun, unbegun)
 begin_failed before a b n s t events more (inl h) unbegun front c is =
     let bytes : List ℕ = laid_each 0 (signature ∷ []) in
-    subst (λ (x : FailedSink). HasBrokenOff x before (taken_by b None n) (events ++ more)) is
-    (subst (λ (es : List Piece). HasBrokenOff cut.Made before (taken_by b None n) (es ++ more)) (sym h.none)
-    (subst (λ (x : Taken). HasBrokenOff cut.Made x (taken_by b None n) more) h.same (record {
+    subst (λ (x : FailedSink). HasCopiedFront x before (taken_by b None n) (events ++ more)) is
+    (subst (λ (es : List Piece). HasCopiedFront cut.Made before (taken_by b None n) (es ++ more)) (sym h.none)
+    (subst (λ (x : Taken). HasCopiedFront cut.Made x (taken_by b None n) more) h.same (record {
       part = puts_to Made front.bytes.passed;
       went = GoOut-made a b None n front.bytes.passed front.bytes.taken;
       broken = BreaksOff-longer Made (puts_to Made front.bytes.passed) (puts_to Made bytes) (puts_from (end_of_chunks 0 (signature ∷ [])) more)
@@ -209,7 +209,7 @@ copies_more before now then s t events e h more = record {
 
 -- or that was cut off
 pub copies_cut : (c : FailedSink) (before now then : Taken) (s : Copied) (events : List Piece) (e : Piece) → HasBegun before now s events
-    → CopiesFront c now then s.file e → HasBrokenOff c before then (events ++ e ∷ [])
+    → CopiesFront c now then s.file e → HasCopiedFront c before then (events ++ e ∷ [])
 copies_cut c before now then s events e h front = record {
   part = h.puts.passed ++ front.part;
   went = GoOut-append before now then h.puts.passed front.part h.puts.went front.went;
@@ -253,10 +253,10 @@ flush_broke before a b n ps held h front some =
     )
 
 pub finish_failed : (before : Taken) (a b n : Option (List ℕ)) (s : Copied) (events : List Piece) → HasBegun before (taken_by a None n) s events
-    → s.file.held ≢ [] → TakesFront a b s.file.held → (c : FailedSink) → cut.Made ≡ c → HasBrokenOff c before (taken_by b None n) events
+    → s.file.held ≢ [] → TakesFront a b s.file.held → (c : FailedSink) → cut.Made ≡ c → HasCopiedFront c before (taken_by b None n) events
 finish_failed before a b n s events h some front c is =
     let broke = flush_broke before a b n (repair_puts events) s.file.held h.puts front some in
-    subst (λ (x : FailedSink). HasBrokenOff x before (taken_by b None n) events) is (record { part = broke.0; went = broke.1; broken = broke.2 })
+    subst (λ (x : FailedSink). HasCopiedFront x before (taken_by b None n) events) is (record { part = broke.0; went = broke.1; broken = broke.2 })
 
 -- at a fault too, but for what wasn't begun
 all_at_fault : (f g : ℕ) (events : List Piece) → events ≢ [] → WentOutAtFault f g events (repair_puts events)

@@ -11,5 +11,5 @@ pub mod WholeLines
 mod HeldPuts
 mod CopySteps
 mod WalkedFiles
-mod Passed
+mod SkippedRegions
 pub mod OneWalk

@@ -19,7 +19,7 @@ use Rattle.chunk_reader.proofs.PassedChunks.{AreBytes-own_bytes_at, AreBytes-dat
 use Rattle.chunk_reader.proofs.AllowedChunks.{IsAllowed-passed, IsAllowed-frame, allowed_small}
 use Rattle.chunk_reader.proofs.NoReasonLaid.{content_where_none}
 use Rattle.chunk_reader.proofs.SignedFiles.{IsChunk-signature, IsAllowed-signature}
-use Rattle.damage_skip.specs.Pieces.{PieceKind, Given, Kept, LeftOut, Skipped, Piece, PassesOver, walk_reasons, IsFoundAs, IsPieceOf, AreTiles, ArePieces, records_of, records_in}
+use Rattle.damage_skip.specs.Pieces.{PieceKind, Given, Kept, LeftOut, Skipped, Piece, SkipsFor, walk_reasons, IsFoundAs, IsPieceOf, AreTiles, ArePieces, records_of, records_in}
 use Rattle.damage_skip.specs.Walks.{GoesOn}
 use Rattle.damage_skip.proofs.OnePiece.{piece_cases}
 use Rattle.damage_skip.proofs.Found.{file_of_plain, pieces_found}
@@ -29,7 +29,7 @@ use Rattle.repair_copy.proofs.EventChunks.{chunks_in_events}
 use Rattle.repair_copy.proofs.Copied.{found_chunks, found_copied, each_active, copied_all}
 
 -- no reason that passes over content is none that refuses it
-content_none : (keep : Bool) (file : List ℕ) (place : ℕ) → NoneOf (PassesOver file place) (content_reasons keep)
+content_none : (keep : Bool) (file : List ℕ) (place : ℕ) → NoneOf (SkipsFor file place) (content_reasons keep)
     → NoneOf (Applies file place) (content_reasons keep)
 content_none false file place none = none
 content_none true file place none = none
@@ -47,7 +47,7 @@ right_header bytes not = (
 
 module _ (keep : Bool) (file : List ℕ) where
   -- the chunk at a place that no reason passes over is read or left unread, and can be held
-  pub allowed_at : (place : ℕ) → NoneOf (PassesOver file place) (walk_reasons keep) → IsAllowed keep (chunk_at file place)
+  pub allowed_at : (place : ℕ) → NoneOf (SkipsFor file place) (walk_reasons keep) → IsAllowed keep (chunk_at file place)
   allowed_at place (short, (header, (against, (cut, (large, content))))) =
       let whole : end_at file place ≤ length file = at_most (length file) (end_at file place) cut in
       let small : (header_at file place).data_size ≤ max_data_size = at_most max_data_size (header_at file place).data_size large in
@@ -55,7 +55,7 @@ module _ (keep : Bool) (file : List ℕ) where
       (subst (λ (n : ℕ). n ≤ max_data_size) (sym (length-data file place whole)) small)
       (content_where_none keep file place (content_none keep file place content))
 
-  pub sound_at : (place : ℕ) → AreBytes file → NoneOf (PassesOver file place) (walk_reasons keep) → IsChunk (chunk_at file place)
+  pub sound_at : (place : ℕ) → AreBytes file → NoneOf (SkipsFor file place) (walk_reasons keep) → IsChunk (chunk_at file place)
   sound_at place bytes (short, (header, (against, (cut, (large, content))))) =
       let h = header_of_right (header_bytes_at file place) (AreBytes-own_bytes_at file place 40 bytes)
       (right_header (header_bytes_at file place) header) in
@@ -64,7 +64,7 @@ module _ (keep : Bool) (file : List ℕ) where
 
   -- what holds of the chunk of each whole piece holds of the chunks of pieces
   module _ (P : ChunkValue → Type 0)
-      (of_whole : (place : ℕ) (what : PieceKind) → NoneOf (PassesOver file place) (walk_reasons keep)
+      (of_whole : (place : ℕ) (what : PieceKind) → NoneOf (SkipsFor file place) (walk_reasons keep)
       → IsFoundAs keep (chunk_at file place) what → AllByRecursion P (chunk_in what)) where
     of_piece : (begin end : ℕ) (what : PieceKind) → IsPieceOf keep file begin end what → AllByRecursion P (chunk_in what)
     of_piece begin end what is =

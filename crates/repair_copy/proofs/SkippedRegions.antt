@@ -11,8 +11,8 @@ use Rattle.damage_skip.specs.Walks.{piece_of, event_text, IsEventIn}
 use Rattle.damage_skip.specs.declared.events.Event.{Event}
 use Rattle.damage_skip.specs.declared.events.Event.TheVariants as event
 use Rattle.damage_skip.specs.declared.regions.Region.{Region}
-use Rattle.repair_copy.specs.Copies.{TakesLine, HasPassed}
-use Rattle.repair_copy.specs.Repairs.{Passes, end_of_failed}
+use Rattle.repair_copy.specs.Copies.{TakesLine, HasSkipped}
+use Rattle.repair_copy.specs.Repairs.{Skips, end_of_failed}
 use Rattle.repair_copy.specs.declared.copying.FailedSink.{FailedSink}
 use Rattle.repair_copy.specs.declared.copying.FailedSink.TheVariants.{Made, Notes}
 use Rattle.repair_copy.specs.declared.repairs.Repaired.{Repaired}
@@ -30,12 +30,12 @@ some_behind [] y some = some
 some_behind (b ∷ x) y some = λ none. cc none
 
 module _ {F : Type 0} (test : Shared F (Bor Region × Unit {0}) Bool) (f : F) where
-  -- it was let pass
-  pub event_passed : (t : F) (from to : ℕ) (e : Event) → t ≡ f → IsEventIn from to e → to ≤ 2 ^ 60
+  -- it was allowed
+  pub event_allowed : (t : F) (from to : ℕ) (e : Event) → t ≡ f → IsEventIn from to e → to ≤ 2 ^ 60
       → ((region : Region) → e ≡ event.Skipped region → FnReturnsAt test t region true) → AllByRecursion (IsAllowedRegion test f) (regions_of e)
-  event_passed t from to (event.Records begin records chunk) same h reach allowed = tt
-  event_passed t from to (event.Kept begin chunk unread) same h reach allowed = tt
-  event_passed t from to (event.Skipped region) same h reach allowed = (
+  event_allowed t from to (event.Records begin records chunk) same h reach allowed = tt
+  event_allowed t from to (event.Kept begin chunk unread) same h reach allowed = tt
+  event_allowed t from to (event.Skipped region) same h reach allowed = (
     (
       record { ordered = omega (arith, h.rises); in_reach = omega (arith, h.to_place, reach) },
       subst (λ (x : F). FnReturnsAt test x region true) same (allowed region refl),
@@ -44,33 +44,33 @@ module _ {F : Type 0} (test : Shared F (Bor Region × Unit {0}) Bool) (f : F) wh
   )
 
   -- none was passed over yet
-  pub passed_none : (count : ℕ) (n : Option (List ℕ)) → count ≡ 0 → HasPassed test f count n n
-  passed_none count n none = record { regions = []; passed = tt; lines = Takes-nothing n; counted = none }
+  pub skipped_none : (count : ℕ) (n : Option (List ℕ)) → count ≡ 0 → HasSkipped test f count n n
+  skipped_none count n none = record { regions = []; allowed = tt; lines = Takes-nothing n; counted = none }
 
   -- an event was copied
-  pub passed_next : (count now : ℕ) (n m o : Option (List ℕ)) (e : Event) → HasPassed test f count n m
+  pub skipped_next : (count now : ℕ) (n m o : Option (List ℕ)) (e : Event) → HasSkipped test f count n m
       → Takes m o (event_text e) → now ≡ count + length (regions_of e) → AllByRecursion (IsAllowedRegion test f) (regions_of e)
-      → HasPassed test f now n o
-  passed_next count now n m o e h line more pass = record {
+      → HasSkipped test f now n o
+  skipped_next count now n m o e h line more pass = record {
     regions = h.regions ++ regions_of e;
-    passed = each_append (IsAllowedRegion test f) h.regions (regions_of e) h.passed pass;
+    allowed = each_append (IsAllowedRegion test f) h.regions (regions_of e) h.allowed pass;
     lines = subst (λ (xs : List ℕ). Takes n o xs) (sym (skipped_text-event h.regions e))
         (Takes-append n m o (skipped_text h.regions) (event_text e) h.lines line);
     counted = omega (arith, more, h.counted, length-append h.regions (regions_of e));
   }
 
   -- or that was cut off
-  passes_cut_off : (cut : FailedSink) (count : ℕ) (n m o : Option (List ℕ)) (e : Event) → HasPassed test f count n m
-      → TakesLine cut m o (event_text e) → AllByRecursion (IsAllowedRegion test f) (regions_of e) → Passes test f (Err (end_of_failed cut)) n o
-  passes_cut_off Made count n m o e h line pass = record {
+  skips_cut_off : (cut : FailedSink) (count : ℕ) (n m o : Option (List ℕ)) (e : Event) → HasSkipped test f count n m
+      → TakesLine cut m o (event_text e) → AllByRecursion (IsAllowedRegion test f) (regions_of e) → Skips test f (Err (end_of_failed cut)) n o
+  skips_cut_off Made count n m o e h line pass = record {
     regions = h.regions;
-    passed = h.passed;
+    allowed = h.allowed;
     answer = tt;
     lines = subst (λ (xs : List ℕ). Takes n o xs) (append-nil (skipped_text h.regions)) (Takes-append n m o (skipped_text h.regions) [] h.lines line);
   }
-  passes_cut_off Notes count n m o e h line pass = record {
+  skips_cut_off Notes count n m o e h line pass = record {
     regions = h.regions ++ regions_of e;
-    passed = each_append (IsAllowedRegion test f) h.regions (regions_of e) h.passed pass;
+    allowed = each_append (IsAllowedRegion test f) h.regions (regions_of e) h.allowed pass;
     answer = tt;
     lines = subst (λ (xs : List ℕ). (xs ≢ []) × TakesFront n o xs) (sym (skipped_text-event h.regions e)) (
       some_behind (skipped_text h.regions) (event_text e) line.0,
@@ -78,20 +78,20 @@ module _ {F : Type 0} (test : Shared F (Bor Region × Unit {0}) Bool) (f : F) wh
     );
   }
 
-  pub passes_cut : (result : Result Repaired RepairEnd) (cut : FailedSink) (count : ℕ) (n m o : Option (List ℕ)) (e : Event)
-      → result ≡ Err (end_of_failed cut) → HasPassed test f count n m → TakesLine cut m o (event_text e)
-      → AllByRecursion (IsAllowedRegion test f) (regions_of e) → Passes test f result n o
-  passes_cut result cut count n m o e is h line pass =
-      subst (λ (x : Result Repaired RepairEnd). Passes test f x n o) (sym is) (passes_cut_off cut count n m o e h line pass)
+  pub skips_cut : (result : Result Repaired RepairEnd) (cut : FailedSink) (count : ℕ) (n m o : Option (List ℕ)) (e : Event)
+      → result ≡ Err (end_of_failed cut) → HasSkipped test f count n m → TakesLine cut m o (event_text e)
+      → AllByRecursion (IsAllowedRegion test f) (regions_of e) → Skips test f result n o
+  skips_cut result cut count n m o e is h line pass =
+      subst (λ (x : Result Repaired RepairEnd). Skips test f x n o) (sym is) (skips_cut_off cut count n m o e h line pass)
 
   -- what is held of the made file was not put whole
-  pub passes_made : (result : Result Repaired RepairEnd) (cut : FailedSink) (count : ℕ) (n m : Option (List ℕ)) → result ≡ Err (end_of_failed cut)
-      → cut ≡ Made → HasPassed test f count n m → Passes test f result n m
-  passes_made result cut count n m is made h =
-      subst (λ (x : Result Repaired RepairEnd). Passes test f x n m) (sym (is ∙ ap (λ (c : FailedSink). Err (end_of_failed c)) made))
-      (record { regions = h.regions; passed = h.passed; answer = tt; lines = h.lines })
+  pub skips_made : (result : Result Repaired RepairEnd) (cut : FailedSink) (count : ℕ) (n m : Option (List ℕ)) → result ≡ Err (end_of_failed cut)
+      → cut ≡ Made → HasSkipped test f count n m → Skips test f result n m
+  skips_made result cut count n m is made h =
+      subst (λ (x : Result Repaired RepairEnd). Skips test f x n m) (sym (is ∙ ap (λ (c : FailedSink). Err (end_of_failed c)) made))
+      (record { regions = h.regions; allowed = h.allowed; answer = tt; lines = h.lines })
 
   -- also up to one that was refused
-  pub passes_stopped : (count : ℕ) (region : Region) (n m : Option (List ℕ)) → HasPassed test f count n m
-      → IsRefusedRegion test f region → Passes test f (Err (end.Stopped region)) n m
-  passes_stopped count region n m h refused = record { regions = h.regions; passed = h.passed; answer = refused; lines = h.lines }
+  pub skips_stopped : (count : ℕ) (region : Region) (n m : Option (List ℕ)) → HasSkipped test f count n m
+      → IsRefusedRegion test f region → Skips test f (Err (end.Stopped region)) n m
+  skips_stopped count region n m h refused = record { regions = h.regions; allowed = h.allowed; answer = refused; lines = h.lines }

@@ -16,7 +16,7 @@ use Rattle.damage_skip.specs.declared.regions.Region.{Region}
 use Rattle.damage_skip.proofs.WalkedTo.{walked-further, walked-on}
 use Rattle.repair_copy.specs.RepairPuts.{repair_puts, WentOutAtFault}
 use Rattle.repair_copy.specs.Walked.{EndsAt}
-use Rattle.repair_copy.specs.Copies.{HasCopied, HasBegun, HasPutAll, HasBrokenOff, HasPutAtFault, HasWalked}
+use Rattle.repair_copy.specs.Copies.{HasCopied, HasBegun, HasPutAll, HasCopiedFront, HasPutAtFault, HasWalked}
 use Rattle.repair_copy.specs.Repairs.{Repairs, end_of_failed}
 use Rattle.repair_copy.specs.declared.copying.Copied.{Copied}
 use Rattle.repair_copy.specs.declared.copying.FailedSink.{FailedSink}
@@ -59,7 +59,7 @@ module _ {F : Type 0} (test : Shared F (Bor Region × Unit {0}) Bool) (f : F) wh
 
   -- what is put of the events broke off
   repairs_broken_off : (cut : FailedSink) (faults faults_then : ℕ) (before after : Taken) (file : List ℕ) (place : ℕ) (events : List Piece)
-      → IsWalkedTo true (IsAllowedRegion test f) file place events → HasBrokenOff cut before after events
+      → IsWalkedTo true (IsAllowedRegion test f) file place events → HasCopiedFront cut before after events
       → Repairs test f (Err (end_of_failed cut)) faults faults_then before after file
   repairs_broken_off Made faults faults_then before after file place events walked h =
       record { place = place; events = events; walked = walked; answer = tt; part = h.part; went = h.broken; took = h.went }
@@ -67,7 +67,7 @@ module _ {F : Type 0} (test : Shared F (Bor Region × Unit {0}) Bool) (f : F) wh
       record { place = place; events = events; walked = walked; answer = tt; part = h.part; went = h.broken; took = h.went }
 
   repairs_cut : (result : Result Repaired RepairEnd) (cut : FailedSink) (faults faults_then : ℕ) (before after : Taken) (file : List ℕ) (place : ℕ)
-      (events : List Piece) → result ≡ Err (end_of_failed cut) → IsWalkedTo true (IsAllowedRegion test f) file place events → HasBrokenOff cut before after events
+      (events : List Piece) → result ≡ Err (end_of_failed cut) → IsWalkedTo true (IsAllowedRegion test f) file place events → HasCopiedFront cut before after events
       → Repairs test f result faults faults_then before after file
   repairs_cut result cut faults faults_then before after file place events is walked h =
       subst (λ (x : Result Repaired RepairEnd). Repairs test f x faults faults_then before after file) (sym is)
@@ -108,7 +108,7 @@ module _ {F : Type 0} (test : Shared F (Bor Region × Unit {0}) Bool) (f : F) wh
         → result ≡ Err (end_of_failed cut)
         → IfSome bytes (HasWalked test f place s before now_taken)
         → IfSome now (λ file. GoesOn keep file place to (e ∷ [])) → AllByRecursion (IsAllowedRegion test f) (regions_in (e ∷ []))
-        → ((b : Taken) (events : List Piece) → HasCopied b now_taken s events → HasBrokenOff cut b then (events ++ e ∷ []))
+        → ((b : Taken) (events : List Piece) → HasCopied b now_taken s events → HasCopiedFront cut b then (events ++ e ∷ []))
         → IfSome bytes (Repairs test f result faults faults_then before then)
     cut_within s before now_taken then e cut result faults faults_then is h on pass front = both bytes h (goes_on (e ∷ []) on) where
       both : (x : Option (List ℕ)) → IfSome x (HasWalked test f place s before now_taken) → IfSome x (λ file. GoesOn true file place to (e ∷ []))
@@ -176,7 +176,7 @@ module _ {F : Type 0} (test : Shared F (Bor Region × Unit {0}) Bool) (f : F) wh
   -- or what was held was not put whole
   pub repairs_unfinished : (bytes : Option (List ℕ)) (place : ℕ) (s : Copied) (result : Result Repaired RepairEnd) (cut : FailedSink)
       (faults faults_then : ℕ) (before a b : Taken) → result ≡ Err (end_of_failed cut) → IfSome bytes (HasWalked test f place s before a)
-      → ((x : Taken) (events : List Piece) → HasCopied x a s events → HasBrokenOff cut x b events)
+      → ((x : Taken) (events : List Piece) → HasCopied x a s events → HasCopiedFront cut x b events)
       → IfSome bytes (Repairs test f result faults faults_then before b)
   repairs_unfinished None place s result cut faults faults_then before a b is h front = tt
   repairs_unfinished (Some file) place s result cut faults faults_then before a b is h front =

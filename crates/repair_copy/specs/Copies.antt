@@ -101,7 +101,7 @@ pub record HasPutAll (before after : Taken) (copied : Copied) (events : List Pie
   pub regions : copied.regions ≡ length (regions_in events)
 
 -- what is put of these events broke off
-pub record HasBrokenOff (cut : FailedSink) (before after : Taken) (events : List Piece) : Type 0 where
+pub record HasCopiedFront (cut : FailedSink) (before after : Taken) (events : List Piece) : Type 0 where
   pub part : List Put
   pub went : GoOut before after part
   pub broken : BreaksOff (stream_of cut) part (repair_puts events)
@@ -120,8 +120,8 @@ pub record HasWalked {F : Type 0} (test : Shared F (Bor Region × Unit {0}) Bool
   pub copies : HasCopied before after copied events
 
 -- so many regions were passed over, and their lines taken
-pub record HasPassed {F : Type 0} (test : Shared F (Bor Region × Unit {0}) Bool) (f : F) (count : ℕ) (before after : Option (List ℕ)) : Type 0 where
+pub record HasSkipped {F : Type 0} (test : Shared F (Bor Region × Unit {0}) Bool) (f : F) (count : ℕ) (before after : Option (List ℕ)) : Type 0 where
   pub regions : List Region
-  pub passed : AllByRecursion (IsAllowedRegion test f) regions
+  pub allowed : AllByRecursion (IsAllowedRegion test f) regions
   pub lines : Takes before after (skipped_text regions)
   pub counted : count ≡ length regions

@@ -56,16 +56,16 @@ pub record Repairs {F : Type 0} (test : Shared F (Bor Region × Unit {0}) Bool) 
   pub took : GoOut before after part
 
 -- what is answered where these regions were passed over
-abbrev pub AnswersPassed : {F : Type 0} → Shared F (Bor Region × Unit {0}) Bool → F → Result Repaired RepairEnd → List Region → Type 0
-AnswersPassed test f (Ok repaired) regions = repaired.regions ≡ length regions
-AnswersPassed test f (Err (end.Stopped region)) regions = IsRefusedRegion test f region
-AnswersPassed test f (Err other) regions = ⊤
+abbrev pub AnswersSkipped : {F : Type 0} → Shared F (Bor Region × Unit {0}) Bool → F → Result Repaired RepairEnd → List Region → Type 0
+AnswersSkipped test f (Ok repaired) regions = repaired.regions ≡ length regions
+AnswersSkipped test f (Err (end.Stopped region)) regions = IsRefusedRegion test f region
+AnswersSkipped test f (Err other) regions = ⊤
 
 -- these regions were passed over, also where the store doesn't tell its bytes: what was answered, and what notes took
-pub record Passes {F : Type 0} (test : Shared F (Bor Region × Unit {0}) Bool) (f : F) (result : Result Repaired RepairEnd) (before after : Option (List ℕ)) : Type 0 where
+pub record Skips {F : Type 0} (test : Shared F (Bor Region × Unit {0}) Bool) (f : F) (result : Result Repaired RepairEnd) (before after : Option (List ℕ)) : Type 0 where
   pub regions : List Region
-  pub passed : AllByRecursion (IsAllowedRegion test f) regions
-  pub answer : AnswersPassed test f result regions
+  pub allowed : AllByRecursion (IsAllowedRegion test f) regions
+  pub answer : AnswersSkipped test f result regions
   pub lines : TakesNotes result before after (skipped_text regions)
 
 -- why a repair ended that was cut off

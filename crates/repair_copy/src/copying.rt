@@ -8,7 +8,7 @@ ghost use Rattle.damage_skip.specs.Pieces.{Piece};
 ghost use Rattle.damage_skip.specs.Regions.{regions_in};
 ghost use Rattle.damage_skip.specs.Walks.{piece_of, event_text};
 ghost use Rattle.repair_copy.specs.Relaid.{chunks_in};
-ghost use Rattle.repair_copy.specs.Copies.{FitsAt, next_place, Begins, Copies, CopiesFront, TakesLine, HasCopied, HasBegun, HasPutAll, HasBrokenOff, HasPutAtFault};
+ghost use Rattle.repair_copy.specs.Copies.{FitsAt, next_place, Begins, Copies, CopiesFront, TakesLine, HasCopied, HasBegun, HasPutAll, HasCopiedFront, HasPutAtFault};
 
 use damage_skip::{Event, Region, region_line};
 use record_io::{Failed, Sink};
@@ -72,7 +72,7 @@ impl Copied {
             → HasBegun before (taken_by (M.taken made.new) None (E.taken notes.new)) self.new (events ++ piece_of event.now ∷ [])) }
         ensures front { (cut : FailedSink) → result ≡ Err cut → (before : Taken) (events : List Piece)
             → HasCopied before (taken_by (M.taken made.old) None (E.taken notes.old)) self.old events
-            → HasBrokenOff cut before (taken_by (M.taken made.new) None (E.taken notes.new)) (events ++ piece_of event.now ∷ []) }
+            → HasCopiedFront cut before (taken_by (M.taken made.new) None (E.taken notes.new)) (events ++ piece_of event.now ∷ []) }
         ensures line { OnOk result (Takes (E.taken notes.old) (E.taken notes.new) (event_text event.now)) }
         ensures line_front { (cut : FailedSink) → result ≡ Err cut
             → TakesLine cut (E.taken notes.old) (E.taken notes.new) (event_text event.now) }
@@ -96,7 +96,7 @@ impl Copied {
             → HasPutAll before (taken_by (M.taken made.new) None notes) self.new events) }
         ensures front { (cut : FailedSink) → result ≡ Err cut → (before : Taken) (notes : Option (List ℕ)) (events : List Piece)
             → HasCopied before (taken_by (M.taken made.old) None notes) self.old events
-            → HasBrokenOff cut before (taken_by (M.taken made.new) None notes) events }
+            → HasCopiedFront cut before (taken_by (M.taken made.new) None notes) events }
         ensures place { OnOk result (self.new.file.place ≡ next_place self.old) }
         ensures regions { OnOk result (self.new.regions ≡ self.old.regions) }
         ensures made_alone { result ≢ Err FailedSink.Notes }

@@ -4,7 +4,7 @@ ghost use Rattle.record_io.specs.Calls.{OnlyAsks, OnlyCounts};
 ghost use Rattle.damage_skip.specs.Policies.{IsTest};
 ghost use Rattle.damage_skip.specs.Steps.{IsOnward};
 ghost use Rattle.damage_skip.specs.declared.regions.Region.{Region};
-ghost use Rattle.repair_copy.specs.Repairs.{Passes, Repairs};
+ghost use Rattle.repair_copy.specs.Repairs.{Skips, Repairs};
 
 use crate::copying::{Copied, FailedSink};
 use damage_skip::{Policy, Region, WalkEnd, Walker};
@@ -75,7 +75,7 @@ pub fn repair<S: Store, F: Fn(&Region) -> bool + Drop, M: Sink, E: Sink>(
     requires test { IsTest F.Fn policy.test }
     ensures repairs { IfSome (S.bytes store.old) (Repairs F.Fn policy.test result (M.faults made.old) (M.faults made.new)
         (taken_by (M.taken made.old) None (E.taken notes.old)) (taken_by (M.taken made.new) None (E.taken notes.new))) }
-    ensures passes { Passes F.Fn policy.test result (E.taken notes.old) (E.taken notes.new) }
+    ensures skips { Skips F.Fn policy.test result (E.taken notes.old) (E.taken notes.new) }
     ensures quiet { IfOk result (λ repaired. repaired.regions ≡ 0 → notes.new ≡ notes.old) }
     ensures stop { (region : Region) → result ≡ Err (RepairEnd.Stopped region) → IsOnward size region.begin region.end }
     ensures bytes { IfOk result (λ repaired. repaired.totals.bytes ≤ 64 + 2 * size) }

@@ -13,7 +13,7 @@ use Rattle.write_lines.specs.WriteWords.{write_words_of}
 use Rattle.riegeli_tool.specs.Commands.{command_of, accepted, names_of}
 use Rattle.riegeli_tool.specs.Usage.{usage_text, usage}
 use Rattle.write_lines.specs.WriteCommand.{answer_to}
-use Rattle.riegeli_tool.specs.CommandAnswers.{IsAnswer}
+use Rattle.riegeli_tool.specs.CommandAnswers.{IsAnswerTo}
 use Rattle.run_answers.specs.Meanings.{reads}
 use Rattle.run_answers.specs.Runs.{first_lines}
 use Rattle.run_answers.specs.declared.status.Status.TheVariants as status
@@ -75,38 +75,38 @@ usage_lines : length (lines usage_text) ≡ 7
 usage_lines = refl
 
 -- words that are no command are answered by that text, whatever is handed in
-answer_of_no_words : IsAnswer (accepted [] 0) (reads (0x61 ∷ []) []) (record { puts = puts_to Notes usage_text; status = status.Usage })
+answer_of_no_words : IsAnswerTo (accepted [] 0) (reads (0x61 ∷ []) []) (record { puts = puts_to Notes usage_text; status = status.Usage })
 answer_of_no_words = refl
 
-answer_with_a_file : IsAnswer (accepted (codes "write" ∷ codes "F" ∷ []) 1) (reads (0x61 ∷ []) ([] ∷ [])) usage
+answer_with_a_file : IsAnswerTo (accepted (codes "write" ∷ codes "F" ∷ []) 1) (reads (0x61 ∷ []) ([] ∷ [])) usage
 unfolding write_words_of
 answer_with_a_file = refl
 
-answer_of_every_zero : IsAnswer (accepted (codes "write" ∷ codes "--every=0" ∷ codes "F" ∷ []) 0) (reads (0x61 ∷ []) []) usage
+answer_of_every_zero : IsAnswerTo (accepted (codes "write" ∷ codes "--every=0" ∷ codes "F" ∷ []) 0) (reads (0x61 ∷ []) []) usage
 unfolding write_words_of
 answer_of_every_zero = refl
 
-answer_of_pad_no : IsAnswer (accepted (codes "write" ∷ codes "--pad=no" ∷ codes "F" ∷ []) 0) (reads (0x61 ∷ []) []) usage
+answer_of_pad_no : IsAnswerTo (accepted (codes "write" ∷ codes "--pad=no" ∷ codes "F" ∷ []) 0) (reads (0x61 ∷ []) []) usage
 unfolding write_words_of
 answer_of_pad_no = refl
 
 -- `write F` makes the file of the lines and says nothing
-answer_of_nothing : IsAnswer (accepted (codes "write" ∷ codes "F" ∷ []) 0) (reads [] []) (record { puts = puts_to Made (file_of [] 1048576 None No) ++ puts_to Notes []; status = status.Ok })
+answer_of_nothing : IsAnswerTo (accepted (codes "write" ∷ codes "F" ∷ []) 0) (reads [] []) (record { puts = puts_to Made (file_of [] 1048576 None No) ++ puts_to Notes []; status = status.Ok })
 unfolding write_words_of taken_from
 answer_of_nothing = refl
 
-answer_of_three : IsAnswer (accepted (codes "write" ∷ codes "F" ∷ []) 0) (reads (0x61 ∷ 10 ∷ 0x62 ∷ 0x63 ∷ 10 ∷ 10 ∷ []) [])
+answer_of_three : IsAnswerTo (accepted (codes "write" ∷ codes "F" ∷ []) 0) (reads (0x61 ∷ 10 ∷ 0x62 ∷ 0x63 ∷ 10 ∷ 10 ∷ []) [])
     (record { puts = puts_to Made (file_of ((0x61 ∷ []) ∷ (0x62 ∷ 0x63 ∷ []) ∷ [] ∷ []) 1048576 None No) ++ puts_to Notes []; status = status.Ok })
 unfolding write_words_of taken_from
 answer_of_three = refl
 
 -- with the chunk size, the number of records and the padding that are named
-answer_of_chunk : IsAnswer (accepted (codes "write" ∷ codes "--chunk=20" ∷ codes "F" ∷ []) 0) (reads (0x61 ∷ 10 ∷ 0x62 ∷ 10 ∷ 0x63 ∷ []) [])
+answer_of_chunk : IsAnswerTo (accepted (codes "write" ∷ codes "--chunk=20" ∷ codes "F" ∷ []) 0) (reads (0x61 ∷ 10 ∷ 0x62 ∷ 10 ∷ 0x63 ∷ []) [])
     (record { puts = puts_to Made (file_of ((0x61 ∷ []) ∷ (0x62 ∷ []) ∷ (0x63 ∷ []) ∷ []) 20 None No) ++ puts_to Notes []; status = status.Ok })
 unfolding write_words_of taken_from
 answer_of_chunk = refl
 
-answer_of_all_options : IsAnswer (accepted (codes "write" ∷ codes "--pad=both" ∷ codes "F" ∷ codes "--every=2" ∷ codes "--chunk=1" ∷ []) 0) (reads (0x61 ∷ 10 ∷ []) [])
+answer_of_all_options : IsAnswerTo (accepted (codes "write" ∷ codes "--pad=both" ∷ codes "F" ∷ codes "--every=2" ∷ codes "--chunk=1" ∷ []) 0) (reads (0x61 ∷ 10 ∷ []) [])
     (record { puts = puts_to Made (file_of ((0x61 ∷ []) ∷ []) 1 (Some 2) Both) ++ puts_to Notes []; status = status.Ok })
 unfolding write_words_of taken_from
 answer_of_all_options = refl

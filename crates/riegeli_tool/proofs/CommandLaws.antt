@@ -15,7 +15,7 @@ use Rattle.show_damaged.specs.WalkAnswers.{walk_status}
 use Rattle.show_damaged.specs.RecoverCommand.{IsRecovered}
 use Rattle.show_files.specs.VerifyCommand.{IsVerified}
 use Rattle.riegeli_tool.specs.RepairCommand.{end_puts, IsRepaired}
-use Rattle.riegeli_tool.specs.CommandAnswers.{IsAnswer, meaning_of}
+use Rattle.riegeli_tool.specs.CommandAnswers.{IsAnswerTo, meaning_of}
 use Rattle.run_answers.specs.Meanings.{Read}
 use Rattle.run_answers.proofs.OneAnswer.{one_of_file, same_answer}
 use Rattle.show_damaged.proofs.OneRecovery.{one_recovered}
@@ -32,7 +32,7 @@ one_repaired words file a b h g =
     (h.status ∙ ap (λ (es : List Piece). walk_status (regions_in (walked words.most es)) (refused_in words.most es)) same ∙ sym g.status)
 
 -- there is one answer at most
-pub one_answer : (command : Option Command) (r : Read) (a b : Answer) → IsAnswer command r a → IsAnswer command r b → a ≡ b
+pub one_answer : (command : Option Command) (r : Read) (a b : Answer) → IsAnswerTo command r a → IsAnswerTo command r b → a ≡ b
 one_answer None r a b first second = first ∙ sym second
 one_answer (Some (Write words)) r a b first second = first ∙ sym second
 one_answer (Some (Show words)) r a b first second = one_of_file (IsShown words) (one_shown words) r.files a b first second
@@ -42,7 +42,7 @@ one_answer (Some (Repair words)) r a b first second = one_of_file (IsRepaired wo
 
 -- an input that isn't used may be any
 pub any_input : (command : Option Command) (r : Read) (other : List ℕ) (a : Answer)
-    → (meaning_of command).uses.input ≡ false → IsAnswer command r a → IsAnswer command (record r { input = other }) a
+    → (meaning_of command).uses.input ≡ false → IsAnswerTo command r a → IsAnswerTo command (record r { input = other }) a
 any_input None r other a unused is = is
 any_input (Some (Write words)) r other a unused is = absurd (cc unused)
 any_input (Some (Show words)) r other a unused is = is
@@ -52,7 +52,7 @@ any_input (Some (Repair words)) r other a unused is = is
 
 -- so may files
 pub any_files : (command : Option Command) (r : Read) (others : List (List ℕ)) (a : Answer)
-    → (meaning_of command).uses.files ≡ false → IsAnswer command r a → IsAnswer command (record r { files = others }) a
+    → (meaning_of command).uses.files ≡ false → IsAnswerTo command r a → IsAnswerTo command (record r { files = others }) a
 any_files None r others a unused is = is
 any_files (Some (Write words)) r others a unused is = is
 any_files (Some (Show words)) r others a unused is = absurd (cc unused)
@@ -62,7 +62,7 @@ any_files (Some (Repair words)) r others a unused is = absurd (cc unused)
 
 -- and a file that is grown
 pub any_grown : (command : Option Command) (r : Read) (other : List ℕ) (a : Answer)
-    → (meaning_of command).uses.grown ≡ false → IsAnswer command r a → IsAnswer command (record r { grown = other }) a
+    → (meaning_of command).uses.grown ≡ false → IsAnswerTo command r a → IsAnswerTo command (record r { grown = other }) a
 any_grown None r other a unused is = is
 any_grown (Some (Write words)) r other a unused is = is
 any_grown (Some (Show words)) r other a unused is = is

@@ -20,7 +20,7 @@ use Rattle.show_damaged.specs.RecoverCommand.{IsRecovered}
 use Rattle.show_files.specs.VerifyCommand.{IsVerified}
 use Rattle.riegeli_tool.specs.RepairCommand.{end_puts, IsRepaired}
 use Rattle.riegeli_tool.specs.Commands.{stores_of, takes, command_of, accepted_of, accepted}
-use Rattle.riegeli_tool.specs.CommandAnswers.{IsAnswer}
+use Rattle.riegeli_tool.specs.CommandAnswers.{IsAnswerTo}
 use Rattle.run_answers.specs.Meanings.{Read}
 use Rattle.run_answers.proofs.OneAnswer.{of_file_exists}
 use Rattle.show_damaged.proofs.OneRecovery.{recovered_exists}
@@ -53,7 +53,7 @@ accepted-takes (Some command) count known is = kept command count known (takes c
 -- and has an answer
 command_answered : (command : Option Command) (r : Read)
     → ((known : Command) → command ≡ Some known → stores_of known ≡ length r.files) → AllByRecursion AreBytes r.files
-    → (answer : Answer) × IsAnswer command r answer
+    → (answer : Answer) × IsAnswerTo command r answer
 command_answered None r many bytes = (usage, refl)
 command_answered (Some (Write words)) r many bytes = (write_answer words r.input, refl)
 command_answered (Some (Show words)) r many bytes =
@@ -66,6 +66,6 @@ command_answered (Some (Repair words)) r many bytes =
     of_file_exists (IsRepaired words) (repaired_exists words) r.files (sym (many (Repair words) refl)) bytes
 
 pub answer_exists : (words : List (List ℕ)) (r : Read) → AllByRecursion AreBytes r.files
-    → (answer : Answer) × IsAnswer (accepted words (length r.files)) r answer
+    → (answer : Answer) × IsAnswerTo (accepted words (length r.files)) r answer
 answer_exists words r bytes =
     command_answered (accepted words (length r.files)) r (accepted-takes (command_of words) (length r.files)) bytes

@@ -5,7 +5,7 @@ use Rattle.show_files.specs.ShowWords.{show_words_of}
 use Rattle.show_files.specs.VerifyWords.{verify_words_of}
 use Rattle.riegeli_tool.specs.Usage.{usage}
 use Rattle.riegeli_tool.specs.Commands.{command_of, accepted, names_of}
-use Rattle.riegeli_tool.specs.CommandAnswers.{IsAnswer}
+use Rattle.riegeli_tool.specs.CommandAnswers.{IsAnswerTo}
 use Rattle.run_answers.specs.Meanings.{reads}
 
 -- the names of commands, whole and in small letters
@@ -87,6 +87,6 @@ unfolding show_words_of verify_words_of
 verify_of_none = refl
 
 -- without that file they are no command
-answer_without_file : IsAnswer (accepted (codes "show" ∷ codes "A" ∷ []) 0) (reads [] []) usage
+answer_without_file : IsAnswerTo (accepted (codes "show" ∷ codes "A" ∷ []) 0) (reads [] []) usage
 unfolding show_words_of verify_words_of
 answer_without_file = refl

@@ -1,12 +1,12 @@
 -- How the work of `repair` ends, by how the repair of its file did, where the file may tell its bytes.
-use Rattle.std.proofs.Common.{◌≡◌, ℕ, ◌≤◌, Bool, false, Option, Some, None, Ok, Err, IfSome, IsSomeAnd, List, [], ◌∷◌, length, refl, sym, subst}
+use Rattle.std.proofs.Common.{◌≡◌, ℕ, ◌≤◌, Bool, true, false, Option, Some, None, Ok, Err, IfSome, IsSomeAnd, List, [], ◌∷◌, length, refl, sym, subst}
 use Rattle.std.specs.Fn.{Shared}
 use denote.Ref.{Bor}
 use Rattle.std.proofs.lemmas.Option.{MatchOption-at_some}
 use Rattle.record_io.specs.Outside.{Rose, Takes, TakesFront}
 use Rattle.record_io.specs.Puts.{taken_by}
 use Rattle.damage_skip.specs.declared.regions.Region.{Region}
-use Rattle.repair_copy.specs.Repairs.{Repairs, Passes}
+use Rattle.repair_copy.specs.Repairs.{Repairs, Skips}
 use Rattle.repair_copy.specs.declared.repairs.Repaired.{Repaired}
 use Rattle.repair_copy.specs.declared.repairs.RepairEnd.{RepairEnd}
 use Rattle.damage_skip.specs.Bounds.{MaySkip}
@@ -72,13 +72,13 @@ module _ {F : Type 0} (g : Shared F (Bor Region × Unit {0}) Bool) (f : F) (word
       cut-so_far g f words bound file few x y a b o n m sound h.place h.events h.walked h.part h.went h.took
   cut-short file few repair.Notes x y a b o n m h short sound = absurd short
 
-  tells : (e : RepairEnd) (n m : Option (List ℕ)) → Passes g f (Err e) n m → TellsOf words.most (Err (end_of_repair e)) n m
+  tells : (e : RepairEnd) (n m : Option (List ℕ)) → Skips g f (Err e) n m → TellsOf words.most (Err (end_of_repair e)) n m
   tells (repair.Stopped region) n m h =
-      (h.regions, told-of g f words bound n m h.regions h.passed h.lines, sym (bound region false h.answer.0 h.answer.1))
-  tells repair.Store n m h = (h.regions, told-of g f words bound n m h.regions h.passed h.lines)
-  tells repair.Made n m h = (h.regions, told-of g f words bound n m h.regions h.passed h.lines)
-  tells repair.Memory n m h = (h.regions, told-of g f words bound n m h.regions h.passed h.lines)
-  tells repair.Notes n m h = told-front g f words bound n m h.regions h.passed h.lines.0 h.lines.1
+      (h.regions, told-of g f words bound n m h.regions h.allowed h.lines, sym (bound region false h.answer.0 h.answer.1))
+  tells repair.Store n m h = (h.regions, told-of g f words bound n m h.regions h.allowed h.lines)
+  tells repair.Made n m h = (h.regions, told-of g f words bound n m h.regions h.allowed h.lines)
+  tells repair.Memory n m h = (h.regions, told-of g f words bound n m h.regions h.allowed h.lines)
+  tells repair.Notes n m h = told-front g f words bound n m h.regions h.allowed h.lines.0 h.lines.1
 
   module _ (told bytes : Option (List ℕ)) (same : told ≡ bytes) (short : IfSome bytes (λ file. length file ≤ most_file_bytes)) where
     pub ended-walks : (e : RepairEnd) (why : Ending Region) (x y : ℕ) (a b o n m : Option (List ℕ)) → why ≡ end_of_repair e
@@ -133,26 +133,26 @@ module _ {F : Type 0} (g : Shared F (Bor Region × Unit {0}) Bool) (f : F) (word
 
   -- what was told, whatever the file tells
   pub ended-tells : (e : RepairEnd) (why : Ending Region) (n m : Option (List ℕ)) → why ≡ end_of_repair e
-      → Passes g f (Err e) n m → TellsOf words.most (Err why) n m
+      → Skips g f (Err e) n m → TellsOf words.most (Err why) n m
   ended-tells e why n m is h = subst (λ (y : Ending Region). TellsOf words.most (Err y) n m) (sym is) (tells e n m h)
 
   -- it may end so
   pub ended-allowed : (e : RepairEnd) (why : Ending Region) (told : Option ℕ) (n m : Option (List ℕ)) → why ≡ end_of_repair e
-      → Passes g f (Err e) n m → IsSomeAnd told (λ size. IsInReach (size ∷ []))
+      → Skips g f (Err e) n m → IsSomeAnd told (λ size. IsInReach (size ∷ []))
       → IsAllowedEnd {X = Status} (repair_meaning words) (Err why) told
   ended-allowed e why told n m is h reach =
       subst (λ (y : Ending Region). IsAllowedEnd {X = Status} (repair_meaning words) (Err y) told) (sym is) (by_end e h) where
-        by_end : (e : RepairEnd) → Passes g f (Err e) n m → IsAllowedEnd {X = Status} (repair_meaning words) (Err (end_of_repair e)) told
+        by_end : (e : RepairEnd) → Skips g f (Err e) n m → IsAllowedEnd {X = Status} (repair_meaning words) (Err (end_of_repair e)) told
         by_end (repair.Stopped region) h = reach
         by_end repair.Store h = refl
         by_end repair.Made h = (refl, reach)
         by_end repair.Notes h = (untold-may words.most n m (tells repair.Notes n m h), reach)
         by_end repair.Memory h = (refl, reach)
 
-  pub done-tells : (repaired : Repaired) (n m : Option (List ℕ)) (ended : Status) → Passes g f (Ok repaired) n m
+  pub done-tells : (repaired : Repaired) (n m : Option (List ℕ)) (ended : Status) → Skips g f (Ok repaired) n m
       → ((regions : List Region) → repaired.regions ≡ length regions → ended ≡ walk_status regions None) → TellsOf words.most (Ok ended) n m
   done-tells repaired n m ended h status_is =
-      (h.regions, told-of g f words bound n m h.regions h.passed h.lines, status_is h.regions h.answer)
+      (h.regions, told-of g f words bound n m h.regions h.allowed h.lines, status_is h.regions h.answer)
 
-  pub unreported-tells : (repaired : Repaired) (n m : Option (List ℕ)) → Passes g f (Ok repaired) n m → TellsOf words.most (Err (end.Cut cut.Out)) n m
-  unreported-tells repaired n m h = (h.regions, told-of g f words bound n m h.regions h.passed h.lines)
+  pub unreported-tells : (repaired : Repaired) (n m : Option (List ℕ)) → Skips g f (Ok repaired) n m → TellsOf words.most (Err (end.Cut cut.Out)) n m
+  unreported-tells repaired n m h = (h.regions, told-of g f words bound n m h.regions h.allowed h.lines)

@@ -28,5 +28,5 @@ meaning_of (Some (Verify words)) = verify_meaning
 meaning_of (Some (Repair words)) = repair_meaning words
 
 -- an answer to a command, of what it reads
-abbrev pub IsAnswer : Option Command → Read → Answer → Type 0
-IsAnswer command r answer = (meaning_of command).answers r answer
+abbrev pub IsAnswerTo : Option Command → Read → Answer → Type 0
+IsAnswerTo command r answer = (meaning_of command).answers r answer

@@ -16,7 +16,7 @@ ghost use Rattle.repair_copy.specs.Relaid.{chunks_in, relaid};
 ghost use Rattle.run_answers.specs.Answers.{Answer, line};
 ghost use Rattle.riegeli_tool.specs.Commands.{accepted};
 ghost use Rattle.run_answers.specs.Meanings.{Read};
-ghost use Rattle.riegeli_tool.specs.CommandAnswers.{IsAnswer, meaning_of};
+ghost use Rattle.riegeli_tool.specs.CommandAnswers.{IsAnswerTo, meaning_of};
 ghost use Rattle.run_answers.specs.FileAnswers.{most_file_bytes};
 ghost use Rattle.show_files.specs.Readings.{bare, digits_alone, record_line};
 ghost use Rattle.write_lines.specs.Input.{taken_from, with_last_end};
@@ -43,7 +43,7 @@ use simple_chunk::Records;
 pub fn answers_are_one()
     ensures one { (words : List (List ℕ)) (r : Read) (a b : Answer)
         → (meaning_of (accepted words (length r.files))).one ≡ true
-        → IsAnswer (accepted words (length r.files)) r a → IsAnswer (accepted words (length r.files)) r b → a ≡ b }
+        → IsAnswerTo (accepted words (length r.files)) r a → IsAnswerTo (accepted words (length r.files)) r b → a ≡ b }
 {}
 
 /// Where no object that a command uses had a fault, a run of it gives its whole answer, or tells want of memory: the status of
@@ -58,13 +58,13 @@ pub fn no_fault_without_a_cause()
 pub fn answers_stand_on_what_is_used()
     ensures input { (words : List (List ℕ)) (r : Read) (other : List ℕ) (a : Answer)
         → (meaning_of (accepted words (length r.files))).uses.input ≡ false
-        → IsAnswer (accepted words (length r.files)) r a → IsAnswer (accepted words (length r.files)) (record r { input = other }) a }
+        → IsAnswerTo (accepted words (length r.files)) r a → IsAnswerTo (accepted words (length r.files)) (record r { input = other }) a }
     ensures files { (words : List (List ℕ)) (count : ℕ) (r : Read) (others : List (List ℕ)) (a : Answer)
         → (meaning_of (accepted words count)).uses.files ≡ false
-        → IsAnswer (accepted words count) r a → IsAnswer (accepted words count) (record r { files = others }) a }
+        → IsAnswerTo (accepted words count) r a → IsAnswerTo (accepted words count) (record r { files = others }) a }
     ensures grown { (words : List (List ℕ)) (r : Read) (other : List ℕ) (a : Answer)
         → (meaning_of (accepted words (length r.files))).uses.grown ≡ false
-        → IsAnswer (accepted words (length r.files)) r a → IsAnswer (accepted words (length r.files)) (record r { grown = other }) a }
+        → IsAnswerTo (accepted words (length r.files)) r a → IsAnswerTo (accepted words (length r.files)) (record r { grown = other }) a }
 {}
 
 /// Each file of bytes has an answer of `show`, whatever its words, also of those that go on past damage, one of `verify`,
@@ -76,7 +76,7 @@ pub fn file_answers_exist()
     ensures repair { (words : RepairWords) (file : List ℕ) → AreBytes file → (answer : Answer) × IsRepaired words file answer }
     ensures all { (words : List (List ℕ)) (r : Read)
         → AllByRecursion AreBytes r.files → AreBytes r.grown → (meaning_of (accepted words (length r.files))).supposes r
-        → (answer : Answer) × IsAnswer (accepted words (length r.files)) r answer }
+        → (answer : Answer) × IsAnswerTo (accepted words (length r.files)) r answer }
 {}
 
 /// What each stream takes of an answer: the made file, standard output and notes. Of `verify` and of words that are no

@@ -2,7 +2,7 @@ use Rattle.std.proofs.Common.{◌+◌, ◌-◌, ◌*◌, ◌<◌, ◌≤◌, IfS
 use Rattle.record_io.specs.Calls.{OnlyAsks}
 use Rattle.block_layout.specs.Layout.{IsBlock, blocks_below}
 use Rattle.chunk_reader.specs.Places.{HaveHeadersOf}
-use Rattle.chunk_reader.proofs.chunk_pass.judge_blocks.Given as goal
+use Rattle.chunk_reader.proofs.chunk_scan.judge_blocks.Given as goal
 
 abbrev pub invariant-loop-block : goal.invariant-loop-block
 invariant-loop-block g l = record {

@@ -10,13 +10,13 @@ invariant-loop-left g l = record {
   header : g.T.TakesData.header l.taker ≡ g.T.TakesData.header l.fn.taker;
   left : g.T.TakesData.has_left l.taker l.left;
   taken : IfSome (g.S.Store.bytes l.fn.store)
-      (λ file. g.T.TakesData.has_taken l.taker (own_bytes_at file l.fn.pass.own.place (l.fn.size - l.left)));
-  moved : l.pass.own.place ≡ end_of l.fn.pass.own.place (l.fn.size - l.left);
-  same_begin : l.pass.begin ≡ l.fn.pass.begin;
-  same_end : l.pass.end ≡ l.fn.pass.end;
+      (λ file. g.T.TakesData.has_taken l.taker (own_bytes_at file l.fn.scan.own.place (l.fn.size - l.left)));
+  moved : l.scan.own.place ≡ end_of l.fn.scan.own.place (l.fn.size - l.left);
+  same_begin : l.scan.begin ≡ l.fn.scan.begin;
+  same_end : l.scan.end ≡ l.fn.scan.end;
   right : IfSome (g.S.Store.bytes l.fn.store)
-      (λ file. HaveHeadersOf file l.fn.pass.begin l.fn.pass.end l.fn.pass.own.place l.pass.own.place);
-  handed : g.S.Store.handed l.store + l.fn.pass.own.place ≤ g.S.Store.handed l.fn.store + l.pass.own.place;
+      (λ file. HaveHeadersOf file l.fn.scan.begin l.fn.scan.end l.fn.scan.own.place l.scan.own.place);
+  handed : g.S.Store.handed l.store + l.fn.scan.own.place ≤ g.S.Store.handed l.fn.store + l.scan.own.place;
   asks : OnlyAsks g.S.Store.bytes g.S.Store.told g.S.Store.name g.S.Store.faults ⊥ l.fn.store l.store;
 }
 

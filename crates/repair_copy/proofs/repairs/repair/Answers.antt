@@ -11,11 +11,11 @@ use Rattle.damage_skip.specs.Policies.{IsAllowedRegion}
 use Rattle.damage_skip.specs.Steps.{IsOnward}
 use Rattle.damage_skip.specs.Walks.{piece_of, IsEventIn, IsAllowedEvent, IsRefusedStop, IsStop, IsStoppedAt, GoesOn, StandsIn, WalksOn, stop_of}
 use Rattle.damage_skip.specs.declared.regions.Region.{Region}
-use Rattle.repair_copy.specs.Copies.{next_place, HasPassed, HasWalked}
+use Rattle.repair_copy.specs.Copies.{next_place, HasSkipped, HasWalked}
 use Rattle.damage_skip.proofs.RegionsIn.{one_region}
 use Rattle.repair_copy.proofs.CopySteps.{fits, grows, next_place_small}
 use Rattle.repair_copy.proofs.WalkedFiles.{walked_to_end, walked_next, cut_within, ends_at_end, ends_at_region, repairs_whole, repairs_stopped, repairs_unfinished, repairs_store, repairs_memory}
-use Rattle.repair_copy.proofs.Passed.{regions_of, event_passed, passed_next, passes_cut, passes_stopped}
+use Rattle.repair_copy.proofs.SkippedRegions.{regions_of, event_allowed, skipped_next, skips_cut, skips_stopped}
 use Rattle.repair_copy.proofs.repairs.repair.Goals as goal
 use Rattle.repair_copy.proofs.repairs.repair.Goals.{In-Ok-Some, In_ok-put-in-Ok-Some, In-Err-Stopped, After-next}
 
@@ -29,11 +29,11 @@ on : (g : _) (c : In-Ok-Some g)
     → WalksOn (g.S.Store.bytes c.loop-event.store) c.loop-event.walker.progress c.next.new.self.progress (Ok (Some c.in-Ok-Some.event))
 on g c = rw c.in-Ok-Some.field-0-is at c.in-Ok-Some.ensures.goes_on
 
--- and was let pass where it is a region
-pass : (g : _) (c : In-Ok-Some g) → AllByRecursion (IsAllowedRegion g.F.Fn c.args.policy.test) (regions_of c.in-Ok-Some.event)
-pass g c =
+-- and was allowed where it is a region
+allowed : (g : _) (c : In-Ok-Some g) → AllByRecursion (IsAllowedRegion g.F.Fn c.args.policy.test) (regions_of c.in-Ok-Some.event)
+allowed g c =
     let e = given g c in
-    event_passed _ _ c.loop-event.walker.policy.test _ _ c.in-Ok-Some.event c.loop-event.invariant.same_test e.bounds
+    event_allowed _ _ c.loop-event.walker.policy.test _ _ c.in-Ok-Some.event c.loop-event.invariant.same_test e.bounds
     (omega (arith, c.next.new.self.progress.within, c.in-Ok-Some.ensures.stands.in_reach)) e.allowed
 
 pub put-requires-clause-fits : goal.put-requires-clause-fits
@@ -50,15 +50,15 @@ returns-in_err-put-in-Ok-Some-clause-repairs g c =
     let p = err_from_is_err_and c.from_residual.result c.from_residual.ensures.1 in
     cut_within g.F.Fn c.args.policy.test _ _ c.loop-event.walker.progress.keep c.loop-event.walker.progress.place c.next.new.self.progress.place kept.store.same_bytes kept.keeps
     c.loop-event.copied _ _ _ (piece_of c.in-Ok-Some.event) c.in_err-put-in-Ok-Some.field-0.0 c.from_residual.result _ _ (p.1 ∙ ap Err p.2) kept.copied (on g at).past
-    (pass g at)
+    (allowed g at)
     (c.in_err-put-in-Ok-Some.ensures.front c.in_err-put-in-Ok-Some.field-0.0 refl)
 
-pub returns-in_err-put-in-Ok-Some-clause-passes : goal.returns-in_err-put-in-Ok-Some-clause-passes
-returns-in_err-put-in-Ok-Some-clause-passes g c =
-    let at = (goal.at.returns-in_err-put-in-Ok-Some-clause-passes g c).In-Ok-Some in
+pub returns-in_err-put-in-Ok-Some-clause-skips : goal.returns-in_err-put-in-Ok-Some-clause-skips
+returns-in_err-put-in-Ok-Some-clause-skips g c =
+    let at = (goal.at.returns-in_err-put-in-Ok-Some-clause-skips g c).In-Ok-Some in
     let p = err_from_is_err_and c.from_residual.result c.from_residual.ensures.1 in
-    passes_cut _ _ c.from_residual.result c.in_err-put-in-Ok-Some.field-0.0 _ _ _ _ c.in-Ok-Some.event (p.1 ∙ ap Err p.2) c.loop-event.invariant.passed
-    (c.in_err-put-in-Ok-Some.ensures.line_front c.in_err-put-in-Ok-Some.field-0.0 refl) (pass g at)
+    skips_cut _ _ c.from_residual.result c.in_err-put-in-Ok-Some.field-0.0 _ _ _ _ c.in-Ok-Some.event (p.1 ∙ ap Err p.2) c.loop-event.invariant.skipped
+    (c.in_err-put-in-Ok-Some.ensures.line_front c.in_err-put-in-Ok-Some.field-0.0 refl) (allowed g at)
 
 -- what was copied with the event
 copied : (g : _) (c : In_ok-put-in-Ok-Some g)
@@ -118,7 +118,7 @@ preserved : (g : _) (c : In_ok-put-in-Ok-Some g)
       copied : IfSome (g.S.Store.bytes c.args.store.now) (HasWalked g.F.Fn c.args.policy.test
           c.next.new.self.progress.place c.put.new.self (taken_by (g.M.Sink.taken c.args.made.now) None (g.E.Sink.taken c.args.notes.now))
           (taken_by (g.M.Sink.taken c.put.new.made) None (g.E.Sink.taken c.put.new.notes)));
-      passed : HasPassed g.F.Fn c.args.policy.test c.put.new.self.regions (g.E.Sink.taken c.args.notes.now) (g.E.Sink.taken c.put.new.notes);
+      skipped : HasSkipped g.F.Fn c.args.policy.test c.put.new.self.regions (g.E.Sink.taken c.args.notes.now) (g.E.Sink.taken c.put.new.notes);
       quiet : c.put.new.self.regions ≡ 0 → c.put.new.notes ≡ c.args.notes.now;
       unbegun : c.put.new.self.begun ≡ false → c.put.new.self.file ≡ nothing_made;
       going : c.put.new.self.file.spent ≡ false;
@@ -139,7 +139,7 @@ preserved g c given on passed =
       stands = subst (λ (told : Option ℕ). StandsIn (g.S.Store.bytes c.next.new.store) told c.next.new.self.progress) (sym e.store.same_told)
           (subst (λ (b : Option (List ℕ)). StandsIn b (g.S.Store.told c.loop-event.store) c.next.new.self.progress) (sym e.store.same_bytes) e.stands);
       copied = copied g c on passed;
-      passed = passed_next _ _ _ _ _ _ _ c.in-Ok-Some.event kept.passed c.in_ok-put-in-Ok-Some.ensures.line c.in_ok-put-in-Ok-Some.ensures.regions passed;
+      skipped = skipped_next _ _ _ _ _ _ _ c.in-Ok-Some.event kept.skipped c.in_ok-put-in-Ok-Some.ensures.line c.in_ok-put-in-Ok-Some.ensures.regions passed;
       quiet = quiet g c;
       unbegun = λ unbegun. cc (unbegun, c.in_ok-put-in-Ok-Some.ensures.begun);
       going = c.in_ok-put-in-Ok-Some.ensures.going;
@@ -153,17 +153,17 @@ preserved g c given on passed =
 pub loop-event-preserved-in_ok-put-in-Ok-Some : goal.loop-event-preserved-in_ok-put-in-Ok-Some
 loop-event-preserved-in_ok-put-in-Ok-Some g c =
     let at = goal.at.loop-event-preserved-in_ok-put-in-Ok-Some g c in
-    preserved g at.In_ok-put-in-Ok-Some (given g at.In-Ok-Some) (on g at.In-Ok-Some) (pass g at.In-Ok-Some)
+    preserved g at.In_ok-put-in-Ok-Some (given g at.In-Ok-Some) (on g at.In-Ok-Some) (allowed g at.In-Ok-Some)
 
 pub loop-event-preserved-in_ok-put-in-Ok-Some-2 : goal.loop-event-preserved-in_ok-put-in-Ok-Some-2
 loop-event-preserved-in_ok-put-in-Ok-Some-2 g c =
     let at = goal.at.loop-event-preserved-in_ok-put-in-Ok-Some-2 g c in
-    preserved g at.In_ok-put-in-Ok-Some (given g at.In-Ok-Some) (on g at.In-Ok-Some) (pass g at.In-Ok-Some)
+    preserved g at.In_ok-put-in-Ok-Some (given g at.In-Ok-Some) (on g at.In-Ok-Some) (allowed g at.In-Ok-Some)
 
 pub loop-event-preserved : goal.loop-event-preserved
 loop-event-preserved g c =
     let at = goal.at.loop-event-preserved g c in
-    preserved g at.In_ok-put-in-Ok-Some (given g at.In-Ok-Some) (on g at.In-Ok-Some) (pass g at.In-Ok-Some)
+    preserved g at.In_ok-put-in-Ok-Some (given g at.In-Ok-Some) (on g at.In-Ok-Some) (allowed g at.In-Ok-Some)
 
 -- where the walk has come to without a further event
 ended : (g : _) (c : After-next g)
@@ -250,11 +250,11 @@ returns-in-Err-Stopped-clause-repairs g c =
     there.refused)
     (λ before events. c.in_ok-finish-in-Err-Stopped.ensures.whole before (g.E.Sink.taken c.loop-event.notes) events))
 
-pub returns-in-Err-Stopped-clause-passes : goal.returns-in-Err-Stopped-clause-passes
-returns-in-Err-Stopped-clause-passes g c =
-    let there = refused g (goal.at.returns-in-Err-Stopped-clause-passes g c).In-Err-Stopped in
+pub returns-in-Err-Stopped-clause-skips : goal.returns-in-Err-Stopped-clause-skips
+returns-in-Err-Stopped-clause-skips g c =
+    let there = refused g (goal.at.returns-in-Err-Stopped-clause-skips g c).In-Err-Stopped in
     rw c.in-Err-Stopped.region-is
-    (passes_stopped g.F.Fn c.args.policy.test _ c.in-Err-Stopped.region _ _ c.loop-event.invariant.passed (
+    (skips_stopped g.F.Fn c.args.policy.test _ c.in-Err-Stopped.region _ _ c.loop-event.invariant.skipped (
       record {
         ordered = omega (arith, there.stop.begin, there.stop.onward.past);
         in_reach = omega (arith, there.stop.onward.within, c.in-Err-Stopped.ensures.stands.in_reach);

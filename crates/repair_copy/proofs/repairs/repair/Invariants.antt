@@ -3,7 +3,7 @@ use Rattle.record_io.specs.Puts.{taken_by}
 use Rattle.record_io.specs.Calls.{OnlyAsks, OnlyCounts}
 use Rattle.record_writer.specs.Progresses.{nothing_made}
 use Rattle.damage_skip.specs.Walks.{StandsIn}
-use Rattle.repair_copy.specs.Copies.{HasPassed, HasWalked}
+use Rattle.repair_copy.specs.Copies.{HasSkipped, HasWalked}
 use Rattle.repair_copy.proofs.repairs.repair.Given as goal
 
 abbrev pub invariant-loop-event : goal.invariant-loop-event
@@ -15,7 +15,7 @@ invariant-loop-event g l = record {
   stands : StandsIn (g.S.Store.bytes l.store) (g.S.Store.told l.store) l.walker.progress;
   copied : IfSome (g.S.Store.bytes l.fn.store) (HasWalked g.F.Fn l.fn.policy.test l.walker.progress.place l.copied
       (taken_by (g.M.Sink.taken l.fn.made) None (g.E.Sink.taken l.fn.notes)) (taken_by (g.M.Sink.taken l.made) None (g.E.Sink.taken l.notes)));
-  passed : HasPassed g.F.Fn l.fn.policy.test l.copied.regions (g.E.Sink.taken l.fn.notes) (g.E.Sink.taken l.notes);
+  skipped : HasSkipped g.F.Fn l.fn.policy.test l.copied.regions (g.E.Sink.taken l.fn.notes) (g.E.Sink.taken l.notes);
   quiet : l.copied.regions ≡ 0 → l.notes ≡ l.fn.notes;
   unbegun : l.copied.begun ≡ false → l.copied.file ≡ nothing_made;
   going : l.copied.file.spent ≡ false;

@@ -36,12 +36,12 @@ pub returns-in-Err-clause-said : goal.returns-in-Err-clause-said
 returns-in-Err-clause-said g c =
     ended-tells _ c.new-policy.result.test c.args.words.now (λ region allowed is returned. search (rules, tests))
     c.in-Err.end _ _ _ c.end_of_repair.ensures
-    c.in-Err.ensures.passes
+    c.in-Err.ensures.skips
 
 pub returns-in-Err-clause-allowed : goal.returns-in-Err-clause-allowed
 returns-in-Err-clause-allowed g c =
     ended-allowed _ c.new-policy.result.test c.args.words.now (λ region allowed is returned. search (rules, tests))
-    c.in-Err.end _ _ _ _ c.end_of_repair.ensures c.in-Err.ensures.passes
+    c.in-Err.end _ _ _ _ c.end_of_repair.ensures c.in-Err.ensures.skips
     (told-in_reach _ _ (c.in-Err.ensures.store.same_told ∙ c.in_ok-size.ensures.told) c.in_ok-size.ensures.in_reach)
 
 pub returns-in-Ok-put_report-clause-walks : goal.returns-in-Ok-put_report-clause-walks
@@ -61,7 +61,7 @@ returns-in-Ok-2-clause-walks g c =
 pub returns-in-Ok-2-clause-said : goal.returns-in-Ok-2-clause-said
 returns-in-Ok-2-clause-said g c =
     done-tells _ c.new-policy.result.test c.args.words.now (λ region allowed is returned. search (rules, tests))
-    c.in-Ok.repaired _ _ _ c.in-Ok.ensures.passes (status_of-some c.in-Ok.repaired.regions c.if-repaired-eq0.false)
+    c.in-Ok.repaired _ _ _ c.in-Ok.ensures.skips (status_of-some c.in-Ok.repaired.regions c.if-repaired-eq0.false)
 
 pub returns-in-Err-put_report-clause-walks : goal.returns-in-Err-put_report-clause-walks
 returns-in-Err-put_report-clause-walks g c =
@@ -72,7 +72,7 @@ returns-in-Err-put_report-clause-walks g c =
 pub returns-in-Err-put_report-clause-said : goal.returns-in-Err-put_report-clause-said
 returns-in-Err-put_report-clause-said g c =
     unreported-tells _ c.new-policy.result.test c.args.words.now (λ region allowed is returned. search (rules, tests))
-    c.in-Ok.repaired _ _ c.in-Ok.ensures.passes
+    c.in-Ok.repaired _ _ c.in-Ok.ensures.skips
 
 pub returns-in_err-size-clause-allowed : goal.returns-in_err-size-clause-allowed
 returns-in_err-size-clause-allowed g c =

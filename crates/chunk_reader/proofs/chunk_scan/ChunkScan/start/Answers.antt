@@ -1,8 +1,8 @@
 use Rattle.std.proofs.Common.{Err, sym, ap, arith}
 use Rattle.block_layout.proofs.Ends.{end_of_after}
 use Rattle.chunk_reader.proofs.Loads.{IsOnBoundary-of}
-use Rattle.chunk_reader.proofs.Passes.{headers-of_header, wrong-wider}
-use Rattle.chunk_reader.proofs.chunk_pass.ChunkPass.start.Goals as goal
+use Rattle.chunk_reader.proofs.Scans.{headers-of_header, wrong-wider}
+use Rattle.chunk_reader.proofs.chunk_scan.ChunkScan.start.Goals as goal
 
 pub behind_header-own-requires-clause-in_reach : goal.behind_header-own-requires-clause-in_reach
 behind_header-own-requires-clause-in_reach g c = omega (arith, c.requires.within, c.requires.in_reach, end_of_after c.args.begin 40)

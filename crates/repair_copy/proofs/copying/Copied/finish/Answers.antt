@@ -2,7 +2,7 @@ use Rattle.std.proofs.Common.{None, [], List, refl, subst, append-nil}
 use Rattle.std.proofs.lemmas.Result.{err_from_is_err_and}
 use Rattle.record_io.specs.Puts.{taken_by}
 use Rattle.damage_skip.specs.Pieces.{Piece}
-use Rattle.repair_copy.specs.Copies.{HasBrokenOff}
+use Rattle.repair_copy.specs.Copies.{HasCopiedFront}
 use Rattle.repair_copy.proofs.CopySteps.{begin_failed, has_begun, finish_failed, put_all}
 use Rattle.repair_copy.proofs.copying.Copied.finish.Goals as goal
 
@@ -10,7 +10,7 @@ pub returns-in_err-begin-clause-front : goal.returns-in_err-begin-clause-front
 returns-in_err-begin-clause-front g c =
     let p = err_from_is_err_and c.from_residual.result c.from_residual.ensures.1 in
     λ cut is before notes events copied.
-    subst (λ (es : List Piece). HasBrokenOff cut before (taken_by (g.M.Sink.taken c.begin.new.made) None notes) es) (append-nil events)
+    subst (λ (es : List Piece). HasCopiedFront cut before (taken_by (g.M.Sink.taken c.begin.new.made) None notes) es) (append-nil events)
     (begin_failed before _ _ notes c.args.self.now c.begin.new.self.file events [] copied c.in_err-begin.ensures.unbegun c.in_err-begin.ensures.front cut
     cc)
 
