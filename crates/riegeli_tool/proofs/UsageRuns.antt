@@ -23,4 +23,4 @@ runs-usage others notes notes_then ended says counts =
       record { same_status = refl; puts = []; whole = refl; went = GoOut-nothing (taken_by others.made.bytes others.out.bytes notes.bytes) },
     ))
     (λ _. refl) refl
-    (keeps-unread usage_meaning others.input others.input others.files others.made others.made others.grown others.out notes notes_then refl (λ r. tt) (omega arith) (omega arith) counts)
+    (keeps-unread usage_meaning others.input others.input others.files others.made others.made others.grown others.out others.out notes notes_then refl (λ r. tt) (omega arith) (omega arith) (omega arith) counts)

@@ -6,7 +6,7 @@ use Rattle.run_answers.specs.Answers.{line}
 use Rattle.run_answers.specs.FileAnswers.{report}
 
 -- two pieces of a line, and what follows it
-line_then : (x y z : List ℕ) → line (x ++ y) ++ z ≡ x ++ (y ++ 10 ∷ z)
+pub line_then : (x y z : List ℕ) → line (x ++ y) ++ z ≡ x ++ (y ++ 10 ∷ z)
 line_then x y z = append_assoc (x ++ y) (10 ∷ []) z ∙ append_assoc x y (10 ∷ z)
 
 -- four lines of two pieces each

@@ -29,16 +29,17 @@ ungrown : (m : Meaning) (before after : Seen) (P : Read → List ℕ → Type 0)
 ungrown m before after P keeps uses = absurd (cc (sym uses ∙ keeps.ungrown))
 
 -- where neither files nor a grown file is used, and no count fell of what is
-pub keeps-unread : (m : Meaning) (input input_then : Shown) (files : List ShownFile) (made made_then : Shown) (grown : ShownFile) (out notes notes_then : Shown)
-    → m.uses.grown ≡ false → ((r : Read) → m.may_take_of r (handed_by files) (handed_by files)) → input.faults ≤ input_then.faults → made.faults ≤ made_then.faults → notes.faults ≤ notes_then.faults
-    → Keeps m (seen input files made grown out notes) (seen input_then files made_then grown out notes_then)
-keeps-unread m input input_then files made made_then grown out notes notes_then none same i k n = record {
+pub keeps-unread : (m : Meaning) (input input_then : Shown) (files : List ShownFile) (made made_then : Shown) (grown : ShownFile) (out out_then notes notes_then : Shown)
+    → m.uses.grown ≡ false → ((r : Read) → m.may_take_of r (handed_by files) (handed_by files)) → input.faults ≤ input_then.faults → made.faults ≤ made_then.faults
+    → out.faults ≤ out_then.faults → notes.faults ≤ notes_then.faults
+    → Keeps m (seen input files made grown out notes) (seen input_then files made_then grown out_then notes_then)
+keeps-unread m input input_then files made made_then grown out out_then notes notes_then none same i k o n = record {
   counts = record {
     input = i;
     files = λ place a b was is. let same : a ≡ b = cc in omega (arith, ap (λ (s : ShownFile). s.faults) same);
     made = k;
     grown = omega arith;
-    out = omega arith;
+    out = o;
     notes = n;
   };
   ungrown = none;

@@ -2,3 +2,4 @@ pub mod Decimals
 mod NumberValues
 mod OptionValues
 pub mod OptionWords
+pub mod WithinBounds

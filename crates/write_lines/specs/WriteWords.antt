@@ -7,15 +7,7 @@ use Rattle.record_group.specs.declared.pad.Pad.TheVariants.{No, Start, End, Both
 use Rattle.write_lines.specs.declared.write_words.WriteWords.{WriteWords}
 use Rattle.word_options.specs.Numbers.{number_within}
 use Rattle.word_options.specs.Options.{value_given, optional_value, are_words_of, file_places, only, ◌>>=◌}
-
--- the chunk size where none is named
-abbrev pub default_chunk_size : ℕ
-default_chunk_size = 1048576
-
--- the chunk size, in bytes
-abbrev pub chunk_size_of : List (List ℕ) → Option ℕ
-chunk_size_of words =
-    option_map (λ size. unwrap_or size default_chunk_size) (optional_value (number_within 1 (2 ^ 24)) (value_given (codes "--chunk=") words))
+use Rattle.word_options.specs.Writing.{chunk_size_of}
 
 -- the most records of a chunk, where they are bounded
 abbrev pub every_of : List (List ℕ) → Option (Option ℕ)

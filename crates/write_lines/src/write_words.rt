@@ -1,16 +1,10 @@
 ghost use Rattle.std.specs.Prelude.{◌≡◌, map};
 ghost use Rattle.std.specs.String.{string_bytes};
-ghost use Rattle.write_lines.specs.WriteWords.{chunk_size_of, every_of, pad_named, pad_of, write_words_of};
+ghost use Rattle.write_lines.specs.WriteWords.{every_of, pad_named, pad_of, write_words_of};
 
 use record_group::Pad;
 use record_writer::WriteOptions;
-use word_options::{are_words_of, only_file, optional_number, value_given};
-
-/// The chunk size where none is named.
-const DEFAULT_CHUNK_SIZE: u64 = 1 << 20;
-
-/// The largest chunk size.
-const MOST_CHUNK_SIZE: u64 = 1 << 24;
+use word_options::{are_words_of, chunk_size, only_file, optional_number, value_given};
 
 /// The most records that a chunk may be bounded to.
 const MOST_EVERY: u64 = 1 << 24;
@@ -44,13 +38,6 @@ pub fn write_words(words: &[String]) -> Option<WriteWords>
         hex: value_given("--hex", words).is_some(),
         file: only_file(words)?,
     })
-}
-
-fn chunk_size(words: &[String]) -> Option<u64>
-    ensures { result ≡ chunk_size_of (map string_bytes words.now) }
-{
-    let size = optional_number("--chunk=", words, 1, MOST_CHUNK_SIZE)?;
-    Some(size.unwrap_or(DEFAULT_CHUNK_SIZE))
 }
 
 fn every(words: &[String]) -> Option<Option<u64>>

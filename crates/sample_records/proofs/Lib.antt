@@ -1,0 +1,7 @@
+pub mod Drawings
+pub mod SampleCounts
+pub mod SampleLimits
+pub mod SampleRuns
+pub mod SummaryLines
+mod Values
+mod WordValues

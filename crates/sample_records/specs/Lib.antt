@@ -1,0 +1,4 @@
+pub mod Generator
+pub mod SampleCommand
+pub mod SampleEnds
+pub mod SampleWords

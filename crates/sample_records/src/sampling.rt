@@ -1,0 +1,104 @@
+ghost use Rattle.std.specs.Prelude.{◌≡◌, ◌≤◌, ◌⊎◌, Err};
+ghost use Rattle.record_io.specs.Calls.{OnlyCounts, PutsTo};
+ghost use Rattle.record_writer.specs.Written.{AreInLimits};
+ghost use Rattle.run_answers.specs.Runs.{Runs, Seen, shown};
+ghost use Rattle.sample_records.specs.SampleCommand.{sample_meaning, summary};
+ghost use Rattle.sample_records.specs.SampleEnds.{TakeSample};
+ghost use Rattle.sample_records.specs.SampleWords.{most_records};
+
+use crate::sample_feed::SampleFeed;
+use crate::sample_words::SampleWords;
+use itoa::Buffer;
+use record_io::{Failed, PutBuffer, Sink, Totals};
+use record_writer::{WriteEnd, WriteOptions, write_records};
+use run_answers::{Cut, Status, cut_off};
+use std::alloc::Global;
+use std::thread::Threads;
+
+/// The most bytes of a summary, of which a quarter holds each of its parts.
+const SUMMARY: usize = 128;
+
+/// Writes the file of the records of a seed and then prints how many records and bytes it has, or says in notes why it ended
+/// before that: the made file or standard output failed, or memory was short.
+pub fn sample<R: Threads + Sync, M: Sink + Send, O: Sink, E: Sink>(
+    rt: &R,
+    alloc: Global,
+    words: &SampleWords,
+    made: &mut M,
+    out: &mut O,
+    notes: &mut E,
+) -> Status
+    requires in_limits { AreInLimits words.now.options }
+    requires most { words.now.count ≤ most_records }
+    ensures runs { (others : Seen) → Runs (sample_meaning words.now)
+        (record others { made = shown M.taken M.faults made.old; out = shown O.taken O.faults out.old; notes = shown E.taken E.faults notes.old })
+        (record others { made = shown M.taken M.faults made.new; out = shown O.taken O.faults out.new; notes = shown E.taken E.faults notes.new })
+        result }
+    ensures notes_kept { result ≡ Status.Ok → notes.new ≡ notes.old }
+{
+    match make_sample(rt, alloc, words, made, out) {
+        Ok(()) => Status::Ok,
+        Err(cut) => cut_off(notes, cut),
+    }
+}
+
+/// Writes the file of the records of a seed and prints how many records and bytes it has.
+fn make_sample<R: Threads + Sync, M: Sink + Send, O: Sink>(
+    rt: &R,
+    alloc: Global,
+    words: &SampleWords,
+    made: &mut M,
+    out: &mut O,
+) -> Result<(), Cut>
+    requires in_limits { AreInLimits words.now.options }
+    requires most { words.now.count ≤ most_records }
+    ensures taken { TakeSample result words.now (M.taken made.old) (M.taken made.new) (O.taken out.old) (O.taken out.new) }
+    ensures made { OnlyCounts M.lent M.faults (result ≡ Err Cut.Made) made.old made.new }
+    ensures out { OnlyCounts O.lent O.faults (result ≡ Err Cut.Out) out.old out.new }
+{
+    // Records are written by one worker so far, however many there may be.
+    let options = WriteOptions {
+        workers: 1,
+        ..words.options
+    };
+    let mut records = SampleFeed::new(words.seed, words.count);
+    let totals = match write_records(rt, alloc, &options, &mut records, made) {
+        Ok(totals) => totals,
+        Err(end) => return Err(cut_of(end)),
+    };
+    match put_summary(&totals, out) {
+        Ok(()) => Ok(()),
+        Err(Failed) => Err(Cut::Out),
+    }
+}
+
+/// What cut off the writing of records that come from no input and end without a stop.
+fn cut_of(end: WriteEnd) -> Cut
+    requires sound { (end ≡ WriteEnd.Made) ⊎ (end ≡ WriteEnd.Memory) }
+    ensures made { end ≡ WriteEnd.Made → result ≡ Cut.Made }
+    ensures memory { end ≡ WriteEnd.Memory → result ≡ Cut.Memory }
+{
+    match end {
+        WriteEnd::Made => Cut::Made,
+        WriteEnd::Memory => Cut::Memory,
+        _ => unreachable!(),
+    }
+}
+
+/// Prints how many records and bytes there are.
+fn put_summary<O: Sink>(totals: &Totals, out: &mut O) -> Result<(), Failed>
+    ensures out { PutsTo O.taken O.lent O.faults result (summary totals.now.records totals.now.bytes) out.old out.new }
+{
+    let mut lines = PutBuffer::<SUMMARY>::new();
+    let mut records = Buffer::new();
+    let mut bytes = Buffer::new();
+    let pieces = [
+        "records ".as_bytes(),
+        records.format(totals.records).as_bytes(),
+        "\nbytes ".as_bytes(),
+        bytes.format(totals.bytes).as_bytes(),
+        "\n".as_bytes(),
+    ];
+    lines.put_each(out, &pieces)?;
+    lines.flush(out)
+}
