@@ -1,58 +1,52 @@
--- What the words of an accepted `write` say is within its limits.
-use Rattle.std.proofs.Common.{◌≡◌, ◌≢◌, ℕ, Bool, true, false, Option, Some, None, List, [], ◌∷◌, option_map, codes, sym, if◌then◌else◌}
+-- What the words of an accepted command say is within its limits.
+use Rattle.std.proofs.Common.{if◌then◌else◌, ◌≡◌, ℕ, ◌≤◌, Bool, true, false, Option, Some, None, List, [], ◌∷◌, option_map, codes, refl, sym, subst}
+use Rattle.std.specs.Option.{IfSome}
 use Rattle.std.specs.Str.{bytes_eq}
 use Rattle.record_writer.specs.Written.{AreInLimits}
 use Rattle.riegeli_tool.specs.declared.command.Command.{Command}
-use Rattle.riegeli_tool.specs.declared.command.Command.TheVariants.{Write, Show, Recover, Verify, Repair}
-use Rattle.write_lines.specs.declared.write_words.WriteWords.{WriteWords}
-use Rattle.show_damaged.specs.declared.recover_words.RecoverWords.{RecoverWords}
-use Rattle.show_files.specs.declared.show_words.ShowWords.{ShowWords}
-use Rattle.riegeli_tool.specs.declared.repair_words.RepairWords.{RepairWords}
-use Rattle.show_files.specs.declared.verify_words.VerifyWords.{VerifyWords}
+use Rattle.riegeli_tool.specs.declared.command.Command.TheVariants.{Write, Show, Recover, Verify, Repair, Sample}
 use Rattle.show_files.specs.ShowWords.{show_words_of}
 use Rattle.show_damaged.specs.RecoverWords.{goes_past_damage, recover_words_of}
 use Rattle.show_files.specs.VerifyWords.{verify_words_of}
 use Rattle.riegeli_tool.specs.RepairWords.{repair_words_of}
+use Rattle.sample_records.specs.SampleWords.{most_records, sample_words_of}
+use Rattle.sample_records.proofs.SampleLimits.{sample_words_of-within}
 use Rattle.write_lines.specs.WriteWords.{write_words_of}
+use Rattle.write_lines.proofs.WriteLimits.{write_words_of-within}
 use Rattle.riegeli_tool.specs.Commands.{command_of, takes, accepted_of, accepted}
-use Rattle.write_lines.proofs.WriteLimits.{if_some, write_words_of-within}
 
--- a command that is `write` is so by its name
-if_shown : (recover : Bool) (recovered : Option RecoverWords) (shown : Option ShowWords) (w : WriteWords)
-    → (if recover then option_map Recover recovered else option_map Show shown) ≢ Some (Write w)
-if_shown true None shown w = λ is. cc is
-if_shown true (Some x) shown w = λ is. cc is
-if_shown false recovered None w = λ is. cc is
-if_shown false recovered (Some x) w = λ is. cc is
+-- what the words of a command say is within its limits
+abbrev pub IsWithin : Command → Type 0
+IsWithin (Write words) = AreInLimits words.options × (words.options.workers ≡ 1)
+IsWithin (Sample words) = AreInLimits words.options × (words.count ≤ most_records)
+IsWithin other = Unit {0}
 
-if_write : (write show recover verify repair : Bool) (written : Option WriteWords) (recovered : Option RecoverWords) (shown : Option ShowWords) (verified : Option VerifyWords)
-    (repaired : Option RepairWords) (w : WriteWords)
-    → (if write then option_map Write written
-    else if show then (if recover then option_map Recover recovered else option_map Show shown)
-    else if verify then option_map Verify verified
-    else if repair then option_map Repair repaired else None) ≡ Some (Write w)
-    → written ≡ Some w
-if_write true show recover verify repair None recovered shown verified repaired w is = absurd (cc is)
-if_write true show recover verify repair (Some x) recovered shown verified repaired w is = cc is
-if_write false true recover verify repair written recovered shown verified repaired w is = absurd (if_shown recover recovered shown w is)
-if_write false false recover true repair written recovered shown None repaired w is = absurd (cc is)
-if_write false false recover true repair written recovered shown (Some x) repaired w is = absurd (cc is)
-if_write false false recover false true written recovered shown verified None w is = absurd (cc is)
-if_write false false recover false true written recovered shown verified (Some x) w is = absurd (cc is)
-if_write false false recover false false written recovered shown verified repaired w is = absurd (cc is)
+-- so it is of either of two commands
+either : (b : Bool) (first second : Option Command) → IfSome first IsWithin → IfSome second IsWithin → IfSome (if b then first else second) IsWithin
+either true first second h g = h
+either false first second h g = g
 
--- so are the options of an accepted command
-command_of-within : (words : List (List ℕ)) (w : WriteWords) → command_of words ≡ Some (Write w) → AreInLimits w.options × (w.options.workers ≡ 1)
-command_of-within [] w is = absurd (cc is)
-command_of-within (name ∷ words) w is =
-    write_words_of-within (name ∷ words) w
-    (if_write (bytes_eq name (codes "write")) (bytes_eq name (codes "show")) (goes_past_damage (name ∷ words)) (bytes_eq name (codes "verify"))
-    (bytes_eq name (codes "repair")) (write_words_of (name ∷ words)) (recover_words_of (name ∷ words)) (show_words_of (name ∷ words))
-    (verify_words_of (name ∷ words)) (repair_words_of (name ∷ words)) w is)
+-- and of one that words say
+of_words : {W : Type 0} (command : W → Command) (words : Option W) → ((w : W) → words ≡ Some w → IsWithin (command w))
+    → IfSome (option_map command words) IsWithin
+of_words command None h = tt
+of_words command (Some w) h = h w refl
 
-accepted_of-is : (command : Option Command) (count : ℕ) (known : Command) → accepted_of command count ≡ Some known → command ≡ Some known
-accepted_of-is None count known is = absurd (cc is)
-accepted_of-is (Some command) count known is = if_some (takes command count) (Some command) known is
+command_of-within : (words : List (List ℕ)) → IfSome (command_of words) IsWithin
+command_of-within [] = tt
+command_of-within (name ∷ words) =
+    let all : List (List ℕ) = name ∷ words in
+    either (bytes_eq name (codes "write")) _ _ (of_words Write (write_words_of all) (write_words_of-within all))
+    (either (bytes_eq name (codes "show")) _ _
+    (either (goes_past_damage all) _ _ (of_words Recover (recover_words_of all) (λ w is. tt)) (of_words Show (show_words_of all) (λ w is. tt)))
+    (either (bytes_eq name (codes "verify")) _ _ (of_words Verify (verify_words_of all) (λ w is. tt))
+    (either (bytes_eq name (codes "repair")) _ _ (of_words Repair (repair_words_of all) (λ w is. tt))
+    (either (bytes_eq name (codes "sample")) _ None (of_words Sample (sample_words_of all) (sample_words_of-within all)) tt))))
 
-pub accepted-within : (words : List (List ℕ)) (count : ℕ) (w : WriteWords) → Some (Write w) ≡ accepted words count → AreInLimits w.options × (w.options.workers ≡ 1)
-accepted-within words count w is = command_of-within words w (accepted_of-is (command_of words) count (Write w) (sym is))
+accepted_of-within : (command : Option Command) (count : ℕ) → IfSome command IsWithin → IfSome (accepted_of command count) IsWithin
+accepted_of-within None count h = tt
+accepted_of-within (Some command) count h = either (takes command count) (Some command) None h tt
+
+pub accepted-within : (words : List (List ℕ)) (count : ℕ) (command : Command) → Some command ≡ accepted words count → IsWithin command
+accepted-within words count command is =
+    subst (λ (c : Option Command). IfSome c IsWithin) (sym is) (accepted_of-within (command_of words) count (command_of-within words))

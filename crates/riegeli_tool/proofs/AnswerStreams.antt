@@ -14,6 +14,8 @@ use Rattle.repair_copy.specs.Relaid.{chunks_in, relaid}
 use Rattle.repair_copy.specs.RepairPuts.{repair_puts}
 use Rattle.repair_copy.proofs.RepairPuts.{made_in-repair, out_in-repair, notes_in-repair}
 use Rattle.riegeli_tool.specs.declared.repair_words.RepairWords.{RepairWords}
+use Rattle.sample_records.specs.declared.sample_words.SampleWords.{SampleWords}
+use Rattle.sample_records.specs.SampleCommand.{sample_file, sample_summary, sample_answer}
 use Rattle.show_files.specs.declared.show_words.ShowWords.{ShowWords}
 use Rattle.write_lines.specs.declared.write_words.WriteWords.{WriteWords}
 use Rattle.run_answers.specs.Answers.{Answer}
@@ -38,6 +40,16 @@ written-streams words rest =
     let file : List ℕ = file_under words.options rest.records in
     let text : List ℕ = stop_text (length rest.records) rest.stop in
     (written_made words rest, bytes_to-neither Out Made Notes file text refl refl, bytes_to-second Made Notes file text refl)
+
+-- of that of `sample`
+pub sampled-streams : (words : SampleWords)
+    → (bytes_to Made (sample_answer words).puts ≡ sample_file words)
+    × (bytes_to Out (sample_answer words).puts ≡ sample_summary words)
+    × (bytes_to Notes (sample_answer words).puts ≡ [])
+sampled-streams words =
+    let file : List ℕ = sample_file words in
+    let text : List ℕ = sample_summary words in
+    (bytes_to-first Made Out file text refl, bytes_to-second Made Out file text refl, bytes_to-neither Notes Made Out file text refl refl)
 
 -- of that of `show`
 pub shown-streams : (words : ShowWords) (file : List ℕ) (answer : Answer) (is : IsShown words file answer)

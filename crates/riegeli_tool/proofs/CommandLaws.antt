@@ -5,7 +5,7 @@ use Rattle.damage_skip.proofs.Tiles.{events_one}
 use Rattle.repair_copy.specs.Relaid.{chunks_in}
 use Rattle.repair_copy.specs.RepairPuts.{repair_puts}
 use Rattle.riegeli_tool.specs.declared.command.Command.{Command}
-use Rattle.riegeli_tool.specs.declared.command.Command.TheVariants.{Write, Show, Recover, Verify, Repair}
+use Rattle.riegeli_tool.specs.declared.command.Command.TheVariants.{Write, Show, Recover, Verify, Repair, Sample}
 use Rattle.riegeli_tool.specs.declared.repair_words.RepairWords.{RepairWords}
 use Rattle.run_answers.specs.Answers.{Answer}
 use Rattle.show_files.specs.ShowCommand.{IsShown}
@@ -39,6 +39,7 @@ one_answer (Some (Show words)) r a b first second = one_of_file (IsShown words) 
 one_answer (Some (Recover words)) r a b first second = one_of_file (IsRecovered words) (one_recovered words) r.files a b first second
 one_answer (Some (Verify words)) r a b first second = one_of_file IsVerified one_verified r.files a b first second
 one_answer (Some (Repair words)) r a b first second = one_of_file (IsRepaired words) (one_repaired words) r.files a b first second
+one_answer (Some (Sample words)) r a b first second = first ∙ sym second
 
 -- an input that isn't used may be any
 pub any_input : (command : Option Command) (r : Read) (other : List ℕ) (a : Answer)
@@ -49,6 +50,7 @@ any_input (Some (Show words)) r other a unused is = is
 any_input (Some (Recover words)) r other a unused is = is
 any_input (Some (Verify words)) r other a unused is = is
 any_input (Some (Repair words)) r other a unused is = is
+any_input (Some (Sample words)) r other a unused is = is
 
 -- so may files
 pub any_files : (command : Option Command) (r : Read) (others : List (List ℕ)) (a : Answer)
@@ -59,6 +61,7 @@ any_files (Some (Show words)) r others a unused is = absurd (cc unused)
 any_files (Some (Recover words)) r others a unused is = absurd (cc unused)
 any_files (Some (Verify words)) r others a unused is = absurd (cc unused)
 any_files (Some (Repair words)) r others a unused is = absurd (cc unused)
+any_files (Some (Sample words)) r others a unused is = is
 
 -- and a file that is grown
 pub any_grown : (command : Option Command) (r : Read) (other : List ℕ) (a : Answer)
@@ -69,3 +72,4 @@ any_grown (Some (Show words)) r other a unused is = is
 any_grown (Some (Recover words)) r other a unused is = is
 any_grown (Some (Verify words)) r other a unused is = is
 any_grown (Some (Repair words)) r other a unused is = is
+any_grown (Some (Sample words)) r other a unused is = is

@@ -7,7 +7,7 @@ use Rattle.damage_skip.proofs.Tiles.{events_of}
 use Rattle.repair_copy.specs.Relaid.{chunks_in}
 use Rattle.repair_copy.specs.RepairPuts.{repair_puts}
 use Rattle.riegeli_tool.specs.declared.command.Command.{Command}
-use Rattle.riegeli_tool.specs.declared.command.Command.TheVariants.{Write, Show, Recover, Verify, Repair}
+use Rattle.riegeli_tool.specs.declared.command.Command.TheVariants.{Write, Show, Recover, Verify, Repair, Sample}
 use Rattle.riegeli_tool.specs.declared.repair_words.RepairWords.{RepairWords}
 use Rattle.run_answers.specs.Answers.{Answer}
 use Rattle.riegeli_tool.specs.Usage.{usage}
@@ -19,6 +19,7 @@ use Rattle.show_damaged.specs.WalkAnswers.{walk_status}
 use Rattle.show_damaged.specs.RecoverCommand.{IsRecovered}
 use Rattle.show_files.specs.VerifyCommand.{IsVerified}
 use Rattle.riegeli_tool.specs.RepairCommand.{end_puts, IsRepaired}
+use Rattle.sample_records.specs.SampleCommand.{sample_answer}
 use Rattle.riegeli_tool.specs.Commands.{stores_of, takes, command_of, accepted_of, accepted}
 use Rattle.riegeli_tool.specs.CommandAnswers.{IsAnswerTo}
 use Rattle.run_answers.specs.Meanings.{Read}
@@ -64,6 +65,7 @@ command_answered (Some (Verify words)) r many bytes =
     of_file_exists IsVerified verified_exists r.files (sym (many (Verify words) refl)) bytes
 command_answered (Some (Repair words)) r many bytes =
     of_file_exists (IsRepaired words) (repaired_exists words) r.files (sym (many (Repair words) refl)) bytes
+command_answered (Some (Sample words)) r many bytes = (sample_answer words, refl)
 
 pub answer_exists : (words : List (List ℕ)) (r : Read) → AllByRecursion AreBytes r.files
     → (answer : Answer) × IsAnswerTo (accepted words (length r.files)) r answer

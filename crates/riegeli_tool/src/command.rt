@@ -2,6 +2,7 @@ ghost use Rattle.std.specs.Prelude.{◌≡◌};
 ghost use Rattle.riegeli_tool.specs.Commands.{names_by, none_named, takes};
 
 use crate::repair_words::RepairWords;
+use sample_records::sample_words::SampleWords;
 use show_damaged::recover_words::RecoverWords;
 use show_files::show_words::ShowWords;
 use show_files::verify_words::VerifyWords;
@@ -15,6 +16,7 @@ pub(crate) enum Command {
     Recover(RecoverWords),
     Verify(VerifyWords),
     Repair(RepairWords),
+    Sample(SampleWords),
 }
 
 /// The files that words name, by their places among the words. Own.
@@ -70,6 +72,7 @@ impl Command {
                 names.read(words.from);
                 names.made = Some(words.to);
             }
+            Command::Sample(words) => names.made = Some(words.file),
         }
         names
     }

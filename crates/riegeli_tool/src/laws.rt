@@ -23,6 +23,7 @@ ghost use Rattle.write_lines.specs.Input.{taken_from, with_last_end};
 ghost use Rattle.show_damaged.specs.RecoverCommand.{IsRecovered};
 ghost use Rattle.riegeli_tool.specs.RepairCommand.{end_puts, IsRepaired};
 ghost use Rattle.run_answers.specs.Runs.{IsSound, IsWhole, Runs, Seen};
+ghost use Rattle.sample_records.specs.SampleCommand.{sampled, sample_answer, sample_file, sample_summary};
 ghost use Rattle.show_files.specs.ShowCommand.{IsShown};
 ghost use Rattle.show_files.specs.VerifyCommand.{IsVerified};
 ghost use Rattle.damage_skip.specs.Bounds.{walked, refused_in};
@@ -31,6 +32,7 @@ ghost use Rattle.write_lines.specs.WriteCommand.{stop_text, answer_to, write_ans
 ghost use Rattle.riegeli_tool.specs.declared.command.Command.{Command};
 ghost use Rattle.show_damaged.specs.declared.recover_words.RecoverWords.{RecoverWords};
 ghost use Rattle.riegeli_tool.specs.declared.repair_words.RepairWords.{RepairWords};
+ghost use Rattle.sample_records.specs.declared.sample_words.SampleWords.{SampleWords};
 ghost use Rattle.show_files.specs.declared.show_words.ShowWords.{ShowWords};
 ghost use Rattle.run_answers.specs.declared.status.Status.{Status};
 ghost use Rattle.run_answers.specs.declared.status.Status.TheVariants as status;
@@ -98,6 +100,10 @@ pub fn streams_take_their_parts()
         → (bytes_to Made answer.puts ≡ relaid (walked words.most is.events))
         × (bytes_to Out answer.puts ≡ bytes_to Out (end_puts (refused_in words.most is.events) (chunks_in (walked words.most is.events))))
         × (bytes_to Notes answer.puts ≡ walk_text (regions_in (walked words.most is.events)) (refused_in words.most is.events)) }
+    ensures sample { (words : SampleWords)
+        → (bytes_to Made (sample_answer words).puts ≡ sample_file words)
+        × (bytes_to Out (sample_answer words).puts ≡ sample_summary words)
+        × (bytes_to Notes (sample_answer words).puts ≡ []) }
 {}
 
 /// Of a file without fault nothing is skipped: where it goes on past damage, `show` prints what it prints else, and says
@@ -137,6 +143,13 @@ pub fn show_prints_what_was_written()
         → (write_answer write input).status ≡ status.Ok
         → IsShown words (bytes_to Made (write_answer write input).puts) answer
         → answer ≡ record { puts = puts_to Out (with_last_end input); status = status.Ok } }
+{}
+
+/// What `sample` makes has no fault, and its records are those of the seed. Own.
+pub fn samples_read_back()
+    ensures faultless { (words : SampleWords) → AreInLimits words.options → HasNoFault false (sample_file words) }
+    ensures records { (words : SampleWords) (ks : List ChunkValue)
+        → AreInLimits words.options → IsFile ks (sample_file words) → AreRecordsOf ks (sampled words) }
 {}
 
 /// Records that `show` prints in the hexadecimal form, without positions, are those that `write` takes of the text in that form,

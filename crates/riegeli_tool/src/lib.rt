@@ -11,5 +11,6 @@ mod words;
 pub use command::Names;
 pub use program::run;
 pub use run_answers::Status;
+pub use sample_records::SampleFeed;
 pub use words::names;
 pub use write_lines::LineFeed;

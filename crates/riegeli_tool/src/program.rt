@@ -10,6 +10,7 @@ use crate::words::accept;
 use record_append::Device;
 use record_io::{Sink, Source, Store};
 use run_answers::{Status, end};
+use sample_records::sample;
 use show_damaged::recover;
 use show_files::{show, verify};
 use std::alloc::Global;
@@ -32,8 +33,9 @@ sample --seed=N --records=N [--chunk=N] [--workers=N] FILE
 /// `grown` the file that it grows, which no command does yet.
 /// Text goes to `out` and messages go to `notes`. For now the commands are `write`, of lines, with `--chunk`, `--every`,
 /// `--pad` and `--hex`; `show`, with `--hex` and `--positions`, and with `--recover`, which goes on past damage, and `--most`,
-/// which bounds the bytes of a region that is skipped; `verify`, which takes no memory; and `repair`, which makes the file of
-/// what is intact of another one, with `--most` too.
+/// which bounds the bytes of a region that is skipped; `verify`, which takes no memory; `repair`, which makes the file of
+/// what is intact of another one, with `--most` too; and `sample`, which makes the file of records that a seed tells, with
+/// `--seed`, `--records`, `--chunk` and `--workers`.
 ///
 /// # Errors
 ///
@@ -87,6 +89,7 @@ pub fn run<
         Some(Command::Recover(words)) => recover(alloc, &words, &mut files[0], out, notes),
         Some(Command::Verify(_)) => verify(&mut files[0], out, notes),
         Some(Command::Repair(words)) => repair(alloc, &words, &mut files[0], made, out, notes),
+        Some(Command::Sample(words)) => sample(rt, alloc, &words, made, out, notes),
         None => end(notes, USAGE, Status::Usage),
     }
 }

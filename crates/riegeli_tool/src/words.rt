@@ -4,6 +4,7 @@ ghost use Rattle.riegeli_tool.specs.Commands.{command_of, show_command_of, names
 
 use crate::command::{Command, Names};
 use crate::repair_words::repair_words;
+use sample_records::sample_words::sample_words;
 use show_damaged::recover_words::{goes_past_damage, recover_words};
 use show_files::show_words::show_words;
 use show_files::verify_words::verify_words;
@@ -28,6 +29,7 @@ fn parse(words: &[String]) -> Option<Command>
         "show" => show_command(words),
         "verify" => Some(Command::Verify(verify_words(words)?)),
         "repair" => Some(Command::Repair(repair_words(words)?)),
+        "sample" => Some(Command::Sample(sample_words(words)?)),
         _ => None,
     }
 }

@@ -1,6 +1,6 @@
 use Rattle.std.proofs.Common.{Some, [], ap, sym, map, ◌∙◌, length, arith}
 use Rattle.std.specs.String.{string_bytes}
-use Rattle.riegeli_tool.specs.declared.command.Command.TheVariants.{Show, Recover, Verify, Repair}
+use Rattle.riegeli_tool.specs.declared.command.Command.TheVariants.{Write, Show, Recover, Verify, Repair, Sample}
 use Rattle.riegeli_tool.specs.Commands.{command_of}
 use Rattle.riegeli_tool.specs.CommandAnswers.{meaning_of}
 use Rattle.run_answers.specs.Runs.{seen, unseen, shown_file}
@@ -12,13 +12,23 @@ use Rattle.riegeli_tool.proofs.program.run.Goals as goal
 
 pub write-requires-clause-in_limits : goal.write-requires-clause-in_limits
 write-requires-clause-in_limits g c κs within =
-    (accepted-within (map string_bytes c.args.words.now) (length c.args.files.now) c.in-Some-Write.words
+    (accepted-within (map string_bytes c.args.words.now) (length c.args.files.now) (Write c.in-Some-Write.words)
     (ap Some (sym c.in-Some-Write.field-0-is) ∙ c.in-Some-Write.ensures)).0
 
 pub write-requires-clause-one_worker : goal.write-requires-clause-one_worker
 write-requires-clause-one_worker g c κs within =
-    (accepted-within (map string_bytes c.args.words.now) (length c.args.files.now) c.in-Some-Write.words
+    (accepted-within (map string_bytes c.args.words.now) (length c.args.files.now) (Write c.in-Some-Write.words)
     (ap Some (sym c.in-Some-Write.field-0-is) ∙ c.in-Some-Write.ensures)).1
+
+pub sample-requires-clause-in_limits : goal.sample-requires-clause-in_limits
+sample-requires-clause-in_limits g c κs within =
+    (accepted-within (map string_bytes c.args.words.now) (length c.args.files.now) (Sample c.in-Some-Sample.words)
+    (ap Some (sym c.in-Some-Sample.field-0-is) ∙ c.in-Some-Sample.ensures)).0
+
+pub sample-requires-clause-most : goal.sample-requires-clause-most
+sample-requires-clause-most g c κs within =
+    (accepted-within (map string_bytes c.args.words.now) (length c.args.files.now) (Sample c.in-Some-Sample.words)
+    (ap Some (sym c.in-Some-Sample.field-0-is) ∙ c.in-Some-Sample.ensures)).1
 
 pub bounds-files-0 : goal.bounds-files-0
 bounds-files-0 g c =
@@ -92,3 +102,8 @@ returns-in-Some-Repair-clause-runs g c =
     (runs-one_file (shown_file g.S.Store.bytes g.S.Store.told g.S.Store.handed g.S.Store.faults) c.args.files.now _ c.repair.new.file _ (seen _ [] _ _ _ _) (seen _ [] _ _ _ _) _
     (accepted-takes (command_of (map string_bytes c.args.words.now)) (length c.args.files.now) (Repair c.in-Some-Repair.words) (sym is))
     (c.repair.ensures.runs (seen _ [] unseen _ unseen unseen)))
+
+pub returns-in-Some-Sample-clause-runs : goal.returns-in-Some-Sample-clause-runs
+returns-in-Some-Sample-clause-runs g c =
+    runs-of _ _ _ _ _ (ap meaning_of (ap Some (sym c.in-Some-Sample.field-0-is) ∙ c.in-Some-Sample.ensures))
+    (c.sample.ensures.runs (seen _ _ unseen _ unseen unseen))
