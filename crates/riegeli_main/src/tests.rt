@@ -19,6 +19,11 @@ const LINES: &str = "a\nbc\n\n";
 
 const REPORT: &str = "chunks 2\nrecords 3\nbytes 112\nunread 0\n";
 
+/// The records that are sampled, and the summary of their file.
+const SAMPLE: &str = "zr\nqdo\n";
+
+const SUMMARY: &str = "records 2\nbytes 113\n";
+
 /// More than a run of these tests prints or tells.
 const ROOM: usize = 1024;
 
@@ -32,6 +37,13 @@ fn each_command_uses_the_files_that_its_words_name(rt: HostRuntime) -> Result<()
         (&["verify", FIRST], Status::Ok, REPORT, ""),
         (&["repair", FIRST, SECOND], Status::Ok, REPORT, ""),
         (&["show", SECOND], Status::Ok, LINES, ""),
+        (
+            &["sample", "--seed=116", "--records=2", SECOND],
+            Status::Ok,
+            SUMMARY,
+            "",
+        ),
+        (&["show", SECOND], Status::Ok, SAMPLE, ""),
         (
             &["repair", FIRST, "./riegeli_main_first"],
             Status::Made,
