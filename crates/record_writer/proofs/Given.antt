@@ -59,38 +59,22 @@ LaysFront-all a b c s t u all given more is first then =
     subst (λ (ks : List ChunkValue). LaysFront a c s u ks) (chunks_of_groups-all all given more is)
     (LaysFront-behind a b c s t u (chunks_of_groups given) (chunks_of_groups more) first then)
 
--- the groups of all records, once the last one was put
-all_groups : (all given : List (List (List ℕ))) (old new : Grouping) (records : List (List ℕ)) (last : Option (List (List ℕ)))
-    → groups_from old records ≡ all → groups_from new [] ≡ option_to_list last → groups_from old records ≡ given ++ groups_from new []
-    → all ≡ given ++ option_to_list last
-all_groups all given old new records last whole finished split =
-    sym whole ∙ split ∙ ap (λ (rest : List (List (List ℕ))). given ++ rest) finished
+-- where the groups that a grouper gives at first are put, those of the records are
+pub Lays-all_groups : (ra : Option Rest) (old : Grouping) (size : ℕ) (every : Option ℕ) (a b : Option (List ℕ)) (s t : Progress)
+    → ((records : List (List ℕ)) → groups_from old records ≡ groups records size every)
+    → IfSome ra (λ rest. Lays a b s t (chunks_of_groups (groups_from old rest.records)))
+    → IfSome ra (λ rest. Lays a b s t (chunks_of_groups (groups rest.records size every)))
+Lays-all_groups None old size every a b s t all laid = tt
+Lays-all_groups (Some rest) old size every a b s t all laid =
+    subst (λ (gs : List (List (List ℕ))). Lays a b s t (chunks_of_groups gs)) (all rest.records) laid
 
-pub Lays-finished : (ra : Option Rest) (old new : Grouping) (size : ℕ) (every : Option ℕ) (given : List (List (List ℕ))) (stop : Option Stop) (last : Option (List (List ℕ)))
-    (a b c : Option (List ℕ)) (s t u : Progress)
-    → ((records : List (List ℕ)) → groups_from old records ≡ groups records size every) → groups_from new [] ≡ option_to_list last
-    → IfSome ra (λ rest. (rest.stop ≡ stop) × (groups_from old rest.records ≡ given ++ groups_from new []))
-    → Lays a b s t (chunks_of_groups given) → Lays b c t u (chunks_of_groups (option_to_list last))
-    → IfSome ra (λ rest. Lays a c s u (chunks_of_groups (groups rest.records size every)))
-Lays-finished None old new size every given stop last a b c s t u whole finished split first then = tt
-Lays-finished (Some rest) old new size every given stop last a b c s t u whole finished split first then =
-    Lays-all a b c s t u (groups rest.records size every) given (option_to_list last)
-    (all_groups (groups rest.records size every) given old new rest.records last (whole rest.records) finished split.1)
-    first
-    then
-
-pub LaysFront-finished : (ra : Option Rest) (old new : Grouping) (size : ℕ) (every : Option ℕ) (given : List (List (List ℕ))) (stop : Option Stop) (last : Option (List (List ℕ)))
-    (a b c : Option (List ℕ)) (s t u : Progress)
-    → ((records : List (List ℕ)) → groups_from old records ≡ groups records size every) → groups_from new [] ≡ option_to_list last
-    → IfSome ra (λ rest. (rest.stop ≡ stop) × (groups_from old rest.records ≡ given ++ groups_from new []))
-    → Lays a b s t (chunks_of_groups given) → LaysFront b c t u (chunks_of_groups (option_to_list last))
-    → IfSome ra (λ rest. LaysFront a c s u (chunks_of_groups (groups rest.records size every)))
-LaysFront-finished None old new size every given stop last a b c s t u whole finished split first then = tt
-LaysFront-finished (Some rest) old new size every given stop last a b c s t u whole finished split first then =
-    LaysFront-all a b c s t u (groups rest.records size every) given (option_to_list last)
-    (all_groups (groups rest.records size every) given old new rest.records last (whole rest.records) finished split.1)
-    first
-    then
+pub LaysFront-all_groups : (ra : Option Rest) (old : Grouping) (size : ℕ) (every : Option ℕ) (a b : Option (List ℕ)) (s t : Progress)
+    → ((records : List (List ℕ)) → groups_from old records ≡ groups records size every)
+    → IfSome ra (λ rest. LaysFront a b s t (chunks_of_groups (groups_from old rest.records)))
+    → IfSome ra (λ rest. LaysFront a b s t (chunks_of_groups (groups rest.records size every)))
+LaysFront-all_groups None old size every a b s t all front = tt
+LaysFront-all_groups (Some rest) old size every a b s t all front =
+    subst (λ (gs : List (List (List ℕ))). LaysFront a b s t (chunks_of_groups gs)) (all rest.records) front
 
 -- what holds of whatever a feed has left
 pub whatever_is_left : (ra : Option Rest) (P : Rest → Type 0) → ((rest : Rest) → P rest) → IfSome ra P

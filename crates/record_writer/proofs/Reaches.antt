@@ -84,14 +84,33 @@ reach_of-handed place old new bound now limit record_bytes push lowers reach =
 pub reach_of-kept : (place : ℕ) (old new : Grouping) (bound now limit : ℕ) → new ≡ old → now ≡ bound → reach_of place old bound ≤ limit → reach_of place new now ≤ limit
 reach_of-kept place old new bound now limit same kept reach = omega (arith, reach, kept, ap (λ (g : Grouping). cost_of g.group) same)
 
--- and where a window was put, and another was taken meanwhile
-pub reach_of-behind : (window ks : List ChunkValue) (place next : ℕ) (old new : Grouping) (bound now limit : ℕ)
-    → reach_of (end_of_chunks place window) old bound ≤ limit → next ≡ end_of_chunks place window
-    → ((place : ℕ) → reach_of (end_of_chunks place ks) new now ≤ reach_of place old bound)
-    → reach_of (end_of_chunks next ks) new now ≤ limit
-reach_of-behind window ks place next old new bound now limit reach at taken = omega (arith, reach, at, taken next)
+-- where the chunks of the groups that were given first were put, those of the others end within it
+pub reach_of-window : (place next : ℕ) (given window : List (List (List ℕ))) (grouping : Grouping) (bound limit : ℕ) → next ≡ end_of_chunks place (chunks_of_groups given)
+    → reach_of (end_of_chunks place (chunks_of_groups (given ++ window))) grouping bound ≤ limit → end_of_chunks next (chunks_of_groups window) ≤ limit
+reach_of-window place next given window grouping bound limit at reach =
+    omega (
+      arith,
+      ap (λ (place : ℕ). end_of_chunks place (chunks_of_groups window)) at,
+      reach,
+      ap (λ (ks : List ChunkValue). end_of_chunks place ks) (map-append simple_chunk given window),
+      end_of_chunks-append place (chunks_of_groups given) (chunks_of_groups window),
+    )
 
 -- the last group's chunk ends within it
 pub reach_of-last : (place : ℕ) (grouping : Grouping) (group : List (List ℕ)) (limit : ℕ)
     → reach_of place grouping 0 ≤ limit → group ≡ grouping.group → group ≢ [] → end_of_chunk place (simple_chunk group) ≤ limit
 reach_of-last place grouping group limit reach same some = omega (arith, reach, ap cost_of same, group-near place group some)
+
+-- and where it was taken, no group is open
+pub reach_of-finished : (place : ℕ) (old new : Grouping) (group : List (List ℕ)) (before after : List (List (List ℕ)))
+    → after ≡ before ++ group ∷ [] → group ≡ old.group → group ≢ [] → new.group ≡ []
+    → reach_of (end_of_chunks place (chunks_of_groups after)) new 0 ≤ reach_of (end_of_chunks place (chunks_of_groups before)) old 0
+reach_of-finished place old new group before after is same some none =
+    let next : ℕ = end_of_chunks place (chunks_of_groups before) in
+    omega (
+      arith,
+      ap (λ (ks : List ChunkValue). end_of_chunks place ks) (ap chunks_of_groups is ∙ map-append simple_chunk before (group ∷ [])),
+      end_of_chunks-append place (chunks_of_groups before) (simple_chunk group ∷ []),
+      reach_of-last next old group (reach_of next old 0) (omega arith) same some,
+      ap cost_of none,
+    )

@@ -1,8 +1,11 @@
 -- Groups that are taken of a feed, and then put together.
-use Rattle.std.proofs.Common.{◌≡◌, ◌∙◌, ℕ, ◌+◌, ◌<◌, ◌≤◌, Option, Some, None, Result, Ok, Err, List, [], ◌∷◌, ◌++◌, length, take, drop, get_or, slice_set, IfSome, OnOk, OnErr, refl, sym, ap, subst, append_assoc, add-one, arith}
+use Rattle.std.proofs.Common.{◌≡◌, ◌∙◌, ℕ, ◌+◌, ◌<◌, ◌≤◌, Bool, Option, Some, None, Result, Ok, Err, List, [], ◌∷◌, ◌++◌, length, take, drop, get_or, slice_set, IfSome, OnOk, refl, sym, ap, subst, inl, inr, append_assoc, add-one, arith, rules}
 use Rattle.std.proofs.Math.Seq.{take-suc, map-set_same}
-use Rattle.std.proofs.lemmas.Result.{IfErr-at_err, IfOk-at_ok}
+use Rattle.std.proofs.lemmas.Option.{none-some}
+use Rattle.std.proofs.lemmas.Result.{IfOk-at_ok}
 use Rattle.std.proofs.lemmas.List.{append-nil, get_or-map, get_or-take, length-map, length-take-le, map-append, take-append-drop, take-map}
+use Rattle.record_io.specs.Outside.{Rose}
+use Rattle.record_io.specs.Calls.{OnlyCounts}
 use Rattle.chunk_header.specs.Chunks.{ChunkValue}
 use Rattle.chunk_header.specs.SimpleChunks.{simple_chunk}
 use Rattle.meta_chunk.specs.Laid.{end_of_chunk}
@@ -11,20 +14,24 @@ use Rattle.meta_chunk.proofs.Joins.{end_of_chunks-append, end_of_chunks_past}
 use Rattle.simple_chunk.specs.SimpleParts.{SimpleValue}
 use Rattle.record_group.specs.Groupings.{Grouping, groups_from}
 use Rattle.record_writer.specs.declared.cut_off.CutOff.{CutOff}
-use Rattle.record_writer.specs.declared.engine.FeedPart.{FeedPart}
-use Rattle.record_writer.specs.declared.engine.FeedPart.TheVariants.{Window, All}
-use Rattle.record_writer.specs.Feeds.{Rest}
-use Rattle.record_writer.specs.Progresses.{Progress, AreGiven, Lays, LaysFront, chunks_of_groups}
-use Rattle.record_writer.specs.Windows.{AreFront, AreTaken, groups_of}
+use Rattle.record_writer.specs.declared.cut_off.CutOff.TheVariants.{Input, Memory}
+use Rattle.record_writer.specs.declared.feed.Stop.{Stop}
+use Rattle.record_writer.specs.declared.group_taker.FeedPart.{FeedPart}
+use Rattle.record_writer.specs.declared.group_taker.FeedPart.TheVariants.{Window, All}
+use Rattle.record_writer.specs.Feeds.{Rest, nothing_left}
+use Rattle.record_writer.specs.Progresses.{Progress, AreGiven, Lays, LaysFront, chunks_of_groups, reach_of}
+use Rattle.record_writer.specs.Windows.{AreFront, AreTaken, TakesGroups, groups_of}
 use Rattle.record_writer.proofs.Layings.{Lays-append, LaysFront-behind, LaysFront-longer}
-use Rattle.record_writer.proofs.Given.{chunks_of_groups-all}
+use Rattle.record_writer.proofs.Given.{AreGiven-ended, chunks_of_groups-all}
 
--- what is said of a call that failed, and of one that didn't
-pub where_failed : {X E P : Type 0} (result : Result X E) (e : E) → result ≡ Err e → OnErr result P → P
-where_failed {X} {E} {P} result e is h = IfErr-at_err (λ _. P) is h
-
+-- what is said of a call that didn't fail
 pub where_done : {X E P : Type 0} (result : Result X E) (x : X) → result ≡ Ok x → OnOk result P → P
 where_done {X} {E} {P} result x is h = IfOk-at_ok (λ _. P) is h
+
+-- what holds anyway holds where a call didn't fail
+pub OnOk-any : {X E P : Type 0} (result : Result X E) → P → OnOk result P
+OnOk-any (Ok x) h = h
+OnOk-any (Err e) h = tt
 
 -- the chunk of a group stands where the group does
 pub group-at : (chunks : List SimpleValue) (count : ℕ) (groups : List (List (List ℕ))) (i : ℕ) (chunk : SimpleValue) → groups_of (take count chunks) ≡ groups
@@ -123,11 +130,16 @@ pub AreGiven-front : (a b : Option Rest) (old new : Grouping) (given : List (Lis
 AreGiven-front None b old new given h = tt
 AreGiven-front (Some all) b old new given (rest, told, of) = (groups_from new rest.records, of.groups)
 
+-- as no groups are
+AreFront-none : (a : Option Rest) (old : Grouping) → AreFront a old []
+AreFront-none None old = tt
+AreFront-none (Some all) old = (groups_from old all.records, refl)
+
 -- as are those that were taken, however that ended
 AreTaken-front : (t : Result FeedPart CutOff) (a b : Option Rest) (old new : Grouping) (given : List (List (List ℕ))) → AreTaken t a b old new given → AreFront a old given
 AreTaken-front (Ok Window) a b old new given h = AreGiven-front a b old new given h
 AreTaken-front (Ok (All stop)) None b old new given h = tt
-AreTaken-front (Ok (All stop)) (Some all) b old new given h = (groups_from new [], h.1)
+AreTaken-front (Ok (All stop)) (Some all) b old new given h = ([], h.1 ∙ sym (append-nil given))
 AreTaken-front (Err cut) a b old new given h = h
 
 -- so where a front of their chunks was put, that is one of all
@@ -141,37 +153,34 @@ LaysFront-taken t (Some all) rb old new given a b s u taken front =
     (chunks_of_groups-all (groups_from old all.records) given rest.0 rest.1)
     (LaysFront-longer a b s u (chunks_of_groups given) (chunks_of_groups rest.0) front)
 
+-- and where the chunks of all groups were put, so were those of the feed's records
+pub Lays-taken : (stop : Option Stop) (ra rb : Option Rest) (old new : Grouping) (given : List (List (List ℕ))) (a b : Option (List ℕ)) (s u : Progress)
+    → AreTaken (Ok (All stop)) ra rb old new given → Lays a b s u (chunks_of_groups given)
+    → IfSome ra (λ rest. Lays a b s u (chunks_of_groups (groups_from old rest.records)))
+Lays-taken stop None rb old new given a b s u taken laid = tt
+Lays-taken stop (Some all) rb old new given a b s u taken laid = subst (λ (gs : List (List (List ℕ))). Lays a b s u (chunks_of_groups gs)) (sym taken.1) laid
+
 -- a number that falls with each window
 abbrev pub to_take : Result FeedPart CutOff → ℕ → ℕ
 to_take (Ok Window) bound = bound + 1
 to_take (Ok (All stop)) bound = 0
 to_take (Err cut) bound = 0
 
-falls : (t : Result FeedPart CutOff) (old new : ℕ) → (t ≡ Ok Window → new < old) → to_take t new < to_take (Ok Window) old
-falls (Ok Window) old new lowers = omega (arith, lowers refl)
-falls (Ok (All stop)) old new lowers = omega arith
-falls (Err cut) old new lowers = omega arith
-
-pub to_take-falls : (s t : Result FeedPart CutOff) (old new : ℕ) → s ≡ Ok Window → (t ≡ Ok Window → new < old) → to_take t new < to_take s old
-to_take-falls s t old new more lowers = subst (λ (s : Result FeedPart CutOff). to_take t new < to_take s old) (sym more) (falls t old new lowers)
-
 -- what holds of whatever a feed has left behind a window, where it tells that
-pub IfSome-given : (a b : Option Rest) (old new : Grouping) (given : List (List (List ℕ))) (P : Type 0)
+IfSome-given : (a b : Option Rest) (old new : Grouping) (given : List (List (List ℕ))) (P : Type 0)
     → AreGiven a b old new given → IfSome b (λ _. P) → IfSome a (λ _. P)
 IfSome-given None b old new given P h p = tt
 IfSome-given (Some all) b old new given P (rest, told, of) p = subst (λ (o : Option Rest). IfSome o (λ _. P)) told p
 
 -- groups that were taken behind a window
-pub AreTaken-append : (t : Result FeedPart CutOff) (a b c : Option Rest) (old between new : Grouping) (given more : List (List (List ℕ)))
+AreTaken-append : (t : Result FeedPart CutOff) (a b c : Option Rest) (old between new : Grouping) (given more : List (List (List ℕ)))
     → AreGiven a b old between given → AreTaken t b c between new more → AreTaken t a c old new (given ++ more)
 AreTaken-append (Ok Window) a b c old between new given more h then = AreGiven-append a b c old between new given more h then
 AreTaken-append (Ok (All stop)) None b c old between new given more h then = tt
 AreTaken-append (Ok (All stop)) (Some all) b c old between new given more (rest, told, of) then =
-    let ended = subst (λ (o : Option Rest). IfSome o (λ r. (r.stop ≡ stop) × (groups_from between r.records ≡ more ++ groups_from new []))) told then in (
+    let ended = subst (λ (o : Option Rest). IfSome o (λ r. (r.stop ≡ stop) × (groups_from between r.records ≡ more))) told then in (
       of.stop ∙ ended.0,
-      of.groups
-          ∙ ap (λ (gs : List (List (List ℕ))). given ++ gs) ended.1
-          ∙ sym (append_assoc given more (groups_from new [])),
+      of.groups ∙ ap (λ (gs : List (List (List ℕ))). given ++ gs) ended.1,
     )
 AreTaken-append (Err cut) None b c old between new given more h then = tt
 AreTaken-append (Err cut) (Some all) b c old between new given more (rest, told, of) then =
@@ -181,3 +190,91 @@ AreTaken-append (Err cut) (Some all) b c old between new given more (rest, told,
           ∙ ap (λ (gs : List (List (List ℕ))). given ++ gs) front.1
           ∙ sym (append_assoc given more front.0),
     )
+
+-- a count that rose behind one that didn't fall
+Rose-behind : (l m n : ℕ) → l ≤ m → Rose m n → Rose l n
+Rose-behind l m n less (inl rose) = inl (omega (arith, less, rose))
+Rose-behind l m n less (inr full) = inr full
+
+-- an object that was used, without a fault that is told of, and then again
+OnlyCounts-behind : {M L : Type 0} (lent : M → L) (faults : M → ℕ) (P Q : Type 0) (a b c : M) → OnlyCounts lent faults P a b → OnlyCounts lent faults Q b c
+    → OnlyCounts lent faults Q a c
+OnlyCounts-behind lent faults P Q a b c first then = record {
+  same_lent = then.same_lent ∙ first.same_lent;
+  cause = λ fails. Rose-behind (faults a) (faults b) (faults c) first.never_falls (then.cause fails);
+  never_falls = omega (arith, first.never_falls, then.never_falls);
+  small = λ below. then.small (first.small below);
+}
+
+-- all was taken, and this stop follows
+abbrev all_taken : Option Stop → Result FeedPart CutOff
+all_taken stop = Ok (All stop)
+
+stop_in : Result FeedPart CutOff → Option Stop
+stop_in (Ok Window) = None
+stop_in (Ok (All stop)) = stop
+stop_in (Err cut) = None
+
+-- at its end without a stop a feed has nothing left
+drained-at_end : (a b c : Option Rest) (old between : Grouping) (given : List (List (List ℕ))) (stop : Option Stop)
+    → AreGiven a b old between given → IfSome b (λ r. r ≡ record { records = []; stop = stop }) → (stop ≡ None → c ≡ b) → stop ≡ None
+    → IfSome a (λ _. c ≡ Some nothing_left)
+drained-at_end None b c old between given stop before ended kept none = tt
+drained-at_end (Some all) b c old between given None (rest, told, of) ended kept none =
+    kept refl ∙ told ∙ ap Some (subst (λ (o : Option Rest). IfSome o (λ r. r ≡ nothing_left)) told ended)
+drained-at_end (Some all) b c old between given (Some stop) before ended kept none = absurd (none-some stop (sym none))
+
+module _ (L N : Type 0) (rest : L → Option Rest) (bound : L → ℕ) (going : L → Bool) (name : L → N) (faults : L → ℕ) where
+  -- a window of groups, and what was taken behind it
+  pub TakesGroups-append : (a b c : L) (old between new : Grouping) (given more : List (List (List ℕ))) (t : Result FeedPart CutOff)
+      → TakesGroups rest bound going name faults a b old between given (Ok Window) → TakesGroups rest bound going name faults b c between new more t
+      → TakesGroups rest bound going name faults a c old new (given ++ more) t
+  TakesGroups-append a b c old between new given more t first then = record {
+    given_of = AreTaken-append t (rest a) (rest b) (rest c) old between new given more first.given_of then.given_of;
+    may_go_on = then.may_go_on;
+    lowers = λ goes_on. omega (arith, first.lowers refl, then.lowers goes_on);
+    in_reach = λ place.
+        omega (
+          arith,
+          first.in_reach place,
+          then.in_reach (end_of_chunks place (chunks_of_groups given)),
+          end_of_chunks-append place (chunks_of_groups given) (chunks_of_groups more),
+          ap (λ (ks : List ChunkValue). end_of_chunks place ks) (chunks_of_groups-all (given ++ more) given more refl),
+        );
+    drained = λ ended. IfSome-given (rest a) (rest b) old between given (rest c ≡ Some nothing_left) first.given_of (then.drained ended);
+    no_sink = then.no_sink;
+    counts = OnlyCounts-behind name faults (Ok Window ≡ Err Input) (t ≡ Err Input) a b c first.counts then.counts;
+  }
+
+  -- where no record was left, and this stop followed, or none, and the last group was taken too
+  pub TakesGroups-ended : (a b c : L) (old between new : Grouping) (given all : List (List (List ℕ))) (stop : Option Stop)
+      → AreGiven (rest a) (rest b) old between given → IfSome (rest b) (λ r. r ≡ record { records = []; stop = stop }) → (stop ≡ None → rest c ≡ rest b)
+      → all ≡ given ++ groups_from between []
+      → ((place : ℕ) → reach_of (end_of_chunks place (chunks_of_groups all)) new (bound c) ≤ reach_of place old (bound a))
+      → OnlyCounts name faults (all_taken stop ≡ Err Input) a c
+      → TakesGroups rest bound going name faults a c old new all (all_taken stop)
+  unfolding stop_in
+  TakesGroups-ended a b c old between new given all stop before ended kept last reach counts = record {
+    given_of = subst (λ (gs : List (List (List ℕ))). AreTaken (all_taken stop) (rest a) (rest c) old new gs) (sym last)
+        (AreGiven-ended (rest a) (rest b) old between given stop before ended);
+    may_go_on = search rules;
+    lowers = search rules;
+    in_reach = reach;
+    drained = λ at_end. drained-at_end (rest a) (rest b) (rest c) old between given stop before ended kept (ap stop_in at_end);
+    no_sink = search rules;
+    counts = counts;
+  }
+
+  -- where there was no memory to make them ready, none is left
+  pub TakesGroups-lost : (a b : L) (old new : Grouping) (given : List (List (List ℕ))) (t : Result FeedPart CutOff)
+      → TakesGroups rest bound going name faults a b old new given t → TakesGroups rest bound going name faults a b old new [] (Err Memory)
+  TakesGroups-lost a b old new given t taken = record {
+    given_of = AreFront-none (rest a) old;
+    may_go_on = search rules;
+    lowers = search rules;
+    in_reach = λ place. omega (arith, taken.in_reach place, end_of_chunks_past place (chunks_of_groups given));
+    drained = search rules;
+    no_sink = search rules;
+    counts = OnlyCounts-behind name faults (t ≡ Err Input) (Err Memory ≡ Err Input) a b b taken.counts
+        (record { same_lent = refl; cause = search rules; never_falls = omega arith; small = λ below. below });
+  }

@@ -1,12 +1,15 @@
 -- What is taken of a feed before it is put. Own.
-use Rattle.std.specs.Prelude.{◌≡◌, ℕ, Option, Result, Ok, Err, List, [], ◌++◌, map, IfSome}
+use Rattle.std.specs.Prelude.{◌≡◌, ◌≢◌, ℕ, ◌<◌, ◌≤◌, Bool, true, Option, Some, None, Result, Ok, Err, List, ◌++◌, map, IfSome}
+use Rattle.record_io.specs.Calls.{OnlyCounts}
+use Rattle.meta_chunk.specs.Files.{end_of_chunks}
 use Rattle.simple_chunk.specs.SimpleParts.{SimpleValue}
 use Rattle.record_group.specs.Groupings.{Grouping, groups_from}
 use Rattle.record_writer.specs.declared.cut_off.CutOff.{CutOff}
-use Rattle.record_writer.specs.declared.engine.FeedPart.{FeedPart}
-use Rattle.record_writer.specs.declared.engine.FeedPart.TheVariants.{Window, All}
-use Rattle.record_writer.specs.Feeds.{Rest}
-use Rattle.record_writer.specs.Progresses.{AreGiven}
+use Rattle.record_writer.specs.declared.cut_off.CutOff.TheVariants.{Input, Made}
+use Rattle.record_writer.specs.declared.group_taker.FeedPart.{FeedPart}
+use Rattle.record_writer.specs.declared.group_taker.FeedPart.TheVariants.{Window, All}
+use Rattle.record_writer.specs.Feeds.{Rest, nothing_left}
+use Rattle.record_writer.specs.Progresses.{AreGiven, chunks_of_groups, reach_of}
 
 -- the groups whose chunks these are
 abbrev pub groups_of : List SimpleValue → List (List (List ℕ))
@@ -17,10 +20,23 @@ abbrev pub AreFront : Option Rest → Grouping → List (List (List ℕ)) → Ty
 AreFront before old given =
     IfSome before (λ rest. (more : List (List (List ℕ))) × (groups_from old rest.records ≡ given ++ more))
 
--- groups that were taken of a feed: those that were given; or all groups but the open one, where no record is left and
--- this stop follows, or none; or a front of all groups, where the work was cut off
+-- groups that were taken of a feed: those that were given; or all groups, where this stop follows the records, or none; or
+-- a front of all groups, where the work was cut off
 abbrev pub AreTaken : Result FeedPart CutOff → Option Rest → Option Rest → Grouping → Grouping → List (List (List ℕ)) → Type 0
 AreTaken (Ok Window) before after old new given = AreGiven before after old new given
 AreTaken (Ok (All stop)) before after old new given =
-    IfSome before (λ rest. (rest.stop ≡ stop) × (groups_from old rest.records ≡ given ++ groups_from new []))
+    IfSome before (λ rest. (rest.stop ≡ stop) × (groups_from old rest.records ≡ given))
 AreTaken (Err cut) before after old new given = AreFront before old given
+
+-- what a feed leaves from which groups were taken: it may be asked for more behind a window, and has less left then; their chunks
+-- and those still to come reach no further than before; at its end nothing is left; and it only counts its faults, which no
+-- sink takes part in
+pub record TakesGroups {L N : Type 0} (rest : L → Option Rest) (bound : L → ℕ) (going : L → Bool) (name : L → N) (faults : L → ℕ)
+    (before after : L) (old new : Grouping) (given : List (List (List ℕ))) (taken : Result FeedPart CutOff) : Type 0 where
+  pub given_of : AreTaken taken (rest before) (rest after) old new given
+  pub may_go_on : taken ≡ Ok Window → going after ≡ true
+  pub lowers : taken ≡ Ok Window → bound after < bound before
+  pub in_reach : (place : ℕ) → reach_of (end_of_chunks place (chunks_of_groups given)) new (bound after) ≤ reach_of place old (bound before)
+  pub drained : taken ≡ Ok (All None) → IfSome (rest before) (λ _. rest after ≡ Some nothing_left)
+  pub no_sink : taken ≢ Err Made
+  pub counts : OnlyCounts name faults (taken ≡ Err Input) before after

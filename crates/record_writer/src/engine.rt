@@ -1,26 +1,24 @@
-ghost use Rattle.std.specs.Option.{option_to_list};
-ghost use Rattle.std.specs.Prelude.{◌≡◌, ◌≢◌, ℕ, ◌+◌, ◌*◌, ◌^◌, ◌<◌, ◌≤◌, true, false, Some, None, Option, List, [], ◌++◌, length, IfOk, IfSome, OnOk, OnErr};
+ghost use Rattle.std.specs.Prelude.{◌≡◌, ℕ, ◌+◌, ◌^◌, ◌≤◌, true, false, Some, None, [], IfOk, IfSome, OnOk, OnErr};
 ghost use Rattle.record_io.specs.Calls.{OnlyCounts};
-ghost use Rattle.meta_chunk.specs.Files.{end_of_chunks};
-ghost use Rattle.record_group.specs.Groups.{groups, pads_start, pads_end};
-ghost use Rattle.record_group.specs.Groupings.{groups_from, IsPush};
+ghost use Rattle.record_group.specs.Groups.{pads_start, pads_end};
+ghost use Rattle.record_group.specs.Groupings.{groups_from};
 ghost use Rattle.record_writer.specs.Ends.{answer_of};
 ghost use Rattle.record_writer.specs.Feeds.{nothing_left};
-ghost use Rattle.record_writer.specs.Progresses.{AreGiven, Lays, LaysFront, nothing_made, chunks_of_groups, reach_of};
-ghost use Rattle.record_writer.specs.Windows.{AreTaken};
+ghost use Rattle.record_writer.specs.Progresses.{Lays, LaysFront, nothing_made, chunks_of_groups, reach_of};
 ghost use Rattle.record_writer.specs.Written.{AreInLimits, Answers, TakesFile, chunks_under, file_under};
 
 use crate::cut_off::CutOff;
-use crate::feed::{FeedEnd, RecordFeed, Stop};
+use crate::feed::{RecordFeed, Stop};
+use crate::group_taker::{FeedPart, GroupTaker};
 use crate::made_file::MadeFile;
 use crate::options::WriteOptions;
-use crate::window::{FULL, LEAST, Window, put_group};
-use record_group::{Grouper, Pad};
-use record_io::{Bytes, Failed, Sink, Totals};
-use std::alloc::{AllocError, Global};
-use std::mem;
-use std::sync::atomic::{AtomicU64, Ordering};
-use std::thread::{Threads, join_mut};
+use crate::simple_window::SimpleWindow;
+use crate::window::Window;
+use crate::window_pair::WindowPair;
+use record_group::Pad;
+use record_io::{Failed, Sink, Totals};
+use std::alloc::Global;
+use std::thread::Threads;
 
 /// Why a file of records was not written to the end of its feed. Own.
 #[derive(Clone, Copy, Debug, PartialEq, Eq)]
@@ -99,8 +97,32 @@ pub fn write_records<R: Threads + Sync, L: RecordFeed, M: Sink + Send>(
     ensures feed { OnlyCounts L.name L.faults (result ≡ Err WriteEnd.Input) feed.old feed.new }
     ensures made_counts { OnlyCounts M.lent M.faults (result ≡ Err WriteEnd.Made) made.old made.new }
 {
+    write(rt, alloc, options, SimpleWindow::new(alloc), feed, made)
+}
+
+/// As `write_records`, in windows of the kind of this empty one.
+fn write<R: Threads + Sync, W: Window + Send, L: RecordFeed, M: Sink + Send>(
+    rt: &R,
+    alloc: Global,
+    options: &WriteOptions,
+    window: W,
+    feed: &mut L,
+    made: &mut M,
+) -> Result<Totals, WriteEnd>
+    requires empty { W.groups window ≡ [] }
+    requires feed_going { L.going feed.old ≡ true }
+    requires in_reach { L.bound feed.old ≤ 2 ^ 41 }
+    requires in_limits { AreInLimits options.now }
+    ensures answer { IfSome (L.rest feed.old) (Answers result options.now) }
+    ensures made { IfSome (L.rest feed.old) (λ rest.
+        TakesFile result (M.taken made.old) (M.taken made.new) (file_under options.now rest.records)) }
+    ensures read_to_end { OnOk result (IfSome (L.rest feed.old) (λ _. L.rest feed.new ≡ Some nothing_left)) }
+
+    ensures feed { OnlyCounts L.name L.faults (result ≡ Err WriteEnd.Input) feed.old feed.new }
+    ensures made_counts { OnlyCounts M.lent M.faults (result ≡ Err WriteEnd.Made) made.old made.new }
+{
     let mut file = MadeFile::new();
-    let stop = put_chunks(rt, &mut file, alloc, options, feed, made);
+    let stop = put_chunks(rt, &mut file, alloc, options, window, feed, made);
     // What is held goes out, however the work ended, unless it was cut off before a chunk of records.
     if stop.is_ok() || file.totals().records > 0 {
         file.flush(made)?;
@@ -121,15 +143,17 @@ fn answer(stop: Option<Stop>, totals: Totals) -> Result<Totals, WriteEnd>
 }
 
 /// Puts the chunks of the file, and answers which stop follows the records.
-fn put_chunks<R: Threads, L: RecordFeed, M: Sink + Send>(
+fn put_chunks<R: Threads + Sync, W: Window + Send, L: RecordFeed, M: Sink + Send>(
     rt: &R,
     file: &mut MadeFile,
     alloc: Global,
     options: &WriteOptions,
+    window: W,
     feed: &mut L,
     made: &mut M,
 ) -> Result<Option<Stop>, CutOff>
     requires at_front { file.old ≡ nothing_made }
+    requires empty { W.groups window ≡ [] }
     requires feed_going { L.going feed.old ≡ true }
     requires in_reach { L.bound feed.old ≤ 2 ^ 41 }
     requires in_limits { AreInLimits options.now }
@@ -142,9 +166,11 @@ fn put_chunks<R: Threads, L: RecordFeed, M: Sink + Send>(
     ensures feed { OnlyCounts L.name L.faults (result ≡ Err CutOff.Input) feed.old feed.new }
     ensures made { OnlyCounts M.lent M.faults (result ≡ Err CutOff.Made) made.old made.new }
 {
+    let mut taker = GroupTaker::new(alloc, options);
+    let mut windows = WindowPair::new(alloc, window);
     file.start(made)?;
     file.pad_if(pads_start(options.pad), made)?;
-    let stop = put_groups(rt, file, alloc, options, feed, made)?;
+    let stop = put_groups(rt, file, &mut taker, &mut windows, feed, made)?;
     file.pad_if(pads_end(options.pad), made)?;
     Ok(stop)
 }
@@ -164,177 +190,43 @@ fn pads_end(pad: Pad) -> bool
 }
 
 /// Puts a chunk for each group of the feed's records, and answers which stop follows them.
-fn put_groups<R: Threads, L: RecordFeed, M: Sink + Send>(
+///
+/// A window is put while the next one is taken and made ready, unless it is large.
+fn put_groups<R: Threads + Sync, W: Window + Send, L: RecordFeed, M: Sink + Send>(
     rt: &R,
     file: &mut MadeFile,
-    alloc: Global,
-    options: &WriteOptions,
+    taker: &mut GroupTaker,
+    windows: &mut WindowPair<W>,
     feed: &mut L,
     made: &mut M,
 ) -> Result<Option<Stop>, CutOff>
     requires going { file.old.spent ≡ false }
+    requires window { W.groups windows.old.window ≡ [] }
+    requires next { W.groups windows.old.next ≡ [] }
     requires feed_going { L.going feed.old ≡ true }
-    requires in_reach { file.old.place + 184 * L.bound feed.old ≤ 2 ^ 60 }
-    requires in_limits { AreInLimits options.now }
+    requires in_reach { reach_of file.old.place taker.old (L.bound feed.old) ≤ 2 ^ 60 }
     ensures stop { IfOk result (λ stop. IfSome (L.rest feed.old) (λ rest. rest.stop ≡ stop)) }
     ensures whole { OnOk result (IfSome (L.rest feed.old) (λ rest.
-        Lays (M.taken made.old) (M.taken made.new) file.old file.new
-        (chunks_of_groups (groups rest.records options.now.size options.now.every)))) }
+        Lays (M.taken made.old) (M.taken made.new) file.old file.new (chunks_of_groups (groups_from taker.old rest.records)))) }
     ensures front { OnErr result (IfSome (L.rest feed.old) (λ rest.
-        LaysFront (M.taken made.old) (M.taken made.new) file.old file.new
-        (chunks_of_groups (groups rest.records options.now.size options.now.every)))) }
+        LaysFront (M.taken made.old) (M.taken made.new) file.old file.new (chunks_of_groups (groups_from taker.old rest.records)))) }
     ensures going { OnOk result (file.new.spent ≡ false) }
     ensures in_reach { OnOk result (file.new.place ≤ 2 ^ 60) }
     ensures drained { result ≡ Ok None → IfSome (L.rest feed.old) (λ _. L.rest feed.new ≡ Some nothing_left) }
     ensures feed { OnlyCounts L.name L.faults (result ≡ Err CutOff.Input) feed.old feed.new }
     ensures made { OnlyCounts M.lent M.faults (result ≡ Err CutOff.Made) made.old made.new }
 {
-    let mut grouper = Grouper::new(alloc, options.size, options.every);
-    let stop = put_closed_groups(rt, file, alloc, &mut grouper, feed, made)?;
-    if let Some(group) = grouper.finish() {
-        put_group(file, alloc, group, made)?;
-    }
-    Ok(stop)
-}
-
-/// Takes the feed's records, puts each group that closes, and answers which stop follows them.
-///
-/// A window is put while the next one is taken, unless it is large.
-fn put_closed_groups<R: Threads, L: RecordFeed, M: Sink + Send>(
-    rt: &R,
-    file: &mut MadeFile,
-    alloc: Global,
-    grouper: &mut Grouper,
-    feed: &mut L,
-    made: &mut M,
-) -> Result<Option<Stop>, CutOff>
-    requires going { file.old.spent ≡ false }
-    requires feed_going { L.going feed.old ≡ true }
-    requires in_reach { reach_of file.old.place grouper.old (L.bound feed.old) ≤ 2 ^ 60 }
-    ensures whole { IfOk result (λ stop. (given : List (List (List ℕ)))
-        × Lays (M.taken made.old) (M.taken made.new) file.old file.new (chunks_of_groups given)
-        × IfSome (L.rest feed.old) (λ rest. (rest.stop ≡ stop)
-        × (groups_from grouper.old rest.records ≡ given ++ groups_from grouper.new []))) }
-    ensures front { OnErr result (IfSome (L.rest feed.old) (λ rest.
-        LaysFront (M.taken made.old) (M.taken made.new) file.old file.new
-        (chunks_of_groups (groups_from grouper.old rest.records)))) }
-    ensures in_reach { OnOk result (reach_of file.new.place grouper.new 0 ≤ 2 ^ 60) }
-    ensures drained { result ≡ Ok None → IfSome (L.rest feed.old) (λ _. L.rest feed.new ≡ Some nothing_left) }
-    ensures feed { OnlyCounts L.name L.faults (result ≡ Err CutOff.Input) feed.old feed.new }
-    ensures made { OnlyCounts M.lent M.faults (result ≡ Err CutOff.Made) made.old made.new }
-{
-    let mut rec = Bytes::new(alloc);
-    let mut window = Window::new(alloc);
-    let mut next = Window::new(alloc);
-    // So many bytes fill a window: `FULL` until the one before it is put, fewer once it is, and none once that failed.
-    let full = AtomicU64::new(LEAST);
-    let mut taken = take_window(alloc, grouper, feed, &mut rec, &mut window, &full);
+    let mut taken = taker.take_window(rt, feed, &mut windows.window, &windows.pace);
     let end = loop {
         match taken {
-            Ok(FeedPart::Window) => {}
+            Ok(FeedPart::Window) => {
+                taken = windows.put_and_take(rt, file, taker, feed, made)?;
+            }
             Ok(FeedPart::All(stop)) => break Ok(stop),
             Err(cut) => break Err(cut),
         }
-        if window.is_large() {
-            window.put(file, made)?;
-            taken = take_window(alloc, grouper, feed, &mut rec, &mut window, &full);
-        } else {
-            full.store(FULL, Ordering::Relaxed);
-            let (put, then) = join_mut(
-                rt,
-                &mut || {
-                    let put = window.put(file, made);
-                    full.store(if put.is_ok() { LEAST } else { 0 }, Ordering::Relaxed);
-                    put
-                },
-                &mut || take_window(alloc, grouper, feed, &mut rec, &mut next, &full),
-            );
-            put?;
-            mem::swap(&mut window, &mut next);
-            taken = then;
-        }
     };
     // What was taken before the work was cut off is put too.
-    window.put(file, made)?;
+    windows.window.put(file, made)?;
     end
-}
-
-/// How much of a feed was taken.
-#[derive(Clone, Copy, Debug, PartialEq, Eq)]
-enum FeedPart {
-    /// A window of its groups.
-    Window,
-    /// All of its records, and the stop behind them.
-    All(Option<Stop>),
-}
-
-/// Takes the feed's records and keeps each group that closes, until the window is full.
-fn take_window<L: RecordFeed>(
-    alloc: Global,
-    grouper: &mut Grouper,
-    feed: &mut L,
-    rec: &mut Bytes,
-    window: &mut Window,
-    full: &AtomicU64,
-) -> Result<FeedPart, CutOff>
-    requires feed_going { L.going feed.old ≡ true }
-    requires empty { window.old ≡ [] }
-    ensures taken { AreTaken result (L.rest feed.old) (L.rest feed.new) grouper.old grouper.new window.new }
-    ensures feed_going { result ≡ Ok FeedPart.Window → L.going feed.new ≡ true }
-    ensures lowers { result ≡ Ok FeedPart.Window → L.bound feed.new < L.bound feed.old }
-    ensures in_reach { (place : ℕ) → reach_of (end_of_chunks place (chunks_of_groups window.new)) grouper.new (L.bound feed.new)
-        ≤ reach_of place grouper.old (L.bound feed.old) }
-    ensures drained { result ≡ Ok (FeedPart.All None) → IfSome (L.rest feed.old) (λ _. L.rest feed.new ≡ Some nothing_left) }
-    ensures no_made { result ≢ Err CutOff.Made }
-    ensures feed { OnlyCounts L.name L.faults (result ≡ Err CutOff.Input) feed.old feed.new }
-{
-    loop {
-        take_held(grouper, feed)?;
-        match feed.pull(alloc, rec) {
-            Ok(true) => take_record(alloc, grouper, rec, window, full)?,
-            Ok(false) => return Ok(FeedPart::All(None)),
-            Err(FeedEnd::Stop(stop)) => return Ok(FeedPart::All(Some(stop))),
-            Err(FeedEnd::Failed) => return Err(CutOff::Input),
-            Err(FeedEnd::Memory) => return Err(CutOff::Memory),
-        }
-        if window.is_full(full) {
-            return Ok(FeedPart::Window);
-        }
-    }
-}
-
-/// Takes the records that the feed holds, up to one before which a group closes.
-fn take_held<L: RecordFeed>(grouper: &mut Grouper, feed: &mut L) -> Result<(), AllocError>
-    ensures taken { AreGiven (L.rest feed.old) (L.rest feed.new) grouper.old grouper.new [] }
-    ensures lowers { L.bound feed.new ≤ L.bound feed.old }
-    ensures in_reach { (place : ℕ) → reach_of place grouper.new (L.bound feed.new) ≤ reach_of place grouper.old (L.bound feed.old) }
-    ensures same_going { L.going feed.new ≡ L.going feed.old }
-    ensures same_faults { L.faults feed.new ≡ L.faults feed.old }
-    ensures same_name { L.name feed.new ≡ L.name feed.old }
-{
-    while feed.push_held(grouper)? {}
-    Ok(())
-}
-
-/// Takes a record, and keeps the chunk of the group that closes before it, if one does.
-fn take_record(
-    alloc: Global,
-    grouper: &mut Grouper,
-    rec: &mut Bytes,
-    window: &mut Window,
-    full: &AtomicU64,
-) -> Result<(), AllocError>
-    requires short { length rec.old ≤ 2 ^ 24 }
-    ensures whole { OnOk result ((given : Option (List (List ℕ)))
-        × IsPush grouper.old rec.old given grouper.new
-        × (window.new ≡ window.old ++ option_to_list given)) }
-    ensures kept { OnErr result (window.new ≡ window.old) }
-    ensures in_reach { (place : ℕ) → reach_of (end_of_chunks place (chunks_of_groups window.new)) grouper.new 0
-        ≤ reach_of (end_of_chunks place (chunks_of_groups window.old)) grouper.old (length rec.old + 1) }
-{
-    if let Some(mut group) = grouper.push_from(rec)? {
-        window.push(alloc, &mut group, full)?;
-        grouper.reuse(group);
-    }
-    Ok(())
 }

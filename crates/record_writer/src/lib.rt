@@ -4,9 +4,13 @@
 mod cut_off;
 mod engine;
 mod feed;
+mod group_taker;
 mod made_file;
 mod options;
+mod pace;
+mod simple_window;
 mod window;
+mod window_pair;
 
 pub use engine::{WriteEnd, write_records};
 pub use feed::{FeedEnd, RecordFeed, Stop};

@@ -1,9 +1,10 @@
-use Rattle.std.proofs.Common.{◌≡◌, ap, arith}
+use Rattle.std.proofs.Common.{◌≡◌, ℕ, List, ap, arith}
 use Rattle.std.proofs.lemmas.Option.{IfSome_then}
 use Rattle.std.proofs.lemmas.Result.{err_from_is_err_and}
+use Rattle.simple_chunk.specs.Costs.{cost_of}
 use Rattle.record_writer.specs.Feeds.{Rest}
 use Rattle.record_writer.specs.Progresses.{Progress}
-use Rattle.record_writer.proofs.Given.{whatever_is_left}
+use Rattle.record_writer.proofs.Given.{whatever_is_left, Lays-all_groups, LaysFront-all_groups}
 use Rattle.record_writer.proofs.Wholes.{signed_near, Lays-padded, padded_near, Lays-grouped, Lays-file, LaysFront-signature, LaysFront-padding, LaysFront-groups, LaysFront-end}
 use Rattle.record_writer.proofs.engine.put_chunks.Goals as goal
 
@@ -32,7 +33,11 @@ put_groups-requires-clause-in_reach g c =
     let at_front : c.args.file.now.place ≡ 0 = ap (λ (s : Progress). s.place) c.requires.at_front in
     let padded = Lays-padded c.args.options.now c.args.file.now at_front _ _ _ c.start.new.self c.pad_if.new.self c.in_ok-start.ensures.whole
     (rw c.pads_start.ensures at c.in_ok-pad_if.ensures.whole) in
-    omega (arith, padded_near c.args.options.now c.args.file.now at_front _ _ c.pad_if.new.self padded)
+    omega (
+      arith,
+      padded_near c.args.options.now c.args.file.now at_front _ _ c.pad_if.new.self padded,
+      ap (λ (group : List (List ℕ)). cost_of group) c.new-taker.ensures.no_record,
+    )
 
 pub returns-in_err-stop-clause-front : goal.returns-in_err-stop-clause-front
 returns-in_err-stop-clause-front g c =
@@ -40,8 +45,12 @@ returns-in_err-stop-clause-front g c =
     let at_front : c.args.file.now.place ≡ 0 = ap (λ (s : Progress). s.place) c.requires.at_front in
     let padded = Lays-padded c.args.options.now c.args.file.now at_front _ _ _ c.start.new.self c.pad_if.new.self c.in_ok-start.ensures.whole
     (rw c.pads_start.ensures at c.in_ok-pad_if.ensures.whole) in
+    let front = LaysFront-all_groups (g.L.RecordFeed.rest c.args.feed.now) c.new-taker.result c.args.options.now.size c.args.options.now.every
+    (g.M.Sink.taken c.pad_if.new.made) (g.M.Sink.taken c.put_groups.new.made) c.pad_if.new.self c.put_groups.new.file
+    c.new-taker.ensures.all
+    c.in_err-stop.ensures.front in
     rw p.1
-    (IfSome_then _ c.in_err-stop.ensures.front (λ (rest : Rest) front.
+    (IfSome_then _ front (λ (rest : Rest) front.
     LaysFront-groups c.args.options.now c.args.file.now at_front _ _ _ c.pad_if.new.self _ rest.records padded front))
 
 pub returns-in_err-pad_if-2-clause-front : goal.returns-in_err-pad_if-2-clause-front
@@ -51,8 +60,12 @@ returns-in_err-pad_if-2-clause-front g c =
     let padded = Lays-padded c.args.options.now c.args.file.now at_front _ _ _ c.start.new.self c.pad_if.new.self c.in_ok-start.ensures.whole
     (rw c.pads_start.ensures at c.in_ok-pad_if.ensures.whole) in
     let front = rw c.pads_end.ensures at c.in_err-pad_if-2.ensures.front in
+    let grouped = Lays-all_groups (g.L.RecordFeed.rest c.args.feed.now) c.new-taker.result c.args.options.now.size c.args.options.now.every
+    (g.M.Sink.taken c.pad_if.new.made) (g.M.Sink.taken c.put_groups.new.made) c.pad_if.new.self c.put_groups.new.file
+    c.new-taker.ensures.all
+    c.in_ok-stop.ensures.whole in
     rw p.1
-    (IfSome_then _ c.in_ok-stop.ensures.whole (λ (rest : Rest) grouped.
+    (IfSome_then _ grouped (λ (rest : Rest) grouped.
     LaysFront-end c.args.options.now c.args.file.now at_front _ _ _ c.put_groups.new.file _ rest.records
     (Lays-grouped c.args.options.now c.args.file.now at_front _ _ _ c.pad_if.new.self c.put_groups.new.file rest.records padded grouped)
     front))
@@ -63,7 +76,11 @@ returns-clause-whole g c =
     let padded = Lays-padded c.args.options.now c.args.file.now at_front _ _ _ c.start.new.self c.pad_if.new.self c.in_ok-start.ensures.whole
     (rw c.pads_start.ensures at c.in_ok-pad_if.ensures.whole) in
     let end = rw c.pads_end.ensures at c.in_ok-pad_if-2.ensures.whole in
-    IfSome_then _ c.in_ok-stop.ensures.whole (λ (rest : Rest) grouped.
+    let grouped = Lays-all_groups (g.L.RecordFeed.rest c.args.feed.now) c.new-taker.result c.args.options.now.size c.args.options.now.every
+    (g.M.Sink.taken c.pad_if.new.made) (g.M.Sink.taken c.put_groups.new.made) c.pad_if.new.self c.put_groups.new.file
+    c.new-taker.ensures.all
+    c.in_ok-stop.ensures.whole in
+    IfSome_then _ grouped (λ (rest : Rest) grouped.
     Lays-file c.args.options.now c.args.file.now at_front _ _ _ c.put_groups.new.file _ rest.records
     (Lays-grouped c.args.options.now c.args.file.now at_front _ _ _ c.pad_if.new.self c.put_groups.new.file rest.records padded grouped)
     end)

@@ -1,40 +1,113 @@
-use Rattle.std.proofs.Common.{◌^◌, Some, arith}
-use Rattle.std.proofs.lemmas.Result.{err_from_is_err_and}
-use Rattle.record_writer.proofs.Reaches.{reach_of-last}
-use Rattle.record_writer.proofs.Given.{Lays-finished, LaysFront-finished}
+use Rattle.std.proofs.Common.{◌≡◌, ◌^◌, ◌≤◌, ◌++◌, Ok, Result, [], refl, subst, arith, rules}
+use Rattle.record_io.proofs.Calls.{OnErr-any}
+use Rattle.meta_chunk.specs.Files.{end_of_chunks}
+use Rattle.record_writer.specs.declared.cut_off.CutOff.{CutOff}
+use Rattle.record_writer.specs.declared.group_taker.FeedPart.{FeedPart}
+use Rattle.record_writer.specs.declared.group_taker.FeedPart.TheVariants.{Window, All}
+use Rattle.record_writer.specs.Progresses.{chunks_of_groups}
+use Rattle.record_writer.specs.Windows.{AreTaken, TakesGroups}
+use Rattle.record_writer.proofs.Layings.{Lays-none, LaysFront-whole}
+use Rattle.record_writer.proofs.Given.{Lays-all, LaysFront-all}
+use Rattle.record_writer.proofs.Reaches.{reach_of-window}
+use Rattle.record_writer.proofs.Windows.{Lays-taken, LaysFront-taken, OnOk-any, TakesGroups-append}
 use Rattle.record_writer.proofs.engine.put_groups.Goals as goal
 
-pub returns-in_err-put_group-clause-front : goal.returns-in_err-put_group-clause-front
-returns-in_err-put_group-clause-front g c =
-    let p = err_from_is_err_and c.from_residual-in_err-put_group.result c.from_residual-in_err-put_group.ensures.1 in
-    let closed = c.in_ok-stop.ensures.whole in
-    rw p.1
-    (LaysFront-finished _ c.new-grouper.result c.put_closed_groups.new.grouper c.args.options.now.size c.args.options.now.every closed.0 c.in_ok-stop.stop
-    (Some c.in-Some.group) _ _ _ _ _ _ c.new-grouper.ensures.all c.in-Some.ensures.rest closed.2 closed.1 c.in_err-put_group.ensures.front)
+pub loop-taken-init : goal.loop-taken-init
+loop-taken-init g c = record {
+  laid = ([], Lays-none _ c.args.file.now c.requires.going, c.take_window-taken.ensures.taken);
+  ready = c.take_window-taken.ensures.ready;
+  next = c.requires.next;
+  made = search rules;
+}
 
-pub returns-in_ok-put_group-clause-whole : goal.returns-in_ok-put_group-clause-whole
-returns-in_ok-put_group-clause-whole g c =
-    let closed = c.in_ok-stop.ensures.whole in
-    Lays-finished _ c.new-grouper.result c.put_closed_groups.new.grouper c.args.options.now.size c.args.options.now.every closed.0 c.in_ok-stop.stop
-    (Some c.in-Some.group) _ _ _ _ _ _ c.new-grouper.ensures.all c.in-Some.ensures.rest closed.2 closed.1 c.in_ok-put_group.ensures.whole
+pub put_and_take-requires-clause-in_reach : goal.put_and_take-requires-clause-in_reach
+put_and_take-requires-clause-in_reach g c =
+    let before = c.loop-taken.invariant.laid in
+    let near : end_of_chunks c.loop-taken.file.place (chunks_of_groups (g.W.Window.groups c.loop-taken.windows.window)) ≤ 2 ^ 60 =
+    reach_of-window c.args.file.now.place c.loop-taken.file.place before.0 (g.W.Window.groups c.loop-taken.windows.window) c.loop-taken.taker
+    (g.L.RecordFeed.bound c.loop-taken.feed) (2 ^ 60) before.1.place
+    (omega (arith, before.2.in_reach c.args.file.now.place, c.requires.in_reach)) in
+    omega (arith, near)
 
-pub put_group-requires-clause-in_reach : goal.put_group-requires-clause-in_reach
-put_group-requires-clause-in_reach g c =
-    omega (
-      arith,
-      reach_of-last c.put_closed_groups.new.file.place c.put_closed_groups.new.grouper c.in-Some.group (2 ^ 60)
-          c.in_ok-stop.ensures.in_reach
-          c.in-Some.ensures.last
-          c.in-Some.ensures.limits.some,
-    )
+pub returns-in_err-taken-in-Ok-Window-clause-front : goal.returns-in_err-taken-in-Ok-Window-clause-front
+returns-in_err-taken-in-Ok-Window-clause-front g c =
+    let before = c.loop-taken.invariant.laid in
+    let window = g.W.Window.groups c.loop-taken.windows.window in
+    OnErr-any _
+    (LaysFront-taken c.loop-taken.taken _ (g.L.RecordFeed.rest c.loop-taken.feed) _ c.loop-taken.taker (before.0 ++ window) _ _ _ _ before.2.given_of
+    (LaysFront-all _ _ _ _ c.loop-taken.file c.put_and_take.new.file (before.0 ++ window) before.0 window refl before.1 c.in_err-taken-in-Ok-Window.ensures.front))
 
-pub returns-in_ok-put_group-clause-in_reach : goal.returns-in_ok-put_group-clause-in_reach
-returns-in_ok-put_group-clause-in_reach g c =
-    omega (
-      arith,
-      c.in_ok-put_group.ensures.whole.place,
-      reach_of-last c.put_closed_groups.new.file.place c.put_closed_groups.new.grouper c.in-Some.group (2 ^ 60)
-          c.in_ok-stop.ensures.in_reach
-          c.in-Some.ensures.last
-          c.in-Some.ensures.limits.some,
-    )
+pub loop-taken-preserved : goal.loop-taken-preserved
+loop-taken-preserved g c =
+    let before = c.loop-taken.invariant.laid in
+    let window = g.W.Window.groups c.loop-taken.windows.window in
+    let more : c.loop-taken.taken ≡ Ok Window = search rules in
+    record {
+      laid = (
+        before.0 ++ window,
+        Lays-all _ _ _ _ c.loop-taken.file c.put_and_take.new.file (before.0 ++ window) before.0 window refl before.1
+            c.in_ok-taken-in-Ok-Window.ensures.whole,
+        TakesGroups-append _ _ g.L.RecordFeed.rest g.L.RecordFeed.bound g.L.RecordFeed.going g.L.RecordFeed.name g.L.RecordFeed.faults
+            c.args.feed.now c.loop-taken.feed c.put_and_take.new.feed c.args.taker.now c.loop-taken.taker c.put_and_take.new.taker
+            (before.0 ++ window) (g.W.Window.groups c.put_and_take.new.self.window) c.in_ok-taken-in-Ok-Window.taken
+            (subst (λ (t : Result FeedPart CutOff). TakesGroups g.L.RecordFeed.rest g.L.RecordFeed.bound g.L.RecordFeed.going g.L.RecordFeed.name
+            g.L.RecordFeed.faults c.args.feed.now c.loop-taken.feed c.args.taker.now c.loop-taken.taker (before.0 ++ window) t) more before.2)
+            c.in_ok-taken-in-Ok-Window.ensures.taken,
+      );
+      ready = c.in_ok-taken-in-Ok-Window.ensures.ready;
+      next = c.in_ok-taken-in-Ok-Window.ensures.next;
+      made = search rules;
+    }
+
+pub put-requires-clause-in_reach : goal.put-requires-clause-in_reach
+put-requires-clause-in_reach g c =
+    let before = c.loop-taken.invariant.laid in
+    let near : end_of_chunks c.loop-taken.file.place (chunks_of_groups (g.W.Window.groups c.loop-taken.windows.window)) ≤ 2 ^ 60 =
+    reach_of-window c.args.file.now.place c.loop-taken.file.place before.0 (g.W.Window.groups c.loop-taken.windows.window) c.loop-taken.taker
+    (g.L.RecordFeed.bound c.loop-taken.feed) (2 ^ 60) before.1.place
+    (omega (arith, before.2.in_reach c.args.file.now.place, c.requires.in_reach)) in
+    omega (arith, near)
+
+pub returns-in_err-put-clause-front : goal.returns-in_err-put-clause-front
+returns-in_err-put-clause-front g c =
+    let before = c.loop-taken.invariant.laid in
+    let window = g.W.Window.groups c.loop-taken.windows.window in
+    OnErr-any _
+    (LaysFront-taken c.loop-taken.taken _ (g.L.RecordFeed.rest c.loop-taken.feed) _ c.loop-taken.taker (before.0 ++ window) _ _ _ _ before.2.given_of
+    (LaysFront-all _ _ _ _ c.loop-taken.file c.put.new.file (before.0 ++ window) before.0 window refl before.1 c.in_err-put.ensures.front))
+
+pub returns-clause-whole : goal.returns-clause-whole
+returns-clause-whole g c =
+    let before = c.loop-taken.invariant.laid in
+    let window = g.W.Window.groups c.loop-taken.windows.window in
+    let laid = Lays-all _ _ _ c.args.file.now c.loop-taken.file c.put.new.file (before.0 ++ window) before.0 window refl before.1 c.in_ok-put.ensures.whole in
+    elim c.match-taken.branch [
+      | goal.in-Ok-All w ↦
+          let ended : c.loop-taken.taken ≡ Ok (All w.in-Ok-All.stop) = search rules in
+          rw w.end-is
+          (Lays-taken w.in-Ok-All.stop (g.L.RecordFeed.rest c.args.feed.now) (g.L.RecordFeed.rest c.loop-taken.feed) c.args.taker.now c.loop-taken.taker
+          (before.0 ++ window) _ _ _ _
+          (subst (λ (t : Result FeedPart CutOff). AreTaken t (g.L.RecordFeed.rest c.args.feed.now) (g.L.RecordFeed.rest c.loop-taken.feed) c.args.taker.now
+          c.loop-taken.taker (before.0 ++ window)) ended before.2.given_of)
+          laid)
+      | goal.in-Err w ↦ rw w.end-is tt
+    ]
+
+pub returns-clause-front : goal.returns-clause-front
+returns-clause-front g c =
+    let before = c.loop-taken.invariant.laid in
+    let window = g.W.Window.groups c.loop-taken.windows.window in
+    OnErr-any _
+    (LaysFront-taken c.loop-taken.taken _ (g.L.RecordFeed.rest c.loop-taken.feed) _ c.loop-taken.taker (before.0 ++ window) _ _ _ _ before.2.given_of
+    (LaysFront-all _ _ _ _ c.loop-taken.file c.put.new.file (before.0 ++ window) before.0 window refl before.1
+    (LaysFront-whole _ _ _ _ _ c.in_ok-put.ensures.whole)))
+
+pub returns-clause-in_reach : goal.returns-clause-in_reach
+returns-clause-in_reach g c =
+    let before = c.loop-taken.invariant.laid in
+    let near : end_of_chunks c.loop-taken.file.place (chunks_of_groups (g.W.Window.groups c.loop-taken.windows.window)) ≤ 2 ^ 60 =
+    reach_of-window c.args.file.now.place c.loop-taken.file.place before.0 (g.W.Window.groups c.loop-taken.windows.window) c.loop-taken.taker
+    (g.L.RecordFeed.bound c.loop-taken.feed) (2 ^ 60) before.1.place
+    (omega (arith, before.2.in_reach c.args.file.now.place, c.requires.in_reach)) in
+    let ended : c.put.new.file.place ≤ 2 ^ 60 = omega (arith, near, c.in_ok-put.ensures.whole.place) in
+    OnOk-any _ ended

@@ -4,8 +4,8 @@ use Rattle.std.proofs.lemmas.Result.{err_from_is_err_and}
 use Rattle.simple_chunk.specs.SimpleParts.{SimpleValue}
 use Rattle.record_writer.proofs.Layings.{Lays-none}
 use Rattle.record_writer.proofs.Windows.{group-at, groups-kept, chunk-within, Lays-chunk, LaysFront-chunk}
-use Rattle.record_writer.proofs.window.Window.put.Goals as goal
-use Rattle.record_writer.proofs.window.Window.put.Goals.{After-encode}
+use Rattle.record_writer.proofs.simple_window.SimpleWindowWindow.put.Goals as goal
+use Rattle.record_writer.proofs.simple_window.SimpleWindowWindow.put.Goals.{After-encode}
 
 pub loop-i-init : goal.loop-i-init
 loop-i-init g c = record {

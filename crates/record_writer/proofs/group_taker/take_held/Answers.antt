@@ -1,7 +1,7 @@
 use Rattle.std.proofs.Common.{◌≡◌, ◌≢◌, ◌∙◌, true, Ok, None, [], arith, rules}
 use Rattle.record_writer.proofs.Given.{AreGiven-push}
 use Rattle.record_writer.proofs.Reaches.{reach_of-kept, reach_of-handed}
-use Rattle.record_writer.proofs.engine.take_held.Goals as goal
+use Rattle.record_writer.proofs.group_taker.take_held.Goals as goal
 
 pub returns-in_err-push_held-clause-in_reach : goal.returns-in_err-push_held-clause-in_reach
 returns-in_err-push_held-clause-in_reach g c = λ place.

@@ -7,7 +7,7 @@ use Rattle.record_writer.specs.Progresses.{totals_made}
 use Rattle.record_writer.proofs.Counted.{Answers-told}
 use Rattle.record_writer.proofs.Flushes.{Takes-ended, TakesFront-ended, totals_made-ended, TakesFile-cut, TakesFile-ended}
 use Rattle.record_writer.proofs.Windows.{where_done}
-use Rattle.record_writer.proofs.engine.write_records.Goals as goal
+use Rattle.record_writer.proofs.engine.write.Goals as goal
 
 pub returns-in_err-flush-clause-made : goal.returns-in_err-flush-clause-made
 returns-in_err-flush-clause-made g c =

@@ -1,0 +1,113 @@
+ghost use Rattle.std.specs.Prelude.{◌≡◌, ◌^◌, ◌≤◌, true, false, [], Ok, Err, IfOk, OnOk, OnErr, IsErr};
+ghost use Rattle.record_io.specs.Calls.{OnlyCounts};
+ghost use Rattle.meta_chunk.specs.Files.{end_of_chunks};
+ghost use Rattle.record_writer.specs.Progresses.{Lays, LaysFront, chunks_of_groups};
+ghost use Rattle.record_writer.specs.Windows.{TakesGroups};
+
+use crate::cut_off::CutOff;
+use crate::feed::RecordFeed;
+use crate::group_taker::{FeedPart, GroupTaker};
+use crate::made_file::MadeFile;
+use crate::pace::Pace;
+use crate::window::Window;
+use record_io::{Failed, Sink};
+use std::alloc::Global;
+use std::mem;
+use std::thread::{Threads, join_mut};
+
+/// The window that is put next, and another to take groups meanwhile. Own.
+#[derive(Drop)]
+pub(crate) struct WindowPair<W: Window> {
+    pub window: W,
+    pub next: W,
+    pub pace: Pace,
+}
+
+impl<W: Window + Send> WindowPair<W> {
+    /// Two windows without a group, of which this is one.
+    pub fn new(alloc: Global, window: W) -> WindowPair<W>
+        ensures window { result.window ≡ window }
+        ensures next { W.groups result.next ≡ [] }
+    {
+        let next = window.another(alloc);
+        WindowPair {
+            window,
+            next,
+            pace: Pace::new(),
+        }
+    }
+
+    /// Puts the window, and takes the next one in its place, at the same time unless the window is large.
+    ///
+    /// # Errors
+    ///
+    /// `Failed` only where the sink failed. It took a front of what was held and the chunks, and what was taken is lost.
+    pub fn put_and_take<R: Threads + Sync, L: RecordFeed, M: Sink + Send>(
+        &mut self,
+        rt: &R,
+        file: &mut MadeFile,
+        taker: &mut GroupTaker,
+        feed: &mut L,
+        made: &mut M,
+    ) -> Result<Result<FeedPart, CutOff>, Failed>
+        requires going { file.old.spent ≡ false }
+        requires ready { W.ready self.old.window }
+        requires next { W.groups self.old.next ≡ [] }
+        requires feed_going { L.going feed.old ≡ true }
+        requires in_reach { end_of_chunks file.old.place (chunks_of_groups (W.groups self.old.window)) ≤ 2 ^ 62 }
+        ensures whole { OnOk result (Lays (M.taken made.old) (M.taken made.new) file.old file.new (chunks_of_groups (W.groups self.old.window))) }
+        ensures front { OnErr result (LaysFront (M.taken made.old) (M.taken made.new) file.old file.new (chunks_of_groups (W.groups self.old.window))) }
+        ensures taken { IfOk result (λ taken.
+            TakesGroups L.rest L.bound L.going L.name L.faults feed.old feed.new taker.old taker.new (W.groups self.new.window) taken) }
+        ensures ready { OnOk result (W.ready self.new.window) }
+        ensures next { OnOk result (W.groups self.new.next ≡ []) }
+        ensures feed { OnlyCounts L.name L.faults (result ≡ Ok (Err CutOff.Input)) feed.old feed.new }
+        ensures made { OnlyCounts M.lent M.faults (IsErr result) made.old made.new }
+    {
+        if self.window.is_large() {
+            self.window.put(file, made)?;
+            return Ok(taker.take_window(rt, feed, &mut self.window, &self.pace));
+        }
+        let (put, taken) = self.put_beside(rt, file, taker, feed, made);
+        put?;
+        mem::swap(&mut self.window, &mut self.next);
+        Ok(taken)
+    }
+
+    /// Puts the window while the next one is taken.
+    fn put_beside<R: Threads + Sync, L: RecordFeed, M: Sink + Send>(
+        &mut self,
+        rt: &R,
+        file: &mut MadeFile,
+        taker: &mut GroupTaker,
+        feed: &mut L,
+        made: &mut M,
+    ) -> (Result<(), Failed>, Result<FeedPart, CutOff>)
+        requires going { file.old.spent ≡ false }
+        requires ready { W.ready self.old.window }
+        requires next { W.groups self.old.next ≡ [] }
+        requires feed_going { L.going feed.old ≡ true }
+        requires in_reach { end_of_chunks file.old.place (chunks_of_groups (W.groups self.old.window)) ≤ 2 ^ 62 }
+        ensures whole { OnOk result.0 (Lays (M.taken made.old) (M.taken made.new) file.old file.new (chunks_of_groups (W.groups self.old.window))) }
+        ensures front { OnErr result.0 (LaysFront (M.taken made.old) (M.taken made.new) file.old file.new (chunks_of_groups (W.groups self.old.window))) }
+        ensures emptied { OnOk result.0 (W.groups self.new.window ≡ []) }
+        ensures taken { TakesGroups L.rest L.bound L.going L.name L.faults feed.old feed.new taker.old taker.new (W.groups self.new.next) result.1 }
+        ensures ready { W.ready self.new.next }
+        ensures made { OnlyCounts M.lent M.faults (IsErr result.0) made.old made.new }
+    {
+        let WindowPair { window, next, pace } = self;
+        pace.begin_put();
+        join_mut(
+            rt,
+            &mut || {
+                let put = window.put(file, made);
+                pace.end_put(put.is_err());
+                put
+            },
+            &mut || -> Result<FeedPart, CutOff>
+                requires feed_going { L.going feed.now ≡ true }
+                requires empty { W.groups next.now ≡ [] }
+            { taker.take_window(rt, feed, next, pace) },
+        )
+    }
+}
