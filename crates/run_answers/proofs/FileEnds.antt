@@ -81,7 +81,7 @@ module _ {X W : Type 0} (ends : Endings X W) (P : List ℕ → Answer → Type 0
         → HasPutAtEnd ends P result f a (taken_by made c notes) []
     at-flushed (Ok x) f h out = whole-flushed a made b c notes held P f [] (ends.done x) h out
     at-flushed (Err end.Limit) f h out = whole-flushed a made b c notes held P f limit_text status.Limit h out
-    at-flushed (Err (end.At w)) f h out = whole-flushed a made b c notes held P f (ends.text w) ends.status h out
+    at-flushed (Err (end.At w)) f h out = whole-flushed a made b c notes held P f (ends.text w) (ends.status w) h out
     at-flushed (Err (end.Cut why)) f h out = λ bytes. let found = h bytes in (found.0, found.1, cut-flushed why found.0 found.2 out)
 
     at-unflushed : (result : Result X (Ending W)) (f : List ℕ) → HasPutAtEnd ends P result f a (taken_by made b notes) held
@@ -89,7 +89,7 @@ module _ {X W : Type 0} (ends : Endings X W) (P : List ℕ → Answer → Type 0
         → HasPutEarly ends.text ends.status P (end.Cut (cut_unprinted result)) f a (taken_by made c notes) []
     at-unflushed (Ok x) f h out some = λ bytes. whole-unflushed a made b c notes held P f [] (ends.done x) h out some
     at-unflushed (Err end.Limit) f h out some = λ bytes. whole-unflushed a made b c notes held P f limit_text status.Limit h out some
-    at-unflushed (Err (end.At w)) f h out some = λ bytes. whole-unflushed a made b c notes held P f (ends.text w) ends.status h out some
+    at-unflushed (Err (end.At w)) f h out some = λ bytes. whole-unflushed a made b c notes held P f (ends.text w) (ends.status w) h out some
     at-unflushed (Err (end.Cut why)) f h out some = λ bytes. let found = h bytes in (found.0, found.1, cut-unflushed why found.0 found.2 out some)
 
   pub end-flushed : (result : Result X (Ending W)) (told bytes : Option (List ℕ)) (a : Taken) (made b c notes : Option (List ℕ)) (held : List ℕ)
@@ -139,8 +139,8 @@ EndsWhole m ended = IsWhole ended × ((before after : Seen) → HasCause ended m
 -- what holds of a command whose work ends so
 pub record EndsBy {X W : Type 0} (m : Meaning) (ends : Endings X W) : Type 0 where
   pub too_long : (sizes : List ℕ) → IsTooLong sizes → m.may_end sizes status.Limit limit_text
-  pub whole : EndsWhole m ends.status
-  pub other : ends.status ≢ status.Ok
+  pub whole : (w : W) → EndsWhole m (ends.status w)
+  pub other : (w : W) → ends.status w ≢ status.Ok
   pub some : (w : W) → ends.text w ≢ []
 
 -- with a text in notes the command may end so, by the size of its file
@@ -153,7 +153,7 @@ HasSaid m ends (Ok x) notes notes_then =
     (text : List ℕ) × Takes notes notes_then text × MayEndInReach m (ends.done x) text × EndsWhole m (ends.done x)
 HasSaid m ends (Err end.Limit) notes notes_then = Takes notes notes_then []
 HasSaid m ends (Err (end.At w)) notes notes_then =
-    (text : List ℕ) × Takes notes notes_then text × MayEndInReach m ends.status (text ++ ends.text w)
+    (text : List ℕ) × Takes notes notes_then text × MayEndInReach m (ends.status w) (text ++ ends.text w)
 HasSaid m ends (Err (end.Cut cut.Notes)) notes notes_then =
     (wanted : Status) × (text : List ℕ) × TakesFront notes notes_then text × MayEndInReach m wanted text
 HasSaid m ends (Err (end.Cut why)) notes notes_then = (text : List ℕ) × Takes notes notes_then text × m.may_say text
@@ -292,8 +292,8 @@ module _ (m : Meaning) (P : List ℕ → Answer → Type 0) (Q : List ℕ → Li
       said ended status.Limit [] limit_text took less says (λ e. cc e) (tt, λ _ _. tt) (λ e. cc e)
       (of_size IsTooLong (λ sizes. m.may_end sizes status.Limit limit_text) by.too_long may exact) put
   runs-file ends by (Err (end.At w)) ended may exact put so_far (text, took, may_end) says less file_rose made_rose out_rose notes_rose =
-      said ended ends.status text (ends.text w) took less says (by.some w) by.whole by.other
-      (of_size IsInReach (λ sizes. m.may_end sizes ends.status (text ++ ends.text w)) may_end may exact) put
+      said ended (ends.status w) text (ends.text w) took less says (by.some w) (by.whole w) (by.other w)
+      (of_size IsInReach (λ sizes. m.may_end sizes (ends.status w) (text ++ ends.text w)) may_end may exact) put
   runs-file ends by (Err (end.Cut cut.Input)) ended may exact put so_far before says less file_rose made_rose out_rose notes_rose =
       absurd (cc (sym reads.input ∙ may.0))
   runs-file ends by (Err (end.Cut cut.File)) ended may exact put so_far before says less file_rose made_rose out_rose notes_rose =

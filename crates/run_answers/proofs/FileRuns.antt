@@ -24,7 +24,6 @@ pub record ReadsFile (m : Meaning) (P : List ℕ → Answer → Type 0) (Q : Lis
   pub answers : (r : Read) (answer : Answer) → OfFile P r.files answer → m.answers r answer
   pub so_far : (r : Read) (part : List Put) → OfFileSoFar Q r.files part → m.may_have_put r part
   pub may_work : (sizes : List ℕ) → IsInReach sizes → m.may_work sizes
-  pub may_take_of : (r : Read) (before after : List ℕ) → m.may_take_of r before after
 
 -- so of one whose meaning is that, whatever else it means
 pub reads_file : (P : List ℕ → Answer → Type 0) (Q : List ℕ → List Put → Type 0) (uses : Uses) (may_take : List ℕ → List ℕ → List ℕ → Type 0)
@@ -40,7 +39,6 @@ reads_file P Q uses may_take may_end may_say input files grown out = record {
   answers = λ r answer is. is;
   so_far = λ r part is. is;
   may_work = λ sizes within. within;
-  may_take_of = λ r before after. tt;
 }
 
 -- behind the one file there is none
@@ -121,6 +119,13 @@ module _ (m : Meaning) (P : List ℕ → Answer → Type 0) (Q : List ℕ → Li
       (reads.so_far r put.part (subst (λ (fs : List (List ℕ)). OfFileSoFar Q fs put.part) (sym one.1) put.is))
       (GoOut-none_held start then Out put.part [] refl put.went) less says
 
+  -- what holds of the bytes that the file tells holds of the files that are read
+  pub told-files : (R : List (List ℕ) → Type 0) → ((bytes : List ℕ) → file.bytes ≡ Some bytes → R (bytes ∷ []))
+      → IfRead m Asked (λ r. R r.files)
+  told-files R known = λ r is.
+      let one = one_told file.bytes r.files (is.files reads.files).0 in
+      subst R (sym one.1) (known one.0 one.2)
+
   -- what follows from the size that the file told
   pub told-size : (R : List ℕ → Type 0) → IsSomeAnd file_then.told (λ size. R (size ∷ []))
       → IfSome file.bytes (λ bytes. IfSome file_then.told (λ size. size ≡ length bytes)) → OfSizes m Asked Answered R
@@ -141,8 +146,9 @@ module _ (m : Meaning) (P : List ℕ → Answer → Type 0) (Q : List ℕ → Li
   -- what every end of its run keeps
   pub file-keeps : file.faults ≤ file_then.faults → made.faults ≤ made_then.faults → out.faults ≤ out_then.faults → notes.faults ≤ notes_then.faults
       → IfSome file.bytes (λ bytes. IfSome file_then.told (λ size. size ≡ length bytes))
-      → HandsOut m file_then.told file.handed file_then.handed → Keeps m Asked Answered
-  file-keeps f k o n exact handed = record {
+      → HandsOut m file_then.told file.handed file_then.handed
+      → IfRead m Asked (λ r. m.may_take_of r (file.handed ∷ []) (file_then.handed ∷ [])) → Keeps m Asked Answered
+  file-keeps f k o n exact handed handed_of = record {
     counts = record { input = omega arith; files = file_fell file file_then f; made = k; grown = omega arith; out = o; notes = n };
     ungrown = reads.grown;
     handed = elim handed [
@@ -152,7 +158,7 @@ module _ (m : Meaning) (P : List ℕ → Answer → Type 0) (Q : List ℕ → Li
         told-size (λ sizes. m.may_work sizes × m.may_take sizes (file.handed ∷ []) (file_then.handed ∷ [])) within exact,
       )
     ];
-    handed_of = λ r is. reads.may_take_of r (file.handed ∷ []) (file_then.handed ∷ []);
+    handed_of = handed_of;
     grown_handed = refl;
     in_order = λ place asked is untold. one_alone place asked file_then file is;
   }

@@ -31,12 +31,12 @@ abbrev pub end_of_size : {W : Type 0} → SizeEnd → Ending W
 end_of_size size.Limit = end.Limit
 end_of_size size.File = end.Cut cut.File
 
--- how the work of a command ends: with a status where it was done, and at what the command doesn't go past with a text and a
--- status
+-- how the work of a command ends: with a status where it was done, and at what the command doesn't go past with the text and
+-- the status of that
 pub record Endings (X W : Type 0) : Type 0 where
   pub done : X → Status
   pub text : W → List ℕ
-  pub status : Status
+  pub status : W → Status
 
 -- what cut work off whose lines standard output then failed to take
 abbrev pub cut_unprinted : {X W : Type 0} → Result X (Ending W) → Cut
@@ -75,10 +75,10 @@ HasPutToCut other before after held answer = HasPutFront before after held answe
 
 -- what was put of a file, of which P are the answers, when the work ended before it was done: all of an answer but its last
 -- text, or where it was cut off a front
-abbrev pub HasPutEarly : {W : Type 0} → (W → List ℕ) → Status → (List ℕ → Answer → Type 0)
+abbrev pub HasPutEarly : {W : Type 0} → (W → List ℕ) → (W → Status) → (List ℕ → Answer → Type 0)
     → Ending W → List ℕ → (before after : Taken) → List ℕ → Type 0
 HasPutEarly text ended P end.Limit file before after held = HasPut P file before after held limit_text status.Limit
-HasPutEarly text ended P (end.At w) file before after held = HasPut P file before after held (text w) ended
+HasPutEarly text ended P (end.At w) file before after held = HasPut P file before after held (text w) (ended w)
 HasPutEarly text ended P (end.Cut cut) file before after held =
     AreBytes file → (answer : Answer) × OfFile P (file ∷ []) answer × HasPutToCut cut before after held answer
 
@@ -92,7 +92,7 @@ HasPutAtEnd ends P (Err why) file before after held = HasPutEarly ends.text ends
 abbrev pub SaysEnd : {X W : Type 0} → Endings X W → Result X (Ending W) → Status → Shown → Shown → Type 0
 SaysEnd ends (Ok x) ended before after = (ended ≡ ends.done x) × (after ≡ before)
 SaysEnd ends (Err end.Limit) ended before after = SaysAtEnd ended status.Limit before after limit_text
-SaysEnd ends (Err (end.At w)) ended before after = SaysAtEnd ended ends.status before after (ends.text w)
+SaysEnd ends (Err (end.At w)) ended before after = SaysAtEnd ended (ends.status w) before after (ends.text w)
 SaysEnd ends (Err (end.Cut cut.Notes)) ended before after = (ended ≡ status.Notes) × (after ≡ before)
 SaysEnd ends (Err (end.Cut cut)) ended before after =
     (ended ≡ status_of cut) × TakesThen before after [] (fault_text (status_of cut))

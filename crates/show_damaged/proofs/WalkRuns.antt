@@ -59,8 +59,8 @@ module _ (m : Meaning) (P : List ℕ → Answer → Type 0) (Q : List ℕ → Li
   ends : EndsBy m walk_ends
   ends = record {
     too_long = λ sizes long. walks.may_end sizes status.Limit _ (inr (long, refl, refl));
-    whole = (tt, λ before after. tt);
-    other = λ e. cc e;
+    whole = λ region. (tt, λ before after. tt);
+    other = λ region e. cc e;
     some = λ region e. cc e;
   }
 

@@ -18,7 +18,7 @@ use Rattle.run_answers.specs.declared.status.Status.TheVariants as status
 
 -- where a walk is done nothing more is said, and of a region that may not be skipped its line
 abbrev pub walk_ends : Endings Status Region
-walk_ends = record { done = λ ended. ended; text = region_text (codes "stopped"); status = status.Stopped }
+walk_ends = record { done = λ ended. ended; text = region_text (codes "stopped"); status = λ _. status.Stopped }
 
 -- a test answers whether a region may be skipped
 abbrev pub IsBound : {F : Type 0} → Shared F (Bor Region × Unit {0}) Bool → F → Option ℕ → Type 0

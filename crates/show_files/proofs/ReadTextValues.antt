@@ -1,5 +1,5 @@
 -- What `show` and `verify` print and say, counted by hand, computed from the definitions.
-use Rattle.std.proofs.Common.{◌≡◌, true, false, [], ◌∷◌, codes, refl}
+use Rattle.std.proofs.Common.{◌≡◌, true, [], ◌∷◌, codes, refl}
 use Rattle.std.specs.Fmt.{digits}
 use Rattle.hex.specs.Hex.{encode_with}
 use Rattle.show_files.specs.declared.show_words.RecordForm.{RecordForm}

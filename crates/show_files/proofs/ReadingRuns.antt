@@ -1,15 +1,14 @@
--- How a run of a command ends that reads one file strictly, by how its work ended.
+-- How a run of a command ends that reads one file and says nothing before its end, by how its work ended.
 use Rattle.std.proofs.Common.{◌≡◌, ◌∙◌, ℕ, false, Result, Ok, Err, List, [], ◌∷◌, length, refl, sym, inl, inr, arith, IfSome}
 use Rattle.std.specs.Result.{IsErrAnd}
 use Rattle.record_io.specs.Outside.{Rose}
 use Rattle.record_io.specs.Puts.{Put, Taken, taken_by}
 use Rattle.record_io.proofs.Calls.{Takes-nothing}
-use Rattle.chunk_reader.specs.declared.reasons.Fault.{Fault}
 use Rattle.show_files.specs.declared.show_words.ShowWords.{ShowWords}
 use Rattle.run_answers.specs.declared.ending.Ending.{Ending}
 use Rattle.run_answers.specs.declared.status.Status.{Status}
 use Rattle.run_answers.specs.Answers.{Answer}
-use Rattle.run_answers.specs.Endings.{IsAllowedEnd, IsShort, HasPutAtEnd, SaysEnd}
+use Rattle.run_answers.specs.Endings.{Endings, IsAllowedEnd, IsShort, HasPutAtEnd, SaysEnd}
 use Rattle.run_answers.specs.Meanings.{Meaning}
 use Rattle.run_answers.specs.Runs.{Shown, ShownFile, seen, Runs}
 use Rattle.run_answers.specs.PutSoFar.{HasPutSoFar}
@@ -17,40 +16,54 @@ use Rattle.show_files.specs.ReadingEnds.{reading_ends}
 use Rattle.show_files.specs.Readings.{MayEndReading, refused_text}
 use Rattle.show_files.specs.ShowCommand.{IsShown, IsShownSoFar, show_meaning}
 use Rattle.show_files.specs.VerifyCommand.{IsVerified, IsVerifiedSoFar, verify_meaning}
-use Rattle.run_answers.proofs.FileEnds.{EndsBy, HasSaid, cut-allowed, runs-file}
+use Rattle.run_answers.proofs.FileEnds.{EndsBy, EndsWhole, HasSaid, MayEndInReach, cut-allowed, runs-file}
 use Rattle.run_answers.proofs.FileRuns.{ReadsFile, reads_file}
 use Rattle.run_answers.proofs.RunEnds.{Keeps}
 use Rattle.run_answers.specs.declared.ending.Cut.TheVariants as cut
 use Rattle.run_answers.specs.declared.ending.Ending.TheVariants as end
 use Rattle.run_answers.specs.declared.status.Status.TheVariants as status
 
--- what holds of a command that reads one file strictly, of which P are the answers and Q what it may have put so far
-pub record IsReading (m : Meaning) (P : List ℕ → Answer → Type 0) (Q : List ℕ → List Put → Type 0) : Type 0 where
+-- what holds of a command that reads one file, makes none, says nothing before its end and ends so, of which P are the answers
+-- and Q what it may have put so far
+pub record IsReading {X W : Type 0} (m : Meaning) (ends : Endings X W) (P : List ℕ → Answer → Type 0) (Q : List ℕ → List Put → Type 0) : Type 0 where
   pub one : ReadsFile m P Q
-  pub may_end : (sizes : List ℕ) (ended : Status) (text : List ℕ) → MayEndReading sizes ended text → m.may_end sizes ended text
+  pub by : EndsBy m ends
+  pub done : (x : X) → MayEndInReach m (ends.done x) [] × EndsWhole m (ends.done x)
+  pub at : (w : W) → MayEndInReach m (ends.status w) (ends.text w)
   pub unmade : m.uses.made ≡ false
   pub says_nothing : (text : List ℕ) → m.may_say text → text ≡ []
   pub may_say : m.may_say []
 
-pub show_reads : (words : ShowWords) → IsReading (show_meaning words) (IsShown words) (IsShownSoFar words)
-show_reads words = record {
-  one = reads_file (IsShown words) (IsShownSoFar words) _ _ _ _ refl refl refl refl;
-  may_end = λ sizes ended text may. may;
-  unmade = refl;
-  says_nothing = λ text is. is;
-  may_say = refl;
+-- so of one that reads strictly
+strict_reads : (m : Meaning) (P : List ℕ → Answer → Type 0) (Q : List ℕ → List Put → Type 0) → ReadsFile m P Q
+    → ((sizes : List ℕ) (ended : Status) (text : List ℕ) → MayEndReading sizes ended text → m.may_end sizes ended text)
+    → m.uses.made ≡ false → ((text : List ℕ) → m.may_say text → text ≡ []) → m.may_say [] → IsReading {X = Unit {0}} m reading_ends P Q
+strict_reads m P Q one may_end unmade says_nothing may_say = record {
+  one = one;
+  by = record {
+    too_long = λ sizes long. may_end sizes status.Limit _ (inr (inr (long, refl, refl)));
+    whole = λ fault. (tt, λ before after. tt);
+    other = λ fault e. cc e;
+    some = λ fault e. cc e;
+  };
+  done = λ x. (λ sizes reach. may_end sizes status.Ok [] (inl (reach, refl, refl)), (tt, λ before after. tt));
+  at = λ fault sizes reach. may_end sizes status.Refused (refused_text fault) (inr (inl (reach, fault, refl, refl)));
+  unmade = unmade;
+  says_nothing = says_nothing;
+  may_say = may_say;
 }
 
-pub verify_reads : IsReading verify_meaning IsVerified IsVerifiedSoFar
-verify_reads = record {
-  one = reads_file IsVerified IsVerifiedSoFar _ _ _ _ refl refl refl refl;
-  may_end = λ sizes ended text may. may;
-  unmade = refl;
-  says_nothing = λ text is. is;
-  may_say = refl;
-}
+pub show_reads : (words : ShowWords) → IsReading {X = Unit {0}} (show_meaning words) reading_ends (IsShown words) (IsShownSoFar words)
+show_reads words =
+    strict_reads (show_meaning words) (IsShown words) (IsShownSoFar words)
+    (reads_file (IsShown words) (IsShownSoFar words) _ _ _ _ refl refl refl refl) (λ sizes ended text may. may) refl (λ text is. is) refl
 
-module _ (m : Meaning) (P : List ℕ → Answer → Type 0) (Q : List ℕ → List Put → Type 0) (reads : IsReading m P Q)
+pub verify_reads : IsReading {X = Unit {0}} verify_meaning reading_ends IsVerified IsVerifiedSoFar
+verify_reads =
+    strict_reads verify_meaning IsVerified IsVerifiedSoFar
+    (reads_file IsVerified IsVerifiedSoFar _ _ _ _ refl refl refl refl) (λ sizes ended text may. may) refl (λ text is. is) refl
+
+module _ {X W : Type 0} {ends : Endings X W} (m : Meaning) (P : List ℕ → Answer → Type 0) (Q : List ℕ → List Put → Type 0) (reads : IsReading m ends P Q)
     (input made : Shown) (file file_then grown : ShownFile) (out out_then notes notes_then : Shown)
     (keeps : Keeps m (seen input (file ∷ []) made grown out notes) (seen input (file_then ∷ []) made grown out_then notes_then)) where
   abbrev Start : Taken
@@ -59,28 +72,15 @@ module _ (m : Meaning) (P : List ℕ → Answer → Type 0) (Q : List ℕ → Li
   abbrev Read : Taken
   Read = taken_by made.bytes out_then.bytes notes.bytes
 
-  ends : EndsBy {X = Unit {0}} m reading_ends
-  ends = record {
-    too_long = λ sizes long. reads.may_end sizes status.Limit _ (inr (inr (long, refl, refl)));
-    whole = (tt, λ before after. tt);
-    other = λ e. cc e;
-    some = λ fault e. cc e;
-  }
-
   -- standard error can't have cut it off, since nothing is said before the end
-  told_all : {A : Type 0} (result : Result (Unit {0}) (Ending Fault)) → IsAllowedEnd m result file_then.told → result ≡ Err (end.Cut cut.Notes) → A
+  told_all : {A : Type 0} (result : Result X (Ending W)) → IsAllowedEnd m result file_then.told → result ≡ Err (end.Cut cut.Notes) → A
   told_all result allowed is =
       let text = cut-allowed m cut.Notes result file_then.told allowed is in absurd (text.2 (reads.says_nothing text.0 text.1))
 
-  said : (result : Result (Unit {0}) (Ending Fault)) → IsAllowedEnd m result file_then.told → HasSaid m reading_ends result notes.bytes notes.bytes
-  said (Ok x) allowed =
-      ([], Takes-nothing notes.bytes, (λ sizes reach. reads.may_end sizes status.Ok [] (inl (reach, refl, refl))), (tt, λ before after. tt))
+  said : (result : Result X (Ending W)) → IsAllowedEnd m result file_then.told → HasSaid m ends result notes.bytes notes.bytes
+  said (Ok x) allowed = ([], Takes-nothing notes.bytes, (reads.done x).0, (reads.done x).1)
   said (Err end.Limit) allowed = Takes-nothing notes.bytes
-  said (Err (end.At fault)) allowed = (
-    [],
-    Takes-nothing notes.bytes,
-    λ sizes reach. reads.may_end sizes status.Refused (refused_text fault) (inr (inl (reach, fault, refl, refl))),
-  )
+  said (Err (end.At w)) allowed = ([], Takes-nothing notes.bytes, reads.at w)
   said (Err (end.Cut cut.Input)) allowed = ([], Takes-nothing notes.bytes, reads.may_say)
   said (Err (end.Cut cut.File)) allowed = ([], Takes-nothing notes.bytes, reads.may_say)
   said (Err (end.Cut cut.Made)) allowed = ([], Takes-nothing notes.bytes, reads.may_say)
@@ -88,15 +88,15 @@ module _ (m : Meaning) (P : List ℕ → Answer → Type 0) (Q : List ℕ → Li
   said (Err (end.Cut cut.Notes)) allowed = told_all (Err (end.Cut cut.Notes)) allowed refl
   said (Err (end.Cut cut.Memory)) allowed = ([], Takes-nothing notes.bytes, reads.may_say)
 
-  pub runs-reading : (result : Result (Unit {0}) (Ending Fault)) (ended : Status)
+  pub runs-reading : (result : Result X (Ending W)) (ended : Status)
       → IsAllowedEnd m result file_then.told → IfSome file.bytes (λ bytes. IfSome file_then.told (λ size. size ≡ length bytes))
-      → IfSome file.bytes (λ bytes. HasPutAtEnd reading_ends P result bytes Start Read [])
+      → IfSome file.bytes (λ bytes. HasPutAtEnd ends P result bytes Start Read [])
       → (IsErrAnd result IsShort → ¬ Rose out.faults out_then.faults → IfSome file.bytes (λ bytes. HasPutSoFar (Q bytes) Start Read []))
-      → SaysEnd reading_ends result ended notes notes_then
+      → SaysEnd ends result ended notes notes_then
       → (result ≡ Err (end.Cut cut.File) → Rose file.faults file_then.faults)
       → (result ≡ Err (end.Cut cut.Out) → Rose out.faults out_then.faults)
       → Runs m (seen input (file ∷ []) made grown out notes) (seen input (file_then ∷ []) made grown out_then notes_then) ended
   runs-reading result ended allowed exact put so_far says file_rose out_rose =
-      runs-file m P Q reads.one input made made file file_then grown out out_then notes notes notes_then keeps reading_ends ends result ended allowed exact put
+      runs-file m P Q reads.one input made made file file_then grown out out_then notes notes notes_then keeps ends reads.by result ended allowed exact put
       (λ short sound. so_far short (sound.out reads.one.out)) (said result allowed) says (omega arith) file_rose
       (λ is. absurd (cc (sym reads.unmade ∙ cut-allowed m cut.Made result file_then.told allowed is))) out_rose (told_all result allowed)

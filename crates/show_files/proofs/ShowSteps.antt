@@ -415,7 +415,7 @@ pub printed-ended : (words : ShowWords) (bytes : Option (List ℕ)) (then : Tota
 printed-ended words None then before after held why ended result same err is h = tt
 printed-ended words (Some f) then before after held why ended (Ok x) same err is h = absurd (cc err)
 printed-ended words (Some f) then before after held why ended (Err made) same err is h =
-    subst (λ (w : Ending Fault). HasPutEarly refused_text status.Refused (IsShown words) w f before after held) (sym is)
+    subst (λ (w : Ending Fault). HasPutEarly refused_text (λ _. status.Refused) (IsShown words) w f before after held) (sym is)
     (subst (λ (r : Result Bool (Ending Fault)). PrintsOn words r f then before after held) same h)
 
 -- what holds of each file holds of the one that is told

@@ -6,4 +6,4 @@ use Rattle.run_answers.specs.declared.status.Status.TheVariants as status
 
 -- where it is done nothing is said, and of a file that is refused its fault
 abbrev pub reading_ends : {X : Type 0} → Endings X Fault
-reading_ends = record { done = λ _. status.Ok; text = refused_text; status = status.Refused }
+reading_ends = record { done = λ _. status.Ok; text = refused_text; status = λ _. status.Refused }

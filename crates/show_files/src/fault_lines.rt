@@ -9,7 +9,7 @@ use record_io::{Failed, PutBuffer, Sink};
 use run_answers::{LINE, Status};
 
 /// Ends the work with the line of a fault of a file, which is refused.
-pub(crate) fn end_with_fault<E: Sink>(notes: &mut E, fault: &Fault) -> Status
+pub fn end_with_fault<E: Sink>(notes: &mut E, fault: &Fault) -> Status
     ensures told { SaysAtEnd result Status.Refused (shown E.taken E.faults notes.old)
         (shown E.taken E.faults notes.new) (refused_text fault.now) }
     ensures notes { OnlyCounts E.lent E.faults ⊥ notes.old notes.new }

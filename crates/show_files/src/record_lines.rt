@@ -35,7 +35,7 @@ pub fn put_records<O: Sink>(
 }
 
 /// Puts the line of a record.
-fn put_record<O: Sink>(
+pub fn put_record<O: Sink>(
     form: &RecordForm,
     position: u64,
     bytes: &[u8],

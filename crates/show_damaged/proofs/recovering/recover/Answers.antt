@@ -14,7 +14,7 @@ returns-clause-runs g c = λ others.
     let exact = still-sized _ _ _ did.same_bytes (g.met.S.Store.sized c.recover_file-ended.new.file) in
     runs-walking (recover_meaning words) (IsRecovered words) (IsRecoveredSoFar words) words.most (recover_walks words) others.input others.made others.made _ _ others.grown _ _ _ _ _
     (file-keeps (recover_meaning words) (IsRecovered words) (IsRecoveredSoFar words) (recover_walks words).one others.input others.made others.made _ _ others.grown _ _ _ _
-    did.file.never_falls (omega arith) did.out.never_falls (omega (arith, did.notes.never_falls, c.end_walk.ensures.notes.never_falls)) exact did.handed)
+    did.file.never_falls (omega arith) did.out.never_falls (omega (arith, did.notes.never_falls, c.end_walk.ensures.notes.never_falls)) exact did.handed (λ r is. tt))
     c.recover_file-ended.result _ did.allowed exact
     (did.printed others.made.bytes)
     (λ short sound. did.so_far short (sound.out refl) others.made.bytes) did.said c.end_walk.ensures.told did.notes.never_falls
