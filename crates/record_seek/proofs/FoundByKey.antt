@@ -28,14 +28,14 @@ use Rattle.record_seek.proofs.ReadingOn.{item_at}
 use Rattle.record_seek.proofs.Ways.{same_told}
 
 -- the record of this number is the first, or it stands before
-abbrev IsLow : (Before : List ℕ → Type 0) → List (ℕ × List ℕ) → ℕ → Type 0
+abbrev pub IsLow : (Before : List ℕ → Type 0) → List (ℕ × List ℕ) → ℕ → Type 0
 IsLow Before placed i = (i ≡ 0) ⊎ ((r : ℕ × List ℕ) × (slice_get placed i ≡ Some r) × Before r.1)
 
 -- the record right before that of this number stands before
-abbrev IsBehind : (Before : List ℕ → Type 0) → List (ℕ × List ℕ) → ℕ → Type 0
+abbrev pub IsBehind : (Before : List ℕ → Type 0) → List (ℕ × List ℕ) → ℕ → Type 0
 IsBehind Before placed i = (last : ℕ × List ℕ) × (slice_get placed (i - 1) ≡ Some last) × Before last.1
 
-module _ (Before : List ℕ → Type 0) (ks : List ChunkValue) (file : List ℕ) (frame : IsFrame ks file) (reach : length file ≤ 2 ^ 60) (plain : AllByRecursion IsPlain ks) (lists : List (List (List ℕ))) (each : HoldEach ks lists) where
+module _ (Before : List ℕ → Type 0) (ks : List ChunkValue) (file : List ℕ) (frame : IsFrame ks file) (plain : AllByRecursion IsPlain ks) (lists : List (List (List ℕ))) (each : HoldEach ks lists) where
   -- chunks without records hold none
   none_more : (places : List ℕ) (h to : ℕ) → ArePlacesBetween file (begin_of ks h) to places → HaveNoRecords file places
       → records_before lists (h + length places) ≡ records_before lists h
@@ -130,11 +130,11 @@ module _ (Before : List ℕ → Type 0) (ks : List ChunkValue) (file : List ℕ)
       )
 
   -- so is the first one from the chunk on that reading begins at
-  begins_low : (low begin : ℕ) → BeginsBefore Before low file → IsBeginFrom low begin file
+  begins_low : (low begin : ℕ) → length file ≤ 2 ^ 60 → BeginsBefore Before low file → IsBeginFrom low begin file
       → (h : ℕ) × (begin ≡ begin_of ks h) × (h ≤ length ks) × IsLow Before (placed_from 0 ks lists) (records_before lists h)
-  begins_low low begin before (inl (first, front)) = (0, front, omega arith, inl (none_before_first lists))
-  begins_low low begin (inl first) (inr (past, told)) = absurd (omega (arith, first, past))
-  begins_low low begin (inr (other, also, (bytes, is_first, stands))) (inr (past, told)) =
+  begins_low low begin reach before (inl (first, front)) = (0, front, omega arith, inl (none_before_first lists))
+  begins_low low begin reach (inl first) (inr (past, told)) = absurd (omega (arith, first, past))
+  begins_low low begin reach (inr (other, also, (bytes, is_first, stands))) (inr (past, told)) =
       let (previous, next, there, is) = told in
       let block : ℕ = low * 65536 in
       let holder = lies_of ks file frame block (omega (arith, stands_within file block previous next there)) in
@@ -148,7 +148,7 @@ module _ (Before : List ℕ → Type 0) (ks : List ChunkValue) (file : List ℕ)
       )
 
   -- the record that is found
-  record_found : (h : ℕ) (found : Found) → h ≤ length ks → IsLow Before (placed_from 0 ks lists) (records_before lists h)
+  pub record_found : (h : ℕ) (found : Found) → h ≤ length ks → IsLow Before (placed_from 0 ks lists) (records_before lists h)
       → IsReadRecord Before file (begin_of ks h) found
       → IsKeyFound (BytesStandBefore Before) (placed_from 0 ks lists) (Some (found.position, found.bytes))
   record_found h found inside low read =
@@ -192,7 +192,7 @@ module _ (Before : List ℕ → Type 0) (ks : List ChunkValue) (file : List ℕ)
       )
 
   -- nothing is found where no record is left
-  none_found : (h : ℕ) → h ≤ length ks → IsLow Before (placed_from 0 ks lists) (records_before lists h)
+  pub none_found : (h : ℕ) → h ≤ length ks → IsLow Before (placed_from 0 ks lists) (records_before lists h)
       → AreReadTo Before file (begin_of ks h) (length file) → IsKeyFound (BytesStandBefore Before) (placed_from 0 ks lists) None
   none_found h inside low read =
       let (j, is, behind) = read_to h (length file) inside read in
@@ -212,13 +212,13 @@ module _ (Before : List ℕ → Type 0) (ks : List ChunkValue) (file : List ℕ)
         ]
       ]
 
-  key_found : (low begin : ℕ) (found : Option Found) → BeginsBefore Before low file → IsBeginFrom low begin file → IsReadOn Before file begin found
+  key_found : (low begin : ℕ) (found : Option Found) → length file ≤ 2 ^ 60 → BeginsBefore Before low file → IsBeginFrom low begin file → IsReadOn Before file begin found
       → IsKeyFound (BytesStandBefore Before) (placed_from 0 ks lists) (placed_of found)
-  key_found low begin None before start read =
-      let (h, is, inside, first) = begins_low low begin before start in
+  key_found low begin None reach before start read =
+      let (h, is, inside, first) = begins_low low begin reach before start in
       none_found h inside first (subst (λ (b : ℕ). AreReadTo Before file b (length file)) is read)
-  key_found low begin (Some found) before start read =
-      let (h, is, inside, first) = begins_low low begin before start in
+  key_found low begin (Some found) reach before start read =
+      let (h, is, inside, first) = begins_low low begin reach before start in
       record_found h found inside first (subst (λ (b : ℕ). IsReadRecord Before file b found) is read)
 
 -- what is found among a file's records
@@ -237,7 +237,7 @@ found_in Before (Some file) now then size low begin found same also sized reach 
     λ ks placed whole are.
     let (frame, plain) = (file_of_frame ks file).1 whole in
     subst (λ (xs : List (ℕ × List ℕ)). IsKeyFound (BytesStandBefore Before) xs (placed_of found)) (sym are.2)
-    (key_found Before ks file frame (omega (arith, sized, reach)) plain are.0 are.1 low begin found before start on)
+    (key_found Before ks file frame plain are.0 are.1 low begin found (omega (arith, sized, reach)) before start on)
 
 pub found-in : {E : Type 0} (Before : List ℕ → Type 0) (bytes now then : Option (List ℕ)) (size low begin : ℕ) (result : Result (Option Found) E)
     → now ≡ bytes → then ≡ bytes → IsSized bytes (Some size) → size ≤ 2 ^ 60 → IfSome bytes (BeginsBefore Before low)

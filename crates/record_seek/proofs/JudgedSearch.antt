@@ -81,7 +81,7 @@ IsGivenOrNot file position =
     ((given : Option (ℕ × List ℕ)) × SearchGives file position given) ⊎ ((fault : Fault) × IsSearchFault file position fault)
 
 -- a chunk that is read and whose header counts records holds some
-holds_counted : (k : ChunkValue) → IsPlain k → 0 < k.num_records → HasRecords k
+pub holds_counted : (k : ChunkValue) → IsPlain k → 0 < k.num_records → HasRecords k
 holds_counted k (small, inl holds) some = holds
 holds_counted k (small, inr (inl (kind, rule))) some = absurd (omega (arith, some, (rule.signature refl).1))
 holds_counted k (small, inr (inr (inl (kind, rule)))) some = absurd (omega (arith, some, rule.metadata refl))

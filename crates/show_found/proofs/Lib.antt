@@ -1,0 +1,5 @@
+pub mod ByteOrder
+pub mod KeyExists
+pub mod OneSought
+pub mod SeekSteps
+pub mod SeekRuns

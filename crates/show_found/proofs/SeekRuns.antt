@@ -1,0 +1,68 @@
+-- How a run of `seek` ends, by how its work ended.
+use Rattle.std.proofs.Common.{◌≡◌, ℕ, IfSome, List, [], ◌∷◌, refl, inl, inr}
+use Rattle.std.proofs.lemmas.Option.{MatchOption-at_some}
+use Rattle.run_answers.specs.Runs.{Shown, ShownFile, seen, IfRead}
+use Rattle.run_answers.proofs.FileEnds.{EndsWhole, MayEndInReach}
+use Rattle.run_answers.proofs.FileRuns.{ReadsFile, told-files}
+use Rattle.show_files.proofs.ReadingRuns.{IsReading}
+use Rattle.show_found.specs.Searches.{TakesOf}
+use Rattle.show_found.specs.SeekCommand.{IsSeekAnswer, IsSeekSoFar, MayTakeOf, seek_meaning}
+use Rattle.show_found.specs.SeekEnds.{unfound_text, unfound_status, seek_ends}
+use Rattle.show_found.specs.declared.seeking.Unfound.{Unfound}
+use Rattle.show_found.specs.declared.seeking.Unfound.TheVariants as unfound
+use Rattle.show_found.specs.declared.seek_words.SeekWords.{SeekWords}
+use Rattle.run_answers.specs.declared.status.Status.TheVariants as status
+
+seek_reads_file : (words : SeekWords) → ReadsFile (seek_meaning words) (IsSeekAnswer words) IsSeekSoFar
+seek_reads_file words = record {
+  command = refl;
+  input = refl;
+  files = refl;
+  grown = refl;
+  out = refl;
+  answers = λ r answer is. is;
+  so_far = λ r part is. is;
+  may_work = λ sizes within. within;
+}
+
+-- how it ends where no record was found
+unfound_whole : (words : SeekWords) (why : Unfound) → EndsWhole (seek_meaning words) (unfound_status why)
+unfound_whole words unfound.Nothing = (tt, λ before after. tt)
+unfound_whole words (unfound.Refused fault) = (tt, λ before after. tt)
+
+unfound_other : (why : Unfound) → ¬ (unfound_status why ≡ status.Ok)
+unfound_other unfound.Nothing is = cc is
+unfound_other (unfound.Refused fault) is = cc is
+
+unfound_some : (why : Unfound) → ¬ (unfound_text why ≡ [])
+unfound_some unfound.Nothing is = cc is
+unfound_some (unfound.Refused fault) is = cc is
+
+unfound_may_end : (words : SeekWords) (why : Unfound) → MayEndInReach (seek_meaning words) (unfound_status why) (unfound_text why)
+unfound_may_end words unfound.Nothing = λ sizes reach. inr (reach, refl, refl)
+unfound_may_end words (unfound.Refused fault) = λ sizes reach. inl (inr (inl (reach, fault, refl, refl)))
+
+pub seek_reads : (words : SeekWords) → IsReading {X = Unit {0}} (seek_meaning words) seek_ends (IsSeekAnswer words) IsSeekSoFar
+seek_reads words = record {
+  one = seek_reads_file words;
+  by = record {
+    too_long = λ sizes long. inl (inr (inr (long, refl, refl)));
+    whole = unfound_whole words;
+    other = unfound_other;
+    some = unfound_some;
+  };
+  done = λ x. (λ sizes reach. inl (inl (reach, refl, refl)), (tt, λ before after. tt));
+  at = unfound_may_end words;
+  unmade = refl;
+  says_nothing = λ text is. is;
+  may_say = refl;
+}
+
+-- what it takes of the file that it reads
+pub seek_takes : (words : SeekWords) (input made : Shown) (file grown : ShownFile) (out notes : Shown) (after : ℕ)
+    → IfSome file.bytes (λ bytes. TakesOf words.by bytes file.handed after)
+    → IfRead (seek_meaning words) (seen input (file ∷ []) made grown out notes) (λ r. MayTakeOf words.by r.files (file.handed ∷ []) (after ∷ []))
+seek_takes words input made file grown out notes after takes =
+    told-files (seek_meaning words) (IsSeekAnswer words) IsSeekSoFar (seek_reads_file words) input made made file file grown out out notes notes
+    (λ files. MayTakeOf words.by files (file.handed ∷ []) (after ∷ []))
+    (λ bytes told. MatchOption-at_some _ (λ (b : List ℕ). TakesOf words.by b file.handed after) bytes told takes)
