@@ -48,7 +48,7 @@ pub record IsOfChunk (place : ℕ) (ks : List ChunkValue) (x : ℕ × List ℕ) 
   pub stands : slice_get records number ≡ Some x.1
   pub position : x.0 ≡ end_of_chunks place (take chunk ks) + number
 
-placed-of : (place : ℕ) (ks : List ChunkValue) (lists : List (List (List ℕ))) (i : ℕ) (x : ℕ × List ℕ) → HoldEach ks lists
+pub placed-of : (place : ℕ) (ks : List ChunkValue) (lists : List (List (List ℕ))) (i : ℕ) (x : ℕ × List ℕ) → HoldEach ks lists
     → slice_get (placed_from place ks lists) i ≡ Some x → IsOfChunk place ks x
 placed-of place [] lists i x each stands = absurd (cc)
 placed-of place (y ∷ ks) [] i x each stands = elim each [ ]
@@ -72,7 +72,7 @@ placed-of place (y ∷ ks) (held ∷ lists) i x each stands =
     ]
 
 -- so many records a chunk has
-held_number : (k : ChunkValue) (records : List (List ℕ)) (n : ℕ) (r : List ℕ) → Holds k records → slice_get records n ≡ Some r → n < k.num_records
+pub held_number : (k : ChunkValue) (records : List (List ℕ)) (n : ℕ) (r : List ℕ) → Holds k records → slice_get records n ≡ Some r → n < k.num_records
 held_number k records n r (inl simple) stands = omega (arith, simple.num_records, slice_get_within records n r stands)
 held_number k records n r (inr (none, nothing)) stands = omega (arith, ap length nothing, slice_get_within records n r stands)
 
