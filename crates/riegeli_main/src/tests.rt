@@ -35,6 +35,14 @@ fn each_command_uses_the_files_that_its_words_name(rt: HostRuntime) -> Result<()
         (&["show", FIRST], Status::Ok, LINES, ""),
         (&["show", "--recover", FIRST], Status::Ok, LINES, ""),
         (&["verify", FIRST], Status::Ok, REPORT, ""),
+        (&["seek", "--at=65", FIRST], Status::Ok, "65 bc\n", ""),
+        (&["seek", "--key=b", FIRST], Status::Ok, "65 bc\n", ""),
+        (
+            &["seek", "--at=112", FIRST],
+            Status::NotFound,
+            "",
+            "not found\n",
+        ),
         (&["repair", FIRST, SECOND], Status::Ok, REPORT, ""),
         (&["show", SECOND], Status::Ok, LINES, ""),
         (

@@ -4,7 +4,8 @@ use Rattle.std.specs.Option.{IfSome}
 use Rattle.std.specs.Str.{bytes_eq}
 use Rattle.record_writer.specs.Written.{AreInLimits}
 use Rattle.riegeli_tool.specs.declared.command.Command.{Command}
-use Rattle.riegeli_tool.specs.declared.command.Command.TheVariants.{Write, Show, Recover, Verify, Repair, Sample}
+use Rattle.riegeli_tool.specs.declared.command.Command.TheVariants.{Write, Show, Recover, Verify, Seek, Repair, Sample}
+use Rattle.show_found.specs.SeekWords.{seek_words_of}
 use Rattle.show_files.specs.ShowWords.{show_words_of}
 use Rattle.show_damaged.specs.RecoverWords.{goes_past_damage, recover_words_of}
 use Rattle.show_files.specs.VerifyWords.{verify_words_of}
@@ -40,8 +41,9 @@ command_of-within (name ∷ words) =
     (either (bytes_eq name (codes "show")) _ _
     (either (goes_past_damage all) _ _ (of_words Recover (recover_words_of all) (λ w is. tt)) (of_words Show (show_words_of all) (λ w is. tt)))
     (either (bytes_eq name (codes "verify")) _ _ (of_words Verify (verify_words_of all) (λ w is. tt))
+    (either (bytes_eq name (codes "seek")) _ _ (of_words Seek (seek_words_of all) (λ w is. tt))
     (either (bytes_eq name (codes "repair")) _ _ (of_words Repair (repair_words_of all) (λ w is. tt))
-    (either (bytes_eq name (codes "sample")) _ None (of_words Sample (sample_words_of all) (sample_words_of-within all)) tt))))
+    (either (bytes_eq name (codes "sample")) _ None (of_words Sample (sample_words_of all) (sample_words_of-within all)) tt)))))
 
 accepted_of-within : (command : Option Command) (count : ℕ) → IfSome command IsWithin → IfSome (accepted_of command count) IsWithin
 accepted_of-within None count h = tt

@@ -5,7 +5,7 @@ use Rattle.damage_skip.proofs.Tiles.{events_one}
 use Rattle.repair_copy.specs.Relaid.{chunks_in}
 use Rattle.repair_copy.specs.RepairPuts.{repair_puts}
 use Rattle.riegeli_tool.specs.declared.command.Command.{Command}
-use Rattle.riegeli_tool.specs.declared.command.Command.TheVariants.{Write, Show, Recover, Verify, Repair, Sample}
+use Rattle.riegeli_tool.specs.declared.command.Command.TheVariants.{Write, Show, Recover, Verify, Seek, Repair, Sample}
 use Rattle.riegeli_tool.specs.declared.repair_words.RepairWords.{RepairWords}
 use Rattle.run_answers.specs.Answers.{Answer}
 use Rattle.show_files.specs.ShowCommand.{IsShown}
@@ -19,6 +19,8 @@ use Rattle.riegeli_tool.specs.CommandAnswers.{IsAnswerTo, meaning_of}
 use Rattle.run_answers.specs.Meanings.{Read}
 use Rattle.run_answers.proofs.OneAnswer.{one_of_file, same_answer}
 use Rattle.show_damaged.proofs.OneRecovery.{one_recovered}
+use Rattle.show_found.specs.SeekCommand.{IsSeekAnswer}
+use Rattle.show_found.proofs.OneSought.{one_sought}
 use Rattle.show_files.proofs.OneReading.{one_shown, one_verified}
 
 -- `repair` has one answer to a file
@@ -31,15 +33,17 @@ one_repaired words file a b h g =
     ∙ sym g.puts)
     (h.status ∙ ap (λ (es : List Piece). walk_status (regions_in (walked words.most es)) (refused_in words.most es)) same ∙ sym g.status)
 
--- there is one answer at most
-pub one_answer : (command : Option Command) (r : Read) (a b : Answer) → IsAnswerTo command r a → IsAnswerTo command r b → a ≡ b
-one_answer None r a b first second = first ∙ sym second
-one_answer (Some (Write words)) r a b first second = first ∙ sym second
-one_answer (Some (Show words)) r a b first second = one_of_file (IsShown words) (one_shown words) r.files a b first second
-one_answer (Some (Recover words)) r a b first second = one_of_file (IsRecovered words) (one_recovered words) r.files a b first second
-one_answer (Some (Verify words)) r a b first second = one_of_file IsVerified one_verified r.files a b first second
-one_answer (Some (Repair words)) r a b first second = one_of_file (IsRepaired words) (one_repaired words) r.files a b first second
-one_answer (Some (Sample words)) r a b first second = first ∙ sym second
+-- there is one answer at most, unless the command may have several
+pub one_answer : (command : Option Command) (r : Read) (a b : Answer) → (meaning_of command).one ≡ true → IsAnswerTo command r a → IsAnswerTo command r b → a ≡ b
+one_answer None r a b one first second = first ∙ sym second
+one_answer (Some (Write words)) r a b one first second = first ∙ sym second
+one_answer (Some (Show words)) r a b one first second = one_of_file (IsShown words) (one_shown words) r.files a b first second
+one_answer (Some (Recover words)) r a b one first second = one_of_file (IsRecovered words) (one_recovered words) r.files a b first second
+one_answer (Some (Verify words)) r a b one first second = one_of_file IsVerified one_verified r.files a b first second
+one_answer (Some (Seek words)) r a b one first second =
+    one_of_file (IsSeekAnswer words) (λ file x y. one_sought words file x y one) r.files a b first second
+one_answer (Some (Repair words)) r a b one first second = one_of_file (IsRepaired words) (one_repaired words) r.files a b first second
+one_answer (Some (Sample words)) r a b one first second = first ∙ sym second
 
 -- an input that isn't used may be any
 pub any_input : (command : Option Command) (r : Read) (other : List ℕ) (a : Answer)
@@ -49,6 +53,7 @@ any_input (Some (Write words)) r other a unused is = absurd (cc unused)
 any_input (Some (Show words)) r other a unused is = is
 any_input (Some (Recover words)) r other a unused is = is
 any_input (Some (Verify words)) r other a unused is = is
+any_input (Some (Seek words)) r other a unused is = is
 any_input (Some (Repair words)) r other a unused is = is
 any_input (Some (Sample words)) r other a unused is = is
 
@@ -60,6 +65,7 @@ any_files (Some (Write words)) r others a unused is = is
 any_files (Some (Show words)) r others a unused is = absurd (cc unused)
 any_files (Some (Recover words)) r others a unused is = absurd (cc unused)
 any_files (Some (Verify words)) r others a unused is = absurd (cc unused)
+any_files (Some (Seek words)) r others a unused is = absurd (cc unused)
 any_files (Some (Repair words)) r others a unused is = absurd (cc unused)
 any_files (Some (Sample words)) r others a unused is = is
 
@@ -71,5 +77,6 @@ any_grown (Some (Write words)) r other a unused is = is
 any_grown (Some (Show words)) r other a unused is = is
 any_grown (Some (Recover words)) r other a unused is = is
 any_grown (Some (Verify words)) r other a unused is = is
+any_grown (Some (Seek words)) r other a unused is = is
 any_grown (Some (Repair words)) r other a unused is = is
 any_grown (Some (Sample words)) r other a unused is = is

@@ -7,7 +7,7 @@ use Rattle.damage_skip.proofs.Tiles.{events_of}
 use Rattle.repair_copy.specs.Relaid.{chunks_in}
 use Rattle.repair_copy.specs.RepairPuts.{repair_puts}
 use Rattle.riegeli_tool.specs.declared.command.Command.{Command}
-use Rattle.riegeli_tool.specs.declared.command.Command.TheVariants.{Write, Show, Recover, Verify, Repair, Sample}
+use Rattle.riegeli_tool.specs.declared.command.Command.TheVariants.{Write, Show, Recover, Verify, Seek, Repair, Sample}
 use Rattle.riegeli_tool.specs.declared.repair_words.RepairWords.{RepairWords}
 use Rattle.run_answers.specs.Answers.{Answer}
 use Rattle.riegeli_tool.specs.Usage.{usage}
@@ -26,6 +26,8 @@ use Rattle.run_answers.specs.Meanings.{Read}
 use Rattle.run_answers.proofs.OneAnswer.{of_file_exists}
 use Rattle.show_damaged.proofs.OneRecovery.{recovered_exists}
 use Rattle.show_files.proofs.ReadingsExist.{shown_exists, verified_exists}
+use Rattle.show_found.specs.SeekCommand.{IsSeekAnswer}
+use Rattle.show_found.proofs.OneSought.{sought_exists}
 
 -- `repair` has an answer
 pub repaired_exists : (words : RepairWords) (file : List ℕ) → AreBytes file → (answer : Answer) × IsRepaired words file answer
@@ -63,6 +65,8 @@ command_answered (Some (Recover words)) r many bytes =
     of_file_exists (IsRecovered words) (recovered_exists words) r.files (sym (many (Recover words) refl)) bytes
 command_answered (Some (Verify words)) r many bytes =
     of_file_exists IsVerified verified_exists r.files (sym (many (Verify words) refl)) bytes
+command_answered (Some (Seek words)) r many bytes =
+    of_file_exists (IsSeekAnswer words) (sought_exists words) r.files (sym (many (Seek words) refl)) bytes
 command_answered (Some (Repair words)) r many bytes =
     of_file_exists (IsRepaired words) (repaired_exists words) r.files (sym (many (Repair words) refl)) bytes
 command_answered (Some (Sample words)) r many bytes = (sample_answer words, refl)

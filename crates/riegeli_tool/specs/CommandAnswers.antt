@@ -1,7 +1,7 @@
 -- What each command means: one line a command, and one for words that are none. Own.
 use Rattle.std.specs.Prelude.{◌≡◌, false, Option, Some, None}
 use Rattle.riegeli_tool.specs.declared.command.Command.{Command}
-use Rattle.riegeli_tool.specs.declared.command.Command.TheVariants.{Write, Show, Recover, Verify, Repair, Sample}
+use Rattle.riegeli_tool.specs.declared.command.Command.TheVariants.{Write, Show, Recover, Verify, Seek, Repair, Sample}
 use Rattle.run_answers.specs.Answers.{Answer}
 use Rattle.riegeli_tool.specs.Usage.{usage_text, usage}
 use Rattle.run_answers.specs.Meanings.{Read, Meaning, meaning, none_used}
@@ -9,6 +9,7 @@ use Rattle.write_lines.specs.WriteCommand.{write_meaning}
 use Rattle.show_files.specs.ShowCommand.{show_meaning}
 use Rattle.show_damaged.specs.RecoverCommand.{recover_meaning}
 use Rattle.show_files.specs.VerifyCommand.{verify_meaning}
+use Rattle.show_found.specs.SeekCommand.{seek_meaning}
 use Rattle.riegeli_tool.specs.RepairCommand.{repair_meaning}
 use Rattle.sample_records.specs.SampleCommand.{sample_meaning}
 use Rattle.run_answers.specs.declared.status.Status.TheVariants as status
@@ -26,6 +27,7 @@ meaning_of (Some (Write words)) = write_meaning words
 meaning_of (Some (Show words)) = show_meaning words
 meaning_of (Some (Recover words)) = recover_meaning words
 meaning_of (Some (Verify words)) = verify_meaning
+meaning_of (Some (Seek words)) = seek_meaning words
 meaning_of (Some (Repair words)) = repair_meaning words
 meaning_of (Some (Sample words)) = sample_meaning words
 

@@ -3,12 +3,13 @@ use Rattle.std.specs.Prelude.{ℕ, ◌*◌, Bool, Option, Some, None, List, [], 
 use Rattle.std.specs.Str.{bytes_eq}
 use lib.Chars.{codes}
 use Rattle.riegeli_tool.specs.declared.command.Command.{Command}
-use Rattle.riegeli_tool.specs.declared.command.Command.TheVariants.{Write, Show, Recover, Verify, Repair, Sample}
+use Rattle.riegeli_tool.specs.declared.command.Command.TheVariants.{Write, Show, Recover, Verify, Seek, Repair, Sample}
 use Rattle.riegeli_tool.specs.declared.command.Names.{Names}
 use Rattle.write_lines.specs.WriteWords.{write_words_of}
 use Rattle.show_files.specs.ShowWords.{show_words_of}
 use Rattle.show_damaged.specs.RecoverWords.{goes_past_damage, recover_words_of}
 use Rattle.show_files.specs.VerifyWords.{verify_words_of}
+use Rattle.show_found.specs.SeekWords.{seek_words_of}
 use Rattle.riegeli_tool.specs.RepairWords.{repair_words_of}
 use Rattle.sample_records.specs.SampleWords.{sample_words_of}
 
@@ -25,6 +26,7 @@ command_of (name ∷ words) =
     if bytes_eq name (codes "write") then option_map Write (write_words_of (name ∷ words))
     else if bytes_eq name (codes "show") then show_command_of (name ∷ words)
     else if bytes_eq name (codes "verify") then option_map Verify (verify_words_of (name ∷ words))
+    else if bytes_eq name (codes "seek") then option_map Seek (seek_words_of (name ∷ words))
     else if bytes_eq name (codes "repair") then option_map Repair (repair_words_of (name ∷ words))
     else if bytes_eq name (codes "sample") then option_map Sample (sample_words_of (name ∷ words))
     else None
@@ -40,6 +42,7 @@ names_by (Write words) = record none_named { made = Some words.file }
 names_by (Show words) = record none_named { first = words.file; count = 1 }
 names_by (Recover words) = record none_named { first = words.show.file; count = 1 }
 names_by (Verify words) = record none_named { first = words.file; count = 1 }
+names_by (Seek words) = record none_named { first = words.file; count = 1 }
 names_by (Repair words) = record none_named { first = words.from; count = 1; made = Some words.to }
 names_by (Sample words) = record none_named { made = Some words.file }
 

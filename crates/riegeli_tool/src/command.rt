@@ -6,15 +6,17 @@ use sample_records::sample_words::SampleWords;
 use show_damaged::recover_words::RecoverWords;
 use show_files::show_words::ShowWords;
 use show_files::verify_words::VerifyWords;
+use show_found::seek_words::SeekWords;
 use write_lines::write_words::WriteWords;
 
 /// A command, with what its words say.
-#[derive(Clone, Copy, Debug, PartialEq, Eq)]
-pub(crate) enum Command {
+#[derive(Debug, Drop)]
+pub(crate) enum Command<'a> {
     Write(WriteWords),
     Show(ShowWords),
     Recover(RecoverWords),
     Verify(VerifyWords),
+    Seek(SeekWords<'a>),
     Repair(RepairWords),
     Sample(SampleWords),
 }
@@ -57,7 +59,7 @@ impl Names {
     }
 }
 
-impl Command {
+impl<'a> Command<'a> {
     /// The files that the command's words name.
     pub(crate) fn names(&self) -> Names
         ensures { result ≡ names_by self.now }
@@ -68,6 +70,7 @@ impl Command {
             Command::Show(words) => names.read(words.file),
             Command::Recover(words) => names.read(words.show.file),
             Command::Verify(words) => names.read(words.file),
+            Command::Seek(words) => names.read(words.file),
             Command::Repair(words) => {
                 names.read(words.from);
                 names.made = Some(words.to);

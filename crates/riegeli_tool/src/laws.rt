@@ -2,13 +2,14 @@
 
 ghost use Rattle.std.specs.List.{AllByRecursion, flat_map};
 ghost use Rattle.std.specs.List.Sorted.{IsStrictlyIncreasing};
-ghost use Rattle.std.specs.Prelude.{◌≡◌, ◌^◌, ◌≤◌, ◌⊎◌, true, false, Option, None, List, [], ℕ, length, map};
+ghost use Rattle.std.specs.Prelude.{◌≡◌, ◌^◌, ◌≤◌, ◌⊎◌, true, false, Option, None, List, [], ℕ, length, map, slice_get};
 ghost use Rattle.chunk_header.specs.Chunks.{ChunkValue};
 ghost use Rattle.chunk_reader.specs.Faults.{HasNoFault};
 ghost use Rattle.meta_chunk.specs.Files.{IsFile, AreRecordsOf, ArePlaced};
 ghost use Rattle.record_group.specs.Records.{AreRecords};
 ghost use Rattle.record_values.specs.Bytes.{AreBytes};
 ghost use Rattle.record_io.specs.Puts.{Made, Out, Notes, puts_to, bytes_to};
+ghost use Rattle.record_seek.specs.Found.{IsFirstAt, BytesStandBefore, OnlyFrontStandsBefore};
 ghost use Rattle.record_writer.specs.Feeds.{Rest};
 ghost use Rattle.record_writer.specs.Written.{AreInLimits, file_under};
 ghost use Rattle.damage_skip.specs.Pieces.{placed_in};
@@ -28,6 +29,10 @@ ghost use Rattle.show_files.specs.ShowCommand.{IsShown};
 ghost use Rattle.show_files.specs.VerifyCommand.{IsVerified};
 ghost use Rattle.damage_skip.specs.Bounds.{walked, refused_in};
 ghost use Rattle.damage_skip.specs.Regions.{regions_in, walk_text};
+ghost use Rattle.show_found.specs.ByteOrder.{IsBelow};
+ghost use Rattle.show_found.specs.SeekCommand.{IsSeekAnswer, found_answer};
+ghost use Rattle.show_found.specs.declared.seek_words.By.TheVariants.{At, Key};
+ghost use Rattle.show_found.specs.declared.seek_words.SeekWords.{SeekWords};
 ghost use Rattle.write_lines.specs.WriteCommand.{stop_text, answer_to, write_answer};
 ghost use Rattle.riegeli_tool.specs.declared.command.Command.{Command};
 ghost use Rattle.show_damaged.specs.declared.recover_words.RecoverWords.{RecoverWords};
@@ -70,19 +75,20 @@ pub fn answers_stand_on_what_is_used()
 {}
 
 /// Each file of bytes has an answer of `show`, whatever its words, also of those that go on past damage, one of `verify`,
-/// and one of `repair`. So all words have an answer, of the bytes of any input and files. Own.
+/// one of `seek` for each position and key, and one of `repair`. So all words have an answer, of the bytes of any input and files. Own.
 pub fn file_answers_exist()
     ensures show { (words : ShowWords) (file : List ℕ) → AreBytes file → (answer : Answer) × IsShown words file answer }
     ensures recover { (words : RecoverWords) (file : List ℕ) → AreBytes file → (answer : Answer) × IsRecovered words file answer }
     ensures verify { (file : List ℕ) → AreBytes file → (answer : Answer) × IsVerified file answer }
+    ensures seek { (words : SeekWords) (file : List ℕ) → AreBytes file → (answer : Answer) × IsSeekAnswer words file answer }
     ensures repair { (words : RepairWords) (file : List ℕ) → AreBytes file → (answer : Answer) × IsRepaired words file answer }
     ensures all { (words : List (List ℕ)) (r : Read)
         → AllByRecursion AreBytes r.files → AreBytes r.grown → (meaning_of (accepted words (length r.files))).supposes r
         → (answer : Answer) × IsAnswerTo (accepted words (length r.files)) r answer }
 {}
 
-/// What each stream takes of an answer: the made file, standard output and notes. Of `verify` and of words that are no
-/// command the definition says it: their answers go to one stream. Own.
+/// What each stream takes of an answer: the made file, standard output and notes. Of `verify`, of `seek` and of words that are
+/// no command the definition says it: their answers go to one stream. Own.
 pub fn streams_take_their_parts()
     ensures write { (words : WriteWords) (rest : Rest)
         → (bytes_to Made (answer_to words rest).puts ≡ file_under words.options rest.records)
@@ -113,6 +119,19 @@ pub fn recovering_shows_files_without_fault()
         → HasNoFault false file → IsShown words.show file a → IsRecovered words file b → b ≡ a }
     ensures ok { (words : RecoverWords) (file : List ℕ) (answer : Answer)
         → HasNoFault false file → IsRecovered words file answer → (bytes_to Notes answer.puts ≡ []) × (answer.status ≡ status.Ok) }
+{}
+
+/// In a file without fault, of at most 2^60 bytes, `seek` is never refused. For a position it prints the record of least position
+/// at or past it, and for a key the first record that isn't less, where those of a front are less and no others; where there
+/// is no such record it says so. Own.
+pub fn seek_finds_records_of_files_without_fault()
+    ensures position { (words : SeekWords) (position : ℕ) (ks : List ChunkValue) (file : List ℕ) (placed : List (ℕ × List ℕ)) (answer : Answer)
+        → words.by ≡ At position → IsFile ks file → length file ≤ 2 ^ 60 → ArePlaced ks placed → IsSeekAnswer words file answer
+        → (found : Option (ℕ × List ℕ)) × IsFirstAt placed position found × (answer ≡ found_answer words.hex found) }
+    ensures key { (words : SeekWords) (key : List ℕ) (ks : List ChunkValue) (file : List ℕ) (placed : List (ℕ × List ℕ)) (count : ℕ) (answer : Answer)
+        → words.by ≡ Key key → IsFile ks file → length file ≤ 2 ^ 60 → ArePlaced ks placed
+        → OnlyFrontStandsBefore (BytesStandBefore (IsBelow key)) placed count → IsSeekAnswer words file answer
+        → answer ≡ found_answer words.hex (slice_get placed count) }
 {}
 
 /// Records of at most 2^24 bytes each, written under a size of at most 2^24, read back: their file has no fault, and

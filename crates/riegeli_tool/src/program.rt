@@ -13,6 +13,7 @@ use run_answers::{Status, end};
 use sample_records::sample;
 use show_damaged::recover;
 use show_files::{show, verify};
+use show_found::show_found;
 use std::alloc::Global;
 use std::thread::Threads;
 use write_lines::write;
@@ -33,14 +34,14 @@ sample --seed=N --records=N [--chunk=N] [--workers=N] FILE
 /// `grown` the file that it grows, which no command does yet.
 /// Text goes to `out` and messages go to `notes`. For now the commands are `write`, of lines, with `--chunk`, `--every`,
 /// `--pad` and `--hex`; `show`, with `--hex` and `--positions`, and with `--recover`, which goes on past damage, and `--most`,
-/// which bounds the bytes of a region that is skipped; `verify`, which takes no memory; `repair`, which makes the file of
-/// what is intact of another one, with `--most` too; and `sample`, which makes the file of records that a seed tells, with
-/// `--seed`, `--records`, `--chunk` and `--workers`.
+/// which bounds the bytes of a region that is skipped; `verify`, which takes no memory; `seek`, by a position with `--at` or by
+/// a key with `--key`, and with `--hex`; `repair`, which makes the file of what is intact of another one, with `--most` too; and
+/// `sample`, which makes the file of records that a seed tells, with `--seed`, `--records`, `--chunk` and `--workers`.
 ///
 /// # Errors
 ///
-/// `Usage` where the words are no command that reads so many files, `Refused` where the file is not well formed, `Limit`
-/// where a line has more than 2^24 bytes, or 2^25 in the hexadecimal form, the input more than 2^40 or the file more than 2^60,
+/// `Usage` where the words are no command that reads so many files, `Refused` where the file is not well formed, or not where
+/// `seek` reads it, `NotFound` where that finds no record, `Limit` where a line has more than 2^24 bytes, or 2^25 in the hexadecimal form, the input more than 2^40 or the file more than 2^60,
 /// `BadLine` where a line isn't in that form, `Skipped` where regions of the file were skipped, `Stopped` where one has more
 /// bytes than may be skipped, `Input`, `File`, `Made`, `Out` and `Notes` where that object failed, `Memory` where there wasn't
 /// enough. Own.
@@ -88,6 +89,7 @@ pub fn run<
         Some(Command::Show(words)) => show(alloc, &words, &mut files[0], out, notes),
         Some(Command::Recover(words)) => recover(alloc, &words, &mut files[0], out, notes),
         Some(Command::Verify(_)) => verify(&mut files[0], out, notes),
+        Some(Command::Seek(words)) => show_found(alloc, &words, &mut files[0], out, notes),
         Some(Command::Repair(words)) => repair(alloc, &words, &mut files[0], made, out, notes),
         Some(Command::Sample(words)) => sample(rt, alloc, &words, made, out, notes),
         None => end(notes, USAGE, Status::Usage),

@@ -8,6 +8,7 @@ use sample_records::sample_words::sample_words;
 use show_damaged::recover_words::{goes_past_damage, recover_words};
 use show_files::show_words::show_words;
 use show_files::verify_words::verify_words;
+use show_found::seek_words::seek_words;
 use write_lines::write_words::write_words;
 
 /// The files that the words name. None for words that are no command. Own.
@@ -21,13 +22,14 @@ pub fn names(words: &[String]) -> Names
 }
 
 /// The command that the words are.
-fn parse(words: &[String]) -> Option<Command>
+fn parse<'a>(words: &'a [String]) -> Option<Command<'a>>
     ensures { result ≡ command_of (map string_bytes words.now) }
 {
     match words.first()?.as_str() {
         "write" => Some(Command::Write(write_words(words)?)),
         "show" => show_command(words),
         "verify" => Some(Command::Verify(verify_words(words)?)),
+        "seek" => Some(Command::Seek(seek_words(words)?)),
         "repair" => Some(Command::Repair(repair_words(words)?)),
         "sample" => Some(Command::Sample(sample_words(words)?)),
         _ => None,
@@ -35,7 +37,7 @@ fn parse(words: &[String]) -> Option<Command>
 }
 
 /// The command that the words of `show` are.
-fn show_command(words: &[String]) -> Option<Command>
+fn show_command<'a>(words: &'a [String]) -> Option<Command<'a>>
     ensures { result ≡ show_command_of (map string_bytes words.now) }
 {
     if goes_past_damage(words) {
@@ -46,7 +48,7 @@ fn show_command(words: &[String]) -> Option<Command>
 }
 
 /// The command that the words are, where so many stores are handed in.
-pub(crate) fn accept(words: &[String], count: usize) -> Option<Command>
+pub(crate) fn accept<'a>(words: &'a [String], count: usize) -> Option<Command<'a>>
     ensures { result ≡ accepted (map string_bytes words.now) count }
 {
     parse(words).filter(|command| command.takes(count))

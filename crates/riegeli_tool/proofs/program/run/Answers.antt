@@ -1,6 +1,6 @@
 use Rattle.std.proofs.Common.{Some, [], ap, sym, map, ◌∙◌, length, arith}
 use Rattle.std.specs.String.{string_bytes}
-use Rattle.riegeli_tool.specs.declared.command.Command.TheVariants.{Write, Show, Recover, Verify, Repair, Sample}
+use Rattle.riegeli_tool.specs.declared.command.Command.TheVariants.{Write, Show, Recover, Verify, Seek, Repair, Sample}
 use Rattle.riegeli_tool.specs.Commands.{command_of}
 use Rattle.riegeli_tool.specs.CommandAnswers.{meaning_of}
 use Rattle.run_answers.specs.Runs.{seen, unseen, shown_file}
@@ -54,6 +54,14 @@ bounds-files-0-in-Some-Verify g c =
           (sym (ap Some (sym c.in-Some-Verify.field-0-is) ∙ c.in-Some-Verify.ensures)),
     )
 
+pub bounds-files-0-in-Some-Seek : goal.bounds-files-0-in-Some-Seek
+bounds-files-0-in-Some-Seek g c =
+    omega (
+      arith,
+      accepted-takes (command_of (map string_bytes c.args.words.now)) (length c.args.files.now) (Seek c.in-Some-Seek.words)
+          (sym (ap Some (sym c.in-Some-Seek.field-0-is) ∙ c.in-Some-Seek.ensures)),
+    )
+
 pub bounds-files-0-in-Some-Repair : goal.bounds-files-0-in-Some-Repair
 bounds-files-0-in-Some-Repair g c =
     omega (
@@ -94,6 +102,14 @@ returns-in-Some-Verify-clause-runs g c =
     (runs-one_file (shown_file g.S.Store.bytes g.S.Store.told g.S.Store.handed g.S.Store.faults) c.args.files.now _ c.verify.new.file _ (seen _ [] _ _ _ _) (seen _ [] _ _ _ _) _
     (accepted-takes (command_of (map string_bytes c.args.words.now)) (length c.args.files.now) (Verify c.in-Some-Verify.field-0-0) (sym is))
     (c.verify.ensures.runs (seen _ [] _ _ unseen unseen)))
+
+pub returns-in-Some-Seek-clause-runs : goal.returns-in-Some-Seek-clause-runs
+returns-in-Some-Seek-clause-runs g c =
+    let is = ap Some (sym c.in-Some-Seek.field-0-is) ∙ c.in-Some-Seek.ensures in
+    runs-of _ _ _ _ _ (ap meaning_of is)
+    (runs-one_file (shown_file g.S.Store.bytes g.S.Store.told g.S.Store.handed g.S.Store.faults) c.args.files.now _ c.show_found.new.file _ (seen _ [] _ _ _ _) (seen _ [] _ _ _ _) _
+    (accepted-takes (command_of (map string_bytes c.args.words.now)) (length c.args.files.now) (Seek c.in-Some-Seek.words) (sym is))
+    (c.show_found.ensures.runs (seen _ [] _ _ unseen unseen)))
 
 pub returns-in-Some-Repair-clause-runs : goal.returns-in-Some-Repair-clause-runs
 returns-in-Some-Repair-clause-runs g c =
