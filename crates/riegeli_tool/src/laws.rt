@@ -75,7 +75,8 @@ pub fn answers_stand_on_what_is_used()
 {}
 
 /// Each file of bytes has an answer of `show`, whatever its words, also of those that go on past damage, one of `verify`,
-/// one of `seek` for each position and key, and one of `repair`. So all words have an answer, of the bytes of any input and files. Own.
+/// one of `seek` for each position and key, and one of `repair`. So all words have an answer, of the bytes of any input and
+/// files. Own.
 pub fn file_answers_exist()
     ensures show { (words : ShowWords) (file : List ℕ) → AreBytes file → (answer : Answer) × IsShown words file answer }
     ensures recover { (words : RecoverWords) (file : List ℕ) → AreBytes file → (answer : Answer) × IsRecovered words file answer }

@@ -41,10 +41,10 @@ sample --seed=N --records=N [--chunk=N] [--workers=N] FILE
 /// # Errors
 ///
 /// `Usage` where the words are no command that reads so many files, `Refused` where the file is not well formed, or not where
-/// `seek` reads it, `NotFound` where that finds no record, `Limit` where a line has more than 2^24 bytes, or 2^25 in the hexadecimal form, the input more than 2^40 or the file more than 2^60,
-/// `BadLine` where a line isn't in that form, `Skipped` where regions of the file were skipped, `Stopped` where one has more
-/// bytes than may be skipped, `Input`, `File`, `Made`, `Out` and `Notes` where that object failed, `Memory` where there wasn't
-/// enough. Own.
+/// `seek` reads it, `NotFound` where that finds no record, `Limit` where a line has more than 2^24 bytes, or 2^25 in the
+/// hexadecimal form, the input more than 2^40 or the file more than 2^60, `BadLine` where a line isn't in that form, `Skipped`
+/// where regions of the file were skipped, `Stopped` where one has more bytes than may be skipped, `Input`, `File`, `Made`,
+/// `Out` and `Notes` where that object failed, `Memory` where there wasn't enough. Own.
 pub fn run<
     R: Threads + Sync,
     I: Source,
