@@ -19,6 +19,8 @@ mod memory;
 #[cfg(test)]
 mod order;
 #[cfg(test)]
+mod overlaps;
+#[cfg(test)]
 mod records;
 #[cfg(test)]
 mod resyncs;

@@ -63,12 +63,23 @@ fn two_groups_have_numbers_0_and_1(rt: HostRuntime) -> Result<(), Fail> {
 
 /// Codes the group of byte 0 only once seven others are coded, or gives up.
 #[derive(Drop)]
-struct LastOfEight {
+pub(crate) struct LastOfEight {
     coded: AtomicU64,
     gave_up: AtomicBool,
 }
 
 impl LastOfEight {
+    pub fn new() -> LastOfEight {
+        LastOfEight {
+            coded: AtomicU64::new(0),
+            gave_up: AtomicBool::new(false),
+        }
+    }
+
+    pub fn gave_up(&self) -> bool {
+        self.gave_up.load(Ordering::SeqCst)
+    }
+
     fn wait_for_the_others(&self) {
         for _ in 0..100_000_000 {
             if self.coded.load(Ordering::SeqCst) == 7 {
@@ -97,11 +108,8 @@ impl Coder for LastOfEight {
 
 #[test]
 fn groups_are_coded_while_another_is(rt: HostRuntime) -> Result<(), Fail> {
-    let coder = LastOfEight {
-        coded: AtomicU64::new(0),
-        gave_up: AtomicBool::new(false),
-    };
+    let coder = LastOfEight::new();
     code_each_once(&rt, rt.alloc(), &coder, 8)?;
-    assert!(rt; !coder.gave_up.load(Ordering::SeqCst));
+    assert!(rt; !coder.gave_up());
     Ok(())
 }

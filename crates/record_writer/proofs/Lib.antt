@@ -7,3 +7,4 @@ pub mod Windows
 pub mod Counted
 pub mod Wholes
 pub mod Flushes
+pub mod CodedWindows

@@ -3,3 +3,4 @@ pub mod Written
 pub mod Progresses
 pub mod Ends
 pub mod Windows
+pub mod CodedWindows

@@ -1,12 +1,14 @@
-ghost use Rattle.std.specs.Prelude.{◌≡◌, ℕ, ◌+◌, ◌^◌, ◌≤◌, true, false, Some, None, [], IfOk, IfSome, OnOk, OnErr};
+ghost use Rattle.std.specs.Prelude.{◌≡◌, ℕ, ◌+◌, ◌^◌, ◌≤◌, true, false, Some, None, List, [], IfOk, IfSome, OnOk, OnErr};
 ghost use Rattle.record_io.specs.Calls.{OnlyCounts};
-ghost use Rattle.record_group.specs.Groups.{pads_start, pads_end};
+ghost use Rattle.record_group.specs.Groups.{groups, pads_start, pads_end};
 ghost use Rattle.record_group.specs.Groupings.{groups_from};
+ghost use Rattle.record_writer.specs.CodedWindows.{CodesSimply};
 ghost use Rattle.record_writer.specs.Ends.{answer_of};
 ghost use Rattle.record_writer.specs.Feeds.{nothing_left};
 ghost use Rattle.record_writer.specs.Progresses.{Lays, LaysFront, nothing_made, chunks_of_groups, reach_of};
 ghost use Rattle.record_writer.specs.Written.{AreInLimits, Answers, TakesFile, chunks_under, file_under};
 
+use crate::coded_window::CodedWindow;
 use crate::cut_off::CutOff;
 use crate::feed::{RecordFeed, Stop};
 use crate::group_taker::{FeedPart, GroupTaker};
@@ -15,6 +17,7 @@ use crate::options::WriteOptions;
 use crate::simple_window::SimpleWindow;
 use crate::window::Window;
 use crate::window_pair::WindowPair;
+use chunk_workers::{Coder, SimpleCoder};
 use record_group::Pad;
 use record_io::{Failed, Sink, Totals};
 use std::alloc::Global;
@@ -66,11 +69,12 @@ impl From<Failed> for WriteEnd {
 ///
 /// Where a stop follows the records, the file of these is written too. The totals are of the file.
 ///
-/// The chunks of groups are put window by window, each in a thread of its own while the next is taken. Where no thread can
-/// be made, that is done here, and where one window holds all groups, no thread is wanted. A window of more than 8 MiB is put
-/// before more is taken. So what is held at a time are two windows, one of 8 MiB at most and one of less than 4 MiB but for
-/// its last group, in each up to 8 MiB that are kept for the next chunks; the open group; and the record behind it. No
-/// clause says how much is held.
+/// The chunks of groups are put window by window, each in a thread of its own while the next is taken. With several workers
+/// that is `write_coded` with `SimpleCoder`. With one, the chunks are encoded by the two threads that take and put them. Where
+/// no thread can be made, that is done here, and where one window holds all groups, no thread is wanted. A window of more than
+/// 8 MiB is put before more is taken. So what is held at a time with one worker are two windows, one of 8 MiB at most and one
+/// of less than 4 MiB but for its last group, in each up to 8 MiB that are kept for the next chunks; the open group; and the
+/// record behind it. No clause says how much is held.
 ///
 /// # Errors
 ///
@@ -88,7 +92,6 @@ pub fn write_records<R: Threads + Sync, L: RecordFeed, M: Sink + Send>(
     requires feed_going { L.going feed.old ≡ true }
     requires in_reach { L.bound feed.old ≤ 2 ^ 41 }
     requires in_limits { AreInLimits options.now }
-    requires one_worker { options.now.workers ≡ 1 }
     ensures answer { IfSome (L.rest feed.old) (Answers result options.now) }
     ensures made { IfSome (L.rest feed.old) (λ rest.
         TakesFile result (M.taken made.old) (M.taken made.new) (file_under options.now rest.records)) }
@@ -97,18 +100,60 @@ pub fn write_records<R: Threads + Sync, L: RecordFeed, M: Sink + Send>(
     ensures feed { OnlyCounts L.name L.faults (result ≡ Err WriteEnd.Input) feed.old feed.new }
     ensures made_counts { OnlyCounts M.lent M.faults (result ≡ Err WriteEnd.Made) made.old made.new }
 {
-    write(rt, alloc, options, SimpleWindow::new(alloc), feed, made)
+    if options.workers > 1 {
+        return write_coded(rt, alloc, options, &SimpleCoder, feed, made);
+    }
+    let window = SimpleWindow::new(alloc);
+    write(rt, alloc, options, &SimpleCoder, window, feed, made)
 }
 
-/// As `write_records`, in windows of the kind of this empty one.
-fn write<R: Threads + Sync, W: Window + Send, L: RecordFeed, M: Sink + Send>(
+/// Writes the same file as `write_records`, with the same answers, where the coder's chunk of each list of records that costs
+/// at most 2^25 is the one that `encode` gives.
+///
+/// The chunks of each window are coded in threads, one for each worker, and put in order while the next window is taken and
+/// coded. The first window has 4 groups for each worker; the others cost 1.5 MiB at least beside that, so that the start of
+/// threads costs little. A window of a cost of 2^26, or of 65,536 groups, has enough in any case. What is held at a time are
+/// two windows, with their groups and the chunks of these. The signature goes out by itself, with the padding behind it, and
+/// each window when it is put. Where no thread can be made, all that is done here, one part after another.
+///
+/// # Errors
+///
+/// As those of `write_records`. Own.
+pub fn write_coded<R: Threads + Sync, C: Coder + Sync, L: RecordFeed, M: Sink + Send>(
     rt: &R,
     alloc: Global,
     options: &WriteOptions,
+    coder: &C,
+    feed: &mut L,
+    made: &mut M,
+) -> Result<Totals, WriteEnd>
+    requires codes { CodesSimply (C.chunk_of coder.now) }
+    requires feed_going { L.going feed.old ≡ true }
+    requires in_reach { L.bound feed.old ≤ 2 ^ 41 }
+    requires in_limits { AreInLimits options.now }
+    ensures answer { IfSome (L.rest feed.old) (Answers result options.now) }
+    ensures made { IfSome (L.rest feed.old) (λ rest.
+        TakesFile result (M.taken made.old) (M.taken made.new) (file_under options.now rest.records)) }
+    ensures read_to_end { OnOk result (IfSome (L.rest feed.old) (λ _. L.rest feed.new ≡ Some nothing_left)) }
+
+    ensures feed { OnlyCounts L.name L.faults (result ≡ Err WriteEnd.Input) feed.old feed.new }
+    ensures made_counts { OnlyCounts M.lent M.faults (result ≡ Err WriteEnd.Made) made.old made.new }
+{
+    let window = CodedWindow::new(alloc, options.workers);
+    write(rt, alloc, options, coder, window, feed, made)
+}
+
+/// As `write_coded`, in windows of the kind of this empty one.
+fn write<R: Threads + Sync, C: Coder + Sync, W: Window + Send, L: RecordFeed, M: Sink + Send>(
+    rt: &R,
+    alloc: Global,
+    options: &WriteOptions,
+    coder: &C,
     window: W,
     feed: &mut L,
     made: &mut M,
 ) -> Result<Totals, WriteEnd>
+    requires codes { CodesSimply (C.chunk_of coder.now) }
     requires empty { W.groups window ≡ [] }
     requires feed_going { L.going feed.old ≡ true }
     requires in_reach { L.bound feed.old ≤ 2 ^ 41 }
@@ -122,7 +167,18 @@ fn write<R: Threads + Sync, W: Window + Send, L: RecordFeed, M: Sink + Send>(
     ensures made_counts { OnlyCounts M.lent M.faults (result ≡ Err WriteEnd.Made) made.old made.new }
 {
     let mut file = MadeFile::new();
-    let stop = put_chunks(rt, &mut file, alloc, options, window, feed, made);
+    let mut taker = GroupTaker::new(alloc, options);
+    let mut windows = WindowPair::new(alloc, window);
+    let stop = put_chunks(
+        rt,
+        coder,
+        &mut file,
+        options,
+        &mut taker,
+        &mut windows,
+        feed,
+        made,
+    );
     // What is held goes out, however the work ended, unless it was cut off before a chunk of records.
     if stop.is_ok() || file.totals().records > 0 {
         file.flush(made)?;
@@ -143,20 +199,24 @@ fn answer(stop: Option<Stop>, totals: Totals) -> Result<Totals, WriteEnd>
 }
 
 /// Puts the chunks of the file, and answers which stop follows the records.
-fn put_chunks<R: Threads + Sync, W: Window + Send, L: RecordFeed, M: Sink + Send>(
+fn put_chunks<R: Threads + Sync, C: Coder + Sync, W: Window + Send, L: RecordFeed, M: Sink + Send>(
     rt: &R,
+    coder: &C,
     file: &mut MadeFile,
-    alloc: Global,
     options: &WriteOptions,
-    window: W,
+    taker: &mut GroupTaker,
+    windows: &mut WindowPair<W>,
     feed: &mut L,
     made: &mut M,
 ) -> Result<Option<Stop>, CutOff>
+    requires codes { CodesSimply (C.chunk_of coder.now) }
     requires at_front { file.old ≡ nothing_made }
-    requires empty { W.groups window ≡ [] }
+    requires no_record { taker.old.group ≡ [] }
+    requires all { (records : List (List ℕ)) → groups_from taker.old records ≡ groups records options.now.size options.now.every }
+    requires window { W.groups windows.old.window ≡ [] }
+    requires next { W.groups windows.old.next ≡ [] }
     requires feed_going { L.going feed.old ≡ true }
     requires in_reach { L.bound feed.old ≤ 2 ^ 41 }
-    requires in_limits { AreInLimits options.now }
     ensures stop { IfOk result (λ stop. IfSome (L.rest feed.old) (λ rest. rest.stop ≡ stop)) }
     ensures whole { OnOk result (IfSome (L.rest feed.old) (λ rest.
         Lays (M.taken made.old) (M.taken made.new) file.old file.new (chunks_under options.now rest.records))) }
@@ -166,11 +226,9 @@ fn put_chunks<R: Threads + Sync, W: Window + Send, L: RecordFeed, M: Sink + Send
     ensures feed { OnlyCounts L.name L.faults (result ≡ Err CutOff.Input) feed.old feed.new }
     ensures made { OnlyCounts M.lent M.faults (result ≡ Err CutOff.Made) made.old made.new }
 {
-    let mut taker = GroupTaker::new(alloc, options);
-    let mut windows = WindowPair::new(alloc, window);
     file.start(made)?;
     file.pad_if(pads_start(options.pad), made)?;
-    let stop = put_groups(rt, file, &mut taker, &mut windows, feed, made)?;
+    let stop = put_groups(rt, coder, file, taker, windows, feed, made)?;
     file.pad_if(pads_end(options.pad), made)?;
     Ok(stop)
 }
@@ -192,14 +250,16 @@ fn pads_end(pad: Pad) -> bool
 /// Puts a chunk for each group of the feed's records, and answers which stop follows them.
 ///
 /// A window is put while the next one is taken and made ready, unless it is large.
-fn put_groups<R: Threads + Sync, W: Window + Send, L: RecordFeed, M: Sink + Send>(
+fn put_groups<R: Threads + Sync, C: Coder + Sync, W: Window + Send, L: RecordFeed, M: Sink + Send>(
     rt: &R,
+    coder: &C,
     file: &mut MadeFile,
     taker: &mut GroupTaker,
     windows: &mut WindowPair<W>,
     feed: &mut L,
     made: &mut M,
 ) -> Result<Option<Stop>, CutOff>
+    requires codes { CodesSimply (C.chunk_of coder.now) }
     requires going { file.old.spent ≡ false }
     requires window { W.groups windows.old.window ≡ [] }
     requires next { W.groups windows.old.next ≡ [] }
@@ -216,11 +276,11 @@ fn put_groups<R: Threads + Sync, W: Window + Send, L: RecordFeed, M: Sink + Send
     ensures feed { OnlyCounts L.name L.faults (result ≡ Err CutOff.Input) feed.old feed.new }
     ensures made { OnlyCounts M.lent M.faults (result ≡ Err CutOff.Made) made.old made.new }
 {
-    let mut taken = taker.take_window(rt, feed, &mut windows.window, &windows.pace);
+    let mut taken = taker.take_window(rt, coder, feed, &mut windows.window, &windows.pace);
     let end = loop {
         match taken {
             Ok(FeedPart::Window) => {
-                taken = windows.put_and_take(rt, file, taker, feed, made)?;
+                taken = windows.put_and_take(rt, coder, file, taker, feed, made)?;
             }
             Ok(FeedPart::All(stop)) => break Ok(stop),
             Err(cut) => break Err(cut),

@@ -1,6 +1,8 @@
 //! The write engine: a feed of records to the file of them.
 #![tactic(auto)]
 
+mod coded_window;
+mod coding;
 mod cut_off;
 mod engine;
 mod feed;
@@ -12,7 +14,7 @@ mod simple_window;
 mod window;
 mod window_pair;
 
-pub use engine::{WriteEnd, write_records};
+pub use engine::{WriteEnd, write_coded, write_records};
 pub use feed::{FeedEnd, RecordFeed, Stop};
 pub use made_file::MadeFile;
 pub use options::WriteOptions;

@@ -3,12 +3,12 @@ ghost use Rattle.std.specs.Prelude.{◌≡◌, []};
 use crate::made_file::MadeFile;
 use crate::pace::Pace;
 use crate::window::{MOST_GROUPS, Window};
+use ordered_writer::Reorder;
 use record_io::{Failed, Sink};
 use simple_chunk::{Records, SimpleChunk};
 use std::alloc::{AllocError, Global};
 use std::marker::Model;
 use std::mem;
-use std::thread::Threads;
 
 /// How many bytes fill a window once the one before it is put, so that the start of a thread costs little beside them.
 const LEAST: u64 = 3 << 19;
@@ -55,21 +55,6 @@ impl SimpleWindow {
             size: 0,
         }
     }
-
-    /// Forgets the chunks, and keeps their memory unless it is much.
-    fn empty(&mut self)
-        ensures { self.new ≡ [] }
-    {
-        let mut kept: u64 = 0;
-        for chunk in &self.chunks {
-            kept = kept.saturating_add(size_of(chunk));
-        }
-        if kept > LARGEST {
-            self.chunks.clear();
-        }
-        self.count = 0;
-        self.size = 0;
-    }
 }
 
 impl Window for SimpleWindow {
@@ -109,8 +94,22 @@ impl Window for SimpleWindow {
         Ok(())
     }
 
-    fn code<R: Threads + Sync>(&mut self, _rt: &R, _alloc: Global) -> Result<(), AllocError> {
-        Ok(())
+    fn to_code(&self) -> Option<&[Records]> {
+        None
+    }
+
+    fn keep(&mut self, _chunks: Reorder) {}
+
+    fn empty(&mut self) {
+        let mut kept: u64 = 0;
+        for chunk in &self.chunks {
+            kept = kept.saturating_add(size_of(chunk));
+        }
+        if kept > LARGEST {
+            self.chunks.clear();
+        }
+        self.count = 0;
+        self.size = 0;
     }
 
     fn put<M: Sink>(&mut self, file: &mut MadeFile, made: &mut M) -> Result<(), Failed> {

@@ -1,15 +1,16 @@
-ghost use Rattle.std.specs.Prelude.{◌≡◌, ℕ, ◌^◌, ◌<◌, ◌≤◌, false, List, [], ◌∷◌, ◌++◌, length, OnOk, OnErr, IsErr};
+ghost use Rattle.std.specs.Prelude.{◌≡◌, ℕ, ◌^◌, ◌<◌, ◌≤◌, false, List, [], ◌∷◌, ◌++◌, All, length, IfNone, IfSome, OnOk, OnErr, IsErr};
 ghost use Rattle.record_io.specs.Calls.{OnlyCounts};
 ghost use Rattle.meta_chunk.specs.Files.{end_of_chunks};
 ghost use Rattle.simple_chunk.specs.Costs.{cost_of};
+ghost use Rattle.record_writer.specs.CodedWindows.{AreInOrder};
 ghost use Rattle.record_writer.specs.Progresses.{Lays, LaysFront, chunks_of_groups};
 
 use crate::made_file::MadeFile;
 use crate::pace::Pace;
+use ordered_writer::Reorder;
 use record_io::{Failed, Sink};
 use simple_chunk::Records;
 use std::alloc::{AllocError, Global};
-use std::thread::Threads;
 
 /// How many groups a window has at most.
 pub(crate) const MOST_GROUPS: usize = 1 << 16;
@@ -41,11 +42,24 @@ pub(crate) trait Window: Drop {
         ensures appends { OnOk result (groups self.new ≡ groups self.old ++ group.old ∷ []) }
         ensures kept { OnErr result (groups self.new ≡ groups self.old) };
 
-    /// Makes ready what isn't left to `put`. After want of memory the window has no group.
-    fn code<R: Threads + Sync>(&mut self, rt: &R, alloc: Global) -> Result<(), AllocError>
+    /// The groups, where there are some whose chunks are to be made before they are put. Else `put` needs none.
+    fn to_code(&self) -> Option<&[Records]>
+        ensures groups { IfSome result (λ to_code. to_code.now ≡ groups self.now) }
+        ensures some { IfSome result (λ to_code. 1 ≤ length to_code.now) }
+        ensures few { IfSome result (λ to_code. length to_code.now ≤ 2 ^ 32) }
+        ensures short { IfSome result (λ to_code. All (λ group. cost_of group ≤ 2 ^ 25) to_code.now) }
+        ensures ready { IfNone result (ready self.now) };
+
+    /// Keeps the chunks of the groups.
+    fn keep(&mut self, chunks: Reorder)
+        requires { AreInOrder (chunks_of_groups (groups self.old)) chunks }
         ensures ready { ready self.new }
-        ensures kept { OnOk result (groups self.new ≡ groups self.old) }
-        ensures emptied { OnErr result (groups self.new ≡ []) };
+        ensures same { groups self.new ≡ groups self.old };
+
+    /// Forgets the groups, and keeps their memory unless it is much.
+    fn empty(&mut self)
+        ensures ready { ready self.new }
+        ensures emptied { groups self.new ≡ [] };
 
     /// Puts the chunks of the groups, one after another, of which none is left then.
     ///

@@ -1,6 +1,7 @@
 ghost use Rattle.std.specs.Prelude.{◌≡◌, ◌^◌, ◌≤◌, true, false, [], Ok, Err, IfOk, OnOk, OnErr, IsErr};
 ghost use Rattle.record_io.specs.Calls.{OnlyCounts};
 ghost use Rattle.meta_chunk.specs.Files.{end_of_chunks};
+ghost use Rattle.record_writer.specs.CodedWindows.{CodesSimply};
 ghost use Rattle.record_writer.specs.Progresses.{Lays, LaysFront, chunks_of_groups};
 ghost use Rattle.record_writer.specs.Windows.{TakesGroups};
 
@@ -10,6 +11,7 @@ use crate::group_taker::{FeedPart, GroupTaker};
 use crate::made_file::MadeFile;
 use crate::pace::Pace;
 use crate::window::Window;
+use chunk_workers::Coder;
 use record_io::{Failed, Sink};
 use std::alloc::Global;
 use std::mem;
@@ -42,14 +44,16 @@ impl<W: Window + Send> WindowPair<W> {
     /// # Errors
     ///
     /// `Failed` only where the sink failed. It took a front of what was held and the chunks, and what was taken is lost.
-    pub fn put_and_take<R: Threads + Sync, L: RecordFeed, M: Sink + Send>(
+    pub fn put_and_take<R: Threads + Sync, C: Coder + Sync, L: RecordFeed, M: Sink + Send>(
         &mut self,
         rt: &R,
+        coder: &C,
         file: &mut MadeFile,
         taker: &mut GroupTaker,
         feed: &mut L,
         made: &mut M,
     ) -> Result<Result<FeedPart, CutOff>, Failed>
+        requires codes { CodesSimply (C.chunk_of coder.now) }
         requires going { file.old.spent ≡ false }
         requires ready { W.ready self.old.window }
         requires next { W.groups self.old.next ≡ [] }
@@ -66,23 +70,25 @@ impl<W: Window + Send> WindowPair<W> {
     {
         if self.window.is_large() {
             self.window.put(file, made)?;
-            return Ok(taker.take_window(rt, feed, &mut self.window, &self.pace));
+            return Ok(taker.take_window(rt, coder, feed, &mut self.window, &self.pace));
         }
-        let (put, taken) = self.put_beside(rt, file, taker, feed, made);
+        let (put, taken) = self.put_beside(rt, coder, file, taker, feed, made);
         put?;
         mem::swap(&mut self.window, &mut self.next);
         Ok(taken)
     }
 
     /// Puts the window while the next one is taken.
-    fn put_beside<R: Threads + Sync, L: RecordFeed, M: Sink + Send>(
+    fn put_beside<R: Threads + Sync, C: Coder + Sync, L: RecordFeed, M: Sink + Send>(
         &mut self,
         rt: &R,
+        coder: &C,
         file: &mut MadeFile,
         taker: &mut GroupTaker,
         feed: &mut L,
         made: &mut M,
     ) -> (Result<(), Failed>, Result<FeedPart, CutOff>)
+        requires codes { CodesSimply (C.chunk_of coder.now) }
         requires going { file.old.spent ≡ false }
         requires ready { W.ready self.old.window }
         requires next { W.groups self.old.next ≡ [] }
@@ -105,9 +111,10 @@ impl<W: Window + Send> WindowPair<W> {
                 put
             },
             &mut || -> Result<FeedPart, CutOff>
+                requires codes { CodesSimply (C.chunk_of coder.now) }
                 requires feed_going { L.going feed.now ≡ true }
                 requires empty { W.groups next.now ≡ [] }
-            { taker.take_window(rt, feed, next, pace) },
+            { taker.take_window(rt, coder, feed, next, pace) },
         )
     }
 }

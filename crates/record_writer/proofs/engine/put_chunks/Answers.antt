@@ -36,7 +36,7 @@ put_groups-requires-clause-in_reach g c =
     omega (
       arith,
       padded_near c.args.options.now c.args.file.now at_front _ _ c.pad_if.new.self padded,
-      ap (λ (group : List (List ℕ)). cost_of group) c.new-taker.ensures.no_record,
+      ap (λ (group : List (List ℕ)). cost_of group) c.requires.no_record,
     )
 
 pub returns-in_err-stop-clause-front : goal.returns-in_err-stop-clause-front
@@ -45,9 +45,9 @@ returns-in_err-stop-clause-front g c =
     let at_front : c.args.file.now.place ≡ 0 = ap (λ (s : Progress). s.place) c.requires.at_front in
     let padded = Lays-padded c.args.options.now c.args.file.now at_front _ _ _ c.start.new.self c.pad_if.new.self c.in_ok-start.ensures.whole
     (rw c.pads_start.ensures at c.in_ok-pad_if.ensures.whole) in
-    let front = LaysFront-all_groups (g.L.RecordFeed.rest c.args.feed.now) c.new-taker.result c.args.options.now.size c.args.options.now.every
+    let front = LaysFront-all_groups (g.L.RecordFeed.rest c.args.feed.now) c.args.taker.now c.args.options.now.size c.args.options.now.every
     (g.M.Sink.taken c.pad_if.new.made) (g.M.Sink.taken c.put_groups.new.made) c.pad_if.new.self c.put_groups.new.file
-    c.new-taker.ensures.all
+    c.requires.all
     c.in_err-stop.ensures.front in
     rw p.1
     (IfSome_then _ front (λ (rest : Rest) front.
@@ -60,9 +60,9 @@ returns-in_err-pad_if-2-clause-front g c =
     let padded = Lays-padded c.args.options.now c.args.file.now at_front _ _ _ c.start.new.self c.pad_if.new.self c.in_ok-start.ensures.whole
     (rw c.pads_start.ensures at c.in_ok-pad_if.ensures.whole) in
     let front = rw c.pads_end.ensures at c.in_err-pad_if-2.ensures.front in
-    let grouped = Lays-all_groups (g.L.RecordFeed.rest c.args.feed.now) c.new-taker.result c.args.options.now.size c.args.options.now.every
+    let grouped = Lays-all_groups (g.L.RecordFeed.rest c.args.feed.now) c.args.taker.now c.args.options.now.size c.args.options.now.every
     (g.M.Sink.taken c.pad_if.new.made) (g.M.Sink.taken c.put_groups.new.made) c.pad_if.new.self c.put_groups.new.file
-    c.new-taker.ensures.all
+    c.requires.all
     c.in_ok-stop.ensures.whole in
     rw p.1
     (IfSome_then _ grouped (λ (rest : Rest) grouped.
@@ -76,9 +76,9 @@ returns-clause-whole g c =
     let padded = Lays-padded c.args.options.now c.args.file.now at_front _ _ _ c.start.new.self c.pad_if.new.self c.in_ok-start.ensures.whole
     (rw c.pads_start.ensures at c.in_ok-pad_if.ensures.whole) in
     let end = rw c.pads_end.ensures at c.in_ok-pad_if-2.ensures.whole in
-    let grouped = Lays-all_groups (g.L.RecordFeed.rest c.args.feed.now) c.new-taker.result c.args.options.now.size c.args.options.now.every
+    let grouped = Lays-all_groups (g.L.RecordFeed.rest c.args.feed.now) c.args.taker.now c.args.options.now.size c.args.options.now.every
     (g.M.Sink.taken c.pad_if.new.made) (g.M.Sink.taken c.put_groups.new.made) c.pad_if.new.self c.put_groups.new.file
-    c.new-taker.ensures.all
+    c.requires.all
     c.in_ok-stop.ensures.whole in
     IfSome_then _ grouped (λ (rest : Rest) grouped.
     Lays-file c.args.options.now c.args.file.now at_front _ _ _ c.put_groups.new.file _ rest.records

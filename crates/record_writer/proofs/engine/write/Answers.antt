@@ -36,7 +36,7 @@ returns-clause-answer g c =
     let same : totals_made c.if-is_ok.file ≡ totals_made c.put_chunks-stop.new.file =
     elim c.if-is_ok.branch [
       | goal.then-is_ok+in_ok-flush w ↦ rw w.file-is w.flush.ensures.same_totals
-      | goal.else-is_ok+else-totals-gt0 w ↦ rw w.file-is refl
+      | goal.else-is_ok+else-totals-gt0 w ↦ rw w.file-is (refl {a = totals_made c.put_chunks-stop.new.file})
     ] in
     let totals = totals_made-ended c.args.options.now c.new-file.result c.new-file.ensures _ _ c.put_chunks-stop.new.file _ c.put_chunks-stop.result put.whole in
     rw c.answer.ensures

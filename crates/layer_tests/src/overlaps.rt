@@ -1,0 +1,206 @@
+//! Files whose groups are coded by workers, and put meanwhile.
+ghost use Rattle.std.specs.Prelude.{◌≡◌, ◌^◌, ◌≤◌};
+ghost use Rattle.record_writer.specs.CodedWindows.{CodesSimply};
+ghost use Rattle.record_writer.specs.Written.{AreInLimits};
+
+use crate::windows::LastOfEight;
+use chunk_header::Chunk;
+use chunk_workers::Coder;
+use record_group::Pad;
+use record_io::{Bytes, Failed, MemSink, Sink};
+use record_writer::{FeedEnd, RecordFeed, WriteEnd, WriteOptions, write_coded, write_records};
+use simple_chunk::{Records, encode};
+use std::alloc::{AllocError, Global};
+use std::hint;
+use std::process::Abort;
+use std::sync::atomic::{AtomicBool, Ordering};
+use std::test::Fail;
+use std::thread::Threads;
+
+/// Records of one byte each, from this one on.
+#[derive(Drop)]
+struct ByteFeed {
+    next: u8,
+    end: u8,
+    ghost within: { next ≤ end },
+}
+
+impl RecordFeed for ByteFeed {
+    ghost use Rattle.std.specs.Prelude.{None, ◌*◌, ◌-◌};
+
+    ghost rest = { λ _. None };
+
+    ghost bound = { λ s. 2 * (s.end - s.next) };
+
+    ghost faults = { λ _. 0 };
+
+    fn pull(&mut self, _alloc: Global, into: &mut Bytes) -> Result<bool, FeedEnd> {
+        if self.next == self.end {
+            return Ok(false);
+        }
+        into.clear();
+        into.push_all(&[self.next])?;
+        self.next += 1;
+        Ok(true)
+    }
+}
+
+/// Chunks of one record each.
+fn options(workers: u32) -> WriteOptions
+    requires { (1 ≤ workers) × (workers ≤ 16) }
+    ensures limits { AreInLimits result }
+    ensures same { result.workers ≡ workers }
+{
+    WriteOptions {
+        size: 1,
+        workers,
+        every: None,
+        pad: Pad::No,
+    }
+}
+
+fn sink(alloc: Global, fails: &[u32]) -> Result<MemSink, AllocError> {
+    MemSink::new(alloc, 4096, Vec::new(alloc), fails.to_vec(alloc)?)
+}
+
+/// The file of so many records, written by one worker.
+fn file_of<R: Threads + Abort + Sync>(rt: &R, alloc: Global, count: u8) -> Result<MemSink, AllocError> {
+    let mut made = sink(alloc, &[])?;
+    let mut feed = ByteFeed {
+        next: 0,
+        end: count,
+    };
+    let end = write_records(rt, alloc, &options(1), &mut feed, &mut made);
+    assert!(rt; end.is_ok());
+    Ok(made)
+}
+
+/// Writes the file of so many records by two workers that have this coder.
+fn write_by_two<R: Threads + Abort + Sync, C: Coder + Sync, M: Sink + Send>(
+    rt: &R,
+    alloc: Global,
+    coder: &C,
+    count: u8,
+    made: &mut M,
+) -> Result<(), AllocError>
+    requires { CodesSimply (C.chunk_of coder.now) }
+{
+    let mut feed = ByteFeed {
+        next: 0,
+        end: count,
+    };
+    let end = write_coded(rt, alloc, &options(2), coder, &mut feed, made);
+    assert!(rt; end.is_ok());
+    Ok(())
+}
+
+#[test]
+fn the_groups_of_a_window_are_coded_side_by_side(rt: HostRuntime) -> Result<(), Fail> {
+    let coder = LastOfEight::new();
+    let mut made = sink(rt.alloc(), &[])?;
+    write_by_two(&rt, rt.alloc(), &coder, 8, &mut made)?;
+    assert!(rt; !coder.gave_up());
+    assert!(rt; made.taken() == file_of(&rt, rt.alloc(), 8)?.taken());
+    Ok(())
+}
+
+/// Where a coder and a sink wait for each other, or give up.
+#[derive(Drop)]
+struct Meeting {
+    coder_came: AtomicBool,
+    sink_came: AtomicBool,
+    gave_up: AtomicBool,
+}
+
+impl Meeting {
+    fn new() -> Meeting {
+        Meeting {
+            coder_came: AtomicBool::new(false),
+            sink_came: AtomicBool::new(false),
+            gave_up: AtomicBool::new(false),
+        }
+    }
+
+    /// Comes, and looks for the other.
+    fn meet(&self, mine: &AtomicBool, other: &AtomicBool) {
+        mine.store(true, Ordering::SeqCst);
+        for _ in 0..100_000_000 {
+            if other.load(Ordering::SeqCst) {
+                return;
+            }
+            hint::spin_loop();
+        }
+        self.gave_up.store(true, Ordering::SeqCst);
+    }
+}
+
+/// Comes to the meeting on the group of byte 8.
+#[derive(Drop)]
+struct MeetingCoder<'a> {
+    meeting: &'a Meeting,
+}
+
+impl<'a> Coder for MeetingCoder<'a> {
+    ghost use Rattle.chunk_header.specs.SimpleChunks.{simple_chunk};
+
+    ghost chunk_of = { λ _ records. simple_chunk records };
+
+    fn code(&self, alloc: Global, records: &Records) -> Result<Chunk, AllocError> {
+        if records.values() == [8].as_slice() {
+            self.meeting
+                .meet(&self.meeting.coder_came, &self.meeting.sink_came);
+        }
+        encode(alloc, records)
+    }
+}
+
+/// Comes to the meeting with its first put once it holds 64 bytes.
+#[derive(Drop)]
+struct MeetingSink<'a> {
+    sink: MemSink,
+    meeting: &'a Meeting,
+    came: bool,
+}
+
+impl<'a> Sink for MeetingSink<'a> {
+    ghost use Rattle.std.specs.Prelude.{Some};
+
+    ghost taken = { λ s. Some s.sink.taken };
+
+    ghost faults = { λ s. s.sink.faults };
+
+    fn put(&mut self, piece: &[u8]) -> Result<usize, Failed> {
+        if !self.came && self.sink.taken().len() >= 64 {
+            self.came = true;
+            self.meeting
+                .meet(&self.meeting.sink_came, &self.meeting.coder_came);
+        }
+        self.sink.put(piece)
+    }
+}
+
+#[test]
+fn a_window_is_put_while_the_next_is_coded(rt: HostRuntime) -> Result<(), Fail> {
+    let meeting = Meeting::new();
+    let coder = MeetingCoder { meeting: &meeting };
+    let mut made = MeetingSink {
+        sink: sink(rt.alloc(), &[])?,
+        meeting: &meeting,
+        came: false,
+    };
+    write_by_two(&rt, rt.alloc(), &coder, 16, &mut made)?;
+    assert!(rt; !meeting.gave_up.load(Ordering::SeqCst));
+    assert!(rt; made.sink.taken() == file_of(&rt, rt.alloc(), 16)?.taken());
+    Ok(())
+}
+
+#[test]
+fn a_sink_that_fails_under_workers_has_a_front(rt: HostRuntime) -> Result<(), Fail> {
+    let mut made = sink(rt.alloc(), &[1])?;
+    let mut feed = ByteFeed { next: 0, end: 40 };
+    let end = write_records(&rt, rt.alloc(), &options(3), &mut feed, &mut made);
+    assert_eq!(rt; end, Err(WriteEnd::Made));
+    let whole = file_of(&rt, rt.alloc(), 40)?;
+    assert!(rt; whole.taken().starts_with(made.taken()));
+    Ok(())
+}

@@ -1,0 +1,191 @@
+ghost use Rattle.std.specs.Prelude.{◌≡◌, ◌^◌, ◌≤◌, false, [], OnOk, OnErr, IsErr, map};
+ghost use Rattle.std.specs.List.{AllByRecursion};
+ghost use Rattle.record_io.specs.Calls.{OnlyCounts};
+ghost use Rattle.chunk_header.specs.Views.{value_of_chunk};
+ghost use Rattle.meta_chunk.specs.Counts.{is_unread};
+ghost use Rattle.meta_chunk.specs.Files.{end_of_chunks};
+ghost use Rattle.ordered_writer.specs.Reorders.{coming};
+ghost use Rattle.record_writer.specs.CodedWindows.{AreInOrder};
+ghost use Rattle.record_writer.specs.Progresses.{Lays, LaysFront};
+
+use crate::made_file::MadeFile;
+use crate::pace::Pace;
+use crate::window::{MOST_GROUPS, Window};
+use ordered_writer::Reorder;
+use record_io::{Failed, Sink};
+use simple_chunk::Records;
+use std::alloc::{AllocError, Global};
+use std::marker::Model;
+use std::mem;
+
+/// How many groups a full window has at least for each worker.
+const GROUPS_PER_WORKER: usize = 4;
+
+/// What the groups of a full window cost at least behind the first, so that the start of threads costs little beside them.
+const LEAST: u64 = 3 << 19;
+
+/// With what cost a window is full, however few groups it has.
+const FULL: u64 = 1 << 26;
+
+/// For groups of what cost at most a window keeps memory, for the next ones.
+const KEPT: u64 = 1 << 23;
+
+/// Groups whose chunks are made, by so many workers, before they are put. Own.
+#[derive(Drop)]
+pub(crate) struct CodedWindow {
+    workers: u32,
+    groups: Vec<Records>,
+    /// Groups that were put, whose memory serves again.
+    spares: Vec<Records>,
+    /// What the groups cost, and what they cost at least in a full window.
+    cost: u64,
+    least: u64,
+    /// The chunks of the groups, once they are coded.
+    chunks: Option<Reorder>,
+}
+
+impl Model for CodedWindow {
+    ghost use Rattle.std.specs.Prelude.{◌^◌, ◌≤◌, All, is_some, vec_len};
+    ghost use Rattle.std.specs.Option.{ForSome};
+    ghost use Rattle.simple_chunk.specs.Costs.{cost_of};
+    ghost use Rattle.record_writer.specs.CodedWindows.{AreInOrder, CodedGroups};
+    ghost use Rattle.record_writer.specs.Progresses.{chunks_of_groups};
+
+    ghost Value = { CodedGroups };
+
+    ghost view = { λ w. record { groups = w.groups.items; coded = is_some w.chunks } };
+
+    ghost invariant = { λ w. (w.workers ≤ 16)
+        × (vec_len w.groups ≤ 2 ^ 32)
+        × All (λ group. cost_of group ≤ 2 ^ 25) w.groups.items
+        × ForSome w.chunks (AreInOrder (chunks_of_groups w.groups.items)) };
+}
+
+impl CodedWindow {
+    /// A window without a group, for 16 workers at most. It takes no memory.
+    pub fn new(alloc: Global, workers: u32) -> CodedWindow
+        requires { workers ≤ 16 }
+        ensures { result.groups ≡ [] }
+    {
+        CodedWindow {
+            workers,
+            groups: Vec::new(alloc),
+            spares: Vec::new(alloc),
+            cost: 0,
+            least: 0,
+            chunks: None,
+        }
+    }
+}
+
+impl Window for CodedWindow {
+    ghost groups = { λ w. w.groups };
+
+    ghost ready = { λ w. w.coded ≡ false → w.groups ≡ [] };
+
+    fn another(&self, alloc: Global) -> CodedWindow {
+        let mut window = CodedWindow::new(alloc, self.workers);
+        window.least = LEAST;
+        window
+    }
+
+    // The first window is as small as its workers can do with, so that they begin soon.
+    fn is_full(&self, pace: &Pace) -> bool {
+        let many = self.workers as usize * GROUPS_PER_WORKER;
+        let count = self.groups.len();
+        (count >= many && self.cost >= self.least)
+            || self.cost >= FULL
+            || count >= MOST_GROUPS
+            || pace.has_failed()
+    }
+
+    fn is_large(&self) -> bool {
+        false
+    }
+
+    fn push(&mut self, alloc: Global, group: &mut Records, _pace: &Pace) -> Result<(), AllocError> {
+        let spare = match self.spares.pop() {
+            Some(spare) => spare,
+            None => Records::new(alloc),
+        };
+        let cost = group.cost();
+        self.groups.push(mem::replace(group, spare))?;
+        self.cost = self.cost.saturating_add(cost);
+        self.chunks = None;
+        Ok(())
+    }
+
+    fn to_code(&self) -> Option<&[Records]> {
+        if self.groups.is_empty() {
+            None
+        } else {
+            Some(&self.groups)
+        }
+    }
+
+    fn keep(&mut self, chunks: Reorder) {
+        self.chunks = Some(chunks);
+    }
+
+    fn empty(&mut self) {
+        mem::swap(&mut self.groups, &mut self.spares);
+        self.groups.clear();
+        if self.cost > KEPT {
+            self.spares.clear();
+        }
+        self.cost = 0;
+        self.least = LEAST;
+        self.chunks = None;
+    }
+
+    fn put<M: Sink>(&mut self, file: &mut MadeFile, made: &mut M) -> Result<(), Failed> {
+        if let Some(chunks) = self.chunks.take() {
+            put_out(chunks, file, made)?;
+        }
+        self.empty();
+        Ok(())
+    }
+}
+
+/// Puts chunks by rising numbers, and puts out what was held before them, by itself, and what is held of them.
+///
+/// # Errors
+///
+/// `Failed` only where the sink failed. It took a front of what was held and the chunks.
+fn put_out<M: Sink>(chunks: Reorder, file: &mut MadeFile, made: &mut M) -> Result<(), Failed>
+    requires going { file.old.spent ≡ false }
+    requires in_reach { end_of_chunks file.old.place (map value_of_chunk (coming chunks)) ≤ 2 ^ 62 }
+    requires in_order { AreInOrder (map value_of_chunk (coming chunks)) chunks }
+    requires read { AllByRecursion (λ chunk. is_unread (value_of_chunk chunk) ≡ false) (coming chunks) }
+    ensures whole { OnOk result (Lays (M.taken made.old) (M.taken made.new) file.old file.new (map value_of_chunk (coming chunks))) }
+    ensures front { OnErr result (LaysFront (M.taken made.old) (M.taken made.new) file.old file.new (map value_of_chunk (coming chunks))) }
+    ensures made { OnlyCounts M.lent M.faults (IsErr result) made.old made.new }
+{
+    file.flush(made)?;
+    put_in_order(chunks, file, made)?;
+    file.flush(made)
+}
+
+/// Puts chunks by rising numbers.
+///
+/// # Errors
+///
+/// `Failed` only where the sink failed. It took a front of what was held and the chunks.
+fn put_in_order<M: Sink>(
+    mut chunks: Reorder,
+    file: &mut MadeFile,
+    made: &mut M,
+) -> Result<(), Failed>
+    requires going { file.old.spent ≡ false }
+    requires in_reach { end_of_chunks file.old.place (map value_of_chunk (coming chunks)) ≤ 2 ^ 62 }
+    requires in_order { AreInOrder (map value_of_chunk (coming chunks)) chunks }
+    requires read { AllByRecursion (λ chunk. is_unread (value_of_chunk chunk) ≡ false) (coming chunks) }
+    ensures whole { OnOk result (Lays (M.taken made.old) (M.taken made.new) file.old file.new (map value_of_chunk (coming chunks))) }
+    ensures front { OnErr result (LaysFront (M.taken made.old) (M.taken made.new) file.old file.new (map value_of_chunk (coming chunks))) }
+    ensures made { OnlyCounts M.lent M.faults (IsErr result) made.old made.new }
+{
+    while let Some(chunk) = chunks.next() {
+        file.put(made, &chunk, false)?;
+    }
+    Ok(())
+}
