@@ -18,7 +18,7 @@ use Rattle.riegeli_tool.specs.Commands.{command_of, takes, accepted_of, accepted
 
 -- what the words of a command say is within its limits
 abbrev pub IsWithin : Command → Type 0
-IsWithin (Write words) = AreInLimits words.options × (words.options.workers ≡ 1)
+IsWithin (Write words) = AreInLimits words.options
 IsWithin (Sample words) = AreInLimits words.options × (words.count ≤ most_records)
 IsWithin other = Unit {0}
 

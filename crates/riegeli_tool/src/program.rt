@@ -33,7 +33,7 @@ sample --seed=N --records=N [--chunk=N] [--workers=N] FILE
 /// `files` are stores of the files that the command reads, as `names` tells them, `made` is the file that it makes, and
 /// `grown` the file that it grows, which no command does yet.
 /// Text goes to `out` and messages go to `notes`. For now the commands are `write`, of lines, with `--chunk`, `--every`,
-/// `--pad` and `--hex`; `show`, with `--hex` and `--positions`, and with `--recover`, which goes on past damage, and `--most`,
+/// `--workers`, `--pad` and `--hex`; `show`, with `--hex` and `--positions`, and with `--recover`, which goes on past damage, and `--most`,
 /// which bounds the bytes of a region that is skipped; `verify`, which takes no memory; `seek`, by a position with `--at` or by
 /// a key with `--key`, and with `--hex`; `repair`, which makes the file of what is intact of another one, with `--most` too; and
 /// `sample`, which makes the file of records that a seed tells, with `--seed`, `--records`, `--chunk` and `--workers`.

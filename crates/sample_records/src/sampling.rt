@@ -10,7 +10,7 @@ use crate::sample_feed::SampleFeed;
 use crate::sample_words::SampleWords;
 use itoa::Buffer;
 use record_io::{Failed, PutBuffer, Sink, Totals};
-use record_writer::{WriteEnd, WriteOptions, write_records};
+use record_writer::{WriteEnd, write_records};
 use run_answers::{Cut, Status, cut_off};
 use std::alloc::Global;
 use std::thread::Threads;
@@ -56,13 +56,8 @@ fn make_sample<R: Threads + Sync, M: Sink + Send, O: Sink>(
     ensures made { OnlyCounts M.lent M.faults (result ≡ Err Cut.Made) made.old made.new }
     ensures out { OnlyCounts O.lent O.faults (result ≡ Err Cut.Out) out.old out.new }
 {
-    // Records are written by one worker so far, however many there may be.
-    let options = WriteOptions {
-        workers: 1,
-        ..words.options
-    };
     let mut records = SampleFeed::new(words.seed, words.count);
-    let totals = match write_records(rt, alloc, &options, &mut records, made) {
+    let totals = match write_records(rt, alloc, &words.options, &mut records, made) {
         Ok(totals) => totals,
         Err(end) => return Err(cut_of(end)),
     };

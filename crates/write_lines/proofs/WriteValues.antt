@@ -25,6 +25,19 @@ every : written (codes "F" ∷ codes "--every=2" ∷ []) ≡ Some (says 1048576 
 unfolding write_words_of
 every = refl
 
+workers : written (codes "--workers=16" ∷ codes "F" ∷ [])
+    ≡ Some (record { options = record { size = 1048576; workers = 16; every = None; pad = No }; hex = false; file = 2 })
+unfolding write_words_of
+workers = refl
+
+no_worker : written (codes "--workers=0" ∷ codes "F" ∷ []) ≡ None
+unfolding write_words_of
+no_worker = refl
+
+too_many_workers : written (codes "--workers=17" ∷ codes "F" ∷ []) ≡ None
+unfolding write_words_of
+too_many_workers = refl
+
 pad_start : written (codes "--pad=start" ∷ codes "F" ∷ []) ≡ Some (says 1048576 None Start false 2)
 unfolding write_words_of
 pad_start = refl

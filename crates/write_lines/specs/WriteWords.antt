@@ -7,7 +7,7 @@ use Rattle.record_group.specs.declared.pad.Pad.TheVariants.{No, Start, End, Both
 use Rattle.write_lines.specs.declared.write_words.WriteWords.{WriteWords}
 use Rattle.word_options.specs.Numbers.{number_within}
 use Rattle.word_options.specs.Options.{value_given, optional_value, are_words_of, file_places, only, ◌>>=◌}
-use Rattle.word_options.specs.Writing.{chunk_size_of}
+use Rattle.word_options.specs.Writing.{chunk_size_of, workers_of}
 
 -- the most records of a chunk, where they are bounded
 abbrev pub every_of : List (List ℕ) → Option (Option ℕ)
@@ -27,7 +27,7 @@ pad_of words = option_map (λ pad. unwrap_or pad No) (optional_value pad_named (
 
 -- the options of `write`
 abbrev pub write_options : List (List ℕ)
-write_options = codes "--chunk=" ∷ codes "--every=" ∷ codes "--pad=" ∷ codes "--hex" ∷ []
+write_options = codes "--chunk=" ∷ codes "--every=" ∷ codes "--workers=" ∷ codes "--pad=" ∷ codes "--hex" ∷ []
 
 -- what the words of `write` say, behind its name
 unfoldable pub write_words_of : List (List ℕ) → Option WriteWords
@@ -35,11 +35,12 @@ write_words_of words =
     if are_words_of write_options words
     then (do
       chunk_size ← chunk_size_of words
+      workers ← workers_of words
       every ← every_of words
       pad ← pad_of words
       file ← only (file_places words)
       Some (record {
-        options = record { size = chunk_size; workers = 1; every = every; pad = pad };
+        options = record { size = chunk_size; workers = workers; every = every; pad = pad };
         hex = is_some (value_given (codes "--hex") words);
         file = file;
       }))

@@ -4,7 +4,7 @@ ghost use Rattle.write_lines.specs.WriteWords.{every_of, pad_named, pad_of, writ
 
 use record_group::Pad;
 use record_writer::WriteOptions;
-use word_options::{are_words_of, chunk_size, only_file, optional_number, value_given};
+use word_options::{are_words_of, chunk_size, only_file, optional_number, value_given, workers};
 
 /// The most records that a chunk may be bounded to.
 const MOST_EVERY: u64 = 1 << 24;
@@ -12,7 +12,7 @@ const MOST_EVERY: u64 = 1 << 24;
 /// What the words of `write` say.
 #[derive(Clone, Copy, Debug, PartialEq, Eq)]
 pub struct WriteWords {
-    /// How records are written: with one worker.
+    /// How records are written.
     pub options: WriteOptions,
     /// Whether lines are in the hexadecimal form.
     pub hex: bool,
@@ -25,13 +25,16 @@ pub struct WriteWords {
 pub fn write_words(words: &[String]) -> Option<WriteWords>
     ensures { result ≡ write_words_of (map string_bytes words.now) }
 {
-    if !are_words_of(&["--chunk=", "--every=", "--pad=", "--hex"], words) {
+    if !are_words_of(
+        &["--chunk=", "--every=", "--workers=", "--pad=", "--hex"],
+        words,
+    ) {
         return None;
     }
     Some(WriteWords {
         options: WriteOptions {
             size: chunk_size(words)?,
-            workers: 1,
+            workers: workers(words)?,
             every: every(words)?,
             pad: pad(words)?,
         },

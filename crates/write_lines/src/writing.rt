@@ -27,7 +27,6 @@ pub fn write<R: Threads + Sync, I: Source, M: Sink + Send, E: Sink>(
     notes: &mut E,
 ) -> Status
     requires in_limits { AreInLimits words.now.options }
-    requires one_worker { words.now.options.workers ≡ 1 }
     ensures runs { (others : Seen) → Runs (write_meaning words.now)
         (record others { input = shown I.left I.faults input.old; made = shown M.taken M.faults made.old; notes = shown E.taken E.faults notes.old })
         (record others { input = shown I.left I.faults input.new; made = shown M.taken M.faults made.new; notes = shown E.taken E.faults notes.new })
@@ -59,7 +58,6 @@ fn write_lines<R: Threads + Sync, I: Source, M: Sink + Send>(
     made: &mut M,
 ) -> Result<Totals, WriteEnd>
     requires in_limits { AreInLimits words.now.options }
-    requires one_worker { words.now.options.workers ≡ 1 }
     ensures answer { IfSome (I.left input.old) (λ bytes. Answers result words.now.options (taken_from bytes words.now.hex (2 ^ 40))) }
     ensures made { IfSome (I.left input.old) (λ bytes. TakesFile result (M.taken made.old) (M.taken made.new)
         (file_under words.now.options (taken_from bytes words.now.hex (2 ^ 40)).records)) }

@@ -12,13 +12,8 @@ use Rattle.riegeli_tool.proofs.program.run.Goals as goal
 
 pub write-requires-clause-in_limits : goal.write-requires-clause-in_limits
 write-requires-clause-in_limits g c κs within =
-    (accepted-within (map string_bytes c.args.words.now) (length c.args.files.now) (Write c.in-Some-Write.words)
-    (ap Some (sym c.in-Some-Write.field-0-is) ∙ c.in-Some-Write.ensures)).0
-
-pub write-requires-clause-one_worker : goal.write-requires-clause-one_worker
-write-requires-clause-one_worker g c κs within =
-    (accepted-within (map string_bytes c.args.words.now) (length c.args.files.now) (Write c.in-Some-Write.words)
-    (ap Some (sym c.in-Some-Write.field-0-is) ∙ c.in-Some-Write.ensures)).1
+    accepted-within (map string_bytes c.args.words.now) (length c.args.files.now) (Write c.in-Some-Write.words)
+    (ap Some (sym c.in-Some-Write.field-0-is) ∙ c.in-Some-Write.ensures)
 
 pub sample-requires-clause-in_limits : goal.sample-requires-clause-in_limits
 sample-requires-clause-in_limits g c κs within =
