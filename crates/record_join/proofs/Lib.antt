@@ -1,0 +1,7 @@
+mod Values
+pub mod JoinedFiles
+pub mod FirstFaults
+pub mod Asked
+pub mod CopiedPieces
+pub mod Behind
+pub mod Steps

@@ -1,0 +1,203 @@
+-- Files that are joined one by one.
+use Rattle.std.proofs.Common.{◌≡◌, ◌∙◌, ℕ, ◌+◌, ◌<◌, ◌≤◌, ◌⊎◌, true, Option, Some, Result, Err, List, [], ◌∷◌, ◌++◌, length, take, get_or, refl, sym, ap, subst, inl, inr, arith}
+use Rattle.std.specs.Prelude.{slice_get, sum}
+use Rattle.std.specs.List.{AllByRecursion}
+use Rattle.std.proofs.lemmas.List.{append_assoc, length-take-le, take_all, take_more}
+use Rattle.std.proofs.lemmas.Bool.{cases_lt}
+use Rattle.std.proofs.lemmas.List.Sums.{sum_by_more}
+use Rattle.std.proofs.lemmas.Option.{get_or_from_slice_get, slice_get_within}
+use Rattle.record_values.specs.declared.file_totals.Totals.{Totals}
+use Rattle.record_io.specs.Outside.{Takes, TakesFront}
+use Rattle.record_io.proofs.Calls.{Takes-append, Takes-nothing, TakesFront-append, TakesFront-whole}
+use Rattle.chunk_header.specs.Chunks.{ChunkValue}
+use Rattle.meta_chunk.specs.Counts.{totals_of}
+use Rattle.meta_chunk.specs.Files.{IsFrame, end_of_chunks}
+use Rattle.meta_chunk.specs.PaddingSizes.{padding_at}
+use Rattle.meta_chunk.proofs.PaddingLemmas.{padding_at-block, padding_at_near}
+use Rattle.ordered_writer.specs.Writers.{padding_bytes}
+use Rattle.ordered_writer.proofs.JoinedFiles.{IsFileOf-joined, length-file, length-joined, totals-joined}
+use Rattle.chunk_reader.specs.Faults.{HasNoFault, IsFault}
+use Rattle.chunk_reader.specs.declared.reasons.Fault.{Fault}
+use Rattle.block_layout.specs.Layout.{IsBoundary}
+use Rattle.record_join.specs.Joined.{joined, joined_at_most, totals_behind, HaveNoFault, IsFirstFault}
+use Rattle.record_join.specs.Joins.{AreJoined, AreJoinedUpTo, AreTotalsWith, IsFrontJoined, IsFrontPut}
+use Rattle.record_join.specs.declared.joins.JoinEnd.{JoinEnd}
+use Rattle.record_join.specs.declared.joins.JoinEnd.TheVariants as end
+use Rattle.record_join.proofs.FirstFaults.{first_is_one, front_joined}
+use Rattle.record_join.proofs.JoinedFiles.{boundaries, joined-more}
+
+-- what the totals count: no chunks, where no file was put, or the chunks of the files
+abbrev pub AreCounted : List (List ℕ) → Totals → Type 0
+AreCounted files totals =
+    ((files ≡ []) × (totals ≡ totals_of []))
+    ⊎ ((ks : List ChunkValue) × IsFrame ks (joined files) × (totals ≡ totals_of ks))
+
+-- so many files were joined
+pub record JoinedSoFar (files : List (List ℕ)) (count : ℕ) (totals : Totals) (before after : Option (List ℕ)) : Type 0 where
+  pub without_fault : HaveNoFault (take count files)
+  pub bytes : totals.bytes ≡ length (joined (take count files))
+  pub counted : AreCounted (take count files) totals
+  pub took : Takes before after (joined (take count files))
+
+pub JoinedSoFar-none : (files : List (List ℕ)) (totals : Totals) (taken : Option (List ℕ)) → totals ≡ totals_of [] → JoinedSoFar files 0 totals taken taken
+JoinedSoFar-none files totals taken none = record {
+  without_fault = tt;
+  bytes = ap (λ (t : Totals). t.bytes) none;
+  counted = inl (refl, none);
+  took = Takes-nothing taken;
+}
+
+-- the next file
+next_files : (files : List (List ℕ)) (count : ℕ) (file : List ℕ) → slice_get files count ≡ Some file → take (count + 1) files ≡ take count files ++ file ∷ []
+next_files files count file there =
+    take_more files count file (slice_get_within files count file there)
+    ∙ ap (λ (f : List ℕ). take count files ++ f ∷ []) (get_or_from_slice_get files count file file there)
+
+all_and : {X : Type 0} (P : X → Type 0) (xs : List X) (x : X) → AllByRecursion P xs → P x → AllByRecursion P (xs ++ x ∷ [])
+all_and P [] x h is = (is, tt)
+all_and P (y ∷ xs) x h is = (h.0, all_and P xs x h.1 is)
+
+-- the totals behind those of no file are those of the file
+totals_behind-none : (t : Totals) → totals_behind (totals_of []) t ≡ t
+unfolding padding_at
+totals_behind-none t =
+    let zero : (n : ℕ) → 0 + n ≡ n = λ n. omega arith in
+    ap (λ (n : ℕ). record { chunks = n; records = 0 + t.records; bytes = 0 + t.bytes; unread = 0 + t.unread }) (zero t.chunks)
+    ∙ ap (λ (n : ℕ). record { chunks = t.chunks; records = n; bytes = 0 + t.bytes; unread = 0 + t.unread }) (zero t.records)
+    ∙ ap (λ (n : ℕ). record { chunks = t.chunks; records = t.records; bytes = n; unread = 0 + t.unread }) (zero t.bytes)
+    ∙ ap (λ (n : ℕ). record { chunks = t.chunks; records = t.records; bytes = t.bytes; unread = n }) (zero t.unread)
+
+-- files and one more
+module _ (files : List (List ℕ)) (file : List ℕ) (totals then : Totals) (without_fault : HaveNoFault files)
+    (bytes : totals.bytes ≡ length (joined files)) (more : AreTotalsWith totals file then) where
+  bytes_then : then.bytes ≡ length (joined (files ++ file ∷ []))
+  bytes_then =
+      let of_all : joined (files ++ file ∷ []) ≡ joined files ++ padding_bytes (length (joined files)) ++ file =
+      joined-more files file (boundaries files without_fault) in
+      ap (λ (t : Totals). t.bytes) more.2
+      ∙ ap (λ (n : ℕ). end_of_chunks totals.bytes (padding_at totals.bytes) + n) (length-file more.0 file more.1)
+      ∙ ap (λ (p : ℕ). end_of_chunks p (padding_at p) + length file) bytes
+      ∙ sym (length-joined (joined files) file)
+      ∙ ap length (sym of_all)
+
+  counted_first : files ≡ [] → totals ≡ totals_of [] → AreCounted (files ++ file ∷ []) then
+  counted_first none zero =
+      let alone : file ≡ joined (files ++ file ∷ []) = ap (λ (fs : List (List ℕ)). joined (fs ++ file ∷ [])) (sym none) in
+      inr (
+        more.0,
+        subst (IsFrame more.0) alone more.1,
+        more.2 ∙ ap (λ (t : Totals). totals_behind t (totals_of more.0)) zero ∙ totals_behind-none (totals_of more.0),
+      )
+
+  counted_behind : (ls : List ChunkValue) → IsFrame ls (joined files) → totals ≡ totals_of ls → AreCounted (files ++ file ∷ []) then
+  counted_behind ls h is =
+      let place : ℕ = length (joined files) in
+      let of_all : joined (files ++ file ∷ []) ≡ joined files ++ padding_bytes place ++ file = joined-more files file (boundaries files without_fault) in
+      let at : Totals → ℕ → Totals = λ t p. record {
+        chunks = t.chunks + length (padding_at p) + (totals_of more.0).chunks;
+        records = t.records + (totals_of more.0).records;
+        bytes = end_of_chunks p (padding_at p) + (totals_of more.0).bytes;
+        unread = t.unread + (totals_of more.0).unread;
+      } in
+      inr (
+        ls ++ padding_at place ++ more.0,
+        subst (IsFrame (ls ++ padding_at place ++ more.0)) (sym of_all) (IsFileOf-joined ls more.0 (joined files) file (λ k plain. inl plain) h more.1),
+        more.2 ∙ ap (at totals) bytes ∙ ap (λ (t : Totals). at t place) is ∙ sym (totals-joined ls more.0 (joined files) h),
+      )
+
+  pub counted_more : AreCounted files totals → AreCounted (files ++ file ∷ []) then
+  counted_more (inl none) = counted_first none.0 none.1
+  counted_more (inr of) = counted_behind of.0 of.1 of.2
+
+-- what a sink took of files and then of one more
+took_more : (files : List (List ℕ)) (file : List ℕ) (place : ℕ) → HaveNoFault files → place ≡ length (joined files)
+    → joined files ++ (padding_bytes place ++ file) ≡ joined (files ++ file ∷ [])
+took_more files file place without_fault is =
+    ap (λ (p : ℕ). joined files ++ (padding_bytes p ++ file)) is
+    ∙ sym (append_assoc (joined files) (padding_bytes (length (joined files))) file)
+    ∙ sym (joined-more files file (boundaries files without_fault))
+
+pub JoinedSoFar-more : (files : List (List ℕ)) (count : ℕ) (file : List ℕ) (totals then : Totals) (before between after : Option (List ℕ))
+    → slice_get files count ≡ Some file → AreTotalsWith totals file then → Takes between after (padding_bytes totals.bytes ++ file)
+    → JoinedSoFar files count totals before between → JoinedSoFar files (count + 1) then before after
+JoinedSoFar-more files count file totals then before between after there more took kept =
+    let first : List (List ℕ) = take count files in
+    let is : first ++ file ∷ [] ≡ take (count + 1) files = sym (next_files files count file there) in
+    let front : Takes before after (joined (first ++ file ∷ [])) =
+    subst (Takes before after) (took_more first file totals.bytes kept.without_fault kept.bytes)
+    (Takes-append before between after (joined first) (padding_bytes totals.bytes ++ file) kept.took took) in
+    record {
+      without_fault = subst HaveNoFault is (all_and (HasNoFault true) first file kept.without_fault (more.0, more.1));
+      bytes = bytes_then first file totals then kept.without_fault kept.bytes more ∙ ap (λ (fs : List (List ℕ)). length (joined fs)) is;
+      counted = subst (λ (fs : List (List ℕ)). AreCounted fs then) is
+          (counted_more first file totals then kept.without_fault kept.bytes more kept.counted);
+      took = subst (λ (fs : List (List ℕ)). Takes before after (joined fs)) is front;
+    }
+
+-- all files
+pub AreJoined-all : (files : List (List ℕ)) (count : ℕ) (totals : Totals) (before after : Option (List ℕ))
+    → 0 < length files → length files ≤ count → JoinedSoFar files count totals before after → AreJoined files totals before after
+AreJoined-all files count totals before after some all kept =
+    let is : take count files ≡ files = take_all count files all in
+    elim (subst (λ (fs : List (List ℕ)). AreCounted fs totals) is kept.counted) [
+      | inl none ↦ absurd (omega (arith, some, ap length none.0))
+      | inr of ↦ record {
+        without_fault = subst HaveNoFault is kept.without_fault;
+        chunks = of.0;
+        frame = of.1;
+        totals = of.2;
+        took = subst (λ (fs : List (List ℕ)). Takes before after (joined fs)) is kept.took;
+      }
+    ]
+
+-- up to a file with a fault, of which nothing was put
+pub AreJoinedUpTo-fault : (files : List (List ℕ)) (count : ℕ) (file : List ℕ) (fault : Fault) (totals : Totals) (before after : Option (List ℕ))
+    → slice_get files count ≡ Some file → IsFault true file fault → JoinedSoFar files count totals before after
+    → AreJoinedUpTo files count fault before after
+AreJoinedUpTo-fault files count file fault totals before after there is kept =
+    record { first = record { before = kept.without_fault; file = file; there = there; is_fault = is }; took = kept.took }
+
+-- up to a file of which a front was put, or nothing
+pub IsFrontJoined-failed : (files : List (List ℕ)) (count : ℕ) (file : List ℕ) (totals : Totals) (before between after : Option (List ℕ))
+    → slice_get files count ≡ Some file → IsFrontPut (padding_bytes totals.bytes) file between after
+    → JoinedSoFar files count totals before between → IsFrontJoined files before after
+IsFrontJoined-failed files count file totals before between after there (inl same) kept =
+    front_joined files count before after kept.without_fault
+    (TakesFront-whole before after (joined (take count files)) (subst (λ (o : Option (List ℕ)). Takes before o (joined (take count files))) (sym same) kept.took))
+IsFrontJoined-failed files count file totals before between after there (inr (none, front)) kept =
+    let first : List (List ℕ) = take count files in
+    let is : first ++ file ∷ [] ≡ take (count + 1) files = sym (next_files files count file there) in
+    let of_all : TakesFront before after (joined (first ++ file ∷ [])) =
+    subst (TakesFront before after) (took_more first file totals.bytes kept.without_fault kept.bytes)
+    (TakesFront-append before between after (joined first) (padding_bytes totals.bytes ++ file) kept.took front) in
+    front_joined files (count + 1) before after
+    (subst HaveNoFault is (all_and (HasNoFault true) first file kept.without_fault none))
+    (subst (λ (fs : List (List ℕ)). TakesFront before after (joined fs)) is of_all)
+
+-- a work that ended at a file ended at the first with a fault, unless a store or the sink failed
+pub ended_at_first : {X : Type 0} (result : Result X JoinEnd) (why : JoinEnd) (files : List (List ℕ)) (index : ℕ) (fault : Fault) → result ≡ Err why
+    → ((number : ℕ) (other : Fault) → why ≡ end.Refused number other → IsFirstFault files number other) → IsFirstFault files index fault
+    → (result ≡ Err (end.Refused index fault)) ⊎ (result ≡ Err end.Store) ⊎ (result ≡ Err end.Made)
+ended_at_first result (end.Refused number other) files index fault is refused first =
+    let one = first_is_one files number index other fault (refused number other refl) first in
+    inl (is ∙ ap (λ (n : ℕ). Err (end.Refused n other)) one.0 ∙ ap (λ (f : Fault). Err (end.Refused index f)) one.1)
+ended_at_first result end.Store files index fault is refused first = inr (inl is)
+ended_at_first result end.Made files index fault is refused first = inr (inr is)
+
+-- where one more file ends
+pub fits_more : (sizes : List ℕ) (count place then : ℕ) → count < length sizes → IsBoundary place → place ≤ joined_at_most (take count sizes)
+    → then ≡ end_of_chunks place (padding_at place) + get_or sizes count 0 → then ≤ joined_at_most (take (count + 1) sizes)
+fits_more sizes count place then below boundary fits is =
+    let size : length (take count sizes) ≡ count = length-take-le count sizes (omega (arith, below)) in
+    let size_then : length (take (count + 1) sizes) ≡ count + 1 = length-take-le (count + 1) sizes (omega (arith, below)) in
+    let more : sum (take (count + 1) sizes) ≡ sum (take count sizes) + get_or sizes count 0 = sum_by_more (λ n. n) sizes count 0 below in
+    elim (cases_lt 0 count) [
+      | inl some ↦ omega (arith, fits, is, size, size_then, more, padding_at_near place boundary)
+      | inr none ↦
+          let first : count ≡ 0 = omega (arith, none) in
+          let front : take count sizes ≡ [] = ap (λ (n : ℕ). take n sizes) first in
+          let at_front : place ≡ 0 = omega (arith, fits, ap joined_at_most front) in
+          let unpadded : end_of_chunks place (padding_at place) ≡ place =
+          ap (end_of_chunks place) (padding_at-block place (omega (arith, at_front))) in
+          omega (arith, is, size_then, first, more, ap sum front, unpadded, at_front)
+    ]

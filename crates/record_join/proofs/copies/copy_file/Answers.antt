@@ -1,0 +1,46 @@
+use Rattle.std.proofs.Common.{◌≡◌, ◌+◌, Option, IfSome, List, ℕ, length, take, drop, subst, arith, rules, length-append, length-drop}
+use Rattle.std.specs.Prelude.{slice_range}
+use Rattle.std.proofs.lemmas.List.{length-take-le}
+use Rattle.record_io.specs.Outside.{Takes, TakesFront}
+use Rattle.record_io.proofs.Calls.{OnErr-any}
+use Rattle.record_join.proofs.CopiedPieces.{copied_front, copied_more}
+use Rattle.record_join.proofs.copies.copy_file.Goals as goal
+
+pub returns-in_err-copy_piece-clause-front : goal.returns-in_err-copy_piece-clause-front
+returns-in_err-copy_piece-clause-front g c =
+    let kept = c.loop-at.invariant in
+    let at : ℕ = c.loop-at.at in
+    let n : ℕ = length (take c.min-count.result c.loop-at.piece) in
+    let P : Option (List ℕ) → Type 0 = λ o. IfSome o (λ file.
+    TakesFront (g.M.Sink.taken c.loop-at.made) (g.M.Sink.taken c.copy_piece.new.made) (slice_range file at (at + n))) in
+    OnErr-any _ (copied_front (g.S.Store.bytes c.args.store.now) (g.M.Sink.taken c.args.made.now) (g.M.Sink.taken c.loop-at.made) _ at n kept.taken
+    (subst P kept.asks.same_bytes c.in_err-copy_piece.ensures.front))
+
+pub loop-at-preserved : goal.loop-at-preserved
+loop-at-preserved g c =
+    let kept = c.loop-at.invariant in
+    let at : ℕ = c.loop-at.at in
+    let count : ℕ = c.min-count.result in
+    let piece : List ℕ = take count c.loop-at.piece in
+    let n : length piece ≡ count = length-take-le count c.loop-at.piece (omega (arith, kept.room, c.min-count.ensures)) in
+    let P : Option (List ℕ) → Type 0 = λ o. IfSome o (λ file.
+    Takes (g.M.Sink.taken c.loop-at.made) (g.M.Sink.taken c.copy_piece.new.made) (slice_range file at (at + length piece))) in
+    let Q : ℕ → Type 0 = λ k. IfSome (g.S.Store.bytes c.args.store.now) (λ file.
+    Takes (g.M.Sink.taken c.args.made.now) (g.M.Sink.taken c.copy_piece.new.made) (take (at + k) file)) in
+    record {
+      within = omega (arith, c.min-count.ensures, c.loop-at-test.true);
+      room = omega (
+        arith,
+        length-append c.copy_piece.new.piece (drop count c.loop-at.piece),
+        length-drop {A = ℕ},
+        c.copy_piece.auto.piece,
+        n,
+        kept.room,
+        c.min-count.ensures,
+      );
+      taken = subst Q n (copied_more (g.S.Store.bytes c.args.store.now) (g.M.Sink.taken c.args.made.now) (g.M.Sink.taken c.loop-at.made) _ at (length piece)
+          kept.taken (subst P kept.asks.same_bytes c.in_ok-copy_piece.ensures.whole));
+      handed = omega (arith, c.in_ok-copy_piece.ensures.handed, kept.handed, n);
+      asks = search rules;
+      counts = search rules;
+    }

@@ -1,0 +1,62 @@
+ghost use Rattle.std.specs.Prelude.{◌≡◌, ◌≢◌, ℕ, ◌+◌, ◌≤◌, Some, Err, IfSome, IsSomeAnd, OnOk, OnErr, length, slice_range};
+ghost use Rattle.record_io.specs.Outside.{Takes, TakesFront};
+ghost use Rattle.record_io.specs.Calls.{OnlyAsks, OnlyCounts};
+ghost use Rattle.chunk_reader.specs.declared.reasons.Fault.{Fault};
+
+use crate::joins::JoinEnd;
+use record_io::{Sink, Store, get_exact, put_all};
+
+// How many bytes of a file are read and put at once.
+const PIECE_SIZE: usize = 65536;
+
+/// Puts a whole file of `size` bytes, which were told.
+///
+/// # Errors
+///
+/// `Store` only where the store failed, and `Made` only where the sink did. The sink took a front of the file then.
+pub(crate) fn copy_file<S: Store, M: Sink>(
+    store: &mut S,
+    size: u64,
+    made: &mut M,
+) -> Result<(), JoinEnd>
+    requires told { S.told store.old ≡ Some size }
+    ensures whole { OnOk result (IfSome (S.bytes store.old) (λ file. Takes (M.taken made.old) (M.taken made.new) file)) }
+    ensures front { OnErr result (IfSome (S.bytes store.old) (λ file. TakesFront (M.taken made.old) (M.taken made.new) file)) }
+    ensures unrefused { (index : ℕ) (fault : Fault) → result ≢ Err (JoinEnd.Refused index fault) }
+    ensures handed { S.handed store.new ≤ S.handed store.old + size }
+    ensures store { OnlyAsks S.bytes S.told S.name S.faults (result ≡ Err JoinEnd.Store) store.old store.new }
+    ensures made { OnlyCounts M.lent M.faults (result ≡ Err JoinEnd.Made) made.old made.new }
+{
+    let mut piece = [0; PIECE_SIZE];
+    let mut at = 0;
+    while at < size {
+        let count = (size - at).min(PIECE_SIZE as u64) as usize;
+        copy_piece(store, at, &mut piece[..count], made)?;
+        at += count as u64;
+    }
+    Ok(())
+}
+
+/// Reads the bytes that begin at a place, as many as the piece has room for, and puts them.
+fn copy_piece<S: Store, M: Sink>(
+    store: &mut S,
+    at: u64,
+    piece: &mut [u8],
+    made: &mut M,
+) -> Result<(), JoinEnd>
+    requires within { IsSomeAnd (S.told store.old) (λ size. at + length piece.old ≤ size) }
+    ensures whole { OnOk result (IfSome (S.bytes store.old) (λ file.
+        Takes (M.taken made.old) (M.taken made.new) (slice_range file at (at + length piece.old)))) }
+    ensures front { OnErr result (IfSome (S.bytes store.old) (λ file.
+        TakesFront (M.taken made.old) (M.taken made.new) (slice_range file at (at + length piece.old)))) }
+    ensures unrefused { (index : ℕ) (fault : Fault) → result ≢ Err (JoinEnd.Refused index fault) }
+    ensures handed { S.handed store.new ≤ S.handed store.old + length piece.old }
+    ensures store { OnlyAsks S.bytes S.told S.name S.faults (result ≡ Err JoinEnd.Store) store.old store.new }
+    ensures made { OnlyCounts M.lent M.faults (result ≡ Err JoinEnd.Made) made.old made.new }
+{
+    let Ok(()) = get_exact(store, at, piece) else {
+        return Err(JoinEnd::Store);
+    };
+    put_all(made, piece)?;
+    Ok(())
+}

@@ -1,0 +1,161 @@
+ghost use Rattle.std.specs.Prelude.{◌≡◌, ◌≢◌, ℕ, ◌+◌, ◌*◌, ◌^◌, ◌<◌, ◌≤◌, ◌⊎◌, ◌++◌, true, Some, Err, IfOk, IfSome, List, length, slice_get};
+ghost use Rattle.record_io.specs.Outside.{Takes};
+ghost use Rattle.record_io.specs.Calls.{OnlyAsks, OnlyCounts};
+ghost use Rattle.chunk_header.specs.Chunks.{ChunkValue};
+ghost use Rattle.meta_chunk.specs.Counts.{totals_of};
+ghost use Rattle.meta_chunk.specs.Files.{IsFrame, end_of_chunks};
+ghost use Rattle.meta_chunk.specs.PaddingSizes.{padding_at};
+ghost use Rattle.ordered_writer.specs.Writers.{padding_bytes};
+ghost use Rattle.chunk_reader.specs.Faults.{IsFault};
+ghost use Rattle.chunk_reader.specs.Progress.{AreInBounds};
+ghost use Rattle.chunk_reader.specs.declared.reasons.Fault.{Fault};
+ghost use Rattle.record_join.specs.Joined.{IsFirstFault, joined_at_most, totals_behind};
+ghost use Rattle.record_join.specs.Joins.{AreJoined, AreJoinedUpTo, AreOnlyAsked, AreTold, AreTotalsWith, IfAllTell, IsFrontJoined, IsFrontPut};
+
+use crate::copies::copy_file;
+use chunk_reader::{Fault, VerifyEnd, verify};
+use ordered_writer::{OrderedWriter, padded};
+use record_io::{Failed, Sink, Store, Totals};
+
+/// Why files were not joined. Own.
+#[derive(Clone, Copy, Debug, PartialEq, Eq)]
+pub enum JoinEnd {
+    /// A file is refused.
+    Refused {
+        /// Which of the files, by its number from 0.
+        index: u64,
+        /// Its fault.
+        fault: Fault,
+    },
+    /// A store failed.
+    Store,
+    /// The sink failed.
+    Made,
+}
+
+impl From<Failed> for JoinEnd {
+    ghost use Rattle.std.specs.Prelude.{◌≡◌};
+    ghost use Rattle.record_join.specs.declared.joins.JoinEnd.TheVariants.{Made};
+
+    ghost from_gives = { λ _ end. end ≡ Made };
+
+    fn from(_failed: Failed) -> JoinEnd {
+        JoinEnd::Made
+    }
+}
+
+/// The totals of no files.
+const NO_FILES: Totals = Totals {
+    chunks: 0,
+    records: 0,
+    bytes: 0,
+    unread: 0,
+};
+
+/// Puts files one after another, one or more, and counts what they make: behind each but the last goes the padding from its
+/// end to a block, where the next one begins. `sizes` are those that the stores told, in their order; together with 131,072
+/// bytes for each but the last they are at most 2^60. A file is judged before any of it, or of the padding before it, goes
+/// out; compressed and transposed chunks are left unread, and copied. It takes no memory, and a store hands out no more than
+/// twice its bytes. Own.
+///
+/// # Errors
+///
+/// `Refused` exactly with the fault of the first file that has one, and those before it are joined then. `Store` only where a
+/// store failed, and `Made` only where the sink did: a front of the files was put then, or of those before the first with a
+/// fault.
+pub fn join<S: Store, M: Sink>(
+    stores: &mut [S],
+    sizes: &[u64],
+    made: &mut M,
+) -> Result<Totals, JoinEnd>
+    requires some { 0 < length stores.old }
+    requires told { AreTold S.told stores.old sizes.now }
+    requires in_reach { joined_at_most sizes.now ≤ 2 ^ 60 }
+    ensures whole { IfOk result (λ totals.
+        IfAllTell S.bytes stores.old (λ files. AreJoined files totals (M.taken made.old) (M.taken made.new))) }
+    ensures refused { (index : ℕ) (fault : Fault) → result ≡ Err (JoinEnd.Refused index fault)
+        → IfAllTell S.bytes stores.old (λ files. AreJoinedUpTo files index fault (M.taken made.old) (M.taken made.new)) }
+    ensures complete { IfAllTell S.bytes stores.old (λ files. (index : ℕ) (fault : Fault) → IsFirstFault files index fault
+        → (result ≡ Err (JoinEnd.Refused index fault)) ⊎ (result ≡ Err JoinEnd.Store) ⊎ (result ≡ Err JoinEnd.Made)) }
+    ensures front { (result ≡ Err JoinEnd.Store) ⊎ (result ≡ Err JoinEnd.Made)
+        → IfAllTell S.bytes stores.old (λ files. IsFrontJoined files (M.taken made.old) (M.taken made.new)) }
+    ensures totals { IfOk result (λ totals. AreInBounds (joined_at_most sizes.now) totals) }
+    ensures handed { (place : ℕ) (a b : S) (size : ℕ)
+        → slice_get stores.old place ≡ Some a → slice_get stores.new place ≡ Some b → slice_get sizes.now place ≡ Some size
+        → S.handed b ≤ S.handed a + 2 * size }
+    ensures stores { AreOnlyAsked S.bytes S.told S.name S.faults (result ≡ Err JoinEnd.Store) stores.old stores.new }
+    ensures made { OnlyCounts M.lent M.faults (result ≡ Err JoinEnd.Made) made.old made.new }
+{
+    let mut totals = NO_FILES;
+    for (index, store) in stores.iter_mut().enumerate() {
+        totals = join_file(store, sizes[index], index as u64, &totals, made)?;
+    }
+    Ok(totals)
+}
+
+/// Judges the file of this number and puts it behind those of these totals, with the padding between.
+fn join_file<S: Store, M: Sink>(
+    store: &mut S,
+    size: u64,
+    index: u64,
+    before: &Totals,
+    made: &mut M,
+) -> Result<Totals, JoinEnd>
+    requires told { S.told store.old ≡ Some size }
+    requires in_reach { size ≤ 2 ^ 60 }
+    requires before { AreInBounds (2 ^ 60) before.now }
+    ensures whole { IfOk result (λ totals. IfSome (S.bytes store.old) (λ file.
+        AreTotalsWith before.now file totals
+        × Takes (M.taken made.old) (M.taken made.new) (padding_bytes before.now.bytes ++ file))) }
+    ensures refused { (number : ℕ) (fault : Fault) → result ≡ Err (JoinEnd.Refused number fault)
+        → (number ≡ index) × (made.new ≡ made.old) × IfSome (S.bytes store.old) (λ file. IsFault true file fault) }
+    ensures front { (result ≡ Err JoinEnd.Store) ⊎ (result ≡ Err JoinEnd.Made) → IfSome (S.bytes store.old) (λ file.
+        IsFrontPut (padding_bytes before.now.bytes) file (M.taken made.old) (M.taken made.new)) }
+    ensures totals { IfOk result (λ totals. AreInBounds totals.bytes totals) }
+    ensures end { IfOk result (λ totals. totals.bytes ≡ end_of_chunks before.now.bytes (padding_at before.now.bytes) + size) }
+    ensures handed { S.handed store.new ≤ S.handed store.old + 2 * size }
+    ensures store { OnlyAsks S.bytes S.told S.name S.faults (result ≡ Err JoinEnd.Store) store.old store.new }
+    ensures made { OnlyCounts M.lent M.faults (result ≡ Err JoinEnd.Made) made.old made.new }
+{
+    let file = judge(store, size, index)?;
+    let mut writer = OrderedWriter::resume(before.bytes);
+    writer.pad(made)?;
+    copy_file(store, size, made)?;
+    Ok(totals_behind(before, &file))
+}
+
+/// Judges the file of this number.
+fn judge<S: Store>(store: &mut S, size: u64, index: u64) -> Result<Totals, JoinEnd>
+    requires told { S.told store.old ≡ Some size }
+    requires in_reach { size ≤ 2 ^ 60 }
+    ensures whole { IfOk result (λ totals. IfSome (S.bytes store.old) (λ file.
+        (ks : List ChunkValue) × IsFrame ks file × (totals ≡ totals_of ks))) }
+    ensures totals { IfOk result (λ totals. AreInBounds size totals × (totals.bytes ≡ size)) }
+    ensures refused { (number : ℕ) (fault : Fault) → result ≡ Err (JoinEnd.Refused number fault)
+        → (number ≡ index) × IfSome (S.bytes store.old) (λ file. IsFault true file fault) }
+    ensures unmade { result ≢ Err JoinEnd.Made }
+    ensures handed { S.handed store.new ≤ S.handed store.old + size }
+    ensures store { OnlyAsks S.bytes S.told S.name S.faults (result ≡ Err JoinEnd.Store) store.old store.new }
+{
+    match verify(store, size) {
+        Ok(totals) => Ok(totals),
+        Err(VerifyEnd::Refused(fault)) => Err(JoinEnd::Refused { index, fault }),
+        Err(VerifyEnd::Store) => Err(JoinEnd::Store),
+    }
+}
+
+/// The totals of files and of one more behind them, with the padding between.
+fn totals_behind(before: &Totals, file: &Totals) -> Totals
+    requires before { AreInBounds (2 ^ 60) before.now }
+    requires file { AreInBounds (2 ^ 60) file.now }
+    ensures value { result ≡ totals_behind before.now file.now }
+    ensures bounds { AreInBounds result.bytes result }
+{
+    let begin = padded(before.bytes);
+    Totals {
+        chunks: before.chunks + u64::from(begin > before.bytes) + file.chunks,
+        records: before.records + file.records,
+        bytes: begin + file.bytes,
+        unread: before.unread + file.unread,
+    }
+}
