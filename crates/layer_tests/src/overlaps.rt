@@ -64,7 +64,11 @@ fn sink(alloc: Global, fails: &[u32]) -> Result<MemSink, AllocError> {
 }
 
 /// The file of so many records, written by one worker.
-fn file_of<R: Threads + Abort + Sync>(rt: &R, alloc: Global, count: u8) -> Result<MemSink, AllocError> {
+fn file_of<R: Threads + Abort + Sync>(
+    rt: &R,
+    alloc: Global,
+    count: u8,
+) -> Result<MemSink, AllocError> {
     let mut made = sink(alloc, &[])?;
     let mut feed = ByteFeed {
         next: 0,
