@@ -4,7 +4,7 @@ use Rattle.std.specs.Prelude.{map, sum}
 use Rattle.std.specs.List.{concat}
 use Rattle.std.proofs.lemmas.List.{append_assoc, append_cancel_left, nil_from_length, take_at, drop_at, take-append-drop, length-append, length-map, length-take-le, length-drop}
 use Rattle.std.proofs.lemmas.List.Sums.{sum_by-cons}
-use Rattle.varint_wire.specs.Varint.{value_of, Spells, SpellsEach}
+use Rattle.varint_wire.specs.Varint.{spelled_value, Spells, SpellsEach}
 use Rattle.varint_wire.proofs.Spellings.{spelling_is_one}
 use Rattle.varint_wire.proofs.InARow.{spellings_are_one}
 use Rattle.chunk_header.specs.Chunks.{ChunkValue}
@@ -21,9 +21,9 @@ AreSpelling : List ℕ → Type 0
 AreSpelling bytes =
     (0 < length bytes) × ((length bytes ≤ 10)
     × (((i : ℕ) → i < length bytes - 1 → IsContinued bytes i)
-    × ((get_or bytes (length bytes - 1) 0 < 128) × (value_of bytes < 2 ^ 64))))
+    × ((get_or bytes (length bytes - 1) 0 < 128) × (spelled_value bytes < 2 ^ 64))))
 
-spelling_from : (bytes : List ℕ) → AreSpelling bytes → Spells (value_of bytes) bytes
+spelling_from : (bytes : List ℕ) → AreSpelling bytes → Spells (spelled_value bytes) bytes
 unfolding AreSpelling IsContinued
 spelling_from bytes (some, (few, (continued, (ended, fits)))) = record {
   some = some;
@@ -34,46 +34,46 @@ spelling_from bytes (some, (few, (continued, (ended, fits)))) = record {
   fits = fits;
 }
 
-from_spelling : (bytes : List ℕ) → Spells (value_of bytes) bytes → AreSpelling bytes
+from_spelling : (bytes : List ℕ) → Spells (spelled_value bytes) bytes → AreSpelling bytes
 unfolding AreSpelling IsContinued
 from_spelling bytes s = (s.some, (s.at_most_ten, (λ i h. s.continued i (omega arith), (s.ended, s.fits))))
 
 -- whether bytes are a spelling
-spelling_decided : (bytes : List ℕ) → IsDecided (Spells (value_of bytes) bytes)
+spelling_decided : (bytes : List ℕ) → IsDecided (Spells (spelled_value bytes) bytes)
 unfolding AreSpelling IsContinued
 spelling_decided bytes =
-    same_decided (AreSpelling bytes) (Spells (value_of bytes) bytes) (spelling_from bytes) (from_spelling bytes)
+    same_decided (AreSpelling bytes) (Spells (spelled_value bytes) bytes) (spelling_from bytes) (from_spelling bytes)
     (both _ _ (less_decided 0 (length bytes))
     (both _ _ (at_most_decided (length bytes) 10)
     (both _ _ (each_below_decided (IsContinued bytes)
     (λ i. both _ _ (at_most_decided 128 (get_or bytes i 0)) (less_decided (get_or bytes i 0) 256))
     (length bytes - 1))
-    (both _ _ (less_decided (get_or bytes (length bytes - 1) 0) 128) (less_decided (value_of bytes) (2 ^ 64))))))
+    (both _ _ (less_decided (get_or bytes (length bytes - 1) 0) 128) (less_decided (spelled_value bytes) (2 ^ 64))))))
 
 -- bytes that begin with a spelling
 abbrev Begin : List ℕ → Type 0
 Begin bytes = (value : ℕ) × (front rest : List ℕ) × (bytes ≡ front ++ rest) × Spells value front
 
 abbrev BeginAt : List ℕ → ℕ → Type 0
-BeginAt bytes n = (n ≤ length bytes) × Spells (value_of (take n bytes)) (take n bytes)
+BeginAt bytes n = (n ≤ length bytes) × Spells (spelled_value (take n bytes)) (take n bytes)
 
 begin_from : (bytes : List ℕ) → (n : ℕ) × (n < 11) × BeginAt bytes n → Begin bytes
-begin_from bytes (n, few, (within, spells)) = (value_of (take n bytes), take n bytes, drop n bytes, sym (take-append-drop n bytes), spells)
+begin_from bytes (n, few, (within, spells)) = (spelled_value (take n bytes), take n bytes, drop n bytes, sym (take-append-drop n bytes), spells)
 
 from_begin : (bytes : List ℕ) → Begin bytes → (n : ℕ) × (n < 11) × BeginAt bytes n
 from_begin bytes (value, front, rest, same, spells) =
     let is : front ≡ take (length front) bytes = sym (ap (take (length front)) same ∙ take_at front rest (length front) refl) in
-    let least : Spells (value_of front) front = subst (λ (v : ℕ). Spells v front) (sym spells.value_is) spells in (
+    let least : Spells (spelled_value front) front = subst (λ (v : ℕ). Spells v front) (sym spells.value_is) spells in (
       length front,
       omega (arith, spells.at_most_ten),
-      (omega (arith, ap length same, length-append front rest), subst (λ (xs : List ℕ). Spells (value_of xs) xs) is least),
+      (omega (arith, ap length same, length-append front rest), subst (λ (xs : List ℕ). Spells (spelled_value xs) xs) is least),
     )
 
 begin_decided : (bytes : List ℕ) → IsDecided (Begin bytes)
 begin_decided bytes =
     same_decided ((n : ℕ) × (n < 11) × BeginAt bytes n) (Begin bytes) (begin_from bytes) (from_begin bytes)
     (some_below_decided (BeginAt bytes)
-    (λ n. both (n ≤ length bytes) (Spells (value_of (take n bytes)) (take n bytes)) (at_most_decided n (length bytes)) (spelling_decided (take n bytes)))
+    (λ n. both (n ≤ length bytes) (Spells (spelled_value (take n bytes)) (take n bytes)) (at_most_decided n (length bytes)) (spelling_decided (take n bytes)))
     11)
 
 -- bytes that are spellings one after another

@@ -4,12 +4,6 @@ use Rattle.std.specs.Prelude.{◌↔◌, IsOk}
 use Rattle.simple_chunk.specs.declared.decoding.SimpleFault.{SimpleFault}
 use Rattle.simple_chunk.specs.declared.decoding.SimpleFault.TheVariants.{Compressed, Contents, Memory}
 
--- where records stand, and neither of the other faults is answered then, it is want of memory
-pub only_memory : (H : Type 0) (fault : SimpleFault) → (fault ≡ Compressed → ¬ H) → (fault ≡ Contents → ¬ H) → H → fault ≡ Memory
-only_memory H Compressed compressed contents h = absurd (compressed refl h)
-only_memory H Contents compressed contents h = absurd (contents refl h)
-only_memory H Memory compressed contents h = refl
-
 -- the answer where records stand exactly where H, and the data is compressed exactly where C
 pub record Verdict (H C : Type 0) (answer : Result (Unit {0}) SimpleFault) : Type 0 where
   pub holds : IsOk answer ↔ H

@@ -1,5 +1,5 @@
 -- The parts of data, and the records that stand in it.
-use Rattle.std.proofs.Common.{◌≡◌, ◌≢◌, ℕ, suc, ◌+◌, ◌-◌, ◌≤◌, List, [], ◌∷◌, ◌++◌, length, take, drop, get_or, refl, sym, ap, ◌∙◌, arith, subst}
+use Rattle.std.proofs.Common.{◌≡◌, ◌≢◌, ℕ, suc, ◌+◌, ◌-◌, ◌≤◌, List, [], ◌∷◌, ◌++◌, length, take, drop, refl, sym, ap, ◌∙◌, arith, subst}
 use Rattle.std.specs.Prelude.{map, sum}
 use Rattle.std.specs.List.{concat}
 use Rattle.std.proofs.lemmas.List.{length-append, length-map, append_assoc, append_cancel_left, take_at, drop_at, length-take-le, length-drop, take-append-drop}
@@ -82,14 +82,6 @@ Holding-HasRecords k sizes values p (records, is) =
 -- data without such parts has no records
 pub none-unparted : (k : ChunkValue) → ((sizes values : List ℕ) → ¬ AreParts k.«data» sizes values) → ¬ HasRecords k
 none-unparted k unparted = λ (records, is). unparted is.sizes (concat records) (simple_parts k records is)
-
--- nor has compressed data
-pub none-compressed : (k : ChunkValue) → get_or k.«data» 0 0 ≢ 0 → ¬ HasRecords k
-none-compressed k high = λ (records, is). high (ap (λ (xs : List ℕ). get_or xs 0 0) is.«data»)
-
--- data of such parts begins with 0
-pub first-parts : (bytes sizes values : List ℕ) → AreParts bytes sizes values → get_or bytes 0 0 ≡ 0
-first-parts bytes sizes values p = ap (λ (xs : List ℕ). get_or xs 0 0) p.joined
 
 -- the values stand behind all else
 pub values-behind : (bytes sizes values : List ℕ) → AreParts bytes sizes values → drop (length bytes - length values) bytes ≡ values

@@ -14,15 +14,15 @@ sizes_between-push begin [] whole more h = ap (λ (n : ℕ). (more - n) ∷ []) 
 sizes_between-push begin (end ∷ ends) whole more h = ap (λ (xs : List ℕ). (end - begin) ∷ xs) (sizes_between-push end ends whole more h.1)
 
 -- what holds where so many of the sizes are read: their ends, and that the rest are the other sizes
-pub record Reading (count whole : ℕ) (sizes rest ends : List ℕ) (number end : ℕ) : Type 0 where
+pub record SizesRead (count whole : ℕ) (sizes rest ends : List ℕ) (number end : ℕ) : Type 0 where
   pub ends_are : AreEnds 0 ends end
   pub many : length ends ≡ number
   pub within : end ≤ whole
   pub reads : (more : List ℕ) → SpellsEach more rest → SpellsEach (sizes_between 0 ends ++ more) sizes
   pub leaves : AreSizes count whole sizes → AreSizes (count - number) (whole - end) rest
 
-pub Reading-none : (count whole : ℕ) (sizes : List ℕ) → Reading count whole sizes sizes [] 0 0
-Reading-none count whole sizes = record {
+pub SizesRead-none : (count whole : ℕ) (sizes : List ℕ) → SizesRead count whole sizes sizes [] 0 0
+SizesRead-none count whole sizes = record {
   ends_are = refl;
   many = refl;
   within = omega arith;
@@ -34,10 +34,10 @@ Reading-none count whole sizes = record {
 }
 
 -- one more size is read
-pub Reading-more : (count whole : ℕ) (sizes rest behind ends : List ℕ) (number end size : ℕ)
-    → Reading count whole sizes rest ends number end → IsSplit size behind rest → size ≤ whole - end
-    → Reading count whole sizes behind (ends ++ (end + size) ∷ []) (number + 1) (end + size)
-Reading-more count whole sizes rest behind ends number end size r split fits =
+pub SizesRead-more : (count whole : ℕ) (sizes rest behind ends : List ℕ) (number end size : ℕ)
+    → SizesRead count whole sizes rest ends number end → IsSplit size behind rest → size ≤ whole - end
+    → SizesRead count whole sizes behind (ends ++ (end + size) ∷ []) (number + 1) (end + size)
+SizesRead-more count whole sizes rest behind ends number end size r split fits =
     let last : end + size - end ≡ size = omega arith in
     let lengths : sizes_between 0 (ends ++ (end + size) ∷ []) ≡ sizes_between 0 ends ++ size ∷ [] =
     sizes_between-push 0 ends end (end + size) r.ends_are ∙ ap (λ (n : ℕ). sizes_between 0 ends ++ n ∷ []) last in
@@ -57,28 +57,28 @@ Reading-more count whole sizes rest behind ends number end size r split fits =
     }
 
 -- where a size is to come and none begins the rest, the bytes are not those sizes
-pub Reading-unsplit : (count whole : ℕ) (sizes rest ends : List ℕ) (number end : ℕ) → Reading count whole sizes rest ends number end
+pub SizesRead-unsplit : (count whole : ℕ) (sizes rest ends : List ℕ) (number end : ℕ) → SizesRead count whole sizes rest ends number end
     → number < count → ((value : ℕ) (behind : List ℕ) → IsSplit value behind rest → ⊥) → AreSizes count whole sizes → ⊥
-Reading-unsplit count whole sizes rest ends number end r more none h =
+SizesRead-unsplit count whole sizes rest ends number end r more none h =
     let zero = (AreSizes-unspelled (count - number) (whole - end) rest (r.leaves h)
     (λ value front behind s e. none value behind (record { front = front; spells = s; joined = e }))).0 in
     omega arith
 
 -- nor where it makes more than all of them
-pub Reading-above : (count whole : ℕ) (sizes rest behind ends : List ℕ) (number end size : ℕ) → Reading count whole sizes rest ends number end
+pub SizesRead-above : (count whole : ℕ) (sizes rest behind ends : List ℕ) (number end size : ℕ) → SizesRead count whole sizes rest ends number end
     → IsSplit size behind rest → whole - end < size → AreSizes count whole sizes → ⊥
-Reading-above count whole sizes rest behind ends number end size r split above h =
+SizesRead-above count whole sizes rest behind ends number end size r split above h =
     let first = FirstSize-split size (count - number) (whole - end) behind rest split (r.leaves h) in
     omega (arith, first.fits)
 
 -- where all are read, no byte is left and they make all
-pub Reading-all : (count whole : ℕ) (sizes rest ends : List ℕ) (number end : ℕ) → Reading count whole sizes rest ends number end
+pub SizesRead-all : (count whole : ℕ) (sizes rest ends : List ℕ) (number end : ℕ) → SizesRead count whole sizes rest ends number end
     → number ≡ count → AreSizes count whole sizes → (rest ≡ []) × (end ≡ whole)
-Reading-all count whole sizes rest ends number end r all h =
+SizesRead-all count whole sizes rest ends number end r all h =
     let none = AreSizes-none (count - number) (whole - end) rest (omega arith) (r.leaves h) in
     (none.0, omega (arith, none.1, r.within))
 
-pub Reading-spelled : (count whole : ℕ) (sizes rest ends : List ℕ) (number end : ℕ) → Reading count whole sizes rest ends number end
+pub SizesRead-spelled : (count whole : ℕ) (sizes rest ends : List ℕ) (number end : ℕ) → SizesRead count whole sizes rest ends number end
     → rest ≡ [] → SpellsEach (sizes_between 0 ends) sizes
-Reading-spelled count whole sizes rest ends number end r none =
+SizesRead-spelled count whole sizes rest ends number end r none =
     subst (λ (xs : List ℕ). SpellsEach xs sizes) (append-nil (sizes_between 0 ends)) (r.reads [] none)

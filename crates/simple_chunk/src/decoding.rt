@@ -1,4 +1,4 @@
-ghost use Rattle.std.specs.Prelude.{◌≡◌, ◌≢◌, ◌↔◌, ℕ, ◌<◌, ◌≤◌, List, length, drop, slice_index, IfOk, IsNone, IfSome, IsOkUnless};
+ghost use Rattle.std.specs.Prelude.{◌≡◌, ◌≢◌, ◌↔◌, ℕ, ◌<◌, ◌≤◌, List, length, drop, slice_index, IfOk, IsNone, IfSome, IsTrue, IsOkUnless};
 ghost use Rattle.varint_wire.specs.Varint.{SpellsEach};
 ghost use Rattle.chunk_header.specs.SimpleChunks.{simple_kind, IsSimple, HasRecords, IsCompressed};
 ghost use Rattle.chunk_header.specs.Views.{value_of, value_of_chunk};
@@ -88,72 +88,79 @@ fn find_records(
         → (¬ IsCompressed (value_of header.now bytes.now)) × (¬ HasRecords (value_of header.now bytes.now)) }
     ensures accepted { HasRecords (value_of header.now bytes.now) → IsOkUnless result SimpleFault.Memory }
 {
-    let (sizes, values) = split_data(bytes)?;
+    if is_compressed(bytes) {
+        return Err(SimpleFault::Compressed);
+    }
+    let Some((sizes, values)) = split_data(bytes) else {
+        return Err(SimpleFault::Contents);
+    };
     if values.len() as u64 != header.decoded_size {
         return Err(SimpleFault::Contents);
     }
-    let ends = read_ends(alloc, header.num_records, sizes, values.len())?;
+    let Some(ends) = read_ends(alloc, header.num_records, sizes, values.len())? else {
+        return Err(SimpleFault::Contents);
+    };
     Ok((bytes.len() - values.len(), ends))
 }
 
-/// The sizes and the values of data that isn't compressed.
-fn split_data(bytes: &[u8]) -> Result<(&[u8], &[u8]), SimpleFault>
-    ensures parts { IfOk result (λ parts. AreParts bytes.now parts.0.now parts.1.now) }
-    ensures compressed { (result ≡ Err SimpleFault.Compressed) ↔ ((0 < length bytes.now) × (slice_index bytes.now 0 ≢ 0)) }
-    ensures contents { result ≡ Err SimpleFault.Contents → (sizes values : List ℕ) → ¬ AreParts bytes.now sizes values }
-    ensures no_memory { result ≢ Err SimpleFault.Memory }
+/// Whether data is compressed: it has a first byte, which isn't 0.
+fn is_compressed(bytes: &[u8]) -> bool
+    ensures { IsTrue result ↔ ((0 < length bytes.now) × (slice_index bytes.now 0 ≢ 0)) }
 {
-    let Some((compression, rest)) = bytes.split_first() else {
-        return Err(SimpleFault::Contents);
-    };
-    if *compression != 0 {
-        return Err(SimpleFault::Compressed);
-    }
-    let Some((sizes_len, rest)) = split_varint(rest) else {
-        return Err(SimpleFault::Contents);
-    };
-    if sizes_len > rest.len() as u64 {
-        return Err(SimpleFault::Contents);
-    }
-    Ok(rest.split_at(sizes_len as usize))
+    matches!(bytes.first(), Some(compression) if *compression != 0)
 }
 
-/// The places where so many records end whose sizes these are and which have so many bytes together. Memory is taken
-/// for as many places as there are bytes of sizes at most.
+/// The sizes and the values of data that isn't compressed; `None` exactly where the data has no such parts.
+fn split_data(bytes: &[u8]) -> Option<(&[u8], &[u8])>
+    ensures parts { IfSome result (λ parts. AreParts bytes.now parts.0.now parts.1.now) }
+    ensures none { IsNone result → (sizes values : List ℕ) → ¬ AreParts bytes.now sizes values }
+{
+    let (compression, rest) = bytes.split_first()?;
+    if *compression != 0 {
+        return None;
+    }
+    let (sizes_len, rest) = split_varint(rest)?;
+    if sizes_len > rest.len() as u64 {
+        return None;
+    }
+    Some(rest.split_at(sizes_len as usize))
+}
+
+/// The places where so many records end whose sizes these are and which have so many bytes together; `None` exactly where
+/// the bytes are not such sizes. Memory is taken for as many places as there are bytes of sizes at most.
 #[inline(never)]
 fn read_ends(
     alloc: Global,
     count: u64,
     sizes: &[u8],
     whole: usize,
-) -> Result<Vec<usize>, SimpleFault>
-    ensures ends { IfOk result (λ ends. AreEnds 0 ends.items whole) }
-    ensures counted { IfOk result (λ ends. length ends.items ≡ count) }
-    ensures spelled { IfOk result (λ ends. SpellsEach (sizes_between 0 ends.items) sizes.now) }
-    ensures contents { result ≡ Err SimpleFault.Contents → ¬ AreSizes count whole sizes.now }
-    ensures uncompressed { result ≢ Err SimpleFault.Compressed }
+) -> Result<Option<Vec<usize>>, AllocError>
+    ensures ends { IfOk result (λ found. IfSome found (λ ends. AreEnds 0 ends.items whole)) }
+    ensures counted { IfOk result (λ found. IfSome found (λ ends. length ends.items ≡ count)) }
+    ensures spelled { IfOk result (λ found. IfSome found (λ ends. SpellsEach (sizes_between 0 ends.items) sizes.now)) }
+    ensures none { IfOk result (λ found. IsNone found → ¬ AreSizes count whole sizes.now) }
 {
     if count > sizes.len() as u64 {
-        return Err(SimpleFault::Contents);
+        return Ok(None);
     }
     let mut ends = Vec::with_capacity(alloc, count as usize)?;
     let mut rest = sizes;
     let mut end = 0;
     for number in 0..count {
         let Some((size, behind)) = split_varint(rest) else {
-            return Err(SimpleFault::Contents);
+            return Ok(None);
         };
         if size > (whole - end) as u64 {
-            return Err(SimpleFault::Contents);
+            return Ok(None);
         }
         end += size as usize;
         ends.push(end).unwrap();
         rest = behind;
     }
     if !rest.is_empty() || end != whole {
-        return Err(SimpleFault::Contents);
+        return Ok(None);
     }
-    Ok(ends)
+    Ok(Some(ends))
 }
 
 /// The value of the varint that the bytes begin with, and the bytes behind it; `None` exactly where no varint begins

@@ -2,9 +2,9 @@
 use Rattle.std.proofs.Common.{◌≡◌, ℕ, ◌-◌, ◌*◌, ◌%◌, ◌^◌, ◌<◌, ◌≤◌, List, [], ◌∷◌, ◌++◌, length, take, get_or, arith, ap, ◌∙◌, inl, inr, ⊎_elim}
 use Rattle.std.proofs.lemmas.Bool.{cases_lt}
 use Rattle.std.proofs.lemmas.List.{length-append, length-take-le, get_or_append_left, get_or-take, take_more, take_at, take-append-le}
-use Rattle.varint_wire.specs.Varint.{value_of, Spells}
+use Rattle.varint_wire.specs.Varint.{spelled_value, Spells}
 use Rattle.varint_wire.specs.Reading.{AllContinue, IsCut, IsTooLarge, IsLong}
-use Rattle.varint_wire.proofs.Spellings.{value_of-push}
+use Rattle.varint_wire.proofs.Spellings.{spelled_value-push}
 
 -- the last byte of a spelling stands in the bytes that begin with it, and is below 128
 last_of_front : (v : ℕ) (bytes front rest : List ℕ) → Spells v front → bytes ≡ front ++ rest → get_or bytes (length front - 1) 0 < 128
@@ -39,7 +39,7 @@ long_has_no_spelling v bytes front rest h s e =
     (λ (long : 9 ≤ length front - 1).
     let ten : length front ≡ 10 = omega (arith, s.at_most_ten) in
     let front_is : take 10 bytes ≡ front = ap (take 10) e ∙ take_at front rest 10 ten in
-    let value = ap value_of front_is ∙ s.value_is in
+    let value = ap spelled_value front_is ∙ s.value_is in
     omega (arith, k.2, s.fits))
     (cases_lt (length front - 1) 9))
     h.1
@@ -53,7 +53,7 @@ IsLong-from_tenth bytes many high room =
       ⊎_elim
           (λ (low : get_or bytes 9 0 < 128).
           let front : take 10 bytes ≡ take 9 bytes ++ get_or bytes 9 0 ∷ [] = take_more bytes 9 0 many in
-          let value = ap value_of front ∙ value_of-push (take 9 bytes) (get_or bytes 9 0) in
+          let value = ap spelled_value front ∙ spelled_value-push (take 9 bytes) (get_or bytes 9 0) in
           let power : 128 ^ length (take 9 bytes) ≡ 2 ^ 63 = ap (λ n. 128 ^ n) nine in
           let product : get_or bytes 9 0 % 128 * 128 ^ length (take 9 bytes) ≡ get_or bytes 9 0 * 2 ^ 63 = rw power (omega arith) in
           inr ((λ i h. let same = get_or-take 9 bytes i 0 (omega arith) in omega (arith, high i (omega arith))), low, omega arith))

@@ -4,11 +4,11 @@ use Rattle.std.specs.Prelude.{◌↔◌}
 use Rattle.std.proofs.lemmas.Bool.{cases_lt}
 use Rattle.std.proofs.lemmas.List.{length_push, get_or_push, get_or_append_left, get_or_past, take_all}
 use Rattle.std.proofs.Math.Nat.{pow-succ'}
-use Rattle.varint_wire.specs.Varint.{value_of, Spells}
+use Rattle.varint_wire.specs.Varint.{spelled_value, Spells}
 use Rattle.varint_wire.specs.Reading.{IsCut, IsLong}
 use Rattle.varint_wire.specs.Held.{held_bytes}
 use Rattle.varint_wire.proofs.Faults.{IsLong-at}
-use Rattle.varint_wire.proofs.Spellings.{value_of-push}
+use Rattle.varint_wire.proofs.Spellings.{spelled_value-push}
 use Rattle.varint_wire.proofs.Steps.{Spells-at}
 
 -- they are as many as there are groups
@@ -37,12 +37,12 @@ held_bytes-none zero groups held is = (λ _. sym is, λ _. refl)
 held_bytes-none (suc n) groups held is = (λ none. absurd (omega (arith, none)), λ none. absurd (omega (arith, ap length (is ∙ none))))
 
 -- their value is that of the groups
-pub value_of-held_bytes : (n groups : ℕ) → groups < 128 ^ n → value_of (held_bytes n groups) ≡ groups
+pub spelled_value-held_bytes : (n groups : ℕ) → groups < 128 ^ n → spelled_value (held_bytes n groups) ≡ groups
 unfolding held_bytes
-value_of-held_bytes zero groups h = omega arith
-value_of-held_bytes (suc n) groups h =
+spelled_value-held_bytes zero groups h = omega arith
+spelled_value-held_bytes (suc n) groups h =
     let power = pow-succ' 128 n in
-    let rest = value_of-held_bytes n (groups / 128) (omega arith) in
+    let rest = spelled_value-held_bytes n (groups / 128) (omega arith) in
     omega arith
 
 -- one more group is one more byte at the end
@@ -64,7 +64,7 @@ pub record Pushed (old : List ℕ) (count value b : ℕ) : Type 0 where
   pub small : (i : ℕ) → get_or (old ++ b ∷ []) i 0 < 256
   pub last : get_or (old ++ b ∷ []) count 0 ≡ b
   pub whole : take (count + 1) (old ++ b ∷ []) ≡ old ++ b ∷ []
-  pub value_is : value_of (old ++ b ∷ []) ≡ value + b % 128 * 128 ^ count
+  pub value_is : spelled_value (old ++ b ∷ []) ≡ value + b % 128 * 128 ^ count
 
 -- they are so for the bytes that the groups make
 pushed_groups : (count value b : ℕ) → value < 128 ^ count → b < 256 → Pushed (held_bytes count value) count value b
@@ -83,7 +83,7 @@ pushed_groups count value b below small =
           (cases_lt i count);
       last = last;
       whole = take_all (count + 1) (held_bytes count value ++ b ∷ []) (omega arith);
-      value_is = value_of-push (held_bytes count value) b ∙ ap (λ v. v + b % 128 * 128 ^ length (held_bytes count value)) (value_of-held_bytes count value below) ∙ ap (λ n. value + b % 128 * 128 ^ n) held;
+      value_is = spelled_value-push (held_bytes count value) b ∙ ap (λ v. v + b % 128 * 128 ^ length (held_bytes count value)) (spelled_value-held_bytes count value below) ∙ ap (λ n. value + b % 128 * 128 ^ n) held;
     }
 
 -- they are so for each feed

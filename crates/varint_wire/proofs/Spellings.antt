@@ -4,17 +4,17 @@ use Rattle.std.proofs.Math.Nat.{pow-succ'}
 use Rattle.std.proofs.lemmas.Bool.{cases_lt}
 use Rattle.std.proofs.lemmas.Bool.Decides.{nat_tests}
 use Rattle.std.proofs.lemmas.List.{get_or_append_left, take_at, get_or_past}
-use Rattle.varint_wire.specs.Varint.{value_of, Spells, IsShortest, shortest_within, shortest}
+use Rattle.varint_wire.specs.Varint.{spelled_value, Spells, IsShortest, shortest_within, shortest}
 
 -- the value of n bytes is below 128 ^ n
-pub value_of-lt : (bytes : List ℕ) → value_of bytes < 128 ^ length bytes
-value_of-lt [] = omega arith
-value_of-lt (b ∷ bs) = rw pow-succ' (omega (arith, value_of-lt bs))
+pub spelled_value-lt : (bytes : List ℕ) → spelled_value bytes < 128 ^ length bytes
+spelled_value-lt [] = omega arith
+spelled_value-lt (b ∷ bs) = rw pow-succ' (omega (arith, spelled_value-lt bs))
 
 -- one more byte at the end adds its seven bits above the others
-pub value_of-push : (bytes : List ℕ) (b : ℕ) → value_of (bytes ++ b ∷ []) ≡ value_of bytes + b % 128 * 128 ^ length bytes
-value_of-push [] b = omega arith
-value_of-push (x ∷ xs) b = rw (pow-succ', value_of-push xs b) (grind arith)
+pub spelled_value-push : (bytes : List ℕ) (b : ℕ) → spelled_value (bytes ++ b ∷ []) ≡ spelled_value bytes + b % 128 * 128 ^ length bytes
+spelled_value-push [] b = omega arith
+spelled_value-push (x ∷ xs) b = rw (pow-succ', spelled_value-push xs b) (grind arith)
 
 -- one group less leaves one power of 128 less
 pub div-lt-pow : (v m : ℕ) → v < 128 ^ suc m → v / 128 < 128 ^ m
@@ -40,7 +40,7 @@ spelling_is_one v w a b x y s t e =
     let short = spelling_le w v b a y x t s (sym e) in
     let same : length a ≡ length b = omega arith in
     let whole : a ≡ b = sym (take_at a x (length a) refl) ∙ ap (take (length a)) e ∙ take_at b y (length a) (sym same) in
-    (whole, sym s.value_is ∙ ap value_of whole ∙ t.value_is)
+    (whole, sym s.value_is ∙ ap spelled_value whole ∙ t.value_is)
 
 -- each byte of a spelling is below 256
 pub Spells-lt : (v : ℕ) (bytes : List ℕ) → Spells v bytes → (i : ℕ) → get_or bytes i 0 < 256
@@ -109,11 +109,11 @@ length-shortest_within-le (suc n) v (suc (suc m)) h p =
     (λ _. let rest = length-shortest_within-le n (v / 128) (suc m) (div-lt-pow v (suc m) h) (omega arith) in omega arith)
 
 -- its value is the value that it spells
-value_of-shortest_within : (n v : ℕ) → v < 128 ^ suc n → value_of (shortest_within n v) ≡ v
-value_of-shortest_within zero v h = let small : v < 128 = omega arith in omega arith
-value_of-shortest_within (suc n) v h =
-    shortest_within-cases (λ bytes. value_of bytes ≡ v) n v (λ k. omega arith)
-    (λ k. let rest = value_of-shortest_within n (v / 128) (div-lt-pow v (suc n) h) in omega arith)
+spelled_value-shortest_within : (n v : ℕ) → v < 128 ^ suc n → spelled_value (shortest_within n v) ≡ v
+spelled_value-shortest_within zero v h = let small : v < 128 = omega arith in omega arith
+spelled_value-shortest_within (suc n) v h =
+    shortest_within-cases (λ bytes. spelled_value bytes ≡ v) n v (λ k. omega arith)
+    (λ k. let rest = spelled_value-shortest_within n (v / 128) (div-lt-pow v (suc n) h) in omega arith)
 
 -- its last byte is below 128
 shortest_within-ended : (n v : ℕ) → v < 128 ^ suc n → get_or (shortest_within n v) (length (shortest_within n v) - 1) 0 < 128
@@ -142,7 +142,7 @@ Spells-shortest v h =
       at_most_ten = length-shortest_within-at_most 9 v;
       continued = shortest_within-continued 9 v;
       ended = shortest_within-ended 9 v room;
-      value_is = value_of-shortest_within 9 v room;
+      value_is = spelled_value-shortest_within 9 v room;
       fits = h;
     }
 
@@ -160,7 +160,7 @@ length-shortest v = (length-shortest_within-pos 9 v, length-shortest_within-at_m
 pub IsShortest-shortest : (v : ℕ) → v < 2 ^ 64 → IsShortest v (shortest v)
 IsShortest-shortest v h = record {
   spells = Spells-shortest v h;
-  least = λ others s. length-shortest-le v (length others) (let bound = value_of-lt others in let e = s.value_is in omega arith) s.some;
+  least = λ others s. length-shortest-le v (length others) (let bound = spelled_value-lt others in let e = s.value_is in omega arith) s.some;
 }
 
 -- each byte of the shortest spelling is below 256

@@ -3,23 +3,23 @@ use Rattle.std.proofs.Common.{◌≡◌, ℕ, ◌+◌, ◌-◌, ◌*◌, ◌%◌
 use Rattle.std.specs.Prelude.{IsTrue, ◌↔◌}
 use Rattle.std.proofs.lemmas.Bool.{cases_lt}
 use Rattle.std.proofs.lemmas.List.{length-take-le, get_or-take, take_more, take-append-drop}
-use Rattle.varint_wire.specs.Varint.{value_of, Spells}
-use Rattle.varint_wire.proofs.Spellings.{value_of-lt, value_of-push, spelling_is_one}
+use Rattle.varint_wire.specs.Varint.{spelled_value, Spells}
+use Rattle.varint_wire.proofs.Spellings.{spelled_value-lt, spelled_value-push, spelling_is_one}
 
 -- the value before a place has the groups before it
-pub value_below : (bytes : List ℕ) (at : ℕ) → at ≤ length bytes → value_of (take at bytes) < 128 ^ at
+pub value_below : (bytes : List ℕ) (at : ℕ) → at ≤ length bytes → spelled_value (take at bytes) < 128 ^ at
 value_below bytes at h =
-    let bound = value_of-lt (take at bytes) in
+    let bound = spelled_value-lt (take at bytes) in
     let power : 128 ^ length (take at bytes) ≡ 128 ^ at = ap (λ n. 128 ^ n) (length-take-le at bytes h) in
     omega arith
 
 -- the byte at the place adds its group
-pub value_more : (bytes : List ℕ) (at : ℕ) → at < length bytes → value_of (take (at + 1) bytes) ≡ value_of (take at bytes) + get_or bytes at 0 % 128 * 128 ^ at
+pub value_more : (bytes : List ℕ) (at : ℕ) → at < length bytes → spelled_value (take (at + 1) bytes) ≡ spelled_value (take at bytes) + get_or bytes at 0 % 128 * 128 ^ at
 value_more bytes at h =
-    ap value_of (take_more bytes at 0 h) ∙ value_of-push (take at bytes) (get_or bytes at 0) ∙ ap (λ n. value_of (take at bytes) + get_or bytes at 0 % 128 * 128 ^ n) (length-take-le at bytes (omega arith))
+    ap spelled_value (take_more bytes at 0 h) ∙ spelled_value-push (take at bytes) (get_or bytes at 0) ∙ ap (λ n. spelled_value (take at bytes) + get_or bytes at 0 % 128 * 128 ^ n) (length-take-le at bytes (omega arith))
 
 -- the first byte below 128 ends a spelling, where the value fits
-pub Spells-at : (v : ℕ) (bytes : List ℕ) (at : ℕ) → at < length bytes → at ≤ 9 → ((i : ℕ) → i < at → 128 ≤ get_or bytes i 0) → ((i : ℕ) → get_or bytes i 0 < 256) → get_or bytes at 0 < 128 → value_of (take (at + 1) bytes) ≡ v → v < 2 ^ 64 → Spells v (take (at + 1) bytes)
+pub Spells-at : (v : ℕ) (bytes : List ℕ) (at : ℕ) → at < length bytes → at ≤ 9 → ((i : ℕ) → i < at → 128 ≤ get_or bytes i 0) → ((i : ℕ) → get_or bytes i 0 < 256) → get_or bytes at 0 < 128 → spelled_value (take (at + 1) bytes) ≡ v → v < 2 ^ 64 → Spells v (take (at + 1) bytes)
 Spells-at v bytes at inside few high small low value fits =
     let many : length (take (at + 1) bytes) ≡ at + 1 = length-take-le (at + 1) bytes (omega arith) in
     record {

@@ -1,6 +1,6 @@
 -- Values counted by hand, computed from the definitions.
 use Rattle.std.proofs.Common.{◌≡◌, ℕ, zero, suc, ◌+◌, ◌<◌, ◌≤◌, [], ◌∷◌, ◌++◌, replicate, slice_index, lit<, lit≤, refl, arith}
-use Rattle.varint_wire.specs.Varint.{value_of, Spells, SpellsEach, shortest}
+use Rattle.varint_wire.specs.Varint.{spelled_value, Spells, SpellsEach, shortest}
 use Rattle.varint_wire.proofs.Spellings.{Spells-small}
 
 -- a single byte, at both of its ends
@@ -57,18 +57,18 @@ unfolding shortest
 shortest_of_greatest = refl
 
 -- a spelling that is not the shortest, and the two of ten bytes at the ends
-value_of_longer : value_of (0x81 ∷ 0x00 ∷ []) ≡ 1
-value_of_longer = refl
+spelled_value_longer : spelled_value (0x81 ∷ 0x00 ∷ []) ≡ 1
+spelled_value_longer = refl
 
-value_of_ten_zeros : value_of (replicate 9 0x80 ++ 0x00 ∷ []) ≡ 0
-value_of_ten_zeros = refl
+spelled_value_ten_zeros : spelled_value (replicate 9 0x80 ++ 0x00 ∷ []) ≡ 0
+spelled_value_ten_zeros = refl
 
-value_of_greatest : value_of (replicate 9 0xff ++ 0x01 ∷ []) ≡ 18446744073709551615
-value_of_greatest = refl
+spelled_value_greatest : spelled_value (replicate 9 0xff ++ 0x01 ∷ []) ≡ 18446744073709551615
+spelled_value_greatest = refl
 
 -- the tenth byte may add 2 ^ 63 once: twice, the value is too great
-value_of_too_great : value_of (replicate 9 0xff ++ 0x02 ∷ []) ≡ 27670116110564327423
-value_of_too_great = refl
+spelled_value_too_great : spelled_value (replicate 9 0xff ++ 0x02 ∷ []) ≡ 27670116110564327423
+spelled_value_too_great = refl
 
 -- 81 00 is a spelling of 1: its first byte alone is at least 128
 first_continues : (i : ℕ) → i + 1 < 2 → (128 ≤ slice_index (0x81 ∷ 0x00 ∷ []) i) × (slice_index (0x81 ∷ 0x00 ∷ []) i < 256)

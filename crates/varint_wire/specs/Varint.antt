@@ -3,9 +3,9 @@
 use Rattle.std.specs.Prelude.{◌≡◌, ℕ, zero, suc, ◌+◌, ◌-◌, ◌*◌, ◌/◌, ◌%◌, ◌^◌, ◌<◌, ◌≤◌, List, [], ◌∷◌, ◌++◌, length, slice_index, nat_lt, if◌then◌else◌}
 
 -- the number that the low seven bits of each byte make, those of the first byte lowest
-abbrev pub value_of : List ℕ → ℕ
-value_of [] = 0
-value_of (b ∷ bs) = b % 128 + 128 * value_of bs
+abbrev pub spelled_value : List ℕ → ℕ
+spelled_value [] = 0
+spelled_value (b ∷ bs) = b % 128 + 128 * spelled_value bs
 
 -- the bytes are a spelling of the value, which is below 2 ^ 64: from one to ten bytes, of which the last alone
 -- is below 128
@@ -14,7 +14,7 @@ pub record Spells (value : ℕ) (bytes : List ℕ) : Type 0 where
   pub at_most_ten : length bytes ≤ 10
   pub continued : (i : ℕ) → i + 1 < length bytes → (128 ≤ slice_index bytes i) × (slice_index bytes i < 256)
   pub ended : slice_index bytes (length bytes - 1) < 128
-  pub value_is : value_of bytes ≡ value
+  pub value_is : spelled_value bytes ≡ value
   pub fits : value < 2 ^ 64
 
 -- the bytes are the spelling of least length

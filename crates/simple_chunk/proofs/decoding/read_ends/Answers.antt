@@ -1,25 +1,25 @@
 use Rattle.std.proofs.Common.{◌≡◌, ◌+◌, [], ◌∷◌, ◌++◌, refl, arith, rules}
 use Rattle.std.proofs.lemmas.List.{nil_from_length}
 use Rattle.simple_chunk.proofs.SizeLemmas.{AreSizes-few}
-use Rattle.simple_chunk.proofs.ReadEnds.{Reading-more, Reading-unsplit, Reading-above, Reading-spelled}
+use Rattle.simple_chunk.proofs.ReadEnds.{SizesRead-more, SizesRead-unsplit, SizesRead-above, SizesRead-spelled}
 use Rattle.simple_chunk.proofs.decoding.read_ends.Goals as goal
 
-pub returns-then-count-sizes-clause-contents : goal.returns-then-count-sizes-clause-contents
-returns-then-count-sizes-clause-contents c = λ _ h. omega (arith, AreSizes-few _ _ _ h)
+pub returns-then-count-sizes-clause-none : goal.returns-then-count-sizes-clause-none
+returns-then-count-sizes-clause-none c = λ _ h. omega (arith, AreSizes-few _ _ _ h)
 
-pub returns-in_default-clause-contents : goal.returns-in_default-clause-contents
-returns-in_default-clause-contents c = λ _ h.
-    Reading-unsplit _ _ _ _ _ _ _ c.loop-number.invariant.reading c.loop-number-test.true (c.in_default.ensures.none refl) h
+pub returns-in_default-clause-none : goal.returns-in_default-clause-none
+returns-in_default-clause-none c = λ _ h.
+    SizesRead-unsplit _ _ _ _ _ _ _ c.loop-number.invariant.reading c.loop-number-test.true (c.in_default.ensures.none refl) h
 
-pub returns-then-size-whole-clause-contents : goal.returns-then-size-whole-clause-contents
-returns-then-size-whole-clause-contents c = λ _ h.
-    Reading-above _ _ _ _ _ _ _ _ _ c.loop-number.invariant.reading c.in-Some.ensures.found c.if-size-whole.true h
+pub returns-then-size-whole-clause-none : goal.returns-then-size-whole-clause-none
+returns-then-size-whole-clause-none c = λ _ h.
+    SizesRead-above _ _ _ _ _ _ _ _ _ c.loop-number.invariant.reading c.in-Some.ensures.found c.if-size-whole.true h
 
 pub loop-number-preserved : goal.loop-number-preserved
 loop-number-preserved c =
-    let more = Reading-more _ _ _ _ _ _ _ _ _ c.loop-number.invariant.reading c.in-Some.ensures.found c.if-size-whole.false in
+    let more = SizesRead-more _ _ _ _ _ _ _ _ _ c.loop-number.invariant.reading c.in-Some.ensures.found c.if-size-whole.false in
     let items : c.push.new.self.items ≡ c.loop-number.ends.items ++ (c.loop-number.end + c.in-Some.size) ∷ [] = search rules in
     record { reading = rw items more; room = search rules }
 
 pub returns-clause-spelled : goal.returns-clause-spelled
-returns-clause-spelled c = Reading-spelled _ _ _ _ _ _ _ c.loop-number.invariant.reading (nil_from_length _ (search rules))
+returns-clause-spelled c = SizesRead-spelled _ _ _ _ _ _ _ c.loop-number.invariant.reading (nil_from_length _ (search rules))
