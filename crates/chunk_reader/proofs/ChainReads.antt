@@ -16,7 +16,7 @@ use Rattle.meta_chunk.proofs.Totals.{is_unread-iff}
 use Rattle.chunk_reader.specs.Ends.{read_end_of}
 use Rattle.chunk_reader.specs.Contents.{IsWhat, IsJudged, IsJudgedIn}
 use Rattle.chunk_reader.specs.Faults.{IsAllowed, IsVerdict, IsFault, BeginsWithSignature}
-use Rattle.chunk_reader.specs.Progress.{counted, AreInBounds, AreReadFrom}
+use Rattle.chunk_reader.specs.Progress.{totals_with_chunk, AreInBounds, AreReadFrom}
 use Rattle.chunk_reader.specs.Places.{chunk_at}
 use Rattle.chunk_reader.specs.Reasons.{Applies, NoneOf, loading_reasons}
 use Rattle.chunk_reader.specs.declared.judging.Judged.{Judged}
@@ -173,10 +173,10 @@ end_signed zero end k signed after at = omega (arith, at, first_end k)
 end_signed (suc n) end k signed after at = omega (arith, signed (omega arith))
 
 -- totals stay in their bounds
-pub AreInBounds-counted : (keep : Bool) (size : ℕ) (totals : Totals) (j : Judged) (unread : Bool)
+pub AreInBounds-totals_with_chunk : (keep : Bool) (size : ℕ) (totals : Totals) (j : Judged) (unread : Bool)
     → AreInBounds size totals → IsJudged keep size totals.bytes j
-    → AreInBounds size (counted totals j.end j.chunk.header.num_records unread)
-AreInBounds-counted keep size totals j unread t h =
+    → AreInBounds size (totals_with_chunk totals j.end j.chunk.header.num_records unread)
+AreInBounds-totals_with_chunk keep size totals j unread t h =
     let after : totals.bytes < j.end = h.after in
     let records : ℕ = j.chunk.header.num_records in
     record {
@@ -191,11 +191,11 @@ AreInBounds-counted keep size totals j unread t h =
 -- and are those of the chunks with that one more
 totals_given : (ks : List ChunkValue) (k : ChunkValue) (totals : Totals) (end : ℕ) (unread : Bool)
     → totals ≡ totals_of ks → unread ≡ is_unread k → end ≡ end_of_chunk totals.bytes k
-    → counted totals end k.num_records unread ≡ totals_of (ks ++ k ∷ [])
+    → totals_with_chunk totals end k.num_records unread ≡ totals_of (ks ++ k ∷ [])
 totals_given ks k totals end unread same left at =
-    ap (λ (t : Totals). counted t end k.num_records unread) same
-    ∙ ap (λ (u : Bool). counted (totals_of ks) end k.num_records u) left
-    ∙ ap (λ (e : ℕ). counted (totals_of ks) e k.num_records (is_unread k)) (at ∙ ap (λ (t : Totals). end_of_chunk t.bytes k) same)
+    ap (λ (t : Totals). totals_with_chunk t end k.num_records unread) same
+    ∙ ap (λ (u : Bool). totals_with_chunk (totals_of ks) end k.num_records u) left
+    ∙ ap (λ (e : ℕ). totals_with_chunk (totals_of ks) e k.num_records (is_unread k)) (at ∙ ap (λ (t : Totals). end_of_chunk t.bytes k) same)
     ∙ sym (totals_of-push ks k)
 
 -- the chunks go on by it
@@ -246,7 +246,7 @@ GoesOn keep file before after j =
 pub goes_on_given : (keep : Bool) (size : ℕ) (bytes : Option (List ℕ)) (before : Totals) (j : Judged) (unread : Bool)
     → IfSome bytes BeginsWithSignature → IsJudged keep size before.bytes j
     → IfSome bytes (λ file. IsJudgedIn keep file before.bytes j) → unread ≡ is_left j.what
-    → IfSome bytes (λ file. GoesOn keep file before (counted before j.end j.chunk.header.num_records unread) j)
+    → IfSome bytes (λ file. GoesOn keep file before (totals_with_chunk before j.end j.chunk.header.num_records unread) j)
 goes_on_given keep size None before j unread begins judged there left = tt
 goes_on_given keep size (Some file) before j unread begins judged there left =
     let k : ChunkValue = value_of_chunk j.chunk in

@@ -32,7 +32,7 @@ place_is_one file place why.BlockHeader a b (wrong, least) (also, first) = omega
 place_is_one file place other a b is also = is ∙ sym also
 
 -- faults of the same place and reason are one
-same_fault : (a b : Fault) → a.at ≡ b.at → a.why ≡ b.why → a ≡ b
+pub same_fault : (a b : Fault) → a.at ≡ b.at → a.why ≡ b.why → a ≡ b
 same_fault a b at reason =
     ap (λ (x : ℕ). record { at = x; why = a.why }) at ∙ ap (λ (w : Why). record { at = b.at; why = w }) reason
 

@@ -14,13 +14,13 @@ use Rattle.meta_chunk.proofs.Begins.{begin_of-next, begin_of-past, begin_of-plac
 use Rattle.chunk_reader.specs.Blocks.{TellsBegin}
 use Rattle.chunk_reader.specs.Holders.{ArePlacesBetween, IsHolder}
 use Rattle.chunk_reader.specs.Places.{header_at, end_at}
-use Rattle.chunk_reader.specs.Reasons.{Applies, NoneOf, passing_reasons}
+use Rattle.chunk_reader.specs.Reasons.{Applies, NoneOf, unpassed_reasons}
 use Rattle.chunk_reader.proofs.Blocks.{stands_one}
 use Rattle.chunk_reader.proofs.LaidAt.{header_at-laid, end_at-laid, headers-laid}
 use Rattle.chunk_reader.proofs.NoReason.{not_short, not_header_hash, not_truncated}
 
 -- behind a place at which a chunk is passed the file goes on
-pub passed_below : (file : List ℕ) (place : ℕ) → NoneOf (Applies file place) passing_reasons → place < length file
+pub passed_below : (file : List ℕ) (place : ℕ) → NoneOf (Applies file place) unpassed_reasons → place < length file
 passed_below file place none =
     elim (cases_lt place (length file)) [
       | inl below ↦ below
@@ -45,7 +45,7 @@ module _ (ks : List ChunkValue) (file : List ℕ) (keep : IsFrame ks file) where
       ap (λ (v : HeaderValue). v.num_records) (header_at-laid (begin_of ks j) k file (begin_of ks (j + 1)) (laid_at j k at))
 
   -- each chunk is passed
-  pub passes : (j : ℕ) (k : ChunkValue) → slice_get ks j ≡ Some k → NoneOf (Applies file (begin_of ks j)) passing_reasons
+  pub passes : (j : ℕ) (k : ChunkValue) → slice_get ks j ≡ Some k → NoneOf (Applies file (begin_of ks j)) unpassed_reasons
   passes j k at =
       let begin : ℕ = begin_of ks j in
       let end : ℕ = begin_of ks (j + 1) in

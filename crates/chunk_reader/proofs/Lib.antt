@@ -20,6 +20,7 @@ pub mod ReadingSteps
 pub mod Verdicts
 pub mod ChainReads
 pub mod FirstChunks
+pub mod FrontsRead
 pub mod VerifySteps
 pub mod HeadersTell
 mod Values

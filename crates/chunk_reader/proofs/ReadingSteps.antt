@@ -18,7 +18,7 @@ use Rattle.chunk_reader.specs.Faults.{IsAllowed, IsVerdict, IsLongest, BeginsWit
 use Rattle.chunk_reader.specs.declared.reasons.Why.TheVariants as why
 use Rattle.chunk_reader.specs.declared.reasons.Fault.{Fault}
 use Rattle.chunk_reader.specs.Places.{end_at, chunk_at}
-use Rattle.chunk_reader.specs.Progress.{counted, AreInBounds}
+use Rattle.chunk_reader.specs.Progress.{totals_with_chunk, AreInBounds}
 use Rattle.chunk_reader.proofs.LaidAt.{end_at-laid}
 use Rattle.chunk_reader.proofs.NoReason.{no_reason}
 use Rattle.chunk_reader.proofs.NoReasonLaid.{allowed_where_none}
@@ -80,14 +80,14 @@ counts-le : (place : ℕ) (ks : List ChunkValue)
     × (place + sum_by (λ k. if is_unread k then 0 else k.num_records) ks ≤ end_of_chunks place ks)
 counts-le place [] = (omega arith, omega arith)
 counts-le place (k ∷ ks) =
-    let counted : ChunkValue → ℕ = λ (x : ChunkValue). if is_unread x then 0 else x.num_records in
+    let read_of : ChunkValue → ℕ = λ (x : ChunkValue). if is_unread x then 0 else x.num_records in
     let rest = counts-le (end_of_chunk place k) ks in
-    let records : counted k ≤ k.num_records = elim (cases_Bool (is_unread k)) [
+    let records : read_of k ≤ k.num_records = elim (cases_Bool (is_unread k)) [
       | inl unread ↦ omega (arith, cond-true (is_unread k) 0 k.num_records unread)
       | inr read ↦ omega (arith, cond-false (is_unread k) 0 k.num_records read)
     ] in (
       omega (arith, rest.0, end_of_chunk_after place k),
-      omega (arith, rest.1, sum_by-cons counted k ks, records, chunk_end_of_past_records place (40 + length k.«data») k.num_records),
+      omega (arith, rest.1, sum_by-cons read_of k ks, records, chunk_end_of_past_records place (40 + length k.«data») k.num_records),
     )
 
 pub totals-le : (ks : List ChunkValue)
@@ -109,7 +109,7 @@ pub next_read : (keep : Bool) (ks : List ChunkValue) (file : List ℕ) (place en
     → IsLaid place (chunk_at file place) (slice_range file place (end_at file place))
     → NoneOf (Applies file place) (strict_reasons keep) → unread ≡ is_unread k
     → IsChainOf (IsAllowed keep) (ks ++ k ∷ []) file end
-    × (counted (totals_of ks) end k.num_records unread ≡ totals_of (ks ++ k ∷ []))
+    × (totals_with_chunk (totals_of ks) end k.num_records unread ≡ totals_of (ks ++ k ∷ []))
 next_read keep ks file place end k unread begins h chunk_is end_is laid none tested =
     let longer : IsChainOf (IsAllowed keep) (ks ++ k ∷ []) file end =
     subst (λ (e : ℕ). IsChainOf (IsAllowed keep) (ks ++ k ∷ []) file e) (sym end_is)
@@ -121,8 +121,8 @@ next_read keep ks file place end k unread begins h chunk_is end_is laid none tes
     ∙ sym (end_at-laid place (chunk_at file place) file (end_at file place) laid)
     ∙ sym end_is in (
       longer,
-      ap (counted (totals_of ks) end k.num_records) tested
-          ∙ sym (totals_of-push ks k ∙ ap (λ (e : ℕ). counted (totals_of ks) e k.num_records (is_unread k)) ends),
+      ap (totals_with_chunk (totals_of ks) end k.num_records) tested
+          ∙ sym (totals_of-push ks k ∙ ap (λ (e : ℕ). totals_with_chunk (totals_of ks) e k.num_records (is_unread k)) ends),
     )
 
 -- a chunk ends at a boundary, 64 bytes behind the front or further
@@ -154,7 +154,7 @@ unread-le bytes end unread_ones false past few = omega arith
 
 pub AreInBounds-next : (size end : ℕ) (totals : Totals) (k : ChunkValue) (unread : Bool)
     → AreInBounds size totals → end ≡ end_of_chunk totals.bytes k → end ≤ size
-    → AreInBounds size (counted totals end k.num_records unread)
+    → AreInBounds size (totals_with_chunk totals end k.num_records unread)
 AreInBounds-next size end totals k unread h ends within =
     let past : totals.bytes + 40 ≤ end = omega (arith, ends, end_of_chunk_after totals.bytes k) in
     let records : totals.bytes + k.num_records ≤ end =
@@ -169,6 +169,6 @@ AreInBounds-next size end totals k unread h ends within =
     }
 
 -- so no sum of the count is too large
-pub counted-room : (totals : Totals) (end : ℕ) (k : ChunkValue) → end ≡ end_of_chunk totals.bytes k → totals.bytes + k.num_records ≤ end
-counted-room totals end k ends =
+pub totals_with_chunk-room : (totals : Totals) (end : ℕ) (k : ChunkValue) → end ≡ end_of_chunk totals.bytes k → totals.bytes + k.num_records ≤ end
+totals_with_chunk-room totals end k ends =
     omega (arith, ends, chunk_end_of_past_records totals.bytes (40 + length k.«data») k.num_records)

@@ -9,7 +9,7 @@ use Rattle.chunk_header.specs.Views.{IsHeader, HasRightHash, bytes_of_header, va
 use Rattle.chunk_reader.specs.Contents.{IsJudgedIn}
 use Rattle.chunk_reader.specs.Faults.{IsVerdict}
 use Rattle.chunk_reader.specs.Places.{header_bytes_at, end_by, end_at, data_at, HaveHeadersOf, IsFirstWrong}
-use Rattle.chunk_reader.specs.Reasons.{Applies, ContentApplies, NoneOf, IsFirstOf, IsOneOf, passing_reasons, loading_reasons, content_reasons}
+use Rattle.chunk_reader.specs.Reasons.{Applies, ContentApplies, NoneOf, IsFirstOf, IsOneOf, unpassed_reasons, loading_reasons, content_reasons}
 use Rattle.chunk_reader.specs.declared.judging.Judged.{Judged}
 use Rattle.chunk_reader.specs.declared.reasons.Fault.{Fault}
 use Rattle.chunk_reader.specs.declared.reasons.Why.{Why}
@@ -34,7 +34,7 @@ refused_early (Some file) keep at fault place first = verdict_loading keep file 
 
 -- no more is handed out than the chunk's header has
 pub handed_early : (bytes : Option (List ℕ)) (at before after : ℕ) → after ≤ before + 40
-    → IfSome bytes (λ file. NoneOf (Applies file at) passing_reasons → after + at ≤ before + end_at file at)
+    → IfSome bytes (λ file. NoneOf (Applies file at) unpassed_reasons → after + at ≤ before + end_at file at)
 handed_early None at before after h = tt
 handed_early (Some file) at before after h = λ _. omega (arith, end_at_after file at)
 
@@ -139,7 +139,7 @@ judged_in (Some file) keep size at end c j sized loaded within is_end is_chunk n
 
 -- no more was handed out than the chunk has bytes
 pub handed_whole : (bytes : Option (List ℕ)) (at end before after : ℕ) (h : Header) → IsFound bytes at end h → after + at ≤ before + end
-    → IfSome bytes (λ file. NoneOf (Applies file at) passing_reasons → after + at ≤ before + end_at file at)
+    → IfSome bytes (λ file. NoneOf (Applies file at) unpassed_reasons → after + at ≤ before + end_at file at)
 handed_whole None at end before after h found few = tt
 handed_whole (Some file) at end before after h found few =
     λ _. omega (arith, few, found.end_is, end_by-at file at h found.fits found.header)

@@ -16,7 +16,7 @@ use Rattle.meta_chunk.proofs.LaidChunks.{IsLaid-laid}
 use Rattle.meta_chunk.proofs.Chains.{IsChainOf-push}
 use Rattle.meta_chunk.specs.Laid.{IsLaid, laid_bytes}
 use Rattle.chunk_reader.specs.Places.{header_bytes_at, header_at, end_by, end_at, chunk_at}
-use Rattle.chunk_reader.specs.Reasons.{HasBadContents, ContentApplies, IsWrongBlock, Applies, NoneOf, IsFirstOf, content_reasons, passing_reasons}
+use Rattle.chunk_reader.specs.Reasons.{HasBadContents, ContentApplies, IsWrongBlock, Applies, NoneOf, IsFirstOf, content_reasons, unpassed_reasons}
 use Rattle.chunk_reader.specs.Blocks.{TellsBegin}
 use Rattle.chunk_reader.specs.Holders.{ArePlacesBetween, IsOnWay, IsHolder, IsHolderFault}
 use Rattle.chunk_reader.specs.Searches.{MayAnswerAt, AnswersAt, HasRecordsAt, SearchGives, IsSearchFault}
@@ -268,7 +268,7 @@ front_told = (
 )
 
 -- both chunks are whole, and stand between the file's front and its end
-front_whole : NoneOf (Applies three 0) passing_reasons
+front_whole : NoneOf (Applies three 0) unpassed_reasons
 front_whole =
     let none = no_reason-signature false three three_begins in
     (none.0, (none.1.0, (none.1.1.0, tt)))
@@ -277,7 +277,7 @@ header_end_of_three : end_of 64 40 ≡ 104
 unfolding end_of
 header_end_of_three = refl
 
-three_whole : NoneOf (Applies three 64) passing_reasons
+three_whole : NoneOf (Applies three 64) unpassed_reasons
 three_whole = (
   (λ short. omega (arith, short, length_of_three, header_end_of_three)),
   ((λ wrong. wrong header_of_three_is_right), ((λ cut. omega (arith, cut, length_of_three, end_of_three)), tt)),
@@ -431,7 +431,7 @@ changed_told = (
   refl,
 )
 
-changed_front_whole : NoneOf (Applies (set three 70 0) 0) passing_reasons
+changed_front_whole : NoneOf (Applies (set three 70 0) 0) unpassed_reasons
 changed_front_whole =
     let none = no_reason-signature false (set three 70 0) changed_begins in
     (none.0, (none.1.0, (none.1.1.0, tt)))

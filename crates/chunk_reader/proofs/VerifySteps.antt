@@ -25,7 +25,7 @@ use Rattle.chunk_reader.specs.Places.{header_bytes_at, end_by, end_at, data_at, 
 use Rattle.chunk_reader.proofs.PassedChunks.{length-data_at, IsLaid-right}
 use Rattle.chunk_reader.proofs.Loads.{header_within, IsOnBoundary-of}
 use Rattle.chunk_reader.proofs.ReadingSteps.{next_read, next-le, unread-le}
-use Rattle.chunk_reader.specs.Progress.{counted, AreInBounds, AreReadFrom}
+use Rattle.chunk_reader.specs.Progress.{totals_with_chunk, AreInBounds, AreReadFrom}
 use Rattle.chunk_reader.proofs.Rooms.{IsSized}
 use Rattle.chunk_reader.proofs.Verdicts.{verdict_loading, verdict_block, verdict_content, value_of-at, end_by-at, hash_of-at, none_at, is_unread-plain, is_unread-unread}
 
@@ -155,7 +155,7 @@ signed_end at end signed behind =
 -- so totals stay in their bounds with one chunk more
 pub verified_totals : (size : ℕ) (totals : Totals) (v : Verified) → AreInBounds size totals
     → IsBoundary v.end × (end_of totals.bytes 40 ≤ v.end) × (v.end ≤ size) × (totals.bytes + v.num_records ≤ v.end)
-    → AreInBounds size (counted totals v.end v.num_records v.unread)
+    → AreInBounds size (totals_with_chunk totals v.end v.num_records v.unread)
 verified_totals size totals v h (boundary, behind, within, room) =
     let past : totals.bytes + 40 ≤ v.end = omega (arith, end_of_room totals.bytes 40) in record {
       within = within;
@@ -169,7 +169,7 @@ verified_totals size totals v h (boundary, behind, within, room) =
 -- and are those of the chunks with that one more
 pub verified_on : (bytes now : Option (List ℕ)) (totals : Totals) (v : Verified) → now ≡ bytes → IfSome bytes BeginsWithSignature
     → IfSome now (λ file. IsVerifiedIn file totals.bytes v) → IfSome bytes (λ file. AreReadFrom true file totals)
-    → IfSome bytes (λ file. AreReadFrom true file (counted totals v.end v.num_records v.unread))
+    → IfSome bytes (λ file. AreReadFrom true file (totals_with_chunk totals v.end v.num_records v.unread))
 verified_on None now totals v same begins there read = tt
 verified_on (Some file) None totals v same begins there read = cc
 verified_on (Some file) (Some other) totals v same begins there (ks, chain, counts) =
@@ -178,7 +178,7 @@ verified_on (Some file) (Some other) totals v same begins there (ks, chain, coun
     let next = next_read true ks file totals.bytes v.end (chunk_at file totals.bytes) v.unread begins chain refl here.end here.laid here.none here.unread in (
       ks ++ chunk_at file totals.bytes ∷ [],
       next.0,
-      ap (λ (t : Totals). counted t v.end v.num_records v.unread) counts
-          ∙ ap (λ (records : ℕ). counted (totals_of ks) v.end records v.unread) here.num_records
+      ap (λ (t : Totals). totals_with_chunk t v.end v.num_records v.unread) counts
+          ∙ ap (λ (records : ℕ). totals_with_chunk (totals_of ks) v.end records v.unread) here.num_records
           ∙ next.1,
     )

@@ -3,7 +3,7 @@ use Rattle.std.specs.Prelude.{◌≡◌, ℕ, ◌<◌, ◌≤◌, ◌⊎◌, Lis
 use Rattle.block_layout.specs.Layout.{block_of}
 use Rattle.chunk_reader.specs.Blocks.{TellsBegin, IsBlockFault}
 use Rattle.chunk_reader.specs.Places.{end_at}
-use Rattle.chunk_reader.specs.Reasons.{Applies, NoneOf, IsFirstOf, passing_reasons}
+use Rattle.chunk_reader.specs.Reasons.{Applies, NoneOf, IsFirstOf, unpassed_reasons}
 use Rattle.chunk_reader.specs.declared.reasons.Fault.{Fault}
 
 -- the places of the chunks between one place of a file and another, in order: each chunk has a right header, lies in the
@@ -11,7 +11,7 @@ use Rattle.chunk_reader.specs.declared.reasons.Fault.{Fault}
 abbrev pub ArePlacesBetween : List ℕ → (from to : ℕ) → List ℕ → Type 0
 ArePlacesBetween file from to [] = from ≡ to
 ArePlacesBetween file from to (place ∷ places) =
-    (place ≡ from) × NoneOf (Applies file from) passing_reasons × ArePlacesBetween file (end_at file from) to places
+    (place ≡ from) × NoneOf (Applies file from) unpassed_reasons × ArePlacesBetween file (end_at file from) to places
 
 -- a place at or before a position of the file to which chunks lead, from the begin that the block at or before the position
 -- tells
@@ -27,7 +27,7 @@ pub record IsOnWay (file : List ℕ) (position place : ℕ) : Type 0 where
 -- position
 pub record IsHolder (file : List ℕ) (position place : ℕ) : Type 0 where
   pub on_way : IsOnWay file position place
-  pub whole : NoneOf (Applies file place) passing_reasons
+  pub whole : NoneOf (Applies file place) unpassed_reasons
   pub within : position < end_at file place
 
 -- why no chunk is found to hold a position below the file's end: the block at or before it tells no begin, or on the way a
@@ -35,4 +35,4 @@ pub record IsHolder (file : List ℕ) (position place : ℕ) : Type 0 where
 abbrev pub IsHolderFault : List ℕ → ℕ → Fault → Type 0
 IsHolderFault file position fault =
     ((position < length file) × IsBlockFault file (block_of position) fault)
-    ⊎ (IsOnWay file position fault.at × IsFirstOf (Applies file fault.at) passing_reasons fault.why)
+    ⊎ (IsOnWay file position fault.at × IsFirstOf (Applies file fault.at) unpassed_reasons fault.why)

@@ -2,6 +2,7 @@ pub mod Places
 pub mod Reasons
 pub mod Blocks
 pub mod Faults
+pub mod Fronts
 pub mod Heads
 pub mod HeldData
 pub mod Contents

@@ -14,8 +14,8 @@ pub record ReaderValue : Type 0 where
   pub totals : Totals
 
 -- the totals with one chunk more, which ends at a place
-abbrev pub counted : Totals → ℕ → ℕ → Bool → Totals
-counted totals end records unread = record {
+abbrev pub totals_with_chunk : Totals → ℕ → ℕ → Bool → Totals
+totals_with_chunk totals end records unread = record {
   chunks = totals.chunks + 1;
   records = totals.records + (if unread then 0 else records);
   bytes = end;

@@ -61,8 +61,8 @@ abbrev pub header_reasons : List Why
 header_reasons = why.Short ∷ why.HeaderHash ∷ []
 
 -- and by which a chunk isn't passed: that, or the file ends before it does
-abbrev pub passing_reasons : List Why
-passing_reasons = why.Short ∷ why.HeaderHash ∷ why.Truncated ∷ []
+abbrev pub unpassed_reasons : List Why
+unpassed_reasons = why.Short ∷ why.HeaderHash ∷ why.Truncated ∷ []
 
 -- the reasons by which a chunk is refused before its data is read
 abbrev pub loading_reasons : List Why

@@ -5,7 +5,7 @@ use Rattle.chunk_header.specs.SimpleChunks.{IsSimple}
 use Rattle.chunk_reader.specs.Faults.{IsVerdict}
 use Rattle.chunk_reader.specs.Holders.{ArePlacesBetween, IsHolder, IsHolderFault}
 use Rattle.chunk_reader.specs.Places.{header_at, chunk_at}
-use Rattle.chunk_reader.specs.Reasons.{Applies, NoneOf, IsFirstOf, passing_reasons, strict_reasons}
+use Rattle.chunk_reader.specs.Reasons.{Applies, NoneOf, IsFirstOf, unpassed_reasons, strict_reasons}
 use Rattle.chunk_reader.specs.declared.reasons.Fault.{Fault}
 
 -- a chunk of so many records has one at or past a position
@@ -27,7 +27,7 @@ pub record SearchComesTo (file : List ℕ) (position place : ℕ) : Type 0 where
 -- the chunk at a place answers: from the holder on it is the first that has one
 pub record AnswersAt (file : List ℕ) (position place : ℕ) : Type 0 where
   pub searched : SearchComesTo file position place
-  pub whole : NoneOf (Applies file place) passing_reasons
+  pub whole : NoneOf (Applies file place) unpassed_reasons
   pub has : MayAnswerAt file position place
 
 -- at this place stands a simple chunk without fault, and it holds these records
@@ -56,5 +56,5 @@ SearchGives file position None = (length file ≤ position) ⊎ SearchComesTo fi
 abbrev pub IsSearchFault : List ℕ → ℕ → Fault → Type 0
 IsSearchFault file position fault =
     IsHolderFault file position fault
-    ⊎ (SearchComesTo file position fault.at × (fault.at < length file) × IsFirstOf (Applies file fault.at) passing_reasons fault.why)
+    ⊎ (SearchComesTo file position fault.at × (fault.at < length file) × IsFirstOf (Applies file fault.at) unpassed_reasons fault.why)
     ⊎ ((place : ℕ) × AnswersAt file position place × IsVerdict false file place fault)

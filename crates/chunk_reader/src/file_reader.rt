@@ -9,7 +9,7 @@ ghost use Rattle.chunk_reader.specs.declared.reasons.Why.{Why};
 ghost use Rattle.chunk_reader.specs.declared.judging.Judged.{Judged};
 
 use crate::judging::{Judged, What, strict_at};
-use crate::progress::{NO_CHUNKS, check_signature, counted};
+use crate::progress::{NO_CHUNKS, check_signature, totals_with_chunk};
 use crate::reasons::{ReadEnd, VerifyEnd};
 use chunk_header::Chunk;
 use meta_chunk::SIGNATURE;
@@ -97,7 +97,7 @@ impl Reader {
         };
         let unread = matches!(judged.what, What::Unread);
         let records = judged.chunk.header.num_records;
-        self.totals = counted(&self.totals, judged.end, records, unread);
+        self.totals = totals_with_chunk(&self.totals, judged.end, records, unread);
         Ok(Some(judged))
     }
 }

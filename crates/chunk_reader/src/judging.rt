@@ -7,7 +7,7 @@ ghost use Rattle.meta_chunk.specs.Files.{max_data_size};
 ghost use Rattle.chunk_reader.specs.Contents.{IsWhat, IsJudged, IsJudgedIn};
 ghost use Rattle.chunk_reader.specs.Faults.{IsVerdict};
 ghost use Rattle.chunk_reader.specs.Places.{header_bytes_at, end_by, end_at, data_at, HaveHeadersOf, IsFirstWrong};
-ghost use Rattle.chunk_reader.specs.Reasons.{Applies, ContentApplies, NoneOf, IsFirstOf, IsOneOf, passing_reasons, loading_reasons, content_reasons};
+ghost use Rattle.chunk_reader.specs.Reasons.{Applies, ContentApplies, NoneOf, IsFirstOf, IsOneOf, unpassed_reasons, loading_reasons, content_reasons};
 ghost use Rattle.chunk_reader.specs.declared.reasons.Fault.{Fault};
 ghost use Rattle.chunk_reader.specs.declared.reasons.Why.{Why};
 
@@ -135,9 +135,9 @@ pub fn strict_at<S: Store>(
     ensures sound { IfOk result (λ judged. IfSome (S.bytes store.old) (λ file. IsJudgedIn keep file at judged)) }
     ensures refused { (fault : Fault) → result ≡ Err (ReadEnd.Refused fault)
         → IfSome (S.bytes store.old) (λ file. IsVerdict keep file at fault) }
-    ensures early { IfSome (S.bytes store.old) (λ file. NoneOf (Applies file at) passing_reasons
+    ensures early { IfSome (S.bytes store.old) (λ file. NoneOf (Applies file at) unpassed_reasons
         ⊎ (S.handed store.new ≤ S.handed store.old + 64)) }
-    ensures handed { IfSome (S.bytes store.old) (λ file. NoneOf (Applies file at) passing_reasons
+    ensures handed { IfSome (S.bytes store.old) (λ file. NoneOf (Applies file at) unpassed_reasons
         → S.handed store.new + at ≤ S.handed store.old + end_at file at) }
     ensures early_refused { (fault : Fault) → result ≡ Err (ReadEnd.Refused fault) → IsOneOf loading_reasons fault.why
         → S.handed store.new ≤ S.handed store.old + chunk_header_size }

@@ -30,4 +30,4 @@ pub use judging::{Judged, LoadEnd, MAX_DATA_SIZE, What, data_at, strict_at};
 pub use own_bytes::OwnBytes;
 pub use passed_heads::passed_head_at;
 pub use reasons::{Fault, ReadEnd, VerifyEnd, Why};
-pub use verifying::verify;
+pub use verifying::{Front, verify, verify_front};

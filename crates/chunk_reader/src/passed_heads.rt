@@ -3,7 +3,7 @@ ghost use Rattle.record_io.specs.Calls.{OnlyAsks};
 ghost use Rattle.block_layout.specs.Layout.{chunk_header_size, IsBoundary};
 ghost use Rattle.chunk_header.specs.Views.{IsHeader, bytes_of_header, value_of_header};
 ghost use Rattle.chunk_reader.specs.Places.{header_bytes_at, end_by};
-ghost use Rattle.chunk_reader.specs.Reasons.{Applies, NoneOf, IsFirstOf, passing_reasons};
+ghost use Rattle.chunk_reader.specs.Reasons.{Applies, NoneOf, IsFirstOf, unpassed_reasons};
 ghost use Rattle.chunk_reader.specs.declared.reasons.Fault.{Fault};
 
 use crate::heads::{Head, head_at};
@@ -34,9 +34,9 @@ pub fn passed_head_at<S: Store>(
     ensures within { IfOk result (λ found. found.1 ≤ size) }
     ensures fits { IfOk result (λ found. IsHeader found.0) }
     ensures header { IfOk result (λ found. IfSome (S.bytes store.old) (λ file. header_bytes_at file at ≡ bytes_of_header found.0)) }
-    ensures sound { IfOk result (λ _. IfSome (S.bytes store.old) (λ file. NoneOf (Applies file at) passing_reasons)) }
+    ensures sound { IfOk result (λ _. IfSome (S.bytes store.old) (λ file. NoneOf (Applies file at) unpassed_reasons)) }
     ensures refused { (fault : Fault) → result ≡ Err (VerifyEnd.Refused fault) → (fault.at ≡ at)
-        × IfSome (S.bytes store.old) (λ file. IsFirstOf (Applies file at) passing_reasons fault.why) }
+        × IfSome (S.bytes store.old) (λ file. IsFirstOf (Applies file at) unpassed_reasons fault.why) }
     ensures handed { S.handed store.new ≤ S.handed store.old + chunk_header_size }
     ensures handed_at_most { S.handed store.new + at ≤ S.handed store.old + size }
     ensures store { OnlyAsks S.bytes S.told S.name S.faults (result ≡ Err VerifyEnd.Store) store.old store.new }

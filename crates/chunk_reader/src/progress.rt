@@ -1,7 +1,7 @@
 ghost use Rattle.std.specs.Prelude.{◌≡◌, ◌+◌, ◌^◌, ◌<◌, ◌≤◌, Some, IfSome, OnOk, Err};
 ghost use Rattle.record_io.specs.Calls.{OnlyAsks};
 ghost use Rattle.chunk_reader.specs.Faults.{BeginsWithSignature};
-ghost use Rattle.chunk_reader.specs.Progress.{counted};
+ghost use Rattle.chunk_reader.specs.Progress.{totals_with_chunk};
 ghost use Rattle.chunk_reader.specs.declared.reasons.Fault.{Fault};
 
 use crate::reasons::{Fault, VerifyEnd, Why};
@@ -49,13 +49,13 @@ pub(crate) const SIGNATURE_ALONE: Totals = Totals {
 };
 
 /// The totals with one chunk more, which ends at a place and has so many records.
-pub(crate) fn counted(totals: &Totals, end: u64, records: u64, unread: bool) -> Totals
+pub(crate) fn totals_with_chunk(totals: &Totals, end: u64, records: u64, unread: bool) -> Totals
     requires room { totals.now.bytes + records ≤ end }
     requires small { end ≤ 2 ^ 60 }
     requires chunks { totals.now.chunks ≤ totals.now.bytes }
     requires counts { totals.now.records ≤ totals.now.bytes }
     requires unread { totals.now.unread ≤ totals.now.bytes }
-    ensures { result ≡ counted totals.now end records unread }
+    ensures { result ≡ totals_with_chunk totals.now end records unread }
 {
     Totals {
         chunks: totals.chunks + 1,

@@ -1,4 +1,4 @@
-ghost use Rattle.std.specs.Prelude.{◌≡◌, ◌+◌, ◌^◌, ◌<◌, ◌≤◌, List, Some, true, IfOk, IfSome, Err};
+ghost use Rattle.std.specs.Prelude.{◌≡◌, ◌+◌, ◌^◌, ◌<◌, ◌≤◌, List, [], Some, None, true, IfOk, IfSome, OnOk, IsErr, Err};
 ghost use Rattle.record_io.specs.Calls.{OnlyAsks};
 ghost use Rattle.block_layout.specs.Layout.{chunk_header_size, IsBoundary, end_of};
 ghost use Rattle.chunk_header.specs.Chunks.{ChunkValue};
@@ -6,15 +6,25 @@ ghost use Rattle.meta_chunk.specs.Counts.{totals_of};
 ghost use Rattle.meta_chunk.specs.Files.{IsFrame};
 ghost use Rattle.chunk_reader.specs.Pieces.{IsVerifiedIn};
 ghost use Rattle.chunk_reader.specs.Faults.{IsFault, IsVerdict};
+ghost use Rattle.chunk_reader.specs.Fronts.{IsFrontOf};
 ghost use Rattle.chunk_reader.specs.Progress.{AreInBounds};
 ghost use Rattle.chunk_reader.specs.declared.reasons.Fault.{Fault};
 
 use crate::feeding::feed_chunk;
 use crate::judging::{refused, whole_head_at};
 use crate::piece_judge::PieceJudge;
-use crate::progress::{SIGNATURE_ALONE, check_signature, counted};
-use crate::reasons::VerifyEnd;
-use record_io::{Store, Totals};
+use crate::progress::{NO_CHUNKS, SIGNATURE_ALONE, check_signature, totals_with_chunk};
+use crate::reasons::{Fault, VerifyEnd};
+use record_io::{Failed, Store, Totals};
+
+/// How far a file is well formed. Own.
+#[derive(Clone, Copy, Debug, PartialEq, Eq)]
+pub struct Front {
+    /// What its longest front of well-formed chunks holds; `bytes` is where that ends.
+    pub totals: Totals,
+    /// Why no further chunk follows, unless the front is the whole file.
+    pub fault: Option<Fault>,
+}
 
 /// Judges a whole file of `size` bytes, which were told, at most 2^60, and counts what it holds. Compressed and transposed
 /// chunks are left unread. It takes no memory, and holds 4096 bytes of data at most. No more bytes are handed out than the file
@@ -36,13 +46,55 @@ pub fn verify<S: Store>(store: &mut S, size: u64) -> Result<Totals, VerifyEnd>
     ensures handed { S.handed store.new ≤ S.handed store.old + size }
     ensures store { OnlyAsks S.bytes S.told S.name S.faults (result ≡ Err VerifyEnd.Store) store.old store.new }
 {
+    let mut totals = NO_CHUNKS;
+    count_front(store, size, &mut totals)?;
+    Ok(totals)
+}
+
+/// Judges a file as `verify` does, and tells how far it is well formed and what it holds up to there, whether it has a fault
+/// or none. The fault's place is another one where a block header is wrong: it is that block, and the chunk begins before it.
+///
+/// # Errors
+///
+/// `Failed` only where the store failed.
+pub fn verify_front<S: Store>(store: &mut S, size: u64) -> Result<Front, Failed>
+    requires told { S.told store.old ≡ Some size }
+    requires in_reach { size ≤ 2 ^ 60 }
+    ensures front { IfOk result (λ front. IfSome (S.bytes store.old) (λ file. IsFrontOf file front)) }
+    ensures totals { IfOk result (λ front. AreInBounds size front.totals) }
+    ensures whole { IfOk result (λ front. front.fault ≡ None → (front.totals.bytes ≡ size) × (64 ≤ size)) }
+    ensures handed { S.handed store.new ≤ S.handed store.old + size }
+    ensures store { OnlyAsks S.bytes S.told S.name S.faults (IsErr result) store.old store.new }
+{
+    let mut totals = NO_CHUNKS;
+    let fault = match count_front(store, size, &mut totals) {
+        Ok(()) => None,
+        Err(VerifyEnd::Refused(fault)) => Some(fault),
+        Err(VerifyEnd::Store) => return Err(Failed),
+    };
+    Ok(Front { totals, fault })
+}
+
+/// Judges a file, and counts in the totals of no chunks what its longest front of well-formed chunks holds.
+fn count_front<S: Store>(store: &mut S, size: u64, totals: &mut Totals) -> Result<(), VerifyEnd>
+    requires told { S.told store.old ≡ Some size }
+    requires in_reach { size ≤ 2 ^ 60 }
+    requires no_chunks { totals.old ≡ totals_of [] }
+    ensures whole { OnOk result (IfSome (S.bytes store.old) (λ file. IsFrontOf file (record { totals = totals.new; fault = None }))) }
+    ensures at_end { OnOk result ((totals.new.bytes ≡ size) × (64 ≤ size)) }
+    ensures refused { (fault : Fault) → result ≡ Err (VerifyEnd.Refused fault)
+        → IfSome (S.bytes store.old) (λ file. IsFrontOf file (record { totals = totals.new; fault = Some fault })) }
+    ensures totals { AreInBounds size totals.new }
+    ensures handed { S.handed store.new ≤ S.handed store.old + size }
+    ensures store { OnlyAsks S.bytes S.told S.name S.faults (result ≡ Err VerifyEnd.Store) store.old store.new }
+{
     check_signature(store, size)?;
-    let mut totals = SIGNATURE_ALONE;
+    *totals = SIGNATURE_ALONE;
     while totals.bytes < size {
         let passed = verify_at(store, size, totals.bytes)?;
-        totals = counted(&totals, passed.end, passed.num_records, passed.unread);
+        *totals = totals_with_chunk(totals, passed.end, passed.num_records, passed.unread);
     }
-    Ok(totals)
+    Ok(())
 }
 
 /// A well-formed chunk that was judged and not held.

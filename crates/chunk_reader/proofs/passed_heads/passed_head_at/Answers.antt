@@ -3,11 +3,11 @@ use Rattle.std.specs.Prelude.{MatchOption}
 use Rattle.chunk_header.specs.Views.{IsHeader, value_of_header}
 use Rattle.chunk_reader.specs.Heads.{IsHead}
 use Rattle.chunk_reader.specs.Places.{end_by}
-use Rattle.chunk_reader.specs.Reasons.{passing_reasons}
+use Rattle.chunk_reader.specs.Reasons.{unpassed_reasons}
 use Rattle.chunk_reader.specs.declared.heads.Head.{Head}
 use Rattle.chunk_reader.specs.declared.reasons.Why.TheVariants as why
 use Rattle.chunk_reader.proofs.Rooms.{IsSized}
-use Rattle.chunk_reader.proofs.WholeHeads.{HasRightHead, first_truncated, none_passing, refused_for}
+use Rattle.chunk_reader.proofs.WholeHeads.{HasRightHead, first_truncated, none_unpassed, refused_for}
 use Rattle.chunk_reader.proofs.passed_heads.passed_head_at.Goals as goal
 use Rattle.chunk_reader.proofs.passed_heads.passed_head_at.Goals.{In-Right}
 
@@ -39,7 +39,7 @@ returns-in_default-clause-refused g c =
     let at = (goal.at.returns-in_default-clause-refused g c).In-Right in
     let past : 2 ^ 63 < end_by c.args.at (value_of_header c.in-Right.header) =
     end_none c.in-Right.end (2 ^ 63) (end_by c.args.at (value_of_header c.in-Right.header)) c.in_default.is (end_is g at) in
-    refused_for passing_reasons _ c.args.at why.Truncated fault (cc)
+    refused_for unpassed_reasons _ c.args.at why.Truncated fault (cc)
     (first_truncated _ c.args.size c.args.at c.in-Right.header (sized g at) (fits g at) (right g at) (omega (arith, past, c.requires.in_reach)))
 
 pub returns-then-end-size-clause-refused : goal.returns-then-end-size-clause-refused
@@ -48,7 +48,7 @@ returns-then-end-size-clause-refused g c =
     let at = (goal.at.returns-then-end-size-clause-refused g c).In-Right in
     let is : c.in-Some.end ≡ end_by c.args.at (value_of_header c.in-Right.header) =
     end_some c.in-Right.end (2 ^ 63) c.in-Some.end (end_by c.args.at (value_of_header c.in-Right.header)) c.in-Some.is (end_is g at) in
-    refused_for passing_reasons _ c.args.at why.Truncated fault (cc)
+    refused_for unpassed_reasons _ c.args.at why.Truncated fault (cc)
     (first_truncated _ c.args.size c.args.at c.in-Right.header (sized g at) (fits g at) (right g at) (omega (arith, is, c.if-end-size.true)))
 
 pub returns-clause-end : goal.returns-clause-end
@@ -61,4 +61,4 @@ returns-clause-sound g c =
     let at = (goal.at.returns-clause-sound g c).In-Right in
     let is : c.in-Some.end ≡ end_by c.args.at (value_of_header c.in-Right.header) =
     end_some c.in-Right.end (2 ^ 63) c.in-Some.end (end_by c.args.at (value_of_header c.in-Right.header)) c.in-Some.is (end_is g at) in
-    none_passing _ c.args.size c.args.at c.in-Right.header (sized g at) (fits g at) (right g at) (omega (arith, is, c.if-end-size.false))
+    none_unpassed _ c.args.size c.args.at c.in-Right.header (sized g at) (fits g at) (right g at) (omega (arith, is, c.if-end-size.false))

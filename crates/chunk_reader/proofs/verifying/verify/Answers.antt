@@ -1,46 +1,9 @@
-use Rattle.std.proofs.Common.{◌≡◌, Option, true, Err, IfSome, List, ℕ, ap, sym, subst, arith, rules}
-use Rattle.block_layout.proofs.Ends.{end_of_room}
-use Rattle.record_values.specs.declared.file_totals.Totals.{Totals}
-use Rattle.chunk_reader.specs.Faults.{IsVerdict}
-use Rattle.chunk_reader.specs.Progress.{AreInBounds, AreReadFrom}
-use Rattle.chunk_reader.proofs.ChainReads.{fault_read}
-use Rattle.chunk_reader.proofs.FirstChunks.{AreInBounds-signature, signature_read}
-use Rattle.chunk_reader.proofs.VerifySteps.{verified_totals, verified_on}
+use Rattle.std.proofs.Common.{Err, ap, sym}
+use Rattle.chunk_reader.proofs.FrontsRead.{fault_of_front}
 use Rattle.chunk_reader.proofs.verifying.verify.Goals as goal
 
-pub loop-totals-init : goal.loop-totals-init
-loop-totals-init g c = record {
-  bounds = AreInBounds-signature c.args.size c.in_ok-check_signature.ensures.long;
-  read = signature_read true _ c.in_ok-check_signature.ensures.signed;
-  handed = omega (arith, c.check_signature.ensures.handed);
-  asks = search rules;
-}
-
-pub returns-in_err-passed-clause-refused : goal.returns-in_err-passed-clause-refused
-returns-in_err-passed-clause-refused g c =
+pub returns-in_err-count_front-clause-refused : goal.returns-in_err-count_front-clause-refused
+returns-in_err-count_front-clause-refused g c =
     λ fault e.
-    let kept = c.loop-totals.invariant in
-    let P : Option (List ℕ) → Type 0 = λ o. IfSome o (λ file. IsVerdict true file c.loop-totals.totals.bytes fault) in
-    fault_read true _ _ c.loop-totals.totals c.args.size fault (g.met.S.Store.sized c.args.store.now) c.requires.told c.loop-totals-test.true
-    kept.read c.in_ok-check_signature.ensures.signed
-    (subst P kept.asks.same_bytes
-    (c.in_err-passed.ensures.refused fault (ap Err (sym (rw e at c.from_residual-in_err-passed.ensures.1)))))
-
-pub loop-totals-smaller : goal.loop-totals-smaller
-loop-totals-smaller g c =
-    let ends : c.counted-totals.result.bytes ≡ c.in_ok-passed.passed.end = ap (λ (t : Totals). t.bytes) c.counted-totals.ensures in
-    omega (arith, ends, c.in_ok-passed.ensures.end.1, end_of_room c.loop-totals.totals.bytes 40, c.loop-totals-test.true)
-
-pub loop-totals-preserved : goal.loop-totals-preserved
-loop-totals-preserved g c =
-    let kept = c.loop-totals.invariant in
-    let totals = c.loop-totals.totals in
-    let passed = c.in_ok-passed.passed in
-    let counts = sym c.counted-totals.ensures in
-    let P : Totals → Type 0 = λ t. IfSome (g.S.Store.bytes c.args.store.now) (λ file. AreReadFrom true file t) in record {
-      bounds = subst (AreInBounds c.args.size) counts (verified_totals c.args.size totals passed kept.bounds c.in_ok-passed.ensures.end);
-      read = subst P counts
-          (verified_on _ _ totals passed kept.asks.same_bytes c.in_ok-check_signature.ensures.signed c.in_ok-passed.ensures.passed kept.read);
-      handed = omega (arith, ap (λ (t : Totals). t.bytes) c.counted-totals.ensures, c.in_ok-passed.ensures.handed, kept.handed);
-      asks = search rules;
-    }
+    fault_of_front (g.S.Store.bytes c.args.store.now) c.count_front.new.totals fault
+    (c.in_err-count_front.ensures.refused fault (ap Err (sym (rw e at c.from_residual.ensures.1))))

@@ -2,11 +2,11 @@ use Rattle.std.proofs.Common.{◌≡◌, ◌∙◌, ℕ, ◌<◌, IfSome, Bool, 
 use Rattle.record_values.specs.declared.file_totals.Totals.{Totals}
 use Rattle.chunk_reader.specs.Contents.{IsJudged, IsJudgedIn}
 use Rattle.chunk_reader.specs.Faults.{BeginsWithSignature}
-use Rattle.chunk_reader.specs.Progress.{counted, AreInBounds, AreReadFrom}
+use Rattle.chunk_reader.specs.Progress.{totals_with_chunk, AreInBounds, AreReadFrom}
 use Rattle.chunk_reader.specs.declared.judging.Judged.{Judged}
-use Rattle.chunk_reader.proofs.ChainReads.{signed_where_read, fault_read, is_left, is_left_other, judged_shown, judged_in_shown, verdict_shown, loading_shown, room_given, AreInBounds-counted, GoesOn, goes_on_given, read_on, no_further_refused, no_further_unsigned, refused_end}
+use Rattle.chunk_reader.proofs.ChainReads.{signed_where_read, fault_read, is_left, is_left_other, judged_shown, judged_in_shown, verdict_shown, loading_shown, room_given, AreInBounds-totals_with_chunk, GoesOn, goes_on_given, read_on, no_further_refused, no_further_unsigned, refused_end}
 use Rattle.chunk_reader.proofs.file_reader.Reader.next.Goals as goal
-use Rattle.chunk_reader.proofs.file_reader.Reader.next.Goals.{Joined-matches, After-counted-self-inside, then-at-eq0+in_ok-judged, else-at-eq0+then-at-self+in_ok-judged-2, in-Unread, in_default}
+use Rattle.chunk_reader.proofs.file_reader.Reader.next.Goals.{Joined-matches, After-totals_with_chunk-self-inside, then-at-eq0+in_ok-judged, else-at-eq0+then-at-self+in_ok-judged-2, in-Unread, in_default}
 
 -- the chunk is well formed where the reader stands
 judged : (g : _) (c : Joined-matches g)
@@ -93,8 +93,8 @@ returns-in_err-judged-2-clause-memory g c =
 totals_shown : (g : _) (c : Joined-matches g) → c.args.self.now.totals ≡ c.self.inside.totals
 totals_shown g c = cc
 
-pub counted-self-inside-requires-clause-room : goal.counted-self-inside-requires-clause-room
-counted-self-inside-requires-clause-room g c =
+pub totals_with_chunk-self-inside-requires-clause-room : goal.totals_with_chunk-self-inside-requires-clause-room
+totals_with_chunk-self-inside-requires-clause-room g c =
     let now = c.args.self.now in
     omega (
       arith,
@@ -102,42 +102,42 @@ counted-self-inside-requires-clause-room g c =
       ap (λ (t : Totals). t.bytes) (totals_shown g c),
     )
 
-pub counted-self-inside-requires-clause-small : goal.counted-self-inside-requires-clause-small
-counted-self-inside-requires-clause-small g c = omega (arith, (judged g c).within, c.requires.reads.in_reach)
+pub totals_with_chunk-self-inside-requires-clause-small : goal.totals_with_chunk-self-inside-requires-clause-small
+totals_with_chunk-self-inside-requires-clause-small g c = omega (arith, (judged g c).within, c.requires.reads.in_reach)
 
 -- the totals with the chunk that was given
-counts : (g : _) (c : After-counted-self-inside g) → c.counted-self-inside.result
-    ≡ counted c.args.self.now.totals c.if-at-eq0.judged.end c.if-at-eq0.judged.chunk.header.num_records c.match-matches.matches
+counts : (g : _) (c : After-totals_with_chunk-self-inside g) → c.totals_with_chunk-self-inside.result
+    ≡ totals_with_chunk c.args.self.now.totals c.if-at-eq0.judged.end c.if-at-eq0.judged.chunk.header.num_records c.match-matches.matches
 counts g c =
     let j : Judged = c.if-at-eq0.judged in
     let shown : c.self.inside.totals ≡ c.args.self.now.totals = cc in
-    c.counted-self-inside.ensures ∙ ap (λ (t : Totals). counted t j.end j.chunk.header.num_records c.match-matches.matches) shown
+    c.totals_with_chunk-self-inside.ensures ∙ ap (λ (t : Totals). totals_with_chunk t j.end j.chunk.header.num_records c.match-matches.matches) shown
 
-totals : (g : _) (c : After-counted-self-inside g)
+totals : (g : _) (c : After-totals_with_chunk-self-inside g)
     → IsJudged c.args.self.now.keep c.args.self.now.size c.args.self.now.totals.bytes c.if-at-eq0.judged
-    → AreInBounds c.self.inside.size c.counted-self-inside.result
+    → AreInBounds c.self.inside.size c.totals_with_chunk-self-inside.result
 totals g c h =
     let now = c.args.self.now in
     let size : c.self.inside.size ≡ now.size = cc in
     let shown : c.self.inside.totals ≡ now.totals = cc in
     let kept : AreInBounds now.size now.totals =
     subst (λ (t : Totals). AreInBounds now.size t) shown (subst (λ (n : ℕ). AreInBounds n c.self.inside.totals) size c.self.invariant) in
-    subst (λ (n : ℕ). AreInBounds n c.counted-self-inside.result) (sym size)
+    subst (λ (n : ℕ). AreInBounds n c.totals_with_chunk-self-inside.result) (sym size)
     (subst (λ (t : Totals). AreInBounds now.size t) (sym (counts g c))
-    (AreInBounds-counted now.keep now.size now.totals c.if-at-eq0.judged c.match-matches.matches kept h))
+    (AreInBounds-totals_with_chunk now.keep now.size now.totals c.if-at-eq0.judged c.match-matches.matches kept h))
 
-left : (g : _) (c : After-counted-self-inside g) → c.match-matches.matches ≡ is_left c.if-at-eq0.judged.what
+left : (g : _) (c : After-totals_with_chunk-self-inside g) → c.match-matches.matches ≡ is_left c.if-at-eq0.judged.what
 left g c =
     elim c.match-matches.branch [
       | in-Unread w ↦ w.matches-is ∙ sym (ap is_left w.in-Unread.is)
       | in_default w ↦ w.matches-is ∙ sym (is_left_other c.if-at-eq0.judged.what w.in_default.not-Unread)
     ]
 
-goes_on : (g : _) (c : After-counted-self-inside g) → IfSome (g.S.Store.bytes c.args.store.now) BeginsWithSignature
+goes_on : (g : _) (c : After-totals_with_chunk-self-inside g) → IfSome (g.S.Store.bytes c.args.store.now) BeginsWithSignature
     → IsJudged c.args.self.now.keep c.args.self.now.size c.args.self.now.totals.bytes c.if-at-eq0.judged
     → IfSome (g.S.Store.bytes c.args.store.now) (λ file. IsJudgedIn c.args.self.now.keep file c.args.self.now.totals.bytes c.if-at-eq0.judged)
     → IfSome (g.S.Store.bytes c.args.store.now)
-    (λ file. GoesOn c.args.self.now.keep file c.args.self.now.totals c.counted-self-inside.result c.if-at-eq0.judged)
+    (λ file. GoesOn c.args.self.now.keep file c.args.self.now.totals c.totals_with_chunk-self-inside.result c.if-at-eq0.judged)
 goes_on g c signed h at =
     let now = c.args.self.now in
     subst (λ (t : Totals). IfSome (g.S.Store.bytes c.args.store.now) (λ file. GoesOn now.keep file now.totals t c.if-at-eq0.judged))
@@ -146,21 +146,21 @@ goes_on g c signed h at =
 
 pub invariant_of-self : goal.invariant_of-self
 invariant_of-self g c =
-    let at = goal.at.invariant_of-self g c in totals g at.After-counted-self-inside (judged g at.Joined-matches)
+    let at = goal.at.invariant_of-self g c in totals g at.After-totals_with_chunk-self-inside (judged g at.Joined-matches)
 
 pub returns-clause-chunk : goal.returns-clause-chunk
 returns-clause-chunk g c =
     let at = goal.at.returns-clause-chunk g c in
     let before = at.Joined-matches in
     let now = c.args.self.now in
-    let on = goes_on g at.After-counted-self-inside (begins g before) (judged g before) (there g before) in
+    let on = goes_on g at.After-totals_with_chunk-self-inside (begins g before) (judged g before) (there g before) in
     λ j is.
     let same : c.if-at-eq0.judged ≡ j = cc in
     record {
       judged = subst (IsJudged now.keep now.size now.totals.bytes) same (judged g before);
-      moved = ap (λ (t : Totals). t.bytes) (counts g at.After-counted-self-inside) ∙ ap (λ (x : Judged). x.end) same;
+      moved = ap (λ (t : Totals). t.bytes) (counts g at.After-totals_with_chunk-self-inside) ∙ ap (λ (x : Judged). x.end) same;
       given = subst (λ (x : Judged). IfSome (g.S.Store.bytes c.args.store.now)
-          (λ file. GoesOn now.keep file now.totals c.counted-self-inside.result x)) same on;
+          (λ file. GoesOn now.keep file now.totals c.totals_with_chunk-self-inside.result x)) same on;
     }
 
 pub returns-clause-goes_on : goal.returns-clause-goes_on
@@ -169,11 +169,11 @@ returns-clause-goes_on g c =
     let before = at.Joined-matches in
     let now = c.args.self.now in
     let keep : now.keep ≡ c.self.inside.keep = cc in
-    let on = goes_on g at.After-counted-self-inside (begins g before) (judged g before) (there g before) in
+    let on = goes_on g at.After-totals_with_chunk-self-inside (begins g before) (judged g before) (there g before) in
     record {
       same_size = search rules;
       same_keep = search rules;
-      totals = totals g at.After-counted-self-inside (judged g before);
-      read = subst (λ (b : Bool). IfSome (g.S.Store.bytes c.args.store.now) (λ file. AreReadFrom b file c.counted-self-inside.result)) keep
-          (read_on now.keep _ now.totals c.counted-self-inside.result c.if-at-eq0.judged c.requires.reads.read on);
+      totals = totals g at.After-totals_with_chunk-self-inside (judged g before);
+      read = subst (λ (b : Bool). IfSome (g.S.Store.bytes c.args.store.now) (λ file. AreReadFrom b file c.totals_with_chunk-self-inside.result)) keep
+          (read_on now.keep _ now.totals c.totals_with_chunk-self-inside.result c.if-at-eq0.judged c.requires.reads.read on);
     }

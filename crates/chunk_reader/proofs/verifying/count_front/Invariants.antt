@@ -1,7 +1,7 @@
 use Rattle.std.proofs.Common.{◌+◌, ◌-◌, ◌≤◌, true, IfSome}
 use Rattle.record_io.specs.Calls.{OnlyAsks}
 use Rattle.chunk_reader.specs.Progress.{AreInBounds, AreReadFrom}
-use Rattle.chunk_reader.proofs.verifying.verify.Given as goal
+use Rattle.chunk_reader.proofs.verifying.count_front.Given as goal
 
 abbrev pub invariant-loop-totals : goal.invariant-loop-totals
 invariant-loop-totals g l = record {
