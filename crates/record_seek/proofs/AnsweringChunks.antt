@@ -6,7 +6,7 @@ use Rattle.chunk_header.specs.SimpleChunks.{IsCompressed}
 use Rattle.meta_chunk.specs.Files.{IsPlain, IsUnread, IsTransposed, IsFramed, IsFrame, ArePlaced, LiesIn, begin_of}
 use Rattle.chunk_reader.specs.Faults.{IsVerdict}
 use Rattle.chunk_reader.specs.Holders.{IsHolderFault}
-use Rattle.chunk_reader.specs.Reasons.{Applies, NoneOf, IsFirstOf, passing_reasons, strict_reasons}
+use Rattle.chunk_reader.specs.Reasons.{Applies, NoneOf, IsFirstOf, unpassed_reasons, strict_reasons}
 use Rattle.chunk_reader.specs.Searches.{SearchComesTo, AnswersAt, SearchGives, IsSearchFault}
 use Rattle.chunk_reader.specs.declared.reasons.Fault.{Fault}
 use Rattle.chunk_reader.specs.declared.reasons.Why.TheVariants as why
@@ -59,14 +59,14 @@ module _ (ks : List ChunkValue) (file : List ℕ) (frame : IsFrame ks file) (rea
   not_held fault h lies = holder_or_fault file position (begin_of ks h) fault (holder_there ks file frame position h reach lies)
 
   not_passed : (fault : Fault) (h : ℕ) → LiesIn ks position h → SearchComesTo file position fault.at → fault.at < length file
-      → ¬ IsFirstOf (Applies file fault.at) passing_reasons fault.why
+      → ¬ IsFirstOf (Applies file fault.at) unpassed_reasons fault.why
   not_passed fault h lies searched below first =
       let way = searched_to ks file frame reach position h lies fault.at searched in
       let there = places_are ks file frame way.0 h fault.at (omega (arith, lies.number)) way.1 in
       let j : ℕ = h + length way.0 in
       let k = stands_below ks file frame j (omega (arith, there.1, below)) in
-      none_is_first (Applies file (begin_of ks j)) passing_reasons fault.why (passes ks file frame j k.0 k.1)
-      (subst (λ (p : ℕ). IsFirstOf (Applies file p) passing_reasons fault.why) there.1 first)
+      none_is_first (Applies file (begin_of ks j)) unpassed_reasons fault.why (passes ks file frame j k.0 k.1)
+      (subst (λ (p : ℕ). IsFirstOf (Applies file p) unpassed_reasons fault.why) there.1 first)
 
   unread_answers : (fault : Fault) (place h : ℕ) → LiesIn ks position h → AnswersAt file position place → IsVerdict false file place fault
       → (j : ℕ) × (k : ChunkValue) × IsAnswering ks position j k × IsUnread k

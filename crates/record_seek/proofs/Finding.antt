@@ -4,7 +4,7 @@ use Rattle.std.proofs.lemmas.Option.{slice_get_within}
 use Rattle.chunk_reader.specs.Blocks.{TellsBegin, IsBlockFault}
 use Rattle.chunk_reader.specs.Holders.{ArePlacesBetween}
 use Rattle.chunk_reader.specs.Places.{header_at, end_at}
-use Rattle.chunk_reader.specs.Reasons.{Applies, NoneOf, passing_reasons}
+use Rattle.chunk_reader.specs.Reasons.{Applies, NoneOf, unpassed_reasons}
 use Rattle.chunk_reader.specs.declared.reasons.Fault.{Fault}
 use Rattle.chunk_reader.proofs.Blocks.{stands_one}
 use Rattle.chunk_reader.proofs.HeadersTell.{passed_below}
@@ -101,7 +101,7 @@ begins-at Before (Some file) now low same looked =
 
 -- from one place there aren't both a record and no record up to the file's end
 one_way : (file ps qs : List ℕ) (from place : ℕ) → ArePlacesBetween file from (length file) ps → HaveNoRecords file ps
-    → ArePlacesBetween file from place qs → NoneOf (Applies file place) passing_reasons → 0 < (header_at file place).num_records → ⊥
+    → ArePlacesBetween file from place qs → NoneOf (Applies file place) unpassed_reasons → 0 < (header_at file place).num_records → ⊥
 one_way file [] [] from place end none same whole some = omega (arith, end, same, passed_below file place whole)
 one_way file (p ∷ ps) [] from place (is, passed, rest) none same whole some =
     let there : p ≡ place = is ∙ same in

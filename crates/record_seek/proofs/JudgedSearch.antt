@@ -9,7 +9,7 @@ use Rattle.chunk_header.proofs.Decided.{IsDecided, both, less_decided}
 use Rattle.meta_chunk.specs.Files.{IsPlain}
 use Rattle.chunk_reader.specs.Holders.{IsOnWay, IsHolder, IsHolderFault}
 use Rattle.chunk_reader.specs.Places.{header_at, end_at, chunk_at}
-use Rattle.chunk_reader.specs.Reasons.{Applies, NoneOf, passing_reasons, strict_reasons}
+use Rattle.chunk_reader.specs.Reasons.{Applies, NoneOf, unpassed_reasons, strict_reasons}
 use Rattle.chunk_reader.specs.Searches.{MayAnswerAt, SearchComesTo, AnswersAt, IsSought, SearchGives, IsSearchFault}
 use Rattle.chunk_reader.specs.declared.reasons.Fault.{Fault}
 use Rattle.chunk_reader.specs.declared.reasons.Why.TheVariants as why
@@ -29,7 +29,7 @@ IsHeldOrNot file position =
 held_from : (file : List ℕ) (position most place : ℕ) → position < place + most → IsOnWay file position place → IsHeldOrNot file position
 held_from file position zero place near way = absurd (omega (arith, near, way.before))
 held_from file position (suc most) place near way =
-    elim (first_or_none (Applies file place) (reason_decided file place) passing_reasons) [
+    elim (first_or_none (Applies file place) (reason_decided file place) unpassed_reasons) [
       | inl (first, is) ↦ inr (record { at = place; why = first }, inr (way, is))
       | inr none ↦ elim (cases_lt position (end_at file place)) [
         | inl within ↦ inl (place, record { on_way = way; whole = none; within = within })
@@ -135,7 +135,7 @@ given_from file position zero place near within searched = given_end file positi
 given_from file position (suc most) place near within searched =
     elim (cases_lt place (length file)) [
       | inr past ↦ given_end file position place within past searched
-      | inl below ↦ elim (first_or_none (Applies file place) (reason_decided file place) passing_reasons) [
+      | inl below ↦ elim (first_or_none (Applies file place) (reason_decided file place) unpassed_reasons) [
         | inl (first, is) ↦ inr (record { at = place; why = first }, inr (inl (searched, below, is)))
         | inr none ↦ elim (may_decided file position place) [
           | inl may ↦ given_at file position place (record { searched = searched; whole = none; has = may })

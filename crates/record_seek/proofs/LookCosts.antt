@@ -11,7 +11,7 @@ use Rattle.meta_chunk.proofs.Begins.{begin_of-next}
 use Rattle.chunk_reader.specs.Blocks.{TellsBegin}
 use Rattle.chunk_reader.specs.Holders.{ArePlacesBetween}
 use Rattle.chunk_reader.specs.Places.{header_at, end_at}
-use Rattle.chunk_reader.specs.Reasons.{Applies, NoneOf, passing_reasons}
+use Rattle.chunk_reader.specs.Reasons.{Applies, NoneOf, unpassed_reasons}
 use Rattle.chunk_reader.specs.SearchBounds.{chunks_without_records, greatest_length_from}
 use Rattle.chunk_reader.proofs.Blocks.{stands_within}
 use Rattle.chunk_reader.proofs.HeadersTell.{passed_below, stands_below, told_end, told_records, told_is, places_are, lies_of}
@@ -82,7 +82,7 @@ module _ (ks : List ChunkValue) (file : List ℕ) (frame : IsFrame ks file) wher
 
   -- the chunk at the place behind them is no longer than the longest
   end_near : (begin place spent now h : ℕ) (empty : IsEmptyTo file begin place spent now) → begin ≡ begin_of ks h → h ≤ length ks
-      → NoneOf (Applies file place) passing_reasons → end_at file place ≤ place + greatest_length_from 0 ks
+      → NoneOf (Applies file place) unpassed_reasons → end_at file place ≤ place + greatest_length_from 0 ks
   end_near begin place spent now h empty is inside none =
       let there = places_are ks file frame empty.places h place inside (subst (λ (p : ℕ). ArePlacesBetween file p place empty.places) is empty.between) in
       let j : ℕ = h + length empty.places in
@@ -104,12 +104,12 @@ look-header (Some file) begin place spent now then empty more =
 pub look-record : (bytes bytes_now bytes_then : Option (List ℕ)) (begin place : ℕ) (chunk : Passed) (spent now then last : ℕ) → bytes_now ≡ bytes
     → bytes_then ≡ bytes → IfSome bytes (λ file. IsEmptyTo file begin place spent now) → IfSome bytes_now (λ file. IsPassedAt file place chunk)
     → then ≤ now + 40
-    → IfSome bytes_then (λ file. NoneOf (Applies file place) passing_reasons → last + place ≤ then + end_at file place)
+    → IfSome bytes_then (λ file. NoneOf (Applies file place) unpassed_reasons → last + place ≤ then + end_at file place)
     → IfSome bytes (LookTakes begin spent last)
 look-record None bytes_now bytes_then begin place chunk spent now then last same also empty passed more read = tt
 look-record (Some file) bytes_now bytes_then begin place chunk spent now then last same also empty passed more read =
     let here : IsPassedAt file place chunk = same_told (λ f. IsPassedAt f place chunk) (Some file) bytes_now same passed in
-    let whole = same_told (λ f. NoneOf (Applies f place) passing_reasons → last + place ≤ then + end_at f place) (Some file) bytes_then also read in
+    let whole = same_told (λ f. NoneOf (Applies f place) unpassed_reasons → last + place ≤ then + end_at f place) (Some file) bytes_then also read in
     λ ks h frame is inside.
     omega (
       arith,

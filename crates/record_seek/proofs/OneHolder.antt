@@ -6,7 +6,7 @@ use Rattle.chunk_reader.specs.Blocks.{TellsBegin, IsBlockFault}
 use Rattle.chunk_reader.specs.Faults.{IsVerdict}
 use Rattle.chunk_reader.specs.Holders.{ArePlacesBetween, IsOnWay, IsHolder, IsHolderFault}
 use Rattle.chunk_reader.specs.Places.{end_at}
-use Rattle.chunk_reader.specs.Reasons.{Applies, NoneOf, IsFirstOf, passing_reasons}
+use Rattle.chunk_reader.specs.Reasons.{Applies, NoneOf, IsFirstOf, unpassed_reasons}
 use Rattle.chunk_reader.specs.declared.reasons.Fault.{Fault}
 use Rattle.chunk_reader.specs.declared.reasons.Why.{Why}
 use Rattle.chunk_reader.specs.declared.reasons.Why.TheVariants as why
@@ -18,16 +18,16 @@ use Rattle.record_seek.proofs.Finding.{told_one}
 
 -- chunks that lead on by a property go no further than to a place: no chunk is passed there, or it hasn't the property
 abbrev pub StopsAt : (ℕ → Type 0) → List ℕ → ℕ → Type 0
-StopsAt P file place = NoneOf (Applies file place) passing_reasons → ¬ P place
+StopsAt P file place = NoneOf (Applies file place) unpassed_reasons → ¬ P place
 
 -- from one place they stop at one
 pub stops_are_one : (P : ℕ → Type 0) (file ps qs : List ℕ) (from a b : ℕ) → ArePlacesBetween file from a ps → AllByRecursion P ps
     → ArePlacesBetween file from b qs → AllByRecursion P qs → StopsAt P file a → StopsAt P file b → a ≡ b
 stops_are_one P file [] [] from a b same each also too stops halts = sym same ∙ also
 stops_are_one P file [] (q ∷ qs) from a b same each (is, passed, rest) too stops halts =
-    absurd (stops (subst (λ (p : ℕ). NoneOf (Applies file p) passing_reasons) same passed) (subst P (is ∙ same) too.0))
+    absurd (stops (subst (λ (p : ℕ). NoneOf (Applies file p) unpassed_reasons) same passed) (subst P (is ∙ same) too.0))
 stops_are_one P file (p ∷ ps) [] from a b (is, passed, rest) each same too stops halts =
-    absurd (halts (subst (λ (q : ℕ). NoneOf (Applies file q) passing_reasons) same passed) (subst P (is ∙ same) each.0))
+    absurd (halts (subst (λ (q : ℕ). NoneOf (Applies file q) unpassed_reasons) same passed) (subst P (is ∙ same) each.0))
 stops_are_one P file (p ∷ ps) (q ∷ qs) from a b (is, passed, rest) each (also, onward, further) too stops halts =
     stops_are_one P file ps qs (end_at file from) a b rest each.1 further too.1 stops halts
 
@@ -62,9 +62,9 @@ held_stops : (file : List ℕ) (position place : ℕ) → IsHolder file position
 held_stops file position place holder none before = omega (arith, holder.within, before)
 
 -- a chunk that is refused isn't passed
-pub refused_stops : (P : ℕ → Type 0) (file : List ℕ) (place : ℕ) (first : Why) → IsFirstOf (Applies file place) passing_reasons first
+pub refused_stops : (P : ℕ → Type 0) (file : List ℕ) (place : ℕ) (first : Why) → IsFirstOf (Applies file place) unpassed_reasons first
     → StopsAt P file place
-refused_stops P file place first is none holds = none_is_first (Applies file place) passing_reasons first none is
+refused_stops P file place first is none holds = none_is_first (Applies file place) unpassed_reasons first none is
 
 -- the holder is one
 pub holder_is_one : (file : List ℕ) (position a b : ℕ) → IsHolder file position a → IsHolder file position b → a ≡ b
@@ -83,14 +83,14 @@ holder_or_fault file position place fault holder (inr (way, first)) =
     let same : place ≡ fault.at =
     way_is_one file position place fault.at holder.on_way way (held_stops file position place holder)
     (refused_stops (λ p. end_at file p ≤ position) file fault.at fault.why first) in
-    none_is_first (Applies file fault.at) passing_reasons fault.why
-    (subst (λ (p : ℕ). NoneOf (Applies file p) passing_reasons) same holder.whole) first
+    none_is_first (Applies file fault.at) unpassed_reasons fault.why
+    (subst (λ (p : ℕ). NoneOf (Applies file p) unpassed_reasons) same holder.whole) first
 
 -- a reason by which a chunk isn't passed is its verdict
-pub verdict_passing : (file : List ℕ) (fault : Fault) → IsFirstOf (Applies file fault.at) passing_reasons fault.why
+pub verdict_unpassed : (file : List ℕ) (fault : Fault) → IsFirstOf (Applies file fault.at) unpassed_reasons fault.why
     → IsVerdict false file fault.at fault
-verdict_passing file fault first =
-    verdict_loading false file fault.at fault (first_in_front (Applies file fault.at) passing_reasons (why.TooLarge ∷ []) fault.why first) refl
+verdict_unpassed file fault first =
+    verdict_loading false file fault.at fault (first_in_front (Applies file fault.at) unpassed_reasons (why.TooLarge ∷ []) fault.why first) refl
 
 -- and the fault is one
 pub holder_fault_is_one : (file : List ℕ) (position : ℕ) (a b : Fault) → IsHolderFault file position a → IsHolderFault file position b → a ≡ b
@@ -105,5 +105,5 @@ holder_fault_is_one file position a b (inr (way, first)) (inr (other, also)) =
     (refused_stops (λ p. end_at file p ≤ position) file a.at a.why first)
     (refused_stops (λ p. end_at file p ≤ position) file b.at b.why also) in
     verdict_is_one false file b.at a b
-    (subst (λ (p : ℕ). IsVerdict false file p a) same (verdict_passing file a first))
-    (verdict_passing file b also)
+    (subst (λ (p : ℕ). IsVerdict false file p a) same (verdict_unpassed file a first))
+    (verdict_unpassed file b also)

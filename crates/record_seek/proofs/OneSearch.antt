@@ -13,7 +13,7 @@ use Rattle.chunk_reader.specs.declared.reasons.Fault.{Fault}
 use Rattle.chunk_reader.proofs.FileFaults.{verdict_is_one}
 use Rattle.chunk_reader.proofs.HeadersTell.{passed_below}
 use Rattle.chunk_reader.proofs.NoReason.{none_is_first}
-use Rattle.record_seek.proofs.OneHolder.{StopsAt, stops_are_one, refused_stops, holder_is_one, holder_or_fault, verdict_passing, holder_fault_is_one}
+use Rattle.record_seek.proofs.OneHolder.{StopsAt, stops_are_one, refused_stops, holder_is_one, holder_or_fault, verdict_unpassed, holder_fault_is_one}
 
 -- a search goes no further than to a place: no chunk is passed there, or the one there answers
 record SearchStopsAt (file : List ℕ) (position place : ℕ) : Type 0 where
@@ -59,7 +59,7 @@ fault_cases file position fault (inr (inl (searched, below, first))) =
           stops = refused_stops (λ passed. ¬ MayAnswerAt file position passed) file fault.at fault.why first;
         };
         below = below;
-        verdict = verdict_passing file fault first;
+        verdict = verdict_unpassed file fault first;
       },
     )
 fault_cases file position fault (inr (inr (place, answers, verdict))) =

@@ -9,7 +9,7 @@ use Rattle.chunk_header.proofs.OneList.{records_are_one}
 use Rattle.meta_chunk.specs.Files.{IsFrame, begin_of, signature}
 use Rattle.meta_chunk.proofs.Begins.{begin_of_rises_by}
 use Rattle.chunk_reader.specs.Places.{header_at, end_at, chunk_at}
-use Rattle.chunk_reader.specs.Reasons.{Applies, NoneOf, passing_reasons}
+use Rattle.chunk_reader.specs.Reasons.{Applies, NoneOf, unpassed_reasons}
 use Rattle.chunk_reader.specs.SearchBounds.{length_of_chunk}
 use Rattle.chunk_reader.proofs.HeadersTell.{laid_at, stands_below, passed_below, told_end, told_records}
 use Rattle.chunk_reader.proofs.LaidAt.{chunk_at-laid}
@@ -142,12 +142,12 @@ pub paid_read-records : (Before : List ℕ → Type 0) (bytes bytes_now bytes_th
     → bytes_now ≡ bytes → bytes_then ≡ bytes → IfSome bytes (IsPaidRead Before begin place spent now)
     → IfSome bytes_now (λ file. IsPassedAt file place chunk) → 0 < chunk.num_records → then ≤ now + 40 → found ≡ None
     → IfSome bytes_then (λ file. IsFirstNotAt Before file place found)
-    → IfSome bytes_then (λ file. NoneOf (Applies file place) passing_reasons → last + place ≤ then + end_at file place)
+    → IfSome bytes_then (λ file. NoneOf (Applies file place) unpassed_reasons → last + place ≤ then + end_at file place)
     → IfSome bytes (IsPaidRead Before begin chunk.end spent last)
 paid_read-records Before None bytes_now bytes_then begin place chunk found spent now then last same also paid passed some more is first read = tt
 paid_read-records Before (Some file) bytes_now bytes_then begin place chunk found spent now then last same also paid passed some more is first read =
     let here : IsPassedAt file place chunk = same_told (λ f. IsPassedAt f place chunk) (Some file) bytes_now same passed in
-    let whole = same_told (λ f. NoneOf (Applies f place) passing_reasons → last + place ≤ then + end_at f place) (Some file) bytes_then also read in
+    let whole = same_told (λ f. NoneOf (Applies f place) unpassed_reasons → last + place ≤ then + end_at f place) (Some file) bytes_then also read in
     let (none, (records, kind, all)) =
     subst (IsFirstNotAt Before file place) is (same_told (λ f. IsFirstNotAt Before f place found) (Some file) bytes_then also first) in
     next_read Before file begin place chunk spent now paid here last
@@ -178,11 +178,11 @@ reading-header Before (Some file) begin place spent now then paid more =
 pub reading-record : (Before : List ℕ → Type 0) (bytes bytes_now bytes_then : Option (List ℕ)) (begin place : ℕ) (chunk : Passed) (spent now then last : ℕ)
     → bytes_now ≡ bytes → bytes_then ≡ bytes → IfSome bytes (IsPaidRead Before begin place spent now)
     → IfSome bytes_now (λ file. IsPassedAt file place chunk) → 0 < chunk.num_records → then ≤ now + 40
-    → IfSome bytes_then (λ file. NoneOf (Applies file place) passing_reasons → last + place ≤ then + end_at file place)
+    → IfSome bytes_then (λ file. NoneOf (Applies file place) unpassed_reasons → last + place ≤ then + end_at file place)
     → IfSome bytes (ReadingTakes Before begin spent last)
 reading-record Before None bytes_now bytes_then begin place chunk spent now then last same also paid passed some more read = tt
 reading-record Before (Some file) bytes_now bytes_then begin place chunk spent now then last same also paid passed some more read =
     let here : IsPassedAt file place chunk = same_told (λ f. IsPassedAt f place chunk) (Some file) bytes_now same passed in
-    let whole = same_told (λ f. NoneOf (Applies f place) passing_reasons → last + place ≤ then + end_at f place) (Some file) bytes_then also read in
+    let whole = same_told (λ f. NoneOf (Applies f place) unpassed_reasons → last + place ≤ then + end_at f place) (Some file) bytes_then also read in
     last_read Before file begin place chunk spent now paid here last
     (λ size end. omega (arith, more, whole here.none, end, cost_whole chunk.num_records size some))

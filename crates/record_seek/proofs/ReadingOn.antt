@@ -6,7 +6,7 @@ use Rattle.std.proofs.lemmas.Option.{slice_get_cases}
 use Rattle.chunk_reader.specs.Faults.{IsVerdict}
 use Rattle.chunk_reader.specs.Holders.{ArePlacesBetween}
 use Rattle.chunk_reader.specs.Places.{header_at}
-use Rattle.chunk_reader.specs.Reasons.{Applies, NoneOf, IsFirstOf, passing_reasons, loading_reasons}
+use Rattle.chunk_reader.specs.Reasons.{Applies, NoneOf, IsFirstOf, unpassed_reasons, loading_reasons}
 use Rattle.chunk_reader.specs.declared.reasons.Fault.{Fault}
 use Rattle.chunk_reader.proofs.Rooms.{IsSized}
 use Rattle.record_seek.specs.Met.{HaveNoRecords}
@@ -118,12 +118,12 @@ empty-ended Before (Some file) size from place spent now sized within past empty
     inr (empty.places, subst (λ (p : ℕ). ArePlacesBetween file from p empty.places) end empty.between, empty.none)
 
 -- a fault of the next chunk header
-passing_verdict : (file : List ℕ) (place : ℕ) (fault : Fault) → fault.at ≡ place → IsFirstOf (Applies file place) passing_reasons fault.why
+unpassed_verdict : (file : List ℕ) (place : ℕ) (fault : Fault) → fault.at ≡ place → IsFirstOf (Applies file place) unpassed_reasons fault.why
     → IsVerdict false file place fault
-passing_verdict file place fault at (inl (short, is)) = (inl (short, is), rw is at)
-passing_verdict file place fault at (inr (not_short, inl (hash, is))) = (inr (not_short, inl (hash, is)), rw is at)
-passing_verdict file place fault at (inr (not_short, inr (right, inl (cut, is)))) = (inr (not_short, inr (right, inl (cut, is))), rw is at)
-passing_verdict file place fault at (inr (not_short, inr (right, inr (whole, none)))) = absurd none
+unpassed_verdict file place fault at (inl (short, is)) = (inl (short, is), rw is at)
+unpassed_verdict file place fault at (inr (not_short, inl (hash, is))) = (inr (not_short, inl (hash, is)), rw is at)
+unpassed_verdict file place fault at (inr (not_short, inr (right, inl (cut, is)))) = (inr (not_short, inr (right, inl (cut, is))), rw is at)
+unpassed_verdict file place fault at (inr (not_short, inr (right, inr (whole, none)))) = absurd none
 
 -- the chunks on the way, whatever they hold
 abbrev pub IsComeTo : (from place : ℕ) → List ℕ → Type 0
@@ -141,7 +141,7 @@ read-come Before (Some file) from place read = (read.places, read.between)
 
 pub fault-header : (bytes now : Option (List ℕ)) (size from place : ℕ) (fault : Fault) → now ≡ bytes → IsSized bytes (Some size) → place < size
     → IfSome bytes (IsComeTo from place)
-    → (fault.at ≡ place) × IfSome now (λ file. IsFirstOf (Applies file place) passing_reasons fault.why)
+    → (fault.at ≡ place) × IfSome now (λ file. IsFirstOf (Applies file place) unpassed_reasons fault.why)
     → IfSome bytes (λ file. IsFaultOn file from fault)
 fault-header None now size from place fault same sized below come refused = tt
 fault-header (Some file) now size from place fault same sized below come refused = record {
@@ -149,8 +149,8 @@ fault-header (Some file) now size from place fault same sized below come refused
   places = come.0;
   between = come.1;
   below = omega (arith, sized, below);
-  verdict = passing_verdict file place fault refused.0
-      (same_told (λ f. IsFirstOf (Applies f place) passing_reasons fault.why) (Some file) now same refused.1);
+  verdict = unpassed_verdict file place fault refused.0
+      (same_told (λ f. IsFirstOf (Applies f place) unpassed_reasons fault.why) (Some file) now same refused.1);
 }
 
 -- or of the chunk that is judged

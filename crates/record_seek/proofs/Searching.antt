@@ -10,7 +10,7 @@ use Rattle.meta_chunk.proofs.Begins.{begin_of-next, begin_of_rises}
 use Rattle.block_layout.proofs.ChunkEnds.{chunk_end_of_past_records}
 use Rattle.chunk_reader.specs.Holders.{ArePlacesBetween, IsHolder}
 use Rattle.chunk_reader.specs.Places.{header_at}
-use Rattle.chunk_reader.specs.Reasons.{Applies, IsFirstOf, passing_reasons}
+use Rattle.chunk_reader.specs.Reasons.{Applies, IsFirstOf, unpassed_reasons}
 use Rattle.chunk_reader.specs.Searches.{HasRecordFrom, MayAnswerAt, SearchComesTo, AnswersAt}
 use Rattle.chunk_reader.specs.declared.reasons.Fault.{Fault}
 use Rattle.chunk_reader.proofs.HeadersTell.{passed_below, stands_below, told_end, told_records, places_are, holder_is}
@@ -81,7 +81,7 @@ search-ended (Some file) size at begin place spent now sized within past search 
 -- or to a chunk that can't be passed
 pub search-refused : (bytes now_bytes : Option (List ℕ)) (size at begin place spent now : ℕ) (fault : Fault) → now_bytes ≡ bytes
     → place < size → IfSome bytes (IsSearchTo at begin place spent now)
-    → (fault.at ≡ place) × IfSome now_bytes (λ file. IsFirstOf (Applies file place) passing_reasons fault.why)
+    → (fault.at ≡ place) × IfSome now_bytes (λ file. IsFirstOf (Applies file place) unpassed_reasons fault.why)
     → IfSome bytes (λ file. IsHolder file at begin → SearchComesTo file at fault.at × (fault.at < size) × IsRefusedAt fault file)
 search-refused None now_bytes size at begin place spent now fault same below search refused = tt
 search-refused (Some file) now_bytes size at begin place spent now fault same below search refused =

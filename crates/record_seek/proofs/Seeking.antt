@@ -7,7 +7,7 @@ use Rattle.meta_chunk.proofs.Begins.{begin_of_rises}
 use Rattle.chunk_reader.specs.Faults.{IsVerdict}
 use Rattle.chunk_reader.specs.Holders.{IsHolder, IsHolderFault}
 use Rattle.chunk_reader.specs.Places.{end_at}
-use Rattle.chunk_reader.specs.Reasons.{Applies, NoneOf, passing_reasons, loading_reasons}
+use Rattle.chunk_reader.specs.Reasons.{Applies, NoneOf, unpassed_reasons, loading_reasons}
 use Rattle.chunk_reader.specs.SearchBounds.{position_bound}
 use Rattle.chunk_reader.specs.Searches.{SearchComesTo, AnswersAt, SearchGives, IsSearchFault}
 use Rattle.chunk_reader.specs.declared.reasons.Fault.{Fault}
@@ -139,12 +139,12 @@ takes-headers (Some file) bytes_now size at begin spent now then same sized reac
 pub takes-record : (bytes bytes_now bytes_then : Option (List ℕ)) (size at begin place spent now then last : ℕ) → bytes_now ≡ bytes → bytes_then ≡ bytes
     → IsSized bytes (Some size) → size ≤ 2 ^ 60 → IfSome bytes (λ file. IsHolder file at begin) → IfSome bytes (HoldersTake spent now)
     → IfSome bytes_now (HeadersTake at begin now then) → IfSome bytes (λ file. AnswersAt file at place)
-    → IfSome bytes_then (λ file. NoneOf (Applies file place) passing_reasons → last + place ≤ then + end_at file place)
+    → IfSome bytes_then (λ file. NoneOf (Applies file place) unpassed_reasons → last + place ≤ then + end_at file place)
     → IfSome bytes (SearchTakes at spent last)
 takes-record None bytes_now bytes_then size at begin place spent now then last same also sized reach holds holder headers answer chunk = tt
 takes-record (Some file) bytes_now bytes_then size at begin place spent now then last same also sized reach holds holder headers answer chunk =
     let more = same_told (HeadersTake at begin now then) (Some file) bytes_now same headers in
-    let whole = same_told (λ f. NoneOf (Applies f place) passing_reasons → last + place ≤ then + end_at f place) (Some file) bytes_then also chunk in
+    let whole = same_told (λ f. NoneOf (Applies f place) unpassed_reasons → last + place ≤ then + end_at f place) (Some file) bytes_then also chunk in
     λ ks h j keep lies answering.
     let limit : length file ≤ 2 ^ 60 = omega (arith, sized, reach) in
     let is : begin ≡ begin_of ks h = holder_is ks file keep at begin h limit lies holds in

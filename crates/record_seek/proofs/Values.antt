@@ -11,7 +11,7 @@ use Rattle.meta_chunk.specs.Files.{signature, begin_of, placed_from}
 use Rattle.chunk_reader.specs.Faults.{BeginsWithSignature}
 use Rattle.chunk_reader.specs.Holders.{ArePlacesBetween}
 use Rattle.chunk_reader.specs.Places.{end_at}
-use Rattle.chunk_reader.specs.Reasons.{Applies, NoneOf, passing_reasons}
+use Rattle.chunk_reader.specs.Reasons.{Applies, NoneOf, unpassed_reasons}
 use Rattle.chunk_reader.specs.Searches.{HasRecordsAt}
 use Rattle.chunk_reader.proofs.SignedFiles.{chunk_at-signature, no_reason-signature, end_at-signature}
 use Rattle.record_seek.specs.Found.{MayAnswer, IsAnswering, IsFirstAt, IsKeyFound, BytesStandBefore, OnlyFrontStandsBefore}
@@ -315,7 +315,7 @@ signature_leads file begins size =
     )
 
 -- and with a chunk behind it, of `a` and `b`, it leads past all that stand before `c`
-records_lead : (file : List ℕ) → BeginsWithSignature file → NoneOf (Applies file 64) passing_reasons → end_at file 64 ≡ length file
+records_lead : (file : List ℕ) → BeginsWithSignature file → NoneOf (Applies file 64) unpassed_reasons → end_at file 64 ≡ length file
     → HasRecordsAt file 64 (a ∷ b ∷ []) → LeadsPastAll file (Before (0x63 ∷ []))
 unfolding Before a b
 records_lead file begins whole end holds =

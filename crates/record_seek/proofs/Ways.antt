@@ -7,7 +7,7 @@ use Rattle.meta_chunk.specs.Files.{IsFrame, begin_of}
 use Rattle.chunk_reader.specs.Blocks.{TellsBegin}
 use Rattle.chunk_reader.specs.Holders.{ArePlacesBetween, IsOnWay, IsHolder}
 use Rattle.chunk_reader.specs.Places.{end_at}
-use Rattle.chunk_reader.specs.Reasons.{Applies, NoneOf, IsFirstOf, passing_reasons}
+use Rattle.chunk_reader.specs.Reasons.{Applies, NoneOf, IsFirstOf, unpassed_reasons}
 use Rattle.chunk_reader.specs.declared.reasons.Fault.{Fault}
 use Rattle.chunk_reader.proofs.HeadersTell.{stands_below, told_end, told_is, lies_of}
 use Rattle.chunk_reader.proofs.Rooms.{IsSized}
@@ -16,9 +16,9 @@ use Rattle.record_seek.specs.declared.passes.Passed.{Passed}
 
 -- one chunk more
 pub between-push : (file places : List ℕ) (from place : ℕ) → ArePlacesBetween file from place places
-    → NoneOf (Applies file place) passing_reasons → ArePlacesBetween file from (end_at file place) (places ++ place ∷ [])
+    → NoneOf (Applies file place) unpassed_reasons → ArePlacesBetween file from (end_at file place) (places ++ place ∷ [])
 between-push file [] from place same none =
-    (sym same, subst (λ (p : ℕ). NoneOf (Applies file p) passing_reasons) (sym same) none, ap (end_at file) same)
+    (sym same, subst (λ (p : ℕ). NoneOf (Applies file p) unpassed_reasons) (sym same) none, ap (end_at file) same)
 between-push file (p ∷ places) from place (same, passed, rest) none =
     (same, passed, between-push file places (end_at file from) place rest none)
 
@@ -70,18 +70,18 @@ way-held (Some file) now at begin place chunk same way passed within =
 
 -- the first reason applies at a fault's place
 abbrev pub IsRefusedAt : Fault → List ℕ → Type 0
-IsRefusedAt fault file = IsFirstOf (Applies file fault.at) passing_reasons fault.why
+IsRefusedAt fault file = IsFirstOf (Applies file fault.at) unpassed_reasons fault.why
 
 pub refused_there : (bytes now : Option (List ℕ)) (place : ℕ) (fault : Fault) → now ≡ bytes
-    → (fault.at ≡ place) × IfSome now (λ file. IsFirstOf (Applies file place) passing_reasons fault.why)
+    → (fault.at ≡ place) × IfSome now (λ file. IsFirstOf (Applies file place) unpassed_reasons fault.why)
     → IfSome bytes (IsRefusedAt fault)
 refused_there None now place fault same refused = tt
 refused_there (Some file) now place fault same (at, first) =
-    subst (λ (p : ℕ). IsFirstOf (Applies file p) passing_reasons fault.why) (sym at) (same_told (λ f. IsFirstOf (Applies f place) passing_reasons fault.why) (Some file) now same first)
+    subst (λ (p : ℕ). IsFirstOf (Applies file p) unpassed_reasons fault.why) (sym at) (same_told (λ f. IsFirstOf (Applies f place) unpassed_reasons fault.why) (Some file) now same first)
 
 pub way-refused : (bytes now : Option (List ℕ)) (at begin place : ℕ) (fault : Fault) → now ≡ bytes
     → IfSome bytes (IsWayFrom at begin place)
-    → (fault.at ≡ place) × IfSome now (λ file. IsFirstOf (Applies file place) passing_reasons fault.why)
+    → (fault.at ≡ place) × IfSome now (λ file. IsFirstOf (Applies file place) unpassed_reasons fault.why)
     → IfSome bytes (λ file. TellsBegin file (block_of at) begin → IsOnWay file at fault.at × IsRefusedAt fault file)
 way-refused None now at begin place fault same way refused = tt
 way-refused (Some file) now at begin place fault same way refused =

@@ -5,7 +5,7 @@ use Rattle.chunk_reader.specs.Blocks.{TellsBegin, IsBlockFault}
 use Rattle.chunk_reader.specs.Faults.{IsVerdict}
 use Rattle.chunk_reader.specs.Holders.{ArePlacesBetween}
 use Rattle.chunk_reader.specs.Places.{header_at, end_at}
-use Rattle.chunk_reader.specs.Reasons.{Applies, NoneOf, passing_reasons, loading_reasons}
+use Rattle.chunk_reader.specs.Reasons.{Applies, NoneOf, unpassed_reasons, loading_reasons}
 use Rattle.chunk_reader.specs.Searches.{HasRecordsAt}
 use Rattle.chunk_reader.specs.declared.reasons.Fault.{Fault}
 
@@ -14,7 +14,7 @@ use Rattle.chunk_reader.specs.declared.reasons.Fault.{Fault}
 pub data IsMetBySearch : List ℕ → ℕ → Type 0 where
   front : {file : List ℕ} → IsMetBySearch file 0
   told : {file : List ℕ} {block place : ℕ} → TellsBegin file block place → IsMetBySearch file place
-  behind : {file : List ℕ} {place : ℕ} → IsMetBySearch file place → NoneOf (Applies file place) passing_reasons
+  behind : {file : List ℕ} {place : ℕ} → IsMetBySearch file place → NoneOf (Applies file place) unpassed_reasons
       → IsMetBySearch file (end_at file place)
 
 -- a fault that is met: of a block that tells no begin, or of a chunk at a place that is met

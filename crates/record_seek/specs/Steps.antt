@@ -7,7 +7,7 @@ use Rattle.meta_chunk.specs.Files.{signature}
 use Rattle.chunk_reader.specs.Faults.{IsVerdict}
 use Rattle.chunk_reader.specs.Holders.{ArePlacesBetween}
 use Rattle.chunk_reader.specs.Places.{header_at, end_at, chunk_at}
-use Rattle.chunk_reader.specs.Reasons.{Applies, NoneOf, passing_reasons, loading_reasons, strict_reasons}
+use Rattle.chunk_reader.specs.Reasons.{Applies, NoneOf, unpassed_reasons, loading_reasons, strict_reasons}
 use Rattle.chunk_reader.specs.SearchBounds.{length_of_chunk, chunks_without_records, greatest_length_from}
 use Rattle.chunk_reader.specs.Searches.{HasRecordsAt, SearchComesTo, AnswersAt}
 use Rattle.chunk_reader.specs.declared.reasons.Fault.{Fault}
@@ -17,7 +17,7 @@ use Rattle.record_seek.specs.declared.passes.Passed.{Passed}
 
 -- a chunk that is passed at a place of a file
 pub record IsPassedAt (file : List ℕ) (place : ℕ) (chunk : Passed) : Type 0 where
-  pub none : NoneOf (Applies file place) passing_reasons
+  pub none : NoneOf (Applies file place) unpassed_reasons
   pub end : chunk.end ≡ end_at file place
   pub num_records : chunk.num_records ≡ (header_at file place).num_records
 
@@ -94,7 +94,7 @@ pub record IsReadRecord (Before : List ℕ → Type 0) (file : List ℕ) (from :
   pub records : List (List ℕ)
   pub number : ℕ
   pub read : AreReadTo Before file from place
-  pub whole : NoneOf (Applies file place) passing_reasons
+  pub whole : NoneOf (Applies file place) unpassed_reasons
   pub holds : HasRecordsAt file place records
   pub stands : slice_get records number ≡ Some found.bytes
   pub position : found.position ≡ place + number
@@ -126,7 +126,7 @@ pub record IsFirstFrom (file : List ℕ) (from : ℕ) (bytes : List ℕ) : Type 
   pub records : List (List ℕ)
   pub between : ArePlacesBetween file from place places
   pub none_before : HaveNoRecords file places
-  pub whole : NoneOf (Applies file place) passing_reasons
+  pub whole : NoneOf (Applies file place) unpassed_reasons
   pub holds : HasRecordsAt file place records
   pub stands : slice_get records 0 ≡ Some bytes
 

@@ -5,7 +5,7 @@ ghost use Rattle.chunk_header.specs.Views.{value_of_chunk};
 ghost use Rattle.chunk_reader.specs.Contents.{IsJudged};
 ghost use Rattle.chunk_reader.specs.Faults.{IsVerdict};
 ghost use Rattle.chunk_reader.specs.Places.{end_at};
-ghost use Rattle.chunk_reader.specs.Reasons.{Applies, NoneOf, passing_reasons, loading_reasons};
+ghost use Rattle.chunk_reader.specs.Reasons.{Applies, NoneOf, unpassed_reasons, loading_reasons};
 ghost use Rattle.chunk_reader.specs.declared.reasons.Fault.{Fault};
 ghost use Rattle.record_seek.specs.KeyTests.{IsKeyTest, StandsBefore};
 ghost use Rattle.record_seek.specs.Steps.{IsNumbered, IsRecordIn, IsRecordAt, IsFirstAskedIn, IsFirstAskedAt, IsFirstNot, IsFirstNotIn, IsFirstNotAt};
@@ -40,7 +40,7 @@ pub(crate) fn record_at<S: Store>(
     ensures found { IfOk result (λ found. IfSome (S.bytes store.old) (λ file. IsRecordAt file place number found)) }
     ensures refused { (fault : Fault) → result ≡ Err (ReadEnd.Refused fault)
         → IfSome (S.bytes store.old) (λ file. IsVerdict false file place fault) }
-    ensures handed { IfSome (S.bytes store.old) (λ file. NoneOf (Applies file place) passing_reasons
+    ensures handed { IfSome (S.bytes store.old) (λ file. NoneOf (Applies file place) unpassed_reasons
         → S.handed store.new + place ≤ S.handed store.old + end_at file place) }
     ensures memory { result ≡ Err ReadEnd.Memory → IfSome (S.bytes store.old) (λ file. NoneOf (Applies file place) loading_reasons) }
     ensures store { OnlyAsks S.bytes S.told S.name S.faults (result ≡ Err ReadEnd.Store) store.old store.new }
@@ -97,7 +97,7 @@ pub(crate) fn first_before_at<S: Store, F: Fn(&[u8]) -> bool + Drop>(
     ensures asked { IfOk result (λ before. IfSome (S.bytes store.old) (λ file. IsFirstAskedAt (StandsBefore F.Fn test.now.test) file place before)) }
     ensures refused { (fault : Fault) → result ≡ Err (ReadEnd.Refused fault)
         → IfSome (S.bytes store.old) (λ file. IsVerdict false file place fault) }
-    ensures handed { IfSome (S.bytes store.old) (λ file. NoneOf (Applies file place) passing_reasons
+    ensures handed { IfSome (S.bytes store.old) (λ file. NoneOf (Applies file place) unpassed_reasons
         → S.handed store.new + place ≤ S.handed store.old + end_at file place) }
     ensures memory { result ≡ Err ReadEnd.Memory → IfSome (S.bytes store.old) (λ file. NoneOf (Applies file place) loading_reasons) }
     ensures store { OnlyAsks S.bytes S.told S.name S.faults (result ≡ Err ReadEnd.Store) store.old store.new }
@@ -135,7 +135,7 @@ pub(crate) fn first_not_at<S: Store, F: Fn(&[u8]) -> bool + Drop>(
     ensures apart { IfOk result (λ found. IfSome found (λ f. ¬ StandsBefore F.Fn test.now.test f.bytes)) }
     ensures refused { (fault : Fault) → result ≡ Err (ReadEnd.Refused fault)
         → IfSome (S.bytes store.old) (λ file. IsVerdict false file place fault) }
-    ensures handed { IfSome (S.bytes store.old) (λ file. NoneOf (Applies file place) passing_reasons
+    ensures handed { IfSome (S.bytes store.old) (λ file. NoneOf (Applies file place) unpassed_reasons
         → S.handed store.new + place ≤ S.handed store.old + end_at file place) }
     ensures memory { result ≡ Err ReadEnd.Memory → IfSome (S.bytes store.old) (λ file. NoneOf (Applies file place) loading_reasons) }
     ensures store { OnlyAsks S.bytes S.told S.name S.faults (result ≡ Err ReadEnd.Store) store.old store.new }

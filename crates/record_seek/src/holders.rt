@@ -5,7 +5,7 @@ ghost use Rattle.chunk_header.specs.Chunks.{ChunkValue};
 ghost use Rattle.meta_chunk.specs.Files.{IsFrame};
 ghost use Rattle.chunk_reader.specs.Blocks.{TellsBegin};
 ghost use Rattle.chunk_reader.specs.Holders.{IsOnWay, IsHolder, IsHolderFault};
-ghost use Rattle.chunk_reader.specs.Reasons.{Applies, IsFirstOf, passing_reasons};
+ghost use Rattle.chunk_reader.specs.Reasons.{Applies, IsFirstOf, unpassed_reasons};
 ghost use Rattle.chunk_reader.specs.SearchBounds.{holder_bound};
 ghost use Rattle.chunk_reader.specs.declared.reasons.Fault.{Fault};
 
@@ -94,7 +94,7 @@ fn holder_from<S: Store>(store: &mut S, size: u64, at: u64, begin: u64) -> Resul
         TellsBegin file (block_of at) begin → IsHolder file at place)) }
     ensures refused { (fault : Fault) → result ≡ Err (VerifyEnd.Refused fault)
         → IfSome (S.bytes store.old) (λ file. TellsBegin file (block_of at) begin
-        → IsOnWay file at fault.at × IsFirstOf (Applies file fault.at) passing_reasons fault.why) }
+        → IsOnWay file at fault.at × IsFirstOf (Applies file fault.at) unpassed_reasons fault.why) }
     ensures handed { IfSome (S.bytes store.old) (λ file. (ks : List ChunkValue)
         → IsFrame ks file → TellsBegin file (block_of at) begin
         → S.handed store.new ≤ S.handed store.old + (2 * chunk_header_size + block_size)) }

@@ -1,4 +1,5 @@
-//! Finding records of a file: by their position, and by a key in a file whose records are in order.
+//! Finding records of a file: by their position, and by a key. Of records in order the first is found that doesn't stand before
+//! the key, and of others one that stands right behind one that does.
 #![tactic(auto)]
 
 mod chunk_records;

@@ -2,7 +2,7 @@ ghost use Rattle.std.specs.Prelude.{◌≡◌, ◌+◌, ◌^◌, ◌<◌, ◌≤
 ghost use Rattle.record_io.specs.Calls.{OnlyAsks};
 ghost use Rattle.block_layout.specs.Layout.{block_header_size, chunk_header_size, IsBlock, IsBoundary};
 ghost use Rattle.chunk_reader.specs.Blocks.{TellsBegin, IsBlockFault};
-ghost use Rattle.chunk_reader.specs.Reasons.{Applies, IsFirstOf, passing_reasons};
+ghost use Rattle.chunk_reader.specs.Reasons.{Applies, IsFirstOf, unpassed_reasons};
 ghost use Rattle.chunk_reader.specs.declared.reasons.Fault.{Fault};
 ghost use Rattle.record_seek.specs.Steps.{IsPassedAt};
 
@@ -53,7 +53,7 @@ pub(crate) fn passed_at<S: Store>(store: &mut S, size: u64, at: u64) -> Result<P
     ensures within { IfOk result (λ chunk. chunk.end ≤ size) }
     ensures room { IfOk result (λ chunk. at + chunk.num_records ≤ chunk.end) }
     ensures refused { (fault : Fault) → result ≡ Err (VerifyEnd.Refused fault) → (fault.at ≡ at)
-        × IfSome (S.bytes store.old) (λ file. IsFirstOf (Applies file at) passing_reasons fault.why) }
+        × IfSome (S.bytes store.old) (λ file. IsFirstOf (Applies file at) unpassed_reasons fault.why) }
     ensures handed { S.handed store.new ≤ S.handed store.old + chunk_header_size }
     ensures store { OnlyAsks S.bytes S.told S.name S.faults (result ≡ Err VerifyEnd.Store) store.old store.new }
 {

@@ -4,7 +4,7 @@ ghost use Rattle.block_layout.specs.Layout.{chunk_header_size, IsBoundary};
 ghost use Rattle.chunk_header.specs.Chunks.{ChunkValue};
 ghost use Rattle.meta_chunk.specs.Files.{IsFrame, begin_of, LiesIn};
 ghost use Rattle.chunk_reader.specs.Holders.{IsHolder};
-ghost use Rattle.chunk_reader.specs.Reasons.{Applies, NoneOf, IsFirstOf, passing_reasons, loading_reasons};
+ghost use Rattle.chunk_reader.specs.Reasons.{Applies, NoneOf, IsFirstOf, unpassed_reasons, loading_reasons};
 ghost use Rattle.chunk_reader.specs.Searches.{HasRecordFrom, SearchComesTo, AnswersAt, SearchGives, IsSearchFault};
 ghost use Rattle.chunk_reader.specs.SearchBounds.{position_bound};
 ghost use Rattle.chunk_reader.specs.declared.reasons.Fault.{Fault};
@@ -72,7 +72,7 @@ fn answering_from<S: Store>(
     ensures answer { IfOk result (λ found. IfSome (S.bytes store.old) (λ file. IsHolder file at begin → IsAnswer file at found)) }
     ensures refused { (fault : Fault) → result ≡ Err (VerifyEnd.Refused fault)
         → IfSome (S.bytes store.old) (λ file. IsHolder file at begin
-        → SearchComesTo file at fault.at × (fault.at < size) × IsFirstOf (Applies file fault.at) passing_reasons fault.why) }
+        → SearchComesTo file at fault.at × (fault.at < size) × IsFirstOf (Applies file fault.at) unpassed_reasons fault.why) }
     ensures handed { IfSome (S.bytes store.old) (λ file. (ks : List ChunkValue) (h j : ℕ)
         → IsFrame ks file → LiesIn ks at h → begin ≡ begin_of ks h → IsAnsweringNumber ks at j
         → S.handed store.new ≤ S.handed store.old + chunk_header_size * (j + 1 - h)) }
