@@ -11,7 +11,7 @@ use Rattle.meta_chunk.specs.Counts.{is_unread}
 use Rattle.meta_chunk.specs.Files.{end_of_chunks, laid_each}
 use Rattle.meta_chunk.specs.PaddingSizes.{padding_at}
 use Rattle.meta_chunk.proofs.Joins.{end_of_chunks-append, laid_each-append}
-use Rattle.record_writer.specs.Progresses.{Progress, Lays, LaysFront, TakesAndHoldsFront}
+use Rattle.record_writer.specs.Progresses.{Progress, Lays, LaysFront, TakesAndHoldsFront, nothing_made}
 use Rattle.record_writer.proofs.Counted.{counted-padding_at, length-padding_at}
 use Rattle.record_writer.proofs.Fronts.{TakesAndHolds-none, TakesAndHoldsFront-none, TakesAndHoldsFront-failed, TakesAndHoldsFront-longer, TakesAndHoldsFront-behind}
 
@@ -132,3 +132,10 @@ Lays-padding a b s t bytes place going records unread counted = record {
   records = omega (arith, records, (counted-padding_at s.place).0);
   unread = omega (arith, unread, (counted-padding_at s.place).1);
 }
+
+-- where nothing was made before
+pub Lays-at_front : (a b : Option (List ℕ)) (s t : Progress) (ks : List ChunkValue) → s ≡ nothing_made → Lays a b s t ks → Lays a b nothing_made t ks
+Lays-at_front a b s t ks is laid = subst (λ (p : Progress). Lays a b p t ks) is laid
+
+pub LaysFront-at_front : (a b : Option (List ℕ)) (s t : Progress) (ks : List ChunkValue) → s ≡ nothing_made → LaysFront a b s t ks → LaysFront a b nothing_made t ks
+LaysFront-at_front a b s t ks is front = subst (λ (p : Progress). LaysFront a b p t ks) is front

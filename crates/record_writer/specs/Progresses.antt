@@ -1,5 +1,6 @@
 -- How far a file is that is being made. Own.
-use Rattle.std.specs.Prelude.{◌≡◌, ℕ, ◌+◌, ◌*◌, Bool, true, false, Option, Some, List, [], ◌++◌, length, map, IfSome}
+use Rattle.std.specs.Prelude.{◌≡◌, ℕ, ◌+◌, ◌*◌, Bool, true, false, Option, Some, List, [], ◌++◌, length, map, IfSome, Result, OnOk, OnErr, IsErr}
+use Rattle.record_io.specs.Calls.{OnlyCounts}
 use Rattle.record_io.specs.Outside.{Takes}
 use Rattle.record_io.specs.Buffers.{TakesAndHolds}
 use Rattle.record_values.specs.declared.file_totals.Totals.{Totals}
@@ -25,6 +26,10 @@ pub record Progress : Type 0 where
 abbrev pub nothing_made : Progress
 nothing_made = record { place = 0; spent = false; held = []; chunks = 0; records = 0; unread = 0 }
 
+-- nothing is written yet behind a place, up to which others wrote
+abbrev pub resumed_at : ℕ → Progress
+resumed_at at = record nothing_made { place = at }
+
 -- what a put leaves that failed: no other follows, nothing is held, and the counts are as before
 abbrev pub spent_in : Progress → Progress
 spent_in p = record p { spent = true; held = [] }
@@ -32,6 +37,15 @@ spent_in p = record p { spent = true; held = [] }
 -- what was counted
 abbrev pub totals_made : Progress → Totals
 totals_made p = record { chunks = p.chunks; records = p.records; bytes = p.place; unread = p.unread }
+
+-- what is counted with chunks behind what was there
+abbrev pub totals_behind : Progress → List ChunkValue → Totals
+totals_behind p ks = record {
+  chunks = p.chunks + length ks;
+  records = p.records + (totals_of ks).records;
+  bytes = end_of_chunks p.place ks;
+  unread = p.unread + (totals_of ks).unread;
+}
 
 -- chunks were laid behind those that were there
 pub record Lays (before after : Option (List ℕ)) (old new : Progress) (ks : List ChunkValue) : Type 0 where
@@ -52,6 +66,13 @@ pub record TakesAndHoldsFront (before after : Option (List ℕ)) (bytes held : L
 -- a front of the bytes of chunks was laid behind those that were there
 pub record LaysFront (before after : Option (List ℕ)) (old new : Progress) (ks : List ChunkValue) : Type 0 where
   pub bytes : TakesAndHoldsFront before after (old.held ++ laid_each old.place ks) new.held
+
+-- chunks were laid by way of a sink: all of them, or where that failed a front of them, and then the sink is the cause
+pub record LaysTo {M K X E : Type 0} (taken : M → Option (List ℕ)) (lent : M → K) (faults : M → ℕ)
+    (result : Result X E) (old new : Progress) (ks : List ChunkValue) (before after : M) : Type 0 where
+  pub whole : OnOk result (Lays (taken before) (taken after) old new ks)
+  pub front : OnErr result (LaysFront (taken before) (taken after) old new ks)
+  pub counts : OnlyCounts lent faults (IsErr result) before after
 
 -- the chunks of groups
 abbrev pub chunks_of_groups : List (List (List ℕ)) → List ChunkValue

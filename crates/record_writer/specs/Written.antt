@@ -1,16 +1,18 @@
 -- What is written under options, and what a call that writes answers. Own.
-use Rattle.std.specs.Prelude.{◌≡◌, ℕ, ◌^◌, ◌≤◌, Option, Some, None, Result, Ok, Err, List, length}
+use Rattle.std.specs.Prelude.{◌≡◌, ℕ, ◌^◌, ◌≤◌, Option, Some, None, Result, Ok, Err, List, length, IfSome, OnOk}
 use Rattle.std.specs.Option.{ForSome}
+use Rattle.record_io.specs.Calls.{OnlyCounts}
 use Rattle.record_io.specs.Outside.{Takes, TakesFront}
 use Rattle.record_values.specs.declared.file_totals.Totals.{Totals}
 use Rattle.chunk_header.specs.Chunks.{ChunkValue}
 use Rattle.meta_chunk.specs.Counts.{totals_of}
-use Rattle.record_group.specs.Groups.{chunks_of, file_of}
+use Rattle.meta_chunk.specs.Files.{laid_each}
+use Rattle.record_group.specs.Groups.{chunks_of, file_of, record_chunks}
 use Rattle.record_writer.specs.declared.feed.Stop.TheVariants.{TooLong as too_long, InputTooLong as input_too_long, BadLine as bad_line}
 use Rattle.record_writer.specs.declared.options.WriteOptions.{WriteOptions}
 use Rattle.record_writer.specs.declared.engine.WriteEnd.{WriteEnd}
 use Rattle.record_writer.specs.declared.engine.WriteEnd.TheVariants.{TooLong, InputTooLong, BadLine, Input, Made, Memory}
-use Rattle.record_writer.specs.Feeds.{Rest}
+use Rattle.record_writer.specs.Feeds.{Rest, nothing_left}
 
 -- the options are within their limits
 pub record AreInLimits (options : WriteOptions) : Type 0 where
@@ -28,16 +30,40 @@ chunks_under options records = chunks_of records options.size options.every opti
 abbrev pub file_under : WriteOptions → List (List ℕ) → List ℕ
 file_under options records = file_of records options.size options.every options.pad
 
--- the answer where these were a feed's records and the stop behind them: totals where there was no stop, and else
+-- the chunks of records alone, from a place on where others end, and their bytes
+abbrev pub tail_chunks : WriteOptions → ℕ → List (List ℕ) → List ChunkValue
+tail_chunks options at records = record_chunks at records options.size options.every options.pad
+
+abbrev pub tail_under : WriteOptions → ℕ → List (List ℕ) → List ℕ
+tail_under options at records = laid_each at (tail_chunks options at records)
+
+-- the totals of chunks alone that are laid from a place on
+abbrev pub totals_from : ℕ → List ChunkValue → Totals
+totals_from at ks = record {
+  chunks = length ks;
+  records = (totals_of ks).records;
+  bytes = length (laid_each at ks);
+  unread = (totals_of ks).unread;
+}
+
+-- the answer where these were a feed's records and the stop behind them: these totals where there was no stop, and else
 -- that stop, with the number of the records before it. A fault and want of memory say nothing of them
+abbrev pub AnswersTotals : Result Totals WriteEnd → Totals → Rest → Type 0
+AnswersTotals (Ok totals) wanted rest = (rest.stop ≡ None) × (totals ≡ wanted)
+AnswersTotals (Err (TooLong count)) wanted rest = (rest.stop ≡ Some too_long) × (count ≡ length rest.records)
+AnswersTotals (Err InputTooLong) wanted rest = rest.stop ≡ Some input_too_long
+AnswersTotals (Err (BadLine count)) wanted rest = (rest.stop ≡ Some bad_line) × (count ≡ length rest.records)
+AnswersTotals (Err Input) wanted rest = Unit {0}
+AnswersTotals (Err Made) wanted rest = Unit {0}
+AnswersTotals (Err Memory) wanted rest = Unit {0}
+
+-- with the totals of the file of the records
 abbrev pub Answers : Result Totals WriteEnd → WriteOptions → Rest → Type 0
-Answers (Ok totals) options rest = (rest.stop ≡ None) × (totals ≡ totals_of (chunks_under options rest.records))
-Answers (Err (TooLong count)) options rest = (rest.stop ≡ Some too_long) × (count ≡ length rest.records)
-Answers (Err InputTooLong) options rest = rest.stop ≡ Some input_too_long
-Answers (Err (BadLine count)) options rest = (rest.stop ≡ Some bad_line) × (count ≡ length rest.records)
-Answers (Err Input) options rest = Unit {0}
-Answers (Err Made) options rest = Unit {0}
-Answers (Err Memory) options rest = Unit {0}
+Answers result options rest = AnswersTotals result (totals_of (chunks_under options rest.records)) rest
+
+-- with those of the chunks of records alone, from a place on
+abbrev pub AnswersTail : Result Totals WriteEnd → WriteOptions → ℕ → Rest → Type 0
+AnswersTail result options at rest = AnswersTotals result (totals_from at (tail_chunks options at rest.records)) rest
 
 -- what a sink took with that answer: a file, or a front of it where a fault or want of memory cut the work off
 abbrev pub TakesFile : Result Totals WriteEnd → Option (List ℕ) → Option (List ℕ) → List ℕ → Type 0
@@ -48,3 +74,15 @@ TakesFile (Err (BadLine count)) before after file = Takes before after file
 TakesFile (Err Input) before after file = TakesFront before after file
 TakesFile (Err Made) before after file = TakesFront before after file
 TakesFile (Err Memory) before after file = TakesFront before after file
+
+-- a call wrote a feed's records: it answers with these totals of them, and a sink took these bytes of them; a feed without a stop
+-- has nothing left; and both only count their faults, where the answer says that they failed
+pub record WritesRecords {L N M K : Type 0} (rest : L → Option Rest) (name : L → N) (feed_faults : L → ℕ)
+    (taken : M → Option (List ℕ)) (lent : M → K) (made_faults : M → ℕ)
+    (totals_of_records : List (List ℕ) → Totals) (bytes_of_records : List (List ℕ) → List ℕ)
+    (result : Result Totals WriteEnd) (before after : L) (sink sink_then : M) : Type 0 where
+  pub answer : IfSome (rest before) (λ all. AnswersTotals result (totals_of_records all.records) all)
+  pub made : IfSome (rest before) (λ all. TakesFile result (taken sink) (taken sink_then) (bytes_of_records all.records))
+  pub read_to_end : OnOk result (IfSome (rest before) (λ _. rest after ≡ Some nothing_left))
+  pub feed : OnlyCounts name feed_faults (result ≡ Err Input) before after
+  pub made_counts : OnlyCounts lent made_faults (result ≡ Err Made) sink sink_then

@@ -1,12 +1,11 @@
-ghost use Rattle.std.specs.Prelude.{◌≡◌, ◌^◌, ◌≤◌, false, [], OnOk, OnErr, IsErr, map};
+ghost use Rattle.std.specs.Prelude.{◌≡◌, ◌^◌, ◌≤◌, false, [], map};
 ghost use Rattle.std.specs.List.{AllByRecursion};
-ghost use Rattle.record_io.specs.Calls.{OnlyCounts};
 ghost use Rattle.chunk_header.specs.Views.{value_of_chunk};
 ghost use Rattle.meta_chunk.specs.Counts.{is_unread};
 ghost use Rattle.meta_chunk.specs.Files.{end_of_chunks};
 ghost use Rattle.ordered_writer.specs.Reorders.{coming};
 ghost use Rattle.record_writer.specs.CodedWindows.{AreInOrder};
-ghost use Rattle.record_writer.specs.Progresses.{Lays, LaysFront};
+ghost use Rattle.record_writer.specs.Progresses.{LaysTo};
 
 use crate::made_file::MadeFile;
 use crate::pace::Pace;
@@ -157,9 +156,7 @@ fn put_out<M: Sink>(chunks: Reorder, file: &mut MadeFile, made: &mut M) -> Resul
     requires in_reach { end_of_chunks file.old.place (map value_of_chunk (coming chunks)) ≤ 2 ^ 62 }
     requires in_order { AreInOrder (map value_of_chunk (coming chunks)) chunks }
     requires read { AllByRecursion (λ chunk. is_unread (value_of_chunk chunk) ≡ false) (coming chunks) }
-    ensures whole { OnOk result (Lays (M.taken made.old) (M.taken made.new) file.old file.new (map value_of_chunk (coming chunks))) }
-    ensures front { OnErr result (LaysFront (M.taken made.old) (M.taken made.new) file.old file.new (map value_of_chunk (coming chunks))) }
-    ensures made { OnlyCounts M.lent M.faults (IsErr result) made.old made.new }
+    ensures { LaysTo M.taken M.lent M.faults result file.old file.new (map value_of_chunk (coming chunks)) made.old made.new }
 {
     file.flush(made)?;
     put_in_order(chunks, file, made)?;
@@ -180,9 +177,7 @@ fn put_in_order<M: Sink>(
     requires in_reach { end_of_chunks file.old.place (map value_of_chunk (coming chunks)) ≤ 2 ^ 62 }
     requires in_order { AreInOrder (map value_of_chunk (coming chunks)) chunks }
     requires read { AllByRecursion (λ chunk. is_unread (value_of_chunk chunk) ≡ false) (coming chunks) }
-    ensures whole { OnOk result (Lays (M.taken made.old) (M.taken made.new) file.old file.new (map value_of_chunk (coming chunks))) }
-    ensures front { OnErr result (LaysFront (M.taken made.old) (M.taken made.new) file.old file.new (map value_of_chunk (coming chunks))) }
-    ensures made { OnlyCounts M.lent M.faults (IsErr result) made.old made.new }
+    ensures { LaysTo M.taken M.lent M.faults result file.old file.new (map value_of_chunk (coming chunks)) made.old made.new }
 {
     while let Some(chunk) = chunks.next() {
         file.put(made, &chunk, false)?;

@@ -1,17 +1,19 @@
-ghost use Rattle.std.specs.Prelude.{◌≡◌, ℕ, ◌+◌, ◌^◌, ◌≤◌, true, false, Some, None, List, [], IfOk, IfSome, OnOk, OnErr};
+ghost use Rattle.std.specs.Prelude.{◌≡◌, ℕ, ◌+◌, ◌^◌, ◌<◌, ◌≤◌, true, false, Some, None, List, [], ◌++◌, IfOk, IfSome, OnOk, OnErr};
+ghost use Rattle.block_layout.specs.Layout.{IsBoundary};
 ghost use Rattle.record_io.specs.Calls.{OnlyCounts};
+ghost use Rattle.meta_chunk.specs.Counts.{totals_of};
 ghost use Rattle.record_group.specs.Groups.{groups, pads_start, pads_end};
 ghost use Rattle.record_group.specs.Groupings.{groups_from};
 ghost use Rattle.record_writer.specs.CodedWindows.{CodesSimply};
 ghost use Rattle.record_writer.specs.Ends.{answer_of};
 ghost use Rattle.record_writer.specs.Feeds.{nothing_left};
-ghost use Rattle.record_writer.specs.Progresses.{Lays, LaysFront, nothing_made, chunks_of_groups, reach_of};
-ghost use Rattle.record_writer.specs.Written.{AreInLimits, Answers, TakesFile, chunks_under, file_under};
+ghost use Rattle.record_writer.specs.Progresses.{Lays, LaysFront, chunks_of_groups, reach_of, totals_behind};
+ghost use Rattle.record_writer.specs.Written.{AreInLimits, WritesRecords, chunks_under, file_under, tail_chunks, tail_under, totals_from};
 
 use crate::coded_window::CodedWindow;
 use crate::cut_off::CutOff;
 use crate::feed::{RecordFeed, Stop};
-use crate::group_taker::{FeedPart, GroupTaker};
+use crate::group_taker::FeedPart;
 use crate::made_file::MadeFile;
 use crate::options::WriteOptions;
 use crate::simple_window::SimpleWindow;
@@ -69,12 +71,13 @@ impl From<Failed> for WriteEnd {
 ///
 /// Where a stop follows the records, the file of these is written too. The totals are of the file.
 ///
-/// The chunks of groups are put window by window, each in a thread of its own while the next is taken. With several workers
-/// that is `write_coded` with `SimpleCoder`. With one, the chunks are encoded by the two threads that take and put them. Where
-/// no thread can be made, that is done here, and where one window holds all groups, no thread is wanted. A window of more than
-/// 8 MiB is put before more is taken. So what is held at a time with one worker are two windows, one of 8 MiB at most and one
-/// of less than 4 MiB but for its last group, in each up to 8 MiB that are kept for the next chunks; the open group; and the
-/// record behind it. No clause says how much is held.
+/// The chunks of groups are put window by window, each in a thread of its own while the next is taken. Where no thread can be
+/// made, that is done here. With several workers the file is written as by `write_coded` with `SimpleCoder`.
+///
+/// With one worker the chunks are encoded by the two threads that take and put them. Where one window holds all groups, no
+/// thread is wanted then, and a window of more than 8 MiB is put before more is taken. So what is held at a time are two
+/// windows, one of 8 MiB at most and one of less than 4 MiB but for its last group, in each up to 8 MiB that are kept for the
+/// next chunks; the open group; and the record behind it. No clause says how much is held.
 ///
 /// # Errors
 ///
@@ -92,19 +95,45 @@ pub fn write_records<R: Threads + Sync, L: RecordFeed, M: Sink + Send>(
     requires feed_going { L.going feed.old ≡ true }
     requires in_reach { L.bound feed.old ≤ 2 ^ 41 }
     requires in_limits { AreInLimits options.now }
-    ensures answer { IfSome (L.rest feed.old) (Answers result options.now) }
-    ensures made { IfSome (L.rest feed.old) (λ rest.
-        TakesFile result (M.taken made.old) (M.taken made.new) (file_under options.now rest.records)) }
-    ensures read_to_end { OnOk result (IfSome (L.rest feed.old) (λ _. L.rest feed.new ≡ Some nothing_left)) }
-
-    ensures feed { OnlyCounts L.name L.faults (result ≡ Err WriteEnd.Input) feed.old feed.new }
-    ensures made_counts { OnlyCounts M.lent M.faults (result ≡ Err WriteEnd.Made) made.old made.new }
+    ensures { WritesRecords L.rest L.name L.faults M.taken M.lent M.faults
+        (λ records. totals_of (chunks_under options.now records)) (file_under options.now) result feed.old feed.new made.old made.new }
 {
-    if options.workers > 1 {
-        return write_coded(rt, alloc, options, &SimpleCoder, feed, made);
-    }
-    let window = SimpleWindow::new(alloc);
-    write(rt, alloc, options, &SimpleCoder, window, feed, made)
+    let mut file = MadeFile::new();
+    file.start(made)?;
+    write_behind(rt, alloc, options, &mut file, feed, made)
+}
+
+/// Writes the same chunks of records as `write_records` would, with the padding that is wanted, but lays them from a place on,
+/// up to which others wrote: a boundary behind the signature. The totals are of these chunks alone. What lies before them, and
+/// that the sink goes on behind it, is the caller's.
+///
+/// # Errors
+///
+/// As those of `write_records`. Own.
+pub fn write_after<R: Threads + Sync, L: RecordFeed, M: Sink + Send>(
+    rt: &R,
+    alloc: Global,
+    options: &WriteOptions,
+    at: u64,
+    feed: &mut L,
+    made: &mut M,
+) -> Result<Totals, WriteEnd>
+    requires from_boundary { IsBoundary at }
+    requires behind_signature { 64 ≤ at }
+    requires within { at ≤ 2 ^ 60 }
+    requires feed_going { L.going feed.old ≡ true }
+    requires in_reach { L.bound feed.old ≤ 2 ^ 41 }
+    requires in_limits { AreInLimits options.now }
+    ensures written { WritesRecords L.rest L.name L.faults M.taken M.lent M.faults
+        (λ records. totals_from at (tail_chunks options.now at records)) (tail_under options.now at) result feed.old feed.new made.old made.new }
+    ensures in_reach { IfOk result (λ totals. at + totals.bytes < 2 ^ 64) }
+{
+    let mut file = MadeFile::resume(at);
+    let totals = write_behind(rt, alloc, options, &mut file, feed, made)?;
+    Ok(Totals {
+        bytes: totals.bytes - at,
+        ..totals
+    })
 }
 
 /// Writes the same file as `write_records`, with the same answers, where the coder's chunk of each list of records that costs
@@ -131,54 +160,71 @@ pub fn write_coded<R: Threads + Sync, C: Coder + Sync, L: RecordFeed, M: Sink + 
     requires feed_going { L.going feed.old ≡ true }
     requires in_reach { L.bound feed.old ≤ 2 ^ 41 }
     requires in_limits { AreInLimits options.now }
-    ensures answer { IfSome (L.rest feed.old) (Answers result options.now) }
-    ensures made { IfSome (L.rest feed.old) (λ rest.
-        TakesFile result (M.taken made.old) (M.taken made.new) (file_under options.now rest.records)) }
-    ensures read_to_end { OnOk result (IfSome (L.rest feed.old) (λ _. L.rest feed.new ≡ Some nothing_left)) }
-
-    ensures feed { OnlyCounts L.name L.faults (result ≡ Err WriteEnd.Input) feed.old feed.new }
-    ensures made_counts { OnlyCounts M.lent M.faults (result ≡ Err WriteEnd.Made) made.old made.new }
+    ensures { WritesRecords L.rest L.name L.faults M.taken M.lent M.faults
+        (λ records. totals_of (chunks_under options.now records)) (file_under options.now) result feed.old feed.new made.old made.new }
 {
+    let mut file = MadeFile::new();
+    file.start(made)?;
     let window = CodedWindow::new(alloc, options.workers);
-    write(rt, alloc, options, coder, window, feed, made)
+    write(rt, alloc, options, coder, window, &mut file, feed, made)
 }
 
-/// As `write_coded`, in windows of the kind of this empty one.
+/// Writes the chunks of the feed's records behind what a file has already, which is no record. The totals are of the file.
+fn write_behind<R: Threads + Sync, L: RecordFeed, M: Sink + Send>(
+    rt: &R,
+    alloc: Global,
+    options: &WriteOptions,
+    file: &mut MadeFile,
+    feed: &mut L,
+    made: &mut M,
+) -> Result<Totals, WriteEnd>
+    requires going { file.old.spent ≡ false }
+    requires no_record { file.old.records ≡ 0 }
+    requires from_boundary { IsBoundary file.old.place }
+    requires within { file.old.place ≤ 2 ^ 60 }
+    requires feed_going { L.going feed.old ≡ true }
+    requires in_reach { L.bound feed.old ≤ 2 ^ 41 }
+    requires in_limits { AreInLimits options.now }
+    ensures written { WritesRecords L.rest L.name L.faults M.taken M.lent M.faults
+        (λ records. totals_behind file.old (tail_chunks options.now file.old.place records))
+        (λ records. file.old.held ++ tail_under options.now file.old.place records) result feed.old feed.new made.old made.new }
+    ensures behind { IfOk result (λ totals. file.old.place ≤ totals.bytes) }
+{
+    if options.workers > 1 {
+        let window = CodedWindow::new(alloc, options.workers);
+        return write(rt, alloc, options, &SimpleCoder, window, file, feed, made);
+    }
+    let window = SimpleWindow::new(alloc);
+    write(rt, alloc, options, &SimpleCoder, window, file, feed, made)
+}
+
+/// As `write_behind`, with a coder and in windows of the kind of this empty one.
 fn write<R: Threads + Sync, C: Coder + Sync, W: Window + Send, L: RecordFeed, M: Sink + Send>(
     rt: &R,
     alloc: Global,
     options: &WriteOptions,
     coder: &C,
     window: W,
+    file: &mut MadeFile,
     feed: &mut L,
     made: &mut M,
 ) -> Result<Totals, WriteEnd>
     requires codes { CodesSimply (C.chunk_of coder.now) }
     requires empty { W.groups window ≡ [] }
+    requires going { file.old.spent ≡ false }
+    requires no_record { file.old.records ≡ 0 }
+    requires from_boundary { IsBoundary file.old.place }
+    requires within { file.old.place ≤ 2 ^ 60 }
     requires feed_going { L.going feed.old ≡ true }
     requires in_reach { L.bound feed.old ≤ 2 ^ 41 }
     requires in_limits { AreInLimits options.now }
-    ensures answer { IfSome (L.rest feed.old) (Answers result options.now) }
-    ensures made { IfSome (L.rest feed.old) (λ rest.
-        TakesFile result (M.taken made.old) (M.taken made.new) (file_under options.now rest.records)) }
-    ensures read_to_end { OnOk result (IfSome (L.rest feed.old) (λ _. L.rest feed.new ≡ Some nothing_left)) }
-
-    ensures feed { OnlyCounts L.name L.faults (result ≡ Err WriteEnd.Input) feed.old feed.new }
-    ensures made_counts { OnlyCounts M.lent M.faults (result ≡ Err WriteEnd.Made) made.old made.new }
+    ensures written { WritesRecords L.rest L.name L.faults M.taken M.lent M.faults
+        (λ records. totals_behind file.old (tail_chunks options.now file.old.place records))
+        (λ records. file.old.held ++ tail_under options.now file.old.place records) result feed.old feed.new made.old made.new }
+    ensures behind { IfOk result (λ totals. file.old.place ≤ totals.bytes) }
 {
-    let mut file = MadeFile::new();
-    let mut taker = GroupTaker::new(alloc, options);
-    let mut windows = WindowPair::new(alloc, window);
-    let stop = put_chunks(
-        rt,
-        coder,
-        &mut file,
-        options,
-        &mut taker,
-        &mut windows,
-        feed,
-        made,
-    );
+    let mut windows = WindowPair::new(alloc, options, window);
+    let stop = put_chunks(rt, coder, file, options, &mut windows, feed, made);
     // What is held goes out, however the work ended, unless it was cut off before a chunk of records.
     if stop.is_ok() || file.totals().records > 0 {
         file.flush(made)?;
@@ -198,37 +244,38 @@ fn answer(stop: Option<Stop>, totals: Totals) -> Result<Totals, WriteEnd>
     }
 }
 
-/// Puts the chunks of the file, and answers which stop follows the records.
+/// Puts the chunks of the feed's records with the padding that is wanted, and answers which stop follows the records.
 fn put_chunks<R: Threads + Sync, C: Coder + Sync, W: Window + Send, L: RecordFeed, M: Sink + Send>(
     rt: &R,
     coder: &C,
     file: &mut MadeFile,
     options: &WriteOptions,
-    taker: &mut GroupTaker,
     windows: &mut WindowPair<W>,
     feed: &mut L,
     made: &mut M,
 ) -> Result<Option<Stop>, CutOff>
     requires codes { CodesSimply (C.chunk_of coder.now) }
-    requires at_front { file.old ≡ nothing_made }
-    requires no_record { taker.old.group ≡ [] }
-    requires all { (records : List (List ℕ)) → groups_from taker.old records ≡ groups records options.now.size options.now.every }
+    requires going { file.old.spent ≡ false }
+    requires from_boundary { IsBoundary file.old.place }
+    requires within { file.old.place ≤ 2 ^ 60 }
+    requires no_record { windows.old.taker.group ≡ [] }
+    requires all { (records : List (List ℕ)) → groups_from windows.old.taker records ≡ groups records options.now.size options.now.every }
     requires window { W.groups windows.old.window ≡ [] }
     requires next { W.groups windows.old.next ≡ [] }
     requires feed_going { L.going feed.old ≡ true }
     requires in_reach { L.bound feed.old ≤ 2 ^ 41 }
     ensures stop { IfOk result (λ stop. IfSome (L.rest feed.old) (λ rest. rest.stop ≡ stop)) }
     ensures whole { OnOk result (IfSome (L.rest feed.old) (λ rest.
-        Lays (M.taken made.old) (M.taken made.new) file.old file.new (chunks_under options.now rest.records))) }
+        Lays (M.taken made.old) (M.taken made.new) file.old file.new (tail_chunks options.now file.old.place rest.records))) }
     ensures front { OnErr result (IfSome (L.rest feed.old) (λ rest.
-        LaysFront (M.taken made.old) (M.taken made.new) file.old file.new (chunks_under options.now rest.records))) }
+        LaysFront (M.taken made.old) (M.taken made.new) file.old file.new (tail_chunks options.now file.old.place rest.records))) }
+    ensures behind { OnOk result (file.old.place ≤ file.new.place) }
     ensures drained { result ≡ Ok None → IfSome (L.rest feed.old) (λ _. L.rest feed.new ≡ Some nothing_left) }
     ensures feed { OnlyCounts L.name L.faults (result ≡ Err CutOff.Input) feed.old feed.new }
     ensures made { OnlyCounts M.lent M.faults (result ≡ Err CutOff.Made) made.old made.new }
 {
-    file.start(made)?;
     file.pad_if(pads_start(options.pad), made)?;
-    let stop = put_groups(rt, coder, file, taker, windows, feed, made)?;
+    let stop = put_groups(rt, coder, file, windows, feed, made)?;
     file.pad_if(pads_end(options.pad), made)?;
     Ok(stop)
 }
@@ -254,7 +301,6 @@ fn put_groups<R: Threads + Sync, C: Coder + Sync, W: Window + Send, L: RecordFee
     rt: &R,
     coder: &C,
     file: &mut MadeFile,
-    taker: &mut GroupTaker,
     windows: &mut WindowPair<W>,
     feed: &mut L,
     made: &mut M,
@@ -264,23 +310,25 @@ fn put_groups<R: Threads + Sync, C: Coder + Sync, W: Window + Send, L: RecordFee
     requires window { W.groups windows.old.window ≡ [] }
     requires next { W.groups windows.old.next ≡ [] }
     requires feed_going { L.going feed.old ≡ true }
-    requires in_reach { reach_of file.old.place taker.old (L.bound feed.old) ≤ 2 ^ 60 }
+    requires in_reach { reach_of file.old.place windows.old.taker (L.bound feed.old) ≤ 2 ^ 61 }
     ensures stop { IfOk result (λ stop. IfSome (L.rest feed.old) (λ rest. rest.stop ≡ stop)) }
     ensures whole { OnOk result (IfSome (L.rest feed.old) (λ rest.
-        Lays (M.taken made.old) (M.taken made.new) file.old file.new (chunks_of_groups (groups_from taker.old rest.records)))) }
+        Lays (M.taken made.old) (M.taken made.new) file.old file.new (chunks_of_groups (groups_from windows.old.taker rest.records)))) }
     ensures front { OnErr result (IfSome (L.rest feed.old) (λ rest.
-        LaysFront (M.taken made.old) (M.taken made.new) file.old file.new (chunks_of_groups (groups_from taker.old rest.records)))) }
+        LaysFront (M.taken made.old) (M.taken made.new) file.old file.new (chunks_of_groups (groups_from windows.old.taker rest.records)))) }
     ensures going { OnOk result (file.new.spent ≡ false) }
-    ensures in_reach { OnOk result (file.new.place ≤ 2 ^ 60) }
+    ensures place { OnOk result ((file.old.place ≤ file.new.place) × (file.new.place ≤ 2 ^ 61)) }
     ensures drained { result ≡ Ok None → IfSome (L.rest feed.old) (λ _. L.rest feed.new ≡ Some nothing_left) }
     ensures feed { OnlyCounts L.name L.faults (result ≡ Err CutOff.Input) feed.old feed.new }
     ensures made { OnlyCounts M.lent M.faults (result ≡ Err CutOff.Made) made.old made.new }
 {
-    let mut taken = taker.take_window(rt, coder, feed, &mut windows.window, &windows.pace);
+    let mut taken = windows
+        .taker
+        .take_window(rt, coder, feed, &mut windows.window, &windows.pace);
     let end = loop {
         match taken {
             Ok(FeedPart::Window) => {
-                taken = windows.put_and_take(rt, coder, file, taker, feed, made)?;
+                taken = windows.put_and_take(rt, coder, file, feed, made)?;
             }
             Ok(FeedPart::All(stop)) => break Ok(stop),
             Err(cut) => break Err(cut),

@@ -7,6 +7,7 @@ mod cut_off;
 mod engine;
 mod feed;
 mod group_taker;
+pub mod laws;
 mod made_file;
 mod options;
 mod pace;
@@ -14,7 +15,7 @@ mod simple_window;
 mod window;
 mod window_pair;
 
-pub use engine::{WriteEnd, write_coded, write_records};
+pub use engine::{WriteEnd, write_after, write_coded, write_records};
 pub use feed::{FeedEnd, RecordFeed, Stop};
 pub use made_file::MadeFile;
 pub use options::WriteOptions;

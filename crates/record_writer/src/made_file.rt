@@ -1,4 +1,5 @@
 ghost use Rattle.std.specs.Prelude.{◌≡◌, ◌≢◌, ◌^◌, ◌≤◌, true, false, [], ◌∷◌, OnOk, OnErr, IsErr};
+ghost use Rattle.block_layout.specs.Layout.{IsBoundary};
 ghost use Rattle.record_io.specs.Calls.{OnlyCounts, PutsTo};
 ghost use Rattle.chunk_header.specs.SimpleChunks.{simple_chunk};
 ghost use Rattle.chunk_header.specs.Views.{value_of_chunk, HasRightHash};
@@ -7,7 +8,7 @@ ghost use Rattle.meta_chunk.specs.Files.{signature};
 ghost use Rattle.meta_chunk.specs.Laid.{end_of_chunk};
 ghost use Rattle.meta_chunk.specs.PaddingSizes.{padding_at};
 ghost use Rattle.record_group.specs.Groups.{padding_if};
-ghost use Rattle.record_writer.specs.Progresses.{Lays, LaysFront, nothing_made, spent_in, totals_made};
+ghost use Rattle.record_writer.specs.Progresses.{Lays, LaysFront, nothing_made, resumed_at, spent_in, totals_made};
 
 use chunk_header::Chunk;
 use ordered_writer::OrderedWriter;
@@ -15,12 +16,13 @@ use record_io::{Failed, PutBuffer, Sink, Totals};
 use simple_chunk::SimpleChunk;
 use std::marker::Model;
 
-/// A file that is being made, chunk by chunk. Its bytes gather, up to 262,144 of them, before they go to the sink, so `flush`
-/// comes last. After a `start` or `put` that failed there is no other, and nothing is held. Own.
+/// A file that is being made, chunk by chunk. Its bytes gather, up to 196,608 of them, before they go to the sink, so `flush`
+/// comes last; but a run of more than a quarter of that, as between two block headers in a large chunk, goes straight there.
+/// After a `start` or `put` that failed there is no other, and nothing is held. Own.
 #[derive(Drop)]
 pub struct MadeFile {
     writer: OrderedWriter,
-    buffer: PutBuffer<262_144>,
+    buffer: PutBuffer<196_608>,
     chunks: u64,
     records: u64,
     unread: u64,
@@ -42,8 +44,17 @@ impl MadeFile {
     pub fn new() -> MadeFile
         ensures { result ≡ nothing_made }
     {
+        MadeFile::resume(0)
+    }
+
+    /// A file that goes on behind bytes that others wrote, at a boundary of 2^61 at most. Of these it counts the bytes alone.
+    pub fn resume(place: u64) -> MadeFile
+        requires boundary { IsBoundary place }
+        requires in_reach { place ≤ 2 ^ 61 }
+        ensures { result ≡ resumed_at place }
+    {
         MadeFile {
-            writer: OrderedWriter::new(),
+            writer: OrderedWriter::resume(place),
             buffer: PutBuffer::new(),
             chunks: 0,
             records: 0,

@@ -1,9 +1,8 @@
-ghost use Rattle.std.specs.Prelude.{◌≡◌, ℕ, ◌^◌, ◌<◌, ◌≤◌, false, List, [], ◌∷◌, ◌++◌, All, length, IfNone, IfSome, OnOk, OnErr, IsErr};
-ghost use Rattle.record_io.specs.Calls.{OnlyCounts};
+ghost use Rattle.std.specs.Prelude.{◌≡◌, ℕ, ◌^◌, ◌<◌, ◌≤◌, false, List, [], ◌∷◌, ◌++◌, All, length, IfNone, IfSome, OnOk, OnErr};
 ghost use Rattle.meta_chunk.specs.Files.{end_of_chunks};
 ghost use Rattle.simple_chunk.specs.Costs.{cost_of};
 ghost use Rattle.record_writer.specs.CodedWindows.{AreInOrder};
-ghost use Rattle.record_writer.specs.Progresses.{Lays, LaysFront, chunks_of_groups};
+ghost use Rattle.record_writer.specs.Progresses.{LaysTo, chunks_of_groups};
 
 use crate::made_file::MadeFile;
 use crate::pace::Pace;
@@ -71,7 +70,5 @@ pub(crate) trait Window: Drop {
         requires going { file.old.spent ≡ false }
         requires in_reach { end_of_chunks file.old.place (chunks_of_groups (groups self.old)) ≤ 2 ^ 62 }
         ensures emptied { OnOk result (groups self.new ≡ []) }
-        ensures whole { OnOk result (Lays (M.taken made.old) (M.taken made.new) file.old file.new (chunks_of_groups (groups self.old))) }
-        ensures front { OnErr result (LaysFront (M.taken made.old) (M.taken made.new) file.old file.new (chunks_of_groups (groups self.old))) }
-        ensures made { OnlyCounts M.lent M.faults (IsErr result) made.old made.new };
+        ensures laid { LaysTo M.taken M.lent M.faults result file.old file.new (chunks_of_groups (groups self.old)) made.old made.new };
 }

@@ -28,15 +28,19 @@ put-requires-clause-in_reach g c =
     next-within c.args.file.now.place c.loop-chunk.file.place (2 ^ 62) (coming c.args.chunks) before.0 (coming c.next.new.self) c.in-Some.chunk is before.2.place
     c.requires.in_reach
 
-pub returns-in_err-put-clause-front : goal.returns-in_err-put-clause-front
-returns-in_err-put-clause-front g c =
+pub returns-in_err-put : goal.returns-in_err-put
+returns-in_err-put g c =
     let p = err_from_is_err_and c.from_residual.result c.from_residual.ensures.1 in
     let before = c.loop-chunk.invariant.laid in
     let is = ap (λ (cs : List Chunk). before.0 ++ cs) (sym c.in-Some.ensures.coming) ∙ before.1 in
     rw p.1
-    (LaysFront-next (g.M.Sink.taken c.args.made.now) (g.M.Sink.taken c.loop-chunk.made) (g.M.Sink.taken c.put.new.made) c.args.file.now c.loop-chunk.file
-    c.put.new.self (coming c.args.chunks) before.0 (coming c.next.new.self) c.in-Some.chunk is before.2
-    c.in_err-put.ensures.front)
+    (record {
+      whole = tt;
+      front = LaysFront-next (g.M.Sink.taken c.args.made.now) (g.M.Sink.taken c.loop-chunk.made) (g.M.Sink.taken c.put.new.made) c.args.file.now
+          c.loop-chunk.file c.put.new.self (coming c.args.chunks) before.0 (coming c.next.new.self) c.in-Some.chunk is before.2
+          c.in_err-put.ensures.front;
+      counts = search rules;
+    })
 
 pub loop-chunk-preserved : goal.loop-chunk-preserved
 loop-chunk-preserved g c =
@@ -58,11 +62,16 @@ loop-chunk-preserved g c =
       counts = search rules;
     }
 
-pub returns-clause-whole : goal.returns-clause-whole
-returns-clause-whole g c =
+pub returns : goal.returns
+returns g c =
     let before = c.loop-chunk.invariant.laid in
     let ended : coming c.loop-chunk.chunks ≡ [] = coming-none c.loop-chunk.chunks (search rules) in
     let all : before.0 ≡ coming c.args.chunks = sym (append-nil before.0) ∙ ap (λ (cs : List Chunk). before.0 ++ cs) (sym ended) ∙ before.1 in
-    subst (λ (cs : List Chunk). Lays (g.M.Sink.taken c.args.made.now) (g.M.Sink.taken c.loop-chunk.made) c.args.file.now c.loop-chunk.file (map value_of_chunk cs))
-    all
-    before.2
+    record {
+      whole = subst (λ (cs : List Chunk). Lays (g.M.Sink.taken c.args.made.now) (g.M.Sink.taken c.loop-chunk.made) c.args.file.now c.loop-chunk.file
+          (map value_of_chunk cs))
+          all
+          before.2;
+      front = tt;
+      counts = search rules;
+    }

@@ -1,24 +1,33 @@
-use Rattle.std.proofs.Common.{◌≡◌, Option, IfSome, refl, rules}
+use Rattle.std.proofs.Common.{◌≡◌, ◌≤◌, ◌++◌, Option, IfSome, IfOk, OnOk, List, ℕ, refl, ap, arith, rules}
 use Rattle.std.proofs.lemmas.Result.{IfOk-at_ok, err_from_is_err_and}
 use Rattle.record_io.specs.Outside.{Takes, TakesFront}
 use Rattle.record_io.proofs.Calls.{TakesFront-whole, TakesFront-none}
+use Rattle.record_values.specs.declared.file_totals.Totals.{Totals}
+use Rattle.record_writer.specs.declared.cut_off.CutOff.TheVariants.{Made}
 use Rattle.record_writer.specs.declared.feed.Stop.{Stop}
-use Rattle.record_writer.specs.Progresses.{totals_made}
-use Rattle.record_writer.proofs.Counted.{Answers-told}
+use Rattle.record_writer.specs.Progresses.{totals_behind, totals_made}
+use Rattle.record_writer.specs.Written.{tail_chunks, tail_under}
+use Rattle.record_writer.proofs.Counted.{Answers-told, Answers-cut}
 use Rattle.record_writer.proofs.Flushes.{Takes-ended, TakesFront-ended, totals_made-ended, TakesFile-cut, TakesFile-ended}
 use Rattle.record_writer.proofs.Windows.{where_done}
 use Rattle.record_writer.proofs.engine.write.Goals as goal
 
-pub returns-in_err-flush-clause-made : goal.returns-in_err-flush-clause-made
-returns-in_err-flush-clause-made g c =
+pub returns-in_err-flush-clause-written : goal.returns-in_err-flush-clause-written
+returns-in_err-flush-clause-written g c =
     let p = err_from_is_err_and c.from_residual.result c.from_residual.ensures.1 in
     let put = c.put_chunks-stop.ensures in
     rw (p.1, p.2)
-    (TakesFront-ended c.args.options.now c.new-file.result c.new-file.ensures _ _ _ c.put_chunks-stop.new.file _ c.put_chunks-stop.result put.whole put.front
-    c.in_err-flush.ensures.made.front)
+    (record {
+      answer = Answers-cut (g.L.RecordFeed.rest c.args.feed.now) Made (λ records. totals_behind c.args.file.now (tail_chunks c.args.options.now c.args.file.now.place records));
+      made = TakesFront-ended c.args.options.now c.args.file.now _ _ _ c.put_chunks-stop.new.file _ c.put_chunks-stop.result put.whole put.front
+          c.in_err-flush.ensures.made.front;
+      read_to_end = tt;
+      feed = search rules;
+      made_counts = search rules;
+    })
 
-pub returns-in_err-stop-clause-made : goal.returns-in_err-stop-clause-made
-returns-in_err-stop-clause-made g c =
+pub returns-in_err-stop-clause-written : goal.returns-in_err-stop-clause-written
+returns-in_err-stop-clause-written g c =
     let p = err_from_is_err_and c.from_residual-in_err-stop.result c.from_residual-in_err-stop.ensures.1 in
     let put = c.put_chunks-stop.ensures in
     let front : TakesFront (g.M.Sink.taken c.put_chunks-stop.new.made) (g.M.Sink.taken c.if-is_ok.made) c.put_chunks-stop.new.file.held =
@@ -27,29 +36,38 @@ returns-in_err-stop-clause-made g c =
       | goal.else-is_ok+else-totals-gt0 w ↦ rw w.made-is (TakesFront-none _ _)
     ] in
     rw (p.1, p.2)
-    (TakesFile-cut c.args.options.now _ _ _ c.in_err-stop.field-0.0
-    (TakesFront-ended c.args.options.now c.new-file.result c.new-file.ensures _ _ _ c.put_chunks-stop.new.file _ c.put_chunks-stop.result put.whole put.front front))
+    (record {
+      answer = Answers-cut (g.L.RecordFeed.rest c.args.feed.now) c.in_err-stop.field-0.0 (λ records. totals_behind c.args.file.now (tail_chunks c.args.options.now c.args.file.now.place records));
+      made = TakesFile-cut (λ records. c.args.file.now.held ++ tail_under c.args.options.now c.args.file.now.place records) _ _ _ c.in_err-stop.field-0.0
+          (TakesFront-ended c.args.options.now c.args.file.now _ _ _ c.put_chunks-stop.new.file _ c.put_chunks-stop.result put.whole put.front front);
+      read_to_end = tt;
+      feed = search rules;
+      made_counts = search rules;
+    })
 
-pub returns-clause-answer : goal.returns-clause-answer
-returns-clause-answer g c =
+pub returns-clause-written : goal.returns-clause-written
+returns-clause-written g c =
     let put = c.put_chunks-stop.ensures in
     let same : totals_made c.if-is_ok.file ≡ totals_made c.put_chunks-stop.new.file =
     elim c.if-is_ok.branch [
       | goal.then-is_ok+in_ok-flush w ↦ rw w.file-is w.flush.ensures.same_totals
       | goal.else-is_ok+else-totals-gt0 w ↦ rw w.file-is (refl {a = totals_made c.put_chunks-stop.new.file})
     ] in
-    let totals = totals_made-ended c.args.options.now c.new-file.result c.new-file.ensures _ _ c.put_chunks-stop.new.file _ c.put_chunks-stop.result put.whole in
-    rw c.answer.ensures
-    (Answers-told c.args.options.now _ c.in_ok-stop.field-0 c.totals-2.result
-    (IfOk-at_ok (λ (stop : Option Stop). IfSome (g.L.RecordFeed.rest c.args.feed.now) (λ rest. rest.stop ≡ stop)) c.in_ok-stop.was put.stop)
-    (rw (c.totals-2.ensures.counted, same) (where_done _ _ c.in_ok-stop.was totals)))
-
-pub returns-clause-made : goal.returns-clause-made
-returns-clause-made g c =
+    let totals = totals_made-ended c.args.options.now c.args.file.now _ _ c.put_chunks-stop.new.file _ c.put_chunks-stop.result put.whole in
     let flushed : Takes (g.M.Sink.taken c.put_chunks-stop.new.made) (g.M.Sink.taken c.if-is_ok.made) c.put_chunks-stop.new.file.held =
     elim c.if-is_ok.branch [
       | goal.then-is_ok+in_ok-flush w ↦ rw w.made-is w.in_ok-flush.ensures.made.whole
       | goal.else-is_ok+else-totals-gt0 w ↦ search rules
     ] in
-    let whole = Takes-ended c.args.options.now c.new-file.result c.new-file.ensures _ _ _ c.put_chunks-stop.new.file _ c.put_chunks-stop.result c.put_chunks-stop.ensures.whole flushed in
-    rw c.answer.ensures (TakesFile-ended c.args.options.now _ _ _ c.in_ok-stop.field-0 c.totals-2.result (where_done _ _ c.in_ok-stop.was whole))
+    let whole = Takes-ended c.args.options.now c.args.file.now _ _ _ c.put_chunks-stop.new.file _ c.put_chunks-stop.result put.whole flushed in
+    rw c.answer.ensures
+    (record {
+      answer = Answers-told c.args.options.now c.args.file.now _ c.in_ok-stop.field-0 c.totals-2.result c.requires.no_record
+          (IfOk-at_ok (λ (stop : Option Stop). IfSome (g.L.RecordFeed.rest c.args.feed.now) (λ rest. rest.stop ≡ stop)) c.in_ok-stop.was put.stop)
+          (rw (c.totals-2.ensures.counted, same) (where_done _ _ c.in_ok-stop.was totals));
+      made = TakesFile-ended (λ records. c.args.file.now.held ++ tail_under c.args.options.now c.args.file.now.place records) _ _ _ c.in_ok-stop.field-0
+          c.totals-2.result (where_done _ _ c.in_ok-stop.was whole);
+      read_to_end = search rules;
+      feed = search rules;
+      made_counts = search rules;
+    })

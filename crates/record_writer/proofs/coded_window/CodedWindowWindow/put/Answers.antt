@@ -12,8 +12,9 @@ put_out-requires-clause-read g c =
     let coded : AreInOrder (chunks_of_groups c.args.self.now.groups) c.in-Some.chunks = search rules in
     all-read (coming c.in-Some.chunks) c.args.self.now.groups coded.values
 
-pub returns-clause-whole : goal.returns-clause-whole
-returns-clause-whole g c =
+pub returns-clause-laid : goal.returns-clause-laid
+returns-clause-laid g c =
+    let whole : Lays (g.M.Sink.taken c.args.made.now) (g.M.Sink.taken c.match-take.made) c.args.file.now c.match-take.file (chunks_of_groups c.args.self.now.groups) =
     elim c.match-take.branch [
       | goal.in-Some+in_ok-put_out w ↦
           let coded : AreInOrder (chunks_of_groups c.args.self.now.groups) w.in-Some.chunks = search rules in
@@ -26,4 +27,5 @@ returns-clause-whole g c =
           rw (w.file-is, w.made-is)
           (subst (λ (gs : List (List (List ℕ))). Lays (g.M.Sink.taken c.args.made.now) (g.M.Sink.taken c.args.made.now) c.args.file.now c.args.file.now
           (chunks_of_groups gs)) (sym none) (Lays-none _ c.args.file.now c.requires.going))
-    ]
+    ] in
+    record { whole = whole; front = tt; counts = search rules }

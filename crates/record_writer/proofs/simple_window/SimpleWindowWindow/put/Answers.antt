@@ -30,13 +30,17 @@ put_simple-requires-clause-in_reach g c =
     (chunk-within c.args.file.now.place c.loop-i.file.place (2 ^ 62) c.args.self.now c.loop-i.i c.index_mut-chunk.result.now.records
     there.0 there.1 c.loop-i.invariant.laid.place c.requires.in_reach)
 
-pub returns-in_err-put_simple-clause-front : goal.returns-in_err-put_simple-clause-front
-returns-in_err-put_simple-clause-front g c =
+pub returns-in_err-put_simple-clause-laid : goal.returns-in_err-put_simple-clause-laid
+returns-in_err-put_simple-clause-laid g c =
     let p = err_from_is_err_and c.from_residual.result c.from_residual.ensures.1 in
-    let there = there g (goal.at.returns-in_err-put_simple-clause-front g c).After-encode in
+    let there = there g (goal.at.returns-in_err-put_simple-clause-laid g c).After-encode in
     rw p.1
-    (LaysFront-chunk _ _ _ c.args.file.now c.loop-i.file _ c.args.self.now c.loop-i.i c.index_mut-chunk.result.now.records
-    there.0 there.1 c.loop-i.invariant.laid (rw c.encode.ensures at c.in_err-put_simple.ensures.front))
+    (record {
+      whole = tt;
+      front = LaysFront-chunk _ _ _ c.args.file.now c.loop-i.file _ c.args.self.now c.loop-i.i c.index_mut-chunk.result.now.records
+          there.0 there.1 c.loop-i.invariant.laid (rw c.encode.ensures at c.in_err-put_simple.ensures.front);
+      counts = search rules;
+    })
 
 pub loop-i-preserved : goal.loop-i-preserved
 loop-i-preserved g c =
