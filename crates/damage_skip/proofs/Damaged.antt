@@ -1,7 +1,7 @@
 -- The pieces of a damaged file are those that are told from the undamaged one.
 use Rattle.std.proofs.Common.{◌≡◌, ◌∙◌, ℕ, ◌+◌, ◌-◌, ◌<◌, ◌≤◌, ◌^◌, min, max, nat_lt, Bool, true, false, List, [], ◌∷◌, Some, length, refl, sym, ap, subst, inl, inr, arith}
 use Rattle.std.specs.Prelude.{slice_get, slice_range}
-use Rattle.std.proofs.lemmas.Bool.{cases_lt, cases_Bool, cond-true, cond-false, lt-ltb, le-ltb}
+use Rattle.std.proofs.lemmas.Bool.{cases_lt, cases_order, cases_Bool, cond-true, cond-false, lt-ltb, le-ltb}
 use Rattle.std.proofs.lemmas.Option.{slice_get_cases, slice_get_within}
 use Rattle.highway_hash.specs.Riegeli.{riegeli_hash}
 use Rattle.block_layout.specs.Layout.{IsBlock, IsBoundary}
@@ -26,10 +26,9 @@ use Rattle.damage_skip.specs.Resyncs.{StandsFrom, landing, IsResync, Contradicts
 use Rattle.damage_skip.specs.Pieces.{PieceKind, Skipped, Piece, SkipsFor, walk_reasons, IsPieceOf, AreTiles, ArePieces}
 use Rattle.damage_skip.specs.Damage.{Intact, IsDamaged, IsIntactFrom, IsNext, DamageLeaves, DamageLeavesEach}
 use Rattle.damage_skip.proofs.OnePiece.{piece_one}
-use Rattle.damage_skip.proofs.Tiles.{tiles_to_end}
 use Rattle.damage_skip.proofs.Found.{agrees, end_in_reach}
 use Rattle.damage_skip.proofs.IntactChunks.{intact_piece}
-use Rattle.damage_skip.proofs.Reached.{next_past, next_of, left_one}
+use Rattle.damage_skip.proofs.Reached.{next_past, next_of, next_one, left_as_one}
 
 -- a block that a chunk holds leads to the chunk's begin where that is past the place, and else to its end
 landing_back : (size place b begin end : ℕ) → begin ≤ b → place < begin → landing size place b (b - begin) (end - b) ≡ begin
@@ -148,18 +147,18 @@ module _ (keep : Bool) (ks : List ChunkValue) (file damaged : List ℕ) (intact 
             ∙ ap (begin_of ks) same
       ]
 
-  resync_next : (j next : ℕ) → j < length ks → intact.header j ≡ false → IsNext ks intact j next → IsResync damaged (begin_of ks j) (begin_of ks next)
+  pub resync_next : (j next : ℕ) → j < length ks → intact.header j ≡ false → IsNext ks intact j next → IsResync damaged (begin_of ks j) (begin_of ks next)
   resync_next j next inside broken (inl (whole, is)) = cc
-  resync_next j next inside broken (inr (also, inl (b, i, here, least, contains, is))) =
+  resync_next j next inside broken (inr (also, inl (b, i, at, contains, is))) =
       inl (
         b,
         b - begin_of ks i,
         begin_of ks (i + 1) - b,
         record {
-          holds = stands_where_intact j b i here contains;
-          first = λ c p n there. least c (intact_from j c p n there);
+          holds = stands_where_intact j b i at.here contains;
+          first = λ c p n there. at.first c (intact_from j c p n there);
         },
-        sym (leads_on j b i next inside here contains is),
+        sym (leads_on j b i next inside at.here contains is),
       )
   resync_next j next inside broken (inr (also, inr (none, is))) =
       inr (λ b p n here. none b (intact_from j b p n here), ap (begin_of ks) is ∙ last_end ∙ sym d.same_length)
@@ -297,41 +296,85 @@ module _ (keep : Bool) (ks : List ChunkValue) (file damaged : List ℕ) (intact 
             (next.0, Skipped why.HeaderHash, next.1, broken_piece j k next.0 at broken next.1)
       ]
 
-  -- and so are all pieces from there on
-  tiles_left : (j from : ℕ) (pieces : List Piece) → j ≤ length ks → from ≡ begin_of ks j → AreTiles keep damaged from (length damaged) pieces
-      → DamageLeavesEach keep ks intact j pieces
+  -- and so are all pieces from there on, which end where a chunk begins
+  pub tiles_left : (j from to : ℕ) (pieces : List Piece) → j ≤ length ks → from ≡ begin_of ks j → AreTiles keep damaged from to pieces
+      → (n : ℕ) × (n ≤ length ks) × (to ≡ begin_of ks n) × DamageLeavesEach keep ks intact j n pieces
   unfolding IsLeftPiece
-  tiles_left j from [] inside begin h =
-      elim (cases_lt j (length ks)) [
-        | inl below ↦
-            absurd (omega (arith, h, begin, d.same_length, last_end, begin_of_rises_by ks j below, begin_of_rises ks (j + 1) (length ks) (omega arith)))
-        | inr end ↦ omega arith
-      ]
-  tiles_left j from (p ∷ pieces) inside begin (at_begin, below, is, rest) =
+  tiles_left j from to [] inside begin h = (j, inside, sym h ∙ begin, refl)
+  tiles_left j from to (p ∷ pieces) inside begin (at_begin, below, is, rest) =
       elim (slice_get_cases ks j).1 [
         | inl (k, within, at, same) ↦
             let left = left_at j k at in
             let one = piece_one keep damaged from p.end (begin_of ks left.0) p.what left.1 is
             (subst (λ (x : ℕ). IsPieceOf keep damaged x (begin_of ks left.0) left.1) (sym begin) left.3.0) in
-            let past = next_past ks intact j left.0 within left.2 in (
-              k,
-              left.0,
-              at,
-              left.2,
-              at_begin ∙ begin,
-              one.0,
-              subst (λ (w : PieceKind). DamageLeaves keep (intact.header j) (intact.«data» j) k w) (sym one.1) left.3.1,
-              tiles_left left.0 p.end pieces past.1 one.0 rest,
+            let past = next_past ks intact j left.0 within left.2 in
+            let behind = tiles_left left.0 p.end to pieces past.1 one.0 rest in (
+              behind.0,
+              behind.1,
+              behind.2,
+              (
+                k,
+                left.0,
+                at,
+                left.2,
+                at_begin ∙ begin,
+                one.0,
+                subst (λ (w : PieceKind). DamageLeaves keep (intact.header j) (intact.«data» j) k w) (sym one.1) left.3.1,
+                behind.3,
+              ),
             )
         | inr (past, none) ↦
             let last : j ≡ length ks = omega arith in
             absurd (omega (arith, begin, below, d.same_length, last_end, ap (begin_of ks) last))
       ]
 
-  pub pieces_left : (pieces : List Piece) → ArePieces keep damaged pieces → DamageLeavesEach keep ks intact 0 pieces
-  pieces_left pieces h = tiles_left 0 0 pieces (omega arith) refl h
+  -- what is left is pieces of the damaged file
+  left_tiles : (j n : ℕ) (pieces : List Piece) → DamageLeavesEach keep ks intact j n pieces
+      → AreTiles keep damaged (begin_of ks j) (begin_of ks n) pieces
+  unfolding IsLeftPiece
+  left_tiles j n [] same = ap (begin_of ks) same
+  left_tiles j n (p ∷ pieces) (k, next, at, step, begin, end, what, rest) =
+      let within : j < length ks = slice_get_within ks j k at in
+      let left = left_at j k at in
+      let same : left.0 ≡ next = next_one ks intact j left.0 next left.2 step in
+      let one : left.1 ≡ p.what = left_as_one keep (intact.header j) (intact.«data» j) k left.1 p.what left.3.1 what in
+      let to : begin_of ks left.0 ≡ p.end = ap (begin_of ks) same ∙ sym end in
+      let is : IsPieceOf keep damaged (begin_of ks j) p.end p.what =
+      subst (λ (e : ℕ). IsPieceOf keep damaged (begin_of ks j) e p.what) to
+      (subst (IsPieceOf keep damaged (begin_of ks j) (begin_of ks left.0)) one left.3.0) in
+      let below : begin_of ks j < length damaged =
+      omega (arith, d.same_length, begin_of_rises_by ks j within, end_within (j + 1) (omega arith)) in
+      (begin, below, is, subst (λ (x : ℕ). AreTiles keep damaged x (begin_of ks n) pieces) (sym end) (left_tiles next n pieces rest))
 
-  pub left_pieces : (pieces : List Piece) → DamageLeavesEach keep ks intact 0 pieces → ArePieces keep damaged pieces
-  left_pieces pieces h =
-      let all = tiles_to_end keep damaged 0 (omega arith) in
-      subst (ArePieces keep damaged) (left_one keep ks intact 0 all.0 pieces (pieces_left all.0 all.1) h) all.1
+  -- two chunks that begin at one place are one
+  begin_one : (i j : ℕ) → i ≤ length ks → j ≤ length ks → begin_of ks i ≡ begin_of ks j → i ≡ j
+  begin_one i j inside within same =
+      elim (cases_order i j) [
+        | inl one ↦ one
+        | inr (inl less) ↦ absurd (omega (arith, same, begin_of_rises_by ks i (omega arith), begin_of_rises ks (i + 1) j (omega arith)))
+        | inr (inr more) ↦ absurd (omega (arith, same, begin_of_rises_by ks j (omega arith), begin_of_rises ks (j + 1) i (omega arith)))
+      ]
+
+  -- so the pieces up to a chunk are what is left up to it
+  pub front_left : (n : ℕ) (pieces : List Piece) → n ≤ length ks → AreTiles keep damaged 0 (begin_of ks n) pieces
+      → DamageLeavesEach keep ks intact 0 n pieces
+  front_left n pieces inside h =
+      let left = tiles_left 0 0 (begin_of ks n) pieces (omega arith) refl h in
+      subst (λ (m : ℕ). DamageLeavesEach keep ks intact 0 m pieces) (begin_one left.0 n left.1 inside (sym left.2)) left.3
+
+  pub left_front : (n : ℕ) (pieces : List Piece) → DamageLeavesEach keep ks intact 0 n pieces → AreTiles keep damaged 0 (begin_of ks n) pieces
+  left_front n pieces h = left_tiles 0 n pieces h
+
+  file_ends : length damaged ≡ begin_of ks (length ks)
+  file_ends = d.same_length ∙ sym last_end
+
+  pub pieces_left : (pieces : List Piece) → ArePieces keep damaged pieces → DamageLeavesEach keep ks intact 0 (length ks) pieces
+  pieces_left pieces h =
+      front_left (length ks) pieces (omega arith) (subst (λ (e : ℕ). AreTiles keep damaged 0 e pieces) file_ends h)
+
+  pub left_pieces : (pieces : List Piece) → DamageLeavesEach keep ks intact 0 (length ks) pieces → ArePieces keep damaged pieces
+  left_pieces pieces h = subst (λ (e : ℕ). AreTiles keep damaged 0 e pieces) (sym file_ends) (left_front (length ks) pieces h)
+
+  -- a chunk that begins at the file's end is none
+  pub number_of_end : (n : ℕ) → n ≤ length ks → length damaged ≡ begin_of ks n → n ≡ length ks
+  number_of_end n inside same = begin_one n (length ks) inside (omega arith) (sym same ∙ file_ends)

@@ -8,6 +8,7 @@ pub mod Reached
 pub mod IntactChunks
 pub mod Damaged
 pub mod Untouched
+pub mod DamagedWalks
 pub mod Prefixes
 pub mod RegionLines
 pub mod Leads

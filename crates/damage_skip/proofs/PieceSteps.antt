@@ -1,5 +1,5 @@
 -- The steps by which the piece at a place of a file is found, where the bytes of the file may be told.
-use Rattle.std.proofs.Common.{◌≡◌, ◌∙◌, ℕ, ◌+◌, ◌^◌, ◌<◌, ◌≤◌, Bool, true, false, inl, inr, Option, Some, None, Result, Ok, Err, IfSome, IfOk, List, [], ◌∷◌, length, refl, sym, ap, subst, arith}
+use Rattle.std.proofs.Common.{◌≡◌, ◌∙◌, ℕ, ◌+◌, ◌^◌, ◌<◌, ◌≤◌, Bool, true, false, inl, inr, Option, Some, None, IfSome, List, [], ◌∷◌, length, refl, sym, ap, subst, arith}
 use Rattle.std.specs.List.{AllByRecursion}
 use Rattle.block_layout.proofs.ChunkEnds.{chunk_end_of_boundary, chunk_end_of_above}
 use Rattle.block_layout.specs.Layout.{IsBoundary}
@@ -15,7 +15,6 @@ use Rattle.chunk_reader.specs.Places.{header_at, end_by, end_at, chunk_at, data_
 use Rattle.chunk_reader.specs.Reasons.{Applies, ContentApplies, NoneOf, IsFirstOf, header_reasons, loading_reasons, content_reasons}
 use Rattle.chunk_reader.specs.declared.heads.Head.{Head}
 use Rattle.chunk_reader.specs.declared.heads.Head.TheVariants as head
-use Rattle.chunk_reader.specs.declared.judging.LoadEnd.{LoadEnd}
 use Rattle.chunk_reader.specs.declared.reasons.Why.{Why}
 use Rattle.chunk_reader.specs.declared.reasons.Why.TheVariants as why
 use Rattle.chunk_reader.proofs.Blocks.{stands_within}
@@ -23,7 +22,7 @@ use Rattle.chunk_reader.proofs.PassedChunks.{header_at-header}
 use Rattle.chunk_reader.proofs.Rooms.{IsSized}
 use Rattle.chunk_reader.proofs.StrictSteps.{right_hash}
 use Rattle.chunk_reader.proofs.Verdicts.{first_behind, none_behind, value_of-at, end_by-at, hash_of-at, is_unread-plain, is_unread-unread}
-use Rattle.chunk_reader.proofs.WholeHeads.{HasRightHead, none_loading, none_passing}
+use Rattle.chunk_reader.proofs.WholeHeads.{HasRightHead, none_loading, none_unpassed}
 use Rattle.damage_skip.specs.Pieces as pieces
 use Rattle.damage_skip.specs.Pieces.{SkipsFor, SkipsTo, IsPieceOf, walk_reasons}
 use Rattle.damage_skip.specs.Resyncs.{IsResync, Contradicts}
@@ -241,7 +240,7 @@ pub read_piece : (bytes : Option (List ℕ)) (keep : Bool) (size at end : ℕ) (
 read_piece None keep size at end h chunk piece sized fits right is within small same loaded ends read = tt
 read_piece (Some file) keep size at end h chunk piece sized fits right is within small same loaded ends read =
     let end_is : end ≡ end_at file at = is ∙ end_by-at file at h fits right.1 in
-    let passing = none_passing (Some file) size at h sized fits right (omega (arith, is, within)) in
+    let passing = none_unpassed (Some file) size at h sized fits right (omega (arith, is, within)) in
     let loading = none_loading (Some file) at h fits right.1 passing small in
     let none : LeadsTo file at (end_at file at) at end None = subst (λ (e : ℕ). LeadsTo file at e at end None) end_is loaded.1 in
     let there : IsThere file at chunk = record {
@@ -251,16 +250,6 @@ read_piece (Some file) keep size at end h chunk piece sized fits right is within
     } in
     subst (λ (e : ℕ). IsPieceOf keep file at e (value_of_piece_kind piece.what)) (sym (ends ∙ end_is))
     (read_there keep file at chunk piece.what there read)
-
-pub read_pieces : (result : Result Piece LoadEnd) (bytes : Option (List ℕ)) (keep : Bool) (size at end : ℕ) (h : Header) (chunk : Chunk)
-    → IsSized bytes (Some size) → IsHeader h → IfSome bytes (HasRightHead h at) → end ≡ end_by at (value_of_header h) → end ≤ size
-    → h.data_size ≤ max_data_size → chunk.header ≡ h
-    → IfSome bytes (λ file. (chunk.bytes ≡ data_at file at h.data_size) × LeadsTo file at end at end None)
-    → IfOk result (λ piece. piece.end ≡ end) → IfOk result (λ piece. IsReadAs keep chunk piece.what)
-    → IfOk result (λ piece. IfSome bytes (IsPieceThere keep at piece))
-read_pieces (Ok piece) bytes keep size at end h chunk sized fits right is within small same loaded ends read =
-    read_piece bytes keep size at end h chunk piece sized fits right is within small same loaded ends read
-read_pieces (Err e) bytes keep size at end h chunk sized fits right is within small same loaded ends read = tt
 
 -- where it ends, whether or not the file is told
 pub onward_end : (size at : ℕ) (h : Header) (end : ℕ) → end ≡ end_by at (value_of_header h) → end ≤ size → IsOnward size at end
@@ -307,15 +296,13 @@ read_intact keep at end h chunk (what.Given records given) same is sound small r
       read.1.0,
     )
 
-pub read_from : (result : Result Piece LoadEnd) (keep : Bool) (size at end : ℕ) (h : Header) (chunk : Chunk)
+pub read_from : (keep : Bool) (size at end : ℕ) (h : Header) (chunk : Chunk) (piece : Piece)
     → end ≡ end_by at (value_of_header h) → end ≤ size → h.data_size ≤ max_data_size → chunk.header ≡ h → IsChunk (value_of_chunk chunk)
-    → IfOk result (λ piece. piece.end ≡ end) → IfOk result (λ piece. IsReadAs keep chunk piece.what)
-    → IfOk result (λ piece. IsPieceFrom size at piece)
-read_from (Ok piece) keep size at end h chunk is within small same sound ends read = record {
+    → piece.end ≡ end → IsReadAs keep chunk piece.what → IsPieceFrom size at piece
+read_from keep size at end h chunk piece is within small same sound ends read = record {
   onward = onward_end size at h piece.end (ends ∙ is) (omega (arith, ends, within));
   intact = read_intact keep at piece.end h chunk piece.what same (ends ∙ is) sound small read;
 }
-read_from (Err e) keep size at end h chunk is within small same sound ends read = tt
 
 -- the end by a header, of which one past 2 ^ 63 isn't told
 pub end_past : (told : Option ℕ) (size end : ℕ) → IfSome told (λ e. size < e) → size ≤ 2 ^ 63 → IsEndOf told end → size < end

@@ -1,5 +1,5 @@
 -- The chunks that are reached past damage are one list, and so is what is left.
-use Rattle.std.proofs.Common.{◌≡◌, ◌∙◌, ◌⊎◌, ℕ, zero, suc, ◌+◌, ◌%◌, ◌<◌, ◌≤◌, max, Bool, true, false, List, [], ◌∷◌, length, refl, sym, ap, subst, inl, inr, arith}
+use Rattle.std.proofs.Common.{◌≡◌, ◌∙◌, ◌⊎◌, ℕ, zero, suc, ◌+◌, ◌%◌, ◌<◌, ◌≤◌, max, Bool, true, false, List, [], ◌∷◌, ◌++◌, length, refl, sym, ap, subst, inl, inr, arith}
 use Rattle.std.specs.Prelude.{map}
 use Rattle.std.specs.List.{AllByRecursion}
 use Rattle.std.proofs.lemmas.Bool.{cases_lt, cases_Bool}
@@ -22,7 +22,7 @@ use Rattle.damage_skip.proofs.Tiles.{same_piece}
 pub next_past : (ks : List ChunkValue) (intact : Intact) (j next : ℕ) → j < length ks → IsNext ks intact j next
     → (j < next) × (next ≤ length ks)
 next_past ks intact j next below (inl (whole, is)) = (omega (arith, is), omega (arith, is))
-next_past ks intact j next below (inr (broken, inl (b, i, here, least, contains, is))) =
+next_past ks intact j next below (inr (broken, inl (b, i, first, contains, is))) =
     (omega (arith, is), omega (arith, is, contains.number))
 next_past ks intact j next below (inr (broken, inr (none, is))) = (omega (arith, is), omega (arith, is))
 
@@ -35,11 +35,11 @@ pub next_one : (ks : List ChunkValue) (intact : Intact) (j next other : ℕ) →
 next_one ks intact j next other (inl (whole, is)) (inl (also, there)) = is ∙ sym there
 next_one ks intact j next other (inl (whole, is)) (inr (broken, rest)) = cc
 next_one ks intact j next other (inr (broken, rest)) (inl (whole, there)) = cc
-next_one ks intact j next other (inr (broken, inl (b, i, here, least, contains, is))) (inr (also, inl (c, k, at, first, holds, there))) =
-    let same : b ≡ c = omega (arith, least c at, first b here) in
+next_one ks intact j next other (inr (broken, inl (b, i, at, contains, is))) (inr (also, inl (c, k, there_too, holds, there))) =
+    let same : b ≡ c = omega (arith, at.first c there_too.here, there_too.first b at.here) in
     is ∙ ap (λ (n : ℕ). max n (j + 1)) (holder_same ks b c i k same contains holds) ∙ sym there
-next_one ks intact j next other (inr (broken, inl (b, i, here, least, contains, is))) (inr (also, inr (none, there))) = absurd (none b here)
-next_one ks intact j next other (inr (broken, inr (none, is))) (inr (also, inl (c, k, at, first, holds, there))) = absurd (none c at)
+next_one ks intact j next other (inr (broken, inl (b, i, at, contains, is))) (inr (also, inr (none, there))) = absurd (none b at.here)
+next_one ks intact j next other (inr (broken, inr (none, is))) (inr (also, inl (c, k, at, holds, there))) = absurd (none c at.here)
 next_one ks intact j next other (inr (broken, inr (none, is))) (inr (also, inr (nor, there))) = is ∙ sym there
 
 -- and there is one
@@ -76,24 +76,46 @@ next_of ks intact j =
               begins = holder.3;
               ends = holder.4;
             } in
-            (max holder.0 (j + 1), inr (broken, inl (least.0, holder.0, least.1, least.2, contains, refl)))
+            (max holder.0 (j + 1), inr (broken, inl (least.0, holder.0, record { here = least.1; first = least.2 }, contains, refl)))
         | inr none ↦ (length ks, inr (broken, inr (λ b here. none (b, here), refl)))
       ]
     ]
 
--- so the chunks that are reached from one on are one list
-pub reached_one : (ks : List ChunkValue) (intact : Intact) (j : ℕ) (is js : List ℕ) → AreReached ks intact j is → AreReached ks intact j js → is ≡ js
-reached_one ks intact j [] [] h g = refl
-reached_one ks intact j [] (y ∷ js) h (at, below, rest) = absurd (omega (arith, h))
-reached_one ks intact j (x ∷ is) [] (at, below, rest) g = absurd (omega (arith, g))
-reached_one ks intact j (x ∷ is) (y ∷ js) (at, below, (next, step, rest)) (there, under, (other, also, on)) =
+-- so the chunks that are reached from one on rise, up to the end
+pub reached_to : (ks : List ChunkValue) (intact : Intact) (j to : ℕ) (is : List ℕ) → j ≤ length ks → AreReached ks intact j to is
+    → (j ≤ to) × (to ≤ length ks)
+reached_to ks intact j to [] inside h = (omega (arith, h), omega (arith, h, inside))
+reached_to ks intact j to (i ∷ is) inside (at, below, (next, step, rest)) =
+    let past : (j < next) × (next ≤ length ks) = next_past ks intact j next below step in
+    let on : (next ≤ to) × (to ≤ length ks) = reached_to ks intact next to is past.1 rest in
+    (omega (arith, past.0, on.0), on.1)
+
+pub reached_past : (ks : List ChunkValue) (intact : Intact) (j to i : ℕ) (is : List ℕ) → AreReached ks intact j to (i ∷ is) → j < to
+reached_past ks intact j to i is (at, below, (next, step, rest)) =
+    let past : (j < next) × (next ≤ length ks) = next_past ks intact j next below step in
+    omega (arith, past.0, (reached_to ks intact next to is past.1 rest).0)
+
+-- and are one list
+pub reached_one : (ks : List ChunkValue) (intact : Intact) (j to : ℕ) (is js : List ℕ) → AreReached ks intact j to is → AreReached ks intact j to js
+    → is ≡ js
+reached_one ks intact j to [] [] h g = refl
+reached_one ks intact j to [] (y ∷ js) h g = absurd (omega (arith, h, reached_past ks intact j to y js g))
+reached_one ks intact j to (x ∷ is) [] h g = absurd (omega (arith, g, reached_past ks intact j to x is h))
+reached_one ks intact j to (x ∷ is) (y ∷ js) (at, below, (next, step, rest)) (there, under, (other, also, on)) =
     let same : other ≡ next = next_one ks intact j other next also step in
     ap (λ (n : ℕ). n ∷ is) (at ∙ sym there)
     ∙ ap (λ (ns : List ℕ). y ∷ ns)
-    (reached_one ks intact next is js rest (subst (λ (n : ℕ). AreReached ks intact n js) same on))
+    (reached_one ks intact next to is js rest (subst (λ (n : ℕ). AreReached ks intact n to js) same on))
+
+-- those reached behind some are reached
+pub reached_on : (ks : List ChunkValue) (intact : Intact) (j middle to : ℕ) (is js : List ℕ) → AreReached ks intact j middle is
+    → AreReached ks intact middle to js → AreReached ks intact j to (is ++ js)
+reached_on ks intact j middle to [] js same g = subst (λ (n : ℕ). AreReached ks intact n to js) (sym same) g
+reached_on ks intact j middle to (i ∷ is) js (at, below, (next, step, rest)) g =
+    (at, below, (next, step, reached_on ks intact next middle to is js rest g))
 
 reached_from : (ks : List ChunkValue) (intact : Intact) (most j : ℕ) → length ks ≤ j + most → j ≤ length ks
-    → (is : List ℕ) × AreReached ks intact j is
+    → (is : List ℕ) × AreReached ks intact j (length ks) is
 reached_from ks intact zero j far inside = ([], omega arith)
 reached_from ks intact (suc most) j far inside =
     elim (cases_lt j (length ks)) [
@@ -105,7 +127,7 @@ reached_from ks intact (suc most) j far inside =
       | inr end ↦ ([], omega arith)
     ]
 
-pub reached_of : (ks : List ChunkValue) (intact : Intact) (j : ℕ) → j ≤ length ks → (is : List ℕ) × AreReached ks intact j is
+pub reached_of : (ks : List ChunkValue) (intact : Intact) (j : ℕ) → j ≤ length ks → (is : List ℕ) × AreReached ks intact j (length ks) is
 reached_of ks intact j inside = reached_from ks intact (length ks) j (omega arith) inside
 
 -- a chunk that is left unread is none that is found where such chunks aren't kept
@@ -156,25 +178,53 @@ left_as_of false true true k (inl plain) =
 left_as_of false true true k (inr (small, inl t)) = (Skipped why.Transposed, inr (inr (t, refl)))
 left_as_of false true true k (inr (small, inr c)) = (Skipped why.Compressed, inr (inl (c, refl)))
 
--- so the pieces that are left are one list
-pub left_one : (keep : Bool) (ks : List ChunkValue) (intact : Intact) (j : ℕ) (ps qs : List Piece)
-    → DamageLeavesEach keep ks intact j ps → DamageLeavesEach keep ks intact j qs → ps ≡ qs
-left_one keep ks intact j [] [] h g = refl
-left_one keep ks intact j [] (q ∷ qs) h (k, next, at, step, begin, end, what, rest) = absurd (omega (arith, h, slice_get_within ks j k at))
-left_one keep ks intact j (p ∷ ps) [] (k, next, at, step, begin, end, what, rest) g = absurd (omega (arith, g, slice_get_within ks j k at))
-left_one keep ks intact j (p ∷ ps) (q ∷ qs) (k, next, at, step, begin, end, what, rest) (l, other, there, also, from, to, that, on) =
+-- the pieces that are left are those of chunks that are reached
+pub left_numbers : (keep : Bool) (ks : List ChunkValue) (intact : Intact) (j to : ℕ) (pieces : List Piece) → DamageLeavesEach keep ks intact j to pieces
+    → (is : List ℕ) × AreReached ks intact j to is
+left_numbers keep ks intact j to [] h = ([], h)
+left_numbers keep ks intact j to (p ∷ pieces) (k, next, at, step, begin, end, what, rest) =
+    let behind = left_numbers keep ks intact next to pieces rest in
+    (j ∷ behind.0, (refl, slice_get_within ks j k at, (next, step, behind.1)))
+
+-- which rise
+pub left_to : (keep : Bool) (ks : List ChunkValue) (intact : Intact) (j to : ℕ) (pieces : List Piece) → j ≤ length ks
+    → DamageLeavesEach keep ks intact j to pieces → (j ≤ to) × (to ≤ length ks)
+left_to keep ks intact j to pieces inside h =
+    let numbers = left_numbers keep ks intact j to pieces h in
+    reached_to ks intact j to numbers.0 inside numbers.1
+
+pub left_past : (keep : Bool) (ks : List ChunkValue) (intact : Intact) (j to : ℕ) (p : Piece) (pieces : List Piece)
+    → DamageLeavesEach keep ks intact j to (p ∷ pieces) → j < to
+left_past keep ks intact j to p pieces (k, next, at, step, begin, end, what, rest) =
+    let past : (j < next) × (next ≤ length ks) = next_past ks intact j next (slice_get_within ks j k at) step in
+    omega (arith, past.0, (left_to keep ks intact next to pieces past.1 rest).0)
+
+-- so they are one list
+pub left_one : (keep : Bool) (ks : List ChunkValue) (intact : Intact) (j to : ℕ) (ps qs : List Piece)
+    → DamageLeavesEach keep ks intact j to ps → DamageLeavesEach keep ks intact j to qs → ps ≡ qs
+left_one keep ks intact j to [] [] h g = refl
+left_one keep ks intact j to [] (q ∷ qs) h g = absurd (omega (arith, h, left_past keep ks intact j to q qs g))
+left_one keep ks intact j to (p ∷ ps) [] h g = absurd (omega (arith, g, left_past keep ks intact j to p ps h))
+left_one keep ks intact j to (p ∷ ps) (q ∷ qs) (k, next, at, step, begin, end, what, rest) (l, other, there, also, from, here, that, on) =
     let chunk : l ≡ k = same_Some l k (sym there ∙ at) in
     let same : other ≡ next = next_one ks intact j other next also step in
     let left : DamageLeaves keep (intact.header j) (intact.«data» j) k q.what =
     subst (λ (x : ChunkValue). DamageLeaves keep (intact.header j) (intact.«data» j) x q.what) chunk that in
     ap (λ (x : Piece). x ∷ ps)
-    (same_piece p q (begin ∙ sym from) (end ∙ ap (begin_of ks) (sym same) ∙ sym to)
+    (same_piece p q (begin ∙ sym from) (end ∙ ap (begin_of ks) (sym same) ∙ sym here)
     (left_as_one keep (intact.header j) (intact.«data» j) k p.what q.what what left))
     ∙ ap (λ (xs : List Piece). q ∷ xs)
-    (left_one keep ks intact next ps qs rest (subst (λ (n : ℕ). DamageLeavesEach keep ks intact n qs) same on))
+    (left_one keep ks intact next to ps qs rest (subst (λ (n : ℕ). DamageLeavesEach keep ks intact n to qs) same on))
+
+-- some behind others are left
+pub left_on : (keep : Bool) (ks : List ChunkValue) (intact : Intact) (j middle to : ℕ) (ps qs : List Piece) → DamageLeavesEach keep ks intact j middle ps
+    → DamageLeavesEach keep ks intact middle to qs → DamageLeavesEach keep ks intact j to (ps ++ qs)
+left_on keep ks intact j middle to [] qs same g = subst (λ (n : ℕ). DamageLeavesEach keep ks intact n to qs) (sym same) g
+left_on keep ks intact j middle to (p ∷ ps) qs (k, next, at, step, begin, end, what, rest) g =
+    (k, next, at, step, begin, end, what, left_on keep ks intact next middle to ps qs rest g)
 
 left_from : (keep : Bool) (ks : List ChunkValue) (intact : Intact) (most j : ℕ) → AllByRecursion IsFramed ks
-    → length ks ≤ j + most → j ≤ length ks → (pieces : List Piece) × DamageLeavesEach keep ks intact j pieces
+    → length ks ≤ j + most → j ≤ length ks → (pieces : List Piece) × DamageLeavesEach keep ks intact j (length ks) pieces
 left_from keep ks intact zero j framed far inside = ([], omega arith)
 left_from keep ks intact (suc most) j framed far inside =
     elim (slice_get_cases ks j).1 [
@@ -189,17 +239,17 @@ left_from keep ks intact (suc most) j framed far inside =
     ]
 
 pub left_of : (keep : Bool) (ks : List ChunkValue) (intact : Intact) (j : ℕ) → AllByRecursion IsFramed ks → j ≤ length ks
-    → (pieces : List Piece) × DamageLeavesEach keep ks intact j pieces
+    → (pieces : List Piece) × DamageLeavesEach keep ks intact j (length ks) pieces
 left_of keep ks intact j framed inside = left_from keep ks intact (length ks) j framed (omega arith) inside
 
 -- they begin where the chunks do that are reached
-pub left_begins : (keep : Bool) (ks : List ChunkValue) (intact : Intact) (j : ℕ) (pieces : List Piece) (is : List ℕ)
-    → DamageLeavesEach keep ks intact j pieces → AreReached ks intact j is → map (λ p. p.begin) pieces ≡ map (begin_of ks) is
-left_begins keep ks intact j [] [] h g = refl
-left_begins keep ks intact j [] (i ∷ is) h (at, below, rest) = absurd (omega (arith, h))
-left_begins keep ks intact j (p ∷ pieces) [] (k, next, at, step, begin, end, what, rest) g = absurd (omega (arith, g, slice_get_within ks j k at))
-left_begins keep ks intact j (p ∷ pieces) (i ∷ is) (k, next, at, step, begin, end, what, rest) (there, below, (other, also, on)) =
+pub left_begins : (keep : Bool) (ks : List ChunkValue) (intact : Intact) (j to : ℕ) (pieces : List Piece) (is : List ℕ)
+    → DamageLeavesEach keep ks intact j to pieces → AreReached ks intact j to is → map (λ p. p.begin) pieces ≡ map (begin_of ks) is
+left_begins keep ks intact j to [] [] h g = refl
+left_begins keep ks intact j to [] (i ∷ is) h g = absurd (omega (arith, h, reached_past ks intact j to i is g))
+left_begins keep ks intact j to (p ∷ pieces) [] h g = absurd (omega (arith, g, left_past keep ks intact j to p pieces h))
+left_begins keep ks intact j to (p ∷ pieces) (i ∷ is) (k, next, at, step, begin, end, what, rest) (there, below, (other, also, on)) =
     let same : other ≡ next = next_one ks intact j other next also step in
     ap (λ (n : ℕ). n ∷ map (λ (q : Piece). q.begin) pieces) (begin ∙ ap (begin_of ks) (sym there))
     ∙ ap (λ (ns : List ℕ). begin_of ks i ∷ ns)
-    (left_begins keep ks intact next pieces is rest (subst (λ (n : ℕ). AreReached ks intact n is) same on))
+    (left_begins keep ks intact next to pieces is rest (subst (λ (n : ℕ). AreReached ks intact n to is) same on))

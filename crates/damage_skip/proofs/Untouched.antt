@@ -4,7 +4,6 @@ use Rattle.std.proofs.Common.{◌≡◌, ◌≢◌, ◌∙◌, ℕ, suc, ◌+◌
 use Rattle.std.specs.Prelude.{slice_get}
 use Rattle.std.proofs.lemmas.Bool.{cases_lt, cases_order, cases_Bool}
 use Rattle.std.proofs.lemmas.List.{append-nil}
-use Rattle.std.proofs.lemmas.Option.{slice_get_within}
 use Rattle.block_layout.specs.Layout.{IsBlock}
 use Rattle.chunk_header.specs.Chunks.{ChunkValue}
 use Rattle.meta_chunk.specs.Files.{Holds, AreRecordsOf, begin_of}
@@ -15,7 +14,7 @@ use Rattle.damage_skip.specs.Damage.{Intact, IsDamaged, IsNext, AreReached, Dama
 use Rattle.damage_skip.proofs.OnePiece.{given_or_kept}
 use Rattle.damage_skip.proofs.FoundRecords.{found_holds, records_in_events}
 use Rattle.damage_skip.proofs.Damaged.{pieces_left}
-use Rattle.damage_skip.proofs.Reached.{next_one}
+use Rattle.damage_skip.proofs.Reached.{reached_to, reached_past, left_past, next_one}
 
 -- what an untouched chunk gives it holds
 left_holds : (keep : Bool) (k : ChunkValue) (what : PieceKind) → DamageLeaves keep true true k what → Holds k (records_of what)
@@ -49,16 +48,15 @@ both_true true true h = (refl, refl)
 both_true true false h = cc
 both_true false b h = cc
 
-pub left_records : (keep : Bool) (ks : List ChunkValue) (intact : Intact) (j : ℕ) (pieces : List Piece) (is : List ℕ)
-    → DamageLeavesEach keep ks intact j pieces → AreReached ks intact j is → AreRecordsOf (untouched ks intact is) (records_in pieces)
-left_records keep ks intact j [] [] h g = ([], refl, refl)
-left_records keep ks intact j [] (i ∷ is) h (at, below, rest) = absurd (omega (arith, h))
-left_records keep ks intact j (p ∷ pieces) [] (k, next, at, step, begin, end, what, rest) g =
-    absurd (omega (arith, g, slice_get_within ks j k at))
-left_records keep ks intact j (p ∷ pieces) (i ∷ is) (k, next, at, step, begin, end, what, rest) (there, below, (other, also, on)) =
+pub left_records : (keep : Bool) (ks : List ChunkValue) (intact : Intact) (j to : ℕ) (pieces : List Piece) (is : List ℕ)
+    → DamageLeavesEach keep ks intact j to pieces → AreReached ks intact j to is → AreRecordsOf (untouched ks intact is) (records_in pieces)
+left_records keep ks intact j to [] [] h g = ([], refl, refl)
+left_records keep ks intact j to [] (i ∷ is) h g = absurd (omega (arith, h, reached_past ks intact j to i is g))
+left_records keep ks intact j to (p ∷ pieces) [] h g = absurd (omega (arith, g, left_past keep ks intact j to p pieces h))
+left_records keep ks intact j to (p ∷ pieces) (i ∷ is) (k, next, at, step, begin, end, what, rest) (there, below, (other, also, on)) =
     let same : other ≡ next = next_one ks intact j other next also step in
     let behind : AreRecordsOf (untouched ks intact is) (records_in pieces) =
-    left_records keep ks intact next pieces is rest (subst (λ (n : ℕ). AreReached ks intact n is) same on) in
+    left_records keep ks intact next to pieces is rest (subst (λ (n : ℕ). AreReached ks intact n to is) same on) in
     subst (λ (n : ℕ). AreRecordsOf (untouched ks intact (n ∷ is)) (records_in (p ∷ pieces))) (sym there)
     (elim (cases_Bool (intact.header j && intact.«data» j)) [
       | inl whole ↦
@@ -77,11 +75,11 @@ left_records keep ks intact j (p ∷ pieces) (i ∷ is) (k, next, at, step, begi
 
 -- so do the events of a damaged file
 pub events_left : (keep : Bool) (ks : List ChunkValue) (file damaged : List ℕ) (intact : Intact) (is : List ℕ) (events : List Piece)
-    → length file ≤ 2 ^ 60 → IsDamaged ks file damaged intact → AreReached ks intact 0 is → AreEvents keep damaged events
+    → length file ≤ 2 ^ 60 → IsDamaged ks file damaged intact → AreReached ks intact 0 (length ks) is → AreEvents keep damaged events
     → AreRecordsOf (untouched ks intact is) (records_in events)
 events_left keep ks file damaged intact is events reach d reached (pieces, h, are) =
     subst (AreRecordsOf (untouched ks intact is)) (sym (records_in_events pieces) ∙ ap records_in are)
-    (left_records keep ks intact 0 pieces is (pieces_left keep ks file damaged intact d reach pieces h) reached)
+    (left_records keep ks intact 0 (length ks) pieces is (pieces_left keep ks file damaged intact d reach pieces h) reached)
 
 -- the block headers of a file are all intact
 AreIntact : List ChunkValue → Intact → Type 0
@@ -96,12 +94,12 @@ passed_over : (ks : List ChunkValue) (intact : Intact) (j next m : ℕ) → AreI
     → m < length ks → IsLost ks intact j m
 unfolding AreIntact IsLost
 passed_over ks intact j next m whole (inl (fine, is)) after before inside = absurd (omega (arith, is))
-passed_over ks intact j next m whole (inr (broken, inl (b, i, here, least, lies, is))) after before inside = (
+passed_over ks intact j next m whole (inr (broken, inl (b, i, at, lies, is))) after before inside = (
   after,
   broken,
   λ c is_block from. elim (cases_lt c (begin_of ks (length ks))) [
     | inl below ↦
-        let first : b ≤ c = least c (record { is_block = is_block; from = from; below = below; is_intact = whole c is_block below }) in
+        let first : b ≤ c = at.first c (record { is_block = is_block; from = from; below = below; is_intact = whole c is_block below }) in
         let behind : m + 1 ≤ i = omega arith in
         omega (arith, lies.begins, begin_of_rises ks (m + 1) i behind)
     | inr past ↦ omega (arith, begin_of_rises ks (m + 1) (length ks) (omega arith))
@@ -117,24 +115,25 @@ passed_over ks intact j next m whole (inr (broken, inr (none, is))) after before
 )
 
 -- so each chunk from one on that is not reached is lost so
-not_reached : (ks : List ChunkValue) (intact : Intact) (j m : ℕ) (is : List ℕ) → AreIntact ks intact → AreReached ks intact j is
-    → j ≤ m → m < length ks → ((i : ℕ) → slice_get is i ≢ Some m) → (l : ℕ) × IsLost ks intact l m
-not_reached ks intact j m [] whole h from inside missed = absurd (omega (arith, h))
-not_reached ks intact j m (i ∷ is) whole (at, below, (next, step, rest)) from inside missed =
+not_reached : (ks : List ChunkValue) (intact : Intact) (j to m : ℕ) (is : List ℕ) → AreIntact ks intact → AreReached ks intact j to is
+    → j ≤ m → m < to → m < length ks → ((i : ℕ) → slice_get is i ≢ Some m) → (l : ℕ) × IsLost ks intact l m
+not_reached ks intact j to m [] whole h from before inside missed = absurd (omega (arith, h))
+not_reached ks intact j to m (i ∷ is) whole (at, below, (next, step, rest)) from before inside missed =
     elim (cases_order j m) [
       | inl same ↦ absurd (missed 0 (ap Some (at ∙ same)))
       | inr (inl less) ↦ elim (cases_lt m next) [
-        | inl before ↦ (j, passed_over ks intact j next m whole step less before inside)
-        | inr behind ↦ not_reached ks intact next m is whole rest behind inside (λ n there. missed (suc n) there)
+        | inl short ↦ (j, passed_over ks intact j next m whole step less short inside)
+        | inr behind ↦ not_reached ks intact next to m is whole rest behind before inside (λ n there. missed (suc n) there)
       ]
       | inr (inr more) ↦ absurd (omega arith)
     ]
 
-pub lost_to_a_block : (ks : List ChunkValue) (intact : Intact) (m : ℕ) (is : List ℕ)
-    → ((b : ℕ) → IsBlock b → b < begin_of ks (length ks) → intact.block b ≡ true) → AreReached ks intact 0 is
-    → m < length ks → ((i : ℕ) → slice_get is i ≢ Some m)
+pub lost_to_a_block : (ks : List ChunkValue) (intact : Intact) (to m : ℕ) (is : List ℕ)
+    → ((b : ℕ) → IsBlock b → b < begin_of ks (length ks) → intact.block b ≡ true) → AreReached ks intact 0 to is
+    → m < to → ((i : ℕ) → slice_get is i ≢ Some m)
     → (j : ℕ) × (j < m) × (intact.header j ≡ false) × ((b : ℕ) → IsBlock b → begin_of ks j ≤ b → begin_of ks (m + 1) ≤ b)
 unfolding AreIntact IsLost
-lost_to_a_block ks intact m is whole h inside missed =
-    let lost = not_reached ks intact 0 m is whole h (omega arith) inside missed in
+lost_to_a_block ks intact to m is whole h before missed =
+    let end : to ≤ length ks = (reached_to ks intact 0 to is (omega arith) h).1 in
+    let lost = not_reached ks intact 0 to m is whole h (omega arith) before (omega arith) missed in
     (lost.0, lost.1.0, lost.1.1, lost.1.2)

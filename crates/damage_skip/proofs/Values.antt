@@ -226,19 +226,21 @@ first_leads_on = inr (
   inl (
     131072,
     5,
-    record { is_block = refl; from = omega (arith, begins.1); below = omega (arith, begins.6); is_intact = refl },
-    no_other_block,
+    record {
+      here = record { is_block = refl; from = omega (arith, begins.1); below = omega (arith, begins.6); is_intact = refl };
+      first = no_other_block;
+    },
     in_last,
     refl,
   ),
 )
 
-first_reached : AreReached five first_hit 0 (0 ∷ 1 ∷ 5 ∷ [])
+first_reached : AreReached five first_hit 0 6 (0 ∷ 1 ∷ 5 ∷ [])
 unfolding first_hit five
 first_reached =
     (refl, lit< tt, (1, inl (refl, refl), (refl, lit< tt, (5, first_leads_on, (refl, lit< tt, (6, inl (refl, refl), refl))))))
 
-first_left : DamageLeavesEach false five first_hit 0 (left_out 0 64 ∷ skipped 64 120268 ∷ given 120268 150337 ∷ [])
+first_left : DamageLeavesEach false five first_hit 0 6 (left_out 0 64 ∷ skipped 64 120268 ∷ given 120268 150337 ∷ [])
 unfolding first_hit left_out skipped given five
 first_left = (
   signature,
@@ -273,8 +275,10 @@ two_lead_on = (
     inl (
       65536,
       3,
-      record { is_block = refl; from = omega (arith, begins.2); below = omega (arith, begins.6); is_intact = refl },
-      (λ c here. omega (arith, here.is_block, here.from, begins.2)),
+      record {
+        here = record { is_block = refl; from = omega (arith, begins.2); below = omega (arith, begins.6); is_intact = refl };
+        first = λ c here. omega (arith, here.is_block, here.from, begins.2);
+      },
       in_third,
       refl,
     ),
@@ -284,25 +288,27 @@ two_lead_on = (
     inl (
       65536,
       3,
-      record { is_block = refl; from = omega (arith, begins.3); below = omega (arith, begins.6); is_intact = refl },
-      (λ c here. omega (arith, here.is_block, here.from, begins.3)),
+      record {
+        here = record { is_block = refl; from = omega (arith, begins.3); below = omega (arith, begins.6); is_intact = refl };
+        first = λ c here. omega (arith, here.is_block, here.from, begins.3);
+      },
       in_third,
       refl,
     ),
   ),
 )
 
-third_reached : AreReached five two_hit 3 (3 ∷ 4 ∷ 5 ∷ [])
+third_reached : AreReached five two_hit 3 6 (3 ∷ 4 ∷ 5 ∷ [])
 unfolding two_hit five
 third_reached =
     (refl, lit< tt, (4, two_lead_on.1, (refl, lit< tt, (5, inl (refl, refl), (refl, lit< tt, (6, inl (refl, refl), refl))))))
 
-two_reached : AreReached five two_hit 0 (0 ∷ 1 ∷ 2 ∷ 3 ∷ 4 ∷ 5 ∷ [])
+two_reached : AreReached five two_hit 0 6 (0 ∷ 1 ∷ 2 ∷ 3 ∷ 4 ∷ 5 ∷ [])
 unfolding two_hit five
 two_reached =
     (refl, lit< tt, (1, inl (refl, refl), (refl, lit< tt, (2, inl (refl, refl), (refl, lit< tt, (3, two_lead_on.0, third_reached))))))
 
-third_left : DamageLeavesEach false five two_hit 3 (skipped 60154 90223 ∷ given 90223 120268 ∷ given 120268 150337 ∷ [])
+third_left : DamageLeavesEach false five two_hit 3 6 (skipped 60154 90223 ∷ given 90223 120268 ∷ given 120268 150337 ∷ [])
 unfolding two_hit skipped given five
 third_left = (
   large,
@@ -324,7 +330,7 @@ third_left = (
   ),
 )
 
-two_left : DamageLeavesEach false five two_hit 0
+two_left : DamageLeavesEach false five two_hit 0 6
     (left_out 0 64 ∷ given 64 30109 ∷ skipped 30109 60154 ∷ skipped 60154 90223 ∷ given 90223 120268 ∷ given 120268 150337 ∷ [])
 unfolding two_hit left_out skipped given five
 two_left = (
@@ -368,12 +374,12 @@ nothing_leads_on : IsNext five blocks_hit 2 6
 unfolding blocks_hit five
 nothing_leads_on = inr (refl, inr (no_block, refl))
 
-blocks_reached : AreReached five blocks_hit 0 (0 ∷ 1 ∷ 2 ∷ [])
+blocks_reached : AreReached five blocks_hit 0 6 (0 ∷ 1 ∷ 2 ∷ [])
 unfolding blocks_hit five
 blocks_reached =
     (refl, lit< tt, (1, inl (refl, refl), (refl, lit< tt, (2, inl (refl, refl), (refl, lit< tt, (6, nothing_leads_on, refl))))))
 
-blocks_left : DamageLeavesEach false five blocks_hit 0 (left_out 0 64 ∷ given 64 30109 ∷ skipped 30109 150337 ∷ [])
+blocks_left : DamageLeavesEach false five blocks_hit 0 6 (left_out 0 64 ∷ given 64 30109 ∷ skipped 30109 150337 ∷ [])
 unfolding blocks_hit left_out skipped given five
 blocks_left = (
   signature,

@@ -86,13 +86,13 @@ memory_before load.Memory same = refl
 memory_before load.Store same = cc
 
 -- a region that stops the walk is the piece at its place
-pub stops_there : (bytes now : Option (List ℕ)) (keep kept : Bool) (place : ℕ) (piece : code.Piece) (region : Region) → now ≡ bytes → kept ≡ keep
-    → IfSome now (IsPieceThere kept place piece) → region.begin ≡ place → region.end ≡ piece.end → piece.what ≡ what.Skipped region.why
-    → IfSome bytes (λ file. IsStoppedAt keep file place (Some region))
-stops_there None now keep kept place piece region same same_keep there begins ends is = tt
-stops_there (Some file) None keep kept place piece region same same_keep there begins ends is = cc
-stops_there (Some file) (Some other) keep kept place piece region same same_keep there begins ends is =
+pub stops_there : (bytes now : Option (List ℕ)) (keep kept : Bool) (size place : ℕ) (piece : code.Piece) (region : Region) → now ≡ bytes → kept ≡ keep
+    → IsSized bytes (Some size) → place < size → IfSome now (IsPieceThere kept place piece) → region.begin ≡ place → region.end ≡ piece.end
+    → piece.what ≡ what.Skipped region.why → IfSome bytes (λ file. IsStoppedAt keep file place (Some region))
+stops_there None now keep kept size place piece region same same_keep sized below there begins ends is = tt
+stops_there (Some file) None keep kept size place piece region same same_keep sized below there begins ends is = cc
+stops_there (Some file) (Some other) keep kept size place piece region same same_keep sized below there begins ends is =
     let is_file : other ≡ file = cc in
     let here : IsPieceThere keep place piece file = subst (λ (k : Bool). IsPieceThere k place piece file) same_keep (subst (IsPieceThere kept place piece) is_file there) in
     let skipped : IsPieceOf keep file place piece.end (Skipped region.why) = subst (λ (w : PieceKind). IsPieceOf keep file place piece.end (value_of_piece_kind w)) is here in
-    (begins, subst (λ (e : ℕ). IsPieceOf keep file place e (Skipped region.why)) (sym ends) skipped)
+    (begins, omega (arith, sized, below), subst (λ (e : ℕ). IsPieceOf keep file place e (Skipped region.why)) (sym ends) skipped)

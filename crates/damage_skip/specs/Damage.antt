@@ -42,21 +42,25 @@ pub record IsIntactFrom (ks : List ChunkValue) (intact : Intact) (j b : ℕ) : T
   pub below : b < begin_of ks (length ks)
   pub is_intact : intact.block b ≡ true
 
+-- the first of these blocks
+pub record IsFirstIntactFrom (ks : List ChunkValue) (intact : Intact) (j b : ℕ) : Type 0 where
+  pub here : IsIntactFrom ks intact j b
+  pub first : (c : ℕ) → IsIntactFrom ks intact j c → b ≤ c
+
 -- which chunk is reached after chunk j: the one behind it where its header is intact; else the one that contains the first
 -- block from its begin on whose header is intact, if that one is behind it; and none where there is no such block
 abbrev pub IsNext : List ChunkValue → Intact → (j next : ℕ) → Type 0
 IsNext ks intact j next =
     ((intact.header j ≡ true) × (next ≡ j + 1))
     ⊎ ((intact.header j ≡ false)
-    × (((b i : ℕ) × IsIntactFrom ks intact j b × ((c : ℕ) → IsIntactFrom ks intact j c → b ≤ c)
-    × LiesIn ks b i × (next ≡ max i (j + 1)))
+    × (((b i : ℕ) × IsFirstIntactFrom ks intact j b × LiesIn ks b i × (next ≡ max i (j + 1)))
     ⊎ (((b : ℕ) → ¬ IsIntactFrom ks intact j b) × (next ≡ length ks))))
 
--- the chunks that are reached from chunk j on
-abbrev pub AreReached : List ChunkValue → Intact → ℕ → List ℕ → Type 0
-AreReached ks intact j [] = j ≡ length ks
-AreReached ks intact j (i ∷ is) =
-    (i ≡ j) × (j < length ks) × ((next : ℕ) × IsNext ks intact j next × AreReached ks intact next is)
+-- the chunks that are reached from chunk j on, before one that is reached behind them, or before the end
+abbrev pub AreReached : List ChunkValue → Intact → (j to : ℕ) → List ℕ → Type 0
+AreReached ks intact j to [] = j ≡ to
+AreReached ks intact j to (i ∷ is) =
+    (i ≡ j) × (j < length ks) × ((next : ℕ) × IsNext ks intact j next × AreReached ks intact next to is)
 
 -- what damage leaves of a chunk that is reached
 abbrev pub DamageLeaves : Bool → (header «data» : Bool) → ChunkValue → PieceKind → Type 0
@@ -68,14 +72,15 @@ DamageLeaves false true true k what =
     ⊎ (IsCompressed k × (what ≡ Skipped why.Compressed))
     ⊎ (IsTransposed k × (what ≡ Skipped why.Transposed))
 
--- the pieces that it leaves of a file from chunk j on, one for each chunk that is reached, up to the next one
-abbrev pub DamageLeavesEach : Bool → List ChunkValue → Intact → ℕ → List Piece → Type 0
-DamageLeavesEach keep ks intact j [] = j ≡ length ks
-DamageLeavesEach keep ks intact j (piece ∷ pieces) =
+-- the pieces that it leaves of a file from chunk j on, before one that is reached behind it or before the end: one for each
+-- chunk that is reached, up to the next one
+abbrev pub DamageLeavesEach : Bool → List ChunkValue → Intact → (j to : ℕ) → List Piece → Type 0
+DamageLeavesEach keep ks intact j to [] = j ≡ to
+DamageLeavesEach keep ks intact j to (piece ∷ pieces) =
     (k : ChunkValue) × (next : ℕ) × (slice_get ks j ≡ Some k) × IsNext ks intact j next
     × (piece.begin ≡ begin_of ks j) × (piece.end ≡ begin_of ks next)
     × DamageLeaves keep (intact.header j) (intact.«data» j) k piece.what
-    × DamageLeavesEach keep ks intact next pieces
+    × DamageLeavesEach keep ks intact next to pieces
 
 -- of the chunks of these numbers those whose header and data are intact
 abbrev pub untouched : List ChunkValue → Intact → List ℕ → List ChunkValue

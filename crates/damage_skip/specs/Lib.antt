@@ -8,3 +8,4 @@ pub mod Walks
 pub mod Walkers
 pub mod Steps
 pub mod Damage
+pub mod DamagedWalks

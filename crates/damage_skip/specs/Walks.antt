@@ -1,5 +1,5 @@
 -- How far a file was walked, and what was given of it. Own.
-use Rattle.std.specs.Prelude.{◌≡◌, ℕ, ◌≤◌, ◌<◌, ◌^◌, Bool, true, false, Option, Some, None, Result, Ok, Err, IfSome, ⊤, List, [], ◌∷◌}
+use Rattle.std.specs.Prelude.{◌≡◌, ℕ, ◌≤◌, ◌<◌, ◌^◌, Bool, true, false, Option, Some, None, Result, Ok, Err, IfSome, ⊤, List, [], ◌∷◌, length}
 use Rattle.std.specs.Fn.{Shared, FnReturnsAt}
 use denote.Ref.{Bor}
 use Rattle.chunk_header.specs.SimpleChunks.{IsSimple}
@@ -46,7 +46,8 @@ IsMet keep file place = (pieces : List Piece) × AreTiles keep file 0 place piec
 -- what a walk has stopped at, if it has, is the piece at its place
 abbrev pub IsStoppedAt : Bool → List ℕ → ℕ → Option Region → Type 0
 IsStoppedAt keep file place stopped =
-    IfSome stopped (λ region. (region.begin ≡ place) × IsPieceOf keep file place region.end (Skipped region.why))
+    IfSome stopped
+    (λ region. (region.begin ≡ place) × (place < length file) × IsPieceOf keep file place region.end (Skipped region.why))
 
 -- a walk stands in a file of the size that was told: at a piece of it or at its end, and where it has stopped, at that region
 pub record StandsIn (file : Option (List ℕ)) (told : Option ℕ) (at : Progress) : Type 0 where

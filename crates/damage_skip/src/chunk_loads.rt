@@ -44,17 +44,17 @@ pub(crate) fn load<S: Store>(
     ensures store { OnlyAsks S.bytes S.told S.name S.faults (result ≡ Err LoadEnd.Store) store.old store.new }
 {
     match read_data(alloc, store, size, at, end, header)? {
-        Read::Data(data) => {
+        DataRead::Data(data) => {
             let (chunk, right) = data.into_chunk()?;
             Ok(Loaded::Whole(chunk, right))
         }
-        Read::Contradicted(landing) => Ok(Loaded::Contradicted(landing)),
+        DataRead::Contradicted(landing) => Ok(Loaded::Contradicted(landing)),
     }
 }
 
 /// What came of reading the data of a chunk.
 #[derive(Drop)]
-enum Read {
+enum DataRead {
     /// All of it.
     Data(HashedData),
     /// Where the first block within the chunk leads whose header tells of another one.
@@ -69,20 +69,20 @@ fn read_data<S: Store>(
     at: u64,
     end: u64,
     header: Header,
-) -> Result<Read, LoadEnd>
+) -> Result<DataRead, LoadEnd>
     requires told { S.told store.old ≡ Some size }
     requires in_reach { size ≤ 2 ^ 60 }
     requires from_boundary { IsBoundary at }
     requires room { end_of (end_of at chunk_header_size) header.data_size ≤ end }
     requires within { end ≤ size }
-    ensures header { (held : HeldData) → result ≡ Ok (Read.Data held) → held.header ≡ header }
-    ensures whole { (held : HeldData) → result ≡ Ok (Read.Data held) → length held.bytes ≡ header.data_size }
-    ensures given { (held : HeldData) → result ≡ Ok (Read.Data held)
+    ensures header { (held : HeldData) → result ≡ Ok (DataRead.Data held) → held.header ≡ header }
+    ensures whole { (held : HeldData) → result ≡ Ok (DataRead.Data held) → length held.bytes ≡ header.data_size }
+    ensures given { (held : HeldData) → result ≡ Ok (DataRead.Data held)
         → IfSome (S.bytes store.old) (λ file. held.bytes ≡ own_bytes_at file (end_of at chunk_header_size) header.data_size) }
-    ensures none { (held : HeldData) → result ≡ Ok (Read.Data held)
+    ensures none { (held : HeldData) → result ≡ Ok (DataRead.Data held)
         → IfSome (S.bytes store.old) (λ file. LeadsTo file at end at end None) }
-    ensures onward { (to : ℕ) → result ≡ Ok (Read.Contradicted to) → IsOnward size at to }
-    ensures leads { (to : ℕ) → result ≡ Ok (Read.Contradicted to)
+    ensures onward { (to : ℕ) → result ≡ Ok (DataRead.Contradicted to) → IsOnward size at to }
+    ensures leads { (to : ℕ) → result ≡ Ok (DataRead.Contradicted to)
         → IfSome (S.bytes store.old) (λ file. LeadsTo file at end at end (Some to)) }
     ensures store { OnlyAsks S.bytes S.told S.name S.faults (result ≡ Err LoadEnd.Store) store.old store.new }
 {
@@ -92,7 +92,7 @@ fn read_data<S: Store>(
     };
     let mut own = OwnBytes::behind_header(at);
     if let Some(landing) = span.contradicted_between(store, size, at, own.place)? {
-        return Ok(Read::Contradicted(landing));
+        return Ok(DataRead::Contradicted(landing));
     }
     let mut data = HashedData::new(alloc, header)?;
     let mut piece = [0; PIECE_SIZE];
@@ -104,12 +104,12 @@ fn read_data<S: Store>(
                 data.feed(&piece[..count]);
                 left -= count as u64;
             }
-            NextBytes::Contradicted(landing) => return Ok(Read::Contradicted(landing)),
+            NextBytes::Contradicted(landing) => return Ok(DataRead::Contradicted(landing)),
         }
     }
     match span.contradicted_between(store, size, own.place, end)? {
-        Some(landing) => Ok(Read::Contradicted(landing)),
-        None => Ok(Read::Data(data)),
+        Some(landing) => Ok(DataRead::Contradicted(landing)),
+        None => Ok(DataRead::Data(data)),
     }
 }
 

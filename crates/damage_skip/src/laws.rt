@@ -9,6 +9,7 @@ ghost use Rattle.chunk_reader.specs.Faults.{IsAllowed};
 ghost use Rattle.chunk_reader.specs.declared.reasons.Why.{Why};
 ghost use Rattle.chunk_reader.specs.declared.reasons.Why.TheVariants as why;
 ghost use Rattle.damage_skip.specs.Damage.{Intact, IsDamaged, IsNext, AreReached, DamageLeavesEach, untouched};
+ghost use Rattle.damage_skip.specs.DamagedWalks.{IsReachedAt};
 ghost use Rattle.damage_skip.specs.Pieces.{PieceKind, Skipped, Piece, IsFoundAs, IsPieceOf, AreTiles, ArePieces, is_event, events_in, AreEvents, records_in, placed_in, AreFound};
 ghost use Rattle.damage_skip.specs.Resyncs.{IsResync};
 ghost use Rattle.damage_skip.specs.Walks.{GoesOn, IsMet};
@@ -151,37 +152,45 @@ pub fn what_damage_leaves_is_one()
     ensures next_past { (ks : List ChunkValue) (intact : Intact) (j next : ℕ)
         → j < length ks → IsNext ks intact j next → (j < next) × (next ≤ length ks) }
     ensures next { (ks : List ChunkValue) (intact : Intact) (j : ℕ) → (next : ℕ) × IsNext ks intact j next }
-    ensures reached_one { (ks : List ChunkValue) (intact : Intact) (j : ℕ) (is js : List ℕ)
-        → AreReached ks intact j is → AreReached ks intact j js → is ≡ js }
+    ensures reached_one { (ks : List ChunkValue) (intact : Intact) (j to : ℕ) (is js : List ℕ)
+        → AreReached ks intact j to is → AreReached ks intact j to js → is ≡ js }
     ensures reached { (ks : List ChunkValue) (intact : Intact) (j : ℕ)
-        → j ≤ length ks → (is : List ℕ) × AreReached ks intact j is }
-    ensures left_one { (keep : Bool) (ks : List ChunkValue) (intact : Intact) (j : ℕ) (ps qs : List Piece)
-        → DamageLeavesEach keep ks intact j ps → DamageLeavesEach keep ks intact j qs → ps ≡ qs }
+        → j ≤ length ks → (is : List ℕ) × AreReached ks intact j (length ks) is }
+    ensures left_one { (keep : Bool) (ks : List ChunkValue) (intact : Intact) (j to : ℕ) (ps qs : List Piece)
+        → DamageLeavesEach keep ks intact j to ps → DamageLeavesEach keep ks intact j to qs → ps ≡ qs }
     ensures left { (keep : Bool) (ks : List ChunkValue) (intact : Intact) (j : ℕ)
-        → AllByRecursion IsFramed ks → j ≤ length ks → (pieces : List Piece) × DamageLeavesEach keep ks intact j pieces }
-    ensures begins { (keep : Bool) (ks : List ChunkValue) (intact : Intact) (j : ℕ) (pieces : List Piece) (is : List ℕ)
-        → DamageLeavesEach keep ks intact j pieces → AreReached ks intact j is
+        → AllByRecursion IsFramed ks → j ≤ length ks
+        → (pieces : List Piece) × DamageLeavesEach keep ks intact j (length ks) pieces }
+    ensures begins { (keep : Bool) (ks : List ChunkValue) (intact : Intact) (j to : ℕ) (pieces : List Piece) (is : List ℕ)
+        → DamageLeavesEach keep ks intact j to pieces → AreReached ks intact j to is
         → map (λ piece. piece.begin) pieces ≡ map (begin_of ks) is }
 {}
 
 /// The pieces of a damaged file of at most 2^60 bytes are those that are told from the undamaged file, from what is intact of
-/// its chunks and of its block headers. So its events give the records of the chunks that are reached and untouched. Own.
+/// its chunks and of its block headers, also up to a chunk. So each place that a walk of it comes to is where a chunk begins
+/// that is reached, or the end, and its events give the records of the chunks that are reached and untouched. Own.
 pub fn damaged_files_come_apart_as_told()
     ensures pieces { (keep : Bool) (ks : List ChunkValue) (file damaged : List ℕ) (intact : Intact) (pieces : List Piece)
         → length file ≤ 2 ^ 60 → IsDamaged ks file damaged intact
-        → ArePieces keep damaged pieces ↔ DamageLeavesEach keep ks intact 0 pieces }
+        → ArePieces keep damaged pieces ↔ DamageLeavesEach keep ks intact 0 (length ks) pieces }
+    ensures front { (keep : Bool) (ks : List ChunkValue) (file damaged : List ℕ) (intact : Intact) (n : ℕ) (pieces : List Piece)
+        → length file ≤ 2 ^ 60 → IsDamaged ks file damaged intact → n ≤ length ks
+        → AreTiles keep damaged 0 (begin_of ks n) pieces ↔ DamageLeavesEach keep ks intact 0 n pieces }
+    ensures places { (keep : Bool) (ks : List ChunkValue) (file damaged : List ℕ) (intact : Intact) (place : ℕ)
+        → length file ≤ 2 ^ 60 → IsDamaged ks file damaged intact → IsMet keep damaged place
+        → (n : ℕ) × IsReachedAt ks intact place n }
     ensures records { (keep : Bool) (ks : List ChunkValue) (file damaged : List ℕ) (intact : Intact) (is : List ℕ)
         (events : List Piece)
-        → length file ≤ 2 ^ 60 → IsDamaged ks file damaged intact → AreReached ks intact 0 is
+        → length file ≤ 2 ^ 60 → IsDamaged ks file damaged intact → AreReached ks intact 0 (length ks) is
         → AreEvents keep damaged events → AreRecordsOf (untouched ks intact is) (records_in events) }
 {}
 
-/// Where all block headers are intact, a chunk that isn't reached is behind one with a broken header, and ends at or before
-/// the first block from that one's begin on. Own.
+/// Where all block headers are intact, a chunk that isn't reached, before one that is or before the end, is behind one with a
+/// broken header, and ends at or before the first block from that one's begin on. Own.
 pub fn chunks_are_lost_up_to_a_block()
-    ensures { (ks : List ChunkValue) (intact : Intact) (k : ℕ) (is : List ℕ)
+    ensures { (ks : List ChunkValue) (intact : Intact) (to k : ℕ) (is : List ℕ)
         → ((b : ℕ) → IsBlock b → b < begin_of ks (length ks) → intact.block b ≡ true)
-        → AreReached ks intact 0 is → k < length ks → ((i : ℕ) → slice_get is i ≢ Some k)
+        → AreReached ks intact 0 to is → k < to → ((i : ℕ) → slice_get is i ≢ Some k)
         → (j : ℕ) × (j < k) × (intact.header j ≡ false)
         × ((b : ℕ) → IsBlock b → begin_of ks j ≤ b → begin_of ks (k + 1) ≤ b) }
 {}

@@ -1,4 +1,4 @@
-ghost use Rattle.std.specs.Prelude.{◌≡◌, ◌↔◌, ℕ, ◌^◌, ◌<◌, ◌≤◌, ◌⊎◌, Some, IsTrue, IfOk, IfSome, OnErr, IsErr, Err};
+ghost use Rattle.std.specs.Prelude.{◌≡◌, ◌↔◌, ℕ, ◌^◌, ◌<◌, ◌≤◌, ◌⊎◌, Some, IsTrue, IfOk, IfSome, IsErr, Err};
 ghost use Rattle.record_io.specs.Calls.{OnlyAsks};
 ghost use Rattle.block_layout.specs.Layout.{IsBoundary};
 ghost use Rattle.chunk_header.specs.Views.{IsHeader, HasRightHash, value_of_header};
@@ -17,7 +17,7 @@ use chunk_reader::{
 };
 use record_io::{Failed, Store};
 use simple_chunk::Records;
-use std::alloc::Global;
+use std::alloc::{AllocError, Global};
 
 /// A piece of a file, which begins where the walk stands.
 #[derive(Debug, Drop)]
@@ -124,7 +124,7 @@ fn held_piece<S: Store>(
         return Ok(unloaded_piece(store, size, span, end, Why::TooLarge)?);
     }
     match load(alloc, store, size, at, end, header)? {
-        Loaded::Whole(chunk, right) => whole_piece(alloc, chunk, right, end, keep),
+        Loaded::Whole(chunk, right) => Ok(whole_piece(alloc, chunk, right, end, keep)?),
         Loaded::Contradicted(landing) => Ok(skipped(landing, Why::Contradicted)),
     }
 }
@@ -162,21 +162,19 @@ fn whole_piece(
     right: bool,
     end: u64,
     keep: bool,
-) -> Result<Piece, LoadEnd>
+) -> Result<Piece, AllocError>
     requires { IsTrue right ↔ HasRightHash chunk }
     ensures end { IfOk result (λ piece. piece.end ≡ end) }
     ensures read { IfOk result (λ piece. IsReadAs keep chunk piece.what) }
-    ensures memory { OnErr result (result ≡ Err LoadEnd.Memory) }
 {
     let what = read_as(alloc, chunk, right, keep)?;
     Ok(Piece { end, what })
 }
 
 /// What a chunk is that was read, of which it is known whether its header has the data's hash.
-fn read_as(alloc: Global, chunk: Chunk, right: bool, keep: bool) -> Result<PieceKind, LoadEnd>
+fn read_as(alloc: Global, chunk: Chunk, right: bool, keep: bool) -> Result<PieceKind, AllocError>
     requires { IsTrue right ↔ HasRightHash chunk }
     ensures read { IfOk result (λ what. IsReadAs keep chunk what) }
-    ensures memory { OnErr result (result ≡ Err LoadEnd.Memory) }
 {
     match content_under(alloc, &chunk, right) {
         Ok(Content::Records(records)) => Ok(PieceKind::Given(records, chunk)),
@@ -186,7 +184,7 @@ fn read_as(alloc: Global, chunk: Chunk, right: bool, keep: bool) -> Result<Piece
             Ok(PieceKind::Kept(chunk, true))
         }
         Err(ContentEnd::Fault(why)) => Ok(PieceKind::Skipped(why)),
-        Err(ContentEnd::Memory) => Err(LoadEnd::Memory),
+        Err(ContentEnd::Memory) => Err(AllocError),
     }
 }
 

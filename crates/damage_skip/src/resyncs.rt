@@ -2,6 +2,7 @@ ghost use Rattle.std.specs.Prelude.{◌≡◌, ◌^◌, ◌<◌, ◌≤◌, ◌�
 ghost use Rattle.record_io.specs.Calls.{OnlyAsks};
 ghost use Rattle.block_layout.specs.Layout.{IsBoundary};
 ghost use Rattle.block_layout.specs.BlockHeaders.{IsSane};
+ghost use Rattle.damage_skip.specs.DamagedWalks.{LeadsPastDamage};
 ghost use Rattle.damage_skip.specs.Resyncs.{IsResync, landing};
 
 use crate::block_checks::next_block;
@@ -27,6 +28,7 @@ pub fn resync<S: Store>(store: &mut S, size: u64, from: u64) -> Result<u64, Fail
     requires from_boundary { IsBoundary from }
     requires below { from < size }
     ensures resync { IfOk result (λ to. IfSome (S.bytes store.old) (λ file. IsResync file from to)) }
+    ensures damaged { IfOk result (λ to. IfSome (S.bytes store.old) (λ file. LeadsPastDamage file from to)) }
     ensures past { IfOk result (λ to. from < to) }
     ensures within { IfOk result (λ to. to ≤ size) }
     ensures boundary { IfOk result (λ to. IsBoundary to ⊎ (to ≡ size)) }

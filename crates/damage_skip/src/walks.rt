@@ -1,6 +1,9 @@
-ghost use Rattle.std.specs.Prelude.{◌≡◌, ◌^◌, ◌<◌, ◌≤◌, ℕ, Ok, Err, Some, None, List, IfSome};
+ghost use Rattle.std.specs.Prelude.{◌≡◌, ◌^◌, ◌<◌, ◌≤◌, ℕ, Ok, Err, Some, None, List, IfSome, length};
 ghost use Rattle.record_io.specs.Calls.{OnlyAsks};
 ghost use Rattle.chunk_reader.specs.Reasons.{Applies, NoneOf, loading_reasons};
+ghost use Rattle.chunk_header.specs.Chunks.{ChunkValue};
+ghost use Rattle.damage_skip.specs.Damage.{Intact, IsDamaged};
+ghost use Rattle.damage_skip.specs.DamagedWalks.{WalksPastDamage};
 ghost use Rattle.damage_skip.specs.Policies.{IsTest};
 ghost use Rattle.damage_skip.specs.Steps.{IsPieceFrom};
 ghost use Rattle.damage_skip.specs.Walks.{IsMet, IsStoppedAt, StandsIn, WalksOn, IsAllowedEvent, IsRefusedStop, Refuses, event_of};
@@ -48,6 +51,10 @@ impl<F: Fn(&Region) -> bool + Drop> Walker<F> {
 
     /// The next event of the file; `None` exactly at its end. The file's size was told and is the walker's, at most 2^60.
     ///
+    /// In a damaged file, in which each change shows by a hash, the walk goes from chunk to chunk of the undamaged one: from one
+    /// whose header is intact to the next, and from another one to that which holds the first intact block header from its
+    /// begin on.
+    ///
     /// # Errors
     ///
     /// `Stopped` exactly where the next event is a region that the policy doesn't allow to pass over, and again at each later
@@ -58,6 +65,9 @@ impl<F: Fn(&Region) -> bool + Drop> Walker<F> {
         requires test { IsTest F.Fn (test_of self.old) }
         ensures stands { StandsIn (S.bytes store.old) (S.told store.old) (progress_of self.new) }
         ensures goes_on { WalksOn (S.bytes store.old) (progress_of self.old) (progress_of self.new) result }
+        ensures damaged { IfSome (S.bytes store.old) (λ damaged.
+            (ks : List ChunkValue) (file : List ℕ) (intact : Intact) → length file ≤ 2 ^ 60 → IsDamaged ks file damaged intact
+            → WalksPastDamage ks intact (progress_of self.old) (progress_of self.new) result) }
         ensures same_test { test_of self.new ≡ test_of self.old }
         ensures event { (event : Event) → result ≡ Ok (Some event)
             → IsAllowedEvent F.Fn (test_of self.old) (progress_of self.old).place (progress_of self.new).place event }

@@ -1,22 +1,19 @@
 -- The chunks that damage leaves are those that are reached, untouched and copied.
-use Rattle.std.proofs.Common.{◌≡◌, ◌∙◌, ℕ, ◌+◌, ◌<◌, ◌≤◌, ◌^◌, nat_lt, Bool, true, false, ◌&&◌, List, [], ◌∷◌, ◌++◌, Some, length, refl, sym, ap, subst, inl, inr, arith}
+use Rattle.std.proofs.Common.{◌≡◌, ◌∙◌, ℕ, ◌≤◌, ◌^◌, Bool, true, false, ◌&&◌, List, [], ◌∷◌, ◌++◌, Some, length, refl, sym, ap, subst, inl, inr, arith}
 use Rattle.std.specs.Prelude.{slice_get, if◌then◌else◌}
 use Rattle.std.specs.List.{AllByRecursion}
-use Rattle.std.proofs.lemmas.Bool.{cases_Bool, cond-true, cond-false, lt-ltb, le-ltb}
-use Rattle.std.proofs.lemmas.Option.{slice_get_within}
+use Rattle.std.proofs.lemmas.Bool.{cases_Bool}
+use Rattle.record_values.specs.Bytes.{AreBytes}
 use Rattle.chunk_header.specs.Chunks.{ChunkValue}
-use Rattle.meta_chunk.specs.Files.{IsFramed, begin_of}
-use Rattle.meta_chunk.proofs.Begins.{begin_of-place, begin_of_rises, begin_of_rises_by}
+use Rattle.meta_chunk.specs.Files.{signature, IsFramed, IsFrame, begin_of}
 use Rattle.chunk_reader.proofs.AllowedChunks.{allowed_small}
 use Rattle.chunk_reader.proofs.ChainSteps.{each_at}
-use Rattle.damage_skip.specs.Pieces.{PieceKind, Piece, AreTiles, ArePieces}
+use Rattle.damage_skip.specs.Pieces.{PieceKind, Piece, ArePieces}
 use Rattle.damage_skip.specs.Damage.{Intact, IsDamaged, AreReached, DamageLeaves, DamageLeavesEach, untouched}
-use Rattle.damage_skip.specs.Walks.{GoesOn}
-use Rattle.damage_skip.proofs.Tiles.{tiles_within, tiles_past, tiles_front, tiles_to_end}
-use Rattle.damage_skip.proofs.Damaged.{pieces_left}
-use Rattle.damage_skip.proofs.Reached.{next_past, next_one}
-use Rattle.repair_copy.specs.Relaid.{chunk_in, chunks_in, is_copied, copied, begun_before}
-use Rattle.repair_copy.proofs.EventChunks.{chunks_in_events}
+use Rattle.damage_skip.proofs.Damaged.{pieces_left, left_front}
+use Rattle.damage_skip.proofs.Reached.{reached_past, left_past, next_one}
+use Rattle.repair_copy.specs.Relaid.{chunk_in, chunks_in, relaid, is_copied, copied}
+use Rattle.repair_copy.proofs.RelaidFiles.{relaid_frame}
 use Rattle.repair_copy.proofs.Copied.{unread_stays, none_before, found_chunk}
 
 -- the chunk of an untouched one's piece
@@ -69,68 +66,30 @@ module _ (keep : Bool) (ks : List ChunkValue) (intact : Intact) (framed : AllByR
             ∙ ap (copied keep) (sym (touched-cons ks intact j is touched))
       ]
 
-  -- no chunk that is reached from one on begins before that one
-  none_begun : (place j : ℕ) (is : List ℕ) → place ≤ begin_of ks j → AreReached ks intact j is → begun_before ks place is ≡ []
-  none_begun place j [] behind h = refl
-  none_begun place j (i ∷ is) behind (at, below, (next, step, rest)) =
-      let past : (j < next) × (next ≤ length ks) = next_past ks intact j next below step in
-      cond-false (nat_lt (begin_of ks i) place) (i ∷ begun_before ks place is) (begun_before ks place is)
-      (le-ltb (begin_of ks i) place (omega (arith, behind, ap (begin_of ks) at)))
-      ∙ none_begun place next is (omega (arith, behind, begin_of_rises ks j next (omega (arith, past.0)))) rest
-
-  -- all begin before the end
-  all_begun : (j : ℕ) (is : List ℕ) → AreReached ks intact j is → begun_before ks (begin_of ks (length ks)) is ≡ is
-  all_begun j [] h = refl
-  all_begun j (i ∷ is) (at, below, (next, step, rest)) =
-      cond-true (nat_lt (begin_of ks i) (begin_of ks (length ks))) (i ∷ begun_before ks (begin_of ks (length ks)) is) _
-      (lt-ltb (begin_of ks i) (begin_of ks (length ks))
-      (omega (arith, ap (begin_of ks) at, begin_of_rises_by ks j below, begin_of_rises ks (j + 1) (length ks) (omega arith))))
-      ∙ ap (λ (ns : List ℕ). i ∷ ns) (all_begun next is rest)
-
-  -- so the pieces up to a place have the copied ones of those that begin before it
-  module _ (damaged : List ℕ) (place : ℕ) where
-    front_left : (j from : ℕ) (ps rest : List Piece) (is : List ℕ) → from ≡ begin_of ks j → AreTiles keep damaged from place ps
-        → DamageLeavesEach keep ks intact j (ps ++ rest) → AreReached ks intact j is
-        → chunks_in ps ≡ copied keep (untouched ks intact (begun_before ks place is))
-    front_left j from [] rest is begin h left reached =
-        ap (λ (ns : List ℕ). copied keep (untouched ks intact ns)) (sym (none_begun place j is (omega (arith, h, begin)) reached))
-    front_left j from (p ∷ ps) rest [] begin h (k, next, at, step, start, end, what, left) reached =
-        absurd (omega (arith, reached, slice_get_within ks j k at))
-    front_left j from (p ∷ ps) rest (i ∷ is) begin h (k, next, at, step, start, end, what, left) (there, below, (other, also, on)) =
-        let same : other ≡ next = next_one ks intact j other next also step in
-        let past : from < place = tiles_past keep damaged from place p ps h in
-        let first : begun_before ks place (i ∷ is) ≡ j ∷ begun_before ks place is =
-        cond-true (nat_lt (begin_of ks i) place) (i ∷ begun_before ks place is) (begun_before ks place is)
-        (lt-ltb (begin_of ks i) place (omega (arith, past, begin, ap (begin_of ks) there)))
-        ∙ ap (λ (n : ℕ). n ∷ begun_before ks place is) there in
-        ap (λ (xs : List ChunkValue). chunk_in p.what ++ xs)
-        (front_left next p.end ps rest is end h.3 left (subst (λ (n : ℕ). AreReached ks intact n is) same on))
-        ∙ left_chunk j k p.what (begun_before ks place is) at what
-        ∙ ap (λ (ns : List ℕ). copied keep (untouched ks intact ns)) (sym first)
-
-pub chunks_before : (keep : Bool) (ks : List ChunkValue) (file damaged : List ℕ) (intact : Intact) (is : List ℕ) (place : ℕ) (pieces : List Piece)
-    → length file ≤ 2 ^ 60 → IsDamaged ks file damaged intact → AreReached ks intact 0 is → AreTiles keep damaged 0 place pieces
-    → chunks_in pieces ≡ copied keep (untouched ks intact (begun_before ks place is))
-chunks_before keep ks file damaged intact is place pieces reach d reached h =
-    let within : (0 ≤ place) × (place ≤ length damaged) = tiles_within keep damaged 0 place pieces (omega arith) h in
-    let all = tiles_to_end keep damaged 0 (omega arith) in
-    let front = tiles_front keep damaged 0 place (length damaged) pieces all.0 within.1 h all.1 in
-    front_left keep ks intact d.frame.1.each damaged place 0 0 pieces front.0 is refl h
-    (subst (DamageLeavesEach keep ks intact 0) front.1 (pieces_left keep ks file damaged intact d reach all.0 all.1)) reached
+  -- so the pieces that are left have those of them that are copied
+  pub left_chunks : (j to : ℕ) (pieces : List Piece) (is : List ℕ) → DamageLeavesEach keep ks intact j to pieces → AreReached ks intact j to is
+      → chunks_in pieces ≡ copied keep (untouched ks intact is)
+  left_chunks j to [] [] h g = refl
+  left_chunks j to [] (i ∷ is) h g = absurd (omega (arith, h, reached_past ks intact j to i is g))
+  left_chunks j to (p ∷ pieces) [] h g = absurd (omega (arith, g, left_past keep ks intact j to p pieces h))
+  left_chunks j to (p ∷ pieces) (i ∷ is) (k, next, at, step, begin, end, what, rest) (there, below, (other, also, on)) =
+      let same : other ≡ next = next_one ks intact j other next also step in
+      ap (λ (xs : List ChunkValue). chunk_in p.what ++ xs)
+      (left_chunks next to pieces is rest (subst (λ (n : ℕ). AreReached ks intact n to is) same on))
+      ∙ left_chunk j k p.what is at what
+      ∙ ap (λ (n : ℕ). copied keep (untouched ks intact (n ∷ is))) (sym there)
 
 pub chunks_left : (keep : Bool) (ks : List ChunkValue) (file damaged : List ℕ) (intact : Intact) (is : List ℕ) (pieces : List Piece)
-    → length file ≤ 2 ^ 60 → IsDamaged ks file damaged intact → AreReached ks intact 0 is → ArePieces keep damaged pieces
+    → length file ≤ 2 ^ 60 → IsDamaged ks file damaged intact → AreReached ks intact 0 (length ks) is → ArePieces keep damaged pieces
     → chunks_in pieces ≡ copied keep (untouched ks intact is)
 chunks_left keep ks file damaged intact is pieces reach d reached h =
-    let end : length damaged ≡ begin_of ks (length ks) =
-    d.same_length ∙ sym (begin_of-place ks file (length file) d.frame.1.within d.frame.1.laid) in
-    chunks_before keep ks file damaged intact is (length damaged) pieces reach d reached h
-    ∙ ap (λ (ns : List ℕ). copied keep (untouched ks intact ns))
-    (ap (λ (n : ℕ). begun_before ks n is) end ∙ all_begun keep ks intact d.frame.1.each 0 is reached)
+    left_chunks keep ks intact d.frame.1.each 0 (length ks) pieces is (pieces_left keep ks file damaged intact d reach pieces h) reached
 
--- so do the events up to a place
-pub chunks_walked : (keep : Bool) (ks : List ChunkValue) (file damaged : List ℕ) (intact : Intact) (is : List ℕ) (place : ℕ) (events : List Piece)
-    → length file ≤ 2 ^ 60 → IsDamaged ks file damaged intact → AreReached ks intact 0 is → GoesOn keep damaged 0 place events
-    → chunks_in events ≡ copied keep (untouched ks intact (begun_before ks place is))
-chunks_walked keep ks file damaged intact is place events reach d reached (pieces, h, are) =
-    sym (ap chunks_in are) ∙ chunks_in_events pieces ∙ chunks_before keep ks file damaged intact is place pieces reach d reached h
+-- and are a frame of these
+pub frame_left : (keep : Bool) (ks : List ChunkValue) (file damaged : List ℕ) (intact : Intact) (to : ℕ) (pieces : List Piece) (is : List ℕ)
+    → length file ≤ 2 ^ 60 → IsDamaged ks file damaged intact → AreBytes damaged → DamageLeavesEach keep ks intact 0 to pieces
+    → AreReached ks intact 0 to is → IsFrame (signature ∷ copied keep (untouched ks intact is)) (relaid pieces)
+frame_left keep ks file damaged intact to pieces is reach d bytes left reached =
+    subst (λ (xs : List ChunkValue). IsFrame (signature ∷ xs) (relaid pieces))
+    (left_chunks keep ks intact d.frame.1.each 0 to pieces is left reached)
+    (relaid_frame keep damaged 0 (begin_of ks to) pieces bytes (left_front keep ks file damaged intact d reach to pieces left))

@@ -13,3 +13,4 @@ mod CopySteps
 mod WalkedFiles
 mod SkippedRegions
 pub mod OneWalk
+pub mod DamagedRepairs

@@ -10,7 +10,7 @@ use Rattle.meta_chunk.specs.PaddingSizes.{padding}
 use Rattle.meta_chunk.proofs.Begins.{end-zero_padding}
 use Rattle.chunk_reader.specs.declared.reasons.Why.TheVariants as why
 use Rattle.damage_skip.specs.Pieces.{Given, LeftOut, Skipped, Piece}
-use Rattle.repair_copy.specs.Relaid.{chunks_in, relaid, copied, begun_before}
+use Rattle.repair_copy.specs.Relaid.{chunks_in, relaid, copied}
 
 -- an empty file is repaired to the signature
 none_relaid : relaid [] ≡ signature_bytes
@@ -113,8 +113,3 @@ copied_of_each = refl
 copied_and_read : copied false each_kind ≡ metadata ∷ of_a ∷ []
 unfolding each_kind metadata transposed compressed of_a
 copied_and_read = refl
-
--- of the chunks at 0, 64, 30109, 60154 and 90223, those that begin before the one at 60154
-before_one : begun_before (signature ∷ large ∷ large ∷ large ∷ large ∷ []) 60154 (0 ∷ 1 ∷ 2 ∷ 3 ∷ 4 ∷ []) ≡ 0 ∷ 1 ∷ 2 ∷ []
-unfolding large chunk_end_of end_of
-before_one = refl

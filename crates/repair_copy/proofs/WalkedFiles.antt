@@ -136,7 +136,7 @@ module _ {F : Type 0} (test : Shared F (Bor Region × Unit {0}) Bool) (f : F) wh
               → IfSome x (λ file. EndsAt test f file to (Some region))
           at_region None sized h = tt
           at_region (Some file) sized h =
-              record { begin = h.0; below = omega (arith, stop.onward.past, stop.onward.within, sized); piece = h.1; refused = refused }
+              record { begin = h.0; below = h.1; piece = h.2; refused = refused }
 
   -- so the file is repaired
   pub repairs_whole : (bytes : Option (List ℕ)) (place : ℕ) (s t : Copied) (repaired : Repaired) (faults faults_then : ℕ) (before a b : Taken)

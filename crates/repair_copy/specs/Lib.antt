@@ -3,3 +3,4 @@ pub mod RepairPuts
 pub mod Walked
 pub mod Copies
 pub mod Repairs
+pub mod DamagedRepairs

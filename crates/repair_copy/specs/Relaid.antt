@@ -1,12 +1,12 @@
 -- What a damaged file is repaired to. Source: the Riegeli/records file format specification, "File format". Own: which
 -- chunks are kept.
-use Rattle.std.specs.Prelude.{ℕ, Bool, not, ◌&&◌, ◌||◌, ◌==◌, List, [], ◌∷◌, filter, nat_lt}
+use Rattle.std.specs.Prelude.{ℕ, Bool, not, ◌&&◌, ◌||◌, ◌==◌, List, [], ◌∷◌, filter}
 use Rattle.std.specs.List.{flat_map}
 use Rattle.chunk_header.specs.Chunks.{ChunkValue}
 use Rattle.chunk_header.specs.SimpleChunks.{simple_kind}
 use Rattle.meta_chunk.specs.Kinds.{metadata_kind, transposed_kind}
 use Rattle.meta_chunk.specs.Counts.{is_unread}
-use Rattle.meta_chunk.specs.Files.{signature, begin_of, laid_each}
+use Rattle.meta_chunk.specs.Files.{signature, laid_each}
 use Rattle.damage_skip.specs.Pieces.{PieceKind, Given, Kept, Piece}
 
 -- the chunk of a piece that gives records or is kept; other pieces have none
@@ -32,7 +32,3 @@ is_copied keep k =
 -- of some chunks those that are copied
 abbrev pub copied : Bool → List ChunkValue → List ChunkValue
 copied keep ks = filter (is_copied keep) ks
-
--- of the numbers of chunks those of the ones that begin before a place
-abbrev pub begun_before : List ChunkValue → ℕ → List ℕ → List ℕ
-begun_before ks place numbers = filter (λ j. nat_lt (begin_of ks j) place) numbers

@@ -7,21 +7,21 @@ ghost use Rattle.record_io.specs.Puts.{Put, Made, Out, Notes, BreaksOff, bytes_t
 ghost use Rattle.block_layout.specs.Layout.{block_header_size};
 ghost use Rattle.chunk_header.specs.Chunks.{ChunkValue};
 ghost use Rattle.meta_chunk.specs.Kinds.{IsSignature, IsPadding};
-ghost use Rattle.meta_chunk.specs.Files.{signature, end_of_chunks, IsFileOf, IsFile, IsFrame, AreRecordsOf, laid_each};
+ghost use Rattle.meta_chunk.specs.Files.{signature, end_of_chunks, IsFramed, IsFileOf, IsFile, IsFrame, AreRecordsOf, laid_each};
 ghost use Rattle.meta_chunk.specs.Laid.{end_of_chunk};
 ghost use Rattle.record_group.specs.declared.pad.Pad.{Pad};
 ghost use Rattle.record_group.specs.declared.pad.Pad.TheVariants.{No};
 ghost use Rattle.record_group.specs.Groups.{file_of};
 ghost use Rattle.record_group.specs.Records.{AreRecords};
 ghost use Rattle.chunk_reader.specs.Faults.{IsAllowed, HasNoFault};
-ghost use Rattle.damage_skip.specs.Damage.{Intact, IsDamaged, AreReached, untouched};
+ghost use Rattle.damage_skip.specs.Damage.{Intact, IsDamaged, AreReached, DamageLeavesEach, untouched};
 ghost use Rattle.damage_skip.specs.Pieces.{Piece, AreTiles, ArePieces, events_in, records_in};
 ghost use Rattle.damage_skip.specs.Walks.{GoesOn};
 ghost use Rattle.damage_skip.specs.Policies.{IsTest, IsAllowedRegion};
 ghost use Rattle.damage_skip.specs.Regions.{regions_in, skipped_text, IsWalkedTo};
 ghost use Rattle.repair_copy.specs.Walked.{EndsAt};
 ghost use Rattle.repair_copy.specs.RepairPuts.{puts_from, repair_puts};
-ghost use Rattle.repair_copy.specs.Relaid.{chunk_in, chunks_in, relaid, copied, begun_before};
+ghost use Rattle.repair_copy.specs.Relaid.{chunk_in, chunks_in, relaid, copied};
 
 use damage_skip::{Policy, Region};
 
@@ -109,27 +109,21 @@ pub fn repaired_files_stay()
 {}
 
 /// The repair of a damaged file of at most 2^60 bytes has, behind the signature, the simple and metadata chunks, and where
-/// they are kept the unread ones, that are reached and untouched, in order. Up to a place it has those of them that begin
-/// before it. Own.
+/// they are kept the unread ones, that are reached and untouched, in order. Up to a chunk it has those of them that are
+/// reached before it. Own.
 pub fn what_damage_leaves_is_repaired()
+    ensures left { (keep : Bool) (ks : List ChunkValue) (intact : Intact) (j to : ℕ) (pieces : List Piece) (is : List ℕ)
+        → AllByRecursion IsFramed ks → DamageLeavesEach keep ks intact j to pieces → AreReached ks intact j to is
+        → chunks_in pieces ≡ copied keep (untouched ks intact is) }
     ensures whole { (keep : Bool) (ks : List ChunkValue) (file damaged : List ℕ) (intact : Intact) (is : List ℕ)
         (pieces : List Piece)
-        → length file ≤ 2 ^ 60 → IsDamaged ks file damaged intact → AreReached ks intact 0 is
+        → length file ≤ 2 ^ 60 → IsDamaged ks file damaged intact → AreReached ks intact 0 (length ks) is
         → ArePieces keep damaged pieces → chunks_in pieces ≡ copied keep (untouched ks intact is) }
-    ensures front { (keep : Bool) (ks : List ChunkValue) (file damaged : List ℕ) (intact : Intact) (is : List ℕ) (place : ℕ)
-        (pieces : List Piece)
-        → length file ≤ 2 ^ 60 → IsDamaged ks file damaged intact → AreReached ks intact 0 is
-        → AreTiles keep damaged 0 place pieces
-        → chunks_in pieces ≡ copied keep (untouched ks intact (begun_before ks place is)) }
-    ensures events { (keep : Bool) (ks : List ChunkValue) (file damaged : List ℕ) (intact : Intact) (is : List ℕ) (place : ℕ)
-        (events : List Piece)
-        → length file ≤ 2 ^ 60 → IsDamaged ks file damaged intact → AreReached ks intact 0 is
-        → GoesOn keep damaged 0 place events
-        → chunks_in events ≡ copied keep (untouched ks intact (begun_before ks place is)) }
-    ensures frame { (keep : Bool) (ks : List ChunkValue) (file damaged : List ℕ) (intact : Intact) (is : List ℕ)
-        (pieces : List Piece)
-        → length file ≤ 2 ^ 60 → IsDamaged ks file damaged intact → AreReached ks intact 0 is → AreBytes damaged
-        → ArePieces keep damaged pieces → IsFrame (signature ∷ copied keep (untouched ks intact is)) (relaid pieces) }
+    ensures frame { (keep : Bool) (ks : List ChunkValue) (file damaged : List ℕ) (intact : Intact) (to : ℕ)
+        (pieces : List Piece) (is : List ℕ)
+        → length file ≤ 2 ^ 60 → IsDamaged ks file damaged intact → AreBytes damaged
+        → DamageLeavesEach keep ks intact 0 to pieces → AreReached ks intact 0 to is
+        → IsFrame (signature ∷ copied keep (untouched ks intact is)) (relaid pieces) }
 {}
 
 /// Under a policy a file has one list of events up to where its walk ends: at the file's end, or at the first region that

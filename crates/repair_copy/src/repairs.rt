@@ -1,9 +1,12 @@
-ghost use Rattle.std.specs.Prelude.{◌≡◌, ◌+◌, ◌*◌, ◌^◌, ◌≤◌, Some, None, Err, IfOk, IfSome};
+ghost use Rattle.std.specs.Prelude.{◌≡◌, ◌+◌, ◌*◌, ◌^◌, ◌≤◌, ℕ, Some, None, Err, IfOk, IfSome, List, length};
 ghost use Rattle.record_io.specs.Puts.{taken_by};
 ghost use Rattle.record_io.specs.Calls.{OnlyAsks, OnlyCounts};
+ghost use Rattle.chunk_header.specs.Chunks.{ChunkValue};
+ghost use Rattle.damage_skip.specs.Damage.{Intact, IsDamaged};
 ghost use Rattle.damage_skip.specs.Policies.{IsTest};
 ghost use Rattle.damage_skip.specs.Steps.{IsOnward};
 ghost use Rattle.damage_skip.specs.declared.regions.Region.{Region};
+ghost use Rattle.repair_copy.specs.DamagedRepairs.{RepairsDamage};
 ghost use Rattle.repair_copy.specs.Repairs.{Skips, Repairs};
 
 use crate::copying::{Copied, FailedSink};
@@ -52,8 +55,11 @@ impl From<FailedSink> for RepairEnd {
 /// Repairs a file of so many bytes: makes the file of its intact chunks, and tells each region of it that is passed over in
 /// a line `skipped`, where it begins and ends, and why. Compressed and transposed chunks are copied unread.
 ///
-/// The file's size was told, and is at most 2^60. Of the repaired file up to 262,144 bytes gather before they are put.
+/// The file's size was told, and is at most 2^60. Of the repaired file up to 196,608 bytes gather before they are put.
 /// What is held goes out before a line is put, and however the work ends.
+///
+/// Of a damaged file, in which each change shows by a hash, what is made has, behind the signature, the simple, metadata and
+/// unread chunks of the undamaged file that are reached and untouched, in order.
 ///
 /// # Errors
 ///
@@ -75,6 +81,10 @@ pub fn repair<S: Store, F: Fn(&Region) -> bool + Drop, M: Sink, E: Sink>(
     requires test { IsTest F.Fn policy.test }
     ensures repairs { IfSome (S.bytes store.old) (Repairs F.Fn policy.test result (M.faults made.old) (M.faults made.new)
         (taken_by (M.taken made.old) None (E.taken notes.old)) (taken_by (M.taken made.new) None (E.taken notes.new))) }
+    ensures damaged { IfSome (S.bytes store.old) (λ damaged.
+        (ks : List ChunkValue) (file : List ℕ) (intact : Intact) → length file ≤ 2 ^ 60 → IsDamaged ks file damaged intact
+        → RepairsDamage F.Fn policy.test result (M.faults made.old) (M.faults made.new)
+        (taken_by (M.taken made.old) None (E.taken notes.old)) (taken_by (M.taken made.new) None (E.taken notes.new)) ks intact damaged) }
     ensures skips { Skips F.Fn policy.test result (E.taken notes.old) (E.taken notes.new) }
     ensures quiet { IfOk result (λ repaired. repaired.regions ≡ 0 → notes.new ≡ notes.old) }
     ensures stop { (region : Region) → result ≡ Err (RepairEnd.Stopped region) → IsOnward size region.begin region.end }

@@ -5,7 +5,7 @@ use denote.Ref.{Bor}
 use Rattle.std.specs.Result.{IsErr, IsErrAnd}
 use Rattle.chunk_header.specs.Views.{value_of_chunk}
 use Rattle.meta_chunk.specs.Laid.{end_of_chunk}
-use Rattle.chunk_reader.proofs.ReadingSteps.{counted-room}
+use Rattle.chunk_reader.proofs.ReadingSteps.{totals_with_chunk-room}
 use Rattle.record_values.specs.Bytes.{AreBytes}
 use Rattle.record_io.specs.Puts.{Out, Taken}
 use Rattle.record_io.proofs.Puts.{GoOut-nothing, GoOutOrAreHeld-none}
@@ -72,7 +72,7 @@ stop-same a b keep keep_then next stopped region same kept not_kept is h =
 -- an event of a walk has room for its positions
 pub event-room : (from to size : ℕ) (e : Event) → IsEventIn from to e → to ≤ size → size ≤ 2 ^ 60 → HasPositions e
 event-room from to size (event.Records begin records chunk) h within reach =
-    let last = counted-room (record { chunks = 0; records = 0; bytes = begin; unread = 0 }) (end_of_chunk begin (value_of_chunk chunk)) (value_of_chunk chunk) refl in
+    let last = totals_with_chunk-room (record { chunks = 0; records = 0; bytes = begin; unread = 0 }) (end_of_chunk begin (value_of_chunk chunk)) (value_of_chunk chunk) refl in
     omega (arith, last, h.intact.1.num_records, h.to_place, within, reach)
 event-room from to size (event.Kept begin chunk unread) h within reach = omega (arith, h.rises, h.to_place, within, reach)
 event-room from to size (event.Skipped region) h within reach = omega (arith, h.rises, h.to_place, within, reach)
@@ -193,7 +193,7 @@ step-ended words (Some f) place next size size_then a b held ended e why is shor
           let stop = stops region refl in
           given-stopped words f next a b held ended region (omega (arith, short, exact))
           (given-on words f place next a b held ended h on)
-          stop.2.0 (omega (arith, stop.0.onward.past, stop.0.onward.within, exact, same)) stop.2.1 stop.1
+          stop.2.0 stop.2.1 stop.2.2 stop.1
       by_end walk.Store on stops = front
       by_end walk.Memory on stops = front
 

@@ -17,7 +17,7 @@ use Rattle.damage_skip.specs.Bounds.{may_skip, MaySkip}
 use Rattle.damage_skip.specs.Regions.{skipped_text, walk_text}
 use Rattle.show_damaged.specs.WalkAnswers.{walk_status, MaySayWalk, MayEndWalk}
 use Rattle.run_answers.specs.Meanings.{Meaning}
-use Rattle.run_answers.specs.Runs.{Shown, ShownFile, Seen, seen, AreSinksSound, Runs}
+use Rattle.run_answers.specs.Runs.{SeenStream, SeenFile, Seen, seen, AreSinksSound, Runs}
 use Rattle.run_answers.specs.PutSoFar.{HasPutSoFar}
 use Rattle.show_damaged.specs.WalkingEnds.{walk_ends, TellsOf}
 use Rattle.run_answers.proofs.FileEnds.{EndsBy, EndsWhole, HasSaid, MayEndInReach, runs-file}
@@ -93,7 +93,7 @@ module _ (m : Meaning) (P : List ℕ → Answer → Type 0) (Q : List ℕ → Li
   )
   said (Err (end.Cut cut.Memory)) notes notes_then (skipped, told) = (skipped_text skipped, told.says, walks.may_say _ (skipped, told.may, refl))
 
-  module _ (input made made_then : Shown) (file file_then grown : ShownFile) (out out_then notes mid notes_then : Shown)
+  module _ (input made made_then : SeenStream) (file file_then grown : SeenFile) (out out_then notes mid notes_then : SeenStream)
       (keeps : Keeps m (seen input (file ∷ []) made grown out notes) (seen input (file_then ∷ []) made_then grown out_then notes_then)) where
     abbrev Before : Seen
     Before = seen input (file ∷ []) made grown out notes

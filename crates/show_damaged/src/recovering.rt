@@ -9,7 +9,7 @@ ghost use Rattle.show_damaged.specs.RecoverCommand.{IsRecovered, IsRecoveredSoFa
 ghost use Rattle.damage_skip.specs.Bounds.{may_skip};
 ghost use Rattle.damage_skip.specs.Walks.{StandsIn, event_text};
 ghost use Rattle.show_damaged.specs.RecoverProgress.{GivesEvent, HasPositions, end_of_walk, event_lines, status_after};
-ghost use Rattle.run_answers.specs.Runs.{Runs, Seen, shown, shown_file};
+ghost use Rattle.run_answers.specs.Runs.{Runs, Seen, seen_stream, seen_file};
 ghost use Rattle.run_answers.specs.PutSoFar.{HasPutSoFar};
 ghost use Rattle.run_answers.specs.Endings.{HasPutAtEnd, IsAllowedEnd, IsShort};
 ghost use Rattle.show_damaged.specs.WalkingEnds.{IsBound, TellsOf, walk_ends};
@@ -31,8 +31,8 @@ pub fn recover<S: Store, O: Sink, E: Sink>(
     notes: &mut E,
 ) -> Status
     ensures runs { (others : Seen) → Runs (recover_meaning words.now)
-        (record others { files = shown_file S.bytes S.told S.handed S.faults file.old ∷ []; out = shown O.taken O.faults out.old; notes = shown E.taken E.faults notes.old })
-        (record others { files = shown_file S.bytes S.told S.handed S.faults file.new ∷ []; out = shown O.taken O.faults out.new; notes = shown E.taken E.faults notes.new })
+        (record others { files = seen_file S.bytes S.told S.handed S.faults file.old ∷ []; out = seen_stream O.taken O.faults out.old; notes = seen_stream E.taken E.faults notes.old })
+        (record others { files = seen_file S.bytes S.told S.handed S.faults file.new ∷ []; out = seen_stream O.taken O.faults out.new; notes = seen_stream E.taken E.faults notes.new })
         result }
     ensures same_bytes { S.bytes file.new ≡ S.bytes file.old }
     ensures same_name { S.name file.new ≡ S.name file.old }

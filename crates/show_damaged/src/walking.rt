@@ -2,7 +2,7 @@ ghost use lib.Chars.{codes};
 ghost use Rattle.std.specs.Prelude.{◌≡◌, ◌-◌, ◌≤◌};
 ghost use Rattle.record_io.specs.Calls.{OnlyCounts};
 ghost use Rattle.run_answers.specs.Endings.{SaysEnd};
-ghost use Rattle.run_answers.specs.Runs.{SaysAtEnd, shown};
+ghost use Rattle.run_answers.specs.Runs.{SaysAtEnd, seen_stream};
 ghost use Rattle.show_damaged.specs.WalkingEnds.{walk_ends};
 ghost use Rattle.damage_skip.specs.Bounds.{may_skip};
 ghost use Rattle.damage_skip.specs.Regions.{region_text};
@@ -24,8 +24,8 @@ pub fn may_skip(most: Option<u64>, region: &Region) -> bool
 
 /// Says in notes why a walk ended, where it did before the file.
 pub fn end_walk<E: Sink>(ended: Result<Status, Ending<Region>>, notes: &mut E) -> Status
-    ensures told { SaysEnd walk_ends ended result (shown E.taken E.faults notes.old)
-        (shown E.taken E.faults notes.new) }
+    ensures told { SaysEnd walk_ends ended result (seen_stream E.taken E.faults notes.old)
+        (seen_stream E.taken E.faults notes.new) }
     ensures notes_kept { result ≡ Status.Ok → notes.new ≡ notes.old }
     ensures notes { OnlyCounts E.lent E.faults ⊥ notes.old notes.new }
 {
@@ -39,8 +39,8 @@ pub fn end_walk<E: Sink>(ended: Result<Status, Ending<Region>>, notes: &mut E) -
 
 /// Ends a walk at a region that may not be skipped, with its line.
 fn end_with_region<E: Sink>(notes: &mut E, region: &Region) -> Status
-    ensures told { SaysAtEnd result Status.Stopped (shown E.taken E.faults notes.old)
-        (shown E.taken E.faults notes.new) (region_text (codes "stopped") region.now) }
+    ensures told { SaysAtEnd result Status.Stopped (seen_stream E.taken E.faults notes.old)
+        (seen_stream E.taken E.faults notes.new) (region_text (codes "stopped") region.now) }
     ensures notes { OnlyCounts E.lent E.faults ⊥ notes.old notes.new }
 {
     match region_line(notes, "stopped", region) {

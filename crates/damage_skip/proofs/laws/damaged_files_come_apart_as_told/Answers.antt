@@ -1,4 +1,5 @@
-use Rattle.damage_skip.proofs.Damaged.{pieces_left, left_pieces}
+use Rattle.damage_skip.proofs.Damaged.{pieces_left, left_pieces, front_left, left_front}
+use Rattle.damage_skip.proofs.DamagedWalks.{met_reached}
 use Rattle.damage_skip.proofs.Untouched.{events_left}
 use Rattle.damage_skip.proofs.laws.damaged_files_come_apart_as_told.Goals as goal
 
@@ -8,5 +9,10 @@ returns c = record {
     pieces_left keep ks file damaged intact d reach pieces,
     left_pieces keep ks file damaged intact d reach pieces,
   );
+  front = λ keep ks file damaged intact n pieces reach d inside. (
+    front_left keep ks file damaged intact d reach n pieces inside,
+    left_front keep ks file damaged intact d reach n pieces,
+  );
+  places = λ keep ks file damaged intact place reach d. met_reached keep ks file damaged intact d reach place;
   records = events_left;
 }

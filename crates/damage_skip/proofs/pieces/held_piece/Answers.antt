@@ -1,6 +1,6 @@
 use Rattle.std.proofs.Common.{Some, refl, subst}
 use Rattle.chunk_reader.proofs.Rooms.{IsSized}
-use Rattle.damage_skip.proofs.PieceSteps.{too_large_piece, contradicted_piece, read_pieces, read_from, onward_end}
+use Rattle.damage_skip.proofs.PieceSteps.{too_large_piece, contradicted_piece, read_piece, read_from, onward_end}
 use Rattle.damage_skip.specs.Steps.{IsLoadOf, IsLoadIn}
 use Rattle.damage_skip.specs.declared.chunk_loads.Loaded.{Loaded}
 use Rattle.std.specs.Prelude.{IfSome}
@@ -22,14 +22,15 @@ returns-then-header-gt-MAX_DATA_SIZE-clause-sound g c =
     c.requires.head c.requires.end c.requires.within c.if-header-gt-MAX_DATA_SIZE.true
     (c.in_ok-unloaded_piece.ensures.unloaded c.args.end refl)
 
-pub returns-in-Whole-clause-piece : goal.returns-in-Whole-clause-piece
-returns-in-Whole-clause-piece g c =
+pub returns-in_ok-whole_piece-in-Whole-clause-piece : goal.returns-in_ok-whole_piece-in-Whole-clause-piece
+returns-in_ok-whole_piece-in-Whole-clause-piece g c =
     let whole = subst (IsLoadOf c.args.size c.args.at c.args.header) c.in-Whole.is c.in_ok-chunk.ensures.loaded in
-    read_from _ c.args.keep c.args.size c.args.at c.args.end c.args.header c.in-Whole.chunk c.requires.end c.requires.within
-    c.if-header-gt-MAX_DATA_SIZE.false whole.0 whole.1 c.whole_piece.ensures.end c.whole_piece.ensures.read
+    read_from c.args.keep c.args.size c.args.at c.args.end c.args.header c.in-Whole.chunk c.in_ok-whole_piece-in-Whole.field-0
+    c.requires.end c.requires.within c.if-header-gt-MAX_DATA_SIZE.false whole.0 whole.1 c.in_ok-whole_piece-in-Whole.ensures.end
+    c.in_ok-whole_piece-in-Whole.ensures.read
 
-pub returns-in-Whole-clause-sound : goal.returns-in-Whole-clause-sound
-returns-in-Whole-clause-sound g c =
+pub returns-in_ok-whole_piece-in-Whole-clause-sound : goal.returns-in_ok-whole_piece-in-Whole-clause-sound
+returns-in_ok-whole_piece-in-Whole-clause-sound g c =
     let sized : IsSized (g.S.Store.bytes c.args.store.now) (Some c.args.size) =
     subst (IsSized (g.S.Store.bytes c.args.store.now)) c.requires.told (g.met.S.Store.sized c.args.store.now) in
     let begin = c.args.at in
@@ -37,8 +38,9 @@ returns-in-Whole-clause-sound g c =
     let there =
     subst (λ (l : Loaded). IfSome (g.S.Store.bytes c.args.store.now) (λ file. IsLoadIn file begin c.args.end c.args.header l)) c.in-Whole.is
     c.in_ok-chunk.ensures.sound in
-    read_pieces _ _ c.args.keep c.args.size begin c.args.end c.args.header c.in-Whole.chunk sized c.requires.fits c.requires.head c.requires.end
-    c.requires.within c.if-header-gt-MAX_DATA_SIZE.false whole.0 there c.whole_piece.ensures.end c.whole_piece.ensures.read
+    read_piece _ c.args.keep c.args.size begin c.args.end c.args.header c.in-Whole.chunk c.in_ok-whole_piece-in-Whole.field-0 sized
+    c.requires.fits c.requires.head c.requires.end c.requires.within c.if-header-gt-MAX_DATA_SIZE.false whole.0 there
+    c.in_ok-whole_piece-in-Whole.ensures.end c.in_ok-whole_piece-in-Whole.ensures.read
 
 pub returns-in-Contradicted-clause-sound : goal.returns-in-Contradicted-clause-sound
 returns-in-Contradicted-clause-sound g c =

@@ -1,5 +1,6 @@
 use Rattle.std.proofs.Common.{Some, subst, arith, rules}
 use Rattle.chunk_reader.proofs.Rooms.{IsSized}
+use Rattle.damage_skip.proofs.DamagedWalks.{resync_told}
 use Rattle.damage_skip.proofs.Resyncing.{stand-more, resync-found, resync-none}
 use Rattle.damage_skip.proofs.resyncs.resync.Goals as goal
 use Rattle.damage_skip.proofs.resyncs.resync.Goals.{After-next_block-block}
@@ -31,3 +32,9 @@ pub returns-clause-resync : goal.returns-clause-resync
 returns-clause-resync g c =
     resync-none _ c.args.size c.args.from c.loop-block.block (sized g (goal.at.returns-clause-resync g c).After-next_block-block)
     c.loop-block-test.false c.loop-block.invariant.none
+
+pub returns-in-Some-clause-damaged : goal.returns-in-Some-clause-damaged
+returns-in-Some-clause-damaged g c = resync_told _ c.args.from _ (returns-in-Some-clause-resync g c)
+
+pub returns-clause-damaged : goal.returns-clause-damaged
+returns-clause-damaged g c = resync_told _ c.args.from _ (returns-clause-resync g c)

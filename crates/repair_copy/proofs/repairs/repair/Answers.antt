@@ -14,6 +14,7 @@ use Rattle.damage_skip.specs.declared.regions.Region.{Region}
 use Rattle.repair_copy.specs.Copies.{next_place, HasSkipped, HasWalked}
 use Rattle.damage_skip.proofs.RegionsIn.{one_region}
 use Rattle.repair_copy.proofs.CopySteps.{fits, grows, next_place_small}
+use Rattle.repair_copy.proofs.DamagedRepairs.{repairs_damage}
 use Rattle.repair_copy.proofs.WalkedFiles.{walked_to_end, walked_next, cut_within, ends_at_end, ends_at_region, repairs_whole, repairs_stopped, repairs_unfinished, repairs_store, repairs_memory}
 use Rattle.repair_copy.proofs.SkippedRegions.{regions_of, event_allowed, skipped_next, skips_cut, skips_stopped}
 use Rattle.repair_copy.proofs.repairs.repair.Goals as goal
@@ -287,3 +288,24 @@ returns-in-Err-Memory-clause-repairs g c =
     (subst (λ (b : Option (List ℕ)). IfSome b (λ file. NoneOf (Applies file c.next.new.self.progress.place) loading_reasons)) kept.store.same_bytes
     (c.in-Err-Memory.ensures.memory (ap Err c.in-Err-Memory.field-0-is)))
     (λ before events. c.break_off-in-Err-Memory.ensures.put before (g.E.Sink.taken c.loop-event.notes) events)
+
+pub returns-in_err-put-in-Ok-Some-clause-damaged : goal.returns-in_err-put-in-Ok-Some-clause-damaged
+returns-in_err-put-in-Ok-Some-clause-damaged g c = repairs_damage g.F.Fn c.args.policy.test _ _ _ _ _ _ (returns-in_err-put-in-Ok-Some-clause-repairs g c)
+
+pub returns-in_err-finish-in-Ok-None-clause-damaged : goal.returns-in_err-finish-in-Ok-None-clause-damaged
+returns-in_err-finish-in-Ok-None-clause-damaged g c = repairs_damage g.F.Fn c.args.policy.test _ _ _ _ _ _ (returns-in_err-finish-in-Ok-None-clause-repairs g c)
+
+pub returns-in-Ok-None-clause-damaged : goal.returns-in-Ok-None-clause-damaged
+returns-in-Ok-None-clause-damaged g c = repairs_damage g.F.Fn c.args.policy.test _ _ _ _ _ _ (returns-in-Ok-None-clause-repairs g c)
+
+pub returns-in_err-finish-in-Err-Stopped-clause-damaged : goal.returns-in_err-finish-in-Err-Stopped-clause-damaged
+returns-in_err-finish-in-Err-Stopped-clause-damaged g c = repairs_damage g.F.Fn c.args.policy.test _ _ _ _ _ _ (returns-in_err-finish-in-Err-Stopped-clause-repairs g c)
+
+pub returns-in-Err-Stopped-clause-damaged : goal.returns-in-Err-Stopped-clause-damaged
+returns-in-Err-Stopped-clause-damaged g c = repairs_damage g.F.Fn c.args.policy.test _ _ _ _ _ _ (returns-in-Err-Stopped-clause-repairs g c)
+
+pub returns-in-Err-Store-clause-damaged : goal.returns-in-Err-Store-clause-damaged
+returns-in-Err-Store-clause-damaged g c = repairs_damage g.F.Fn c.args.policy.test _ _ _ _ _ _ (returns-in-Err-Store-clause-repairs g c)
+
+pub returns-in-Err-Memory-clause-damaged : goal.returns-in-Err-Memory-clause-damaged
+returns-in-Err-Memory-clause-damaged g c = repairs_damage g.F.Fn c.args.policy.test _ _ _ _ _ _ (returns-in-Err-Memory-clause-repairs g c)

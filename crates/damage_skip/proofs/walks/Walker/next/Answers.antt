@@ -1,8 +1,10 @@
-use Rattle.std.proofs.Common.{◌≡◌, ℕ, Some, None, Err, IfSome, Option, List, [], ◌∷◌, refl, sym, ap, subst, arith, rules}
+use Rattle.std.proofs.Common.{◌≡◌, ℕ, Some, None, Err, IfSome, Option, List, [], ◌∷◌, ◌∙◌, refl, sym, ap, subst, arith, rules}
+use Rattle.std.proofs.lemmas.Result.{err_from_is_err_and}
 use Rattle.chunk_reader.specs.Reasons.{Applies, NoneOf, loading_reasons}
 use Rattle.chunk_reader.proofs.Rooms.{IsSized}
 use Rattle.damage_skip.specs.Walks.{event_of, GoesOn, StandsIn, piece_of}
 use Rattle.damage_skip.specs.declared.events.Event.{Event}
+use Rattle.damage_skip.proofs.DamagedWalks.{call_past, call_cut, stays_told}
 use Rattle.damage_skip.proofs.WalkSteps.{events_told, met_on, passes, memory_before, stops_there}
 use Rattle.damage_skip.proofs.walks.Walker.next.Goals as goal
 use Rattle.damage_skip.proofs.walks.Walker.next.Goals.{At-loop-self, After-event}
@@ -18,6 +20,15 @@ stands g c =
       met = met_on _ from.keep c.loop-self.self.progress.keep from.place c.loop-self.self.progress.place [] kept.on.same_keep c.requires.stands.met kept.on.past;
       stopped_there = search rules;
     }
+
+-- the told size is that of the file
+sized_before : (g : _) (c : At-loop-self g) → IsSized (g.S.Store.bytes c.args.store.now) (Some c.args.self.now.progress.size)
+sized_before g c = subst (IsSized (g.S.Store.bytes c.args.store.now)) c.requires.stands.size (g.met.S.Store.sized c.args.store.now)
+
+sized : (g : _) (c : At-loop-self g) → IsSized (g.S.Store.bytes c.args.store.now) (Some c.loop-self.self.progress.size)
+sized g c =
+    subst (λ (n : ℕ). IsSized (g.S.Store.bytes c.args.store.now) (Some n)) (sym c.loop-self.invariant.on.same_size)
+    (sized_before g c)
 
 -- past the piece there, with what is told of it
 past : (g : _) (c : After-event g) (told : Option Event) → c.event.result ≡ told
@@ -48,13 +59,14 @@ pub returns-in-Some-refused-clause-stands : goal.returns-in-Some-refused-clause-
 returns-in-Some-refused-clause-stands g c =
     let at = c.loop-self.self.progress in
     let stop = c.in-Some-refused.ensures in
-    let before = stands g (goal.at.returns-in-Some-refused-clause-stands g c).At-loop-self in
+    let here = goal.at.returns-in-Some-refused-clause-stands g c in
+    let before = stands g here.At-loop-self in
     record {
       size = before.size;
       in_reach = before.in_reach;
       met = before.met;
-      stopped_there = stops_there _ _ at.keep at.keep at.place c.in_ok-piece.piece c.in-Some-refused.region c.loop-self.invariant.asks.same_bytes refl
-          c.in_ok-piece.ensures.sound stop.0 stop.1 stop.2;
+      stopped_there = stops_there _ _ at.keep at.keep at.size at.place c.in_ok-piece.piece c.in-Some-refused.region c.loop-self.invariant.asks.same_bytes refl
+          (sized g here.At-loop-self) c.loop-self-test.true c.in_ok-piece.ensures.sound stop.0 stop.1 stop.2;
     }
 
 pub returns-in-Some-event-clause-goes_on : goal.returns-in-Some-event-clause-goes_on
@@ -98,3 +110,42 @@ loop-self-preserved g c =
 
 pub returns-clause-stands : goal.returns-clause-stands
 returns-clause-stands g c = stands g (goal.at.returns-clause-stands g c).At-loop-self
+
+pub returns-in-Some-clause-damaged : goal.returns-in-Some-clause-damaged
+returns-in-Some-clause-damaged g c =
+    let at = c.args.self.now.progress in
+    let sized : IsSized (g.S.Store.bytes c.args.store.now) (Some at.size) =
+    subst (IsSized (g.S.Store.bytes c.args.store.now)) c.requires.stands.size (g.met.S.Store.sized c.args.store.now) in
+    call_past _ _ _ at at _ sized c.requires.stands c.requires.stands (record {
+      same_size = refl;
+      same_keep = refl;
+      rises = omega arith;
+      past = stays_told _ at.keep at.place;
+      stopped = search rules;
+    })
+    (λ none. cc)
+
+pub returns-in_err-piece-clause-damaged : goal.returns-in_err-piece-clause-damaged
+returns-in_err-piece-clause-damaged g c =
+    let p = err_from_is_err_and c.from_residual.result c.from_residual.ensures.1 in
+    call_cut _ _ _ c.args.self.now.progress c.loop-self.self.progress c.in_err-piece.field-0.0 c.from_residual.result (p.1 ∙ ap Err p.2)
+    (sized_before g (goal.at.returns-in_err-piece-clause-damaged g c).At-loop-self) c.requires.stands (returns-in_err-piece-clause-stands g c)
+    c.loop-self.invariant.on
+
+pub returns-in-Some-refused-clause-damaged : goal.returns-in-Some-refused-clause-damaged
+returns-in-Some-refused-clause-damaged g c =
+    let on = c.loop-self.invariant.on in
+    call_past _ _ _ c.args.self.now.progress _ _ (sized_before g (goal.at.returns-in-Some-refused-clause-damaged g c).At-loop-self)
+    c.requires.stands (returns-in-Some-refused-clause-stands g c)
+    (record { same_size = on.same_size; same_keep = on.same_keep; rises = on.rises; past = on.past; stopped = refl }) (λ none. cc)
+
+pub returns-in-Some-event-clause-damaged : goal.returns-in-Some-event-clause-damaged
+returns-in-Some-event-clause-damaged g c =
+    call_past _ _ _ c.args.self.now.progress _ _ (sized_before g (goal.at.returns-in-Some-event-clause-damaged g c).At-loop-self) c.requires.stands
+    (returns-in-Some-event-clause-stands g c) (returns-in-Some-event-clause-goes_on g c) (λ none. cc)
+
+pub returns-clause-damaged : goal.returns-clause-damaged
+returns-clause-damaged g c =
+    let on = c.loop-self.invariant.on in
+    call_past _ _ _ c.args.self.now.progress _ _ (sized_before g (goal.at.returns-clause-damaged g c).At-loop-self) c.requires.stands
+    (returns-clause-stands g c) on (λ none. omega (arith, c.loop-self-test.false, c.loop-self.self.progress.within, on.same_size))
