@@ -1,5 +1,5 @@
 -- One more file behind others: its totals, and what a sink takes of it.
-use Rattle.std.proofs.Common.{◌≡◌, ◌∙◌, ℕ, ◌+◌, ◌%◌, ◌<◌, ◌≤◌, ◌⊎◌, Option, Some, None, List, [], ◌++◌, length, IfSome, ap, inl, inr, arith}
+use Rattle.std.proofs.Common.{◌≡◌, ◌∙◌, ℕ, ◌+◌, ◌%◌, ◌<◌, ◌≤◌, ◌⊎◌, true, Option, Some, None, List, [], ◌++◌, length, IfSome, ap, inl, inr, arith}
 use Rattle.std.proofs.lemmas.Bool.{cases_lt}
 use Rattle.record_values.specs.declared.file_totals.Totals.{Totals}
 use Rattle.record_io.specs.Outside.{Takes, TakesFront}
@@ -12,6 +12,7 @@ use Rattle.meta_chunk.specs.PaddingSizes.{padding_at}
 use Rattle.meta_chunk.proofs.Joins.{end_of_chunks_past}
 use Rattle.meta_chunk.proofs.PaddingLemmas.{IsBlock-padding_at, padding_at-block, padding_at-inside}
 use Rattle.ordered_writer.specs.Writers.{padding_bytes}
+use Rattle.chunk_reader.specs.Faults.{HasNoFault}
 use Rattle.chunk_reader.specs.Progress.{AreInBounds}
 use Rattle.record_join.specs.Joined.{totals_behind}
 use Rattle.record_join.specs.Joins.{AreTotalsWith, IsFrontPut}
@@ -79,3 +80,9 @@ whole_behind (Some file) a b c before file_totals totals h is padding whole = (
   (h.0, h.1, is ∙ ap (totals_behind before) h.2),
   Takes-append a b c (padding_bytes before.bytes) file padding whole,
 )
+
+-- a file that is well-formed chunks has no fault
+pub without_fault : (file : Option (List ℕ)) (totals : Totals)
+    → IfSome file (λ bytes. (ks : List ChunkValue) × IsFrame ks bytes × (totals ≡ totals_of ks)) → IfSome file (λ bytes. HasNoFault true bytes)
+without_fault None totals h = tt
+without_fault (Some bytes) totals h = (h.0, h.1)

@@ -86,3 +86,10 @@ front_joined files count before after none front = record {
       subst (TakesFront before after) (sym rest.1 ∙ ap joined (sym (take-add count (index - count) files)) ∙ ap (λ (k : ℕ). joined (take k files)) n)
       (TakesFront-longer before after (joined (take count files)) rest.0 front);
 }
+
+-- of files up to one without fault, the first has none
+pub first_without : (files : List (List ℕ)) (count : ℕ) (file : List ℕ) → slice_get files count ≡ Some file → HasNoFault true file
+    → HaveNoFault (take count files) → HaveNoFault (take 1 files)
+first_without [] count file there none before = absurd cc
+first_without (f ∷ files) zero file there none before = let is : file ≡ f = cc in (subst (HasNoFault true) is none, tt)
+first_without (f ∷ files) (suc count) file there none before = (before.0, tt)

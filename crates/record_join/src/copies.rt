@@ -1,13 +1,31 @@
-ghost use Rattle.std.specs.Prelude.{◌≡◌, ◌≢◌, ℕ, ◌+◌, ◌≤◌, Some, Err, IfSome, IsSomeAnd, OnOk, OnErr, length, slice_range};
+ghost use Rattle.std.specs.Prelude.{◌≡◌, ◌+◌, ◌≤◌, Some, Err, IfSome, IsSomeAnd, OnOk, OnErr, length, slice_range};
 ghost use Rattle.record_io.specs.Outside.{Takes, TakesFront};
 ghost use Rattle.record_io.specs.Calls.{OnlyAsks, OnlyCounts};
-ghost use Rattle.chunk_reader.specs.declared.reasons.Fault.{Fault};
 
-use crate::joins::JoinEnd;
-use record_io::{Sink, Store, get_exact, put_all};
+use record_io::{Failed, Sink, Store, get_exact, put_all};
 
 // How many bytes of a file are read and put at once.
 const PIECE_SIZE: usize = 65536;
+
+/// Why a file was not put whole.
+#[derive(Clone, Copy, Debug, PartialEq, Eq)]
+pub(crate) enum CopyEnd {
+    /// The store failed.
+    Store,
+    /// The sink failed.
+    Made,
+}
+
+impl From<Failed> for CopyEnd {
+    ghost use Rattle.std.specs.Prelude.{◌≡◌};
+    ghost use Rattle.record_join.specs.declared.copies.CopyEnd.TheVariants.{Made};
+
+    ghost from_gives = { λ _ end. end ≡ Made };
+
+    fn from(_failed: Failed) -> CopyEnd {
+        CopyEnd::Made
+    }
+}
 
 /// Puts a whole file of `size` bytes, which were told.
 ///
@@ -18,14 +36,13 @@ pub(crate) fn copy_file<S: Store, M: Sink>(
     store: &mut S,
     size: u64,
     made: &mut M,
-) -> Result<(), JoinEnd>
+) -> Result<(), CopyEnd>
     requires told { S.told store.old ≡ Some size }
     ensures whole { OnOk result (IfSome (S.bytes store.old) (λ file. Takes (M.taken made.old) (M.taken made.new) file)) }
     ensures front { OnErr result (IfSome (S.bytes store.old) (λ file. TakesFront (M.taken made.old) (M.taken made.new) file)) }
-    ensures unrefused { (index : ℕ) (fault : Fault) → result ≢ Err (JoinEnd.Refused index fault) }
     ensures handed { S.handed store.new ≤ S.handed store.old + size }
-    ensures store { OnlyAsks S.bytes S.told S.name S.faults (result ≡ Err JoinEnd.Store) store.old store.new }
-    ensures made { OnlyCounts M.lent M.faults (result ≡ Err JoinEnd.Made) made.old made.new }
+    ensures store { OnlyAsks S.bytes S.told S.name S.faults (result ≡ Err CopyEnd.Store) store.old store.new }
+    ensures made { OnlyCounts M.lent M.faults (result ≡ Err CopyEnd.Made) made.old made.new }
 {
     let mut piece = [0; PIECE_SIZE];
     let mut at = 0;
@@ -43,19 +60,18 @@ fn copy_piece<S: Store, M: Sink>(
     at: u64,
     piece: &mut [u8],
     made: &mut M,
-) -> Result<(), JoinEnd>
+) -> Result<(), CopyEnd>
     requires within { IsSomeAnd (S.told store.old) (λ size. at + length piece.old ≤ size) }
     ensures whole { OnOk result (IfSome (S.bytes store.old) (λ file.
         Takes (M.taken made.old) (M.taken made.new) (slice_range file at (at + length piece.old)))) }
     ensures front { OnErr result (IfSome (S.bytes store.old) (λ file.
         TakesFront (M.taken made.old) (M.taken made.new) (slice_range file at (at + length piece.old)))) }
-    ensures unrefused { (index : ℕ) (fault : Fault) → result ≢ Err (JoinEnd.Refused index fault) }
     ensures handed { S.handed store.new ≤ S.handed store.old + length piece.old }
-    ensures store { OnlyAsks S.bytes S.told S.name S.faults (result ≡ Err JoinEnd.Store) store.old store.new }
-    ensures made { OnlyCounts M.lent M.faults (result ≡ Err JoinEnd.Made) made.old made.new }
+    ensures store { OnlyAsks S.bytes S.told S.name S.faults (result ≡ Err CopyEnd.Store) store.old store.new }
+    ensures made { OnlyCounts M.lent M.faults (result ≡ Err CopyEnd.Made) made.old made.new }
 {
     let Ok(()) = get_exact(store, at, piece) else {
-        return Err(JoinEnd::Store);
+        return Err(CopyEnd::Store);
     };
     put_all(made, piece)?;
     Ok(())

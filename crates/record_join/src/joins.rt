@@ -1,18 +1,16 @@
-ghost use Rattle.std.specs.Prelude.{◌≡◌, ◌≢◌, ℕ, ◌+◌, ◌*◌, ◌^◌, ◌<◌, ◌≤◌, ◌⊎◌, ◌++◌, true, Some, Err, IfOk, IfSome, List, length, slice_get};
+ghost use Rattle.std.specs.Prelude.{◌≡◌, ℕ, ◌+◌, ◌*◌, ◌^◌, ◌<◌, ◌≤◌, ◌⊎◌, ◌++◌, true, Some, Err, IfOk, IfSome, List, length, slice_get, take};
 ghost use Rattle.record_io.specs.Outside.{Takes};
 ghost use Rattle.record_io.specs.Calls.{OnlyAsks, OnlyCounts};
-ghost use Rattle.chunk_header.specs.Chunks.{ChunkValue};
-ghost use Rattle.meta_chunk.specs.Counts.{totals_of};
-ghost use Rattle.meta_chunk.specs.Files.{IsFrame, end_of_chunks};
+ghost use Rattle.meta_chunk.specs.Files.{end_of_chunks};
 ghost use Rattle.meta_chunk.specs.PaddingSizes.{padding_at};
 ghost use Rattle.ordered_writer.specs.Writers.{padding_bytes};
-ghost use Rattle.chunk_reader.specs.Faults.{IsFault};
+ghost use Rattle.chunk_reader.specs.Faults.{HasNoFault, IsFault};
 ghost use Rattle.chunk_reader.specs.Progress.{AreInBounds};
 ghost use Rattle.chunk_reader.specs.declared.reasons.Fault.{Fault};
-ghost use Rattle.record_join.specs.Joined.{IsFirstFault, joined_at_most, totals_behind};
+ghost use Rattle.record_join.specs.Joined.{HaveNoFault, IsFirstFault, joined_at_most, totals_behind};
 ghost use Rattle.record_join.specs.Joins.{AreJoined, AreJoinedUpTo, AreOnlyAsked, AreTold, AreTotalsWith, IfAllTell, IsFrontJoined, IsFrontPut};
 
-use crate::copies::copy_file;
+use crate::copies::{CopyEnd, copy_file};
 use chunk_reader::{Fault, VerifyEnd, verify};
 use ordered_writer::{OrderedWriter, padded};
 use record_io::{Failed, Sink, Store, Totals};
@@ -61,8 +59,8 @@ const NO_FILES: Totals = Totals {
 /// # Errors
 ///
 /// `Refused` exactly with the fault of the first file that has one, and those before it are joined then. `Store` only where a
-/// store failed, and `Made` only where the sink did: a front of the files was put then, or of those before the first with a
-/// fault.
+/// store failed, and `Made` only where the sink did, to which nothing is put where the first file has a fault: a front of the
+/// files was put then, or of those before the first with a fault.
 pub fn join<S: Store, M: Sink>(
     stores: &mut [S],
     sizes: &[u64],
@@ -79,6 +77,7 @@ pub fn join<S: Store, M: Sink>(
         → (result ≡ Err (JoinEnd.Refused index fault)) ⊎ (result ≡ Err JoinEnd.Store) ⊎ (result ≡ Err JoinEnd.Made)) }
     ensures front { (result ≡ Err JoinEnd.Store) ⊎ (result ≡ Err JoinEnd.Made)
         → IfAllTell S.bytes stores.old (λ files. IsFrontJoined files (M.taken made.old) (M.taken made.new)) }
+    ensures sound_first { result ≡ Err JoinEnd.Made → IfAllTell S.bytes stores.old (λ files. HaveNoFault (take 1 files)) }
     ensures totals { IfOk result (λ totals. AreInBounds (joined_at_most sizes.now) totals) }
     ensures handed { (place : ℕ) (a b : S) (size : ℕ)
         → slice_get stores.old place ≡ Some a → slice_get stores.new place ≡ Some b → slice_get sizes.now place ≡ Some size
@@ -111,36 +110,24 @@ fn join_file<S: Store, M: Sink>(
         → (number ≡ index) × (made.new ≡ made.old) × IfSome (S.bytes store.old) (λ file. IsFault true file fault) }
     ensures front { (result ≡ Err JoinEnd.Store) ⊎ (result ≡ Err JoinEnd.Made) → IfSome (S.bytes store.old) (λ file.
         IsFrontPut (padding_bytes before.now.bytes) file (M.taken made.old) (M.taken made.new)) }
+    ensures sound { result ≡ Err JoinEnd.Made → IfSome (S.bytes store.old) (λ file. HasNoFault true file) }
     ensures totals { IfOk result (λ totals. AreInBounds totals.bytes totals) }
     ensures end { IfOk result (λ totals. totals.bytes ≡ end_of_chunks before.now.bytes (padding_at before.now.bytes) + size) }
     ensures handed { S.handed store.new ≤ S.handed store.old + 2 * size }
     ensures store { OnlyAsks S.bytes S.told S.name S.faults (result ≡ Err JoinEnd.Store) store.old store.new }
     ensures made { OnlyCounts M.lent M.faults (result ≡ Err JoinEnd.Made) made.old made.new }
 {
-    let file = judge(store, size, index)?;
+    let file = match verify(store, size) {
+        Ok(file) => file,
+        Err(VerifyEnd::Refused(fault)) => return Err(JoinEnd::Refused { index, fault }),
+        Err(VerifyEnd::Store) => return Err(JoinEnd::Store),
+    };
     let mut writer = OrderedWriter::resume(before.bytes);
     writer.pad(made)?;
-    copy_file(store, size, made)?;
-    Ok(totals_behind(before, &file))
-}
-
-/// Judges the file of this number.
-fn judge<S: Store>(store: &mut S, size: u64, index: u64) -> Result<Totals, JoinEnd>
-    requires told { S.told store.old ≡ Some size }
-    requires in_reach { size ≤ 2 ^ 60 }
-    ensures whole { IfOk result (λ totals. IfSome (S.bytes store.old) (λ file.
-        (ks : List ChunkValue) × IsFrame ks file × (totals ≡ totals_of ks))) }
-    ensures totals { IfOk result (λ totals. AreInBounds size totals × (totals.bytes ≡ size)) }
-    ensures refused { (number : ℕ) (fault : Fault) → result ≡ Err (JoinEnd.Refused number fault)
-        → (number ≡ index) × IfSome (S.bytes store.old) (λ file. IsFault true file fault) }
-    ensures unmade { result ≢ Err JoinEnd.Made }
-    ensures handed { S.handed store.new ≤ S.handed store.old + size }
-    ensures store { OnlyAsks S.bytes S.told S.name S.faults (result ≡ Err JoinEnd.Store) store.old store.new }
-{
-    match verify(store, size) {
-        Ok(totals) => Ok(totals),
-        Err(VerifyEnd::Refused(fault)) => Err(JoinEnd::Refused { index, fault }),
-        Err(VerifyEnd::Store) => Err(JoinEnd::Store),
+    match copy_file(store, size, made) {
+        Ok(()) => Ok(totals_behind(before, &file)),
+        Err(CopyEnd::Store) => Err(JoinEnd::Store),
+        Err(CopyEnd::Made) => Err(JoinEnd::Made),
     }
 }
 

@@ -4,13 +4,13 @@ use Rattle.std.proofs.lemmas.Option.{get_or_from_slice_get, slice_get-get_or}
 use Rattle.std.proofs.lemmas.Result.{err_from_is_err_and}
 use Rattle.ordered_writer.specs.Writers.{padding_bytes}
 use Rattle.record_io.specs.Outside.{Takes}
-use Rattle.chunk_reader.specs.Faults.{IsFault}
+use Rattle.chunk_reader.specs.Faults.{HasNoFault, IsFault}
 use Rattle.chunk_reader.specs.declared.reasons.Fault.{Fault}
 use Rattle.record_join.specs.Joins.{AreJoinedUpTo, AreTold, AreTotalsWith, IsFrontPut}
 use Rattle.record_join.specs.declared.joins.JoinEnd.TheVariants as end
 use Rattle.record_join.proofs.Asked.{HandOut-more, as_many, one_asked, tells_at}
 use Rattle.record_join.proofs.Behind.{on_boundary}
-use Rattle.record_join.proofs.FirstFaults.{first_or_none}
+use Rattle.record_join.proofs.FirstFaults.{first_or_none, first_without}
 use Rattle.record_join.proofs.Steps.{AreJoined-all, AreJoinedUpTo-fault, IsFrontJoined-failed, JoinedSoFar-more, ended_at_first, fits_more}
 use Rattle.record_join.proofs.joins.join.Goals as goal
 use Rattle.record_join.proofs.joins.join.Goals.{After-index-stores-index, After-join_file, In_err-totals}
@@ -92,6 +92,16 @@ returns-in_err-totals-clause-front g c =
     IsFrontPut (padding_bytes c.loop-index.totals.bytes) f (g.M.Sink.taken c.loop-index.made) (g.M.Sink.taken c.join_file.new.made)) in
     IsFrontJoined-failed files c.loop-index.index its.0 c.loop-index.totals (g.M.Sink.taken c.args.made.now) (g.M.Sink.taken c.loop-index.made) _
     its.1 (subst P its.2 front) (c.loop-index.invariant.joined files told)
+
+pub returns-in_err-totals-clause-sound_first : goal.returns-in_err-totals-clause-sound_first
+returns-in_err-totals-clause-sound_first g c =
+    λ failed files told.
+    let at = (goal.at.returns-in_err-totals-clause-sound_first g c).After-index-stores-index in
+    let p = err_from_is_err_and c.from_residual.result c.from_residual.ensures.1 in
+    let its = file g at files told in
+    let P : Option (List ℕ) → Type 0 = λ o. IfSome o (λ f. HasNoFault true f) in
+    first_without files c.loop-index.index its.0 its.1 (subst P its.2 (c.in_err-totals.ensures.sound (sym (p.1 ∙ ap Err p.2) ∙ failed)))
+    (c.loop-index.invariant.joined files told).without_fault
 
 pub returns-in_err-totals-clause-handed : goal.returns-in_err-totals-clause-handed
 returns-in_err-totals-clause-handed g c =

@@ -1,0 +1,87 @@
+-- Files have one answer of `join`.
+use Rattle.std.proofs.Common.{◌≡◌, ◌≢◌, ◌∙◌, ℕ, zero, suc, ◌+◌, ◌<◌, ◌≤◌, ◌⊎◌, true, Option, List, [], ◌∷◌, ◌++◌, length, map, take, refl, sym, ap, subst, inl, inr, arith}
+use Rattle.std.specs.List.{AllByRecursion}
+use Rattle.std.proofs.lemmas.Bool.{cases_lt}
+use Rattle.std.proofs.lemmas.Option.{slice_get_within}
+use Rattle.record_values.specs.Bytes.{AreBytes}
+use Rattle.record_io.specs.Puts.{Made, Out, Notes, puts_to, Put}
+use Rattle.chunk_header.specs.Chunks.{ChunkValue}
+use Rattle.meta_chunk.specs.Counts.{totals_of}
+use Rattle.meta_chunk.specs.Files.{IsFrame, end_of_chunks}
+use Rattle.meta_chunk.specs.Laid.{end_of_chunk}
+use Rattle.meta_chunk.proofs.Joins.{end_of_chunks_past}
+use Rattle.meta_chunk.proofs.LaidChunks.{end_of_chunk_after}
+use Rattle.ordered_writer.proofs.JoinedFiles.{length-file}
+use Rattle.chunk_reader.specs.Faults.{HasNoFault}
+use Rattle.chunk_reader.specs.declared.reasons.Fault.{Fault}
+use Rattle.chunk_reader.proofs.Frames.{frame_is_one}
+use Rattle.record_join.specs.Joined.{joined, joined_at_most, HaveNoFault, IsFirstFault}
+use Rattle.record_join.proofs.FirstFaults.{files_judged, first_behind, first_is_one, first_or_none}
+use Rattle.record_join.proofs.JoinedFiles.{joined-no_fault}
+use Rattle.run_answers.specs.Answers.{Answer, noted}
+use Rattle.run_answers.specs.FileAnswers.{limit_text, most_file_bytes, report}
+use Rattle.join_files.specs.JoinCommand.{AreInReach, AreJoinedIn, AreRefusedIn, IsJoinAnswer, refused_file_text}
+use Rattle.run_answers.specs.declared.status.Status.TheVariants as status
+
+-- the answer to files without fault
+abbrev pub whole_answer : List (List ℕ) → List ChunkValue → Answer
+whole_answer files chunks =
+    record { puts = puts_to Made (joined files) ++ puts_to Out (report (totals_of chunks)); status = status.Ok }
+
+-- and to files of which one is the first with a fault
+abbrev pub refused_answer : List (List ℕ) → ℕ → Fault → Answer
+refused_answer files index fault =
+    record { puts = puts_to Made (joined (take index files)) ++ puts_to Notes (refused_file_text index fault); status = status.Refused }
+
+-- files without fault make some bytes
+pub joined-some : (files : List (List ℕ)) → files ≢ [] → HaveNoFault files → joined files ≢ []
+joined-some files some h = let whole = joined-no_fault files some h in of_chunks whole.0 whole.1 where
+  of_chunks : (ks : List ChunkValue) → IsFrame ks (joined files) → joined files ≢ []
+  of_chunks [] frame none = frame.0 refl
+  of_chunks (k ∷ ks) frame none =
+      omega (
+        arith,
+        end_of_chunk_after 0 k,
+        end_of_chunks_past (end_of_chunk 0 k) ks,
+        length-file (k ∷ ks) (joined files) frame,
+        ap length none,
+      )
+
+-- so do those before the first with a fault, where that isn't the first of all
+pub joined-some_before : (files : List (List ℕ)) (index : ℕ) (fault : Fault) → HaveNoFault (take 1 files) → IsFirstFault files index fault
+    → joined (take index files) ≢ []
+joined-some_before files index fault none first =
+    joined-some (take index files) (taken files index (first_behind files 1 index fault none first) (slice_get_within files index first.file first.there)) first.before where
+      taken : (files : List (List ℕ)) (index : ℕ) → 1 ≤ index → index < length files → take index files ≢ []
+      taken [] index behind below is = omega (arith, below)
+      taken (f ∷ files) zero behind below is = omega (arith, behind)
+      taken (f ∷ files) (suc index) behind below is = cc is
+
+-- files of bytes have an answer
+pub join_exists : (files : List (List ℕ)) → files ≢ [] → AllByRecursion AreBytes files → (answer : Answer) × IsJoinAnswer files answer
+join_exists files some bytes = elim (cases_lt most_file_bytes (joined_at_most (map length files))) [
+  | inl long ↦ (noted status.Limit limit_text, inl (long, refl))
+  | inr reach ↦ elim (files_judged files bytes) [
+    | inl none ↦
+        let whole = joined-no_fault files some none in
+        (whole_answer files whole.0, inr (reach, inl (record { without_fault = none; chunks = whole.0; frame = whole.1; is = refl })))
+    | inr (index, fault, first) ↦
+        (refused_answer files index fault, inr (reach, inr (record { index = index; fault = fault; first = first; is = refl })))
+  ]
+]
+
+judged-one : (files : List (List ℕ)) (a b : Answer) → AreJoinedIn files a ⊎ AreRefusedIn files a → AreJoinedIn files b ⊎ AreRefusedIn files b → a ≡ b
+judged-one files a b (inl h) (inl g) =
+    h.is ∙ ap (λ (ks : List ChunkValue). whole_answer files ks) (frame_is_one h.chunks g.chunks (joined files) h.frame g.frame) ∙ sym g.is
+judged-one files a b (inl h) (inr g) = absurd (first_or_none files g.index g.fault g.first h.without_fault)
+judged-one files a b (inr h) (inl g) = absurd (first_or_none files h.index h.fault h.first g.without_fault)
+judged-one files a b (inr h) (inr g) =
+    let same = first_is_one files h.index g.index h.fault g.fault h.first g.first in
+    h.is ∙ ap (λ (n : ℕ). refused_answer files n h.fault) same.0 ∙ ap (λ (f : Fault). refused_answer files g.index f) same.1 ∙ sym g.is
+
+-- and one at most
+pub join_is_one : (files : List (List ℕ)) (a b : Answer) → IsJoinAnswer files a → IsJoinAnswer files b → a ≡ b
+join_is_one files a b (inl (long, is)) (inl (too, also)) = is ∙ sym also
+join_is_one files a b (inl (long, is)) (inr (reach, g)) = absurd (omega (arith, long, reach))
+join_is_one files a b (inr (reach, h)) (inl (long, also)) = absurd (omega (arith, long, reach))
+join_is_one files a b (inr (reach, h)) (inr (also, g)) = judged-one files a b h g

@@ -1,0 +1,61 @@
+-- How the work of `join` ends. Own.
+use Rattle.std.specs.Prelude.{◌≡◌, ℕ, ◌⊎◌, Option, Some, Result, Ok, Err, List, length, map, take}
+use Rattle.record_io.specs.Outside.{Takes, TakesFront}
+use Rattle.chunk_header.specs.Chunks.{ChunkValue}
+use Rattle.meta_chunk.specs.Counts.{totals_of}
+use Rattle.meta_chunk.specs.Files.{IsFrame}
+use Rattle.record_join.specs.Joined.{joined, HaveNoFault}
+use Rattle.record_join.specs.Joins.{AreJoinedUpTo, IsFrontJoined}
+use Rattle.record_join.specs.declared.joins.JoinEnd.{JoinEnd}
+use Rattle.run_answers.specs.Endings.{Endings}
+use Rattle.run_answers.specs.FileAnswers.{report}
+use Rattle.run_answers.specs.declared.ending.Ending.{Ending}
+use Rattle.join_files.specs.JoinCommand.{AreInReach, AreTooLong, refused_file_text}
+use Rattle.join_files.specs.declared.refusals.Refusal.{Refusal}
+use Rattle.record_join.specs.declared.joins.JoinEnd.TheVariants as join
+use Rattle.run_answers.specs.declared.ending.Cut.TheVariants as cut
+use Rattle.run_answers.specs.declared.ending.Ending.TheVariants as end
+use Rattle.run_answers.specs.declared.status.Status.TheVariants as status
+
+-- the end by which files were not joined
+abbrev pub end_of_join : JoinEnd → Ending Refusal
+end_of_join (join.Refused index fault) = end.At (record { index = index; fault = fault })
+end_of_join join.Store = end.Cut cut.File
+end_of_join join.Made = end.Cut cut.Made
+
+-- where it is done nothing is said, and of a file that is refused its number and its fault
+abbrev pub joining_ends : {X : Type 0} → Endings X Refusal
+joining_ends = record {
+  done = λ _. status.Ok;
+  text = λ refusal. refused_file_text refusal.index refusal.fault;
+  status = λ _. status.Refused;
+}
+
+-- the files told these sizes when it ended, which are within reach, or past it where it ended at the limit; where a file failed
+-- they may have told none. Nothing else ends it
+abbrev pub AreSized : {X : Type 0} → Result X (Ending Refusal) → List (Option ℕ) → Type 0
+AreSized (Ok x) told = (sizes : List ℕ) × (told ≡ map Some sizes) × AreInReach sizes
+AreSized (Err end.Limit) told = (sizes : List ℕ) × (told ≡ map Some sizes) × AreTooLong sizes
+AreSized (Err (end.At refusal)) told = (sizes : List ℕ) × (told ≡ map Some sizes) × AreInReach sizes
+AreSized (Err (end.Cut cut.File)) told = Unit {0}
+AreSized (Err (end.Cut cut.Made)) told = (sizes : List ℕ) × (told ≡ map Some sizes) × AreInReach sizes
+AreSized (Err (end.Cut cut.Out)) told = (sizes : List ℕ) × (told ≡ map Some sizes) × AreInReach sizes
+AreSized (Err (end.Cut other)) told = ⊥
+
+-- all files were joined, and this of the report was printed
+abbrev pub AreReported : ((before after : Option (List ℕ)) → List ℕ → Type 0) → List (List ℕ) → (made made_then out out_then : Option (List ℕ)) → Type 0
+AreReported Prints files made made_then out out_then =
+    HaveNoFault files × (chunks : List ChunkValue) × IsFrame chunks (joined files)
+    × Takes made made_then (joined files) × Prints out out_then (report (totals_of chunks))
+
+-- what the made file and standard output took of files, by how it ended
+abbrev pub TakeJoined : {X : Type 0} → Result X (Ending Refusal) → List (List ℕ) → (made made_then out out_then : Option (List ℕ)) → Type 0
+TakeJoined (Ok x) files made made_then out out_then = AreReported Takes files made made_then out out_then
+TakeJoined (Err end.Limit) files made made_then out out_then = (made_then ≡ made) × (out_then ≡ out)
+TakeJoined (Err (end.At refusal)) files made made_then out out_then = AreJoinedUpTo files refusal.index refusal.fault made made_then × (out_then ≡ out)
+TakeJoined (Err (end.Cut cut.File)) files made made_then out out_then =
+    ((made_then ≡ made) ⊎ (AreInReach (map length files) × IsFrontJoined files made made_then)) × (out_then ≡ out)
+TakeJoined (Err (end.Cut cut.Made)) files made made_then out out_then =
+    HaveNoFault (take 1 files) × IsFrontJoined files made made_then × (out_then ≡ out)
+TakeJoined (Err (end.Cut cut.Out)) files made made_then out out_then = AreReported TakesFront files made made_then out out_then
+TakeJoined (Err (end.Cut other)) files made made_then out out_then = ⊥

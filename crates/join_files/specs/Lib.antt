@@ -1,0 +1,3 @@
+pub mod JoinWords
+pub mod JoinCommand
+pub mod JoiningEnds
