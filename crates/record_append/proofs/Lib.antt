@@ -1,0 +1,4 @@
+pub mod KeptFiles
+pub mod PutRecords
+pub mod Grows
+pub mod GrownFiles

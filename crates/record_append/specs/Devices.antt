@@ -1,5 +1,6 @@
 -- What can be relied on of devices: files that are read, cut and grown. Own.
-use Rattle.std.specs.Prelude.{◌≡◌, ℕ, ◌+◌, ◌-◌, ◌^◌, min, Bool, Option, Some, IfSome, List, drop, take, option_map}
+use Rattle.std.specs.Prelude.{◌≡◌, ℕ, ◌+◌, ◌-◌, ◌^◌, ◌<◌, ◌≤◌, min, Bool, Option, Some, IfSome, List, drop, take, option_map}
+use Rattle.record_io.specs.Outside.{Rose}
 
 -- of the bytes of a file those from a place on, where they are told
 abbrev pub bytes_from : ℕ → Option (List ℕ) → Option (List ℕ)
@@ -8,6 +9,12 @@ bytes_from at file = option_map (drop at) file
 -- of the bytes of a file those before a place, where they are told
 abbrev pub bytes_before : ℕ → Option (List ℕ) → Option (List ℕ)
 bytes_before at file = option_map (take at) file
+
+-- a device is used: its count of faults never falls, and rises where the call says that the device failed
+pub record CountsFaults {G : Type 0} (faults : G → ℕ) (Fails : Type 0) (before after : G) : Type 0 where
+  pub cause : Fails → Rose (faults before) (faults after)
+  pub never_falls : faults before ≤ faults after
+  pub small : faults before < 2 ^ 64 → faults after < 2 ^ 64
 
 -- a device in memory
 pub record Disk : Type 0 where

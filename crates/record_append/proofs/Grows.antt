@@ -1,0 +1,154 @@
+-- What a device holds of an old file and new records, by how the writing of these ended.
+use Rattle.std.proofs.Common.{◌≡◌, ◌∙◌, ℕ, zero, suc, ◌+◌, ◌-◌, ◌≤◌, ◌⊎◌, Bool, true, Option, Some, None, IfSome, IsSomeAnd, Result, Ok, Err, List, [], ◌∷◌, ◌++◌, length, take, cond, refl, sym, ap, subst, inl, inr, arith}
+use Rattle.std.specs.Prelude.{option_map}
+use Rattle.std.proofs.lemmas.List.{length-append, length-take-le}
+use Rattle.std.proofs.lemmas.List.Sums.{sum_by-cons}
+use Rattle.record_values.specs.declared.file_totals.Totals.{Totals}
+use Rattle.chunk_header.specs.Chunks.{ChunkValue}
+use Rattle.meta_chunk.specs.Counts.{is_unread, totals_of}
+use Rattle.meta_chunk.specs.Files.{signature, laid_each}
+use Rattle.meta_chunk.specs.Laid.{end_of_chunk}
+use Rattle.meta_chunk.proofs.Joins.{end-laid_each}
+use Rattle.record_group.specs.Groups.{file_of}
+use Rattle.record_writer.specs.Feeds.{Rest}
+use Rattle.record_writer.specs.declared.engine.WriteEnd.{WriteEnd}
+use Rattle.record_writer.specs.declared.engine.WriteEnd.TheVariants.{TooLong, InputTooLong, BadLine, Input, Made, Memory}
+use Rattle.record_writer.specs.declared.options.WriteOptions.{WriteOptions}
+use Rattle.record_writer.specs.Written.{AnswersTotals, TakesFile, chunks_under, file_under, tail_chunks}
+use Rattle.chunk_reader.specs.declared.reasons.Fault.{Fault}
+use Rattle.record_append.specs.Appends.{AnswersGrown, GrowsBy, HoldsCutOff, KeepsFront, end_of_write}
+use Rattle.record_append.specs.Grown.{IsKeptTo, IsTaken, bytes_at, totals_at}
+use Rattle.record_append.specs.declared.appends.Appended.{Appended}
+use Rattle.record_append.specs.declared.appends.AppendEnd.{AppendEnd}
+use Rattle.record_append.specs.declared.appends.AppendEnd.TheVariants.{Refused, Device}
+use Rattle.record_writer.proofs.Counted.{counted-tail}
+use Rattle.record_append.proofs.KeptFiles.{IsSized}
+
+-- what is counted of the records' chunks are the records, and their bytes
+records_at : (options : WriteOptions) (place : ℕ) (records : List (List ℕ)) → (totals_at options place records).records ≡ length records
+records_at options zero records =
+    let tail : List ChunkValue = tail_chunks options (end_of_chunk 0 signature) records in
+    omega (
+      arith,
+      sum_by-cons (λ (k : ChunkValue). cond (is_unread k) 0 k.num_records) signature tail,
+      counted-tail options (end_of_chunk 0 signature) records,
+    )
+records_at options (suc n) records = counted-tail options (suc n) records
+
+count_at : (options : WriteOptions) (place : ℕ) (records : List (List ℕ)) → (totals_at options place records).bytes ≡ length (bytes_at options place records)
+unfolding file_of
+count_at options zero records = omega (arith, end-laid_each 0 (chunks_under options records))
+count_at options (suc n) records = refl
+
+-- the file up to where it is kept, as a cut leaves it
+left_of : (file : List ℕ) (place : ℕ) (mid : Option (List ℕ)) → mid ≡ option_map (take place) (Some file) → mid ≡ Some (take place file)
+left_of file place mid is = is
+
+-- all was put
+pub grown_whole : (options : WriteOptions) (cut : Bool) (bytes mid held : Option (List ℕ)) (rests : Option Rest) (size place : ℕ) (put : Totals)
+    → IfSome bytes (λ file. IsTaken cut file × IsKeptTo file place) → IsSized bytes size → place ≤ size
+    → mid ≡ option_map (take place) bytes
+    → IfSome rests (λ rest. AnswersTotals (Ok put) (totals_at options place rest.records) rest)
+    → IfSome rests (λ rest. TakesFile (Ok put) mid held (bytes_at options place rest.records))
+    → IfSome bytes (λ file. IfSome rests (λ rest.
+    AnswersGrown (Ok (record { kept = place; dropped = size - place; records = put.records; bytes = place + put.bytes })) options cut file rest held))
+grown_whole options cut None mid held rests size place put kept sized within left answer took = tt
+grown_whole options cut (Some file) mid held None size place put kept sized within left answer took = tt
+grown_whole options cut (Some file) mid held (Some rest) size place put (taken, kept) sized within left (none, counted) took =
+    let records : List (List ℕ) = rest.records in
+    let new : List ℕ = bytes_at options place records in (
+      none,
+      record {
+        taken = taken;
+        kept = kept;
+        grown = subst (λ (o : Option (List ℕ)). TakesFile (Ok put) o held new) left took;
+      },
+      record {
+        dropped = omega (arith, sized, within);
+        records = ap (λ (t : Totals). t.records) counted ∙ records_at options place records;
+        bytes = omega (
+          arith,
+          sized,
+          within,
+          length-append (take place file) new,
+          length-take-le place file (omega (arith, sized, within)),
+          ap (λ (t : Totals). t.bytes) counted,
+          count_at options place records,
+        );
+      },
+    )
+
+-- all before a stop was put
+grown_by : (options : WriteOptions) (cut : Bool) (file : List ℕ) (held : Option (List ℕ)) (records : List (List ℕ)) (place : ℕ)
+    → IsTaken cut file × IsKeptTo file place → held ≡ Some (take place file ++ bytes_at options place records)
+    → GrowsBy options cut file records held
+grown_by options cut file held records place (taken, kept) grown = (place, record { taken = taken; kept = kept; grown = grown })
+
+-- a front of it was put
+cut_off : (options : WriteOptions) (cut : Bool) (file : List ℕ) (held : Option (List ℕ)) (records : List (List ℕ)) (place : ℕ)
+    → IsTaken cut file × IsKeptTo file place
+    → (n : ℕ) × (n ≤ length (bytes_at options place records)) × (held ≡ Some (take place file ++ take n (bytes_at options place records)))
+    → HoldsCutOff options cut file records held
+cut_off options cut file held records place (taken, kept) (n, fits, grown) =
+    inr (record { place = place; count = n; taken = taken; kept = kept; front = fits; grown = grown })
+
+grown_end : (options : WriteOptions) (cut : Bool) (file : List ℕ) (held : Option (List ℕ)) (rest : Rest) (place : ℕ) (end : WriteEnd)
+    → IsTaken cut file × IsKeptTo file place
+    → AnswersTotals (Err end) (totals_at options place rest.records) rest
+    → TakesFile (Err end) (Some (take place file)) held (bytes_at options place rest.records)
+    → AnswersGrown (Err (end_of_write end)) options cut file rest held
+grown_end options cut file held rest place (TooLong count) kept (stop, counted) took =
+    (stop, counted, grown_by options cut file held rest.records place kept took)
+grown_end options cut file held rest place InputTooLong kept stop took = (stop, grown_by options cut file held rest.records place kept took)
+grown_end options cut file held rest place (BadLine count) kept (stop, counted) took =
+    (stop, counted, grown_by options cut file held rest.records place kept took)
+grown_end options cut file held rest place Input kept answer took = cut_off options cut file held rest.records place kept took
+grown_end options cut file held rest place Made kept answer took = cut_off options cut file held rest.records place kept took
+grown_end options cut file held rest place Memory kept answer took = cut_off options cut file held rest.records place kept took
+
+pub grown_ended : (options : WriteOptions) (cut : Bool) (bytes mid held : Option (List ℕ)) (rests : Option Rest) (place : ℕ) (end : WriteEnd)
+    → IfSome bytes (λ file. IsTaken cut file × IsKeptTo file place) → mid ≡ option_map (take place) bytes
+    → IfSome rests (λ rest. AnswersTotals (Err end) (totals_at options place rest.records) rest)
+    → IfSome rests (λ rest. TakesFile (Err end) mid held (bytes_at options place rest.records))
+    → IfSome bytes (λ file. IfSome rests (λ rest. AnswersGrown (Err (end_of_write end)) options cut file rest held))
+grown_ended options cut None mid held rests place end kept left answer took = tt
+grown_ended options cut (Some file) mid held None place end kept left answer took = tt
+grown_ended options cut (Some file) mid held (Some rest) place end kept left answer took =
+    grown_end options cut file held rest place end kept answer
+    (subst (λ (o : Option (List ℕ)). TakesFile (Err end) o held (bytes_at options place rest.records)) left took)
+
+-- nothing was put, and the device is as it was
+abbrev pub IsEarly : AppendEnd → Type 0
+IsEarly end = (end ≡ Device) ⊎ ((fault : Fault) × (end ≡ Refused fault))
+
+early_end : (options : WriteOptions) (cut : Bool) (file : List ℕ) (held : Option (List ℕ)) (rest : Rest) (end : AppendEnd)
+    → held ≡ Some file → IsEarly end → AnswersGrown (Err end) options cut file rest held
+early_end options cut file held rest end same (inl device) =
+    subst (λ (e : AppendEnd). AnswersGrown (Err e) options cut file rest held) (sym device) (inl same)
+early_end options cut file held rest end same (inr (fault, refused)) =
+    subst (λ (e : AppendEnd). AnswersGrown (Err e) options cut file rest held) (sym refused) same
+
+pub grown_early : (options : WriteOptions) (cut : Bool) (bytes held : Option (List ℕ)) (rests : Option Rest) (end : AppendEnd)
+    → held ≡ bytes → IsEarly end
+    → IfSome bytes (λ file. IfSome rests (λ rest. AnswersGrown (Err end) options cut file rest held))
+grown_early options cut None held rests end same early = tt
+grown_early options cut (Some file) held None end same early = tt
+grown_early options cut (Some file) held (Some rest) end same early = early_end options cut file held rest end same early
+
+-- no byte that is kept changes
+pub keeps_all : (cut : Bool) (bytes held : Option (List ℕ)) → held ≡ bytes
+    → IfSome bytes (λ file. IsSomeAnd held (λ now. KeepsFront cut file now))
+keeps_all cut None held same = tt
+keeps_all cut (Some file) None same = cc
+keeps_all cut (Some file) (Some now) same = inl cc
+
+pub keeps_front : (cut : Bool) (bytes mid held : Option (List ℕ)) (place : ℕ)
+    → IfSome bytes (λ file. IsTaken cut file × IsKeptTo file place) → mid ≡ option_map (take place) bytes
+    → IfSome mid (λ front. IsSomeAnd held (λ now. (rest : List ℕ) × (now ≡ front ++ rest)))
+    → IfSome bytes (λ file. IsSomeAnd held (λ now. KeepsFront cut file now))
+keeps_front cut None mid held place kept left behind = tt
+keeps_front cut (Some file) None held place kept left behind = cc
+keeps_front cut (Some file) (Some front) None place kept left behind = absurd behind
+keeps_front cut (Some file) (Some front) (Some now) place (taken, kept) left (rest, is) =
+    let first : front ≡ take place file = cc in
+    inr (taken, (place, kept, (rest, is ∙ ap (λ (xs : List ℕ). xs ++ rest) first)))

@@ -1,0 +1,96 @@
+-- How far an old file is kept, and whether it is refused, by how far it is well formed.
+use Rattle.std.proofs.Common.{◌≡◌, ◌≢◌, ◌∙◌, ℕ, ◌<◌, Bool, true, Option, Some, None, IfSome, Result, Err, ◌⊎◌, List, [], ◌∷◌, length, refl, ap, subst, inl, inr, arith}
+use Rattle.std.specs.Prelude.{MatchOption}
+use Rattle.chunk_header.specs.Chunks.{ChunkValue}
+use Rattle.meta_chunk.specs.Files.{IsFrame}
+use Rattle.chunk_reader.specs.Faults.{IsFault}
+use Rattle.chunk_reader.specs.Fronts.{IsFrontOf}
+use Rattle.chunk_reader.specs.declared.reasons.Fault.{Fault}
+use Rattle.chunk_reader.specs.declared.verifying.Front.{Front}
+use Rattle.chunk_reader.proofs.FileFaults.{fault_is_one, fault_or_none}
+use Rattle.record_append.specs.Grown.{IsKeptTo, IsRefused, IsTaken, RefusesFor}
+use Rattle.record_append.specs.declared.appends.Appended.{Appended}
+use Rattle.record_append.specs.declared.appends.AppendEnd.{AppendEnd}
+use Rattle.record_append.specs.declared.appends.AppendEnd.TheVariants.{Refused, Device}
+
+-- what stands in a file and how many bytes it has
+abbrev pub IsSized : Option (List ℕ) → ℕ → Type 0
+IsSized bytes size = IfSome bytes (λ file. size ≡ length file)
+
+some_bytes : (file : List ℕ) → file ≢ [] → 0 < length file
+some_bytes [] some = absurd (some refl)
+some_bytes (b ∷ bytes) some = omega arith
+
+-- a file is taken whose fault, if it has one, refuses it only where it is empty
+taken_by : (cut : Bool) (file : List ℕ) (ks : List ChunkValue) (fault : Option Fault)
+    → MatchOption fault (IsFrame ks file) (IsFault true file)
+    → IfSome fault (λ own. 0 < length file → ¬ RefusesFor cut own.why) → IsTaken cut file
+taken_by cut file ks None frame none = λ fault refused. fault_or_none true file fault refused.is_fault (ks, frame)
+taken_by cut file ks (Some own) is none =
+    λ fault refused.
+    none (some_bytes file refused.some)
+    (subst (λ (f : Fault). RefusesFor cut f.why) (fault_is_one true file fault own refused.is_fault is) refused.reason)
+
+pub kept_front : (cut : Bool) (bytes : Option (List ℕ)) (size : ℕ) (front : Front) → IsSized bytes size
+    → IfSome bytes (λ file. IsFrontOf file front) → IfSome front.fault (λ own. 0 < size → ¬ RefusesFor cut own.why)
+    → IfSome bytes (λ file. IsTaken cut file × IsKeptTo file front.totals.bytes)
+kept_front cut None size front sized is none = tt
+kept_front cut (Some file) size front sized is none = (
+  taken_by cut file is.ks front.fault is.fault
+      (subst (λ (n : ℕ). IfSome front.fault (λ own. 0 < n → ¬ RefusesFor cut own.why)) sized none),
+  (is.ks, is.longest),
+)
+
+-- and refused where it does
+pub refused_front : (cut : Bool) (bytes : Option (List ℕ)) (size : ℕ) (front : Front) (fault : Fault) → IsSized bytes size
+    → IfSome bytes (λ file. IsFrontOf file front) → (front.fault ≡ Some fault) × (0 < size) × RefusesFor cut fault.why
+    → IfSome bytes (λ file. IsRefused cut file fault)
+refused_front cut None size front fault sized is (own, some, reason) = tt
+refused_front cut (Some file) size front fault sized is (own, some, reason) = record {
+  some = λ none. omega (arith, sized, ap length none);
+  is_fault = subst (λ (o : Option Fault). MatchOption o (IsFrame is.ks file) (IsFault true file)) own is.fault;
+  reason = reason;
+}
+
+-- a refused file is refused with its own fault alone
+pub refused_alone : (cut : Bool) (bytes : Option (List ℕ)) (fault : Fault) (result : Result Appended AppendEnd) → result ≡ Err (Refused fault)
+    → IfSome bytes (λ file. IsRefused cut file fault)
+    → IfSome bytes (λ file. (own : Fault) → IsRefused cut file own → (result ≡ Err (Refused own)) ⊎ (result ≡ Err Device))
+refused_alone cut None fault result is refused = tt
+refused_alone cut (Some file) fault result is refused =
+    λ own also. inl (is ∙ ap (λ (f : Fault). Err (Refused f)) (fault_is_one true file fault own refused.is_fault also.is_fault))
+
+-- and one that is taken with none
+pub taken_never : (cut : Bool) (bytes : Option (List ℕ)) (place : ℕ) (result : Result Appended AppendEnd)
+    → IfSome bytes (λ file. IsTaken cut file × IsKeptTo file place)
+    → IfSome bytes (λ file. (own : Fault) → IsRefused cut file own → (result ≡ Err (Refused own)) ⊎ (result ≡ Err Device))
+taken_never cut None place result kept = tt
+taken_never cut (Some file) place result (taken, kept) = λ own refused. absurd (taken own refused)
+
+-- what a device told is how many bytes it has
+pub sized_told : (bytes : Option (List ℕ)) (told : Option ℕ) (size : ℕ)
+    → IfSome bytes (λ file. IfSome told (λ n. n ≡ length file)) → told ≡ Some size → IsSized bytes size
+sized_told None told size sized is = tt
+sized_told (Some file) told size sized is = subst (λ (o : Option ℕ). IfSome o (λ n. n ≡ length file)) is sized
+
+-- what a store over it shows is shown of it
+pub front_of : (bytes held : Option (List ℕ)) (front : Front) → held ≡ bytes
+    → IfSome held (λ file. IsFrontOf file front) → IfSome bytes (λ file. IsFrontOf file front)
+front_of bytes held front same is = subst (λ (o : Option (List ℕ)). IfSome o (λ file. IsFrontOf file front)) same is
+
+-- where judging ended early, that is so too
+pub complete_early : (cut : Bool) (bytes : Option (List ℕ)) (result : Result Appended AppendEnd) (end : AppendEnd) → result ≡ Err end
+    → (end ≡ Device) ⊎ ((fault : Fault) × (end ≡ Refused fault))
+    → ((fault : Fault) → end ≡ Refused fault → IfSome bytes (λ file. IsRefused cut file fault))
+    → IfSome bytes (λ file. (own : Fault) → IsRefused cut file own → (result ≡ Err (Refused own)) ⊎ (result ≡ Err Device))
+complete_early cut None result end is early refused = tt
+complete_early cut (Some file) result end is (inl device) refused = λ own also. inr (is ∙ ap (λ (e : AppendEnd). Err e) device)
+complete_early cut (Some file) result end is (inr (fault, same)) refused =
+    refused_alone cut (Some file) fault result (is ∙ ap (λ (e : AppendEnd). Err e) same) (refused fault same)
+
+-- how judging ended
+pub ended_early : (end : AppendEnd) (judged : Result ℕ AppendEnd) → judged ≡ Err end
+    → (judged ≡ Err Device) ⊎ ((fault : Fault) × (judged ≡ Err (Refused fault)))
+    → (end ≡ Device) ⊎ ((fault : Fault) × (end ≡ Refused fault))
+ended_early end judged is (inl device) = inl cc
+ended_early end judged is (inr (fault, refused)) = inr (fault, cc)

@@ -1,0 +1,103 @@
+-- What a sink over a device takes, behind what the device held.
+use Rattle.std.proofs.Common.{◌≡◌, ◌≢◌, ◌∙◌, ℕ, zero, suc, ◌+◌, ◌<◌, ◌≤◌, ◌%◌, Bool, Option, Some, None, IfSome, IsSomeAnd, Result, Ok, Err, List, [], ◌∷◌, ◌++◌, length, take, drop, refl, sym, ap, subst, inl, inr, arith}
+use Rattle.std.specs.Prelude.{option_map}
+use Rattle.std.proofs.lemmas.Bool.{cases_lt}
+use Rattle.std.proofs.lemmas.List.{take-append-drop}
+use Rattle.record_io.specs.Outside.{Takes, TakesFront}
+use Rattle.record_values.specs.declared.file_totals.Totals.{Totals}
+use Rattle.block_layout.specs.Layout.{IsBoundary, IsOnBoundary}
+use Rattle.meta_chunk.specs.Counts.{totals_of}
+use Rattle.record_writer.specs.Feeds.{Rest}
+use Rattle.record_writer.specs.declared.engine.WriteEnd.{WriteEnd}
+use Rattle.record_writer.specs.declared.engine.WriteEnd.TheVariants.{TooLong, InputTooLong, BadLine, Input, Made, Memory}
+use Rattle.record_writer.specs.declared.options.WriteOptions.{WriteOptions}
+use Rattle.record_writer.specs.Written.{AnswersTotals, TakesFile, chunks_under, file_under, tail_chunks, tail_under, totals_from}
+use Rattle.record_append.specs.Devices.{bytes_before, bytes_from}
+use Rattle.record_append.specs.Grown.{bytes_at, totals_at}
+
+-- a place behind the front at which a file may be cut is a boundary
+pub on_boundary : (place : ℕ) → IsOnBoundary place → IsBoundary place
+on_boundary place h = elim (cases_lt 0 (place % 65536)) [ inl inside ↦ inr (h inside) | inr none ↦ inl (omega (arith, none)) ]
+
+-- bytes that end at a place, and those from there on
+held_behind : (front taken : List ℕ) (place : ℕ) (held : Option (List ℕ))
+    → bytes_before place held ≡ Some front → bytes_from place held ≡ Some taken → held ≡ Some (front ++ taken)
+held_behind front taken place None before behind = cc
+held_behind front taken place (Some file) before behind =
+    let first : take place file ≡ front = cc in
+    let rest : drop place file ≡ taken = cc in
+    ap Some (sym (take-append-drop place file) ∙ ap (λ (xs : List ℕ). xs ++ drop place file) first ∙ ap (λ (xs : List ℕ). front ++ xs) rest)
+
+-- so what the sink took stands behind what the device held
+takes_behind : (front file : List ℕ) (place : ℕ) (held : Option (List ℕ)) → bytes_before place held ≡ Some front
+    → Takes (Some []) (bytes_from place held) file → Takes (Some front) held file
+takes_behind front file place held before took = held_behind front file place held before took
+
+front_behind : (front file : List ℕ) (place : ℕ) (held : Option (List ℕ)) → bytes_before place held ≡ Some front
+    → TakesFront (Some []) (bytes_from place held) file → TakesFront (Some front) held file
+front_behind front file place held before (n, fits, took) = (n, fits, held_behind front (take n file) place held before took)
+
+file_behind : (result : Result Totals WriteEnd) (front file : List ℕ) (place : ℕ) (held : Option (List ℕ)) → bytes_before place held ≡ Some front
+    → TakesFile result (Some []) (bytes_from place held) file → TakesFile result (Some front) held file
+file_behind (Ok totals) front file place held before took = takes_behind front file place held before took
+file_behind (Err (TooLong count)) front file place held before took = takes_behind front file place held before took
+file_behind (Err InputTooLong) front file place held before took = takes_behind front file place held before took
+file_behind (Err (BadLine count)) front file place held before took = takes_behind front file place held before took
+file_behind (Err Input) front file place held before took = front_behind front file place held before took
+file_behind (Err Made) front file place held before took = front_behind front file place held before took
+file_behind (Err Memory) front file place held before took = front_behind front file place held before took
+
+-- of a device that tells nothing nothing is said
+file_untold : (result : Result Totals WriteEnd) (held : Option (List ℕ)) (file : List ℕ) → TakesFile result None held file
+file_untold (Ok totals) held file = tt
+file_untold (Err (TooLong count)) held file = tt
+file_untold (Err InputTooLong) held file = tt
+file_untold (Err (BadLine count)) held file = tt
+file_untold (Err Input) held file = tt
+file_untold (Err Made) held file = tt
+file_untold (Err Memory) held file = tt
+
+device_takes : (result : Result Totals WriteEnd) (bytes held : Option (List ℕ)) (place : ℕ) (file : List ℕ)
+    → bytes_before place held ≡ bytes
+    → TakesFile result (option_map (λ _. []) bytes) (bytes_from place held) file → TakesFile result bytes held file
+device_takes result None held place file before took = file_untold result held file
+device_takes result (Some front) held place file before took = file_behind result front file place held before took
+
+pub put_behind : (result : Result Totals WriteEnd) (rests : Option Rest) (bytes taken then held : Option (List ℕ)) (place : ℕ)
+    (bytes_of : List (List ℕ) → List ℕ)
+    → taken ≡ option_map (λ _. []) bytes → bytes_before place held ≡ bytes → then ≡ bytes_from place held
+    → IfSome rests (λ rest. TakesFile result taken then (bytes_of rest.records))
+    → IfSome rests (λ rest. TakesFile result bytes held (bytes_of rest.records))
+put_behind result None bytes taken then held place bytes_of nothing before is took = tt
+put_behind result (Some rest) bytes taken then held place bytes_of nothing before is took =
+    device_takes result bytes held place (bytes_of rest.records) before
+    (subst (λ (o : Option (List ℕ)). TakesFile result o (bytes_from place held) (bytes_of rest.records)) nothing
+    (subst (λ (o : Option (List ℕ)). TakesFile result taken o (bytes_of rest.records)) is took))
+
+-- at the front the file of the records is written, and at any other place their tail
+pub bytes_at-front : (options : WriteOptions) (place : ℕ) → place ≡ 0 → (P : (List (List ℕ) → List ℕ) → Type 0)
+    → P (file_under options) → P (bytes_at options place)
+bytes_at-front options place front P h = subst (λ (n : ℕ). P (bytes_at options n)) (sym front) h
+
+pub bytes_at-behind : (options : WriteOptions) (place : ℕ) → place ≢ 0 → (P : (List (List ℕ) → List ℕ) → Type 0)
+    → P (tail_under options place) → P (bytes_at options place)
+bytes_at-behind options zero behind P h = absurd (behind refl)
+bytes_at-behind options (suc n) behind P h = h
+
+pub totals_at-front : (options : WriteOptions) (place : ℕ) → place ≡ 0 → (P : (List (List ℕ) → Totals) → Type 0)
+    → P (λ records. totals_of (chunks_under options records)) → P (totals_at options place)
+totals_at-front options place front P h = subst (λ (n : ℕ). P (totals_at options n)) (sym front) h
+
+pub totals_at-behind : (options : WriteOptions) (place : ℕ) → place ≢ 0 → (P : (List (List ℕ) → Totals) → Type 0)
+    → P (λ records. totals_from place (tail_chunks options place records)) → P (totals_at options place)
+totals_at-behind options zero behind P h = absurd (behind refl)
+totals_at-behind options (suc n) behind P h = h
+
+-- and the device holds what it held, and what was put behind
+pub held_more : (bytes held : Option (List ℕ)) (place : ℕ) → bytes_before place held ≡ bytes
+    → IfSome bytes (λ front. IsSomeAnd held (λ now. (rest : List ℕ) × (now ≡ front ++ rest)))
+held_more None held place before = tt
+held_more (Some front) None place before = cc
+held_more (Some front) (Some file) place before =
+    let first : take place file ≡ front = cc in
+    (drop place file, sym (take-append-drop place file) ∙ ap (λ (xs : List ℕ). xs ++ drop place file) first)

@@ -1,0 +1,78 @@
+-- What is answered where records are put behind those of an old file, and what a device then holds. Own.
+use Rattle.std.specs.Prelude.{◌≡◌, ℕ, ◌+◌, ◌≤◌, ◌<◌, Bool, ◌⊎◌, Option, Some, None, Result, Ok, Err, List, ◌++◌, length, take}
+use Rattle.block_layout.specs.Layout.{IsOnBoundary}
+use Rattle.record_writer.specs.Feeds.{Rest}
+use Rattle.record_writer.specs.declared.engine.WriteEnd.{WriteEnd}
+use Rattle.record_writer.specs.declared.engine.WriteEnd.TheVariants as write
+use Rattle.record_writer.specs.declared.feed.Stop.TheVariants.{TooLong as too_long, InputTooLong as input_too_long, BadLine as bad_line}
+use Rattle.record_writer.specs.declared.options.WriteOptions.{WriteOptions}
+use Rattle.record_append.specs.Grown.{IsKeptTo, IsTaken, bytes_at, grown}
+use Rattle.record_append.specs.declared.appends.Appended.{Appended}
+use Rattle.record_append.specs.declared.appends.AppendEnd.{AppendEnd}
+use Rattle.record_append.specs.declared.appends.AppendEnd.TheVariants.{Refused, TooLong, InputTooLong, BadLine, Input, Device, Memory}
+
+-- where the writing of records ended, behind the old file's
+abbrev pub end_of_write : WriteEnd → AppendEnd
+end_of_write (write.TooLong count) = TooLong count
+end_of_write write.InputTooLong = InputTooLong
+end_of_write (write.BadLine count) = BadLine count
+end_of_write write.Input = Input
+end_of_write write.Made = Device
+end_of_write write.Memory = Memory
+
+-- a place of a file of so many bytes up to which it may be kept: its front, or a boundary behind the signature
+pub record MayBeKeptTo (size place : ℕ) : Type 0 where
+  pub within : place ≤ size
+  pub boundary : IsOnBoundary place
+  pub signed : 0 < place → 64 ≤ place
+
+-- the old file isn't refused, it is kept up to this place, and a device holds it grown by these records
+pub record HoldsGrown (options : WriteOptions) (cut : Bool) (file : List ℕ) (place : ℕ) (records : List (List ℕ)) (held : Option (List ℕ)) : Type 0 where
+  pub taken : IsTaken cut file
+  pub kept : IsKeptTo file place
+  pub grown : held ≡ Some (grown options file place records)
+
+-- the old file isn't refused, and a device holds what is kept of it, and of the bytes of these records behind it a front
+pub record HoldsGrownInPart (options : WriteOptions) (cut : Bool) (file : List ℕ) (records : List (List ℕ)) (held : Option (List ℕ)) : Type 0 where
+  pub place : ℕ
+  pub count : ℕ
+  pub taken : IsTaken cut file
+  pub kept : IsKeptTo file place
+  pub front : count ≤ length (bytes_at options place records)
+  pub grown : held ≡ Some (take place file ++ take count (bytes_at options place records))
+
+-- where the work was cut off, a device holds the old file or that, and a refused one is as it was
+abbrev pub HoldsCutOff : WriteOptions → Bool → List ℕ → List (List ℕ) → Option (List ℕ) → Type 0
+HoldsCutOff options cut file records held = (held ≡ Some file) ⊎ HoldsGrownInPart options cut file records held
+
+-- no byte that is kept of an old file changes: a device holds that file or, where it isn't refused, what is kept of it and bytes
+-- behind that
+abbrev pub KeepsFront : Bool → List ℕ → List ℕ → Type 0
+KeepsFront cut file held =
+    (held ≡ file) ⊎ (IsTaken cut file × ((place : ℕ) × IsKeptTo file place × ((rest : List ℕ) × (held ≡ take place file ++ rest))))
+
+-- what is told of new records behind an old file: how much of it was kept and dropped, how many records there are, and how many
+-- bytes the grown file has
+pub record Tells (options : WriteOptions) (file : List ℕ) (added : List (List ℕ)) (told : Appended) : Type 0 where
+  pub dropped : told.kept + told.dropped ≡ length file
+  pub records : told.records ≡ length added
+  pub bytes : told.bytes ≡ length (grown options file told.kept added)
+
+-- a device holds the old file, which isn't refused, grown by these records
+abbrev pub GrowsBy : WriteOptions → Bool → List ℕ → List (List ℕ) → Option (List ℕ) → Type 0
+GrowsBy options cut file records held = (place : ℕ) × HoldsGrown options cut file place records held
+
+-- the answer where these were an old file and a feed's records and the stop behind them, and what a device then holds. With a
+-- refusal it says nothing of the feed
+abbrev pub AnswersGrown : Result Appended AppendEnd → WriteOptions → Bool → List ℕ → Rest → Option (List ℕ) → Type 0
+AnswersGrown (Ok told) options cut file rest held =
+    (rest.stop ≡ None) × HoldsGrown options cut file told.kept rest.records held × Tells options file rest.records told
+AnswersGrown (Err (Refused fault)) options cut file rest held = held ≡ Some file
+AnswersGrown (Err (TooLong count)) options cut file rest held =
+    (rest.stop ≡ Some too_long) × (count ≡ length rest.records) × GrowsBy options cut file rest.records held
+AnswersGrown (Err InputTooLong) options cut file rest held = (rest.stop ≡ Some input_too_long) × GrowsBy options cut file rest.records held
+AnswersGrown (Err (BadLine count)) options cut file rest held =
+    (rest.stop ≡ Some bad_line) × (count ≡ length rest.records) × GrowsBy options cut file rest.records held
+AnswersGrown (Err Input) options cut file rest held = HoldsCutOff options cut file rest.records held
+AnswersGrown (Err Device) options cut file rest held = HoldsCutOff options cut file rest.records held
+AnswersGrown (Err Memory) options cut file rest held = HoldsCutOff options cut file rest.records held

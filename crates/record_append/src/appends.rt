@@ -1,0 +1,165 @@
+ghost use Rattle.std.specs.Prelude.{◌≡◌, ◌+◌, ◌^◌, ◌<◌, ◌≤◌, ◌⊎◌, ◌++◌, ℕ, List, true, Some, Err, IfOk, IfSome, IsSomeAnd, OnOk, length};
+ghost use Rattle.record_io.specs.Calls.{OnlyCounts};
+ghost use Rattle.chunk_reader.specs.declared.reasons.Fault.{Fault};
+ghost use Rattle.record_writer.specs.Feeds.{nothing_left};
+ghost use Rattle.record_writer.specs.Written.{AnswersTotals, AreInLimits, TakesFile};
+ghost use Rattle.record_append.specs.Appends.{AnswersGrown, KeepsFront, MayBeKeptTo};
+ghost use Rattle.record_append.specs.Devices.{CountsFaults};
+ghost use Rattle.record_append.specs.Grown.{IsRefused, bytes_at, totals_at};
+
+use crate::as_sink::AsSink;
+use crate::device::Device;
+use crate::old_file::{cut_to, judge};
+use chunk_reader::Fault;
+use record_io::{Failed, Totals};
+use record_writer::{RecordFeed, WriteEnd, WriteOptions, write_after, write_records};
+use std::alloc::Global;
+use std::thread::Threads;
+
+/// What became of a file to which records were put. Own.
+#[derive(Clone, Copy, Debug, PartialEq, Eq)]
+pub struct Appended {
+    /// How many bytes of the old file were kept.
+    pub kept: u64,
+    /// How many bytes of it were cut off behind these.
+    pub dropped: u64,
+    /// How many records were put.
+    pub records: u64,
+    /// How many bytes the file has now.
+    pub bytes: u64,
+}
+
+/// Why records were not put to a file to the end of their feed. Own.
+#[derive(Clone, Copy, Debug, PartialEq, Eq)]
+pub enum AppendEnd {
+    /// The old file is refused.
+    Refused(Fault),
+    /// The record behind so many has more than 2^24 bytes.
+    TooLong(u64),
+    /// The input goes past its limit.
+    InputTooLong,
+    /// The line behind so many records is not in the form that it should have.
+    BadLine(u64),
+    /// The feed failed.
+    Input,
+    /// The device failed.
+    Device,
+    /// There was not enough memory.
+    Memory,
+}
+
+impl From<Failed> for AppendEnd {
+    ghost use Rattle.std.specs.Prelude.{◌≡◌};
+    ghost use Rattle.record_append.specs.declared.appends.AppendEnd.TheVariants.{Device};
+
+    ghost from_gives = { λ _ end. end ≡ Device };
+
+    fn from(_failed: Failed) -> AppendEnd {
+        AppendEnd::Device
+    }
+}
+
+impl From<WriteEnd> for AppendEnd {
+    ghost use Rattle.std.specs.Prelude.{◌≡◌};
+    ghost use Rattle.record_append.specs.Appends.{end_of_write};
+
+    ghost from_gives = { λ end append_end. append_end ≡ end_of_write end };
+
+    fn from(end: WriteEnd) -> AppendEnd {
+        match end {
+            WriteEnd::TooLong(count) => AppendEnd::TooLong(count),
+            WriteEnd::InputTooLong => AppendEnd::InputTooLong,
+            WriteEnd::BadLine(count) => AppendEnd::BadLine(count),
+            WriteEnd::Input => AppendEnd::Input,
+            WriteEnd::Made => AppendEnd::Device,
+            WriteEnd::Memory => AppendEnd::Memory,
+        }
+    }
+}
+
+/// Puts the feed's records behind the last whole chunk of an old file, of `size` bytes, which were told, at most 2^60. Behind
+/// that chunk the front of another is dropped that the file ends within, and with `cut` whatever stands there. An empty file
+/// becomes the file of the records.
+///
+/// The old file is judged first, as `verify_front` does: compressed and transposed chunks are kept. Then it is cut, if anything
+/// is dropped, and the chunks of the records are put, as `write_after` does. No byte that is kept changes. Where a stop follows
+/// the records, these are put too.
+///
+/// # Errors
+///
+/// `Refused` exactly with the fault of a file, which isn't empty, that doesn't begin as files do; and without `cut` exactly with
+/// each other fault than `Short` and `Truncated`. The device and the feed are then as they were. `TooLong`, `InputTooLong` and
+/// `BadLine` where that stop follows, the first and the last with the number of the records before it; `Input` only where the
+/// feed failed, `Device` only where the device failed, and `Memory`. After the last three the device holds the old file, or what is
+/// kept of it and a front of what was to be put behind. Own.
+pub fn append<R: Threads + Sync, L: RecordFeed, G: Device + Send>(
+    rt: &R,
+    alloc: Global,
+    options: &WriteOptions,
+    cut: bool,
+    feed: &mut L,
+    device: &mut G,
+    size: u64,
+) -> Result<Appended, AppendEnd>
+    requires told { G.told device.old ≡ Some size }
+    requires in_reach { size ≤ 2 ^ 60 }
+    requires feed_going { L.going feed.old ≡ true }
+    requires feed_in_reach { L.bound feed.old ≤ 2 ^ 41 }
+    requires in_limits { AreInLimits options.now }
+    ensures grown { IfSome (G.bytes device.old) (λ file. IfSome (L.rest feed.old) (λ rest.
+        AnswersGrown result options.now cut file rest (G.bytes device.new))) }
+    ensures refused { (fault : Fault) → result ≡ Err (AppendEnd.Refused fault)
+        → IfSome (G.bytes device.old) (λ file. IsRefused cut file fault) }
+    ensures complete { IfSome (G.bytes device.old) (λ file. (fault : Fault) → IsRefused cut file fault
+        → (result ≡ Err (AppendEnd.Refused fault)) ⊎ (result ≡ Err AppendEnd.Device)) }
+    ensures untouched { (fault : Fault) → result ≡ Err (AppendEnd.Refused fault)
+        → (G.bytes device.new ≡ G.bytes device.old) × (G.told device.new ≡ G.told device.old)
+        × (G.handed device.new ≤ G.handed device.old + size) × (feed.new ≡ feed.old) }
+    ensures kept { IfSome (G.bytes device.old) (λ file. IsSomeAnd (G.bytes device.new) (λ held. KeepsFront cut file held)) }
+    ensures told { IfOk result (λ told. MayBeKeptTo size told.kept × (told.kept + told.dropped ≡ size) × (told.kept ≤ told.bytes)) }
+    ensures read_to_end { OnOk result (IfSome (L.rest feed.old) (λ _. L.rest feed.new ≡ Some nothing_left)) }
+
+    ensures feed { OnlyCounts L.name L.faults (result ≡ Err AppendEnd.Input) feed.old feed.new }
+    ensures device { CountsFaults G.faults (result ≡ Err AppendEnd.Device) device.old device.new }
+{
+    let kept = judge(device, size, cut)?;
+    cut_to(device, size, kept)?;
+    let put = put_records(rt, alloc, options, kept, feed, device)?;
+    Ok(Appended {
+        kept,
+        dropped: size - kept,
+        records: put.records,
+        bytes: kept + put.bytes,
+    })
+}
+
+/// Puts the chunks of the feed's records behind the bytes of a device, which end at a place. The totals are of these chunks.
+fn put_records<R: Threads + Sync, L: RecordFeed, G: Device + Send>(
+    rt: &R,
+    alloc: Global,
+    options: &WriteOptions,
+    place: u64,
+    feed: &mut L,
+    device: &mut G,
+) -> Result<Totals, WriteEnd>
+    requires ends { IfSome (G.bytes device.old) (λ file. length file ≡ place) }
+    requires place { MayBeKeptTo (2 ^ 60) place }
+    requires feed_going { L.going feed.old ≡ true }
+    requires in_reach { L.bound feed.old ≤ 2 ^ 41 }
+    requires in_limits { AreInLimits options.now }
+    ensures answer { IfSome (L.rest feed.old) (λ rest. AnswersTotals result (totals_at options.now place rest.records) rest) }
+    ensures put { IfSome (L.rest feed.old) (λ rest.
+        TakesFile result (G.bytes device.old) (G.bytes device.new) (bytes_at options.now place rest.records)) }
+    ensures behind { IfSome (G.bytes device.old) (λ front. IsSomeAnd (G.bytes device.new) (λ held. (rest : List ℕ) × (held ≡ front ++ rest))) }
+    ensures in_reach { IfOk result (λ totals. place + totals.bytes < 2 ^ 64) }
+    ensures read_to_end { OnOk result (IfSome (L.rest feed.old) (λ _. L.rest feed.new ≡ Some nothing_left)) }
+    ensures feed { OnlyCounts L.name L.faults (result ≡ Err WriteEnd.Input) feed.old feed.new }
+    ensures device { CountsFaults G.faults (result ≡ Err WriteEnd.Made) device.old device.new }
+{
+    let mut sink = AsSink::new(device, place);
+    if place == 0 {
+        write_records(rt, alloc, options, feed, &mut sink)
+    } else {
+        write_after(rt, alloc, options, place, feed, &mut sink)
+    }
+}
