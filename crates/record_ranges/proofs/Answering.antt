@@ -1,0 +1,120 @@
+-- What is answered of a file, by the parts between its cuts.
+use Rattle.std.proofs.Common.{◌≡◌, ◌∙◌, ◌⊎◌, ℕ, suc, ◌+◌, ◌<◌, ◌≤◌, false, Option, Result, Some, None, Ok, Err, IfOk, IfSome, List, [], ◌∷◌, ◌++◌, Vec, Global, All, length, map, take, get_or, refl, sym, ap, subst, inl, inr, arith}
+use Rattle.std.specs.List.{AllByRecursion, AllZip}
+use Rattle.std.proofs.lemmas.List.{take_more}
+use Rattle.std.proofs.lemmas.List.Elements.{All-from_recursion}
+use Rattle.chunk_reader.specs.Faults.{BeginsWithSignature, IsFault}
+use Rattle.chunk_reader.specs.declared.reasons.Fault.{Fault}
+use Rattle.chunk_reader.specs.declared.reasons.ReadEnd.{ReadEnd}
+use Rattle.chunk_reader.specs.declared.reasons.ReadEnd.TheVariants as read
+use Rattle.chunk_reader.proofs.FileFaults.{fault_is_one, fault_or_none}
+use Rattle.chunk_reader.proofs.Rooms.{IsSized}
+use Rattle.record_ranges.specs.declared.stretches.Span.{Span}
+use Rattle.record_ranges.specs.declared.stretches.Stretch.{Stretch}
+use Rattle.record_ranges.specs.Ranges.{RiseUpTo, records_between, ranges_from, AreRangesOf}
+use Rattle.record_ranges.specs.Reads.{AreReadIn, IfAllTellSame}
+use Rattle.record_ranges.specs.Stretches.{IsReadFromFront, AreReadOf, LiesWithin, MeetUpTo, spans_from}
+use Rattle.record_ranges.proofs.Fronts.{parts_read}
+use Rattle.record_ranges.proofs.Threads.{given_in}
+use Rattle.record_ranges.proofs.Wholes.{parts_meet}
+
+-- there is one part more than cuts
+pub spans-length : (size from : ℕ) (cuts : List ℕ) → length (spans_from size from cuts) ≡ length cuts + 1
+spans-length size from [] = refl
+spans-length size from (cut ∷ cuts) = ap suc (spans-length size cut cuts) ∙ omega arith
+
+rise_size : (size from : ℕ) (cuts : List ℕ) → RiseUpTo size from cuts → from ≤ size
+rise_size size from [] h = h
+rise_size size from (cut ∷ cuts) h = omega (arith, h.0, rise_size size cut cuts h.1)
+
+each_within : (size from : ℕ) (cuts : List ℕ) → RiseUpTo size from cuts → AllByRecursion (λ span. LiesWithin size span) (spans_from size from cuts)
+each_within size from [] h = ((h, omega arith), tt)
+each_within size from (cut ∷ cuts) h = ((h.0, rise_size size cut cuts h.1), each_within size cut cuts h.1)
+
+-- and each lies in the file
+pub spans-within : (size from : ℕ) (cuts : List ℕ) (spans : List Span) → spans ≡ spans_from size from cuts → RiseUpTo size from cuts
+    → All (λ span. LiesWithin size span) spans
+spans-within size from cuts spans is h =
+    subst (λ (ps : List Span). All (λ span. LiesWithin size span) ps) (sym is)
+    (All-from_recursion (λ (span : Span). LiesWithin size span) (spans_from size from cuts) (each_within size from cuts h))
+
+-- parts with the records between their places are the parts of the file
+parts_are : (size from : ℕ) (cuts : List ℕ) (placed : List (ℕ × List ℕ)) (parts : List Stretch)
+    → AllZip (λ span s. s.records ≡ records_between span.from span.to placed) (spans_from size from cuts) parts
+    → map (λ s. s.records) parts ≡ ranges_from size from cuts placed
+parts_are size from [] placed [] h = absurd h
+parts_are size from [] placed (s ∷ []) h = ap (λ (r : List (List ℕ)). r ∷ []) h.0
+parts_are size from [] placed (s ∷ t ∷ parts) h = absurd h.1
+parts_are size from (cut ∷ cuts) placed [] h = absurd h
+parts_are size from (cut ∷ cuts) placed (s ∷ parts) h =
+    ap (λ (r : List (List ℕ)). r ∷ map (λ (t : Stretch). t.records) parts) h.0
+    ∙ ap (λ (rs : List (List (List ℕ))). records_between from cut placed ∷ rs) (parts_are size cut cuts placed parts h.1)
+
+pub ranges-read : (file cuts : List ℕ) (size : ℕ) (spans : List Span) (parts : List Stretch) → spans ≡ spans_from size 0 cuts
+    → AreReadOf file size spans parts → AreRangesOf file cuts (map (λ s. s.records) parts)
+ranges-read file cuts size spans parts is h = record {
+  chunks = h.chunks;
+  placed = h.placed;
+  is_file = h.is_file;
+  are_placed = h.are_placed;
+  are_ranges =
+      parts_are size 0 cuts h.placed parts
+      (subst (λ (ps : List Span). AllZip (λ (span : Span) (s : Stretch). s.records ≡ records_between span.from span.to h.placed) ps parts) is h.each)
+      ∙ ap (λ (n : ℕ). ranges_from n 0 cuts h.placed) h.sized;
+}
+
+-- lists one longer
+zip_push : {A B : Type 0} (R : A → B → Type 0) (xs : List A) (ys : List B) (x : A) (y : B) → AllZip R xs ys → R x y → AllZip R (xs ++ x ∷ []) (ys ++ y ∷ [])
+zip_push R [] [] x y h r = (r, tt)
+zip_push R [] (b ∷ ys) x y h r = absurd h
+zip_push R (a ∷ xs) [] x y h r = absurd h
+zip_push R (a ∷ xs) (b ∷ ys) x y h r = (h.0, zip_push R xs ys x y h.1 r)
+
+-- one part more is read from the front
+pub parts-more : (bytes now : Option (List ℕ)) (spans : List Span) (i : ℕ) (span : Span) (old new : List Stretch) (part : Stretch) → now ≡ bytes
+    → i < length spans → span ≡ get_or spans i span → new ≡ old ++ part ∷ []
+    → IfSome bytes (λ file. AllZip (IsReadFromFront file) (take i spans) old) → IfSome now (λ file. IsReadFromFront file span part)
+    → IfSome bytes (λ file. AllZip (IsReadFromFront file) (take (i + 1) spans) new)
+parts-more None now spans i span old new part same below there is h g = tt
+parts-more (Some file) now spans i span old new part same below there is h g =
+    let here : IsReadFromFront file span part = subst (λ (b : Option (List ℕ)). IfSome b (λ f. IsReadFromFront f span part)) same g in
+    let next : take (i + 1) spans ≡ take i spans ++ span ∷ [] =
+    take_more spans i span below ∙ ap (λ (p : Span). take i spans ++ p ∷ []) (sym there) in
+    subst (λ (ps : List Span). AllZip (IsReadFromFront file) ps new) (sym next)
+    (subst (AllZip (IsReadFromFront file) (take i spans ++ span ∷ [])) (sym is) (zip_push (IsReadFromFront file) (take i spans) old span part h here))
+
+-- what threads read, where it meets and the file begins as files do
+pub read-by_threads : (bytes : Option (List ℕ)) (size : ℕ) (spans : List Span) (answers : List (Result Stretch ReadEnd)) (parts : List Stretch)
+    → IsSized bytes (Some size) → IfSome bytes BeginsWithSignature → answers ≡ map (λ s. Ok s) parts → MeetUpTo size 0 0 parts
+    → IfSome bytes (λ file. AreReadIn file spans answers → AreReadOf file size spans parts)
+read-by_threads None size spans answers parts sized begins is meet = tt
+read-by_threads (Some file) size spans answers parts sized begins is meet =
+    λ given.
+    let each = given_in file spans parts (subst (AreReadIn file spans) is given) in
+    parts_meet file size spans parts sized begins each meet
+
+-- and what one does
+pub read-by_one : (bytes : Option (List ℕ)) (size : ℕ) (spans : List Span) (answers : List (Result Stretch ReadEnd)) (result : Result (Vec Stretch Global) ReadEnd) → IsSized bytes (Some size) → 0 < length spans
+    → IfOk result (λ parts. IfSome bytes (λ file. AllZip (IsReadFromFront file) spans parts.items))
+    → IfOk result (λ parts. IfSome bytes (λ file. AreReadIn file spans answers → AreReadOf file size spans parts.items))
+read-by_one bytes size spans answers (Err end) sized some h = tt
+read-by_one None size spans answers (Ok parts) sized some h = tt
+read-by_one (Some file) size spans answers (Ok parts) sized some h = λ given. parts_read file size spans parts.items sized some h
+
+-- so the fault of a file is told, or that a store or memory failed
+pub fault-told : {S : Type 0} (bytes : S → Option (List ℕ)) (stores : List S) (cuts : List ℕ) (result : Result (List (List (List ℕ))) ReadEnd)
+    → IfOk result (λ parts. IfAllTellSame bytes stores (λ file. AreRangesOf file cuts parts))
+    → ((fault : Fault) → result ≡ Err (read.Refused fault) → IfAllTellSame bytes stores (λ file. IsFault false file fault))
+    → IfAllTellSame bytes stores (λ file. (fault : Fault) → IsFault false file fault
+    → (result ≡ Err (read.Refused fault)) ⊎ (result ≡ Err read.Store) ⊎ (result ≡ Err read.Memory))
+fault-told bytes stores cuts (Ok parts) ok refused file same fault is =
+    let h = ok file same in
+    absurd (fault_or_none false file fault is (h.chunks, h.is_file))
+fault-told bytes stores cuts (Err (read.Refused other)) ok refused file same fault is =
+    inl (ap (λ (f : Fault). Err (read.Refused f)) (fault_is_one false file other fault (refused other refl file same) is))
+fault-told bytes stores cuts (Err read.Store) ok refused file same fault is = inr (inl refl)
+fault-told bytes stores cuts (Err read.Memory) ok refused file same fault is = inr (inr refl)
+
+-- what holds of the bytes that a store tells
+pub of-told : (bytes : Option (List ℕ)) (file : List ℕ) (P : List ℕ → Type 0) → bytes ≡ Some file → IfSome bytes P → P file
+of-told bytes file P is h = subst (λ (b : Option (List ℕ)). IfSome b P) is h

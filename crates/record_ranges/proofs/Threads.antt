@@ -1,0 +1,186 @@
+-- What threads were answered for halves of the parts, put together, and what it says of the stores.
+use Rattle.std.proofs.Common.{◌≡◌, ◌∙◌, ◌⊎◌, ℕ, ◌-◌, ◌^◌, ◌<◌, ◌≤◌, Option, Result, List, [], ◌∷◌, ◌++◌, Some, Ok, Err, All, IfOk, IfSome, inl, inr, map, take, set, length, refl, sym, subst, arith}
+use Rattle.std.specs.Prelude.{slice_index_or}
+use Rattle.std.specs.List.{AllByRecursion, AllZip}
+use Rattle.std.proofs.Math.Seq.{take-append_seam}
+use Rattle.record_io.specs.Calls.{OnlyAsks}
+use Rattle.record_io.specs.Outside.{Rose}
+use Rattle.chunk_reader.specs.declared.reasons.ReadEnd.{ReadEnd}
+use Rattle.chunk_reader.specs.declared.reasons.ReadEnd.TheVariants.{Store}
+use Rattle.record_ranges.specs.declared.stretches.Span.{Span}
+use Rattle.record_ranges.specs.declared.stretches.Stretch.{Stretch}
+use Rattle.record_ranges.specs.Stretches.{IsStretchOf}
+use Rattle.record_ranges.specs.Reads.{AnyRose, AreAnswered, AreOnlyAsked, AreReadIn, StandsIn}
+
+module _ {S L : Type 0} (bytes : S → Option (List ℕ)) (told : S → Option ℕ) (name : S → L) (faults : S → ℕ) where
+  abbrev Answered : List Span → List S → List S → List (Result Stretch ReadEnd) → Type 0
+  Answered = AreAnswered bytes told name faults
+
+  answered_append : (p q : List Span) (a b c d : List S) (x y : List (Result Stretch ReadEnd))
+      → Answered p a b x → Answered q c d y → Answered (p ++ q) (a ++ c) (b ++ d) (x ++ y)
+  answered_append [] q [] [] c d [] y h k = k
+  answered_append [] q [] [] c d (r ∷ x) y h k = absurd h
+  answered_append [] q [] (t ∷ b) c d x y h k = absurd h
+  answered_append [] q (s ∷ a) b c d x y h k = absurd h
+  answered_append (e ∷ p) q [] b c d x y h k = absurd h
+  answered_append (e ∷ p) q (s ∷ a) [] c d x y h k = absurd h
+  answered_append (e ∷ p) q (s ∷ a) (t ∷ b) c d [] y h k = absurd h
+  answered_append (e ∷ p) q (s ∷ a) (t ∷ b) c d (r ∷ x) y h k = (h.0, answered_append p q a b c d x y h.1 k)
+
+  pub answered_halves : (spans p q : List Span) (before after a b c d : List S) (answers x y : List (Result Stretch ReadEnd))
+      → spans ≡ p ++ q → before ≡ a ++ c → after ≡ b ++ d → answers ≡ x ++ y
+      → AreAnswered bytes told name faults p a b x → AreAnswered bytes told name faults q c d y
+      → AreAnswered bytes told name faults spans before after answers
+  answered_halves spans p q before after a b c d answers x y cut is then put h k =
+      subst (λ (ps : List Span). Answered ps before after answers) (sym cut)
+      (subst (λ (ss : List S). Answered (p ++ q) ss after answers) (sym is)
+      (subst (λ (ss : List S). Answered (p ++ q) (a ++ c) ss answers) (sym then)
+      (subst (Answered (p ++ q) (a ++ c) (b ++ d)) (sym put)
+      (answered_append p q a b c d x y h k))))
+
+  -- where all stores tell the same bytes, each gave chunks of these
+  pub all_in : (file : List ℕ) (spans : List Span) (before after : List S) (answers : List (Result Stretch ReadEnd))
+      → AllByRecursion (λ s. bytes s ≡ Some file) before → AreAnswered bytes told name faults spans before after answers → AreReadIn file spans answers
+  all_in file [] [] [] [] same h = tt
+  all_in file [] [] [] (a ∷ answers) same h = absurd h
+  all_in file [] [] (t ∷ after) answers same h = absurd h
+  all_in file [] (s ∷ before) after answers same h = absurd h
+  all_in file (p ∷ spans) [] after answers same h = absurd h
+  all_in file (p ∷ spans) (s ∷ before) [] answers same h = absurd h
+  all_in file (p ∷ spans) (s ∷ before) (t ∷ after) [] same h = absurd h
+  all_in file (p ∷ spans) (s ∷ before) (t ∷ after) (a ∷ answers) same h =
+      (subst (λ (o : Option (List ℕ)). IfOk a (λ r. IfSome o (λ f. IsStretchOf f p r))) same.0 h.0.stretch, all_in file spans before after answers same.1 h.1)
+
+  asks_whatever : {F : Type 0} (s t : S) → OnlyAsks bytes told name faults F s t → OnlyAsks bytes told name faults ⊥ s t
+  asks_whatever s t h = record {
+    same_bytes = h.same_bytes;
+    same_told = h.same_told;
+    same_name = h.same_name;
+    cause = λ never. absurd never;
+    never_falls = h.never_falls;
+    small = h.small;
+  }
+
+  -- the stores were only asked
+  pub each_asked : (spans : List Span) (before after : List S) (answers : List (Result Stretch ReadEnd))
+      → AreAnswered bytes told name faults spans before after answers → AllZip (OnlyAsks bytes told name faults ⊥) before after
+  each_asked [] [] [] answers h = tt
+  each_asked [] [] (t ∷ after) answers h = absurd h
+  each_asked [] (s ∷ before) after answers h = absurd h
+  each_asked (p ∷ spans) [] after answers h = absurd h
+  each_asked (p ∷ spans) (s ∷ before) [] answers h = absurd h
+  each_asked (p ∷ spans) (s ∷ before) (t ∷ after) [] h = absurd h
+  each_asked (p ∷ spans) (s ∷ before) (t ∷ after) (a ∷ answers) h =
+      (asks_whatever s t h.0.asks, each_asked spans before after answers h.1)
+
+  rose_at : (spans : List Span) (before after : List S) (x y : List (Result Stretch ReadEnd))
+      → AreAnswered bytes told name faults spans before after (x ++ Err Store ∷ y) → AnyRose faults before after
+  rose_at [] [] [] [] y h = absurd h
+  rose_at [] [] [] (a ∷ x) y h = absurd h
+  rose_at [] [] (t ∷ after) x y h = absurd h
+  rose_at [] (s ∷ before) after x y h = absurd h
+  rose_at (p ∷ spans) [] after x y h = absurd h
+  rose_at (p ∷ spans) (s ∷ before) [] x y h = absurd h
+  rose_at (p ∷ spans) (s ∷ before) (t ∷ after) [] y h = inl (h.0.asks.cause refl)
+  rose_at (p ∷ spans) (s ∷ before) (t ∷ after) (a ∷ x) y h = inr (rose_at spans before after x y h.1)
+
+  -- and where one answered that it failed, a count rose
+  pub rose : (spans : List Span) (before after : List S) (answers : List (Result Stretch ReadEnd))
+      → AreAnswered bytes told name faults spans before after answers → StandsIn (Err Store) answers → AnyRose faults before after
+  rose spans before after answers h (x, y, is) =
+      rose_at spans before after x y (subst (AreAnswered bytes told name faults spans before after) is h)
+
+  -- the first store is asked once more
+  asks_on : (a b c : S) → OnlyAsks bytes told name faults ⊥ a b → OnlyAsks bytes told name faults ⊥ b c → OnlyAsks bytes told name faults ⊥ a c
+  asks_on a b c h g = record {
+    same_bytes = g.same_bytes ∙ h.same_bytes;
+    same_told = g.same_told ∙ h.same_told;
+    same_name = g.same_name ∙ h.same_name;
+    cause = λ never. absurd never;
+    never_falls = omega (arith, h.never_falls, g.never_falls);
+    small = λ is. g.small (h.small is);
+  }
+
+  -- no store is asked
+  asks_none : (stores : List S) → AllZip (OnlyAsks bytes told name faults ⊥) stores stores
+  asks_none [] = tt
+  asks_none (s ∷ stores) = (
+    record {
+      same_bytes = refl;
+      same_told = refl;
+      same_name = refl;
+      cause = λ never. absurd never;
+      never_falls = omega arith;
+      small = λ is. is;
+    },
+    asks_none stores,
+  )
+
+  pub none_asked : {F : Type 0} (stores : List S) → (F → ⊥) → AreOnlyAsked bytes told name faults F stores stores
+  none_asked stores never = record { each = asks_none stores; cause = λ failed. absurd (never failed) }
+
+  -- what the first store tells stays
+  pub first-told : (size : ℕ) (spans : List Span) (before after : List S) (answers : List (Result Stretch ReadEnd)) (d : S)
+      → AreAnswered bytes told name faults spans before after answers → All (λ s. told s ≡ Some size) before → 0 < length before
+      → told (slice_index_or after 0 d) ≡ Some size
+  first-told size spans [] after answers d h all some = absurd (omega (arith, some))
+  first-told size [] (s ∷ before) after answers d h all some = absurd h
+  first-told size (p ∷ spans) (s ∷ before) [] answers d h all some = absurd h
+  first-told size (p ∷ spans) (s ∷ before) (t ∷ after) [] d h all some = absurd h
+  first-told size (p ∷ spans) (s ∷ before) (t ∷ after) (a ∷ answers) d h all some = h.0.asks.same_told ∙ all 0 s (omega (arith, some))
+
+  pub first-bytes : (file : List ℕ) (spans : List Span) (before after : List S) (answers : List (Result Stretch ReadEnd)) (d : S)
+      → AreAnswered bytes told name faults spans before after answers → AllByRecursion (λ s. bytes s ≡ Some file) before → 0 < length before
+      → bytes (slice_index_or after 0 d) ≡ Some file
+  first-bytes file spans [] after answers d h all some = absurd (omega (arith, some))
+  first-bytes file [] (s ∷ before) after answers d h all some = absurd h
+  first-bytes file (p ∷ spans) (s ∷ before) [] answers d h all some = absurd h
+  first-bytes file (p ∷ spans) (s ∷ before) (t ∷ after) [] d h all some = absurd h
+  first-bytes file (p ∷ spans) (s ∷ before) (t ∷ after) (a ∷ answers) d h all some = h.0.asks.same_bytes ∙ all.0
+
+  first_rose : (before : List S) (s t : S) (rest : List S) → faults s ≤ faults t → (faults s ≡ 2 ^ 64 - 1 → faults t ≡ 2 ^ 64 - 1)
+      → AnyRose faults before (s ∷ rest) → AnyRose faults before (t ∷ rest)
+  first_rose [] s t rest falls most h = absurd h
+  first_rose (a ∷ before) s t rest falls most (inl (inl rose)) = inl (inl (omega (arith, falls, rose)))
+  first_rose (a ∷ before) s t rest falls most (inl (inr greatest)) = inl (inr (most greatest))
+  first_rose (a ∷ before) s t rest falls most (inr others) = inr others
+
+  first_rises : (a s t : S) → OnlyAsks bytes told name faults ⊥ a s → Rose (faults s) (faults t) → Rose (faults a) (faults t)
+  first_rises a s t h (inl rose) = inl (omega (arith, h.never_falls, rose))
+  first_rises a s t h (inr most) = inr most
+
+  stays_greatest : (s t : S) → OnlyAsks bytes told name faults ⊥ s t → faults s ≡ 2 ^ 64 - 1 → faults t ≡ 2 ^ 64 - 1
+  stays_greatest s t h is =
+      let below : faults t < 2 ^ 64 = h.small (omega (arith, is)) in
+      omega (arith, h.never_falls, is, below)
+
+  -- and the first is asked once more
+  pub asked_again : {F : Type 0} (spans : List Span) (before after : List S) (answers : List (Result Stretch ReadEnd)) (d t : S)
+      → 0 < length before → AreAnswered bytes told name faults spans before after answers
+      → OnlyAsks bytes told name faults ⊥ (slice_index_or after 0 d) t
+      → (F → StandsIn (Err Store) answers ⊎ Rose (faults (slice_index_or after 0 d)) (faults t))
+      → AreOnlyAsked bytes told name faults F before (set after 0 t)
+  asked_again spans [] after answers d t some h g cause = absurd (omega (arith, some))
+  asked_again [] (a ∷ before) after answers d t some h g cause = absurd h
+  asked_again (p ∷ spans) (a ∷ before) [] answers d t some h g cause = absurd h
+  asked_again (p ∷ spans) (a ∷ before) (s ∷ rest) answers d t some h g cause =
+      let each = each_asked (p ∷ spans) (a ∷ before) (s ∷ rest) answers h in
+      record {
+        each = (asks_on a s t each.0 g, each.1);
+        cause = λ failed. elim (cause failed) [
+          | inl stands ↦ first_rose (a ∷ before) s t rest g.never_falls (stays_greatest s t g) (rose (p ∷ spans) (a ∷ before) (s ∷ rest) answers h stands)
+          | inr more ↦ inl (first_rises a s t each.0 more)
+        ];
+      }
+
+-- what was written into all of a vector is all that it holds
+pub written : {X : Type 0} (n : ℕ) (xs ys : List X) → length xs ≡ n → take n (xs ++ ys) ≡ xs
+written n xs ys is = subst (λ (n : ℕ). take n (xs ++ ys) ≡ xs) is (take-append_seam xs ys)
+
+-- where all answers gave something
+pub given_in : (file : List ℕ) (spans : List Span) (parts : List Stretch) → AreReadIn file spans (map (λ (s : Stretch). Ok s) parts)
+    → AllZip (IsStretchOf file) spans parts
+given_in file [] [] h = tt
+given_in file [] (s ∷ parts) h = absurd h
+given_in file (p ∷ spans) [] h = absurd h
+given_in file (p ∷ spans) (s ∷ parts) h = (h.0, given_in file spans parts h.1)

@@ -1,0 +1,104 @@
+ghost use Rattle.std.specs.Prelude.{◌≡◌, ℕ, ◌^◌, ◌≤◌, ◌<◌, Some, IfOk, IfSome, OnOk, Ok, true, false, Err};
+ghost use Rattle.std.specs.List.{AllZip};
+ghost use Rattle.record_io.specs.Calls.{OnlyAsks};
+ghost use Rattle.chunk_reader.specs.Faults.{BeginsWithSignature, IsFault};
+ghost use Rattle.chunk_reader.specs.Readers.{ReadsIn, ReadsOn, IsReadWhole};
+ghost use Rattle.chunk_reader.specs.declared.reasons.Fault.{Fault};
+ghost use Rattle.record_ranges.specs.Stretches.{IsReadFromFront, IsReadSoFar};
+
+use crate::stretches::{Span, Stretch};
+use chunk_reader::{ReadEnd, Reader};
+use record_io::Store;
+use std::alloc::Global;
+
+/// Sees that a file of `size` bytes begins as files do.
+///
+/// # Errors
+///
+/// `Refused` with the fault of the file where it doesn't. `Store` only where the store failed.
+pub(crate) fn check_front<S: Store>(alloc: Global, store: &mut S, size: u64) -> Result<(), ReadEnd>
+    requires told { S.told store.old ≡ Some size }
+    requires in_reach { size ≤ 2 ^ 60 }
+    ensures signed { OnOk result (IfSome (S.bytes store.old) BeginsWithSignature) }
+    ensures refused { (fault : Fault) → result ≡ Err (ReadEnd.Refused fault)
+        → IfSome (S.bytes store.old) (λ file. IsFault false file fault) }
+    ensures store { OnlyAsks S.bytes S.told S.name S.faults (result ≡ Err ReadEnd.Store) store.old store.new }
+{
+    let mut reader = Reader::new(size, false);
+    reader.next(alloc, store)?;
+    Ok(())
+}
+
+/// Reads parts of a file of `size` bytes from one store, one after another, each from the file's front.
+///
+/// # Errors
+///
+/// `Refused` only with the fault of the file. `Store` only where the store failed.
+pub(crate) fn read_alone<S: Store>(
+    alloc: Global,
+    store: &mut S,
+    size: u64,
+    spans: &[Span],
+) -> Result<Vec<Stretch>, ReadEnd>
+    requires told { S.told store.old ≡ Some size }
+    requires in_reach { size ≤ 2 ^ 60 }
+    ensures read { IfOk result (λ parts. IfSome (S.bytes store.old) (λ file. AllZip (IsReadFromFront file) spans.now parts.items)) }
+    ensures refused { (fault : Fault) → result ≡ Err (ReadEnd.Refused fault)
+        → IfSome (S.bytes store.old) (λ file. IsFault false file fault) }
+    ensures store { OnlyAsks S.bytes S.told S.name S.faults (result ≡ Err ReadEnd.Store) store.old store.new }
+{
+    let mut parts = Vec::new(alloc);
+    for &span in spans {
+        let part = read_from_front(alloc, store, size, span)?;
+        let Ok(()) = parts.push(part) else {
+            return Err(ReadEnd::Memory);
+        };
+    }
+    Ok(parts)
+}
+
+/// Reads a whole file of `size` bytes for the records of one part.
+fn read_from_front<S: Store>(
+    alloc: Global,
+    store: &mut S,
+    size: u64,
+    span: Span,
+) -> Result<Stretch, ReadEnd>
+    requires told { S.told store.old ≡ Some size }
+    requires in_reach { size ≤ 2 ^ 60 }
+    ensures read { IfOk result (λ part. IfSome (S.bytes store.old) (λ file. IsReadFromFront file span part)) }
+    ensures refused { (fault : Fault) → result ≡ Err (ReadEnd.Refused fault)
+        → IfSome (S.bytes store.old) (λ file. IsFault false file fault) }
+    ensures store { OnlyAsks S.bytes S.told S.name S.faults (result ≡ Err ReadEnd.Store) store.old store.new }
+{
+    let mut reader = Reader::new(size, false);
+    let mut part = Stretch::at(alloc, 0);
+    while take_next(alloc, store, &mut reader, span, &mut part)? {}
+    Ok(part)
+}
+
+/// Takes of the next chunk the records of a part, and answers whether there was one.
+fn take_next<S: Store>(
+    alloc: Global,
+    store: &mut S,
+    reader: &mut Reader,
+    span: Span,
+    part: &mut Stretch,
+) -> Result<bool, ReadEnd>
+    requires strict { reader.old.keep ≡ false }
+    requires reads { ReadsIn (S.bytes store.old) (S.told store.old) reader.old }
+    ensures goes_on { ReadsOn (S.bytes store.old) reader.old reader.new }
+    ensures moved { result ≡ Ok true → reader.old.totals.bytes < reader.new.totals.bytes }
+    ensures read { result ≡ Ok true → IfSome (S.bytes store.old) (λ file.
+        IsReadSoFar file span reader.old.totals part.old.records → IsReadSoFar file span reader.new.totals part.new.records) }
+    ensures ended { result ≡ Ok false → (part.new ≡ part.old) × (reader.new ≡ reader.old) × IsReadWhole (S.bytes store.old) reader.old }
+    ensures refused { (fault : Fault) → result ≡ Err (ReadEnd.Refused fault)
+        → IfSome (S.bytes store.old) (λ file. IsFault false file fault) }
+    ensures store { OnlyAsks S.bytes S.told S.name S.faults (result ≡ Err ReadEnd.Store) store.old store.new }
+{
+    let Some(judged) = reader.next(alloc, store)? else {
+        return Ok(false);
+    };
+    part.take(&judged, span)?;
+    Ok(true)
+}
