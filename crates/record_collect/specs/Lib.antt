@@ -1,0 +1,6 @@
+pub mod PutMachine
+pub mod PutRule
+pub mod Passes
+pub mod Gatherings
+pub mod Orders
+pub mod FilePlaces

@@ -1,0 +1,75 @@
+-- What contracts see of a collector and of its passes. Own.
+use Rattle.std.specs.Prelude.{◌≡◌, ℕ, ◌+◌, ◌^◌, ◌<◌, ◌≤◌, ◌⊎◌, Option, Some, None, List, [], ◌∷◌, ◌++◌, length, map}
+use Rattle.std.specs.List.{AllByRecursion, flat_map}
+use Rattle.std.specs.Option.{option_to_list}
+use Rattle.atomic_table.specs.Seated.{TableId}
+use Rattle.simple_chunk.specs.Costs.{cost}
+use Rattle.record_collect.specs.declared.table.Piece.{Piece}
+use Rattle.record_collect.specs.declared.collector.Accepted.{Accepted}
+use Rattle.record_collect.specs.declared.collector.PutEnd.{PutEnd}
+use Rattle.record_collect.specs.declared.collector.PutEnd.TheVariants.{TooLong, Full, Memory}
+use Rattle.record_collect.specs.PutMachine.{limit}
+
+-- which table receipts are taken from, and for how many passes
+pub record CollectorValue : Type 0 where
+  pub table : TableId
+  pub passes : ℕ
+
+-- which table the pass takes receipts from, the records that were accepted of it, in their order, each with its receipt, and
+-- the number at which it ended, if it did
+pub record PassValue : Type 0 where
+  pub table : TableId
+  pub mine : List Accepted
+  pub ended : Option ℕ
+
+-- the pass belongs to this collector: it takes its receipts from the collector's table
+abbrev pub BelongsTo : CollectorValue → PassValue → Type 0
+BelongsTo collector pass = pass.table ≡ collector.table
+
+-- nothing was put, and the pass hasn't ended
+abbrev pub IsFresh : PassValue → Type 0
+IsFresh pass = (pass.mine ≡ []) × (pass.ended ≡ None)
+
+-- the piece of an accepted record
+abbrev pub piece_of : Accepted → Piece
+piece_of e = record { at = e.at; cost = cost e.bytes }
+
+-- each receipt is below the next
+abbrev pub Rises : List Accepted → Type 0
+Rises [] = Unit {0}
+Rises (e ∷ es) = AllByRecursion (λ f. e.at < f.at) es × Rises es
+
+-- the record was accepted with this receipt: it ends at or below the limit, and begins past all that the pass had, behind which
+-- it goes
+pub record IsPut (old : PassValue) (record_bytes : List ℕ) (at : ℕ) (new : PassValue) : Type 0 where
+  pub short : length record_bytes ≤ 2 ^ 24
+  pub going : old.ended ≡ None
+  pub ends : at + cost record_bytes ≤ limit
+  pub above : AllByRecursion (λ e. e.at + cost e.bytes ≤ at) old.mine
+  pub pass : new ≡ record old { mine = old.mine ++ record { at = at; bytes = record_bytes } ∷ [] }
+
+-- the pass ends here, since the record would end above the limit
+pub record EndsHere (old : PassValue) (record_bytes : List ℕ) (held : ℕ) (new : PassValue) : Type 0 where
+  pub going : old.ended ≡ None
+  pub over : limit < held + cost record_bytes
+  pub pass : new ≡ record old { ended = Some held }
+
+-- why the record was refused, and what became of the pass: too long exactly where it has more than 2 ^ 24 bytes; full where
+-- the pass had ended, or ends here
+abbrev pub IsRefused : PassValue → List ℕ → PutEnd → PassValue → Type 0
+IsRefused old record_bytes TooLong new = (2 ^ 24 < length record_bytes) × (new ≡ old)
+IsRefused old record_bytes (Full held) new =
+    (length record_bytes ≤ 2 ^ 24) × (((old.ended ≡ Some held) × (new ≡ old)) ⊎ EndsHere old record_bytes held new)
+IsRefused old record_bytes Memory new = (length record_bytes ≤ 2 ^ 24) × (old.ended ≡ None) × (new ≡ old)
+
+-- the records that were accepted of a pass
+abbrev pub records_of : PassValue → List (List ℕ)
+records_of pass = map (λ e. e.bytes) pass.mine
+
+-- their receipts
+abbrev pub receipts_of : PassValue → List ℕ
+receipts_of pass = map (λ e. e.at) pass.mine
+
+-- the numbers at which passes ended
+abbrev pub ends_of : List PassValue → List ℕ
+ends_of passes = flat_map (λ p. option_to_list p.ended) passes
