@@ -17,7 +17,7 @@ use Rattle.run_answers.specs.FileAnswers.{OfFile, IsInReach, IsTooLong, limit_te
 use Rattle.run_answers.specs.FileSizes.{IsUnsized}
 use Rattle.run_answers.specs.Meanings.{Meaning}
 use Rattle.run_answers.specs.Statuses.{fault_text}
-use Rattle.run_answers.specs.Runs.{Shown, ShownFile, Seen, seen, IfTold, OfSizes, IsWhole, IsCutOff, IsCutShort, AreSinksSound, TakesThen, SaysAtEnd, Breaks, PutsLines, WasCutOff, FailedToSay, HasCause, Runs}
+use Rattle.run_answers.specs.Runs.{SeenStream, SeenFile, Seen, seen, IfTold, OfSizes, IsWhole, IsCutOff, IsCutShort, AreSinksSound, TakesThen, SaysAtEnd, Breaks, PutsLines, WasCutOff, FailedToSay, HasCause, Runs}
 use Rattle.run_answers.specs.PutSoFar.{HasPut, HasPutSoFar, HasPutFront}
 use Rattle.run_answers.proofs.OneAnswer.{of_file_exists}
 use Rattle.run_answers.proofs.PutSoFar.{front-nothing, noted-nothing, gave-put, whole-flushed, front-flushed, broken-flushed, untold-flushed, whole-unflushed, front-unflushed}
@@ -159,7 +159,7 @@ HasSaid m ends (Err (end.Cut cut.Notes)) notes notes_then =
 HasSaid m ends (Err (end.Cut why)) notes notes_then = (text : List ℕ) × Takes notes notes_then text × m.may_say text
 
 module _ (m : Meaning) (P : List ℕ → Answer → Type 0) (Q : List ℕ → List Put → Type 0) (reads : ReadsFile m P Q)
-    (input made made_then : Shown) (file file_then grown : ShownFile) (out out_then notes mid notes_then : Shown)
+    (input made made_then : SeenStream) (file file_then grown : SeenFile) (out out_then notes mid notes_then : SeenStream)
     (keeps : Keeps m (seen input (file ∷ []) made grown out notes) (seen input (file_then ∷ []) made_then grown out_then notes_then)) where
   abbrev Before : Seen
   Before = seen input (file ∷ []) made grown out notes
@@ -206,11 +206,11 @@ module _ (m : Meaning) (P : List ℕ → Answer → Type 0) (Q : List ℕ → Li
       → IfSome file.bytes (λ bytes. HasPut P bytes Start Worked [] [] ended) → notes_then ≡ mid
       → Ended ended
   done ended text took whole may put same =
-      runs-whole m Before After ended text whole.0 may (subst (λ (s : Shown). Takes notes.bytes s.bytes text) (sym same) took)
+      runs-whole m Before After ended text whole.0 may (subst (λ (s : SeenStream). Takes notes.bytes s.bytes text) (sym same) took)
       (λ r is. let a = gave [] ended put r is in (
         a.0,
         a.1,
-        gave-said ended Before After mid [] a.0 a.2 (subst (λ (s : Shown). Takes mid.bytes s.bytes []) (sym same) (Takes-nothing mid.bytes)),
+        gave-said ended Before After mid [] a.0 a.2 (subst (λ (s : SeenStream). Takes mid.bytes s.bytes []) (sym same) (Takes-nothing mid.bytes)),
       ))
       (λ _ uses. absurd (cc (sym uses ∙ reads.input))) (λ none. absurd (cc (sym reads.command ∙ none))) (whole.1 Before After) keeps
 
@@ -234,13 +234,13 @@ module _ (m : Meaning) (P : List ℕ → Answer → Type 0) (Q : List ℕ → Li
       → PutToCut cut.Notes → notes_then ≡ mid → Rose notes.faults mid.faults
       → Ended status.Notes
   untold wanted text front may put same rose =
-      runs-notes m Before After wanted text may (subst (λ (s : Shown). TakesFront notes.bytes s.bytes text) (sym same) front)
-      (subst (λ (s : Shown). IfTold m Before (FailedToSay Start (taken_by made_then.bytes out_then.bytes s.bytes))) (sym same)
+      runs-notes m Before After wanted text may (subst (λ (s : SeenStream). TakesFront notes.bytes s.bytes text) (sym same) front)
+      (subst (λ (s : SeenStream). IfTold m Before (FailedToSay Start (taken_by made_then.bytes out_then.bytes s.bytes))) (sym same)
       (if_told (FailedToSay Start Worked) (λ bytes are told.
       let h = MatchOption-at_some _
       (λ (b : List ℕ). AreBytes b → (answer : Answer) × OfFile P (b ∷ []) answer × HasPutToCut cut.Notes Start Worked [] answer) bytes told put are in
       (h.0, h.1, h.2.1))))
-      (subst (λ (s : Shown). Rose notes.faults s.faults) (sym same) rose) keeps
+      (subst (λ (s : SeenStream). Rose notes.faults s.faults) (sym same) rose) keeps
 
   -- all that was put so far went out
   abbrev PutSoFar : Type 0

@@ -10,7 +10,7 @@ use Rattle.run_answers.specs.Answers.{Answer}
 use Rattle.run_answers.specs.FileAnswers.{OfFile, OfFileSoFar, HandsOut, IsInReach, file_meaning, most_file_bytes}
 use Rattle.run_answers.specs.Meanings.{Uses, Meaning, Read}
 use Rattle.run_answers.specs.Statuses.{fault_text}
-use Rattle.run_answers.specs.Runs.{Shown, ShownFile, Seen, seen, IfRead, IfTold, OfSizes, TakesThen, WentOutSoFar}
+use Rattle.run_answers.specs.Runs.{SeenStream, SeenFile, Seen, seen, IfRead, IfTold, OfSizes, TakesThen, WentOutSoFar}
 use Rattle.run_answers.specs.PutSoFar.{HasPutSoFar}
 use Rattle.run_answers.proofs.RunEnds.{Keeps, went-so_far}
 
@@ -74,16 +74,16 @@ handed-work m told size before after is work =
     inr (subst (λ (t : Option ℕ). IsSomeAnd t (λ n. m.may_work (n ∷ []) × m.may_take (n ∷ []) (before ∷ []) (after ∷ []))) (sym is) work)
 
 -- the one that rose or not
-file_fell : (file file_then : ShownFile) → file.faults ≤ file_then.faults → (place : ℕ) (a b : ShownFile)
+file_fell : (file file_then : SeenFile) → file.faults ≤ file_then.faults → (place : ℕ) (a b : SeenFile)
     → slice_get (file ∷ []) place ≡ Some a → slice_get (file_then ∷ []) place ≡ Some b → a.faults ≤ b.faults
 file_fell file file_then less zero a b was is =
     let same : file ≡ a = cc was in
     let also : file_then ≡ b = cc is in
-    omega (arith, less, ap (λ (s : ShownFile). s.faults) same, ap (λ (s : ShownFile). s.faults) also)
+    omega (arith, less, ap (λ (s : SeenFile). s.faults) same, ap (λ (s : SeenFile). s.faults) also)
 file_fell file file_then less (suc place) a b was is = absurd (cc was)
 
 module _ (m : Meaning) (P : List ℕ → Answer → Type 0) (Q : List ℕ → List Put → Type 0) (reads : ReadsFile m P Q)
-    (input made made_then : Shown) (file file_then grown : ShownFile) (out out_then notes notes_then : Shown) where
+    (input made made_then : SeenStream) (file file_then grown : SeenFile) (out out_then notes notes_then : SeenStream) where
   abbrev Asked : Seen
   Asked = seen input (file ∷ []) made grown out notes
 
@@ -105,7 +105,7 @@ module _ (m : Meaning) (P : List ℕ → Answer → Type 0) (Q : List ℕ → Li
       )
 
   -- all that was put so far of those went out
-  pub told-so_far : (ended : Status) (mid : Shown)
+  pub told-so_far : (ended : Status) (mid : SeenStream)
       → IfSome file.bytes (λ bytes. HasPutSoFar (Q bytes)
       (taken_by made.bytes out.bytes notes.bytes) (taken_by made_then.bytes out_then.bytes mid.bytes) [])
       → notes.faults ≤ mid.faults → TakesThen mid notes_then [] (fault_text ended)

@@ -9,7 +9,7 @@ use Rattle.run_answers.specs.declared.status.Status.{Status}
 use Rattle.run_answers.specs.Statuses.{fault_text}
 use Rattle.run_answers.specs.Answers.{Answer}
 use Rattle.run_answers.specs.Meanings.{Meaning, Read}
-use Rattle.run_answers.specs.Runs.{Shown, ShownFile, Seen, seen, IsWhole, IsCutOff, IsCutShort, IsSound, AreSinksSound, IfRead, IfTold, OfSizes, handed_by, taken_in, Gave, TakesThen, SaysAtEnd, Breaks, PutsLines, WasCutOff, WentOutSoFar, FailedToSay, HasCause, NoneFell, IfGrown, Runs}
+use Rattle.run_answers.specs.Runs.{SeenStream, SeenFile, Seen, seen, IsWhole, IsCutOff, IsCutShort, IsSound, AreSinksSound, IfRead, IfTold, OfSizes, handed_by, taken_in, Gave, TakesThen, SaysAtEnd, Breaks, PutsLines, WasCutOff, WentOutSoFar, FailedToSay, HasCause, NoneFell, IfGrown, Runs}
 use Rattle.run_answers.specs.declared.status.Status.TheVariants as status
 
 -- what every end of a run keeps that grows no file
@@ -21,7 +21,7 @@ pub record Keeps (m : Meaning) (before after : Seen) : Type 0 where
       × OfSizes m before after (λ sizes. m.may_work sizes × m.may_take sizes (handed_by before.files) (handed_by after.files)))
   pub handed_of : IfRead m before (λ r. m.may_take_of r (handed_by before.files) (handed_by after.files))
   pub grown_handed : after.grown.handed ≡ before.grown.handed
-  pub in_order : (place : ℕ) (file : ShownFile) → slice_get after.files place ≡ Some file → file.told ≡ None
+  pub in_order : (place : ℕ) (file : SeenFile) → slice_get after.files place ≡ Some file → file.told ≡ None
       → drop (place + 1) after.files ≡ drop (place + 1) before.files
 
 -- no file is grown
@@ -29,14 +29,14 @@ ungrown : (m : Meaning) (before after : Seen) (P : Read → List ℕ → Type 0)
 ungrown m before after P keeps uses = absurd (cc (sym uses ∙ keeps.ungrown))
 
 -- where neither files nor a grown file is used, and no count fell of what is
-pub keeps-unread : (m : Meaning) (input input_then : Shown) (files : List ShownFile) (made made_then : Shown) (grown : ShownFile) (out out_then notes notes_then : Shown)
+pub keeps-unread : (m : Meaning) (input input_then : SeenStream) (files : List SeenFile) (made made_then : SeenStream) (grown : SeenFile) (out out_then notes notes_then : SeenStream)
     → m.uses.grown ≡ false → ((r : Read) → m.may_take_of r (handed_by files) (handed_by files)) → input.faults ≤ input_then.faults → made.faults ≤ made_then.faults
     → out.faults ≤ out_then.faults → notes.faults ≤ notes_then.faults
     → Keeps m (seen input files made grown out notes) (seen input_then files made_then grown out_then notes_then)
 keeps-unread m input input_then files made made_then grown out out_then notes notes_then none same i k o n = record {
   counts = record {
     input = i;
-    files = λ place a b was is. let same : a ≡ b = cc in omega (arith, ap (λ (s : ShownFile). s.faults) same);
+    files = λ place a b was is. let same : a ≡ b = cc in omega (arith, ap (λ (s : SeenFile). s.faults) same);
     made = k;
     grown = omega arith;
     out = o;
@@ -202,7 +202,7 @@ runs-cut_off m before after ended text cut within may_say said was so_far some c
 }
 
 -- what the sinks had taken before an end was said, where notes showed this
-abbrev pub taken_but_end : Seen → Shown → Taken
+abbrev pub taken_but_end : Seen → SeenStream → Taken
 taken_but_end after notes = taken_by after.made.bytes after.out.bytes notes.bytes
 
 -- the work was done with a status: all that an answer puts but a last text in notes went out
@@ -218,7 +218,7 @@ rose-behind l m n less (inl rose) = inl (omega (arith, less, rose))
 rose-behind l m n less (inr full) = inr full
 
 -- a line behind a text
-pub then-behind : (before mid after : Shown) (text last : List ℕ) → Takes before.bytes mid.bytes text → before.faults ≤ mid.faults
+pub then-behind : (before mid after : SeenStream) (text last : List ℕ) → Takes before.bytes mid.bytes text → before.faults ≤ mid.faults
     → TakesThen mid after [] last → TakesThen before after text last
 then-behind before mid after text last took less (part, behind, how) = (
   part,
@@ -227,7 +227,7 @@ then-behind before mid after text last took less (part, behind, how) = (
 )
 
 -- the last text was said
-pub gave-said : (ended : Status) (before after : Seen) (mid : Shown) (text : List ℕ) (answer : Answer)
+pub gave-said : (ended : Status) (before after : Seen) (mid : SeenStream) (text : List ℕ) (answer : Answer)
     → GaveButNotes ended (taken_in before) (taken_but_end after mid) text answer → Takes mid.bytes after.notes.bytes text
     → Gave ended before after answer
 gave-said ended before after mid text answer gave said = record {
@@ -238,7 +238,7 @@ gave-said ended before after mid text answer gave said = record {
 }
 
 -- or notes failed to take it
-pub failed-said : (ended : Status) (before after : Seen) (mid : Shown) (text : List ℕ) (answer : Answer)
+pub failed-said : (ended : Status) (before after : Seen) (mid : SeenStream) (text : List ℕ) (answer : Answer)
     → GaveButNotes ended (taken_in before) (taken_but_end after mid) text answer → text ≢ [] → TakesFront mid.bytes after.notes.bytes text
     → FailedToSay (taken_in before) (taken_in after) answer
 failed-said ended before after mid text answer gave some front =
@@ -257,7 +257,7 @@ pub PutsLines-none : (part puts : List Put) → bytes_to Notes part ≡ [] → P
 PutsLines-none part puts none = record { count = 0; lines = none }
 
 -- the work was cut off, and then notes were told of that
-pub was-cut_off : (ended : Status) (before after : Seen) (mid : Shown) (answer : Answer) (part : List Put)
+pub was-cut_off : (ended : Status) (before after : Seen) (mid : SeenStream) (answer : Answer) (part : List Put)
     → Breaks ended part answer.puts → PutsLines part answer.puts → GoOut (taken_in before) (taken_but_end after mid) part
     → before.notes.faults ≤ mid.faults → TakesThen mid after.notes [] (fault_text ended) → WasCutOff ended before after answer
 was-cut_off ended before after mid answer part broke whole went less said = record {
@@ -270,7 +270,7 @@ was-cut_off ended before after mid answer part broke whole went less said = reco
 }
 
 -- all that was put so far went out, and then notes were told of that
-pub went-so_far : (m : Meaning) (ended : Status) (before after : Seen) (mid : Shown) (r : Read) (part : List Put)
+pub went-so_far : (m : Meaning) (ended : Status) (before after : Seen) (mid : SeenStream) (r : Read) (part : List Put)
     → m.may_have_put r part → GoOut (taken_in before) (taken_but_end after mid) part
     → before.notes.faults ≤ mid.faults → TakesThen mid after.notes [] (fault_text ended) → WentOutSoFar m ended before after r
 went-so_far m ended before after mid r part found went less said = record {
@@ -282,7 +282,7 @@ went-so_far m ended before after mid r part found went less said = record {
 }
 
 -- the work was done, behind a text in notes, and there was something to say: it was said, or notes failed
-pub runs-said : (m : Meaning) (before after : Seen) (mid : Shown) (ended wanted : Status) (earlier text : List ℕ)
+pub runs-said : (m : Meaning) (before after : Seen) (mid : SeenStream) (ended wanted : Status) (earlier text : List ℕ)
     → Takes before.notes.bytes mid.bytes earlier → before.notes.faults ≤ mid.faults
     → SaysAtEnd ended wanted mid after.notes text
     → text ≢ [] → IsWhole wanted → wanted ≢ status.Ok → OfSizes m before after (λ sizes. m.may_end sizes wanted (earlier ++ text))
@@ -305,7 +305,7 @@ runs-said m before after mid ended wanted earlier text took less says some whole
 ]
 
 -- a run over the one file that was handed in
-pub runs-one_file : {X : Type 0} (show : X → ShownFile) (files : List X) (x then : X) (m : Meaning) (before after : Seen) (ended : Status)
+pub runs-one_file : {X : Type 0} (show : X → SeenFile) (files : List X) (x then : X) (m : Meaning) (before after : Seen) (ended : Status)
     → 1 ≡ length files
     → Runs m (record before { files = show (get_or files 0 x) ∷ [] }) (record after { files = show then ∷ [] }) ended
     → Runs m (record before { files = map show files }) (record after { files = map show (set files 0 then) }) ended

@@ -10,7 +10,7 @@ use Rattle.run_answers.specs.Answers.{Answer}
 use Rattle.run_answers.specs.FileAnswers.{OfFile, IsInReach, IsTooLong, limit_text}
 use Rattle.run_answers.specs.Meanings.{Meaning}
 use Rattle.run_answers.specs.Statuses.{fault_text}
-use Rattle.run_answers.specs.Runs.{Shown, IsCutShort, SaysAtEnd, TakesThen, FailedToSay}
+use Rattle.run_answers.specs.Runs.{SeenStream, IsCutShort, SaysAtEnd, TakesThen, FailedToSay}
 use Rattle.run_answers.specs.PutSoFar.{HasBrokenOff, HasPut, HasPutFront}
 use Rattle.run_answers.specs.declared.ending.Cut.TheVariants as cut
 use Rattle.run_answers.specs.declared.ending.Ending.TheVariants as end
@@ -89,7 +89,7 @@ HasPutAtEnd ends P (Ok x) file before after held = HasPut P file before after he
 HasPutAtEnd ends P (Err why) file before after held = HasPutEarly ends.text ends.status P why file before after held
 
 -- what is said of the end in notes, and the status
-abbrev pub SaysEnd : {X W : Type 0} → Endings X W → Result X (Ending W) → Status → Shown → Shown → Type 0
+abbrev pub SaysEnd : {X W : Type 0} → Endings X W → Result X (Ending W) → Status → SeenStream → SeenStream → Type 0
 SaysEnd ends (Ok x) ended before after = (ended ≡ ends.done x) × (after ≡ before)
 SaysEnd ends (Err end.Limit) ended before after = SaysAtEnd ended status.Limit before after limit_text
 SaysEnd ends (Err (end.At w)) ended before after = SaysAtEnd ended (ends.status w) before after (ends.text w)

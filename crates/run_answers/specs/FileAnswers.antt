@@ -1,5 +1,6 @@
 -- What is answered of the one file that a command reads, and what it may take of it. Own.
 use Rattle.std.specs.Prelude.{◌≡◌, ℕ, ◌^◌, ◌<◌, ◌≤◌, ◌⊎◌, true, Option, IsSomeAnd, List, [], ◌∷◌, ◌++◌, length, decimal}
+use Rattle.std.specs.List.{concat}
 use lib.Chars.{codes}
 use Rattle.record_io.specs.Puts.{Put}
 use Rattle.record_values.specs.declared.file_totals.Totals.{Totals}
@@ -14,10 +15,13 @@ count_line name number = line (name ++ 32 ∷ decimal number)
 -- the report of a file's totals
 abbrev pub report : Totals → List ℕ
 report totals =
+    concat (
     count_line (codes "chunks") totals.chunks
-    ++ count_line (codes "records") totals.records
-    ++ count_line (codes "bytes") totals.bytes
-    ++ count_line (codes "unread") totals.unread
+    ∷ count_line (codes "records") totals.records
+    ∷ count_line (codes "bytes") totals.bytes
+    ∷ count_line (codes "unread") totals.unread
+    ∷ []
+    )
 
 -- how many bytes a record file may have that is read
 abbrev pub most_file_bytes : ℕ

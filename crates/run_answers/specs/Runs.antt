@@ -12,38 +12,38 @@ use Rattle.run_answers.specs.Meanings.{Uses, Read, Meaning}
 use Rattle.run_answers.specs.declared.status.Status.TheVariants as status
 
 -- what a stream shows: the bytes that an input has left or that a sink took, where it tells them, and its count of faults
-pub record Shown : Type 0 where
+pub record SeenStream : Type 0 where
   pub bytes : Option (List ℕ)
   pub faults : ℕ
 
-abbrev pub shown : {X : Type 0} → (X → Option (List ℕ)) → (X → ℕ) → X → Shown
-shown bytes faults x = record { bytes = bytes x; faults = faults x }
+abbrev pub seen_stream : {X : Type 0} → (X → Option (List ℕ)) → (X → ℕ) → X → SeenStream
+seen_stream bytes faults x = record { bytes = bytes x; faults = faults x }
 
 -- what stands where a clause says what is shown
-abbrev pub unseen : Shown
+abbrev pub unseen : SeenStream
 unseen = record { bytes = None; faults = 0 }
 
 -- what a file shows: its bytes, where it tells them, the size that it told the last time, how many bytes it handed out, and its
 -- count of faults
-pub record ShownFile : Type 0 where
+pub record SeenFile : Type 0 where
   pub bytes : Option (List ℕ)
   pub told : Option ℕ
   pub handed : ℕ
   pub faults : ℕ
 
-abbrev pub shown_file : {X : Type 0} → (X → Option (List ℕ)) → (X → Option ℕ) → (X → ℕ) → (X → ℕ) → X → ShownFile
-shown_file bytes told handed faults x = record { bytes = bytes x; told = told x; handed = handed x; faults = faults x }
+abbrev pub seen_file : {X : Type 0} → (X → Option (List ℕ)) → (X → Option ℕ) → (X → ℕ) → (X → ℕ) → X → SeenFile
+seen_file bytes told handed faults x = record { bytes = bytes x; told = told x; handed = handed x; faults = faults x }
 
 -- what the objects of a run show
 pub record Seen : Type 0 where
-  pub input : Shown
-  pub files : List ShownFile
-  pub made : Shown
-  pub grown : ShownFile
-  pub out : Shown
-  pub notes : Shown
+  pub input : SeenStream
+  pub files : List SeenFile
+  pub made : SeenStream
+  pub grown : SeenFile
+  pub out : SeenStream
+  pub notes : SeenStream
 
-abbrev pub seen : (input : Shown) (files : List ShownFile) (made : Shown) (grown : ShownFile) (out notes : Shown) → Seen
+abbrev pub seen : (input : SeenStream) (files : List SeenFile) (made : SeenStream) (grown : SeenFile) (out notes : SeenStream) → Seen
 seen input files made grown out notes =
     record { input = input; files = files; made = made; grown = grown; out = out; notes = notes }
 
@@ -77,9 +77,9 @@ IsCutShort status.Memory = Unit {0}
 IsCutShort other = ⊥
 
 -- the count of faults of one of the files rose
-abbrev pub OneRose : List ShownFile → List ShownFile → Type 0
+abbrev pub OneRose : List SeenFile → List SeenFile → Type 0
 OneRose before after =
-    (place : ℕ) × (a : ShownFile) × (b : ShownFile)
+    (place : ℕ) × (a : SeenFile) × (b : SeenFile)
     × (slice_get before place ≡ Some a) × (slice_get after place ≡ Some b) × Rose a.faults b.faults
 
 -- no object that is used had a fault
@@ -125,7 +125,7 @@ pub record OfSizes (m : Meaning) (before after : Seen) (P : List ℕ → Type 0)
   pub holds : P sizes
 
 -- how many bytes files have handed out
-abbrev pub handed_by : List ShownFile → List ℕ
+abbrev pub handed_by : List SeenFile → List ℕ
 handed_by files = map (λ file. file.handed) files
 
 -- what the sinks of a run have taken
@@ -142,13 +142,13 @@ abbrev pub first_lines : ℕ → List ℕ → List ℕ
 first_lines count text = flat_map line (take count (lines text))
 
 -- a sink took a text and then a line, or where its count of faults rose a front of that line
-abbrev pub TakesThen : Shown → Shown → List ℕ → List ℕ → Type 0
+abbrev pub TakesThen : SeenStream → SeenStream → List ℕ → List ℕ → Type 0
 TakesThen before after text last =
     (part : List ℕ) × Takes before.bytes after.bytes (text ++ part)
     × ((part ≡ last) ⊎ (Rose before.faults after.faults × (n : ℕ) × (part ≡ take n last)))
 
 -- the work ended with a status and its text, or with that of a fault of notes, which took a front of the text
-abbrev pub SaysAtEnd : Status → Status → Shown → Shown → List ℕ → Type 0
+abbrev pub SaysAtEnd : Status → Status → SeenStream → SeenStream → List ℕ → Type 0
 SaysAtEnd ended wanted before after text =
     ((ended ≡ wanted) × Takes before.bytes after.bytes text)
     ⊎ ((ended ≡ status.Notes) × Rose before.faults after.faults × TakesFront before.bytes after.bytes text)
@@ -204,7 +204,7 @@ HasCause other m before after = Unit {0}
 -- no count of faults fell
 pub record NoneFell (before after : Seen) : Type 0 where
   pub input : before.input.faults ≤ after.input.faults
-  pub files : (place : ℕ) (a b : ShownFile) → slice_get before.files place ≡ Some a → slice_get after.files place ≡ Some b → a.faults ≤ b.faults
+  pub files : (place : ℕ) (a b : SeenFile) → slice_get before.files place ≡ Some a → slice_get after.files place ≡ Some b → a.faults ≤ b.faults
   pub made : before.made.faults ≤ after.made.faults
   pub grown : before.grown.faults ≤ after.grown.faults
   pub out : before.out.faults ≤ after.out.faults
@@ -242,7 +242,7 @@ pub record Runs (m : Meaning) (before after : Seen) (ended : Status) : Type 0 wh
   pub handed_of : IfRead m before (λ r. m.may_take_of r (handed_by before.files) (handed_by after.files))
   pub grown_handed : (after.grown.handed ≡ before.grown.handed) ⊎ ((m.uses.grown ≡ true) × OfSizes m before after m.may_work)
   -- in their order: behind a file that told no size none is asked
-  pub in_order : (place : ℕ) (file : ShownFile) → slice_get after.files place ≡ Some file → file.told ≡ None
+  pub in_order : (place : ℕ) (file : SeenFile) → slice_get after.files place ≡ Some file → file.told ≡ None
       → drop (place + 1) after.files ≡ drop (place + 1) before.files
   -- what notes took, also where nobody tells what was read
   pub end_said : IsWhole ended

@@ -9,6 +9,6 @@ mod status;
 
 pub use ending::{Cut, Ending, unprinted};
 pub use notes::{LINE, cut_off, end, end_with_number};
-pub use reports::put_report;
+pub use reports::{put_counts, put_report};
 pub use sizes::{SizeEnd, size_of};
 pub use status::Status;

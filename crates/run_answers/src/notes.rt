@@ -2,7 +2,7 @@ ghost use Rattle.std.specs.Prelude.{◌≡◌, ◌++◌, [], decimal};
 ghost use Rattle.record_io.specs.Calls.{OnlyCounts, PutsTo};
 ghost use Rattle.run_answers.specs.Answers.{line};
 ghost use Rattle.run_answers.specs.Endings.{status_of};
-ghost use Rattle.run_answers.specs.Runs.{SaysAtEnd, TakesThen, shown};
+ghost use Rattle.run_answers.specs.Runs.{SaysAtEnd, TakesThen, seen_stream};
 ghost use Rattle.run_answers.specs.Statuses.{fault_text};
 
 use crate::ending::Cut;
@@ -15,8 +15,8 @@ pub const LINE: usize = 128;
 
 /// Ends the work with a text and its status, or with that of a fault of notes.
 pub fn end<E: Sink>(notes: &mut E, text: &str, status: Status) -> Status
-    ensures told { SaysAtEnd result status (shown E.taken E.faults notes.old)
-        (shown E.taken E.faults notes.new) text.now }
+    ensures told { SaysAtEnd result status (seen_stream E.taken E.faults notes.old)
+        (seen_stream E.taken E.faults notes.new) text.now }
     ensures notes { OnlyCounts E.lent E.faults ⊥ notes.old notes.new }
 {
     match put_all(notes, text.as_bytes()) {
@@ -27,8 +27,8 @@ pub fn end<E: Sink>(notes: &mut E, text: &str, status: Status) -> Status
 
 /// The same with a line of a text and a number.
 pub fn end_with_number<E: Sink>(notes: &mut E, text: &str, number: u64, status: Status) -> Status
-    ensures told { SaysAtEnd result status (shown E.taken E.faults notes.old)
-        (shown E.taken E.faults notes.new) (line (text.now ++ decimal number)) }
+    ensures told { SaysAtEnd result status (seen_stream E.taken E.faults notes.old)
+        (seen_stream E.taken E.faults notes.new) (line (text.now ++ decimal number)) }
     ensures notes { OnlyCounts E.lent E.faults ⊥ notes.old notes.new }
 {
     match put_number(notes, text, number) {
@@ -51,8 +51,8 @@ fn put_number<E: Sink>(notes: &mut E, text: &str, number: u64) -> Result<(), Fai
 /// Ends the work that was cut off, with the line that tells it. The status stays where notes fail too.
 pub fn cut_off<E: Sink>(notes: &mut E, cut: Cut) -> Status
     ensures status { result ≡ status_of cut }
-    ensures told { TakesThen (shown E.taken E.faults notes.old)
-        (shown E.taken E.faults notes.new) [] (fault_text (status_of cut)) }
+    ensures told { TakesThen (seen_stream E.taken E.faults notes.old)
+        (seen_stream E.taken E.faults notes.new) [] (fault_text (status_of cut)) }
     ensures kept { cut ≡ Cut.Notes → notes.new ≡ notes.old }
     ensures notes { OnlyCounts E.lent E.faults ⊥ notes.old notes.new }
 {

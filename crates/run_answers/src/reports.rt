@@ -1,32 +1,58 @@
-ghost use Rattle.record_io.specs.Calls.{PutsTo};
-ghost use Rattle.run_answers.specs.FileAnswers.{report};
+ghost use Rattle.std.specs.Prelude.{map};
+ghost use Rattle.std.specs.List.{concat};
+ghost use Rattle.record_io.specs.Calls.{PutsTo, PutsThrough};
+ghost use Rattle.run_answers.specs.FileAnswers.{count_line, report};
 
 use itoa::Buffer;
 use record_io::{Failed, PutBuffer, Sink, Totals};
 
-/// The most bytes of a report, of which a quarter holds each of its parts.
-const REPORT: usize = 256;
+/// How many bytes of lines are held, of which a quarter holds each of their parts.
+const HELD: usize = 256;
 
 /// Puts the report of totals.
 pub fn put_report<O: Sink>(totals: &Totals, out: &mut O) -> Result<(), Failed>
     ensures out { PutsTo O.taken O.lent O.faults result (report totals.now) out.old out.new }
 {
-    let mut lines = PutBuffer::<REPORT>::new();
-    let mut chunks = Buffer::new();
-    let mut records = Buffer::new();
-    let mut bytes = Buffer::new();
-    let mut unread = Buffer::new();
+    let counts = [
+        ("chunks", totals.chunks),
+        ("records", totals.records),
+        ("bytes", totals.bytes),
+        ("unread", totals.unread),
+    ];
+    put_counts(&counts, out)
+}
+
+/// Puts numbers, each as a line behind its name.
+///
+/// # Errors
+///
+/// `Failed` only where the sink failed. It took a front of the lines.
+pub fn put_counts<O: Sink>(counts: &[(&str, u64)], out: &mut O) -> Result<(), Failed>
+    ensures out { PutsTo O.taken O.lent O.faults result
+        (concat (map (λ count. count_line count.0.now count.1) counts.now)) out.old out.new }
+{
+    let mut lines = PutBuffer::<HELD>::new();
+    for count in counts {
+        put_count(&mut lines, count.0, count.1, out)?;
+    }
+    lines.flush(out)
+}
+
+/// Puts a number as a line behind its name, by way of lines that are held.
+fn put_count<O: Sink>(
+    lines: &mut PutBuffer<HELD>,
+    name: &str,
+    number: u64,
+    out: &mut O,
+) -> Result<(), Failed>
+    ensures out { PutsThrough O.taken O.lent O.faults result lines.old lines.new (count_line name.now number) out.old out.new }
+{
+    let mut digits = Buffer::new();
     let pieces = [
-        "chunks ".as_bytes(),
-        chunks.format(totals.chunks).as_bytes(),
-        "\nrecords ".as_bytes(),
-        records.format(totals.records).as_bytes(),
-        "\nbytes ".as_bytes(),
-        bytes.format(totals.bytes).as_bytes(),
-        "\nunread ".as_bytes(),
-        unread.format(totals.unread).as_bytes(),
+        name.as_bytes(),
+        " ".as_bytes(),
+        digits.format(number).as_bytes(),
         "\n".as_bytes(),
     ];
-    lines.put_each(out, &pieces)?;
-    lines.flush(out)
+    lines.put_each(out, &pieces)
 }

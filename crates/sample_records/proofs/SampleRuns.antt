@@ -9,7 +9,7 @@ use Rattle.run_answers.specs.declared.ending.Cut.{Cut}
 use Rattle.run_answers.specs.declared.status.Status.{Status}
 use Rattle.run_answers.specs.Endings.{status_of}
 use Rattle.run_answers.specs.Statuses.{fault_text}
-use Rattle.run_answers.specs.Runs.{Shown, ShownFile, Seen, seen, IsCutOff, IsCutShort, Breaks, TakesThen, HasCause, Runs}
+use Rattle.run_answers.specs.Runs.{SeenStream, SeenFile, Seen, seen, IsCutOff, IsCutShort, Breaks, TakesThen, HasCause, Runs}
 use Rattle.run_answers.proofs.RunEnds.{Keeps, OfSizes-unread, PutsLines-none, was-cut_off, went-so_far, runs-whole, runs-cut_off}
 use Rattle.run_answers.proofs.TwoStreams.{bytes_to-neither}
 use Rattle.sample_records.specs.declared.sample_words.SampleWords.{SampleWords}
@@ -19,7 +19,7 @@ use Rattle.sample_records.proofs.SummaryLines.{summary-some}
 use Rattle.run_answers.specs.declared.ending.Cut.TheVariants as cut
 use Rattle.run_answers.specs.declared.status.Status.TheVariants as status
 
-module _ (words : SampleWords) (input : Shown) (files : List ShownFile) (made made_then : Shown) (grown : ShownFile) (out out_then notes notes_then : Shown)
+module _ (words : SampleWords) (input : SeenStream) (files : List SeenFile) (made made_then : SeenStream) (grown : SeenFile) (out out_then notes notes_then : SeenStream)
     (keeps : Keeps (sample_meaning words) (seen input files made grown out notes) (seen input files made_then grown out_then notes_then)) where
   abbrev Before : Seen
   Before = seen input files made grown out notes
@@ -45,13 +45,13 @@ module _ (words : SampleWords) (input : Shown) (files : List ShownFile) (made ma
       (GoOut-out made_then.bytes out.bytes out_then.bytes notes.bytes (sample_summary words) printed) in
       runs-whole (sample_meaning words) Before After status.Ok [] tt
       (OfSizes-unread (sample_meaning words) Before After (λ sizes. (sample_meaning words).may_end sizes status.Ok []) refl refl (refl, refl))
-      (subst (λ (n : Shown). Takes notes.bytes n.bytes []) (sym kept) (Takes-nothing notes.bytes))
+      (subst (λ (n : SeenStream). Takes notes.bytes n.bytes []) (sym kept) (Takes-nothing notes.bytes))
       (λ r is. (
         sample_answer words,
         refl,
         record {
           same_status = refl;
-          went = subst (λ (n : Shown). GoOut (taken_by made.bytes out.bytes notes.bytes) (taken_by made_then.bytes out_then.bytes n.bytes) (sample_answer words).puts) (sym kept) went;
+          went = subst (λ (n : SeenStream). GoOut (taken_by made.bytes out.bytes notes.bytes) (taken_by made_then.bytes out_then.bytes n.bytes) (sample_answer words).puts) (sym kept) went;
         },
       ))
       (λ _ none. absurd (cc none)) (λ none. absurd (cc none)) tt keeps

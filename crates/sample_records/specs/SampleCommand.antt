@@ -1,5 +1,6 @@
 -- What `sample` makes, prints and ends with. Own.
-use Rattle.std.specs.Prelude.{◌≡◌, ℕ, true, List, [], ◌++◌, length, take}
+use Rattle.std.specs.Prelude.{◌≡◌, ℕ, true, List, [], ◌∷◌, ◌++◌, length, take}
+use Rattle.std.specs.List.{concat}
 use lib.Chars.{codes}
 use Rattle.record_io.specs.Puts.{Put, Made, Out, puts_to}
 use Rattle.record_writer.specs.Written.{file_under}
@@ -20,7 +21,7 @@ sample_file words = file_under words.options (sampled words)
 
 -- how many records and bytes a file has, each as a line
 abbrev pub summary : (records bytes : ℕ) → List ℕ
-summary records bytes = count_line (codes "records") records ++ count_line (codes "bytes") bytes
+summary records bytes = concat (count_line (codes "records") records ∷ count_line (codes "bytes") bytes ∷ [])
 
 -- that of the file
 abbrev pub sample_summary : SampleWords → List ℕ

@@ -1,22 +1,18 @@
 ghost use Rattle.std.specs.Prelude.{◌≡◌, ◌≤◌, ◌⊎◌, Err};
-ghost use Rattle.record_io.specs.Calls.{OnlyCounts, PutsTo};
+ghost use Rattle.record_io.specs.Calls.{OnlyCounts};
 ghost use Rattle.record_writer.specs.Written.{AreInLimits};
-ghost use Rattle.run_answers.specs.Runs.{Runs, Seen, shown};
-ghost use Rattle.sample_records.specs.SampleCommand.{sample_meaning, summary};
+ghost use Rattle.run_answers.specs.Runs.{Runs, Seen, seen_stream};
+ghost use Rattle.sample_records.specs.SampleCommand.{sample_meaning};
 ghost use Rattle.sample_records.specs.SampleEnds.{TakeSample};
 ghost use Rattle.sample_records.specs.SampleWords.{most_records};
 
 use crate::sample_feed::SampleFeed;
 use crate::sample_words::SampleWords;
-use itoa::Buffer;
-use record_io::{Failed, PutBuffer, Sink, Totals};
+use record_io::{Failed, Sink};
 use record_writer::{WriteEnd, write_records};
-use run_answers::{Cut, Status, cut_off};
+use run_answers::{Cut, Status, cut_off, put_counts};
 use std::alloc::Global;
 use std::thread::Threads;
-
-/// The most bytes of a summary, of which a quarter holds each of its parts.
-const SUMMARY: usize = 128;
 
 /// Writes the file of the records of a seed and then prints how many records and bytes it has, or says in notes why it ended
 /// before that: the made file or standard output failed, or memory was short.
@@ -31,8 +27,8 @@ pub fn sample<R: Threads + Sync, M: Sink + Send, O: Sink, E: Sink>(
     requires in_limits { AreInLimits words.now.options }
     requires most { words.now.count ≤ most_records }
     ensures runs { (others : Seen) → Runs (sample_meaning words.now)
-        (record others { made = shown M.taken M.faults made.old; out = shown O.taken O.faults out.old; notes = shown E.taken E.faults notes.old })
-        (record others { made = shown M.taken M.faults made.new; out = shown O.taken O.faults out.new; notes = shown E.taken E.faults notes.new })
+        (record others { made = seen_stream M.taken M.faults made.old; out = seen_stream O.taken O.faults out.old; notes = seen_stream E.taken E.faults notes.old })
+        (record others { made = seen_stream M.taken M.faults made.new; out = seen_stream O.taken O.faults out.new; notes = seen_stream E.taken E.faults notes.new })
         result }
     ensures notes_kept { result ≡ Status.Ok → notes.new ≡ notes.old }
 {
@@ -61,7 +57,8 @@ fn make_sample<R: Threads + Sync, M: Sink + Send, O: Sink>(
         Ok(totals) => totals,
         Err(end) => return Err(cut_of(end)),
     };
-    match put_summary(&totals, out) {
+    let counts = [("records", totals.records), ("bytes", totals.bytes)];
+    match put_counts(&counts, out) {
         Ok(()) => Ok(()),
         Err(Failed) => Err(Cut::Out),
     }
@@ -78,22 +75,4 @@ fn cut_of(end: WriteEnd) -> Cut
         WriteEnd::Memory => Cut::Memory,
         _ => unreachable!(),
     }
-}
-
-/// Prints how many records and bytes there are.
-fn put_summary<O: Sink>(totals: &Totals, out: &mut O) -> Result<(), Failed>
-    ensures out { PutsTo O.taken O.lent O.faults result (summary totals.now.records totals.now.bytes) out.old out.new }
-{
-    let mut lines = PutBuffer::<SUMMARY>::new();
-    let mut records = Buffer::new();
-    let mut bytes = Buffer::new();
-    let pieces = [
-        "records ".as_bytes(),
-        records.format(totals.records).as_bytes(),
-        "\nbytes ".as_bytes(),
-        bytes.format(totals.bytes).as_bytes(),
-        "\n".as_bytes(),
-    ];
-    lines.put_each(out, &pieces)?;
-    lines.flush(out)
 }

@@ -10,7 +10,7 @@ use Rattle.run_answers.specs.declared.status.Status.{Status}
 use Rattle.run_answers.specs.Answers.{Answer}
 use Rattle.run_answers.specs.Endings.{Endings, IsAllowedEnd, IsShort, HasPutAtEnd, SaysEnd}
 use Rattle.run_answers.specs.Meanings.{Meaning}
-use Rattle.run_answers.specs.Runs.{Shown, ShownFile, seen, Runs}
+use Rattle.run_answers.specs.Runs.{SeenStream, SeenFile, seen, Runs}
 use Rattle.run_answers.specs.PutSoFar.{HasPutSoFar}
 use Rattle.show_files.specs.ReadingEnds.{reading_ends}
 use Rattle.show_files.specs.Readings.{MayEndReading, refused_text}
@@ -64,7 +64,7 @@ verify_reads =
     (reads_file IsVerified IsVerifiedSoFar _ _ _ _ refl refl refl refl) (λ sizes ended text may. may) refl (λ text is. is) refl
 
 module _ {X W : Type 0} {ends : Endings X W} (m : Meaning) (P : List ℕ → Answer → Type 0) (Q : List ℕ → List Put → Type 0) (reads : IsReading m ends P Q)
-    (input made : Shown) (file file_then grown : ShownFile) (out out_then notes notes_then : Shown)
+    (input made : SeenStream) (file file_then grown : SeenFile) (out out_then notes notes_then : SeenStream)
     (keeps : Keeps m (seen input (file ∷ []) made grown out notes) (seen input (file_then ∷ []) made grown out_then notes_then)) where
   abbrev Start : Taken
   Start = taken_by made.bytes out.bytes notes.bytes

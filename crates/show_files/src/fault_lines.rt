@@ -1,7 +1,7 @@
 ghost use Rattle.record_io.specs.Calls.{OnlyCounts, PutsTo};
 ghost use Rattle.run_answers.specs.Answers.{line};
 ghost use Rattle.show_files.specs.Readings.{refused_text};
-ghost use Rattle.run_answers.specs.Runs.{SaysAtEnd, shown};
+ghost use Rattle.run_answers.specs.Runs.{SaysAtEnd, seen_stream};
 
 use chunk_reader::Fault;
 use itoa::Buffer;
@@ -10,8 +10,8 @@ use run_answers::{LINE, Status};
 
 /// Ends the work with the line of a fault of a file, which is refused.
 pub fn end_with_fault<E: Sink>(notes: &mut E, fault: &Fault) -> Status
-    ensures told { SaysAtEnd result Status.Refused (shown E.taken E.faults notes.old)
-        (shown E.taken E.faults notes.new) (refused_text fault.now) }
+    ensures told { SaysAtEnd result Status.Refused (seen_stream E.taken E.faults notes.old)
+        (seen_stream E.taken E.faults notes.new) (refused_text fault.now) }
     ensures notes { OnlyCounts E.lent E.faults ⊥ notes.old notes.new }
 {
     match put_fault(notes, fault) {

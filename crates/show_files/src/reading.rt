@@ -1,7 +1,7 @@
 ghost use Rattle.std.specs.Prelude.{◌≡◌};
 ghost use Rattle.record_io.specs.Calls.{OnlyCounts};
 ghost use Rattle.run_answers.specs.Endings.{SaysEnd};
-ghost use Rattle.run_answers.specs.Runs.{shown};
+ghost use Rattle.run_answers.specs.Runs.{seen_stream};
 ghost use Rattle.show_files.specs.ReadingEnds.{reading_ends};
 
 use crate::fault_lines::end_with_fault;
@@ -11,8 +11,8 @@ use run_answers::{Ending, Status, cut_off, end};
 
 /// Says in notes why the work ended before it was done.
 pub(crate) fn end_reading<E: Sink>(ended: Result<(), Ending<Fault>>, notes: &mut E) -> Status
-    ensures told { SaysEnd reading_ends ended result (shown E.taken E.faults notes.old)
-        (shown E.taken E.faults notes.new) }
+    ensures told { SaysEnd reading_ends ended result (seen_stream E.taken E.faults notes.old)
+        (seen_stream E.taken E.faults notes.new) }
     ensures notes_kept { result ≡ Status.Ok → notes.new ≡ notes.old }
     ensures notes { OnlyCounts E.lent E.faults ⊥ notes.old notes.new }
 {

@@ -5,7 +5,7 @@ ghost use Rattle.run_answers.specs.Endings.{HasPutAtEnd, IsAllowedEnd, IsShort};
 ghost use Rattle.run_answers.specs.FileAnswers.{HandsOut, report};
 ghost use Rattle.show_files.specs.ReadingEnds.{reading_ends};
 ghost use Rattle.show_files.specs.VerifyCommand.{IsVerified, verify_meaning};
-ghost use Rattle.run_answers.specs.Runs.{Runs, Seen, shown, shown_file};
+ghost use Rattle.run_answers.specs.Runs.{Runs, Seen, seen_stream, seen_file};
 
 use crate::reading::end_reading;
 use chunk_reader::{Fault, VerifyEnd};
@@ -15,8 +15,8 @@ use run_answers::{Cut, Ending, Status, put_report, size_of};
 /// Judges a file and prints the report of its totals, or says in notes why it is refused. It takes no memory.
 pub fn verify<S: Store, O: Sink, E: Sink>(file: &mut S, out: &mut O, notes: &mut E) -> Status
     ensures runs { (others : Seen) → Runs verify_meaning
-        (record others { files = shown_file S.bytes S.told S.handed S.faults file.old ∷ []; out = shown O.taken O.faults out.old; notes = shown E.taken E.faults notes.old })
-        (record others { files = shown_file S.bytes S.told S.handed S.faults file.new ∷ []; out = shown O.taken O.faults out.new; notes = shown E.taken E.faults notes.new })
+        (record others { files = seen_file S.bytes S.told S.handed S.faults file.old ∷ []; out = seen_stream O.taken O.faults out.old; notes = seen_stream E.taken E.faults notes.old })
+        (record others { files = seen_file S.bytes S.told S.handed S.faults file.new ∷ []; out = seen_stream O.taken O.faults out.new; notes = seen_stream E.taken E.faults notes.new })
         result }
     ensures same_bytes { S.bytes file.new ≡ S.bytes file.old }
     ensures same_name { S.name file.new ≡ S.name file.old }

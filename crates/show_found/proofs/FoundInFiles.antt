@@ -16,7 +16,7 @@ use Rattle.record_seek.specs.Met.{IsMetFault}
 use Rattle.record_seek.proofs.Finding.{told-met}
 use Rattle.record_seek.proofs.FirstRecords.{first_record, held_number, none_answers, placed-of}
 use Rattle.record_seek.proofs.MetPlaces.{no_met_fault}
-use Rattle.record_seek.proofs.OneHolder.{verdict_passing}
+use Rattle.record_seek.proofs.OneHolder.{verdict_unpassed}
 use Rattle.run_answers.specs.Answers.{Answer}
 use Rattle.show_found.specs.ByteOrder.{IsBelow}
 use Rattle.show_found.specs.SeekCommand.{IsSeekAnswer, found_answer}
@@ -41,7 +41,7 @@ search_met file position fault (inl (inr (way, first))) =
       places = way.places;
       between = way.between;
       below = omega (arith, way.before, way.below);
-      verdict = verdict_passing file fault first;
+      verdict = verdict_unpassed file fault first;
     })
 search_met file position fault (inr (inl (searched, below, first))) =
     let way = searched.holds.on_way in
@@ -51,7 +51,7 @@ search_met file position fault (inr (inl (searched, below, first))) =
       places = way.places ++ searched.places;
       between = between-join file way.places searched.places way.begin searched.holder fault.at way.between searched.between;
       below = below;
-      verdict = verdict_passing file fault first;
+      verdict = verdict_unpassed file fault first;
     })
 search_met file position fault (inr (inr (place, answers, verdict))) =
     let way = answers.searched.holds.on_way in

@@ -1,7 +1,7 @@
 -- How a run of `seek` ends, by how its work ended.
 use Rattle.std.proofs.Common.{◌≡◌, ℕ, IfSome, List, [], ◌∷◌, refl, inl, inr}
 use Rattle.std.proofs.lemmas.Option.{MatchOption-at_some}
-use Rattle.run_answers.specs.Runs.{Shown, ShownFile, seen, IfRead}
+use Rattle.run_answers.specs.Runs.{SeenStream, SeenFile, seen, IfRead}
 use Rattle.run_answers.proofs.FileEnds.{EndsWhole, MayEndInReach}
 use Rattle.run_answers.proofs.FileRuns.{ReadsFile, told-files}
 use Rattle.show_files.proofs.ReadingRuns.{IsReading}
@@ -59,7 +59,7 @@ seek_reads words = record {
 }
 
 -- what it takes of the file that it reads
-pub seek_takes : (words : SeekWords) (input made : Shown) (file grown : ShownFile) (out notes : Shown) (after : ℕ)
+pub seek_takes : (words : SeekWords) (input made : SeenStream) (file grown : SeenFile) (out notes : SeenStream) (after : ℕ)
     → IfSome file.bytes (λ bytes. TakesOf words.by bytes file.handed after)
     → IfRead (seek_meaning words) (seen input (file ∷ []) made grown out notes) (λ r. MayTakeOf words.by r.files (file.handed ∷ []) (after ∷ []))
 seek_takes words input made file grown out notes after takes =

@@ -5,11 +5,11 @@ use std::marker::Model;
 
 /// A key that records are compared with in byte order. Contracts see its bytes, which stand in a word.
 #[derive(Debug, Drop)]
-pub struct Key<'a> {
+pub struct SearchKey<'a> {
     text: &'a str,
 }
 
-impl<'a> Model for Key<'a> {
+impl<'a> Model for SearchKey<'a> {
     ghost use Rattle.std.specs.Prelude.{List, ℕ};
 
     ghost Value = { List ℕ };
@@ -17,12 +17,12 @@ impl<'a> Model for Key<'a> {
     ghost view = { λ key. key.text.now };
 }
 
-impl<'a> Key<'a> {
+impl<'a> SearchKey<'a> {
     /// The key of a text.
-    pub(crate) fn new(text: &'a str) -> Key<'a>
+    pub(crate) fn new(text: &'a str) -> SearchKey<'a>
         ensures { result ≡ text.now }
     {
-        Key { text }
+        SearchKey { text }
     }
 
     /// Whether bytes are less than the key's.

@@ -6,7 +6,7 @@ ghost use Rattle.show_found.specs.ByteOrder.{is_below};
 ghost use Rattle.show_found.specs.Searches.{MayFind, IsKeyFault, MayGive, MayRefuse, TakesOf, TakesBySize};
 ghost use Rattle.show_found.specs.declared.seek_words.By.TheVariants as by;
 
-use crate::key::Key;
+use crate::key::SearchKey;
 use crate::seek_words::By;
 use chunk_reader::ReadEnd;
 use record_io::Store;
@@ -39,7 +39,7 @@ fn find_key<S: Store>(
     alloc: Global,
     file: &mut S,
     size: u64,
-    key: &Key,
+    key: &SearchKey,
 ) -> Result<Option<Found>, ReadEnd>
     requires told { S.told file.old ≡ Some size }
     requires in_reach { size ≤ 2 ^ 60 }

@@ -2,7 +2,7 @@ ghost use Rattle.std.specs.Prelude.{◌≡◌, map};
 ghost use Rattle.std.specs.String.{string_bytes};
 ghost use Rattle.show_found.specs.SeekWords.{sought_of, seek_words_of};
 
-pub use crate::key::Key;
+pub use crate::key::SearchKey;
 use word_options::{are_words_of, only_file, optional_number, value_given};
 
 /// What `seek` looks for.
@@ -11,7 +11,7 @@ pub enum By<'a> {
     /// The first record at or past a position.
     At(u64),
     /// A record that isn't less than a key, behind one that is.
-    Key(Key<'a>),
+    Key(SearchKey<'a>),
 }
 
 /// What the words of `seek` say.
@@ -46,7 +46,7 @@ fn sought<'a>(words: &'a [String]) -> Option<By<'a>>
     let position = optional_number("--at=", words, 0, u64::MAX)?;
     match (position, value_given("--key=", words)) {
         (Some(position), None) => Some(By::At(position)),
-        (None, Some(key)) => Some(By::Key(Key::new(key))),
+        (None, Some(key)) => Some(By::Key(SearchKey::new(key))),
         _ => None,
     }
 }

@@ -3,7 +3,7 @@ ghost use Rattle.record_io.specs.Puts.{taken_by};
 ghost use Rattle.record_io.specs.Calls.{OnlyCounts, PutsTo};
 ghost use Rattle.run_answers.specs.Endings.{HasPutAtEnd, IsAllowedEnd, IsShort, SaysEnd};
 ghost use Rattle.run_answers.specs.FileAnswers.{HandsOut};
-ghost use Rattle.run_answers.specs.Runs.{Runs, Seen, shown, shown_file};
+ghost use Rattle.run_answers.specs.Runs.{Runs, Seen, seen_stream, seen_file};
 ghost use Rattle.show_files.specs.Readings.{record_line};
 ghost use Rattle.show_found.specs.Searches.{TakesOf};
 ghost use Rattle.show_found.specs.SeekCommand.{IsSeekAnswer, found_form, seek_meaning};
@@ -38,8 +38,8 @@ pub fn show_found<S: Store, O: Sink, E: Sink>(
     notes: &mut E,
 ) -> Status
     ensures runs { (others : Seen) → Runs (seek_meaning words.now)
-        (record others { files = shown_file S.bytes S.told S.handed S.faults file.old ∷ []; out = shown O.taken O.faults out.old; notes = shown E.taken E.faults notes.old })
-        (record others { files = shown_file S.bytes S.told S.handed S.faults file.new ∷ []; out = shown O.taken O.faults out.new; notes = shown E.taken E.faults notes.new })
+        (record others { files = seen_file S.bytes S.told S.handed S.faults file.old ∷ []; out = seen_stream O.taken O.faults out.old; notes = seen_stream E.taken E.faults notes.old })
+        (record others { files = seen_file S.bytes S.told S.handed S.faults file.new ∷ []; out = seen_stream O.taken O.faults out.new; notes = seen_stream E.taken E.faults notes.new })
         result }
     ensures same_bytes { S.bytes file.new ≡ S.bytes file.old }
     ensures same_name { S.name file.new ≡ S.name file.old }
@@ -101,8 +101,8 @@ fn put_found<O: Sink>(hex: bool, found: &Found, out: &mut O) -> Result<(), Faile
 
 /// Says in notes why no record was printed.
 fn end_search<E: Sink>(ended: Result<(), Ending<Unfound>>, notes: &mut E) -> Status
-    ensures told { SaysEnd seek_ends ended result (shown E.taken E.faults notes.old)
-        (shown E.taken E.faults notes.new) }
+    ensures told { SaysEnd seek_ends ended result (seen_stream E.taken E.faults notes.old)
+        (seen_stream E.taken E.faults notes.new) }
     ensures notes_kept { result ≡ Status.Ok → notes.new ≡ notes.old }
     ensures notes { OnlyCounts E.lent E.faults ⊥ notes.old notes.new }
 {

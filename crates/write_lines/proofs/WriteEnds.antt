@@ -17,7 +17,7 @@ use Rattle.run_answers.specs.Statuses.{fault_text}
 use Rattle.write_lines.specs.Input.{taken_from}
 use Rattle.run_answers.specs.Answers.{Answer, line}
 use Rattle.write_lines.specs.WriteCommand.{write_meaning, stop_text, stop_status, write_answer}
-use Rattle.run_answers.specs.Runs.{Shown, ShownFile, Seen, seen, IsWhole, IsCutOff, Breaks, TakesThen, SaysAtEnd, HasCause, Runs}
+use Rattle.run_answers.specs.Runs.{SeenStream, SeenFile, Seen, seen, IsWhole, IsCutOff, Breaks, TakesThen, SaysAtEnd, HasCause, Runs}
 use Rattle.run_answers.proofs.RunEnds.{GaveButNotes, Keeps, OfSizes-unread, PutsLines-none, gave-said, was-cut_off, went-so_far, runs-whole, runs-said, runs-cut_off}
 use Rattle.record_writer.specs.declared.engine.WriteEnd.TheVariants as end
 use Rattle.record_writer.specs.declared.feed.Stop.TheVariants as stop
@@ -34,12 +34,12 @@ made-some words bytes = λ none.
     omega (arith, ap length none, length-file_of-signed records words.options.size words.options.every words.options.pad, end_of_chunk-signature)
 
 -- the write engine's answer to an input that tells its bytes, and what the made file took of that file
-pub record Wrote (words : WriteWords) (input made made_then : Shown) (result : Result Totals WriteEnd) : Type 0 where
+pub record Wrote (words : WriteWords) (input made made_then : SeenStream) (result : Result Totals WriteEnd) : Type 0 where
   pub told : (bytes : List ℕ) → input.bytes ≡ Some bytes
       → Answers result words.options (taken_from bytes words.hex (2 ^ 40))
       × TakesFile result made.bytes made_then.bytes (made_of words bytes)
 
-pub wrote : (words : WriteWords) (input made made_then : Shown) (result : Result Totals WriteEnd)
+pub wrote : (words : WriteWords) (input made made_then : SeenStream) (result : Result Totals WriteEnd)
     → IfSome input.bytes (λ bytes. Answers result words.options (taken_from bytes words.hex (2 ^ 40)))
     → IfSome input.bytes (λ bytes. TakesFile result made.bytes made_then.bytes (made_of words bytes))
     → Wrote words input made made_then result
@@ -51,7 +51,7 @@ wrote words input made made_then result answer took = record {
 }
 
 -- the same of an error that is known
-pub wrote-err : (words : WriteWords) (input made made_then : Shown) (known e : WriteEnd)
+pub wrote-err : (words : WriteWords) (input made made_then : SeenStream) (known e : WriteEnd)
     → e ≡ known → Wrote words input made made_then (Err e) → Wrote words input made made_then (Err known)
 wrote-err words input made made_then known e is wrote = subst (λ (x : WriteEnd). Wrote words input made made_then (Err x)) is wrote
 
@@ -70,7 +70,7 @@ all-made words bytes made made_then out notes wanted text stop is ended said too
 }
 
 -- the whole input was written
-pub write-ok : (words : WriteWords) (input input_then : Shown) (files : List ShownFile) (made made_then : Shown) (grown : ShownFile) (out notes : Shown) (totals : Totals)
+pub write-ok : (words : WriteWords) (input input_then : SeenStream) (files : List SeenFile) (made made_then : SeenStream) (grown : SeenFile) (out notes : SeenStream) (totals : Totals)
     → Wrote words input made made_then (Ok totals)
     → IfSome input.bytes (λ _. input_then.bytes ≡ Some [])
     → Keeps (write_meaning words) (seen input files made grown out notes) (seen input_then files made_then grown out notes)
@@ -89,7 +89,7 @@ write-ok words input input_then files made made_then grown out notes totals wrot
     ))
     (λ _ _. read) (λ none. absurd (cc none)) tt keeps
 
-module _ (words : WriteWords) (input input_then : Shown) (files : List ShownFile) (made made_then : Shown) (grown : ShownFile) (out notes notes_then : Shown)
+module _ (words : WriteWords) (input input_then : SeenStream) (files : List SeenFile) (made made_then : SeenStream) (grown : SeenFile) (out notes notes_then : SeenStream)
     (keeps : Keeps (write_meaning words) (seen input files made grown out notes) (seen input_then files made_then grown out notes_then)) where
   abbrev Before : Seen
   Before = seen input files made grown out notes

@@ -1,4 +1,4 @@
-ghost use Rattle.std.specs.Prelude.{◌≡◌, ◌≢◌, ◌+◌, ◌^◌, ◌<◌, ◌≤◌, ℕ, [], ◌∷◌, ◌++◌, Option, Some, true, false, length, take, option_map, unwrap_or, None, Ok, Err, IfOk, IfSome, OnOk, OnErr};
+ghost use Rattle.std.specs.Prelude.{◌≡◌, ◌+◌, ◌^◌, ◌<◌, ◌≤◌, ℕ, [], ◌∷◌, ◌++◌, Option, Some, ◌⊎◌, true, false, length, take, option_map, unwrap_or, None, Ok, Err, IfOk, IfSome, IsErr};
 ghost use Rattle.record_io.specs.Outside.{Rose};
 ghost use Rattle.run_answers.specs.Lines.{NoneEnds};
 ghost use Rattle.write_lines.specs.Input.{line_limit, taken_from};
@@ -132,27 +132,30 @@ impl<'a, I: Source> LineFeed<'a, I> {
     {
         line.clear();
         while self.refill()? {
-            if self.grow(line)? {
-                self.room = line.len();
-                return Ok(true);
+            match self.grow(line)? {
+                Grown::Ended => {
+                    self.room = line.len();
+                    return Ok(true);
+                }
+                Grown::GoesOn => {}
+                Grown::TooLong => return Err(FeedEnd::Stop(Stop::TooLong)),
             }
         }
         Ok(!line.is_empty())
     }
 
-    /// Moves bytes that are held to the end of a line, up to the next byte 10, and answers whether it came.
-    fn grow(&mut self, line: &mut Bytes) -> Result<bool, FeedEnd>
+    /// Moves bytes that are held to the end of a line, up to the next byte 10, unless the line would be too long.
+    fn grow(&mut self, line: &mut Bytes) -> Result<Grown, AllocError>
         requires some { 0 < length self.old.held }
         requires short { length line.old ≤ line_limit self.old.hex }
-        ensures ended { result ≡ Ok true → (n : ℕ) × ((line.new ≡ line.old ++ take n self.old.held)
+        ensures ended { result ≡ Ok Grown.Ended → (n : ℕ) × ((line.new ≡ line.old ++ take n self.old.held)
             × (self.old.held ≡ take n self.old.held ++ 10 ∷ self.new.held) × NoneEnds (take n self.old.held)) }
-        ensures runs { result ≡ Ok false → (line.new ≡ line.old ++ self.old.held) × (self.new.held ≡ [])
+        ensures runs { result ≡ Ok Grown.GoesOn → (line.new ≡ line.old ++ self.old.held) × (self.new.held ≡ [])
             × NoneEnds self.old.held }
+        ensures long { result ≡ Ok Grown.TooLong → (n : ℕ) × (NoneEnds (take n self.old.held)
+            × (n ≤ length self.old.held) × (line_limit self.old.hex < length line.old + n)) }
         ensures short { IfOk result (λ _. length line.new ≤ line_limit self.old.hex) }
-        ensures long { (s : Stop) → result ≡ Err (FeedEnd.Stop s) → (s ≡ Stop.TooLong) × ((n : ℕ) × (NoneEnds (take n self.old.held)
-            × (n ≤ length self.old.held) × (line_limit self.old.hex < length line.old + n))) }
-        ensures sound { result ≢ Err FeedEnd.Failed }
-        ensures kept { OnErr result (self.new.held ≡ self.old.held) }
+        ensures kept { (result ≡ Ok Grown.TooLong) ⊎ IsErr result → self.new.held ≡ self.old.held }
         ensures asking { 0 < self.new.asked }
         ensures same_asked { self.new.asked ≡ self.old.asked }
         ensures same_form { self.new.hex ≡ self.old.hex }
@@ -163,7 +166,7 @@ impl<'a, I: Source> LineFeed<'a, I> {
         let held = self.held.as_slice();
         let piece = &held[..end.unwrap_or(held.len())];
         if piece.len() > most_bytes(self.hex) - line.len() {
-            return Err(FeedEnd::Stop(Stop::TooLong));
+            return Ok(Grown::TooLong);
         }
         if end.is_none() {
             // Where there is no room for as much as the last line, each piece asks for its own.
@@ -173,23 +176,37 @@ impl<'a, I: Source> LineFeed<'a, I> {
         let used = piece.len() + usize::from(end.is_some());
         self.held.skip(used);
         self.seen = 0;
-        Ok(end.is_some())
+        Ok(if end.is_some() {
+            Grown::Ended
+        } else {
+            Grown::GoesOn
+        })
     }
 }
 
-/// Puts the bytes that a line's hexadecimal digits stand for in their place.
-fn decode_digits(alloc: Global, line: &mut Bytes) -> Result<(), FeedEnd>
-    ensures decoded { OnOk result (decode_of line.old ≡ Ok line.new) }
-    ensures bad { (s : Stop) → result ≡ Err (FeedEnd.Stop s) → (s ≡ Stop.BadLine) × ((e : FromHexError) × (decode_of line.old ≡ Err e)) }
-    ensures sound { result ≢ Err FeedEnd.Failed }
+/// What became of a line that was to get more bytes.
+#[derive(Clone, Copy, Debug)]
+enum Grown {
+    /// It is at its end.
+    Ended,
+    /// It has all bytes that were held, and no end yet.
+    GoesOn,
+    /// It would have more bytes than a line may have, and stays as it was.
+    TooLong,
+}
+
+/// Puts the bytes that a line's hexadecimal digits stand for in their place, and answers whether it has such digits.
+fn decode_digits(alloc: Global, line: &mut Bytes) -> Result<bool, AllocError>
+    ensures decoded { result ≡ Ok true → decode_of line.old ≡ Ok line.new }
+    ensures bad { result ≡ Ok false → (e : FromHexError) × (decode_of line.old ≡ Err e) }
 {
     match hex::decode(alloc, line.as_slice()) {
         Ok(bytes) => {
             *line = Bytes::from(bytes);
-            Ok(())
+            Ok(true)
         }
-        Err(FromHexError::OutOfMemory) => Err(FeedEnd::Memory),
-        Err(_) => Err(FeedEnd::Stop(Stop::BadLine)),
+        Err(FromHexError::OutOfMemory) => Err(AllocError),
+        Err(_) => Ok(false),
     }
 }
 
@@ -232,8 +249,11 @@ impl<'a, I: Source> RecordFeed for LineFeed<'a, I> {
         if !self.pull_line(into)? {
             return Ok(false);
         }
-        if self.hex {
-            decode_digits(alloc, into)?;
+        if !self.hex {
+            return Ok(true);
+        }
+        if !decode_digits(alloc, into)? {
+            return Err(FeedEnd::Stop(Stop::BadLine));
         }
         Ok(true)
     }

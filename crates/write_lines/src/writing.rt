@@ -4,7 +4,7 @@ ghost use Rattle.record_io.specs.Calls.{OnlyCounts};
 ghost use Rattle.record_writer.specs.Written.{AreInLimits, Answers, TakesFile, file_under};
 ghost use Rattle.write_lines.specs.Input.{taken_from};
 ghost use Rattle.write_lines.specs.WriteCommand.{write_meaning};
-ghost use Rattle.run_answers.specs.Runs.{Runs, Seen, shown};
+ghost use Rattle.run_answers.specs.Runs.{Runs, Seen, seen_stream};
 
 use crate::line_feed::LineFeed;
 use crate::write_words::WriteWords;
@@ -28,8 +28,8 @@ pub fn write<R: Threads + Sync, I: Source, M: Sink + Send, E: Sink>(
 ) -> Status
     requires in_limits { AreInLimits words.now.options }
     ensures runs { (others : Seen) → Runs (write_meaning words.now)
-        (record others { input = shown I.left I.faults input.old; made = shown M.taken M.faults made.old; notes = shown E.taken E.faults notes.old })
-        (record others { input = shown I.left I.faults input.new; made = shown M.taken M.faults made.new; notes = shown E.taken E.faults notes.new })
+        (record others { input = seen_stream I.left I.faults input.old; made = seen_stream M.taken M.faults made.old; notes = seen_stream E.taken E.faults notes.old })
+        (record others { input = seen_stream I.left I.faults input.new; made = seen_stream M.taken M.faults made.new; notes = seen_stream E.taken E.faults notes.new })
         result }
     ensures notes_kept { result ≡ Status.Ok → notes.new ≡ notes.old }
 {
