@@ -57,7 +57,8 @@ fn files<'a>(
     paths: &'a [String],
     times: usize,
 ) -> Result<Vec<ReadAhead<FileStore<'a, HostRuntime>>>, AllocError> {
-    let mut files = Vec::new(rt.alloc());
+    let count = paths.len().saturating_mul(times);
+    let mut files = Vec::with_capacity(rt.alloc(), count)?;
     for path in paths {
         for _ in 0..times {
             files.push(ReadAhead::new(FileStore::named(rt, path.as_str())))?;

@@ -19,6 +19,9 @@ const LINES: &str = "a\nbc\n\n";
 
 const REPORT: &str = "chunks 2\nrecords 3\nbytes 112\nunread 0\n";
 
+/// The report of two such files that are joined.
+const JOINED: &str = "chunks 5\nrecords 6\nbytes 65648\nunread 0\n";
+
 /// The records that are sampled, and the summary of their file.
 const SAMPLE: &str = "zr\nqdo\n";
 
@@ -45,6 +48,8 @@ fn each_command_uses_the_files_that_its_words_name(rt: HostRuntime) -> Result<()
         ),
         (&["repair", FIRST, SECOND], Status::Ok, REPORT, ""),
         (&["show", SECOND], Status::Ok, LINES, ""),
+        (&["join", FIRST, FIRST, SECOND], Status::Ok, JOINED, ""),
+        (&["verify", SECOND], Status::Ok, JOINED, ""),
         (
             &["sample", "--seed=116", "--records=2", SECOND],
             Status::Ok,
@@ -58,7 +63,19 @@ fn each_command_uses_the_files_that_its_words_name(rt: HostRuntime) -> Result<()
             "",
             "made fault\n",
         ),
+        (
+            &["join", SECOND, FIRST, "./riegeli_main_first"],
+            Status::Made,
+            "",
+            "made fault\n",
+        ),
         (&["repair", ABSENT, FIRST], Status::File, "", "file fault\n"),
+        (
+            &["join", FIRST, ABSENT, SECOND],
+            Status::File,
+            "",
+            "file fault\n",
+        ),
         (&["write", ABSENT], Status::Made, "", "made fault\n"),
         (&["show", ABSENT], Status::File, "", "file fault\n"),
         (&["verify", FIRST], Status::Ok, REPORT, ""),

@@ -4,7 +4,7 @@ use Rattle.std.specs.Option.{IfSome}
 use Rattle.std.specs.Str.{bytes_eq}
 use Rattle.record_writer.specs.Written.{AreInLimits}
 use Rattle.riegeli_tool.specs.declared.command.Command.{Command}
-use Rattle.riegeli_tool.specs.declared.command.Command.TheVariants.{Write, Show, Recover, Verify, Seek, Repair, Sample}
+use Rattle.riegeli_tool.specs.declared.command.Command.TheVariants.{Write, Show, Recover, Verify, Seek, Repair, Sample, Join}
 use Rattle.show_found.specs.SeekWords.{seek_words_of}
 use Rattle.show_files.specs.ShowWords.{show_words_of}
 use Rattle.show_damaged.specs.RecoverWords.{goes_past_damage, recover_words_of}
@@ -12,6 +12,8 @@ use Rattle.show_files.specs.VerifyWords.{verify_words_of}
 use Rattle.riegeli_tool.specs.RepairWords.{repair_words_of}
 use Rattle.sample_records.specs.SampleWords.{most_records, sample_words_of}
 use Rattle.sample_records.proofs.SampleLimits.{sample_words_of-within}
+use Rattle.join_files.specs.JoinWords.{join_words_of}
+use Rattle.join_files.proofs.JoinLimits.{join_words_of-within}
 use Rattle.write_lines.specs.WriteWords.{write_words_of}
 use Rattle.write_lines.proofs.WriteLimits.{write_words_of-within}
 use Rattle.riegeli_tool.specs.Commands.{command_of, takes, accepted_of, accepted}
@@ -20,6 +22,7 @@ use Rattle.riegeli_tool.specs.Commands.{command_of, takes, accepted_of, accepted
 abbrev pub IsWithin : Command → Type 0
 IsWithin (Write words) = AreInLimits words.options
 IsWithin (Sample words) = AreInLimits words.options × (words.count ≤ most_records)
+IsWithin (Join words) = (1 ≤ words.count) × (words.count ≤ 64)
 IsWithin other = Unit {0}
 
 -- so it is of either of two commands
@@ -43,7 +46,8 @@ command_of-within (name ∷ words) =
     (either (bytes_eq name (codes "verify")) _ _ (of_words Verify (verify_words_of all) (λ w is. tt))
     (either (bytes_eq name (codes "seek")) _ _ (of_words Seek (seek_words_of all) (λ w is. tt))
     (either (bytes_eq name (codes "repair")) _ _ (of_words Repair (repair_words_of all) (λ w is. tt))
-    (either (bytes_eq name (codes "sample")) _ None (of_words Sample (sample_words_of all) (sample_words_of-within all)) tt)))))
+    (either (bytes_eq name (codes "sample")) _ _ (of_words Sample (sample_words_of all) (sample_words_of-within all))
+    (either (bytes_eq name (codes "join")) _ None (of_words Join (join_words_of all) (join_words_of-within all)) tt))))))
 
 accepted_of-within : (command : Option Command) (count : ℕ) → IfSome command IsWithin → IfSome (accepted_of command count) IsWithin
 accepted_of-within None count h = tt

@@ -1,5 +1,5 @@
 -- What each stream takes of an answer.
-use Rattle.std.proofs.Common.{◌≡◌, ◌∙◌, ℕ, Option, Some, None, List, [], ◌∷◌, ◌++◌, length, refl, ap, append-nil}
+use Rattle.std.proofs.Common.{◌≡◌, ◌∙◌, ℕ, Option, Some, None, List, [], ◌∷◌, ◌++◌, length, take, refl, ap, append-nil}
 use Rattle.std.specs.List.{flat_map}
 use Rattle.record_io.specs.Puts.{Put, Made, Out, Notes, bytes_to}
 use Rattle.record_io.proofs.Puts.{bytes_to-append, bytes_to-own, bytes_to-other}
@@ -26,6 +26,8 @@ use Rattle.show_files.specs.ShowCommand.{IsShown}
 use Rattle.damage_skip.specs.Bounds.{walked, refused_in}
 use Rattle.damage_skip.specs.Regions.{regions_in, skipped_text, stopped_text, walk_text}
 use Rattle.riegeli_tool.specs.RepairCommand.{end_puts, IsRepaired}
+use Rattle.record_join.specs.Joined.{joined}
+use Rattle.join_files.specs.JoinCommand.{AreJoinedIn, AreRefusedIn, refused_file_text}
 use Rattle.run_answers.proofs.TwoStreams.{bytes_to-first, bytes_to-second, bytes_to-neither}
 
 -- of the answer of `write`
@@ -92,4 +94,29 @@ repaired-streams words file answer is =
           ∙ bytes_to-append Notes (repair_puts es) last
           ∙ ap (λ (xs : List ℕ). xs ++ bytes_to Notes last) (notes_in-repair es)
           ∙ ap (λ (xs : List ℕ). skipped_text (regions_in es) ++ xs) (end_notes (refused_in words.most is.events) (chunks_in es)),
+    )
+
+-- and of that of `join`, where no file has a fault
+pub joined-streams : (files : List (List ℕ)) (answer : Answer) (is : AreJoinedIn files answer)
+    → (bytes_to Made answer.puts ≡ joined files)
+    × (bytes_to Out answer.puts ≡ report (totals_of is.chunks))
+    × (bytes_to Notes answer.puts ≡ [])
+joined-streams files answer is =
+    let text : List ℕ = report (totals_of is.chunks) in (
+      ap (λ (a : Answer). bytes_to Made a.puts) is.is ∙ bytes_to-first Made Out (joined files) text refl,
+      ap (λ (a : Answer). bytes_to Out a.puts) is.is ∙ bytes_to-second Made Out (joined files) text refl,
+      ap (λ (a : Answer). bytes_to Notes a.puts) is.is ∙ bytes_to-neither Notes Made Out (joined files) text refl refl,
+    )
+
+-- or one has
+pub refused-streams : (files : List (List ℕ)) (answer : Answer) (is : AreRefusedIn files answer)
+    → (bytes_to Made answer.puts ≡ joined (take is.index files))
+    × (bytes_to Out answer.puts ≡ [])
+    × (bytes_to Notes answer.puts ≡ refused_file_text is.index is.fault)
+refused-streams files answer is =
+    let front : List ℕ = joined (take is.index files) in
+    let text : List ℕ = refused_file_text is.index is.fault in (
+      ap (λ (a : Answer). bytes_to Made a.puts) is.is ∙ bytes_to-first Made Notes front text refl,
+      ap (λ (a : Answer). bytes_to Out a.puts) is.is ∙ bytes_to-neither Out Made Notes front text refl refl,
+      ap (λ (a : Answer). bytes_to Notes a.puts) is.is ∙ bytes_to-second Made Notes front text refl,
     )

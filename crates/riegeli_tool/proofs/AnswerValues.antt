@@ -58,8 +58,8 @@ named_behind_options : names_of (command_of (codes "write" ∷ codes "--pad=both
 unfolding write_words_of
 named_behind_options = refl
 
--- the usage text: seven lines of 7, 80, 55, 12, 40, 26 and 59 bytes
-usage_length : length usage_text ≡ 279
+-- the usage text: eight lines of 7, 80, 55, 12, 40, 26, 59 and 16 bytes
+usage_length : length usage_text ≡ 295
 usage_length = refl
 
 usage_begin : take 7 usage_text ≡ codes "usage:\n"
@@ -68,10 +68,10 @@ usage_begin = refl
 usage_of_write : take 80 (drop 7 usage_text) ≡ codes "write [--chunk=N] [--every=N] [--workers=N] [--pad=start|end|both] [--hex] FILE\n"
 usage_of_write = refl
 
-usage_end : drop 220 usage_text ≡ codes "sample --seed=N --records=N [--chunk=N] [--workers=N] FILE\n"
+usage_end : drop 220 usage_text ≡ codes "sample --seed=N --records=N [--chunk=N] [--workers=N] FILE\njoin FROM... TO\n"
 usage_end = refl
 
-usage_lines : length (lines usage_text) ≡ 7
+usage_lines : length (lines usage_text) ≡ 8
 usage_lines = refl
 
 -- words that are no command are answered by that text, whatever is handed in

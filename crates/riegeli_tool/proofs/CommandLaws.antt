@@ -5,7 +5,7 @@ use Rattle.damage_skip.proofs.Tiles.{events_one}
 use Rattle.repair_copy.specs.Relaid.{chunks_in}
 use Rattle.repair_copy.specs.RepairPuts.{repair_puts}
 use Rattle.riegeli_tool.specs.declared.command.Command.{Command}
-use Rattle.riegeli_tool.specs.declared.command.Command.TheVariants.{Write, Show, Recover, Verify, Seek, Repair, Sample}
+use Rattle.riegeli_tool.specs.declared.command.Command.TheVariants.{Write, Show, Recover, Verify, Seek, Repair, Sample, Join}
 use Rattle.riegeli_tool.specs.declared.repair_words.RepairWords.{RepairWords}
 use Rattle.run_answers.specs.Answers.{Answer}
 use Rattle.show_files.specs.ShowCommand.{IsShown}
@@ -22,6 +22,7 @@ use Rattle.show_damaged.proofs.OneRecovery.{one_recovered}
 use Rattle.show_found.specs.SeekCommand.{IsSeekAnswer}
 use Rattle.show_found.proofs.OneSought.{one_sought}
 use Rattle.show_files.proofs.OneReading.{one_shown, one_verified}
+use Rattle.join_files.proofs.JoinAnswers.{join_is_one}
 
 -- `repair` has one answer to a file
 pub one_repaired : (words : RepairWords) (file : List ℕ) (a b : Answer) → IsRepaired words file a → IsRepaired words file b → a ≡ b
@@ -44,6 +45,7 @@ one_answer (Some (Seek words)) r a b one first second =
     one_of_file (IsSeekAnswer words) (λ file x y. one_sought words file x y one) r.files a b first second
 one_answer (Some (Repair words)) r a b one first second = one_of_file (IsRepaired words) (one_repaired words) r.files a b first second
 one_answer (Some (Sample words)) r a b one first second = first ∙ sym second
+one_answer (Some (Join words)) r a b one first second = join_is_one r.files a b first second
 
 -- an input that isn't used may be any
 pub any_input : (command : Option Command) (r : Read) (other : List ℕ) (a : Answer)
@@ -56,6 +58,7 @@ any_input (Some (Verify words)) r other a unused is = is
 any_input (Some (Seek words)) r other a unused is = is
 any_input (Some (Repair words)) r other a unused is = is
 any_input (Some (Sample words)) r other a unused is = is
+any_input (Some (Join words)) r other a unused is = is
 
 -- so may files
 pub any_files : (command : Option Command) (r : Read) (others : List (List ℕ)) (a : Answer)
@@ -68,6 +71,7 @@ any_files (Some (Verify words)) r others a unused is = absurd (cc unused)
 any_files (Some (Seek words)) r others a unused is = absurd (cc unused)
 any_files (Some (Repair words)) r others a unused is = absurd (cc unused)
 any_files (Some (Sample words)) r others a unused is = is
+any_files (Some (Join words)) r others a unused is = absurd (cc unused)
 
 -- and a file that is grown
 pub any_grown : (command : Option Command) (r : Read) (other : List ℕ) (a : Answer)
@@ -80,3 +84,4 @@ any_grown (Some (Verify words)) r other a unused is = is
 any_grown (Some (Seek words)) r other a unused is = is
 any_grown (Some (Repair words)) r other a unused is = is
 any_grown (Some (Sample words)) r other a unused is = is
+any_grown (Some (Join words)) r other a unused is = is

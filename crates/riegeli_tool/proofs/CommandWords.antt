@@ -12,9 +12,10 @@ other_word word name known same other =
 
 -- words of which the first is the name of no command
 pub command_of-other : (words : List (List ℕ)) (name : List ℕ) → slice_get words 0 ≡ Some name
-    → name ≢ codes "write" → name ≢ codes "show" → name ≢ codes "verify" → name ≢ codes "seek" → name ≢ codes "repair" → name ≢ codes "sample" → command_of words ≡ None
-command_of-other [] name first no_write no_show no_verify no_seek no_repair no_sample = absurd (cc first)
-command_of-other (word ∷ words) name first no_write no_show no_verify no_seek no_repair no_sample =
+    → name ≢ codes "write" → name ≢ codes "show" → name ≢ codes "verify" → name ≢ codes "seek" → name ≢ codes "repair" → name ≢ codes "sample"
+    → name ≢ codes "join" → command_of words ≡ None
+command_of-other [] name first no_write no_show no_verify no_seek no_repair no_sample no_join = absurd (cc first)
+command_of-other (word ∷ words) name first no_write no_show no_verify no_seek no_repair no_sample no_join =
     let same : word ≡ name = cc first in
     rw (
       other_word word name (codes "write") same no_write,
@@ -23,4 +24,5 @@ command_of-other (word ∷ words) name first no_write no_show no_verify no_seek 
       other_word word name (codes "seek") same no_seek,
       other_word word name (codes "repair") same no_repair,
       other_word word name (codes "sample") same no_sample,
+      other_word word name (codes "join") same no_join,
     ) refl

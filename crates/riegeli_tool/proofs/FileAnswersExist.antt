@@ -1,5 +1,5 @@
 -- Each file of bytes has an answer of each command that reads one.
-use Rattle.std.proofs.Common.{◌≡◌, ℕ, Bool, true, false, Option, Some, None, List, ◌++◌, length, refl, sym, subst, if◌then◌else◌}
+use Rattle.std.proofs.Common.{◌≡◌, ℕ, Bool, true, false, Option, Some, None, List, ◌++◌, length, refl, sym, ap, subst, arith, if◌then◌else◌}
 use Rattle.std.specs.List.{AllByRecursion}
 use Rattle.std.proofs.lemmas.Bool.{eqb-true}
 use Rattle.record_values.specs.Bytes.{AreBytes}
@@ -7,7 +7,7 @@ use Rattle.damage_skip.proofs.Tiles.{events_of}
 use Rattle.repair_copy.specs.Relaid.{chunks_in}
 use Rattle.repair_copy.specs.RepairPuts.{repair_puts}
 use Rattle.riegeli_tool.specs.declared.command.Command.{Command}
-use Rattle.riegeli_tool.specs.declared.command.Command.TheVariants.{Write, Show, Recover, Verify, Seek, Repair, Sample}
+use Rattle.riegeli_tool.specs.declared.command.Command.TheVariants.{Write, Show, Recover, Verify, Seek, Repair, Sample, Join}
 use Rattle.riegeli_tool.specs.declared.repair_words.RepairWords.{RepairWords}
 use Rattle.run_answers.specs.Answers.{Answer}
 use Rattle.riegeli_tool.specs.Usage.{usage}
@@ -28,6 +28,8 @@ use Rattle.show_damaged.proofs.OneRecovery.{recovered_exists}
 use Rattle.show_files.proofs.ReadingsExist.{shown_exists, verified_exists}
 use Rattle.show_found.specs.SeekCommand.{IsSeekAnswer}
 use Rattle.show_found.proofs.OneSought.{sought_exists}
+use Rattle.join_files.proofs.JoinAnswers.{join_exists}
+use Rattle.riegeli_tool.proofs.AcceptedLimits.{IsWithin, accepted-within}
 
 -- `repair` has an answer
 pub repaired_exists : (words : RepairWords) (file : List ℕ) → AreBytes file → (answer : Answer) × IsRepaired words file answer
@@ -55,23 +57,27 @@ accepted-takes (Some command) count known is = kept command count known (takes c
 
 -- and has an answer
 command_answered : (command : Option Command) (r : Read)
-    → ((known : Command) → command ≡ Some known → stores_of known ≡ length r.files) → AllByRecursion AreBytes r.files
+    → ((known : Command) → command ≡ Some known → (stores_of known ≡ length r.files) × IsWithin known) → AllByRecursion AreBytes r.files
     → (answer : Answer) × IsAnswerTo command r answer
 command_answered None r many bytes = (usage, refl)
 command_answered (Some (Write words)) r many bytes = (write_answer words r.input, refl)
 command_answered (Some (Show words)) r many bytes =
-    of_file_exists (IsShown words) (shown_exists words) r.files (sym (many (Show words) refl)) bytes
+    of_file_exists (IsShown words) (shown_exists words) r.files (sym (many (Show words) refl).0) bytes
 command_answered (Some (Recover words)) r many bytes =
-    of_file_exists (IsRecovered words) (recovered_exists words) r.files (sym (many (Recover words) refl)) bytes
+    of_file_exists (IsRecovered words) (recovered_exists words) r.files (sym (many (Recover words) refl).0) bytes
 command_answered (Some (Verify words)) r many bytes =
-    of_file_exists IsVerified verified_exists r.files (sym (many (Verify words) refl)) bytes
+    of_file_exists IsVerified verified_exists r.files (sym (many (Verify words) refl).0) bytes
 command_answered (Some (Seek words)) r many bytes =
-    of_file_exists (IsSeekAnswer words) (sought_exists words) r.files (sym (many (Seek words) refl)) bytes
+    of_file_exists (IsSeekAnswer words) (sought_exists words) r.files (sym (many (Seek words) refl).0) bytes
 command_answered (Some (Repair words)) r many bytes =
-    of_file_exists (IsRepaired words) (repaired_exists words) r.files (sym (many (Repair words) refl)) bytes
+    of_file_exists (IsRepaired words) (repaired_exists words) r.files (sym (many (Repair words) refl).0) bytes
 command_answered (Some (Sample words)) r many bytes = (sample_answer words, refl)
+command_answered (Some (Join words)) r many bytes =
+    let count = many (Join words) refl in
+    join_exists r.files (λ none. omega (arith, count.0, count.1.0, ap length none)) bytes
 
 pub answer_exists : (words : List (List ℕ)) (r : Read) → AllByRecursion AreBytes r.files
     → (answer : Answer) × IsAnswerTo (accepted words (length r.files)) r answer
 answer_exists words r bytes =
-    command_answered (accepted words (length r.files)) r (accepted-takes (command_of words) (length r.files)) bytes
+    command_answered (accepted words (length r.files)) r
+    (λ known is. (accepted-takes (command_of words) (length r.files) known is, accepted-within words (length r.files) known (sym is))) bytes

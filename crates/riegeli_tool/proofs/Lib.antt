@@ -5,6 +5,8 @@ pub mod CommandLaws
 pub mod CommandWords
 pub mod DigitsBack
 pub mod FileAnswersExist
+pub mod RunsWith
+pub mod PastDamage
 pub mod ReadBack
 mod ReadWordValues
 mod RecoverValues

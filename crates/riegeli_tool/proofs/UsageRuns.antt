@@ -6,12 +6,12 @@ use Rattle.record_io.proofs.Puts.{GoOut-nothing}
 use Rattle.run_answers.specs.declared.status.Status.{Status}
 use Rattle.riegeli_tool.specs.Usage.{usage_text, usage}
 use Rattle.riegeli_tool.specs.CommandAnswers.{usage_meaning}
-use Rattle.run_answers.specs.Runs.{Shown, Seen, SaysAtEnd, Runs}
+use Rattle.run_answers.specs.Runs.{SeenStream, Seen, SaysAtEnd, Runs}
 use Rattle.run_answers.proofs.RunEnds.{OfSizes-unread, keeps-unread, runs-said}
 use Rattle.run_answers.specs.declared.status.Status.TheVariants as status
 
 -- words that are no command: the usage text was said, or notes failed
-pub runs-usage : (others : Seen) (notes notes_then : Shown) (ended : Status)
+pub runs-usage : (others : Seen) (notes notes_then : SeenStream) (ended : Status)
     → SaysAtEnd ended status.Usage notes notes_then usage_text → notes.faults ≤ notes_then.faults
     → Runs usage_meaning (record others { notes = notes }) (record others { notes = notes_then }) ended
 runs-usage others notes notes_then ended says counts =

@@ -3,7 +3,7 @@ use Rattle.std.specs.Prelude.{ℕ, ◌*◌, Bool, Option, Some, None, List, [], 
 use Rattle.std.specs.Str.{bytes_eq}
 use lib.Chars.{codes}
 use Rattle.riegeli_tool.specs.declared.command.Command.{Command}
-use Rattle.riegeli_tool.specs.declared.command.Command.TheVariants.{Write, Show, Recover, Verify, Seek, Repair, Sample}
+use Rattle.riegeli_tool.specs.declared.command.Command.TheVariants.{Write, Show, Recover, Verify, Seek, Repair, Sample, Join}
 use Rattle.riegeli_tool.specs.declared.command.Names.{Names}
 use Rattle.write_lines.specs.WriteWords.{write_words_of}
 use Rattle.show_files.specs.ShowWords.{show_words_of}
@@ -12,6 +12,7 @@ use Rattle.show_files.specs.VerifyWords.{verify_words_of}
 use Rattle.show_found.specs.SeekWords.{seek_words_of}
 use Rattle.riegeli_tool.specs.RepairWords.{repair_words_of}
 use Rattle.sample_records.specs.SampleWords.{sample_words_of}
+use Rattle.join_files.specs.JoinWords.{join_words_of}
 
 -- the command that the words of `show` are
 abbrev pub show_command_of : List (List ℕ) → Option Command
@@ -29,6 +30,7 @@ command_of (name ∷ words) =
     else if bytes_eq name (codes "seek") then option_map Seek (seek_words_of (name ∷ words))
     else if bytes_eq name (codes "repair") then option_map Repair (repair_words_of (name ∷ words))
     else if bytes_eq name (codes "sample") then option_map Sample (sample_words_of (name ∷ words))
+    else if bytes_eq name (codes "join") then option_map Join (join_words_of (name ∷ words))
     else None
 
 -- no words name a file
@@ -45,6 +47,7 @@ names_by (Verify words) = record none_named { first = words.file; count = 1 }
 names_by (Seek words) = record none_named { first = words.file; count = 1 }
 names_by (Repair words) = record none_named { first = words.from; count = 1; made = Some words.to }
 names_by (Sample words) = record none_named { made = Some words.file }
+names_by (Join words) = record none_named { first = 1; count = words.count; made = Some words.to }
 
 abbrev pub names_of : Option Command → Names
 names_of None = none_named

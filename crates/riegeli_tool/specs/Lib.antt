@@ -4,3 +4,4 @@ pub mod RepairingEnds
 pub mod CommandAnswers
 pub mod RepairWords
 pub mod Commands
+pub mod PastDamage

@@ -14,6 +14,7 @@ usage_text =
     ++ line (codes "seek (--at=N | --key=TEXT) [--hex] FILE")
     ++ line (codes "repair [--most=N] FROM TO")
     ++ line (codes "sample --seed=N --records=N [--chunk=N] [--workers=N] FILE")
+    ++ line (codes "join FROM... TO")
 
 -- the answer to words that are no command
 abbrev pub usage : Answer

@@ -2,6 +2,7 @@ ghost use Rattle.std.specs.Prelude.{◌≡◌};
 ghost use Rattle.riegeli_tool.specs.Commands.{names_by, none_named, takes};
 
 use crate::repair_words::RepairWords;
+use join_files::join_words::JoinWords;
 use sample_records::sample_words::SampleWords;
 use show_damaged::recover_words::RecoverWords;
 use show_files::show_words::ShowWords;
@@ -19,12 +20,13 @@ pub(crate) enum Command<'a> {
     Seek(SeekWords<'a>),
     Repair(RepairWords),
     Sample(SampleWords),
+    Join(JoinWords),
 }
 
 /// The files that words name, by their places among the words. Own.
 #[derive(Clone, Copy, Debug, PartialEq, Eq)]
 pub struct Names {
-    /// The file that is read, or 0 where none is.
+    /// The first file that is read, or 0 where none is.
     pub first: usize,
     /// How many files are read, which stand one behind another.
     pub count: usize,
@@ -76,6 +78,11 @@ impl<'a> Command<'a> {
                 names.made = Some(words.to);
             }
             Command::Sample(words) => names.made = Some(words.file),
+            Command::Join(JoinWords { count, to }) => {
+                names.first = 1;
+                names.count = *count;
+                names.made = Some(*to);
+            }
         }
         names
     }

@@ -2,10 +2,13 @@
 
 ghost use Rattle.std.specs.List.{AllByRecursion, flat_map};
 ghost use Rattle.std.specs.List.Sorted.{IsStrictlyIncreasing};
-ghost use Rattle.std.specs.Prelude.{◌≡◌, ◌^◌, ◌≤◌, ◌⊎◌, true, false, Option, None, List, [], ℕ, length, map, slice_get};
+ghost use Rattle.std.specs.Prelude.{◌≡◌, ◌≢◌, ◌^◌, ◌≤◌, ◌⊎◌, true, false, Option, None, List, [], ℕ, length, map, slice_get, take};
 ghost use Rattle.chunk_header.specs.Chunks.{ChunkValue};
 ghost use Rattle.chunk_reader.specs.Faults.{HasNoFault};
+ghost use Rattle.meta_chunk.specs.Counts.{totals_of};
 ghost use Rattle.meta_chunk.specs.Files.{IsFile, AreRecordsOf, ArePlaced};
+ghost use Rattle.record_join.specs.Joined.{joined};
+ghost use Rattle.join_files.specs.JoinCommand.{AreJoinedIn, AreRefusedIn, IsJoinAnswer, refused_file_text};
 ghost use Rattle.record_group.specs.Records.{AreRecords};
 ghost use Rattle.record_values.specs.Bytes.{AreBytes};
 ghost use Rattle.record_io.specs.Puts.{Made, Out, Notes, puts_to, bytes_to};
@@ -18,7 +21,7 @@ ghost use Rattle.run_answers.specs.Answers.{Answer, line};
 ghost use Rattle.riegeli_tool.specs.Commands.{accepted};
 ghost use Rattle.run_answers.specs.Meanings.{Read};
 ghost use Rattle.riegeli_tool.specs.CommandAnswers.{IsAnswerTo, meaning_of};
-ghost use Rattle.run_answers.specs.FileAnswers.{most_file_bytes};
+ghost use Rattle.run_answers.specs.FileAnswers.{most_file_bytes, report};
 ghost use Rattle.show_files.specs.Readings.{bare, digits_alone, record_line};
 ghost use Rattle.write_lines.specs.Input.{taken_from, with_last_end};
 ghost use Rattle.show_damaged.specs.RecoverCommand.{IsRecovered};
@@ -75,14 +78,15 @@ pub fn answers_stand_on_what_is_used()
 {}
 
 /// Each file of bytes has an answer of `show`, whatever its words, also of those that go on past damage, one of `verify`,
-/// one of `seek` for each position and key, and one of `repair`. So all words have an answer, of the bytes of any input and
-/// files. Own.
+/// one of `seek` for each position and key, and one of `repair`; and files have one of `join`. So all words have an answer, of
+/// the bytes of any input and files. Own.
 pub fn file_answers_exist()
     ensures show { (words : ShowWords) (file : List ℕ) → AreBytes file → (answer : Answer) × IsShown words file answer }
     ensures recover { (words : RecoverWords) (file : List ℕ) → AreBytes file → (answer : Answer) × IsRecovered words file answer }
     ensures verify { (file : List ℕ) → AreBytes file → (answer : Answer) × IsVerified file answer }
     ensures seek { (words : SeekWords) (file : List ℕ) → AreBytes file → (answer : Answer) × IsSeekAnswer words file answer }
     ensures repair { (words : RepairWords) (file : List ℕ) → AreBytes file → (answer : Answer) × IsRepaired words file answer }
+    ensures join { (files : List (List ℕ)) → files ≢ [] → AllByRecursion AreBytes files → (answer : Answer) × IsJoinAnswer files answer }
     ensures all { (words : List (List ℕ)) (r : Read)
         → AllByRecursion AreBytes r.files → AreBytes r.grown → (meaning_of (accepted words (length r.files))).supposes r
         → (answer : Answer) × IsAnswerTo (accepted words (length r.files)) r answer }
@@ -111,6 +115,14 @@ pub fn streams_take_their_parts()
         → (bytes_to Made (sample_answer words).puts ≡ sample_file words)
         × (bytes_to Out (sample_answer words).puts ≡ sample_summary words)
         × (bytes_to Notes (sample_answer words).puts ≡ []) }
+    ensures join { (files : List (List ℕ)) (answer : Answer) (is : AreJoinedIn files answer)
+        → (bytes_to Made answer.puts ≡ joined files)
+        × (bytes_to Out answer.puts ≡ report (totals_of is.chunks))
+        × (bytes_to Notes answer.puts ≡ []) }
+    ensures refused_join { (files : List (List ℕ)) (answer : Answer) (is : AreRefusedIn files answer)
+        → (bytes_to Made answer.puts ≡ joined (take is.index files))
+        × (bytes_to Out answer.puts ≡ [])
+        × (bytes_to Notes answer.puts ≡ refused_file_text is.index is.fault) }
 {}
 
 /// Of a file without fault nothing is skipped: where it goes on past damage, `show` prints what it prints else, and says

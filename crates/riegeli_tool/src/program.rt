@@ -2,11 +2,13 @@ ghost use Rattle.std.specs.Prelude.{◌≡◌, false, map, length};
 ghost use Rattle.std.specs.String.{string_bytes};
 ghost use Rattle.riegeli_tool.specs.Commands.{accepted};
 ghost use Rattle.riegeli_tool.specs.CommandAnswers.{meaning_of};
-ghost use Rattle.run_answers.specs.Runs.{Runs, seen, shown, shown_file};
+ghost use Rattle.riegeli_tool.specs.PastDamage.{meaning_past_damage};
+ghost use Rattle.run_answers.specs.Runs.{Runs, seen, seen_stream, seen_file};
 
 use crate::command::Command;
 use crate::repair::repair;
 use crate::words::accept;
+use join_files::join_files;
 use record_append::Device;
 use record_io::{Sink, Source, Store};
 use run_answers::{Status, end};
@@ -26,6 +28,7 @@ verify FILE
 seek (--at=N | --key=TEXT) [--hex] FILE
 repair [--most=N] FROM TO
 sample --seed=N --records=N [--chunk=N] [--workers=N] FILE
+join FROM... TO
 ";
 
 /// Does what the words say, which are the arguments alone.
@@ -35,14 +38,16 @@ sample --seed=N --records=N [--chunk=N] [--workers=N] FILE
 /// Text goes to `out` and messages go to `notes`. For now the commands are `write`, of lines, with `--chunk`, `--every`,
 /// `--workers`, `--pad` and `--hex`; `show`, with `--hex` and `--positions`, and with `--recover`, which goes on past damage, and `--most`,
 /// which bounds the bytes of a region that is skipped; `verify`, which takes no memory; `seek`, by a position with `--at` or by
-/// a key with `--key`, and with `--hex`; `repair`, which makes the file of what is intact of another one, with `--most` too; and
-/// `sample`, which makes the file of records that a seed tells, with `--seed`, `--records`, `--chunk` and `--workers`.
+/// a key with `--key`, and with `--hex`; `repair`, which makes the file of what is intact of another one, with `--most` too;
+/// `sample`, which makes the file of records that a seed tells, with `--seed`, `--records`, `--chunk` and `--workers`; and `join`,
+/// which makes one file of up to 64 others and takes no memory.
 ///
 /// # Errors
 ///
 /// `Usage` where the words are no command that reads so many files, `Refused` where the file is not well formed, or not where
 /// `seek` reads it, `NotFound` where that finds no record, `Limit` where a line has more than 2^24 bytes, or 2^25 in the
-/// hexadecimal form, the input more than 2^40 or the file more than 2^60, `BadLine` where a line isn't in that form, `Skipped`
+/// hexadecimal form, the input more than 2^40 or the file more than 2^60, as the files of `join` have together with
+/// 131,072 bytes for each but the last, `BadLine` where a line isn't in that form, `Skipped`
 /// where regions of the file were skipped, `Stopped` where one has more bytes than may be skipped, `Input`, `File`, `Made`,
 /// `Out` and `Notes` where that object failed, `Memory` where there wasn't enough. Own.
 pub fn run<
@@ -66,10 +71,18 @@ pub fn run<
 ) -> Status
     // What the status and the objects tell: the answer, or which of them failed and what went out before.
     ensures runs { Runs (meaning_of (accepted (map string_bytes words.now) (length files.old)))
-        (seen (shown I.left I.faults input.old) (map (shown_file S.bytes S.told S.handed S.faults) files.old) (shown M.taken M.faults made.old)
-        (shown_file G.bytes G.told G.handed G.faults grown.old) (shown O.taken O.faults out.old) (shown E.taken E.faults notes.old))
-        (seen (shown I.left I.faults input.new) (map (shown_file S.bytes S.told S.handed S.faults) files.new) (shown M.taken M.faults made.new)
-        (shown_file G.bytes G.told G.handed G.faults grown.new) (shown O.taken O.faults out.new) (shown E.taken E.faults notes.new))
+        (seen (seen_stream I.left I.faults input.old) (map (seen_file S.bytes S.told S.handed S.faults) files.old) (seen_stream M.taken M.faults made.old)
+        (seen_file G.bytes G.told G.handed G.faults grown.old) (seen_stream O.taken O.faults out.old) (seen_stream E.taken E.faults notes.old))
+        (seen (seen_stream I.left I.faults input.new) (map (seen_file S.bytes S.told S.handed S.faults) files.new) (seen_stream M.taken M.faults made.new)
+        (seen_file G.bytes G.told G.handed G.faults grown.new) (seen_stream O.taken O.faults out.new) (seen_stream E.taken E.faults notes.new))
+        result }
+
+    // Past damage: the same, with the answers told by the numbers of the undamaged file's chunks, and to the front of a file.
+    ensures damaged { Runs (meaning_past_damage (accepted (map string_bytes words.now) (length files.old)))
+        (seen (seen_stream I.left I.faults input.old) (map (seen_file S.bytes S.told S.handed S.faults) files.old) (seen_stream M.taken M.faults made.old)
+        (seen_file G.bytes G.told G.handed G.faults grown.old) (seen_stream O.taken O.faults out.old) (seen_stream E.taken E.faults notes.old))
+        (seen (seen_stream I.left I.faults input.new) (map (seen_file S.bytes S.told S.handed S.faults) files.new) (seen_stream M.taken M.faults made.new)
+        (seen_file G.bytes G.told G.handed G.faults grown.new) (seen_stream O.taken O.faults out.new) (seen_stream E.taken E.faults notes.new))
         result }
 
     // The files stay as they are.
@@ -92,6 +105,7 @@ pub fn run<
         Some(Command::Seek(words)) => show_found(alloc, &words, &mut files[0], out, notes),
         Some(Command::Repair(words)) => repair(alloc, &words, &mut files[0], made, out, notes),
         Some(Command::Sample(words)) => sample(rt, alloc, &words, made, out, notes),
+        Some(Command::Join(_)) => join_files(files, made, out, notes),
         None => end(notes, USAGE, Status::Usage),
     }
 }

@@ -5,7 +5,7 @@ ghost use Rattle.record_io.specs.Calls.{OnlyCounts};
 ghost use Rattle.run_answers.specs.FileAnswers.{HandsOut};
 ghost use Rattle.riegeli_tool.specs.RepairCommand.{IsRepaired, IsRepairedSoFar, repair_meaning};
 ghost use Rattle.riegeli_tool.specs.RepairingEnds.{end_of_repair};
-ghost use Rattle.run_answers.specs.Runs.{Runs, Seen, shown, shown_file};
+ghost use Rattle.run_answers.specs.Runs.{Runs, Seen, seen_stream, seen_file};
 ghost use Rattle.run_answers.specs.PutSoFar.{HasPutSoFar};
 ghost use Rattle.run_answers.specs.Endings.{HasPutAtEnd, IsAllowedEnd, IsShort};
 ghost use Rattle.show_damaged.specs.WalkingEnds.{TellsOf, walk_ends};
@@ -29,8 +29,8 @@ pub(crate) fn repair<S: Store, M: Sink, O: Sink, E: Sink>(
     notes: &mut E,
 ) -> Status
     ensures runs { (others : Seen) → Runs (repair_meaning words.now)
-        (record others { files = shown_file S.bytes S.told S.handed S.faults file.old ∷ []; made = shown M.taken M.faults made.old; out = shown O.taken O.faults out.old; notes = shown E.taken E.faults notes.old })
-        (record others { files = shown_file S.bytes S.told S.handed S.faults file.new ∷ []; made = shown M.taken M.faults made.new; out = shown O.taken O.faults out.new; notes = shown E.taken E.faults notes.new })
+        (record others { files = seen_file S.bytes S.told S.handed S.faults file.old ∷ []; made = seen_stream M.taken M.faults made.old; out = seen_stream O.taken O.faults out.old; notes = seen_stream E.taken E.faults notes.old })
+        (record others { files = seen_file S.bytes S.told S.handed S.faults file.new ∷ []; made = seen_stream M.taken M.faults made.new; out = seen_stream O.taken O.faults out.new; notes = seen_stream E.taken E.faults notes.new })
         result }
     ensures same_bytes { S.bytes file.new ≡ S.bytes file.old }
     ensures same_name { S.name file.new ≡ S.name file.old }

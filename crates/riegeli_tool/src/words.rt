@@ -4,6 +4,7 @@ ghost use Rattle.riegeli_tool.specs.Commands.{command_of, show_command_of, names
 
 use crate::command::{Command, Names};
 use crate::repair_words::repair_words;
+use join_files::join_words::join_words;
 use sample_records::sample_words::sample_words;
 use show_damaged::recover_words::{goes_past_damage, recover_words};
 use show_files::show_words::show_words;
@@ -32,6 +33,7 @@ fn parse<'a>(words: &'a [String]) -> Option<Command<'a>>
         "seek" => Some(Command::Seek(seek_words(words)?)),
         "repair" => Some(Command::Repair(repair_words(words)?)),
         "sample" => Some(Command::Sample(sample_words(words)?)),
+        "join" => Some(Command::Join(join_words(words)?)),
         _ => None,
     }
 }

@@ -1,8 +1,9 @@
 use Rattle.show_files.proofs.ReadingsExist.{shown_exists, verified_exists}
 use Rattle.show_damaged.proofs.OneRecovery.{recovered_exists}
 use Rattle.show_found.proofs.OneSought.{sought_exists}
+use Rattle.join_files.proofs.JoinAnswers.{join_exists}
 use Rattle.riegeli_tool.proofs.FileAnswersExist.{repaired_exists, answer_exists}
 use Rattle.riegeli_tool.proofs.laws.file_answers_exist.Goals as goal
 
 pub returns : goal.returns
-returns c = record { show = shown_exists; recover = recovered_exists; verify = verified_exists; seek = sought_exists; repair = repaired_exists; all = λ words r files grown supposed. answer_exists words r files }
+returns c = record { show = shown_exists; recover = recovered_exists; verify = verified_exists; seek = sought_exists; repair = repaired_exists; join = join_exists; all = λ words r files grown supposed. answer_exists words r files }

@@ -1,10 +1,11 @@
 use Rattle.std.proofs.Common.{Some, [], ap, sym, map, ◌∙◌, length, arith}
 use Rattle.std.specs.String.{string_bytes}
-use Rattle.riegeli_tool.specs.declared.command.Command.TheVariants.{Write, Show, Recover, Verify, Seek, Repair, Sample}
-use Rattle.riegeli_tool.specs.Commands.{command_of}
+use Rattle.riegeli_tool.specs.declared.command.Command.TheVariants.{Write, Show, Recover, Verify, Seek, Repair, Sample, Join}
+use Rattle.riegeli_tool.specs.Commands.{command_of, accepted}
 use Rattle.riegeli_tool.specs.CommandAnswers.{meaning_of}
-use Rattle.run_answers.specs.Runs.{seen, unseen, shown_file}
+use Rattle.run_answers.specs.Runs.{seen, unseen, seen_file}
 use Rattle.run_answers.proofs.RunEnds.{runs-of, runs-one_file}
+use Rattle.riegeli_tool.proofs.PastDamage.{runs-past_damage}
 use Rattle.riegeli_tool.proofs.UsageRuns.{runs-usage}
 use Rattle.riegeli_tool.proofs.FileAnswersExist.{accepted-takes}
 use Rattle.riegeli_tool.proofs.AcceptedLimits.{accepted-within}
@@ -24,6 +25,24 @@ pub sample-requires-clause-most : goal.sample-requires-clause-most
 sample-requires-clause-most g c κs within =
     (accepted-within (map string_bytes c.args.words.now) (length c.args.files.now) (Sample c.in-Some-Sample.words)
     (ap Some (sym c.in-Some-Sample.field-0-is) ∙ c.in-Some-Sample.ensures)).1
+
+pub join_files-requires-clause-some : goal.join_files-requires-clause-some
+join_files-requires-clause-some g c =
+    let is = ap Some (sym c.in-Some-Join.field-0-is) ∙ c.in-Some-Join.ensures in
+    omega (
+      arith,
+      accepted-takes (command_of (map string_bytes c.args.words.now)) (length c.args.files.now) (Join c.in-Some-Join.field-0-0) (sym is),
+      (accepted-within (map string_bytes c.args.words.now) (length c.args.files.now) (Join c.in-Some-Join.field-0-0) is).0,
+    )
+
+pub join_files-requires-clause-few : goal.join_files-requires-clause-few
+join_files-requires-clause-few g c =
+    let is = ap Some (sym c.in-Some-Join.field-0-is) ∙ c.in-Some-Join.ensures in
+    omega (
+      arith,
+      accepted-takes (command_of (map string_bytes c.args.words.now)) (length c.args.files.now) (Join c.in-Some-Join.field-0-0) (sym is),
+      (accepted-within (map string_bytes c.args.words.now) (length c.args.files.now) (Join c.in-Some-Join.field-0-0) is).1,
+    )
 
 pub bounds-files-0 : goal.bounds-files-0
 bounds-files-0 g c =
@@ -78,7 +97,7 @@ pub returns-in-Some-Show-clause-runs : goal.returns-in-Some-Show-clause-runs
 returns-in-Some-Show-clause-runs g c =
     let is = ap Some (sym c.in-Some-Show.field-0-is) ∙ c.in-Some-Show.ensures in
     runs-of _ _ _ _ _ (ap meaning_of is)
-    (runs-one_file (shown_file g.S.Store.bytes g.S.Store.told g.S.Store.handed g.S.Store.faults) c.args.files.now _ c.show.new.file _ (seen _ [] _ _ _ _) (seen _ [] _ _ _ _) _
+    (runs-one_file (seen_file g.S.Store.bytes g.S.Store.told g.S.Store.handed g.S.Store.faults) c.args.files.now _ c.show.new.file _ (seen _ [] _ _ _ _) (seen _ [] _ _ _ _) _
     (accepted-takes (command_of (map string_bytes c.args.words.now)) (length c.args.files.now) (Show c.in-Some-Show.words) (sym is))
     (c.show.ensures.runs (seen _ [] _ _ unseen unseen)))
 
@@ -86,7 +105,7 @@ pub returns-in-Some-Recover-clause-runs : goal.returns-in-Some-Recover-clause-ru
 returns-in-Some-Recover-clause-runs g c =
     let is = ap Some (sym c.in-Some-Recover.field-0-is) ∙ c.in-Some-Recover.ensures in
     runs-of _ _ _ _ _ (ap meaning_of is)
-    (runs-one_file (shown_file g.S.Store.bytes g.S.Store.told g.S.Store.handed g.S.Store.faults) c.args.files.now _ c.recover.new.file _ (seen _ [] _ _ _ _) (seen _ [] _ _ _ _) _
+    (runs-one_file (seen_file g.S.Store.bytes g.S.Store.told g.S.Store.handed g.S.Store.faults) c.args.files.now _ c.recover.new.file _ (seen _ [] _ _ _ _) (seen _ [] _ _ _ _) _
     (accepted-takes (command_of (map string_bytes c.args.words.now)) (length c.args.files.now) (Recover c.in-Some-Recover.words) (sym is))
     (c.recover.ensures.runs (seen _ [] _ _ unseen unseen)))
 
@@ -94,7 +113,7 @@ pub returns-in-Some-Verify-clause-runs : goal.returns-in-Some-Verify-clause-runs
 returns-in-Some-Verify-clause-runs g c =
     let is = ap Some (sym c.in-Some-Verify.field-0-is) ∙ c.in-Some-Verify.ensures in
     runs-of _ _ _ _ _ (ap meaning_of is)
-    (runs-one_file (shown_file g.S.Store.bytes g.S.Store.told g.S.Store.handed g.S.Store.faults) c.args.files.now _ c.verify.new.file _ (seen _ [] _ _ _ _) (seen _ [] _ _ _ _) _
+    (runs-one_file (seen_file g.S.Store.bytes g.S.Store.told g.S.Store.handed g.S.Store.faults) c.args.files.now _ c.verify.new.file _ (seen _ [] _ _ _ _) (seen _ [] _ _ _ _) _
     (accepted-takes (command_of (map string_bytes c.args.words.now)) (length c.args.files.now) (Verify c.in-Some-Verify.field-0-0) (sym is))
     (c.verify.ensures.runs (seen _ [] _ _ unseen unseen)))
 
@@ -102,7 +121,7 @@ pub returns-in-Some-Seek-clause-runs : goal.returns-in-Some-Seek-clause-runs
 returns-in-Some-Seek-clause-runs g c =
     let is = ap Some (sym c.in-Some-Seek.field-0-is) ∙ c.in-Some-Seek.ensures in
     runs-of _ _ _ _ _ (ap meaning_of is)
-    (runs-one_file (shown_file g.S.Store.bytes g.S.Store.told g.S.Store.handed g.S.Store.faults) c.args.files.now _ c.show_found.new.file _ (seen _ [] _ _ _ _) (seen _ [] _ _ _ _) _
+    (runs-one_file (seen_file g.S.Store.bytes g.S.Store.told g.S.Store.handed g.S.Store.faults) c.args.files.now _ c.show_found.new.file _ (seen _ [] _ _ _ _) (seen _ [] _ _ _ _) _
     (accepted-takes (command_of (map string_bytes c.args.words.now)) (length c.args.files.now) (Seek c.in-Some-Seek.words) (sym is))
     (c.show_found.ensures.runs (seen _ [] _ _ unseen unseen)))
 
@@ -110,7 +129,7 @@ pub returns-in-Some-Repair-clause-runs : goal.returns-in-Some-Repair-clause-runs
 returns-in-Some-Repair-clause-runs g c =
     let is = ap Some (sym c.in-Some-Repair.field-0-is) ∙ c.in-Some-Repair.ensures in
     runs-of _ _ _ _ _ (ap meaning_of is)
-    (runs-one_file (shown_file g.S.Store.bytes g.S.Store.told g.S.Store.handed g.S.Store.faults) c.args.files.now _ c.repair.new.file _ (seen _ [] _ _ _ _) (seen _ [] _ _ _ _) _
+    (runs-one_file (seen_file g.S.Store.bytes g.S.Store.told g.S.Store.handed g.S.Store.faults) c.args.files.now _ c.repair.new.file _ (seen _ [] _ _ _ _) (seen _ [] _ _ _ _) _
     (accepted-takes (command_of (map string_bytes c.args.words.now)) (length c.args.files.now) (Repair c.in-Some-Repair.words) (sym is))
     (c.repair.ensures.runs (seen _ [] unseen _ unseen unseen)))
 
@@ -118,3 +137,35 @@ pub returns-in-Some-Sample-clause-runs : goal.returns-in-Some-Sample-clause-runs
 returns-in-Some-Sample-clause-runs g c =
     runs-of _ _ _ _ _ (ap meaning_of (ap Some (sym c.in-Some-Sample.field-0-is) ∙ c.in-Some-Sample.ensures))
     (c.sample.ensures.runs (seen _ _ unseen _ unseen unseen))
+
+pub returns-in-Some-Join-clause-runs : goal.returns-in-Some-Join-clause-runs
+returns-in-Some-Join-clause-runs g c =
+    runs-of _ _ _ _ _ (ap meaning_of (ap Some (sym c.in-Some-Join.field-0-is) ∙ c.in-Some-Join.ensures))
+    (c.join_files.ensures.runs (seen _ [] unseen _ unseen unseen))
+
+pub returns-in-Some-Write-clause-damaged : goal.returns-in-Some-Write-clause-damaged
+returns-in-Some-Write-clause-damaged g c = runs-past_damage (accepted (map string_bytes c.args.words.now) (length c.args.files.now)) _ _ _ (returns-in-Some-Write-clause-runs g c)
+
+pub returns-in-None-clause-damaged : goal.returns-in-None-clause-damaged
+returns-in-None-clause-damaged g c = runs-past_damage (accepted (map string_bytes c.args.words.now) (length c.args.files.now)) _ _ _ (returns-in-None-clause-runs g c)
+
+pub returns-in-Some-Show-clause-damaged : goal.returns-in-Some-Show-clause-damaged
+returns-in-Some-Show-clause-damaged g c = runs-past_damage (accepted (map string_bytes c.args.words.now) (length c.args.files.now)) _ _ _ (returns-in-Some-Show-clause-runs g c)
+
+pub returns-in-Some-Recover-clause-damaged : goal.returns-in-Some-Recover-clause-damaged
+returns-in-Some-Recover-clause-damaged g c = runs-past_damage (accepted (map string_bytes c.args.words.now) (length c.args.files.now)) _ _ _ (returns-in-Some-Recover-clause-runs g c)
+
+pub returns-in-Some-Verify-clause-damaged : goal.returns-in-Some-Verify-clause-damaged
+returns-in-Some-Verify-clause-damaged g c = runs-past_damage (accepted (map string_bytes c.args.words.now) (length c.args.files.now)) _ _ _ (returns-in-Some-Verify-clause-runs g c)
+
+pub returns-in-Some-Seek-clause-damaged : goal.returns-in-Some-Seek-clause-damaged
+returns-in-Some-Seek-clause-damaged g c = runs-past_damage (accepted (map string_bytes c.args.words.now) (length c.args.files.now)) _ _ _ (returns-in-Some-Seek-clause-runs g c)
+
+pub returns-in-Some-Repair-clause-damaged : goal.returns-in-Some-Repair-clause-damaged
+returns-in-Some-Repair-clause-damaged g c = runs-past_damage (accepted (map string_bytes c.args.words.now) (length c.args.files.now)) _ _ _ (returns-in-Some-Repair-clause-runs g c)
+
+pub returns-in-Some-Sample-clause-damaged : goal.returns-in-Some-Sample-clause-damaged
+returns-in-Some-Sample-clause-damaged g c = runs-past_damage (accepted (map string_bytes c.args.words.now) (length c.args.files.now)) _ _ _ (returns-in-Some-Sample-clause-runs g c)
+
+pub returns-in-Some-Join-clause-damaged : goal.returns-in-Some-Join-clause-damaged
+returns-in-Some-Join-clause-damaged g c = runs-past_damage (accepted (map string_bytes c.args.words.now) (length c.args.files.now)) _ _ _ (returns-in-Some-Join-clause-runs g c)
