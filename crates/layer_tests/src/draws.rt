@@ -37,6 +37,18 @@ fn two_seats_draw_three_numbers_in_turns(rt: HostRuntime) -> Result<(), Fail> {
     Ok(())
 }
 
+/// The first step draws 0, which is no number below none.
+#[test]
+fn a_seat_of_no_numbers_ends_at_once(rt: HostRuntime) -> Result<(), Fail> {
+    let (draws, mut seats) = Draws::new(rt.alloc(), 0, 1)?;
+    let mut seat = seats.pop().expect(&rt, "a seat");
+    end_at(&rt, &draws, &mut seat, 0);
+    let mut seats = Vec::with_capacity(rt.alloc(), 1)?;
+    seats.push_reserved(seat);
+    draws.finish(seats);
+    Ok(())
+}
+
 /// How many numbers are drawn in threads.
 const COUNT: u64 = 10_000;
 

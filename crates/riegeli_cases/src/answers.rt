@@ -1,13 +1,14 @@
 //! What a run is to answer, and where it answers something else.
 
 use crate::facts::{Fact, fact_of};
-use crate::given::{Given, Object};
-use crate::names::Known;
 use crate::running::Left;
 use crate::telling::{tell_status, tell_taken};
-use crate::walk::walked;
-use crate::words::{Statement, one_number};
+use crate::tries::Tries;
 use anyhow::{Result, bail};
+use case_text::given::{Given, Object};
+use case_text::names::Known;
+use case_text::words::{Statement, one_number};
+use plain_reading::walk::walked;
 use std::alloc::{AllocError, Global};
 use std::thread::Threads;
 
@@ -54,7 +55,7 @@ impl Answer {
         &mut self,
         rt: &R,
         alloc: Global,
-        known: &mut Known,
+        tries: &mut Tries,
         given: &Given,
         statement: &Statement,
     ) -> Result<()> {
@@ -69,12 +70,12 @@ impl Answer {
                 self.silent = true;
                 Ok(())
             }
-            "status" => self.take_status(alloc, known, words),
+            "status" => self.take_status(alloc, &tries.known, words),
             "handed" => self.take_handed(given, words),
             "walked" => self.take_walk(alloc, given),
             object => {
                 let object = Object::named(object)?;
-                let fact = fact_of(rt, alloc, known, words)?;
+                let fact = fact_of(rt, alloc, tries, words)?;
                 self.add_fact(object, fact)
             }
         }
@@ -176,14 +177,16 @@ impl Answer {
     }
 
     /// Gives what a run left the names that are wanted.
-    pub(crate) fn name_left(&self, alloc: Global, known: &mut Known, left: &Left) -> Result<()> {
+    pub(crate) fn name_left(&self, alloc: Global, tries: &mut Tries, left: &Left) -> Result<()> {
         if let Some(name) = &self.status_name {
             let status = format!(in alloc; "{}", left.status)?;
-            known.add(alloc, name.as_str(), status.into_bytes())?;
+            tries.known.add(alloc, name.as_str(), status.into_bytes())?;
         }
         for (object, fact) in &self.facts {
             if let Fact::Named(name) = fact {
-                known.add(alloc, name.as_str(), left.taken(*object).to_vec(alloc)?)?;
+                tries
+                    .known
+                    .add(alloc, name.as_str(), left.taken(*object).to_vec(alloc)?)?;
             }
         }
         Ok(())

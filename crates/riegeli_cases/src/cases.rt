@@ -1,10 +1,10 @@
 //! Cases, each for one or for many.
 
-use crate::given::Object;
-use crate::names::Known;
 use crate::trial::{Failure, Trial};
-use crate::words::{Statement, count_of, filled, range_of};
+use crate::tries::Tries;
 use anyhow::{Result, anyhow, bail};
+use case_text::given::Object;
+use case_text::words::{Statement, count_of, filled, range_of};
 use std::alloc::Global;
 use std::ops::Range;
 use std::thread::Threads;
@@ -24,17 +24,17 @@ struct Each {
 pub(crate) fn try_case<R: Threads + Sync>(
     rt: &R,
     alloc: Global,
-    known: &mut Known,
+    tries: &mut Tries,
     line: u64,
     statements: &[Statement],
 ) -> Result<(), Failure> {
     let mut each = each_of(alloc, statements)?;
     let Some(numbers) = each.numbers.take() else {
-        return try_ways(rt, alloc, known, line, statements, &each);
+        return try_ways(rt, alloc, tries, line, statements, &each);
     };
     for number in numbers {
         let filled = Failure::at(alloc, line, filled(alloc, statements, number))?;
-        if let Err(mut failure) = try_ways(rt, alloc, known, line, &filled, &each) {
+        if let Err(mut failure) = try_ways(rt, alloc, tries, line, &filled, &each) {
             failure.number = Some(number);
             return Err(failure);
         }
@@ -46,19 +46,19 @@ pub(crate) fn try_case<R: Threads + Sync>(
 fn try_ways<R: Threads + Sync>(
     rt: &R,
     alloc: Global,
-    known: &mut Known,
+    tries: &mut Tries,
     line: u64,
     statements: &[Statement],
     each: &Each,
 ) -> Result<(), Failure> {
     if each.ways.is_empty() {
-        return try_once(rt, alloc, known, line, statements, &each.failing, &[]);
+        return try_once(rt, alloc, tries, line, statements, &each.failing, &[]);
     }
     for (way, cuts) in each.ways.iter().enumerate() {
         if let Err(mut failure) = try_once(
             rt,
             alloc,
-            known,
+            tries,
             line,
             statements,
             &each.failing,
@@ -75,16 +75,16 @@ fn try_ways<R: Threads + Sync>(
 fn try_once<R: Threads + Sync>(
     rt: &R,
     alloc: Global,
-    known: &mut Known,
+    tries: &mut Tries,
     line: u64,
     statements: &[Statement],
     failing: &[Object],
     cuts: &[u32],
 ) -> Result<(), Failure> {
-    let count = known.count();
+    let count = tries.known.count();
     let mut trial = Failure::at(alloc, line, Trial::new(alloc, failing, cuts))?;
-    let tried = trial.carry_out_all(rt, alloc, known, line, statements);
-    known.forget(count);
+    let tried = trial.carry_out_all(rt, alloc, tries, line, statements);
+    tries.known.forget(count);
     tried
 }
 

@@ -1,9 +1,9 @@
 //! What is said of the bytes that an object took.
 
-use crate::bytes::bytes_of;
-use crate::names::Known;
-use crate::words::number_of;
+use crate::tries::Tries;
+use crate::written::said_bytes;
 use anyhow::{Result, bail};
+use case_text::words::number_of;
 use highway_hash::{RIEGELI, hash_lanes};
 use std::alloc::Global;
 use std::thread::Threads;
@@ -43,7 +43,7 @@ impl Fact {
 pub(crate) fn fact_of<R: Threads + Sync>(
     rt: &R,
     alloc: Global,
-    known: &mut Known,
+    tries: &mut Tries,
     words: &[String],
 ) -> Result<Fact> {
     if let [first, word] = words
@@ -54,9 +54,9 @@ pub(crate) fn fact_of<R: Threads + Sync>(
     match words {
         [first, place, words @ ..] if first.as_str() == "at" => {
             let place = number_of(place.as_str())?;
-            Ok(Fact::At(place, bytes_of(rt, alloc, known, words)?))
+            Ok(Fact::At(place, said_bytes(rt, alloc, tries, words)?))
         }
-        _ => Ok(Fact::All(bytes_of(rt, alloc, known, words)?)),
+        _ => Ok(Fact::All(said_bytes(rt, alloc, tries, words)?)),
     }
 }
 

@@ -1,11 +1,11 @@
 //! Runs of which a call fails.
 
 use crate::answers::Answer;
-use crate::given::{Given, Object};
-use crate::names::Known;
 use crate::running::{Left, run_in_memory};
 use crate::telling::{tell_status, tell_taken};
+use crate::tries::Tries;
 use anyhow::{Result, bail};
+use case_text::given::{Given, Object};
 use std::alloc::Global;
 use std::thread::Threads;
 
@@ -70,14 +70,14 @@ fn fault_differences(
 fn run_failing<R: Threads + Sync>(
     rt: &R,
     alloc: Global,
-    known: &mut Known,
+    tries: &mut Tries,
     words: &[String],
     given: &mut Given,
     object: Object,
     call: u32,
 ) -> Result<Left> {
     given.fails.push((object, call))?;
-    let left = run_in_memory(rt, alloc, words, given, &mut known.runs);
+    let left = run_in_memory(rt, alloc, words, given, &mut tries.runs);
     given.fails.pop();
     left
 }
@@ -87,14 +87,14 @@ fn run_failing<R: Threads + Sync>(
 pub(crate) fn try_faults<R: Threads + Sync>(
     rt: &R,
     alloc: Global,
-    known: &mut Known,
+    tries: &mut Tries,
     words: &[String],
     given: &mut Given,
     answer: &Answer,
     object: Object,
 ) -> Result<String> {
     for call in 0..CALLS {
-        let left = run_failing(rt, alloc, known, words, given, object, call)?;
+        let left = run_failing(rt, alloc, tries, words, given, object, call)?;
         if call > 0 && answer.differences(alloc, &left)?.is_empty() {
             return Ok(String::new(alloc));
         }

@@ -3,25 +3,21 @@
 #![tactic(auto)]
 
 mod answers;
-mod bytes;
 mod cases;
-mod chunks;
 mod facts;
 mod faults;
-mod files;
-mod given;
-mod names;
+mod hostile_files;
 mod running;
+mod sought;
 mod stores;
 mod tally;
 mod telling;
-mod texts;
 mod trial;
-mod walk;
-mod words;
+mod tries;
+mod written;
 
 use anyhow::{Result, bail};
-use names::Known;
+use case_text::words::{Statement, statements_of};
 use std::alloc::Global;
 use std::env;
 use std::fs::File;
@@ -29,14 +25,14 @@ use std::io::BufReader;
 use std::rt::Runtime;
 use std::thread::Threads;
 use tally::try_file;
-use words::{Statement, statements_of};
+use tries::Tries;
 
 fn main(rt: HostRuntime) -> Result<()> {
     let alloc = rt.alloc();
-    let mut known = Known::new(alloc);
+    let mut tries = Tries::new(alloc);
     let names = statements_of(alloc, BufReader::new(alloc, rt.reader())?)?;
-    learn_names(&rt, alloc, &mut known, &names)?;
-    let failed = try_files(&rt, alloc, &mut known)?;
+    learn_names(&rt, alloc, &mut tries, &names)?;
+    let failed = try_files(&rt, alloc, &mut tries)?;
     if failed > 0 {
         bail!("{failed} cases failed that must not, or didn't that must");
     }
@@ -47,7 +43,7 @@ fn main(rt: HostRuntime) -> Result<()> {
 fn learn_names<R: Threads + Sync>(
     rt: &R,
     alloc: Global,
-    known: &mut Known,
+    tries: &mut Tries,
     statements: &[Statement],
 ) -> Result<()> {
     for statement in statements {
@@ -55,7 +51,7 @@ fn learn_names<R: Threads + Sync>(
         if statement.kind() != "let" {
             bail!("line {line}: standard input has names alone");
         }
-        if let Err(error) = known.learn(rt, alloc, statement) {
+        if let Err(error) = tries.learn(rt, alloc, statement) {
             bail!("line {line}: {error}");
         }
     }
@@ -66,15 +62,15 @@ fn learn_names<R: Threads + Sync>(
 fn try_files<R: Runtime<A = Global> + Threads + Sync>(
     rt: &R,
     alloc: Global,
-    known: &mut Known,
+    tries: &mut Tries,
 ) -> Result<u64> {
     let mut failed = 0_u64;
     for name in env::args(rt)?.skip(1) {
         let file = File::open(rt, name.as_str())?;
         let statements = statements_of(alloc, BufReader::new(alloc, file)?)?;
-        let count = known.count();
-        failed = failed.saturating_add(try_file(rt, alloc, known, name.as_str(), &statements)?);
-        known.forget(count);
+        let count = tries.known.count();
+        failed = failed.saturating_add(try_file(rt, alloc, tries, name.as_str(), &statements)?);
+        tries.known.forget(count);
     }
     Ok(failed)
 }

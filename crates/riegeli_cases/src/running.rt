@@ -1,8 +1,10 @@
 //! Runs of the whole program over objects in memory.
 
-use crate::given::{Given, Object};
 use crate::stores::Untold;
+use crate::tries::Tries;
 use anyhow::{Result, bail};
+use case_text::files::GivenFile;
+use case_text::given::{Given, Object};
 use record_append::MemDevice;
 use record_io::{MemInput, MemSink, MemStore, Store};
 use riegeli_tool::run;
@@ -38,6 +40,15 @@ impl Left {
     }
 }
 
+/// A file by itself, which tells no bytes, since then no run copies it.
+pub(crate) fn alone(alloc: Global, bytes: Vec<u8>) -> Result<Given> {
+    let mut file = GivenFile::new(bytes);
+    file.untold = Some(file.bytes.len() as u64);
+    let mut given = Given::new(alloc);
+    given.files.push(file)?;
+    Ok(given)
+}
+
 /// Runs the words over what is given.
 pub(crate) fn run_in_memory<R: Threads + Sync>(
     rt: &R,
@@ -57,6 +68,21 @@ pub(crate) fn run_in_memory<R: Threads + Sync>(
         files.push(MemStore::new(file.bytes.to_vec(alloc)?, cuts, fails))?;
     }
     Ok(run_over(rt, alloc, words, given, &mut files)?)
+}
+
+/// Runs these words over what is given.
+pub(crate) fn run_words<R: Threads + Sync>(
+    rt: &R,
+    alloc: Global,
+    tries: &mut Tries,
+    given: &Given,
+    words: &[&str],
+) -> Result<Left> {
+    let mut command = Vec::new(alloc);
+    for word in words {
+        command.push(String::from_str(alloc, word)?)?;
+    }
+    run_in_memory(rt, alloc, &command, given, &mut tries.runs)
 }
 
 /// The same where a file tells nothing: then none does.

@@ -1,10 +1,10 @@
 //! Tries the cases of a file, and prints which of them fail, and how many there were.
 
 use crate::cases::try_case;
-use crate::names::Known;
 use crate::trial::Failure;
-use crate::words::Statement;
+use crate::tries::Tries;
 use anyhow::{Result, bail};
+use case_text::words::Statement;
 use std::alloc::Global;
 use std::io;
 use std::thread::Threads;
@@ -24,7 +24,7 @@ struct Tally {
 pub(crate) fn try_file<R: Threads + Sync + Print>(
     rt: &R,
     alloc: Global,
-    known: &mut Known,
+    tries: &mut Tries,
     name: &str,
     statements: &[Statement],
 ) -> Result<u64> {
@@ -33,19 +33,19 @@ pub(crate) fn try_file<R: Threads + Sync + Print>(
         wrong: 0,
         failed: 0,
     };
-    known.runs = 0;
+    tries.runs = 0;
     let mut rest = statements;
     for _ in 0..statements.len() {
         let Some((first, after)) = rest.split_first() else {
             break;
         };
         let (body, after) = body_of(first, after);
-        if let Err(error) = try_part(rt, alloc, known, &mut tally, first, body) {
+        if let Err(error) = try_part(rt, alloc, tries, &mut tally, first, body) {
             bail!("{name}, line {}: {error}", first.line);
         }
         rest = after;
     }
-    print_tally(rt, name, tally, known.runs)?;
+    print_tally(rt, name, tally, tries.runs)?;
     Ok(tally.failed)
 }
 
@@ -68,15 +68,15 @@ fn body_of<'a>(
 fn try_part<R: Threads + Sync + Print>(
     rt: &R,
     alloc: Global,
-    known: &mut Known,
+    tries: &mut Tries,
     tally: &mut Tally,
     first: &Statement,
     body: &[Statement],
 ) -> Result<()> {
     match (first.kind(), first.rest()) {
-        ("let", _) => known.learn(rt, alloc, first),
+        ("let", _) => tries.learn(rt, alloc, first),
         ("case", [name]) => {
-            let tried = try_case(rt, alloc, known, first.line, body);
+            let tried = try_case(rt, alloc, tries, first.line, body);
             tally.cases = tally.cases.saturating_add(1);
             if let Err(failure) = tried {
                 tally.failed = tally.failed.saturating_add(1);
@@ -85,7 +85,7 @@ fn try_part<R: Threads + Sync + Print>(
             Ok(())
         }
         ("wrong", [name]) => {
-            match try_case(rt, alloc, known, first.line, body) {
+            match try_case(rt, alloc, tries, first.line, body) {
                 Ok(()) => {
                     tally.failed = tally.failed.saturating_add(1);
                     println!(rt; "{name} did not fail")?;

@@ -1,7 +1,7 @@
 //! What a run left, told.
 
-use crate::given::Object;
 use crate::running::Left;
+use case_text::given::Object;
 use std::alloc::{AllocError, Global};
 
 /// Tells the status.

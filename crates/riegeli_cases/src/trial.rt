@@ -1,15 +1,17 @@
 //! The statements of a case, carried out one after another.
 
 use crate::answers::{Answer, says_answer};
-use crate::bytes::bytes_of;
 use crate::faults::try_faults;
-use crate::files::GivenFile;
-use crate::given::{Given, Object};
-use crate::names::Known;
+use crate::hostile_files::try_hostile;
 use crate::running::run_in_memory;
-use crate::texts::command_of;
-use crate::words::Statement;
+use crate::sought::try_sought;
+use crate::tries::Tries;
+use crate::written::said_bytes;
 use anyhow::{Error, Result, anyhow, bail};
+use case_text::files::GivenFile;
+use case_text::given::{Given, Object};
+use case_text::texts::command_of;
+use case_text::words::Statement;
 use std::alloc::Global;
 use std::mem;
 use std::thread::Threads;
@@ -90,18 +92,18 @@ impl Trial {
         &mut self,
         rt: &R,
         alloc: Global,
-        known: &mut Known,
+        tries: &mut Tries,
         line: u64,
         statements: &[Statement],
     ) -> Result<(), Failure> {
         for statement in statements {
             if self.is_settled_by(statement.kind()) {
-                self.settle(rt, alloc, known)?;
+                self.settle(rt, alloc, tries)?;
             }
-            let tried = self.carry_out(rt, alloc, known, statement);
+            let tried = self.carry_out(rt, alloc, tries, statement);
             Failure::at(alloc, statement.line, tried)?;
         }
-        self.settle(rt, alloc, known)?;
+        self.settle(rt, alloc, tries)?;
         if !self.ran {
             return Err(Failure::new(alloc, line, anyhow!("nothing is run")));
         }
@@ -118,16 +120,17 @@ impl Trial {
         &mut self,
         rt: &R,
         alloc: Global,
-        known: &mut Known,
+        tries: &mut Tries,
         statement: &Statement,
     ) -> Result<()> {
         match statement.kind() {
             "each" => Ok(()),
             "run" => self.take_run(alloc, statement),
-            "file" => self.take_file(rt, alloc, known, statement.rest()),
-            kind if !says_answer(kind) => self.given.carry_out(rt, alloc, known, statement),
+            "sought" | "hostile" => self.take_many(rt, alloc, tries, statement),
+            "file" => self.take_file(rt, alloc, tries, statement.rest()),
+            kind if !says_answer(kind) => self.given.carry_out(alloc, &tries.known, statement),
             _ if self.runs.is_empty() => bail!("no run stands above it"),
-            _ => self.answer.take(rt, alloc, known, &self.given, statement),
+            _ => self.answer.take(rt, alloc, tries, &self.given, statement),
         }
     }
 
@@ -141,20 +144,37 @@ impl Trial {
         Ok(())
     }
 
+    /// Carries out many runs over the last file, which are told their answers by other runs.
+    fn take_many<R: Threads + Sync>(
+        &mut self,
+        rt: &R,
+        alloc: Global,
+        tries: &mut Tries,
+        statement: &Statement,
+    ) -> Result<()> {
+        self.files_used = true;
+        self.ran = true;
+        let words = statement.rest();
+        match statement.kind() {
+            "sought" => try_sought(rt, alloc, tries, &self.given, words),
+            _ => try_hostile(rt, alloc, tries, &self.given, words),
+        }
+    }
+
     /// Takes in one more file, or gives the last one a name.
     fn take_file<R: Threads + Sync>(
         &mut self,
         rt: &R,
         alloc: Global,
-        known: &mut Known,
+        tries: &mut Tries,
         words: &[String],
     ) -> Result<()> {
         match words {
             [first, name] if first.as_str() == "as" => {
                 let bytes = self.given.last_file()?.bytes.to_vec(alloc)?;
-                Ok(known.add(alloc, name.as_str(), bytes)?)
+                Ok(tries.known.add(alloc, name.as_str(), bytes)?)
             }
-            _ => self.add_file(bytes_of(rt, alloc, known, words)?),
+            _ => self.add_file(said_bytes(rt, alloc, tries, words)?),
         }
     }
 
@@ -173,11 +193,11 @@ impl Trial {
         &mut self,
         rt: &R,
         alloc: Global,
-        known: &mut Known,
+        tries: &mut Tries,
     ) -> Result<(), Failure> {
         let runs = mem::replace(&mut self.runs, Vec::new(alloc));
         let answer = mem::replace(&mut self.answer, Answer::new(alloc));
-        self.try_runs(rt, alloc, known, &runs, &answer)
+        self.try_runs(rt, alloc, tries, &runs, &answer)
     }
 
     /// Runs these, and compares what they answer.
@@ -185,7 +205,7 @@ impl Trial {
         &mut self,
         rt: &R,
         alloc: Global,
-        known: &mut Known,
+        tries: &mut Tries,
         runs: &[Run],
         answer: &Answer,
     ) -> Result<(), Failure> {
@@ -194,7 +214,7 @@ impl Trial {
                 let why = anyhow!("nothing is said of this run");
                 return Err(Failure::new(alloc, run.line, why));
             }
-            let tried = self.try_run(rt, alloc, known, &run.words, answer);
+            let tried = self.try_run(rt, alloc, tries, &run.words, answer);
             let got = Failure::at(alloc, run.line, tried)?;
             if !got.is_empty() {
                 let why = anyhow!("it answers something else");
@@ -211,12 +231,12 @@ impl Trial {
         &mut self,
         rt: &R,
         alloc: Global,
-        known: &mut Known,
+        tries: &mut Tries,
         words: &[String],
         answer: &Answer,
     ) -> Result<String> {
         for object in &self.failing {
-            let got = try_faults(rt, alloc, known, words, &mut self.given, answer, *object)?;
+            let got = try_faults(rt, alloc, tries, words, &mut self.given, answer, *object)?;
             if !got.is_empty() {
                 return Ok(got);
             }
@@ -224,9 +244,9 @@ impl Trial {
         if !self.failing.is_empty() {
             return Ok(String::new(alloc));
         }
-        let left = run_in_memory(rt, alloc, words, &self.given, &mut known.runs)?;
+        let left = run_in_memory(rt, alloc, words, &self.given, &mut tries.runs)?;
         let got = answer.differences(alloc, &left)?;
-        answer.name_left(alloc, known, &left)?;
+        answer.name_left(alloc, tries, &left)?;
         Ok(got)
     }
 }

@@ -13,6 +13,7 @@ verify FILE
 seek (--at=N | --key=TEXT) [--hex] FILE
 repair [--most=N] FROM TO
 sample --seed=N --records=N [--chunk=N] [--workers=N] FILE
+join FROM... TO
 ";
 
 /// The report of the file of three lines.

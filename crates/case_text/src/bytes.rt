@@ -1,53 +1,15 @@
 //! Bytes as a statement says them.
 
 use crate::chunks::{header_of, kind_of};
-use crate::given::Given;
 use crate::names::Known;
-use crate::running::run_in_memory;
-use crate::texts::{command_of, unescaped};
+use crate::texts::unescaped;
 use crate::words::{number_of, range_of};
 use anyhow::{Result, bail};
 use block_layout::BlockHeader;
 use std::alloc::Global;
-use std::thread::Threads;
 
 /// The bytes of these words, of which there are some.
-pub(crate) fn bytes_of<R: Threads + Sync>(
-    rt: &R,
-    alloc: Global,
-    known: &mut Known,
-    words: &[String],
-) -> Result<Vec<u8>> {
-    match words {
-        [first, rest @ ..] if first.as_str() == "written" => written(rt, alloc, known, rest),
-        _ => joined(alloc, known, words),
-    }
-}
-
-/// The file that words make of the bytes behind a `<`, silently.
-fn written<R: Threads + Sync>(
-    rt: &R,
-    alloc: Global,
-    known: &mut Known,
-    words: &[String],
-) -> Result<Vec<u8>> {
-    let place = words.iter().position(|word| word.as_str() == "<");
-    let Some((command, [_, input @ ..])) = place.and_then(|place| words.split_at_checked(place))
-    else {
-        bail!("no input");
-    };
-    let command = command_of(alloc, command)?;
-    let mut given = Given::new(alloc);
-    given.input = Some(joined(alloc, known, input)?);
-    let left = run_in_memory(rt, alloc, &command, &given, &mut known.runs)?;
-    if left.status != 0 || !left.out.taken().is_empty() || !left.notes.taken().is_empty() {
-        bail!("the file isn't written silently");
-    }
-    Ok(left.made.taken().to_vec(alloc)?)
-}
-
-/// The bytes of words that name no command.
-fn joined(alloc: Global, known: &Known, words: &[String]) -> Result<Vec<u8>> {
+pub fn bytes_of(alloc: Global, known: &Known, words: &[String]) -> Result<Vec<u8>> {
     if words.is_empty() {
         bail!("no bytes");
     }
@@ -123,6 +85,7 @@ fn made_of(alloc: Global, name: &str, arguments: &str) -> Result<Vec<u8>> {
         ("le64", [number]) => le64(alloc, number),
         ("block", [previous, next]) => block(alloc, previous, next),
         ("header", [kind, records, decoded, size]) => header(alloc, kind, records, decoded, size),
+        ("lines", [from, to]) => lines(alloc, number_of(from)?, number_of(to)?),
         ("random", [seed, count]) => random(alloc, number_of(seed)?, number_of(count)?),
         _ => bail!("no such bytes: {name}(..)"),
     }
@@ -146,6 +109,15 @@ fn header(alloc: Global, kind: &str, records: &str, decoded: &str, size: &str) -
     let (records, decoded, size) = (number_of(records)?, number_of(decoded)?, number_of(size)?);
     let header = header_of(kind, records, decoded, size, 0)?;
     Ok(header.to_bytes().to_vec(alloc)?)
+}
+
+/// A line for each number from one on below another one.
+fn lines(alloc: Global, from: usize, to: usize) -> Result<Vec<u8>> {
+    let mut lines = String::new(alloc);
+    for number in from..to {
+        writeln!(lines, "{number}")?;
+    }
+    Ok(lines.into_bytes())
 }
 
 /// So many bytes of a generator of numbers.

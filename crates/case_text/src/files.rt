@@ -6,18 +6,18 @@ use crate::names::Known;
 use crate::words::{Statement, number_of};
 use anyhow::{Result, bail};
 use std::alloc::Global;
-use std::thread::Threads;
 
 /// A file that is read.
 #[derive(Drop)]
-pub(crate) struct GivenFile {
-    pub(crate) bytes: Vec<u8>,
+pub struct GivenFile {
+    pub bytes: Vec<u8>,
     /// The size of one that tells nothing of its bytes: zero bytes follow those above.
-    pub(crate) untold: Option<u64>,
+    pub untold: Option<u64>,
 }
 
 impl GivenFile {
-    pub(crate) fn new(bytes: Vec<u8>) -> GivenFile {
+    /// One that tells its bytes.
+    pub fn new(bytes: Vec<u8>) -> GivenFile {
         GivenFile {
             bytes,
             untold: None,
@@ -26,10 +26,9 @@ impl GivenFile {
 }
 
 /// Carries out a statement that changes a file.
-pub(crate) fn change<R: Threads + Sync>(
-    rt: &R,
+pub fn change(
     alloc: Global,
-    known: &mut Known,
+    known: &Known,
     file: &mut GivenFile,
     statement: &Statement,
 ) -> Result<()> {
@@ -39,12 +38,12 @@ pub(crate) fn change<R: Threads + Sync>(
         ("zeros", [size]) => fill_up(bytes, number_of(size.as_str())?),
         ("flip", [places @ ..]) => flip(bytes, places),
         ("put", [place, words @ ..]) => {
-            let new = bytes_of(rt, alloc, known, words)?;
+            let new = bytes_of(alloc, known, words)?;
             put(bytes, number_of(place.as_str())?, &new)
         }
-        ("rehash", [place]) => rehash(alloc, bytes, number_of(place.as_str())?),
+        ("rehash", [place]) => mend(alloc, bytes, number_of(place.as_str())?),
         ("chunk", [kind, records, decoded, words @ ..]) => {
-            let data = bytes_of(rt, alloc, known, words)?;
+            let data = bytes_of(alloc, known, words)?;
             let records = number_of(records.as_str())?;
             let decoded = number_of(decoded.as_str())?;
             lay(
@@ -99,6 +98,14 @@ fn flip(file: &mut [u8], places: &[String]) -> Result<()> {
     Ok(())
 }
 
+/// Makes the hash of the chunk header right that begins at a place.
+fn mend(alloc: Global, file: &mut [u8], place: usize) -> Result<()> {
+    if !rehash(alloc, file, place)? {
+        bail!("no chunk header at {place}");
+    }
+    Ok(())
+}
+
 /// Puts bytes in the place of others.
 fn put(file: &mut [u8], place: usize, new: &[u8]) -> Result<()> {
     if place > file.len() || new.len() > file.len() - place {
@@ -109,7 +116,7 @@ fn put(file: &mut [u8], place: usize, new: &[u8]) -> Result<()> {
 }
 
 /// Lets the last file stand so many times.
-pub(crate) fn copy(alloc: Global, files: &mut Vec<GivenFile>, times: usize) -> Result<()> {
+pub fn copy(alloc: Global, files: &mut Vec<GivenFile>, times: usize) -> Result<()> {
     let Some(file) = files.pop() else {
         bail!("no file stands above it");
     };

@@ -4,7 +4,7 @@ use anyhow::{Result, bail};
 use std::alloc::Global;
 
 /// The bytes of a word, without its quotes where it has them.
-pub(crate) fn plain(alloc: Global, word: &str) -> Result<Vec<u8>> {
+pub fn plain(alloc: Global, word: &str) -> Result<Vec<u8>> {
     let Some(quoted) = word.strip_prefix('"') else {
         return Ok(word.as_bytes().to_vec(alloc)?);
     };
@@ -15,7 +15,7 @@ pub(crate) fn plain(alloc: Global, word: &str) -> Result<Vec<u8>> {
 }
 
 /// The words of a command, without their quotes.
-pub(crate) fn command_of(alloc: Global, words: &[String]) -> Result<Vec<String>> {
+pub fn command_of(alloc: Global, words: &[String]) -> Result<Vec<String>> {
     let mut command = Vec::new(alloc);
     for word in words {
         match String::from_utf8(plain(alloc, word.as_str())?) {
@@ -27,7 +27,7 @@ pub(crate) fn command_of(alloc: Global, words: &[String]) -> Result<Vec<String>>
 }
 
 /// The bytes of what stands between quotes.
-pub(crate) fn unescaped(alloc: Global, text: &str) -> Result<Vec<u8>> {
+pub fn unescaped(alloc: Global, text: &str) -> Result<Vec<u8>> {
     let mut bytes = Vec::new(alloc);
     let mut rest = text.as_bytes();
     for _ in 0..text.len() {

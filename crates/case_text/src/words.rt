@@ -7,14 +7,16 @@ use std::ops::Range;
 
 /// The words of a line and of the indented lines below it, each as it is written: a text with its quotes.
 #[derive(Drop)]
-pub(crate) struct Statement {
-    pub(crate) line: u64,
-    pub(crate) words: Vec<String>,
+pub struct Statement {
+    /// The line that it begins in, from 1.
+    pub line: u64,
+    /// Its words, of which there are some.
+    pub words: Vec<String>,
 }
 
 impl Statement {
     /// Its first word, which says what it is.
-    pub(crate) fn kind(&self) -> &str {
+    pub fn kind(&self) -> &str {
         match self.words.first() {
             Some(word) => word.as_str(),
             None => "",
@@ -22,7 +24,7 @@ impl Statement {
     }
 
     /// The words behind the first one.
-    pub(crate) fn rest(&self) -> &[String] {
+    pub fn rest(&self) -> &[String] {
         self.words.get(1..).unwrap_or(&[])
     }
 
@@ -40,11 +42,7 @@ impl Statement {
 }
 
 /// The statements with this number in place of each `{}`.
-pub(crate) fn filled(
-    alloc: Global,
-    statements: &[Statement],
-    number: usize,
-) -> Result<Vec<Statement>> {
+pub fn filled(alloc: Global, statements: &[Statement], number: usize) -> Result<Vec<Statement>> {
     let number = format!(in alloc; "{number}")?;
     let mut filled = Vec::new(alloc);
     for statement in statements {
@@ -54,7 +52,7 @@ pub(crate) fn filled(
 }
 
 /// The statements of these lines. A line without a word is no part of any.
-pub(crate) fn statements_of<B: BufRead + Drop>(alloc: Global, lines: B) -> Result<Vec<Statement>> {
+pub fn statements_of<B: BufRead + Drop>(alloc: Global, lines: B) -> Result<Vec<Statement>> {
     let mut statements: Vec<Statement> = Vec::new(alloc);
     for (number, line) in lines.lines(alloc).enumerate() {
         let number = (number as u64).saturating_add(1);
@@ -121,7 +119,7 @@ fn end_of_word(text: &str) -> usize {
 }
 
 /// The decimal number of these digits.
-pub(crate) fn number_of(digits: &str) -> Result<usize> {
+pub fn number_of(digits: &str) -> Result<usize> {
     match digits.parse() {
         Ok(number) => Ok(number),
         Err(_) => bail!("no number: {digits}"),
@@ -129,7 +127,7 @@ pub(crate) fn number_of(digits: &str) -> Result<usize> {
 }
 
 /// The same, where it has 32 bits.
-pub(crate) fn count_of(digits: &str) -> Result<u32> {
+pub fn count_of(digits: &str) -> Result<u32> {
     match digits.parse() {
         Ok(number) => Ok(number),
         Err(_) => bail!("no number of 32 bits: {digits}"),
@@ -137,7 +135,7 @@ pub(crate) fn count_of(digits: &str) -> Result<u32> {
 }
 
 /// The one number that the words are.
-pub(crate) fn one_number(words: &[String]) -> Result<usize> {
+pub fn one_number(words: &[String]) -> Result<usize> {
     match words {
         [word] => number_of(word.as_str()),
         _ => bail!("not one number"),
@@ -145,7 +143,7 @@ pub(crate) fn one_number(words: &[String]) -> Result<usize> {
 }
 
 /// The numbers of `A..B`, of which there are some.
-pub(crate) fn range_of(text: &str) -> Result<Range<usize>> {
+pub fn range_of(text: &str) -> Result<Range<usize>> {
     let Some((from, to)) = text.split_once("..") else {
         bail!("no range: {text}");
     };

@@ -6,11 +6,10 @@ use crate::names::Known;
 use crate::words::{Statement, count_of, one_number};
 use anyhow::{Result, bail};
 use std::alloc::{AllocError, Global};
-use std::thread::Threads;
 
 /// An object that a run uses.
 #[derive(Clone, Copy, PartialEq, Eq)]
-pub(crate) enum Object {
+pub enum Object {
     Input,
     File,
     Made,
@@ -20,10 +19,10 @@ pub(crate) enum Object {
 
 impl Object {
     /// Those that take bytes.
-    pub(crate) const TAKING: [Object; 3] = [Object::Made, Object::Out, Object::Notes];
+    pub const TAKING: [Object; 3] = [Object::Made, Object::Out, Object::Notes];
 
     /// The object of this name.
-    pub(crate) fn named(word: &str) -> Result<Object> {
+    pub fn named(word: &str) -> Result<Object> {
         match word {
             "input" => Ok(Object::Input),
             "file" => Ok(Object::File),
@@ -34,7 +33,8 @@ impl Object {
         }
     }
 
-    pub(crate) fn name(self) -> &'static str {
+    /// Its name.
+    pub fn name(self) -> &'static str {
         match self {
             Object::Input => "input",
             Object::File => "file",
@@ -47,20 +47,21 @@ impl Object {
 
 /// What a run is given.
 #[derive(Drop)]
-pub(crate) struct Given {
-    pub(crate) input: Option<Vec<u8>>,
-    pub(crate) files: Vec<GivenFile>,
+pub struct Given {
+    /// Standard input, if it is given.
+    pub input: Option<Vec<u8>>,
+    pub files: Vec<GivenFile>,
     /// How many bytes calls move at most, by turns.
-    pub(crate) cuts: Vec<u32>,
+    pub cuts: Vec<u32>,
     /// Calls that fail.
-    pub(crate) fails: Vec<(Object, u32)>,
+    pub fails: Vec<(Object, u32)>,
     /// How many bytes the made file takes, if that is said.
-    pub(crate) room: Option<usize>,
+    pub room: Option<usize>,
 }
 
 impl Given {
     /// Nothing, of which no call is cut or fails.
-    pub(crate) fn new(alloc: Global) -> Given {
+    pub fn new(alloc: Global) -> Given {
         Given {
             input: None,
             files: Vec::new(alloc),
@@ -71,7 +72,7 @@ impl Given {
     }
 
     /// The last file.
-    pub(crate) fn last_file(&self) -> Result<&GivenFile> {
+    pub fn last_file(&self) -> Result<&GivenFile> {
         match self.files.last() {
             Some(file) => Ok(file),
             None => bail!("no file stands above it"),
@@ -79,7 +80,7 @@ impl Given {
     }
 
     /// The calls of the object that fail.
-    pub(crate) fn fails_of(&self, alloc: Global, object: Object) -> Result<Vec<u32>, AllocError> {
+    pub fn fails_of(&self, alloc: Global, object: Object) -> Result<Vec<u32>, AllocError> {
         let mut calls = Vec::new(alloc);
         for (failing, call) in &self.fails {
             if *failing == object {
@@ -90,22 +91,16 @@ impl Given {
     }
 
     /// Carries out a statement that says what a run is given beside files, or changes these.
-    pub(crate) fn carry_out<R: Threads + Sync>(
-        &mut self,
-        rt: &R,
-        alloc: Global,
-        known: &mut Known,
-        statement: &Statement,
-    ) -> Result<()> {
+    pub fn carry_out(&mut self, alloc: Global, known: &Known, statement: &Statement) -> Result<()> {
         let words = statement.rest();
         match statement.kind() {
-            "input" => self.input = Some(bytes_of(rt, alloc, known, words)?),
+            "input" => self.input = Some(bytes_of(alloc, known, words)?),
             "copies" => copy(alloc, &mut self.files, one_number(words)?)?,
             "cuts" => self.cuts = cuts_of(alloc, words)?,
             "fails" => set_fails(&mut self.fails, words)?,
             "room" => self.room = Some(one_number(words)?),
             _ => match self.files.last_mut() {
-                Some(file) => change(rt, alloc, known, file, statement)?,
+                Some(file) => change(alloc, known, file, statement)?,
                 None => bail!(
                     "no such statement, or no file above it: {}",
                     statement.kind()

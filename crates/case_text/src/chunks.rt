@@ -11,7 +11,7 @@ use std::alloc::{AllocError, Global};
 const LONGEST: u64 = 1 << 27;
 
 /// The kind that a word says: its one character, or that of a text in quotes.
-pub(crate) fn kind_of(alloc: Global, word: &str) -> Result<u8> {
+pub fn kind_of(alloc: Global, word: &str) -> Result<u8> {
     let bytes = plain(alloc, word)?;
     match bytes.as_slice() {
         [kind] => Ok(*kind),
@@ -20,7 +20,7 @@ pub(crate) fn kind_of(alloc: Global, word: &str) -> Result<u8> {
 }
 
 /// The header of these fields.
-pub(crate) fn header_of(
+pub fn header_of(
     kind: u8,
     records: usize,
     decoded: usize,
@@ -41,7 +41,7 @@ pub(crate) fn header_of(
 }
 
 /// Lays one more chunk at the end of a file: with the block headers that interrupt it, and zero bytes up to its own end.
-pub(crate) fn lay(
+pub fn lay(
     alloc: Global,
     file: &mut Vec<u8>,
     kind: u8,
@@ -88,28 +88,30 @@ fn end_of(begin: u64, header: &Header) -> Result<u64> {
     }
 }
 
-/// Makes the hash of the chunk header right that begins at a place of a file.
-pub(crate) fn rehash(alloc: Global, file: &mut [u8], place: usize) -> Result<()> {
-    let places = places_from(alloc, file.len(), place)?;
-    let Some((hash, fields)) = places.split_first_chunk::<8>() else {
-        bail!("no chunk header at {place}");
+/// Makes the hash of the chunk header right that begins at a place of a file. Whether one can.
+pub fn rehash(alloc: Global, file: &mut [u8], place: usize) -> Result<bool, AllocError> {
+    let places = places_from(alloc, file.len(), place, HEADER_SIZE)?;
+    let Some((hash, fields)) = places.split_at_checked(8) else {
+        return Ok(false);
     };
     if fields.len() < HEADER_SIZE - 8 {
-        bail!("no chunk header at {place}");
+        return Ok(false);
     }
-    let mut bytes = Vec::new(alloc);
-    for at in fields {
-        bytes.push(file.get(*at).copied().unwrap_or(0))?;
-    }
+    let bytes = bytes_at(alloc, file, fields)?;
     put_at(file, hash, hash_lanes(&RIEGELI, &bytes));
-    Ok(())
+    Ok(true)
 }
 
-/// Up to 40 places of a file that are in no block header, from a place on.
-fn places_from(alloc: Global, size: usize, place: usize) -> Result<Vec<usize>, AllocError> {
+/// Up to so many places of a file that are in no block header, from a place on.
+pub fn places_from(
+    alloc: Global,
+    size: usize,
+    place: usize,
+    count: usize,
+) -> Result<Vec<usize>, AllocError> {
     let mut places = Vec::new(alloc);
     for at in place..size {
-        if places.len() == HEADER_SIZE {
+        if places.len() == count {
             break;
         }
         if at as u64 % BLOCK_SIZE >= BLOCK_HEADER_SIZE {
@@ -119,8 +121,17 @@ fn places_from(alloc: Global, size: usize, place: usize) -> Result<Vec<usize>, A
     Ok(places)
 }
 
-/// Puts a number at these places, its lowest byte at the first one.
-fn put_at(file: &mut [u8], places: &[usize; 8], number: u64) {
+/// The bytes at these places of a file.
+pub fn bytes_at(alloc: Global, file: &[u8], places: &[usize]) -> Result<Vec<u8>, AllocError> {
+    let mut bytes = Vec::with_capacity(alloc, places.len())?;
+    for at in places {
+        bytes.push(file.get(*at).copied().unwrap_or(0))?;
+    }
+    Ok(bytes)
+}
+
+/// Puts a number of up to eight bytes at these places, its lowest byte at the first one.
+pub fn put_at(file: &mut [u8], places: &[usize], number: u64) {
     for (at, byte) in places.iter().zip(number.to_le_bytes()) {
         if let Some(old) = file.get_mut(*at) {
             *old = byte;
