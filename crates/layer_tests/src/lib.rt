@@ -4,6 +4,10 @@
 #![tactic(auto)]
 
 #[cfg(test)]
+mod appends;
+#[cfg(test)]
+mod collecting;
+#[cfg(test)]
 mod devices;
 #[cfg(test)]
 mod draws;
@@ -21,6 +25,8 @@ mod memory;
 mod order;
 #[cfg(test)]
 mod overlaps;
+#[cfg(test)]
+mod ranges;
 #[cfg(test)]
 mod records;
 #[cfg(test)]

@@ -19,9 +19,9 @@ use std::thread::Threads;
 
 /// Records of one byte each, from this one on.
 #[derive(Drop)]
-struct ByteFeed {
-    next: u8,
-    end: u8,
+pub(crate) struct ByteFeed {
+    pub next: u8,
+    pub end: u8,
     ghost within: { next ≤ end },
 }
 
@@ -46,7 +46,7 @@ impl RecordFeed for ByteFeed {
 }
 
 /// Chunks of one record each.
-fn options(workers: u32) -> WriteOptions
+pub(crate) fn options(workers: u32) -> WriteOptions
     requires { (1 ≤ workers) × (workers ≤ 16) }
     ensures limits { AreInLimits result }
     ensures same { result.workers ≡ workers }
@@ -63,20 +63,32 @@ fn sink(alloc: Global, fails: &[u32]) -> Result<MemSink, AllocError> {
     MemSink::new(alloc, 4096, Vec::new(alloc), fails.to_vec(alloc)?)
 }
 
-/// The file of so many records, written by one worker.
-fn file_of<R: Threads + Abort + Sync>(
+/// The file of the records of one byte each from one on up to another, written by one worker in chunks of this size.
+pub(crate) fn file_between<R: Threads + Abort + Sync>(
+    rt: &R,
+    alloc: Global,
+    size: u64,
+    next: u8,
+    end: u8,
+) -> Result<MemSink, AllocError>
+    requires size { (1 ≤ size) × (size ≤ 2 ^ 24) }
+    requires order { next ≤ end }
+{
+    let mut made = sink(alloc, &[])?;
+    let mut feed = ByteFeed { next, end };
+    let options = WriteOptions { size, ..options(1) };
+    let ended = write_records(rt, alloc, &options, &mut feed, &mut made);
+    assert!(rt; ended.is_ok());
+    Ok(made)
+}
+
+/// The file of so many records, each in a chunk of its own.
+pub(crate) fn file_of<R: Threads + Abort + Sync>(
     rt: &R,
     alloc: Global,
     count: u8,
 ) -> Result<MemSink, AllocError> {
-    let mut made = sink(alloc, &[])?;
-    let mut feed = ByteFeed {
-        next: 0,
-        end: count,
-    };
-    let end = write_records(rt, alloc, &options(1), &mut feed, &mut made);
-    assert!(rt; end.is_ok());
-    Ok(made)
+    file_between(rt, alloc, 1, 0, count)
 }
 
 /// Writes the file of so many records by two workers that have this coder.
@@ -108,25 +120,25 @@ fn the_groups_of_a_window_are_coded_side_by_side(rt: HostRuntime) -> Result<(), 
     Ok(())
 }
 
-/// Where a coder and a sink wait for each other, or give up.
+/// Where two wait for each other, or give up.
 #[derive(Drop)]
-struct Meeting {
-    coder_came: AtomicBool,
-    sink_came: AtomicBool,
-    gave_up: AtomicBool,
+pub(crate) struct Meeting {
+    pub first_came: AtomicBool,
+    pub second_came: AtomicBool,
+    pub gave_up: AtomicBool,
 }
 
 impl Meeting {
-    fn new() -> Meeting {
+    pub fn new() -> Meeting {
         Meeting {
-            coder_came: AtomicBool::new(false),
-            sink_came: AtomicBool::new(false),
+            first_came: AtomicBool::new(false),
+            second_came: AtomicBool::new(false),
             gave_up: AtomicBool::new(false),
         }
     }
 
     /// Comes, and looks for the other.
-    fn meet(&self, mine: &AtomicBool, other: &AtomicBool) {
+    pub fn meet(&self, mine: &AtomicBool, other: &AtomicBool) {
         mine.store(true, Ordering::SeqCst);
         for _ in 0..100_000_000 {
             if other.load(Ordering::SeqCst) {
@@ -152,7 +164,7 @@ impl<'a> Coder for MeetingCoder<'a> {
     fn code(&self, alloc: Global, records: &Records) -> Result<Chunk, AllocError> {
         if records.values() == [8].as_slice() {
             self.meeting
-                .meet(&self.meeting.coder_came, &self.meeting.sink_came);
+                .meet(&self.meeting.first_came, &self.meeting.second_came);
         }
         encode(alloc, records)
     }
@@ -177,7 +189,7 @@ impl<'a> Sink for MeetingSink<'a> {
         if !self.came && self.sink.taken().len() >= 64 {
             self.came = true;
             self.meeting
-                .meet(&self.meeting.sink_came, &self.meeting.coder_came);
+                .meet(&self.meeting.second_came, &self.meeting.first_came);
         }
         self.sink.put(piece)
     }

@@ -1,0 +1,186 @@
+//! Files that are read in parts, side by side.
+ghost use Rattle.std.specs.Prelude.{◌≡◌, ◌^◌, ◌≤◌, All, Some, IfOk, length, vec_len};
+ghost use Rattle.record_io.specs.Memory.{told_if};
+ghost use Rattle.record_ranges.specs.Ranges.{RiseUpTo};
+
+use crate::overlaps::{Meeting, file_between, file_of};
+use chunk_reader::{Fault, ReadEnd, Why};
+use record_io::{Failed, Store, SureStore};
+use record_ranges::{Cuts, Parts, read_ranges};
+use std::alloc::{AllocError, Global};
+use std::process::Abort;
+use std::sync::atomic::Ordering;
+use std::test::Fail;
+use std::thread::Threads;
+
+/// A store of these bytes, whose size was asked.
+fn asked_store(alloc: Global, file: &[u8]) -> Result<SureStore, AllocError>
+    ensures { IfOk result (λ s. told_if s.asked (length s.bytes) ≡ Some (length file.now)) }
+{
+    let mut store = SureStore::new(file.to_vec(alloc)?, Vec::new(alloc));
+    store.size().unwrap();
+    Ok(store)
+}
+
+/// So many of them.
+fn stores_of(alloc: Global, file: &[u8], count: usize) -> Result<Vec<SureStore>, AllocError>
+    ensures count { IfOk result (λ stores. vec_len stores ≡ count) }
+    ensures told { IfOk result (λ stores. All (λ s. told_if s.asked (length s.bytes) ≡ Some (length file.now)) stores.items) }
+{
+    let mut stores = Vec::new(alloc);
+    for number in 0..count {
+        stores.push(asked_store(alloc, file)?)?;
+    }
+    Ok(stores)
+}
+
+/// Reads a file between these cuts, each part from a store of its own.
+fn read_between<R: Threads + Sync>(
+    rt: &R,
+    alloc: Global,
+    file: &[u8],
+    cuts: &[u64],
+) -> Result<Parts, ReadEnd>
+    requires few { length cuts.now ≤ 15 }
+    requires small { length file.now ≤ 2 ^ 28 }
+    requires rise { RiseUpTo (length file.now) 0 cuts.now }
+{
+    let mut stores = stores_of(alloc, file, cuts.len() + 1)?;
+    let cuts = Cuts::of(alloc, cuts)?;
+    read_ranges(rt, alloc, stores.as_mut_slice(), file.len() as u64, &cuts)
+}
+
+/// Asserts that these are parts with these records, which have one byte each.
+fn assert_parts(rt: &impl Abort, read: &Parts, parts: &[&str]) {
+    assert_eq!(rt; read.len(), parts.len());
+    for number in 0..read.len() {
+        let part = read.part(number);
+        assert_eq!(rt; part.len(), parts[number].len(), "{number}");
+        assert_eq!(rt; part.values(), parts[number].as_bytes(), "{number}");
+    }
+}
+
+/// The records of the one chunk have the positions 64, 65 and 66.
+#[test]
+fn records_are_in_the_parts_of_their_positions(rt: HostRuntime) -> Result<(), Fail> {
+    let made = file_between(&rt, rt.alloc(), 1_048_576, b'a', b'd')?;
+    let file = made.taken();
+    assert_eq!(rt; file.len(), 112);
+    let read = read_between(&rt, rt.alloc(), file, &[65, 66]).expect(&rt, "no fault");
+    assert_parts(&rt, &read, &["a", "b", "c"]);
+    let read = read_between(&rt, rt.alloc(), file, &[0, 112, 112]).expect(&rt, "no fault");
+    assert_parts(&rt, &read, &["", "abc", "", ""]);
+    let read = read_between(&rt, rt.alloc(), file, &[]).expect(&rt, "no fault");
+    assert_parts(&rt, &read, &["abc"]);
+    Ok(())
+}
+
+/// The second of three chunks begins at 108.
+#[test]
+fn a_fault_of_one_part_is_that_of_the_file(rt: HostRuntime) -> Result<(), Fail> {
+    let made = file_between(&rt, rt.alloc(), 1, b'a', b'd')?;
+    let mut file = made.taken().to_vec(rt.alloc())?;
+    assert_eq!(rt; file.len(), 196);
+    file[116] = !file[116];
+    let read = read_between(&rt, rt.alloc(), file.as_slice(), &[100]);
+    let fault = Fault {
+        at: 108,
+        why: Why::HeaderHash,
+    };
+    assert_eq!(rt; read.err(), Some(ReadEnd::Refused(fault)));
+    Ok(())
+}
+
+/// A store that comes to a meeting the first time that it is read.
+#[derive(Drop)]
+struct MeetingStore<'a> {
+    store: SureStore,
+    meeting: &'a Meeting,
+    is_first: bool,
+    came: bool,
+}
+
+impl<'a> Store for MeetingStore<'a> {
+    ghost use Rattle.record_io.specs.Memory.{told_if-sized};
+
+    ghost bytes = { λ s. Some s.store.bytes };
+
+    ghost told = { λ s. told_if s.store.asked (length s.store.bytes) };
+
+    ghost handed = { λ s. s.store.handed };
+
+    ghost faults = { λ _. 0 };
+
+    ghost sized = { λ s. told_if-sized s.store.asked s.store.bytes };
+
+    fn size(&mut self) -> Result<u64, Failed> {
+        self.store.size()
+    }
+
+    fn read_at(&mut self, at: u64, buf: &mut [u8]) -> Result<usize, Failed> {
+        if !self.came {
+            self.came = true;
+            come(self.meeting, self.is_first);
+        }
+        self.store.read_at(at, buf)
+    }
+}
+
+/// Comes to a meeting as one of two.
+fn come(meeting: &Meeting, is_first: bool) {
+    if is_first {
+        meeting.meet(&meeting.first_came, &meeting.second_came);
+    } else {
+        meeting.meet(&meeting.second_came, &meeting.first_came);
+    }
+}
+
+/// A store of this file that comes to a meeting as one of two.
+fn meeting_store<'a>(
+    alloc: Global,
+    file: &[u8],
+    meeting: &'a Meeting,
+    is_first: bool,
+) -> Result<MeetingStore<'a>, AllocError>
+    ensures { IfOk result (λ s. told_if s.store.asked (length s.store.bytes) ≡ Some (length file.now)) }
+{
+    Ok(MeetingStore {
+        store: asked_store(alloc, file)?,
+        meeting,
+        is_first,
+        came: false,
+    })
+}
+
+/// Two stores of a file that meet.
+fn meeting_stores<'a>(
+    alloc: Global,
+    file: &[u8],
+    meeting: &'a Meeting,
+) -> Result<Vec<MeetingStore<'a>>, AllocError>
+    ensures count { IfOk result (λ stores. vec_len stores ≡ 2) }
+    ensures told { IfOk result (λ stores. All (λ s. told_if s.store.asked (length s.store.bytes) ≡ Some (length file.now)) stores.items) }
+{
+    let mut stores = Vec::new(alloc);
+    stores.push(meeting_store(alloc, file, meeting, true)?)?;
+    stores.push(meeting_store(alloc, file, meeting, false)?)?;
+    Ok(stores)
+}
+
+#[test]
+fn parts_are_read_side_by_side(rt: HostRuntime) -> Result<(), Fail> {
+    let made = file_of(&rt, rt.alloc(), 40)?;
+    let file = made.taken();
+    assert!(rt; 100 <= file.len() && file.len() <= 10_000);
+    let meeting = Meeting::new();
+    let mut stores = meeting_stores(rt.alloc(), file, &meeting)?;
+    let cuts = Cuts::of(rt.alloc(), &[100])?;
+    let size = file.len() as u64;
+    let read = read_ranges(&rt, rt.alloc(), stores.as_mut_slice(), size, &cuts);
+    assert!(rt; !meeting.gave_up.load(Ordering::SeqCst));
+    let parts = read.expect(&rt, "no fault");
+    assert_eq!(rt; parts.len(), 2);
+    assert_eq!(rt; parts.part(0).len(), 1);
+    assert_eq!(rt; parts.part(1).len(), 39);
+    Ok(())
+}
