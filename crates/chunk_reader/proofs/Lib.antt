@@ -24,3 +24,4 @@ pub mod FrontsRead
 pub mod VerifySteps
 pub mod HeadersTell
 mod Values
+pub mod ManyFiles

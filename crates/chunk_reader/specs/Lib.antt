@@ -14,3 +14,4 @@ pub mod Names
 pub mod Holders
 pub mod Searches
 pub mod SearchBounds
+pub mod ManyFiles

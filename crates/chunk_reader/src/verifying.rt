@@ -52,7 +52,8 @@ pub fn verify<S: Store>(store: &mut S, size: u64) -> Result<Totals, VerifyEnd>
 }
 
 /// Judges a file as `verify` does, and tells how far it is well formed and what it holds up to there, whether it has a fault
-/// or none. The fault's place is another one where a block header is wrong: it is that block, and the chunk begins before it.
+/// or none. The fault's place is where the front ends, unless a block header is wrong: then it is that block, which the chunk
+/// behind the front may only reach.
 ///
 /// # Errors
 ///

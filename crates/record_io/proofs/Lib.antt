@@ -4,3 +4,4 @@ pub mod Calls
 pub mod Buffered
 pub mod Readings
 pub mod Puts
+pub mod ManyStores

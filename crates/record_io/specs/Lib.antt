@@ -4,3 +4,4 @@ pub mod Calls
 pub mod Puts
 pub mod Memory
 pub mod Edge
+pub mod ManyStores
