@@ -1,4 +1,3 @@
-pub mod Counting
 pub mod Machines
 pub mod Rising
 pub mod Runs

@@ -3,35 +3,10 @@ use Rattle.std.proofs.Common.{◌≡◌, ℕ, zero, suc, ◌+◌, ◌-◌, ◌<�
 use Rattle.std.specs.List.{AllByRecursion, flat_map, sum_by, slice_get}
 use Rattle.std.proofs.lemmas.Bool.{cond_both, cond-true, cond-false, cases_lt, lt-ltb, le-ltb, ltb-true, ltb-false}
 use Rattle.std.proofs.lemmas.List.Sums.{sum_by-cons}
-use Rattle.chunk_workers.specs.DrawMachine.{Hand, Machine, IsDraw, IsHand, IsCounted, HasEachBelow, times, empty_hand, start_of, with_mine, with_past, drawn, numbers_in}
-use Rattle.chunk_workers.proofs.Counting.{one_if, once_below, once_below-more, times-cons, times-append, times-flat_map, times-each_below, each_below_from_times, among, among-append, among-below, among-each, among-le-length}
-
--- each element, and one in the place of another
-pub all_at : {X : Type 0} (P : X → Type 0) (xs : List X) (i : ℕ) (x : X) → slice_get xs i ≡ Some x → AllByRecursion P xs → P x
-all_at P [] i x at all = cc
-all_at P (y ∷ xs) zero x at all = let same : y ≡ x = cc in subst P same all.0
-all_at P (y ∷ xs) (suc i) x at all = all_at P xs i x at all.1
-
-pub all_set : {X : Type 0} (P : X → Type 0) (xs : List X) (i : ℕ) (y : X) → P y → AllByRecursion P xs → AllByRecursion P (set xs i y)
-all_set P [] i y p all = tt
-all_set P (x ∷ xs) zero y p all = (p, all.1)
-all_set P (x ∷ xs) (suc i) y p all = (all.0, all_set P xs i y p all.1)
-
-pub all_push : {X : Type 0} (P : X → Type 0) (xs : List X) (y : X) → P y → AllByRecursion P xs → AllByRecursion P (xs ++ y ∷ [])
-all_push P [] y p all = (p, tt)
-all_push P (x ∷ xs) y p all = (all.0, all_push P xs y p all.1)
-
-pub all_append : {X : Type 0} (P : X → Type 0) (xs ys : List X) → AllByRecursion P xs → AllByRecursion P ys → AllByRecursion P (xs ++ ys)
-all_append P [] ys all all' = all'
-all_append P (x ∷ xs) ys all all' = (all.0, all_append P xs ys all.1 all')
-
-pub sum_by-set_at : {X : Type 0} (f : X → ℕ) (xs : List X) (i : ℕ) (x y : X) → slice_get xs i ≡ Some x → sum_by f (set xs i y) + f x ≡ sum_by f xs + f y
-sum_by-set_at f [] i x y at = cc
-sum_by-set_at f (z ∷ xs) zero x y at =
-    let same : f z ≡ f x = cc in
-    omega (arith, sum_by-cons f z xs, sum_by-cons f y xs)
-sum_by-set_at f (z ∷ xs) (suc i) x y at =
-    omega (arith, sum_by-set_at f xs i x y at, sum_by-cons f z xs, sum_by-cons f z (set xs i y))
+use Rattle.number_shares.specs.Once.{HasEachBelow, times}
+use Rattle.chunk_workers.specs.DrawMachine.{Hand, Machine, IsDraw, IsHand, IsCounted, empty_hand, start_of, with_mine, with_past, drawn, numbers_in}
+use Rattle.number_shares.proofs.Lists.{all_at, all_set, all_push, sum_by-set_at}
+use Rattle.number_shares.proofs.Counting.{one_if, once_below, once_below-more, times-cons, times-append, times-flat_map, times-each_below, each_below_from_times}
 
 -- which of the two a hand gets
 pub drawn-mine : (n number : ℕ) (hand : Hand) → number < n → drawn n number hand ≡ with_mine number hand
@@ -54,7 +29,7 @@ IsHand-drawn n number hand h =
     (λ below. record { mine = all_push (λ p. p < n) hand.mine number below h.mine; past = h.past })
     (λ past. record { mine = h.mine; past = all_push (λ p. n ≤ p) hand.past number past h.past })
 
-times-drawn : (p n number : ℕ) (hand : Hand) → times p (numbers_in (drawn n number hand)) ≡ times p (numbers_in hand) + one_if p number
+pub times-drawn : (p n number : ℕ) (hand : Hand) → times p (numbers_in (drawn n number hand)) ≡ times p (numbers_in hand) + one_if p number
 times-drawn p n number hand =
     let one : times p (number ∷ []) ≡ one_if p number = omega (arith, times-cons p number []) in
     drawn-both (λ h. times p (numbers_in h) ≡ times p (numbers_in hand) + one_if p number) n number hand
@@ -99,26 +74,3 @@ counted_at_start n seats =
       each_once = subst (HasEachBelow 0) (sym (start_empty seats)) none;
       hands = start_hands n seats;
     }
-
--- so many numbers of n or more were drawn, at least
-among_hands : (n k : ℕ) (hands : List Hand) → AllByRecursion (IsHand n) hands → among n k (flat_map numbers_in hands) ≤ sum_by (λ h. length h.past) hands
-among_hands n k [] all = among-le-length n k []
-among_hands n k (hand ∷ hands) all =
-    omega (
-      arith,
-      among-append n k (numbers_in hand) (flat_map numbers_in hands),
-      among-append n k hand.mine hand.past,
-      among-below n k hand.mine all.0.mine,
-      among-le-length n k hand.past,
-      among_hands n k hands all.1,
-      sum_by-cons (λ (h : Hand). length h.past) hand hands,
-    )
-
-pub word_at_most : (n : ℕ) (state : Machine) → IsCounted n state → state.word ≤ n + sum_by (λ h. length h.past) state.hands
-word_at_most n state h =
-    elim (cases_lt n state.word) [
-      | inl past ↦
-          let k : ℕ = state.word - n in
-          omega (arith, among-each n k state.word (flat_map numbers_in state.hands) h.each_once (omega arith), among_hands n k state.hands h.hands)
-      | inr within ↦ omega arith
-    ]

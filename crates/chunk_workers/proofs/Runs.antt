@@ -3,9 +3,11 @@ use Rattle.std.proofs.Common.{◌≡◌, ◌≢◌, ◌∙◌, ℕ, zero, suc, �
 use Rattle.std.specs.List.{AllByRecursion, flat_map}
 use Rattle.std.proofs.lemmas.Bool.{cases_lt}
 use Rattle.std.proofs.lemmas.List.{length-append, length-set, length-replicate}
-use Rattle.chunk_workers.specs.DrawMachine.{Hand, Machine, AreDraws, IsDraw, IsHand, IsCounted, HasEachBelow, times, empty_hand, start_of, drawn, numbers_in}
-use Rattle.chunk_workers.proofs.Counting.{one_if-same, once_below, once_below-yes, once_below-no, times-cons, times-append, times-each_below, times-none}
-use Rattle.chunk_workers.proofs.Machines.{all_append, all_set, drawn-both, counted_at_start, counted_after_draw}
+use Rattle.number_shares.specs.Once.{HasEachBelow, times}
+use Rattle.chunk_workers.specs.DrawMachine.{Hand, Machine, AreDraws, IsDraw, IsHand, IsCounted, empty_hand, start_of, drawn, numbers_in}
+use Rattle.number_shares.proofs.Lists.{all_append, all_set}
+use Rattle.number_shares.proofs.Counting.{one_if-same, once_below, once_below-yes, once_below-no, times-cons, times-append, times-each_below, times-none}
+use Rattle.chunk_workers.proofs.Machines.{drawn-both, counted_at_start, counted_after_draw}
 
 -- where a number of n or more was drawn, the word is past n
 past_in_word : (n word : ℕ) (mine past : List ℕ) → ¬ (past ≡ []) → AllByRecursion (λ p. n ≤ p) past

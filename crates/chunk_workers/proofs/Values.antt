@@ -3,7 +3,8 @@ use Rattle.std.proofs.Common.{◌≡◌, ℕ, ◌+◌, Some, None, List, [], ◌
 use Rattle.std.specs.List.{slice_get}
 use Rattle.chunk_header.specs.declared.Chunk.{Chunk}
 use Rattle.chunk_workers.specs.declared.numbered.Numbered.{Numbered}
-use Rattle.chunk_workers.specs.DrawMachine.{Hand, Machine, AreDraws, IsDraw, answer_for, drawn, start_of, times}
+use Rattle.number_shares.specs.Once.{times}
+use Rattle.chunk_workers.specs.DrawMachine.{Hand, Machine, AreDraws, IsDraw, answer_for, drawn, start_of}
 use Rattle.chunk_workers.specs.Windows.{by_number, chunk_of_number}
 
 -- a seat's lists, and a state

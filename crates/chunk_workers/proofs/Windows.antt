@@ -10,11 +10,11 @@ use Rattle.std.proofs.Math.Dec.{eqb}
 use Rattle.chunk_header.specs.Chunks.{ChunkValue}
 use Rattle.chunk_header.specs.Views.{HasRightHash, value_of_chunk}
 use Rattle.chunk_header.specs.declared.Chunk.{Chunk}
-use Rattle.chunk_workers.specs.DrawMachine.{HasEachBelow, times}
+use Rattle.number_shares.specs.Once.{HasEachBelow, times}
 use Rattle.chunk_workers.specs.Seats.{SeatValue, drawn_by}
 use Rattle.chunk_workers.specs.declared.numbered.Numbered.{Numbered}
 use Rattle.chunk_workers.specs.Windows.{IsChunkOfGroup, IsWindow, by_number, chunk_of_number, numbers_of, paired}
-use Rattle.chunk_workers.proofs.Counting.{one_if-same, one_if-other, times-cons, times-each_below-le}
+use Rattle.number_shares.proofs.Counting.{one_if-same, one_if-other, times-cons, times-each_below-le}
 
 -- the numbers of what seats left, and of what one more left
 pub numbers-more : (window coded : List Numbered) (seats : List SeatValue) (seat : SeatValue) → numbers_of window ≡ drawn_by seats → numbers_of coded ≡ seat.hand.mine

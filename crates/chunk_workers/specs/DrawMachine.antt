@@ -1,6 +1,7 @@
 -- The machine that numbers are drawn from. Own.
-use Rattle.std.specs.Prelude.{◌≡◌, ℕ, ◌+◌, ◌<◌, ◌≤◌, ◌==◌, nat_lt, if◌then◌else◌, Option, Some, None, List, [], ◌∷◌, ◌++◌, replicate, count_by, slice_get, slice_set}
+use Rattle.std.specs.Prelude.{◌≡◌, ℕ, ◌+◌, ◌<◌, ◌≤◌, nat_lt, if◌then◌else◌, Option, Some, None, List, [], ◌∷◌, ◌++◌, replicate, slice_get, slice_set}
 use Rattle.std.specs.List.{AllByRecursion, flat_map}
+use Rattle.number_shares.specs.Once.{HasEachBelow}
 
 -- what a seat drew, in order: the numbers below n, and those that are not
 pub record Hand : Type 0 where
@@ -49,15 +50,6 @@ pub record IsDraw (n : ℕ) (old : Machine) (seat : ℕ) (new : Machine) : Type 
 abbrev pub AreDraws : ℕ → Machine → List ℕ → Machine → Type 0
 AreDraws n old [] new = new ≡ old
 AreDraws n old (seat ∷ seats) new = (between : Machine) × IsDraw n old seat between × AreDraws n between seats new
-
--- how often a number stands in a list
-abbrev pub times : ℕ → List ℕ → ℕ
-times number numbers = count_by (λ p. p == number) numbers
-
--- each number below n stands in the list once, and no other stands there
-pub record HasEachBelow (n : ℕ) (numbers : List ℕ) : Type 0 where
-  pub once : (p : ℕ) → p < n → times p numbers ≡ 1
-  pub no_other : AllByRecursion (λ p. p < n) numbers
 
 -- all that a seat drew
 abbrev pub numbers_in : Hand → List ℕ

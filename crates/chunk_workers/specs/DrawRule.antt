@@ -1,10 +1,11 @@
 -- What holds of the table that numbers are drawn from, between any two steps. Own.
-use Rattle.std.specs.Prelude.{◌≡◌, ℕ, ◌+◌, ◌-◌, ◌^◌, ◌<◌, ◌≤◌, ◌⊎◌, [], ◌++◌, length, map, sum_by, slice_index}
+use Rattle.std.specs.Prelude.{◌≡◌, ℕ, ◌+◌, ◌-◌, ◌^◌, ◌<◌, ◌≤◌, [], ◌++◌, length, map, slice_index}
 use Rattle.std.specs.List.{AllByRecursion}
 use Rattle.atomic_table.specs.Table.{State, Me, Step}
+use Rattle.number_shares.specs.Shared.{Kind, IsShared}
 use Rattle.chunk_workers.specs.declared.table.SeatView.{SeatView}
 use Rattle.chunk_workers.specs.declared.table.Terms.{Terms}
-use Rattle.chunk_workers.specs.DrawMachine.{Hand, Machine, IsHand, IsCounted, drawn}
+use Rattle.chunk_workers.specs.DrawMachine.{Hand, Machine, IsHand, drawn, numbers_in}
 
 -- the view of the first seat
 abbrev pub first_view : Terms → SeatView
@@ -47,9 +48,9 @@ pub record IsAtWork (terms : Terms) (v : SeatView) : Type 0 where
   pub weight : 1 ≤ v.weight
   pub past : length v.past ≤ v.weight
 
--- a view, spent or not
-abbrev pub IsView : Terms → SeatView → Type 0
-IsView terms v = (v ≡ spent_view) ⊎ IsAtWork terms v
+-- what the views share out: the numbers that their seats drew
+abbrev pub drawing : Terms → Kind SeatView
+drawing terms = record { spent = spent_view; Works = IsAtWork terms; weight = λ v. v.weight; numbers = λ v. numbers_in (hand_of v) }
 
 -- the machine's state: the word, and what the views have
 abbrev pub machine_of : State (Unit {0}) SeatView → Machine
@@ -59,9 +60,7 @@ machine_of s = record { word = slice_index s.words 0; hands = map hand_of s.view
 -- below n and those in `past` not; and together they stand for all workers
 pub record IsKept (terms : Terms) (s : State (Unit {0}) SeatView) : Type 0 where
   pub one_word : length s.words ≡ 1
-  pub counted : IsCounted terms.n (machine_of s)
-  pub views : AllByRecursion (IsView terms) s.views
-  pub weights : sum_by (λ v. v.weight) s.views ≡ terms.workers
+  pub shared : IsShared (drawing terms) (slice_index s.words 0) terms.workers s.views
   pub n_at_most : terms.n ≤ 2 ^ 32
   pub some_worker : 1 ≤ terms.workers
   pub workers_at_most : terms.workers ≤ 16

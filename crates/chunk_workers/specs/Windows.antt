@@ -5,7 +5,7 @@ use Rattle.std.specs.Option.{option_to_list}
 use Rattle.chunk_header.specs.Chunks.{ChunkValue}
 use Rattle.chunk_header.specs.Views.{HasRightHash, value_of_chunk}
 use Rattle.chunk_header.specs.declared.Chunk.{Chunk}
-use Rattle.chunk_workers.specs.DrawMachine.{HasEachBelow}
+use Rattle.number_shares.specs.Once.{HasEachBelow}
 use Rattle.chunk_workers.specs.Seats.{BelongsTo, DrawsValue, SeatValue}
 use Rattle.chunk_workers.specs.declared.numbered.Numbered.{Numbered}
 

@@ -2,7 +2,8 @@
 ghost use Rattle.std.specs.Prelude.{◌≡◌, ◌≢◌, ℕ, ◌^◌, ◌<◌, ◌≤◌, [], ◌∷◌, All, IfOk, IfNone, IfSome, vec_len};
 ghost use Rattle.std.specs.List.{AllByRecursion};
 ghost use Rattle.std.specs.Option.{option_to_list};
-ghost use Rattle.chunk_workers.specs.DrawMachine.{HasEachBelow, IsHand, empty_hand, with_mine};
+ghost use Rattle.number_shares.specs.Once.{HasEachBelow};
+ghost use Rattle.chunk_workers.specs.DrawMachine.{IsHand, empty_hand, with_mine};
 ghost use Rattle.chunk_workers.specs.Seats.{BelongsTo, IsSeatDraw, drawn_by, past_by};
 
 use crate::table::{EachOnce, OneDraw, OneSeat, SeatView, Terms, Together};

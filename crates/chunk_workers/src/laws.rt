@@ -5,13 +5,14 @@ ghost use Rattle.std.specs.List.{AllByRecursion, flat_map};
 ghost use mathlib.Core.Option.{some, none};
 ghost use lib.ListN.{get_elem?};
 ghost use Rattle.atomic_table.specs.Table.{State, Me, Allows, Joins, Splits, keeps, opening, step, stepped};
+ghost use Rattle.number_shares.specs.Once.{HasEachBelow};
 ghost use Rattle.chunk_header.specs.Chunks.{ChunkValue};
 ghost use Rattle.chunk_header.specs.Views.{HasRightHash, value_of_chunk};
 ghost use Rattle.chunk_header.specs.declared.Chunk.{Chunk};
 ghost use Rattle.chunk_workers.specs.declared.numbered.Numbered.{Numbered};
 ghost use Rattle.chunk_workers.specs.declared.table.SeatView.{SeatView};
 ghost use Rattle.chunk_workers.specs.declared.table.Terms.{Terms};
-ghost use Rattle.chunk_workers.specs.DrawMachine.{AreDraws, HasEachBelow, IsCounted, IsDraw, Machine, drawn, start_of, times};
+ghost use Rattle.chunk_workers.specs.DrawMachine.{AreDraws, IsCounted, IsDraw, Machine, drawn, start_of};
 ghost use Rattle.chunk_workers.specs.DrawRule.{IsKept, TellsDraw, first_view, hand_of, joined_view, machine_of, spent_view, view_less_one, view_of_one, with_hand};
 ghost use Rattle.chunk_workers.specs.Seats.{SeatValue, drawn_by};
 ghost use Rattle.chunk_workers.specs.Windows.{IsChunkOfGroup, IsWindow, by_number, chunk_of_number, numbers_of};
@@ -27,12 +28,6 @@ pub fn runs_draw_each_once()
     ensures ended { (n seats : ℕ) (run : List ℕ) (state : Machine)
         → AreDraws n (start_of seats) run state → 1 ≤ seats → AllByRecursion (λ hand. hand.past ≢ []) state.hands
         → HasEachBelow n (flat_map (λ hand. hand.mine) state.hands) }
-{}
-
-/// Numbers of which each below n is there once, and no other, are n numbers, and none is there twice. Own.
-pub fn each_below_is_so_many()
-    ensures count { (n : ℕ) (numbers : List ℕ) → HasEachBelow n numbers → length numbers ≡ n }
-    ensures no_more { (n p : ℕ) (numbers : List ℕ) → HasEachBelow n numbers → times p numbers ≤ 1 }
 {}
 
 /// The table that numbers are drawn from is made under its rule, as the machine's start with one seat, and a seat split

@@ -1,7 +1,7 @@
 -- Lists of which one element changes.
 use Rattle.std.proofs.Common.{All, get_or, ap, ◌≡◌, ◌∙◌, ℕ, zero, suc, ◌+◌, Some, List, [], ◌∷◌, ◌++◌, length, map, set, refl, sym, subst, arith}
-use Rattle.std.specs.List.{AllByRecursion, flat_map, sum_by, slice_get}
-use Rattle.std.proofs.lemmas.List.{append_assoc, length-append, get_or_append_left}
+use Rattle.std.specs.List.{AllByRecursion, flat_map, sum_by, slice_get, slice_index}
+use Rattle.std.proofs.lemmas.List.{append_assoc, length-append, get_or_append_left, map-append}
 use Rattle.std.proofs.lemmas.List.Sums.{sum_by-cons}
 use mathlib.Core.Option.{some}
 use lib.ListN.{get_elem?}
@@ -25,6 +25,14 @@ pub all_append : {X : Type 0} (P : X → Type 0) (xs ys : List X) → AllByRecur
 all_append P [] ys all all' = all'
 all_append P (x ∷ xs) ys all all' = (all.0, all_append P xs ys all.1 all')
 
+pub all_front : {X : Type 0} (P : X → Type 0) (xs ys : List X) → AllByRecursion P (xs ++ ys) → AllByRecursion P xs
+all_front P [] ys all = tt
+all_front P (x ∷ xs) ys all = (all.0, all_front P xs ys all.1)
+
+pub all_back : {X : Type 0} (P : X → Type 0) (xs ys : List X) → AllByRecursion P (xs ++ ys) → AllByRecursion P ys
+all_back P [] ys all = all
+all_back P (x ∷ xs) ys all = all_back P xs ys all.1
+
 pub all_map : {X : Type 0} (P Q : X → Type 0) (xs : List X) → ((x : X) → P x → Q x) → AllByRecursion P xs → AllByRecursion Q xs
 all_map P Q [] f all = tt
 all_map P Q (x ∷ xs) f all = (f x all.0, all_map P Q xs f all.1)
@@ -33,6 +41,14 @@ pub map-set_at : {X Y : Type 0} (f : X → Y) (xs : List X) (i : ℕ) (x : X) �
 map-set_at f [] i x = refl
 map-set_at f (y ∷ xs) zero x = refl
 map-set_at f (y ∷ xs) (suc i) x = ap (λ l. f y ∷ l) (map-set_at f xs i x)
+
+-- where an element is cut in two, and what is left of it counts as it did, the other stands behind all
+pub map-split_at : {X Y : Type 0} (f : X → Y) (xs : List X) (i : ℕ) (x less one : X) → slice_get xs i ≡ Some x → f less ≡ f x → map f (set xs i less ++ one ∷ []) ≡ map f xs ++ f one ∷ []
+map-split_at f [] i x less one at same = cc
+map-split_at f (y ∷ xs) zero x less one at same =
+    let is : f less ≡ f y = cc in
+    ap (λ z. z ∷ map f (xs ++ one ∷ [])) is ∙ ap (λ zs. f y ∷ zs) (map-append f xs (one ∷ []))
+map-split_at f (y ∷ xs) (suc i) x less one at same = ap (λ zs. f y ∷ zs) (map-split_at f xs i x less one at same)
 
 pub sum_by-set_at : {X : Type 0} (f : X → ℕ) (xs : List X) (i : ℕ) (x y : X) → slice_get xs i ≡ Some x → sum_by f (set xs i y) + f x ≡ sum_by f xs + f y
 sum_by-set_at f [] i x y at = cc
@@ -54,6 +70,11 @@ slice_get-set_other (y ∷ xs) zero zero x apart = absurd (apart refl)
 slice_get-set_other (y ∷ xs) zero (suc j) x apart = refl
 slice_get-set_other (y ∷ xs) (suc i) zero x apart = refl
 slice_get-set_other (y ∷ xs) (suc i) (suc j) x apart = slice_get-set_other xs i j x (λ same. apart (ap suc same))
+
+-- the word that a list of one word then has
+pub word_set : (words : List ℕ) (word : ℕ) → length words ≡ 1 → slice_index (set words 0 word) 0 ≡ word
+word_set [] word one = absurd (omega arith)
+word_set (w ∷ words) word one = refl
 
 get_or-last : {X : Type 0} (xs : List X) (x d : X) → get_or (xs ++ x ∷ []) (length xs) d ≡ x
 get_or-last [] x d = refl

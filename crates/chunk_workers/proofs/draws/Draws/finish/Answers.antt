@@ -1,6 +1,6 @@
 use Rattle.std.proofs.Common.{◌≡◌, ◌∙◌, ℕ, [], ap, sym, subst, arith}
 use Rattle.chunk_workers.specs.declared.table.SeatView.{SeatView}
-use Rattle.chunk_workers.specs.DrawMachine.{HasEachBelow}
+use Rattle.number_shares.specs.Once.{HasEachBelow}
 use Rattle.chunk_workers.specs.Seats.{drawn_by}
 use Rattle.chunk_workers.proofs.SeatLists.{some_past}
 use Rattle.chunk_workers.proofs.Tables.{closes}

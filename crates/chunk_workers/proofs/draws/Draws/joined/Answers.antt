@@ -3,7 +3,7 @@ use Rattle.atomic_table.specs.Table.{Me}
 use Rattle.chunk_workers.specs.declared.table.SeatView.{SeatView}
 use Rattle.chunk_workers.specs.DrawRule.{joined_view}
 use Rattle.chunk_workers.specs.Seats.{BelongsTo, SeatValue, drawn_by, past_by}
-use Rattle.chunk_workers.proofs.SeatLists.{of_last, of_others, flat_map-last}
+use Rattle.number_shares.proofs.Lists.{of_last, of_others, flat_map-last}
 use Rattle.chunk_workers.proofs.Tables.{joins}
 use Rattle.chunk_workers.proofs.draws.Draws.joined.Goals as goal
 
