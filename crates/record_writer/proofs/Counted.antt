@@ -2,6 +2,7 @@
 use Rattle.std.proofs.Common.{◌≡◌, ◌∙◌, ℕ, ◌+◌, ◌-◌, ◌%◌, ◌<◌, ◌⊎◌, Bool, true, false, Some, None, Result, Ok, Err, List, [], ◌∷◌, ◌++◌, length, cond, refl, sym, ap, subst, inl, inr, arith}
 use Rattle.std.specs.Prelude.{map, ◌==◌, Option}
 use Rattle.std.specs.Option.{IfSome}
+use Rattle.std.specs.Result.{IfOk}
 use Rattle.std.proofs.lemmas.Bool.{cond_both}
 use Rattle.std.proofs.lemmas.List.{length-append}
 use Rattle.std.proofs.lemmas.List.Sums.{sum_by-cons, sum_by-append}
@@ -167,6 +168,13 @@ pub Answers-told : (options : WriteOptions) (s : Progress) (ra : Option Rest) (s
     → IfSome ra (λ rest. AnswersTotals (answer_of stop totals) (totals_behind s (tail_chunks options s.place rest.records)) rest)
 Answers-told options s None stop totals none same counted = tt
 Answers-told options s (Some rest) stop totals none same counted = Answers-ended options s rest stop totals none same counted
+
+-- what holds of the totals holds of the answer where it is they
+pub IfOk-ended : (P : Totals → Type 0) (stop : Option Stop) (totals : Totals) → P totals → IfOk (answer_of stop totals) P
+IfOk-ended P None totals h = h
+IfOk-ended P (Some TooLong) totals h = tt
+IfOk-ended P (Some InputTooLong) totals h = tt
+IfOk-ended P (Some BadLine) totals h = tt
 
 -- an answer of other totals says the same where it is no totals
 Answers-err : (end : WriteEnd) (wanted other : Totals) (rest : Rest) → AnswersTotals (Err end) wanted rest → AnswersTotals (Err end) other rest

@@ -8,3 +8,5 @@ pub mod Counted
 pub mod Wholes
 pub mod Flushes
 pub mod CodedWindows
+pub mod ListFeeds
+pub mod SignedFiles

@@ -197,7 +197,7 @@ Rose-behind l m n less (inl rose) = inl (omega (arith, less, rose))
 Rose-behind l m n less (inr full) = inr full
 
 -- an object that was used, without a fault that is told of, and then again
-OnlyCounts-behind : {M L : Type 0} (lent : M → L) (faults : M → ℕ) (P Q : Type 0) (a b c : M) → OnlyCounts lent faults P a b → OnlyCounts lent faults Q b c
+pub OnlyCounts-behind : {M L : Type 0} (lent : M → L) (faults : M → ℕ) (P Q : Type 0) (a b c : M) → OnlyCounts lent faults P a b → OnlyCounts lent faults Q b c
     → OnlyCounts lent faults Q a c
 OnlyCounts-behind lent faults P Q a b c first then = record {
   same_lent = then.same_lent ∙ first.same_lent;

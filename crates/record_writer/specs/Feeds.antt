@@ -1,5 +1,6 @@
 -- What a feed of records still gives. Own.
 use Rattle.std.specs.Prelude.{◌≡◌, ℕ, ◌+◌, ◌≤◌, Option, Some, None, List, [], ◌∷◌, length, IfSome}
+use Rattle.std.specs.List.{sum_by}
 use Rattle.record_group.specs.Groupings.{Grouping, IsPush}
 use Rattle.record_writer.specs.declared.feed.Stop.{Stop}
 
@@ -15,6 +16,10 @@ nothing_left = record { records = []; stop = None }
 -- nothing is left but a stop
 abbrev pub stop_alone : Stop → Rest
 stop_alone s = record { records = []; stop = Some s }
+
+-- how many bytes records have together, and one more for each
+abbrev pub feed_bound : List (List ℕ) → ℕ
+feed_bound records = sum_by length records + length records
 
 -- where a feed told what was to come, this record was the first of it
 abbrev pub GivesRecord : Option Rest → Option Rest → List ℕ → Type 0

@@ -4,3 +4,4 @@ pub mod Progresses
 pub mod Ends
 pub mod Windows
 pub mod CodedWindows
+pub mod Behind

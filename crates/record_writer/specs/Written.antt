@@ -61,10 +61,6 @@ AnswersTotals (Err Memory) wanted rest = Unit {0}
 abbrev pub Answers : Result Totals WriteEnd → WriteOptions → Rest → Type 0
 Answers result options rest = AnswersTotals result (totals_of (chunks_under options rest.records)) rest
 
--- with those of the chunks of records alone, from a place on
-abbrev pub AnswersTail : Result Totals WriteEnd → WriteOptions → ℕ → Rest → Type 0
-AnswersTail result options at rest = AnswersTotals result (totals_from at (tail_chunks options at rest.records)) rest
-
 -- what a sink took with that answer: a file, or a front of it where a fault or want of memory cut the work off
 abbrev pub TakesFile : Result Totals WriteEnd → Option (List ℕ) → Option (List ℕ) → List ℕ → Type 0
 TakesFile (Ok totals) before after file = Takes before after file

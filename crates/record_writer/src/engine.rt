@@ -4,10 +4,11 @@ ghost use Rattle.record_io.specs.Calls.{OnlyCounts};
 ghost use Rattle.meta_chunk.specs.Counts.{totals_of};
 ghost use Rattle.record_group.specs.Groups.{groups, pads_start, pads_end};
 ghost use Rattle.record_group.specs.Groupings.{groups_from};
+ghost use Rattle.record_writer.specs.Behind.{MayFollow, WritesBehind};
 ghost use Rattle.record_writer.specs.CodedWindows.{CodesSimply};
 ghost use Rattle.record_writer.specs.Ends.{answer_of};
 ghost use Rattle.record_writer.specs.Feeds.{nothing_left};
-ghost use Rattle.record_writer.specs.Progresses.{Lays, LaysFront, chunks_of_groups, reach_of, totals_behind};
+ghost use Rattle.record_writer.specs.Progresses.{Lays, LaysFront, chunks_of_groups, reach_of};
 ghost use Rattle.record_writer.specs.Written.{AreInLimits, WritesRecords, chunks_under, file_under, tail_chunks, tail_under, totals_from};
 
 use crate::coded_window::CodedWindow;
@@ -178,17 +179,9 @@ fn write_behind<R: Threads + Sync, L: RecordFeed, M: Sink + Send>(
     feed: &mut L,
     made: &mut M,
 ) -> Result<Totals, WriteEnd>
-    requires going { file.old.spent ≡ false }
-    requires no_record { file.old.records ≡ 0 }
-    requires from_boundary { IsBoundary file.old.place }
-    requires within { file.old.place ≤ 2 ^ 60 }
+    requires follows { MayFollow file.old options.now (L.bound feed.old) }
     requires feed_going { L.going feed.old ≡ true }
-    requires in_reach { L.bound feed.old ≤ 2 ^ 41 }
-    requires in_limits { AreInLimits options.now }
-    ensures written { WritesRecords L.rest L.name L.faults M.taken M.lent M.faults
-        (λ records. totals_behind file.old (tail_chunks options.now file.old.place records))
-        (λ records. file.old.held ++ tail_under options.now file.old.place records) result feed.old feed.new made.old made.new }
-    ensures behind { IfOk result (λ totals. file.old.place ≤ totals.bytes) }
+    ensures { WritesBehind L.rest L.name L.faults M.taken M.lent M.faults options.now file.old result feed.old feed.new made.old made.new }
 {
     if options.workers > 1 {
         let window = CodedWindow::new(alloc, options.workers);
@@ -211,17 +204,9 @@ fn write<R: Threads + Sync, C: Coder + Sync, W: Window + Send, L: RecordFeed, M:
 ) -> Result<Totals, WriteEnd>
     requires codes { CodesSimply (C.chunk_of coder.now) }
     requires empty { W.groups window ≡ [] }
-    requires going { file.old.spent ≡ false }
-    requires no_record { file.old.records ≡ 0 }
-    requires from_boundary { IsBoundary file.old.place }
-    requires within { file.old.place ≤ 2 ^ 60 }
+    requires follows { MayFollow file.old options.now (L.bound feed.old) }
     requires feed_going { L.going feed.old ≡ true }
-    requires in_reach { L.bound feed.old ≤ 2 ^ 41 }
-    requires in_limits { AreInLimits options.now }
-    ensures written { WritesRecords L.rest L.name L.faults M.taken M.lent M.faults
-        (λ records. totals_behind file.old (tail_chunks options.now file.old.place records))
-        (λ records. file.old.held ++ tail_under options.now file.old.place records) result feed.old feed.new made.old made.new }
-    ensures behind { IfOk result (λ totals. file.old.place ≤ totals.bytes) }
+    ensures { WritesBehind L.rest L.name L.faults M.taken M.lent M.faults options.now file.old result feed.old feed.new made.old made.new }
 {
     let mut windows = WindowPair::new(alloc, options, window);
     let stop = put_chunks(rt, coder, file, options, &mut windows, feed, made);

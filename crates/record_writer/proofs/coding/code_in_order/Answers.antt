@@ -1,6 +1,6 @@
 use Rattle.std.proofs.Common.{◌≡◌, ℕ, map, length, subst}
 use Rattle.std.proofs.lemmas.Result.{IfOk-weaker}
-use Rattle.chunk_workers.specs.DrawMachine.{HasEachBelow}
+use Rattle.number_shares.specs.Once.{HasEachBelow}
 use Rattle.chunk_workers.specs.Seats.{drawn_by}
 use Rattle.chunk_workers.specs.Windows.{IsWindow, paired}
 use Rattle.chunk_workers.proofs.Windows.{window_of}

@@ -1,4 +1,4 @@
-use Rattle.std.proofs.Common.{◌≡◌, ◌≤◌, ◌++◌, Option, IfSome, IfOk, OnOk, List, ℕ, refl, ap, arith, rules}
+use Rattle.std.proofs.Common.{◌≡◌, ◌≤◌, ◌∙◌, ◌++◌, Option, IfSome, IfOk, OnOk, List, ℕ, refl, ap, arith, rules}
 use Rattle.std.proofs.lemmas.Result.{IfOk-at_ok, err_from_is_err_and}
 use Rattle.record_io.specs.Outside.{Takes, TakesFront}
 use Rattle.record_io.proofs.Calls.{TakesFront-whole, TakesFront-none}
@@ -7,27 +7,30 @@ use Rattle.record_writer.specs.declared.cut_off.CutOff.TheVariants.{Made}
 use Rattle.record_writer.specs.declared.feed.Stop.{Stop}
 use Rattle.record_writer.specs.Progresses.{totals_behind, totals_made}
 use Rattle.record_writer.specs.Written.{tail_chunks, tail_under}
-use Rattle.record_writer.proofs.Counted.{Answers-told, Answers-cut}
+use Rattle.record_writer.proofs.Counted.{Answers-told, Answers-cut, IfOk-ended}
 use Rattle.record_writer.proofs.Flushes.{Takes-ended, TakesFront-ended, totals_made-ended, TakesFile-cut, TakesFile-ended}
 use Rattle.record_writer.proofs.Windows.{where_done}
 use Rattle.record_writer.proofs.engine.write.Goals as goal
 
-pub returns-in_err-flush-clause-written : goal.returns-in_err-flush-clause-written
-returns-in_err-flush-clause-written g c =
+pub returns-in_err-flush : goal.returns-in_err-flush
+returns-in_err-flush g c =
     let p = err_from_is_err_and c.from_residual.result c.from_residual.ensures.1 in
     let put = c.put_chunks-stop.ensures in
     rw (p.1, p.2)
     (record {
-      answer = Answers-cut (g.L.RecordFeed.rest c.args.feed.now) Made (λ records. totals_behind c.args.file.now (tail_chunks c.args.options.now c.args.file.now.place records));
-      made = TakesFront-ended c.args.options.now c.args.file.now _ _ _ c.put_chunks-stop.new.file _ c.put_chunks-stop.result put.whole put.front
-          c.in_err-flush.ensures.made.front;
-      read_to_end = tt;
-      feed = search rules;
-      made_counts = search rules;
+      written = record {
+        answer = Answers-cut (g.L.RecordFeed.rest c.args.feed.now) Made (λ records. totals_behind c.args.file.now (tail_chunks c.args.options.now c.args.file.now.place records));
+        made = TakesFront-ended c.args.options.now c.args.file.now _ _ _ c.put_chunks-stop.new.file _ c.put_chunks-stop.result put.whole put.front
+            c.in_err-flush.ensures.made.front;
+        read_to_end = tt;
+        feed = search rules;
+        made_counts = search rules;
+      };
+      behind = tt;
     })
 
-pub returns-in_err-stop-clause-written : goal.returns-in_err-stop-clause-written
-returns-in_err-stop-clause-written g c =
+pub returns-in_err-stop : goal.returns-in_err-stop
+returns-in_err-stop g c =
     let p = err_from_is_err_and c.from_residual-in_err-stop.result c.from_residual-in_err-stop.ensures.1 in
     let put = c.put_chunks-stop.ensures in
     let front : TakesFront (g.M.Sink.taken c.put_chunks-stop.new.made) (g.M.Sink.taken c.if-is_ok.made) c.put_chunks-stop.new.file.held =
@@ -37,16 +40,19 @@ returns-in_err-stop-clause-written g c =
     ] in
     rw (p.1, p.2)
     (record {
-      answer = Answers-cut (g.L.RecordFeed.rest c.args.feed.now) c.in_err-stop.field-0.0 (λ records. totals_behind c.args.file.now (tail_chunks c.args.options.now c.args.file.now.place records));
-      made = TakesFile-cut (λ records. c.args.file.now.held ++ tail_under c.args.options.now c.args.file.now.place records) _ _ _ c.in_err-stop.field-0.0
-          (TakesFront-ended c.args.options.now c.args.file.now _ _ _ c.put_chunks-stop.new.file _ c.put_chunks-stop.result put.whole put.front front);
-      read_to_end = tt;
-      feed = search rules;
-      made_counts = search rules;
+      written = record {
+        answer = Answers-cut (g.L.RecordFeed.rest c.args.feed.now) c.in_err-stop.field-0.0 (λ records. totals_behind c.args.file.now (tail_chunks c.args.options.now c.args.file.now.place records));
+        made = TakesFile-cut (λ records. c.args.file.now.held ++ tail_under c.args.options.now c.args.file.now.place records) _ _ _ c.in_err-stop.field-0.0
+            (TakesFront-ended c.args.options.now c.args.file.now _ _ _ c.put_chunks-stop.new.file _ c.put_chunks-stop.result put.whole put.front front);
+        read_to_end = tt;
+        feed = search rules;
+        made_counts = search rules;
+      };
+      behind = tt;
     })
 
-pub returns-clause-written : goal.returns-clause-written
-returns-clause-written g c =
+pub returns : goal.returns
+returns g c =
     let put = c.put_chunks-stop.ensures in
     let same : totals_made c.if-is_ok.file ≡ totals_made c.put_chunks-stop.new.file =
     elim c.if-is_ok.branch [
@@ -62,12 +68,15 @@ returns-clause-written g c =
     let whole = Takes-ended c.args.options.now c.args.file.now _ _ _ c.put_chunks-stop.new.file _ c.put_chunks-stop.result put.whole flushed in
     rw c.answer.ensures
     (record {
-      answer = Answers-told c.args.options.now c.args.file.now _ c.in_ok-stop.field-0 c.totals-2.result c.requires.no_record
-          (IfOk-at_ok (λ (stop : Option Stop). IfSome (g.L.RecordFeed.rest c.args.feed.now) (λ rest. rest.stop ≡ stop)) c.in_ok-stop.was put.stop)
-          (rw (c.totals-2.ensures.counted, same) (where_done _ _ c.in_ok-stop.was totals));
-      made = TakesFile-ended (λ records. c.args.file.now.held ++ tail_under c.args.options.now c.args.file.now.place records) _ _ _ c.in_ok-stop.field-0
-          c.totals-2.result (where_done _ _ c.in_ok-stop.was whole);
-      read_to_end = search rules;
-      feed = search rules;
-      made_counts = search rules;
+      written = record {
+        answer = Answers-told c.args.options.now c.args.file.now _ c.in_ok-stop.field-0 c.totals-2.result c.requires.follows.no_record
+            (IfOk-at_ok (λ (stop : Option Stop). IfSome (g.L.RecordFeed.rest c.args.feed.now) (λ rest. rest.stop ≡ stop)) c.in_ok-stop.was put.stop)
+            (rw (c.totals-2.ensures.counted, same) (where_done _ _ c.in_ok-stop.was totals));
+        made = TakesFile-ended (λ records. c.args.file.now.held ++ tail_under c.args.options.now c.args.file.now.place records) _ _ _ c.in_ok-stop.field-0
+            c.totals-2.result (where_done _ _ c.in_ok-stop.was whole);
+        read_to_end = search rules;
+        feed = search rules;
+        made_counts = search rules;
+      };
+      behind = IfOk-ended _ c.in_ok-stop.field-0 c.totals-2.result (omega (arith, where_done _ _ c.in_ok-stop.was put.behind, ap (λ (t : Totals). t.bytes) (c.totals-2.ensures.counted ∙ same)));
     })

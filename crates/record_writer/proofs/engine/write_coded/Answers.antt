@@ -1,12 +1,7 @@
-use Rattle.std.proofs.Common.{arith, rules}
+use Rattle.std.proofs.Common.{refl}
 use Rattle.std.proofs.lemmas.Result.{err_from_is_err_and}
-use Rattle.meta_chunk.specs.Counts.{totals_of}
-use Rattle.record_writer.specs.declared.cut_off.CutOff.TheVariants.{Made}
-use Rattle.record_writer.specs.Progresses.{nothing_made}
-use Rattle.record_writer.specs.Written.{chunks_under}
-use Rattle.record_writer.proofs.Counted.{Answers-cut, Answers-signed, signed_boundary, signed_place, signed_records}
-use Rattle.record_writer.proofs.Flushes.{TakesFile-signed, TakesFile-unsigned}
 use Rattle.record_writer.proofs.Layings.{Lays-at_front, LaysFront-at_front}
+use Rattle.record_writer.proofs.SignedFiles.{MayFollow-signed, WritesFile-signed, WritesFile-unsigned}
 use Rattle.record_writer.proofs.engine.write_coded.Goals as goal
 
 pub returns-in_err-start : goal.returns-in_err-start
@@ -14,31 +9,16 @@ returns-in_err-start g c =
     let p = err_from_is_err_and c.from_residual.result c.from_residual.ensures.1 in
     let front = LaysFront-at_front _ _ c.new-file.result c.start.new.self _ c.new-file.ensures c.in_err-start.ensures.front in
     rw (p.1, p.2)
-    (record {
-      answer = Answers-cut (g.L.RecordFeed.rest c.args.feed.now) Made (λ records. totals_of (chunks_under c.args.options.now records));
-      made = TakesFile-unsigned _ _ c.start.new.self c.args.options.now (g.L.RecordFeed.rest c.args.feed.now) front;
-      read_to_end = tt;
-      feed = search rules;
-      made_counts = search rules;
-    })
+    (WritesFile-unsigned g.L.RecordFeed.rest g.L.RecordFeed.name g.L.RecordFeed.faults g.M.Sink.taken g.M.Sink.lent g.M.Sink.faults _ c.args.options.now
+    c.start.new.self _ _ _ front c.in_err-start.ensures.made refl)
 
-pub write-requires-clause-no_record : goal.write-requires-clause-no_record
-write-requires-clause-no_record g c κs within = signed_records _ _ c.start.new.self (Lays-at_front _ _ _ c.start.new.self _ c.new-file.ensures c.in_ok-start.ensures.whole)
-
-pub write-requires-clause-from_boundary : goal.write-requires-clause-from_boundary
-write-requires-clause-from_boundary g c κs within = signed_boundary _ _ c.start.new.self (Lays-at_front _ _ _ c.start.new.self _ c.new-file.ensures c.in_ok-start.ensures.whole)
-
-pub write-requires-clause-within : goal.write-requires-clause-within
-write-requires-clause-within g c κs within = omega (arith, signed_place _ _ c.start.new.self (Lays-at_front _ _ _ c.start.new.self _ c.new-file.ensures c.in_ok-start.ensures.whole))
+pub write-requires-clause-follows : goal.write-requires-clause-follows
+write-requires-clause-follows g c κs within =
+    MayFollow-signed _ _ c.start.new.self c.args.options.now _ (Lays-at_front _ _ _ c.start.new.self _ c.new-file.ensures c.in_ok-start.ensures.whole)
+    c.requires.in_reach c.requires.in_limits
 
 pub returns : goal.returns
 returns g c =
-    let laid = Lays-at_front _ _ c.new-file.result c.start.new.self _ c.new-file.ensures c.in_ok-start.ensures.whole in
-    let written = c.write.ensures.written in
-    record {
-      answer = Answers-signed _ _ c.start.new.self c.args.options.now (g.L.RecordFeed.rest c.args.feed.now) c.write.result laid written.answer;
-      made = TakesFile-signed _ _ _ c.start.new.self c.args.options.now (g.L.RecordFeed.rest c.args.feed.now) c.write.result laid written.made;
-      read_to_end = written.read_to_end;
-      feed = written.feed;
-      made_counts = search rules;
-    }
+    WritesFile-signed g.L.RecordFeed.rest g.L.RecordFeed.name g.L.RecordFeed.faults g.M.Sink.taken g.M.Sink.lent g.M.Sink.faults _ c.args.options.now
+    c.start.new.self c.write.result _ _ _ _ _ (Lays-at_front _ _ _ c.start.new.self _ c.new-file.ensures c.in_ok-start.ensures.whole)
+    c.in_ok-start.ensures.made c.write.ensures
