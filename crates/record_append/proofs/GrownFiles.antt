@@ -11,6 +11,7 @@ use Rattle.meta_chunk.proofs.Chains.{IsChainOf-weaker}
 use Rattle.meta_chunk.proofs.Held.{AreRecordsOf-append}
 use Rattle.meta_chunk.proofs.Joins.{AreLaid-append, end-AreLaid, end_of_chunks_past}
 use Rattle.meta_chunk.proofs.LaidChunks.{end_of_chunk_after}
+use Rattle.record_group.specs.Groups.{file_of}
 use Rattle.record_group.specs.Records.{AreRecords}
 use Rattle.record_group.proofs.RecordFiles.{AreLaid-record_chunks, AreRecordsOf-chunks_of, AreRecordsOf-record_chunks, IsFile-file_of, IsPlain-record_chunks}
 use Rattle.chunk_reader.specs.Faults.{BeginsWithSignature, HasNoFault, IsFault, IsLongest}
@@ -19,9 +20,9 @@ use Rattle.chunk_reader.proofs.ChainReads.{no_further_unsigned}
 use Rattle.chunk_reader.proofs.ChainSteps.{IsChainOf-nil, chain_boundary, longest_where_whole, no_chunks, signature_chain}
 use Rattle.chunk_reader.proofs.FaultsDecided.{file_judged}
 use Rattle.chunk_reader.proofs.FileFaults.{fault_or_none, longest_is_one}
-use Rattle.record_writer.specs.Written.{file_under, tail_chunks, tail_under}
+use Rattle.record_writer.specs.Written.{tail_chunks, tail_under}
 use Rattle.record_writer.specs.declared.options.WriteOptions.{WriteOptions}
-use Rattle.record_append.specs.Grown.{IsKeptTo, IsRefused, IsTaken, chunks_at, grown}
+use Rattle.record_append.specs.Grown.{IsKeptTo, IsRefused, IsTaken, bytes_at, chunks_at, grown}
 
 pub kept_once : (file : List ℕ) (a b : ℕ) → IsKeptTo file a → IsKeptTo file b → a ≡ b
 kept_once file a b (ks, longest) (ls, also) = longest_is_one ks ls file a b longest also
@@ -102,7 +103,8 @@ none_at_front file k ks h =
     )
 
 first_file : (options : WriteOptions) (records : List (List ℕ)) → options.size ≤ 2 ^ 24 → AreRecords records
-    → IsFrame (chunks_at options 0 records) (file_under options records)
+    → IsFrame (chunks_at options 0 records) (bytes_at options 0 records)
+unfolding file_of
 first_file options records small each =
     let is = IsFile-file_of records options.size options.every options.pad each small in
     (is.0, IsChainOf-weaker (λ k plain. inl plain) is.1)

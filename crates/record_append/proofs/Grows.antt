@@ -6,17 +6,15 @@ use Rattle.std.proofs.lemmas.List.Sums.{sum_by-cons}
 use Rattle.record_values.specs.declared.file_totals.Totals.{Totals}
 use Rattle.chunk_header.specs.Chunks.{ChunkValue}
 use Rattle.meta_chunk.specs.Counts.{is_unread, totals_of}
-use Rattle.meta_chunk.specs.Files.{signature, laid_each}
+use Rattle.meta_chunk.specs.Files.{signature}
 use Rattle.meta_chunk.specs.Laid.{end_of_chunk}
-use Rattle.meta_chunk.proofs.Joins.{end-laid_each}
-use Rattle.record_group.specs.Groups.{file_of}
 use Rattle.record_writer.specs.Feeds.{Rest}
 use Rattle.record_writer.specs.declared.engine.WriteEnd.{WriteEnd}
 use Rattle.record_writer.specs.declared.engine.WriteEnd.TheVariants.{TooLong, InputTooLong, BadLine, Input, Made, Memory}
 use Rattle.record_writer.specs.declared.options.WriteOptions.{WriteOptions}
-use Rattle.record_writer.specs.Written.{AnswersTotals, TakesFile, chunks_under, file_under, tail_chunks}
+use Rattle.record_writer.specs.Written.{AnswersTotals, TakesFile, tail_chunks}
 use Rattle.chunk_reader.specs.declared.reasons.Fault.{Fault}
-use Rattle.record_append.specs.Appends.{AnswersGrown, GrowsBy, HoldsCutOff, KeepsFront, end_of_write}
+use Rattle.record_append.specs.Appends.{AnswersGrown, AnswersRest, GrowsBy, GrowsFrom, HoldsCutOff, KeepsBy, end_of_write}
 use Rattle.record_append.specs.Grown.{IsKeptTo, IsTaken, bytes_at, totals_at}
 use Rattle.record_append.specs.declared.appends.Appended.{Appended}
 use Rattle.record_append.specs.declared.appends.AppendEnd.{AppendEnd}
@@ -34,11 +32,6 @@ records_at options zero records =
       counted-tail options (end_of_chunk 0 signature) records,
     )
 records_at options (suc n) records = counted-tail options (suc n) records
-
-count_at : (options : WriteOptions) (place : ℕ) (records : List (List ℕ)) → (totals_at options place records).bytes ≡ length (bytes_at options place records)
-unfolding file_of
-count_at options zero records = omega (arith, end-laid_each 0 (chunks_under options records))
-count_at options (suc n) records = refl
 
 -- the file up to where it is kept, as a cut leaves it
 left_of : (file : List ℕ) (place : ℕ) (mid : Option (List ℕ)) → mid ≡ option_map (take place) (Some file) → mid ≡ Some (take place file)
@@ -73,7 +66,6 @@ grown_whole options cut (Some file) mid held (Some rest) size place put (taken, 
           length-append (take place file) new,
           length-take-le place file (omega (arith, sized, within)),
           ap (λ (t : Totals). t.bytes) counted,
-          count_at options place records,
         );
       },
     )
@@ -135,20 +127,74 @@ grown_early options cut None held rests end same early = tt
 grown_early options cut (Some file) held None end same early = tt
 grown_early options cut (Some file) held (Some rest) end same early = early_end options cut file held rest end same early
 
--- no byte that is kept changes
-pub keeps_all : (cut : Bool) (bytes held : Option (List ℕ)) → held ≡ bytes
-    → IfSome bytes (λ file. IsSomeAnd held (λ now. KeepsFront cut file now))
-keeps_all cut None held same = tt
-keeps_all cut (Some file) None same = cc
-keeps_all cut (Some file) (Some now) same = inl cc
+-- no byte that is kept changes where nothing was put
+keeps_own : (cut : Bool) (file : List ℕ) (end : AppendEnd) → IsEarly end → KeepsBy (Err end) cut file file
+keeps_own cut file end (inl device) = subst (λ (e : AppendEnd). KeepsBy (Err e) cut file file) (sym device) (inl refl)
+keeps_own cut file end (inr (fault, refused)) = subst (λ (e : AppendEnd). KeepsBy (Err e) cut file file) (sym refused) refl
 
-pub keeps_front : (cut : Bool) (bytes mid held : Option (List ℕ)) (place : ℕ)
+pub keeps_early : (cut : Bool) (bytes held : Option (List ℕ)) (end : AppendEnd) → held ≡ bytes → IsEarly end
+    → IfSome bytes (λ file. IsSomeAnd held (λ now. KeepsBy (Err end) cut file now))
+keeps_early cut None held end same early = tt
+keeps_early cut (Some file) None end same early = cc
+keeps_early cut (Some file) (Some now) end same early =
+    let is : now ≡ file = cc in
+    subst (λ (xs : List ℕ). KeepsBy (Err end) cut file xs) (sym is) (keeps_own cut file end early)
+
+-- where bytes were put behind what a cut left, what is kept stands before them
+pub grows_from : (cut : Bool) (bytes mid held : Option (List ℕ)) (place : ℕ)
     → IfSome bytes (λ file. IsTaken cut file × IsKeptTo file place) → mid ≡ option_map (take place) bytes
     → IfSome mid (λ front. IsSomeAnd held (λ now. (rest : List ℕ) × (now ≡ front ++ rest)))
-    → IfSome bytes (λ file. IsSomeAnd held (λ now. KeepsFront cut file now))
-keeps_front cut None mid held place kept left behind = tt
-keeps_front cut (Some file) None held place kept left behind = cc
-keeps_front cut (Some file) (Some front) None place kept left behind = absurd behind
-keeps_front cut (Some file) (Some front) (Some now) place (taken, kept) left (rest, is) =
+    → IfSome bytes (λ file. IsSomeAnd held (λ now. GrowsFrom cut file place now))
+grows_from cut None mid held place kept left behind = tt
+grows_from cut (Some file) None held place kept left behind = cc
+grows_from cut (Some file) (Some front) None place kept left behind = absurd behind
+grows_from cut (Some file) (Some front) (Some now) place (taken, kept) left (rest, is) =
     let first : front ≡ take place file = cc in
-    inr (taken, (place, kept, (rest, is ∙ ap (λ (xs : List ℕ). xs ++ rest) first)))
+    (taken, kept, (rest, is ∙ ap (λ (xs : List ℕ). xs ++ rest) first))
+
+-- and so where the writing of records ended early
+keeps_end : (cut : Bool) (file held : List ℕ) (place : ℕ) (end : WriteEnd) → GrowsFrom cut file place held
+    → KeepsBy (Err (end_of_write end)) cut file held
+keeps_end cut file held place (TooLong count) grows = (place, grows)
+keeps_end cut file held place InputTooLong grows = (place, grows)
+keeps_end cut file held place (BadLine count) grows = (place, grows)
+keeps_end cut file held place Input grows = inr (place, grows)
+keeps_end cut file held place Made grows = inr (place, grows)
+keeps_end cut file held place Memory grows = inr (place, grows)
+
+pub keeps_ended : (cut : Bool) (bytes held : Option (List ℕ)) (place : ℕ) (end : WriteEnd)
+    → IfSome bytes (λ file. IsSomeAnd held (λ now. GrowsFrom cut file place now))
+    → IfSome bytes (λ file. IsSomeAnd held (λ now. KeepsBy (Err (end_of_write end)) cut file now))
+keeps_ended cut None held place end grows = tt
+keeps_ended cut (Some file) None place end grows = absurd grows
+keeps_ended cut (Some file) (Some now) place end grows = keeps_end cut file now place end grows
+
+-- what is answered of the feed's records and the stop behind them
+pub answered_whole : (options : WriteOptions) (rests : Option Rest) (place dropped bytes : ℕ) (put : Totals)
+    → IfSome rests (λ rest. AnswersTotals (Ok put) (totals_at options place rest.records) rest)
+    → IfSome rests (AnswersRest (Ok (record { kept = place; dropped = dropped; records = put.records; bytes = bytes })))
+answered_whole options None place dropped bytes put answer = tt
+answered_whole options (Some rest) place dropped bytes put (none, counted) =
+    (none, ap (λ (t : Totals). t.records) counted ∙ records_at options place rest.records)
+
+answered_end : (wanted : Totals) (rest : Rest) (end : WriteEnd) → AnswersTotals (Err end) wanted rest → AnswersRest (Err (end_of_write end)) rest
+answered_end wanted rest (TooLong count) answer = answer
+answered_end wanted rest InputTooLong answer = answer
+answered_end wanted rest (BadLine count) answer = answer
+answered_end wanted rest Input answer = tt
+answered_end wanted rest Made answer = tt
+answered_end wanted rest Memory answer = tt
+
+pub answered_ended : (options : WriteOptions) (rests : Option Rest) (place : ℕ) (end : WriteEnd)
+    → IfSome rests (λ rest. AnswersTotals (Err end) (totals_at options place rest.records) rest)
+    → IfSome rests (AnswersRest (Err (end_of_write end)))
+answered_ended options None place end answer = tt
+answered_ended options (Some rest) place end answer = answered_end (totals_at options place rest.records) rest end answer
+
+silent : (rest : Rest) (end : AppendEnd) → IsEarly end → AnswersRest (Err end) rest
+silent rest end (inl device) = subst (λ (e : AppendEnd). AnswersRest (Err e) rest) (sym device) tt
+silent rest end (inr (fault, refused)) = subst (λ (e : AppendEnd). AnswersRest (Err e) rest) (sym refused) tt
+
+pub answered_early : (rests : Option Rest) (end : AppendEnd) → IsEarly end → IfSome rests (AnswersRest (Err end))
+answered_early None end early = tt
+answered_early (Some rest) end early = silent rest end early

@@ -6,12 +6,16 @@ use Rattle.std.proofs.lemmas.List.{take-append-drop}
 use Rattle.record_io.specs.Outside.{Takes, TakesFront}
 use Rattle.record_values.specs.declared.file_totals.Totals.{Totals}
 use Rattle.block_layout.specs.Layout.{IsBoundary, IsOnBoundary}
+use Rattle.chunk_header.specs.Chunks.{ChunkValue}
 use Rattle.meta_chunk.specs.Counts.{totals_of}
+use Rattle.meta_chunk.specs.Files.{end_of_chunks, laid_each}
+use Rattle.meta_chunk.proofs.Joins.{end-laid_each}
+use Rattle.record_group.specs.Groups.{file_of}
 use Rattle.record_writer.specs.Feeds.{Rest}
 use Rattle.record_writer.specs.declared.engine.WriteEnd.{WriteEnd}
 use Rattle.record_writer.specs.declared.engine.WriteEnd.TheVariants.{TooLong, InputTooLong, BadLine, Input, Made, Memory}
 use Rattle.record_writer.specs.declared.options.WriteOptions.{WriteOptions}
-use Rattle.record_writer.specs.Written.{AnswersTotals, TakesFile, chunks_under, file_under, tail_chunks, tail_under, totals_from}
+use Rattle.record_writer.specs.Written.{Answers, AnswersTotals, TakesFile, chunks_under, file_under, tail_under, totals_from}
 use Rattle.record_append.specs.Devices.{bytes_before, bytes_from}
 use Rattle.record_append.specs.Grown.{bytes_at, totals_at}
 
@@ -77,6 +81,7 @@ put_behind result (Some rest) bytes taken then held place bytes_of nothing befor
 -- at the front the file of the records is written, and at any other place their tail
 pub bytes_at-front : (options : WriteOptions) (place : ℕ) → place ≡ 0 → (P : (List (List ℕ) → List ℕ) → Type 0)
     → P (file_under options) → P (bytes_at options place)
+unfolding file_of
 bytes_at-front options place front P h = subst (λ (n : ℕ). P (bytes_at options n)) (sym front) h
 
 pub bytes_at-behind : (options : WriteOptions) (place : ℕ) → place ≢ 0 → (P : (List (List ℕ) → List ℕ) → Type 0)
@@ -84,14 +89,24 @@ pub bytes_at-behind : (options : WriteOptions) (place : ℕ) → place ≢ 0 →
 bytes_at-behind options zero behind P h = absurd (behind refl)
 bytes_at-behind options (suc n) behind P h = h
 
-pub totals_at-front : (options : WriteOptions) (place : ℕ) → place ≡ 0 → (P : (List (List ℕ) → Totals) → Type 0)
-    → P (λ records. totals_of (chunks_under options records)) → P (totals_at options place)
-totals_at-front options place front P h = subst (λ (n : ℕ). P (totals_at options n)) (sym front) h
+-- the totals of a whole file are those of its chunks from the front on
+totals_from-front : (ks : List ChunkValue) → totals_of ks ≡ totals_from 0 ks
+totals_from-front ks =
+    let end : end_of_chunks 0 ks ≡ length (laid_each 0 ks) = omega (arith, end-laid_each 0 ks) in
+    ap (λ (n : ℕ). record { chunks = length ks; records = (totals_of ks).records; bytes = n; unread = (totals_of ks).unread }) end
 
-pub totals_at-behind : (options : WriteOptions) (place : ℕ) → place ≢ 0 → (P : (List (List ℕ) → Totals) → Type 0)
-    → P (λ records. totals_from place (tail_chunks options place records)) → P (totals_at options place)
-totals_at-behind options zero behind P h = absurd (behind refl)
-totals_at-behind options (suc n) behind P h = h
+pub totals_at-front : (options : WriteOptions) (place : ℕ) → place ≡ 0 → (records : List (List ℕ))
+    → totals_of (chunks_under options records) ≡ totals_at options place records
+totals_at-front options place front records =
+    subst (λ (n : ℕ). totals_of (chunks_under options records) ≡ totals_at options n records) (sym front)
+    (totals_from-front (chunks_under options records))
+
+pub answered_at-front : (options : WriteOptions) (place : ℕ) (result : Result Totals WriteEnd) (rests : Option Rest) → place ≡ 0
+    → IfSome rests (Answers result options)
+    → IfSome rests (λ rest. AnswersTotals result (totals_at options place rest.records) rest)
+answered_at-front options place result None front answer = tt
+answered_at-front options place result (Some rest) front answer =
+    subst (λ (t : Totals). AnswersTotals result t rest) (totals_at-front options place front rest.records) answer
 
 -- and the device holds what it held, and what was put behind
 pub held_more : (bytes held : Option (List ℕ)) (place : ℕ) → bytes_before place held ≡ bytes

@@ -45,11 +45,25 @@ pub record HoldsGrownInPart (options : WriteOptions) (cut : Bool) (file : List �
 abbrev pub HoldsCutOff : WriteOptions → Bool → List ℕ → List (List ℕ) → Option (List ℕ) → Type 0
 HoldsCutOff options cut file records held = (held ≡ Some file) ⊎ HoldsGrownInPart options cut file records held
 
--- no byte that is kept of an old file changes: a device holds that file or, where it isn't refused, what is kept of it and bytes
--- behind that
+-- the old file isn't refused, it is kept up to this place, and a device holds what is kept of it and bytes behind that
+abbrev pub GrowsFrom : Bool → List ℕ → ℕ → List ℕ → Type 0
+GrowsFrom cut file place held = IsTaken cut file × IsKeptTo file place × ((rest : List ℕ) × (held ≡ take place file ++ rest))
+
+-- no byte that is kept of an old file changes: a device holds that file or, where it isn't refused, that of it and more
 abbrev pub KeepsFront : Bool → List ℕ → List ℕ → Type 0
-KeepsFront cut file held =
-    (held ≡ file) ⊎ (IsTaken cut file × ((place : ℕ) × IsKeptTo file place × ((rest : List ℕ) × (held ≡ take place file ++ rest))))
+KeepsFront cut file held = (held ≡ file) ⊎ ((place : ℕ) × GrowsFrom cut file place held)
+
+-- what a device keeps with each answer: what was told to be kept; behind a stop, what is kept; a refused file whole; and where the
+-- work was cut off, one of these
+abbrev pub KeepsBy : Result Appended AppendEnd → Bool → List ℕ → List ℕ → Type 0
+KeepsBy (Ok told) cut file held = GrowsFrom cut file told.kept held
+KeepsBy (Err (Refused fault)) cut file held = held ≡ file
+KeepsBy (Err (TooLong count)) cut file held = (place : ℕ) × GrowsFrom cut file place held
+KeepsBy (Err InputTooLong) cut file held = (place : ℕ) × GrowsFrom cut file place held
+KeepsBy (Err (BadLine count)) cut file held = (place : ℕ) × GrowsFrom cut file place held
+KeepsBy (Err Input) cut file held = KeepsFront cut file held
+KeepsBy (Err Device) cut file held = KeepsFront cut file held
+KeepsBy (Err Memory) cut file held = KeepsFront cut file held
 
 -- what is told of new records behind an old file: how much of it was kept and dropped, how many records there are, and how many
 -- bytes the grown file has
@@ -61,6 +75,18 @@ pub record Tells (options : WriteOptions) (file : List ℕ) (added : List (List 
 -- a device holds the old file, which isn't refused, grown by these records
 abbrev pub GrowsBy : WriteOptions → Bool → List ℕ → List (List ℕ) → Option (List ℕ) → Type 0
 GrowsBy options cut file records held = (place : ℕ) × HoldsGrown options cut file place records held
+
+-- the answer where these were a feed's records and the stop behind them, whatever the device holds: their number where there was no
+-- stop, and else that stop. A refusal, a fault and want of memory say nothing of them
+abbrev pub AnswersRest : Result Appended AppendEnd → Rest → Type 0
+AnswersRest (Ok told) rest = (rest.stop ≡ None) × (told.records ≡ length rest.records)
+AnswersRest (Err (Refused fault)) rest = Unit {0}
+AnswersRest (Err (TooLong count)) rest = (rest.stop ≡ Some too_long) × (count ≡ length rest.records)
+AnswersRest (Err InputTooLong) rest = rest.stop ≡ Some input_too_long
+AnswersRest (Err (BadLine count)) rest = (rest.stop ≡ Some bad_line) × (count ≡ length rest.records)
+AnswersRest (Err Input) rest = Unit {0}
+AnswersRest (Err Device) rest = Unit {0}
+AnswersRest (Err Memory) rest = Unit {0}
 
 -- the answer where these were an old file and a feed's records and the stop behind them, and what a device then holds. With a
 -- refusal it says nothing of the feed

@@ -3,9 +3,9 @@ ghost use Rattle.record_io.specs.Calls.{OnlyCounts};
 ghost use Rattle.chunk_reader.specs.declared.reasons.Fault.{Fault};
 ghost use Rattle.record_writer.specs.Feeds.{nothing_left};
 ghost use Rattle.record_writer.specs.Written.{AnswersTotals, AreInLimits, TakesFile};
-ghost use Rattle.record_append.specs.Appends.{AnswersGrown, KeepsFront, MayBeKeptTo};
+ghost use Rattle.record_append.specs.Appends.{AnswersGrown, AnswersRest, KeepsBy, MayBeKeptTo};
 ghost use Rattle.record_append.specs.Devices.{CountsFaults};
-ghost use Rattle.record_append.specs.Grown.{IsRefused, bytes_at, totals_at};
+ghost use Rattle.record_append.specs.Grown.{IsRefused, RefusesFor, bytes_at, totals_at};
 
 use crate::as_sink::AsSink;
 use crate::device::Device;
@@ -108,14 +108,15 @@ pub fn append<R: Threads + Sync, L: RecordFeed, G: Device + Send>(
     requires in_limits { AreInLimits options.now }
     ensures grown { IfSome (G.bytes device.old) (λ file. IfSome (L.rest feed.old) (λ rest.
         AnswersGrown result options.now cut file rest (G.bytes device.new))) }
+    ensures answer { IfSome (L.rest feed.old) (AnswersRest result) }
     ensures refused { (fault : Fault) → result ≡ Err (AppendEnd.Refused fault)
-        → IfSome (G.bytes device.old) (λ file. IsRefused cut file fault) }
+        → (0 < size) × RefusesFor cut fault.why × IfSome (G.bytes device.old) (λ file. IsRefused cut file fault) }
     ensures complete { IfSome (G.bytes device.old) (λ file. (fault : Fault) → IsRefused cut file fault
         → (result ≡ Err (AppendEnd.Refused fault)) ⊎ (result ≡ Err AppendEnd.Device)) }
     ensures untouched { (fault : Fault) → result ≡ Err (AppendEnd.Refused fault)
         → (G.bytes device.new ≡ G.bytes device.old) × (G.told device.new ≡ G.told device.old)
         × (G.handed device.new ≤ G.handed device.old + size) × (feed.new ≡ feed.old) }
-    ensures kept { IfSome (G.bytes device.old) (λ file. IsSomeAnd (G.bytes device.new) (λ held. KeepsFront cut file held)) }
+    ensures kept { IfSome (G.bytes device.old) (λ file. IsSomeAnd (G.bytes device.new) (λ held. KeepsBy result cut file held)) }
     ensures told { IfOk result (λ told. MayBeKeptTo size told.kept × (told.kept + told.dropped ≡ size) × (told.kept ≤ told.bytes)) }
     ensures read_to_end { OnOk result (IfSome (L.rest feed.old) (λ _. L.rest feed.new ≡ Some nothing_left)) }
 

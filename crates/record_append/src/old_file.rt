@@ -22,7 +22,7 @@ pub(crate) fn judge<G: Device>(device: &mut G, size: u64, cut: bool) -> Result<u
     ensures place { IfOk result (λ place. MayBeKeptTo size place) }
     ensures sized { IfSome (G.bytes device.old) (λ file. size ≡ length file) }
     ensures refused { (fault : Fault) → result ≡ Err (AppendEnd.Refused fault)
-        → IfSome (G.bytes device.old) (λ file. IsRefused cut file fault) }
+        → (0 < size) × RefusesFor cut fault.why × IfSome (G.bytes device.old) (λ file. IsRefused cut file fault) }
     ensures ends { OnErr result ((result ≡ Err AppendEnd.Device) ⊎ ((fault : Fault) × (result ≡ Err (AppendEnd.Refused fault)))) }
     ensures same_bytes { G.bytes device.new ≡ G.bytes device.old }
     ensures same_told { G.told device.new ≡ G.told device.old }

@@ -1,10 +1,10 @@
-use Rattle.std.proofs.Common.{◌≡◌, IfSome, Result, Err, ℕ, ap, refl}
+use Rattle.std.proofs.Common.{◌≡◌, ◌+◌, ◌-◌, IfSome, Result, Err, ℕ, ap, refl}
 use Rattle.std.proofs.lemmas.Result.{err_from_is_err_and}
 use Rattle.chunk_reader.specs.declared.reasons.Fault.{Fault}
 use Rattle.record_append.specs.declared.appends.AppendEnd.{AppendEnd}
 use Rattle.record_append.specs.declared.appends.AppendEnd.TheVariants.{Refused}
 use Rattle.record_append.specs.Grown.{IsKeptTo, IsRefused, IsTaken}
-use Rattle.record_append.proofs.Grows.{grown_whole}
+use Rattle.record_append.proofs.Grows.{answered_whole, grown_whole}
 use Rattle.record_append.proofs.KeptFiles.{complete_early, ended_early, taken_never}
 use Rattle.record_append.proofs.appends.append.Goals as goal
 
@@ -14,7 +14,13 @@ returns-in_err-kept-clause-complete g c =
     let end = c.in_err-kept.field-0.0 in
     complete_early c.args.cut (g.G.Device.bytes c.args.device.now) c.from_residual.result end (rw p.2 at p.1)
     (ended_early end _ refl c.in_err-kept.ensures.ends)
-    (λ fault is. c.in_err-kept.ensures.refused fault (ap Err is))
+    (λ fault is. (c.in_err-kept.ensures.refused fault (ap Err is)).2)
+
+pub returns-in_err-kept-clause-refused : goal.returns-in_err-kept-clause-refused
+returns-in_err-kept-clause-refused g c =
+    λ fault is.
+    let p = err_from_is_err_and c.from_residual.result c.from_residual.ensures.1 in
+    c.in_err-kept.ensures.refused fault cc
 
 pub returns-in_err-put-clause-complete : goal.returns-in_err-put-clause-complete
 returns-in_err-put-clause-complete g c =
@@ -28,6 +34,11 @@ returns-clause-grown g c =
     c.in_ok-kept.ensures.kept c.in_ok-kept.ensures.sized c.in_ok-kept.ensures.place.within
     (rw c.judge.ensures.same_bytes at c.in_ok-cut_to.ensures.leaves)
     c.in_ok-put.ensures.answer c.in_ok-put.ensures.put
+
+pub returns-clause-answer : goal.returns-clause-answer
+returns-clause-answer g c =
+    answered_whole c.args.options.now (g.L.RecordFeed.rest c.args.feed.now) c.in_ok-kept.kept
+    (c.args.size - c.in_ok-kept.kept) (c.in_ok-kept.kept + c.in_ok-put.put.bytes) c.in_ok-put.put c.in_ok-put.ensures.answer
 
 pub returns-clause-complete : goal.returns-clause-complete
 returns-clause-complete g c =

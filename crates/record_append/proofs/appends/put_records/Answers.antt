@@ -1,9 +1,30 @@
 use Rattle.std.proofs.Common.{◌≡◌, ◌∙◌, IfSome, ap, sym, arith, rules}
 use Rattle.record_io.specs.Outside.{Lent}
-use Rattle.record_writer.specs.Written.{TakesFile, tail_under}
+use Rattle.record_writer.specs.Written.{TakesFile, file_under, tail_under}
 use Rattle.record_append.specs.Devices.{bytes_before, bytes_from}
-use Rattle.record_append.proofs.PutRecords.{bytes_at-behind, held_more, put_behind}
+use Rattle.record_append.proofs.PutRecords.{answered_at-front, bytes_at-behind, bytes_at-front, held_more, put_behind}
 use Rattle.record_append.proofs.appends.put_records.Goals as goal
+
+pub returns-then-place-eq0-clause-answer : goal.returns-then-place-eq0-clause-answer
+returns-then-place-eq0-clause-answer g c =
+    answered_at-front c.args.options.now c.args.place c.write_records.result (g.L.RecordFeed.rest c.args.feed.now) c.if-place-eq0.true
+    c.write_records.ensures.answer
+
+pub returns-then-place-eq0-clause-put : goal.returns-then-place-eq0-clause-put
+returns-then-place-eq0-clause-put g c =
+    let sink = c.write_records.new.made in
+    let bytes = g.G.Device.bytes in
+    let rests = g.L.RecordFeed.rest c.args.feed.now in
+    let held = c.device-1.given.0 in
+    let is : held ≡ sink.device.now = search rules in
+    let before : bytes_before sink.at (bytes sink.device.now) ≡ bytes c.args.device.now =
+    ap (λ (l : Lent). l.front) (c.write_records.ensures.made_counts.same_lent ∙ c.new-sink.ensures.lent) in
+    bytes_at-front c.args.options.now c.args.place c.if-place-eq0.true
+    (λ f. IfSome rests (λ rest. TakesFile c.write_records.result (bytes c.args.device.now) (bytes held) (f rest.records)))
+    (put_behind c.write_records.result rests (bytes c.args.device.now) _ _ (bytes held) sink.at
+    (file_under c.args.options.now)
+    c.new-sink.ensures.taken (ap (λ d. bytes_before sink.at (bytes d)) is ∙ before) (ap (λ d. bytes_from sink.at (bytes d)) (sym is))
+    c.write_records.ensures.made)
 
 pub returns-else-place-eq0-clause-put : goal.returns-else-place-eq0-clause-put
 returns-else-place-eq0-clause-put g c =

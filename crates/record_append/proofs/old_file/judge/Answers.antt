@@ -1,6 +1,6 @@
-use Rattle.std.proofs.Common.{◌≡◌, IfSome, refl, subst}
+use Rattle.std.proofs.Common.{◌≡◌, ◌<◌, IfSome, refl, subst}
 use Rattle.chunk_reader.specs.declared.reasons.Fault.{Fault}
-use Rattle.record_append.specs.Grown.{IsRefused}
+use Rattle.record_append.specs.Grown.{IsRefused, RefusesFor}
 use Rattle.record_append.proofs.KeptFiles.{IsSized, kept_front, refused_front, sized_told, front_of}
 use Rattle.record_append.proofs.old_file.judge.Goals as goal
 
@@ -10,10 +10,13 @@ returns-in-Some-clause-refused g c =
     let same : c.in-Some.fault ≡ fault = cc in
     let bytes = g.G.Device.bytes c.args.device.now in
     let sized : IsSized bytes c.args.size = sized_told bytes (g.G.Device.told c.args.device.now) c.args.size (g.met.G.Device.sized c.args.device.now) c.requires.told in
-    subst (λ (f : Fault). IfSome bytes (λ file. IsRefused c.args.cut file f)) same
-    (refused_front c.args.cut bytes c.args.size c.in_ok-front.front c.in-Some.fault sized
-    (front_of bytes _ c.in_ok-front.front c.new.ensures.bytes c.in_ok-front.ensures.front)
-    c.in-Some.ensures.refused)
+    subst (λ (f : Fault). (0 < c.args.size) × RefusesFor c.args.cut f.why × IfSome bytes (λ file. IsRefused c.args.cut file f)) same (
+      c.in-Some.ensures.refused.1,
+      c.in-Some.ensures.refused.2,
+      refused_front c.args.cut bytes c.args.size c.in_ok-front.front c.in-Some.fault sized
+          (front_of bytes _ c.in_ok-front.front c.new.ensures.bytes c.in_ok-front.ensures.front)
+          c.in-Some.ensures.refused,
+    )
 
 pub returns-in-None-clause-kept : goal.returns-in-None-clause-kept
 returns-in-None-clause-kept g c =
