@@ -7,14 +7,12 @@ use Rattle.std.proofs.lemmas.Option.{slice_get-map}
 use mathlib.Core.Option.{some}
 use lib.ListN.{get_elem?}
 use Rattle.atomic_table.specs.Table.{State, stepped, keeps}
-use Rattle.number_shares.specs.Once.{HasEachBelow}
-use Rattle.number_shares.proofs.Lists.{slice_get_at, map-set_at}
-use Rattle.record_collect.specs.declared.table.Piece.{Piece}
+use Rattle.number_shares.proofs.Lists.{map-set_at, map-split_at, slice_get_at, word_set}
 use Rattle.record_collect.specs.declared.table.SeatView.{SeatView}
 use Rattle.record_collect.specs.declared.table.Terms.{Terms}
 use Rattle.record_collect.specs.PutMachine.{limit, Hand, Machine, IsPutStep, empty_hand, start_of}
 use Rattle.record_collect.specs.PutRule.{IsKept, hand_of, machine_of, view_less_one, view_of_one, with_piece}
-use Rattle.record_collect.proofs.Tables.{word_set, word_small}
+use Rattle.record_collect.proofs.Tables.{word_small}
 
 -- a put is the event of the machine that the seat's number names
 pub put_is_event : (terms : Terms) (s : State (Unit {0}) SeatView) (id cost : ℕ) (v : SeatView)
@@ -33,20 +31,6 @@ put_is_event terms s id cost v h at going enough few =
       hands = map-set_at hand_of s.views id (with_piece (record { at = word; cost = cost }) v);
     }
 
--- an empty hand behind others
-hands_behind : (views : List SeatView) (v : SeatView) → map hand_of (views ++ view_of_one v ∷ []) ≡ map hand_of views ++ empty_hand ∷ []
-hands_behind [] v = refl
-hands_behind (w ∷ ws) v = ap (λ hs. hand_of w ∷ hs) (hands_behind ws v)
-
--- the hands of views of which one is cut in two: as before, and an empty one behind them
-hands_of_split : (views : List SeatView) (id : ℕ) (v : SeatView) → slice_get views id ≡ Some v
-    → map hand_of (set views id (view_less_one v) ++ view_of_one v ∷ []) ≡ map hand_of views ++ empty_hand ∷ []
-hands_of_split [] id v at = cc
-hands_of_split (w ∷ ws) zero v at =
-    let same : w ≡ v = cc in
-    ap (λ (u : SeatView). hand_of u ∷ map hand_of (ws ++ view_of_one v ∷ [])) (sym same) ∙ ap (λ hs. hand_of w ∷ hs) (hands_behind ws v)
-hands_of_split (w ∷ ws) (suc id) v at = ap (λ hs. hand_of w ∷ hs) (hands_of_split ws id v at)
-
 -- so a seat split off before any put makes the machine's start for one pass more
 pub split_starts : (passes : ℕ) (s : State (Unit {0}) SeatView) (id : ℕ) (v : SeatView) → machine_of s ≡ start_of passes
     → get_elem? s.views id ≡ some v
@@ -54,7 +38,7 @@ pub split_starts : (passes : ℕ) (s : State (Unit {0}) SeatView) (id : ℕ) (v 
     ≡ start_of (passes + 1)
 split_starts passes s id v start at =
     let hands : map hand_of (set s.views id (view_less_one v) ++ view_of_one v ∷ []) ≡ replicate (passes + 1) empty_hand =
-    hands_of_split s.views id v (slice_get_at s.views id v at)
+    map-split_at hand_of s.views id v (view_less_one v) (view_of_one v) (slice_get_at s.views id v at) refl
     ∙ ap (λ (m : Machine). m.hands ++ empty_hand ∷ []) start
     ∙ replicate_more passes empty_hand in
     ap (λ (m : Machine). record { word = m.word; hands = map hand_of (set s.views id (view_less_one v) ++ view_of_one v ∷ []) }) start

@@ -11,3 +11,9 @@ pub mod Runs
 pub mod Tables
 pub mod Woven
 pub mod PlaceSteps
+pub mod TakenRecords
+pub mod FedFiles
+pub mod WovenCosts
+pub mod FedThreads
+pub mod AllRead
+pub mod WholeGatherings

@@ -7,7 +7,7 @@ use Rattle.std.proofs.lemmas.List.FromFn.{length-range_with_len}
 use Rattle.std.proofs.lemmas.List.Sums.{sum_by-cons}
 use Rattle.number_shares.specs.Once.{times}
 use Rattle.number_shares.proofs.Counting.{one_if, one_if-same, one_if-other, once_below, once_below-yes, once_below-no, times-cons, times-append}
-use Rattle.number_shares.proofs.Lists.{all_append}
+use Rattle.number_shares.proofs.Lists.{all_append, all_back, all_front}
 use Rattle.record_collect.specs.declared.table.Piece.{Piece}
 use Rattle.record_collect.specs.PutMachine.{numbers_of, numbers_in}
 
@@ -78,14 +78,6 @@ held-sum p [] = refl
 held-sum p (x ∷ xs) = omega (arith, held-cons p x xs, held-sum p xs, sum_by-cons (covers p) x xs)
 
 -- how far pieces come
-pub all_front : (P : ℕ → Type 0) (xs ys : List ℕ) → AllByRecursion P (xs ++ ys) → AllByRecursion P xs
-all_front P [] ys all = tt
-all_front P (x ∷ xs) ys all = (all.0, all_front P xs ys all.1)
-
-all_back : (P : ℕ → Type 0) (xs ys : List ℕ) → AllByRecursion P (xs ++ ys) → AllByRecursion P ys
-all_back P [] ys all = all
-all_back P (x ∷ xs) ys all = all_back P xs ys all.1
-
 pub numbers_below : (m : ℕ) (xs : List Piece) → AllByRecursion (λ x. x.at + x.cost ≤ m) xs → AllByRecursion (λ p. p < m) (numbers_in xs)
 numbers_below m [] all = tt
 numbers_below m (x ∷ xs) all = all_append (λ p. p < m) (numbers_of x) (numbers_in xs) (all-range x.at x.cost m all.0) (numbers_below m xs all.1)

@@ -1,5 +1,5 @@
 -- Chunks of records, counted, and where their records stand.
-use Rattle.std.proofs.Common.{◌≡◌, ◌∙◌, ℕ, zero, suc, ◌+◌, ◌*◌, ◌^◌, ◌<◌, ◌≤◌, Bool, true, false, not, ◌&&◌, ◌||◌, cond, Some, None, List, [], ◌∷◌, ◌++◌, length, map, drop, ltb, refl, sym, ap, subst, inl, inr, arith}
+use Rattle.std.proofs.Common.{◌≡◌, ◌∙◌, ℕ, zero, suc, ◌+◌, ◌*◌, ◌^◌, ◌≤◌, Bool, true, false, not, ◌&&◌, ◌||◌, Some, None, List, [], ◌∷◌, ◌++◌, length, map, drop, ltb, refl, sym, ap, subst, inl, inr, arith}
 use Rattle.std.proofs.Math.Dec.{eqb}
 use Rattle.std.specs.List.{concat, enumerate_from, flat_map, range_with_len, slice_get}
 use Rattle.std.proofs.lemmas.Bool.{cond_both, cond-true, cond-false, cases_lt, eqb-true, eq-eqb}
@@ -12,7 +12,7 @@ use Rattle.block_layout.specs.Layout.{IsBoundary, chunk_end_of, end_of}
 use Rattle.block_layout.proofs.Ends.{end_of-some}
 use Rattle.block_layout.proofs.ChunkEnds.{chunk_end_of-few_records, chunk_end_of_boundary}
 use Rattle.chunk_header.specs.Chunks.{ChunkValue}
-use Rattle.chunk_header.specs.SimpleChunks.{simple_chunk, simple_data, sizes_of}
+use Rattle.chunk_header.specs.SimpleChunks.{simple_chunk, sizes_of}
 use Rattle.chunk_header.proofs.SimpleChunks.{length-simple_data}
 use Rattle.simple_chunk.specs.Costs.{cost, cost_of}
 use Rattle.simple_chunk.proofs.CostLemmas.{cost_of-is}

@@ -9,8 +9,8 @@ use lib.ListN.{get_elem?}
 use Rattle.atomic_table.specs.Table.{State, Me, step, stepped, keeps, Allows, Splits, Joins}
 use Rattle.number_shares.specs.Once.{HasEachBelow}
 use Rattle.number_shares.specs.Shared.{IsEither, IsShared}
-use Rattle.number_shares.proofs.Counting.{once_below, times-each_below, among, among-append, among-below, among-each}
-use Rattle.number_shares.proofs.Lists.{all_append, slice_get_at, all_map}
+use Rattle.number_shares.proofs.Counting.{among, among-append, among-below, among-each}
+use Rattle.number_shares.proofs.Lists.{all_append, all_front, all_map, slice_get_at, word_set}
 use Rattle.number_shares.proofs.Shares.{IsFit, works_at, works_apart, shared_take, shared_split, shared_join, shared_alone, numbers_below as numbers_below_word}
 use Rattle.record_collect.specs.declared.table.Piece.{Piece}
 use Rattle.record_collect.specs.declared.table.SeatView.{SeatView}
@@ -18,7 +18,7 @@ use Rattle.record_collect.specs.declared.table.Terms.{Terms}
 use Rattle.record_collect.specs.PutMachine.{limit, numbers_in, numbers_taken, pieces_of, IsHand, IsMine, IsPast}
 use Rattle.record_collect.specs.PutRule.{view_less_one, view_of_one, joined_view, spent_view, hand_of, with_piece, TellsPut, IsAtWork, sharing, IsKept}
 use Rattle.record_collect.proofs.Machines.{IsHand-taken, held-taken, taken-both, among-hand}
-use Rattle.record_collect.proofs.Pieces.{held, held-append, numbers-append, pieces_below, times-range-more, all_front}
+use Rattle.record_collect.proofs.Pieces.{held, held-append, numbers-append, pieces_below, times-range-more}
 
 fit : IsFit sharing
 fit = record { some = λ v h. h.weight; none = refl; empty = refl }
@@ -48,10 +48,6 @@ word_small terms s h =
           omega (arith, among-each limit k word (flat_map sharing.numbers s.views) h.shared.each_once (omega arith), among-views k s.views h.shared.either, h.shared.weights, h.passes_at_most)
       | inr within ↦ omega arith
     ]
-
-pub word_set : (words : List ℕ) (word : ℕ) → length words ≡ 1 → slice_index (set words 0 word) 0 ≡ word
-word_set [] word one = absurd (omega arith)
-word_set (w ∷ words) word one = refl
 
 at_work_after : (x : Piece) (v : SeatView) → 8 ≤ x.cost → x.cost ≤ 16777224 → IsAtWork v → v.past ≡ [] → IsAtWork (with_piece x v)
 at_work_after x v enough few h going =

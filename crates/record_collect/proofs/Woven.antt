@@ -1,6 +1,6 @@
 -- The records of passes, woven into one list.
-use Rattle.std.proofs.Common.{◌≡◌, ◌∙◌, ℕ, zero, suc, ◌+◌, ◌^◌, ◌<◌, ◌≤◌, Option, Some, None, List, [], ◌∷◌, ◌++◌, length, map, take, refl, sym, ap, subst, arith}
-use Rattle.std.specs.List.{AllByRecursion, AllZip, flat_map, range_with_len, slice_get, sum_by}
+use Rattle.std.proofs.Common.{◌≡◌, ◌∙◌, ℕ, zero, suc, ◌+◌, ◌^◌, ◌<◌, ◌≤◌, Option, Some, List, [], ◌∷◌, ◌++◌, length, map, take, refl, sym, ap, subst, arith}
+use Rattle.std.specs.List.{AllByRecursion, AllZip, flat_map, range_with_len, slice_get}
 use Rattle.std.specs.Option.{option_map}
 use Rattle.std.proofs.lemmas.List.{length-map}
 use Rattle.std.proofs.lemmas.List.Sums.{sum_by-cons}
@@ -10,7 +10,7 @@ use Rattle.number_shares.specs.Once.{HasEachBelow}
 use Rattle.record_collect.specs.declared.collector.Accepted.{Accepted}
 use Rattle.record_collect.specs.declared.placed.Placed.{Placed}
 use Rattle.record_collect.specs.PutMachine.{limit, IsLeast}
-use Rattle.record_collect.specs.Passes.{PassValue, ends_of, receipts_of, records_of}
+use Rattle.record_collect.specs.Passes.{PassValue, ends_of, records_of}
 use Rattle.record_collect.specs.Gatherings.{AreGathered, GatheredValue, HaveReceipts, IsInBounds, StandAt}
 use Rattle.record_collect.specs.Orders.{IsLaid, bytes_in, cost_of_placed, gathered_of, of_pass, place_in, places_of}
 use Rattle.record_collect.proofs.PlacedNumbers.{places_once, places_rise, places_below, records_stand}

@@ -4,3 +4,5 @@ pub mod Passes
 pub mod Gatherings
 pub mod Orders
 pub mod FilePlaces
+pub mod Takings
+pub mod GatheredFiles

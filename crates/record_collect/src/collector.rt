@@ -49,7 +49,7 @@ pub(crate) struct Accepted {
 pub struct Collector {
     pub(crate) table: Table<(), SeatView, Terms, EachOnce, Global>,
     passes: u32,
-    alloc: Global,
+    pub(crate) alloc: Global,
 }
 
 impl Model for Collector {

@@ -1,7 +1,7 @@
 //! What is made of the passes of a collector.
 ghost use Rattle.std.specs.Prelude.{◌≡◌, ◌≢◌, ℕ, ◌<◌, ◌≤◌, ◌^◌, Some, [], All, IfOk, length, map, vec_len, slice_get};
 ghost use Rattle.std.specs.List.{AllByRecursion};
-ghost use Rattle.record_collect.specs.Gatherings.{AreGathered};
+ghost use Rattle.record_collect.specs.Gatherings.{AreGathered, IsInBounds};
 ghost use Rattle.record_collect.specs.Orders.{IsLaid, cost_of_placed, of_pass, piece_at, place_in};
 ghost use Rattle.record_collect.specs.Passes.{BelongsTo, PassValue, Rises, ends_of};
 ghost use Rattle.record_collect.specs.PutMachine.{IsLeast, limit};
@@ -20,7 +20,8 @@ impl Collector {
     pub fn finish(self, alloc: Global, passes: Vec<Pass>) -> Result<Gathered, AllocError>
         requires passes { vec_len passes ≡ self.passes }
         requires each { All (BelongsTo self) passes.items }
-        ensures { IfOk result (λ made. AreGathered passes.items made) }
+        ensures gathered { IfOk result (λ made. AreGathered passes.items made) }
+        ensures bounds { IfOk result IsInBounds }
     {
         let count = passes.len();
         let all = self.sorted(alloc, passes)?;

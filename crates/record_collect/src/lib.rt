@@ -1,14 +1,18 @@
-//! Records that several threads put into one list, each at a place of its own. All sizes are in bytes. Own.
+//! Records that several threads put into one list, each at a place of its own, also those of files. All sizes are in bytes. Own.
 #![tactic(auto)]
 
 mod collector;
+mod feeding;
 mod file_places;
 mod finishing;
 mod gathered;
+mod gathering;
 pub mod laws;
 mod placed;
+mod slots;
 mod table;
 
 pub use collector::{Collector, Pass, PutEnd, Receipt};
 pub use file_places::places;
 pub use gathered::{Gathered, Numbers};
+pub use gathering::{GatherEnd, gather};

@@ -1,4 +1,4 @@
-use Rattle.std.proofs.Common.{◌≡◌, ◌∙◌, ℕ, List, [], ◌∷◌, ◌++◌, map, ap, sym}
+use Rattle.std.proofs.Common.{◌∙◌, ℕ, List, [], ◌∷◌, ◌++◌, map, ap, sym}
 use Rattle.std.specs.List.{range_with_len}
 use Rattle.record_collect.specs.Orders.{places_of}
 use Rattle.record_collect.proofs.Woven.{numbers_more}

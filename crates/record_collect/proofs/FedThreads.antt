@@ -1,0 +1,230 @@
+-- What threads were answered for halves of the stores, put together, and what it says of stores and files.
+use Rattle.std.proofs.Common.{◌≡◌, ◌∙◌, ℕ, zero, suc, ◌<◌, false, Option, Result, List, [], ◌∷◌, ◌++◌, Some, Ok, Err, All, IfOk, IfSome, inl, inr, map, length, refl, sym, ap, subst, arith}
+use Rattle.std.specs.Prelude.{slice_get, slice_index_or, slice_set}
+use Rattle.std.specs.List.{AllByRecursion, AllZip}
+use Rattle.std.proofs.lemmas.List.Elements.{All-from_recursion, recursion_from_All}
+use Rattle.record_io.specs.Calls.{OnlyAsks}
+use Rattle.record_io.specs.ManyStores.{AnyRose, AreOnlyAsked, AreTold}
+use Rattle.record_io.proofs.ManyStores.{asks_whatever}
+use Rattle.chunk_reader.specs.Faults.{IsFault}
+use Rattle.chunk_reader.specs.ManyFiles.{IsFirstFault}
+use Rattle.chunk_reader.specs.declared.reasons.Fault.{Fault}
+use Rattle.chunk_reader.specs.declared.reasons.ReadEnd.{ReadEnd}
+use Rattle.chunk_reader.specs.declared.reasons.ReadEnd.TheVariants.{Refused, Store}
+use Rattle.record_collect.specs.declared.feeding.Taken.{Taken}
+use Rattle.record_collect.specs.GatheredFiles.{AreRecordsOfEach}
+use Rattle.record_collect.specs.Passes.{CollectorValue, PassValue, BelongsTo}
+use Rattle.record_collect.specs.Takings.{AreFed, HasTaken, IsFed, IsFirstRefused, IsRead, IsTakenOf}
+
+-- what a front of the stores tells, and what the others do
+pub told-front : {S X : Type 0} (tell : S → Option X) (stores a c : List S) (told x y : List X) → stores ≡ a ++ c → told ≡ x ++ y → length x ≡ length a
+    → AreTold tell stores told → AreTold tell a x × AreTold tell c y
+told-front {S} {X} tell stores a c told x y is put same h = halves a x same (subst (λ (ss : List S). AreTold tell ss (x ++ y)) is (subst (AreTold tell stores) put h))
+  where
+    halves : (a : List S) (x : List X) → length x ≡ length a → AreTold tell (a ++ c) (x ++ y) → AreTold tell a x × AreTold tell c y
+    halves [] [] same h = (refl, h)
+    halves [] (t ∷ x) same h = absurd (omega (arith, same))
+    halves (s ∷ a) [] same h = absurd (omega (arith, same))
+    halves (s ∷ a) (t ∷ x) same h =
+        let head : tell s ≡ Some t = cc in
+        let tail : map tell (a ++ c) ≡ map Some (x ++ y) = cc in
+        let rest = halves a x (omega (arith, same)) tail in
+        (ap (λ (o : Option X). o ∷ map tell a) head ∙ ap (λ (os : List (Option X)). Some t ∷ os) rest.0, rest.1)
+
+-- what holds of all holds of a front, and of the others
+pub all-front : {X : Type 0} (P : X → Type 0) (xs a c : List X) → xs ≡ a ++ c → All P xs → All P a × All P c
+all-front {X} P xs a c is all =
+    let both = halves a (subst (AllByRecursion P) is (recursion_from_All P xs all)) in
+    (All-from_recursion P a both.0, All-from_recursion P c both.1)
+  where
+    halves : (a : List X) → AllByRecursion P (a ++ c) → AllByRecursion P a × AllByRecursion P c
+    halves [] all = (tt, all)
+    halves (x ∷ a) all = (let rest = halves a all.1 in ((all.0, rest.0), rest.1))
+
+-- what a pass has of the records of a file
+pub record Taking : Type 0 where
+  pub list : List (List ℕ)
+  pub pass : PassValue
+  pub part : Taken
+  pub has : HasTaken part pass list
+
+abbrev pub lists_of : List Taking → List (List (List ℕ))
+lists_of rows = map (λ (r : Taking). r.list) rows
+
+abbrev pub passes_of : List Taking → List PassValue
+passes_of rows = map (λ (r : Taking). r.pass) rows
+
+abbrev pub answers_of : List Taking → List (Result Taken ReadEnd)
+answers_of rows = map (λ (r : Taking). Ok r.part) rows
+
+-- the files have no fault, and this is what the passes have of their records
+pub record AreTakings (files : List (List ℕ)) (passes : List PassValue) (answers : List (Result Taken ReadEnd)) : Type 0 where
+  pub rows : List Taking
+  pub are : AreRecordsOfEach files (lists_of rows)
+  pub of_passes : passes ≡ passes_of rows
+  pub of_answers : answers ≡ answers_of rows
+
+-- a file that was read to its end
+taken_of : (told : Option (List ℕ)) (file : List ℕ) (answer : Result Taken ReadEnd) (part : Taken) (pass : PassValue) → told ≡ Some file → answer ≡ Ok part
+    → IfOk answer (λ part. IfSome told (λ f. IsTakenOf f part pass)) → IsTakenOf file part pass
+taken_of told file answer part pass is read h =
+    subst (λ (o : Option (List ℕ)). IfSome o (λ f. IsTakenOf f part pass)) is
+    (subst (λ (a : Result Taken ReadEnd). IfOk a (λ p. IfSome told (λ f. IsTakenOf f p pass))) read h)
+
+module _ {S L : Type 0} (bytes : S → Option (List ℕ)) (told : S → Option ℕ) (name : S → L) (faults : S → ℕ) where
+  abbrev Fed : CollectorValue → List PassValue → List S → List S → List (Result Taken ReadEnd) → Type 0
+  Fed = AreFed bytes told name faults
+
+  fed_append : (collector : CollectorValue) (p q : List PassValue) (a b c d : List S) (x y : List (Result Taken ReadEnd))
+      → Fed collector p a b x → Fed collector q c d y → Fed collector (p ++ q) (a ++ c) (b ++ d) (x ++ y)
+  fed_append collector [] q [] [] c d [] y h k = k
+  fed_append collector [] q [] [] c d (r ∷ x) y h k = absurd h
+  fed_append collector [] q [] (t ∷ b) c d x y h k = absurd h
+  fed_append collector [] q (s ∷ a) b c d x y h k = absurd h
+  fed_append collector (e ∷ p) q [] b c d x y h k = absurd h
+  fed_append collector (e ∷ p) q (s ∷ a) [] c d x y h k = absurd h
+  fed_append collector (e ∷ p) q (s ∷ a) (t ∷ b) c d [] y h k = absurd h
+  fed_append collector (e ∷ p) q (s ∷ a) (t ∷ b) c d (r ∷ x) y h k = (h.0, fed_append collector p q a b c d x y h.1 k)
+
+  pub fed_halves : (collector : CollectorValue) (passes p q : List PassValue) (before after a b c d : List S) (answers x y : List (Result Taken ReadEnd))
+      → passes ≡ p ++ q → before ≡ a ++ c → after ≡ b ++ d → answers ≡ x ++ y
+      → AreFed bytes told name faults collector p a b x → AreFed bytes told name faults collector q c d y
+      → AreFed bytes told name faults collector passes before after answers
+  fed_halves collector passes p q before after a b c d answers x y cut is then put h k =
+      subst (λ (ps : List PassValue). Fed collector ps before after answers) (sym cut)
+      (subst (λ (ss : List S). Fed collector (p ++ q) ss after answers) (sym is)
+      (subst (λ (ss : List S). Fed collector (p ++ q) (a ++ c) ss answers) (sym then)
+      (subst (Fed collector (p ++ q) (a ++ c) (b ++ d)) (sym put)
+      (fed_append collector p q a b c d x y h k))))
+
+  -- one store, or none
+  pub fed-one : (collector : CollectorValue) (passes : List PassValue) (stores : List S) (answers : List (Result Taken ReadEnd)) (d : S) (pass : PassValue) (store : S) (answer : Result Taken ReadEnd)
+      → length stores < 2 → length passes ≡ length stores → length answers ≡ length stores → IsFed bytes told name faults collector pass (slice_index_or stores 0 d) store answer
+      → AreFed bytes told name faults collector (slice_set passes 0 pass) stores (slice_set stores 0 store) (slice_set answers 0 answer)
+  fed-one collector [] [] [] d pass store answer short many as_many h = tt
+  fed-one collector (p ∷ ps) [] rest d pass store answer short many as_many h = absurd (omega (arith, many))
+  fed-one collector [] [] (a ∷ rest) d pass store answer short many as_many h = absurd (omega (arith, as_many))
+  fed-one collector [] (s ∷ ss) rest d pass store answer short many as_many h = absurd (omega (arith, many))
+  fed-one collector (p ∷ ps) (s ∷ t ∷ ss) rest d pass store answer short many as_many h = absurd (omega (arith, short))
+  fed-one collector (p ∷ q ∷ ps) (s ∷ []) rest d pass store answer short many as_many h = absurd (omega (arith, many))
+  fed-one collector (p ∷ []) (s ∷ []) [] d pass store answer short many as_many h = absurd (omega (arith, as_many))
+  fed-one collector (p ∷ []) (s ∷ []) (a ∷ b ∷ rest) d pass store answer short many as_many h = absurd (omega (arith, as_many))
+  fed-one collector (p ∷ []) (s ∷ []) (a ∷ []) d pass store answer short many as_many h = (h, tt)
+
+  -- as many passes as stores
+  pub fed-many : (collector : CollectorValue) (passes : List PassValue) (before after : List S) (answers : List (Result Taken ReadEnd))
+      → AreFed bytes told name faults collector passes before after answers → length passes ≡ length before
+  fed-many collector [] [] after answers h = refl
+  fed-many collector [] (s ∷ before) after answers h = absurd h
+  fed-many collector (p ∷ passes) [] after answers h = absurd h
+  fed-many collector (p ∷ passes) (s ∷ before) [] answers h = absurd h
+  fed-many collector (p ∷ passes) (s ∷ before) (t ∷ after) [] h = absurd h
+  fed-many collector (p ∷ passes) (s ∷ before) (t ∷ after) (a ∷ answers) h = ap suc (fed-many collector passes before after answers h.1)
+
+  -- the passes belong to the collector
+  belong : (collector : CollectorValue) (passes : List PassValue) (before after : List S) (answers : List (Result Taken ReadEnd))
+      → Fed collector passes before after answers → AllByRecursion (BelongsTo collector) passes
+  belong collector [] before after answers h = tt
+  belong collector (p ∷ passes) [] after answers h = absurd h
+  belong collector (p ∷ passes) (s ∷ before) [] answers h = absurd h
+  belong collector (p ∷ passes) (s ∷ before) (t ∷ after) [] h = absurd h
+  belong collector (p ∷ passes) (s ∷ before) (t ∷ after) (a ∷ answers) h = (h.0.belongs, belong collector passes before after answers h.1)
+
+  pub all_belong : (collector : CollectorValue) (passes : List PassValue) (before after : List S) (answers : List (Result Taken ReadEnd))
+      → AreFed bytes told name faults collector passes before after answers → All (BelongsTo collector) passes
+  all_belong collector passes before after answers h =
+      All-from_recursion (BelongsTo collector) passes (belong collector passes before after answers h)
+
+  each_asked : (collector : CollectorValue) (passes : List PassValue) (before after : List S) (answers : List (Result Taken ReadEnd))
+      → Fed collector passes before after answers → AllZip (OnlyAsks bytes told name faults ⊥) before after
+  each_asked collector [] [] [] answers h = tt
+  each_asked collector [] [] (t ∷ after) answers h = absurd h
+  each_asked collector [] (s ∷ before) after answers h = absurd h
+  each_asked collector (p ∷ passes) [] after answers h = absurd h
+  each_asked collector (p ∷ passes) (s ∷ before) [] answers h = absurd h
+  each_asked collector (p ∷ passes) (s ∷ before) (t ∷ after) [] h = absurd h
+  each_asked collector (p ∷ passes) (s ∷ before) (t ∷ after) (a ∷ answers) h =
+      (asks_whatever bytes told name faults s t h.0.asks, each_asked collector passes before after answers h.1)
+
+  rose : (collector : CollectorValue) (passes : List PassValue) (before after : List S) (answers : List (Result Taken ReadEnd)) (i : ℕ)
+      → Fed collector passes before after answers → slice_get answers i ≡ Some (Err Store) → AnyRose faults before after
+  rose collector [] [] [] [] i h failed = absurd cc
+  rose collector [] [] [] (a ∷ answers) i h failed = absurd h
+  rose collector [] [] (t ∷ after) answers i h failed = absurd h
+  rose collector [] (s ∷ before) after answers i h failed = absurd h
+  rose collector (p ∷ passes) [] after answers i h failed = absurd h
+  rose collector (p ∷ passes) (s ∷ before) [] answers i h failed = absurd h
+  rose collector (p ∷ passes) (s ∷ before) (t ∷ after) [] i h failed = absurd h
+  rose collector (p ∷ passes) (s ∷ before) (t ∷ after) (a ∷ answers) zero h failed = inl (h.0.asks.cause (cc))
+  rose collector (p ∷ passes) (s ∷ before) (t ∷ after) (a ∷ answers) (suc i) h failed = inr (rose collector passes before after answers i h.1 failed)
+
+  -- the stores were only asked, and where one answered that it failed, a count rose
+  pub fed-asked : {F : Type 0} (collector : CollectorValue) (passes : List PassValue) (before after : List S) (answers : List (Result Taken ReadEnd))
+      → AreFed bytes told name faults collector passes before after answers → (F → (i : ℕ) × (slice_get answers i ≡ Some (Err Store)))
+      → AreOnlyAsked bytes told name faults F before after
+  fed-asked collector passes before after answers h failed = record {
+    each = each_asked collector passes before after answers h;
+    cause = λ fails. (let one = failed fails in rose collector passes before after answers one.0 h one.1);
+  }
+
+  -- the first answer that a file is refused has the first fault
+  pub first-refused : (collector : CollectorValue) (passes : List PassValue) (before after : List S) (answers : List (Result Taken ReadEnd)) (files : List (List ℕ)) (index : ℕ) (fault : Fault)
+      → AreTold bytes before files → AreFed bytes told name faults collector passes before after answers → IsFirstRefused answers index fault
+      → IsFirstFault false files index fault
+  first-refused collector [] [] [] [] files index fault tells h first = absurd (let no = first.there in cc)
+  first-refused collector [] [] [] (a ∷ answers) files index fault tells h first = absurd h
+  first-refused collector [] [] (t ∷ after) answers files index fault tells h first = absurd h
+  first-refused collector [] (s ∷ before) after answers files index fault tells h first = absurd h
+  first-refused collector (p ∷ passes) [] after answers files index fault tells h first = absurd h
+  first-refused collector (p ∷ passes) (s ∷ before) [] answers files index fault tells h first = absurd h
+  first-refused collector (p ∷ passes) (s ∷ before) (t ∷ after) [] files index fault tells h first = absurd h
+  first-refused collector (p ∷ passes) (s ∷ before) (t ∷ after) (a ∷ answers) [] index fault tells h first = absurd cc
+  first-refused collector (p ∷ passes) (s ∷ before) (t ∷ after) (a ∷ answers) (f ∷ files) zero fault tells h first =
+      let is : bytes s ≡ Some f = cc in
+      let there : Some a ≡ Some (Err (Refused fault)) = first.there in
+      let refused : a ≡ Err (Refused fault) = cc in
+      record {
+        before = tt;
+        file = f;
+        there = refl;
+        is_fault = subst (λ (o : Option (List ℕ)). IfSome o (λ g. IsFault false g fault)) is (h.0.refused fault refused);
+      }
+  first-refused collector (p ∷ passes) (s ∷ before) (t ∷ after) (a ∷ answers) (f ∷ files) (suc index) fault tells h first =
+      let is : bytes s ≡ Some f = cc in
+      let others : map bytes before ≡ map Some files = cc in
+      let read : IsRead a = first.before.0 in
+      let taken : IsTakenOf f read.0 p = taken_of (bytes s) f a read.0 p is read.1 h.0.part in
+      let rest = first-refused collector passes before after answers files index fault others h.1 (record { before = first.before.1; there = first.there }) in
+      record {
+        before = ((taken.chunks, taken.is_file), rest.before);
+        file = rest.file;
+        there = rest.there;
+        is_fault = rest.is_fault;
+      }
+
+  -- what the passes have, where each file was read to its end
+  pub all-taken : (collector : CollectorValue) (passes : List PassValue) (before after : List S) (answers : List (Result Taken ReadEnd)) (files : List (List ℕ))
+      → AreTold bytes before files → AreFed bytes told name faults collector passes before after answers → AllByRecursion IsRead answers
+      → AreTakings files passes answers
+  all-taken collector [] [] [] [] [] tells h read = record { rows = []; are = tt; of_passes = refl; of_answers = refl }
+  all-taken collector [] [] [] [] (f ∷ files) tells h read = absurd cc
+  all-taken collector [] [] [] (a ∷ answers) files tells h read = absurd h
+  all-taken collector [] [] (t ∷ after) answers files tells h read = absurd h
+  all-taken collector [] (s ∷ before) after answers files tells h read = absurd h
+  all-taken collector (p ∷ passes) [] after answers files tells h read = absurd h
+  all-taken collector (p ∷ passes) (s ∷ before) [] answers files tells h read = absurd h
+  all-taken collector (p ∷ passes) (s ∷ before) (t ∷ after) [] files tells h read = absurd h
+  all-taken collector (p ∷ passes) (s ∷ before) (t ∷ after) (a ∷ answers) [] tells h read = absurd cc
+  all-taken collector (p ∷ passes) (s ∷ before) (t ∷ after) (a ∷ answers) (f ∷ files) tells h read =
+      let is : bytes s ≡ Some f = cc in
+      let others : map bytes before ≡ map Some files = cc in
+      let one : IsRead a = read.0 in
+      let taken : IsTakenOf f one.0 p = taken_of (bytes s) f a one.0 p is one.1 h.0.part in
+      let row : Taking = record { list = taken.records; pass = p; part = one.0; has = taken.has } in
+      let rest : AreTakings files passes answers = all-taken collector passes before after answers files others h.1 read.1 in
+      record {
+        rows = row ∷ rest.rows;
+        are = ((taken.chunks, taken.is_file, taken.are), rest.are);
+        of_passes = ap (λ (ps : List PassValue). p ∷ ps) rest.of_passes;
+        of_answers = ap (λ (r : Result Taken ReadEnd). r ∷ answers) one.1 ∙ ap (λ (rs : List (Result Taken ReadEnd)). Ok one.0 ∷ rs) rest.of_answers;
+      }

@@ -1,0 +1,108 @@
+//! Threads that each read one store.
+ghost use Rattle.std.specs.Prelude.{◌≡◌, ◌^◌, ◌<◌, ◌≤◌, All, length, vec_len};
+ghost use Rattle.std.specs.List.{AllByRecursion};
+ghost use Rattle.std.specs.Thread.{IsSync, IsSend};
+ghost use Rattle.record_io.specs.ManyStores.{AreTold};
+ghost use Rattle.record_collect.specs.Passes.{BelongsTo, IsFresh};
+ghost use Rattle.record_collect.specs.Takings.{AreFed};
+
+use crate::collector::{Collector, Pass};
+use crate::feeding::{Taken, feed_file};
+use chunk_reader::ReadEnd;
+use record_io::Store;
+use std::thread::{Threads, join_mut};
+
+/// Reads files of these sizes, each of a store of its own and by a pass of its own, and writes down what each gives. Halves go to
+/// threads, down to one store; where no thread can be made, they are read one after the other.
+#[cycle(slots)]
+pub(crate) fn feed_slots<R: Threads + Sync, S: Store + Send>(
+    rt: &R,
+    collector: &Collector,
+    sizes: &[u64],
+    passes: &mut [Pass],
+    answers: &mut [Result<Taken, ReadEnd>],
+    stores: &mut [S],
+)
+    requires sizes { length sizes.now ≡ length stores.old }
+    requires passes { length passes.old ≡ length stores.old }
+    requires answers { length answers.old ≡ length stores.old }
+    requires told { AreTold S.told stores.old sizes.now }
+    requires in_reach { All (λ size. size ≤ 2 ^ 60) sizes.now }
+    requires each { All (λ pass. BelongsTo collector.now pass × IsFresh pass) passes.old }
+    ensures { AreFed S.bytes S.told S.name S.faults collector.now passes.new stores.old stores.new answers.new }
+{
+    if stores.len() < 2 {
+        feed_slot(collector, sizes, passes, answers, stores);
+        return;
+    }
+    let half = stores.len() / 2;
+    let (low, high) = sizes.split_at(half);
+    let (p, q) = passes.split_at_mut(half);
+    let (x, y) = answers.split_at_mut(half);
+    let (front, back) = stores.split_at_mut(half);
+    join_mut(
+        rt,
+        &mut ||
+            requires { IsSync R.row × IsSend S.row × (length low.now ≡ length front.now) × (length p.now ≡ length front.now) × (length x.now ≡ length front.now)
+                × AreTold S.told front.now low.now × All (λ size. size ≤ 2 ^ 60) low.now
+                × All (λ pass. BelongsTo collector.now pass × IsFresh pass) p.now }
+            ensures { AreFed S.bytes S.told S.name S.faults collector.entry.now p.exit.now front.entry.now front.exit.now x.exit.now }
+        { feed_slots(rt, collector, low, p, x, front) },
+        &mut ||
+            requires { IsSync R.row × IsSend S.row × (length high.now ≡ length back.now) × (length q.now ≡ length back.now) × (length y.now ≡ length back.now)
+                × AreTold S.told back.now high.now × All (λ size. size ≤ 2 ^ 60) high.now
+                × All (λ pass. BelongsTo collector.now pass × IsFresh pass) q.now }
+            ensures { AreFed S.bytes S.told S.name S.faults collector.entry.now q.exit.now back.entry.now back.exit.now y.exit.now }
+        { feed_slots(rt, collector, high, q, y, back) },
+    );
+}
+
+/// Reads the file of one store, or of none.
+fn feed_slot<S: Store>(
+    collector: &Collector,
+    sizes: &[u64],
+    passes: &mut [Pass],
+    answers: &mut [Result<Taken, ReadEnd>],
+    stores: &mut [S],
+)
+    requires short { length stores.old < 2 }
+    requires sizes { length sizes.now ≡ length stores.old }
+    requires passes { length passes.old ≡ length stores.old }
+    requires answers { length answers.old ≡ length stores.old }
+    requires told { AreTold S.told stores.old sizes.now }
+    requires in_reach { All (λ size. size ≤ 2 ^ 60) sizes.now }
+    requires each { All (λ pass. BelongsTo collector.now pass × IsFresh pass) passes.old }
+    ensures { AreFed S.bytes S.told S.name S.faults collector.now passes.new stores.old stores.new answers.new }
+{
+    if !stores.is_empty() {
+        answers[0] = feed_file(collector, &mut stores[0], sizes[0], &mut passes[0]);
+    }
+}
+
+/// The same by a vector of passes, and into one of answers.
+pub(crate) fn feed_into<R: Threads + Sync, S: Store + Send>(
+    rt: &R,
+    collector: &Collector,
+    sizes: &[u64],
+    passes: &mut Vec<Pass>,
+    answers: &mut Vec<Result<Taken, ReadEnd>>,
+    stores: &mut [S],
+)
+    requires sizes { length sizes.now ≡ length stores.old }
+    requires passes { vec_len passes.old ≡ length stores.old }
+    requires answers { vec_len answers.old ≡ length stores.old }
+    requires told { AreTold S.told stores.old sizes.now }
+    requires in_reach { All (λ size. size ≤ 2 ^ 60) sizes.now }
+    requires each { All (λ pass. BelongsTo collector.now pass × IsFresh pass) passes.old.items }
+    ensures passes { vec_len passes.new ≡ vec_len passes.old }
+    ensures fed { AreFed S.bytes S.told S.name S.faults collector.now passes.new.items stores.old stores.new answers.new.items }
+{
+    feed_slots(
+        rt,
+        collector,
+        sizes,
+        passes.as_mut_slice(),
+        answers.as_mut_slice(),
+        stores,
+    );
+}
