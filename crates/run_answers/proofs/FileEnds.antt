@@ -61,21 +61,17 @@ module _ {X W : Type 0} (ends : Endings X W) (P : List ℕ → Answer → Type 0
   module _ (a : Taken) (made b c notes : Option (List ℕ)) (held : List ℕ) where
     cut-flushed : (why : Cut) (answer : Answer) → HasPutToCut why a (taken_by made b notes) held answer → Takes b c held
         → HasPutToCut why a (taken_by made c notes) [] answer
-    cut-flushed cut.Input answer h out = front-flushed a made b c notes held answer h out
-    cut-flushed cut.File answer h out = front-flushed a made b c notes held answer h out
     cut-flushed cut.Made answer h out = broken-flushed a made b c notes held Made answer h out
     cut-flushed cut.Out answer h out = broken-flushed a made b c notes held Out answer h out
     cut-flushed cut.Notes answer h out = (refl, untold-flushed a made b c notes held answer h.0 h.1 out)
-    cut-flushed cut.Memory answer h out = front-flushed a made b c notes held answer h out
+    cut-flushed other answer h out = front-flushed a made b c notes held answer h out
 
     cut-unflushed : (why : Cut) (answer : Answer) → HasPutToCut why a (taken_by made b notes) held answer → TakesFront b c held → held ≢ []
         → HasPutToCut why a (taken_by made c notes) [] answer
-    cut-unflushed cut.Input answer h out some = front-unflushed a made b c notes held answer h out some
-    cut-unflushed cut.File answer h out some = front-unflushed a made b c notes held answer h out some
     cut-unflushed cut.Made answer h out some = absurd (some h.none_held)
     cut-unflushed cut.Out answer h out some = absurd (some h.none_held)
     cut-unflushed cut.Notes answer h out some = absurd (some h.0)
-    cut-unflushed cut.Memory answer h out some = front-unflushed a made b c notes held answer h out some
+    cut-unflushed other answer h out some = front-unflushed a made b c notes held answer h out some
 
     at-flushed : (result : Result X (Ending W)) (f : List ℕ) → HasPutAtEnd ends P result f a (taken_by made b notes) held → Takes b c held
         → HasPutAtEnd ends P result f a (taken_by made c notes) []
@@ -125,12 +121,8 @@ pub cut-allowed : {X W : Type 0} (known : Meaning) (why : Cut) (result : Result 
     → result ≡ Err (end.Cut why) → MayBeCut known why
 cut-allowed {X} {W} known why result told allowed is = of_cut why (subst (λ (r : Result X (Ending W)). IsAllowedEnd known r told) is allowed) where
   of_cut : (why : Cut) → IsAllowedEnd {X = X} {W = W} known (Err (end.Cut why)) told → MayBeCut known why
-  of_cut cut.Input h = h.0
   of_cut cut.File h = h
-  of_cut cut.Made h = h.0
-  of_cut cut.Out h = h.0
-  of_cut cut.Notes h = h.0
-  of_cut cut.Memory h = h.0
+  of_cut other h = h.0
 
 -- a status with which a command may give a whole answer, by no cause of its own
 abbrev pub EndsWhole : Meaning → Status → Type 0
@@ -249,12 +241,10 @@ module _ (m : Meaning) (P : List ℕ → Answer → Type 0) (Q : List ℕ → Li
   -- a front of an answer, up to bytes that go to the sink that failed
   broken : (why : Cut) → why ≢ cut.Notes → (answer : Answer) → HasPutToCut why Start Worked [] answer
       → (part : List Put) × Breaks (status_of why) part answer.puts × PutsLines part answer.puts × GoOut Start Worked part
-  broken cut.Input other answer h = (h.part, (h.rest, h.parts), h.lines, GoOut-none_held Start Worked Out h.part [] refl h.went)
-  broken cut.File other answer h = (h.part, (h.rest, h.parts), h.lines, GoOut-none_held Start Worked Out h.part [] refl h.went)
   broken cut.Made other answer h = (h.part, h.broke, h.lines, h.went)
   broken cut.Out other answer h = (h.part, h.broke, h.lines, h.went)
   broken cut.Notes other answer h = absurd (other refl)
-  broken cut.Memory other answer h = (h.part, (h.rest, h.parts), h.lines, GoOut-none_held Start Worked Out h.part [] refl h.went)
+  broken why other answer h = (h.part, (h.rest, h.parts), h.lines, GoOut-none_held Start Worked Out h.part [] refl h.went)
 
   -- the work was cut off
   cut_off : (why : Cut) (ended : Status) → why ≢ cut.Notes → IsCutOff (status_of why) → (status_of why ≢ status.File → OfSizes m Before After m.may_work)
@@ -302,6 +292,8 @@ module _ (m : Meaning) (P : List ℕ → Answer → Type 0) (Q : List ℕ → Li
   runs-file ends by (Err (end.Cut cut.Made)) ended may exact put so_far before says less file_rose made_rose out_rose notes_rose =
       cut_off cut.Made ended (λ e. cc e) tt (λ _. of_size IsInReach m.may_work reads.may_work may.1 exact) before put so_far less says
       (may.0, made_rose refl)
+  runs-file ends by (Err (end.Cut cut.Grown)) ended may exact put so_far before says less file_rose made_rose out_rose notes_rose =
+      absurd (cc (sym reads.grown ∙ may.0))
   runs-file ends by (Err (end.Cut cut.Out)) ended may exact put so_far before says less file_rose made_rose out_rose notes_rose =
       cut_off cut.Out ended (λ e. cc e) tt (λ _. of_size IsInReach m.may_work reads.may_work may.1 exact) before put so_far less says
       (may.0, out_rose refl)

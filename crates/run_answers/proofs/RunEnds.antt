@@ -1,6 +1,6 @@
 -- How a run of any command ends: what all its clauses follow from.
 use Rattle.std.proofs.Common.{◌≡◌, ◌≢◌, ◌+◌, ℕ, ◌≤◌, ◌⊎◌, true, false, Some, None, List, [], ◌∷◌, ◌++◌, length, get_or, set, take, drop, slice_get, map, refl, sym, ap, subst, ◌∙◌, inl, inr, arith}
-use Rattle.std.specs.Option.{IfSome}
+use Rattle.std.specs.Option.{IfSome, IsSomeAnd}
 use Rattle.record_io.specs.Outside.{Rose, Takes, TakesFront}
 use Rattle.record_io.specs.Puts.{Put, Notes, Taken, taken_by, GoOut, BreaksOff, puts_to, bytes_to}
 use Rattle.record_io.proofs.Calls.{Takes-append, TakesFront-append}
@@ -24,9 +24,38 @@ pub record Keeps (m : Meaning) (before after : Seen) : Type 0 where
   pub in_order : (place : ℕ) (file : SeenFile) → slice_get after.files place ≡ Some file → file.told ≡ None
       → drop (place + 1) after.files ≡ drop (place + 1) before.files
 
--- no file is grown
-ungrown : (m : Meaning) (before after : Seen) (P : Read → List ℕ → Type 0) → Keeps m before after → IfGrown m before after P
-ungrown m before after P keeps uses = absurd (cc (sym uses ∙ keeps.ungrown))
+-- what a run that ended so keeps of the file that it grows
+pub record KeepsGrown (m : Meaning) (before after : Seen) (ended : Status) : Type 0 where
+  pub leaves : IsWhole ended → IfGrown m before after m.leaves
+  pub may_leave : IsCutOff ended ⊎ (ended ≡ status.Notes) → IfGrown m before after m.may_leave
+  pub keeps : m.uses.grown ≡ true → IfSome before.grown.bytes (λ held. IsSomeAnd after.grown.bytes (λ holds. m.keeps ended held holds))
+  pub handed : (after.grown.handed ≡ before.grown.handed) ⊎ ((m.uses.grown ≡ true) × OfSizes m before after m.may_work)
+
+-- what an end of a run with a status keeps, which may have grown a file
+pub record KeepsAtEnd (m : Meaning) (before after : Seen) (ended : Status) : Type 0 where
+  pub counts : NoneFell before after
+  pub handed : (handed_by after.files ≡ handed_by before.files)
+      ⊎ ((m.uses.files ≡ true)
+      × OfSizes m before after (λ sizes. m.may_work sizes × m.may_take sizes (handed_by before.files) (handed_by after.files)))
+  pub handed_of : IfRead m before (λ r. m.may_take_of r (handed_by before.files) (handed_by after.files))
+  pub in_order : (place : ℕ) (file : SeenFile) → slice_get after.files place ≡ Some file → file.told ≡ None
+      → drop (place + 1) after.files ≡ drop (place + 1) before.files
+  pub grown : KeepsGrown m before after ended
+
+-- where no file is grown, whatever the status
+keeps-ungrown : (m : Meaning) (before after : Seen) (ended : Status) → Keeps m before after → KeepsAtEnd m before after ended
+keeps-ungrown m before after ended keeps = record {
+  counts = keeps.counts;
+  handed = keeps.handed;
+  handed_of = keeps.handed_of;
+  in_order = keeps.in_order;
+  grown = record {
+    leaves = λ _ uses. absurd (cc (sym uses ∙ keeps.ungrown));
+    may_leave = λ _ uses. absurd (cc (sym uses ∙ keeps.ungrown));
+    keeps = λ uses. absurd (cc (sym uses ∙ keeps.ungrown));
+    handed = inl keeps.grown_handed;
+  };
+}
 
 -- where neither files nor a grown file is used, and no count fell of what is
 pub keeps-unread : (m : Meaning) (input input_then : SeenStream) (files : List SeenFile) (made made_then : SeenStream) (grown : SeenFile) (out out_then notes notes_then : SeenStream)
@@ -72,7 +101,7 @@ OfSizes-map m before after P Q then h =
     record { sizes = h.sizes; told = h.told; exact = h.exact; grown_told = h.grown_told; grown_exact = h.grown_exact; holds = then h.sizes h.holds }
 
 -- no status is both whole and cut off
-whole-cut_off : (ended : Status) → IsWhole ended → IsCutOff ended → ⊥
+pub whole-cut_off : (ended : Status) → IsWhole ended → IsCutOff ended → ⊥
 whole-cut_off status.Input whole cut = whole
 whole-cut_off status.File whole cut = whole
 whole-cut_off status.Made whole cut = whole
@@ -108,28 +137,28 @@ complete m before after ended whole cut cause sound = λ r is.
     let a = whole tt r is in (a.0, a.1, inl a.2.same_status)
 
 -- the work was done, and notes took what there was to say
-pub runs-whole : (m : Meaning) (before after : Seen) (ended : Status) (text : List ℕ)
+pub ends-whole : (m : Meaning) (before after : Seen) (ended : Status) (text : List ℕ)
     → IsWhole ended → OfSizes m before after (λ sizes. m.may_end sizes ended text) → Takes before.notes.bytes after.notes.bytes text
     → IfTold m before (Gave ended before after)
     → (ended ≡ status.Ok → m.uses.input ≡ true → IfSome before.input.bytes (λ _. after.input.bytes ≡ Some []))
-    → (m.is_command ≡ false → ended ≡ status.Usage) → HasCause ended m before after → Keeps m before after
+    → (m.is_command ≡ false → ended ≡ status.Usage) → HasCause ended m before after → KeepsAtEnd m before after ended
     → Runs m before after ended
-runs-whole m before after ended text whole may_end said gave read usage cause keeps = record {
+ends-whole m before after ended text whole may_end said gave read usage cause keeps = record {
   whole = λ _. gave;
   read_to_end = read;
   complete = complete m before after ended (λ _. gave) (λ cut. absurd (whole-cut_off ended whole cut)) cause;
-  grown = λ _. ungrown m before after m.leaves keeps;
+  grown = keeps.grown.leaves;
   usage = λ none. inl (usage none);
   cause = cause;
   cut_off = λ cut. absurd (whole-cut_off ended whole cut);
   failed_to_say = λ e. absurd (subst IsWhole e whole);
   so_far = λ short. absurd (whole-cut_short ended whole short);
-  grown_cut = λ _. ungrown m before after m.may_leave keeps;
-  grown_kept = λ uses. absurd (cc (sym uses ∙ keeps.ungrown));
+  grown_cut = keeps.grown.may_leave;
+  grown_kept = keeps.grown.keeps;
   in_reach = λ cut. absurd (whole-cut_off ended whole cut);
   handed = keeps.handed;
   handed_of = keeps.handed_of;
-  grown_handed = inl keeps.grown_handed;
+  grown_handed = keeps.grown.handed;
   in_order = keeps.in_order;
   end_said = λ _. OfSizes-map m before after (λ sizes. m.may_end sizes ended text)
       (λ sizes. (t : List ℕ) × m.may_end sizes ended t × Takes before.notes.bytes after.notes.bytes t)
@@ -140,27 +169,27 @@ runs-whole m before after ended text whole may_end said gave read usage cause ke
 }
 
 -- notes failed to take what there was to say at the end
-pub runs-notes : (m : Meaning) (before after : Seen) (wanted : Status) (text : List ℕ)
+pub ends-notes : (m : Meaning) (before after : Seen) (wanted : Status) (text : List ℕ)
     → OfSizes m before after (λ sizes. m.may_end sizes wanted text) → TakesFront before.notes.bytes after.notes.bytes text
     → IfTold m before (FailedToSay (taken_in before) (taken_in after))
-    → Rose before.notes.faults after.notes.faults → Keeps m before after
+    → Rose before.notes.faults after.notes.faults → KeepsAtEnd m before after status.Notes
     → Runs m before after status.Notes
-runs-notes m before after wanted text may_end said failed rose keeps = record {
+ends-notes m before after wanted text may_end said failed rose keeps = record {
   whole = λ whole. absurd whole;
   read_to_end = λ e. absurd (cc e);
   complete = λ sound. absurd (sound.notes rose);
-  grown = λ whole. absurd whole;
+  grown = keeps.grown.leaves;
   usage = λ _. inr refl;
   cause = rose;
   cut_off = λ cut. absurd cut;
   failed_to_say = λ _. failed;
   so_far = λ short. absurd short;
-  grown_cut = λ _. ungrown m before after m.may_leave keeps;
-  grown_kept = λ uses. absurd (cc (sym uses ∙ keeps.ungrown));
+  grown_cut = keeps.grown.may_leave;
+  grown_kept = keeps.grown.keeps;
   in_reach = λ cut. absurd cut;
   handed = keeps.handed;
   handed_of = keeps.handed_of;
-  grown_handed = inl keeps.grown_handed;
+  grown_handed = keeps.grown.handed;
   in_order = keeps.in_order;
   end_said = λ whole. absurd whole;
   cut_off_said = λ cut. absurd cut;
@@ -171,6 +200,54 @@ runs-notes m before after wanted text may_end said failed rose keeps = record {
 }
 
 -- a fault or want of memory cut the work off
+pub ends-cut_off : (m : Meaning) (before after : Seen) (ended : Status) (text : List ℕ)
+    → IsCutOff ended → (ended ≢ status.File → ended ≢ status.Grown → OfSizes m before after m.may_work)
+    → m.may_say text → TakesThen before.notes after.notes text (fault_text ended)
+    → IfTold m before (WasCutOff ended before after)
+    → (IsCutShort ended → AreSinksSound m.uses before after → IfRead m before (WentOutSoFar m ended before after))
+    → m.is_command ≡ true → HasCause ended m before after → KeepsAtEnd m before after ended
+    → Runs m before after ended
+ends-cut_off m before after ended text cut within may_say said was so_far some cause keeps = record {
+  whole = λ whole. absurd (whole-cut_off ended whole cut);
+  read_to_end = λ e. absurd (subst IsCutOff e cut);
+  complete = complete m before after ended (λ whole. absurd (whole-cut_off ended whole cut)) (λ _. was) cause;
+  grown = keeps.grown.leaves;
+  usage = λ none. absurd (cc (sym some ∙ none));
+  cause = cause;
+  cut_off = λ _. was;
+  failed_to_say = λ e. absurd (subst IsCutOff e cut);
+  so_far = so_far;
+  grown_cut = keeps.grown.may_leave;
+  grown_kept = keeps.grown.keeps;
+  in_reach = λ _. within;
+  handed = keeps.handed;
+  handed_of = keeps.handed_of;
+  grown_handed = keeps.grown.handed;
+  in_order = keeps.in_order;
+  end_said = λ whole. absurd (whole-cut_off ended whole cut);
+  cut_off_said = λ _. (text, may_say, said);
+  front_said = λ e. absurd (subst IsCutOff e cut);
+  counts = keeps.counts;
+}
+
+-- where no file is grown, one record of what is kept serves every end
+pub runs-whole : (m : Meaning) (before after : Seen) (ended : Status) (text : List ℕ)
+    → IsWhole ended → OfSizes m before after (λ sizes. m.may_end sizes ended text) → Takes before.notes.bytes after.notes.bytes text
+    → IfTold m before (Gave ended before after)
+    → (ended ≡ status.Ok → m.uses.input ≡ true → IfSome before.input.bytes (λ _. after.input.bytes ≡ Some []))
+    → (m.is_command ≡ false → ended ≡ status.Usage) → HasCause ended m before after → Keeps m before after
+    → Runs m before after ended
+runs-whole m before after ended text whole may_end said gave read usage cause keeps =
+    ends-whole m before after ended text whole may_end said gave read usage cause (keeps-ungrown m before after ended keeps)
+
+pub runs-notes : (m : Meaning) (before after : Seen) (wanted : Status) (text : List ℕ)
+    → OfSizes m before after (λ sizes. m.may_end sizes wanted text) → TakesFront before.notes.bytes after.notes.bytes text
+    → IfTold m before (FailedToSay (taken_in before) (taken_in after))
+    → Rose before.notes.faults after.notes.faults → Keeps m before after
+    → Runs m before after status.Notes
+runs-notes m before after wanted text may_end said failed rose keeps =
+    ends-notes m before after wanted text may_end said failed rose (keeps-ungrown m before after status.Notes keeps)
+
 pub runs-cut_off : (m : Meaning) (before after : Seen) (ended : Status) (text : List ℕ)
     → IsCutOff ended → (ended ≢ status.File → OfSizes m before after m.may_work)
     → m.may_say text → TakesThen before.notes after.notes text (fault_text ended)
@@ -178,28 +255,8 @@ pub runs-cut_off : (m : Meaning) (before after : Seen) (ended : Status) (text : 
     → (IsCutShort ended → AreSinksSound m.uses before after → IfRead m before (WentOutSoFar m ended before after))
     → m.is_command ≡ true → HasCause ended m before after → Keeps m before after
     → Runs m before after ended
-runs-cut_off m before after ended text cut within may_say said was so_far some cause keeps = record {
-  whole = λ whole. absurd (whole-cut_off ended whole cut);
-  read_to_end = λ e. absurd (subst IsCutOff e cut);
-  complete = complete m before after ended (λ whole. absurd (whole-cut_off ended whole cut)) (λ _. was) cause;
-  grown = λ whole. absurd (whole-cut_off ended whole cut);
-  usage = λ none. absurd (cc (sym some ∙ none));
-  cause = cause;
-  cut_off = λ _. was;
-  failed_to_say = λ e. absurd (subst IsCutOff e cut);
-  so_far = so_far;
-  grown_cut = λ _. ungrown m before after m.may_leave keeps;
-  grown_kept = λ uses. absurd (cc (sym uses ∙ keeps.ungrown));
-  in_reach = λ _ other _. within other;
-  handed = keeps.handed;
-  handed_of = keeps.handed_of;
-  grown_handed = inl keeps.grown_handed;
-  in_order = keeps.in_order;
-  end_said = λ whole. absurd (whole-cut_off ended whole cut);
-  cut_off_said = λ _. (text, may_say, said);
-  front_said = λ e. absurd (subst IsCutOff e cut);
-  counts = keeps.counts;
-}
+runs-cut_off m before after ended text cut within may_say said was so_far some cause keeps =
+    ends-cut_off m before after ended text cut (λ other _. within other) may_say said was so_far some cause (keeps-ungrown m before after ended keeps)
 
 -- what the sinks had taken before an end was said, where notes showed this
 abbrev pub taken_but_end : Seen → SeenStream → Taken
@@ -282,6 +339,30 @@ went-so_far m ended before after mid r part found went less said = record {
 }
 
 -- the work was done, behind a text in notes, and there was something to say: it was said, or notes failed
+pub ends-said : (m : Meaning) (before after : Seen) (mid : SeenStream) (ended wanted : Status) (earlier text : List ℕ)
+    → Takes before.notes.bytes mid.bytes earlier → before.notes.faults ≤ mid.faults
+    → SaysAtEnd ended wanted mid after.notes text
+    → text ≢ [] → IsWhole wanted → wanted ≢ status.Ok → OfSizes m before after (λ sizes. m.may_end sizes wanted (earlier ++ text))
+    → IfTold m before (GaveButNotes wanted (taken_in before) (taken_but_end after mid) text)
+    → (m.is_command ≡ false → wanted ≡ status.Usage) → HasCause wanted m before after
+    → KeepsAtEnd m before after wanted → KeepsAtEnd m before after status.Notes
+    → Runs m before after ended
+ends-said m before after mid ended wanted earlier text took less says some whole not_ok may_end gave usage cause keeps keeps_untold = elim says [
+  | inl said ↦ subst (λ (s : Status). Runs m before after s) (sym said.0)
+      (ends-whole m before after wanted (earlier ++ text) whole may_end
+      (Takes-append before.notes.bytes mid.bytes after.notes.bytes earlier text took said.1)
+      (λ r is. let a = gave r is in
+      (a.0, a.1, gave-said wanted before after mid text a.0 a.2 said.1))
+      (λ e. absurd (not_ok e)) usage cause keeps)
+  | inr failed ↦ subst (λ (s : Status). Runs m before after s) (sym failed.0)
+      (ends-notes m before after wanted (earlier ++ text) may_end
+      (TakesFront-append before.notes.bytes mid.bytes after.notes.bytes earlier text took failed.2)
+      (λ r is. let a = gave r is in
+      (a.0, a.1, failed-said wanted before after mid text a.0 a.2 some failed.2))
+      (rose-behind before.notes.faults mid.faults after.notes.faults less failed.1) keeps_untold)
+]
+
+-- the same where no file is grown
 pub runs-said : (m : Meaning) (before after : Seen) (mid : SeenStream) (ended wanted : Status) (earlier text : List ℕ)
     → Takes before.notes.bytes mid.bytes earlier → before.notes.faults ≤ mid.faults
     → SaysAtEnd ended wanted mid after.notes text
@@ -289,20 +370,9 @@ pub runs-said : (m : Meaning) (before after : Seen) (mid : SeenStream) (ended wa
     → IfTold m before (GaveButNotes wanted (taken_in before) (taken_but_end after mid) text)
     → (m.is_command ≡ false → wanted ≡ status.Usage) → HasCause wanted m before after → Keeps m before after
     → Runs m before after ended
-runs-said m before after mid ended wanted earlier text took less says some whole not_ok may_end gave usage cause keeps = elim says [
-  | inl said ↦ subst (λ (s : Status). Runs m before after s) (sym said.0)
-      (runs-whole m before after wanted (earlier ++ text) whole may_end
-      (Takes-append before.notes.bytes mid.bytes after.notes.bytes earlier text took said.1)
-      (λ r is. let a = gave r is in
-      (a.0, a.1, gave-said wanted before after mid text a.0 a.2 said.1))
-      (λ e. absurd (not_ok e)) usage cause keeps)
-  | inr failed ↦ subst (λ (s : Status). Runs m before after s) (sym failed.0)
-      (runs-notes m before after wanted (earlier ++ text) may_end
-      (TakesFront-append before.notes.bytes mid.bytes after.notes.bytes earlier text took failed.2)
-      (λ r is. let a = gave r is in
-      (a.0, a.1, failed-said wanted before after mid text a.0 a.2 some failed.2))
-      (rose-behind before.notes.faults mid.faults after.notes.faults less failed.1) keeps)
-]
+runs-said m before after mid ended wanted earlier text took less says some whole not_ok may_end gave usage cause keeps =
+    ends-said m before after mid ended wanted earlier text took less says some whole not_ok may_end gave usage cause
+    (keeps-ungrown m before after wanted keeps) (keeps-ungrown m before after status.Notes keeps)
 
 -- a run over the one file that was handed in
 pub runs-one_file : {X : Type 0} (show : X → SeenFile) (files : List X) (x then : X) (m : Meaning) (before after : Seen) (ended : Status)

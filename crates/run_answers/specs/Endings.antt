@@ -22,6 +22,7 @@ abbrev pub status_of : Cut → Status
 status_of cut.Input = status.Input
 status_of cut.File = status.File
 status_of cut.Made = status.Made
+status_of cut.Grown = status.Grown
 status_of cut.Out = status.Out
 status_of cut.Notes = status.Notes
 status_of cut.Memory = status.Memory
@@ -49,6 +50,7 @@ abbrev pub MayBeCut : Meaning → Cut → Type 0
 MayBeCut m cut.Input = m.uses.input ≡ true
 MayBeCut m cut.File = m.uses.files ≡ true
 MayBeCut m cut.Made = m.uses.made ≡ true
+MayBeCut m cut.Grown = m.uses.grown ≡ true
 MayBeCut m cut.Out = m.uses.out ≡ true
 MayBeCut m cut.Notes = (text : List ℕ) × m.may_say text × (text ≢ [])
 MayBeCut m cut.Memory = m.uses.memory ≡ true

@@ -40,7 +40,7 @@ pub record Meaning : Type 1 where
   pub supposes : Read → Type 0
   -- its answers to what it reads
   pub answers : Read → Answer → Type 0
-  -- what it may have put where it can't read on or has no memory: of a file that of some whole chunks or events
+  -- what it may have put where it can't read on or has no memory, as of a file that is shown that of some whole chunks
   pub may_have_put : Read → List Put → Type 0
   -- what the file that it grows holds then, and may hold where it was cut off
   pub leaves : Read → List ℕ → Type 0

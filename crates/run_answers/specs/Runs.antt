@@ -118,9 +118,9 @@ pub record OfSizes (m : Meaning) (before after : Seen) (P : List ℕ → Type 0)
   pub told : m.uses.files ≡ true → map (λ file. file.told) after.files ≡ map Some sizes
   pub exact : m.uses.files ≡ true
       → (files : List (List ℕ)) → map (λ file. file.bytes) before.files ≡ map Some files → sizes ≡ map length files
-  -- a size that the file that is grown told is untold once it was cut or put to
+  -- what the file that is grown tells counts no more where the work may have changed its size
   pub grown_told : m.uses.grown ≡ true
-      → ((size : ℕ) × (after.grown.told ≡ Some size) × (sizes ≡ size ∷ [])) ⊎ ((after.grown.told ≡ None) × m.may_work sizes)
+      → ((size : ℕ) × (after.grown.told ≡ Some size) × (sizes ≡ size ∷ [])) ⊎ m.may_work sizes
   pub grown_exact : m.uses.grown ≡ true → (file : List ℕ) → before.grown.bytes ≡ Some file → sizes ≡ length file ∷ []
   pub holds : P sizes
 
@@ -231,7 +231,7 @@ pub record Runs (m : Meaning) (before after : Seen) (ended : Status) : Type 0 wh
   pub grown_cut : IsCutOff ended ⊎ (ended ≡ status.Notes) → IfGrown m before after m.may_leave
   pub grown_kept : m.uses.grown ≡ true → IfSome before.grown.bytes (λ held. IsSomeAnd after.grown.bytes (λ holds. m.keeps ended held holds))
   -- where what is read failed or memory was wanting, and no sink of the work failed too, what went out ends where a command
-  -- may be cut short: behind a whole chunk or event of a file
+  -- may be cut short, as behind a whole chunk of a file that is shown
   pub so_far : IsCutShort ended → AreSinksSound m.uses before after → IfRead m before (WentOutSoFar m ended before after)
   -- files are asked their sizes first: what cuts the work off, unless it is a fault of theirs, finds them within the limit
   pub in_reach : IsCutOff ended → ended ≢ status.File → ended ≢ status.Grown → OfSizes m before after m.may_work

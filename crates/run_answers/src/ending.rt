@@ -13,6 +13,8 @@ pub enum Cut {
     File,
     /// The file that is made failed.
     Made,
+    /// The file that is grown failed.
+    Grown,
     /// Standard output failed.
     Out,
     /// Standard error failed.
@@ -30,6 +32,7 @@ impl Cut {
             Cut::Input => Status::Input,
             Cut::File => Status::File,
             Cut::Made => Status::Made,
+            Cut::Grown => Status::Grown,
             Cut::Out => Status::Out,
             Cut::Notes => Status::Notes,
             Cut::Memory => Status::Memory,

@@ -71,6 +71,7 @@ fn fault_line(cut: Cut) -> &'static str
         Cut::Input => "input fault\n",
         Cut::File => "file fault\n",
         Cut::Made => "made fault\n",
+        Cut::Grown => "grown fault\n",
         Cut::Out => "out fault\n",
         Cut::Notes => "",
         Cut::Memory => "out of memory\n",

@@ -1,9 +1,10 @@
-ghost use Rattle.std.specs.Prelude.{◌≡◌, ◌≤◌, Some, length, IfOk, IfSome, IfErr};
+ghost use Rattle.std.specs.Prelude.{◌≡◌, ℕ, ◌+◌, ◌≤◌, None, Some, drop, length, slice_get, IfOk, IfSome, IfErr, IsErr, OnOk};
 ghost use Rattle.record_io.specs.Calls.{OnlyCounts};
+ghost use Rattle.record_io.specs.ManyStores.{AreOnlyAsked, AreTold};
 ghost use Rattle.run_answers.specs.FileAnswers.{most_file_bytes};
 ghost use Rattle.run_answers.specs.FileSizes.{IsUnsized};
 
-use record_io::Store;
+use record_io::{Failed, Store};
 
 /// The most bytes that a record file may have that is read.
 const MOST_FILE_BYTES: u64 = 1 << 60;
@@ -34,4 +35,20 @@ pub fn size_of<S: Store>(file: &mut S) -> Result<u64, SizeEnd>
         return Err(SizeEnd::Limit);
     }
     Ok(size)
+}
+
+/// Asks each file its size, in their order, and none behind one that fails.
+pub fn ask_sizes<S: Store>(files: &mut [S], sizes: &mut [u64]) -> Result<(), Failed>
+    requires as_many { length sizes.old ≡ length files.old }
+    ensures told { OnOk result (AreTold S.told files.new sizes.new) }
+    ensures in_order { (place : ℕ) (file : S) → slice_get files.new place ≡ Some file → S.told file ≡ None
+        → drop (place + 1) files.new ≡ drop (place + 1) files.old }
+    // Of each file its bytes stay, how many of them it handed out, and what it borrows.
+    ensures files { AreOnlyAsked S.bytes (λ file. Some (S.handed file)) S.name S.faults (IsErr result) files.old files.new }
+{
+    for (index, file) in files.iter_mut().enumerate() {
+        let size = file.size()?;
+        sizes[index] = size;
+    }
+    Ok(())
 }

@@ -3,3 +3,5 @@ mod NumberValues
 mod OptionValues
 pub mod OptionWords
 pub mod WithinBounds
+pub mod FilesLimits
+mod FilesWordValues

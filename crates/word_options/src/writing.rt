@@ -5,7 +5,7 @@ ghost use Rattle.word_options.specs.Writing.{chunk_size_of, workers_of};
 use crate::options::optional_number;
 
 /// The chunk size where none is named.
-const DEFAULT_CHUNK_SIZE: u64 = 1 << 20;
+pub const DEFAULT_CHUNK_SIZE: u64 = 1 << 20;
 
 /// The largest chunk size.
 const MOST_CHUNK_SIZE: u64 = 1 << 24;

@@ -1,0 +1,100 @@
+-- What a run of a command that grows one file follows from, and what it keeps.
+use Rattle.std.proofs.Common.{◌≡◌, ◌∙◌, ℕ, ◌≤◌, ◌⊎◌, true, false, Some, List, [], ◌∷◌, length, refl, sym, ap, subst, inl, inr, arith}
+use Rattle.std.specs.Option.{IfSome, IsSomeAnd}
+use Rattle.std.proofs.lemmas.Option.{MatchOption-at_some}
+use Rattle.run_answers.specs.declared.status.Status.{Status}
+use Rattle.run_answers.specs.FileAnswers.{IsInReach}
+use Rattle.run_answers.specs.Meanings.{Meaning, Read}
+use Rattle.run_answers.specs.Runs.{SeenStream, SeenFile, Seen, seen, handed_by, IfGrown, IsWhole, IsCutOff, OfSizes}
+use Rattle.run_answers.proofs.RunEnds.{KeepsGrown, KeepsAtEnd, whole-cut_off}
+use Rattle.run_answers.specs.declared.status.Status.TheVariants as status
+
+-- what holds of a command that grows one file and reads no other
+pub record GrowsFile (m : Meaning) : Type 0 where
+  pub command : m.is_command ≡ true
+  pub files : m.uses.files ≡ false
+  pub grown : m.uses.grown ≡ true
+  pub may_work : (sizes : List ℕ) → IsInReach sizes → m.may_work sizes
+  pub may_take_of : (r : Read) (handed : List ℕ) → m.may_take_of r handed handed
+
+module _ (m : Meaning) (grows : GrowsFile m) (input input_then : SeenStream) (files : List SeenFile) (made made_then : SeenStream)
+    (grown grown_then : SeenFile) (out out_then notes notes_then : SeenStream) where
+  abbrev Before : Seen
+  Before = seen input files made grown out notes
+
+  abbrev After : Seen
+  After = seen input_then files made_then grown_then out_then notes_then
+
+  -- what follows from the size that the file told before the work, whether it tells it still or the work may have changed it
+  pub grown-size : (P : List ℕ → Type 0) (size : ℕ) → (grown_then.told ≡ Some size) ⊎ IsInReach (size ∷ [])
+      → IfSome grown.bytes (λ file. size ≡ length file) → P (size ∷ []) → OfSizes m Before After P
+  grown-size P size told exact holds = record {
+    sizes = size ∷ [];
+    told = λ uses. absurd (cc (sym uses ∙ grows.files));
+    exact = λ uses. absurd (cc (sym uses ∙ grows.files));
+    grown_told = λ _. elim told [
+      | inl still ↦ inl (size, still, refl)
+      | inr within ↦ inr (grows.may_work (size ∷ []) within)
+    ];
+    grown_exact = λ _ file is. ap (λ (n : ℕ). n ∷ []) (MatchOption-at_some _ (λ (f : List ℕ). size ≡ length f) file is exact);
+    holds = holds;
+  }
+
+  -- no more was handed out of the file, or the work was gone on to
+  abbrev pub GrownHandsOut : Type 0
+  GrownHandsOut = (grown_then.handed ≡ grown.handed) ⊎ ((size : ℕ) × IsInReach (size ∷ []) × IfSome grown.bytes (λ file. size ≡ length file))
+
+  grown-handed : GrownHandsOut → (grown_then.handed ≡ grown.handed) ⊎ ((m.uses.grown ≡ true) × OfSizes m Before After m.may_work)
+  grown-handed (inl same) = inl same
+  grown-handed (inr (size, within, exact)) =
+      inr (grows.grown, grown-size m.may_work size (inr within) exact (grows.may_work (size ∷ []) within))
+
+  -- how the file comes from what it held
+  abbrev GrownKeeps : Status → Type 0
+  GrownKeeps ended = IfSome grown.bytes (λ held. IsSomeAnd grown_then.bytes (λ holds. m.keeps ended held holds))
+
+  -- what an end keeps
+  keeps-grown : (ended : Status) → input.faults ≤ input_then.faults → made.faults ≤ made_then.faults → grown.faults ≤ grown_then.faults
+      → out.faults ≤ out_then.faults → notes.faults ≤ notes_then.faults → KeepsGrown m Before After ended → KeepsAtEnd m Before After ended
+  keeps-grown ended i k g o n kept = record {
+    counts = record {
+      input = i;
+      files = λ place a b was is. let same : a ≡ b = cc in omega (arith, ap (λ (s : SeenFile). s.faults) same);
+      made = k;
+      grown = g;
+      out = o;
+      notes = n;
+    };
+    handed = inl refl;
+    handed_of = λ r is. grows.may_take_of r (handed_by files);
+    in_order = λ place file is untold. refl;
+    grown = kept;
+  }
+
+  -- where it gave a whole answer
+  pub keeps-whole : (ended : Status) → IsWhole ended → input.faults ≤ input_then.faults → made.faults ≤ made_then.faults
+      → grown.faults ≤ grown_then.faults → out.faults ≤ out_then.faults → notes.faults ≤ notes_then.faults
+      → IfGrown m Before After m.leaves → GrownKeeps ended → GrownHandsOut → KeepsAtEnd m Before After ended
+  keeps-whole ended whole i k g o n leaves keeps handed = keeps-grown ended i k g o n (record {
+    leaves = λ _. leaves;
+    may_leave = λ other. elim other [
+      | inl cut ↦ absurd (whole-cut_off ended whole cut)
+      | inr e ↦ absurd (subst IsWhole e whole)
+    ];
+    keeps = λ _. keeps;
+    handed = grown-handed handed;
+  })
+
+  -- where it was cut off, or notes failed
+  pub keeps-cut_off : (ended : Status) → IsCutOff ended ⊎ (ended ≡ status.Notes) → input.faults ≤ input_then.faults
+      → made.faults ≤ made_then.faults → grown.faults ≤ grown_then.faults → out.faults ≤ out_then.faults → notes.faults ≤ notes_then.faults
+      → IfGrown m Before After m.may_leave → GrownKeeps ended → GrownHandsOut → KeepsAtEnd m Before After ended
+  keeps-cut_off ended cut i k g o n may_leave keeps handed = keeps-grown ended i k g o n (record {
+    leaves = λ whole. elim cut [
+      | inl off ↦ absurd (whole-cut_off ended whole off)
+      | inr e ↦ absurd (subst IsWhole e whole)
+    ];
+    may_leave = λ _. may_leave;
+    keeps = λ _. keeps;
+    handed = grown-handed handed;
+  })
