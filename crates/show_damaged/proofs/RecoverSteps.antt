@@ -243,12 +243,7 @@ pub by_sink : (X : Type 0) (C : Ending Region → Type 0) (why : Ending Region) 
     → C why
 by_sink X C (end.Cut cut.Out) lines text before after held held_then gives out notes = out gives
 by_sink X C (end.Cut cut.Notes) lines text before after held held_then gives out notes = notes gives
-by_sink X C end.Limit lines text before after held held_then gives out notes = absurd gives
-by_sink X C (end.At region) lines text before after held held_then gives out notes = absurd gives
-by_sink X C (end.Cut cut.Input) lines text before after held held_then gives out notes = absurd gives
-by_sink X C (end.Cut cut.File) lines text before after held held_then gives out notes = absurd gives
-by_sink X C (end.Cut cut.Made) lines text before after held held_then gives out notes = absurd gives
-by_sink X C (end.Cut cut.Memory) lines text before after held held_then gives out notes = absurd gives
+by_sink X C other lines text before after held held_then gives out notes = absurd gives
 
 -- no event more
 pub given-on : (words : RecoverWords) (file : List ℕ) (place next : ℕ) (before after : Taken) (held : List ℕ) (ended : Status)

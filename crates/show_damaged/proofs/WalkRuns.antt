@@ -84,6 +84,7 @@ module _ (m : Meaning) (P : List ℕ → Answer → Type 0) (Q : List ℕ → Li
   said (Err (end.Cut cut.Input)) notes notes_then (skipped, told) = (skipped_text skipped, told.says, walks.may_say _ (skipped, told.may, refl))
   said (Err (end.Cut cut.File)) notes notes_then (skipped, told) = (skipped_text skipped, told.says, walks.may_say _ (skipped, told.may, refl))
   said (Err (end.Cut cut.Made)) notes notes_then (skipped, told) = (skipped_text skipped, told.says, walks.may_say _ (skipped, told.may, refl))
+  said (Err (end.Cut cut.Grown)) notes notes_then (skipped, told) = (skipped_text skipped, told.says, walks.may_say _ (skipped, told.may, refl))
   said (Err (end.Cut cut.Out)) notes notes_then (skipped, told) = (skipped_text skipped, told.says, walks.may_say _ (skipped, told.may, refl))
   said (Err (end.Cut cut.Notes)) notes notes_then (skipped, each, some, front) = (
     walk_status skipped None,

@@ -3,7 +3,7 @@ use Rattle.std.proofs.Common.{◌≡◌, true, [], ◌∷◌, codes, refl}
 use Rattle.std.specs.Fmt.{digits}
 use Rattle.hex.specs.Hex.{encode_with}
 use Rattle.show_files.specs.declared.show_words.RecordForm.{RecordForm}
-use Rattle.show_files.specs.Readings.{bare, refused_text, record_line}
+use Rattle.show_files.specs.Readings.{bare, refused_file_text, refused_text, record_line}
 use Rattle.run_answers.specs.FileAnswers.{report, limit_text, most_file_bytes}
 use Rattle.chunk_reader.specs.declared.reasons.Why.TheVariants as why
 
@@ -60,6 +60,15 @@ refused_contradicted = refl
 refused_far : refused_text (record { at = 1152921504606846975; why = why.Truncated }) ≡ codes "refused 1152921504606846975 Truncated\n"
 unfolding digits
 refused_far = refl
+
+-- of one of several files, by its number too
+second_refused : refused_file_text 1 (record { at = 108; why = why.HeaderHash }) ≡ codes "refused 1 108 HeaderHash\n"
+unfolding digits
+second_refused = refl
+
+first_refused : refused_file_text 0 (record { at = 0; why = why.NoSignature }) ≡ codes "refused 0 0 NoSignature\n"
+unfolding digits
+first_refused = refl
 
 -- a report
 report_of_signature : report (record { chunks = 1; records = 0; bytes = 64; unread = 0 }) ≡ codes "chunks 1\nrecords 0\nbytes 64\nunread 0\n"

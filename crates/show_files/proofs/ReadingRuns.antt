@@ -81,12 +81,8 @@ module _ {X W : Type 0} {ends : Endings X W} (m : Meaning) (P : List ℕ → Ans
   said (Ok x) allowed = ([], Takes-nothing notes.bytes, (reads.done x).0, (reads.done x).1)
   said (Err end.Limit) allowed = Takes-nothing notes.bytes
   said (Err (end.At w)) allowed = ([], Takes-nothing notes.bytes, reads.at w)
-  said (Err (end.Cut cut.Input)) allowed = ([], Takes-nothing notes.bytes, reads.may_say)
-  said (Err (end.Cut cut.File)) allowed = ([], Takes-nothing notes.bytes, reads.may_say)
-  said (Err (end.Cut cut.Made)) allowed = ([], Takes-nothing notes.bytes, reads.may_say)
-  said (Err (end.Cut cut.Out)) allowed = ([], Takes-nothing notes.bytes, reads.may_say)
   said (Err (end.Cut cut.Notes)) allowed = told_all (Err (end.Cut cut.Notes)) allowed refl
-  said (Err (end.Cut cut.Memory)) allowed = ([], Takes-nothing notes.bytes, reads.may_say)
+  said (Err (end.Cut other)) allowed = ([], Takes-nothing notes.bytes, reads.may_say)
 
   pub runs-reading : (result : Result X (Ending W)) (ended : Status)
       → IsAllowedEnd m result file_then.told → IfSome file.bytes (λ bytes. IfSome file_then.told (λ size. size ≡ length bytes))

@@ -1,5 +1,5 @@
 -- What strict reading of a record file prints and says. Own.
-use Rattle.std.specs.Prelude.{◌≡◌, ℕ, ◌⊎◌, Bool, true, false, List, [], ◌∷◌, ◌++◌, decimal, if◌then◌else◌}
+use Rattle.std.specs.Prelude.{◌≡◌, ℕ, ◌⊎◌, Bool, true, false, Option, Some, None, List, [], ◌∷◌, ◌++◌, decimal, if◌then◌else◌}
 use lib.Chars.{codes}
 use Rattle.hex.specs.Hex.{encode_lower}
 use Rattle.chunk_reader.specs.declared.reasons.Fault.{Fault}
@@ -10,9 +10,20 @@ use Rattle.run_answers.specs.Answers.{line}
 use Rattle.run_answers.specs.FileAnswers.{IsInReach, IsTooLong, limit_text}
 use Rattle.run_answers.specs.declared.status.Status.TheVariants as status
 
+-- what tells a file before its fault: nothing where one alone is read, and of one of several its number from 0
+abbrev pub file_text : Option ℕ → List ℕ
+file_text None = []
+file_text (Some index) = decimal index ++ 32 ∷ []
+
 -- the line that tells a fault
+abbrev pub refusal_line : Option ℕ → Fault → List ℕ
+refusal_line file fault = codes "refused " ++ file_text file ++ line (decimal fault.at ++ 32 ∷ name_of fault.why)
+
 abbrev pub refused_text : Fault → List ℕ
-refused_text fault = line (codes "refused " ++ decimal fault.at ++ 32 ∷ name_of fault.why)
+refused_text fault = refusal_line None fault
+
+abbrev pub refused_file_text : ℕ → Fault → List ℕ
+refused_file_text index fault = refusal_line (Some index) fault
 
 -- records as they are, and nothing before them
 abbrev pub bare : RecordForm

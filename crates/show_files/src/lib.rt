@@ -9,7 +9,7 @@ mod showing;
 pub mod verify_words;
 mod verifying;
 
-pub use fault_lines::end_with_fault;
+pub use fault_lines::{end_with_fault, end_with_file_fault};
 pub use record_lines::{LINES, put_record, put_records};
 pub use showing::show;
 pub use verifying::verify;

@@ -7,7 +7,7 @@ use Rattle.write_lines.specs.declared.write_words.WriteWords.{WriteWords}
 use Rattle.word_options.specs.Options.{value_given, are_words_of, file_places, only, ◌>>=◌}
 use Rattle.word_options.specs.Writing.{chunk_size_of, workers_of}
 use Rattle.word_options.proofs.WithinBounds.{optional_value-within, chunk_size_of-within, workers_of-within}
-use Rattle.write_lines.specs.WriteWords.{every_of, pad_of, write_options, write_words_of}
+use Rattle.write_lines.specs.WriteWords.{every_of, line_words_of, pad_of}
 
 pub if_some : {X : Type 0} (b : Bool) (o : Option X) (x : X) → (if b then o else None) ≡ Some x → o ≡ Some x
 if_some true o x is = is
@@ -40,11 +40,11 @@ read_parts (Some s) (Some m) (Some e) (Some p) hex (Some f) w is =
       every = ap (λ (x : WriteWords). Some x.options.every) same;
     }
 
--- what the words of `write` say
-pub write_words_of-within : (words : List (List ℕ)) (w : WriteWords) → write_words_of words ≡ Some w → AreInLimits w.options
-unfolding write_words_of
-write_words_of-within words w is =
-    let parts = read_parts (chunk_size_of words) (workers_of words) (every_of words) (pad_of words) (is_some (value_given (codes "--hex") words)) (only (file_places words)) w (if_some (are_words_of write_options words) _ w is) in
+-- what the words of a command say that reads lines
+pub line_words_of-within : (options words : List (List ℕ)) (w : WriteWords) → line_words_of options words ≡ Some w → AreInLimits w.options
+unfolding line_words_of
+line_words_of-within options words w is =
+    let parts = read_parts (chunk_size_of words) (workers_of words) (every_of words) (pad_of words) (is_some (value_given (codes "--hex") words)) (only (file_places words)) w (if_some (are_words_of options words) _ w is) in
     let in_size = chunk_size_of-within words w.options.size parts.size in
     let in_workers = workers_of-within words w.options.workers parts.workers in
     let in_every = optional_value-within 1 (2 ^ 24) (value_given (codes "--every=") words) w.options.every parts.every in record {

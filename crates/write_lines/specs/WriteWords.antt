@@ -1,4 +1,4 @@
--- The words of `write`: its options, and the file that it makes. Own.
+-- The words of `write` and of other commands that read lines: options, and one file. Own.
 use Rattle.std.specs.Prelude.{ℕ, ◌^◌, Option, Some, None, List, option_map, unwrap_or, is_some, if◌then◌else◌, [], ◌∷◌}
 use Rattle.std.specs.Str.{bytes_eq}
 use lib.Chars.{codes}
@@ -29,10 +29,10 @@ pad_of words = option_map (λ pad. unwrap_or pad No) (optional_value pad_named (
 abbrev pub write_options : List (List ℕ)
 write_options = codes "--chunk=" ∷ codes "--every=" ∷ codes "--workers=" ∷ codes "--pad=" ∷ codes "--hex" ∷ []
 
--- what the words of `write` say, behind its name
-unfoldable pub write_words_of : List (List ℕ) → Option WriteWords
-write_words_of words =
-    if are_words_of write_options words
+-- what the words of a command that reads lines say, behind its name, where these are its options
+unfoldable pub line_words_of : (options words : List (List ℕ)) → Option WriteWords
+line_words_of options words =
+    if are_words_of options words
     then (do
       chunk_size ← chunk_size_of words
       workers ← workers_of words
@@ -45,3 +45,7 @@ write_words_of words =
         file = file;
       }))
     else None
+
+-- what the words of `write` say
+abbrev pub write_words_of : List (List ℕ) → Option WriteWords
+write_words_of words = line_words_of write_options words

@@ -7,4 +7,4 @@ pub mod write_words;
 mod writing;
 
 pub use line_feed::LineFeed;
-pub use writing::write;
+pub use writing::{MOST_INPUT, end_with_stop, write};

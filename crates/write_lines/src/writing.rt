@@ -3,19 +3,19 @@ ghost use Rattle.record_io.specs.Outside.{Rose};
 ghost use Rattle.record_io.specs.Calls.{OnlyCounts};
 ghost use Rattle.record_writer.specs.Written.{AreInLimits, Answers, TakesFile, file_under};
 ghost use Rattle.write_lines.specs.Input.{taken_from};
-ghost use Rattle.write_lines.specs.WriteCommand.{write_meaning};
-ghost use Rattle.run_answers.specs.Runs.{Runs, Seen, seen_stream};
+ghost use Rattle.write_lines.specs.WriteCommand.{stop_status, stop_text, write_meaning};
+ghost use Rattle.run_answers.specs.Runs.{Runs, SaysAtEnd, Seen, seen_stream};
 
 use crate::line_feed::LineFeed;
 use crate::write_words::WriteWords;
 use record_io::{Sink, Source, Totals};
-use record_writer::{WriteEnd, write_records};
+use record_writer::{Stop, WriteEnd, write_records};
 use run_answers::{Cut, Status, cut_off, end, end_with_number};
 use std::alloc::Global;
 use std::thread::Threads;
 
 /// The most bytes of the input that are read.
-const MOST_INPUT: u64 = 1 << 40;
+pub const MOST_INPUT: u64 = 1 << 40;
 
 /// Writes the file of the input's lines, and says in notes why it ended before the input did.
 pub fn write<R: Threads + Sync, I: Source, M: Sink + Send, E: Sink>(
@@ -35,17 +35,25 @@ pub fn write<R: Threads + Sync, I: Source, M: Sink + Send, E: Sink>(
 {
     match write_lines(rt, alloc, words, input, made) {
         Ok(_) => Status::Ok,
-        Err(WriteEnd::TooLong(line)) => end_with_number(
-            notes,
-            "limit record ",
-            line,
-            Status::Limit,
-        ),
-        Err(WriteEnd::InputTooLong) => end(notes, "limit input\n", Status::Limit),
-        Err(WriteEnd::BadLine(line)) => end_with_number(notes, "bad line ", line, Status::BadLine),
+        Err(WriteEnd::TooLong(line)) => end_with_stop(notes, Stop::TooLong, line),
+        Err(WriteEnd::InputTooLong) => end_with_stop(notes, Stop::InputTooLong, 0),
+        Err(WriteEnd::BadLine(line)) => end_with_stop(notes, Stop::BadLine, line),
         Err(WriteEnd::Input) => cut_off(notes, Cut::Input),
         Err(WriteEnd::Made) => cut_off(notes, Cut::Made),
         Err(WriteEnd::Memory) => cut_off(notes, Cut::Memory),
+    }
+}
+
+/// Ends the work with the line of a stop behind so many records, of which that of an input past its limit tells nothing.
+pub fn end_with_stop<E: Sink>(notes: &mut E, stop: Stop, count: u64) -> Status
+    ensures told { SaysAtEnd result (stop_status (Some stop)) (seen_stream E.taken E.faults notes.old)
+        (seen_stream E.taken E.faults notes.new) (stop_text count (Some stop)) }
+    ensures notes { OnlyCounts E.lent E.faults ⊥ notes.old notes.new }
+{
+    match stop {
+        Stop::TooLong => end_with_number(notes, "limit record ", count, Status::Limit),
+        Stop::InputTooLong => end(notes, "limit input\n", Status::Limit),
+        Stop::BadLine => end_with_number(notes, "bad line ", count, Status::BadLine),
     }
 }
 

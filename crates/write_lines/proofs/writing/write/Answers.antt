@@ -16,29 +16,29 @@ returns-in-Ok-clause-runs g c = λ others.
 pub returns-in-Err-TooLong-clause-runs : goal.returns-in-Err-TooLong-clause-runs
 returns-in-Err-TooLong-clause-runs g c = λ others.
     write-too_long c.args.words.now _ _ others.files _ _ others.grown others.out _ _
-    (keeps-unread (write_meaning c.args.words.now) _ _ others.files _ _ others.grown others.out others.out _ _ refl (λ r. tt) c.in-Err-TooLong.ensures.input_count c.in-Err-TooLong.ensures.made_counts.never_falls (omega arith) c.end_with_number.ensures.notes.never_falls)
+    (keeps-unread (write_meaning c.args.words.now) _ _ others.files _ _ others.grown others.out others.out _ _ refl (λ r. tt) c.in-Err-TooLong.ensures.input_count c.in-Err-TooLong.ensures.made_counts.never_falls (omega arith) c.end_with_stop.ensures.notes.never_falls)
     c.in-Err-TooLong.line _
     (wrote-err c.args.words.now _ _ _ (TooLong c.in-Err-TooLong.line) _ c.in-Err-TooLong.field-0-is
     (wrote c.args.words.now _ _ _ _ c.in-Err-TooLong.ensures.answer c.in-Err-TooLong.ensures.made))
-    c.end_with_number.ensures.told
+    c.end_with_stop.ensures.told
 
 pub returns-in-Err-InputTooLong-clause-runs : goal.returns-in-Err-InputTooLong-clause-runs
 returns-in-Err-InputTooLong-clause-runs g c = λ others.
     write-input_too_long c.args.words.now _ _ others.files _ _ others.grown others.out _ _
-    (keeps-unread (write_meaning c.args.words.now) _ _ others.files _ _ others.grown others.out others.out _ _ refl (λ r. tt) c.in-Err-InputTooLong.ensures.input_count c.in-Err-InputTooLong.ensures.made_counts.never_falls (omega arith) c.end.ensures.notes.never_falls)
+    (keeps-unread (write_meaning c.args.words.now) _ _ others.files _ _ others.grown others.out others.out _ _ refl (λ r. tt) c.in-Err-InputTooLong.ensures.input_count c.in-Err-InputTooLong.ensures.made_counts.never_falls (omega arith) c.end_with_stop-in-Err-InputTooLong.ensures.notes.never_falls)
     _
     (wrote-err c.args.words.now _ _ _ InputTooLong _ c.in-Err-InputTooLong.field-0-is
     (wrote c.args.words.now _ _ _ _ c.in-Err-InputTooLong.ensures.answer c.in-Err-InputTooLong.ensures.made))
-    c.end.ensures.told
+    c.end_with_stop-in-Err-InputTooLong.ensures.told
 
 pub returns-in-Err-BadLine-clause-runs : goal.returns-in-Err-BadLine-clause-runs
 returns-in-Err-BadLine-clause-runs g c = λ others.
     write-bad_line c.args.words.now _ _ others.files _ _ others.grown others.out _ _
-    (keeps-unread (write_meaning c.args.words.now) _ _ others.files _ _ others.grown others.out others.out _ _ refl (λ r. tt) c.in-Err-BadLine.ensures.input_count c.in-Err-BadLine.ensures.made_counts.never_falls (omega arith) c.end_with_number-in-Err-BadLine.ensures.notes.never_falls)
+    (keeps-unread (write_meaning c.args.words.now) _ _ others.files _ _ others.grown others.out others.out _ _ refl (λ r. tt) c.in-Err-BadLine.ensures.input_count c.in-Err-BadLine.ensures.made_counts.never_falls (omega arith) c.end_with_stop-in-Err-BadLine.ensures.notes.never_falls)
     c.in-Err-BadLine.line _
     (wrote-err c.args.words.now _ _ _ (BadLine c.in-Err-BadLine.line) _ c.in-Err-BadLine.field-0-is
     (wrote c.args.words.now _ _ _ _ c.in-Err-BadLine.ensures.answer c.in-Err-BadLine.ensures.made))
-    c.end_with_number-in-Err-BadLine.ensures.told
+    c.end_with_stop-in-Err-BadLine.ensures.told
 
 pub returns-in-Err-Input-clause-runs : goal.returns-in-Err-Input-clause-runs
 returns-in-Err-Input-clause-runs g c = λ others.
