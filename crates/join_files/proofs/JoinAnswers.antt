@@ -1,26 +1,27 @@
 -- Files have one answer of `join`.
-use Rattle.std.proofs.Common.{◌≡◌, ◌≢◌, ◌∙◌, ℕ, zero, suc, ◌+◌, ◌<◌, ◌≤◌, ◌⊎◌, true, Option, List, [], ◌∷◌, ◌++◌, length, map, take, refl, sym, ap, subst, inl, inr, arith}
+use Rattle.std.proofs.Common.{◌≡◌, ◌≢◌, ◌∙◌, ℕ, zero, suc, ◌+◌, ◌<◌, ◌≤◌, ◌⊎◌, true, List, [], ◌∷◌, ◌++◌, length, map, take, refl, sym, ap, inl, inr, arith}
 use Rattle.std.specs.List.{AllByRecursion}
 use Rattle.std.proofs.lemmas.Bool.{cases_lt}
 use Rattle.std.proofs.lemmas.Option.{slice_get_within}
 use Rattle.record_values.specs.Bytes.{AreBytes}
-use Rattle.record_io.specs.Puts.{Made, Out, Notes, puts_to, Put}
+use Rattle.record_io.specs.Puts.{Made, Out, Notes, puts_to}
 use Rattle.chunk_header.specs.Chunks.{ChunkValue}
 use Rattle.meta_chunk.specs.Counts.{totals_of}
-use Rattle.meta_chunk.specs.Files.{IsFrame, end_of_chunks}
+use Rattle.meta_chunk.specs.Files.{IsFrame}
 use Rattle.meta_chunk.specs.Laid.{end_of_chunk}
 use Rattle.meta_chunk.proofs.Joins.{end_of_chunks_past}
 use Rattle.meta_chunk.proofs.LaidChunks.{end_of_chunk_after}
 use Rattle.ordered_writer.proofs.JoinedFiles.{length-file}
-use Rattle.chunk_reader.specs.Faults.{HasNoFault}
 use Rattle.chunk_reader.specs.declared.reasons.Fault.{Fault}
 use Rattle.chunk_reader.proofs.Frames.{frame_is_one}
-use Rattle.record_join.specs.Joined.{joined, joined_at_most, HaveNoFault, IsFirstFault}
-use Rattle.record_join.proofs.FirstFaults.{files_judged, first_behind, first_is_one, first_or_none}
+use Rattle.chunk_reader.specs.ManyFiles.{HaveNoFault, IsFirstFault}
+use Rattle.record_join.specs.Joined.{joined, joined_at_most}
+use Rattle.chunk_reader.proofs.ManyFiles.{files_judged, first_behind, first_is_one, first_or_none}
 use Rattle.record_join.proofs.JoinedFiles.{joined-no_fault}
 use Rattle.run_answers.specs.Answers.{Answer, noted}
 use Rattle.run_answers.specs.FileAnswers.{limit_text, most_file_bytes, report}
-use Rattle.join_files.specs.JoinCommand.{AreInReach, AreJoinedIn, AreRefusedIn, IsJoinAnswer, refused_file_text}
+use Rattle.show_files.specs.Readings.{refused_file_text}
+use Rattle.join_files.specs.JoinCommand.{AreJoinedIn, AreRefusedIn, IsJoinAnswer}
 use Rattle.run_answers.specs.declared.status.Status.TheVariants as status
 
 -- the answer to files without fault
@@ -34,7 +35,7 @@ refused_answer files index fault =
     record { puts = puts_to Made (joined (take index files)) ++ puts_to Notes (refused_file_text index fault); status = status.Refused }
 
 -- files without fault make some bytes
-pub joined-some : (files : List (List ℕ)) → files ≢ [] → HaveNoFault files → joined files ≢ []
+pub joined-some : (files : List (List ℕ)) → files ≢ [] → HaveNoFault true files → joined files ≢ []
 joined-some files some h = let whole = joined-no_fault files some h in of_chunks whole.0 whole.1 where
   of_chunks : (ks : List ChunkValue) → IsFrame ks (joined files) → joined files ≢ []
   of_chunks [] frame none = frame.0 refl
@@ -48,10 +49,10 @@ joined-some files some h = let whole = joined-no_fault files some h in of_chunks
       )
 
 -- so do those before the first with a fault, where that isn't the first of all
-pub joined-some_before : (files : List (List ℕ)) (index : ℕ) (fault : Fault) → HaveNoFault (take 1 files) → IsFirstFault files index fault
+pub joined-some_before : (files : List (List ℕ)) (index : ℕ) (fault : Fault) → HaveNoFault true (take 1 files) → IsFirstFault true files index fault
     → joined (take index files) ≢ []
 joined-some_before files index fault none first =
-    joined-some (take index files) (taken files index (first_behind files 1 index fault none first) (slice_get_within files index first.file first.there)) first.before where
+    joined-some (take index files) (taken files index (first_behind true files 1 index fault none first) (slice_get_within files index first.file first.there)) first.before where
       taken : (files : List (List ℕ)) (index : ℕ) → 1 ≤ index → index < length files → take index files ≢ []
       taken [] index behind below is = omega (arith, below)
       taken (f ∷ files) zero behind below is = omega (arith, behind)
@@ -61,7 +62,7 @@ joined-some_before files index fault none first =
 pub join_exists : (files : List (List ℕ)) → files ≢ [] → AllByRecursion AreBytes files → (answer : Answer) × IsJoinAnswer files answer
 join_exists files some bytes = elim (cases_lt most_file_bytes (joined_at_most (map length files))) [
   | inl long ↦ (noted status.Limit limit_text, inl (long, refl))
-  | inr reach ↦ elim (files_judged files bytes) [
+  | inr reach ↦ elim (files_judged true files bytes) [
     | inl none ↦
         let whole = joined-no_fault files some none in
         (whole_answer files whole.0, inr (reach, inl (record { without_fault = none; chunks = whole.0; frame = whole.1; is = refl })))
@@ -73,10 +74,10 @@ join_exists files some bytes = elim (cases_lt most_file_bytes (joined_at_most (m
 judged-one : (files : List (List ℕ)) (a b : Answer) → AreJoinedIn files a ⊎ AreRefusedIn files a → AreJoinedIn files b ⊎ AreRefusedIn files b → a ≡ b
 judged-one files a b (inl h) (inl g) =
     h.is ∙ ap (λ (ks : List ChunkValue). whole_answer files ks) (frame_is_one h.chunks g.chunks (joined files) h.frame g.frame) ∙ sym g.is
-judged-one files a b (inl h) (inr g) = absurd (first_or_none files g.index g.fault g.first h.without_fault)
-judged-one files a b (inr h) (inl g) = absurd (first_or_none files h.index h.fault h.first g.without_fault)
+judged-one files a b (inl h) (inr g) = absurd (first_or_none true files g.index g.fault g.first h.without_fault)
+judged-one files a b (inr h) (inl g) = absurd (first_or_none true files h.index h.fault h.first g.without_fault)
 judged-one files a b (inr h) (inr g) =
-    let same = first_is_one files h.index g.index h.fault g.fault h.first g.first in
+    let same = first_is_one true files h.index g.index h.fault g.fault h.first g.first in
     h.is ∙ ap (λ (n : ℕ). refused_answer files n h.fault) same.0 ∙ ap (λ (f : Fault). refused_answer files g.index f) same.1 ∙ sym g.is
 
 -- and one at most

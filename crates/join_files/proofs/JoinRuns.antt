@@ -1,5 +1,5 @@
 -- How a run of `join` ends, by how its work ended.
-use Rattle.std.proofs.Common.{◌≡◌, ◌≢◌, ◌∙◌, ℕ, ◌⊎◌, Option, Some, Result, Ok, Err, List, [], ◌∷◌, ◌++◌, length, map, take, drop, refl, sym, ap, subst, inl, inr, arith, append_assoc}
+use Rattle.std.proofs.Common.{◌≡◌, ◌≢◌, ◌∙◌, ℕ, ◌⊎◌, true, Option, Some, Result, Ok, Err, List, [], ◌++◌, length, map, take, drop, refl, sym, ap, subst, inl, inr, arith, append_assoc}
 use Rattle.std.specs.List.{AllByRecursion}
 use Rattle.std.proofs.lemmas.List.{take-append-drop}
 use Rattle.record_values.specs.Bytes.{AreBytes}
@@ -8,9 +8,10 @@ use Rattle.record_io.specs.Puts.{Put, Made, Out, Notes, Taken, taken_by, GoOut, 
 use Rattle.record_io.proofs.Calls.{Takes-nothing}
 use Rattle.record_io.proofs.Puts.{GoOut-append, GoOut-made, GoOut-out, GoOut-nothing, TakesFront-count, BreaksOff-last, bytes_to-other, puts_to-append}
 use Rattle.meta_chunk.specs.Counts.{totals_of}
-use Rattle.record_join.specs.Joined.{joined, HaveNoFault}
+use Rattle.chunk_reader.specs.ManyFiles.{HaveNoFault}
+use Rattle.record_join.specs.Joined.{joined}
 use Rattle.record_join.specs.Joins.{AreJoinedUpTo, IsFrontJoined}
-use Rattle.record_join.proofs.FirstFaults.{files_judged}
+use Rattle.chunk_reader.proofs.ManyFiles.{files_judged}
 use Rattle.record_join.proofs.JoinedFiles.{joined-no_fault}
 use Rattle.run_answers.specs.declared.ending.Ending.{Ending}
 use Rattle.run_answers.specs.declared.status.Status.{Status}
@@ -19,23 +20,18 @@ use Rattle.run_answers.specs.Endings.{SaysEnd}
 use Rattle.run_answers.specs.FileAnswers.{limit_text, report}
 use Rattle.run_answers.specs.Statuses.{fault_text}
 use Rattle.run_answers.specs.Runs.{SeenStream, SeenFile, Seen, seen, IfTold, IsWhole, IsCutOff, IsCutShort, OfSizes, OneRose, SaysAtEnd, TakesThen, Breaks, HasCause, Runs}
+use Rattle.run_answers.proofs.ManyFiles.{bytes_of, told_by}
 use Rattle.run_answers.proofs.ReportLines.{report-some}
 use Rattle.run_answers.proofs.RunEnds.{GaveButNotes, Keeps, PutsLines-none, was-cut_off, went-so_far, runs-whole, runs-said, runs-cut_off}
 use Rattle.run_answers.proofs.TwoStreams.{bytes_to-neither}
-use Rattle.join_files.specs.JoinCommand.{AreInReach, AreTooLong, IsJoinAnswer, AreToJoin, IsJoinedSoFar, join_meaning, refused_file_text}
+use Rattle.show_files.specs.Readings.{refused_file_text}
+use Rattle.join_files.specs.JoinCommand.{AreInReach, AreTooLong, IsJoinAnswer, AreToJoin, IsJoinedSoFar, join_meaning}
 use Rattle.join_files.specs.JoiningEnds.{AreSized, AreReported, TakeJoined, joining_ends}
 use Rattle.join_files.specs.declared.refusals.Refusal.{Refusal}
 use Rattle.join_files.proofs.JoinAnswers.{whole_answer, refused_answer, join_exists, joined-some, joined-some_before}
 use Rattle.run_answers.specs.declared.ending.Cut.TheVariants as cut
 use Rattle.run_answers.specs.declared.ending.Ending.TheVariants as end
 use Rattle.run_answers.specs.declared.status.Status.TheVariants as status
-
--- what the files told when the work had ended
-abbrev pub told_by : List SeenFile → List (Option ℕ)
-told_by files = map (λ file. file.told) files
-
-abbrev pub bytes_of : List SeenFile → List (Option (List ℕ))
-bytes_of files = map (λ file. file.bytes) files
 
 -- so many bytes of what some files make, behind which others may come
 broken : (bytes : List ℕ) (rest : List Put) (count : ℕ) → bytes ≢ [] → BreaksOff Made (puts_to Made (take count bytes)) (puts_to Made bytes ++ rest)
@@ -54,7 +50,7 @@ front_of bytes rest puts count parts = (
 
 -- nothing was put yet
 nothing_yet : (all : List (List ℕ)) → AllByRecursion AreBytes all → IsJoinedSoFar all []
-nothing_yet all bytes = elim (files_judged all bytes) [
+nothing_yet all bytes = elim (files_judged true all bytes) [
   | inl none ↦ record { front = all; are = inl (none, refl); count = 0; puts = refl }
   | inr (index, fault, first) ↦ record { front = take index all; are = inr (index, fault, first, refl); count = 0; puts = refl }
 ]
@@ -72,7 +68,7 @@ pub record PutFront (made made_then : Option (List ℕ)) (all : List (List ℕ))
 
 front_put : (made made_then : Option (List ℕ)) (all : List (List ℕ)) → AllByRecursion AreBytes all → all ≢ [] → AreInReach (map length all)
     → IsFrontJoined all made made_then → PutFront made made_then all
-front_put made made_then all bytes some reach front = elim (files_judged all bytes) [
+front_put made made_then all bytes some reach front = elim (files_judged true all bytes) [
   | inl none ↦
       let whole = joined-no_fault all some none in
       let count = TakesFront-count made made_then (joined all) (front.of_all none) in
@@ -101,7 +97,7 @@ front_put made made_then all bytes some reach front = elim (files_judged all byt
 ]
 
 -- where the first file has no fault, those that are joined make some bytes
-front_some : (all front : List (List ℕ)) → all ≢ [] → HaveNoFault (take 1 all) → AreToJoin all front → joined front ≢ []
+front_some : (all front : List (List ℕ)) → all ≢ [] → HaveNoFault true (take 1 all) → AreToJoin all front → joined front ≢ []
 front_some all front some first (inl (none, is)) = subst (λ (fs : List (List ℕ)). joined fs ≢ []) (sym is) (joined-some all some none)
 front_some all front some first (inr (index, fault, at, is)) =
     subst (λ (fs : List (List ℕ)). joined fs ≢ []) (sym is) (joined-some_before all index fault first at)
@@ -275,7 +271,7 @@ module _ (input made made_then : SeenStream) (files files_then : List SeenFile) 
   -- the made file failed
   made_failed : Told AreInReach
       → ((all : List (List ℕ)) → bytes_of files ≡ map Some all
-      → HaveNoFault (take 1 all) × IsFrontJoined all made.bytes made_then.bytes × (out_then.bytes ≡ out.bytes))
+      → HaveNoFault true (take 1 all) × IsFrontJoined all made.bytes made_then.bytes × (out_then.bytes ≡ out.bytes))
       → Rose made.faults made_then.faults → TakesThen notes notes_then [] (fault_text status.Made) → Ended status.Made
   made_failed reach put rose says =
       cut_off status.Made tt (λ _. of_sizes AreInReach AreInReach (λ sizes within. within) reach)

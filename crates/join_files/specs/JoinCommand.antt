@@ -1,17 +1,18 @@
 -- What `join` makes, prints, says and ends with. Own.
-use Rattle.std.specs.Prelude.{◌≡◌, ℕ, ◌+◌, ◌*◌, ◌<◌, ◌≤◌, ◌⊎◌, true, Some, List, [], ◌∷◌, ◌++◌, decimal, length, map, slice_get, take}
-use lib.Chars.{codes}
+use Rattle.std.specs.Prelude.{◌≡◌, ℕ, ◌+◌, ◌*◌, ◌<◌, ◌≤◌, ◌⊎◌, true, Some, List, [], ◌++◌, length, map, slice_get, take}
 use Rattle.record_io.specs.Puts.{Put, Made, Out, Notes, puts_to}
 use Rattle.chunk_header.specs.Chunks.{ChunkValue}
 use Rattle.meta_chunk.specs.Counts.{totals_of}
 use Rattle.meta_chunk.specs.Files.{IsFrame}
-use Rattle.chunk_reader.specs.Names.{name_of}
+use Rattle.chunk_reader.specs.ManyFiles.{HaveNoFault, IsFirstFault}
 use Rattle.chunk_reader.specs.declared.reasons.Fault.{Fault}
-use Rattle.record_join.specs.Joined.{joined, joined_at_most, HaveNoFault, IsFirstFault}
-use Rattle.run_answers.specs.Answers.{Answer, line, noted}
+use Rattle.chunk_reader.specs.ManyFiles.{HaveNoFault, IsFirstFault}
+use Rattle.record_join.specs.Joined.{joined, joined_at_most}
+use Rattle.run_answers.specs.Answers.{Answer, noted}
 use Rattle.run_answers.specs.FileAnswers.{limit_text, most_file_bytes, report}
 use Rattle.run_answers.specs.Meanings.{Meaning, meaning, none_used}
 use Rattle.run_answers.specs.declared.status.Status.{Status}
+use Rattle.show_files.specs.Readings.{refused_file_text}
 use Rattle.run_answers.specs.declared.status.Status.TheVariants as status
 
 -- files of these sizes have so few bytes one after another that they are joined
@@ -22,13 +23,9 @@ AreInReach sizes = joined_at_most sizes ≤ most_file_bytes
 abbrev pub AreTooLong : List ℕ → Type 0
 AreTooLong sizes = most_file_bytes < joined_at_most sizes
 
--- the line that tells a fault of a file, with the file's number from 0
-abbrev pub refused_file_text : ℕ → Fault → List ℕ
-refused_file_text index fault = line (codes "refused " ++ decimal index ++ 32 ∷ decimal fault.at ++ 32 ∷ name_of fault.why)
-
 -- none of the files has a fault: what they make, and the report of its chunks
 pub record AreJoinedIn (files : List (List ℕ)) (answer : Answer) : Type 0 where
-  pub without_fault : HaveNoFault files
+  pub without_fault : HaveNoFault true files
   pub chunks : List ChunkValue
   pub frame : IsFrame chunks (joined files)
   pub is : answer ≡ record { puts = puts_to Made (joined files) ++ puts_to Out (report (totals_of chunks)); status = status.Ok }
@@ -37,7 +34,7 @@ pub record AreJoinedIn (files : List (List ℕ)) (answer : Answer) : Type 0 wher
 pub record AreRefusedIn (files : List (List ℕ)) (answer : Answer) : Type 0 where
   pub index : ℕ
   pub fault : Fault
-  pub first : IsFirstFault files index fault
+  pub first : IsFirstFault true files index fault
   pub is : answer ≡ record { puts = puts_to Made (joined (take index files)) ++ puts_to Notes (refused_file_text index fault); status = status.Refused }
 
 -- the answer to files, by their sizes first
@@ -49,8 +46,8 @@ IsJoinAnswer files answer =
 -- of files these are joined: all where none has a fault, or those before the first that has one
 abbrev pub AreToJoin : List (List ℕ) → List (List ℕ) → Type 0
 AreToJoin files front =
-    (HaveNoFault files × (front ≡ files))
-    ⊎ ((index : ℕ) × (fault : Fault) × IsFirstFault files index fault × (front ≡ take index files))
+    (HaveNoFault true files × (front ≡ files))
+    ⊎ ((index : ℕ) × (fault : Fault) × IsFirstFault true files index fault × (front ≡ take index files))
 
 -- what was put so far: so many bytes of what these make
 pub record IsJoinedSoFar (files : List (List ℕ)) (part : List Put) : Type 0 where

@@ -1,20 +1,8 @@
 -- The words of `join`: the files that it reads and the one that it makes. Own.
-use Rattle.std.specs.Prelude.{ℕ, ◌-◌, Bool, ◌&&◌, Option, Some, None, List, [], length, nat_le, if◌then◌else◌}
-use Rattle.std.specs.List.{list_any, range_with_len}
-use Rattle.join_files.specs.declared.join_words.JoinWords.{JoinWords}
-use Rattle.word_options.specs.Options.{are_words_of, is_same_at}
+use Rattle.std.specs.Prelude.{ℕ, Option, List}
+use Rattle.word_options.specs.declared.many_files.FilesWords.{FilesWords}
+use Rattle.word_options.specs.FilesWords.{files_words_of}
 
--- how many words there may be: the command's name, 1 to 64 files that are read, and the one that is made
-abbrev pub may_be_joined : ℕ → Bool
-may_be_joined count = nat_le 3 count && nat_le count 66
-
--- whether a word behind the command's name is the one at a later place
-abbrev pub is_read_too : List (List ℕ) → ℕ → Bool
-is_read_too words to = list_any (λ place. is_same_at words place to) (range_with_len 1 (to - 1))
-
--- what the words of `join` say, behind its name: all name files, the last of them the one that is made, which is none of the others
-unfoldable pub join_words_of : List (List ℕ) → Option JoinWords
-join_words_of words =
-    if are_words_of [] words && may_be_joined (length words)
-    then (if is_read_too words (length words - 1) then None else Some (record { count = length words - 2; to = length words - 1 }))
-    else None
+-- what the words of `join` say: it reads 64 files at most
+abbrev pub join_words_of : List (List ℕ) → Option FilesWords
+join_words_of words = files_words_of 64 words

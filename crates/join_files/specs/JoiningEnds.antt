@@ -1,16 +1,18 @@
 -- How the work of `join` ends. Own.
-use Rattle.std.specs.Prelude.{◌≡◌, ℕ, ◌⊎◌, Option, Some, Result, Ok, Err, List, length, map, take}
+use Rattle.std.specs.Prelude.{◌≡◌, ℕ, ◌⊎◌, true, Option, Some, Result, Ok, Err, List, length, map, take}
 use Rattle.record_io.specs.Outside.{Takes, TakesFront}
 use Rattle.chunk_header.specs.Chunks.{ChunkValue}
 use Rattle.meta_chunk.specs.Counts.{totals_of}
 use Rattle.meta_chunk.specs.Files.{IsFrame}
-use Rattle.record_join.specs.Joined.{joined, HaveNoFault}
+use Rattle.chunk_reader.specs.ManyFiles.{HaveNoFault}
+use Rattle.record_join.specs.Joined.{joined}
 use Rattle.record_join.specs.Joins.{AreJoinedUpTo, IsFrontJoined}
 use Rattle.record_join.specs.declared.joins.JoinEnd.{JoinEnd}
 use Rattle.run_answers.specs.Endings.{Endings}
 use Rattle.run_answers.specs.FileAnswers.{report}
 use Rattle.run_answers.specs.declared.ending.Ending.{Ending}
-use Rattle.join_files.specs.JoinCommand.{AreInReach, AreTooLong, refused_file_text}
+use Rattle.show_files.specs.Readings.{refused_file_text}
+use Rattle.join_files.specs.JoinCommand.{AreInReach, AreTooLong}
 use Rattle.join_files.specs.declared.refusals.Refusal.{Refusal}
 use Rattle.record_join.specs.declared.joins.JoinEnd.TheVariants as join
 use Rattle.run_answers.specs.declared.ending.Cut.TheVariants as cut
@@ -45,7 +47,7 @@ AreSized (Err (end.Cut other)) told = ⊥
 -- all files were joined, and this of the report was printed
 abbrev pub AreReported : ((before after : Option (List ℕ)) → List ℕ → Type 0) → List (List ℕ) → (made made_then out out_then : Option (List ℕ)) → Type 0
 AreReported Prints files made made_then out out_then =
-    HaveNoFault files × (chunks : List ChunkValue) × IsFrame chunks (joined files)
+    HaveNoFault true files × (chunks : List ChunkValue) × IsFrame chunks (joined files)
     × Takes made made_then (joined files) × Prints out out_then (report (totals_of chunks))
 
 -- what the made file and standard output took of files, by how it ended
@@ -56,6 +58,6 @@ TakeJoined (Err (end.At refusal)) files made made_then out out_then = AreJoinedU
 TakeJoined (Err (end.Cut cut.File)) files made made_then out out_then =
     ((made_then ≡ made) ⊎ (AreInReach (map length files) × IsFrontJoined files made made_then)) × (out_then ≡ out)
 TakeJoined (Err (end.Cut cut.Made)) files made made_then out out_then =
-    HaveNoFault (take 1 files) × IsFrontJoined files made made_then × (out_then ≡ out)
+    HaveNoFault true (take 1 files) × IsFrontJoined files made made_then × (out_then ≡ out)
 TakeJoined (Err (end.Cut cut.Out)) files made made_then out out_then = AreReported TakesFront files made made_then out out_then
 TakeJoined (Err (end.Cut other)) files made made_then out out_then = ⊥

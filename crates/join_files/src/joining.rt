@@ -1,16 +1,16 @@
-ghost use Rattle.std.specs.Prelude.{◌≡◌, ◌+◌, ◌*◌, ◌<◌, ◌≤◌, ◌⊎◌, ℕ, Some, None, Err, List, drop, length, map, slice_get};
+ghost use Rattle.std.specs.Prelude.{◌≡◌, ◌+◌, ◌<◌, ◌≤◌, ◌⊎◌, ℕ, Some, None, Err, List, drop, length, map, slice_get};
 ghost use Rattle.record_io.specs.Calls.{OnlyCounts};
-ghost use Rattle.record_join.specs.Joins.{AnyRose, AreTold, IfAllTell};
+ghost use Rattle.record_io.specs.ManyStores.{AreOnlyAsked, AreTold, IfAllTell};
 ghost use Rattle.run_answers.specs.Runs.{Runs, Seen, seen_stream, seen_file};
 ghost use Rattle.join_files.specs.JoinCommand.{AreInReach, MayJoin, join_meaning};
 ghost use Rattle.join_files.specs.JoiningEnds.{AreSized, TakeJoined, end_of_join};
 
 use crate::join_words::MOST_FILES;
 use crate::refusals::{Refusal, end_joining};
-use crate::sizes::{are_in_reach, ask_sizes};
+use crate::sizes::are_in_reach;
 use record_io::{Failed, Sink, Store};
 use record_join::{JoinEnd, join};
-use run_answers::{Cut, Ending, Status, put_report};
+use run_answers::{Cut, Ending, Status, ask_sizes, put_report};
 
 /// Lays files one after another, 1 to 64, and prints the report of what they make, or says in notes which of them is refused
 /// and why. It takes no memory.
@@ -49,10 +49,8 @@ fn make_joined<S: Store, M: Sink, O: Sink>(
     ensures handed { (map (λ file. S.handed file) files.new ≡ map (λ file. S.handed file) files.old)
         ⊎ ((sizes : List ℕ) × AreTold S.told files.new sizes × AreInReach sizes
         × MayJoin sizes (map (λ file. S.handed file) files.old) (map (λ file. S.handed file) files.new)) }
-    ensures same_bytes { map (λ file. S.bytes file) files.new ≡ map (λ file. S.bytes file) files.old }
-    ensures same_names { map (λ file. S.name file) files.new ≡ map (λ file. S.name file) files.old }
-    ensures cause { result ≡ Err (Ending.Cut Cut.File) → AnyRose S.faults files.old files.new }
-    ensures none_falls { (place : ℕ) (a b : S) → slice_get files.old place ≡ Some a → slice_get files.new place ≡ Some b → S.faults a ≤ S.faults b }
+    // Whatever sizes they tell then.
+    ensures files { AreOnlyAsked S.bytes (λ file. None) S.name S.faults (result ≡ Err (Ending.Cut Cut.File)) files.old files.new }
     ensures made { OnlyCounts M.lent M.faults (result ≡ Err (Ending.Cut Cut.Made)) made.old made.new }
     ensures out { OnlyCounts O.lent O.faults (result ≡ Err (Ending.Cut Cut.Out)) out.old out.new }
 {
@@ -64,6 +62,26 @@ fn make_joined<S: Store, M: Sink, O: Sink>(
     if !are_in_reach(sizes) {
         return Err(Ending::Limit);
     }
+    join_sized(files, sizes, made, out)
+}
+
+/// The same with files that told these sizes.
+fn join_sized<S: Store, M: Sink, O: Sink>(
+    files: &mut [S],
+    sizes: &[u64],
+    made: &mut M,
+    out: &mut O,
+) -> Result<(), Ending<Refusal>>
+    requires some { 0 < length files.old }
+    requires told { AreTold S.told files.old sizes.now }
+    requires in_reach { AreInReach sizes.now }
+    ensures joined { IfAllTell S.bytes files.old (λ all. TakeJoined result all (M.taken made.old) (M.taken made.new) (O.taken out.old) (O.taken out.new)) }
+    ensures sized { AreSized result (map (λ file. S.told file) files.new) }
+    ensures handed { MayJoin sizes.now (map (λ file. S.handed file) files.old) (map (λ file. S.handed file) files.new) }
+    ensures files { AreOnlyAsked S.bytes S.told S.name S.faults (result ≡ Err (Ending.Cut Cut.File)) files.old files.new }
+    ensures made { OnlyCounts M.lent M.faults (result ≡ Err (Ending.Cut Cut.Made)) made.old made.new }
+    ensures out { OnlyCounts O.lent O.faults (result ≡ Err (Ending.Cut Cut.Out)) out.old out.new }
+{
     let totals = match join(files, sizes, made) {
         Ok(totals) => totals,
         Err(end) => return Err(end_of_join(end)),

@@ -14,10 +14,11 @@ use Rattle.ordered_writer.specs.Writers.{padding_bytes}
 use Rattle.ordered_writer.proofs.JoinedFiles.{IsBoundary-file, IsFileOf-joined, length-file, length-joined, records-joined}
 use Rattle.ordered_writer.proofs.Moves.{AreAlike, padding_bytes-alike}
 use Rattle.chunk_reader.specs.Faults.{HasNoFault}
-use Rattle.record_join.specs.Joined.{joined, joined_chunks, joined_at_most, HaveNoFault}
+use Rattle.chunk_reader.specs.ManyFiles.{HaveNoFault}
+use Rattle.record_join.specs.Joined.{joined, joined_chunks, joined_at_most}
 
 -- files of chunks end at boundaries
-pub boundaries : (files : List (List ℕ)) → HaveNoFault files → AllByRecursion (λ file. IsBoundary (length file)) files
+pub boundaries : (files : List (List ℕ)) → HaveNoFault true files → AllByRecursion (λ file. IsBoundary (length file)) files
 boundaries [] h = h
 boundaries (file ∷ files) h = (IsBoundary-file h.0.0 file h.0.1, boundaries files h.1)
 
@@ -75,12 +76,12 @@ joined-IsFileOf {P} plain (ks ∷ ls ∷ lists) (f ∷ g ∷ files) some h =
     (IsFileOf-joined ks more f other plain h.0 behind)
 
 -- each file has its chunks
-pub chunks_of_each : (files : List (List ℕ)) → HaveNoFault files → (lists : List (List ChunkValue)) × AllZip (IsFileOf IsFramed) lists files
+pub chunks_of_each : (files : List (List ℕ)) → HaveNoFault true files → (lists : List (List ChunkValue)) × AllZip (IsFileOf IsFramed) lists files
 chunks_of_each [] h = ([], h)
 chunks_of_each (file ∷ files) h = let rest = chunks_of_each files h.1 in (h.0.0 ∷ rest.0, (h.0.1, rest.1))
 
 -- so files without fault make one without fault
-pub joined-no_fault : (files : List (List ℕ)) → files ≢ [] → HaveNoFault files → HasNoFault true (joined files)
+pub joined-no_fault : (files : List (List ℕ)) → files ≢ [] → HaveNoFault true files → HasNoFault true (joined files)
 joined-no_fault files some h =
     let lists = chunks_of_each files h in
     (joined_chunks lists.0, joined-IsFileOf (λ k plain. inl plain) lists.0 files some lists.1)
@@ -99,7 +100,7 @@ joined-records (ks ∷ ls ∷ lists) (rs ∷ ss ∷ records) h =
     (end_of_chunks_boundary 0 ks (inl refl)) h.0 (joined-records (ls ∷ lists) (ss ∷ records) h.1)
 
 -- and they have so many bytes at most
-pub joined-at_most : (files : List (List ℕ)) → HaveNoFault files → length (joined files) ≤ joined_at_most (map length files)
+pub joined-at_most : (files : List (List ℕ)) → HaveNoFault true files → length (joined files) ≤ joined_at_most (map length files)
 joined-at_most [] h = omega arith
 joined-at_most (x ∷ []) h = omega (arith, sum_by-cons (λ n. n) (length x) [])
 joined-at_most (x ∷ y ∷ files) h =

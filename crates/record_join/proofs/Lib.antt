@@ -1,7 +1,7 @@
 mod Values
 pub mod JoinedFiles
 pub mod FirstFaults
-pub mod Asked
+pub mod HandedOut
 pub mod CopiedPieces
 pub mod Behind
 pub mod Steps

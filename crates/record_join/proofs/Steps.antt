@@ -19,11 +19,13 @@ use Rattle.ordered_writer.proofs.JoinedFiles.{IsFileOf-joined, length-file, leng
 use Rattle.chunk_reader.specs.Faults.{HasNoFault, IsFault}
 use Rattle.chunk_reader.specs.declared.reasons.Fault.{Fault}
 use Rattle.block_layout.specs.Layout.{IsBoundary}
-use Rattle.record_join.specs.Joined.{joined, joined_at_most, totals_behind, HaveNoFault, IsFirstFault}
+use Rattle.chunk_reader.specs.ManyFiles.{HaveNoFault, IsFirstFault}
+use Rattle.record_join.specs.Joined.{joined, joined_at_most, totals_behind}
 use Rattle.record_join.specs.Joins.{AreJoined, AreJoinedUpTo, AreTotalsWith, IsFrontJoined, IsFrontPut}
 use Rattle.record_join.specs.declared.joins.JoinEnd.{JoinEnd}
 use Rattle.record_join.specs.declared.joins.JoinEnd.TheVariants as end
-use Rattle.record_join.proofs.FirstFaults.{first_is_one, front_joined}
+use Rattle.chunk_reader.proofs.ManyFiles.{first_is_one}
+use Rattle.record_join.proofs.FirstFaults.{front_joined}
 use Rattle.record_join.proofs.JoinedFiles.{boundaries, joined-more}
 
 -- what the totals count: no chunks, where no file was put, or the chunks of the files
@@ -34,7 +36,7 @@ AreCounted files totals =
 
 -- so many files were joined
 pub record JoinedSoFar (files : List (List ℕ)) (count : ℕ) (totals : Totals) (before after : Option (List ℕ)) : Type 0 where
-  pub without_fault : HaveNoFault (take count files)
+  pub without_fault : HaveNoFault true (take count files)
   pub bytes : totals.bytes ≡ length (joined (take count files))
   pub counted : AreCounted (take count files) totals
   pub took : Takes before after (joined (take count files))
@@ -68,7 +70,7 @@ totals_behind-none t =
     ∙ ap (λ (n : ℕ). record { chunks = t.chunks; records = t.records; bytes = t.bytes; unread = n }) (zero t.unread)
 
 -- files and one more
-module _ (files : List (List ℕ)) (file : List ℕ) (totals then : Totals) (without_fault : HaveNoFault files)
+module _ (files : List (List ℕ)) (file : List ℕ) (totals then : Totals) (without_fault : HaveNoFault true files)
     (bytes : totals.bytes ≡ length (joined files)) (more : AreTotalsWith totals file then) where
   bytes_then : then.bytes ≡ length (joined (files ++ file ∷ []))
   bytes_then =
@@ -110,7 +112,7 @@ module _ (files : List (List ℕ)) (file : List ℕ) (totals then : Totals) (wit
   counted_more (inr of) = counted_behind of.0 of.1 of.2
 
 -- what a sink took of files and then of one more
-took_more : (files : List (List ℕ)) (file : List ℕ) (place : ℕ) → HaveNoFault files → place ≡ length (joined files)
+took_more : (files : List (List ℕ)) (file : List ℕ) (place : ℕ) → HaveNoFault true files → place ≡ length (joined files)
     → joined files ++ (padding_bytes place ++ file) ≡ joined (files ++ file ∷ [])
 took_more files file place without_fault is =
     ap (λ (p : ℕ). joined files ++ (padding_bytes p ++ file)) is
@@ -127,7 +129,7 @@ JoinedSoFar-more files count file totals then before between after there more to
     subst (Takes before after) (took_more first file totals.bytes kept.without_fault kept.bytes)
     (Takes-append before between after (joined first) (padding_bytes totals.bytes ++ file) kept.took took) in
     record {
-      without_fault = subst HaveNoFault is (all_and (HasNoFault true) first file kept.without_fault (more.0, more.1));
+      without_fault = subst (HaveNoFault true) is (all_and (HasNoFault true) first file kept.without_fault (more.0, more.1));
       bytes = bytes_then first file totals then kept.without_fault kept.bytes more ∙ ap (λ (fs : List (List ℕ)). length (joined fs)) is;
       counted = subst (λ (fs : List (List ℕ)). AreCounted fs then) is
           (counted_more first file totals then kept.without_fault kept.bytes more kept.counted);
@@ -142,7 +144,7 @@ AreJoined-all files count totals before after some all kept =
     elim (subst (λ (fs : List (List ℕ)). AreCounted fs totals) is kept.counted) [
       | inl none ↦ absurd (omega (arith, some, ap length none.0))
       | inr of ↦ record {
-        without_fault = subst HaveNoFault is kept.without_fault;
+        without_fault = subst (HaveNoFault true) is kept.without_fault;
         chunks = of.0;
         frame = of.1;
         totals = of.2;
@@ -171,15 +173,15 @@ IsFrontJoined-failed files count file totals before between after there (inr (no
     subst (TakesFront before after) (took_more first file totals.bytes kept.without_fault kept.bytes)
     (TakesFront-append before between after (joined first) (padding_bytes totals.bytes ++ file) kept.took front) in
     front_joined files (count + 1) before after
-    (subst HaveNoFault is (all_and (HasNoFault true) first file kept.without_fault none))
+    (subst (HaveNoFault true) is (all_and (HasNoFault true) first file kept.without_fault none))
     (subst (λ (fs : List (List ℕ)). TakesFront before after (joined fs)) is of_all)
 
 -- a work that ended at a file ended at the first with a fault, unless a store or the sink failed
 pub ended_at_first : {X : Type 0} (result : Result X JoinEnd) (why : JoinEnd) (files : List (List ℕ)) (index : ℕ) (fault : Fault) → result ≡ Err why
-    → ((number : ℕ) (other : Fault) → why ≡ end.Refused number other → IsFirstFault files number other) → IsFirstFault files index fault
+    → ((number : ℕ) (other : Fault) → why ≡ end.Refused number other → IsFirstFault true files number other) → IsFirstFault true files index fault
     → (result ≡ Err (end.Refused index fault)) ⊎ (result ≡ Err end.Store) ⊎ (result ≡ Err end.Made)
 ended_at_first result (end.Refused number other) files index fault is refused first =
-    let one = first_is_one files number index other fault (refused number other refl) first in
+    let one = first_is_one true files number index other fault (refused number other refl) first in
     inl (is ∙ ap (λ (n : ℕ). Err (end.Refused n other)) one.0 ∙ ap (λ (f : Fault). Err (end.Refused index f)) one.1)
 ended_at_first result end.Store files index fault is refused first = inr (inl is)
 ended_at_first result end.Made files index fault is refused first = inr (inr is)

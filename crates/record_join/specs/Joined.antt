@@ -1,14 +1,11 @@
 -- Files laid one after another. Own.
-use Rattle.std.specs.Prelude.{◌≡◌, ℕ, ◌+◌, ◌-◌, ◌*◌, Some, true, List, [], ◌∷◌, ◌++◌, length, slice_get, sum, take}
-use Rattle.std.specs.List.{AllByRecursion}
+use Rattle.std.specs.Prelude.{ℕ, ◌+◌, ◌-◌, ◌*◌, List, [], ◌∷◌, ◌++◌, length, sum}
 use Rattle.record_values.specs.declared.file_totals.Totals.{Totals}
 use Rattle.block_layout.specs.Layout.{block_size}
 use Rattle.chunk_header.specs.Chunks.{ChunkValue}
 use Rattle.meta_chunk.specs.Files.{end_of_chunks}
 use Rattle.meta_chunk.specs.PaddingSizes.{padding_at}
 use Rattle.ordered_writer.specs.Writers.{padding_bytes}
-use Rattle.chunk_reader.specs.Faults.{HasNoFault, IsFault}
-use Rattle.chunk_reader.specs.declared.reasons.Fault.{Fault}
 
 -- files one after another: behind each but the last the padding from its end to a block, where the next one begins
 abbrev pub joined : List (List ℕ) → List ℕ
@@ -34,14 +31,3 @@ totals_behind before file = record {
   bytes = end_of_chunks before.bytes (padding_at before.bytes) + file.bytes;
   unread = before.unread + file.unread;
 }
-
--- each file is well-formed chunks from its front to its end, of which compressed and transposed ones are left unread
-abbrev pub HaveNoFault : List (List ℕ) → Type 0
-HaveNoFault files = AllByRecursion (HasNoFault true) files
-
--- of the files that have a fault this is the first, by its number from 0, and this is its fault
-pub record IsFirstFault (files : List (List ℕ)) (index : ℕ) (fault : Fault) : Type 0 where
-  pub before : HaveNoFault (take index files)
-  pub file : List ℕ
-  pub there : slice_get files index ≡ Some file
-  pub is_fault : IsFault true file fault

@@ -7,8 +7,10 @@ ghost use Rattle.ordered_writer.specs.Writers.{padding_bytes};
 ghost use Rattle.chunk_reader.specs.Faults.{HasNoFault, IsFault};
 ghost use Rattle.chunk_reader.specs.Progress.{AreInBounds};
 ghost use Rattle.chunk_reader.specs.declared.reasons.Fault.{Fault};
-ghost use Rattle.record_join.specs.Joined.{HaveNoFault, IsFirstFault, joined_at_most, totals_behind};
-ghost use Rattle.record_join.specs.Joins.{AreJoined, AreJoinedUpTo, AreOnlyAsked, AreTold, AreTotalsWith, IfAllTell, IsFrontJoined, IsFrontPut};
+ghost use Rattle.chunk_reader.specs.ManyFiles.{HaveNoFault, IsFirstFault};
+ghost use Rattle.record_join.specs.Joined.{joined_at_most, totals_behind};
+ghost use Rattle.record_io.specs.ManyStores.{AreOnlyAsked, AreTold, IfAllTell};
+ghost use Rattle.record_join.specs.Joins.{AreJoined, AreJoinedUpTo, AreTotalsWith, IsFrontJoined, IsFrontPut};
 
 use crate::copies::{CopyEnd, copy_file};
 use chunk_reader::{Fault, VerifyEnd, verify};
@@ -73,11 +75,11 @@ pub fn join<S: Store, M: Sink>(
         IfAllTell S.bytes stores.old (λ files. AreJoined files totals (M.taken made.old) (M.taken made.new))) }
     ensures refused { (index : ℕ) (fault : Fault) → result ≡ Err (JoinEnd.Refused index fault)
         → IfAllTell S.bytes stores.old (λ files. AreJoinedUpTo files index fault (M.taken made.old) (M.taken made.new)) }
-    ensures complete { IfAllTell S.bytes stores.old (λ files. (index : ℕ) (fault : Fault) → IsFirstFault files index fault
+    ensures complete { IfAllTell S.bytes stores.old (λ files. (index : ℕ) (fault : Fault) → IsFirstFault true files index fault
         → (result ≡ Err (JoinEnd.Refused index fault)) ⊎ (result ≡ Err JoinEnd.Store) ⊎ (result ≡ Err JoinEnd.Made)) }
     ensures front { (result ≡ Err JoinEnd.Store) ⊎ (result ≡ Err JoinEnd.Made)
         → IfAllTell S.bytes stores.old (λ files. IsFrontJoined files (M.taken made.old) (M.taken made.new)) }
-    ensures sound_first { result ≡ Err JoinEnd.Made → IfAllTell S.bytes stores.old (λ files. HaveNoFault (take 1 files)) }
+    ensures sound_first { result ≡ Err JoinEnd.Made → IfAllTell S.bytes stores.old (λ files. HaveNoFault true (take 1 files)) }
     ensures totals { IfOk result (λ totals. AreInBounds (joined_at_most sizes.now) totals) }
     ensures handed { (place : ℕ) (a b : S) (size : ℕ)
         → slice_get stores.old place ≡ Some a → slice_get stores.new place ≡ Some b → slice_get sizes.now place ≡ Some size

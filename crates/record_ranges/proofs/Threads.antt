@@ -1,5 +1,5 @@
 -- What threads were answered for halves of the parts, put together, and what it says of the stores.
-use Rattle.std.proofs.Common.{◌≡◌, ◌∙◌, ◌⊎◌, ℕ, ◌-◌, ◌^◌, ◌<◌, ◌≤◌, Option, Result, List, [], ◌∷◌, ◌++◌, Some, Ok, Err, All, IfOk, IfSome, inl, inr, map, take, set, length, refl, sym, subst, arith}
+use Rattle.std.proofs.Common.{◌≡◌, ◌∙◌, ◌⊎◌, ℕ, ◌<◌, Option, Result, List, [], ◌∷◌, ◌++◌, Some, Ok, Err, All, IfOk, IfSome, inl, inr, map, take, set, length, refl, sym, subst, arith}
 use Rattle.std.specs.Prelude.{slice_index_or}
 use Rattle.std.specs.List.{AllByRecursion, AllZip}
 use Rattle.std.proofs.Math.Seq.{take-append_seam}
@@ -10,7 +10,9 @@ use Rattle.chunk_reader.specs.declared.reasons.ReadEnd.TheVariants.{Store}
 use Rattle.record_ranges.specs.declared.stretches.Span.{Span}
 use Rattle.record_ranges.specs.declared.stretches.Stretch.{Stretch}
 use Rattle.record_ranges.specs.Stretches.{IsStretchOf}
-use Rattle.record_ranges.specs.Reads.{AnyRose, AreAnswered, AreOnlyAsked, AreReadIn, StandsIn}
+use Rattle.record_io.specs.ManyStores.{AnyRose, AreOnlyAsked}
+use Rattle.record_io.proofs.ManyStores.{AnyRose-then, Rose-after, asks_twice, asks_whatever, each_none}
+use Rattle.record_ranges.specs.Reads.{AreAnswered, AreReadIn, StandsIn}
 
 module _ {S L : Type 0} (bytes : S → Option (List ℕ)) (told : S → Option ℕ) (name : S → L) (faults : S → ℕ) where
   abbrev Answered : List Span → List S → List S → List (Result Stretch ReadEnd) → Type 0
@@ -51,16 +53,6 @@ module _ {S L : Type 0} (bytes : S → Option (List ℕ)) (told : S → Option �
   all_in file (p ∷ spans) (s ∷ before) (t ∷ after) (a ∷ answers) same h =
       (subst (λ (o : Option (List ℕ)). IfOk a (λ r. IfSome o (λ f. IsStretchOf f p r))) same.0 h.0.stretch, all_in file spans before after answers same.1 h.1)
 
-  asks_whatever : {F : Type 0} (s t : S) → OnlyAsks bytes told name faults F s t → OnlyAsks bytes told name faults ⊥ s t
-  asks_whatever s t h = record {
-    same_bytes = h.same_bytes;
-    same_told = h.same_told;
-    same_name = h.same_name;
-    cause = λ never. absurd never;
-    never_falls = h.never_falls;
-    small = h.small;
-  }
-
   -- the stores were only asked
   pub each_asked : (spans : List Span) (before after : List S) (answers : List (Result Stretch ReadEnd))
       → AreAnswered bytes told name faults spans before after answers → AllZip (OnlyAsks bytes told name faults ⊥) before after
@@ -71,7 +63,7 @@ module _ {S L : Type 0} (bytes : S → Option (List ℕ)) (told : S → Option �
   each_asked (p ∷ spans) (s ∷ before) [] answers h = absurd h
   each_asked (p ∷ spans) (s ∷ before) (t ∷ after) [] h = absurd h
   each_asked (p ∷ spans) (s ∷ before) (t ∷ after) (a ∷ answers) h =
-      (asks_whatever s t h.0.asks, each_asked spans before after answers h.1)
+      (asks_whatever bytes told name faults s t h.0.asks, each_asked spans before after answers h.1)
 
   rose_at : (spans : List Span) (before after : List S) (x y : List (Result Stretch ReadEnd))
       → AreAnswered bytes told name faults spans before after (x ++ Err Store ∷ y) → AnyRose faults before after
@@ -89,35 +81,6 @@ module _ {S L : Type 0} (bytes : S → Option (List ℕ)) (told : S → Option �
       → AreAnswered bytes told name faults spans before after answers → StandsIn (Err Store) answers → AnyRose faults before after
   rose spans before after answers h (x, y, is) =
       rose_at spans before after x y (subst (AreAnswered bytes told name faults spans before after) is h)
-
-  -- the first store is asked once more
-  asks_on : (a b c : S) → OnlyAsks bytes told name faults ⊥ a b → OnlyAsks bytes told name faults ⊥ b c → OnlyAsks bytes told name faults ⊥ a c
-  asks_on a b c h g = record {
-    same_bytes = g.same_bytes ∙ h.same_bytes;
-    same_told = g.same_told ∙ h.same_told;
-    same_name = g.same_name ∙ h.same_name;
-    cause = λ never. absurd never;
-    never_falls = omega (arith, h.never_falls, g.never_falls);
-    small = λ is. g.small (h.small is);
-  }
-
-  -- no store is asked
-  asks_none : (stores : List S) → AllZip (OnlyAsks bytes told name faults ⊥) stores stores
-  asks_none [] = tt
-  asks_none (s ∷ stores) = (
-    record {
-      same_bytes = refl;
-      same_told = refl;
-      same_name = refl;
-      cause = λ never. absurd never;
-      never_falls = omega arith;
-      small = λ is. is;
-    },
-    asks_none stores,
-  )
-
-  pub none_asked : {F : Type 0} (stores : List S) → (F → ⊥) → AreOnlyAsked bytes told name faults F stores stores
-  none_asked stores never = record { each = asks_none stores; cause = λ failed. absurd (never failed) }
 
   -- what the first store tells stays
   pub first-told : (size : ℕ) (spans : List Span) (before after : List S) (answers : List (Result Stretch ReadEnd)) (d : S)
@@ -138,22 +101,6 @@ module _ {S L : Type 0} (bytes : S → Option (List ℕ)) (told : S → Option �
   first-bytes file (p ∷ spans) (s ∷ before) (t ∷ after) [] d h all some = absurd h
   first-bytes file (p ∷ spans) (s ∷ before) (t ∷ after) (a ∷ answers) d h all some = h.0.asks.same_bytes ∙ all.0
 
-  first_rose : (before : List S) (s t : S) (rest : List S) → faults s ≤ faults t → (faults s ≡ 2 ^ 64 - 1 → faults t ≡ 2 ^ 64 - 1)
-      → AnyRose faults before (s ∷ rest) → AnyRose faults before (t ∷ rest)
-  first_rose [] s t rest falls most h = absurd h
-  first_rose (a ∷ before) s t rest falls most (inl (inl rose)) = inl (inl (omega (arith, falls, rose)))
-  first_rose (a ∷ before) s t rest falls most (inl (inr greatest)) = inl (inr (most greatest))
-  first_rose (a ∷ before) s t rest falls most (inr others) = inr others
-
-  first_rises : (a s t : S) → OnlyAsks bytes told name faults ⊥ a s → Rose (faults s) (faults t) → Rose (faults a) (faults t)
-  first_rises a s t h (inl rose) = inl (omega (arith, h.never_falls, rose))
-  first_rises a s t h (inr most) = inr most
-
-  stays_greatest : (s t : S) → OnlyAsks bytes told name faults ⊥ s t → faults s ≡ 2 ^ 64 - 1 → faults t ≡ 2 ^ 64 - 1
-  stays_greatest s t h is =
-      let below : faults t < 2 ^ 64 = h.small (omega (arith, is)) in
-      omega (arith, h.never_falls, is, below)
-
   -- and the first is asked once more
   pub asked_again : {F : Type 0} (spans : List Span) (before after : List S) (answers : List (Result Stretch ReadEnd)) (d t : S)
       → 0 < length before → AreAnswered bytes told name faults spans before after answers
@@ -166,10 +113,12 @@ module _ {S L : Type 0} (bytes : S → Option (List ℕ)) (told : S → Option �
   asked_again (p ∷ spans) (a ∷ before) (s ∷ rest) answers d t some h g cause =
       let each = each_asked (p ∷ spans) (a ∷ before) (s ∷ rest) answers h in
       record {
-        each = (asks_on a s t each.0 g, each.1);
+        each = (asks_twice bytes told told told name faults a s t (g.same_told ∙ each.0.same_told) (λ never. absurd never) each.0 g, each.1);
         cause = λ failed. elim (cause failed) [
-          | inl stands ↦ first_rose (a ∷ before) s t rest g.never_falls (stays_greatest s t g) (rose (p ∷ spans) (a ∷ before) (s ∷ rest) answers h stands)
-          | inr more ↦ inl (first_rises a s t each.0 more)
+          | inl stands ↦
+              AnyRose-then bytes told name faults (a ∷ before) (s ∷ rest) (t ∷ rest) (g, each_none bytes told name faults rest)
+              (rose (p ∷ spans) (a ∷ before) (s ∷ rest) answers h stands)
+          | inr more ↦ inl (Rose-after (faults a) (faults s) (faults t) each.0.never_falls more)
         ];
       }
 

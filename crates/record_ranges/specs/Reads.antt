@@ -1,8 +1,7 @@
 -- What becomes of stores that threads ask, and what they answer. Own.
-use Rattle.std.specs.Prelude.{◌≡◌, ℕ, ◌⊎◌, Option, Some, Result, Err, IfOk, IfSome, List, [], ◌∷◌, ◌++◌}
+use Rattle.std.specs.Prelude.{◌≡◌, ℕ, Option, Some, Result, Err, IfOk, IfSome, List, [], ◌∷◌, ◌++◌}
 use Rattle.std.specs.List.{AllByRecursion, AllZip}
 use Rattle.record_io.specs.Calls.{OnlyAsks}
-use Rattle.record_io.specs.Outside.{Rose}
 use Rattle.chunk_reader.specs.declared.reasons.ReadEnd.{ReadEnd}
 use Rattle.chunk_reader.specs.declared.reasons.ReadEnd.TheVariants.{Store}
 use Rattle.record_ranges.specs.declared.stretches.Span.{Span}
@@ -21,19 +20,7 @@ StandsIn {X} x xs = (before : List X) × (after : List X) × (xs ≡ before ++ x
 abbrev pub AreReadIn : List ℕ → List Span → List (Result Stretch ReadEnd) → Type 0
 AreReadIn file spans answers = AllZip (λ span answer. IfOk answer (λ s. IsStretchOf file span s)) spans answers
 
--- the count of faults of one of the stores rose
-abbrev pub AnyRose : {S : Type 0} → (S → ℕ) → List S → List S → Type 0
-AnyRose faults [] after = ⊥
-AnyRose faults (a ∷ before) [] = ⊥
-AnyRose faults (a ∷ before) (b ∷ after) = Rose (faults a) (faults b) ⊎ AnyRose faults before after
-
 module _ {S L : Type 0} (bytes : S → Option (List ℕ)) (told : S → Option ℕ) (name : S → L) (faults : S → ℕ) where
-  -- each store is only asked: its bytes, the size that it told and what it borrows stay, and its count of faults doesn't fall;
-  -- and one of these counts rises where the call says that a store failed
-  pub record AreOnlyAsked (Fails : Type 0) (before after : List S) : Type 0 where
-    pub each : AllZip (OnlyAsks bytes told name faults ⊥) before after
-    pub cause : Fails → AnyRose faults before after
-
   -- one store was asked for a part, and answered so
   pub record IsAnswered (span : Span) (before after : S) (answer : Result Stretch ReadEnd) : Type 0 where
     pub stretch : IfOk answer (λ s. IfSome (bytes before) (λ file. IsStretchOf file span s))

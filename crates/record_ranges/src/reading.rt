@@ -1,10 +1,11 @@
 ghost use Rattle.std.specs.Prelude.{◌≡◌, ℕ, ◌+◌, ◌^◌, ◌≤◌, ◌<◌, ◌⊎◌, All, Some, IfOk, IfSome, Err, false, List, Result, length, vec_len, map};
 ghost use Rattle.record_io.specs.Calls.{OnlyAsks};
+ghost use Rattle.record_io.specs.ManyStores.{AreOnlyAsked};
 ghost use Rattle.record_io.specs.Outside.{Rose};
 ghost use Rattle.chunk_reader.specs.Faults.{IsFault};
 ghost use Rattle.chunk_reader.specs.declared.reasons.Fault.{Fault};
 ghost use Rattle.record_ranges.specs.Ranges.{RiseUpTo, AreRangesOf};
-ghost use Rattle.record_ranges.specs.Reads.{AreOnlyAsked, IfAllTellSame, StandsIn, AreReadIn};
+ghost use Rattle.record_ranges.specs.Reads.{IfAllTellSame, StandsIn, AreReadIn};
 ghost use Rattle.record_ranges.specs.Stretches.{AreReadOf};
 
 use crate::alone::{check_front, read_alone};

@@ -6,14 +6,26 @@ use Rattle.ordered_writer.specs.Writers.{padding_bytes}
 use Rattle.record_io.specs.Outside.{Takes}
 use Rattle.chunk_reader.specs.Faults.{HasNoFault, IsFault}
 use Rattle.chunk_reader.specs.declared.reasons.Fault.{Fault}
-use Rattle.record_join.specs.Joins.{AreJoinedUpTo, AreTold, AreTotalsWith, IsFrontPut}
+use Rattle.record_io.specs.ManyStores.{AreTold}
+use Rattle.record_join.specs.Joins.{AreJoinedUpTo, AreTotalsWith, IsFrontPut}
 use Rattle.record_join.specs.declared.joins.JoinEnd.TheVariants as end
-use Rattle.record_join.proofs.Asked.{HandOut-more, as_many, one_asked, tells_at}
+use Rattle.record_io.proofs.ManyStores.{as_many, none_asked, one_asked, same_bytes, same_told, tells_at}
+use Rattle.record_join.proofs.HandedOut.{HandOut-more}
 use Rattle.record_join.proofs.Behind.{on_boundary}
-use Rattle.record_join.proofs.FirstFaults.{first_or_none, first_without}
+use Rattle.chunk_reader.proofs.ManyFiles.{first_or_none, first_without}
 use Rattle.record_join.proofs.Steps.{AreJoined-all, AreJoinedUpTo-fault, IsFrontJoined-failed, JoinedSoFar-more, ended_at_first, fits_more}
 use Rattle.record_join.proofs.joins.join.Goals as goal
-use Rattle.record_join.proofs.joins.join.Goals.{After-index-stores-index, After-join_file, In_err-totals}
+use Rattle.record_join.proofs.joins.join.Goals.{After-index-stores-index, In_err-totals}
+
+pub loop-index-init : goal.loop-index-init
+loop-index-init g c = record {
+  bounds = search rules;
+  fits = search rules;
+  joined = search rules;
+  asked = none_asked g.S.Store.bytes g.S.Store.told g.S.Store.name g.S.Store.faults c.args.stores.now (λ never. never);
+  hand_out = search rules;
+  counts = search rules;
+}
 
 -- the store that is asked next stands at its place
 there : (g : _) (c : After-index-stores-index g)
@@ -24,10 +36,16 @@ there g c = ap (get_or c.loop-index.stores c.loop-index.index) c.index-stores-in
 below : (g : _) (c : After-index-stores-index g) → c.loop-index.index < length c.loop-index.stores
 below g c = omega (arith, c.loop-index-test.true, c.loop-index.auto.index-end)
 
+-- stores that were only asked still tell what they told before
+told_as : (g : _) (c : After-index-stores-index g) → AreTold g.S.Store.told c.loop-index.stores c.args.sizes.now
+told_as g c =
+    same_told g.S.Store.bytes g.S.Store.told g.S.Store.name g.S.Store.faults c.args.stores.now c.loop-index.stores c.loop-index.invariant.asked.each
+    ∙ c.requires.told
+
 -- its size
 below_sizes : (g : _) (c : After-index-stores-index g) → c.loop-index.index < length c.args.sizes.now
 below_sizes g c =
-    omega (arith, below g c, as_many g.S.Store.told c.loop-index.stores c.args.sizes.now (c.loop-index.invariant.asked.same_told ∙ c.requires.told))
+    omega (arith, below g c, as_many g.S.Store.told c.loop-index.stores c.args.sizes.now (told_as g c))
 
 sized : (g : _) (c : After-index-stores-index g) → slice_get c.args.sizes.now c.loop-index.index ≡ Some (get_or c.args.sizes.now c.loop-index.index 0)
 sized g c = slice_get-get_or c.args.sizes.now c.loop-index.index 0 (below_sizes g c)
@@ -37,7 +55,7 @@ join_file-requires-clause-told g c =
     let at = (goal.at.join_file-requires-clause-told g c).After-index-stores-index in
     let i : ℕ = c.loop-index.index in
     let told = tells_at g.S.Store.told c.loop-index.stores c.args.sizes.now i
-    (get_or c.loop-index.stores i c.index-stores-index.result) (c.loop-index.invariant.asked.same_told ∙ c.requires.told) (below g at) (there g at) in
+    (get_or c.loop-index.stores i c.index-stores-index.result) (told_as g at) (below g at) (there g at) in
     told.2 ∙ ap Some (sym (get_or_from_slice_get c.args.sizes.now i told.0 0 told.1))
 
 -- its bytes
@@ -46,7 +64,8 @@ file : (g : _) (c : After-index-stores-index g) (files : List (List ℕ)) → Ar
     × (g.S.Store.bytes (get_or c.loop-index.stores c.loop-index.index c.index-stores-index.result) ≡ Some bytes)
 file g c files told =
     tells_at g.S.Store.bytes c.loop-index.stores files c.loop-index.index (get_or c.loop-index.stores c.loop-index.index c.index-stores-index.result)
-    (c.loop-index.invariant.asked.same_bytes ∙ told) (below g c) (there g c)
+    (same_bytes g.S.Store.bytes g.S.Store.told g.S.Store.name g.S.Store.faults c.args.stores.now c.loop-index.stores c.loop-index.invariant.asked.each ∙ told)
+    (below g c) (there g c)
 
 -- a file that is refused is the first with a fault
 refused : (g : _) (c : In_err-totals g) (number : ℕ) (fault : Fault) → c.in_err-totals.field-0.0 ≡ end.Refused number fault
@@ -100,7 +119,7 @@ returns-in_err-totals-clause-sound_first g c =
     let p = err_from_is_err_and c.from_residual.result c.from_residual.ensures.1 in
     let its = file g at files told in
     let P : Option (List ℕ) → Type 0 = λ o. IfSome o (λ f. HasNoFault true f) in
-    first_without files c.loop-index.index its.0 its.1 (subst P its.2 (c.in_err-totals.ensures.sound (sym (p.1 ∙ ap Err p.2) ∙ failed)))
+    first_without true files c.loop-index.index its.0 its.1 (subst P its.2 (c.in_err-totals.ensures.sound (sym (p.1 ∙ ap Err p.2) ∙ failed)))
     (c.loop-index.invariant.joined files told).without_fault
 
 pub returns-in_err-totals-clause-handed : goal.returns-in_err-totals-clause-handed
@@ -158,4 +177,4 @@ returns-clause-complete g c = λ files told index fault first.
     let all = AreJoined-all files c.loop-index.index c.loop-index.totals (g.M.Sink.taken c.args.made.now) (g.M.Sink.taken c.loop-index.made)
     (omega (arith, many, c.requires.some)) (omega (arith, many, c.loop-index-test.false, c.loop-index.auto.index-end))
     (c.loop-index.invariant.joined files told) in
-    absurd (first_or_none files index fault first all.without_fault)
+    absurd (first_or_none true files index fault first all.without_fault)

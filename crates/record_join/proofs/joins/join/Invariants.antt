@@ -2,8 +2,8 @@ use Rattle.std.proofs.Common.{◌≤◌, take}
 use Rattle.record_io.specs.Calls.{OnlyCounts}
 use Rattle.chunk_reader.specs.Progress.{AreInBounds}
 use Rattle.record_join.specs.Joined.{joined_at_most}
-use Rattle.record_join.specs.Joins.{AreOnlyAsked, IfAllTell}
-use Rattle.record_join.proofs.Asked.{HandOut}
+use Rattle.record_io.specs.ManyStores.{AreOnlyAsked, IfAllTell}
+use Rattle.record_join.proofs.HandedOut.{HandOut}
 use Rattle.record_join.proofs.Steps.{JoinedSoFar}
 use Rattle.record_join.proofs.joins.join.Given as goal
 

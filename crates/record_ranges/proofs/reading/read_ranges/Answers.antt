@@ -6,7 +6,8 @@ use Rattle.chunk_reader.specs.declared.reasons.ReadEnd.TheVariants as read
 use Rattle.record_ranges.specs.Reads.{AreReadIn}
 use Rattle.record_ranges.specs.Stretches.{AreReadOf}
 use Rattle.record_ranges.proofs.Answering.{spans-length, spans-within, ranges-read, fault-told, of-told}
-use Rattle.record_ranges.proofs.Threads.{all_in, asked_again, first-told, first-bytes, none_asked}
+use Rattle.record_io.proofs.ManyStores.{none_asked}
+use Rattle.record_ranges.proofs.Threads.{all_in, asked_again, first-told, first-bytes}
 use Rattle.record_ranges.proofs.reading.read_ranges.Goals as goal
 use Rattle.record_ranges.proofs.reading.read_ranges.Goals.{After-judged_parts}
 
