@@ -1,0 +1,170 @@
+-- Files that are asked their sizes, and whose records are then gathered and put into one.
+use Rattle.std.proofs.Common.{◌≡◌, ◌≢◌, ◌∙◌, ℕ, ◌+◌, ◌≤◌, ◌⊎◌, false, true, Option, Some, None, Result, Ok, Err, List, [], length, map, drop, refl, sym, ap, subst, inl, inr, arith}
+use Rattle.std.specs.Prelude.{nat_lt, slice_get}
+use Rattle.std.specs.List.{list_any}
+use Rattle.std.proofs.lemmas.Bool.{lt-ltb, ltb-true}
+use Rattle.std.proofs.lemmas.List.Folds.{Any-from_list_any, list_any-from_Any}
+use Rattle.std.proofs.lemmas.Simd.{map-map}
+use Rattle.record_io.specs.ManyStores.{AnyRose}
+use Rattle.record_io.specs.Outside.{Rose, Takes, TakesFront}
+use Rattle.chunk_reader.specs.ManyFiles.{IsFirstFault}
+use Rattle.chunk_reader.specs.declared.reasons.Fault.{Fault}
+use Rattle.record_collect.specs.GatheredFiles.{AreGatheredOf, IsTooMuch}
+use Rattle.record_collect.specs.FilePlaces.{places_in_file}
+use Rattle.record_collect.specs.Gatherings.{GatheredValue}
+use Rattle.word_options.specs.Writing.{default_chunk_size}
+use Rattle.record_collect.specs.declared.gathering.GatherEnd.{GatherEnd}
+use Rattle.run_answers.specs.declared.ending.Cut.{Cut}
+use Rattle.run_answers.specs.declared.ending.Ending.{Ending}
+use Rattle.run_answers.specs.declared.status.Status.{Status}
+use Rattle.run_answers.specs.Endings.{SaysEnd}
+use Rattle.run_answers.specs.FileAnswers.{most_file_bytes}
+use Rattle.run_answers.specs.Runs.{SeenStream, SeenFile, seen, seen_file, Runs}
+use Rattle.run_answers.proofs.ManyFiles.{keeps-files, one_rose}
+use Rattle.collect_files.specs.CollectCommand.{AreInReach, IsOneTooLong, collect_meaning, collected_file, collected_lines, files_lines}
+use Rattle.collect_files.specs.CollectingEnds.{AreSized, IsPut, TakeCollected, collecting_ends, end_of_gather}
+use Rattle.collect_files.specs.declared.stops.Stop.{Stop}
+use Rattle.collect_files.proofs.CollectAnswers.{sizes_judged}
+use Rattle.collect_files.proofs.CollectRuns.{runs-collect}
+use Rattle.record_collect.specs.declared.gathering.GatherEnd.TheVariants as gather
+use Rattle.run_answers.specs.declared.ending.Cut.TheVariants as cut
+use Rattle.run_answers.specs.declared.ending.Ending.TheVariants as end
+
+-- whether one is too long, by the test that tells it
+pub one_too_long : (sizes : List ℕ) → list_any (λ size. nat_lt most_file_bytes size) sizes ≡ true → IsOneTooLong sizes
+one_too_long sizes is =
+    let (place, size, below, there, long) = Any-from_list_any (λ size. nat_lt most_file_bytes size) sizes is in
+    (place, size, below, there, ltb-true most_file_bytes size long)
+
+pub none_too_long : (sizes : List ℕ) → list_any (λ size. nat_lt most_file_bytes size) sizes ≡ false → AreInReach sizes
+none_too_long sizes is = elim (sizes_judged sizes) [
+  | inl (place, size, below, there, long) ↦ absurd (cc (
+    is,
+    list_any-from_Any (λ n. nat_lt most_file_bytes n) sizes (place, size, below, there, lt-ltb most_file_bytes size long),
+  ))
+  | inr reach ↦ reach
+]
+
+-- what gathering took where it ended early
+pub took-ended : (X : Type 0) (e : GatherEnd) (why : Ending Stop) (made out : Option (List ℕ)) (all : List (List ℕ)) → why ≡ end_of_gather e
+    → ((index : ℕ) (fault : Fault) → e ≡ gather.Refused index fault → IsFirstFault false all index fault)
+    → (e ≡ gather.TooMuch → IsTooMuch all) → TakeCollected {X = X} (Err why) all made made out out
+took-ended X e why made out all is refused much =
+    subst (λ (w : Ending Stop). TakeCollected {X = X} (Err w) all made made out out) (sym is) (by_end e refused much) where
+      by_end : (e : GatherEnd) → ((index : ℕ) (fault : Fault) → e ≡ gather.Refused index fault → IsFirstFault false all index fault)
+          → (e ≡ gather.TooMuch → IsTooMuch all) → TakeCollected {X = X} (Err (end_of_gather e)) all made made out out
+      by_end (gather.Refused index fault) refused much = (refused index fault refl, refl, refl)
+      by_end gather.TooMuch refused much = (much refl, refl, refl)
+      by_end gather.Store refused much = (refl, refl)
+      by_end gather.Memory refused much = (inl refl, refl)
+
+pub sized-ended : (X : Type 0) (e : GatherEnd) (why : Ending Stop) (told : List (Option ℕ)) (sizes : List ℕ) → why ≡ end_of_gather e
+    → told ≡ map Some sizes → AreInReach sizes → AreSized {X = X} (Err why) told
+sized-ended X e why told sizes is tells reach =
+    subst (λ (w : Ending Stop). AreSized {X = X} (Err w) told) (sym is) (by_end e) where
+      by_end : (e : GatherEnd) → AreSized {X = X} (Err (end_of_gather e)) told
+      by_end (gather.Refused index fault) = (sizes, tells, reach)
+      by_end gather.TooMuch = (sizes, tells, reach)
+      by_end gather.Store = tt
+      by_end gather.Memory = (sizes, tells, reach)
+
+-- a file failed only where gathering says it
+pub file-failed : (X : Type 0) (e : GatherEnd) (why : Ending Stop) → why ≡ end_of_gather e
+    → ◌≡◌ {A = Result X (Ending Stop)} (Err why) (Err (end.Cut cut.File)) → e ≡ gather.Store
+file-failed X (gather.Refused index fault) why is failed = cc
+file-failed X gather.TooMuch why is failed = cc
+file-failed X gather.Store why is failed = refl
+file-failed X gather.Memory why is failed = cc
+
+-- of gathered records this was put
+pub took-put : {X : Type 0} (result : Result X (Ending Stop)) (value : GatheredValue) (made made_then out out_then : Option (List ℕ)) (all : List (List ℕ))
+    → AreGatheredOf all value → IsPut result value made made_then out out_then → TakeCollected result all made made_then out out_then
+took-put (Ok x) value made made_then out out_then all gathered put = (value, gathered, put)
+took-put (Err end.Limit) value made made_then out out_then all gathered put = absurd put
+took-put (Err (end.At reason)) value made made_then out out_then all gathered put = absurd put
+took-put (Err (end.Cut cut.Made)) value made made_then out out_then all gathered put = (value, gathered, put)
+took-put (Err (end.Cut cut.Memory)) value made made_then out out_then all gathered (front, unprinted) = (inr (value, gathered, front), unprinted)
+took-put (Err (end.Cut cut.Out)) value made made_then out out_then all gathered put = (value, gathered, put)
+took-put (Err (end.Cut other)) value made made_then out out_then all gathered put = absurd put
+
+pub sized-put : {X : Type 0} (result : Result X (Ending Stop)) (value : GatheredValue) (made made_then out out_then : Option (List ℕ)) (told : List (Option ℕ)) (sizes : List ℕ)
+    → IsPut result value made made_then out out_then → told ≡ map Some sizes → AreInReach sizes → AreSized result told
+sized-put (Ok x) value made made_then out out_then told sizes put tells reach = (sizes, tells, reach)
+sized-put (Err end.Limit) value made made_then out out_then told sizes put tells reach = absurd put
+sized-put (Err (end.At reason)) value made made_then out out_then told sizes put tells reach = absurd put
+sized-put (Err (end.Cut cut.Made)) value made made_then out out_then told sizes put tells reach = (sizes, tells, reach)
+sized-put (Err (end.Cut cut.Memory)) value made made_then out out_then told sizes put tells reach = (sizes, tells, reach)
+sized-put (Err (end.Cut cut.Out)) value made made_then out out_then told sizes put tells reach = (sizes, tells, reach)
+sized-put (Err (end.Cut other)) value made made_then out out_then told sizes put tells reach = absurd put
+
+-- where the file was not made, a front of it was put, and nothing was printed
+pub cut-put : (X : Type 0) (c : Cut) (value : GatheredValue) (made made_then out : Option (List ℕ)) → (c ≡ cut.Made) ⊎ (c ≡ cut.Memory)
+    → TakesFront made made_then (collected_file value.records) → IsPut {X = X} (Err (end.Cut c)) value made made_then out out
+cut-put X c value made made_then out (inl is) front =
+    subst (λ (k : Cut). IsPut {X = X} (Err (end.Cut k)) value made made_then out out) (sym is) (front, refl)
+cut-put X c value made made_then out (inr is) front =
+    subst (λ (k : Cut). IsPut {X = X} (Err (end.Cut k)) value made made_then out out) (sym is) (front, refl)
+
+-- the lines of the positions in the file
+lines-of : (value : GatheredValue) (records : List (List ℕ)) (places : List ℕ) → records ≡ value.records → places ≡ places_in_file records default_chunk_size
+    → files_lines places value.numbers ≡ collected_lines value
+lines-of value records places same are =
+    ap (λ (ps : List ℕ). files_lines ps value.numbers) (are ∙ ap (λ (rs : List (List ℕ)). places_in_file rs default_chunk_size) same)
+
+-- where all was put, so it was of the records and the positions that were told
+pub put-whole : (value : GatheredValue) (records : List (List ℕ)) (places : List ℕ) (made made_then out out_then : Option (List ℕ))
+    → records ≡ value.records → places ≡ places_in_file records default_chunk_size
+    → Takes made made_then (collected_file records) → Takes out out_then (files_lines places value.numbers)
+    → Takes made made_then (collected_file value.records) × Takes out out_then (collected_lines value)
+put-whole value records places made made_then out out_then same are took printed = (
+  subst (λ (rs : List (List ℕ)). Takes made made_then (collected_file rs)) same took,
+  subst (λ (text : List ℕ). Takes out out_then text) (lines-of value records places same are) printed,
+)
+
+pub put-unprinted : (value : GatheredValue) (records : List (List ℕ)) (places : List ℕ) (made made_then out out_then : Option (List ℕ))
+    → records ≡ value.records → places ≡ places_in_file records default_chunk_size
+    → Takes made made_then (collected_file records) → TakesFront out out_then (files_lines places value.numbers) → files_lines places value.numbers ≢ []
+    → Takes made made_then (collected_file value.records) × TakesFront out out_then (collected_lines value) × (collected_lines value ≢ [])
+put-unprinted value records places made made_then out out_then same are took printed some = (
+  subst (λ (rs : List (List ℕ)). Takes made made_then (collected_file rs)) same took,
+  subst (λ (text : List ℕ). TakesFront out out_then text) (lines-of value records places same are) printed,
+  subst (λ (text : List ℕ). text ≢ []) (lines-of value records places same are) some,
+)
+
+-- which fails no file
+pub put-unread : {X : Type 0} {A : Type 0} (result : Result X (Ending Stop)) (value : GatheredValue) (made made_then out out_then : Option (List ℕ))
+    → IsPut result value made made_then out out_then → result ≡ Err (end.Cut cut.File) → A
+put-unread {X} result value made made_then out out_then put failed =
+    absurd (subst (λ (r : Result X (Ending Stop)). IsPut r value made made_then out out_then) failed put)
+
+-- how a run ends, by what became of the files
+module _ {S : Type 0} (bytes : S → Option (List ℕ)) (told : S → Option ℕ) (handed faults : S → ℕ) (files files_then : List S) where
+  abbrev Shown : List S → List SeenFile
+  Shown fs = map (seen_file bytes told handed faults) fs
+
+  pub runs-collected : {X : Type 0} (input made made_then : SeenStream) (grown : SeenFile) (out out_then notes notes_then : SeenStream)
+      (result : Result X (Ending Stop)) (ended : Status)
+      → ((all : List (List ℕ)) (sizes : List ℕ) → map bytes files ≡ map Some all → map told files_then ≡ map Some sizes → sizes ≡ map length all)
+      → made.faults ≤ made_then.faults → out.faults ≤ out_then.faults → notes.faults ≤ notes_then.faults
+      → ((place : ℕ) (a b : S) → slice_get files place ≡ Some a → slice_get files_then place ≡ Some b → faults a ≤ faults b)
+      → ((place : ℕ) (file : S) → slice_get files_then place ≡ Some file → told file ≡ None → drop (place + 1) files_then ≡ drop (place + 1) files)
+      → (map handed files_then ≡ map handed files) ⊎ ((sizes : List ℕ) × (map told files_then ≡ map Some sizes) × AreInReach sizes)
+      → AreSized result (map told files_then)
+      → ((all : List (List ℕ)) → map bytes files ≡ map Some all → TakeCollected result all made.bytes made_then.bytes out.bytes out_then.bytes)
+      → SaysEnd collecting_ends result ended notes notes_then
+      → (result ≡ Err (end.Cut cut.File) → AnyRose faults files files_then)
+      → (result ≡ Err (end.Cut cut.Made) → Rose made.faults made_then.faults)
+      → (result ≡ Err (end.Cut cut.Out) → Rose out.faults out_then.faults)
+      → Runs collect_meaning (seen input (Shown files) made grown out notes) (seen input (Shown files_then) made_then grown out_then notes_then) ended
+  runs-collected input made made_then grown out out_then notes notes_then result ended exact m o n falls in_order handed_out sizes took says file_rose made_rose out_rose =
+      let show : S → SeenFile = seen_file bytes told handed faults in
+      let as_told : map (λ (f : SeenFile). f.told) (map show files_then) ≡ map told files_then = map-map (λ (f : SeenFile). f.told) show files_then in
+      let as_bytes : map (λ (f : SeenFile). f.bytes) (map show files) ≡ map bytes files = map-map (λ (f : SeenFile). f.bytes) show files in
+      let its : (all : List (List ℕ)) (sizes : List ℕ) → map (λ (f : SeenFile). f.bytes) (map show files) ≡ map Some all
+      → map (λ (f : SeenFile). f.told) (map show files_then) ≡ map Some sizes → sizes ≡ map length all =
+      λ all some bytes_told sizes_told. exact all some (sym as_bytes ∙ bytes_told) (sym as_told ∙ sizes_told) in
+      runs-collect input made made_then (map show files) (map show files_then) grown out out_then notes notes_then
+      (keeps-files bytes told handed faults files files_then collect_meaning input made made_then grown out out_then notes notes_then
+      refl refl (λ r before after. tt) m o n falls in_order its (elim handed_out [ inl unread ↦ inl unread | inr (some, tells, reach) ↦ inr (some, tells, reach, tt) ]))
+      its result ended (subst (AreSized result) (sym as_told) sizes) (λ all is. took all (sym as_bytes ∙ is)) says
+      (λ failed. one_rose bytes told handed faults files files_then (file_rose failed)) made_rose out_rose

@@ -1,0 +1,7 @@
+pub mod CollectAnswers
+pub mod CollectedFiles
+pub mod CollectRuns
+pub mod CollectSteps
+mod CollectValues
+pub mod FileLines
+pub mod Weaves

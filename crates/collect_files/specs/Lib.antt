@@ -1,0 +1,3 @@
+pub mod CollectCommand
+pub mod CollectingEnds
+pub mod CollectWords

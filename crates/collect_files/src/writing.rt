@@ -1,0 +1,75 @@
+ghost use Rattle.std.specs.Prelude.{◌≡◌, ◌⊎◌, ◌^◌, ◌≤◌, Err, OnErr, OnOk, length};
+ghost use Rattle.std.specs.List.{AllByRecursion};
+ghost use Rattle.record_io.specs.Calls.{OnlyCounts};
+ghost use Rattle.record_io.specs.Outside.{Takes, TakesFront};
+ghost use Rattle.simple_chunk.specs.Costs.{cost_of};
+ghost use Rattle.record_collect.specs.PutMachine.{limit};
+ghost use Rattle.collect_files.specs.CollectCommand.{collected_file};
+ghost use Rattle.collect_files.specs.CollectingEnds.{IsPut};
+
+use crate::place_lines::put_places;
+use crate::stops::Stop;
+use record_collect::{Gathered, places};
+use record_group::Pad;
+use record_io::{Failed, Sink};
+use record_writer::{RecordsFeed, WriteEnd, WriteOptions, write_records};
+use run_answers::{Cut, Ending};
+use simple_chunk::Records;
+use std::alloc::Global;
+use std::thread::Threads;
+use word_options::DEFAULT_CHUNK_SIZE;
+
+/// Makes the file of the gathered records of so many files, and prints where each record stands in it.
+pub(crate) fn put_gathered<R: Threads + Sync, M: Sink + Send, O: Sink>(
+    rt: &R,
+    alloc: Global,
+    gathered: &Gathered,
+    files: usize,
+    made: &mut M,
+    out: &mut O,
+) -> Result<(), Ending<Stop>>
+    requires { length gathered.now.numbers ≡ files }
+    ensures put { IsPut result gathered.now (M.taken made.old) (M.taken made.new) (O.taken out.old) (O.taken out.new) }
+    ensures made { OnlyCounts M.lent M.faults (result ≡ Err (Ending.Cut Cut.Made)) made.old made.new }
+    ensures out { OnlyCounts O.lent O.faults (result ≡ Err (Ending.Cut Cut.Out)) out.old out.new }
+{
+    let records = gathered.records();
+    let Ok(places) = places(alloc, records, DEFAULT_CHUNK_SIZE) else {
+        return Err(Ending::Cut(Cut::Memory));
+    };
+    if let Err(cut) = write_file(rt, alloc, records, made) {
+        return Err(Ending::Cut(cut));
+    }
+    match put_places(gathered, &places, files, out) {
+        Ok(()) => Ok(()),
+        Err(Failed) => Err(Ending::Cut(Cut::Out)),
+    }
+}
+
+/// Writes the file of records.
+fn write_file<R: Threads + Sync, M: Sink + Send>(
+    rt: &R,
+    alloc: Global,
+    records: &Records,
+    made: &mut M,
+) -> Result<(), Cut>
+    requires short { AllByRecursion (λ r. length r ≤ 2 ^ 24) records.now }
+    requires most { cost_of records.now ≤ limit }
+    ensures whole { OnOk result (Takes (M.taken made.old) (M.taken made.new) (collected_file records.now)) }
+    ensures front { OnErr result (TakesFront (M.taken made.old) (M.taken made.new) (collected_file records.now)) }
+    ensures cuts { OnErr result ((result ≡ Err Cut.Made) ⊎ (result ≡ Err Cut.Memory)) }
+    ensures made { OnlyCounts M.lent M.faults (result ≡ Err Cut.Made) made.old made.new }
+{
+    let options = WriteOptions {
+        size: DEFAULT_CHUNK_SIZE,
+        workers: 1,
+        every: None,
+        pad: Pad::No,
+    };
+    match write_records(rt, alloc, &options, &mut RecordsFeed::new(records), made) {
+        Ok(_) => Ok(()),
+        Err(WriteEnd::Made) => Err(Cut::Made),
+        Err(WriteEnd::Memory) => Err(Cut::Memory),
+        Err(_) => unreachable!(),
+    }
+}
