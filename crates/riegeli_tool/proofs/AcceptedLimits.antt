@@ -4,18 +4,23 @@ use Rattle.std.specs.Option.{IfSome}
 use Rattle.std.specs.Str.{bytes_eq}
 use Rattle.record_writer.specs.Written.{AreInLimits}
 use Rattle.riegeli_tool.specs.declared.command.Command.{Command}
-use Rattle.riegeli_tool.specs.declared.command.Command.TheVariants.{Write, Show, Recover, Verify, Seek, Repair, Sample, Join}
+use Rattle.riegeli_tool.specs.declared.command.Command.TheVariants.{Write, Show, Recover, Verify, Seek, Repair, Sample, Join, Ranges, Append, Collect}
 use Rattle.show_found.specs.SeekWords.{seek_words_of}
 use Rattle.show_files.specs.ShowWords.{show_words_of}
 use Rattle.show_damaged.specs.RecoverWords.{goes_past_damage, recover_words_of}
 use Rattle.show_files.specs.VerifyWords.{verify_words_of}
+use Rattle.riegeli_tool.specs.RangesWords.{most_parts, ranges_words_of}
 use Rattle.riegeli_tool.specs.RepairWords.{repair_words_of}
 use Rattle.sample_records.specs.SampleWords.{most_records, sample_words_of}
 use Rattle.sample_records.proofs.SampleLimits.{sample_words_of-within}
 use Rattle.join_files.specs.JoinWords.{join_words_of}
-use Rattle.join_files.proofs.JoinLimits.{join_words_of-within}
-use Rattle.write_lines.specs.WriteWords.{write_words_of}
-use Rattle.write_lines.proofs.WriteLimits.{write_words_of-within}
+use Rattle.collect_files.specs.CollectWords.{collect_words_of}
+use Rattle.word_options.proofs.FilesLimits.{files_words_of-within}
+use Rattle.write_lines.specs.WriteWords.{write_words_of, write_options}
+use Rattle.write_lines.proofs.WriteLimits.{line_words_of-within}
+use Rattle.riegeli_tool.proofs.RangesLimits.{ranges_words_of-within}
+use Rattle.riegeli_tool.specs.AppendWords.{append_words_of}
+use Rattle.riegeli_tool.proofs.AppendLimits.{append_words_of-within}
 use Rattle.riegeli_tool.specs.Commands.{command_of, takes, accepted_of, accepted}
 
 -- what the words of a command say is within its limits
@@ -23,6 +28,9 @@ abbrev pub IsWithin : Command → Type 0
 IsWithin (Write words) = AreInLimits words.options
 IsWithin (Sample words) = AreInLimits words.options × (words.count ≤ most_records)
 IsWithin (Join words) = (1 ≤ words.count) × (words.count ≤ 64)
+IsWithin (Ranges words) = (1 ≤ words.parts) × (words.parts ≤ most_parts)
+IsWithin (Append words) = AreInLimits words.write.options
+IsWithin (Collect words) = (1 ≤ words.count) × (words.count ≤ 16)
 IsWithin other = Unit {0}
 
 -- so it is of either of two commands
@@ -40,14 +48,17 @@ command_of-within : (words : List (List ℕ)) → IfSome (command_of words) IsWi
 command_of-within [] = tt
 command_of-within (name ∷ words) =
     let all : List (List ℕ) = name ∷ words in
-    either (bytes_eq name (codes "write")) _ _ (of_words Write (write_words_of all) (write_words_of-within all))
+    either (bytes_eq name (codes "write")) _ _ (of_words Write (write_words_of all) (line_words_of-within write_options all))
     (either (bytes_eq name (codes "show")) _ _
     (either (goes_past_damage all) _ _ (of_words Recover (recover_words_of all) (λ w is. tt)) (of_words Show (show_words_of all) (λ w is. tt)))
     (either (bytes_eq name (codes "verify")) _ _ (of_words Verify (verify_words_of all) (λ w is. tt))
     (either (bytes_eq name (codes "seek")) _ _ (of_words Seek (seek_words_of all) (λ w is. tt))
     (either (bytes_eq name (codes "repair")) _ _ (of_words Repair (repair_words_of all) (λ w is. tt))
     (either (bytes_eq name (codes "sample")) _ _ (of_words Sample (sample_words_of all) (sample_words_of-within all))
-    (either (bytes_eq name (codes "join")) _ None (of_words Join (join_words_of all) (join_words_of-within all)) tt))))))
+    (either (bytes_eq name (codes "join")) _ _ (of_words Join (join_words_of all) (files_words_of-within 64 all))
+    (either (bytes_eq name (codes "ranges")) _ _ (of_words Ranges (ranges_words_of all) (ranges_words_of-within all))
+    (either (bytes_eq name (codes "append")) _ _ (of_words Append (append_words_of all) (append_words_of-within all))
+    (either (bytes_eq name (codes "collect")) _ None (of_words Collect (collect_words_of all) (files_words_of-within 16 all)) tt)))))))))
 
 accepted_of-within : (command : Option Command) (count : ℕ) → IfSome command IsWithin → IfSome (accepted_of command count) IsWithin
 accepted_of-within None count h = tt

@@ -27,7 +27,9 @@ use Rattle.damage_skip.specs.Bounds.{walked, refused_in}
 use Rattle.damage_skip.specs.Regions.{regions_in, skipped_text, stopped_text, walk_text}
 use Rattle.riegeli_tool.specs.RepairCommand.{end_puts, IsRepaired}
 use Rattle.record_join.specs.Joined.{joined}
-use Rattle.join_files.specs.JoinCommand.{AreJoinedIn, AreRefusedIn, refused_file_text}
+use Rattle.show_files.specs.Readings.{refused_file_text}
+use Rattle.join_files.specs.JoinCommand.{AreJoinedIn, AreRefusedIn}
+use Rattle.collect_files.specs.CollectCommand.{AreCollectedIn, collected_file, collected_lines}
 use Rattle.run_answers.proofs.TwoStreams.{bytes_to-first, bytes_to-second, bytes_to-neither}
 
 -- of the answer of `write`
@@ -119,4 +121,17 @@ refused-streams files answer is =
       ap (λ (a : Answer). bytes_to Made a.puts) is.is ∙ bytes_to-first Made Notes front text refl,
       ap (λ (a : Answer). bytes_to Out a.puts) is.is ∙ bytes_to-neither Out Made Notes front text refl refl,
       ap (λ (a : Answer). bytes_to Notes a.puts) is.is ∙ bytes_to-second Made Notes front text refl,
+    )
+
+-- and of that of `collect`
+pub collected-streams : (files : List (List ℕ)) (answer : Answer) (is : AreCollectedIn files answer)
+    → (bytes_to Made answer.puts ≡ collected_file is.made.records)
+    × (bytes_to Out answer.puts ≡ collected_lines is.made)
+    × (bytes_to Notes answer.puts ≡ [])
+collected-streams files answer is =
+    let file : List ℕ = collected_file is.made.records in
+    let text : List ℕ = collected_lines is.made in (
+      ap (λ (a : Answer). bytes_to Made a.puts) is.is ∙ bytes_to-first Made Out file text refl,
+      ap (λ (a : Answer). bytes_to Out a.puts) is.is ∙ bytes_to-second Made Out file text refl,
+      ap (λ (a : Answer). bytes_to Notes a.puts) is.is ∙ bytes_to-neither Notes Made Out file text refl refl,
     )

@@ -9,7 +9,7 @@ use Rattle.riegeli_tool.specs.declared.command.Command.TheVariants.{Write}
 use Rattle.write_lines.specs.declared.write_words.WriteWords.{WriteWords}
 use Rattle.run_answers.specs.Lines.{lines}
 use Rattle.write_lines.specs.Input.{taken_from}
-use Rattle.write_lines.specs.WriteWords.{write_words_of}
+use Rattle.write_lines.specs.WriteWords.{line_words_of}
 use Rattle.riegeli_tool.specs.Commands.{command_of, accepted, names_of}
 use Rattle.riegeli_tool.specs.Usage.{usage_text, usage}
 use Rattle.write_lines.specs.WriteCommand.{answer_to}
@@ -24,18 +24,18 @@ plain = record { options = record { size = 1048576; workers = 1; every = None; p
 
 -- the one command of now, where no file is handed in, and words that are none
 write_file : accepted (codes "write" ∷ codes "F" ∷ []) 0 ≡ Some (Write plain)
-unfolding write_words_of
+unfolding line_words_of
 write_file = refl
 
 write_of_a_file : accepted (codes "write" ∷ codes "F" ∷ []) 1 ≡ None
-unfolding write_words_of
+unfolding line_words_of
 write_of_a_file = refl
 
 no_words : command_of [] ≡ None
 no_words = refl
 
 write_alone : command_of (codes "write" ∷ []) ≡ None
-unfolding write_words_of
+unfolding line_words_of
 write_alone = refl
 
 file_alone : command_of (codes "F" ∷ []) ≡ None
@@ -55,11 +55,11 @@ write_behind = refl
 
 -- the file that is made is named by its place
 named_behind_options : names_of (command_of (codes "write" ∷ codes "--pad=both" ∷ codes "--every=2" ∷ codes "F" ∷ [])) ≡ record { first = 0; count = 0; made = Some 3; times = 1; grown = None }
-unfolding write_words_of
+unfolding line_words_of
 named_behind_options = refl
 
--- the usage text: eight lines of 7, 80, 55, 12, 40, 26, 59 and 16 bytes
-usage_length : length usage_text ≡ 295
+-- the usage text: eleven lines of 7, 80, 55, 12, 40, 26, 59, 16, 22, 89 and 19 bytes
+usage_length : length usage_text ≡ 425
 usage_length = refl
 
 usage_begin : take 7 usage_text ≡ codes "usage:\n"
@@ -68,10 +68,13 @@ usage_begin = refl
 usage_of_write : take 80 (drop 7 usage_text) ≡ codes "write [--chunk=N] [--every=N] [--workers=N] [--pad=start|end|both] [--hex] FILE\n"
 usage_of_write = refl
 
-usage_end : drop 220 usage_text ≡ codes "sample --seed=N --records=N [--chunk=N] [--workers=N] FILE\njoin FROM... TO\n"
+usage_of_ranges : take 22 (drop 295 usage_text) ≡ codes "ranges --parts=N FILE\n"
+usage_of_ranges = refl
+
+usage_end : drop 317 usage_text ≡ codes "append [--chunk=N] [--every=N] [--workers=N] [--pad=start|end|both] [--hex] [--cut] FILE\ncollect FROM... TO\n"
 usage_end = refl
 
-usage_lines : length (lines usage_text) ≡ 8
+usage_lines : length (lines usage_text) ≡ 11
 usage_lines = refl
 
 -- words that are no command are answered by that text, whatever is handed in
@@ -79,36 +82,36 @@ answer_of_no_words : IsAnswerTo (accepted [] 0) (reads (0x61 ∷ []) []) (record
 answer_of_no_words = refl
 
 answer_with_a_file : IsAnswerTo (accepted (codes "write" ∷ codes "F" ∷ []) 1) (reads (0x61 ∷ []) ([] ∷ [])) usage
-unfolding write_words_of
+unfolding line_words_of
 answer_with_a_file = refl
 
 answer_of_every_zero : IsAnswerTo (accepted (codes "write" ∷ codes "--every=0" ∷ codes "F" ∷ []) 0) (reads (0x61 ∷ []) []) usage
-unfolding write_words_of
+unfolding line_words_of
 answer_of_every_zero = refl
 
 answer_of_pad_no : IsAnswerTo (accepted (codes "write" ∷ codes "--pad=no" ∷ codes "F" ∷ []) 0) (reads (0x61 ∷ []) []) usage
-unfolding write_words_of
+unfolding line_words_of
 answer_of_pad_no = refl
 
 -- `write F` makes the file of the lines and says nothing
 answer_of_nothing : IsAnswerTo (accepted (codes "write" ∷ codes "F" ∷ []) 0) (reads [] []) (record { puts = puts_to Made (file_of [] 1048576 None No) ++ puts_to Notes []; status = status.Ok })
-unfolding write_words_of taken_from
+unfolding line_words_of taken_from
 answer_of_nothing = refl
 
 answer_of_three : IsAnswerTo (accepted (codes "write" ∷ codes "F" ∷ []) 0) (reads (0x61 ∷ 10 ∷ 0x62 ∷ 0x63 ∷ 10 ∷ 10 ∷ []) [])
     (record { puts = puts_to Made (file_of ((0x61 ∷ []) ∷ (0x62 ∷ 0x63 ∷ []) ∷ [] ∷ []) 1048576 None No) ++ puts_to Notes []; status = status.Ok })
-unfolding write_words_of taken_from
+unfolding line_words_of taken_from
 answer_of_three = refl
 
 -- with the chunk size, the number of records and the padding that are named
 answer_of_chunk : IsAnswerTo (accepted (codes "write" ∷ codes "--chunk=20" ∷ codes "F" ∷ []) 0) (reads (0x61 ∷ 10 ∷ 0x62 ∷ 10 ∷ 0x63 ∷ []) [])
     (record { puts = puts_to Made (file_of ((0x61 ∷ []) ∷ (0x62 ∷ []) ∷ (0x63 ∷ []) ∷ []) 20 None No) ++ puts_to Notes []; status = status.Ok })
-unfolding write_words_of taken_from
+unfolding line_words_of taken_from
 answer_of_chunk = refl
 
 answer_of_all_options : IsAnswerTo (accepted (codes "write" ∷ codes "--pad=both" ∷ codes "F" ∷ codes "--every=2" ∷ codes "--chunk=1" ∷ []) 0) (reads (0x61 ∷ 10 ∷ []) [])
     (record { puts = puts_to Made (file_of ((0x61 ∷ []) ∷ []) 1 (Some 2) Both) ++ puts_to Notes []; status = status.Ok })
-unfolding write_words_of taken_from
+unfolding line_words_of taken_from
 answer_of_all_options = refl
 
 -- what is said of a stop behind two records, and its status; the file is that of these records

@@ -1,11 +1,11 @@
 -- What the answers to commands keep, command by command.
-use Rattle.std.proofs.Common.{◌≡◌, ℕ, true, false, Option, Some, None, List, ◌++◌, sym, ◌∙◌, ap}
+use Rattle.std.proofs.Common.{◌≡◌, ℕ, true, false, Option, Some, None, List, [], ◌∷◌, ◌++◌, sym, ◌∙◌, ap}
 use Rattle.damage_skip.specs.Pieces.{Piece}
 use Rattle.damage_skip.proofs.Tiles.{events_one}
 use Rattle.repair_copy.specs.Relaid.{chunks_in}
 use Rattle.repair_copy.specs.RepairPuts.{repair_puts}
 use Rattle.riegeli_tool.specs.declared.command.Command.{Command}
-use Rattle.riegeli_tool.specs.declared.command.Command.TheVariants.{Write, Show, Recover, Verify, Seek, Repair, Sample, Join}
+use Rattle.riegeli_tool.specs.declared.command.Command.TheVariants.{Write, Show, Recover, Verify, Seek, Repair, Sample, Join, Ranges, Append, Collect}
 use Rattle.riegeli_tool.specs.declared.repair_words.RepairWords.{RepairWords}
 use Rattle.run_answers.specs.Answers.{Answer}
 use Rattle.show_files.specs.ShowCommand.{IsShown}
@@ -23,6 +23,9 @@ use Rattle.show_found.specs.SeekCommand.{IsSeekAnswer}
 use Rattle.show_found.proofs.OneSought.{one_sought}
 use Rattle.show_files.proofs.OneReading.{one_shown, one_verified}
 use Rattle.join_files.proofs.JoinAnswers.{join_is_one}
+use Rattle.riegeli_tool.proofs.RangesAnswers.{ranges_is_one}
+use Rattle.riegeli_tool.specs.AppendCommand.{IsAppended, lines_taken}
+use Rattle.riegeli_tool.proofs.AppendAnswers.{one_appended}
 
 -- `repair` has one answer to a file
 pub one_repaired : (words : RepairWords) (file : List ℕ) (a b : Answer) → IsRepaired words file a → IsRepaired words file b → a ≡ b
@@ -46,6 +49,10 @@ one_answer (Some (Seek words)) r a b one first second =
 one_answer (Some (Repair words)) r a b one first second = one_of_file (IsRepaired words) (one_repaired words) r.files a b first second
 one_answer (Some (Sample words)) r a b one first second = first ∙ sym second
 one_answer (Some (Join words)) r a b one first second = join_is_one r.files a b first second
+one_answer (Some (Ranges words)) r a b one first second = ranges_is_one r.files a b first second
+one_answer (Some (Append words)) r a b one first second =
+    one_of_file (IsAppended words (lines_taken words r.input)) (one_appended words (lines_taken words r.input)) (r.grown ∷ []) a b first second
+one_answer (Some (Collect words)) r a b one first second = absurd (cc one)
 
 -- an input that isn't used may be any
 pub any_input : (command : Option Command) (r : Read) (other : List ℕ) (a : Answer)
@@ -59,6 +66,9 @@ any_input (Some (Seek words)) r other a unused is = is
 any_input (Some (Repair words)) r other a unused is = is
 any_input (Some (Sample words)) r other a unused is = is
 any_input (Some (Join words)) r other a unused is = is
+any_input (Some (Ranges words)) r other a unused is = is
+any_input (Some (Append words)) r other a unused is = absurd (cc unused)
+any_input (Some (Collect words)) r other a unused is = is
 
 -- so may files
 pub any_files : (command : Option Command) (r : Read) (others : List (List ℕ)) (a : Answer)
@@ -72,6 +82,9 @@ any_files (Some (Seek words)) r others a unused is = absurd (cc unused)
 any_files (Some (Repair words)) r others a unused is = absurd (cc unused)
 any_files (Some (Sample words)) r others a unused is = is
 any_files (Some (Join words)) r others a unused is = absurd (cc unused)
+any_files (Some (Ranges words)) r others a unused is = absurd (cc unused)
+any_files (Some (Append words)) r others a unused is = is
+any_files (Some (Collect words)) r others a unused is = absurd (cc unused)
 
 -- and a file that is grown
 pub any_grown : (command : Option Command) (r : Read) (other : List ℕ) (a : Answer)
@@ -85,3 +98,6 @@ any_grown (Some (Seek words)) r other a unused is = is
 any_grown (Some (Repair words)) r other a unused is = is
 any_grown (Some (Sample words)) r other a unused is = is
 any_grown (Some (Join words)) r other a unused is = is
+any_grown (Some (Ranges words)) r other a unused is = is
+any_grown (Some (Append words)) r other a unused is = absurd (cc unused)
+any_grown (Some (Collect words)) r other a unused is = is

@@ -7,7 +7,7 @@ use Rattle.damage_skip.proofs.Tiles.{events_of}
 use Rattle.repair_copy.specs.Relaid.{chunks_in}
 use Rattle.repair_copy.specs.RepairPuts.{repair_puts}
 use Rattle.riegeli_tool.specs.declared.command.Command.{Command}
-use Rattle.riegeli_tool.specs.declared.command.Command.TheVariants.{Write, Show, Recover, Verify, Seek, Repair, Sample, Join}
+use Rattle.riegeli_tool.specs.declared.command.Command.TheVariants.{Write, Show, Recover, Verify, Seek, Repair, Sample, Join, Ranges, Append, Collect}
 use Rattle.riegeli_tool.specs.declared.repair_words.RepairWords.{RepairWords}
 use Rattle.run_answers.specs.Answers.{Answer}
 use Rattle.riegeli_tool.specs.Usage.{usage}
@@ -21,7 +21,7 @@ use Rattle.show_files.specs.VerifyCommand.{IsVerified}
 use Rattle.riegeli_tool.specs.RepairCommand.{end_puts, IsRepaired}
 use Rattle.sample_records.specs.SampleCommand.{sample_answer}
 use Rattle.riegeli_tool.specs.Commands.{stores_of, takes, command_of, accepted_of, accepted}
-use Rattle.riegeli_tool.specs.CommandAnswers.{IsAnswerTo}
+use Rattle.riegeli_tool.specs.CommandAnswers.{IsAnswerTo, meaning_of}
 use Rattle.run_answers.specs.Meanings.{Read}
 use Rattle.run_answers.proofs.OneAnswer.{of_file_exists}
 use Rattle.show_damaged.proofs.OneRecovery.{recovered_exists}
@@ -29,7 +29,11 @@ use Rattle.show_files.proofs.ReadingsExist.{shown_exists, verified_exists}
 use Rattle.show_found.specs.SeekCommand.{IsSeekAnswer}
 use Rattle.show_found.proofs.OneSought.{sought_exists}
 use Rattle.join_files.proofs.JoinAnswers.{join_exists}
+use Rattle.collect_files.proofs.CollectAnswers.{collect_exists}
+use Rattle.riegeli_tool.specs.AppendCommand.{lines_taken}
 use Rattle.riegeli_tool.proofs.AcceptedLimits.{IsWithin, accepted-within}
+use Rattle.riegeli_tool.proofs.RangesAnswers.{ranges_exists}
+use Rattle.riegeli_tool.proofs.AppendAnswers.{grown_exists}
 
 -- `repair` has an answer
 pub repaired_exists : (words : RepairWords) (file : List ℕ) → AreBytes file → (answer : Answer) × IsRepaired words file answer
@@ -58,26 +62,32 @@ accepted-takes (Some command) count known is = kept command count known (takes c
 -- and has an answer
 command_answered : (command : Option Command) (r : Read)
     → ((known : Command) → command ≡ Some known → (stores_of known ≡ length r.files) × IsWithin known) → AllByRecursion AreBytes r.files
-    → (answer : Answer) × IsAnswerTo command r answer
-command_answered None r many bytes = (usage, refl)
-command_answered (Some (Write words)) r many bytes = (write_answer words r.input, refl)
-command_answered (Some (Show words)) r many bytes =
+    → AreBytes r.grown → (meaning_of command).supposes r → (answer : Answer) × IsAnswerTo command r answer
+command_answered None r many bytes grown supposed = (usage, refl)
+command_answered (Some (Write words)) r many bytes grown supposed = (write_answer words r.input, refl)
+command_answered (Some (Show words)) r many bytes grown supposed =
     of_file_exists (IsShown words) (shown_exists words) r.files (sym (many (Show words) refl).0) bytes
-command_answered (Some (Recover words)) r many bytes =
+command_answered (Some (Recover words)) r many bytes grown supposed =
     of_file_exists (IsRecovered words) (recovered_exists words) r.files (sym (many (Recover words) refl).0) bytes
-command_answered (Some (Verify words)) r many bytes =
+command_answered (Some (Verify words)) r many bytes grown supposed =
     of_file_exists IsVerified verified_exists r.files (sym (many (Verify words) refl).0) bytes
-command_answered (Some (Seek words)) r many bytes =
+command_answered (Some (Seek words)) r many bytes grown supposed =
     of_file_exists (IsSeekAnswer words) (sought_exists words) r.files (sym (many (Seek words) refl).0) bytes
-command_answered (Some (Repair words)) r many bytes =
+command_answered (Some (Repair words)) r many bytes grown supposed =
     of_file_exists (IsRepaired words) (repaired_exists words) r.files (sym (many (Repair words) refl).0) bytes
-command_answered (Some (Sample words)) r many bytes = (sample_answer words, refl)
-command_answered (Some (Join words)) r many bytes =
+command_answered (Some (Sample words)) r many bytes grown supposed = (sample_answer words, refl)
+command_answered (Some (Join words)) r many bytes grown supposed =
     let count = many (Join words) refl in
     join_exists r.files (λ none. omega (arith, count.0, count.1.0, ap length none)) bytes
+command_answered (Some (Ranges words)) r many bytes grown supposed =
+    let count = many (Ranges words) refl in
+    ranges_exists r.files (λ none. omega (arith, count.0, count.1.0, ap length none)) bytes supposed
+command_answered (Some (Append words)) r many bytes grown supposed = grown_exists words (lines_taken words r.input) r.grown grown
+command_answered (Some (Collect words)) r many bytes grown supposed = collect_exists r.files bytes
 
-pub answer_exists : (words : List (List ℕ)) (r : Read) → AllByRecursion AreBytes r.files
-    → (answer : Answer) × IsAnswerTo (accepted words (length r.files)) r answer
-answer_exists words r bytes =
+pub answer_exists : (words : List (List ℕ)) (r : Read) → AllByRecursion AreBytes r.files → AreBytes r.grown
+    → (meaning_of (accepted words (length r.files))).supposes r → (answer : Answer) × IsAnswerTo (accepted words (length r.files)) r answer
+answer_exists words r bytes grown supposed =
     command_answered (accepted words (length r.files)) r
-    (λ known is. (accepted-takes (command_of words) (length r.files) known is, accepted-within words (length r.files) known (sym is))) bytes
+    (λ known is. (accepted-takes (command_of words) (length r.files) known is, accepted-within words (length r.files) known (sym is))) bytes grown
+    supposed

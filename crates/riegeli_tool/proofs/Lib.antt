@@ -1,12 +1,27 @@
 pub mod AcceptedLimits
 pub mod AnswerStreams
+pub mod AppendAnswers
+pub mod AppendLimits
+pub mod AppendRuns
+pub mod AppendSteps
+mod AppendValues
 mod AnswerValues
 pub mod CommandLaws
 pub mod CommandWords
 pub mod DigitsBack
 pub mod FileAnswersExist
+pub mod GrownBack
 pub mod RunsWith
 pub mod PastDamage
+pub mod RangesAnswers
+pub mod RangesLimits
+pub mod RangesLines
+pub mod RangesRuns
+pub mod RangesSizes
+pub mod RangesSteps
+pub mod RangesStores
+pub mod RangesStreams
+mod RangesValues
 pub mod ReadBack
 mod ReadWordValues
 mod RecoverValues

@@ -38,7 +38,7 @@ use Rattle.riegeli_tool.specs.CommandAnswers.{IsAnswerTo, meaning_of}
 use Rattle.riegeli_tool.specs.PastDamage.{recovered_as, repaired_as, AreLostToABlock, IsAnswerPastDamage, IsCutAt, IsAnswerToFront, IsToldSo, IsToldPastDamage, meaning_past_damage}
 use Rattle.riegeli_tool.specs.RepairCommand.{IsRepaired}
 use Rattle.riegeli_tool.specs.declared.command.Command.{Command}
-use Rattle.riegeli_tool.specs.declared.command.Command.TheVariants.{Write, Show, Recover, Verify, Seek, Repair, Sample, Join}
+use Rattle.riegeli_tool.specs.declared.command.Command.TheVariants.{Write, Show, Recover, Verify, Seek, Repair, Sample, Join, Ranges, Append, Collect}
 use Rattle.riegeli_tool.specs.declared.repair_words.RepairWords.{RepairWords}
 use Rattle.riegeli_tool.proofs.RunsWith.{runs-with}
 
@@ -220,6 +220,9 @@ told_past_damage (Some (Repair words)) r answer h bytes same reach =
     (same_answer answer (repaired_as (walked words.most is.events) (refused_in words.most is.events)) is.puts is.status)
 told_past_damage (Some (Sample words)) r answer h bytes same reach = tt
 told_past_damage (Some (Join words)) r answer h bytes same reach = tt
+told_past_damage (Some (Ranges words)) r answer h bytes same reach = tt
+told_past_damage (Some (Append words)) r answer h bytes same reach = tt
+told_past_damage (Some (Collect words)) r answer h bytes same reach = tt
 
 pub runs-past_damage : (command : Option Command) (before after : Seen) (ended : Status) → Runs (meaning_of command) before after ended
     → Runs (meaning_past_damage command) before after ended

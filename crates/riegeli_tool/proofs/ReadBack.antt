@@ -28,6 +28,7 @@ use Rattle.show_files.specs.Readings.{bare, record_line}
 use Rattle.write_lines.specs.WriteCommand.{stop_status, write_answer}
 use Rattle.show_files.specs.ShowCommand.{IsShown}
 use Rattle.riegeli_tool.proofs.AnswerStreams.{written_made}
+use Rattle.riegeli_tool.proofs.RangesLines.{bare_lines}
 use Rattle.show_files.proofs.OneReading.{EndsReading}
 use Rattle.run_answers.proofs.OneAnswer.{same_answer}
 use Rattle.write_lines.proofs.TakenRecords.{taken_from-records, taken_from-all, lines-joined}
@@ -65,11 +66,6 @@ pub written-faultless : (records : List (List ℕ)) (size : ℕ) (every : Option
 written-faultless records size every pad each small =
     (chunks_of records size every pad, IsFile-file_of records size every pad each small)
 
--- records that are printed as they are, and nothing before them, are printed as lines
-record_lines : (placed : List (ℕ × List ℕ)) → flat_map (record_line bare) placed ≡ flat_map line (map (λ p. p.1) placed)
-record_lines [] = refl
-record_lines (first ∷ placed) = ap (λ (rest : List ℕ). line first.1 ++ rest) (record_lines placed)
-
 -- and nothing is said
 faultless-end : (file said : List ℕ) (answer : Answer) → HasNoFault false file → EndsReading file said answer → (said ≡ []) × (answer.status ≡ status.Ok)
 faultless-end file said answer none (inl (also, nothing, ended)) = (nothing, ended)
@@ -92,7 +88,7 @@ shown-written words answer records size every pad each small is_bare h =
     let said = faultless-end file h.said answer none h.ended in
     let lines : flat_map (record_line words.form) h.placed ≡ flat_map line records =
     ap (λ (form : RecordForm). flat_map (record_line form) h.placed) is_bare
-    ∙ record_lines h.placed
+    ∙ bare_lines h.placed
     ∙ ap (flat_map line) taken.0 in
     same_answer answer (printed (flat_map line records))
     (h.puts

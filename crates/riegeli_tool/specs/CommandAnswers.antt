@@ -1,7 +1,7 @@
 -- What each command means: one line a command, and one for words that are none. Own.
 use Rattle.std.specs.Prelude.{◌≡◌, false, Option, Some, None}
 use Rattle.riegeli_tool.specs.declared.command.Command.{Command}
-use Rattle.riegeli_tool.specs.declared.command.Command.TheVariants.{Write, Show, Recover, Verify, Seek, Repair, Sample, Join}
+use Rattle.riegeli_tool.specs.declared.command.Command.TheVariants.{Write, Show, Recover, Verify, Seek, Repair, Sample, Join, Ranges, Append, Collect}
 use Rattle.run_answers.specs.Answers.{Answer}
 use Rattle.riegeli_tool.specs.Usage.{usage_text, usage}
 use Rattle.run_answers.specs.Meanings.{Read, Meaning, meaning, none_used}
@@ -10,9 +10,12 @@ use Rattle.show_files.specs.ShowCommand.{show_meaning}
 use Rattle.show_damaged.specs.RecoverCommand.{recover_meaning}
 use Rattle.show_files.specs.VerifyCommand.{verify_meaning}
 use Rattle.show_found.specs.SeekCommand.{seek_meaning}
+use Rattle.riegeli_tool.specs.RangesCommand.{ranges_meaning}
 use Rattle.riegeli_tool.specs.RepairCommand.{repair_meaning}
 use Rattle.sample_records.specs.SampleCommand.{sample_meaning}
 use Rattle.join_files.specs.JoinCommand.{join_meaning}
+use Rattle.collect_files.specs.CollectCommand.{collect_meaning}
+use Rattle.riegeli_tool.specs.AppendCommand.{append_meaning}
 use Rattle.run_answers.specs.declared.status.Status.TheVariants as status
 
 -- what is said where the words are no command
@@ -32,6 +35,9 @@ meaning_of (Some (Seek words)) = seek_meaning words
 meaning_of (Some (Repair words)) = repair_meaning words
 meaning_of (Some (Sample words)) = sample_meaning words
 meaning_of (Some (Join words)) = join_meaning
+meaning_of (Some (Ranges words)) = ranges_meaning
+meaning_of (Some (Append words)) = append_meaning words
+meaning_of (Some (Collect words)) = collect_meaning
 
 -- an answer to a command, of what it reads
 abbrev pub IsAnswerTo : Option Command → Read → Answer → Type 0

@@ -3,16 +3,19 @@ use Rattle.std.specs.Prelude.{ℕ, ◌*◌, Bool, Option, Some, None, List, [], 
 use Rattle.std.specs.Str.{bytes_eq}
 use lib.Chars.{codes}
 use Rattle.riegeli_tool.specs.declared.command.Command.{Command}
-use Rattle.riegeli_tool.specs.declared.command.Command.TheVariants.{Write, Show, Recover, Verify, Seek, Repair, Sample, Join}
+use Rattle.riegeli_tool.specs.declared.command.Command.TheVariants.{Write, Show, Recover, Verify, Seek, Repair, Sample, Join, Ranges, Append, Collect}
 use Rattle.riegeli_tool.specs.declared.command.Names.{Names}
 use Rattle.write_lines.specs.WriteWords.{write_words_of}
 use Rattle.show_files.specs.ShowWords.{show_words_of}
 use Rattle.show_damaged.specs.RecoverWords.{goes_past_damage, recover_words_of}
 use Rattle.show_files.specs.VerifyWords.{verify_words_of}
 use Rattle.show_found.specs.SeekWords.{seek_words_of}
+use Rattle.riegeli_tool.specs.RangesWords.{ranges_words_of}
 use Rattle.riegeli_tool.specs.RepairWords.{repair_words_of}
 use Rattle.sample_records.specs.SampleWords.{sample_words_of}
 use Rattle.join_files.specs.JoinWords.{join_words_of}
+use Rattle.collect_files.specs.CollectWords.{collect_words_of}
+use Rattle.riegeli_tool.specs.AppendWords.{append_words_of}
 
 -- the command that the words of `show` are
 abbrev pub show_command_of : List (List ℕ) → Option Command
@@ -31,6 +34,9 @@ command_of (name ∷ words) =
     else if bytes_eq name (codes "repair") then option_map Repair (repair_words_of (name ∷ words))
     else if bytes_eq name (codes "sample") then option_map Sample (sample_words_of (name ∷ words))
     else if bytes_eq name (codes "join") then option_map Join (join_words_of (name ∷ words))
+    else if bytes_eq name (codes "ranges") then option_map Ranges (ranges_words_of (name ∷ words))
+    else if bytes_eq name (codes "append") then option_map Append (append_words_of (name ∷ words))
+    else if bytes_eq name (codes "collect") then option_map Collect (collect_words_of (name ∷ words))
     else None
 
 -- no words name a file
@@ -48,6 +54,9 @@ names_by (Seek words) = record none_named { first = words.file; count = 1 }
 names_by (Repair words) = record none_named { first = words.from; count = 1; made = Some words.to }
 names_by (Sample words) = record none_named { made = Some words.file }
 names_by (Join words) = record none_named { first = 1; count = words.count; made = Some words.to }
+names_by (Ranges words) = record none_named { first = words.file; count = 1; times = words.parts }
+names_by (Append words) = record none_named { grown = Some words.write.file }
+names_by (Collect words) = record none_named { first = 1; count = words.count; made = Some words.to }
 
 abbrev pub names_of : Option Command → Names
 names_of None = none_named

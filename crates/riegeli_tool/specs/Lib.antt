@@ -1,7 +1,13 @@
 pub mod Usage
+pub mod RangesCommand
+pub mod RangesEnds
+pub mod RangesWords
 pub mod RepairCommand
 pub mod RepairingEnds
 pub mod CommandAnswers
 pub mod RepairWords
 pub mod Commands
 pub mod PastDamage
+pub mod AppendWords
+pub mod AppendCommand
+pub mod AppendingEnds

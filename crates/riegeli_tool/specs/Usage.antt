@@ -15,6 +15,9 @@ usage_text =
     ++ line (codes "repair [--most=N] FROM TO")
     ++ line (codes "sample --seed=N --records=N [--chunk=N] [--workers=N] FILE")
     ++ line (codes "join FROM... TO")
+    ++ line (codes "ranges --parts=N FILE")
+    ++ line (codes "append [--chunk=N] [--every=N] [--workers=N] [--pad=start|end|both] [--hex] [--cut] FILE")
+    ++ line (codes "collect FROM... TO")
 
 -- the answer to words that are no command
 abbrev pub usage : Answer

@@ -1,13 +1,15 @@
 ghost use Rattle.std.specs.Prelude.{◌≡◌};
 ghost use Rattle.riegeli_tool.specs.Commands.{names_by, none_named, takes};
 
+use crate::append_words::AppendWords;
+use crate::ranges_words::RangesWords;
 use crate::repair_words::RepairWords;
-use join_files::join_words::JoinWords;
 use sample_records::sample_words::SampleWords;
 use show_damaged::recover_words::RecoverWords;
 use show_files::show_words::ShowWords;
 use show_files::verify_words::VerifyWords;
 use show_found::seek_words::SeekWords;
+use word_options::FilesWords;
 use write_lines::write_words::WriteWords;
 
 /// A command, with what its words say.
@@ -20,7 +22,10 @@ pub(crate) enum Command<'a> {
     Seek(SeekWords<'a>),
     Repair(RepairWords),
     Sample(SampleWords),
-    Join(JoinWords),
+    Join(FilesWords),
+    Ranges(RangesWords),
+    Append(AppendWords),
+    Collect(FilesWords),
 }
 
 /// The files that words name, by their places among the words. Own.
@@ -78,11 +83,17 @@ impl<'a> Command<'a> {
                 names.made = Some(words.to);
             }
             Command::Sample(words) => names.made = Some(words.file),
-            Command::Join(JoinWords { count, to }) => {
-                names.first = 1;
-                names.count = *count;
-                names.made = Some(*to);
+            Command::Join(FilesWords { count, to }) | Command::Collect(FilesWords { count, to }) =>
+                {
+                    names.first = 1;
+                    names.count = *count;
+                    names.made = Some(*to);
+                }
+            Command::Ranges(words) => {
+                names.read(words.file);
+                names.times = words.parts as usize;
             }
+            Command::Append(words) => names.grown = Some(words.write.file),
         }
         names
     }

@@ -2,13 +2,15 @@
 
 ghost use Rattle.std.specs.List.{AllByRecursion, flat_map};
 ghost use Rattle.std.specs.List.Sorted.{IsStrictlyIncreasing};
-ghost use Rattle.std.specs.Prelude.{◌≡◌, ◌≢◌, ◌^◌, ◌≤◌, ◌⊎◌, true, false, Option, None, List, [], ℕ, length, map, slice_get, take};
+ghost use Rattle.std.specs.Prelude.{◌≡◌, ◌≢◌, ◌^◌, ◌≤◌, ◌⊎◌, ◌∷◌, ◌++◌, if◌then◌else◌, is_some, true, false, Option, None, List, [], ℕ, length, map, slice_get, take};
 ghost use Rattle.chunk_header.specs.Chunks.{ChunkValue};
 ghost use Rattle.chunk_reader.specs.Faults.{HasNoFault};
 ghost use Rattle.meta_chunk.specs.Counts.{totals_of};
-ghost use Rattle.meta_chunk.specs.Files.{IsFile, AreRecordsOf, ArePlaced};
+ghost use Rattle.meta_chunk.specs.Files.{IsFile, IsFrame, IsFrameChain, AreRecordsOf, ArePlaced};
 ghost use Rattle.record_join.specs.Joined.{joined};
-ghost use Rattle.join_files.specs.JoinCommand.{AreJoinedIn, AreRefusedIn, IsJoinAnswer, refused_file_text};
+ghost use Rattle.show_files.specs.Readings.{refused_file_text};
+ghost use Rattle.collect_files.specs.CollectCommand.{AreCollectedIn, IsCollectAnswer, collected_file, collected_lines};
+ghost use Rattle.join_files.specs.JoinCommand.{AreJoinedIn, AreRefusedIn, IsJoinAnswer};
 ghost use Rattle.record_group.specs.Records.{AreRecords};
 ghost use Rattle.record_values.specs.Bytes.{AreBytes};
 ghost use Rattle.record_io.specs.Puts.{Made, Out, Notes, puts_to, bytes_to};
@@ -21,10 +23,13 @@ ghost use Rattle.run_answers.specs.Answers.{Answer, line};
 ghost use Rattle.riegeli_tool.specs.Commands.{accepted};
 ghost use Rattle.run_answers.specs.Meanings.{Read};
 ghost use Rattle.riegeli_tool.specs.CommandAnswers.{IsAnswerTo, meaning_of};
-ghost use Rattle.run_answers.specs.FileAnswers.{most_file_bytes, report};
+ghost use Rattle.record_append.specs.Grown.{IsKeptTo, IsTaken};
+ghost use Rattle.run_answers.specs.FileAnswers.{OfFile, most_file_bytes, report};
 ghost use Rattle.show_files.specs.Readings.{bare, digits_alone, record_line};
 ghost use Rattle.write_lines.specs.Input.{taken_from, with_last_end};
 ghost use Rattle.show_damaged.specs.RecoverCommand.{IsRecovered};
+ghost use Rattle.riegeli_tool.specs.RangesCommand.{AreOneFile, IsRangesAnswer, MayBeRead, most_range_bytes};
+ghost use Rattle.riegeli_tool.specs.AppendCommand.{IsAppended, IsLeft, grown_answer, grown_text, lines_taken};
 ghost use Rattle.riegeli_tool.specs.RepairCommand.{end_puts, IsRepaired};
 ghost use Rattle.run_answers.specs.Runs.{IsSound, IsWhole, Runs, Seen};
 ghost use Rattle.sample_records.specs.SampleCommand.{sampled, sample_answer, sample_file, sample_summary};
@@ -37,6 +42,7 @@ ghost use Rattle.show_found.specs.SeekCommand.{IsSeekAnswer, found_answer};
 ghost use Rattle.show_found.specs.declared.seek_words.By.TheVariants.{At, Key};
 ghost use Rattle.show_found.specs.declared.seek_words.SeekWords.{SeekWords};
 ghost use Rattle.write_lines.specs.WriteCommand.{stop_text, answer_to, write_answer};
+ghost use Rattle.riegeli_tool.specs.declared.append_words.AppendWords.{AppendWords};
 ghost use Rattle.riegeli_tool.specs.declared.command.Command.{Command};
 ghost use Rattle.show_damaged.specs.declared.recover_words.RecoverWords.{RecoverWords};
 ghost use Rattle.riegeli_tool.specs.declared.repair_words.RepairWords.{RepairWords};
@@ -78,8 +84,9 @@ pub fn answers_stand_on_what_is_used()
 {}
 
 /// Each file of bytes has an answer of `show`, whatever its words, also of those that go on past damage, one of `verify`,
-/// one of `seek` for each position and key, and one of `repair`; and files have one of `join`. So all words have an answer, of
-/// the bytes of any input and files. Own.
+/// one of `seek` for each position and key, one of `repair`, and with each input one of `append`; and files have one of `join`, one
+/// of `collect`, and one of `ranges` where they are one file, once their sizes let it be read. So all words have an answer, of the bytes of any
+/// input and files. Own.
 pub fn file_answers_exist()
     ensures show { (words : ShowWords) (file : List ℕ) → AreBytes file → (answer : Answer) × IsShown words file answer }
     ensures recover { (words : RecoverWords) (file : List ℕ) → AreBytes file → (answer : Answer) × IsRecovered words file answer }
@@ -87,6 +94,11 @@ pub fn file_answers_exist()
     ensures seek { (words : SeekWords) (file : List ℕ) → AreBytes file → (answer : Answer) × IsSeekAnswer words file answer }
     ensures repair { (words : RepairWords) (file : List ℕ) → AreBytes file → (answer : Answer) × IsRepaired words file answer }
     ensures join { (files : List (List ℕ)) → files ≢ [] → AllByRecursion AreBytes files → (answer : Answer) × IsJoinAnswer files answer }
+    ensures collect { (files : List (List ℕ)) → AllByRecursion AreBytes files → (answer : Answer) × IsCollectAnswer files answer }
+    ensures ranges { (files : List (List ℕ)) → files ≢ [] → AllByRecursion AreBytes files
+        → (MayBeRead (map length files) → AreOneFile files) → (answer : Answer) × IsRangesAnswer files answer }
+    ensures append { (words : AppendWords) (input file : List ℕ) → AreBytes file
+        → (answer : Answer) × OfFile (IsAppended words (lines_taken words input)) (file ∷ []) answer }
     ensures all { (words : List (List ℕ)) (r : Read)
         → AllByRecursion AreBytes r.files → AreBytes r.grown → (meaning_of (accepted words (length r.files))).supposes r
         → (answer : Answer) × IsAnswerTo (accepted words (length r.files)) r answer }
@@ -123,6 +135,28 @@ pub fn streams_take_their_parts()
         → (bytes_to Made answer.puts ≡ joined (take is.index files))
         × (bytes_to Out answer.puts ≡ [])
         × (bytes_to Notes answer.puts ≡ refused_file_text is.index is.fault) }
+    ensures ranges { (files : List (List ℕ)) (answer : Answer) → IsRangesAnswer files answer
+        → (bytes_to Made answer.puts ≡ [])
+        × (answer.status ≢ status.Ok → bytes_to Out answer.puts ≡ [])
+        × (answer.status ≡ status.Ok → bytes_to Notes answer.puts ≡ []) }
+    ensures append { (words : AppendWords) (file : List ℕ) (place : ℕ) (rest : Rest)
+        → (bytes_to Made (grown_answer words file place rest).puts ≡ [])
+        × (bytes_to Out (grown_answer words file place rest).puts ≡ (if is_some rest.stop then [] else grown_text words file place rest.records))
+        × (bytes_to Notes (grown_answer words file place rest).puts ≡ stop_text (length rest.records) rest.stop) }
+    ensures collect { (files : List (List ℕ)) (answer : Answer) (is : AreCollectedIn files answer)
+        → (bytes_to Made answer.puts ≡ collected_file is.made.records)
+        × (bytes_to Out answer.puts ≡ collected_lines is.made)
+        × (bytes_to Notes answer.puts ≡ []) }
+{}
+
+/// Where all stores tell one file, of at most 2^28 bytes, `ranges` ends as `show` of that file does, and says the same in notes;
+/// and where the file has no fault it prints the same: the records as they are, with nothing before them. Own.
+pub fn ranges_print_what_show_prints()
+    ensures same { (words : ShowWords) (files : List (List ℕ)) (file : List ℕ) (shown answer : Answer)
+        → files ≢ [] → AllByRecursion (λ other. other ≡ file) files → length file ≤ most_range_bytes → words.form ≡ bare
+        → IsShown words file shown → IsRangesAnswer files answer
+        → (answer.status ≡ shown.status) × (bytes_to Notes answer.puts ≡ bytes_to Notes shown.puts)
+        × (HasNoFault false file → answer ≡ shown) }
 {}
 
 /// Of a file without fault nothing is skipped: where it goes on past damage, `show` prints what it prints else, and says
@@ -182,6 +216,19 @@ pub fn samples_read_back()
     ensures faultless { (words : SampleWords) → AreInLimits words.options → HasNoFault false (sample_file words) }
     ensures records { (words : SampleWords) (ks : List ChunkValue)
         → AreInLimits words.options → IsFile ks (sample_file words) → AreRecordsOf ks (sampled words) }
+{}
+
+/// What `append` leaves of a file that isn't refused reads back: it has the records of the chunks that are kept of that, and then
+/// those of the input's lines. Of a file without fault it leaves one. Own.
+pub fn grown_files_read_back()
+    ensures kept { (words : AppendWords) (input file held : List ℕ) (place : ℕ) (ks : List ChunkValue) (old : List (List ℕ))
+        → AreInLimits words.write.options → AreBytes input → length file ≤ most_file_bytes → IsTaken words.cut file
+        → IsFrameChain ks file place → IsKeptTo file place → AreRecordsOf ks old → IsLeft words (lines_taken words input) file held
+        → (new : List ChunkValue) × IsFrame (ks ++ new) held × AreRecordsOf (ks ++ new) (old ++ (lines_taken words input).records) }
+    ensures faultless { (words : AppendWords) (input file held : List ℕ) (ks : List ChunkValue) (old : List (List ℕ))
+        → AreInLimits words.write.options → AreBytes input → length file ≤ most_file_bytes → IsFile ks file → AreRecordsOf ks old
+        → IsLeft words (lines_taken words input) file held
+        → (new : List ChunkValue) × IsFile (ks ++ new) held × AreRecordsOf (ks ++ new) (old ++ (lines_taken words input).records) }
 {}
 
 /// Records that `show` prints in the hexadecimal form, without positions, are those that `write` takes of the text in that form,

@@ -1,9 +1,16 @@
 //! `run`, which does what words of a command line say over the source, stores, sinks and device that are handed in.
 #![tactic(auto)]
 
+mod append;
+mod append_words;
 mod command;
+mod file_sizes;
 pub mod laws;
+mod part_lines;
 mod program;
+mod range_ends;
+mod ranges;
+mod ranges_words;
 mod repair;
 mod repair_words;
 mod words;

@@ -5,9 +5,12 @@ ghost use Rattle.riegeli_tool.specs.CommandAnswers.{meaning_of};
 ghost use Rattle.riegeli_tool.specs.PastDamage.{meaning_past_damage};
 ghost use Rattle.run_answers.specs.Runs.{Runs, seen, seen_stream, seen_file};
 
+use crate::append::append;
 use crate::command::Command;
+use crate::ranges::ranges;
 use crate::repair::repair;
 use crate::words::accept;
+use collect_files::collect_files;
 use join_files::join_files;
 use record_append::Device;
 use record_io::{Sink, Source, Store};
@@ -29,27 +32,31 @@ seek (--at=N | --key=TEXT) [--hex] FILE
 repair [--most=N] FROM TO
 sample --seed=N --records=N [--chunk=N] [--workers=N] FILE
 join FROM... TO
+ranges --parts=N FILE
+append [--chunk=N] [--every=N] [--workers=N] [--pad=start|end|both] [--hex] [--cut] FILE
+collect FROM... TO
 ";
 
 /// Does what the words say, which are the arguments alone.
 ///
 /// `files` are stores of the files that the command reads, as `names` tells them, `made` is the file that it makes, and
-/// `grown` the file that it grows, which no command does yet.
+/// `grown` the file that it grows.
 /// Text goes to `out` and messages go to `notes`. For now the commands are `write`, of lines, with `--chunk`, `--every`,
 /// `--workers`, `--pad` and `--hex`; `show`, with `--hex` and `--positions`, and with `--recover`, which goes on past damage, and `--most`,
 /// which bounds the bytes of a region that is skipped; `verify`, which takes no memory; `seek`, by a position with `--at` or by
 /// a key with `--key`, and with `--hex`; `repair`, which makes the file of what is intact of another one, with `--most` too;
-/// `sample`, which makes the file of records that a seed tells, with `--seed`, `--records`, `--chunk` and `--workers`; and `join`,
-/// which makes one file of up to 64 others and takes no memory.
+/// `sample`, which makes the file of records that a seed tells, with `--seed`, `--records`, `--chunk` and `--workers`; `join`,
+/// which makes one file of up to 64 others and takes no memory; and `append`, which puts lines behind the last whole chunk of
+/// a file, with the options of `write`, and with `--cut` also where it drops more than a chunk that the file ends within.
 ///
 /// # Errors
 ///
 /// `Usage` where the words are no command that reads so many files, `Refused` where the file is not well formed, or not where
-/// `seek` reads it, `NotFound` where that finds no record, `Limit` where a line has more than 2^24 bytes, or 2^25 in the
+/// `seek` reads it, or `append` may not cut it, `NotFound` where `seek` finds no record, `Limit` where a line has more than 2^24 bytes, or 2^25 in the
 /// hexadecimal form, the input more than 2^40 or the file more than 2^60, as the files of `join` have together with
 /// 131,072 bytes for each but the last, `BadLine` where a line isn't in that form, `Skipped`
 /// where regions of the file were skipped, `Stopped` where one has more bytes than may be skipped, `Input`, `File`, `Made`,
-/// `Out` and `Notes` where that object failed, `Memory` where there wasn't enough. Own.
+/// `Grown`, `Out` and `Notes` where that object failed, `Memory` where there wasn't enough. Own.
 pub fn run<
     R: Threads + Sync,
     I: Source,
@@ -106,6 +113,9 @@ pub fn run<
         Some(Command::Repair(words)) => repair(alloc, &words, &mut files[0], made, out, notes),
         Some(Command::Sample(words)) => sample(rt, alloc, &words, made, out, notes),
         Some(Command::Join(_)) => join_files(files, made, out, notes),
+        Some(Command::Ranges(words)) => ranges(rt, alloc, &words, files, out, notes),
+        Some(Command::Append(words)) => append(rt, alloc, &words, input, grown, out, notes),
+        Some(Command::Collect(_)) => collect_files(rt, alloc, files, made, out, notes),
         None => end(notes, USAGE, Status::Usage),
     }
 }

@@ -2,8 +2,11 @@ ghost use Rattle.std.specs.Prelude.{◌≡◌, map};
 ghost use Rattle.std.specs.String.{string_bytes};
 ghost use Rattle.riegeli_tool.specs.Commands.{command_of, show_command_of, names_of, accepted};
 
+use crate::append_words::append_words;
 use crate::command::{Command, Names};
+use crate::ranges_words::ranges_words;
 use crate::repair_words::repair_words;
+use collect_files::collect_words::collect_words;
 use join_files::join_words::join_words;
 use sample_records::sample_words::sample_words;
 use show_damaged::recover_words::{goes_past_damage, recover_words};
@@ -34,6 +37,9 @@ fn parse<'a>(words: &'a [String]) -> Option<Command<'a>>
         "repair" => Some(Command::Repair(repair_words(words)?)),
         "sample" => Some(Command::Sample(sample_words(words)?)),
         "join" => Some(Command::Join(join_words(words)?)),
+        "ranges" => Some(Command::Ranges(ranges_words(words)?)),
+        "append" => Some(Command::Append(append_words(words)?)),
+        "collect" => Some(Command::Collect(collect_words(words)?)),
         _ => None,
     }
 }

@@ -1,6 +1,6 @@
-use Rattle.std.proofs.Common.{Some, [], ap, sym, map, ◌∙◌, length, arith}
+use Rattle.std.proofs.Common.{None, Some, [], ap, sym, map, ◌∙◌, length, arith}
 use Rattle.std.specs.String.{string_bytes}
-use Rattle.riegeli_tool.specs.declared.command.Command.TheVariants.{Write, Show, Recover, Verify, Seek, Repair, Sample, Join}
+use Rattle.riegeli_tool.specs.declared.command.Command.TheVariants.{Write, Show, Recover, Verify, Seek, Repair, Sample, Join, Ranges, Append, Collect}
 use Rattle.riegeli_tool.specs.Commands.{command_of, accepted}
 use Rattle.riegeli_tool.specs.CommandAnswers.{meaning_of}
 use Rattle.run_answers.specs.Runs.{seen, unseen, seen_file}
@@ -15,6 +15,11 @@ pub write-requires-clause-in_limits : goal.write-requires-clause-in_limits
 write-requires-clause-in_limits g c κs within =
     accepted-within (map string_bytes c.args.words.now) (length c.args.files.now) (Write c.in-Some-Write.words)
     (ap Some (sym c.in-Some-Write.field-0-is) ∙ c.in-Some-Write.ensures)
+
+pub append-requires-clause-in_limits : goal.append-requires-clause-in_limits
+append-requires-clause-in_limits g c κs within =
+    accepted-within (map string_bytes c.args.words.now) (length c.args.files.now) (Append c.in-Some-Append.words)
+    (ap Some (sym c.in-Some-Append.field-0-is) ∙ c.in-Some-Append.ensures)
 
 pub sample-requires-clause-in_limits : goal.sample-requires-clause-in_limits
 sample-requires-clause-in_limits g c κs within =
@@ -43,6 +48,39 @@ join_files-requires-clause-few g c =
       accepted-takes (command_of (map string_bytes c.args.words.now)) (length c.args.files.now) (Join c.in-Some-Join.field-0-0) (sym is),
       (accepted-within (map string_bytes c.args.words.now) (length c.args.files.now) (Join c.in-Some-Join.field-0-0) is).1,
     )
+
+pub collect_files-requires-clause-some : goal.collect_files-requires-clause-some
+collect_files-requires-clause-some g c =
+    let is = ap Some (sym c.in-Some-Collect.field-0-is) ∙ c.in-Some-Collect.ensures in
+    omega (
+      arith,
+      accepted-takes (command_of (map string_bytes c.args.words.now)) (length c.args.files.now) (Collect c.in-Some-Collect.field-0-0) (sym is),
+      (accepted-within (map string_bytes c.args.words.now) (length c.args.files.now) (Collect c.in-Some-Collect.field-0-0) is).0,
+    )
+
+pub collect_files-requires-clause-few : goal.collect_files-requires-clause-few
+collect_files-requires-clause-few g c =
+    let is = ap Some (sym c.in-Some-Collect.field-0-is) ∙ c.in-Some-Collect.ensures in
+    omega (
+      arith,
+      accepted-takes (command_of (map string_bytes c.args.words.now)) (length c.args.files.now) (Collect c.in-Some-Collect.field-0-0) (sym is),
+      (accepted-within (map string_bytes c.args.words.now) (length c.args.files.now) (Collect c.in-Some-Collect.field-0-0) is).1,
+    )
+
+pub ranges-requires-clause-one_each : goal.ranges-requires-clause-one_each
+ranges-requires-clause-one_each g c κs within =
+    let is = ap Some (sym c.in-Some-Ranges.field-0-is) ∙ c.in-Some-Ranges.ensures in
+    omega (arith, accepted-takes (command_of (map string_bytes c.args.words.now)) (length c.args.files.now) (Ranges c.in-Some-Ranges.words) (sym is))
+
+pub ranges-requires-clause-some : goal.ranges-requires-clause-some
+ranges-requires-clause-some g c κs within =
+    let is = ap Some (sym c.in-Some-Ranges.field-0-is) ∙ c.in-Some-Ranges.ensures in
+    (accepted-within (map string_bytes c.args.words.now) (length c.args.files.now) (Ranges c.in-Some-Ranges.words) is).0
+
+pub ranges-requires-clause-few : goal.ranges-requires-clause-few
+ranges-requires-clause-few g c κs within =
+    let is = ap Some (sym c.in-Some-Ranges.field-0-is) ∙ c.in-Some-Ranges.ensures in
+    (accepted-within (map string_bytes c.args.words.now) (length c.args.files.now) (Ranges c.in-Some-Ranges.words) is).1
 
 pub bounds-files-0 : goal.bounds-files-0
 bounds-files-0 g c =
@@ -143,6 +181,21 @@ returns-in-Some-Join-clause-runs g c =
     runs-of _ _ _ _ _ (ap meaning_of (ap Some (sym c.in-Some-Join.field-0-is) ∙ c.in-Some-Join.ensures))
     (c.join_files.ensures.runs (seen _ [] unseen _ unseen unseen))
 
+pub returns-in-Some-Ranges-clause-runs : goal.returns-in-Some-Ranges-clause-runs
+returns-in-Some-Ranges-clause-runs g c =
+    runs-of _ _ _ _ _ (ap meaning_of (ap Some (sym c.in-Some-Ranges.field-0-is) ∙ c.in-Some-Ranges.ensures))
+    (c.ranges-in-Some-Ranges.ensures.runs (seen _ [] _ _ unseen unseen))
+
+pub returns-in-Some-Append-clause-runs : goal.returns-in-Some-Append-clause-runs
+returns-in-Some-Append-clause-runs g c =
+    runs-of _ _ _ _ _ (ap meaning_of (ap Some (sym c.in-Some-Append.field-0-is) ∙ c.in-Some-Append.ensures))
+    (c.append.ensures.runs (seen unseen _ _ (record { bytes = None; told = None; handed = 0; faults = 0 }) unseen unseen))
+
+pub returns-in-Some-Collect-clause-runs : goal.returns-in-Some-Collect-clause-runs
+returns-in-Some-Collect-clause-runs g c =
+    runs-of _ _ _ _ _ (ap meaning_of (ap Some (sym c.in-Some-Collect.field-0-is) ∙ c.in-Some-Collect.ensures))
+    (c.collect_files.ensures.runs (seen _ [] unseen _ unseen unseen))
+
 pub returns-in-Some-Write-clause-damaged : goal.returns-in-Some-Write-clause-damaged
 returns-in-Some-Write-clause-damaged g c = runs-past_damage (accepted (map string_bytes c.args.words.now) (length c.args.files.now)) _ _ _ (returns-in-Some-Write-clause-runs g c)
 
@@ -169,3 +222,12 @@ returns-in-Some-Sample-clause-damaged g c = runs-past_damage (accepted (map stri
 
 pub returns-in-Some-Join-clause-damaged : goal.returns-in-Some-Join-clause-damaged
 returns-in-Some-Join-clause-damaged g c = runs-past_damage (accepted (map string_bytes c.args.words.now) (length c.args.files.now)) _ _ _ (returns-in-Some-Join-clause-runs g c)
+
+pub returns-in-Some-Ranges-clause-damaged : goal.returns-in-Some-Ranges-clause-damaged
+returns-in-Some-Ranges-clause-damaged g c = runs-past_damage (accepted (map string_bytes c.args.words.now) (length c.args.files.now)) _ _ _ (returns-in-Some-Ranges-clause-runs g c)
+
+pub returns-in-Some-Append-clause-damaged : goal.returns-in-Some-Append-clause-damaged
+returns-in-Some-Append-clause-damaged g c = runs-past_damage (accepted (map string_bytes c.args.words.now) (length c.args.files.now)) _ _ _ (returns-in-Some-Append-clause-runs g c)
+
+pub returns-in-Some-Collect-clause-damaged : goal.returns-in-Some-Collect-clause-damaged
+returns-in-Some-Collect-clause-damaged g c = runs-past_damage (accepted (map string_bytes c.args.words.now) (length c.args.files.now)) _ _ _ (returns-in-Some-Collect-clause-runs g c)

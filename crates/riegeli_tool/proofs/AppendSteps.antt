@@ -1,0 +1,182 @@
+-- How the work of `append` ends, by the answers of its calls.
+use Rattle.std.proofs.Common.{◌≡◌, ◌∙◌, ℕ, ◌+◌, ◌-◌, ◌<◌, ◌≤◌, ◌⊎◌, Bool, Option, Some, None, Result, Ok, Err, List, [], ◌∷◌, length, option_map, refl, sym, ap, subst, inl, inr, arith}
+use Rattle.std.specs.Option.{IfSome, IsSomeAnd}
+use Rattle.std.proofs.lemmas.Option.{MatchOption-at_some}
+use Rattle.chunk_reader.specs.declared.reasons.Fault.{Fault}
+use Rattle.record_writer.specs.Feeds.{Rest}
+use Rattle.record_append.specs.Appends.{AnswersGrown, GrowsFrom, HoldsCutOff, HoldsGrownInPart, KeepsBy, Tells}
+use Rattle.record_append.specs.Grown.{IsRefused, RefusesFor, grown}
+use Rattle.record_append.specs.declared.appends.Appended.{Appended}
+use Rattle.record_append.specs.declared.appends.AppendEnd.{AppendEnd}
+use Rattle.run_answers.specs.FileAnswers.{IsInReach, IsTooLong, most_file_bytes}
+use Rattle.run_answers.specs.declared.ending.Ending.{Ending}
+use Rattle.write_lines.specs.WriteCommand.{stop_text}
+use Rattle.riegeli_tool.specs.AppendCommand.{appended_text, grown_text, lines_taken}
+use Rattle.riegeli_tool.specs.AppendingEnds.{HasAppended, HasTold, IsSizedBy, IsTold, IsUnsized, KeepsOldAtEnd, end_of_append}
+use Rattle.riegeli_tool.specs.declared.append.Halt.{Halt}
+use Rattle.riegeli_tool.specs.declared.append_words.AppendWords.{AppendWords}
+use Rattle.record_append.specs.declared.appends.AppendEnd.TheVariants as append
+use Rattle.record_writer.specs.declared.feed.Stop.TheVariants as stop
+use Rattle.run_answers.specs.declared.ending.Cut.TheVariants as cut
+use Rattle.run_answers.specs.declared.ending.Ending.TheVariants as end
+
+-- P holds of an old file and of what an input gives, where these are told
+abbrev pub IfBoth : AppendWords → (bytes input : Option (List ℕ)) → (List ℕ → Rest → Type 0) → Type 0
+IfBoth words bytes input P = IfSome bytes (λ file. IfSome input (λ given. P file (lines_taken words given)))
+
+if-kept : (bytes held : Option (List ℕ)) (P Q : List ℕ → List ℕ → Type 0) → ((file now : List ℕ) → P file now → Q file now)
+    → IfSome bytes (λ file. IsSomeAnd held (P file)) → IfSome bytes (λ file. IsSomeAnd held (Q file))
+if-kept None held P Q then keeps = tt
+if-kept (Some file) None P Q then keeps = keeps
+if-kept (Some file) (Some now) P Q then keeps = then file now keeps
+
+module _ (words : AppendWords) where
+  unsized_has : (e : Ending Halt) (told : Option ℕ) (bytes held input out : Option (List ℕ)) → IsUnsized e bytes told → held ≡ bytes
+      → IfBoth words bytes input (λ file rest. HasAppended {X = Unit {0}} (Err e) words rest file held out out)
+  unsized_has e told None held input out is same = tt
+  unsized_has e told (Some file) held None out is same = tt
+  unsized_has end.Limit told (Some file) held (Some given) out (size, (long, tells), exact) same =
+      (subst (λ (n : ℕ). most_file_bytes < n) exact long, same, refl)
+  unsized_has (end.Cut cut.Grown) told (Some file) held (Some given) out is same = (inl same, refl)
+  unsized_has (end.Cut other) told (Some file) held (Some given) out is same = absurd is
+  unsized_has (end.At halt) told (Some file) held (Some given) out is same = absurd is
+
+  unsized_keeps : (e : Ending Halt) (told : Option ℕ) (bytes held : Option (List ℕ)) → IsUnsized e bytes told → held ≡ bytes
+      → IfSome bytes (λ file. IsSomeAnd held (KeepsOldAtEnd {X = Unit {0}} (Err e) words.cut file))
+  unsized_keeps e told None held is same = tt
+  unsized_keeps e told (Some file) None is same = cc same
+  unsized_keeps end.Limit told (Some file) (Some now) is same = cc same
+  unsized_keeps (end.Cut cut.Grown) told (Some file) (Some now) is same = inl (cc same)
+  unsized_keeps (end.Cut other) told (Some file) (Some now) is same = absurd is
+  unsized_keeps (end.At halt) told (Some file) (Some now) is same = absurd is
+
+  unsized_told : (e : Ending Halt) (told : Option ℕ) (bytes : Option (List ℕ)) → IsUnsized e bytes told → IsSizedBy {X = Unit {0}} (Err e) words.cut bytes told
+  unsized_told end.Limit told bytes is = is
+  unsized_told (end.Cut cut.Grown) told bytes is = tt
+  unsized_told (end.Cut other) told bytes is = absurd is
+  unsized_told (end.At halt) told bytes is = absurd is
+
+  -- the same of an answer that is known
+  pub unsized-appended : (result : Result (Unit {0}) (Ending Halt)) (e : Ending Halt) (told : Option ℕ) (bytes held input out : Option (List ℕ))
+      → result ≡ Err e → IsUnsized e bytes told → held ≡ bytes
+      → IfBoth words bytes input (λ file rest. HasAppended result words rest file held out out)
+  unsized-appended result e told bytes held input out is unsized same =
+      subst (λ (r : Result (Unit {0}) (Ending Halt)). IfBoth words bytes input (λ file rest. HasAppended r words rest file held out out)) (sym is)
+      (unsized_has e told bytes held input out unsized same)
+
+  pub unsized-kept : (result : Result (Unit {0}) (Ending Halt)) (e : Ending Halt) (told : Option ℕ) (bytes held : Option (List ℕ))
+      → result ≡ Err e → IsUnsized e bytes told → held ≡ bytes
+      → IfSome bytes (λ file. IsSomeAnd held (KeepsOldAtEnd result words.cut file))
+  unsized-kept result e told bytes held is unsized same =
+      subst (λ (r : Result (Unit {0}) (Ending Halt)). IfSome bytes (λ file. IsSomeAnd held (KeepsOldAtEnd r words.cut file))) (sym is)
+      (unsized_keeps e told bytes held unsized same)
+
+  pub unsized-sized : (result : Result (Unit {0}) (Ending Halt)) (e : Ending Halt) (told : Option ℕ) (bytes : Option (List ℕ))
+      → result ≡ Err e → IsUnsized e bytes told → IsSizedBy result words.cut bytes told
+  unsized-sized result e told bytes is unsized =
+      subst (λ (r : Result (Unit {0}) (Ending Halt)). IsSizedBy r words.cut bytes told) (sym is) (unsized_told e told bytes unsized)
+
+  -- records were not put to the end of their feed
+  cut_by : (rest : Rest) (file : List ℕ) (held : Option (List ℕ)) → length file ≤ most_file_bytes
+      → HoldsCutOff words.write.options words.cut file rest.records held
+      → (held ≡ Some file) ⊎ ((length file ≤ most_file_bytes) × HoldsGrownInPart words.write.options words.cut file rest.records held)
+  cut_by rest file held reach (inl same) = inl same
+  cut_by rest file held reach (inr part) = inr (reach, part)
+
+  ended_by : (e : AppendEnd) (rest : Rest) (file : List ℕ) (held out : Option (List ℕ)) → length file ≤ most_file_bytes
+      → ((fault : Fault) → e ≡ append.Refused fault → IsRefused words.cut file fault)
+      → AnswersGrown (Err e) words.write.options words.cut file rest held → HasAppended {X = Unit {0}} (Err (end_of_append e)) words rest file held out out
+  ended_by (append.Refused fault) rest file held out reach refused same = (refused fault refl, same, refl)
+  ended_by (append.TooLong count) rest file held out reach refused (is, counted, grows) =
+      ((is, ap (λ (n : ℕ). stop_text n (Some stop.TooLong)) (sym counted), grows), refl)
+  ended_by append.InputTooLong rest file held out reach refused (is, grows) = ((is, refl, grows), refl)
+  ended_by (append.BadLine count) rest file held out reach refused (is, counted, grows) =
+      ((is, ap (λ (n : ℕ). stop_text n (Some stop.BadLine)) (sym counted), grows), refl)
+  ended_by append.Input rest file held out reach refused holds = (cut_by rest file held reach holds, refl)
+  ended_by append.Device rest file held out reach refused holds = (cut_by rest file held reach holds, refl)
+  ended_by append.Memory rest file held out reach refused holds = (cut_by rest file held reach holds, refl)
+
+  kept_by : (e : AppendEnd) (file now : List ℕ) → KeepsBy (Err e) words.cut file now → KeepsOldAtEnd {X = Unit {0}} (Err (end_of_append e)) words.cut file now
+  kept_by (append.Refused fault) file now keeps = keeps
+  kept_by (append.TooLong count) file now keeps = keeps
+  kept_by append.InputTooLong file now keeps = keeps
+  kept_by (append.BadLine count) file now keeps = keeps
+  kept_by append.Input file now keeps = keeps
+  kept_by append.Device file now keeps = keeps
+  kept_by append.Memory file now keeps = keeps
+
+  sized_by : (e : AppendEnd) (size : ℕ) (bytes : Option (List ℕ)) (told : Option ℕ) → size ≤ most_file_bytes → IfSome bytes (λ file. size ≡ length file)
+      → ((fault : Fault) → e ≡ append.Refused fault → (told ≡ Some size) × (0 < size) × RefusesFor words.cut fault.why)
+      → IsSizedBy {X = Unit {0}} (Err (end_of_append e)) words.cut bytes told
+  sized_by (append.Refused fault) size bytes told within exact refused =
+      let its = refused fault refl in (size, (within, its.0, its.1, its.2), exact)
+  sized_by (append.TooLong count) size bytes told within exact refused = (size, within, exact)
+  sized_by append.InputTooLong size bytes told within exact refused = (size, within, exact)
+  sized_by (append.BadLine count) size bytes told within exact refused = (size, within, exact)
+  sized_by append.Input size bytes told within exact refused = (size, within, exact)
+  sized_by append.Device size bytes told within exact refused = tt
+  sized_by append.Memory size bytes told within exact refused = (size, within, exact)
+
+  -- the same of what the device and the feed told
+  pub ended-appended : (e : AppendEnd) (why : Ending Halt) (size : ℕ) (bytes mid held input out : Option (List ℕ)) (rests : Option Rest)
+      → why ≡ end_of_append e → mid ≡ bytes → rests ≡ option_map (lines_taken words) input
+      → size ≤ most_file_bytes → IfSome bytes (λ file. size ≡ length file)
+      → ((fault : Fault) → e ≡ append.Refused fault → IfSome mid (λ file. IsRefused words.cut file fault))
+      → IfSome mid (λ file. IfSome rests (λ rest. AnswersGrown (Err e) words.write.options words.cut file rest held))
+      → IfBoth words bytes input (λ file rest. HasAppended {X = Unit {0}} (Err why) words rest file held out out)
+  ended-appended e why size None mid held input out rests is same given within exact refused holds = tt
+  ended-appended e why size (Some file) mid held None out rests is same given within exact refused holds = tt
+  ended-appended e why size (Some file) mid held (Some taken) out rests is same given within exact refused holds =
+      let rest : Rest = lines_taken words taken in
+      subst (λ (w : Ending Halt). HasAppended {X = Unit {0}} (Err w) words rest file held out out) (sym is)
+      (ended_by e rest file held out (subst (λ (n : ℕ). n ≤ most_file_bytes) exact within)
+      (λ fault its. MatchOption-at_some _ (λ (f : List ℕ). IsRefused words.cut f fault) file same (refused fault its))
+      (MatchOption-at_some _ (λ (r : Rest). AnswersGrown (Err e) words.write.options words.cut file r held) rest given
+      (MatchOption-at_some _ (λ (f : List ℕ). IfSome rests (λ r. AnswersGrown (Err e) words.write.options words.cut f r held)) file same holds)))
+
+  pub ended-kept : (e : AppendEnd) (why : Ending Halt) (bytes mid held : Option (List ℕ)) → why ≡ end_of_append e → mid ≡ bytes
+      → IfSome mid (λ file. IsSomeAnd held (λ now. KeepsBy (Err e) words.cut file now))
+      → IfSome bytes (λ file. IsSomeAnd held (λ now. KeepsOldAtEnd {X = Unit {0}} (Err why) words.cut file now))
+  ended-kept e why bytes mid held is same keeps =
+      subst (λ (b : Option (List ℕ)). IfSome b (λ file. IsSomeAnd held (λ now. KeepsOldAtEnd {X = Unit {0}} (Err why) words.cut file now))) same
+      (subst (λ (w : Ending Halt). IfSome mid (λ file. IsSomeAnd held (λ now. KeepsOldAtEnd {X = Unit {0}} (Err w) words.cut file now))) (sym is)
+      (if-kept mid held (KeepsBy (Err e) words.cut) (KeepsOldAtEnd {X = Unit {0}} (Err (end_of_append e)) words.cut) (kept_by e) keeps))
+
+  pub ended-sized : (e : AppendEnd) (why : Ending Halt) (size : ℕ) (bytes : Option (List ℕ)) (told : Option ℕ) → why ≡ end_of_append e
+      → size ≤ most_file_bytes → IfSome bytes (λ file. size ≡ length file)
+      → ((fault : Fault) → e ≡ append.Refused fault → (told ≡ Some size) × (0 < size) × RefusesFor words.cut fault.why)
+      → IsSizedBy {X = Unit {0}} (Err why) words.cut bytes told
+  ended-sized e why size bytes told is within exact refused =
+      subst (λ (w : Ending Halt). IsSizedBy {X = Unit {0}} (Err w) words.cut bytes told) (sym is) (sized_by e size bytes told within exact refused)
+
+-- all that is told of a file that was grown
+told_all : (words : AppendWords) (file : List ℕ) (added : List (List ℕ)) (told : Appended) → Tells words.write.options file added told
+    → appended_text told ≡ grown_text words file told.kept added
+told_all words file added told tells =
+    let dropped : told.dropped ≡ length file - told.kept = omega (arith, tells.dropped) in
+    let bytes : ℕ = length (grown words.write.options file told.kept added) in
+    ap (λ (n : ℕ). appended_text (record { kept = told.kept; dropped = n; records = told.records; bytes = told.bytes })) dropped
+    ∙ ap (λ (n : ℕ). appended_text (record { kept = told.kept; dropped = length file - told.kept; records = n; bytes = told.bytes })) tells.records
+    ∙ ap (λ (n : ℕ). appended_text (record { kept = told.kept; dropped = length file - told.kept; records = length added; bytes = n })) tells.bytes
+
+-- all records were put, and this was printed
+pub told-appended : (words : AppendWords) (Prints : (before after : Option (List ℕ)) → List ℕ → Type 0) (told : Appended)
+    (bytes mid held input out out_then : Option (List ℕ)) (rests : Option Rest)
+    → mid ≡ bytes → rests ≡ option_map (lines_taken words) input
+    → IfSome mid (λ file. IfSome rests (λ rest. AnswersGrown (Ok told) words.write.options words.cut file rest held))
+    → Prints out out_then (appended_text told) → IfBoth words bytes input (λ file rest. IsTold Prints words rest file held out out_then)
+told-appended words Prints told None mid held input out out_then rests same given put printed = tt
+told-appended words Prints told (Some file) mid held None out out_then rests same given put printed = tt
+told-appended words Prints told (Some file) mid held (Some taken) out out_then rests same given put printed =
+    let rest : Rest = lines_taken words taken in
+    let (none, holds, tells) = MatchOption-at_some _ (λ (r : Rest). AnswersGrown (Ok told) words.write.options words.cut file r held) rest given
+    (MatchOption-at_some _ (λ (f : List ℕ). IfSome rests (λ r. AnswersGrown (Ok told) words.write.options words.cut f r held)) file same put) in
+    (none, told.kept, holds, subst (Prints out out_then) (told_all words file rest.records told tells) printed)
+
+pub told-kept : (words : AppendWords) (told : Appended) (P : List ℕ → List ℕ → Type 0) (bytes mid held : Option (List ℕ)) → mid ≡ bytes
+    → ((file now : List ℕ) → ((place : ℕ) × GrowsFrom words.cut file place now) → P file now)
+    → IfSome mid (λ file. IsSomeAnd held (λ now. KeepsBy (Ok told) words.cut file now))
+    → IfSome bytes (λ file. IsSomeAnd held (λ now. P file now))
+told-kept words told P bytes mid held same then keeps =
+    subst (λ (b : Option (List ℕ)). IfSome b (λ file. IsSomeAnd held (λ now. P file now))) same
+    (if-kept mid held (KeepsBy (Ok told) words.cut) P (λ file now grows. then file now (told.kept, grows)) keeps)

@@ -1,0 +1,20 @@
+use Rattle.std.proofs.Common.{None, arith}
+use Rattle.record_io.proofs.ManyStores.{same_bytes, same_names}
+use Rattle.riegeli_tool.proofs.RangesStores.{runs-read}
+use Rattle.riegeli_tool.proofs.ranges.ranges.Goals as goal
+
+pub returns-clause-runs : goal.returns-clause-runs
+returns-clause-runs g c = λ others.
+    let did = c.print_file-ended.ensures in
+    runs-read g.S.Store.bytes g.S.Store.told g.S.Store.handed g.S.Store.name g.S.Store.faults c.args.files.now c.print_file-ended.new.files
+    others.input others.made others.grown _ _ _ _ c.print_file-ended.result _ (omega (arith, c.requires.one_each, c.requires.some))
+    did.exact did.files did.out.never_falls c.end_ranges.ensures.notes.never_falls did.in_order did.handed did.sized
+    did.file did.printed c.end_ranges.ensures.told did.out.cause
+
+pub returns-clause-same_bytes : goal.returns-clause-same_bytes
+returns-clause-same_bytes g c =
+    same_bytes g.S.Store.bytes (λ s. None) g.S.Store.name g.S.Store.faults c.args.files.now c.print_file-ended.new.files c.print_file-ended.ensures.files.each
+
+pub returns-clause-same_names : goal.returns-clause-same_names
+returns-clause-same_names g c =
+    same_names g.S.Store.bytes (λ s. None) g.S.Store.name g.S.Store.faults c.args.files.now c.print_file-ended.new.files c.print_file-ended.ensures.files.each

@@ -1,0 +1,104 @@
+-- How the work of `append` ends. Own.
+use Rattle.std.specs.Prelude.{◌≡◌, ℕ, ◌<◌, ◌≤◌, ◌⊎◌, Bool, Option, Some, None, Result, Ok, Err, IfSome, List, [], ◌∷◌, length}
+use Rattle.record_io.specs.Outside.{Takes, TakesFront}
+use Rattle.record_writer.specs.Feeds.{Rest}
+use Rattle.record_writer.specs.declared.feed.Stop.{Stop}
+use Rattle.record_append.specs.Appends.{GrowsBy, GrowsFrom, HoldsGrown, HoldsGrownInPart, KeepsFront}
+use Rattle.record_append.specs.Grown.{IsRefused, RefusesFor}
+use Rattle.record_append.specs.declared.appends.AppendEnd.{AppendEnd}
+use Rattle.run_answers.specs.Endings.{Endings}
+use Rattle.run_answers.specs.FileAnswers.{IsInReach, IsTooLong, most_file_bytes}
+use Rattle.run_answers.specs.declared.ending.Ending.{Ending}
+use Rattle.run_answers.specs.declared.status.Status.{Status}
+use Rattle.show_files.specs.Readings.{refused_text}
+use Rattle.write_lines.specs.WriteCommand.{stop_status, stop_text}
+use Rattle.riegeli_tool.specs.AppendCommand.{grown_text}
+use Rattle.riegeli_tool.specs.declared.append.Halt.{Halt}
+use Rattle.riegeli_tool.specs.declared.append.Halt.TheVariants.{Refused, Stopped}
+use Rattle.riegeli_tool.specs.declared.append_words.AppendWords.{AppendWords}
+use Rattle.record_append.specs.declared.appends.AppendEnd.TheVariants as append
+use Rattle.record_writer.specs.declared.feed.Stop.TheVariants as stop
+use Rattle.run_answers.specs.declared.ending.Cut.TheVariants as cut
+use Rattle.run_answers.specs.declared.ending.Ending.TheVariants as end
+use Rattle.run_answers.specs.declared.status.Status.TheVariants as status
+
+-- the end by which records were not put to a file to the end of their feed
+abbrev pub end_of_append : AppendEnd → Ending Halt
+end_of_append (append.Refused fault) = end.At (Refused fault)
+end_of_append (append.TooLong count) = end.At (Stopped stop.TooLong count)
+end_of_append append.InputTooLong = end.At (Stopped stop.InputTooLong 0)
+end_of_append (append.BadLine count) = end.At (Stopped stop.BadLine count)
+end_of_append append.Input = end.Cut cut.Input
+end_of_append append.Device = end.Cut cut.Grown
+end_of_append append.Memory = end.Cut cut.Memory
+
+-- what is said where it goes no further, and the status
+abbrev pub halt_text : Halt → List ℕ
+halt_text (Refused fault) = refused_text fault
+halt_text (Stopped stop count) = stop_text count (Some stop)
+
+abbrev pub halt_status : Halt → Status
+halt_status (Refused fault) = status.Refused
+halt_status (Stopped stop count) = stop_status (Some stop)
+
+-- where it is done nothing is said
+abbrev pub appending_ends : {X : Type 0} → Endings X Halt
+appending_ends = record { done = λ _. status.Ok; text = halt_text; status = halt_status }
+
+-- the file, whose bytes are these, where it tells them, told a size, of which P holds
+abbrev pub HasTold : (bytes : Option (List ℕ)) → (ℕ → Type 0) → Type 0
+HasTold bytes P = (size : ℕ) × P size × IfSome bytes (λ file. size ≡ length file)
+
+-- no size was told of the file that it may have: it told too many bytes, or it failed
+abbrev pub IsUnsized : Ending Halt → (bytes : Option (List ℕ)) (told : Option ℕ) → Type 0
+IsUnsized end.Limit bytes told = HasTold bytes (λ size. IsTooLong (size ∷ []) × (told ≡ Some size))
+IsUnsized (end.Cut cut.Grown) bytes told = Unit {0}
+IsUnsized other bytes told = ⊥
+
+-- before the work ended so, the file had told a size, if it didn't fail: one within reach, or one past it; it tells that still where
+-- it is too long or refused. Nothing else ends it
+abbrev pub IsSizedBy : {X : Type 0} → Result X (Ending Halt) → (may_cut : Bool) (bytes : Option (List ℕ)) (told : Option ℕ) → Type 0
+IsSizedBy (Ok x) may_cut bytes told = HasTold bytes (λ size. IsInReach (size ∷ []))
+IsSizedBy (Err end.Limit) may_cut bytes told = HasTold bytes (λ size. IsTooLong (size ∷ []) × (told ≡ Some size))
+IsSizedBy (Err (end.At (Refused fault))) may_cut bytes told =
+    HasTold bytes (λ size. IsInReach (size ∷ []) × (told ≡ Some size) × (0 < size) × RefusesFor may_cut fault.why)
+IsSizedBy (Err (end.At (Stopped stop count))) may_cut bytes told = HasTold bytes (λ size. IsInReach (size ∷ []))
+IsSizedBy (Err (end.Cut cut.Grown)) may_cut bytes told = Unit {0}
+IsSizedBy (Err (end.Cut cut.Input)) may_cut bytes told = HasTold bytes (λ size. IsInReach (size ∷ []))
+IsSizedBy (Err (end.Cut cut.Out)) may_cut bytes told = HasTold bytes (λ size. IsInReach (size ∷ []))
+IsSizedBy (Err (end.Cut cut.Memory)) may_cut bytes told = HasTold bytes (λ size. IsInReach (size ∷ []))
+IsSizedBy (Err (end.Cut other)) may_cut bytes told = ⊥
+
+-- all records were put to the file, and this was printed of what became of it
+abbrev pub IsTold : ((before after : Option (List ℕ)) → List ℕ → Type 0) → AppendWords → Rest → (file : List ℕ) (held out out_then : Option (List ℕ)) → Type 0
+IsTold Prints words rest file held out out_then =
+    (rest.stop ≡ None) × (place : ℕ) × HoldsGrown words.write.options words.cut file place rest.records held
+    × Prints out out_then (grown_text words file place rest.records)
+
+-- those before a stop were put to it
+abbrev pub IsStopped : AppendWords → Rest → (file : List ℕ) (held : Option (List ℕ)) → Stop → ℕ → Type 0
+IsStopped words rest file held stop count =
+    (rest.stop ≡ Some stop) × (stop_text (length rest.records) (Some stop) ≡ stop_text count (Some stop))
+    × GrowsBy words.write.options words.cut file rest.records held
+
+-- what an old file holds of a feed's records and standard output took, by how the work ended
+abbrev pub HasAppended : {X : Type 0} → Result X (Ending Halt) → AppendWords → Rest → (file : List ℕ) (held out out_then : Option (List ℕ)) → Type 0
+HasAppended (Ok x) words rest file held out out_then = IsTold Takes words rest file held out out_then
+HasAppended (Err end.Limit) words rest file held out out_then = (most_file_bytes < length file) × (held ≡ Some file) × (out_then ≡ out)
+HasAppended (Err (end.At (Refused fault))) words rest file held out out_then =
+    IsRefused words.cut file fault × (held ≡ Some file) × (out_then ≡ out)
+HasAppended (Err (end.At (Stopped stop count))) words rest file held out out_then =
+    IsStopped words rest file held stop count × (out_then ≡ out)
+HasAppended (Err (end.Cut cut.Out)) words rest file held out out_then = IsTold TakesFront words rest file held out out_then
+HasAppended (Err (end.Cut other)) words rest file held out out_then =
+    ((held ≡ Some file)
+    ⊎ ((length file ≤ most_file_bytes) × HoldsGrownInPart words.write.options words.cut file rest.records held))
+    × (out_then ≡ out)
+
+-- what the file keeps of what it held, by how the work ended
+abbrev pub KeepsOldAtEnd : {X : Type 0} → Result X (Ending Halt) → Bool → (file held : List ℕ) → Type 0
+KeepsOldAtEnd (Ok x) may_cut file held = (place : ℕ) × GrowsFrom may_cut file place held
+KeepsOldAtEnd (Err end.Limit) may_cut file held = held ≡ file
+KeepsOldAtEnd (Err (end.At (Refused fault))) may_cut file held = held ≡ file
+KeepsOldAtEnd (Err (end.At (Stopped stop count))) may_cut file held = (place : ℕ) × GrowsFrom may_cut file place held
+KeepsOldAtEnd (Err (end.Cut cut)) may_cut file held = KeepsFront may_cut file held

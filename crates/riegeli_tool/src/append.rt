@@ -1,0 +1,149 @@
+ghost use Rattle.std.specs.Prelude.{◌≡◌, ◌≤◌, ◌⊎◌, Some, Ok, Err, [], ◌∷◌, IfErr, IfOk, IfSome, IsSomeAnd, OnOk, length};
+ghost use Rattle.record_io.specs.Outside.{Rose};
+ghost use Rattle.record_io.specs.Calls.{OnlyCounts, PutsTo};
+ghost use Rattle.record_append.specs.Devices.{CountsFaults};
+ghost use Rattle.record_writer.specs.Written.{AreInLimits};
+ghost use Rattle.run_answers.specs.Endings.{SaysEnd};
+ghost use Rattle.run_answers.specs.FileAnswers.{IsInReach, most_file_bytes};
+ghost use Rattle.run_answers.specs.Runs.{Runs, Seen, seen_file, seen_stream};
+ghost use Rattle.riegeli_tool.specs.AppendCommand.{append_meaning, appended_text, lines_taken};
+ghost use Rattle.riegeli_tool.specs.AppendingEnds.{HasAppended, HasTold, IsSizedBy, IsUnsized, KeepsOldAtEnd, appending_ends, end_of_append};
+
+use crate::append_words::AppendWords;
+use chunk_reader::Fault;
+use record_append::{AppendEnd, Appended, AsStore, Device};
+use record_io::{Failed, Sink, Source};
+use record_writer::Stop;
+use run_answers::{Cut, Ending, SizeEnd, Status, cut_off, end, put_counts, size_of};
+use show_files::end_with_fault;
+use std::alloc::Global;
+use std::thread::Threads;
+use write_lines::{LineFeed, MOST_INPUT, end_with_stop};
+
+/// What `append` goes no further at.
+#[derive(Clone, Copy, Debug, PartialEq, Eq)]
+pub(crate) enum Halt {
+    /// The old file is refused.
+    Refused(Fault),
+    /// A stop, behind so many records.
+    Stopped(Stop, u64),
+}
+
+/// Puts the records of the input's lines behind the last whole chunk of a file and prints what became of that, or says in notes
+/// why the file is refused, or why it ended before the input did.
+pub(crate) fn append<R: Threads + Sync, I: Source, G: Device + Send, O: Sink, E: Sink>(
+    rt: &R,
+    alloc: Global,
+    words: &AppendWords,
+    input: &mut I,
+    grown: &mut G,
+    out: &mut O,
+    notes: &mut E,
+) -> Status
+    requires in_limits { AreInLimits words.now.write.options }
+    ensures runs { (others : Seen) → Runs (append_meaning words.now)
+        (record others { input = seen_stream I.left I.faults input.old; grown = seen_file G.bytes G.told G.handed G.faults grown.old; out = seen_stream O.taken O.faults out.old; notes = seen_stream E.taken E.faults notes.old })
+        (record others { input = seen_stream I.left I.faults input.new; grown = seen_file G.bytes G.told G.handed G.faults grown.new; out = seen_stream O.taken O.faults out.new; notes = seen_stream E.taken E.faults notes.new })
+        result }
+    ensures notes_kept { result ≡ Status.Ok → notes.new ≡ notes.old }
+{
+    let ended = append_lines(rt, alloc, words, input, grown, out);
+    end_appending(ended, notes)
+}
+
+/// Puts the records of the input's lines behind the last whole chunk of a file, and prints what became of that.
+fn append_lines<R: Threads + Sync, I: Source, G: Device + Send, O: Sink>(
+    rt: &R,
+    alloc: Global,
+    words: &AppendWords,
+    input: &mut I,
+    grown: &mut G,
+    out: &mut O,
+) -> Result<(), Ending<Halt>>
+    requires in_limits { AreInLimits words.now.write.options }
+    ensures appended { IfSome (G.bytes grown.old) (λ file. IfSome (I.left input.old) (λ bytes.
+        HasAppended result words.now (lines_taken words.now bytes) file (G.bytes grown.new) (O.taken out.old) (O.taken out.new))) }
+    ensures kept { IfSome (G.bytes grown.old) (λ file. IsSomeAnd (G.bytes grown.new) (λ held. KeepsOldAtEnd result words.now.cut file held)) }
+    ensures sized { IsSizedBy result words.now.cut (G.bytes grown.old) (G.told grown.new) }
+    ensures handed { (G.handed grown.new ≡ G.handed grown.old) ⊎ HasTold (G.bytes grown.old) (λ size. IsInReach (size ∷ [])) }
+    ensures read_to_end { OnOk result (IfSome (I.left input.old) (λ _. I.left input.new ≡ Some [])) }
+    ensures input_cause { result ≡ Err (Ending.Cut Cut.Input) → Rose (I.faults input.old) (I.faults input.new) }
+    ensures input_count { I.faults input.old ≤ I.faults input.new }
+    ensures grown { CountsFaults G.faults (result ≡ Err (Ending.Cut Cut.Grown)) grown.old grown.new }
+    ensures out { OnlyCounts O.lent O.faults (result ≡ Err (Ending.Cut Cut.Out)) out.old out.new }
+{
+    let size = size_in_reach(grown)?;
+    let mut lines = LineFeed::new(alloc, input, words.write.hex, MOST_INPUT);
+    let options = &words.write.options;
+    let appended = match record_append::append(
+        rt, alloc, options, words.cut, &mut lines, grown, size,
+    ) {
+        Ok(appended) => appended,
+        Err(end) => return Err(end_of_append(end)),
+    };
+    match put_appended(&appended, out) {
+        Ok(()) => Ok(()),
+        Err(Failed) => Err(Ending::Cut(Cut::Out)),
+    }
+}
+
+/// The size of a file that may be grown.
+fn size_in_reach<G: Device>(grown: &mut G) -> Result<u64, Ending<Halt>>
+    ensures told { IfOk result (λ size. G.told grown.new ≡ Some size) }
+    ensures in_reach { IfOk result (λ size. size ≤ most_file_bytes) }
+    ensures exact { IfOk result (λ size. IfSome (G.bytes grown.old) (λ bytes. size ≡ length bytes)) }
+    ensures no_size { IfErr result (λ ended. IsUnsized ended (G.bytes grown.old) (G.told grown.new)) }
+    ensures same_handed { G.handed grown.new ≡ G.handed grown.old }
+    ensures same_bytes { G.bytes grown.new ≡ G.bytes grown.old }
+    ensures grown { CountsFaults G.faults (result ≡ Err (Ending.Cut Cut.Grown)) grown.old grown.new }
+{
+    match size_of(&mut AsStore::new(grown)) {
+        Ok(size) => Ok(size),
+        Err(SizeEnd::Limit) => Err(Ending::Limit),
+        Err(SizeEnd::File) => Err(Ending::Cut(Cut::Grown)),
+    }
+}
+
+/// The end by which records were not put to a file to the end of their feed.
+fn end_of_append(end: AppendEnd) -> Ending<Halt>
+    ensures { result ≡ end_of_append end }
+{
+    match end {
+        AppendEnd::Refused(fault) => Ending::At(Halt::Refused(fault)),
+        AppendEnd::TooLong(count) => Ending::At(Halt::Stopped(Stop::TooLong, count)),
+        AppendEnd::InputTooLong => Ending::At(Halt::Stopped(Stop::InputTooLong, 0)),
+        AppendEnd::BadLine(count) => Ending::At(Halt::Stopped(Stop::BadLine, count)),
+        AppendEnd::Input => Ending::Cut(Cut::Input),
+        AppendEnd::Device => Ending::Cut(Cut::Grown),
+        AppendEnd::Memory => Ending::Cut(Cut::Memory),
+    }
+}
+
+/// Puts what became of a file, each number as a line behind its name.
+fn put_appended<O: Sink>(appended: &Appended, out: &mut O) -> Result<(), Failed>
+    ensures out { PutsTo O.taken O.lent O.faults result (appended_text appended.now) out.old out.new }
+{
+    let counts = [
+        ("kept", appended.kept),
+        ("dropped", appended.dropped),
+        ("records", appended.records),
+        ("bytes", appended.bytes),
+    ];
+    put_counts(&counts, out)
+}
+
+/// Says in notes why the work ended before it was done.
+fn end_appending<E: Sink>(ended: Result<(), Ending<Halt>>, notes: &mut E) -> Status
+    ensures told { SaysEnd appending_ends ended result (seen_stream E.taken E.faults notes.old)
+        (seen_stream E.taken E.faults notes.new) }
+    ensures notes_kept { result ≡ Status.Ok → notes.new ≡ notes.old }
+    ensures notes { OnlyCounts E.lent E.faults ⊥ notes.old notes.new }
+{
+    match ended {
+        Ok(()) => Status::Ok,
+        Err(Ending::Limit) => end(notes, "limit file\n", Status::Limit),
+        Err(Ending::At(Halt::Refused(fault))) => end_with_fault(notes, &fault),
+        Err(Ending::At(Halt::Stopped(stop, count))) => end_with_stop(notes, stop, count),
+        Err(Ending::Cut(cut)) => cut_off(notes, cut),
+    }
+}

@@ -1,0 +1,104 @@
+ghost use Rattle.std.specs.Prelude.{◌≡◌, ◌+◌, ◌^◌, ◌≤◌, ◌<◌, ◌⊎◌, ℕ, All, None, Some, Ok, Err, List, drop, length, map, slice_get};
+ghost use Rattle.std.specs.List.{AllByRecursion};
+ghost use Rattle.record_io.specs.Calls.{OnlyCounts};
+ghost use Rattle.record_io.specs.ManyStores.{AreOnlyAsked, AreTold};
+ghost use Rattle.chunk_reader.specs.declared.reasons.ReadEnd.{ReadEnd};
+ghost use Rattle.record_ranges.specs.Reads.{IfAllTellSame};
+ghost use Rattle.run_answers.specs.declared.ending.Ending.{Ending};
+ghost use Rattle.run_answers.specs.Runs.{Runs, Seen, seen_stream, seen_file};
+ghost use Rattle.riegeli_tool.specs.RangesCommand.{ranges_meaning};
+ghost use Rattle.riegeli_tool.specs.RangesEnds.{AreReady, AreSized, IsPrinted, IsReadIn, PrintsFile, end_of_read};
+ghost use Rattle.riegeli_tool.specs.declared.range_ends.Halt.{Halt};
+
+use crate::file_sizes::one_size;
+use crate::part_lines::put_parts;
+use crate::range_ends::{Halt, end_of_read, end_ranges};
+use crate::ranges_words::RangesWords;
+use record_io::{Failed, Sink, Store};
+use record_ranges::{Cuts, Parts, read_ranges};
+use run_answers::{Cut, Ending, Status};
+use std::alloc::Global;
+use std::thread::Threads;
+
+/// Prints the records of a file that is read in parts by threads, each by a store of its own, or says in notes why it is
+/// refused.
+pub(crate) fn ranges<R: Threads + Sync, S: Store + Send, O: Sink, E: Sink>(
+    rt: &R,
+    alloc: Global,
+    words: &RangesWords,
+    files: &mut [S],
+    out: &mut O,
+    notes: &mut E,
+) -> Status
+    requires one_each { length files.old ≡ words.now.parts }
+    requires some { 1 ≤ words.now.parts }
+    requires few { words.now.parts ≤ 16 }
+    ensures runs { (others : Seen) → Runs ranges_meaning
+        (record others { files = map (seen_file S.bytes S.told S.handed S.faults) files.old; out = seen_stream O.taken O.faults out.old; notes = seen_stream E.taken E.faults notes.old })
+        (record others { files = map (seen_file S.bytes S.told S.handed S.faults) files.new; out = seen_stream O.taken O.faults out.new; notes = seen_stream E.taken E.faults notes.new })
+        result }
+    ensures same_bytes { map (λ file. S.bytes file) files.new ≡ map (λ file. S.bytes file) files.old }
+    ensures same_names { map (λ file. S.name file) files.new ≡ map (λ file. S.name file) files.old }
+    ensures notes_kept { result ≡ Status.Ok → notes.new ≡ notes.old }
+{
+    let ended = print_file(rt, alloc, words.parts, files, out);
+    end_ranges(ended, notes)
+}
+
+/// Prints the records of a file that is read in so many parts.
+fn print_file<R: Threads + Sync, S: Store + Send, O: Sink>(
+    rt: &R,
+    alloc: Global,
+    parts: u32,
+    files: &mut [S],
+    out: &mut O,
+) -> Result<(), Ending<Halt>>
+    requires one_each { length files.old ≡ parts }
+    requires some { 1 ≤ parts }
+    requires few { parts ≤ 16 }
+    ensures file { IfAllTellSame S.bytes files.old (λ file. PrintsFile result file (O.taken out.old) (O.taken out.new)) }
+    ensures printed { IsPrinted result (O.taken out.old) (O.taken out.new) }
+    ensures sized { AreSized result (map (λ file. S.told file) files.new) }
+    ensures exact { (all : List (List ℕ)) (sizes : List ℕ) → AreTold S.bytes files.old all → AreTold S.told files.new sizes → sizes ≡ map length all }
+    ensures in_order { (place : ℕ) (file : S) → slice_get files.new place ≡ Some file → S.told file ≡ None
+        → drop (place + 1) files.new ≡ drop (place + 1) files.old }
+    ensures handed { (map (λ file. S.handed file) files.new ≡ map (λ file. S.handed file) files.old)
+        ⊎ AreReady (map (λ file. S.told file) files.new) }
+    // Of each store its bytes stay, and what it borrows.
+    ensures files { AreOnlyAsked S.bytes (λ file. None) S.name S.faults (result ≡ Err (Ending.Cut Cut.File)) files.old files.new }
+    ensures out { OnlyCounts O.lent O.faults (result ≡ Err (Ending.Cut Cut.Out)) out.old out.new }
+{
+    let size = one_size(files)?;
+    let read = read_parts(rt, alloc, size, parts, files)?;
+    match put_parts(&read, out) {
+        Ok(()) => Ok(()),
+        Err(Failed) => Err(Ending::Cut(Cut::Out)),
+    }
+}
+
+/// Reads a file of so many bytes in so many parts that are alike.
+fn read_parts<R: Threads + Sync, S: Store + Send>(
+    rt: &R,
+    alloc: Global,
+    size: u64,
+    parts: u32,
+    files: &mut [S],
+) -> Result<Parts, Ending<Halt>>
+    requires one_each { length files.old ≡ parts }
+    requires some { 1 ≤ parts }
+    requires few { parts ≤ 16 }
+    requires told { All (λ s. S.told s ≡ Some size) files.old }
+    requires exact { IfAllTellSame S.bytes files.old (λ file. size ≡ length file) }
+    requires small { size ≤ 2 ^ 28 }
+    ensures read { IfAllTellSame S.bytes files.old (IsReadIn result) }
+    ensures ended { (end : Ending Halt) → result ≡ Err end → (why : ReadEnd) × (end ≡ end_of_read why) }
+    ensures files { AreOnlyAsked S.bytes S.told S.name S.faults (result ≡ Err (Ending.Cut Cut.File)) files.old files.new }
+{
+    let Ok(cuts) = Cuts::even(alloc, size, parts) else {
+        return Err(Ending::Cut(Cut::Memory));
+    };
+    match read_ranges(rt, alloc, files, size, &cuts) {
+        Ok(read) => Ok(read),
+        Err(end) => Err(end_of_read(end)),
+    }
+}
