@@ -1,4 +1,4 @@
-//! Files that are read, and how statements change them.
+//! Files that are read or grown, and how statements change them.
 
 use crate::bytes::bytes_of;
 use crate::chunks::{kind_of, lay, rehash};
@@ -7,12 +7,14 @@ use crate::words::{Statement, number_of};
 use anyhow::{Result, bail};
 use std::alloc::Global;
 
-/// A file that is read.
+/// A file that is read or grown.
 #[derive(Drop)]
 pub struct GivenFile {
     pub bytes: Vec<u8>,
     /// The size of one that tells nothing of its bytes: zero bytes follow those above.
     pub untold: Option<u64>,
+    /// Whether none of its calls fails.
+    pub sound: bool,
 }
 
 impl GivenFile {
@@ -21,6 +23,7 @@ impl GivenFile {
         GivenFile {
             bytes,
             untold: None,
+            sound: false,
         }
     }
 }
@@ -54,6 +57,10 @@ pub fn change(
                 decoded,
                 &data,
             )
+        }
+        ("sound", []) => {
+            file.sound = true;
+            Ok(())
         }
         ("untold", [size]) => {
             let size = number_of(size.as_str())?;
@@ -124,6 +131,7 @@ pub fn copy(alloc: Global, files: &mut Vec<GivenFile>, times: usize) -> Result<(
         files.push(GivenFile {
             bytes: file.bytes.to_vec(alloc)?,
             untold: file.untold,
+            sound: file.sound,
         })?;
     }
     Ok(())

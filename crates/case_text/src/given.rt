@@ -13,13 +13,14 @@ pub enum Object {
     Input,
     File,
     Made,
+    Grown,
     Out,
     Notes,
 }
 
 impl Object {
     /// Those that take bytes.
-    pub const TAKING: [Object; 3] = [Object::Made, Object::Out, Object::Notes];
+    pub const TAKING: [Object; 4] = [Object::Made, Object::Grown, Object::Out, Object::Notes];
 
     /// The object of this name.
     pub fn named(word: &str) -> Result<Object> {
@@ -27,6 +28,7 @@ impl Object {
             "input" => Ok(Object::Input),
             "file" => Ok(Object::File),
             "made" => Ok(Object::Made),
+            "grown" => Ok(Object::Grown),
             "out" => Ok(Object::Out),
             "notes" => Ok(Object::Notes),
             _ => bail!("no such object: {word}"),
@@ -39,6 +41,7 @@ impl Object {
             Object::Input => "input",
             Object::File => "file",
             Object::Made => "made",
+            Object::Grown => "grown",
             Object::Out => "out",
             Object::Notes => "notes",
         }
@@ -51,11 +54,13 @@ pub struct Given {
     /// Standard input, if it is given.
     pub input: Option<Vec<u8>>,
     pub files: Vec<GivenFile>,
+    /// The file that is grown, if one is given.
+    pub grown: Option<GivenFile>,
     /// How many bytes calls move at most, by turns.
     pub cuts: Vec<u32>,
     /// Calls that fail.
     pub fails: Vec<(Object, u32)>,
-    /// How many bytes the made file takes, if that is said.
+    /// How many bytes the made file takes, and the grown one, if that is said.
     pub room: Option<usize>,
 }
 
@@ -65,6 +70,7 @@ impl Given {
         Given {
             input: None,
             files: Vec::new(alloc),
+            grown: None,
             cuts: Vec::new(alloc),
             fails: Vec::new(alloc),
             room: None,
@@ -96,6 +102,7 @@ impl Given {
         match statement.kind() {
             "input" => self.input = Some(bytes_of(alloc, known, words)?),
             "copies" => copy(alloc, &mut self.files, one_number(words)?)?,
+            "grows" => self.grow_last(words)?,
             "cuts" => self.cuts = cuts_of(alloc, words)?,
             "fails" => set_fails(&mut self.fails, words)?,
             "room" => self.room = Some(one_number(words)?),
@@ -107,6 +114,18 @@ impl Given {
                 ),
             },
         }
+        Ok(())
+    }
+
+    /// Lets the last file be grown in place of being read.
+    fn grow_last(&mut self, words: &[String]) -> Result<()> {
+        if !words.is_empty() {
+            bail!("no word follows it");
+        }
+        let Some(file) = self.files.pop() else {
+            bail!("no file stands above it");
+        };
+        self.grown = Some(file);
         Ok(())
     }
 }

@@ -9,7 +9,8 @@ use case_text::given::{Given, Object};
 use case_text::names::Known;
 use case_text::words::{Statement, one_number};
 use plain_reading::walk::walked;
-use std::alloc::{AllocError, Global};
+use plain_reading::weave::is_woven;
+use std::alloc::Global;
 use std::thread::Threads;
 
 /// What a run is to answer.
@@ -27,13 +28,26 @@ pub(crate) struct Answer {
     facts: Vec<(Object, Fact)>,
     /// How many bytes the last file handed out at most, if that is said.
     handed: Option<u64>,
+    /// How many of its bytes the grown file keeps, if that is said.
+    kept: Option<usize>,
+    /// What a plain walk shows of each file whose records are woven into the made one, if they are.
+    woven: Option<Vec<Vec<u8>>>,
 }
 
 /// Whether this kind of statement says what a run answers.
 pub(crate) fn says_answer(kind: &str) -> bool {
     matches!(
         kind,
-        "silent" | "status" | "made" | "out" | "notes" | "handed" | "walked"
+        "silent"
+            | "status"
+            | "made"
+            | "grown"
+            | "kept"
+            | "out"
+            | "notes"
+            | "handed"
+            | "walked"
+            | "woven"
     )
 }
 
@@ -47,6 +61,8 @@ impl Answer {
             status_name: None,
             facts: Vec::new(alloc),
             handed: None,
+            kept: None,
+            woven: None,
         }
     }
 
@@ -65,7 +81,7 @@ impl Answer {
         }
         self.told = true;
         match statement.kind() {
-            "silent" | "walked" if !words.is_empty() => bail!("no word follows it"),
+            "silent" | "walked" | "woven" if !words.is_empty() => bail!("no word follows it"),
             "silent" => {
                 self.silent = true;
                 Ok(())
@@ -73,6 +89,8 @@ impl Answer {
             "status" => self.take_status(alloc, &tries.known, words),
             "handed" => self.take_handed(given, words),
             "walked" => self.take_walk(alloc, given),
+            "woven" => self.take_weave(alloc, given),
+            "kept" => self.take_kept(words),
             object => {
                 let object = Object::named(object)?;
                 let fact = fact_of(rt, alloc, tries, words)?;
@@ -120,6 +138,32 @@ impl Answer {
         self.add_fact(Object::Notes, Fact::All(notes))
     }
 
+    /// Takes in that the records of all files are woven into the made one.
+    fn take_weave(&mut self, alloc: Global, given: &Given) -> Result<()> {
+        let mut woven = Vec::new(alloc);
+        for file in &given.files {
+            if file
+                .untold
+                .is_some_and(|size| size != file.bytes.len() as u64)
+            {
+                bail!("no walk goes over an untold file");
+            }
+            let (shown, notes) = walked(alloc, &file.bytes)?;
+            if !notes.is_empty() {
+                bail!("a file is refused");
+            }
+            woven.push(shown)?;
+        }
+        self.woven = Some(woven);
+        Ok(())
+    }
+
+    /// Takes in how many of its bytes the grown file keeps.
+    fn take_kept(&mut self, words: &[String]) -> Result<()> {
+        self.kept = Some(one_number(words)?);
+        Ok(())
+    }
+
     /// Whether the status is as it is said: 0 where nothing is.
     pub(crate) fn is_status(&self, status: u8) -> bool {
         if self.statuses.is_empty() {
@@ -129,9 +173,10 @@ impl Answer {
         }
     }
 
-    /// Whether what the object took is as it is said: nothing where nothing is.
-    fn holds(&self, object: Object, taken: &[u8]) -> bool {
-        let mut said = false;
+    /// Whether what a run left of the object is as it is said: as it was before where nothing is.
+    fn holds(&self, object: Object, left: &Left) -> bool {
+        let taken = left.taken(object);
+        let mut said = self.woven.is_some() && matches!(object, Object::Made | Object::Out);
         for (about, fact) in &self.facts {
             if *about == object {
                 said = true;
@@ -140,12 +185,15 @@ impl Answer {
                 }
             }
         }
-        said || taken.is_empty()
+        said || taken == left.before(object)
     }
 
-    /// All bytes that the object is to take.
-    pub(crate) fn whole(&self, object: Object) -> Result<&[u8]> {
-        let mut whole = b"".as_slice();
+    /// All bytes that the object is to take, or to have where it is grown.
+    pub(crate) fn whole<'a>(&'a self, object: Object, left: &'a Left) -> Result<&'a [u8]> {
+        if self.woven.is_some() {
+            bail!("records may be woven in many ways");
+        }
+        let mut whole = left.before(object);
         for (about, fact) in &self.facts {
             if *about == object {
                 match fact {
@@ -157,16 +205,39 @@ impl Answer {
         Ok(whole)
     }
 
+    /// Whether the grown file is as it was, or has the front that it keeps and a front of what is to stand behind it.
+    pub(crate) fn is_grown_in_part(&self, left: &Left) -> Result<bool> {
+        let (old, held) = (left.before(Object::Grown), left.taken(Object::Grown));
+        let whole = self.whole(Object::Grown, left)?;
+        let kept = self.kept.unwrap_or(old.len());
+        if old.len() < kept || !whole.starts_with(old.get(..kept).unwrap_or(old)) {
+            bail!("the grown file doesn't keep its first {kept} bytes");
+        }
+        Ok(held == old || kept <= held.len() && whole.starts_with(held))
+    }
+
     /// Tells of what a run left all that is something else. It is empty where nothing is.
-    pub(crate) fn differences(&self, alloc: Global, left: &Left) -> Result<String, AllocError> {
+    pub(crate) fn differences(&self, alloc: Global, left: &Left) -> Result<String> {
         let mut told = String::new(alloc);
         if !self.is_status(left.status) {
             tell_status(&mut told, left)?;
         }
         for object in Object::TAKING {
-            if !self.holds(object, left.taken(object)) {
+            if !self.holds(object, left) {
                 tell_taken(alloc, &mut told, left, object)?;
             }
+        }
+        if let Some(files) = &self.woven
+            && !is_woven(
+                alloc,
+                files,
+                left.taken(Object::Made),
+                left.taken(Object::Out),
+            )?
+        {
+            write!(told, "\n  not woven")?;
+            tell_taken(alloc, &mut told, left, Object::Made)?;
+            tell_taken(alloc, &mut told, left, Object::Out)?;
         }
         if let Some(most) = self.handed
             && left.handed > most

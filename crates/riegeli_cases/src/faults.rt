@@ -18,6 +18,7 @@ fn fault_of(object: Object) -> (u8, &'static [u8]) {
         Object::Input => (3, b"input fault\n"),
         Object::File => (4, b"file fault\n"),
         Object::Made => (5, b"made fault\n"),
+        Object::Grown => (15, b"grown fault\n"),
         Object::Out => (6, b"out fault\n"),
         Object::Notes => (13, b""),
     }
@@ -37,8 +38,26 @@ fn tells_fault(notes: &[u8], line: &[u8], whole: &[u8], skipped: bool) -> bool {
     }
 }
 
+/// Whether what a run left of one object is a front of what it is to leave, and less than that where the object's own call
+/// failed. Of notes it is that front and the fault's line.
+fn is_front(answer: &Answer, left: &Left, taking: Object, failing: Object) -> Result<bool> {
+    let (taken, whole) = (left.taken(taking), answer.whole(taking, left)?);
+    let is_less = taken != whole;
+    Ok(match taking {
+        Object::Grown => {
+            answer.is_grown_in_part(left)?
+                && (taking != failing || is_less || whole == left.before(taking))
+        }
+        Object::Notes if taking != failing => {
+            let (_, line) = fault_of(failing);
+            tells_fault(taken, line, whole, answer.is_status(9))
+        }
+        _ => whole.starts_with(taken) && (taking != failing || is_less),
+    })
+}
+
 /// Tells of what a run left all that is not what one leaves whose call of the object failed: its status and its line, and
-/// fronts of what made and out are to take, where the object itself did not take the whole.
+/// fronts of what the others are to take, where the object itself did not take the whole.
 fn fault_differences(
     alloc: Global,
     answer: &Answer,
@@ -46,20 +65,12 @@ fn fault_differences(
     object: Object,
 ) -> Result<String> {
     let mut told = String::new(alloc);
-    let (status, line) = fault_of(object);
+    let (status, _) = fault_of(object);
     if left.status != status {
         tell_status(&mut told, left)?;
     }
     for taking in Object::TAKING {
-        let (taken, whole) = (left.taken(taking), answer.whole(taking)?);
-        let good = if taking == object {
-            whole.starts_with(taken) && taken.len() < whole.len()
-        } else if taking == Object::Notes {
-            tells_fault(taken, line, whole, answer.is_status(9))
-        } else {
-            whole.starts_with(taken)
-        };
-        if !good {
+        if !is_front(answer, left, taking, object)? {
             tell_taken(alloc, &mut told, left, taking)?;
         }
     }

@@ -1,5 +1,7 @@
-//! Hostile files through `show`, `verify`, `show --recover` and `repair`.
+//! Hostile files through each command that reads or grows one.
 
+use crate::hostile_growth::try_growth;
+use crate::hostile_parts::{try_collected, try_parts};
 use crate::running::{Left, alone, run_words};
 use crate::tries::Tries;
 use anyhow::{Result, bail};
@@ -79,7 +81,31 @@ fn try_file<R: Threads + Sync>(
         return Ok(Some("repair tells of other ranges"));
     }
     let made = judged.repaired.made.taken().to_vec(alloc)?;
-    try_repaired(rt, alloc, tries, &judged, &alone(alloc, made)?)
+    let repaired = try_repaired(rt, alloc, tries, &judged, &alone(alloc, made)?)?;
+    if repaired.is_some() {
+        return Ok(repaired);
+    }
+    try_again(rt, alloc, tries, given, &judged)
+}
+
+/// Grows the file, reads it in parts and collects it. Tells what is wrong.
+fn try_again<R: Threads + Sync>(
+    rt: &R,
+    alloc: Global,
+    tries: &mut Tries,
+    given: &Given,
+    judged: &Judged,
+) -> Result<Option<&'static str>> {
+    let file = given.last_file()?.bytes.as_slice();
+    let grown = try_growth(rt, alloc, tries, file, &judged.verified)?;
+    if grown.is_some() {
+        return Ok(grown);
+    }
+    let parts = try_parts(rt, alloc, tries, file, &judged.shown)?;
+    if parts.is_some() {
+        return Ok(parts);
+    }
+    try_collected(rt, alloc, tries, given, &judged.shown)
 }
 
 /// Tries the commands on the file that `repair` made. Tells what is wrong.

@@ -7,6 +7,8 @@ mod cases;
 mod facts;
 mod faults;
 mod hostile_files;
+mod hostile_growth;
+mod hostile_parts;
 mod running;
 mod sought;
 mod stores;

@@ -5,7 +5,7 @@ use crate::tries::Tries;
 use anyhow::{Result, bail};
 use case_text::files::GivenFile;
 use case_text::given::{Given, Object};
-use record_append::MemDevice;
+use record_append::{Device, MemDevice};
 use record_io::{MemInput, MemSink, MemStore, Store};
 use riegeli_tool::run;
 use std::alloc::{AllocError, Global};
@@ -24,18 +24,30 @@ pub(crate) struct Left {
     pub(crate) made: MemSink,
     pub(crate) out: MemSink,
     pub(crate) notes: MemSink,
+    /// The bytes that the grown file had and then has, which are none where it is an untold one.
+    old: Vec<u8>,
+    grown: Vec<u8>,
     /// How many bytes the last file handed out, where it is an untold one.
     pub(crate) handed: u64,
 }
 
 impl Left {
-    /// The bytes that the object took.
+    /// The bytes that the object took, or that it has where it is grown.
     pub(crate) fn taken(&self, object: Object) -> &[u8] {
         match object {
             Object::Made => self.made.taken(),
+            Object::Grown => &self.grown,
             Object::Out => self.out.taken(),
             Object::Notes => self.notes.taken(),
             Object::Input | Object::File => b"",
+        }
+    }
+
+    /// The same where nothing is done with the object.
+    pub(crate) fn before(&self, object: Object) -> &[u8] {
+        match object {
+            Object::Grown => &self.old,
+            _ => b"",
         }
     }
 }
@@ -63,11 +75,20 @@ pub(crate) fn run_in_memory<R: Threads + Sync>(
     }
     let mut files = Vec::new(alloc);
     for file in &given.files {
-        let fails = given.fails_of(alloc, Object::File)?;
-        let cuts = given.cuts.to_vec(alloc)?;
-        files.push(MemStore::new(file.bytes.to_vec(alloc)?, cuts, fails))?;
+        files.push(store_of(alloc, given, file)?)?;
     }
     Ok(run_over(rt, alloc, words, given, &mut files)?)
+}
+
+/// The store that this file is.
+fn store_of(alloc: Global, given: &Given, file: &GivenFile) -> Result<MemStore, AllocError> {
+    let fails = if file.sound {
+        Vec::new(alloc)
+    } else {
+        given.fails_of(alloc, Object::File)?
+    };
+    let cuts = given.cuts.to_vec(alloc)?;
+    Ok(MemStore::new(file.bytes.to_vec(alloc)?, cuts, fails))
 }
 
 /// Runs these words over what is given.
@@ -113,19 +134,43 @@ fn run_over<R: Threads + Sync, S: Store + Send>(
     given: &Given,
     files: &mut [S],
 ) -> Result<Left, AllocError> {
+    if let Some(file) = &given.grown
+        && let Some(size) = file.untold
+    {
+        let mut grown = Untold::new(&file.bytes, size);
+        return run_on(rt, alloc, words, given, files, &mut grown);
+    }
+    let mut grown = device_of(alloc, given)?;
+    let old = grown.bytes().to_vec(alloc)?;
+    let mut left = run_on(rt, alloc, words, given, files, &mut grown)?;
+    left.old = old;
+    left.grown = grown.bytes().to_vec(alloc)?;
+    Ok(left)
+}
+
+/// Runs the words over these files and this device, and what is given beside them.
+fn run_on<R: Threads + Sync, S: Store + Send, G: Device + Send>(
+    rt: &R,
+    alloc: Global,
+    words: &[String],
+    given: &Given,
+    files: &mut [S],
+    grown: &mut G,
+) -> Result<Left, AllocError> {
     let mut input = input_of(alloc, given)?;
     let mut made = sink_of(alloc, given, Object::Made)?;
     let mut out = sink_of(alloc, given, Object::Out)?;
     let mut notes = sink_of(alloc, given, Object::Notes)?;
-    let mut grown = no_device(alloc)?;
     let status = run(
-        rt, alloc, words, &mut input, files, &mut made, &mut grown, &mut out, &mut notes,
+        rt, alloc, words, &mut input, files, &mut made, grown, &mut out, &mut notes,
     );
     Ok(Left {
         status: status.number(),
         made,
         out,
         notes,
+        old: Vec::new(alloc),
+        grown: Vec::new(alloc),
         handed: 0,
     })
 }
@@ -144,9 +189,19 @@ fn input_of(alloc: Global, given: &Given) -> Result<MemInput, AllocError> {
     Ok(MemInput::new(bytes, cuts, fails))
 }
 
-/// A device that no command grows yet.
-fn no_device(alloc: Global) -> Result<MemDevice, AllocError> {
-    MemDevice::new(alloc, Vec::new(alloc), 0, Vec::new(alloc), Vec::new(alloc))
+/// The file that is grown, whose first call fails where none is given.
+fn device_of(alloc: Global, given: &Given) -> Result<MemDevice, AllocError> {
+    let mut fails = given.fails_of(alloc, Object::Grown)?;
+    let cuts = given.cuts.to_vec(alloc)?;
+    let bytes = match &given.grown {
+        Some(file) => file.bytes.to_vec(alloc)?,
+        None => {
+            fails.push(0)?;
+            Vec::new(alloc)
+        }
+    };
+    let room = given.room.unwrap_or(room_for(given));
+    MemDevice::new(alloc, bytes, room, cuts, fails)
 }
 
 /// The sink that this object is.

@@ -1,6 +1,7 @@
-//! A store of which nothing is told.
+//! A file of which nothing is told.
 ghost use Rattle.std.specs.Prelude.{None};
 
+use record_append::Device;
 use record_io::{Failed, Store};
 
 /// A file of these bytes and of zero bytes behind them up to its size, of which nothing is told.
@@ -58,5 +59,40 @@ impl Store for Untold<'_> {
         buf[held..count].fill(0);
         self.handed = self.handed.saturating_add(count as u64);
         Ok(count)
+    }
+}
+
+/// What is put behind its bytes is forgotten.
+impl Device for Untold<'_> {
+    ghost use Rattle.record_io.specs.Memory.{told_if};
+
+    ghost bytes = { λ _. None };
+
+    ghost told = { λ s. told_if s.asked s.size };
+
+    ghost handed = { λ s. s.handed };
+
+    ghost faults = { λ _. 0 };
+
+    ghost sized = { λ _. tt };
+
+    fn size(&mut self) -> Result<u64, Failed> {
+        Store::size(self)
+    }
+
+    fn read_at(&mut self, at: u64, buf: &mut [u8]) -> Result<usize, Failed> {
+        Store::read_at(self, at, buf)
+    }
+
+    fn cut(&mut self, at: u64) -> Result<(), Failed> {
+        self.asked = false;
+        self.size = at;
+        Ok(())
+    }
+
+    fn put(&mut self, piece: &[u8]) -> Result<usize, Failed> {
+        self.asked = false;
+        self.size = self.size.saturating_add(piece.len() as u64);
+        Ok(piece.len())
     }
 }

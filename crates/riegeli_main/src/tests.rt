@@ -4,12 +4,16 @@ use record_io::{MemInput, MemSink};
 use riegeli_tool::Status;
 use std::alloc::{AllocError, Global};
 use std::fs;
+use std::process::Abort;
 use std::test::Fail;
+use std::thread::Threads;
 
-/// A file that is written, and one that is made of it.
+/// A file that is written, one that is made of it, and one that grows.
 const FIRST: &str = "riegeli_main_first";
 
 const SECOND: &str = "riegeli_main_second";
+
+const THIRD: &str = "riegeli_main_third";
 
 /// A file that can't be opened or made.
 const ABSENT: &str = "no_such_folder/F";
@@ -21,6 +25,15 @@ const REPORT: &str = "chunks 2\nrecords 3\nbytes 112\nunread 0\n";
 
 /// The report of two such files that are joined.
 const JOINED: &str = "chunks 5\nrecords 6\nbytes 65648\nunread 0\n";
+
+/// Where the lines stand in their file, which is collected, and what is told where they make a file and where they stand behind it.
+const PLACES: &str = "0 64\n0 65\n0 66\n";
+
+const FIRST_GROWN: &str = "kept 0\ndropped 0\nrecords 3\nbytes 112\n";
+
+const GROWN: &str = "kept 112\ndropped 0\nrecords 3\nbytes 160\n";
+
+const TWICE: &str = "a\nbc\n\na\nbc\n\n";
 
 /// The records that are sampled, and the summary of their file.
 const SAMPLE: &str = "zr\nqdo\n";
@@ -57,6 +70,12 @@ fn each_command_uses_the_files_that_its_words_name(rt: HostRuntime) -> Result<()
             "",
         ),
         (&["show", SECOND], Status::Ok, SAMPLE, ""),
+        (&["ranges", "--parts=3", FIRST], Status::Ok, LINES, ""),
+        (&["append", THIRD], Status::Ok, FIRST_GROWN, ""),
+        (&["append", THIRD], Status::Ok, GROWN, ""),
+        (&["show", THIRD], Status::Ok, TWICE, ""),
+        (&["collect", FIRST, SECOND], Status::Ok, PLACES, ""),
+        (&["show", SECOND], Status::Ok, LINES, ""),
         (
             &["repair", FIRST, "./riegeli_main_first"],
             Status::Made,
@@ -69,6 +88,12 @@ fn each_command_uses_the_files_that_its_words_name(rt: HostRuntime) -> Result<()
             "",
             "made fault\n",
         ),
+        (
+            &["collect", SECOND, FIRST, "./riegeli_main_first"],
+            Status::Made,
+            "",
+            "made fault\n",
+        ),
         (&["repair", ABSENT, FIRST], Status::File, "", "file fault\n"),
         (
             &["join", FIRST, ABSENT, SECOND],
@@ -76,31 +101,74 @@ fn each_command_uses_the_files_that_its_words_name(rt: HostRuntime) -> Result<()
             "",
             "file fault\n",
         ),
+        (
+            &["ranges", "--parts=2", ABSENT],
+            Status::File,
+            "",
+            "file fault\n",
+        ),
+        (
+            &["collect", FIRST, ABSENT, SECOND],
+            Status::File,
+            "",
+            "file fault\n",
+        ),
         (&["write", ABSENT], Status::Made, "", "made fault\n"),
+        (&["append", ABSENT], Status::Grown, "", "grown fault\n"),
         (&["show", ABSENT], Status::File, "", "file fault\n"),
         (&["verify", FIRST], Status::Ok, REPORT, ""),
     ] {
-        let alloc = rt.alloc();
-        let mut input = MemInput::new(
-            LINES.as_bytes().to_vec(alloc)?,
-            Vec::new(alloc),
-            Vec::new(alloc),
-        );
-        let (mut out, mut notes) = (sink(alloc)?, sink(alloc)?);
-        let ended = run_on_files(
-            &rt,
-            &rt,
-            &owned(alloc, words)?,
-            &mut input,
-            &mut out,
-            &mut notes,
-        );
-        assert_eq!(rt; notes.taken(), told.as_bytes(), "{words:?}");
-        assert_eq!(rt; out.taken(), printed.as_bytes(), "{words:?}");
-        assert_eq!(rt; ended, status, "{words:?}");
+        ends(&rt, &rt, words, status, printed, told)?;
     }
-    fs::remove_file(&rt, FIRST)?;
-    fs::remove_file(&rt, SECOND)?;
+    for path in [FIRST, SECOND, THIRD] {
+        fs::remove_file(&rt, path)?;
+    }
+    Ok(())
+}
+
+/// The file of lines ends within its chunk, which goes from 64 to 112, or within its first bytes.
+#[test]
+fn a_file_that_is_cut_off_grows_unless_it_is_none(rt: HostRuntime) -> Result<(), Fail> {
+    let path = "riegeli_main_cut";
+    let kept = "kept 64\ndropped 36\nrecords 3\nbytes 112\n";
+    for (size, status, printed, told, left) in [
+        (100, Status::Ok, kept, "", 112),
+        (63, Status::Refused, "", "refused 0 NoSignature\n", 63),
+    ] {
+        ends(&rt, &rt, &["write", path], Status::Ok, "", "")?;
+        let file = fs::read(&rt, path)?;
+        fs::write(&rt, path, file.get(..size).unwrap_or(b""))?;
+        ends(&rt, &rt, &["append", "--cut", path], status, printed, told)?;
+        assert_eq!(rt;
+            fs::read(&rt, path)?.as_slice(),
+            file.get(..left).unwrap_or(b"")
+        );
+    }
+    fs::remove_file(&rt, path)?;
+    Ok(())
+}
+
+/// Runs the words with the lines as input, and asserts how that ends.
+fn ends<R: Threads + Abort + Sync>(
+    threads: &R,
+    rt: &HostRuntime,
+    words: &[&str],
+    status: Status,
+    printed: &str,
+    told: &str,
+) -> Result<(), AllocError> {
+    let alloc = rt.alloc();
+    let mut input = MemInput::new(
+        LINES.as_bytes().to_vec(alloc)?,
+        Vec::new(alloc),
+        Vec::new(alloc),
+    );
+    let (mut out, mut notes) = (sink(alloc)?, sink(alloc)?);
+    let words = owned(alloc, words)?;
+    let ended = run_on_files(threads, rt, &words, &mut input, &mut out, &mut notes);
+    assert_eq!(threads; notes.taken(), told.as_bytes(), "{words:?}");
+    assert_eq!(threads; out.taken(), printed.as_bytes(), "{words:?}");
+    assert_eq!(threads; ended, status, "{words:?}");
     Ok(())
 }
 

@@ -12,21 +12,71 @@ use std::alloc::Global;
 use std::process::Abort;
 use std::test::Fail;
 
+/// No file.
+const NONE: Names = Names {
+    first: 0,
+    count: 0,
+    made: None,
+    times: 1,
+    grown: None,
+};
+
+/// The file that is read and the one that is made of it.
+fn made_of(first: usize, made: usize) -> Names {
+    Names {
+        first,
+        count: 1,
+        made: Some(made),
+        ..NONE
+    }
+}
+
+/// The file that grows.
+fn grows(grown: usize) -> Names {
+    Names {
+        grown: Some(grown),
+        ..NONE
+    }
+}
+
+/// The file that is read so many times.
+fn read_times(first: usize, times: usize) -> Names {
+    Names {
+        first,
+        count: 1,
+        times,
+        ..NONE
+    }
+}
+
+/// So many files that are read, and the one that is made of them.
+fn made_of_many(count: usize) -> Names {
+    Names {
+        first: 1,
+        count,
+        made: Some(count.saturating_add(1)),
+        ..NONE
+    }
+}
+
 #[test]
-fn the_file_that_is_read_and_the_one_that_is_made_are_named(rt: HostRuntime) -> Result<(), Fail> {
-    for (words, first, made) in [
-        (["repair", "A", "B"].as_slice(), 1, 2),
-        (&["repair", "--most=1", "A", "B"], 2, 3),
-        (&["repair", "A", "--most=1", "B"], 1, 3),
+fn the_files_that_are_read_made_and_grown_are_named(rt: HostRuntime) -> Result<(), Fail> {
+    for (words, wanted) in [
+        (["repair", "A", "B"].as_slice(), made_of(1, 2)),
+        (&["repair", "--most=1", "A", "B"], made_of(2, 3)),
+        (&["repair", "A", "--most=1", "B"], made_of(1, 3)),
+        (&["join", "A", "A", "B"], made_of_many(2)),
+        (&["ranges", "--parts=3", "A"], read_times(2, 3)),
+        (&["ranges", "A", "--parts=16"], read_times(1, 16)),
+        (&["ranges", "A", "--parts=17"], NONE),
+        (&["append", "A"], grows(1)),
+        (&["append", "--cut", "A", "--hex"], grows(2)),
+        (&["append", "A", "B"], NONE),
+        (&["collect", "A", "B"], made_of_many(1)),
+        (&["collect", "A", "B", "A", "C"], made_of_many(3)),
+        (&["collect", "A", "A"], NONE),
     ] {
         let words = owned(rt.alloc(), words)?;
-        let wanted = Names {
-            first,
-            count: 1,
-            made: Some(made),
-            times: 1,
-            grown: None,
-        };
         assert_eq!(rt; names(&words), wanted);
     }
     Ok(())

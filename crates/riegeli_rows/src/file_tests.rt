@@ -14,6 +14,9 @@ seek (--at=N | --key=TEXT) [--hex] FILE
 repair [--most=N] FROM TO
 sample --seed=N --records=N [--chunk=N] [--workers=N] FILE
 join FROM... TO
+ranges --parts=N FILE
+append [--chunk=N] [--every=N] [--workers=N] [--pad=start|end|both] [--hex] [--cut] FILE
+collect FROM... TO
 ";
 
 /// The report of the file of three lines.
