@@ -150,7 +150,7 @@ HasSaid m ends (Err (end.Cut cut.Notes)) notes notes_then =
     (wanted : Status) × (text : List ℕ) × TakesFront notes notes_then text × MayEndInReach m wanted text
 HasSaid m ends (Err (end.Cut why)) notes notes_then = (text : List ℕ) × Takes notes notes_then text × m.may_say text
 
-module _ (m : Meaning) (P : List ℕ → Answer → Type 0) (Q : List ℕ → List Put → Type 0) (reads : ReadsFile m P Q)
+module _ (m : Meaning) (P : List ℕ → Answer → Type 0) (Q : (before after : ℕ) → List ℕ → List Put → Type 0) (reads : ReadsFile m P Q)
     (input made made_then : SeenStream) (file file_then grown : SeenFile) (out out_then notes mid notes_then : SeenStream)
     (keeps : Keeps m (seen input (file ∷ []) made grown out notes) (seen input (file_then ∷ []) made_then grown out_then notes_then)) where
   abbrev Before : Seen
@@ -236,7 +236,7 @@ module _ (m : Meaning) (P : List ℕ → Answer → Type 0) (Q : List ℕ → Li
 
   -- all that was put so far went out
   abbrev PutSoFar : Type 0
-  PutSoFar = AreSinksSound m.uses Before After → IfSome file.bytes (λ bytes. HasPutSoFar (Q bytes) Start Worked [])
+  PutSoFar = AreSinksSound m.uses Before After → IfSome file.bytes (λ bytes. HasPutSoFar (Q file.handed file_then.handed bytes) Start Worked [])
 
   -- a front of an answer, up to bytes that go to the sink that failed
   broken : (why : Cut) → why ≢ cut.Notes → (answer : Answer) → HasPutToCut why Start Worked [] answer

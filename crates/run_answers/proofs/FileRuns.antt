@@ -12,21 +12,21 @@ use Rattle.run_answers.specs.Meanings.{Uses, Meaning, Read}
 use Rattle.run_answers.specs.Statuses.{fault_text}
 use Rattle.run_answers.specs.Runs.{SeenStream, SeenFile, Seen, seen, IfRead, IfTold, OfSizes, TakesThen, WentOutSoFar}
 use Rattle.run_answers.specs.PutSoFar.{HasPutSoFar}
-use Rattle.run_answers.proofs.RunEnds.{Keeps, went-so_far}
+use Rattle.run_answers.proofs.RunEnds.{Keeps, none-taken, went-so_far}
 
 -- what holds of a command that reads one file, of which P are the answers and Q what it may have put so far, and prints
-pub record ReadsFile (m : Meaning) (P : List ℕ → Answer → Type 0) (Q : List ℕ → List Put → Type 0) : Type 0 where
+pub record ReadsFile (m : Meaning) (P : List ℕ → Answer → Type 0) (Q : (before after : ℕ) → List ℕ → List Put → Type 0) : Type 0 where
   pub command : m.is_command ≡ true
   pub input : m.uses.input ≡ false
   pub files : m.uses.files ≡ true
   pub grown : m.uses.grown ≡ false
   pub out : m.uses.out ≡ true
   pub answers : (r : Read) (answer : Answer) → OfFile P r.files answer → m.answers r answer
-  pub so_far : (r : Read) (part : List Put) → OfFileSoFar Q r.files part → m.may_have_put r part
+  pub so_far : (r : Read) (before after : List ℕ) (part : List Put) → OfFileSoFar Q r.files before after part → m.may_have_put r before after part
   pub may_work : (sizes : List ℕ) → IsInReach sizes → m.may_work sizes
 
 -- so of one whose meaning is that, whatever else it means
-pub reads_file : (P : List ℕ → Answer → Type 0) (Q : List ℕ → List Put → Type 0) (uses : Uses) (may_take : List ℕ → List ℕ → List ℕ → Type 0)
+pub reads_file : (P : List ℕ → Answer → Type 0) (Q : (before after : ℕ) → List ℕ → List Put → Type 0) (uses : Uses) (may_take : List ℕ → List ℕ → List ℕ → Type 0)
     (may_end : List ℕ → Status → List ℕ → Type 0) (may_say : List ℕ → Type 0)
     → uses.input ≡ false → uses.files ≡ true → uses.grown ≡ false → uses.out ≡ true
     → ReadsFile (record (file_meaning P Q) { uses = uses; may_take = may_take; may_end = may_end; may_say = may_say }) P Q
@@ -37,7 +37,7 @@ reads_file P Q uses may_take may_end may_say input files grown out = record {
   grown = grown;
   out = out;
   answers = λ r answer is. is;
-  so_far = λ r part is. is;
+  so_far = λ r before after part is. is;
   may_work = λ sizes within. within;
 }
 
@@ -82,7 +82,7 @@ file_fell file file_then less zero a b was is =
     omega (arith, less, ap (λ (s : SeenFile). s.faults) same, ap (λ (s : SeenFile). s.faults) also)
 file_fell file file_then less (suc place) a b was is = absurd (cc was)
 
-module _ (m : Meaning) (P : List ℕ → Answer → Type 0) (Q : List ℕ → List Put → Type 0) (reads : ReadsFile m P Q)
+module _ (m : Meaning) (P : List ℕ → Answer → Type 0) (Q : (before after : ℕ) → List ℕ → List Put → Type 0) (reads : ReadsFile m P Q)
     (input made made_then : SeenStream) (file file_then grown : SeenFile) (out out_then notes notes_then : SeenStream) where
   abbrev Asked : Seen
   Asked = seen input (file ∷ []) made grown out notes
@@ -106,7 +106,7 @@ module _ (m : Meaning) (P : List ℕ → Answer → Type 0) (Q : List ℕ → Li
 
   -- all that was put so far of those went out
   pub told-so_far : (ended : Status) (mid : SeenStream)
-      → IfSome file.bytes (λ bytes. HasPutSoFar (Q bytes)
+      → IfSome file.bytes (λ bytes. HasPutSoFar (Q file.handed file_then.handed bytes)
       (taken_by made.bytes out.bytes notes.bytes) (taken_by made_then.bytes out_then.bytes mid.bytes) [])
       → notes.faults ≤ mid.faults → TakesThen mid notes_then [] (fault_text ended)
       → IfRead m Asked (WentOutSoFar m ended Asked Answered)
@@ -114,9 +114,10 @@ module _ (m : Meaning) (P : List ℕ → Answer → Type 0) (Q : List ℕ → Li
       let one = one_told file.bytes r.files (is.files reads.files).0 in
       let start : Taken = taken_by made.bytes out.bytes notes.bytes in
       let then : Taken = taken_by made_then.bytes out_then.bytes mid.bytes in
-      let put = MatchOption-at_some _ (λ (b : List ℕ). HasPutSoFar (Q b) start then []) one.0 one.2 so_far in
+      let put = MatchOption-at_some _ (λ (b : List ℕ). HasPutSoFar (Q file.handed file_then.handed b) start then []) one.0 one.2 so_far in
       went-so_far m ended Asked Answered mid r put.part
-      (reads.so_far r put.part (subst (λ (fs : List (List ℕ)). OfFileSoFar Q fs put.part) (sym one.1) put.is))
+      (reads.so_far r (file.handed ∷ []) (file_then.handed ∷ []) put.part
+      (subst (λ (fs : List (List ℕ)). OfFileSoFar Q fs (file.handed ∷ []) (file_then.handed ∷ []) put.part) (sym one.1) put.is))
       (GoOut-none_held start then Out put.part [] refl put.went) less says
 
   -- what holds of the bytes that the file tells holds of the files that are read
@@ -161,4 +162,5 @@ module _ (m : Meaning) (P : List ℕ → Answer → Type 0) (Q : List ℕ → Li
     handed_of = handed_of;
     grown_handed = refl;
     in_order = λ place asked is untold. one_alone place asked file_then file is;
+    input_taken = none-taken m.most_taken input.bytes;
   }

@@ -5,7 +5,7 @@ use Rattle.std.proofs.lemmas.Option.{MatchOption-at_some}
 use Rattle.run_answers.specs.declared.status.Status.{Status}
 use Rattle.run_answers.specs.FileAnswers.{IsInReach}
 use Rattle.run_answers.specs.Meanings.{Meaning, Read}
-use Rattle.run_answers.specs.Runs.{SeenStream, SeenFile, Seen, seen, handed_by, IfGrown, IsWhole, IsCutOff, OfSizes}
+use Rattle.run_answers.specs.Runs.{SeenStream, SeenFile, Seen, seen, handed_by, IfGrown, IsWhole, IsCutOff, OfSizes, TakesAtMost}
 use Rattle.run_answers.proofs.RunEnds.{KeepsGrown, KeepsAtEnd, whole-cut_off}
 use Rattle.run_answers.specs.declared.status.Status.TheVariants as status
 
@@ -55,8 +55,9 @@ module _ (m : Meaning) (grows : GrowsFile m) (input input_then : SeenStream) (fi
 
   -- what an end keeps
   keeps-grown : (ended : Status) → input.faults ≤ input_then.faults → made.faults ≤ made_then.faults → grown.faults ≤ grown_then.faults
-      → out.faults ≤ out_then.faults → notes.faults ≤ notes_then.faults → KeepsGrown m Before After ended → KeepsAtEnd m Before After ended
-  keeps-grown ended i k g o n kept = record {
+      → out.faults ≤ out_then.faults → notes.faults ≤ notes_then.faults → TakesAtMost m.most_taken input.bytes input_then.bytes
+      → KeepsGrown m Before After ended → KeepsAtEnd m Before After ended
+  keeps-grown ended i k g o n taken kept = record {
     counts = record {
       input = i;
       files = λ place a b was is. let same : a ≡ b = cc in omega (arith, ap (λ (s : SeenFile). s.faults) same);
@@ -69,13 +70,14 @@ module _ (m : Meaning) (grows : GrowsFile m) (input input_then : SeenStream) (fi
     handed_of = λ r is. grows.may_take_of r (handed_by files);
     in_order = λ place file is untold. refl;
     grown = kept;
+    input_taken = taken;
   }
 
   -- where it gave a whole answer
   pub keeps-whole : (ended : Status) → IsWhole ended → input.faults ≤ input_then.faults → made.faults ≤ made_then.faults
       → grown.faults ≤ grown_then.faults → out.faults ≤ out_then.faults → notes.faults ≤ notes_then.faults
-      → IfGrown m Before After m.leaves → GrownKeeps ended → GrownHandsOut → KeepsAtEnd m Before After ended
-  keeps-whole ended whole i k g o n leaves keeps handed = keeps-grown ended i k g o n (record {
+      → TakesAtMost m.most_taken input.bytes input_then.bytes → IfGrown m Before After m.leaves → GrownKeeps ended → GrownHandsOut → KeepsAtEnd m Before After ended
+  keeps-whole ended whole i k g o n taken leaves keeps handed = keeps-grown ended i k g o n taken (record {
     leaves = λ _. leaves;
     may_leave = λ other. elim other [
       | inl cut ↦ absurd (whole-cut_off ended whole cut)
@@ -88,8 +90,8 @@ module _ (m : Meaning) (grows : GrowsFile m) (input input_then : SeenStream) (fi
   -- where it was cut off, or notes failed
   pub keeps-cut_off : (ended : Status) → IsCutOff ended ⊎ (ended ≡ status.Notes) → input.faults ≤ input_then.faults
       → made.faults ≤ made_then.faults → grown.faults ≤ grown_then.faults → out.faults ≤ out_then.faults → notes.faults ≤ notes_then.faults
-      → IfGrown m Before After m.may_leave → GrownKeeps ended → GrownHandsOut → KeepsAtEnd m Before After ended
-  keeps-cut_off ended cut i k g o n may_leave keeps handed = keeps-grown ended i k g o n (record {
+      → TakesAtMost m.most_taken input.bytes input_then.bytes → IfGrown m Before After m.may_leave → GrownKeeps ended → GrownHandsOut → KeepsAtEnd m Before After ended
+  keeps-cut_off ended cut i k g o n taken may_leave keeps handed = keeps-grown ended i k g o n taken (record {
     leaves = λ whole. elim cut [
       | inl off ↦ absurd (whole-cut_off ended whole off)
       | inr e ↦ absurd (subst IsWhole e whole)

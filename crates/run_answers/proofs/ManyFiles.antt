@@ -8,7 +8,7 @@ use Rattle.record_io.proofs.ManyStores.{AnyRose-place}
 use Rattle.run_answers.specs.Meanings.{Meaning, Read}
 use Rattle.run_answers.specs.Runs.{SeenStream, SeenFile, OneRose, handed_by, seen, seen_file}
 use Rattle.run_answers.proofs.AskedSizes.{exact_sizes}
-use Rattle.run_answers.proofs.RunEnds.{Keeps}
+use Rattle.run_answers.proofs.RunEnds.{Keeps, none-taken}
 
 -- what files told, and the bytes of them
 abbrev pub told_by : List SeenFile → List (Option ℕ)
@@ -104,4 +104,5 @@ module _ {S : Type 0} (bytes : S → Option (List ℕ)) (told : S → Option ℕ
         drop-map Show (place + 1) files_then
         ∙ ap (map Show) (in_order place x.0 x.1 (sym (ap (λ (f : SeenFile). f.told) x.2) ∙ untold))
         ∙ sym (drop-map Show (place + 1) files);
+    input_taken = none-taken m.most_taken input.bytes;
   }

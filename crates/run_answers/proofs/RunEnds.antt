@@ -1,5 +1,5 @@
 -- How a run of any command ends: what all its clauses follow from.
-use Rattle.std.proofs.Common.{◌≡◌, ◌≢◌, ◌+◌, ℕ, ◌≤◌, ◌⊎◌, true, false, Some, None, List, [], ◌∷◌, ◌++◌, length, get_or, set, take, drop, slice_get, map, refl, sym, ap, subst, ◌∙◌, inl, inr, arith}
+use Rattle.std.proofs.Common.{◌≡◌, ◌≢◌, ◌+◌, ℕ, ◌≤◌, ◌⊎◌, true, false, Option, Some, None, List, [], ◌∷◌, ◌++◌, length, get_or, set, take, drop, slice_get, map, refl, sym, ap, subst, ◌∙◌, inl, inr, arith}
 use Rattle.std.specs.Option.{IfSome, IsSomeAnd}
 use Rattle.record_io.specs.Outside.{Rose, Takes, TakesFront}
 use Rattle.record_io.specs.Puts.{Put, Notes, Taken, taken_by, GoOut, BreaksOff, puts_to, bytes_to}
@@ -9,7 +9,7 @@ use Rattle.run_answers.specs.declared.status.Status.{Status}
 use Rattle.run_answers.specs.Statuses.{fault_text}
 use Rattle.run_answers.specs.Answers.{Answer}
 use Rattle.run_answers.specs.Meanings.{Meaning, Read}
-use Rattle.run_answers.specs.Runs.{SeenStream, SeenFile, Seen, seen, IsWhole, IsCutOff, IsCutShort, IsSound, AreSinksSound, IfRead, IfTold, OfSizes, handed_by, taken_in, Gave, TakesThen, SaysAtEnd, Breaks, PutsLines, WasCutOff, WentOutSoFar, FailedToSay, HasCause, NoneFell, IfGrown, Runs}
+use Rattle.run_answers.specs.Runs.{SeenStream, SeenFile, Seen, seen, IsWhole, IsCutOff, IsCutShort, IsSound, AreSinksSound, IfRead, IfTold, OfSizes, handed_by, taken_in, Gave, TakesThen, SaysAtEnd, Breaks, PutsLines, WasCutOff, WentOutSoFar, FailedToSay, HasCause, NoneFell, IfGrown, TakesAtMost, Runs}
 use Rattle.run_answers.specs.declared.status.Status.TheVariants as status
 
 -- what every end of a run keeps that grows no file
@@ -23,6 +23,7 @@ pub record Keeps (m : Meaning) (before after : Seen) : Type 0 where
   pub grown_handed : after.grown.handed ≡ before.grown.handed
   pub in_order : (place : ℕ) (file : SeenFile) → slice_get after.files place ≡ Some file → file.told ≡ None
       → drop (place + 1) after.files ≡ drop (place + 1) before.files
+  pub input_taken : TakesAtMost m.most_taken before.input.bytes after.input.bytes
 
 -- what a run that ended so keeps of the file that it grows
 pub record KeepsGrown (m : Meaning) (before after : Seen) (ended : Status) : Type 0 where
@@ -41,6 +42,12 @@ pub record KeepsAtEnd (m : Meaning) (before after : Seen) (ended : Status) : Typ
   pub in_order : (place : ℕ) (file : SeenFile) → slice_get after.files place ≡ Some file → file.told ≡ None
       → drop (place + 1) after.files ≡ drop (place + 1) before.files
   pub grown : KeepsGrown m before after ended
+  pub input_taken : TakesAtMost m.most_taken before.input.bytes after.input.bytes
+
+-- nothing was taken of bytes that stayed
+pub none-taken : (most : ℕ) (bytes : Option (List ℕ)) → TakesAtMost most bytes bytes
+none-taken most None = tt
+none-taken most (Some left) = omega arith
 
 -- where no file is grown, whatever the status
 keeps-ungrown : (m : Meaning) (before after : Seen) (ended : Status) → Keeps m before after → KeepsAtEnd m before after ended
@@ -55,14 +62,15 @@ keeps-ungrown m before after ended keeps = record {
     keeps = λ uses. absurd (cc (sym uses ∙ keeps.ungrown));
     handed = inl keeps.grown_handed;
   };
+  input_taken = keeps.input_taken;
 }
 
 -- where neither files nor a grown file is used, and no count fell of what is
 pub keeps-unread : (m : Meaning) (input input_then : SeenStream) (files : List SeenFile) (made made_then : SeenStream) (grown : SeenFile) (out out_then notes notes_then : SeenStream)
     → m.uses.grown ≡ false → ((r : Read) → m.may_take_of r (handed_by files) (handed_by files)) → input.faults ≤ input_then.faults → made.faults ≤ made_then.faults
-    → out.faults ≤ out_then.faults → notes.faults ≤ notes_then.faults
+    → out.faults ≤ out_then.faults → notes.faults ≤ notes_then.faults → TakesAtMost m.most_taken input.bytes input_then.bytes
     → Keeps m (seen input files made grown out notes) (seen input_then files made_then grown out_then notes_then)
-keeps-unread m input input_then files made made_then grown out out_then notes notes_then none same i k o n = record {
+keeps-unread m input input_then files made made_then grown out out_then notes notes_then none same i k o n taken = record {
   counts = record {
     input = i;
     files = λ place a b was is. let same : a ≡ b = cc in omega (arith, ap (λ (s : SeenFile). s.faults) same);
@@ -76,6 +84,7 @@ keeps-unread m input input_then files made made_then grown out out_then notes no
   handed_of = λ r is. same r;
   grown_handed = refl;
   in_order = λ place file is untold. refl;
+  input_taken = taken;
 }
 
 -- a command by another name
@@ -166,6 +175,7 @@ ends-whole m before after ended text whole may_end said gave read usage cause ke
   cut_off_said = λ cut. absurd (whole-cut_off ended whole cut);
   front_said = λ e. absurd (subst IsWhole e whole);
   counts = keeps.counts;
+  input_taken = keeps.input_taken;
 }
 
 -- notes failed to take what there was to say at the end
@@ -197,6 +207,7 @@ ends-notes m before after wanted text may_end said failed rose keeps = record {
       (λ sizes. (s : Status) × (t : List ℕ) × m.may_end sizes s t × TakesFront before.notes.bytes after.notes.bytes t)
       (λ sizes may. (wanted, text, may, said)) may_end;
   counts = keeps.counts;
+  input_taken = keeps.input_taken;
 }
 
 -- a fault or want of memory cut the work off
@@ -228,6 +239,7 @@ ends-cut_off m before after ended text cut within may_say said was so_far some c
   cut_off_said = λ _. (text, may_say, said);
   front_said = λ e. absurd (subst IsCutOff e cut);
   counts = keeps.counts;
+  input_taken = keeps.input_taken;
 }
 
 -- where no file is grown, one record of what is kept serves every end
@@ -328,7 +340,7 @@ was-cut_off ended before after mid answer part broke whole went less said = reco
 
 -- all that was put so far went out, and then notes were told of that
 pub went-so_far : (m : Meaning) (ended : Status) (before after : Seen) (mid : SeenStream) (r : Read) (part : List Put)
-    → m.may_have_put r part → GoOut (taken_in before) (taken_but_end after mid) part
+    → m.may_have_put r (handed_by before.files) (handed_by after.files) part → GoOut (taken_in before) (taken_but_end after mid) part
     → before.notes.faults ≤ mid.faults → TakesThen mid after.notes [] (fault_text ended) → WentOutSoFar m ended before after r
 went-so_far m ended before after mid r part found went less said = record {
   part = part;

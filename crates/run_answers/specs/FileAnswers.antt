@@ -38,10 +38,10 @@ OfFile P (file ∷ []) answer =
     ⊎ ((length file ≤ most_file_bytes) × P file answer)
 OfFile P files answer = ⊥
 
--- what was put so far of the one file that is read
-abbrev pub OfFileSoFar : (List ℕ → List Put → Type 0) → List (List ℕ) → List Put → Type 0
-OfFileSoFar P (file ∷ []) part = P file part
-OfFileSoFar P files part = ⊥
+-- what was put so far of the one file that is read, by how many bytes it had handed out before and after
+abbrev pub OfFileSoFar : ((before after : ℕ) → List ℕ → List Put → Type 0) → List (List ℕ) → (before after : List ℕ) → List Put → Type 0
+OfFileSoFar P (file ∷ []) (before ∷ []) (after ∷ []) part = P before after file part
+OfFileSoFar P files before after part = ⊥
 
 -- the sizes of the files are that of one, which has so few bytes that it is read
 abbrev pub IsInReach : List ℕ → Type 0
@@ -55,10 +55,10 @@ IsTooLong sizes = ⊥
 
 -- what a command means that reads one file and prints, of which these are the answers and what it may have put so far: it says
 -- nothing before its end
-abbrev pub file_meaning : (List ℕ → Answer → Type 0) → (List ℕ → List Put → Type 0) → Meaning
+abbrev pub file_meaning : (List ℕ → Answer → Type 0) → ((before after : ℕ) → List ℕ → List Put → Type 0) → Meaning
 file_meaning Answers SoFar =
     record (meaning (record none_used { files = true; out = true; memory = true }) (λ r answer. OfFile Answers r.files answer)) {
-      may_have_put = λ r part. OfFileSoFar SoFar r.files part;
+      may_have_put = λ r before after part. OfFileSoFar SoFar r.files before after part;
       may_work = IsInReach;
       may_take = λ sizes before after. Unit {0};
     }

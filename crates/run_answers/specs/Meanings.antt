@@ -40,8 +40,9 @@ pub record Meaning : Type 1 where
   pub supposes : Read → Type 0
   -- its answers to what it reads
   pub answers : Read → Answer → Type 0
-  -- what it may have put where it can't read on or has no memory, as of a file that is shown that of some whole chunks
-  pub may_have_put : Read → List Put → Type 0
+  -- what it may have put where it can't read on or has no memory, as of a file that is shown that of some whole chunks, by how
+  -- many bytes its files had handed out before and after the work
+  pub may_have_put : Read → (before after : List ℕ) → List Put → Type 0
   -- what the file that it grows holds then, and may hold where it was cut off
   pub leaves : Read → List ℕ → Type 0
   pub may_leave : Read → List ℕ → Type 0
@@ -56,8 +57,11 @@ pub record Meaning : Type 1 where
   pub may_end : List ℕ → Status → List ℕ → Type 0
   -- what it may say in notes before its end, whatever it reads
   pub may_say : List ℕ → Type 0
+  -- the most bytes that it takes of the input
+  pub most_taken : ℕ
 
--- a command that uses these and has one answer: it supposes nothing, reads and grows no file, and says nothing before its end
+-- a command that uses these and has one answer: it supposes nothing, reads and grows no file, says nothing before its end, and takes
+-- nothing of the input
 abbrev pub meaning : Uses → (Read → Answer → Type 0) → Meaning
 meaning uses answers = record {
   is_command = true;
@@ -65,7 +69,7 @@ meaning uses answers = record {
   one = true;
   supposes = λ r. Unit {0};
   answers = answers;
-  may_have_put = λ r part. part ≡ [];
+  may_have_put = λ r before after part. part ≡ [];
   leaves = λ r bytes. ⊥;
   may_leave = λ r bytes. ⊥;
   keeps = λ ended before after. ⊥;
@@ -74,4 +78,5 @@ meaning uses answers = record {
   may_take_of = λ r before after. Unit {0};
   may_end = λ sizes ended text. ⊥;
   may_say = λ text. text ≡ [];
+  most_taken = 0;
 }

@@ -178,7 +178,7 @@ pub record WasCutOff (ended : Status) (before after : Seen) (answer : Answer) : 
 -- a command was cut short where it may have been, and then the line went out that tells what cut it off
 pub record WentOutSoFar (m : Meaning) (ended : Status) (before after : Seen) (r : Read) : Type 0 where
   pub part : List Put
-  pub found : m.may_have_put r part
+  pub found : m.may_have_put r (handed_by before.files) (handed_by after.files) part
   pub made : Takes before.made.bytes after.made.bytes (bytes_to Made part)
   pub out : Takes before.out.bytes after.out.bytes (bytes_to Out part)
   pub notes : TakesThen before.notes after.notes (bytes_to Notes part) (fault_text ended)
@@ -214,6 +214,10 @@ pub record NoneFell (before after : Seen) : Type 0 where
 abbrev pub IfGrown : Meaning → Seen → Seen → (Read → List ℕ → Type 0) → Type 0
 IfGrown m before after P =
     m.uses.grown ≡ true → IfRead m before (λ r. (bytes : List ℕ) × (after.grown.bytes ≡ Some bytes) × P r bytes)
+
+-- of an input that told its bytes at most so many were taken
+abbrev pub TakesAtMost : ℕ → (before after : Option (List ℕ)) → Type 0
+TakesAtMost most before after = IfSome before (λ left. IsSomeAnd after (λ rest. length left ≤ length rest + most))
 
 -- a run of a command ended with a status, of what its objects showed before and after
 pub record Runs (m : Meaning) (before after : Seen) (ended : Status) : Type 0 where
@@ -252,3 +256,5 @@ pub record Runs (m : Meaning) (before after : Seen) (ended : Status) : Type 0 wh
       → OfSizes m before after (λ sizes.
       (wanted : Status) × (text : List ℕ) × m.may_end sizes wanted text × TakesFront before.notes.bytes after.notes.bytes text)
   pub counts : NoneFell before after
+  -- of the input no more is taken than the command may take, however it ended
+  pub input_taken : TakesAtMost m.most_taken before.input.bytes after.input.bytes
