@@ -29,20 +29,20 @@ MayFollow-signed a b s options bound laid in_reach in_limits = record {
 }
 
 -- what a call does that writes the file of a feed's records
-abbrev pub WritesFile : {L N M K : Type 0} (rest : L → Option Rest) (name : L → N) (feed_faults : L → ℕ)
+abbrev pub WritesFile : {L N M K : Type 0} (rest : L → Option Rest) (origin : L → N) (feed_faults : L → ℕ)
     (taken : M → Option (List ℕ)) (lent : M → K) (made_faults : M → ℕ) (options : WriteOptions)
     (result : Result Totals WriteEnd) (before after : L) (sink sink_then : M) → Type 0
-WritesFile rest name feed_faults taken lent made_faults options =
-    WritesRecords rest name feed_faults taken lent made_faults (λ records. totals_of (chunks_under options records)) (file_under options)
+WritesFile rest origin feed_faults taken lent made_faults options =
+    WritesRecords rest origin feed_faults taken lent made_faults (λ records. totals_of (chunks_under options records)) (file_under options)
 
 -- what was put behind the signature makes it
-pub WritesFile-signed : {L N M K : Type 0} (rest : L → Option Rest) (name : L → N) (feed_faults : L → ℕ)
+pub WritesFile-signed : {L N M K : Type 0} (rest : L → Option Rest) (origin : L → N) (feed_faults : L → ℕ)
     (taken : M → Option (List ℕ)) (lent : M → K) (made_faults : M → ℕ) (Fails : Type 0) (options : WriteOptions) (s : Progress)
     (result : Result Totals WriteEnd) (before after : L) (sink signed sink_then : M)
     → Lays (taken sink) (taken signed) nothing_made s (signature ∷ []) → OnlyCounts lent made_faults Fails sink signed
-    → WritesBehind rest name feed_faults taken lent made_faults options s result before after signed sink_then
-    → WritesFile rest name feed_faults taken lent made_faults options result before after sink sink_then
-WritesFile-signed rest name feed_faults taken lent made_faults Fails options s result before after sink signed sink_then laid counts behind =
+    → WritesBehind rest origin feed_faults taken lent made_faults options s result before after signed sink_then
+    → WritesFile rest origin feed_faults taken lent made_faults options result before after sink sink_then
+WritesFile-signed rest origin feed_faults taken lent made_faults Fails options s result before after sink signed sink_then laid counts behind =
     let written = behind.written in
     record {
       answer = Answers-signed (taken sink) (taken signed) s options (rest before) result laid written.answer;
@@ -53,12 +53,12 @@ WritesFile-signed rest name feed_faults taken lent made_faults Fails options s r
     }
 
 -- and so does a front of it, where that failed
-pub WritesFile-unsigned : {L N M K : Type 0} (rest : L → Option Rest) (name : L → N) (feed_faults : L → ℕ)
+pub WritesFile-unsigned : {L N M K : Type 0} (rest : L → Option Rest) (origin : L → N) (feed_faults : L → ℕ)
     (taken : M → Option (List ℕ)) (lent : M → K) (made_faults : M → ℕ) (Fails : Type 0) (options : WriteOptions) (s : Progress)
     (feed : L) (sink sink_then : M)
     → LaysFront (taken sink) (taken sink_then) nothing_made s (signature ∷ []) → OnlyCounts lent made_faults Fails sink sink_then → Fails
-    → WritesFile rest name feed_faults taken lent made_faults options (Err Made) feed feed sink sink_then
-WritesFile-unsigned rest name feed_faults taken lent made_faults Fails options s feed sink sink_then front counts failed =
+    → WritesFile rest origin feed_faults taken lent made_faults options (Err Made) feed feed sink sink_then
+WritesFile-unsigned rest origin feed_faults taken lent made_faults Fails options s feed sink sink_then front counts failed =
     record {
       answer = Answers-cut (rest feed) cut.Made (λ records. totals_of (chunks_under options records));
       made = TakesFile-unsigned (taken sink) (taken sink_then) s options (rest feed) front;

@@ -224,11 +224,11 @@ drained-at_end (Some all) b c old between given None (rest, told, of) ended kept
     kept refl ∙ told ∙ ap Some (subst (λ (o : Option Rest). IfSome o (λ r. r ≡ nothing_left)) told ended)
 drained-at_end (Some all) b c old between given (Some stop) before ended kept none = absurd (none-some stop (sym none))
 
-module _ (L N : Type 0) (rest : L → Option Rest) (bound : L → ℕ) (going : L → Bool) (name : L → N) (faults : L → ℕ) where
+module _ (L N : Type 0) (rest : L → Option Rest) (bound : L → ℕ) (going : L → Bool) (origin : L → N) (faults : L → ℕ) where
   -- a window of groups, and what was taken behind it
   pub TakesGroups-append : (a b c : L) (old between new : Grouping) (given more : List (List (List ℕ))) (t : Result FeedPart CutOff)
-      → TakesGroups rest bound going name faults a b old between given (Ok Window) → TakesGroups rest bound going name faults b c between new more t
-      → TakesGroups rest bound going name faults a c old new (given ++ more) t
+      → TakesGroups rest bound going origin faults a b old between given (Ok Window) → TakesGroups rest bound going origin faults b c between new more t
+      → TakesGroups rest bound going origin faults a c old new (given ++ more) t
   TakesGroups-append a b c old between new given more t first then = record {
     given_of = AreTaken-append t (rest a) (rest b) (rest c) old between new given more first.given_of then.given_of;
     may_go_on = then.may_go_on;
@@ -243,7 +243,7 @@ module _ (L N : Type 0) (rest : L → Option Rest) (bound : L → ℕ) (going : 
         );
     drained = λ ended. IfSome-given (rest a) (rest b) old between given (rest c ≡ Some nothing_left) first.given_of (then.drained ended);
     no_sink = then.no_sink;
-    counts = OnlyCounts-behind name faults (Ok Window ≡ Err Input) (t ≡ Err Input) a b c first.counts then.counts;
+    counts = OnlyCounts-behind origin faults (Ok Window ≡ Err Input) (t ≡ Err Input) a b c first.counts then.counts;
   }
 
   -- where no record was left, and this stop followed, or none, and the last group was taken too
@@ -251,8 +251,8 @@ module _ (L N : Type 0) (rest : L → Option Rest) (bound : L → ℕ) (going : 
       → AreGiven (rest a) (rest b) old between given → IfSome (rest b) (λ r. r ≡ record { records = []; stop = stop }) → (stop ≡ None → rest c ≡ rest b)
       → all ≡ given ++ groups_from between []
       → ((place : ℕ) → reach_of (end_of_chunks place (chunks_of_groups all)) new (bound c) ≤ reach_of place old (bound a))
-      → OnlyCounts name faults (all_taken stop ≡ Err Input) a c
-      → TakesGroups rest bound going name faults a c old new all (all_taken stop)
+      → OnlyCounts origin faults (all_taken stop ≡ Err Input) a c
+      → TakesGroups rest bound going origin faults a c old new all (all_taken stop)
   unfolding stop_in
   TakesGroups-ended a b c old between new given all stop before ended kept last reach counts = record {
     given_of = subst (λ (gs : List (List (List ℕ))). AreTaken (all_taken stop) (rest a) (rest c) old new gs) (sym last)
@@ -267,7 +267,7 @@ module _ (L N : Type 0) (rest : L → Option Rest) (bound : L → ℕ) (going : 
 
   -- where there was no memory to make them ready, none is left
   pub TakesGroups-lost : (a b : L) (old new : Grouping) (given : List (List (List ℕ))) (t : Result FeedPart CutOff)
-      → TakesGroups rest bound going name faults a b old new given t → TakesGroups rest bound going name faults a b old new [] (Err Memory)
+      → TakesGroups rest bound going origin faults a b old new given t → TakesGroups rest bound going origin faults a b old new [] (Err Memory)
   TakesGroups-lost a b old new given t taken = record {
     given_of = AreFront-none (rest a) old;
     may_go_on = search rules;
@@ -275,6 +275,6 @@ module _ (L N : Type 0) (rest : L → Option Rest) (bound : L → ℕ) (going : 
     in_reach = λ place. omega (arith, taken.in_reach place, end_of_chunks_past place (chunks_of_groups given));
     drained = search rules;
     no_sink = search rules;
-    counts = OnlyCounts-behind name faults (t ≡ Err Input) (Err Memory ≡ Err Input) a b b taken.counts
+    counts = OnlyCounts-behind origin faults (t ≡ Err Input) (Err Memory ≡ Err Input) a b b taken.counts
         (record { same_lent = refl; cause = search rules; never_falls = omega arith; small = λ below. below });
   }

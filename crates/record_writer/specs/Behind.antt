@@ -18,10 +18,10 @@ pub record MayFollow (file : Progress) (options : WriteOptions) (bound : ℕ) : 
   pub in_limits : AreInLimits options
 
 -- a call wrote a feed's records behind what a file has: the totals are of both
-pub record WritesBehind {L N M K : Type 0} (rest : L → Option Rest) (name : L → N) (feed_faults : L → ℕ)
+pub record WritesBehind {L N M K : Type 0} (rest : L → Option Rest) (origin : L → N) (feed_faults : L → ℕ)
     (taken : M → Option (List ℕ)) (lent : M → K) (made_faults : M → ℕ) (options : WriteOptions) (file : Progress)
     (result : Result Totals WriteEnd) (before after : L) (sink sink_then : M) : Type 0 where
-  pub written : WritesRecords rest name feed_faults taken lent made_faults
+  pub written : WritesRecords rest origin feed_faults taken lent made_faults
       (λ records. totals_behind file (tail_chunks options file.place records))
       (λ records. file.held ++ tail_under options file.place records) result before after sink sink_then
   pub behind : IfOk result (λ totals. file.place ≤ totals.bytes)

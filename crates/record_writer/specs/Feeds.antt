@@ -9,6 +9,17 @@ pub record Rest : Type 0 where
   pub records : List (List ℕ)
   pub stop : Option Stop
 
+-- what a feed reads
+pub record Origin : Type 0 where
+  -- the name of what it borrows, if it borrows what it reads
+  pub name : ℕ
+  -- how many bytes of that it leaves in any case, where that is told
+  pub spared : Option ℕ
+
+-- a feed borrows nothing, and tells nothing of what it leaves
+abbrev pub no_origin : Origin
+no_origin = record { name = 0; spared = None }
+
 -- no record and no stop is left
 abbrev pub nothing_left : Rest
 nothing_left = record { records = []; stop = None }

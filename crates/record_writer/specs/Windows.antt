@@ -31,7 +31,7 @@ AreTaken (Err cut) before after old new given = AreFront before old given
 -- what a feed leaves from which groups were taken: it may be asked for more behind a window, and has less left then; their chunks
 -- and those still to come reach no further than before; at its end nothing is left; and it only counts its faults, which no
 -- sink takes part in
-pub record TakesGroups {L N : Type 0} (rest : L → Option Rest) (bound : L → ℕ) (going : L → Bool) (name : L → N) (faults : L → ℕ)
+pub record TakesGroups {L N : Type 0} (rest : L → Option Rest) (bound : L → ℕ) (going : L → Bool) (origin : L → N) (faults : L → ℕ)
     (before after : L) (old new : Grouping) (given : List (List (List ℕ))) (taken : Result FeedPart CutOff) : Type 0 where
   pub given_of : AreTaken taken (rest before) (rest after) old new given
   pub may_go_on : taken ≡ Ok Window → going after ≡ true
@@ -39,4 +39,4 @@ pub record TakesGroups {L N : Type 0} (rest : L → Option Rest) (bound : L → 
   pub in_reach : (place : ℕ) → reach_of (end_of_chunks place (chunks_of_groups given)) new (bound after) ≤ reach_of place old (bound before)
   pub drained : taken ≡ Ok (All None) → IfSome (rest before) (λ _. rest after ≡ Some nothing_left)
   pub no_sink : taken ≢ Err Made
-  pub counts : OnlyCounts name faults (taken ≡ Err Input) before after
+  pub counts : OnlyCounts origin faults (taken ≡ Err Input) before after

@@ -72,13 +72,14 @@ TakesFile (Err Made) before after file = TakesFront before after file
 TakesFile (Err Memory) before after file = TakesFront before after file
 
 -- a call wrote a feed's records: it answers with these totals of them, and a sink took these bytes of them; a feed without a stop
--- has nothing left; and both only count their faults, where the answer says that they failed
-pub record WritesRecords {L N M K : Type 0} (rest : L → Option Rest) (name : L → N) (feed_faults : L → ℕ)
+-- has nothing left; what the feed leaves in any case of what it reads stays; and both only count their faults, where the answer
+-- says that they failed
+pub record WritesRecords {L N M K : Type 0} (rest : L → Option Rest) (origin : L → N) (feed_faults : L → ℕ)
     (taken : M → Option (List ℕ)) (lent : M → K) (made_faults : M → ℕ)
     (totals_of_records : List (List ℕ) → Totals) (bytes_of_records : List (List ℕ) → List ℕ)
     (result : Result Totals WriteEnd) (before after : L) (sink sink_then : M) : Type 0 where
   pub answer : IfSome (rest before) (λ all. AnswersTotals result (totals_of_records all.records) all)
   pub made : IfSome (rest before) (λ all. TakesFile result (taken sink) (taken sink_then) (bytes_of_records all.records))
   pub read_to_end : OnOk result (IfSome (rest before) (λ _. rest after ≡ Some nothing_left))
-  pub feed : OnlyCounts name feed_faults (result ≡ Err Input) before after
+  pub feed : OnlyCounts origin feed_faults (result ≡ Err Input) before after
   pub made_counts : OnlyCounts lent made_faults (result ≡ Err Made) sink sink_then

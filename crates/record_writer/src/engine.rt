@@ -70,7 +70,8 @@ impl From<Failed> for WriteEnd {
 /// Writes the file of the feed's records: the signature, the padding before the chunks of records where it is
 /// wanted, a chunk for each group of records, and the padding behind them where it is wanted.
 ///
-/// Where a stop follows the records, the file of these is written too. The totals are of the file.
+/// Where a stop follows the records, the file of these is written too. The totals are of the file. Of what the feed reads as
+/// many bytes are left as it leaves in any case, also after a failure.
 ///
 /// The chunks of groups are put window by window, each in a thread of its own while the next is taken. Where no thread can be
 /// made, that is done here. With several workers the file is written as by `write_coded` with `SimpleCoder`.
@@ -96,7 +97,7 @@ pub fn write_records<R: Threads + Sync, L: RecordFeed, M: Sink + Send>(
     requires feed_going { L.going feed.old ≡ true }
     requires in_reach { L.bound feed.old ≤ 2 ^ 41 }
     requires in_limits { AreInLimits options.now }
-    ensures { WritesRecords L.rest L.name L.faults M.taken M.lent M.faults
+    ensures { WritesRecords L.rest L.origin L.faults M.taken M.lent M.faults
         (λ records. totals_of (chunks_under options.now records)) (file_under options.now) result feed.old feed.new made.old made.new }
 {
     let mut file = MadeFile::new();
@@ -125,7 +126,7 @@ pub fn write_after<R: Threads + Sync, L: RecordFeed, M: Sink + Send>(
     requires feed_going { L.going feed.old ≡ true }
     requires in_reach { L.bound feed.old ≤ 2 ^ 41 }
     requires in_limits { AreInLimits options.now }
-    ensures written { WritesRecords L.rest L.name L.faults M.taken M.lent M.faults
+    ensures written { WritesRecords L.rest L.origin L.faults M.taken M.lent M.faults
         (λ records. totals_from at (tail_chunks options.now at records)) (tail_under options.now at) result feed.old feed.new made.old made.new }
     ensures in_reach { IfOk result (λ totals. at + totals.bytes < 2 ^ 64) }
 {
@@ -161,7 +162,7 @@ pub fn write_coded<R: Threads + Sync, C: Coder + Sync, L: RecordFeed, M: Sink + 
     requires feed_going { L.going feed.old ≡ true }
     requires in_reach { L.bound feed.old ≤ 2 ^ 41 }
     requires in_limits { AreInLimits options.now }
-    ensures { WritesRecords L.rest L.name L.faults M.taken M.lent M.faults
+    ensures { WritesRecords L.rest L.origin L.faults M.taken M.lent M.faults
         (λ records. totals_of (chunks_under options.now records)) (file_under options.now) result feed.old feed.new made.old made.new }
 {
     let mut file = MadeFile::new();
@@ -181,7 +182,7 @@ fn write_behind<R: Threads + Sync, L: RecordFeed, M: Sink + Send>(
 ) -> Result<Totals, WriteEnd>
     requires follows { MayFollow file.old options.now (L.bound feed.old) }
     requires feed_going { L.going feed.old ≡ true }
-    ensures { WritesBehind L.rest L.name L.faults M.taken M.lent M.faults options.now file.old result feed.old feed.new made.old made.new }
+    ensures { WritesBehind L.rest L.origin L.faults M.taken M.lent M.faults options.now file.old result feed.old feed.new made.old made.new }
 {
     if options.workers > 1 {
         let window = CodedWindow::new(alloc, options.workers);
@@ -206,7 +207,7 @@ fn write<R: Threads + Sync, C: Coder + Sync, W: Window + Send, L: RecordFeed, M:
     requires empty { W.groups window ≡ [] }
     requires follows { MayFollow file.old options.now (L.bound feed.old) }
     requires feed_going { L.going feed.old ≡ true }
-    ensures { WritesBehind L.rest L.name L.faults M.taken M.lent M.faults options.now file.old result feed.old feed.new made.old made.new }
+    ensures { WritesBehind L.rest L.origin L.faults M.taken M.lent M.faults options.now file.old result feed.old feed.new made.old made.new }
 {
     let mut windows = WindowPair::new(alloc, options, window);
     let stop = put_chunks(rt, coder, file, options, &mut windows, feed, made);
@@ -256,7 +257,7 @@ fn put_chunks<R: Threads + Sync, C: Coder + Sync, W: Window + Send, L: RecordFee
         LaysFront (M.taken made.old) (M.taken made.new) file.old file.new (tail_chunks options.now file.old.place rest.records))) }
     ensures behind { OnOk result (file.old.place ≤ file.new.place) }
     ensures drained { result ≡ Ok None → IfSome (L.rest feed.old) (λ _. L.rest feed.new ≡ Some nothing_left) }
-    ensures feed { OnlyCounts L.name L.faults (result ≡ Err CutOff.Input) feed.old feed.new }
+    ensures feed { OnlyCounts L.origin L.faults (result ≡ Err CutOff.Input) feed.old feed.new }
     ensures made { OnlyCounts M.lent M.faults (result ≡ Err CutOff.Made) made.old made.new }
 {
     file.pad_if(pads_start(options.pad), made)?;
@@ -304,7 +305,7 @@ fn put_groups<R: Threads + Sync, C: Coder + Sync, W: Window + Send, L: RecordFee
     ensures going { OnOk result (file.new.spent ≡ false) }
     ensures place { OnOk result ((file.old.place ≤ file.new.place) × (file.new.place ≤ 2 ^ 61)) }
     ensures drained { result ≡ Ok None → IfSome (L.rest feed.old) (λ _. L.rest feed.new ≡ Some nothing_left) }
-    ensures feed { OnlyCounts L.name L.faults (result ≡ Err CutOff.Input) feed.old feed.new }
+    ensures feed { OnlyCounts L.origin L.faults (result ≡ Err CutOff.Input) feed.old feed.new }
     ensures made { OnlyCounts M.lent M.faults (result ≡ Err CutOff.Made) made.old made.new }
 {
     let mut taken = windows

@@ -1,6 +1,6 @@
 ghost use Rattle.std.specs.Prelude.{◌≡◌, ◌≢◌, ℕ, ◌+◌, ◌^◌, ◌<◌, ◌≤◌, true, false, Bool, Option, length, IfSome, OnOk};
 ghost use Rattle.record_io.specs.Outside.{Rose};
-ghost use Rattle.record_writer.specs.Feeds.{Rest, GivesRecord, HandsOn, nothing_left, stop_alone};
+ghost use Rattle.record_writer.specs.Feeds.{Rest, Origin, GivesRecord, HandsOn, no_origin, nothing_left, stop_alone};
 
 use record_group::Grouper;
 use record_io::{Bytes, Failed};
@@ -59,8 +59,8 @@ pub trait RecordFeed {
     /// How many faults there were.
     ghost faults: { Self → ℕ };
 
-    /// The name of what the feed borrows, if it borrows what it reads.
-    ghost name: { Self → ℕ } = { λ _. 0 };
+    /// What the feed reads, and how many bytes of that it leaves in any case. No call changes either.
+    ghost origin: { Self → Origin } = { λ _. no_origin };
 
     /// Whether the feed may be asked for a record: no call of it failed. One that may always be asked need not say so.
     ghost going: { Self → Bool } = { λ _. true };
@@ -82,7 +82,7 @@ pub trait RecordFeed {
         ensures end_kept { result ≡ Ok false → rest self.new ≡ rest self.old }
         ensures stop { (s : Stop) → result ≡ Err (FeedEnd.Stop s) → IfSome (rest self.old) (λ r. r ≡ stop_alone s) }
         ensures never_rises { bound self.new ≤ bound self.old }
-        ensures same_name { name self.new ≡ name self.old }
+        ensures same_origin { origin self.new ≡ origin self.old }
 
         ensures cause { result ≡ Err FeedEnd.Failed → Rose (faults self.old) (faults self.new) }
         ensures never_falls { faults self.old ≤ faults self.new }
@@ -96,7 +96,7 @@ pub trait RecordFeed {
         ensures bound_kept { result ≢ Ok true → bound self.new ≡ bound self.old }
         ensures grouper_kept { result ≢ Ok true → grouper.new ≡ grouper.old }
         ensures same_going { going self.new ≡ going self.old }
-        ensures same_name { name self.new ≡ name self.old }
+        ensures same_origin { origin self.new ≡ origin self.old }
         ensures same_faults { faults self.new ≡ faults self.old }
     {
         Ok(false)

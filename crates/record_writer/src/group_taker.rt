@@ -80,7 +80,7 @@ impl GroupTaker {
         requires codes { CodesSimply (C.chunk_of coder.now) }
         requires feed_going { L.going feed.old ≡ true }
         requires empty { W.groups window.old ≡ [] }
-        ensures taken { TakesGroups L.rest L.bound L.going L.name L.faults feed.old feed.new self.old self.new (W.groups window.new) result }
+        ensures taken { TakesGroups L.rest L.bound L.going L.origin L.faults feed.old feed.new self.old self.new (W.groups window.new) result }
         ensures ready { W.ready window.new }
     {
         let part = self.take_groups(feed, window, pace);
@@ -125,7 +125,7 @@ impl GroupTaker {
     ) -> Result<FeedPart, CutOff>
         requires feed_going { L.going feed.old ≡ true }
         requires empty { W.groups window.old ≡ [] }
-        ensures { TakesGroups L.rest L.bound L.going L.name L.faults feed.old feed.new self.old self.new (W.groups window.new) result }
+        ensures { TakesGroups L.rest L.bound L.going L.origin L.faults feed.old feed.new self.old self.new (W.groups window.new) result }
     {
         let stop = loop {
             take_held(&mut self.grouper, feed)?;
@@ -173,7 +173,7 @@ fn take_held<L: RecordFeed>(grouper: &mut Grouper, feed: &mut L) -> Result<(), A
     ensures in_reach { (place : ℕ) → reach_of place grouper.new (L.bound feed.new) ≤ reach_of place grouper.old (L.bound feed.old) }
     ensures same_going { L.going feed.new ≡ L.going feed.old }
     ensures same_faults { L.faults feed.new ≡ L.faults feed.old }
-    ensures same_name { L.name feed.new ≡ L.name feed.old }
+    ensures same_origin { L.origin feed.new ≡ L.origin feed.old }
 {
     while feed.push_held(grouper)? {}
     Ok(())

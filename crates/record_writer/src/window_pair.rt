@@ -69,10 +69,10 @@ impl<W: Window + Send> WindowPair<W> {
         requires in_reach { end_of_chunks file.old.place (chunks_of_groups (W.groups self.old.window)) ≤ 2 ^ 62 }
         ensures laid { LaysTo M.taken M.lent M.faults result file.old file.new (chunks_of_groups (W.groups self.old.window)) made.old made.new }
         ensures taken { IfOk result (λ taken.
-            TakesGroups L.rest L.bound L.going L.name L.faults feed.old feed.new self.old.taker self.new.taker (W.groups self.new.window) taken) }
+            TakesGroups L.rest L.bound L.going L.origin L.faults feed.old feed.new self.old.taker self.new.taker (W.groups self.new.window) taken) }
         ensures ready { OnOk result (W.ready self.new.window) }
         ensures next { OnOk result (W.groups self.new.next ≡ []) }
-        ensures feed { OnlyCounts L.name L.faults (result ≡ Ok (Err CutOff.Input)) feed.old feed.new }
+        ensures feed { OnlyCounts L.origin L.faults (result ≡ Ok (Err CutOff.Input)) feed.old feed.new }
     {
         if self.window.is_large() {
             self.window.put(file, made)?;
@@ -104,7 +104,7 @@ impl<W: Window + Send> WindowPair<W> {
         requires in_reach { end_of_chunks file.old.place (chunks_of_groups (W.groups self.old.window)) ≤ 2 ^ 62 }
         ensures laid { LaysTo M.taken M.lent M.faults result.0 file.old file.new (chunks_of_groups (W.groups self.old.window)) made.old made.new }
         ensures emptied { OnOk result.0 (W.groups self.new.window ≡ []) }
-        ensures taken { TakesGroups L.rest L.bound L.going L.name L.faults feed.old feed.new self.old.taker self.new.taker (W.groups self.new.next) result.1 }
+        ensures taken { TakesGroups L.rest L.bound L.going L.origin L.faults feed.old feed.new self.old.taker self.new.taker (W.groups self.new.next) result.1 }
         ensures ready { W.ready self.new.next }
     {
         let WindowPair {

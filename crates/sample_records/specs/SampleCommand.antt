@@ -39,6 +39,6 @@ IsSampledSoFar words part = (count : ℕ) × (part ≡ puts_to Made (take count 
 abbrev pub sample_meaning : SampleWords → Meaning
 sample_meaning words =
     record (meaning (record none_used { made = true; out = true; memory = true }) (λ r answer. answer ≡ sample_answer words)) {
-      may_have_put = λ r part. IsSampledSoFar words part;
+      may_have_put = λ r before after part. IsSampledSoFar words part;
       may_end = λ sizes ended text. (ended ≡ status.Ok) × (text ≡ []);
     }

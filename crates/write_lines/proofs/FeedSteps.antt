@@ -1,5 +1,5 @@
 -- What a feed of lines gave of its text, and what is left of it then.
-use Rattle.std.proofs.Common.{◌≡◌, ◌∙◌, ℕ, zero as nought, suc, ◌+◌, ◌-◌, ◌<◌, ◌≤◌, ◌↔◌, Bool, true, false, not, IsTrue, List, [], ◌∷◌, ◌++◌, Option, Some, None, Result, Ok, Err, length, take, drop, option_map, unwrap_or, refl, sym, ap, subst, arith, length-append, length-drop, append_assoc, append-nil}
+use Rattle.std.proofs.Common.{◌≡◌, ◌∙◌, ℕ, ◌+◌, ◌-◌, ◌<◌, ◌≤◌, ◌↔◌, Bool, true, false, not, IsTrue, List, [], ◌∷◌, ◌++◌, Option, Some, None, Result, Ok, Err, length, take, drop, option_map, unwrap_or, refl, sym, ap, subst, arith, length-append, length-drop, append_assoc, append-nil}
 use Rattle.std.specs.Option.{IfSome}
 use Rattle.std.proofs.lemmas.List.{take-append-drop, length-take-le, drop-drop}
 use Rattle.std.proofs.Math.Seq.{take-add}
@@ -62,13 +62,21 @@ past-told hex bound line (Some bytes) none short is some =
 
 pub stop-past : (hex : Bool) (bound asked : ℕ) (line held : List ℕ) (left text : Option (List ℕ)) (stop : Stop) → NoneEnds line → length line ≤ line_limit hex
     → length line + (length held + asked) ≡ bound → text_of (line ++ held) left ≡ text
-    → (stop ≡ InputTooLong) × (held ≡ []) × (asked ≡ 1) × IfSome left (λ bytes. 0 < length bytes) → IfSome (rest_of hex bound text) (λ r. r ≡ stop_alone stop)
+    → (stop ≡ InputTooLong) × (length held + asked ≡ 1) × IfSome (text_of held left) (λ bytes. 0 < length bytes)
+    → IfSome (rest_of hex bound text) (λ r. r ≡ stop_alone stop)
 stop-past hex bound asked line held left text stop none short is same past =
-    let all : text_of line left ≡ text =
-    ap (λ (l : List ℕ). text_of l left) (sym (ap (λ (l : List ℕ). line ++ l) past.1 ∙ append-nil line)) ∙ same in
+    let all : text_of line (text_of held left) ≡ text = sym (text_of-append line held left) ∙ same in
     subst (λ (s : Stop). IfSome (rest_of hex bound text) (λ r. r ≡ stop_alone s)) (sym past.0)
     (subst (λ (t : Option (List ℕ)). IfSome (rest_of hex bound t) (λ r. r ≡ stop_alone InputTooLong)) all
-    (past-told hex bound line left none short (omega (arith, ap length past.1, past.2)) past.3))
+    (past-told hex bound line (text_of held left) none short (omega (arith, is, past.1)) past.2))
+
+-- a text of which some bytes are held has some
+pub text-some : (held : List ℕ) (left text : Option (List ℕ)) → 0 < length held → text_of held left ≡ text → IfSome text (λ bytes. 0 < length bytes)
+text-some held left None some is = tt
+text-some held None (Some bytes) some is = absurd (cc is)
+text-some held (Some rest) (Some bytes) some is =
+    let e : held ++ rest ≡ bytes = (let k : Some (held ++ rest) ≡ Some bytes = is in cc) in
+    omega (arith, some, ap length e, length-append held rest)
 
 -- a line that is too long, of which n bytes are held
 long-told : (hex : Bool) (bound : ℕ) (line held : List ℕ) (n : ℕ) (left : Option (List ℕ)) → NoneEnds line → NoneEnds (take n held) → n ≤ length held
@@ -195,11 +203,6 @@ next-line hex hex_then bound asked asked_then n line held held_then given left l
 -- no byte of none ends a line
 pub NoneEnds-none : NoneEnds []
 NoneEnds-none k within = absurd (omega arith)
-
--- where some bytes are held, more are asked
-pub asked-some : (asked : ℕ) (held : List ℕ) → (asked ≡ 0 → held ≡ []) → 0 < length held → 0 < asked
-asked-some nought held none some = absurd (omega (arith, some, ap length (none refl)))
-asked-some (suc asked) held none some = omega arith
 
 -- the back of a list that is empty
 no_back : (front back : List ℕ) → front ++ back ≡ [] → back ≡ []

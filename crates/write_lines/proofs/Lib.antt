@@ -1,5 +1,6 @@
 pub mod TakenLines
 pub mod FeedSteps
+pub mod Origins
 pub mod TakenRecords
 mod Values
 pub mod WriteEnds

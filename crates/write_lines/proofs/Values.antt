@@ -39,6 +39,15 @@ taken_between : taken_from (0x61 ∷ 10 ∷ 0x62 ∷ 10 ∷ []) false 2 ≡ reco
 unfolding taken_from
 taken_between = refl
 
+-- a limit within the first line, whose end is past it, and an empty input at a limit of 0
+taken_within_line : taken_from (0x61 ∷ 10 ∷ 0x62 ∷ 10 ∷ []) false 1 ≡ record { records = []; stop = Some InputTooLong }
+unfolding taken_from
+taken_within_line = refl
+
+taken_of_nothing : taken_from [] false 0 ≡ record { records = []; stop = None }
+unfolding taken_from
+taken_of_nothing = refl
+
 -- nothing is taken from an input that goes past a limit of 0
 taken_past_0 : taken_from (10 ∷ []) false 0 ≡ record { records = []; stop = Some InputTooLong }
 unfolding taken_from

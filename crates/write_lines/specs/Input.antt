@@ -1,5 +1,5 @@
 -- The records that `write` takes from its input. Own.
-use Rattle.std.specs.Prelude.{ℕ, ◌-◌, ◌^◌, Bool, Option, Some, None, Result, Ok, Err, List, [], ◌∷◌, ◌++◌, length, take, slice_index, nat_le, nat_lt, if◌then◌else◌}
+use Rattle.std.specs.Prelude.{ℕ, ◌+◌, ◌-◌, ◌^◌, Bool, Option, Some, None, Result, Ok, Err, List, [], ◌∷◌, ◌++◌, length, take, slice_index, nat_le, nat_lt, if◌then◌else◌}
 use Rattle.std.specs.List.{after_last}
 use Rattle.hex.specs.Hex.{decode_of}
 use Rattle.hex.specs.declared.FromHexError.{FromHexError}
@@ -7,6 +7,10 @@ use Rattle.record_writer.specs.declared.feed.Stop.{Stop}
 use Rattle.record_writer.specs.declared.feed.Stop.TheVariants.{TooLong, InputTooLong, BadLine}
 use Rattle.record_writer.specs.Feeds.{Rest, stop_alone}
 use Rattle.run_answers.specs.Lines.{ends_line, lines}
+
+-- the most bytes that are taken of an input: those that are read, and one that shows that it goes on
+abbrev pub most_input_taken : ℕ
+most_input_taken = 2 ^ 40 + 1
 
 -- the bytes after the last byte 10: a line that no byte 10 has ended yet
 abbrev pub running : List ℕ → List ℕ

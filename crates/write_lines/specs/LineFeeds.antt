@@ -1,6 +1,6 @@
 -- What a feed of lines still gives. Own.
 use Rattle.std.specs.Prelude.{◌≡◌, ℕ, ◌+◌, ◌-◌, ◌<◌, Bool, Option, Some, IfSome, List, ◌∷◌, ◌++◌, length, take, drop, option_map}
-use Rattle.record_writer.specs.Feeds.{Rest}
+use Rattle.record_writer.specs.Feeds.{Rest, Origin}
 use Rattle.run_answers.specs.Lines.{NoneEnds}
 use Rattle.write_lines.specs.Input.{record_of_line, taken_before, taken_from}
 
@@ -11,6 +11,10 @@ text_of held left = option_map (λ bytes. held ++ bytes) left
 -- what is taken from a text of which fewer than so many bytes are read
 abbrev pub rest_of : Bool → ℕ → Option (List ℕ) → Option Rest
 rest_of hex bound text = option_map (λ bytes. taken_from bytes hex (bound - 1)) text
+
+-- what a feed of lines reads: an input of this name, of which so many more bytes are asked, and all others are left
+abbrev pub origin_of : (name asked : ℕ) → Option (List ℕ) → Origin
+origin_of name asked left = record { name = name; spared = option_map (λ bytes. length bytes - asked) left }
 
 -- where a feed told what was to come, the first of it was what this line stands for
 abbrev pub GivesLine : Bool → Option Rest → Option Rest → List ℕ → Type 0

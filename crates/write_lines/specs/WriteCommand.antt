@@ -9,7 +9,7 @@ use Rattle.record_writer.specs.Written.{file_under}
 use Rattle.write_lines.specs.declared.write_words.WriteWords.{WriteWords}
 use Rattle.run_answers.specs.declared.status.Status.{Status}
 use Rattle.run_answers.specs.Answers.{Answer, line}
-use Rattle.write_lines.specs.Input.{taken_from}
+use Rattle.write_lines.specs.Input.{most_input_taken, taken_from}
 use Rattle.run_answers.specs.Meanings.{Meaning, meaning, none_used}
 use Rattle.run_answers.specs.declared.status.Status.TheVariants as status
 
@@ -50,6 +50,7 @@ MayEndWrite ended text = (count : ℕ) × (stop : Option Stop) × (ended ≡ sto
 abbrev pub write_meaning : WriteWords → Meaning
 write_meaning words =
     record (meaning (record none_used { input = true; made = true; memory = true }) (λ r answer. answer ≡ write_answer words r.input)) {
-      may_have_put = λ r part. IsWrittenSoFar words r.input part;
+      may_have_put = λ r before after part. IsWrittenSoFar words r.input part;
       may_end = λ sizes ended text. MayEndWrite ended text;
+      most_taken = most_input_taken;
     }

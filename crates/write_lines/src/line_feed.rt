@@ -1,8 +1,8 @@
-ghost use Rattle.std.specs.Prelude.{◌≡◌, ◌+◌, ◌^◌, ◌<◌, ◌≤◌, ℕ, [], ◌∷◌, ◌++◌, Option, Some, ◌⊎◌, true, false, length, take, option_map, unwrap_or, None, Ok, Err, IfOk, IfSome, IsErr};
+ghost use Rattle.std.specs.Prelude.{◌≡◌, ◌+◌, ◌^◌, ◌<◌, ◌≤◌, ℕ, [], ◌∷◌, ◌++◌, Option, Some, ◌⊎◌, true, false, length, take, option_map, unwrap_or, None, Ok, Err, IfOk, IfSome, OnErr, OnOk, IsErr};
 ghost use Rattle.record_io.specs.Outside.{Rose};
 ghost use Rattle.run_answers.specs.Lines.{NoneEnds};
 ghost use Rattle.write_lines.specs.Input.{line_limit, taken_from};
-ghost use Rattle.write_lines.specs.LineFeeds.{GivesLine, LineEndsAt, text_of, rest_of};
+ghost use Rattle.write_lines.specs.LineFeeds.{GivesLine, LineEndsAt, origin_of, text_of, rest_of};
 ghost use Rattle.record_writer.specs.Feeds.{nothing_left, stop_alone};
 ghost use Rattle.hex.specs.Hex.{decode_of};
 ghost use Rattle.hex.specs.declared.error.FromHexError.{FromHexError};
@@ -11,7 +11,7 @@ use crate::held_input::HeldInput;
 use hex::FromHexError;
 use memchr::memchr;
 use record_group::Grouper;
-use record_io::{Bytes, Source};
+use record_io::{Bytes, Failed, Source};
 use record_writer::{FeedEnd, RecordFeed, Stop};
 use std::alloc::{AllocError, Global};
 
@@ -19,14 +19,14 @@ use std::alloc::{AllocError, Global};
 ///
 /// A line is the bytes before a byte 10, or those after the last one if there are any, and has at most 2^24 bytes, or 2^25
 /// hexadecimal digits.
-/// Of the input at most `limit` bytes are read, and one more to see that it goes past. At most 64 KiB of it are held,
-/// beside the line that is given.
+/// Of the input at most `limit` bytes are read, and one more to see that it goes past, however often lines are asked for. At
+/// most 64 KiB of it are held, beside the line that is given.
 #[derive(Drop)]
 pub struct LineFeed<'a, I: Source> {
     input: &'a mut I,
     hex: bool,
     /// How many more bytes are asked of the input: those that the limit still allows and one more, or none once its
-    /// end was seen.
+    /// end was seen, or the byte past its limit, which is then held.
     asked: u64,
     held: HeldInput,
     /// How many of the bytes that are held are known not to end a line.
@@ -35,8 +35,8 @@ pub struct LineFeed<'a, I: Source> {
     room: usize,
     ghost some_seen: { seen ≤ length held },
     ghost none_ends: { NoneEnds (take seen held) },
-    ghost all_given: { asked ≡ 0 → held ≡ [] },
-    ghost ended: { asked ≡ 0 → unwrap_or (I.left input.now) [] ≡ [] },
+    ghost all_given: { asked ≡ 0 → length held ≤ 1 },
+    ghost ended: { asked ≡ 0 → held ≡ [] → unwrap_or (I.left input.now) [] ≡ [] },
 }
 
 impl<'a, I: Source> LineFeed<'a, I> {
@@ -48,7 +48,7 @@ impl<'a, I: Source> LineFeed<'a, I> {
             ≡ option_map (λ bytes. taken_from bytes hex limit) (I.left input.old) }
         ensures bound { ⟦<LineFeed<'a, I> as RecordFeed>⟧.bound result ≡ limit + 1 }
         ensures faults { ⟦<LineFeed<'a, I> as RecordFeed>⟧.faults result ≡ I.faults input.old }
-        ensures name { ⟦<LineFeed<'a, I> as RecordFeed>⟧.name result ≡ input.entry.ghost_name }
+        ensures origin { ⟦<LineFeed<'a, I> as RecordFeed>⟧.origin result ≡ origin_of input.entry.ghost_name (limit + 1) (I.left input.old) }
     {
         LineFeed {
             input,
@@ -79,39 +79,57 @@ impl<'a, I: Source> LineFeed<'a, I> {
     /// Takes bytes of the input where none are held, and answers whether some are held then.
     fn refill(&mut self) -> Result<bool, FeedEnd>
         ensures some { result ≡ Ok true → 0 < length self.new.held }
+        ensures asking { result ≡ Ok true → 0 < self.new.asked }
         ensures at_end { result ≡ Ok false → (self.new.held ≡ []) × (self.new.asked ≡ 0) }
         ensures text { IfOk result (λ _. text_of self.new.held (I.left self.new.input.now)
             ≡ text_of self.old.held (I.left self.old.input.now)) }
         ensures bound { result ≡ Ok true
             → length self.new.held + self.new.asked ≡ length self.old.held + self.old.asked }
-        ensures past { (s : Stop) → result ≡ Err (FeedEnd.Stop s) → (s ≡ Stop.InputTooLong) × (self.old.held ≡ [])
-            × (self.old.asked ≡ 1) × IfSome (I.left self.old.input.now) (λ bytes. 0 < length bytes) }
+        ensures past { (s : Stop) → result ≡ Err (FeedEnd.Stop s) → (s ≡ Stop.InputTooLong)
+            × (length self.old.held + self.old.asked ≡ 1)
+            × IfSome (text_of self.old.held (I.left self.old.input.now)) (λ bytes. 0 < length bytes) }
         ensures never_rises { length self.new.held + self.new.asked ≤ length self.old.held + self.old.asked }
         ensures same_form { self.new.hex ≡ self.old.hex }
-        ensures same_name { self.new.input.ghost_name ≡ self.old.input.ghost_name }
+        ensures same_origin { ⟦<LineFeed<'a, I> as RecordFeed>⟧.origin self.new ≡ ⟦<LineFeed<'a, I> as RecordFeed>⟧.origin self.old }
         ensures cause { result ≡ Err FeedEnd.Failed → Rose (I.faults self.old.input.now) (I.faults self.new.input.now) }
         ensures never_falls { I.faults self.old.input.now ≤ I.faults self.new.input.now }
         ensures small { I.faults self.old.input.now < 2 ^ 64 → I.faults self.new.input.now < 2 ^ 64 }
     {
-        if !self.held.is_empty() {
-            return Ok(true);
+        self.fill()?;
+        if self.held.is_empty() {
+            return Ok(false);
         }
         if self.asked == 0 {
-            return Ok(false);
+            return Err(FeedEnd::Stop(Stop::InputTooLong));
+        }
+        Ok(true)
+    }
+
+    /// Takes bytes of the input where none are held and some are still asked: as many as the limit allows, or the one past it.
+    fn fill(&mut self) -> Result<(), Failed>
+        ensures ended { OnOk result (self.new.held ≡ [] → self.new.asked ≡ 0) }
+        ensures text { text_of self.new.held (I.left self.new.input.now) ≡ text_of self.old.held (I.left self.old.input.now) }
+        ensures bound { 0 < length self.new.held
+            → length self.new.held + self.new.asked ≡ length self.old.held + self.old.asked }
+        ensures never_rises { length self.new.held + self.new.asked ≤ length self.old.held + self.old.asked }
+        ensures same_form { self.new.hex ≡ self.old.hex }
+        ensures same_origin { ⟦<LineFeed<'a, I> as RecordFeed>⟧.origin self.new ≡ ⟦<LineFeed<'a, I> as RecordFeed>⟧.origin self.old }
+        ensures cause { OnErr result (Rose (I.faults self.old.input.now) (I.faults self.new.input.now)) }
+        ensures never_falls { I.faults self.old.input.now ≤ I.faults self.new.input.now }
+        ensures small { I.faults self.old.input.now < 2 ^ 64 → I.faults self.new.input.now < 2 ^ 64 }
+    {
+        if self.asked == 0 || !self.held.is_empty() {
+            return Ok(());
         }
         let allowed = self.asked - 1;
         self.seen = 0;
         let taken = self.held.fill(&mut *self.input, allowed.max(1))?;
         if taken == 0 {
             self.asked = 0;
-            return Ok(false);
-        }
-        if allowed == 0 {
-            self.held.skip(taken);
-            return Err(FeedEnd::Stop(Stop::InputTooLong));
+            return Ok(());
         }
         self.asked -= taken as u64;
-        Ok(true)
+        Ok(())
     }
 
     /// The next line, and whether there is one.
@@ -125,7 +143,7 @@ impl<'a, I: Source> LineFeed<'a, I> {
         ensures stop { (s : Stop) → result ≡ Err (FeedEnd.Stop s) → IfSome (⟦<LineFeed<'a, I> as RecordFeed>⟧.rest self.old) (λ r. r ≡ stop_alone s) }
         ensures never_rises { length self.new.held + self.new.asked ≤ length self.old.held + self.old.asked }
         ensures same_form { self.new.hex ≡ self.old.hex }
-        ensures same_name { self.new.input.ghost_name ≡ self.old.input.ghost_name }
+        ensures same_origin { ⟦<LineFeed<'a, I> as RecordFeed>⟧.origin self.new ≡ ⟦<LineFeed<'a, I> as RecordFeed>⟧.origin self.old }
         ensures cause { result ≡ Err FeedEnd.Failed → Rose (I.faults self.old.input.now) (I.faults self.new.input.now) }
         ensures never_falls { I.faults self.old.input.now ≤ I.faults self.new.input.now }
         ensures small { I.faults self.old.input.now < 2 ^ 64 → I.faults self.new.input.now < 2 ^ 64 }
@@ -147,6 +165,7 @@ impl<'a, I: Source> LineFeed<'a, I> {
     /// Moves bytes that are held to the end of a line, up to the next byte 10, unless the line would be too long.
     fn grow(&mut self, line: &mut Bytes) -> Result<Grown, AllocError>
         requires some { 0 < length self.old.held }
+        requires asking { 0 < self.old.asked }
         requires short { length line.old ≤ line_limit self.old.hex }
         ensures ended { result ≡ Ok Grown.Ended → (n : ℕ) × ((line.new ≡ line.old ++ take n self.old.held)
             × (self.old.held ≡ take n self.old.held ++ 10 ∷ self.new.held) × NoneEnds (take n self.old.held)) }
@@ -243,7 +262,7 @@ impl<'a, I: Source> RecordFeed for LineFeed<'a, I> {
 
     ghost faults = { λ f. I.faults f.input.now };
 
-    ghost name = { λ f. f.input.ghost_name };
+    ghost origin = { λ f. origin_of f.input.ghost_name f.asked (I.left f.input.now) };
 
     fn pull(&mut self, alloc: Global, into: &mut Bytes) -> Result<bool, FeedEnd> {
         if !self.pull_line(into)? {
@@ -259,7 +278,7 @@ impl<'a, I: Source> RecordFeed for LineFeed<'a, I> {
     }
 
     fn push_held(&mut self, grouper: &mut Grouper) -> Result<bool, AllocError> {
-        if self.hex {
+        if self.hex || self.asked == 0 {
             return Ok(false);
         }
         let Some(len) = self.line_end() else {

@@ -2,9 +2,9 @@ ghost use Rattle.std.specs.Prelude.{◌≡◌, ◌^◌, ◌≤◌, Some, [], IfS
 ghost use Rattle.record_io.specs.Outside.{Rose};
 ghost use Rattle.record_io.specs.Calls.{OnlyCounts};
 ghost use Rattle.record_writer.specs.Written.{AreInLimits, Answers, TakesFile, file_under};
-ghost use Rattle.write_lines.specs.Input.{taken_from};
+ghost use Rattle.write_lines.specs.Input.{most_input_taken, taken_from};
 ghost use Rattle.write_lines.specs.WriteCommand.{stop_status, stop_text, write_meaning};
-ghost use Rattle.run_answers.specs.Runs.{Runs, SaysAtEnd, Seen, seen_stream};
+ghost use Rattle.run_answers.specs.Runs.{Runs, SaysAtEnd, Seen, TakesAtMost, seen_stream};
 
 use crate::line_feed::LineFeed;
 use crate::write_words::WriteWords;
@@ -70,6 +70,7 @@ fn write_lines<R: Threads + Sync, I: Source, M: Sink + Send>(
     ensures made { IfSome (I.left input.old) (λ bytes. TakesFile result (M.taken made.old) (M.taken made.new)
         (file_under words.now.options (taken_from bytes words.now.hex (2 ^ 40)).records)) }
     ensures read_to_end { OnOk result (IfSome (I.left input.old) (λ _. I.left input.new ≡ Some [])) }
+    ensures input_taken { TakesAtMost most_input_taken (I.left input.old) (I.left input.new) }
     ensures input_cause { result ≡ Err WriteEnd.Input → Rose (I.faults input.old) (I.faults input.new) }
     ensures made_counts { OnlyCounts M.lent M.faults (result ≡ Err WriteEnd.Made) made.old made.new }
     ensures input_count { I.faults input.old ≤ I.faults input.new }

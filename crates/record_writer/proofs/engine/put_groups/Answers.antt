@@ -48,10 +48,10 @@ loop-taken-preserved g c =
         before.0 ++ window,
         Lays-all _ _ _ _ c.loop-taken.file c.put_and_take.new.file (before.0 ++ window) before.0 window refl before.1
             c.in_ok-taken-in-Ok-Window.ensures.laid.whole,
-        TakesGroups-append _ _ g.L.RecordFeed.rest g.L.RecordFeed.bound g.L.RecordFeed.going g.L.RecordFeed.name g.L.RecordFeed.faults
+        TakesGroups-append _ _ g.L.RecordFeed.rest g.L.RecordFeed.bound g.L.RecordFeed.going g.L.RecordFeed.origin g.L.RecordFeed.faults
             c.args.feed.now c.loop-taken.feed c.put_and_take.new.feed c.args.windows.now.taker c.loop-taken.windows.taker c.put_and_take.new.self.taker
             (before.0 ++ window) (g.W.Window.groups c.put_and_take.new.self.window) c.in_ok-taken-in-Ok-Window.taken
-            (subst (λ (t : Result FeedPart CutOff). TakesGroups g.L.RecordFeed.rest g.L.RecordFeed.bound g.L.RecordFeed.going g.L.RecordFeed.name
+            (subst (λ (t : Result FeedPart CutOff). TakesGroups g.L.RecordFeed.rest g.L.RecordFeed.bound g.L.RecordFeed.going g.L.RecordFeed.origin
             g.L.RecordFeed.faults c.args.feed.now c.loop-taken.feed c.args.windows.now.taker c.loop-taken.windows.taker (before.0 ++ window) t) more before.2)
             c.in_ok-taken-in-Ok-Window.ensures.taken,
       );

@@ -9,7 +9,7 @@ abbrev pub invariant-loop-taken : goal.invariant-loop-taken
 invariant-loop-taken g l = record {
   laid : (given : List (List (List ℕ)))
       × Lays (g.M.Sink.taken l.fn.made) (g.M.Sink.taken l.made) l.fn.file l.file (chunks_of_groups given)
-      × TakesGroups g.L.RecordFeed.rest g.L.RecordFeed.bound g.L.RecordFeed.going g.L.RecordFeed.name g.L.RecordFeed.faults
+      × TakesGroups g.L.RecordFeed.rest g.L.RecordFeed.bound g.L.RecordFeed.going g.L.RecordFeed.origin g.L.RecordFeed.faults
       l.fn.feed l.feed l.fn.windows.taker l.windows.taker (given ++ g.W.Window.groups l.windows.window) l.taken;
   ready : g.W.Window.ready l.windows.window;
   next : g.W.Window.groups l.windows.next ≡ [];

@@ -9,7 +9,7 @@ returns-in_err-start g c =
     let p = err_from_is_err_and c.from_residual.result c.from_residual.ensures.1 in
     let front = LaysFront-at_front _ _ c.new-file.result c.start.new.self _ c.new-file.ensures c.in_err-start.ensures.front in
     rw (p.1, p.2)
-    (WritesFile-unsigned g.L.RecordFeed.rest g.L.RecordFeed.name g.L.RecordFeed.faults g.M.Sink.taken g.M.Sink.lent g.M.Sink.faults _ c.args.options.now
+    (WritesFile-unsigned g.L.RecordFeed.rest g.L.RecordFeed.origin g.L.RecordFeed.faults g.M.Sink.taken g.M.Sink.lent g.M.Sink.faults _ c.args.options.now
     c.start.new.self _ _ _ front c.in_err-start.ensures.made refl)
 
 pub write-requires-clause-follows : goal.write-requires-clause-follows
@@ -19,6 +19,6 @@ write-requires-clause-follows g c κs within =
 
 pub returns : goal.returns
 returns g c =
-    WritesFile-signed g.L.RecordFeed.rest g.L.RecordFeed.name g.L.RecordFeed.faults g.M.Sink.taken g.M.Sink.lent g.M.Sink.faults _ c.args.options.now
+    WritesFile-signed g.L.RecordFeed.rest g.L.RecordFeed.origin g.L.RecordFeed.faults g.M.Sink.taken g.M.Sink.lent g.M.Sink.faults _ c.args.options.now
     c.start.new.self c.write.result _ _ _ _ _ (Lays-at_front _ _ _ c.start.new.self _ c.new-file.ensures c.in_ok-start.ensures.whole)
     c.in_ok-start.ensures.made c.write.ensures

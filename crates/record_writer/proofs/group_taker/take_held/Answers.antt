@@ -18,7 +18,7 @@ loop-preserved g c =
       in_reach = λ place. reach_of-handed place c.loop.grouper c.push_held.new.grouper _ _ _ h.record_bytes h.takes h.lowers (c.loop.invariant.in_reach place);
       same_going = c.push_held.ensures.same_going ∙ c.loop.invariant.same_going;
       same_faults = c.push_held.ensures.same_faults ∙ c.loop.invariant.same_faults;
-      same_name = c.push_held.ensures.same_name ∙ c.loop.invariant.same_name;
+      same_origin = c.push_held.ensures.same_origin ∙ c.loop.invariant.same_origin;
     }
 
 pub returns-clause-in_reach : goal.returns-clause-in_reach

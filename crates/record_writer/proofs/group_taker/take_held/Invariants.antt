@@ -9,7 +9,7 @@ invariant-loop g l = record {
   in_reach : (place : ℕ) → reach_of place l.grouper (g.L.RecordFeed.bound l.feed) ≤ reach_of place l.fn.grouper (g.L.RecordFeed.bound l.fn.feed);
   same_going : g.L.RecordFeed.going l.feed ≡ g.L.RecordFeed.going l.fn.feed;
   same_faults : g.L.RecordFeed.faults l.feed ≡ g.L.RecordFeed.faults l.fn.feed;
-  same_name : g.L.RecordFeed.name l.feed ≡ g.L.RecordFeed.name l.fn.feed;
+  same_origin : g.L.RecordFeed.origin l.feed ≡ g.L.RecordFeed.origin l.fn.feed;
 }
 
 abbrev pub decreases-loop : goal.decreases-loop

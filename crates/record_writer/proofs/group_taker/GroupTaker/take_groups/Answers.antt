@@ -155,7 +155,7 @@ returns g c =
       | goal.in-Ok-false w ↦
           let last = rw w.self-is at c.take_last.ensures.in_reach in
           rw w.stop-is
-          (TakesGroups-ended _ _ g.L.RecordFeed.rest g.L.RecordFeed.bound g.L.RecordFeed.going g.L.RecordFeed.name g.L.RecordFeed.faults
+          (TakesGroups-ended _ _ g.L.RecordFeed.rest g.L.RecordFeed.bound g.L.RecordFeed.going g.L.RecordFeed.origin g.L.RecordFeed.faults
           c.args.feed.now c.take_held.new.feed c.pull.new.self c.args.self.now c.take_held.new.grouper c.take_last.new.self
           (g.W.Window.groups c.loop-feed.window) (g.W.Window.groups c.take_last.new.window) None
           (held g at) (search rules) (λ none. search rules) (rw w.self-is at c.in_ok-take_last.ensures.taken)
@@ -164,7 +164,7 @@ returns g c =
       | goal.in-Err-Stop w ↦
           let last = rw w.self-is at c.take_last.ensures.in_reach in
           rw w.stop-is
-          (TakesGroups-ended _ _ g.L.RecordFeed.rest g.L.RecordFeed.bound g.L.RecordFeed.going g.L.RecordFeed.name g.L.RecordFeed.faults
+          (TakesGroups-ended _ _ g.L.RecordFeed.rest g.L.RecordFeed.bound g.L.RecordFeed.going g.L.RecordFeed.origin g.L.RecordFeed.faults
           c.args.feed.now c.take_held.new.feed c.pull.new.self c.args.self.now c.take_held.new.grouper c.take_last.new.self
           (g.W.Window.groups c.loop-feed.window) (g.W.Window.groups c.take_last.new.window) (Some w.in-Err-Stop.stop)
           (held g at) (w.in-Err-Stop.ensures.stop w.in-Err-Stop.stop (ap Err w.in-Err-Stop.field-0-is)) (search rules)

@@ -14,7 +14,7 @@ invariant-loop-feed g l = record {
   in_reach : (place : ℕ) → reach_of (end_of_chunks place (chunks_of_groups (g.W.Window.groups l.window))) l.self-inside.grouper (g.L.RecordFeed.bound l.feed)
       ≤ reach_of place l.fn.self (g.L.RecordFeed.bound l.fn.feed);
   lowers : g.L.RecordFeed.bound l.feed ≤ g.L.RecordFeed.bound l.fn.feed;
-  counts : OnlyCounts g.L.RecordFeed.name g.L.RecordFeed.faults ⊥ l.fn.feed l.feed;
+  counts : OnlyCounts g.L.RecordFeed.origin g.L.RecordFeed.faults ⊥ l.fn.feed l.feed;
 }
 
 abbrev pub decreases-loop-feed : goal.decreases-loop-feed

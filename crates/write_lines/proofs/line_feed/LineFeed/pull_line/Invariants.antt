@@ -1,7 +1,7 @@
 use Rattle.std.proofs.Common.{◌≡◌, ◌+◌, ◌^◌, ◌<◌, ◌≤◌, ◌++◌, length}
 use Rattle.run_answers.specs.Lines.{NoneEnds}
 use Rattle.write_lines.specs.Input.{line_limit}
-use Rattle.write_lines.specs.LineFeeds.{text_of}
+use Rattle.write_lines.specs.LineFeeds.{origin_of, text_of}
 use Rattle.write_lines.proofs.line_feed.LineFeed.pull_line.Given as goal
 
 abbrev pub invariant-loop-self : goal.invariant-loop-self
@@ -12,7 +12,8 @@ invariant-loop-self g l = record {
   short : length l.line ≤ line_limit l.self.hex;
   asking : 0 < length l.line → 0 < l.self.asked;
   form : l.self.hex ≡ l.fn.self.hex;
-  named : l.self.input.ghost_name ≡ l.fn.self.input.ghost_name;
+  origin : origin_of l.self.input.ghost_name l.self.asked (g.I.Source.left l.self.input.now)
+      ≡ origin_of l.fn.self.input.ghost_name l.fn.self.asked (g.I.Source.left l.fn.self.input.now);
   counted : g.I.Source.faults l.fn.self.input.now ≤ g.I.Source.faults l.self.input.now;
   small : g.I.Source.faults l.fn.self.input.now < 2 ^ 64 → g.I.Source.faults l.self.input.now < 2 ^ 64;
 }

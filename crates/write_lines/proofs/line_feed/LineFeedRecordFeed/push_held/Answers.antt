@@ -1,6 +1,6 @@
-use Rattle.std.proofs.Common.{◌+◌, ◌≡◌, ◌∙◌, ◌≤◌, ◌<◌, ℕ, List, [], ◌∷◌, ◌++◌, take, drop, length, length-take, length-append, false, refl, sym, ap, arith, rules}
+use Rattle.std.proofs.Common.{◌+◌, ◌≡◌, ◌∙◌, ◌≤◌, ◌<◌, ℕ, List, [], ◌∷◌, ◌++◌, take, drop, length, length-take, length-append, refl, sym, ap, arith, rules}
 use Rattle.write_lines.specs.Input.{line_limit}
-use Rattle.write_lines.proofs.FeedSteps.{next-line, line-record, NoneEnds-none, asked-some}
+use Rattle.write_lines.proofs.FeedSteps.{next-line, line-record, NoneEnds-none}
 use Rattle.write_lines.proofs.line_feed.LineFeedRecordFeed.push_held.Goals as goal
 
 pub push_open-requires : goal.push_open-requires
@@ -12,7 +12,7 @@ returns-clause-pushed g c = λ _.
     let self = c.args.self.now in
     let ends = c.in-Some.ensures.found in
     let line : List ℕ = take c.in-Some.len self.held in
-    let asking : 0 < self.asked = asked-some self.asked self.held self.all_given (omega (arith, ends.0)) in
+    let asking : 0 < self.asked = search rules in
     let short : length line ≤ line_limit self.hex =
     rw c.if-self.false (omega (arith, c.as_slice.ensures.short, ap length c.in-Some.ensures.same_held, length-take c.in-Some.len self.held)) in
     let rest : c.skip.new.self ≡ drop (c.in-Some.len + 1) self.held = c.skip.ensures ∙ ap (λ (l : List ℕ). drop (c.in-Some.len + 1) l) c.in-Some.ensures.same_held in
