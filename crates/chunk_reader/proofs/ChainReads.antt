@@ -1,5 +1,5 @@
 -- What reading a file chunk by chunk shows of it, over a store that may tell its bytes.
-use Rattle.std.proofs.Common.{◌≡◌, ◌≢◌, ◌∙◌, ℕ, zero, suc, refl, ◌+◌, ◌<◌, ◌≤◌, Bool, true, false, Option, Some, None, IfSome, List, [], ◌∷◌, ◌++◌, length, take, sym, ap, subst, inl, inr, arith}
+use Rattle.std.proofs.Common.{◌≡◌, ◌≢◌, ◌∙◌, ℕ, zero, suc, refl, ◌+◌, ◌-◌, ◌<◌, ◌≤◌, ◌⊎◌, Bool, true, false, Option, Some, None, IfSome, List, [], ◌∷◌, ◌++◌, length, take, sym, ap, subst, inl, inr, arith}
 use Rattle.std.specs.Prelude.{slice_range, if◌then◌else◌}
 use Rattle.std.proofs.lemmas.Bool.{cases_Bool}
 use Rattle.record_values.specs.declared.file_totals.Totals.{Totals}
@@ -17,8 +17,9 @@ use Rattle.chunk_reader.specs.Ends.{read_end_of}
 use Rattle.chunk_reader.specs.Contents.{IsWhat, IsJudged, IsJudgedIn}
 use Rattle.chunk_reader.specs.Faults.{IsAllowed, IsVerdict, IsFault, BeginsWithSignature}
 use Rattle.chunk_reader.specs.Progress.{totals_with_chunk, AreInBounds, AreReadFrom}
-use Rattle.chunk_reader.specs.Places.{chunk_at}
-use Rattle.chunk_reader.specs.Reasons.{Applies, NoneOf, loading_reasons}
+use Rattle.chunk_reader.specs.Places.{end_at, chunk_at}
+use Rattle.chunk_reader.specs.Reasons.{Applies, NoneOf, unpassed_reasons, loading_reasons}
+use Rattle.chunk_reader.specs.ReadBounds.{MayBeReadTo}
 use Rattle.chunk_reader.specs.declared.judging.Judged.{Judged}
 use Rattle.chunk_reader.specs.declared.judging.What.{What}
 use Rattle.chunk_reader.specs.declared.judging.What.TheVariants.{Records, Passive, Unread}
@@ -27,6 +28,7 @@ use Rattle.chunk_reader.specs.declared.reasons.VerifyEnd.{VerifyEnd}
 use Rattle.chunk_reader.specs.declared.reasons.VerifyEnd.TheVariants as verify
 use Rattle.chunk_reader.specs.declared.reasons.ReadEnd.TheVariants as read
 use Rattle.chunk_reader.proofs.AllowedChunks.{IsPassed, IsAllowed-passed}
+use Rattle.chunk_reader.proofs.PassedChunks.{end_at_after}
 use Rattle.chunk_reader.proofs.Rooms.{IsSized}
 use Rattle.chunk_reader.proofs.SignedFiles.{length-signature_bytes, signed_length, begins_signed}
 use Rattle.chunk_reader.proofs.ChainSteps.{no_chunks, chain_goes_on, longest_where_refused, totals_of-push}
@@ -235,6 +237,27 @@ pub loading_shown : (bytes held : Option (List ℕ)) (place here : ℕ) → held
 loading_shown bytes held place here same p h =
     subst (λ (o : Option (List ℕ)). IfSome o (λ file. NoneOf (Applies file here) loading_reasons)) same
     (subst (λ (n : ℕ). IfSome held (λ file. NoneOf (Applies file n) loading_reasons)) (sym p) h)
+
+-- how far the file may have been read: past a header
+pub read_to-header : (bytes : Option (List ℕ)) (place before after : ℕ) → after ≤ before + 64
+    → IfSome bytes (λ file. MayBeReadTo file place (place + (after - before)))
+read_to-header None place before after few = tt
+read_to-header (Some file) place before after few = inl (omega (arith, few))
+
+-- or to the end of the chunk there
+to_chunk : (file : List ℕ) (at before after : ℕ) → NoneOf (Applies file at) unpassed_reasons ⊎ (after ≤ before + 64)
+    → (NoneOf (Applies file at) unpassed_reasons → after + at ≤ before + end_at file at)
+    → MayBeReadTo file at (at + (after - before))
+to_chunk file at before after (inl none) whole = inr (none, omega (arith, whole none, end_at_after file at))
+to_chunk file at before after (inr few) whole = inl (omega (arith, few))
+
+pub read_to-chunk : (bytes : Option (List ℕ)) (at place before after : ℕ) → at ≡ place
+    → IfSome bytes (λ file. NoneOf (Applies file at) unpassed_reasons ⊎ (after ≤ before + 64))
+    → IfSome bytes (λ file. NoneOf (Applies file at) unpassed_reasons → after + at ≤ before + end_at file at)
+    → IfSome bytes (λ file. MayBeReadTo file place (place + (after - before)))
+read_to-chunk None at place before after here early whole = tt
+read_to-chunk (Some file) at place before after here early whole =
+    subst (λ (p : ℕ). MayBeReadTo file p (p + (after - before))) here (to_chunk file at before after early whole)
 
 -- totals of the chunks before go on by a chunk that was given
 abbrev pub GoesOn : Bool → List ℕ → Totals → Totals → Judged → Type 0

@@ -8,6 +8,7 @@ pub mod HeldData
 pub mod Contents
 pub mod Progress
 pub mod Readers
+pub mod ReadBounds
 pub mod Ends
 pub mod Pieces
 pub mod Names

@@ -1,9 +1,10 @@
-ghost use Rattle.std.specs.Prelude.{◌≡◌, ◌+◌, ◌≤◌, Bool, List, None, Some, IfOk, IfSome, OnOk, OnErr, Ok, Err, ℕ};
+ghost use Rattle.std.specs.Prelude.{◌≡◌, ◌+◌, ◌-◌, ◌≤◌, Bool, List, None, Some, IfOk, IfSome, OnOk, OnErr, Ok, Err, ℕ};
 ghost use Rattle.record_io.specs.Calls.{OnlyAsks};
 ghost use Rattle.chunk_reader.specs.Contents.{IsJudged, IsJudgedIn};
 ghost use Rattle.chunk_reader.specs.Faults.{BeginsWithSignature};
 ghost use Rattle.chunk_reader.specs.Progress.{AreReadFrom};
 ghost use Rattle.chunk_reader.specs.Readers.{ReadsIn, ReadsOn, IsNextChunk, IsReadWhole, IsFaultBehind, IsChunkAtHand, ReadsAtMost};
+ghost use Rattle.chunk_reader.specs.ReadBounds.{MayBeReadTo};
 ghost use Rattle.chunk_reader.specs.declared.reasons.Fault.{Fault};
 ghost use Rattle.chunk_reader.specs.declared.reasons.Why.{Why};
 ghost use Rattle.chunk_reader.specs.declared.judging.Judged.{Judged};
@@ -72,7 +73,8 @@ impl Reader {
     /// # Errors
     ///
     /// `Refused` exactly with the fault of the file, once all chunks before it were given. `Store` only where the store
-    /// failed. After an error the reader is as before.
+    /// failed. After an error the reader is as before, and no more was handed out than a chunk header and the header of a block
+    /// within it, or than the chunk that the file has there.
     pub fn next<S: Store>(
         &mut self,
         alloc: Global,
@@ -86,6 +88,8 @@ impl Reader {
         ensures memory { result ≡ Err ReadEnd.Memory → IsChunkAtHand (S.bytes store.old) self.old.totals.bytes }
         ensures kept { OnErr result (self.new ≡ self.old) }
         ensures handed { ReadsAtMost self.old result (S.handed store.old) (S.handed store.new) }
+        ensures read_to { IfSome (S.bytes store.old) (λ file.
+            MayBeReadTo file self.old.totals.bytes (self.old.totals.bytes + (S.handed store.new - S.handed store.old))) }
         ensures store { OnlyAsks S.bytes S.told S.name S.faults (result ≡ Err ReadEnd.Store) store.old store.new }
     {
         let judged = if self.at() == 0 {
@@ -110,6 +114,7 @@ fn first_chunk<S: Store>(alloc: Global, store: &mut S, size: u64) -> Result<Judg
     ensures signed { OnOk result (IfSome (S.bytes store.old) BeginsWithSignature) }
     ensures refused { (fault : Fault) → result ≡ Err (VerifyEnd.Refused fault) → (fault.at ≡ 0) × (fault.why ≡ Why.NoSignature)
         × IfSome (S.bytes store.old) (λ file. ¬ BeginsWithSignature file) }
+    ensures handed { S.handed store.new ≤ S.handed store.old + 64 }
     ensures handed_given { IfOk result (λ judged. S.handed store.new ≤ S.handed store.old + judged.end) }
     ensures handed_at_most { S.handed store.new ≤ S.handed store.old + size }
     ensures store { OnlyAsks S.bytes S.told S.name S.faults (result ≡ Err VerifyEnd.Store) store.old store.new }

@@ -25,7 +25,7 @@ use Rattle.run_answers.specs.declared.status.Status.TheVariants as status
 
 -- what holds of a command that reads one file, makes none, says nothing before its end and ends so, of which P are the answers
 -- and Q what it may have put so far
-pub record IsReading {X W : Type 0} (m : Meaning) (ends : Endings X W) (P : List ℕ → Answer → Type 0) (Q : List ℕ → List Put → Type 0) : Type 0 where
+pub record IsReading {X W : Type 0} (m : Meaning) (ends : Endings X W) (P : List ℕ → Answer → Type 0) (Q : (before after : ℕ) → List ℕ → List Put → Type 0) : Type 0 where
   pub one : ReadsFile m P Q
   pub by : EndsBy m ends
   pub done : (x : X) → MayEndInReach m (ends.done x) [] × EndsWhole m (ends.done x)
@@ -35,7 +35,7 @@ pub record IsReading {X W : Type 0} (m : Meaning) (ends : Endings X W) (P : List
   pub may_say : m.may_say []
 
 -- so of one that reads strictly
-strict_reads : (m : Meaning) (P : List ℕ → Answer → Type 0) (Q : List ℕ → List Put → Type 0) → ReadsFile m P Q
+strict_reads : (m : Meaning) (P : List ℕ → Answer → Type 0) (Q : (before after : ℕ) → List ℕ → List Put → Type 0) → ReadsFile m P Q
     → ((sizes : List ℕ) (ended : Status) (text : List ℕ) → MayEndReading sizes ended text → m.may_end sizes ended text)
     → m.uses.made ≡ false → ((text : List ℕ) → m.may_say text → text ≡ []) → m.may_say [] → IsReading {X = Unit {0}} m reading_ends P Q
 strict_reads m P Q one may_end unmade says_nothing may_say = record {
@@ -63,7 +63,7 @@ verify_reads =
     strict_reads verify_meaning IsVerified IsVerifiedSoFar
     (reads_file IsVerified IsVerifiedSoFar _ _ _ _ refl refl refl refl) (λ sizes ended text may. may) refl (λ text is. is) refl
 
-module _ {X W : Type 0} {ends : Endings X W} (m : Meaning) (P : List ℕ → Answer → Type 0) (Q : List ℕ → List Put → Type 0) (reads : IsReading m ends P Q)
+module _ {X W : Type 0} {ends : Endings X W} (m : Meaning) (P : List ℕ → Answer → Type 0) (Q : (before after : ℕ) → List ℕ → List Put → Type 0) (reads : IsReading m ends P Q)
     (input made : SeenStream) (file file_then grown : SeenFile) (out out_then notes notes_then : SeenStream)
     (keeps : Keeps m (seen input (file ∷ []) made grown out notes) (seen input (file_then ∷ []) made grown out_then notes_then)) where
   abbrev Start : Taken
@@ -87,7 +87,7 @@ module _ {X W : Type 0} {ends : Endings X W} (m : Meaning) (P : List ℕ → Ans
   pub runs-reading : (result : Result X (Ending W)) (ended : Status)
       → IsAllowedEnd m result file_then.told → IfSome file.bytes (λ bytes. IfSome file_then.told (λ size. size ≡ length bytes))
       → IfSome file.bytes (λ bytes. HasPutAtEnd ends P result bytes Start Read [])
-      → (IsErrAnd result IsShort → ¬ Rose out.faults out_then.faults → IfSome file.bytes (λ bytes. HasPutSoFar (Q bytes) Start Read []))
+      → (IsErrAnd result IsShort → ¬ Rose out.faults out_then.faults → IfSome file.bytes (λ bytes. HasPutSoFar (Q file.handed file_then.handed bytes) Start Read []))
       → SaysEnd ends result ended notes notes_then
       → (result ≡ Err (end.Cut cut.File) → Rose file.faults file_then.faults)
       → (result ≡ Err (end.Cut cut.Out) → Rose out.faults out_then.faults)

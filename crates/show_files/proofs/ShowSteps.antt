@@ -1,5 +1,5 @@
 -- How `show` gets on: the lines of the chunks that were read, one chunk more, and how they stand to the answer.
-use Rattle.std.proofs.Common.{◌≡◌, ◌≢◌, ◌∙◌, ℕ, ◌^◌, ◌≤◌, ◌⊎◌, Bool, true, false, Option, Some, None, Result, Ok, Err, IfSome, List, [], ◌∷◌, ◌++◌, length, take, drop, refl, sym, ap, subst, inl, inr, arith, append_assoc}
+use Rattle.std.proofs.Common.{◌≡◌, ◌≢◌, ◌∙◌, ℕ, ◌+◌, ◌-◌, ◌^◌, ◌≤◌, ◌⊎◌, Bool, true, false, Option, Some, None, Result, Ok, Err, IfSome, List, [], ◌∷◌, ◌++◌, length, take, drop, refl, sym, ap, subst, inl, inr, arith, append_assoc}
 use Rattle.std.specs.Result.{IsErr, IsErrAnd}
 use Rattle.std.specs.List.{enumerate_from}
 use Rattle.std.proofs.lemmas.List.{append-nil, take-append-drop}
@@ -20,6 +20,7 @@ use Rattle.meta_chunk.proofs.Held.{HoldEach-one}
 use Rattle.meta_chunk.proofs.Chains.{AreLaid-front_of}
 use Rattle.chunk_reader.specs.Progress.{AreReadFrom, ReaderValue}
 use Rattle.chunk_reader.specs.Readers.{ReadsIn, ReadsOn}
+use Rattle.chunk_reader.specs.ReadBounds.{MayBeReadTo}
 use Rattle.chunk_reader.proofs.Rooms.{IsSized}
 use Rattle.chunk_reader.specs.Contents.{IsWhat, IsJudged}
 use Rattle.chunk_reader.specs.declared.judging.What.{What}
@@ -115,9 +116,16 @@ text-none words file = record {
   lines = refl;
 }
 
-pub shown-none : (words : ShowWords) (file : List ℕ) → IsShownSoFar words file []
-shown-none words file =
-    record { ks = []; place = 0; placed = []; chain = IsChainOf-nil file; records = ([], refl, refl); puts = refl }
+pub shown-none : (words : ShowWords) (before after : ℕ) → after ≡ before → (file : List ℕ) → IsShownSoFar words before after file []
+shown-none words before after same file = record {
+  ks = [];
+  place = 0;
+  placed = [];
+  chain = IsChainOf-nil file;
+  records = ([], refl, refl);
+  puts = refl;
+  read = inl (omega (arith, same));
+}
 
 -- one chunk more is given
 abbrev pub Given : List ℕ → Totals → Totals → ChunkValue → Type 0
@@ -202,14 +210,31 @@ printed-front words file totals before after held short (text, h, out) answer is
       went = out;
     }
 
--- and all that was put so far
-pub printed-so_far : (words : ShowWords) (bytes : Option (List ℕ)) (totals : Totals) (before : Taken) (made b c notes : Option (List ℕ)) (held then : List ℕ)
-    → c ≡ b → then ≡ held → IfSome bytes (λ f. IsPrinted words f totals before (taken_by made b notes) held)
-    → IfSome bytes (λ f. HasPutSoFar (IsShownSoFar words f) before (taken_by made c notes) then)
-printed-so_far words None totals before made b c notes held then same also h = tt
-printed-so_far words (Some f) totals before made b c notes held then same also (text, is, out) = record {
+-- a file may be read less far
+read_less : (file : List ℕ) (place less to : ℕ) → less ≤ to → MayBeReadTo file place to → MayBeReadTo file place less
+read_less file place less to few (inl front) = inl (omega (arith, few, front))
+read_less file place less to few (inr (none, within)) = inr (none, omega (arith, few, within))
+
+-- and all that was put so far, where no more was handed out than the chunks before have, and then what the next call takes
+pub printed-so_far : (words : ShowWords) (told bytes : Option (List ℕ)) (totals : Totals) (before : Taken) (made b c notes : Option (List ℕ)) (held then : List ℕ)
+    (start now end : ℕ) → told ≡ bytes → c ≡ b → then ≡ held → now ≤ start + totals.bytes
+    → IfSome told (λ f. MayBeReadTo f totals.bytes (totals.bytes + (end - now)))
+    → IfSome bytes (λ f. IsPrinted words f totals before (taken_by made b notes) held)
+    → IfSome bytes (λ f. HasPutSoFar (IsShownSoFar words start end f) before (taken_by made c notes) then)
+printed-so_far words told None totals before made b c notes held then start now end told_same same also few reads h = tt
+printed-so_far words None (Some f) totals before made b c notes held then start now end told_same same also few reads h = absurd (cc told_same)
+printed-so_far words (Some e) (Some f) totals before made b c notes held then start now end told_same same also few reads (text, is, out) = record {
   part = puts_to Out text;
-  is = record { ks = is.ks; place = totals.bytes; placed = is.placed; chain = is.chain; records = is.records; puts = ap (puts_to Out) is.lines };
+  is = record {
+    ks = is.ks;
+    place = totals.bytes;
+    placed = is.placed;
+    chain = is.chain;
+    records = is.records;
+    puts = ap (puts_to Out) is.lines;
+    read = read_less f totals.bytes (end - start) (totals.bytes + (end - now)) (omega (arith, few))
+        (subst (λ (x : List ℕ). MayBeReadTo x totals.bytes (totals.bytes + (end - now))) (cc told_same) reads);
+  };
   went = subst (λ (x : Option (List ℕ)). GoOutOrAreHeld before (taken_by made x notes) Out (puts_to Out text) then) (sym same)
       (subst (λ (hs : List ℕ). GoOutOrAreHeld before (taken_by made b notes) Out (puts_to Out text) hs) (sym also) out);
 }

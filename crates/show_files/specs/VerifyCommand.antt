@@ -20,8 +20,8 @@ IsVerified file answer =
     ⊎ ((fault : Fault) × IsFault true file fault × (answer ≡ noted status.Refused (refused_text fault)))
 
 -- nothing is put before the report
-abbrev pub IsVerifiedSoFar : List ℕ → List Put → Type 0
-IsVerifiedSoFar file part = part ≡ []
+abbrev pub IsVerifiedSoFar : (before after : ℕ) → List ℕ → List Put → Type 0
+IsVerifiedSoFar before after file part = part ≡ []
 
 -- how many bytes of a file judging hands out at most: each once
 abbrev pub MayJudge : (sizes before after : List ℕ) → Type 0

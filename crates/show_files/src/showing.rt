@@ -1,9 +1,10 @@
-ghost use Rattle.std.specs.Prelude.{◌≡◌, ◌≢◌, ◌+◌, ◌^◌, ◌<◌, ◌≤◌, ◌++◌, ℕ, Some, Option, Ok, Err, true, false, List, [], ◌∷◌, length, IfSome, OnErr, IsErrAnd};
+ghost use Rattle.std.specs.Prelude.{◌≡◌, ◌≢◌, ◌+◌, ◌-◌, ◌^◌, ◌<◌, ◌≤◌, ◌++◌, ℕ, Some, Option, Ok, Err, true, false, List, [], ◌∷◌, length, IfSome, OnErr, IsErrAnd};
 ghost use Rattle.std.specs.List.{enumerate_from};
 ghost use Rattle.record_io.specs.Outside.{Rose};
 ghost use Rattle.record_io.specs.Puts.{Taken, taken_by};
 ghost use Rattle.record_io.specs.Calls.{OnlyAsks, OnlyCounts, PutsThrough};
 ghost use Rattle.chunk_reader.specs.Readers.{ReadsIn, ReadsOn};
+ghost use Rattle.chunk_reader.specs.ReadBounds.{MayBeReadTo};
 ghost use Rattle.run_answers.specs.Endings.{HasPutAtEnd, IsAllowedEnd, IsShort};
 ghost use Rattle.run_answers.specs.FileAnswers.{HandsOut};
 ghost use Rattle.show_files.specs.ReadingEnds.{reading_ends};
@@ -51,7 +52,7 @@ fn print_file<S: Store, O: Sink>(
     ensures printed { (made notes : Option (List ℕ)) → IfSome (S.bytes file.old) (λ bytes. HasPutAtEnd reading_ends (IsShown words.now) result bytes
         (taken_by made (O.taken out.old) notes) (taken_by made (O.taken out.new) notes) []) }
     ensures so_far { IsErrAnd result IsShort → ¬ Rose (O.faults out.old) (O.faults out.new) → (made notes : Option (List ℕ))
-        → IfSome (S.bytes file.old) (λ bytes. HasPutSoFar (IsShownSoFar words.now bytes)
+        → IfSome (S.bytes file.old) (λ bytes. HasPutSoFar (IsShownSoFar words.now (S.handed file.old) (S.handed file.new) bytes)
         (taken_by made (O.taken out.old) notes) (taken_by made (O.taken out.new) notes) []) }
     ensures allowed { IsAllowedEnd (show_meaning words.now) result (S.told file.new) }
     ensures handed { HandsOut (show_meaning words.now) (S.told file.new) (S.handed file.old) (S.handed file.new) }
@@ -83,7 +84,7 @@ fn print_chunks<S: Store, O: Sink>(
     ensures printed { (made notes : Option (List ℕ)) → IfSome (S.bytes file.old) (λ bytes. HasPutAtEnd reading_ends (IsShown words.now) result bytes
         (taken_by made (O.taken out.old) notes) (taken_by made (O.taken out.new) notes) lines.new) }
     ensures so_far { IsErrAnd result IsShort → (made notes : Option (List ℕ))
-        → IfSome (S.bytes file.old) (λ bytes. HasPutSoFar (IsShownSoFar words.now bytes)
+        → IfSome (S.bytes file.old) (λ bytes. HasPutSoFar (IsShownSoFar words.now (S.handed file.old) (S.handed file.new) bytes)
         (taken_by made (O.taken out.old) notes) (taken_by made (O.taken out.new) notes) lines.new) }
     ensures allowed { IsAllowedEnd (show_meaning words.now) result (S.told file.new) }
     ensures file { OnlyAsks S.bytes S.told S.name S.faults (result ≡ Err (Ending.Cut Cut.File)) file.old file.new }
@@ -110,6 +111,9 @@ fn print_next<S: Store, O: Sink>(
     ensures printed { (before : Taken) (made notes : Option (List ℕ)) → IfSome (S.bytes file.old) (λ bytes.
         IsPrinted words.now bytes reader.old.totals before (taken_by made (O.taken out.old) notes) lines.old
         → PrintsOn words.now result bytes reader.new.totals before (taken_by made (O.taken out.new) notes) lines.new) }
+    ensures handed { result ≡ Ok true → S.handed file.new + reader.old.totals.bytes ≤ S.handed file.old + reader.new.totals.bytes }
+    ensures read_to { IfSome (S.bytes file.old) (λ bytes.
+        MayBeReadTo bytes reader.old.totals.bytes (reader.old.totals.bytes + (S.handed file.new - S.handed file.old))) }
     ensures same_lines { IsErrAnd result IsShort → lines.new ≡ lines.old }
     ensures same_out { IsErrAnd result IsShort → out.new ≡ out.old }
     ensures allowed { IsAllowedEnd (show_meaning words.now) result (S.told file.new) }

@@ -18,6 +18,7 @@ loop-init g c = record {
   file = search rules;
   reads = reads-none _ _ c.args.size _ c.requires.told c.requires.in_reach c.new-reader.ensures.size c.new-reader.ensures.keep c.new-reader.ensures.at_front;
   printed = λ made notes. printed-none c.args.words.now _ _ _ _ c.new-reader.ensures.totals c.requires.none_held;
+  handed = omega arith;
   out = search rules;
 }
 
@@ -48,6 +49,7 @@ loop-preserved g c = record {
       c.in_ok-print_next.ensures.goes_on;
   printed = λ made notes. of_answer g (goal.at.loop-preserved g c).After-print_next (Ok true)
       (c.in_ok-print_next.was ∙ ap (λ (more : Bool). Ok more) c.if-branch.true) made notes;
+  handed = omega (arith, c.loop.invariant.handed, c.print_next.ensures.handed (c.in_ok-print_next.was ∙ ap (λ (more : Bool). Ok more) c.if-branch.true));
   out = search rules;
 }
 
@@ -65,5 +67,6 @@ returns-in_err-print_next-clause-printed g c = λ made notes.
 pub returns-in_err-print_next-clause-so_far : goal.returns-in_err-print_next-clause-so_far
 returns-in_err-print_next-clause-so_far g c = λ short made notes.
     let passed = IsErrAnd-same IsShort _ c.from_residual.result c.from_residual.ensures.1 short in
-    printed-so_far c.args.words.now _ c.loop.reader.totals _ made _ _ notes _ _ (ap g.O.Sink.taken (c.in_err-print_next.ensures.same_out passed))
-    (c.in_err-print_next.ensures.same_lines passed) (c.loop.invariant.printed made notes)
+    printed-so_far c.args.words.now _ _ c.loop.reader.totals _ made _ _ notes _ _ _ _ _ c.loop.invariant.file.same_bytes
+    (ap g.O.Sink.taken (c.in_err-print_next.ensures.same_out passed)) (c.in_err-print_next.ensures.same_lines passed) c.loop.invariant.handed
+    c.in_err-print_next.ensures.read_to (c.loop.invariant.printed made notes)

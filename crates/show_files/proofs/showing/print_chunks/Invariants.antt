@@ -1,4 +1,4 @@
-use Rattle.std.proofs.Common.{◌≡◌, ◌-◌, ◌≤◌, ℕ, false, Option, IfSome, List}
+use Rattle.std.proofs.Common.{◌≡◌, ◌+◌, ◌-◌, ◌≤◌, ℕ, false, Option, IfSome, List}
 use Rattle.record_io.specs.Puts.{taken_by}
 use Rattle.record_io.specs.Calls.{OnlyAsks, OnlyCounts}
 use Rattle.chunk_reader.specs.Readers.{ReadsIn}
@@ -14,6 +14,7 @@ invariant-loop g l = record {
   reads : ReadsIn (g.S.Store.bytes l.file) (g.S.Store.told l.file) l.reader;
   printed : (made notes : Option (List ℕ)) → IfSome (g.S.Store.bytes l.fn.file) (λ bytes. IsPrinted l.words bytes l.reader.totals
       (taken_by made (g.O.Sink.taken l.fn.out) notes) (taken_by made (g.O.Sink.taken l.out) notes) l.lines);
+  handed : g.S.Store.handed l.file ≤ g.S.Store.handed l.fn.file + l.reader.totals.bytes;
   out : OnlyCounts g.O.Sink.lent g.O.Sink.faults ⊥ l.fn.out l.out;
 }
 

@@ -31,12 +31,13 @@ returns-in_err-size-clause-allowed g c =
 
 pub returns-in_err-size-clause-so_far : goal.returns-in_err-size-clause-so_far
 returns-in_err-size-clause-so_far g c = λ short sound made notes.
-    so_far-nothing (IsShownSoFar c.args.words.now) _ _ (shown-none c.args.words.now)
+    so_far-nothing (IsShownSoFar c.args.words.now _ _) _ _ (shown-none c.args.words.now _ _ c.in_err-size.ensures.same_handed)
 
 pub returns-in-Ok-clause-so_far : goal.returns-in-Ok-clause-so_far
 returns-in-Ok-clause-so_far g c = λ short sound made notes.
-    so_far-flushed (IsShownSoFar c.args.words.now) _ _ (taken_by made (g.O.Sink.taken c.args.out.now) notes) made _ _ notes _
-    c.in_ok-size.ensures.same_bytes (c.print_chunks-printed.ensures.so_far short made notes) c.in-Ok.ensures.sink.whole
+    rw (← c.in_ok-size.ensures.same_handed)
+    (so_far-flushed (IsShownSoFar c.args.words.now _ _) _ _ (taken_by made (g.O.Sink.taken c.args.out.now) notes) made _ _ notes _
+    c.in_ok-size.ensures.same_bytes (c.print_chunks-printed.ensures.so_far short made notes) c.in-Ok.ensures.sink.whole)
 
 pub returns-in-Err-clause-so_far : goal.returns-in-Err-clause-so_far
 returns-in-Err-clause-so_far g c = λ short sound.

@@ -4,7 +4,7 @@ use Rattle.chunk_reader.specs.Contents.{IsJudged, IsJudgedIn}
 use Rattle.chunk_reader.specs.Faults.{BeginsWithSignature}
 use Rattle.chunk_reader.specs.Progress.{totals_with_chunk, AreInBounds, AreReadFrom}
 use Rattle.chunk_reader.specs.declared.judging.Judged.{Judged}
-use Rattle.chunk_reader.proofs.ChainReads.{signed_where_read, fault_read, is_left, is_left_other, judged_shown, judged_in_shown, verdict_shown, loading_shown, room_given, AreInBounds-totals_with_chunk, GoesOn, goes_on_given, read_on, no_further_refused, no_further_unsigned, refused_end}
+use Rattle.chunk_reader.proofs.ChainReads.{signed_where_read, fault_read, is_left, is_left_other, judged_shown, judged_in_shown, verdict_shown, loading_shown, room_given, AreInBounds-totals_with_chunk, GoesOn, goes_on_given, read_on, no_further_refused, no_further_unsigned, refused_end, read_to-header, read_to-chunk}
 use Rattle.chunk_reader.proofs.file_reader.Reader.next.Goals as goal
 use Rattle.chunk_reader.proofs.file_reader.Reader.next.Goals.{Joined-matches, After-totals_with_chunk-self-inside, then-at-eq0+in_ok-judged, else-at-eq0+then-at-self+in_ok-judged-2, in-Unread, in_default}
 
@@ -177,3 +177,20 @@ returns-clause-goes_on g c =
       read = subst (λ (b : Bool). IfSome (g.S.Store.bytes c.args.store.now) (λ file. AreReadFrom b file c.totals_with_chunk-self-inside.result)) keep
           (read_on now.keep _ now.totals c.totals_with_chunk-self-inside.result c.if-at-eq0.judged c.requires.reads.read on);
     }
+
+pub returns-in_err-judged-clause-read_to : goal.returns-in_err-judged-clause-read_to
+returns-in_err-judged-clause-read_to g c = read_to-header _ c.args.self.now.totals.bytes _ _ c.in_err-judged.ensures.handed
+
+pub returns-in_err-judged-2-clause-read_to : goal.returns-in_err-judged-2-clause-read_to
+returns-in_err-judged-2-clause-read_to g c =
+    read_to-chunk _ c.at-then-at-self.result c.args.self.now.totals.bytes _ _ c.at-then-at-self.ensures
+    c.in_err-judged-2.ensures.early c.in_err-judged-2.ensures.handed
+
+pub returns-clause-read_to : goal.returns-clause-read_to
+returns-clause-read_to g c = elim c.if-at-eq0.branch [
+  | then-at-eq0+in_ok-judged w ↦
+      rw (w.store-is) (read_to-header _ c.args.self.now.totals.bytes _ _ w.in_ok-judged.ensures.handed)
+  | else-at-eq0+then-at-self+in_ok-judged-2 w ↦
+      rw (w.store-is) (read_to-chunk _ w.at-then-at-self.result c.args.self.now.totals.bytes _ _ w.at-then-at-self.ensures
+      w.in_ok-judged-2.ensures.early w.in_ok-judged-2.ensures.handed)
+]
