@@ -6,7 +6,7 @@ use Rattle.chunk_reader.proofs.Rooms.{IsSized}
 use Rattle.chunk_reader.specs.declared.judging.LoadEnd.{LoadEnd}
 use Rattle.chunk_reader.specs.declared.judging.LoadEnd.TheVariants as load
 use Rattle.damage_skip.specs.Ends.{walk_end_of}
-use Rattle.damage_skip.specs.Damage.{Intact, IsDamaged, DamageLeavesEach}
+use Rattle.damage_skip.specs.Damage.{Intact, IsDamaged, AreReached, DamageLeavesEach}
 use Rattle.damage_skip.specs.DamagedWalks.{IsReachedAt, IsLeftRegion, WalksPastDamage, LeadsPastDamage}
 use Rattle.damage_skip.specs.Pieces.{Piece, Skipped}
 use Rattle.damage_skip.specs.Resyncs.{IsResync}
@@ -18,6 +18,7 @@ use Rattle.damage_skip.specs.declared.regions.Region.{Region}
 use Rattle.damage_skip.proofs.PlacesFurtherOn.{resync_one}
 use Rattle.damage_skip.proofs.Damaged.{tiles_left, resync_next, number_of_end}
 use Rattle.damage_skip.proofs.Reached.{next_of, reached_on, left_numbers}
+use Rattle.damage_skip.proofs.Untouched.{lost_to_a_block}
 
 module _ (keep : Bool) (ks : List ChunkValue) (file damaged : List ℕ) (intact : Intact) (d : IsDamaged ks file damaged intact)
     (reach : length file ≤ 2 ^ 60) where
@@ -48,13 +49,15 @@ module _ (keep : Bool) (ks : List ChunkValue) (file damaged : List ℕ) (intact 
       let number = met_number before.place met in
       let left = tiles_left keep ks file damaged intact d reach number.0 before.place after.place pieces number.1 number.2.begins on in
       let numbers = left_numbers keep ks intact number.0 left.0 pieces left.3 in
+      let reached : AreReached ks intact 0 left.0 (number.2.numbers ++ numbers.0) =
+      reached_on ks intact 0 number.0 left.0 number.2.numbers numbers.0 number.2.reached numbers.1 in
       record {
         «from» = number.0;
         to = left.0;
         from_reached = number.2;
         to_reached = record {
           numbers = number.2.numbers ++ numbers.0;
-          reached = reached_on ks intact 0 number.0 left.0 number.2.numbers numbers.0 number.2.reached numbers.1;
+          reached = reached;
           begins = left.2;
         };
         pieces = pieces;
@@ -63,6 +66,7 @@ module _ (keep : Bool) (ks : List ChunkValue) (file damaged : List ℕ) (intact 
         ended = λ end. number_of_end keep ks file damaged intact d reach left.0 left.1 (sym (ended end) ∙ left.2);
         stopped = subst (λ (k : Bool). IfSome (stop_of result) (IsLeftRegion k ks intact left.0)) (sym keeps)
             (left_region after.place left.0 (stop_of result) left.1 left.2 stopped);
+        lost = lost_to_a_block ks intact left.0 (number.2.numbers ++ numbers.0) reached;
       }
 
 -- of a file that tells its bytes
@@ -80,7 +84,7 @@ call_past (Some damaged) told told_then before after result sized stands stands_
     (subst (IsStoppedAt after.keep damaged after.place) on.stopped stands_then.stopped_there))
 
 -- a call that went on to a place and gave nothing there, for want of the store or of memory
-cut_on : (bytes : Option (List ℕ)) (before after : Progress) (end : LoadEnd) → WalksOn bytes before after (Ok None)
+pub cut_on : (bytes : Option (List ℕ)) (before after : Progress) (end : LoadEnd) → WalksOn bytes before after (Ok None)
     → WalksOn bytes before after (Err (walk_end_of end))
 cut_on bytes before after load.Store on =
     record { same_size = on.same_size; same_keep = on.same_keep; rises = on.rises; past = on.past; stopped = on.stopped }

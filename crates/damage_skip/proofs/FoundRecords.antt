@@ -129,7 +129,7 @@ placed_in_events pieces =
     (λ p other. ap (enumerate_from p.begin) (no_event_no_records p.what other)) pieces
 
 -- what holds of each piece holds of each event
-each_event : (P : Piece → Type 0) (pieces : List Piece) → AllByRecursion P pieces → AllByRecursion P (events_in pieces)
+pub each_event : (P : Piece → Type 0) (pieces : List Piece) → AllByRecursion P pieces → AllByRecursion P (events_in pieces)
 each_event P [] h = tt
 each_event P (p ∷ pieces) h =
     elim (cases_Bool (is_event p.what)) [

@@ -10,12 +10,14 @@ pub mod Damaged
 pub mod Untouched
 pub mod DamagedWalks
 pub mod Prefixes
+pub mod FrontWalks
 pub mod RegionLines
 pub mod Leads
 pub mod Resyncing
 pub mod Fills
 pub mod PieceSteps
 pub mod WalkSteps
+pub mod Takings
 pub mod RegionsIn
 pub mod WalkedTo
 pub mod BoundedWalks

@@ -10,7 +10,7 @@ use Rattle.meta_chunk.specs.Files.{Holds, AreRecordsOf, begin_of}
 use Rattle.meta_chunk.proofs.Begins.{begin_of_rises}
 use Rattle.meta_chunk.proofs.Held.{AreRecordsOf-append}
 use Rattle.damage_skip.specs.Pieces.{PieceKind, Piece, AreEvents, records_of, records_in}
-use Rattle.damage_skip.specs.Damage.{Intact, IsDamaged, IsNext, AreReached, DamageLeaves, DamageLeavesEach, untouched}
+use Rattle.damage_skip.specs.Damage.{Intact, IsDamaged, IsNext, AreReached, AreLostToABlock, DamageLeaves, DamageLeavesEach, untouched}
 use Rattle.damage_skip.proofs.OnePiece.{given_or_kept}
 use Rattle.damage_skip.proofs.FoundRecords.{found_holds, records_in_events}
 use Rattle.damage_skip.proofs.Damaged.{pieces_left}
@@ -128,12 +128,10 @@ not_reached ks intact j to m (i ∷ is) whole (at, below, (next, step, rest)) fr
       | inr (inr more) ↦ absurd (omega arith)
     ]
 
-pub lost_to_a_block : (ks : List ChunkValue) (intact : Intact) (to m : ℕ) (is : List ℕ)
-    → ((b : ℕ) → IsBlock b → b < begin_of ks (length ks) → intact.block b ≡ true) → AreReached ks intact 0 to is
-    → m < to → ((i : ℕ) → slice_get is i ≢ Some m)
-    → (j : ℕ) × (j < m) × (intact.header j ≡ false) × ((b : ℕ) → IsBlock b → begin_of ks j ≤ b → begin_of ks (m + 1) ≤ b)
+pub lost_to_a_block : (ks : List ChunkValue) (intact : Intact) (to : ℕ) (is : List ℕ) → AreReached ks intact 0 to is → AreLostToABlock ks intact to is
 unfolding AreIntact IsLost
-lost_to_a_block ks intact to m is whole h before missed =
+lost_to_a_block ks intact to is h =
+    λ whole m before missed.
     let end : to ≤ length ks = (reached_to ks intact 0 to is (omega arith) h).1 in
     let lost = not_reached ks intact 0 to m is whole h (omega arith) before (omega arith) missed in
     (lost.0, lost.1.0, lost.1.1, lost.1.2)

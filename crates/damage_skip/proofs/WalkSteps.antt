@@ -18,7 +18,7 @@ use Rattle.damage_skip.specs.declared.regions.Region.{Region}
 use Rattle.damage_skip.proofs.PieceSteps.{IsPieceThere}
 
 -- pieces behind pieces
-tiles_joined : (keep : Bool) (file : List ℕ) (from middle to : ℕ) (front rest : List Piece) → AreTiles keep file from middle front
+pub tiles_joined : (keep : Bool) (file : List ℕ) (from middle to : ℕ) (front rest : List Piece) → AreTiles keep file from middle front
     → AreTiles keep file middle to rest → AreTiles keep file from to (front ++ rest)
 tiles_joined keep file from middle to [] rest same behind = subst (λ (p : ℕ). AreTiles keep file p to rest) (sym same) behind
 tiles_joined keep file from middle to (piece ∷ front) rest h behind =
@@ -37,7 +37,7 @@ met_on (Some file) keep kept from to events same (front, tiles) (rest, more, are
     subst (λ (k : Bool). IsMet k file to) (sym same) (front ++ rest, tiles_joined keep file 0 from to front rest tiles more)
 
 -- the piece that begins at a place, as the definition has it
-abbrev piece_value : ℕ → code.Piece → Piece
+abbrev pub piece_value : ℕ → code.Piece → Piece
 piece_value at piece = record { begin = at; end = piece.end; what = value_of_piece_kind piece.what }
 
 -- one piece more

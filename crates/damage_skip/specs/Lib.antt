@@ -8,4 +8,6 @@ pub mod Walks
 pub mod Walkers
 pub mod Steps
 pub mod Damage
+pub mod Fronts
 pub mod DamagedWalks
+pub mod Takings

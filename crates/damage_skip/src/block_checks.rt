@@ -1,8 +1,9 @@
-ghost use Rattle.std.specs.Prelude.{◌≡◌, ℕ, ◌+◌, ◌-◌, ◌^◌, ◌<◌, ◌≤◌, ◌↔◌, Some, IsTrue, IfOk, IfSome, IsErr};
+ghost use Rattle.std.specs.Prelude.{◌≡◌, ℕ, ◌+◌, ◌-◌, ◌*◌, ◌^◌, ◌<◌, ◌≤◌, ◌↔◌, Some, IsTrue, IfOk, IfSome, IsErr};
 ghost use Rattle.record_io.specs.Calls.{OnlyAsks};
-ghost use Rattle.block_layout.specs.Layout.{IsBlock, block_size};
+ghost use Rattle.block_layout.specs.Layout.{IsBlock, block_size, block_header_size, blocks_below};
 ghost use Rattle.block_layout.specs.BlockHeaders.{IsSane};
-ghost use Rattle.damage_skip.specs.Steps.{IsOnward, IsEndOf, LeadsTo};
+ghost use Rattle.damage_skip.specs.Steps.{IsOnward, IsEndOf, ContradictsIn, LeadsTo};
+ghost use Rattle.damage_skip.specs.Takings.{LooksAtBlocks};
 
 use crate::resyncs::landing;
 use block_layout::{BLOCK_SIZE, BlockHeader};
@@ -43,6 +44,7 @@ impl Span {
         ensures onward { IfOk result (λ landing. IfSome landing (λ to. IsOnward size self.begin to)) }
         ensures leads { (end : ℕ) → IsEndOf self.end end
             → IfOk result (λ landing. IfSome (S.bytes store.old) (λ file. LeadsTo file self.begin end block (block + 1) landing)) }
+        ensures handed { S.handed store.new ≤ S.handed store.old + block_header_size }
         ensures store { OnlyAsks S.bytes S.told S.name S.faults (IsErr result) store.old store.new }
     {
         let Some(header) = sane_header_at(store, size, block)? else {
@@ -71,6 +73,9 @@ impl Span {
         ensures onward { IfOk result (λ landing. IfSome landing (λ place. IsOnward size self.begin place)) }
         ensures leads { (end : ℕ) → IsEndOf self.end end
             → IfOk result (λ landing. IfSome (S.bytes store.old) (λ file. LeadsTo file self.begin end from to landing)) }
+        ensures handed { S.handed store.new ≤ S.handed store.old + block_header_size * (blocks_below to - blocks_below from) }
+        ensures looks { (end : ℕ) → IsEndOf self.end end → IfSome (S.bytes store.old) (λ file.
+            LooksAtBlocks (ContradictsIn file self.begin end from to) from to (S.handed store.new - S.handed store.old)) }
         ensures store { OnlyAsks S.bytes S.told S.name S.faults (IsErr result) store.old store.new }
     {
         let mut block = next_block(from);

@@ -1,6 +1,6 @@
 ghost use Rattle.std.specs.Prelude.{◌≡◌, ℕ, ◌+◌, ◌^◌, ◌<◌, ◌≤◌, length, take, Some, None, IfOk, IfSome, IsErr, Err};
 ghost use Rattle.record_io.specs.Calls.{OnlyAsks};
-ghost use Rattle.block_layout.specs.Layout.{chunk_header_size, IsBoundary, end_of, own_bytes_at};
+ghost use Rattle.block_layout.specs.Layout.{chunk_header_size, IsBoundary, IsOnBoundary, end_of, own_bytes_at};
 ghost use Rattle.chunk_header.specs.Views.{value_of_header};
 ghost use Rattle.meta_chunk.specs.Files.{max_data_size};
 ghost use Rattle.chunk_reader.specs.HeldData.{HeldData};
@@ -41,6 +41,7 @@ pub(crate) fn load<S: Store>(
     requires small { header.data_size ≤ max_data_size }
     ensures loaded { IfOk result (λ loaded. IsLoadOf size at header loaded) }
     ensures sound { IfOk result (λ loaded. IfSome (S.bytes store.old) (λ file. IsLoadIn file at end header loaded)) }
+    ensures handed { S.handed store.new + (at + chunk_header_size) ≤ S.handed store.old + end }
     ensures store { OnlyAsks S.bytes S.told S.name S.faults (result ≡ Err LoadEnd.Store) store.old store.new }
 {
     match read_data(alloc, store, size, at, end, header)? {
@@ -75,6 +76,7 @@ fn read_data<S: Store>(
     requires from_boundary { IsBoundary at }
     requires room { end_of (end_of at chunk_header_size) header.data_size ≤ end }
     requires within { end ≤ size }
+    requires to_boundary { IsOnBoundary end }
     ensures header { (held : HeldData) → result ≡ Ok (DataRead.Data held) → held.header ≡ header }
     ensures whole { (held : HeldData) → result ≡ Ok (DataRead.Data held) → length held.bytes ≡ header.data_size }
     ensures given { (held : HeldData) → result ≡ Ok (DataRead.Data held)
@@ -84,6 +86,7 @@ fn read_data<S: Store>(
     ensures onward { (to : ℕ) → result ≡ Ok (DataRead.Contradicted to) → IsOnward size at to }
     ensures leads { (to : ℕ) → result ≡ Ok (DataRead.Contradicted to)
         → IfSome (S.bytes store.old) (λ file. LeadsTo file at end at end (Some to)) }
+    ensures handed { S.handed store.new + (at + chunk_header_size) ≤ S.handed store.old + end }
     ensures store { OnlyAsks S.bytes S.told S.name S.faults (result ≡ Err LoadEnd.Store) store.old store.new }
 {
     let span = Span {
@@ -147,6 +150,8 @@ fn take_next<S: Store>(
     ensures onward { (to : ℕ) → result ≡ Ok (NextBytes.Contradicted to) → IsOnward size span.begin to }
     ensures leads { (to end : ℕ) → result ≡ Ok (NextBytes.Contradicted to) → IsEndOf span.end end
         → IfSome (S.bytes store.old) (λ file. LeadsTo file span.begin end own.old.place (own.old.place + 1) (Some to)) }
+    ensures handed { (n : ℕ) → result ≡ Ok (NextBytes.Count n) → S.handed store.new + own.old.place ≤ S.handed store.old + own.new.place }
+    ensures handed_at_most { S.handed store.new + own.old.place ≤ S.handed store.old + end_of own.old.place (length buf.old) }
     ensures store { OnlyAsks S.bytes S.told S.name S.faults (IsErr result) store.old store.new }
 {
     if own.place % BLOCK_SIZE == 0 {

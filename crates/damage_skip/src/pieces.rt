@@ -1,12 +1,13 @@
-ghost use Rattle.std.specs.Prelude.{◌≡◌, ◌↔◌, ℕ, ◌^◌, ◌<◌, ◌≤◌, ◌⊎◌, Some, IsTrue, IfOk, IfSome, IsErr, Err};
+ghost use Rattle.std.specs.Prelude.{◌≡◌, ◌↔◌, ℕ, ◌+◌, ◌-◌, ◌^◌, ◌<◌, ◌≤◌, ◌⊎◌, Some, IsTrue, IfOk, IfSome, IsErr, Err};
 ghost use Rattle.record_io.specs.Calls.{OnlyAsks};
-ghost use Rattle.block_layout.specs.Layout.{IsBoundary};
+ghost use Rattle.block_layout.specs.Layout.{IsBoundary, chunk_header_size};
 ghost use Rattle.chunk_header.specs.Views.{IsHeader, HasRightHash, value_of_header};
 ghost use Rattle.chunk_reader.specs.Heads.{IsHead};
 ghost use Rattle.chunk_reader.specs.Places.{end_by};
 ghost use Rattle.chunk_reader.specs.Reasons.{Applies, NoneOf, loading_reasons};
 ghost use Rattle.damage_skip.specs.Pieces.{IsPieceOf};
-ghost use Rattle.damage_skip.specs.Steps.{IsEndOf, IsReadAs, IsUnloaded, IsPieceFrom, value_of_piece_kind};
+ghost use Rattle.damage_skip.specs.Takings.{LooksAtBlocks, MayTakeAt};
+ghost use Rattle.damage_skip.specs.Steps.{ContradictsIn, IsEndOf, IsReadAs, IsUnloaded, IsPieceFrom, value_of_piece_kind};
 
 use crate::block_checks::Span;
 use crate::chunk_loads::{Loaded, load};
@@ -56,6 +57,7 @@ pub(crate) fn piece_at<S: Store>(
     ensures piece { IfOk result (λ piece. IsPieceFrom size at piece) }
     ensures sound { IfOk result (λ piece. IfSome (S.bytes store.old) (λ file. IsPieceOf keep file at piece.end (value_of_piece_kind piece.what))) }
     ensures memory { result ≡ Err LoadEnd.Memory → IfSome (S.bytes store.old) (λ file. NoneOf (Applies file at) loading_reasons) }
+    ensures takes { IfSome (S.bytes store.old) (λ file. MayTakeAt file at (S.handed store.new - S.handed store.old)) }
     ensures store { OnlyAsks S.bytes S.told S.name S.faults (result ≡ Err LoadEnd.Store) store.old store.new }
 {
     match head_at(store, size, at)? {
@@ -85,6 +87,7 @@ fn headed_piece<S: Store>(
     ensures piece { IfOk result (λ piece. IsPieceFrom size at piece) }
     ensures sound { IfOk result (λ piece. IfSome (S.bytes store.old) (λ file. IsPieceOf keep file at piece.end (value_of_piece_kind piece.what))) }
     ensures memory { result ≡ Err LoadEnd.Memory → IfSome (S.bytes store.old) (λ file. NoneOf (Applies file at) loading_reasons) }
+    ensures takes { IfSome (S.bytes store.old) (λ file. MayTakeAt file at (chunk_header_size + (S.handed store.new - S.handed store.old))) }
     ensures store { OnlyAsks S.bytes S.told S.name S.faults (result ≡ Err LoadEnd.Store) store.old store.new }
 {
     let span = Span { begin: at, end };
@@ -114,6 +117,7 @@ fn held_piece<S: Store>(
     ensures piece { IfOk result (λ piece. IsPieceFrom size at piece) }
     ensures sound { IfOk result (λ piece. IfSome (S.bytes store.old) (λ file. IsPieceOf keep file at piece.end (value_of_piece_kind piece.what))) }
     ensures memory { result ≡ Err LoadEnd.Memory → IfSome (S.bytes store.old) (λ file. NoneOf (Applies file at) loading_reasons) }
+    ensures takes { IfSome (S.bytes store.old) (λ file. MayTakeAt file at (chunk_header_size + (S.handed store.new - S.handed store.old))) }
     ensures store { OnlyAsks S.bytes S.told S.name S.faults (result ≡ Err LoadEnd.Store) store.old store.new }
 {
     if header.data_size > MAX_DATA_SIZE {
@@ -147,6 +151,8 @@ fn unloaded_piece<S: Store>(
     ensures piece { IfOk result (λ piece. IsPieceFrom size span.begin piece) }
     ensures unloaded { (end : ℕ) → IsEndOf span.end end
         → IfOk result (λ piece. IfSome (S.bytes store.old) (λ file. IsUnloaded file span.begin end to why piece)) }
+    ensures looks { (end : ℕ) → IsEndOf span.end end → IfSome (S.bytes store.old) (λ file.
+        LooksAtBlocks (ContradictsIn file span.begin end span.begin to) span.begin to (S.handed store.new - S.handed store.old)) }
     ensures store { OnlyAsks S.bytes S.told S.name S.faults (IsErr result) store.old store.new }
 {
     match span.contradicted_between(store, size, span.begin, to)? {

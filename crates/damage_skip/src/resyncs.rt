@@ -1,9 +1,10 @@
-ghost use Rattle.std.specs.Prelude.{◌≡◌, ◌^◌, ◌<◌, ◌≤◌, ◌⊎◌, Some, IfOk, IfSome, IsErr};
+ghost use Rattle.std.specs.Prelude.{◌≡◌, ◌-◌, ◌^◌, ◌<◌, ◌≤◌, ◌⊎◌, Some, IfOk, IfSome, IsErr};
 ghost use Rattle.record_io.specs.Calls.{OnlyAsks};
 ghost use Rattle.block_layout.specs.Layout.{IsBoundary};
 ghost use Rattle.block_layout.specs.BlockHeaders.{IsSane};
 ghost use Rattle.damage_skip.specs.DamagedWalks.{LeadsPastDamage};
-ghost use Rattle.damage_skip.specs.Resyncs.{IsResync, landing};
+ghost use Rattle.damage_skip.specs.Resyncs.{IsResync, StandsFrom, landing};
+ghost use Rattle.damage_skip.specs.Takings.{LooksAtBlocks};
 
 use crate::block_checks::next_block;
 use block_layout::{BLOCK_SIZE, BlockHeader};
@@ -15,7 +16,7 @@ use record_io::{Failed, Store};
 ///
 /// The first block at or past the place whose header is right and sane decides: it leads to the begin of the chunk that it
 /// interrupts where that is past the place, and else to that chunk's end, or to the file's end if that comes first. Where
-/// there is no such block, it is the file's end. Only block headers are read. It takes no memory.
+/// there is no such block, it is the file's end. Only block headers are read, up to the one that decides. It takes no memory.
 ///
 /// Riegeli/records file format specification, "Block header". Own: which block decides.
 ///
@@ -32,6 +33,8 @@ pub fn resync<S: Store>(store: &mut S, size: u64, from: u64) -> Result<u64, Fail
     ensures past { IfOk result (λ to. from < to) }
     ensures within { IfOk result (λ to. to ≤ size) }
     ensures boundary { IfOk result (λ to. IsBoundary to ⊎ (to ≡ size)) }
+    ensures looks { IfSome (S.bytes store.old) (λ file.
+        LooksAtBlocks (StandsFrom file from) from size (S.handed store.new - S.handed store.old)) }
     ensures store { OnlyAsks S.bytes S.told S.name S.faults (IsErr result) store.old store.new }
 {
     let mut block = next_block(from);

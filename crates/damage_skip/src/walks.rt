@@ -1,11 +1,13 @@
-ghost use Rattle.std.specs.Prelude.{◌≡◌, ◌^◌, ◌<◌, ◌≤◌, ℕ, Ok, Err, Some, None, List, IfSome, length};
+ghost use Rattle.std.specs.Prelude.{◌≡◌, ◌-◌, ◌^◌, ◌<◌, ◌≤◌, ℕ, Ok, Err, Some, None, List, IfSome, length, take};
 ghost use Rattle.record_io.specs.Calls.{OnlyAsks};
 ghost use Rattle.chunk_reader.specs.Reasons.{Applies, NoneOf, loading_reasons};
 ghost use Rattle.chunk_header.specs.Chunks.{ChunkValue};
+ghost use Rattle.meta_chunk.specs.Files.{IsFrame};
 ghost use Rattle.damage_skip.specs.Damage.{Intact, IsDamaged};
-ghost use Rattle.damage_skip.specs.DamagedWalks.{WalksPastDamage};
+ghost use Rattle.damage_skip.specs.DamagedWalks.{WalksPastDamage, WalksInFront};
 ghost use Rattle.damage_skip.specs.Policies.{IsTest};
 ghost use Rattle.damage_skip.specs.Steps.{IsPieceFrom};
+ghost use Rattle.damage_skip.specs.Takings.{TakesByCall};
 ghost use Rattle.damage_skip.specs.Walks.{IsMet, IsStoppedAt, StandsIn, WalksOn, IsAllowedEvent, IsRefusedStop, Refuses, event_of};
 ghost use Rattle.damage_skip.specs.Walkers.{progress_of, test_of};
 ghost use Rattle.damage_skip.specs.declared.events.Event.{Event};
@@ -53,7 +55,13 @@ impl<F: Fn(&Region) -> bool + Drop> Walker<F> {
     ///
     /// In a damaged file, in which each change shows by a hash, the walk goes from chunk to chunk of the undamaged one: from one
     /// whose header is intact to the next, and from another one to that which holds the first intact block header from its
-    /// begin on.
+    /// begin on. Where all block headers are intact, what is lost behind a changed header ends at or before the first block from
+    /// its chunk's begin on. The front of a file of chunks gives what the file gives up to the last chunk that the front has
+    /// whole, and one region for a chunk that is cut.
+    ///
+    /// No more is handed out than the pieces account for that are passed: each for as much as its chunk has, or for a chunk
+    /// header and the headers of blocks up to the first that decides, if one does. Where no event comes, and not the file's
+    /// end, that of the piece at the walk's place is added.
     ///
     /// # Errors
     ///
@@ -68,6 +76,9 @@ impl<F: Fn(&Region) -> bool + Drop> Walker<F> {
         ensures damaged { IfSome (S.bytes store.old) (λ damaged.
             (ks : List ChunkValue) (file : List ℕ) (intact : Intact) → length file ≤ 2 ^ 60 → IsDamaged ks file damaged intact
             → WalksPastDamage ks intact (progress_of self.old) (progress_of self.new) result) }
+        ensures cut { IfSome (S.bytes store.old) (λ front.
+            (ks : List ChunkValue) (file : List ℕ) (m : ℕ) → IsFrame ks file → m ≤ length file → front ≡ take m file
+            → WalksInFront ks file m (progress_of self.old) (progress_of self.new) result) }
         ensures same_test { test_of self.new ≡ test_of self.old }
         ensures event { (event : Event) → result ≡ Ok (Some event)
             → IsAllowedEvent F.Fn (test_of self.old) (progress_of self.old).place (progress_of self.new).place event }
@@ -78,6 +89,8 @@ impl<F: Fn(&Region) -> bool + Drop> Walker<F> {
             → (result ≡ Err (WalkEnd.Stopped region)) × (self.new ≡ self.old) × (store.new ≡ store.old) }
         ensures memory { result ≡ Err WalkEnd.Memory
             → IfSome (S.bytes store.old) (λ file. NoneOf (Applies file (progress_of self.new).place) loading_reasons) }
+        ensures takes { IfSome (S.bytes store.old) (λ file. TakesByCall (progress_of self.old).keep file
+            (progress_of self.old).place (progress_of self.new).place result (S.handed store.new - S.handed store.old)) }
         ensures store { OnlyAsks S.bytes S.told S.name S.faults (result ≡ Err WalkEnd.Store) store.old store.new }
     {
         if let Some(region) = self.progress.stopped {

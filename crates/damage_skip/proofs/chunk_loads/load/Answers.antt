@@ -1,5 +1,5 @@
 use Rattle.std.proofs.Common.{Ok, ap, arith}
-use Rattle.chunk_reader.proofs.Loads.{header_within, data_within, data_given}
+use Rattle.chunk_reader.proofs.Loads.{header_within, data_within, data_given, chunk_end-on_boundary}
 use Rattle.damage_skip.proofs.Fills.{told_within, loaded_whole}
 use Rattle.damage_skip.proofs.chunk_loads.load.Goals as goal
 
@@ -23,3 +23,6 @@ returns-in_ok-chunk-in-Data-clause-sound g c =
 
 pub returns-in-Contradicted-clause-loaded : goal.returns-in-Contradicted-clause-loaded
 returns-in-Contradicted-clause-loaded g c = c.in_ok-data.ensures.onward c.in-Contradicted.landing (ap Ok c.in-Contradicted.is)
+
+pub read_data-requires-clause-to_boundary : goal.read_data-requires-clause-to_boundary
+read_data-requires-clause-to_boundary g c = rw c.requires.end (chunk_end-on_boundary c.args.at c.args.header.data_size c.args.header.num_records)

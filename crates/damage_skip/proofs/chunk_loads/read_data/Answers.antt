@@ -1,8 +1,11 @@
-use Rattle.std.proofs.Common.{◌≡◌, ◌∙◌, ℕ, List, ◌+◌, ◌-◌, ◌≤◌, Option, Some, None, IfSome, length, take, drop, ◌++◌, ap, sym, refl, length-append, arith, rules}
+use Rattle.std.proofs.Common.{◌≡◌, ◌∙◌, ℕ, List, ◌+◌, ◌-◌, ◌*◌, ◌%◌, ◌<◌, ◌≤◌, inl, inr, Option, Some, None, IfSome, length, take, drop, ◌++◌, ap, sym, refl, length-append, arith, rules}
+use Rattle.std.proofs.lemmas.Bool.{cases_lt}
 use Rattle.std.proofs.lemmas.List.{length-take, length-take-le, take-append-le}
-use Rattle.block_layout.specs.Layout.{end_of}
+use Rattle.block_layout.specs.Layout.{IsOnBoundary, blocks_below, end_of}
 use Rattle.block_layout.proofs.Ends.{end_of_after, end_of-zero, end_of-more}
 use Rattle.chunk_reader.proofs.Rooms.{end_of-le, own_none, own_more}
+use Rattle.chunk_reader.proofs.Loads.{IsOnBoundary-of}
+use Rattle.chunk_reader.proofs.Scans.{headers-of_header}
 use Rattle.damage_skip.specs.Steps.{LeadsTo}
 use Rattle.damage_skip.proofs.Leads.{leads-at, leads-joined, leads-wider}
 use Rattle.damage_skip.proofs.Fills.{header_past, read_past, read_within, read_before, told_within}
@@ -75,6 +78,7 @@ loop-left-init g c =
           c.in_ok-data.ensures.none;
       moved = c.behind_header-own.ensures ∙ sym (ap (end_of from) none ∙ end_of-zero from);
       none = leads-at _ at end at c.behind_header-own.result.place c.in_ok-landing.field-0 None (cc) (given.leads end refl);
+      handed = omega (arith, given.handed, c.behind_header-own.ensures, headers-of_header at (IsOnBoundary-of at c.requires.from_boundary));
       asks = search rules;
     }
 
@@ -142,6 +146,7 @@ loop-left-preserved g c =
       moved = moved ∙ ap (λ (p : ℕ). end_of p n) kept.moved ∙ end_of-more from front n ∙ ap (end_of from) (sym joined);
       none = leads-joined _ _ at end at place c.take_next.new.own.place None kept.asks.same_bytes (read_past at front place kept.moved)
           (omega (arith, moved, end_of_after place n)) kept.none (given.none n end (cc) refl);
+      handed = omega (arith, kept.handed, given.handed n (cc));
       asks = search rules;
     }
 
@@ -186,3 +191,92 @@ returns-in-Some-2-clause-leads g c =
 
 pub returns-in-None-clause-none : goal.returns-in-None-clause-none
 returns-in-None-clause-none g c = λ held e. blocks_behind g (goal.at.returns-in-None-clause-none g c).In_ok-landing-2 None c.in-None.is
+
+-- the header ends in the chunk
+header_room : (at count end : ℕ) → end_of (end_of at 40) count ≤ end → end_of at 40 ≤ end
+header_room at count end room = omega (arith, room, end_of_after (end_of at 40) count)
+
+pub returns-in_err-landing-clause-handed : goal.returns-in_err-landing-clause-handed
+returns-in_err-landing-clause-handed g c =
+    omega (
+      arith,
+      c.contradicted_between.ensures.handed,
+      c.behind_header-own.ensures,
+      headers-of_header c.args.at (IsOnBoundary-of c.args.at c.requires.from_boundary),
+      header_room c.args.at c.args.header.data_size c.args.end c.requires.room,
+    )
+
+pub returns-in-Some-clause-handed : goal.returns-in-Some-clause-handed
+returns-in-Some-clause-handed g c =
+    omega (
+      arith,
+      c.contradicted_between.ensures.handed,
+      c.behind_header-own.ensures,
+      headers-of_header c.args.at (IsOnBoundary-of c.args.at c.requires.from_boundary),
+      header_room c.args.at c.args.header.data_size c.args.end c.requires.room,
+    )
+
+pub returns-in_err-data-clause-handed : goal.returns-in_err-data-clause-handed
+returns-in_err-data-clause-handed g c =
+    omega (
+      arith,
+      c.contradicted_between.ensures.handed,
+      c.behind_header-own.ensures,
+      headers-of_header c.args.at (IsOnBoundary-of c.args.at c.requires.from_boundary),
+      header_room c.args.at c.args.header.data_size c.args.end c.requires.room,
+    )
+
+pub returns-in_err-count-clause-handed : goal.returns-in_err-count-clause-handed
+returns-in_err-count-clause-handed g c =
+    let kept = c.loop-left.invariant in
+    omega (
+      arith,
+      kept.handed,
+      c.take_next.ensures.handed_at_most,
+      piece_within (end_of c.args.at 40) c.args.header.data_size c.loop-left.left c.min-most.result c.loop-left.own.place c.args.end c.loop-left.piece
+          kept.within (omega (arith, c.min-most.ensures)) kept.moved c.requires.room,
+    )
+
+pub returns-in-Contradicted-clause-handed : goal.returns-in-Contradicted-clause-handed
+returns-in-Contradicted-clause-handed g c =
+    let kept = c.loop-left.invariant in
+    omega (
+      arith,
+      kept.handed,
+      c.take_next.ensures.handed_at_most,
+      piece_within (end_of c.args.at 40) c.args.header.data_size c.loop-left.left c.min-most.result c.loop-left.own.place c.args.end c.loop-left.piece
+          kept.within (omega (arith, c.min-most.ensures)) kept.moved c.requires.room,
+    )
+
+-- the block headers behind the data end in the chunk
+headers_behind : (place end before middle after start : ℕ) → place ≤ end → IsOnBoundary end → middle + start ≤ before + place
+    → after ≤ middle + 24 * (blocks_below end - blocks_below place) → after + start ≤ before + end
+headers_behind place end before middle after start within boundary few more = elim (cases_lt 0 (end % 65536)) [
+  | inl some ↦ omega (arith, within, boundary some, few, more)
+  | inr none ↦ omega (arith, within, none, few, more)
+]
+
+-- how far the data is read
+data_read : (at count left place end : ℕ) → left ≤ count → place ≡ end_of (end_of at 40) (count - left) → end_of (end_of at 40) count ≤ end → place ≤ end
+data_read at count left place end within moved room = read_within at (count - left) place count end moved (omega (arith, within)) room
+
+pub returns-in_err-landing-2-clause-handed : goal.returns-in_err-landing-2-clause-handed
+returns-in_err-landing-2-clause-handed g c =
+    let kept = c.loop-left.invariant in
+    headers_behind c.loop-left.own.place c.args.end _ _ _ (c.args.at + 40)
+    (data_read c.args.at c.args.header.data_size c.loop-left.left c.loop-left.own.place c.args.end kept.within kept.moved c.requires.room)
+    c.requires.to_boundary kept.handed c.contradicted_between-2.ensures.handed
+
+pub returns-in-Some-2-clause-handed : goal.returns-in-Some-2-clause-handed
+returns-in-Some-2-clause-handed g c =
+    let kept = c.loop-left.invariant in
+    headers_behind c.loop-left.own.place c.args.end _ _ _ (c.args.at + 40)
+    (data_read c.args.at c.args.header.data_size c.loop-left.left c.loop-left.own.place c.args.end kept.within kept.moved c.requires.room)
+    c.requires.to_boundary kept.handed c.contradicted_between-2.ensures.handed
+
+pub returns-in-None-clause-handed : goal.returns-in-None-clause-handed
+returns-in-None-clause-handed g c =
+    let kept = c.loop-left.invariant in
+    headers_behind c.loop-left.own.place c.args.end _ _ _ (c.args.at + 40)
+    (data_read c.args.at c.args.header.data_size c.loop-left.left c.loop-left.own.place c.args.end kept.within kept.moved c.requires.room)
+    c.requires.to_boundary kept.handed c.contradicted_between-2.ensures.handed

@@ -1,4 +1,4 @@
-use Rattle.std.proofs.Common.{◌≡◌, ◌-◌, ◌≤◌, None, length, IfSome}
+use Rattle.std.proofs.Common.{◌≡◌, ◌+◌, ◌-◌, ◌≤◌, None, length, IfSome}
 use Rattle.record_io.specs.Calls.{OnlyAsks}
 use Rattle.block_layout.specs.Layout.{end_of, own_bytes_at}
 use Rattle.damage_skip.specs.Steps.{LeadsTo}
@@ -12,6 +12,7 @@ invariant-loop-left g l = record {
   given : IfSome (g.S.Store.bytes l.fn.store) (λ file. l.data.bytes ≡ own_bytes_at file (end_of l.fn.at 40) (l.fn.header.data_size - l.left));
   moved : l.own.place ≡ end_of (end_of l.fn.at 40) (l.fn.header.data_size - l.left);
   none : IfSome (g.S.Store.bytes l.fn.store) (λ file. LeadsTo file l.fn.at l.fn.end l.fn.at l.own.place None);
+  handed : g.S.Store.handed l.store + (l.fn.at + 40) ≤ g.S.Store.handed l.fn.store + l.own.place;
   asks : OnlyAsks g.S.Store.bytes g.S.Store.told g.S.Store.name g.S.Store.faults ⊥ l.fn.store l.store;
 }
 

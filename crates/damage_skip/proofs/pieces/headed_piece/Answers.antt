@@ -1,9 +1,10 @@
-use Rattle.std.proofs.Common.{◌<◌, Some, subst, arith}
+use Rattle.std.proofs.Common.{◌<◌, Some, refl, subst, arith}
 use Rattle.std.specs.Prelude.{IfSome}
 use Rattle.chunk_header.specs.Views.{value_of_header}
 use Rattle.chunk_reader.specs.Places.{end_by}
 use Rattle.chunk_reader.proofs.Rooms.{IsSized}
 use Rattle.damage_skip.proofs.PieceSteps.{truncated_piece, end_past}
+use Rattle.damage_skip.proofs.Takings.{takes_unloaded}
 use Rattle.damage_skip.proofs.pieces.headed_piece.Goals as goal
 use Rattle.damage_skip.proofs.pieces.headed_piece.Goals.{in_default-via-in-Some+else-end-size, in_default-via-in_default}
 
@@ -19,3 +20,19 @@ returns-in_ok-unloaded_piece-in_default-clause-sound g c =
     c.requires.head
     (end_past c.args.end c.args.size (end_by c.args.at (value_of_header c.args.header)) past (omega (arith, c.requires.in_reach)) c.requires.end)
     (c.in_ok-unloaded_piece-in_default.ensures.unloaded (end_by c.args.at (value_of_header c.args.header)) c.requires.end)
+
+pub returns-in_err-unloaded_piece-in_default-clause-takes : goal.returns-in_err-unloaded_piece-in_default-clause-takes
+returns-in_err-unloaded_piece-in_default-clause-takes g c =
+    let sized : IsSized (g.S.Store.bytes c.args.store.now) (Some c.args.size) =
+    subst (IsSized (g.S.Store.bytes c.args.store.now)) c.requires.told (g.met.S.Store.sized c.args.store.now) in
+    let end = end_by c.args.at (value_of_header c.args.header) in
+    takes_unloaded _ c.args.size c.args.at end c.args.size c.args.header _ _ sized c.requires.fits c.requires.head refl (omega arith)
+    (c.in_err-unloaded_piece-in_default.ensures.looks end c.requires.end)
+
+pub returns-in_ok-unloaded_piece-in_default-clause-takes : goal.returns-in_ok-unloaded_piece-in_default-clause-takes
+returns-in_ok-unloaded_piece-in_default-clause-takes g c =
+    let sized : IsSized (g.S.Store.bytes c.args.store.now) (Some c.args.size) =
+    subst (IsSized (g.S.Store.bytes c.args.store.now)) c.requires.told (g.met.S.Store.sized c.args.store.now) in
+    let end = end_by c.args.at (value_of_header c.args.header) in
+    takes_unloaded _ c.args.size c.args.at end c.args.size c.args.header _ _ sized c.requires.fits c.requires.head refl (omega arith)
+    (c.in_ok-unloaded_piece-in_default.ensures.looks end c.requires.end)

@@ -4,6 +4,7 @@ use Rattle.damage_skip.proofs.PieceSteps.{too_large_piece, contradicted_piece, r
 use Rattle.damage_skip.specs.Steps.{IsLoadOf, IsLoadIn}
 use Rattle.damage_skip.specs.declared.chunk_loads.Loaded.{Loaded}
 use Rattle.std.specs.Prelude.{IfSome}
+use Rattle.damage_skip.proofs.Takings.{takes_unloaded, takes_loaded}
 use Rattle.damage_skip.proofs.pieces.held_piece.Goals as goal
 
 pub unloaded_piece-requires-clause-after : goal.unloaded_piece-requires-clause-after
@@ -50,3 +51,45 @@ returns-in-Contradicted-clause-sound g c =
     c.in_ok-chunk.ensures.sound in
     contradicted_piece _ c.args.keep begin c.args.end c.in-Contradicted.landing c.args.header c.skipped.result c.requires.fits c.requires.head
     c.requires.end c.skipped.ensures leads
+
+pub returns-in_err-unloaded_piece-clause-takes : goal.returns-in_err-unloaded_piece-clause-takes
+returns-in_err-unloaded_piece-clause-takes g c =
+    let sized : IsSized (g.S.Store.bytes c.args.store.now) (Some c.args.size) =
+    subst (IsSized (g.S.Store.bytes c.args.store.now)) c.requires.told (g.met.S.Store.sized c.args.store.now) in
+    takes_unloaded _ c.args.size c.args.at c.args.end c.args.end c.args.header _ _ sized c.requires.fits c.requires.head c.requires.end c.requires.within
+    (c.in_err-unloaded_piece.ensures.looks c.args.end refl)
+
+pub returns-then-header-gt-MAX_DATA_SIZE-clause-takes : goal.returns-then-header-gt-MAX_DATA_SIZE-clause-takes
+returns-then-header-gt-MAX_DATA_SIZE-clause-takes g c =
+    let sized : IsSized (g.S.Store.bytes c.args.store.now) (Some c.args.size) =
+    subst (IsSized (g.S.Store.bytes c.args.store.now)) c.requires.told (g.met.S.Store.sized c.args.store.now) in
+    takes_unloaded _ c.args.size c.args.at c.args.end c.args.end c.args.header _ _ sized c.requires.fits c.requires.head c.requires.end c.requires.within
+    (c.in_ok-unloaded_piece.ensures.looks c.args.end refl)
+
+pub returns-in_err-chunk-clause-takes : goal.returns-in_err-chunk-clause-takes
+returns-in_err-chunk-clause-takes g c =
+    let sized : IsSized (g.S.Store.bytes c.args.store.now) (Some c.args.size) =
+    subst (IsSized (g.S.Store.bytes c.args.store.now)) c.requires.told (g.met.S.Store.sized c.args.store.now) in
+    takes_loaded _ c.args.size c.args.at c.args.end c.args.header _ _ sized c.requires.fits c.requires.head c.requires.end c.requires.within
+    c.if-header-gt-MAX_DATA_SIZE.false c.in_err-chunk.ensures.handed
+
+pub returns-in_err-whole_piece-in-Whole-clause-takes : goal.returns-in_err-whole_piece-in-Whole-clause-takes
+returns-in_err-whole_piece-in-Whole-clause-takes g c =
+    let sized : IsSized (g.S.Store.bytes c.args.store.now) (Some c.args.size) =
+    subst (IsSized (g.S.Store.bytes c.args.store.now)) c.requires.told (g.met.S.Store.sized c.args.store.now) in
+    takes_loaded _ c.args.size c.args.at c.args.end c.args.header _ _ sized c.requires.fits c.requires.head c.requires.end c.requires.within
+    c.if-header-gt-MAX_DATA_SIZE.false c.in_ok-chunk.ensures.handed
+
+pub returns-in_ok-whole_piece-in-Whole-clause-takes : goal.returns-in_ok-whole_piece-in-Whole-clause-takes
+returns-in_ok-whole_piece-in-Whole-clause-takes g c =
+    let sized : IsSized (g.S.Store.bytes c.args.store.now) (Some c.args.size) =
+    subst (IsSized (g.S.Store.bytes c.args.store.now)) c.requires.told (g.met.S.Store.sized c.args.store.now) in
+    takes_loaded _ c.args.size c.args.at c.args.end c.args.header _ _ sized c.requires.fits c.requires.head c.requires.end c.requires.within
+    c.if-header-gt-MAX_DATA_SIZE.false c.in_ok-chunk.ensures.handed
+
+pub returns-in-Contradicted-clause-takes : goal.returns-in-Contradicted-clause-takes
+returns-in-Contradicted-clause-takes g c =
+    let sized : IsSized (g.S.Store.bytes c.args.store.now) (Some c.args.size) =
+    subst (IsSized (g.S.Store.bytes c.args.store.now)) c.requires.told (g.met.S.Store.sized c.args.store.now) in
+    takes_loaded _ c.args.size c.args.at c.args.end c.args.header _ _ sized c.requires.fits c.requires.head c.requires.end c.requires.within
+    c.if-header-gt-MAX_DATA_SIZE.false c.in_ok-chunk.ensures.handed

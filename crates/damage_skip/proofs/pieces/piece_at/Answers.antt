@@ -1,4 +1,7 @@
+use Rattle.std.proofs.Common.{Some, subst}
+use Rattle.chunk_reader.proofs.Rooms.{IsSized}
 use Rattle.damage_skip.proofs.PieceSteps.{short_piece, bad_hash_piece}
+use Rattle.damage_skip.proofs.Takings.{takes_head, takes_resync, takes_headed}
 use Rattle.damage_skip.proofs.pieces.piece_at.Goals as goal
 
 pub returns-in_ok-resync-in-Short-clause-sound : goal.returns-in_ok-resync-in-Short-clause-sound
@@ -10,3 +13,41 @@ pub returns-in_ok-resync-in-BadHash-clause-sound : goal.returns-in_ok-resync-in-
 returns-in_ok-resync-in-BadHash-clause-sound g c =
     bad_hash_piece _ _ c.args.keep c.args.at c.in_ok-resync-in-BadHash.field-0 c.in_ok-head_at.field-0 c.skipped-in-BadHash.result
     c.in_ok-head_at.ensures.store.same_bytes c.in-BadHash.is c.skipped-in-BadHash.ensures c.in_ok-head_at.ensures.head c.in_ok-resync-in-BadHash.ensures.resync
+
+pub returns-in_err-head_at-clause-takes : goal.returns-in_err-head_at-clause-takes
+returns-in_err-head_at-clause-takes g c =
+    let sized : IsSized (g.S.Store.bytes c.args.store.now) (Some c.args.size) =
+    subst (IsSized (g.S.Store.bytes c.args.store.now)) c.requires.told (g.met.S.Store.sized c.args.store.now) in
+    takes_head _ c.args.size c.args.at _ _ sized c.requires.below c.in_err-head_at.ensures.handed
+
+pub returns-in_err-resync-in-Short-clause-takes : goal.returns-in_err-resync-in-Short-clause-takes
+returns-in_err-resync-in-Short-clause-takes g c =
+    let sized : IsSized (g.S.Store.bytes c.args.store.now) (Some c.args.size) =
+    subst (IsSized (g.S.Store.bytes c.args.store.now)) c.requires.told (g.met.S.Store.sized c.args.store.now) in
+    takes_resync _ _ c.args.size c.args.at _ _ _ c.in_ok-head_at.ensures.store.same_bytes sized c.in_ok-head_at.ensures.handed
+    c.in_err-resync-in-Short.ensures.looks
+
+pub returns-in_ok-resync-in-Short-clause-takes : goal.returns-in_ok-resync-in-Short-clause-takes
+returns-in_ok-resync-in-Short-clause-takes g c =
+    let sized : IsSized (g.S.Store.bytes c.args.store.now) (Some c.args.size) =
+    subst (IsSized (g.S.Store.bytes c.args.store.now)) c.requires.told (g.met.S.Store.sized c.args.store.now) in
+    takes_resync _ _ c.args.size c.args.at _ _ _ c.in_ok-head_at.ensures.store.same_bytes sized c.in_ok-head_at.ensures.handed
+    c.in_ok-resync-in-Short.ensures.looks
+
+pub returns-in_err-resync-in-BadHash-clause-takes : goal.returns-in_err-resync-in-BadHash-clause-takes
+returns-in_err-resync-in-BadHash-clause-takes g c =
+    let sized : IsSized (g.S.Store.bytes c.args.store.now) (Some c.args.size) =
+    subst (IsSized (g.S.Store.bytes c.args.store.now)) c.requires.told (g.met.S.Store.sized c.args.store.now) in
+    takes_resync _ _ c.args.size c.args.at _ _ _ c.in_ok-head_at.ensures.store.same_bytes sized c.in_ok-head_at.ensures.handed
+    c.in_err-resync-in-BadHash.ensures.looks
+
+pub returns-in_ok-resync-in-BadHash-clause-takes : goal.returns-in_ok-resync-in-BadHash-clause-takes
+returns-in_ok-resync-in-BadHash-clause-takes g c =
+    let sized : IsSized (g.S.Store.bytes c.args.store.now) (Some c.args.size) =
+    subst (IsSized (g.S.Store.bytes c.args.store.now)) c.requires.told (g.met.S.Store.sized c.args.store.now) in
+    takes_resync _ _ c.args.size c.args.at _ _ _ c.in_ok-head_at.ensures.store.same_bytes sized c.in_ok-head_at.ensures.handed
+    c.in_ok-resync-in-BadHash.ensures.looks
+
+pub returns-in-Right-clause-takes : goal.returns-in-Right-clause-takes
+returns-in-Right-clause-takes g c =
+    takes_headed _ _ c.args.at _ _ _ c.in_ok-head_at.ensures.store.same_bytes c.in_ok-head_at.ensures.handed c.headed_piece.ensures.takes

@@ -2,6 +2,7 @@ use Rattle.std.proofs.Common.{Some, subst, arith, rules}
 use Rattle.chunk_reader.proofs.Rooms.{IsSized}
 use Rattle.damage_skip.proofs.DamagedWalks.{resync_told}
 use Rattle.damage_skip.proofs.Resyncing.{stand-more, resync-found, resync-none}
+use Rattle.damage_skip.proofs.Takings.{stand-looks, stand-looked}
 use Rattle.damage_skip.proofs.resyncs.resync.Goals as goal
 use Rattle.damage_skip.proofs.resyncs.resync.Goals.{After-next_block-block}
 
@@ -25,6 +26,7 @@ loop-block-preserved g c =
       from_place = omega (arith, kept.from_place);
       near = omega (arith, c.loop-block-test.true);
       none = stand-more _ _ c.args.from c.loop-block.block c.in_ok-header.field-0 kept.asks.same_bytes kept.at_block (cc) kept.none given.found;
+      handed = omega (arith, kept.handed, given.handed, kept.from_place, kept.at_block);
       asks = search rules;
     }
 
@@ -38,3 +40,20 @@ returns-in-Some-clause-damaged g c = resync_told _ c.args.from _ (returns-in-Som
 
 pub returns-clause-damaged : goal.returns-clause-damaged
 returns-clause-damaged g c = resync_told _ c.args.from _ (returns-clause-resync g c)
+
+pub returns-in_err-header-clause-looks : goal.returns-in_err-header-clause-looks
+returns-in_err-header-clause-looks g c =
+    let kept = c.loop-block.invariant in
+    stand-looks _ c.args.size c.args.from c.loop-block.block _ _ _ kept.at_block kept.from_place c.loop-block-test.true kept.none kept.handed
+    c.sane_header_at.ensures.handed
+
+pub returns-in-Some-clause-looks : goal.returns-in-Some-clause-looks
+returns-in-Some-clause-looks g c =
+    let kept = c.loop-block.invariant in
+    stand-looks _ c.args.size c.args.from c.loop-block.block _ _ _ kept.at_block kept.from_place c.loop-block-test.true kept.none kept.handed
+    c.sane_header_at.ensures.handed
+
+pub returns-clause-looks : goal.returns-clause-looks
+returns-clause-looks g c =
+    let kept = c.loop-block.invariant in
+    stand-looked _ c.args.size c.args.from c.loop-block.block _ _ kept.at_block c.loop-block-test.false kept.near kept.none kept.handed

@@ -1,5 +1,6 @@
 use Rattle.std.proofs.Common.{◌+◌, Some, None, arith, rules}
 use Rattle.damage_skip.proofs.Leads.{leads-at, leads-past, leads-joined, leads-wider, leads-narrower}
+use Rattle.damage_skip.proofs.Takings.{leads-looks, leads-looked}
 use Rattle.damage_skip.proofs.block_checks.Span.contradicted_between.Goals as goal
 
 pub returns-in-Some-clause-leads : goal.returns-in-Some-clause-leads
@@ -27,6 +28,7 @@ loop-block-preserved g c =
           let here = leads-at _ begin end block (block + 1) c.in_ok-landing.field-0 None (cc) (given.leads end is) in
           leads-joined _ _ begin end c.args.from block (block + 65536) None kept.asks.same_bytes kept.from_place (omega arith)
           (kept.none end is) (leads-past _ begin end block (block + 65536) kept.at_block (omega arith) here);
+      handed = omega (arith, kept.handed, given.handed, kept.from_place, kept.at_block);
       asks = search rules;
     }
 
@@ -35,3 +37,24 @@ returns-clause-leads g c =
     λ end is.
     leads-narrower _ c.args.self.begin end c.args.from c.loop-block.block c.args.to c.loop-block-test.false
     (c.loop-block.invariant.none end is)
+
+pub returns-in_err-landing-clause-looks : goal.returns-in_err-landing-clause-looks
+returns-in_err-landing-clause-looks g c =
+    λ end is.
+    let kept = c.loop-block.invariant in
+    leads-looks _ c.args.self.begin end c.args.from c.args.to c.loop-block.block _ _ _ kept.at_block kept.from_place c.loop-block-test.true
+    (kept.none end is) kept.handed c.contradicted_at.ensures.handed
+
+pub returns-in-Some-clause-looks : goal.returns-in-Some-clause-looks
+returns-in-Some-clause-looks g c =
+    λ end is.
+    let kept = c.loop-block.invariant in
+    leads-looks _ c.args.self.begin end c.args.from c.args.to c.loop-block.block _ _ _ kept.at_block kept.from_place c.loop-block-test.true
+    (kept.none end is) kept.handed c.contradicted_at.ensures.handed
+
+pub returns-clause-looks : goal.returns-clause-looks
+returns-clause-looks g c =
+    λ end is.
+    let kept = c.loop-block.invariant in
+    leads-looked _ c.args.self.begin end c.args.from c.args.to c.loop-block.block _ _ kept.at_block c.loop-block-test.false kept.near
+    (kept.none end is) kept.handed

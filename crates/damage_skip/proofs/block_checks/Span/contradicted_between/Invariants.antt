@@ -1,6 +1,6 @@
-use Rattle.std.proofs.Common.{ℕ, ◌+◌, ◌-◌, ◌<◌, ◌≤◌, None, IfSome}
+use Rattle.std.proofs.Common.{ℕ, ◌+◌, ◌-◌, ◌*◌, ◌<◌, ◌≤◌, None, IfSome}
 use Rattle.record_io.specs.Calls.{OnlyAsks}
-use Rattle.block_layout.specs.Layout.{IsBlock}
+use Rattle.block_layout.specs.Layout.{IsBlock, blocks_below}
 use Rattle.damage_skip.specs.Steps.{IsEndOf, LeadsTo}
 use Rattle.damage_skip.proofs.block_checks.Span.contradicted_between.Given as goal
 
@@ -10,6 +10,7 @@ invariant-loop-block g l = record {
   from_place : l.from ≤ l.block;
   near : l.block < l.to + 65536;
   none : (end : ℕ) → IsEndOf l.self.end end → IfSome (g.S.Store.bytes l.fn.store) (λ file. LeadsTo file l.self.begin end l.from l.block None);
+  handed : g.S.Store.handed l.store ≤ g.S.Store.handed l.fn.store + 24 * (blocks_below l.block - blocks_below l.from);
   asks : OnlyAsks g.S.Store.bytes g.S.Store.told g.S.Store.name g.S.Store.faults ⊥ l.fn.store l.store;
 }
 

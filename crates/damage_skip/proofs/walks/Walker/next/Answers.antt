@@ -1,13 +1,18 @@
-use Rattle.std.proofs.Common.{◌≡◌, ℕ, Some, None, Err, IfSome, Option, List, [], ◌∷◌, ◌∙◌, refl, sym, ap, subst, arith, rules}
+use Rattle.std.proofs.Common.{◌≡◌, ◌-◌, ℕ, Some, None, Result, Err, IfSome, Option, List, [], ◌∷◌, ◌∙◌, refl, sym, ap, subst, arith, rules}
 use Rattle.std.proofs.lemmas.Result.{err_from_is_err_and}
+use Rattle.std.proofs.lemmas.Grind.{common_steps}
 use Rattle.chunk_reader.specs.Reasons.{Applies, NoneOf, loading_reasons}
 use Rattle.chunk_reader.proofs.Rooms.{IsSized}
 use Rattle.damage_skip.specs.Walks.{event_of, GoesOn, StandsIn, piece_of}
 use Rattle.damage_skip.specs.declared.events.Event.{Event}
+use Rattle.damage_skip.specs.declared.events.WalkEnd.{WalkEnd}
 use Rattle.damage_skip.proofs.DamagedWalks.{call_past, call_cut, stays_told}
+use Rattle.damage_skip.proofs.FrontWalks.{call_in_front, call_cut_in_front}
 use Rattle.damage_skip.proofs.WalkSteps.{events_told, met_on, passes, memory_before, stops_there}
+use Rattle.damage_skip.specs.Takings.{IsTakenFrom, TakesByCall}
+use Rattle.damage_skip.proofs.Takings.{taken-start, taken-still, taken-past, taken-to}
 use Rattle.damage_skip.proofs.walks.Walker.next.Goals as goal
-use Rattle.damage_skip.proofs.walks.Walker.next.Goals.{At-loop-self, After-event}
+use Rattle.damage_skip.proofs.walks.Walker.next.Goals.{At-loop-self, In_ok-piece, After-event}
 
 -- the walk stands in the file where the loop has come
 stands : (g : _) (c : At-loop-self g) → StandsIn (g.S.Store.bytes c.args.store.now) (g.S.Store.told c.args.store.now) c.loop-self.self.progress
@@ -44,6 +49,19 @@ past g c told is =
     (passes _ _ from.keep at.keep from.size from.place at.place c.in_ok-piece.piece c.event.result kept.asks.same_bytes kept.on.same_keep sized
     (omega (arith, c.loop-self-test.true, kept.on.same_size)) kept.on.past c.in_ok-piece.ensures.sound c.in_ok-piece.ensures.piece.intact
     (sym {b = event_of at.place c.in_ok-piece.piece} c.event.ensures))
+
+-- what was taken past the piece there
+taken : (g : _) (c : In_ok-piece g) → IfSome (g.S.Store.bytes c.args.store.now) (λ file.
+    IsTakenFrom c.args.self.now.progress.keep file c.args.self.now.progress.place c.in_ok-piece.piece.end
+    (g.S.Store.handed c.piece_at.new.store - g.S.Store.handed c.args.store.now))
+taken g c =
+    let from = c.args.self.now.progress in
+    let at = c.loop-self.self.progress in
+    let kept = c.loop-self.invariant in
+    let sized : IsSized (g.S.Store.bytes c.args.store.now) (Some from.size) =
+    subst (IsSized (g.S.Store.bytes c.args.store.now)) c.requires.stands.size (g.met.S.Store.sized c.args.store.now) in
+    taken-past _ _ from.keep at.keep from.size from.place at.place c.in_ok-piece.piece _ _ _ kept.asks.same_bytes kept.on.same_keep sized
+    (omega (arith, c.loop-self-test.true, kept.on.same_size)) kept.taken c.in_ok-piece.ensures.sound c.in_ok-piece.ensures.takes
 
 pub returns-in_err-piece-clause-stands : goal.returns-in_err-piece-clause-stands
 returns-in_err-piece-clause-stands g c = stands g (goal.at.returns-in_err-piece-clause-stands g c).At-loop-self
@@ -106,6 +124,7 @@ loop-self-preserved g c =
       };
       same_policy = kept.same_policy;
       asks = search rules;
+      taken = taken g (goal.at.loop-self-preserved g c).In_ok-piece;
     }
 
 pub returns-clause-stands : goal.returns-clause-stands
@@ -148,4 +167,82 @@ pub returns-clause-damaged : goal.returns-clause-damaged
 returns-clause-damaged g c =
     let on = c.loop-self.invariant.on in
     call_past _ _ _ c.args.self.now.progress _ _ (sized_before g (goal.at.returns-clause-damaged g c).At-loop-self) c.requires.stands
+    (returns-clause-stands g c) on (λ none. omega (arith, c.loop-self-test.false, c.loop-self.self.progress.within, on.same_size))
+
+pub loop-self-init : goal.loop-self-init
+loop-self-init g c =
+    let at = c.args.self.now.progress in
+    record {
+      on = record { same_size = refl; same_keep = refl; rises = omega arith; past = stays_told _ at.keep at.place; stopped = first_of (search rules, grind (arith, common_steps)) };
+      same_policy = first_of (search rules, grind (arith, common_steps));
+      asks = first_of (search rules, grind (arith, common_steps));
+      taken = taken-start _ at.keep at.place _ (omega arith);
+    }
+
+pub returns-in-Some-clause-takes : goal.returns-in-Some-clause-takes
+returns-in-Some-clause-takes g c =
+    let at = c.args.self.now.progress in
+    let sized : IsSized (g.S.Store.bytes c.args.store.now) (Some at.size) =
+    subst (IsSized (g.S.Store.bytes c.args.store.now)) c.requires.stands.size (g.met.S.Store.sized c.args.store.now) in
+    taken-still _ at.keep at.size at.place _ sized at.within (omega arith)
+
+pub returns-in_err-piece-clause-takes : goal.returns-in_err-piece-clause-takes
+returns-in_err-piece-clause-takes g c =
+    let p = err_from_is_err_and c.from_residual.result c.from_residual.ensures.1 in
+    let from = c.args.self.now.progress in
+    let at = c.loop-self.self.progress in
+    subst (λ (r : Result (Option Event) WalkEnd). IfSome (g.S.Store.bytes c.args.store.now) (λ file.
+    TakesByCall from.keep file from.place at.place r (g.S.Store.handed c.piece_at.new.store - g.S.Store.handed c.args.store.now))) (sym p.1)
+    (taken-to _ _ from.keep from.place at.place _ _ _ c.loop-self.invariant.asks.same_bytes c.loop-self.invariant.taken
+    c.in_err-piece.ensures.takes)
+
+pub returns-in-Some-refused-clause-takes : goal.returns-in-Some-refused-clause-takes
+returns-in-Some-refused-clause-takes g c =
+    let from = c.args.self.now.progress in
+    let at = c.loop-self.self.progress in
+    taken-to _ _ from.keep from.place at.place _ _ _ c.loop-self.invariant.asks.same_bytes c.loop-self.invariant.taken c.in_ok-piece.ensures.takes
+
+pub returns-in-Some-event-clause-takes : goal.returns-in-Some-event-clause-takes
+returns-in-Some-event-clause-takes g c = taken g (goal.at.returns-in-Some-event-clause-takes g c).In_ok-piece
+
+pub returns-clause-takes : goal.returns-clause-takes
+returns-clause-takes g c = c.loop-self.invariant.taken
+
+pub returns-in-Some-clause-cut : goal.returns-in-Some-clause-cut
+returns-in-Some-clause-cut g c =
+    let at = c.args.self.now.progress in
+    let sized : IsSized (g.S.Store.bytes c.args.store.now) (Some at.size) =
+    subst (IsSized (g.S.Store.bytes c.args.store.now)) c.requires.stands.size (g.met.S.Store.sized c.args.store.now) in
+    call_in_front _ _ _ at at _ sized c.requires.stands c.requires.stands (record {
+      same_size = refl;
+      same_keep = refl;
+      rises = omega arith;
+      past = stays_told _ at.keep at.place;
+      stopped = search rules;
+    })
+    (λ none. cc)
+
+pub returns-in_err-piece-clause-cut : goal.returns-in_err-piece-clause-cut
+returns-in_err-piece-clause-cut g c =
+    let p = err_from_is_err_and c.from_residual.result c.from_residual.ensures.1 in
+    call_cut_in_front _ _ _ c.args.self.now.progress c.loop-self.self.progress c.in_err-piece.field-0.0 c.from_residual.result (p.1 ∙ ap Err p.2)
+    (sized_before g (goal.at.returns-in_err-piece-clause-cut g c).At-loop-self) c.requires.stands (returns-in_err-piece-clause-stands g c)
+    c.loop-self.invariant.on
+
+pub returns-in-Some-refused-clause-cut : goal.returns-in-Some-refused-clause-cut
+returns-in-Some-refused-clause-cut g c =
+    let on = c.loop-self.invariant.on in
+    call_in_front _ _ _ c.args.self.now.progress _ _ (sized_before g (goal.at.returns-in-Some-refused-clause-cut g c).At-loop-self)
+    c.requires.stands (returns-in-Some-refused-clause-stands g c)
+    (record { same_size = on.same_size; same_keep = on.same_keep; rises = on.rises; past = on.past; stopped = refl }) (λ none. cc)
+
+pub returns-in-Some-event-clause-cut : goal.returns-in-Some-event-clause-cut
+returns-in-Some-event-clause-cut g c =
+    call_in_front _ _ _ c.args.self.now.progress _ _ (sized_before g (goal.at.returns-in-Some-event-clause-cut g c).At-loop-self) c.requires.stands
+    (returns-in-Some-event-clause-stands g c) (returns-in-Some-event-clause-goes_on g c) (λ none. cc)
+
+pub returns-clause-cut : goal.returns-clause-cut
+returns-clause-cut g c =
+    let on = c.loop-self.invariant.on in
+    call_in_front _ _ _ c.args.self.now.progress _ _ (sized_before g (goal.at.returns-clause-cut g c).At-loop-self) c.requires.stands
     (returns-clause-stands g c) on (λ none. omega (arith, c.loop-self-test.false, c.loop-self.self.progress.within, on.same_size))

@@ -1,0 +1,297 @@
+-- How many bytes the steps of a walk take, where the bytes of the file may be told.
+use Rattle.std.proofs.Common.{◌≡◌, ◌∙◌, ℕ, ◌+◌, ◌-◌, ◌*◌, ◌<◌, ◌≤◌, Bool, inl, inr, Option, Some, None, Result, Ok, Err, IfSome, List, [], ◌∷◌, ◌++◌, length, refl, sym, subst, arith}
+use Rattle.std.proofs.lemmas.Bool.{cases_lt}
+use Rattle.block_layout.specs.Layout.{IsBlock, blocks_below}
+use Rattle.chunk_header.specs.declared.Header.{Header}
+use Rattle.chunk_header.specs.Views.{IsHeader, value_of_header}
+use Rattle.meta_chunk.specs.Files.{max_data_size}
+use Rattle.chunk_reader.specs.Places.{end_by, end_at}
+use Rattle.chunk_reader.specs.Reasons.{Applies, NoneOf, header_reasons}
+use Rattle.chunk_reader.proofs.PassedChunks.{end_at_after}
+use Rattle.chunk_reader.proofs.Rooms.{IsSized}
+use Rattle.chunk_reader.proofs.Verdicts.{end_by-at}
+use Rattle.chunk_reader.proofs.WholeHeads.{HasRightHead, none_loading, none_unpassed}
+use Rattle.damage_skip.specs.Pieces.{Piece, AreTiles}
+use Rattle.damage_skip.specs.Resyncs.{StandsFrom, Contradicts}
+use Rattle.damage_skip.specs.Steps.{ContradictsIn, LeadsTo}
+use Rattle.damage_skip.specs.Takings.{LooksAtBlocks, Decides, MayTakeAt, AccountFor, IsTakenFrom, IsTakenUpTo, TakesByCall}
+use Rattle.damage_skip.specs.declared.events.Event.{Event}
+use Rattle.damage_skip.specs.declared.events.WalkEnd.{WalkEnd}
+use Rattle.damage_skip.specs.declared.pieces.Piece as code
+use Rattle.damage_skip.proofs.PieceSteps.{IsPieceThere}
+use Rattle.damage_skip.proofs.Resyncing.{StandNotBelow}
+use Rattle.damage_skip.proofs.WalkSteps.{tiles_joined, piece_value}
+
+-- so may fewer be taken
+looks_fewer : (P : (block previous next : ℕ) → Type 0) (from to less taken : ℕ) → less ≤ taken → LooksAtBlocks P from to taken
+    → LooksAtBlocks P from to less
+looks_fewer P from to less taken few h =
+    record { up_to = h.up_to; within = h.within; first = h.first; few = omega (arith, few, h.few) }
+
+pub may_take_less : (file : List ℕ) (place less taken : ℕ) → less ≤ taken → MayTakeAt file place taken → MayTakeAt file place less
+may_take_less file place less taken few (inl (none, within)) = inl (none, omega (arith, few, within))
+may_take_less file place less taken few (inr looks) =
+    inr (looks_fewer (Decides file place) place (length file) (less - 40) (taken - 40) (omega (arith, few)) looks)
+
+-- the block that is looked at last, before which P holds of none
+looks_at : (P : (block previous next : ℕ) → Type 0) (from to block before middle after : ℕ) → IsBlock block → from ≤ block → block < to
+    → ((b p n : ℕ) → P b p n → block ≤ b) → middle ≤ before + 24 * (blocks_below block - blocks_below from) → after ≤ middle + 24
+    → LooksAtBlocks P from to (after - before)
+looks_at P from to block before middle after at begun below none few more = record {
+  up_to = block + 1;
+  within = omega (arith, below);
+  first = λ b p n h. omega (arith, none b p n h);
+  few = omega (arith, at, begun, few, more);
+}
+
+-- or P holds of none up to the end
+looks_past : (P : (block previous next : ℕ) → Type 0) (from to block before after : ℕ) → IsBlock block → to ≤ block → block < to + 65536
+    → ((b p n : ℕ) → P b p n → block ≤ b) → after ≤ before + 24 * (blocks_below block - blocks_below from)
+    → LooksAtBlocks P from to (after - before)
+looks_past P from to block before after at past near none few = record {
+  up_to = to;
+  within = omega arith;
+  first = λ b p n h. omega (arith, past, none b p n h);
+  few = omega (arith, at, past, near, few);
+}
+
+-- so of the headers that are right and sane
+pub stand-looks : (bytes : Option (List ℕ)) (size place block before middle after : ℕ) → IsBlock block → place ≤ block → block < size
+    → IfSome bytes (λ file. StandNotBelow file place block)
+    → middle ≤ before + 24 * (blocks_below block - blocks_below place) → after ≤ middle + 24
+    → IfSome bytes (λ file. LooksAtBlocks (StandsFrom file place) place size (after - before))
+stand-looks None size place block before middle after at begun below none few more = tt
+stand-looks (Some file) size place block before middle after at begun below none few more =
+    looks_at (StandsFrom file place) place size block before middle after at begun below none few more
+
+pub stand-looked : (bytes : Option (List ℕ)) (size place block before after : ℕ) → IsBlock block → size ≤ block → block < size + 65536
+    → IfSome bytes (λ file. StandNotBelow file place block) → after ≤ before + 24 * (blocks_below block - blocks_below place)
+    → IfSome bytes (λ file. LooksAtBlocks (StandsFrom file place) place size (after - before))
+stand-looked None size place block before after at past near none few = tt
+stand-looked (Some file) size place block before after at past near none few =
+    looks_past (StandsFrom file place) place size block before after at past near none few
+
+-- and of those that contradict a chunk
+behind_none : (file : List ℕ) (begin end from to block : ℕ) → LeadsTo file begin end from block None
+    → (b p n : ℕ) → ContradictsIn file begin end from to b p n → block ≤ b
+behind_none file begin end from to block none b p n h = elim (cases_lt b block) [
+  | inl before ↦ absurd (none b p n (record { contradicts = h.contradicts; from_place = h.from_place; below = before }))
+  | inr past ↦ past
+]
+
+pub leads-looks : (bytes : Option (List ℕ)) (begin end from to block before middle after : ℕ) → IsBlock block → from ≤ block → block < to
+    → IfSome bytes (λ file. LeadsTo file begin end from block None)
+    → middle ≤ before + 24 * (blocks_below block - blocks_below from) → after ≤ middle + 24
+    → IfSome bytes (λ file. LooksAtBlocks (ContradictsIn file begin end from to) from to (after - before))
+leads-looks None begin end from to block before middle after at begun below none few more = tt
+leads-looks (Some file) begin end from to block before middle after at begun below none few more =
+    looks_at (ContradictsIn file begin end from to) from to block before middle after at begun below
+    (behind_none file begin end from to block none) few more
+
+pub leads-looked : (bytes : Option (List ℕ)) (begin end from to block before after : ℕ) → IsBlock block → to ≤ block → block < to + 65536
+    → IfSome bytes (λ file. LeadsTo file begin end from block None) → after ≤ before + 24 * (blocks_below block - blocks_below from)
+    → IfSome bytes (λ file. LooksAtBlocks (ContradictsIn file begin end from to) from to (after - before))
+leads-looked None begin end from to block before after at past near none few = tt
+leads-looked (Some file) begin end from to block before after at past near none few =
+    looks_past (ContradictsIn file begin end from to) from to block before after at past near
+    (behind_none file begin end from to block none) few
+
+-- a block that decides has a header from the place on
+decides_stands : (file : List ℕ) (place b p n : ℕ) → Decides file place b p n → StandsFrom file place b p n
+decides_stands file place b p n (inl (unread, stands)) = stands
+decides_stands file place b p n (inr c) = record { stands = c.stands; from = c.from }
+
+-- no more than a chunk header
+pub may_take_head : (file : List ℕ) (place taken : ℕ) → place ≤ length file → taken ≤ 40 → MayTakeAt file place taken
+may_take_head file place taken within few =
+    inr (record {
+      up_to = place;
+      within = within;
+      first = λ b p n d. omega (arith, (decides_stands file place b p n d).from);
+      few = omega (arith, few);
+    })
+
+pub takes_head : (bytes : Option (List ℕ)) (size place before after : ℕ) → IsSized bytes (Some size) → place < size → after ≤ before + 40
+    → IfSome bytes (λ file. MayTakeAt file place (after - before))
+takes_head None size place before after sized below few = tt
+takes_head (Some file) size place before after sized below few =
+    may_take_head file place (after - before) (omega (arith, sized, below)) (omega (arith, few))
+
+-- a chunk header that can't be read, and the search for where reading goes on
+pub takes_resync : (bytes now : Option (List ℕ)) (size place before middle after : ℕ) → now ≡ bytes → IsSized bytes (Some size)
+    → middle ≤ before + 40 → IfSome now (λ file. LooksAtBlocks (StandsFrom file place) place size (after - middle))
+    → IfSome bytes (λ file. MayTakeAt file place (after - before))
+takes_resync None now size place before middle after same sized few looks = tt
+takes_resync (Some file) None size place before middle after same sized few looks = absurd (cc same)
+takes_resync (Some file) (Some other) size place before middle after same sized few looks =
+    let is : other ≡ file = cc same in
+    let h : LooksAtBlocks (StandsFrom file place) place size (after - middle) =
+    subst (λ (f : List ℕ). LooksAtBlocks (StandsFrom f place) place size (after - middle)) is looks in
+    inr (record {
+      up_to = h.up_to;
+      within = omega (arith, h.within, sized);
+      first = λ b p n d. h.first b p n (decides_stands file place b p n d);
+      few = omega (arith, h.few, few);
+    })
+
+-- a chunk whose header is right and whose data isn't read
+looks_unloaded : (file : List ℕ) (place end to taken : ℕ) → NoneOf (Applies file place) header_reasons → end ≡ end_at file place
+    → to ≤ length file → LooksAtBlocks (ContradictsIn file place end place to) place to taken
+    → LooksAtBlocks (Decides file place) place (length file) taken
+looks_unloaded file place end to taken right ends within h = record {
+  up_to = h.up_to;
+  within = omega (arith, h.within, within);
+  first = λ b p n d. elim d [
+    | inl unread ↦ absurd (unread.0 right)
+    | inr c ↦ elim (cases_lt b to) [
+      | inl below ↦ h.first b p n (record {
+        contradicts = subst (λ (e : ℕ). Contradicts file place e b p n) (sym ends) c;
+        from_place = c.from;
+        below = below;
+      })
+      | inr past ↦ omega (arith, h.within, past)
+    ]
+  ];
+  few = h.few;
+}
+
+pub takes_unloaded : (bytes : Option (List ℕ)) (size place end to : ℕ) (h : Header) (before after : ℕ) → IsSized bytes (Some size) → IsHeader h
+    → IfSome bytes (HasRightHead h place) → end ≡ end_by place (value_of_header h) → to ≤ size
+    → IfSome bytes (λ file. LooksAtBlocks (ContradictsIn file place end place to) place to (after - before))
+    → IfSome bytes (λ file. MayTakeAt file place (40 + (after - before)))
+takes_unloaded None size place end to h before after sized fits right is within looks = tt
+takes_unloaded (Some file) size place end to h before after sized fits right is within looks =
+    inr (looks_fewer (Decides file place) place (length file) ((40 + (after - before)) - 40) (after - before) (omega arith)
+    (looks_unloaded file place end to (after - before) right.0 (is ∙ end_by-at file place h fits right.1) (omega (arith, within, sized)) looks))
+
+-- a chunk that is loaded, no more of which is taken than it has
+pub takes_loaded : (bytes : Option (List ℕ)) (size place end : ℕ) (h : Header) (before after : ℕ) → IsSized bytes (Some size) → IsHeader h
+    → IfSome bytes (HasRightHead h place) → end ≡ end_by place (value_of_header h) → end ≤ size → h.data_size ≤ max_data_size
+    → after + (place + 40) ≤ before + end
+    → IfSome bytes (λ file. MayTakeAt file place (40 + (after - before)))
+takes_loaded None size place end h before after sized fits right is within small few = tt
+takes_loaded (Some file) size place end h before after sized fits right is within small few =
+    let ends : end ≡ end_at file place = is ∙ end_by-at file place h fits right.1 in
+    inl (
+      none_loading (Some file) place h fits right.1 (none_unpassed (Some file) size place h sized fits right (omega (arith, is, within))) small,
+      omega (arith, few, ends, end_at_after file place),
+    )
+
+-- with the chunk header before it
+pub takes_headed : (bytes now : Option (List ℕ)) (place before middle after : ℕ) → now ≡ bytes → middle ≤ before + 40
+    → IfSome now (λ file. MayTakeAt file place (40 + (after - middle))) → IfSome bytes (λ file. MayTakeAt file place (after - before))
+takes_headed None now place before middle after same few takes = tt
+takes_headed (Some file) None place before middle after same few takes = absurd (cc same)
+takes_headed (Some file) (Some other) place before middle after same few takes =
+    may_take_less file place (after - before) (40 + (after - middle)) (omega (arith, few))
+    (subst (λ (f : List ℕ). MayTakeAt f place (40 + (after - middle))) (cc same) takes)
+
+-- pieces account for fewer bytes too
+account_less : (file : List ℕ) (pieces : List Piece) (less taken : ℕ) → less ≤ taken → AccountFor file pieces taken → AccountFor file pieces less
+account_less file [] less taken few h = omega (arith, few, h)
+account_less file (piece ∷ pieces) less taken few (here, at, rest) =
+    (here, at, account_less file pieces (less - here) (taken - here) (omega (arith, few)) rest)
+
+-- and pieces behind others for the bytes of both
+account_joined : (file : List ℕ) (front rest : List Piece) (taken more all : ℕ) → all ≤ taken + more → AccountFor file front taken
+    → AccountFor file rest more → AccountFor file (front ++ rest) all
+account_joined file [] rest taken more all few h behind = account_less file rest all more (omega (arith, few, h)) behind
+account_joined file (piece ∷ front) rest taken more all few (here, at, h) behind =
+    (here, at, account_joined file front rest (taken - here) more (all - here) (omega (arith, few)) h behind)
+
+-- nothing is taken of no pieces
+pub taken-none : (keep : Bool) (file : List ℕ) (place taken : ℕ) → taken ≤ 0 → IsTakenFrom keep file place place taken
+taken-none keep file place taken none = ([], refl, none)
+
+pub taken-start : (bytes : Option (List ℕ)) (keep : Bool) (place taken : ℕ) → taken ≤ 0 → IfSome bytes (λ file. IsTakenFrom keep file place place taken)
+taken-start None keep place taken none = tt
+taken-start (Some file) keep place taken none = taken-none keep file place taken none
+
+pub taken-joined : (keep : Bool) (file : List ℕ) (from middle to taken more all : ℕ) → all ≤ taken + more
+    → IsTakenFrom keep file from middle taken → IsTakenFrom keep file middle to more → IsTakenFrom keep file from to all
+taken-joined keep file from middle to taken more all few (front, tiles, h) (rest, behind, g) =
+    (front ++ rest, tiles_joined keep file from middle to front rest tiles behind, account_joined file front rest taken more all few h g)
+
+pub up_to-joined : (keep : Bool) (file : List ℕ) (from middle to taken more all : ℕ) → all ≤ taken + more
+    → IsTakenFrom keep file from middle taken → IsTakenUpTo keep file middle to more → IsTakenUpTo keep file from to all
+up_to-joined keep file from middle to taken more all few h (passed, behind, at) = (
+  taken + passed,
+  taken-joined keep file from middle to taken passed (taken + passed) (omega arith) h behind,
+  may_take_less file to (all - (taken + passed)) (more - passed) (omega (arith, few)) at,
+)
+
+-- a walk that stands still
+pub taken-still : (bytes : Option (List ℕ)) (keep : Bool) (size place taken : ℕ) → IsSized bytes (Some size) → place ≤ size → taken ≤ 0
+    → IfSome bytes (λ file. IsTakenUpTo keep file place place taken)
+taken-still None keep size place taken sized within none = tt
+taken-still (Some file) keep size place taken sized within none =
+    (0, taken-none keep file place 0 (omega arith), may_take_head file place (taken - 0) (omega (arith, sized, within)) (omega (arith, none)))
+
+-- or goes on past a piece
+pub taken-past : (bytes now : Option (List ℕ)) (keep kept : Bool) (size from at : ℕ) (piece : code.Piece) (start middle after : ℕ)
+    → now ≡ bytes → kept ≡ keep → IsSized bytes (Some size) → at < size
+    → IfSome bytes (λ file. IsTakenFrom keep file from at (middle - start)) → IfSome now (IsPieceThere kept at piece)
+    → IfSome now (λ file. MayTakeAt file at (after - middle)) → IfSome bytes (λ file. IsTakenFrom keep file from piece.end (after - start))
+taken-past None now keep kept size from at piece start middle after same same_keep sized below on there takes = tt
+taken-past (Some file) None keep kept size from at piece start middle after same same_keep sized below on there takes = absurd (cc same)
+taken-past (Some file) (Some other) keep kept size from at piece start middle after same same_keep sized below on there takes =
+    let is : other ≡ file = cc same in
+    let here : IsPieceThere keep at piece file = subst (λ (k : Bool). IsPieceThere k at piece file) same_keep (subst (IsPieceThere kept at piece) is there) in
+    let may : MayTakeAt file at (after - middle) = subst (λ (f : List ℕ). MayTakeAt f at (after - middle)) is takes in
+    taken-joined keep file from at piece.end (middle - start) (after - middle) (after - start) (omega arith) on
+    (piece_value at piece ∷ [], (refl, omega (arith, sized, below), here, refl), (after - middle, may, omega arith))
+
+-- or stops at one
+pub taken-to : (bytes now : Option (List ℕ)) (keep : Bool) (from at start middle after : ℕ) → now ≡ bytes
+    → IfSome bytes (λ file. IsTakenFrom keep file from at (middle - start)) → IfSome now (λ file. MayTakeAt file at (after - middle))
+    → IfSome bytes (λ file. IsTakenUpTo keep file from at (after - start))
+taken-to None now keep from at start middle after same on takes = tt
+taken-to (Some file) None keep from at start middle after same on takes = absurd (cc same)
+taken-to (Some file) (Some other) keep from at start middle after same on takes = (
+  middle - start,
+  on,
+  may_take_less file at ((after - start) - (middle - start)) (after - middle) (omega arith)
+      (subst (λ (f : List ℕ). MayTakeAt f at (after - middle)) (cc same) takes),
+)
+
+-- a call of a walk with an event or at the file's end
+pub called-on : (told bytes : Option (List ℕ)) (keep kept : Bool) (from place next : ℕ) (result : Result (Option Event) WalkEnd) (event : Option Event)
+    (start middle after : ℕ) → told ≡ bytes → keep ≡ kept → result ≡ Ok event
+    → IfSome bytes (λ file. IsTakenFrom kept file from place (middle - start))
+    → IfSome told (λ file. TakesByCall keep file place next result (after - middle))
+    → IfSome bytes (λ file. IsTakenFrom kept file from next (after - start))
+called-on told None keep kept from place next result event start middle after same same_keep is on takes = tt
+called-on None (Some file) keep kept from place next result event start middle after same same_keep is on takes = absurd (cc same)
+called-on (Some other) (Some file) keep kept from place next result event start middle after same same_keep is on takes =
+    let call : TakesByCall keep other place next (Ok event) (after - middle) =
+    subst (λ (r : Result (Option Event) WalkEnd). TakesByCall keep other place next r (after - middle)) is takes in
+    let here : IsTakenFrom kept file place next (after - middle) =
+    subst (λ (k : Bool). IsTakenFrom k file place next (after - middle)) same_keep
+    (subst (λ (f : List ℕ). IsTakenFrom keep f place next (after - middle)) (cc same) call) in
+    taken-joined kept file from place next (middle - start) (after - middle) (after - start) (omega arith) on here
+
+-- and one without
+pub called-to : (told bytes : Option (List ℕ)) (keep kept : Bool) (from place next : ℕ) (result : Result (Option Event) WalkEnd) (why : WalkEnd)
+    (start middle after : ℕ) → told ≡ bytes → keep ≡ kept → result ≡ Err why
+    → IfSome bytes (λ file. IsTakenFrom kept file from place (middle - start))
+    → IfSome told (λ file. TakesByCall keep file place next result (after - middle))
+    → IfSome bytes (λ file. IsTakenUpTo kept file from next (after - start))
+called-to told None keep kept from place next result why start middle after same same_keep is on takes = tt
+called-to None (Some file) keep kept from place next result why start middle after same same_keep is on takes = absurd (cc same)
+called-to (Some other) (Some file) keep kept from place next result why start middle after same same_keep is on takes =
+    let call : TakesByCall keep other place next (Err why) (after - middle) =
+    subst (λ (r : Result (Option Event) WalkEnd). TakesByCall keep other place next r (after - middle)) is takes in
+    let here : IsTakenUpTo kept file place next (after - middle) =
+    subst (λ (k : Bool). IsTakenUpTo k file place next (after - middle)) same_keep
+    (subst (λ (f : List ℕ). IsTakenUpTo keep f place next (after - middle)) (cc same) call) in
+    up_to-joined kept file from place next (middle - start) (after - middle) (after - start) (omega arith) on here
+
+-- before the first call nothing was taken
+pub taken-front : (bytes : Option (List ℕ)) (keep : Bool) (place taken : ℕ) → place ≡ 0 → taken ≤ 0
+    → IfSome bytes (λ file. IsTakenFrom keep file 0 place taken)
+taken-front bytes keep place taken front none =
+    subst (λ (p : ℕ). IfSome bytes (λ file. IsTakenFrom keep file p place taken)) front (taken-start bytes keep place taken none)
+
+pub up_to-none : (keep : Bool) (file : List ℕ) (taken : ℕ) → taken ≤ 0 → IsTakenUpTo keep file 0 0 taken
+up_to-none keep file taken none =
+    (0, taken-none keep file 0 0 (omega arith), may_take_head file 0 (taken - 0) (omega arith) (omega (arith, none)))
