@@ -3,13 +3,12 @@ use Rattle.std.proofs.Common.{◌≡◌, ◌∙◌, ℕ, ◌^◌, ◌≤◌, Boo
 use Rattle.std.specs.List.{AllByRecursion}
 use Rattle.std.specs.Fn.{Shared}
 use denote.Ref.{Bor}
-use Rattle.record_values.specs.Bytes.{AreBytes}
 use Rattle.record_io.specs.Outside.{Takes}
 use Rattle.record_io.specs.Puts.{Put, Taken, GoOut, Made, bytes_to}
 use Rattle.chunk_header.specs.Chunks.{ChunkValue}
 use Rattle.meta_chunk.specs.Counts.{totals_of}
-use Rattle.meta_chunk.specs.Files.{signature, IsFrame, begin_of, laid_each}
-use Rattle.damage_skip.specs.Damage.{Intact, IsDamaged, AreReached, DamageLeavesEach, untouched}
+use Rattle.meta_chunk.specs.Files.{signature, begin_of, laid_each}
+use Rattle.damage_skip.specs.Damage.{Intact, IsDamaged}
 use Rattle.damage_skip.specs.Pieces.{Piece, events_in}
 use Rattle.damage_skip.specs.Policies.{IsAllowedRegion}
 use Rattle.damage_skip.specs.Regions.{regions_in}
@@ -17,6 +16,7 @@ use Rattle.damage_skip.specs.declared.regions.Region.{Region}
 use Rattle.damage_skip.proofs.Damaged.{tiles_left, number_of_end}
 use Rattle.damage_skip.proofs.DamagedWalks.{left_region}
 use Rattle.damage_skip.proofs.Reached.{left_numbers}
+use Rattle.damage_skip.proofs.Untouched.{lost_to_a_block}
 use Rattle.repair_copy.specs.Relaid.{chunks_in, relaid}
 use Rattle.repair_copy.specs.RepairPuts.{repair_puts}
 use Rattle.repair_copy.specs.Repairs.{AnswersRepair, WentOut, Repairs}
@@ -25,28 +25,29 @@ use Rattle.repair_copy.specs.declared.repairs.Repaired.{Repaired}
 use Rattle.repair_copy.specs.declared.repairs.RepairEnd.{RepairEnd}
 use Rattle.repair_copy.specs.declared.repairs.RepairEnd.TheVariants as end
 use Rattle.repair_copy.proofs.EventChunks.{chunks_in_events, relaid_events}
-use Rattle.repair_copy.proofs.LeftChunks.{left_chunks, frame_left}
+use Rattle.repair_copy.proofs.LeftChunks.{left_chunks, frame_kept}
 use Rattle.repair_copy.proofs.RepairPuts.{made_in-repair}
 
 module _ {F : Type 0} (test : Shared F (Bor Region × Unit {0}) Bool) (f : F) (ks : List ChunkValue) (file damaged : List ℕ) (intact : Intact)
     (reach : length file ≤ 2 ^ 60) (d : IsDamaged ks file damaged intact) where
   -- what is answered at a place where the chunk of this number begins
-  answers_damaged : (result : Result Repaired RepairEnd) (place to : ℕ) (numbers : List ℕ) (events : List Piece) → to ≤ length ks → place ≡ begin_of ks to
-      → chunks_in events ≡ kept_of ks intact numbers → AnswersRepair test f result damaged place events
-      → AnswersDamaged test f ks intact to numbers result
-  answers_damaged (Ok repaired) place to numbers events inside begins same h = (
+  answers_damaged : (result : Result Repaired RepairEnd) (place to : ℕ) (numbers : List ℕ) (pieces events : List Piece) → to ≤ length ks
+      → place ≡ begin_of ks to → chunks_in events ≡ kept_of ks intact numbers → events_in pieces ≡ events → AnswersRepair test f result damaged place events
+      → AnswersDamaged test f ks intact to numbers pieces result
+  answers_damaged (Ok repaired) place to numbers pieces events inside begins same are h = (
     number_of_end true ks file damaged intact d reach to inside (sym h.0 ∙ begins),
     h.1 ∙ ap (λ (xs : List ChunkValue). totals_of (signature ∷ xs)) same,
+    h.2 ∙ ap (λ (es : List Piece). length (regions_in es)) (sym are),
   )
-  answers_damaged (Err (end.Stopped region)) place to numbers events inside begins same h =
+  answers_damaged (Err (end.Stopped region)) place to numbers pieces events inside begins same are h =
       (left_region true ks file damaged intact d reach place to (Some region) inside begins (h.begin, h.below, h.piece), h.refused)
-  answers_damaged (Err end.Store) place to numbers events inside begins same h = tt
-  answers_damaged (Err end.Made) place to numbers events inside begins same h = tt
-  answers_damaged (Err end.Notes) place to numbers events inside begins same h = tt
-  answers_damaged (Err end.Memory) place to numbers events inside begins same h = tt
+  answers_damaged (Err end.Store) place to numbers pieces events inside begins same are h = tt
+  answers_damaged (Err end.Made) place to numbers pieces events inside begins same are h = tt
+  answers_damaged (Err end.Notes) place to numbers pieces events inside begins same are h = tt
+  answers_damaged (Err end.Memory) place to numbers pieces events inside begins same are h = tt
 
 -- what is made of events
-made_of : (before after : Taken) (events : List Piece) (part : List Put) (bytes : List ℕ) → part ≡ repair_puts events → relaid events ≡ bytes
+pub made_of : (before after : Taken) (events : List Piece) (part : List Put) (bytes : List ℕ) → part ≡ repair_puts events → relaid events ≡ bytes
     → GoOut before after part → Takes before.made after.made bytes
 made_of before after events part bytes all same went =
     subst (Takes before.made after.made) (ap (bytes_to Made) all ∙ made_in-repair events ∙ same) went.made
@@ -65,7 +66,7 @@ makes_of (Err end.Memory) faults faults_then before after events part xs same al
 damage_repaired : {F : Type 0} (test : Shared F (Bor Region × Unit {0}) Bool) (f : F) (result : Result Repaired RepairEnd) (faults faults_then : ℕ)
     (before after : Taken) (damaged : List ℕ) → Repairs test f result faults faults_then before after damaged
     → (ks : List ChunkValue) (file : List ℕ) (intact : Intact) → length file ≤ 2 ^ 60 → IsDamaged ks file damaged intact
-    → RepairsDamage test f result faults faults_then before after ks intact damaged
+    → RepairsDamage test f result faults faults_then before after ks intact
 damage_repaired test f result faults faults_then before after damaged h ks file intact reach d =
     let pieces : List Piece = h.walked.walked.0 in
     let are : events_in pieces ≡ h.events = h.walked.walked.2 in
@@ -79,16 +80,16 @@ damage_repaired test f result faults faults_then before after damaged h ks file 
       to = left.0;
       numbers = numbers.0;
       reached = numbers.1;
+      lost = lost_to_a_block ks intact left.0 numbers.0 numbers.1;
       pieces = pieces;
       left = left.3;
       allowed = subst (λ (es : List Piece). AllByRecursion (IsAllowedRegion test f) (regions_in es)) (sym are) h.walked.each;
-      answer = answers_damaged test f ks file damaged intact reach d result h.place left.0 numbers.0 h.events left.1 left.2 same h.answer;
+      answer = answers_damaged test f ks file damaged intact reach d result h.place left.0 numbers.0 pieces h.events left.1 left.2 same are h.answer;
       part = h.part;
       went = subst (λ (es : List Piece). WentOut result faults faults_then es h.part) (sym are) h.went;
       took = h.took;
       made = makes_of result faults faults_then before after h.events h.part kept (sym (ap relaid are) ∙ relaid_events pieces ∙ laid) h.went h.took;
-      frame = λ bytes. subst (IsFrame (signature ∷ kept)) laid
-          (frame_left true ks file damaged intact left.0 pieces numbers.0 reach d bytes left.3 numbers.1);
+      frame = frame_kept true ks file intact numbers.0 d.frame;
     }
 
 -- where the file tells its bytes
@@ -96,7 +97,7 @@ pub repairs_damage : {F : Type 0} (test : Shared F (Bor Region × Unit {0}) Bool
     (faults faults_then : ℕ) (before after : Taken) → IfSome bytes (Repairs test f result faults faults_then before after)
     → IfSome bytes (λ damaged.
     (ks : List ChunkValue) (file : List ℕ) (intact : Intact) → length file ≤ 2 ^ 60 → IsDamaged ks file damaged intact
-    → RepairsDamage test f result faults faults_then before after ks intact damaged)
+    → RepairsDamage test f result faults faults_then before after ks intact)
 repairs_damage test f None result faults faults_then before after h = tt
 repairs_damage test f (Some damaged) result faults faults_then before after h =
     damage_repaired test f result faults faults_then before after damaged h

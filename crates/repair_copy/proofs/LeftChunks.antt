@@ -1,19 +1,21 @@
 -- The chunks that damage leaves are those that are reached, untouched and copied.
-use Rattle.std.proofs.Common.{◌≡◌, ◌∙◌, ℕ, ◌≤◌, ◌^◌, Bool, true, false, ◌&&◌, List, [], ◌∷◌, ◌++◌, Some, length, refl, sym, ap, subst, inl, inr, arith}
+use Rattle.std.proofs.Common.{◌≡◌, ◌∙◌, ℕ, ◌+◌, ◌≤◌, ◌^◌, Bool, true, false, ◌&&◌, Option, Some, None, List, [], ◌∷◌, ◌++◌, length, take, refl, sym, ap, subst, inl, inr, arith}
 use Rattle.std.specs.Prelude.{slice_get, if◌then◌else◌}
-use Rattle.std.specs.List.{AllByRecursion}
+use Rattle.std.specs.List.{AllByRecursion, cons_option}
 use Rattle.std.proofs.lemmas.Bool.{cases_Bool}
-use Rattle.record_values.specs.Bytes.{AreBytes}
-use Rattle.chunk_header.specs.Chunks.{ChunkValue}
-use Rattle.meta_chunk.specs.Files.{signature, IsFramed, IsFrame, begin_of}
+use Rattle.std.proofs.lemmas.List.{take_all}
+use Rattle.std.proofs.lemmas.List.Elements.{All-filter, All-from_recursion, recursion_from_All}
+use Rattle.chunk_header.specs.Chunks.{ChunkValue, IsChunk}
+use Rattle.meta_chunk.specs.Files.{signature, IsFramed, AreLaid, IsFrame, laid_each}
+use Rattle.meta_chunk.proofs.LaidChunks.{AreLaid-laid_each}
 use Rattle.chunk_reader.proofs.AllowedChunks.{allowed_small}
 use Rattle.chunk_reader.proofs.ChainSteps.{each_at}
+use Rattle.chunk_reader.proofs.SignedFiles.{IsChunk-signature, IsAllowed-signature}
 use Rattle.damage_skip.specs.Pieces.{PieceKind, Piece, ArePieces}
 use Rattle.damage_skip.specs.Damage.{Intact, IsDamaged, AreReached, DamageLeaves, DamageLeavesEach, untouched}
-use Rattle.damage_skip.proofs.Damaged.{pieces_left, left_front}
+use Rattle.damage_skip.proofs.Damaged.{pieces_left}
 use Rattle.damage_skip.proofs.Reached.{reached_past, left_past, next_one}
 use Rattle.repair_copy.specs.Relaid.{chunk_in, chunks_in, relaid, is_copied, copied}
-use Rattle.repair_copy.proofs.RelaidFiles.{relaid_frame}
 use Rattle.repair_copy.proofs.Copied.{unread_stays, none_before, found_chunk}
 
 -- the chunk of an untouched one's piece
@@ -85,11 +87,55 @@ pub chunks_left : (keep : Bool) (ks : List ChunkValue) (file damaged : List ℕ)
 chunks_left keep ks file damaged intact is pieces reach d reached h =
     left_chunks keep ks intact d.frame.1.each 0 (length ks) pieces is (pieces_left keep ks file damaged intact d reach pieces h) reached
 
--- and are a frame of these
-pub frame_left : (keep : Bool) (ks : List ChunkValue) (file damaged : List ℕ) (intact : Intact) (to : ℕ) (pieces : List Piece) (is : List ℕ)
-    → length file ≤ 2 ^ 60 → IsDamaged ks file damaged intact → AreBytes damaged → DamageLeavesEach keep ks intact 0 to pieces
-    → AreReached ks intact 0 to is → IsFrame (signature ∷ copied keep (untouched ks intact is)) (relaid pieces)
-frame_left keep ks file damaged intact to pieces is reach d bytes left reached =
-    subst (λ (xs : List ChunkValue). IsFrame (signature ∷ xs) (relaid pieces))
-    (left_chunks keep ks intact d.frame.1.each 0 to pieces is left reached)
-    (relaid_frame keep damaged 0 (begin_of ks to) pieces bytes (left_front keep ks file damaged intact d reach to pieces left))
+-- chunks that are laid can be held by their headers
+laid_sound : (begin : ℕ) (ks : List ChunkValue) (bytes : List ℕ) → AreLaid begin ks bytes → AllByRecursion IsChunk ks
+laid_sound begin [] bytes h = tt
+laid_sound begin (k ∷ ks) bytes (front, rest, parts, laid, on) = (laid.chunk, laid_sound (begin + length front) ks rest on)
+
+-- what holds of each chunk holds of those that are untouched and copied
+module _ (P : ChunkValue → Type 0) (keep : Bool) (ks : List ChunkValue) (intact : Intact) (each : AllByRecursion P ks) where
+  before_each : (o : Option ChunkValue) (xs : List ChunkValue) → ((k : ChunkValue) → o ≡ Some k → P k) → AllByRecursion P xs
+      → AllByRecursion P (cons_option o xs)
+  before_each None xs here rest = rest
+  before_each (Some k) xs here rest = (here k refl, rest)
+
+  at_number : (whole : Bool) (j : ℕ) (k : ChunkValue) → (if whole then slice_get ks j else None) ≡ Some k → P k
+  at_number true j k is = each_at P ks j k each is
+  at_number false j k is = cc is
+
+  each_untouched : (numbers : List ℕ) → AllByRecursion P (untouched ks intact numbers)
+  each_untouched [] = tt
+  each_untouched (j ∷ numbers) =
+      let whole : Bool = intact.header j && intact.«data» j in
+      before_each (if whole then slice_get ks j else None) (untouched ks intact numbers) (at_number whole j) (each_untouched numbers)
+
+  each_copied : (xs : List ChunkValue) → AllByRecursion P xs → AllByRecursion P (copied keep xs)
+  each_copied xs h = recursion_from_All P (copied keep xs) (All-filter (is_copied keep) P xs (All-from_recursion P xs h))
+
+  each_kept : (numbers : List ℕ) → AllByRecursion P (copied keep (untouched ks intact numbers))
+  each_kept numbers = each_copied (untouched ks intact numbers) (each_untouched numbers)
+
+-- so these are a frame behind the signature
+pub frame_kept : (keep : Bool) (ks : List ChunkValue) (file : List ℕ) (intact : Intact) (numbers : List ℕ) → IsFrame ks file
+    → IsFrame (signature ∷ copied keep (untouched ks intact numbers)) (laid_each 0 (signature ∷ copied keep (untouched ks intact numbers)))
+frame_kept keep ks file intact numbers frame =
+    let kept : List ChunkValue = copied keep (untouched ks intact numbers) in
+    let bytes : List ℕ = laid_each 0 (signature ∷ kept) in
+    let sound : AllByRecursion IsChunk kept =
+    each_kept IsChunk keep ks intact (laid_sound 0 ks (take (length file) file) frame.1.laid) numbers in (
+      λ none. cc none,
+      record {
+        signed = refl;
+        each = (IsAllowed-signature true, each_kept IsFramed keep ks intact frame.1.each numbers);
+        within = omega arith;
+        laid = subst (AreLaid 0 (signature ∷ kept)) (sym (take_all (length bytes) bytes (omega arith)))
+            (AreLaid-laid_each 0 (signature ∷ kept) (IsChunk-signature, sound));
+      },
+    )
+
+pub frame_left : (keep : Bool) (ks : List ChunkValue) (file : List ℕ) (intact : Intact) (to : ℕ) (pieces : List Piece) (is : List ℕ)
+    → IsFrame ks file → DamageLeavesEach keep ks intact 0 to pieces → AreReached ks intact 0 to is
+    → IsFrame (signature ∷ copied keep (untouched ks intact is)) (relaid pieces)
+frame_left keep ks file intact to pieces is frame left reached =
+    subst (λ (xs : List ChunkValue). IsFrame (signature ∷ copied keep (untouched ks intact is)) (laid_each 0 (signature ∷ xs)))
+    (sym (left_chunks keep ks intact frame.1.each 0 to pieces is left reached)) (frame_kept keep ks file intact is frame)

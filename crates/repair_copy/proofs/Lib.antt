@@ -11,6 +11,8 @@ pub mod WholeLines
 mod HeldPuts
 mod CopySteps
 mod WalkedFiles
+mod ShortRepairs
 mod SkippedRegions
 pub mod OneWalk
 pub mod DamagedRepairs
+pub mod FrontRepairs

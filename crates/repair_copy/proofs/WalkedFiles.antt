@@ -34,7 +34,7 @@ rose_since : (faults between faults_then : ℕ) → faults ≤ between → Rose 
 rose_since faults between faults_then rises (inl more) = inl (omega arith)
 rose_since faults between faults_then rises (inr most) = inr most
 
-at_fault_since : (faults between faults_then : ℕ) (events : List Piece) (part : List Put) → faults ≤ between
+pub at_fault_since : (faults between faults_then : ℕ) (events : List Piece) (part : List Put) → faults ≤ between
     → WentOutAtFault between faults_then events part → WentOutAtFault faults faults_then events part
 at_fault_since faults between faults_then [] part rises none = none
 at_fault_since faults between faults_then (e ∷ events) part rises (inl all) = inl all

@@ -3,13 +3,12 @@ use Rattle.std.specs.Prelude.{◌≡◌, ℕ, Bool, true, false, ⊤, Result, Ok
 use Rattle.std.specs.List.{AllByRecursion}
 use Rattle.std.specs.Fn.{Shared, FnReturnsAt}
 use denote.Ref.{Bor}
-use Rattle.record_values.specs.Bytes.{AreBytes}
 use Rattle.record_io.specs.Outside.{Takes}
 use Rattle.record_io.specs.Puts.{Put, Taken, GoOut}
 use Rattle.chunk_header.specs.Chunks.{ChunkValue}
 use Rattle.meta_chunk.specs.Counts.{totals_of}
 use Rattle.meta_chunk.specs.Files.{signature, IsFrame, laid_each}
-use Rattle.damage_skip.specs.Damage.{Intact, AreReached, DamageLeavesEach, untouched}
+use Rattle.damage_skip.specs.Damage.{Intact, AreReached, AreLostToABlock, DamageLeavesEach, untouched}
 use Rattle.damage_skip.specs.DamagedWalks.{IsLeftRegion}
 use Rattle.damage_skip.specs.Pieces.{Piece, events_in}
 use Rattle.damage_skip.specs.Policies.{IsAllowedRegion}
@@ -25,14 +24,15 @@ use Rattle.repair_copy.specs.declared.repairs.RepairEnd.TheVariants as end
 abbrev pub kept_of : List ChunkValue → Intact → List ℕ → List ChunkValue
 kept_of ks intact numbers = copied true (untouched ks intact numbers)
 
--- what is answered where the chunks before this number were passed, of which these are reached: at the file's end the totals of
--- what is made, and at a region that the test can refuse what damage leaves there
-abbrev pub AnswersDamaged : {F : Type 0} → Shared F (Bor Region × Unit {0}) Bool → F → List ChunkValue → Intact → (to : ℕ) → List ℕ → Result Repaired RepairEnd → Type 0
-AnswersDamaged test f ks intact to numbers (Ok repaired) =
-    (to ≡ length ks) × (repaired.totals ≡ totals_of (signature ∷ kept_of ks intact numbers))
-AnswersDamaged test f ks intact to numbers (Err (end.Stopped region)) =
+-- what is answered where the chunks before this number were passed, of which these are reached and damage leaves these pieces: at
+-- the file's end the totals of what is made and how many regions there are, and at a region that the test can refuse what damage
+-- leaves there
+abbrev pub AnswersDamaged : {F : Type 0} → Shared F (Bor Region × Unit {0}) Bool → F → List ChunkValue → Intact → (to : ℕ) → List ℕ → List Piece → Result Repaired RepairEnd → Type 0
+AnswersDamaged test f ks intact to numbers pieces (Ok repaired) =
+    (to ≡ length ks) × (repaired.totals ≡ totals_of (signature ∷ kept_of ks intact numbers)) × (repaired.regions ≡ length (regions_in (events_in pieces)))
+AnswersDamaged test f ks intact to numbers pieces (Err (end.Stopped region)) =
     IsLeftRegion true ks intact to region × FnReturnsAt test f region false
-AnswersDamaged test f ks intact to numbers (Err other) = ⊤
+AnswersDamaged test f ks intact to numbers pieces (Err other) = ⊤
 
 -- the file that is made, where no object failed and memory was found: the signature and these chunks, with zero padding
 abbrev pub MakesOf : Result Repaired RepairEnd → Taken → Taken → List ChunkValue → Type 0
@@ -41,18 +41,20 @@ MakesOf (Err (end.Stopped region)) before after ks = Takes before.made after.mad
 MakesOf (Err other) before after ks = ⊤
 
 -- of a damaged file the chunks before this number were passed, to its end or to a region that is refused: the untouched ones of
--- those reached are copied, and the regions among what damage leaves of these are told
+-- those reached are copied, which are a frame, the regions among what damage leaves of these are told, and the others are lost to a
+-- block
 pub record RepairsDamage {F : Type 0} (test : Shared F (Bor Region × Unit {0}) Bool) (f : F) (result : Result Repaired RepairEnd)
-    (faults faults_then : ℕ) (before after : Taken) (ks : List ChunkValue) (intact : Intact) (damaged : List ℕ) : Type 0 where
+    (faults faults_then : ℕ) (before after : Taken) (ks : List ChunkValue) (intact : Intact) : Type 0 where
   pub to : ℕ
   pub numbers : List ℕ
   pub reached : AreReached ks intact 0 to numbers
+  pub lost : AreLostToABlock ks intact to numbers
   pub pieces : List Piece
   pub left : DamageLeavesEach true ks intact 0 to pieces
   pub allowed : AllByRecursion (IsAllowedRegion test f) (regions_in (events_in pieces))
-  pub answer : AnswersDamaged test f ks intact to numbers result
+  pub answer : AnswersDamaged test f ks intact to numbers pieces result
   pub part : List Put
   pub went : WentOut result faults faults_then (events_in pieces) part
   pub took : GoOut before after part
   pub made : MakesOf result before after (kept_of ks intact numbers)
-  pub frame : AreBytes damaged → IsFrame (signature ∷ kept_of ks intact numbers) (laid_each 0 (signature ∷ kept_of ks intact numbers))
+  pub frame : IsFrame (signature ∷ kept_of ks intact numbers) (laid_each 0 (signature ∷ kept_of ks intact numbers))

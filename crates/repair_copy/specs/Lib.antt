@@ -4,3 +4,5 @@ pub mod Walked
 pub mod Copies
 pub mod Repairs
 pub mod DamagedRepairs
+pub mod ShortRepairs
+pub mod FrontRepairs

@@ -119,10 +119,8 @@ pub fn what_damage_leaves_is_repaired()
         (pieces : List Piece)
         → length file ≤ 2 ^ 60 → IsDamaged ks file damaged intact → AreReached ks intact 0 (length ks) is
         → ArePieces keep damaged pieces → chunks_in pieces ≡ copied keep (untouched ks intact is) }
-    ensures frame { (keep : Bool) (ks : List ChunkValue) (file damaged : List ℕ) (intact : Intact) (to : ℕ)
-        (pieces : List Piece) (is : List ℕ)
-        → length file ≤ 2 ^ 60 → IsDamaged ks file damaged intact → AreBytes damaged
-        → DamageLeavesEach keep ks intact 0 to pieces → AreReached ks intact 0 to is
+    ensures frame { (keep : Bool) (ks : List ChunkValue) (file : List ℕ) (intact : Intact) (to : ℕ) (pieces : List Piece) (is : List ℕ)
+        → IsFrame ks file → DamageLeavesEach keep ks intact 0 to pieces → AreReached ks intact 0 to is
         → IsFrame (signature ∷ copied keep (untouched ks intact is)) (relaid pieces) }
 {}
 

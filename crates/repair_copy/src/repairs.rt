@@ -1,13 +1,16 @@
-ghost use Rattle.std.specs.Prelude.{◌≡◌, ◌+◌, ◌*◌, ◌^◌, ◌≤◌, ℕ, Some, None, Err, IfOk, IfSome, List, length};
+ghost use Rattle.std.specs.Prelude.{◌≡◌, ◌+◌, ◌-◌, ◌*◌, ◌^◌, ◌≤◌, ◌⊎◌, ℕ, Some, None, Err, IfOk, IfSome, List, length, take};
 ghost use Rattle.record_io.specs.Puts.{taken_by};
 ghost use Rattle.record_io.specs.Calls.{OnlyAsks, OnlyCounts};
 ghost use Rattle.chunk_header.specs.Chunks.{ChunkValue};
+ghost use Rattle.meta_chunk.specs.Files.{IsFrame};
 ghost use Rattle.damage_skip.specs.Damage.{Intact, IsDamaged};
 ghost use Rattle.damage_skip.specs.Policies.{IsTest};
 ghost use Rattle.damage_skip.specs.Steps.{IsOnward};
 ghost use Rattle.damage_skip.specs.declared.regions.Region.{Region};
 ghost use Rattle.repair_copy.specs.DamagedRepairs.{RepairsDamage};
+ghost use Rattle.repair_copy.specs.FrontRepairs.{RepairsFront};
 ghost use Rattle.repair_copy.specs.Repairs.{Skips, Repairs};
+ghost use Rattle.repair_copy.specs.ShortRepairs.{RepairsShort};
 
 use crate::copying::{Copied, FailedSink};
 use damage_skip::{Policy, Region, WalkEnd, Walker};
@@ -59,15 +62,18 @@ impl From<FailedSink> for RepairEnd {
 /// What is held goes out before a line is put, and however the work ends.
 ///
 /// Of a damaged file, in which each change shows by a hash, what is made has, behind the signature, the simple, metadata and
-/// unread chunks of the undamaged file that are reached and untouched, in order.
+/// unread chunks of the undamaged file that are reached and untouched, in order. Where all block headers are intact, what is lost
+/// behind a changed header ends at or before the first block from its chunk's begin on. Of the front of a file of chunks, it has
+/// those that the front has whole, and one region is told for a chunk that is cut.
 ///
 /// # Errors
 ///
 /// `Stopped` exactly where the next region is one that the policy doesn't allow to pass over: the file of all chunks before
 /// it is made, and the lines of the regions before it are put. `Store` only where the store failed, and `Memory` only where
 /// a chunk is to be read: what was put is that of the events up to some place, nothing where there is none, not even the
-/// signature, and a front where `made` failed too. That the place is as far as the store could be read is no clause. `Made` and
-/// `Notes` only where that failed: what comes before the bytes that failed was put, and a front of these. Own.
+/// signature, and a front where `made` failed too. What was taken of the store is accounted for by the pieces up to that place
+/// and the one there. `Made` and `Notes` only where that failed: what comes before the bytes that failed was put, and a front of
+/// these. Own.
 pub fn repair<S: Store, F: Fn(&Region) -> bool + Drop, M: Sink, E: Sink>(
     alloc: Global,
     store: &mut S,
@@ -84,7 +90,14 @@ pub fn repair<S: Store, F: Fn(&Region) -> bool + Drop, M: Sink, E: Sink>(
     ensures damaged { IfSome (S.bytes store.old) (λ damaged.
         (ks : List ChunkValue) (file : List ℕ) (intact : Intact) → length file ≤ 2 ^ 60 → IsDamaged ks file damaged intact
         → RepairsDamage F.Fn policy.test result (M.faults made.old) (M.faults made.new)
-        (taken_by (M.taken made.old) None (E.taken notes.old)) (taken_by (M.taken made.new) None (E.taken notes.new)) ks intact damaged) }
+        (taken_by (M.taken made.old) None (E.taken notes.old)) (taken_by (M.taken made.new) None (E.taken notes.new)) ks intact) }
+    ensures cut { IfSome (S.bytes store.old) (λ front.
+        (ks : List ChunkValue) (file : List ℕ) (m : ℕ) → IsFrame ks file → m ≤ length file → front ≡ take m file
+        → RepairsFront F.Fn policy.test result (M.faults made.old) (M.faults made.new)
+        (taken_by (M.taken made.old) None (E.taken notes.old)) (taken_by (M.taken made.new) None (E.taken notes.new)) ks file m) }
+    ensures cut_short { (result ≡ Err RepairEnd.Store) ⊎ (result ≡ Err RepairEnd.Memory) → IfSome (S.bytes store.old)
+        (RepairsShort F.Fn policy.test (M.faults made.old) (M.faults made.new) (taken_by (M.taken made.old) None (E.taken notes.old))
+        (taken_by (M.taken made.new) None (E.taken notes.new)) (S.handed store.new - S.handed store.old)) }
     ensures skips { Skips F.Fn policy.test result (E.taken notes.old) (E.taken notes.new) }
     ensures quiet { IfOk result (λ repaired. repaired.regions ≡ 0 → notes.new ≡ notes.old) }
     ensures stop { (region : Region) → result ≡ Err (RepairEnd.Stopped region) → IsOnward size region.begin region.end }

@@ -1,5 +1,5 @@
 -- How the loop of `show` gets on past damage, where the file may tell its bytes.
-use Rattle.std.proofs.Common.{◌≡◌, ◌∙◌, ℕ, ◌^◌, ◌≤◌, ◌⊎◌, Bool, true, false, Option, Some, None, Result, Ok, Err, IfSome, List, [], ◌∷◌, ◌++◌, length, take, refl, sym, ap, subst, inl, inr, arith}
+use Rattle.std.proofs.Common.{◌≡◌, ◌∙◌, ℕ, ◌-◌, ◌^◌, ◌≤◌, ◌⊎◌, Bool, true, false, Option, Some, None, Result, Ok, Err, IfSome, List, [], ◌∷◌, ◌++◌, length, take, refl, sym, ap, subst, inl, inr, arith}
 use Rattle.std.specs.Fn.{Shared, FnReturnsAt}
 use denote.Ref.{Bor}
 use Rattle.std.specs.Result.{IsErr, IsErrAnd}
@@ -13,6 +13,8 @@ use Rattle.damage_skip.specs.Bounds.{may_skip, MaySkip}
 use Rattle.damage_skip.proofs.WalkedTo.{walked-none}
 use Rattle.damage_skip.proofs.BoundedWalks.{MaySkipEach}
 use Rattle.damage_skip.specs.Regions.{regions_in}
+use Rattle.damage_skip.specs.Takings.{IsTakenUpTo}
+use Rattle.damage_skip.proofs.Takings.{up_to-none}
 use Rattle.damage_skip.specs.Walks.{piece_of, events_of, GoesOn, IsStoppedAt, IsStop, IsEventIn, event_text}
 use Rattle.show_damaged.proofs.RecoverSteps.{by_sink, given-front, given-so_far, given-whole, given-stopped, given-on, given-event, event-unprinted, event-untold, event-passed, event-said, event-unsaid, event-front, told-event, told-still, told-front, status-event}
 use Rattle.show_damaged.specs.RecoverProgress.{HasPositions, end_of_walk, event_lines, status_after, GivesEvent, IsGivenTo}
@@ -51,8 +53,14 @@ given-none words (Some f) place taken held front none =
       status = refl;
     }))
 
-pub recovered-none : (words : RecoverWords) (f : List ℕ) → IsRecoveredSoFar words f []
-recovered-none words f = record { place = 0; events = []; walked = walked-none false (MaySkip words.most) f; puts = refl }
+pub recovered-none : (words : RecoverWords) (before after : ℕ) → after ≡ before → (f : List ℕ) → IsRecoveredSoFar words before after f []
+recovered-none words before after same f = record {
+  place = 0;
+  events = [];
+  walked = walked-none false (MaySkip words.most) f;
+  puts = refl;
+  taken = up_to-none false f (after - before) (omega (arith, same));
+}
 
 -- what is told of the same bytes
 pub goes-same : (a b : Option (List ℕ)) (keep : Bool) (place next : ℕ) (result known : Result (Option Event) WalkEnd) → a ≡ b → keep ≡ false → result ≡ known
@@ -209,10 +217,13 @@ step-said words l m ended e why is (skipped, told, status) stops =
       by_end walk.Store stops = (skipped, told)
       by_end walk.Memory stops = (skipped, told)
 
-pub step-so_far : (words : RecoverWords) (bytes : Option (List ℕ)) (place : ℕ) (a b : Taken) (held : List ℕ) (ended : Status)
-    → IfSome bytes (λ f. IsGivenTo words f place a b held ended) → IfSome bytes (λ f. HasPutSoFar (IsRecoveredSoFar words f) a b held)
-step-so_far words None place a b held ended h = tt
-step-so_far words (Some f) place a b held ended h = given-so_far words f place a b held ended h
+pub step-so_far : (words : RecoverWords) (bytes : Option (List ℕ)) (place next : ℕ) (a b : Taken) (held : List ℕ) (ended : Status) (e : WalkEnd)
+    (start now : ℕ) → IfSome bytes (λ f. IsGivenTo words f place a b held ended) → IfSome bytes (λ f. GoesOn false f place next (events_of (Err e)))
+    → IfSome bytes (λ f. IsTakenUpTo false f 0 next (now - start))
+    → IfSome bytes (λ f. HasPutSoFar (IsRecoveredSoFar words start now f) a b held)
+step-so_far words None place next a b held ended e start now h on taken = tt
+step-so_far words (Some f) place next a b held ended e start now h on taken =
+    given-so_far words f next a b held ended start now (given-on words f place next a b held ended h on) taken
 
 -- the file's end was come to
 pub step-done : (words : RecoverWords) (bytes : Option (List ℕ)) (place next size : ℕ) (a b : Taken) (held : List ℕ) (ended : Status)

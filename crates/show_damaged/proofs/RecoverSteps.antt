@@ -1,5 +1,5 @@
 -- How `show` gets on past damage: the events so far, one more, and how they stand to the answer.
-use Rattle.std.proofs.Common.{◌≡◌, ◌≢◌, ◌∙◌, ℕ, ◌<◌, ◌≤◌, true, false, Option, Some, None, Ok, Err, List, [], ◌∷◌, ◌++◌, length, take, refl, sym, ap, subst, inl, inr, arith, length-append}
+use Rattle.std.proofs.Common.{◌≡◌, ◌≢◌, ◌∙◌, ℕ, ◌-◌, ◌<◌, ◌≤◌, true, false, Option, Some, None, Ok, Err, List, [], ◌∷◌, ◌++◌, length, take, refl, sym, ap, subst, inl, inr, arith, length-append}
 use Rattle.std.specs.List.{AllByRecursion, flat_map}
 use Rattle.std.proofs.Math.Seq.{take-length}
 use Rattle.std.proofs.lemmas.Bool.{cases_lt}
@@ -13,6 +13,7 @@ use Rattle.record_io.proofs.Puts.{GoOut-append, GoOut-notes, GoOut-out, GoOutOrA
 use Rattle.damage_skip.specs.Pieces.{Skipped, Piece, IsPieceOf, AreEvents}
 use Rattle.damage_skip.specs.Bounds.{may_skip, walked, refused_in, MaySkip}
 use Rattle.damage_skip.specs.Regions.{region_text, regions_in, IsWalkedTo, skipped_text, stopped_text}
+use Rattle.damage_skip.specs.Takings.{IsTakenUpTo}
 use Rattle.damage_skip.specs.Walks.{piece_of, GoesOn, event_text}
 use Rattle.damage_skip.proofs.BoundedWalks.{MaySkipEach, walked-behind, walked-all, refused-none, walked-to_refused, refused-there}
 use Rattle.damage_skip.proofs.RegionsIn.{regions_in-append, each_append, skipped_text-event}
@@ -109,11 +110,12 @@ given-front words file place before after held ended short h answer is =
     }
 
 -- which is all that was put so far
-pub given-so_far : (words : RecoverWords) (file : List ℕ) (place : ℕ) (before after : Taken) (held : List ℕ) (ended : Status)
-    → IsGivenTo words file place before after held ended → HasPutSoFar (IsRecoveredSoFar words file) before after held
-given-so_far words file place before after held ended h = record {
+pub given-so_far : (words : RecoverWords) (file : List ℕ) (place : ℕ) (before after : Taken) (held : List ℕ) (ended : Status) (start now : ℕ)
+    → IsGivenTo words file place before after held ended → IsTakenUpTo false file 0 place (now - start)
+    → HasPutSoFar (IsRecoveredSoFar words start now file) before after held
+given-so_far words file place before after held ended start now h taken = record {
   part = puts_of words h.events;
-  is = record { place = place; events = h.events; walked = h.walked; puts = refl };
+  is = record { place = place; events = h.events; walked = h.walked; puts = refl; taken = taken };
   went = h.went;
 }
 

@@ -29,7 +29,7 @@ use Rattle.run_answers.specs.declared.sizes.SizeEnd.TheVariants as size
 use Rattle.run_answers.specs.declared.status.Status.TheVariants as status
 
 -- what holds of a command that walks one file past its damage, of which P are the answers
-pub record IsWalking (m : Meaning) (P : List ℕ → Answer → Type 0) (Q : List ℕ → List Put → Type 0) (most : Option ℕ) : Type 0 where
+pub record IsWalking (m : Meaning) (P : List ℕ → Answer → Type 0) (Q : (before after : ℕ) → List ℕ → List Put → Type 0) (most : Option ℕ) : Type 0 where
   pub one : ReadsFile m P Q
   pub may_end : (sizes : List ℕ) (ended : Status) (text : List ℕ) → MayEndWalk most sizes ended text → m.may_end sizes ended text
   pub may_say : (text : List ℕ) → MaySayWalk most text → m.may_say text
@@ -55,7 +55,7 @@ walk_whole : (m : Meaning) (skipped : List Region) → EndsWhole m (walk_status 
 walk_whole m [] = (tt, λ before after. tt)
 walk_whole m (region ∷ skipped) = (tt, λ before after. tt)
 
-module _ (m : Meaning) (P : List ℕ → Answer → Type 0) (Q : List ℕ → List Put → Type 0) (most : Option ℕ) (walks : IsWalking m P Q most) where
+module _ (m : Meaning) (P : List ℕ → Answer → Type 0) (Q : (before after : ℕ) → List ℕ → List Put → Type 0) (most : Option ℕ) (walks : IsWalking m P Q most) where
   ends : EndsBy m walk_ends
   ends = record {
     too_long = λ sizes long. walks.may_end sizes status.Limit _ (inr (long, refl, refl));
@@ -113,7 +113,7 @@ module _ (m : Meaning) (P : List ℕ → Answer → Type 0) (Q : List ℕ → Li
         → IsAllowedEnd m result file_then.told
         → IfSome file.bytes (λ bytes. IfSome file_then.told (λ size. size ≡ length bytes))
         → IfSome file.bytes (λ bytes. HasPutAtEnd walk_ends P result bytes Start Walked [])
-        → (IsErrAnd result IsShort → AreSinksSound m.uses Before After → IfSome file.bytes (λ bytes. HasPutSoFar (Q bytes) Start Walked []))
+        → (IsErrAnd result IsShort → AreSinksSound m.uses Before After → IfSome file.bytes (λ bytes. HasPutSoFar (Q file.handed file_then.handed bytes) Start Walked []))
         → TellsOf most result notes.bytes mid.bytes → SaysEnd walk_ends result ended mid notes_then → notes.faults ≤ mid.faults
         → (result ≡ Err (end.Cut cut.File) → Rose file.faults file_then.faults)
         → (result ≡ Err (end.Cut cut.Made) → Rose made.faults made_then.faults)

@@ -1,5 +1,5 @@
 -- What `show` prints, says and ends with where it goes on past damage. Own.
-use Rattle.std.specs.Prelude.{◌≡◌, ℕ, false, List, ◌++◌}
+use Rattle.std.specs.Prelude.{◌≡◌, ℕ, ◌-◌, false, List, ◌++◌}
 use Rattle.std.specs.List.{enumerate_from, flat_map}
 use Rattle.record_io.specs.Puts.{Put, Out, Notes, puts_to}
 use Rattle.damage_skip.specs.Pieces.{Piece, AreEvents, records_of}
@@ -10,6 +10,7 @@ use Rattle.show_files.specs.declared.show_words.RecordForm.{RecordForm}
 use Rattle.show_files.specs.Readings.{record_line}
 use Rattle.damage_skip.specs.Bounds.{MaySkip, walked, refused_in}
 use Rattle.damage_skip.specs.Regions.{region_of, regions_in, told_text, IsWalkedTo, stopped_text}
+use Rattle.damage_skip.specs.Takings.{IsTakenUpTo}
 use Rattle.show_damaged.specs.WalkAnswers.{walk_status, MaySayWalk, MayEndWalk}
 use Rattle.run_answers.specs.Meanings.{Meaning}
 
@@ -28,12 +29,13 @@ pub record IsRecovered (words : RecoverWords) (file : List ℕ) (answer : Answer
       ++ puts_to Notes (stopped_text (refused_in words.most events))
   pub status : answer.status ≡ walk_status (regions_in (walked words.most events)) (refused_in words.most events)
 
--- what was put so far: that of the events up to a place
-pub record IsRecoveredSoFar (words : RecoverWords) (file : List ℕ) (part : List Put) : Type 0 where
+-- what was put so far: that of the events up to a place. The pieces up to there and the one there account for what was handed out
+pub record IsRecoveredSoFar (words : RecoverWords) (before after : ℕ) (file : List ℕ) (part : List Put) : Type 0 where
   pub place : ℕ
   pub events : List Piece
   pub walked : IsWalkedTo false (MaySkip words.most) file place events
   pub puts : part ≡ flat_map (event_puts words.show.form) events
+  pub taken : IsTakenUpTo false file 0 place (after - before)
 
 -- what `show` means where it goes on past damage
 abbrev pub recover_meaning : RecoverWords → Meaning

@@ -53,7 +53,7 @@ fn recover_file<S: Store, O: Sink, E: Sink>(
     ensures printed { (made : Option (List ℕ)) → IfSome (S.bytes file.old) (λ bytes. HasPutAtEnd walk_ends (IsRecovered words.now) result bytes
         (taken_by made (O.taken out.old) (E.taken notes.old)) (taken_by made (O.taken out.new) (E.taken notes.new)) []) }
     ensures so_far { IsErrAnd result IsShort → ¬ Rose (O.faults out.old) (O.faults out.new) → (made : Option (List ℕ))
-        → IfSome (S.bytes file.old) (λ bytes. HasPutSoFar (IsRecoveredSoFar words.now bytes)
+        → IfSome (S.bytes file.old) (λ bytes. HasPutSoFar (IsRecoveredSoFar words.now (S.handed file.old) (S.handed file.new) bytes)
         (taken_by made (O.taken out.old) (E.taken notes.old)) (taken_by made (O.taken out.new) (E.taken notes.new)) []) }
     ensures said { TellsOf words.now.most result (E.taken notes.old) (E.taken notes.new) }
     ensures allowed { IsAllowedEnd (recover_meaning words.now) result (S.told file.new) }
@@ -96,7 +96,7 @@ fn print_events<F: Fn(&Region) -> bool + Drop, S: Store, O: Sink, E: Sink>(
     ensures printed { (made : Option (List ℕ)) → IfSome (S.bytes file.old) (λ bytes. HasPutAtEnd walk_ends (IsRecovered words.now) result bytes
         (taken_by made (O.taken out.old) (E.taken notes.old)) (taken_by made (O.taken out.new) (E.taken notes.new)) lines.new) }
     ensures so_far { IsErrAnd result IsShort → (made : Option (List ℕ))
-        → IfSome (S.bytes file.old) (λ bytes. HasPutSoFar (IsRecoveredSoFar words.now bytes)
+        → IfSome (S.bytes file.old) (λ bytes. HasPutSoFar (IsRecoveredSoFar words.now (S.handed file.old) (S.handed file.new) bytes)
         (taken_by made (O.taken out.old) (E.taken notes.old)) (taken_by made (O.taken out.new) (E.taken notes.new)) lines.new) }
     ensures said { TellsOf words.now.most result (E.taken notes.old) (E.taken notes.new) }
     ensures allowed { IsAllowedEnd (recover_meaning words.now) result (S.told file.new) }

@@ -1,4 +1,4 @@
-use Rattle.std.proofs.Common.{◌≡◌, ◌∙◌, ℕ, ◌+◌, ◌*◌, ◌≤◌, false, true, None, Some, Option, Ok, Err, IfSome, List, [], refl, sym, ap, subst, arith, rules}
+use Rattle.std.proofs.Common.{◌≡◌, ◌∙◌, ℕ, ◌+◌, ◌-◌, ◌*◌, ◌≤◌, false, true, None, Some, Option, Ok, Err, IfSome, List, [], inl, inr, refl, sym, ap, subst, arith, rules}
 use Rattle.std.specs.List.{AllByRecursion}
 use Rattle.std.proofs.lemmas.Result.{err_from_is_err_and}
 use Rattle.record_io.specs.Puts.{taken_by}
@@ -9,13 +9,18 @@ use Rattle.chunk_reader.specs.Reasons.{Applies, NoneOf, loading_reasons}
 use Rattle.chunk_reader.proofs.Rooms.{IsSized}
 use Rattle.damage_skip.specs.Policies.{IsAllowedRegion}
 use Rattle.damage_skip.specs.Steps.{IsOnward}
+use Rattle.damage_skip.specs.Takings.{IsTakenFrom, IsTakenUpTo}
+use Rattle.damage_skip.specs.declared.events.WalkEnd.{WalkEnd}
+use Rattle.damage_skip.proofs.Takings.{taken-front, called-on, called-to}
 use Rattle.damage_skip.specs.Walks.{piece_of, IsEventIn, IsAllowedEvent, IsRefusedStop, IsStop, IsStoppedAt, GoesOn, StandsIn, WalksOn, stop_of}
 use Rattle.damage_skip.specs.declared.regions.Region.{Region}
 use Rattle.repair_copy.specs.Copies.{next_place, HasSkipped, HasWalked}
 use Rattle.damage_skip.proofs.RegionsIn.{one_region}
 use Rattle.repair_copy.proofs.CopySteps.{fits, grows, next_place_small}
 use Rattle.repair_copy.proofs.DamagedRepairs.{repairs_damage}
-use Rattle.repair_copy.proofs.WalkedFiles.{walked_to_end, walked_next, cut_within, ends_at_end, ends_at_region, repairs_whole, repairs_stopped, repairs_unfinished, repairs_store, repairs_memory}
+use Rattle.repair_copy.proofs.ShortRepairs.{repairs-short, failed-not_short}
+use Rattle.repair_copy.proofs.WalkedFiles.{walked_none, walked_to_end, walked_next, cut_within, ends_at_end, ends_at_region, repairs_whole, repairs_stopped, repairs_unfinished, repairs_store, repairs_memory}
+use Rattle.repair_copy.proofs.FrontRepairs.{repairs_front}
 use Rattle.repair_copy.proofs.SkippedRegions.{regions_of, event_allowed, skipped_next, skips_cut, skips_stopped}
 use Rattle.repair_copy.proofs.repairs.repair.Goals as goal
 use Rattle.repair_copy.proofs.repairs.repair.Goals.{In-Ok-Some, In_ok-put-in-Ok-Some, In-Err-Stopped, After-next}
@@ -126,6 +131,8 @@ preserved : (g : _) (c : In_ok-put-in-Ok-Some g)
       small : c.put.new.self.file.place ≤ 64 + 2 * c.next.new.self.progress.place;
       few : c.put.new.self.regions ≤ c.next.new.self.progress.place;
       store : OnlyAsks g.S.Store.bytes g.S.Store.told g.S.Store.name g.S.Store.faults ⊥ c.args.store.now c.next.new.store;
+      taken : IfSome (g.S.Store.bytes c.args.store.now) (λ file. IsTakenFrom true file 0 c.next.new.self.progress.place
+          (g.S.Store.handed c.next.new.store - g.S.Store.handed c.args.store.now));
       made : OnlyCounts g.M.Sink.lent g.M.Sink.faults ⊥ c.args.made.now c.put.new.made;
       notes : OnlyCounts g.E.Sink.lent g.E.Sink.faults ⊥ c.args.notes.now c.put.new.notes;
     }
@@ -147,6 +154,8 @@ preserved g c given on passed =
       small = small g c given.bounds;
       few = few g c given.bounds;
       store = search rules;
+      taken = called-on _ _ c.loop-event.walker.progress.keep true 0 c.loop-event.walker.progress.place c.next.new.self.progress.place _
+          (Some c.in-Ok-Some.event) _ _ _ kept.store.same_bytes kept.keeps (ap Ok c.in-Ok-Some.field-0-is) kept.taken e.takes;
       made = search rules;
       notes = search rules;
     }
@@ -309,3 +318,65 @@ returns-in-Err-Store-clause-damaged g c = repairs_damage g.F.Fn c.args.policy.te
 
 pub returns-in-Err-Memory-clause-damaged : goal.returns-in-Err-Memory-clause-damaged
 returns-in-Err-Memory-clause-damaged g c = repairs_damage g.F.Fn c.args.policy.test _ _ _ _ _ _ (returns-in-Err-Memory-clause-repairs g c)
+
+pub returns-in_err-put-in-Ok-Some-clause-cut_short : goal.returns-in_err-put-in-Ok-Some-clause-cut_short
+returns-in_err-put-in-Ok-Some-clause-cut_short g c =
+    let p = err_from_is_err_and c.from_residual.result c.from_residual.ensures.1 in
+    λ short. absurd (failed-not_short c.in_err-put-in-Ok-Some.field-0.0 c.from_residual.result (p.1 ∙ ap Err p.2) short)
+
+pub returns-in_err-finish-in-Ok-None-clause-cut_short : goal.returns-in_err-finish-in-Ok-None-clause-cut_short
+returns-in_err-finish-in-Ok-None-clause-cut_short g c =
+    let p = err_from_is_err_and c.from_residual-in_err-finish-in-Ok-None.result c.from_residual-in_err-finish-in-Ok-None.ensures.1 in
+    λ short. absurd (failed-not_short c.in_err-finish-in-Ok-None.field-0.0 c.from_residual-in_err-finish-in-Ok-None.result (p.1 ∙ ap Err p.2) short)
+
+pub returns-in_err-finish-in-Err-Stopped-clause-cut_short : goal.returns-in_err-finish-in-Err-Stopped-clause-cut_short
+returns-in_err-finish-in-Err-Stopped-clause-cut_short g c =
+    let p = err_from_is_err_and c.from_residual-in_err-finish-in-Err-Stopped.result c.from_residual-in_err-finish-in-Err-Stopped.ensures.1 in
+    λ short. absurd (failed-not_short c.in_err-finish-in-Err-Stopped.field-0.0 c.from_residual-in_err-finish-in-Err-Stopped.result (p.1 ∙ ap Err p.2) short)
+
+pub returns-in-Err-Store-clause-cut_short : goal.returns-in-Err-Store-clause-cut_short
+returns-in-Err-Store-clause-cut_short g c = λ short.
+    let kept = c.loop-event.invariant in
+    let at = goal.at.returns-in-Err-Store-clause-cut_short g c in
+    repairs-short g.F.Fn c.args.policy.test _ c.next.new.self.progress.place c.loop-event.copied _ _ _ _ _ _ _ kept.made.never_falls
+    (ended g at.After-next c.in-Err-Store.ensures.goes_on.past)
+    (λ before events. c.break_off.ensures.put before (g.E.Sink.taken c.loop-event.notes) events)
+    (called-to _ _ c.loop-event.walker.progress.keep true 0 c.loop-event.walker.progress.place c.next.new.self.progress.place _ _ _ _ _
+    kept.store.same_bytes kept.keeps (ap Err c.in-Err-Store.field-0-is) kept.taken c.in-Err-Store.ensures.takes)
+
+pub returns-in-Err-Memory-clause-cut_short : goal.returns-in-Err-Memory-clause-cut_short
+returns-in-Err-Memory-clause-cut_short g c = λ short.
+    let kept = c.loop-event.invariant in
+    let at = goal.at.returns-in-Err-Memory-clause-cut_short g c in
+    repairs-short g.F.Fn c.args.policy.test _ c.next.new.self.progress.place c.loop-event.copied _ _ _ _ _ _ _ kept.made.never_falls
+    (ended g at.After-next c.in-Err-Memory.ensures.goes_on.past)
+    (λ before events. c.break_off-in-Err-Memory.ensures.put before (g.E.Sink.taken c.loop-event.notes) events)
+    (called-to _ _ c.loop-event.walker.progress.keep true 0 c.loop-event.walker.progress.place c.next.new.self.progress.place _ _ _ _ _
+    kept.store.same_bytes kept.keeps (ap Err c.in-Err-Memory.field-0-is) kept.taken c.in-Err-Memory.ensures.takes)
+
+pub returns-in-Ok-None-clause-cut_short : goal.returns-in-Ok-None-clause-cut_short
+returns-in-Ok-None-clause-cut_short g c = λ short. elim short [ inl store ↦ absurd (cc store) | inr memory ↦ absurd (cc memory) ]
+
+pub returns-in-Err-Stopped-clause-cut_short : goal.returns-in-Err-Stopped-clause-cut_short
+returns-in-Err-Stopped-clause-cut_short g c = λ short. elim short [ inl store ↦ absurd (cc store) | inr memory ↦ absurd (cc memory) ]
+
+pub returns-in_err-put-in-Ok-Some-clause-cut : goal.returns-in_err-put-in-Ok-Some-clause-cut
+returns-in_err-put-in-Ok-Some-clause-cut g c = repairs_front g.F.Fn c.args.policy.test _ _ _ _ _ _ (returns-in_err-put-in-Ok-Some-clause-repairs g c)
+
+pub returns-in_err-finish-in-Ok-None-clause-cut : goal.returns-in_err-finish-in-Ok-None-clause-cut
+returns-in_err-finish-in-Ok-None-clause-cut g c = repairs_front g.F.Fn c.args.policy.test _ _ _ _ _ _ (returns-in_err-finish-in-Ok-None-clause-repairs g c)
+
+pub returns-in-Ok-None-clause-cut : goal.returns-in-Ok-None-clause-cut
+returns-in-Ok-None-clause-cut g c = repairs_front g.F.Fn c.args.policy.test _ _ _ _ _ _ (returns-in-Ok-None-clause-repairs g c)
+
+pub returns-in_err-finish-in-Err-Stopped-clause-cut : goal.returns-in_err-finish-in-Err-Stopped-clause-cut
+returns-in_err-finish-in-Err-Stopped-clause-cut g c = repairs_front g.F.Fn c.args.policy.test _ _ _ _ _ _ (returns-in_err-finish-in-Err-Stopped-clause-repairs g c)
+
+pub returns-in-Err-Stopped-clause-cut : goal.returns-in-Err-Stopped-clause-cut
+returns-in-Err-Stopped-clause-cut g c = repairs_front g.F.Fn c.args.policy.test _ _ _ _ _ _ (returns-in-Err-Stopped-clause-repairs g c)
+
+pub returns-in-Err-Store-clause-cut : goal.returns-in-Err-Store-clause-cut
+returns-in-Err-Store-clause-cut g c = repairs_front g.F.Fn c.args.policy.test _ _ _ _ _ _ (returns-in-Err-Store-clause-repairs g c)
+
+pub returns-in-Err-Memory-clause-cut : goal.returns-in-Err-Memory-clause-cut
+returns-in-Err-Memory-clause-cut g c = repairs_front g.F.Fn c.args.policy.test _ _ _ _ _ _ (returns-in-Err-Memory-clause-repairs g c)

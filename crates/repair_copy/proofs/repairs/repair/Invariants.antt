@@ -2,6 +2,7 @@ use Rattle.std.proofs.Common.{◌≡◌, ◌-◌, ◌*◌, ◌+◌, ◌≤◌, f
 use Rattle.record_io.specs.Puts.{taken_by}
 use Rattle.record_io.specs.Calls.{OnlyAsks, OnlyCounts}
 use Rattle.record_writer.specs.Progresses.{nothing_made}
+use Rattle.damage_skip.specs.Takings.{IsTakenFrom}
 use Rattle.damage_skip.specs.Walks.{StandsIn}
 use Rattle.repair_copy.specs.Copies.{HasSkipped, HasWalked}
 use Rattle.repair_copy.proofs.repairs.repair.Given as goal
@@ -22,6 +23,7 @@ invariant-loop-event g l = record {
   small : l.copied.file.place ≤ 64 + 2 * l.walker.progress.place;
   few : l.copied.regions ≤ l.walker.progress.place;
   store : OnlyAsks g.S.Store.bytes g.S.Store.told g.S.Store.name g.S.Store.faults ⊥ l.fn.store l.store;
+  taken : IfSome (g.S.Store.bytes l.fn.store) (λ file. IsTakenFrom true file 0 l.walker.progress.place (g.S.Store.handed l.store - g.S.Store.handed l.fn.store));
   made : OnlyCounts g.M.Sink.lent g.M.Sink.faults ⊥ l.fn.made l.made;
   notes : OnlyCounts g.E.Sink.lent g.E.Sink.faults ⊥ l.fn.notes l.notes;
 }

@@ -4,6 +4,7 @@ use Rattle.damage_skip.specs.Policies.{IsTest}
 use Rattle.damage_skip.specs.Walkers.{progress_of, test_of}
 use Rattle.damage_skip.specs.Bounds.{may_skip}
 use Rattle.damage_skip.specs.Walks.{StandsIn, stop_of}
+use Rattle.damage_skip.proofs.Takings.{taken-front, called-on, called-to}
 use Rattle.show_damaged.proofs.RecoverSteps.{after-ok}
 use Rattle.damage_skip.specs.declared.events.WalkEnd.TheVariants.{Stopped}
 use Rattle.damage_skip.specs.declared.regions.Region.{Region}
@@ -26,6 +27,7 @@ loop-event-init g c = record {
   given = λ made. given-none c.args.words.now _ _ _ _ c.requires.at_front c.requires.none_held;
   told_of = ([], record { may = tt; says = Takes-nothing _ }, refl);
   kept = λ _. refl;
+  taken = taken-front _ false _ _ c.requires.at_front (omega arith);
   out = search rules;
   notes = search rules;
 }
@@ -57,7 +59,13 @@ returns-in-Err-clause-printed g c = λ made.
 
 pub returns-in-Err-clause-so_far : goal.returns-in-Err-clause-so_far
 returns-in-Err-clause-so_far g c = λ short made.
-    step-so_far c.args.words.now _ (progress_of c.loop-event.walker).place _ _ _ c.loop-event.status (c.loop-event.invariant.given made)
+    step-so_far c.args.words.now _ (progress_of c.loop-event.walker).place (progress_of c.next.new.self).place _ _ _ c.loop-event.status c.in-Err.end _ _
+    (c.loop-event.invariant.given made)
+    (goes-same _ _ _ _ _ (Err c.in-Err.end) (Err c.in-Err.end) c.loop-event.invariant.file.same_bytes c.loop-event.invariant.not_kept refl
+    c.in-Err.ensures.goes_on.past)
+    (called-to _ _ (progress_of c.loop-event.walker).keep false 0 (progress_of c.loop-event.walker).place (progress_of c.next.new.self).place
+    (Err c.in-Err.end) c.in-Err.end _ _ _ c.loop-event.invariant.file.same_bytes c.loop-event.invariant.not_kept refl c.loop-event.invariant.taken
+    c.in-Err.ensures.takes)
 
 pub returns-in-Err-clause-said : goal.returns-in-Err-clause-said
 returns-in-Err-clause-said g c =
@@ -153,6 +161,9 @@ loop-event-preserved g c =
       kept = λ is.
           let before = after-ok c.loop-event.status c.in-Ok-Some.event (sym c.in_ok-status-in-Ok-Some.ensures.status ∙ is) in
           c.in_ok-status-in-Ok-Some.ensures.quiet before.1 ∙ c.loop-event.invariant.kept before.0;
+      taken = called-on _ _ (progress_of c.loop-event.walker).keep false 0 (progress_of c.loop-event.walker).place (progress_of c.next.new.self).place _
+          (Some c.in-Ok-Some.event) _ _ _ c.loop-event.invariant.file.same_bytes c.loop-event.invariant.not_kept (ap Ok c.in-Ok-Some.field-0-is)
+          c.loop-event.invariant.taken asked.takes;
       out = search rules;
       notes = search rules;
     }

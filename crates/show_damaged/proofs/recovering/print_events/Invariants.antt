@@ -2,6 +2,7 @@ use Rattle.std.proofs.Common.{◌≡◌, ℕ, ◌-◌, false, Option, None, IfSo
 use Rattle.record_io.specs.Puts.{taken_by}
 use Rattle.record_io.specs.Calls.{OnlyAsks, OnlyCounts}
 use Rattle.damage_skip.specs.Walkers.{progress_of, test_of}
+use Rattle.damage_skip.specs.Takings.{IsTakenFrom}
 use Rattle.damage_skip.specs.Walks.{StandsIn}
 use Rattle.show_damaged.specs.RecoverProgress.{IsGivenTo}
 use Rattle.show_damaged.specs.WalkAnswers.{walk_status}
@@ -22,6 +23,7 @@ invariant-loop-event g l = record {
       (taken_by made (g.O.Sink.taken l.fn.out) (g.E.Sink.taken l.fn.notes)) (taken_by made (g.O.Sink.taken l.out) (g.E.Sink.taken l.notes)) l.lines l.status);
   told_of : (skipped : List Region) × HasToldOf l.words.most (g.E.Sink.taken l.fn.notes) (g.E.Sink.taken l.notes) skipped × (l.status ≡ walk_status skipped None);
   kept : l.status ≡ status.Ok → l.notes ≡ l.fn.notes;
+  taken : IfSome (g.S.Store.bytes l.fn.file) (λ file. IsTakenFrom false file 0 (progress_of l.walker).place (g.S.Store.handed l.file - g.S.Store.handed l.fn.file));
   out : OnlyCounts g.O.Sink.lent g.O.Sink.faults ⊥ l.fn.out l.out;
   notes : OnlyCounts g.E.Sink.lent g.E.Sink.faults ⊥ l.fn.notes l.notes;
 }

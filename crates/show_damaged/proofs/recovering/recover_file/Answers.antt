@@ -34,12 +34,13 @@ returns-in_err-size-clause-said g c =
 
 pub returns-in_err-size-clause-so_far : goal.returns-in_err-size-clause-so_far
 returns-in_err-size-clause-so_far g c = λ short sound made.
-    so_far-nothing (IsRecoveredSoFar c.args.words.now) _ _ (recovered-none c.args.words.now)
+    so_far-nothing (IsRecoveredSoFar c.args.words.now _ _) _ _ (recovered-none c.args.words.now _ _ c.in_err-size.ensures.same_handed)
 
 pub returns-in-Ok-clause-so_far : goal.returns-in-Ok-clause-so_far
 returns-in-Ok-clause-so_far g c = λ short sound made.
-    so_far-flushed (IsRecoveredSoFar c.args.words.now) _ _ (taken_by made (g.O.Sink.taken c.args.out.now) (g.E.Sink.taken c.args.notes.now)) made _ _ _ _
-    c.in_ok-size.ensures.same_bytes (c.print_events-walked.ensures.so_far short made) c.in-Ok.ensures.sink.whole
+    rw (← c.in_ok-size.ensures.same_handed)
+    (so_far-flushed (IsRecoveredSoFar c.args.words.now _ _) _ _ (taken_by made (g.O.Sink.taken c.args.out.now) (g.E.Sink.taken c.args.notes.now)) made _ _ _ _
+    c.in_ok-size.ensures.same_bytes (c.print_events-walked.ensures.so_far short made) c.in-Ok.ensures.sink.whole)
 
 pub returns-in-Err-clause-so_far : goal.returns-in-Err-clause-so_far
 returns-in-Err-clause-so_far g c = λ short sound.
