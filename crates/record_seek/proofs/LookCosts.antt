@@ -1,5 +1,5 @@
 -- What a look at the first record from a chunk on takes of a file of chunks.
-use Rattle.std.proofs.Common.{◌≡◌, ◌∙◌, ℕ, zero, suc, ◌+◌, ◌^◌, ◌≤◌, ◌==◌, cond, Option, Some, None, IfSome, List, [], ◌∷◌, length, take, drop, sym, ap, subst, arith}
+use Rattle.std.proofs.Common.{◌≡◌, ◌∙◌, ℕ, zero, suc, ◌+◌, ◌^◌, ◌≤◌, ◌==◌, cond, Option, Some, None, IfSome, List, [], ◌∷◌, length, take, drop, sym, ap, subst, inl, inr, arith}
 use Rattle.std.specs.Prelude.{slice_get}
 use Rattle.std.proofs.lemmas.List.{drop_more}
 use Rattle.std.proofs.lemmas.List.Sums.{sum_by-cons}
@@ -17,9 +17,7 @@ use Rattle.chunk_reader.proofs.Blocks.{stands_within}
 use Rattle.chunk_reader.proofs.HeadersTell.{passed_below, stands_below, told_end, told_records, told_is, places_are, lies_of}
 use Rattle.chunk_reader.proofs.Rooms.{IsSized}
 use Rattle.record_seek.specs.Met.{HaveNoRecords}
-use Rattle.record_seek.specs.Steps.{IsPassedAt, look_bound}
-use Rattle.record_seek.specs.declared.passes.Passed.{Passed}
-use Rattle.record_seek.proofs.ReadingOn.{IsEmptyTo}
+use Rattle.record_seek.specs.Steps.{IsPaidOn, look_bound}
 use Rattle.record_seek.proofs.Ways.{same_told}
 
 -- chunks without records are counted chunk by chunk
@@ -71,56 +69,28 @@ module _ (ks : List ChunkValue) (file : List ℕ) (frame : IsFrame ks file) wher
       (subst (λ (p : ℕ). ArePlacesBetween file p to places) (told_end ks file frame h k.0 k.1) rest) none.1 in
       omega (arith, more, on)
 
-  few_empties : (begin place spent now h : ℕ) (empty : IsEmptyTo file begin place spent now) → begin ≡ begin_of ks h
-      → length empty.places ≤ chunks_without_records ks
-  few_empties begin place spent now h empty is =
-      omega (
-        arith,
-        empties_within empty.places h place (subst (λ (p : ℕ). ArePlacesBetween file p place empty.places) is empty.between) empty.none,
-        without_drop ks h,
-      )
-
   -- the chunk at the place behind them is no longer than the longest
-  end_near : (begin place spent now h : ℕ) (empty : IsEmptyTo file begin place spent now) → begin ≡ begin_of ks h → h ≤ length ks
+  end_near : (places : List ℕ) (h place : ℕ) → h ≤ length ks → ArePlacesBetween file (begin_of ks h) place places
       → NoneOf (Applies file place) unpassed_reasons → end_at file place ≤ place + greatest_length_from 0 ks
-  end_near begin place spent now h empty is inside none =
-      let there = places_are ks file frame empty.places h place inside (subst (λ (p : ℕ). ArePlacesBetween file p place empty.places) is empty.between) in
-      let j : ℕ = h + length empty.places in
+  end_near places h place inside between none =
+      let there = places_are ks file frame places h place inside between in
+      let j : ℕ = h + length places in
       let k = stands_below ks file frame j (omega (arith, there.1, passed_below file place none)) in
       let end : end_at file place ≡ begin_of ks (j + 1) = ap (end_at file) there.1 ∙ told_end ks file frame j k.0 k.1 in
       omega (arith, end, there.1, longest ks j k.0 k.1)
 
--- so much a look takes
-abbrev pub LookTakes : (begin spent now : ℕ) → List ℕ → Type 0
-LookTakes begin spent now file =
-    (ks : List ChunkValue) (h : ℕ) → IsFrame ks file → begin ≡ begin_of ks h → h ≤ length ks → now ≤ spent + look_bound ks
+  -- so much a look takes
+  look_takes : (h begin spent now : ℕ) → begin ≡ begin_of ks h → h ≤ length ks → IsPaidOn begin spent now file → now ≤ spent + look_bound ks
+  look_takes h begin spent now is inside on =
+      let between : ArePlacesBetween file (begin_of ks h) on.place on.places =
+      subst (λ (p : ℕ). ArePlacesBetween file p on.place on.places) is on.between in
+      let few = empties_within on.places h on.place between on.none_before in
+      elim on.paid [
+        | inl header ↦ omega (arith, header, few, without_drop ks h)
+        | inr (none, some, chunk) ↦ omega (arith, chunk, few, without_drop ks h, end_near on.places h on.place inside between none)
+      ]
 
-pub look-header : (bytes : Option (List ℕ)) (begin place spent now then : ℕ) → IfSome bytes (λ file. IsEmptyTo file begin place spent now)
-    → then ≤ now + 40 → IfSome bytes (LookTakes begin spent then)
-look-header None begin place spent now then empty more = tt
-look-header (Some file) begin place spent now then empty more =
-    λ ks h frame is inside. omega (arith, more, empty.paid, few_empties ks file frame begin place spent now h empty is)
-
-pub look-record : (bytes bytes_now bytes_then : Option (List ℕ)) (begin place : ℕ) (chunk : Passed) (spent now then last : ℕ) → bytes_now ≡ bytes
-    → bytes_then ≡ bytes → IfSome bytes (λ file. IsEmptyTo file begin place spent now) → IfSome bytes_now (λ file. IsPassedAt file place chunk)
-    → then ≤ now + 40
-    → IfSome bytes_then (λ file. NoneOf (Applies file place) unpassed_reasons → last + place ≤ then + end_at file place)
-    → IfSome bytes (LookTakes begin spent last)
-look-record None bytes_now bytes_then begin place chunk spent now then last same also empty passed more read = tt
-look-record (Some file) bytes_now bytes_then begin place chunk spent now then last same also empty passed more read =
-    let here : IsPassedAt file place chunk = same_told (λ f. IsPassedAt f place chunk) (Some file) bytes_now same passed in
-    let whole = same_told (λ f. NoneOf (Applies f place) unpassed_reasons → last + place ≤ then + end_at f place) (Some file) bytes_then also read in
-    λ ks h frame is inside.
-    omega (
-      arith,
-      more,
-      empty.paid,
-      few_empties ks file frame begin place spent now h empty is,
-      end_near ks file frame begin place spent now h empty is inside here.none,
-      whole here.none,
-    )
-
--- and so much with the header of the block that tells where to look
+-- with the header of the block that tells where to look
 abbrev pub BlockTakes : (spent now : ℕ) → List ℕ → Type 0
 BlockTakes spent now file = (ks : List ChunkValue) → IsFrame ks file → now ≤ spent + (24 + look_bound ks)
 
@@ -129,13 +99,13 @@ block-takes None spent now more = tt
 block-takes (Some file) spent now more = λ ks frame. omega (arith, more)
 
 pub told-takes : (bytes bytes_now : Option (List ℕ)) (size block begin spent now then : ℕ) → bytes_now ≡ bytes → IsSized bytes (Some size)
-    → size ≤ 2 ^ 60 → IfSome bytes (λ file. TellsBegin file block begin) → now ≤ spent + 24 → IfSome bytes_now (LookTakes begin now then)
+    → size ≤ 2 ^ 60 → IfSome bytes (λ file. TellsBegin file block begin) → now ≤ spent + 24 → IfSome bytes_now (IsPaidOn begin now then)
     → IfSome bytes (BlockTakes spent then)
 told-takes None bytes_now size block begin spent now then same sized reach told more look = tt
 told-takes (Some file) bytes_now size block begin spent now then same sized reach told more look =
-    let takes : LookTakes begin now then file = same_told (LookTakes begin now then) (Some file) bytes_now same look in
+    let on : IsPaidOn begin now then file = same_told (IsPaidOn begin now then) (Some file) bytes_now same look in
     let (previous, next, stands, is) = told in
     λ ks frame.
     let holder = lies_of ks file frame block (omega (arith, stands_within file block previous next stands)) in
     let begins = told_is ks file frame block begin holder.0 (omega (arith, sized, reach)) stands.is_block holder.1 told in
-    omega (arith, more, takes ks holder.0 frame begins (omega (arith, holder.1.number)))
+    omega (arith, more, look_takes ks file frame holder.0 begin now then begins (omega (arith, holder.1.number)) on)

@@ -1,5 +1,5 @@
 -- What reading on from chunk to chunk takes of a file of chunks.
-use Rattle.std.proofs.Common.{◌≡◌, ◌∙◌, ℕ, zero, suc, ◌+◌, ◌<◌, ◌≤◌, Option, Some, None, IfSome, List, get_or, refl, sym, ap, subst, inl, inr, add-one, arith}
+use Rattle.std.proofs.Common.{◌≡◌, ◌∙◌, ℕ, zero, suc, ◌+◌, ◌*◌, ◌<◌, ◌≤◌, Option, Some, None, IfSome, List, [], ◌∷◌, length, get_or, refl, sym, ap, subst, inl, inr, add-one, arith}
 use Rattle.std.specs.Prelude.{slice_get}
 use Rattle.std.proofs.lemmas.Bool.{cases_lt}
 use Rattle.std.proofs.lemmas.Option.{same_Some, slice_get_within, get_or_from_slice_get}
@@ -8,13 +8,15 @@ use Rattle.chunk_header.specs.SimpleChunks.{IsSimple}
 use Rattle.chunk_header.proofs.OneList.{records_are_one}
 use Rattle.meta_chunk.specs.Files.{IsFrame, begin_of, signature}
 use Rattle.meta_chunk.proofs.Begins.{begin_of_rises_by}
+use Rattle.chunk_reader.specs.Holders.{ArePlacesBetween}
 use Rattle.chunk_reader.specs.Places.{header_at, end_at, chunk_at}
-use Rattle.chunk_reader.specs.Reasons.{Applies, NoneOf, unpassed_reasons}
 use Rattle.chunk_reader.specs.SearchBounds.{length_of_chunk}
 use Rattle.chunk_reader.proofs.HeadersTell.{laid_at, stands_below, passed_below, told_end, told_records}
 use Rattle.chunk_reader.proofs.LaidAt.{chunk_at-laid}
-use Rattle.record_seek.specs.Steps.{IsPassedAt, IsFirstNotAt, EndsReading, cost_of_chunk, reading_cost}
+use Rattle.record_seek.specs.Met.{HaveNoRecords}
+use Rattle.record_seek.specs.Steps.{IsPassedAt, IsFirstNot, IsFirstHeld, IsNextHeld, IsPaidOn, EndsReading, cost_of_chunk, reading_cost}
 use Rattle.record_seek.specs.declared.chunk_records.Found.{Found}
+use Rattle.record_seek.specs.declared.chunk_records.Held.{Held}
 use Rattle.record_seek.specs.declared.passes.Passed.{Passed}
 use Rattle.record_seek.proofs.Ways.{same_told}
 
@@ -127,62 +129,69 @@ module _ (Before : List ℕ → Type 0) (file : List ℕ) (begin place : ℕ) (c
         cost_rises ks (j + 1) (to + 1) (omega (arith, order)),
       )
 
-pub paid_read-empty : (Before : List ℕ → Type 0) (bytes bytes_now : Option (List ℕ)) (begin place : ℕ) (chunk : Passed) (spent now then : ℕ) → bytes_now ≡ bytes
-    → IfSome bytes (IsPaidRead Before begin place spent now) → IfSome bytes_now (λ file. IsPassedAt file place chunk) → chunk.num_records ≤ 0
-    → then ≤ now + 40 → IfSome bytes (IsPaidRead Before begin chunk.end spent then)
-paid_read-empty Before None bytes_now begin place chunk spent now then same paid passed few more = tt
-paid_read-empty Before (Some file) bytes_now begin place chunk spent now then same paid passed few more =
-    let here : IsPassedAt file place chunk = same_told (λ f. IsPassedAt f place chunk) (Some file) bytes_now same passed in
-    next_read Before file begin place chunk spent now paid here then
+-- past chunks without records
+paid_empties : (Before : List ℕ → Type 0) (file : List ℕ) (begin place to spent now then : ℕ) (places : List ℕ) → IsPaidRead Before begin place spent now file
+    → ArePlacesBetween file place to places → HaveNoRecords file places → then ≤ now + 40 * length places
+    → IsPaidRead Before begin to spent then file
+paid_empties Before file begin place to spent now then [] paid same none more =
+    λ ks h last frame is inside ends.
+    let (j, at, order, cost) = paid ks h last frame is inside ends in
+    (j, sym same ∙ at, order, omega (arith, cost, more))
+paid_empties Before file begin place to spent now then (p ∷ places) paid (same, passed, rest) none more =
+    let few : (header_at file place).num_records ≡ 0 = ap (λ (q : ℕ). (header_at file q).num_records) (sym same) ∙ none.0 in
+    let past : IsPaidRead Before begin (end_at file place) spent (now + 40) file =
+    next_read Before file begin place (record { end = end_at file place; num_records = (header_at file place).num_records }) spent now paid
+    (record { none = passed; end = refl; num_records = refl }) (now + 40)
     (λ k records r there simple first.
-    absurd (omega (arith, few, here.num_records, ap (λ (c : ChunkValue). c.num_records) there, simple.num_records, slice_get_within records 0 r first)))
-    (λ size end. omega (arith, more, cost_least chunk.num_records size))
+    absurd (omega (arith, few, ap (λ (c : ChunkValue). c.num_records) there, simple.num_records, slice_get_within records 0 r first)))
+    (λ size end. omega (arith, cost_least (header_at file place).num_records size)) in
+    paid_empties Before file begin (end_at file place) to spent (now + 40) then places past rest none.1 (omega (arith, more))
 
-pub paid_read-records : (Before : List ℕ → Type 0) (bytes bytes_now bytes_then : Option (List ℕ)) (begin place : ℕ) (chunk : Passed) (found : Option Found) (spent now then last : ℕ)
-    → bytes_now ≡ bytes → bytes_then ≡ bytes → IfSome bytes (IsPaidRead Before begin place spent now)
-    → IfSome bytes_now (λ file. IsPassedAt file place chunk) → 0 < chunk.num_records → then ≤ now + 40 → found ≡ None
-    → IfSome bytes_then (λ file. IsFirstNotAt Before file place found)
-    → IfSome bytes_then (λ file. NoneOf (Applies file place) unpassed_reasons → last + place ≤ then + end_at file place)
-    → IfSome bytes (IsPaidRead Before begin chunk.end spent last)
-paid_read-records Before None bytes_now bytes_then begin place chunk found spent now then last same also paid passed some more is first read = tt
-paid_read-records Before (Some file) bytes_now bytes_then begin place chunk found spent now then last same also paid passed some more is first read =
-    let here : IsPassedAt file place chunk = same_told (λ f. IsPassedAt f place chunk) (Some file) bytes_now same passed in
-    let whole = same_told (λ f. NoneOf (Applies f place) unpassed_reasons → last + place ≤ then + end_at f place) (Some file) bytes_then also read in
-    let (none, (records, kind, all)) =
-    subst (IsFirstNotAt Before file place) is (same_told (λ f. IsFirstNotAt Before f place found) (Some file) bytes_then also first) in
-    next_read Before file begin place chunk spent now paid here last
-    (λ k others r there simple stands.
-    elim kind [
-      | inl held ↦
-          let one : others ≡ records = records_are_one k others records simple (subst (λ (c : ChunkValue). IsSimple c records) there held) in
-          all 0 r (subst (λ (rs : List (List ℕ)). slice_get rs 0 ≡ Some r) one stands)
-      | inr few ↦ absurd (omega (arith, some, few, here.num_records))
-    ])
-    (λ size end. omega (arith, more, whole here.none, end, cost_whole chunk.num_records size some))
+-- past the first chunk with records, which stand before
+pub paid_read-records : (Before : List ℕ → Type 0) (bytes bytes_now : Option (List ℕ)) (begin place : ℕ) (next : Option Held) (held : Held) (found : Option Found) (spent now then : ℕ)
+    → bytes_now ≡ bytes → IfSome bytes (IsPaidRead Before begin place spent now) → next ≡ Some held
+    → IfSome bytes_now (λ file. IsNextHeld file place now then next) → found ≡ None → IsFirstNot Before held.records held.begin found
+    → IfSome bytes (IsPaidRead Before begin held.end spent then)
+paid_read-records Before None bytes_now begin place next held found spent now then same paid is first none not = tt
+paid_read-records Before (Some file) bytes_now begin place next held found spent now then same paid is first none not =
+    let there : IsFirstHeld file place now then held =
+    subst (IsNextHeld file place now then) is (same_told (λ f. IsNextHeld f place now then next) (Some file) bytes_now same first) in
+    let all : IsFirstNot Before held.records held.begin None = subst (IsFirstNot Before held.records held.begin) none not in
+    let come =
+    paid_empties Before file begin place held.begin spent now (now + 40 * length there.places) there.places paid there.between there.none_before
+    (omega arith) in
+    let some : 0 < (header_at file held.begin).num_records = omega (arith, there.some, there.holds.holds.num_records) in
+    next_read Before file begin held.begin (record { end = held.end; num_records = (header_at file held.begin).num_records }) spent
+    (now + 40 * length there.places) come (record { none = there.whole; end = there.end; num_records = refl }) then
+    (λ k others r at simple stands.
+    let one : others ≡ held.records =
+    records_are_one k others held.records simple (subst (λ (c : ChunkValue). IsSimple c held.records) at there.holds.holds) in
+    all 0 r (subst (λ (rs : List (List ℕ)). slice_get rs 0 ≡ Some r) one stands))
+    (λ size end. omega (arith, there.paid, there.end, end, cost_whole (header_at file held.begin).num_records size some))
 
-pub reading-header : (Before : List ℕ → Type 0) (bytes : Option (List ℕ)) (begin place spent now then : ℕ)
-    → IfSome bytes (IsPaidRead Before begin place spent now) → then ≤ now + 40 → IfSome bytes (ReadingTakes Before begin spent then)
-reading-header Before None begin place spent now then paid more = tt
-reading-header Before (Some file) begin place spent now then paid more =
-    λ ks h to frame is inside ends.
-    let (j, at, order, cost) = paid ks h to frame is inside ends in
-    omega (
-      arith,
-      cost,
-      more,
-      cost_rises ks j to order,
-      cost_step ks to,
-      cost_least (get_or ks to signature).num_records (length_of_chunk ks to),
-    )
-
-pub reading-record : (Before : List ℕ → Type 0) (bytes bytes_now bytes_then : Option (List ℕ)) (begin place : ℕ) (chunk : Passed) (spent now then last : ℕ)
-    → bytes_now ≡ bytes → bytes_then ≡ bytes → IfSome bytes (IsPaidRead Before begin place spent now)
-    → IfSome bytes_now (λ file. IsPassedAt file place chunk) → 0 < chunk.num_records → then ≤ now + 40
-    → IfSome bytes_then (λ file. NoneOf (Applies file place) unpassed_reasons → last + place ≤ then + end_at file place)
-    → IfSome bytes (ReadingTakes Before begin spent last)
-reading-record Before None bytes_now bytes_then begin place chunk spent now then last same also paid passed some more read = tt
-reading-record Before (Some file) bytes_now bytes_then begin place chunk spent now then last same also paid passed some more read =
-    let here : IsPassedAt file place chunk = same_told (λ f. IsPassedAt f place chunk) (Some file) bytes_now same passed in
-    let whole = same_told (λ f. NoneOf (Applies f place) unpassed_reasons → last + place ≤ then + end_at f place) (Some file) bytes_then also read in
-    last_read Before file begin place chunk spent now paid here last
-    (λ size end. omega (arith, more, whole here.none, end, cost_whole chunk.num_records size some))
+-- and it goes no further
+pub reading-on : (Before : List ℕ → Type 0) (bytes bytes_now : Option (List ℕ)) (begin place spent now then : ℕ) → bytes_now ≡ bytes
+    → IfSome bytes (IsPaidRead Before begin place spent now) → IfSome bytes_now (IsPaidOn place now then)
+    → IfSome bytes (ReadingTakes Before begin spent then)
+reading-on Before None bytes_now begin place spent now then same paid more = tt
+reading-on Before (Some file) bytes_now begin place spent now then same paid more =
+    let on : IsPaidOn place now then file = same_told (IsPaidOn place now then) (Some file) bytes_now same more in
+    let come =
+    paid_empties Before file begin place on.place spent now (now + 40 * length on.places) on.places paid on.between on.none_before (omega arith) in
+    elim on.paid [
+      | inl header ↦
+          λ ks h to frame is inside ends.
+          let (j, at, order, cost) = come ks h to frame is inside ends in
+          omega (
+            arith,
+            cost,
+            header,
+            cost_rises ks j to order,
+            cost_step ks to,
+            cost_least (get_or ks to signature).num_records (length_of_chunk ks to),
+          )
+      | inr (none, some, chunk) ↦
+          last_read Before file begin on.place (record { end = end_at file on.place; num_records = (header_at file on.place).num_records }) spent
+          (now + 40 * length on.places) come (record { none = none; end = refl; num_records = refl }) then
+          (λ size end. omega (arith, chunk, end, cost_whole (header_at file on.place).num_records size some))
+    ]

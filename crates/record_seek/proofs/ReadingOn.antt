@@ -3,16 +3,20 @@ use Rattle.std.proofs.Common.{◌≡◌, ◌∙◌, ◌⊎◌, ℕ, ◌+◌, ◌
 use Rattle.std.specs.Prelude.{slice_get}
 use Rattle.std.proofs.lemmas.List.{length-append}
 use Rattle.std.proofs.lemmas.Option.{slice_get_cases}
+use Rattle.chunk_header.specs.SimpleChunks.{IsSimple}
 use Rattle.chunk_reader.specs.Faults.{IsVerdict}
 use Rattle.chunk_reader.specs.Holders.{ArePlacesBetween}
-use Rattle.chunk_reader.specs.Places.{header_at}
+use Rattle.chunk_reader.specs.Places.{header_at, end_at, chunk_at}
 use Rattle.chunk_reader.specs.Reasons.{Applies, NoneOf, IsFirstOf, unpassed_reasons, loading_reasons}
+use Rattle.chunk_reader.specs.Searches.{HasRecordsAt}
 use Rattle.chunk_reader.specs.declared.reasons.Fault.{Fault}
 use Rattle.chunk_reader.proofs.Rooms.{IsSized}
 use Rattle.record_seek.specs.Met.{HaveNoRecords}
-use Rattle.record_seek.specs.Steps.{IsPassedAt, IsFirstAskedAt, IsFirstNotAt, EndBefore, AreReadTo, IsReadRecord, IsFaultOn, LoadsOn, IsFirstFrom, FirstStandsBefore, FirstNotBefore}
+use Rattle.record_seek.specs.Steps.{IsPassedAt, IsHeldAt, IsFirstAsked, IsFirstNot, EndBefore, AreReadTo, IsReadRecord, IsFaultOn, LoadsOn, IsFirstFrom, IsFirstHeld, NoneFrom, IsNextHeld, IsPaidOn, FirstStandsBefore, FirstNotBefore}
 use Rattle.record_seek.specs.declared.chunk_records.Found.{Found}
+use Rattle.record_seek.specs.declared.chunk_records.Held.{Held}
 use Rattle.record_seek.specs.declared.passes.Passed.{Passed}
+use Rattle.record_seek.proofs.ChunkRecords.{strict_none_loading}
 use Rattle.record_seek.proofs.Searching.{all-push}
 use Rattle.record_seek.proofs.Ways.{between-push, same_told}
 
@@ -50,22 +54,49 @@ empty-on (Some file) bytes_now from place chunk spent now then same empty passed
       paid = omega (arith, more, empty.paid, length-append empty.places (place ∷ []));
     }
 
--- up to the first record, of which it is asked whether it stands before
-first_there : (Before : List ℕ → Type 0) (file : List ℕ) (from place spent paid : ℕ) (chunk : Passed) (before : Bool) → IsEmptyTo file from place spent paid
-    → IsPassedAt file place chunk → 0 < chunk.num_records → IsFirstAskedAt Before file place before
+-- up to the first chunk with records
+pub first-held : (bytes bytes_now bytes_then : Option (List ℕ)) (from place : ℕ) (chunk : Passed) (spent now then last : ℕ) (held : Held) → bytes_now ≡ bytes
+    → bytes_then ≡ bytes → IfSome bytes (λ file. IsEmptyTo file from place spent now) → IfSome bytes_now (λ file. IsPassedAt file place chunk)
+    → 0 < chunk.num_records → then ≤ now + 40 → held.begin ≡ place → IfSome bytes_then (λ file. IsHeldAt file held)
+    → IfSome bytes_then (λ file. NoneOf (Applies file place) unpassed_reasons → last + place ≤ then + end_at file place)
+    → IfSome bytes (λ file. IsFirstHeld file from spent last held)
+first-held None bytes_now bytes_then from place chunk spent now then last held same also empty passed some more at there read = tt
+first-held (Some file) bytes_now bytes_then from place chunk spent now then last held same also empty passed some more at there read =
+    let here : IsPassedAt file place chunk = same_told (λ f. IsPassedAt f place chunk) (Some file) bytes_now same passed in
+    let is : IsHeldAt file held = same_told (λ f. IsHeldAt f held) (Some file) bytes_then also there in
+    let whole = same_told (λ f. NoneOf (Applies f place) unpassed_reasons → last + place ≤ then + end_at f place) (Some file) bytes_then also read in
+    let count : chunk.num_records ≡ (chunk_at file held.begin).num_records =
+    here.num_records ∙ ap (λ (p : ℕ). (chunk_at file p).num_records) (sym at) in
+    let simple : IsSimple (chunk_at file held.begin) held.records = elim is.records [
+      | inl simple ↦ simple
+      | inr none ↦ absurd (omega (arith, some, count, none.0))
+    ] in
+    record {
+      places = empty.places;
+      between = subst (λ (p : ℕ). ArePlacesBetween file from p empty.places) (sym at) empty.between;
+      none_before = empty.none;
+      whole = subst (λ (p : ℕ). NoneOf (Applies file p) unpassed_reasons) (sym at) here.none;
+      end = is.end;
+      holds = record { without_fault = is.none; holds = simple };
+      some = omega (arith, some, count, simple.num_records);
+      paid = omega (arith, whole here.none, is.end, ap (end_at file) at, at, more, empty.paid);
+    }
+
+-- of whose first record it is asked whether it stands before
+first_there : (Before : List ℕ → Type 0) (file : List ℕ) (from spent now : ℕ) (held : Held) (before : Bool)
+    → IsFirstHeld file from spent now held → IsFirstAsked Before held.records before
     → (bytes : List ℕ) × IsFirstFrom file from bytes × (IsTrue before ↔ Before bytes)
-first_there Before file from place spent paid chunk before empty passed some (none, inr (few, nothing)) =
-    absurd (omega (arith, some, few, passed.num_records))
-first_there Before file from place spent paid chunk before empty passed some (none, inl (records, bytes, simple, stands, asked)) = (
+first_there Before file from spent now held before first (inr (empty, never)) = absurd (omega (arith, first.some, ap length empty))
+first_there Before file from spent now held before first (inl (bytes, stands, asked)) = (
   bytes,
   record {
-    place = place;
-    places = empty.places;
-    records = records;
-    between = empty.between;
-    none_before = empty.none;
-    whole = passed.none;
-    holds = record { without_fault = none; holds = simple };
+    place = held.begin;
+    places = first.places;
+    records = held.records;
+    between = first.between;
+    none_before = first.none_before;
+    whole = first.whole;
+    holds = first.holds;
     stands = stands;
   },
   asked,
@@ -75,47 +106,80 @@ pub ok_at : {X E : Type 0} (P : X → Type 0) (result : Result X E) (x : X) → 
 ok_at P (Ok found) x holds is = subst (λ (r : Result _ _). IfOk r P) is holds
 ok_at P (Err end) x holds is = cc
 
+pub some_at : {X : Type 0} (P : X → Type 0) (o : Option X) (x : X) → IfSome o P → o ≡ Some x → P x
+some_at P (Some found) x holds is = subst (λ (o : Option _). IfSome o P) is holds
+some_at P None x holds is = cc
+
 -- it does
-pub first-before : {E : Type 0} (Before : List ℕ → Type 0) (bytes now then : Option (List ℕ)) (from place spent paid : ℕ) (chunk : Passed) (result : Result Bool E)
-    → now ≡ bytes → then ≡ bytes
-    → IfSome bytes (λ file. IsEmptyTo file from place spent paid) → IfSome now (λ file. IsPassedAt file place chunk) → 0 < chunk.num_records
-    → IfOk result (λ before. IfSome then (λ file. IsFirstAskedAt Before file place before)) → result ≡ Ok true
+pub first-before : (Before : List ℕ → Type 0) (bytes : Option (List ℕ)) (from spent now : ℕ) (next : Option Held) (held : Held) (before : Bool)
+    → next ≡ Some held → IfSome bytes (λ file. IsNextHeld file from spent now next) → IsFirstAsked Before held.records before → before ≡ true
     → IfSome bytes (λ file. FirstStandsBefore Before file from)
-first-before Before None now then from place spent paid chunk result same also empty passed some asked is = tt
-first-before Before (Some file) now then from place spent paid chunk result same also empty passed some asked is =
-    let (bytes, first, asks) =
-    first_there Before file from place spent paid chunk true empty (same_told (λ f. IsPassedAt f place chunk) (Some file) now same passed) some
-    (same_told (λ f. IsFirstAskedAt Before f place true) (Some file) then also
-    (ok_at (λ before. IfSome then (λ f. IsFirstAskedAt Before f place before)) result true asked is)) in
-    (bytes, first, asks.0 refl)
+first-before Before None from spent now next held before is first asked answer = tt
+first-before Before (Some file) from spent now next held before is first asked answer =
+    let (bytes, there, asks) = first_there Before file from spent now held before (subst (IsNextHeld file from spent now) is first) asked in
+    (bytes, there, asks.0 answer)
 
 -- or it doesn't
-pub first-not : {E : Type 0} (Before : List ℕ → Type 0) (bytes now then : Option (List ℕ)) (from place spent paid : ℕ) (chunk : Passed) (result : Result Bool E)
-    → now ≡ bytes → then ≡ bytes
-    → IfSome bytes (λ file. IsEmptyTo file from place spent paid) → IfSome now (λ file. IsPassedAt file place chunk) → 0 < chunk.num_records
-    → IfOk result (λ before. IfSome then (λ file. IsFirstAskedAt Before file place before)) → result ≡ Ok false
+pub first-not : (Before : List ℕ → Type 0) (bytes : Option (List ℕ)) (from spent now : ℕ) (next : Option Held) (held : Held) (before : Bool)
+    → next ≡ Some held → IfSome bytes (λ file. IsNextHeld file from spent now next) → IsFirstAsked Before held.records before → before ≡ false
     → IfSome bytes (λ file. FirstNotBefore Before file from)
-first-not Before None now then from place spent paid chunk result same also empty passed some asked is = tt
-first-not Before (Some file) now then from place spent paid chunk result same also empty passed some asked is =
-    let (bytes, first, asks) =
-    first_there Before file from place spent paid chunk false empty (same_told (λ f. IsPassedAt f place chunk) (Some file) now same passed) some
-    (same_told (λ f. IsFirstAskedAt Before f place false) (Some file) then also
-    (ok_at (λ before. IfSome then (λ f. IsFirstAskedAt Before f place before)) result false asked is)) in
+first-not Before None from spent now next held before is first asked answer = tt
+first-not Before (Some file) from spent now next held before is first asked answer =
+    let (bytes, there, asks) = first_there Before file from spent now held before (subst (IsNextHeld file from spent now) is first) asked in
     inl (
       bytes,
-      first,
-      λ before.
-          let never : false ≡ true = asks.1 before in
+      there,
+      λ stands.
+          let other : before ≡ true = asks.1 stands in
           absurd (cc),
     )
 
--- or to the file's end
-pub empty-ended : (Before : List ℕ → Type 0) (bytes : Option (List ℕ)) (size from place spent now : ℕ) → IsSized bytes (Some size) → place ≤ size → size ≤ place
-    → IfSome bytes (λ file. IsEmptyTo file from place spent now) → IfSome bytes (λ file. FirstNotBefore Before file from)
-empty-ended Before None size from place spent now sized within past empty = tt
-empty-ended Before (Some file) size from place spent now sized within past empty =
+-- or there is none up to the file's end
+pub none-next : (bytes : Option (List ℕ)) (from spent now : ℕ) (next : Option Held) → next ≡ None
+    → IfSome bytes (λ file. IsNextHeld file from spent now next) → IfSome bytes (λ file. NoneFrom file from)
+none-next None from spent now next is none = tt
+none-next (Some file) from spent now next is none = subst (IsNextHeld file from spent now) is none
+
+pub none-before : (Before : List ℕ → Type 0) (bytes : Option (List ℕ)) (from : ℕ) → IfSome bytes (λ file. NoneFrom file from)
+    → IfSome bytes (λ file. FirstNotBefore Before file from)
+none-before Before None from none = tt
+none-before Before (Some file) from none = inr none
+
+pub empty-ended : (bytes : Option (List ℕ)) (size from place spent now : ℕ) → IsSized bytes (Some size) → place ≤ size → size ≤ place
+    → IfSome bytes (λ file. IsEmptyTo file from place spent now) → IfSome bytes (λ file. NoneFrom file from)
+empty-ended None size from place spent now sized within past empty = tt
+empty-ended (Some file) size from place spent now sized within past empty =
     let end : place ≡ length file = omega (arith, sized, within, past) in
-    inr (empty.places, subst (λ (p : ℕ). ArePlacesBetween file from p empty.places) end empty.between, empty.none)
+    (empty.places, subst (λ (p : ℕ). ArePlacesBetween file from p empty.places) end empty.between, empty.none)
+
+-- so much is handed out for that
+pub paid-header : (bytes : Option (List ℕ)) (from place spent now then : ℕ) → IfSome bytes (λ file. IsEmptyTo file from place spent now)
+    → then ≤ now + 40 → IfSome bytes (IsPaidOn from spent then)
+paid-header None from place spent now then empty more = tt
+paid-header (Some file) from place spent now then empty more = record {
+  place = place;
+  places = empty.places;
+  between = empty.between;
+  none_before = empty.none;
+  paid = inl (omega (arith, more, empty.paid));
+}
+
+pub paid-chunk : (bytes bytes_now bytes_then : Option (List ℕ)) (from place : ℕ) (chunk : Passed) (spent now then last : ℕ) → bytes_now ≡ bytes
+    → bytes_then ≡ bytes → IfSome bytes (λ file. IsEmptyTo file from place spent now) → IfSome bytes_now (λ file. IsPassedAt file place chunk)
+    → 0 < chunk.num_records → then ≤ now + 40
+    → IfSome bytes_then (λ file. NoneOf (Applies file place) unpassed_reasons → last + place ≤ then + end_at file place)
+    → IfSome bytes (IsPaidOn from spent last)
+paid-chunk None bytes_now bytes_then from place chunk spent now then last same also empty passed some more read = tt
+paid-chunk (Some file) bytes_now bytes_then from place chunk spent now then last same also empty passed some more read =
+    let here : IsPassedAt file place chunk = same_told (λ f. IsPassedAt f place chunk) (Some file) bytes_now same passed in
+    let whole = same_told (λ f. NoneOf (Applies f place) unpassed_reasons → last + place ≤ then + end_at f place) (Some file) bytes_then also read in
+    record {
+      place = place;
+      places = empty.places;
+      between = empty.between;
+      none_before = empty.none;
+      paid = inr (here.none, omega (arith, some, here.num_records), omega (arith, whole here.none, more, empty.paid));
+    }
 
 -- a fault of the next chunk header
 unpassed_verdict : (file : List ℕ) (place : ℕ) (fault : Fault) → fault.at ≡ place → IsFirstOf (Applies file place) unpassed_reasons fault.why
@@ -173,6 +237,40 @@ loads-on None now from place same come none = tt
 loads-on (Some file) now from place same come none =
     (place, come.0, come.1, same_told (λ f. NoneOf (Applies f place) loading_reasons) (Some file) now same none)
 
+-- a fault or such a chunk further on
+between_append : (file ps qs : List ℕ) (from place to : ℕ) → ArePlacesBetween file from place ps → ArePlacesBetween file place to qs
+    → ArePlacesBetween file from to (ps ++ qs)
+between_append file [] qs from place to same rest = subst (λ (p : ℕ). ArePlacesBetween file p to qs) (sym same) rest
+between_append file (p ∷ ps) qs from place to (same, passed, rest) further =
+    (same, passed, between_append file ps qs (end_at file from) place to rest further)
+
+pub fault-further : (bytes now : Option (List ℕ)) (from place : ℕ) (fault : Fault) → now ≡ bytes → IfSome bytes (IsComeTo from place)
+    → IfSome now (λ file. IsFaultOn file place fault) → IfSome bytes (λ file. IsFaultOn file from fault)
+fault-further None now from place fault same come refused = tt
+fault-further (Some file) now from place fault same come refused =
+    let on : IsFaultOn file place fault = same_told (λ f. IsFaultOn f place fault) (Some file) now same refused in
+    record {
+      place = on.place;
+      places = come.0 ++ on.places;
+      between = between_append file come.0 on.places from place on.place come.1 on.between;
+      below = on.below;
+      verdict = on.verdict;
+    }
+
+pub loads-further : (bytes now : Option (List ℕ)) (from place : ℕ) → now ≡ bytes → IfSome bytes (IsComeTo from place)
+    → IfSome now (λ file. LoadsOn file place) → IfSome bytes (λ file. LoadsOn file from)
+loads-further None now from place same come loads = tt
+loads-further (Some file) now from place same come loads =
+    let (at, places, between, none) = same_told (λ f. LoadsOn f place) (Some file) now same loads in
+    (at, come.0 ++ places, between_append file come.0 places from place at come.1 between, none)
+
+pub loads-first : (bytes : Option (List ℕ)) (from spent now : ℕ) (next : Option Held) (held : Held) → next ≡ Some held
+    → IfSome bytes (λ file. IsNextHeld file from spent now next) → IfSome bytes (λ file. LoadsOn file from)
+loads-first None from spent now next held is first = tt
+loads-first (Some file) from spent now next held is first =
+    let there : IsFirstHeld file from spent now held = subst (IsNextHeld file from spent now) is first in
+    (held.begin, there.places, there.between, strict_none_loading file held.begin there.holds.without_fault)
+
 -- records are read from chunk to chunk
 pub read-begun : (Before : List ℕ → Type 0) (bytes : Option (List ℕ)) (from : ℕ) → IfSome bytes (λ file. AreReadTo Before file from from)
 read-begun Before None from = tt
@@ -196,18 +294,20 @@ last-empty Before file places place here (inr end) = inr (record {
   before = end.before;
 })
 
-pub read-empty : (Before : List ℕ → Type 0) (bytes now : Option (List ℕ)) (from place : ℕ) (chunk : Passed) → now ≡ bytes
-    → IfSome bytes (λ file. AreReadTo Before file from place) → IfSome now (λ file. IsPassedAt file place chunk) → chunk.num_records ≤ 0
-    → IfSome bytes (λ file. AreReadTo Before file from chunk.end)
-read-empty Before None now from place chunk same read passed few = tt
-read-empty Before (Some file) now from place chunk same read passed few =
-    let here : IsPassedAt file place chunk = same_told (λ f. IsPassedAt f place chunk) (Some file) now same passed in
-    record {
-      places = read.places ++ place ∷ [];
-      between = subst (λ (p : ℕ). ArePlacesBetween file from p (read.places ++ place ∷ [])) (sym here.end)
-          (between-push file read.places from place read.between here.none);
-      last = last-empty Before file read.places place (omega (arith, few, here.num_records)) read.last;
-    }
+pub read_empty : (Before : List ℕ → Type 0) (file : List ℕ) (from place : ℕ) → AreReadTo Before file from place
+    → NoneOf (Applies file place) unpassed_reasons → (header_at file place).num_records ≡ 0 → AreReadTo Before file from (end_at file place)
+read_empty Before file from place read none few = record {
+  places = read.places ++ place ∷ [];
+  between = between-push file read.places from place read.between none;
+  last = last-empty Before file read.places place few read.last;
+}
+
+read_empties : (Before : List ℕ → Type 0) (file : List ℕ) (from place to : ℕ) (places : List ℕ) → AreReadTo Before file from place
+    → ArePlacesBetween file place to places → HaveNoRecords file places → AreReadTo Before file from to
+read_empties Before file from place to [] read same none = subst (AreReadTo Before file from) same read
+read_empties Before file from place to (p ∷ places) read (same, passed, rest) none =
+    read_empties Before file from (end_at file place) to places
+    (read_empty Before file from place read passed (ap (λ (q : ℕ). (header_at file q).num_records) (sym same) ∙ none.0)) rest none.1
 
 pub item_at : {R : Type 0} (records : List R) (i : ℕ) → i < length records → (r : R) × (slice_get records i ≡ Some r)
 item_at records i within =
@@ -217,70 +317,74 @@ item_at records i within =
     ]
 
 -- past one whose records stand before
-end-before : (Before : List ℕ → Type 0) (file places : List ℕ) (place : ℕ) → 0 < (header_at file place).num_records
-    → IsFirstNotAt Before file place None → EndBefore Before file (places ++ place ∷ [])
-end-before Before file places place some (none, (records, inr few, all)) = absurd (omega (arith, some, few))
-end-before Before file places place some (none, (records, inl simple, all)) =
-    let last = item_at records (length records - 1) (omega (arith, some, simple.num_records)) in
-    record {
-      front = places;
-      place = place;
-      rest = [];
-      records = records;
-      last = last.0;
-      parts = refl;
-      none_behind = tt;
-      holds = record { without_fault = none; holds = simple };
-      last_there = last.1;
-      before = all (length records - 1) last.0 last.1;
-    }
-
-pub read-records : (Before : List ℕ → Type 0) (bytes now then : Option (List ℕ)) (from place : ℕ) (chunk : Passed) (found : Option Found) → now ≡ bytes
-    → then ≡ bytes → IfSome bytes (λ file. AreReadTo Before file from place) → IfSome now (λ file. IsPassedAt file place chunk)
-    → 0 < chunk.num_records → found ≡ None → IfSome then (λ file. IsFirstNotAt Before file place found)
-    → IfSome bytes (λ file. AreReadTo Before file from chunk.end)
-read-records Before None now then from place chunk found same also read passed some is first = tt
-read-records Before (Some file) now then from place chunk found same also read passed some is first =
-    let here : IsPassedAt file place chunk = same_told (λ f. IsPassedAt f place chunk) (Some file) now same passed in
-    let none : IsFirstNotAt Before file place None =
-    subst (IsFirstNotAt Before file place) is (same_told (λ f. IsFirstNotAt Before f place found) (Some file) then also first) in
+pub read_records : (Before : List ℕ → Type 0) (file : List ℕ) (from place : ℕ) (records : List (List ℕ)) → AreReadTo Before file from place
+    → NoneOf (Applies file place) unpassed_reasons → 0 < length records → HasRecordsAt file place records
+    → IsFirstNot Before records place None → AreReadTo Before file from (end_at file place)
+read_records Before file from place records read none some holds all =
+    let last = item_at records (length records - 1) (omega (arith, some)) in
     record {
       places = read.places ++ place ∷ [];
-      between = subst (λ (p : ℕ). ArePlacesBetween file from p (read.places ++ place ∷ [])) (sym here.end)
-          (between-push file read.places from place read.between here.none);
-      last = inr (end-before Before file read.places place (omega (arith, some, here.num_records)) none);
+      between = between-push file read.places from place read.between none;
+      last = inr (record {
+        front = read.places;
+        place = place;
+        rest = [];
+        records = records;
+        last = last.0;
+        parts = refl;
+        none_behind = tt;
+        holds = holds;
+        last_there = last.1;
+        before = all (length records - 1) last.0 last.1;
+      });
     }
 
+pub read-records : (Before : List ℕ → Type 0) (bytes now : Option (List ℕ)) (from place spent paid : ℕ) (next : Option Held) (held : Held) (found : Option Found) → now ≡ bytes
+    → IfSome bytes (λ file. AreReadTo Before file from place) → next ≡ Some held → IfSome now (λ file. IsNextHeld file place spent paid next)
+    → found ≡ None → IsFirstNot Before held.records held.begin found → IfSome bytes (λ file. AreReadTo Before file from held.end)
+read-records Before None now from place spent paid next held found same read is first none all = tt
+read-records Before (Some file) now from place spent paid next held found same read is first none all =
+    let there : IsFirstHeld file place spent paid held =
+    subst (IsNextHeld file place spent paid) is (same_told (λ f. IsNextHeld f place spent paid next) (Some file) now same first) in
+    subst (AreReadTo Before file from) (sym there.end)
+    (read_records Before file from held.begin held.records
+    (read_empties Before file from place held.begin there.places read there.between there.none_before) there.whole there.some there.holds
+    (subst (IsFirstNot Before held.records held.begin) none all))
+
 -- to a record that doesn't
-read_record : (Before : List ℕ → Type 0) (file : List ℕ) (from place : ℕ) (chunk : Passed) (found : Found) → AreReadTo Before file from place
-    → IsPassedAt file place chunk → 0 < chunk.num_records → IsFirstNotAt Before file place (Some found) → IsReadRecord Before file from found
-read_record Before file from place chunk found read passed some (none, (records, inr few, first)) =
-    absurd (omega (arith, some, few, passed.num_records))
-read_record Before file from place chunk found read passed some (none, (records, inl simple, (number, stands, position, apart, before))) = record {
+pub read_record : (Before : List ℕ → Type 0) (file : List ℕ) (from place : ℕ) (records : List (List ℕ)) (found : Found) → AreReadTo Before file from place
+    → NoneOf (Applies file place) unpassed_reasons → HasRecordsAt file place records → IsFirstNot Before records place (Some found)
+    → IsReadRecord Before file from found
+read_record Before file from place records found read none holds (number, stands, position, apart, before) = record {
   place = place;
   records = records;
   number = number;
   read = read;
-  whole = passed.none;
-  holds = record { without_fault = none; holds = simple };
+  whole = none;
+  holds = holds;
   stands = stands;
   position = position;
   apart = apart;
   before = before;
 }
 
-pub read-found : (Before : List ℕ → Type 0) (bytes now then : Option (List ℕ)) (from place : ℕ) (chunk : Passed) (found : Option Found) (f : Found) → now ≡ bytes
-    → then ≡ bytes → IfSome bytes (λ file. AreReadTo Before file from place) → IfSome now (λ file. IsPassedAt file place chunk)
-    → 0 < chunk.num_records → found ≡ Some f → IfSome then (λ file. IsFirstNotAt Before file place found)
-    → IfSome bytes (λ file. IsReadRecord Before file from f)
-read-found Before None now then from place chunk found f same also read passed some is first = tt
-read-found Before (Some file) now then from place chunk found f same also read passed some is first =
-    read_record Before file from place chunk f read (same_told (λ g. IsPassedAt g place chunk) (Some file) now same passed) some
-    (subst (IsFirstNotAt Before file place) is (same_told (λ g. IsFirstNotAt Before g place found) (Some file) then also first))
+pub read-found : (Before : List ℕ → Type 0) (bytes now : Option (List ℕ)) (from place spent paid : ℕ) (next : Option Held) (held : Held) (found : Option Found) (f : Found) → now ≡ bytes
+    → IfSome bytes (λ file. AreReadTo Before file from place) → next ≡ Some held → IfSome now (λ file. IsNextHeld file place spent paid next)
+    → found ≡ Some f → IsFirstNot Before held.records held.begin found → IfSome bytes (λ file. IsReadRecord Before file from f)
+read-found Before None now from place spent paid next held found f same read is first some not = tt
+read-found Before (Some file) now from place spent paid next held found f same read is first some not =
+    let there : IsFirstHeld file place spent paid held =
+    subst (IsNextHeld file place spent paid) is (same_told (λ f. IsNextHeld f place spent paid next) (Some file) now same first) in
+    read_record Before file from held.begin held.records f
+    (read_empties Before file from place held.begin there.places read there.between there.none_before) there.whole there.holds
+    (subst (IsFirstNot Before held.records held.begin) some not)
 
 -- or to the file's end
-pub read-ended : (Before : List ℕ → Type 0) (bytes : Option (List ℕ)) (size from place : ℕ) → IsSized bytes (Some size) → place ≤ size → size ≤ place
-    → IfSome bytes (λ file. AreReadTo Before file from place) → IfSome bytes (λ file. AreReadTo Before file from (length file))
-read-ended Before None size from place sized within past read = tt
-read-ended Before (Some file) size from place sized within past read =
-    subst (AreReadTo Before file from) (omega (arith, sized, within, past)) read
+pub read-ended : (Before : List ℕ → Type 0) (bytes now : Option (List ℕ)) (from place spent paid : ℕ) (next : Option Held) → now ≡ bytes
+    → IfSome bytes (λ file. AreReadTo Before file from place) → next ≡ None → IfSome now (λ file. IsNextHeld file place spent paid next)
+    → IfSome bytes (λ file. AreReadTo Before file from (length file))
+read-ended Before None now from place spent paid next same read is none = tt
+read-ended Before (Some file) now from place spent paid next same read is none =
+    let end : NoneFrom file place =
+    subst (IsNextHeld file place spent paid) is (same_told (λ f. IsNextHeld f place spent paid next) (Some file) now same none) in
+    read_empties Before file from place (length file) end.0 read end.1 end.2

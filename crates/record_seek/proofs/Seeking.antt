@@ -1,5 +1,5 @@
 -- What a search by position gives, and what it takes.
-use Rattle.std.proofs.Common.{◌≡◌, ◌∙◌, ℕ, ◌+◌, ◌-◌, ◌*◌, ◌^◌, ◌<◌, ◌≤◌, false, Option, Some, None, IfSome, Result, Ok, Err, IfOk, List, [], length, refl, ap, subst, inl, inr, arith}
+use Rattle.std.proofs.Common.{◌≡◌, ◌∙◌, ℕ, ◌+◌, ◌-◌, ◌*◌, ◌^◌, ◌<◌, ◌≤◌, false, Option, Some, None, IfSome, List, [], length, refl, sym, ap, subst, inl, inr, arith}
 use Rattle.std.specs.Prelude.{slice_get}
 use Rattle.chunk_header.specs.Chunks.{ChunkValue}
 use Rattle.meta_chunk.specs.Files.{IsFrame, begin_of, LiesIn}
@@ -9,18 +9,19 @@ use Rattle.chunk_reader.specs.Holders.{IsHolder, IsHolderFault}
 use Rattle.chunk_reader.specs.Places.{end_at}
 use Rattle.chunk_reader.specs.Reasons.{Applies, NoneOf, unpassed_reasons, loading_reasons}
 use Rattle.chunk_reader.specs.SearchBounds.{position_bound}
-use Rattle.chunk_reader.specs.Searches.{SearchComesTo, AnswersAt, SearchGives, IsSearchFault}
+use Rattle.chunk_reader.specs.Searches.{HasRecordsAt, SearchComesTo, AnswersAt, SearchGives, IsSearchFault}
 use Rattle.chunk_reader.specs.declared.reasons.Fault.{Fault}
-use Rattle.chunk_reader.specs.declared.reasons.ReadEnd.{ReadEnd}
 use Rattle.chunk_reader.specs.declared.reasons.ReadEnd.TheVariants as read
 use Rattle.chunk_reader.proofs.HeadersTell.{stands_below, passed_below, told_end, holder_is}
 use Rattle.chunk_reader.proofs.Rooms.{IsSized}
 use Rattle.record_seek.specs.Ends.{read_end_of_holder}
 use Rattle.record_seek.specs.Found.{IsAnsweringNumber}
-use Rattle.record_seek.specs.Steps.{IsAnswer, IsRecordAt, placed_of}
+use Rattle.record_seek.specs.Steps.{IsAnswer, IsHeldAt, IsNumbered, placed_of}
 use Rattle.record_seek.specs.declared.chunk_records.Found.{Found}
+use Rattle.record_seek.specs.declared.chunk_records.Held.{Held}
 use Rattle.record_seek.specs.declared.holders.HolderEnd.{HolderEnd}
 use Rattle.record_seek.specs.declared.holders.HolderEnd.TheVariants as holder
+use Rattle.record_seek.proofs.ChunkRecords.{strict_none_loading}
 use Rattle.record_seek.proofs.Searching.{search_within, answers_is}
 use Rattle.record_seek.proofs.Ways.{same_told, IsRefusedAt}
 
@@ -62,31 +63,34 @@ refused-answer (Some file) now at place fault same answer refused =
     inr (inr (place, answer, same_told (λ f. IsVerdict false f place fault) (Some file) now same refused))
 
 -- its record
-record_given : (file : List ℕ) (at place number : ℕ) (found : Option Found) → number ≡ at - place → AnswersAt file at place
-    → IsRecordAt file place number found → SearchGives file at (placed_of found)
-record_given file at place number None is answer there = absurd (omega (arith, is, there.1, answer.has.0, answer.has.1))
-record_given file at place number (Some found) is answer (none, (records, simple, (stands, position))) = record {
-  place = place;
-  records = records;
+simple_given : (file : List ℕ) (at number : ℕ) (held : Held) (found : Option Found) → number ≡ at - held.begin → AnswersAt file at held.begin
+    → HasRecordsAt file held.begin held.records → IsNumbered held.records held.begin number found → SearchGives file at (placed_of found)
+simple_given file at number held None is answer there few =
+    absurd (omega (arith, is, few, there.holds.num_records, answer.has.0, answer.has.1))
+simple_given file at number held (Some found) is answer there (stands, position) = record {
+  place = held.begin;
+  records = held.records;
   answers = answer;
-  holds = record { without_fault = none; holds = simple };
-  record_there = subst (λ (n : ℕ). slice_get records n ≡ Some found.bytes) is stands;
+  holds = there;
+  record_there = subst (λ (n : ℕ). slice_get held.records n ≡ Some found.bytes) is stands;
   position_there = omega (arith, is, position);
 }
 
-gives-record : (bytes now : Option (List ℕ)) (at place number : ℕ) (found : Option Found) → now ≡ bytes → number ≡ at - place
-    → IfSome bytes (λ file. AnswersAt file at place) → IfSome now (λ file. IsRecordAt file place number found)
-    → IfSome bytes (λ file. SearchGives file at (placed_of found))
-gives-record None now at place number found same is answer there = tt
-gives-record (Some file) now at place number found same is answer there =
-    record_given file at place number found is answer (same_told (λ f. IsRecordAt f place number found) (Some file) now same there)
+record_given : (file : List ℕ) (at number : ℕ) (held : Held) (found : Option Found) → number ≡ at - held.begin → AnswersAt file at held.begin
+    → IsHeldAt file held → IsNumbered held.records held.begin number found → SearchGives file at (placed_of found)
+record_given file at number held found is answer there numbered =
+    elim there.records [
+      | inl simple ↦ simple_given file at number held found is answer (record { without_fault = there.none; holds = simple }) numbered
+      | inr none ↦ absurd (omega (arith, none.0, answer.has.0))
+    ]
 
-pub gives-answer : (bytes now : Option (List ℕ)) (at place number : ℕ) (result : Result (Option Found) ReadEnd) → now ≡ bytes
-    → number ≡ at - place → IfSome bytes (λ file. AnswersAt file at place)
-    → IfOk result (λ found. IfSome now (λ file. IsRecordAt file place number found))
-    → IfOk result (λ found. IfSome bytes (λ file. SearchGives file at (placed_of found)))
-gives-answer bytes now at place number (Ok found) same is answer there = gives-record bytes now at place number found same is answer there
-gives-answer bytes now at place number (Err end) same is answer there = tt
+pub gives-answer : (bytes now : Option (List ℕ)) (at place number : ℕ) (held : Held) (found : Option Found) → now ≡ bytes
+    → number ≡ at - place → IfSome bytes (λ file. AnswersAt file at place) → held.begin ≡ place → IfSome now (λ file. IsHeldAt file held)
+    → IsNumbered held.records held.begin number found → IfSome bytes (λ file. SearchGives file at (placed_of found))
+gives-answer None now at place number held found same is answer begin there numbered = tt
+gives-answer (Some file) now at place number held found same is answer begin there numbered =
+    record_given file at number held found (omega (arith, is, begin)) (subst (AnswersAt file at) (sym begin) answer)
+    (same_told (λ f. IsHeldAt f held) (Some file) now same there) numbered
 
 -- or nothing up to the file's end
 pub gives-nothing : (bytes : Option (List ℕ)) (at : ℕ) → IfSome bytes (λ file. SearchComesTo file at (length file))
@@ -101,6 +105,16 @@ pub memory-for : (bytes now : Option (List ℕ)) (at place : ℕ) → now ≡ by
 memory-for None now at place same answer none = tt
 memory-for (Some file) now at place same answer none =
     (place, answer, same_told (λ f. NoneOf (Applies f place) loading_reasons) (Some file) now same none)
+
+pub memory-in : (bytes now : Option (List ℕ)) (at place : ℕ) (held : Held) → now ≡ bytes → IfSome bytes (λ file. AnswersAt file at place)
+    → held.begin ≡ place → IfSome now (λ file. IsHeldAt file held)
+    → IfSome bytes (λ file. (p : ℕ) × AnswersAt file at p × NoneOf (Applies file p) loading_reasons)
+memory-in None now at place held same answer begin there = tt
+memory-in (Some file) now at place held same answer begin there = (
+  held.begin,
+  subst (AnswersAt file at) (sym begin) answer,
+  strict_none_loading file held.begin (same_told (λ f. IsHeldAt f held) (Some file) now same there).none,
+)
 
 -- so much a search takes of a file of chunks: to find the holder, and the chunk that answers
 abbrev pub HoldersTake : (spent now : ℕ) → List ℕ → Type 0

@@ -1,18 +1,21 @@
 -- What the steps of a search find. Own.
-use Rattle.std.specs.Prelude.{◌≡◌, ℕ, zero, suc, ◌+◌, ◌-◌, ◌*◌, ◌<◌, ◌≤◌, ◌↔◌, ◌⊎◌, Bool, IsTrue, false, Option, Some, None, List, ◌∷◌, ◌++◌, length, slice_get, get_or}
-use Rattle.block_layout.specs.Layout.{chunk_header_size}
+use Rattle.std.specs.Prelude.{◌≡◌, ℕ, zero, suc, ◌+◌, ◌-◌, ◌*◌, ◌^◌, ◌<◌, ◌≤◌, ◌↔◌, ◌⊎◌, Bool, IsTrue, false, Option, Some, None, List, [], ◌∷◌, ◌++◌, length, slice_get, get_or}
+use Rattle.block_layout.specs.Layout.{chunk_header_size, IsBoundary}
 use Rattle.chunk_header.specs.Chunks.{ChunkValue}
 use Rattle.chunk_header.specs.SimpleChunks.{IsSimple}
-use Rattle.meta_chunk.specs.Files.{signature}
+use Rattle.meta_chunk.specs.Files.{signature, max_data_size}
 use Rattle.chunk_reader.specs.Faults.{IsVerdict}
 use Rattle.chunk_reader.specs.Holders.{ArePlacesBetween}
 use Rattle.chunk_reader.specs.Places.{header_at, end_at, chunk_at}
 use Rattle.chunk_reader.specs.Reasons.{Applies, NoneOf, unpassed_reasons, loading_reasons, strict_reasons}
 use Rattle.chunk_reader.specs.SearchBounds.{length_of_chunk, chunks_without_records, greatest_length_from}
 use Rattle.chunk_reader.specs.Searches.{HasRecordsAt, SearchComesTo, AnswersAt}
+use Rattle.chunk_reader.specs.declared.judging.What.{What}
+use Rattle.chunk_reader.specs.declared.judging.What.TheVariants as what
 use Rattle.chunk_reader.specs.declared.reasons.Fault.{Fault}
 use Rattle.record_seek.specs.Met.{HaveNoRecords}
 use Rattle.record_seek.specs.declared.chunk_records.Found.{Found}
+use Rattle.record_seek.specs.declared.chunk_records.Held.{Held}
 use Rattle.record_seek.specs.declared.passes.Passed.{Passed}
 
 -- a chunk that is passed at a place of a file
@@ -26,31 +29,37 @@ abbrev pub IsAnswer : List ℕ → ℕ → Option ℕ → Type 0
 IsAnswer file position (Some place) = AnswersAt file position place
 IsAnswer file position None = SearchComesTo file position (length file)
 
+-- the records that a chunk was found to hold: none where it isn't a chunk of records
+abbrev pub records_of : What → List (List ℕ)
+records_of (what.Records records) = records
+records_of what.Passive = []
+records_of what.Unread = []
+
+-- a chunk between boundaries, the positions of whose records are numbers of 64 bits, and each of whose records is no longer than
+-- a chunk's data may be
+pub record IsHeld (held : Held) : Type 0 where
+  pub after : held.begin < held.end
+  pub to_boundary : IsBoundary held.end
+  pub room : held.begin + length held.records < 2 ^ 64
+  pub small : (i : ℕ) (bytes : List ℕ) → slice_get held.records i ≡ Some bytes → length bytes ≤ max_data_size
+
+-- it is the chunk of a file there, which has no fault, with its records
+pub record IsHeldAt (file : List ℕ) (held : Held) : Type 0 where
+  pub none : NoneOf (Applies file held.begin) (strict_reasons false)
+  pub end : held.end ≡ end_at file held.begin
+  pub records : IsSimple (chunk_at file held.begin) held.records
+      ⊎ (((chunk_at file held.begin).num_records ≡ 0) × (held.records ≡ []))
+
 -- of the records of a chunk that begins at a place, the one of a number with its position, or nothing where there are fewer
 abbrev pub IsNumbered : List (List ℕ) → (begin number : ℕ) → Option Found → Type 0
 IsNumbered records begin number (Some found) = (slice_get records number ≡ Some found.bytes) × (found.position ≡ begin + number)
 IsNumbered records begin number None = length records ≤ number
 
--- the same of a chunk that begins there
-abbrev pub IsRecordIn : ChunkValue → (begin number : ℕ) → Option Found → Type 0
-IsRecordIn k begin number (Some found) = (records : List (List ℕ)) × IsSimple k records × IsNumbered records begin number (Some found)
-IsRecordIn k begin number None = k.num_records ≤ number
-
--- and of the chunk at a place of a file, which has no fault
-abbrev pub IsRecordAt : List ℕ → (place number : ℕ) → Option Found → Type 0
-IsRecordAt file place number found =
-    NoneOf (Applies file place) (strict_reasons false) × IsRecordIn (chunk_at file place) place number found
-
--- whether the first record of a chunk stands before: no where the chunk has none
-abbrev pub IsFirstAskedIn : (Before : List ℕ → Type 0) → ChunkValue → Bool → Type 0
-IsFirstAskedIn Before k before =
-    ((records : List (List ℕ)) × (bytes : List ℕ) × IsSimple k records × (slice_get records 0 ≡ Some bytes) × (IsTrue before ↔ Before bytes))
-    ⊎ ((k.num_records ≡ 0) × (before ≡ false))
-
--- the same of the chunk at a place of a file, which has no fault
-abbrev pub IsFirstAskedAt : (Before : List ℕ → Type 0) → List ℕ → (place : ℕ) → Bool → Type 0
-IsFirstAskedAt Before file place before =
-    NoneOf (Applies file place) (strict_reasons false) × IsFirstAskedIn Before (chunk_at file place) before
+-- whether the first of records stands before: no where there is none
+abbrev pub IsFirstAsked : (Before : List ℕ → Type 0) → List (List ℕ) → Bool → Type 0
+IsFirstAsked Before records before =
+    ((bytes : List ℕ) × (slice_get records 0 ≡ Some bytes) × (IsTrue before ↔ Before bytes))
+    ⊎ ((records ≡ []) × (before ≡ false))
 
 -- of the records of a chunk that begins at a place, the first that doesn't stand before, or nothing where each does
 abbrev pub IsFirstNot : (Before : List ℕ → Type 0) → List (List ℕ) → (begin : ℕ) → Option Found → Type 0
@@ -58,16 +67,6 @@ IsFirstNot Before records begin (Some found) =
     (number : ℕ) × (slice_get records number ≡ Some found.bytes) × (found.position ≡ begin + number) × (¬ Before found.bytes)
     × ((i : ℕ) (bytes : List ℕ) → i < number → slice_get records i ≡ Some bytes → Before bytes)
 IsFirstNot Before records begin None = (i : ℕ) (bytes : List ℕ) → slice_get records i ≡ Some bytes → Before bytes
-
--- the same of a chunk, which may have no records
-abbrev pub IsFirstNotIn : (Before : List ℕ → Type 0) → ChunkValue → (begin : ℕ) → Option Found → Type 0
-IsFirstNotIn Before k begin found =
-    (records : List (List ℕ)) × (IsSimple k records ⊎ (k.num_records ≡ 0)) × IsFirstNot Before records begin found
-
--- and of the chunk at a place of a file, which has no fault
-abbrev pub IsFirstNotAt : (Before : List ℕ → Type 0) → List ℕ → (place : ℕ) → Option Found → Type 0
-IsFirstNotAt Before file place found =
-    NoneOf (Applies file place) (strict_reasons false) × IsFirstNotIn Before (chunk_at file place) place found
 
 -- the last record of the chunks at these places stands before
 pub record EndBefore (Before : List ℕ → Type 0) (file places : List ℕ) : Type 0 where
@@ -130,6 +129,18 @@ pub record IsFirstFrom (file : List ℕ) (from : ℕ) (bytes : List ℕ) : Type 
   pub holds : HasRecordsAt file place records
   pub stands : slice_get records 0 ≡ Some bytes
 
+-- the first chunk with records from a place on: it has no fault, and what was handed out in between is the header of each chunk
+-- without records before it, its own header, and the chunk
+pub record IsFirstHeld (file : List ℕ) (from spent now : ℕ) (held : Held) : Type 0 where
+  pub places : List ℕ
+  pub between : ArePlacesBetween file from held.begin places
+  pub none_before : HaveNoRecords file places
+  pub whole : NoneOf (Applies file held.begin) unpassed_reasons
+  pub end : held.end ≡ end_at file held.begin
+  pub holds : HasRecordsAt file held.begin held.records
+  pub some : 0 < length held.records
+  pub paid : now + held.begin ≤ spent + chunk_header_size * (length places + 1) + held.end
+
 -- what a look at it takes of a file of chunks at most: the headers of chunks without records, and a chunk
 abbrev pub look_bound : List ChunkValue → ℕ
 look_bound ks = chunk_header_size * (chunks_without_records ks + 1) + greatest_length_from 0 ks
@@ -141,6 +152,22 @@ FirstStandsBefore Before file from = (bytes : List ℕ) × IsFirstFrom file from
 -- chunks without records lead from a place to the file's end
 abbrev pub NoneFrom : List ℕ → (from : ℕ) → Type 0
 NoneFrom file from = (places : List ℕ) × ArePlacesBetween file from (length file) places × HaveNoRecords file places
+
+-- the first chunk with records, or none up to the file's end
+abbrev pub IsNextHeld : List ℕ → (from spent now : ℕ) → Option Held → Type 0
+IsNextHeld file from spent now (Some held) = IsFirstHeld file from spent now held
+IsNextHeld file from spent now None = NoneFrom file from
+
+-- what is handed out to come to the first chunk with records from a place on: the headers of the chunks without records before a
+-- place, that of the chunk there, and where that has records the chunk
+pub record IsPaidOn (from spent now : ℕ) (file : List ℕ) : Type 0 where
+  pub place : ℕ
+  pub places : List ℕ
+  pub between : ArePlacesBetween file from place places
+  pub none_before : HaveNoRecords file places
+  pub paid : (now ≤ spent + chunk_header_size * (length places + 1))
+      ⊎ (NoneOf (Applies file place) unpassed_reasons × (0 < (header_at file place).num_records)
+      × (now + place ≤ spent + chunk_header_size * (length places + 1) + end_at file place))
 
 -- the first record from a place on doesn't stand before, or there is none
 abbrev pub FirstNotBefore : (Before : List ℕ → Type 0) → List ℕ → (from : ℕ) → Type 0

@@ -10,9 +10,9 @@ ghost use Rattle.chunk_reader.specs.declared.reasons.Fault.{Fault};
 ghost use Rattle.record_seek.specs.Found.{IsKeyFound, BytesStandBefore, OnlyFrontStandsBefore};
 ghost use Rattle.record_seek.specs.KeyTests.{IsKeyTest, StandsBefore};
 ghost use Rattle.record_seek.specs.Met.{IsMetFault, LoadsMetChunk, IsMetRecord, LeadsWithoutRecords, LeadsPastAll};
-ghost use Rattle.record_seek.specs.Steps.{IsFaultOn, LoadsOn, FirstStandsBefore, IsReadOn, FirstNotBefore, EndsReading, look_bound, reading_cost, placed_of};
+ghost use Rattle.record_seek.specs.Steps.{IsHeld, IsNextHeld, IsPaidOn, IsFaultOn, LoadsOn, FirstStandsBefore, IsReadOn, FirstNotBefore, EndsReading, look_bound, reading_cost, placed_of};
 
-use crate::chunk_records::{Found, first_before_at, first_not_at};
+use crate::chunk_records::{Found, Held, first_before, first_not, held_at};
 use crate::key_tests::KeyTest;
 use crate::passes::{passed_at, told_begin};
 use block_layout::BLOCK_SIZE;
@@ -119,42 +119,44 @@ fn stands_before<S: Store, F: Fn(&[u8]) -> bool + Drop>(
     ensures store { OnlyAsks S.bytes S.told S.name S.faults (result ≡ Err ReadEnd.Store) store.old store.new }
 {
     let begin = told_begin(store, size, block)?;
-    first_stands_before(alloc, store, size, test, begin)
+    let Some(held) = next_held(alloc, store, size, begin)? else {
+        return Ok(false);
+    };
+    Ok(first_before(&held, test))
 }
 
-/// Whether there is a record from a place on, and the first stands before.
-fn first_stands_before<S: Store, F: Fn(&[u8]) -> bool + Drop>(
+/// The first chunk with records from a place on; `None` where there is none up to the file's end. A chunk without records is
+/// passed by its header alone.
+fn next_held<S: Store>(
     alloc: Global,
     store: &mut S,
     size: u64,
-    test: &KeyTest<F>,
-    begin: u64,
-) -> Result<bool, ReadEnd>
+    from: u64,
+) -> Result<Option<Held>, ReadEnd>
     requires told { S.told store.old ≡ Some size }
     requires in_reach { size ≤ 2 ^ 60 }
-    requires from_boundary { IsBoundary begin }
-    requires within { begin ≤ size }
-    requires test { IsKeyTest F.Fn test.now.test }
-    ensures before { result ≡ Ok true
-        → IfSome (S.bytes store.old) (λ file. FirstStandsBefore (StandsBefore F.Fn test.now.test) file begin) }
-    ensures not_before { result ≡ Ok false
-        → IfSome (S.bytes store.old) (λ file. FirstNotBefore (StandsBefore F.Fn test.now.test) file begin) }
+    requires from_boundary { IsBoundary from }
+    requires within { from ≤ size }
+    ensures held { IfOk result (λ next. IfSome next IsHeld) }
+    ensures onward { IfOk result (λ next. IfSome next (λ held. from ≤ held.begin)) }
+    ensures within { IfOk result (λ next. IfSome next (λ held. held.end ≤ size)) }
+    ensures next { IfOk result (λ next. IfSome (S.bytes store.old) (λ file.
+        IsNextHeld file from (S.handed store.old) (S.handed store.new) next)) }
     ensures refused { (fault : Fault) → result ≡ Err (ReadEnd.Refused fault)
-        → IfSome (S.bytes store.old) (λ file. IsFaultOn file begin fault) }
-    ensures handed { IfSome (S.bytes store.old) (λ file. (ks : List ChunkValue) (h : ℕ)
-        → IsFrame ks file → begin ≡ begin_of ks h → h ≤ length ks → S.handed store.new ≤ S.handed store.old + look_bound ks) }
-    ensures memory { result ≡ Err ReadEnd.Memory → IfSome (S.bytes store.old) (λ file. LoadsOn file begin) }
+        → IfSome (S.bytes store.old) (λ file. IsFaultOn file from fault) }
+    ensures handed { IfSome (S.bytes store.old) (IsPaidOn from (S.handed store.old) (S.handed store.new)) }
+    ensures memory { result ≡ Err ReadEnd.Memory → IfSome (S.bytes store.old) (λ file. LoadsOn file from) }
     ensures store { OnlyAsks S.bytes S.told S.name S.faults (result ≡ Err ReadEnd.Store) store.old store.new }
 {
-    let mut place = begin;
+    let mut place = from;
     while place < size {
         let passed = passed_at(store, size, place)?;
         if passed.num_records > 0 {
-            return first_before_at(alloc, store, size, place, test);
+            return Ok(Some(held_at(alloc, store, size, place)?));
         }
         place = passed.end;
     }
-    Ok(false)
+    Ok(None)
 }
 
 /// The first record from a place on that doesn't stand before.
@@ -182,14 +184,11 @@ fn read_on<S: Store, F: Fn(&[u8]) -> bool + Drop>(
     ensures store { OnlyAsks S.bytes S.told S.name S.faults (result ≡ Err ReadEnd.Store) store.old store.new }
 {
     let mut place = begin;
-    while place < size {
-        let passed = passed_at(store, size, place)?;
-        if passed.num_records > 0 {
-            if let Some(found) = first_not_at(alloc, store, size, place, test)? {
-                return Ok(Some(found));
-            }
+    while let Some(held) = next_held(alloc, store, size, place)? {
+        if let Some(found) = first_not(alloc, &held, test)? {
+            return Ok(Some(found));
         }
-        place = passed.end;
+        place = held.end;
     }
     Ok(None)
 }

@@ -77,8 +77,15 @@ pub fn holder<S: Store>(store: &mut S, size: u64, at: u64) -> Result<Option<u64>
     if at >= size {
         return Ok(None);
     }
-    let begin = told_begin(store, size, at / BLOCK_SIZE * BLOCK_SIZE)?;
+    let begin = told_begin(store, size, block_before(at))?;
     Ok(Some(holder_from(store, size, at, begin)?))
+}
+
+/// The block at or before a position.
+fn block_before(at: u64) -> u64
+    ensures { result ≡ block_of at }
+{
+    at / BLOCK_SIZE * BLOCK_SIZE
 }
 
 /// Where the chunk begins that holds a position, from a begin on that the block at or before the position tells.

@@ -11,7 +11,7 @@ ghost use Rattle.chunk_reader.specs.declared.reasons.Fault.{Fault};
 ghost use Rattle.record_seek.specs.Found.{IsAnsweringNumber};
 ghost use Rattle.record_seek.specs.Steps.{IsAnswer, placed_of};
 
-use crate::chunk_records::{Found, record_at};
+use crate::chunk_records::{Found, held_at, record_of};
 use crate::holders::holder;
 use crate::passes::passed_at;
 use chunk_reader::{ReadEnd, VerifyEnd};
@@ -53,7 +53,8 @@ pub fn seek<S: Store>(
     let Some(place) = answering_from(store, size, at, begin)? else {
         return Ok(None);
     };
-    record_at(alloc, store, size, place, at.saturating_sub(place))
+    let held = held_at(alloc, store, size, place)?;
+    Ok(record_of(alloc, &held, at.saturating_sub(place))?)
 }
 
 /// Where the first chunk begins that has a record at or past a position, from the chunk on that holds it.

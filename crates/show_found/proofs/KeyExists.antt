@@ -6,7 +6,8 @@ use Rattle.std.proofs.lemmas.Option.{same_Some}
 use Rattle.chunk_header.specs.Chunks.{ChunkValue}
 use Rattle.meta_chunk.specs.Files.{IsPlain, IsFile, ArePlaced, begin_of}
 use Rattle.chunk_reader.specs.Places.{header_at, end_at, chunk_at}
-use Rattle.chunk_reader.specs.Reasons.{Applies, NoneOf, IsFirstOf, strict_reasons}
+use Rattle.chunk_reader.specs.Reasons.{Applies, NoneOf, IsFirstOf, unpassed_reasons, strict_reasons}
+use Rattle.chunk_reader.specs.Searches.{HasRecordsAt}
 use Rattle.chunk_reader.specs.declared.reasons.Fault.{Fault}
 use Rattle.chunk_reader.proofs.ChainSteps.{each_at}
 use Rattle.chunk_reader.proofs.FaultsDecided.{judged}
@@ -16,14 +17,14 @@ use Rattle.chunk_reader.proofs.NoReason.{no_reason, none_is_first}
 use Rattle.chunk_reader.proofs.NoReasonLaid.{allowed_where_none}
 use Rattle.chunk_reader.proofs.PassedChunks.{end_at_after}
 use Rattle.record_seek.specs.Found.{IsKeyFound, BytesStandBefore}
-use Rattle.record_seek.specs.Steps.{IsPassedAt, AreReadTo, IsReadOn, IsFaultOn, placed_of}
+use Rattle.record_seek.specs.Steps.{AreReadTo, IsReadOn, IsFaultOn, placed_of}
 use Rattle.record_seek.specs.declared.chunk_records.Found.{Found}
 use Rattle.record_seek.proofs.Finding.{fault-met, nothing-left, record-met}
 use Rattle.record_seek.proofs.FoundByKey.{record_found, none_found}
 use Rattle.record_seek.proofs.JudgedSearch.{holds_counted}
 use Rattle.record_seek.proofs.OneFound.{found_in_order}
 use Rattle.record_seek.proofs.PlacedRecords.{none_before_first}
-use Rattle.record_seek.proofs.ReadingOn.{read-empty, read-records, read-found}
+use Rattle.record_seek.proofs.ReadingOn.{read_empty, read_records, read_record}
 use Rattle.show_found.specs.ByteOrder.{is_below, IsBelow}
 use Rattle.show_found.specs.Searches.{MayFind, IsKeyFault}
 
@@ -76,9 +77,8 @@ first_not key [] = inr (λ i bytes there. absurd (cc there))
 first_not key (r ∷ records) = first_next key r records (is_below key r) refl (first_not key records)
 
 -- the chunk at a place without fault is passed
-is_passed : (file : List ℕ) (place : ℕ) → NoneOf (Applies file place) (strict_reasons false)
-    → IsPassedAt file place (record { end = end_at file place; num_records = (header_at file place).num_records })
-is_passed file place none = record { none = (none.0, (none.1.0, (none.1.1.0, tt))); end = refl; num_records = refl }
+is_passed : (file : List ℕ) (place : ℕ) → NoneOf (Applies file place) (strict_reasons false) → NoneOf (Applies file place) unpassed_reasons
+is_passed file place none = (none.0, (none.1.0, (none.1.1.0, tt)))
 
 -- where it ends lies in the file
 end_within : (file : List ℕ) (place : ℕ) → NoneOf (Applies file place) (strict_reasons false) → end_at file place ≤ length file
@@ -111,20 +111,20 @@ module _ (key file : List ℕ) where
               let on = read_from most (end_at file place) (omega (arith, near, end_at_after file place)) (end_within file place none) in
               elim (cases_lt 0 (header_at file place).num_records) [
                 | inr few ↦
-                    on (read-empty (IsBelow key) (Some file) (Some file) 0 place _ refl read passed few)
+                    on (read_empty (IsBelow key) file 0 place read passed (omega (arith, few)))
                 | inl some ↦
                     let (records, simple) = holds_counted (chunk_at file place) (allowed_where_none false file place none) some in
+                    let holds : HasRecordsAt file place records = record { without_fault = none; holds = simple } in
                     elim (first_not key records) [
                       | inl first ↦
                           let found : Found = record { position = place + first.number; bytes = first.bytes } in
                           inl (
                             Some found,
-                            read-found (IsBelow key) (Some file) (Some file) (Some file) 0 place _ (Some found) found refl refl read passed some
-                                refl (none, (records, inl simple, (first.number, first.stands, refl, first.apart, first.before))),
+                            read_record (IsBelow key) file 0 place records found read passed holds
+                                (first.number, first.stands, refl, first.apart, first.before),
                           )
                       | inr all ↦
-                          on (read-records (IsBelow key) (Some file) (Some file) (Some file) 0 place _ None refl refl read passed some
-                          refl (none, (records, inl simple, all)))
+                          on (read_records (IsBelow key) file 0 place records read passed (omega (arith, some, simple.num_records)) holds all)
                     ]
               ]
         ]

@@ -21,7 +21,7 @@ seek_reads_file words = record {
   grown = refl;
   out = refl;
   answers = λ r answer is. is;
-  so_far = λ r part is. is;
+  so_far = λ r before after part is. is;
   may_work = λ sizes within. within;
 }
 

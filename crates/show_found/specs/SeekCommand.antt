@@ -39,8 +39,8 @@ IsSeekAnswer words file answer =
     ⊎ ((fault : Fault) × MayRefuse words.by file fault × (answer ≡ refused_answer fault))
 
 -- nothing is put before the line of the record
-abbrev pub IsSeekSoFar : (file : List ℕ) → List Put → Type 0
-IsSeekSoFar file part = part ≡ []
+abbrev pub IsSeekSoFar : (before after : ℕ) (file : List ℕ) → List Put → Type 0
+IsSeekSoFar before after file part = part ≡ []
 
 -- whether there is one answer at most: for a position, while several records may be found for a key where they aren't in order
 abbrev pub has_one_answer : By → Bool

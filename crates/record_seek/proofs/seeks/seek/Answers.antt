@@ -1,9 +1,11 @@
-use Rattle.std.proofs.Common.{◌∙◌, ◌<◌, Some, None, Err, Ok, IfSome, ap, subst, arith}
+use Rattle.std.proofs.Common.{◌∙◌, ℕ, ◌+◌, ◌<◌, ◌≤◌, Some, None, Err, Ok, IfSome, sym, ap, subst, arith}
 use Rattle.chunk_reader.specs.Holders.{IsHolder}
+use Rattle.chunk_reader.specs.Places.{end_at}
+use Rattle.chunk_reader.specs.Reasons.{Applies, NoneOf, unpassed_reasons}
 use Rattle.chunk_reader.specs.Searches.{AnswersAt}
 use Rattle.chunk_reader.proofs.Loads as loads
 use Rattle.chunk_reader.proofs.Rooms.{IsSized}
-use Rattle.record_seek.proofs.Seeking.{refused_before, refused-holder, refused-search, answers, refused-answer, gives-answer, gives-nothing, memory-for, takes-headers, takes-record}
+use Rattle.record_seek.proofs.Seeking.{refused_before, refused-holder, refused-search, answers, refused-answer, gives-answer, gives-nothing, memory-for, memory-in, SearchTakes, takes-headers, takes-record}
 use Rattle.record_seek.proofs.seeks.seek.Goals as goal
 use Rattle.record_seek.proofs.seeks.seek.Goals.{Start, In-Some, In-Some-2}
 
@@ -23,6 +25,18 @@ answering : (g : _) (c : In-Some-2 g) → IfSome (g.S.Store.bytes c.args.store.n
 answering g c =
     answers _ _ c.args.at c.in-Some.begin c.in_ok-place.field-0 (Some c.in-Some-2.place) c.in_ok-begin.ensures.store.same_bytes c.in-Some-2.is
     (c.in_ok-begin.ensures.holder c.in-Some.begin (ap Ok c.in-Some.is)) c.in_ok-place.ensures.answer
+
+-- what is handed out up to its end
+takes :
+    (g : _) (c : In-Some-2 g) (last : ℕ)
+    → IfSome (g.S.Store.bytes c.answering_from.new.store) (λ file. NoneOf (Applies file c.in-Some-2.place) unpassed_reasons
+    → last + c.in-Some-2.place ≤ g.S.Store.handed c.answering_from.new.store + end_at file c.in-Some-2.place)
+    → IfSome (g.S.Store.bytes c.args.store.now) (SearchTakes c.args.at (g.S.Store.handed c.args.store.now) last)
+takes g c last read =
+    takes-record _ _ _ c.args.size c.args.at c.in-Some.begin c.in-Some-2.place _ _ _ _ c.in_ok-begin.ensures.store.same_bytes
+    (c.in_ok-place.ensures.store.same_bytes ∙ c.in_ok-begin.ensures.store.same_bytes)
+    (subst (IsSized (g.S.Store.bytes c.args.store.now)) c.requires.told (g.met.S.Store.sized c.args.store.now)) c.requires.in_reach
+    (c.in_ok-begin.ensures.holder c.in-Some.begin (ap Ok c.in-Some.is)) c.holder.ensures.handed c.answering_from.ensures.handed (answering g c) read
 
 pub returns-in_err-begin-clause-refused : goal.returns-in_err-begin-clause-refused
 returns-in_err-begin-clause-refused g c =
@@ -70,36 +84,53 @@ pub returns-in_default-2-clause-handed_past : goal.returns-in_default-2-clause-h
 returns-in_default-2-clause-handed_past g c =
     λ past. absurd (omega (arith, past, below g (goal.at.returns-in_default-2-clause-handed_past g c).In-Some))
 
-pub returns-clause-found : goal.returns-clause-found
-returns-clause-found g c =
-    let at = goal.at.returns-clause-found g c in
-    gives-answer _ _ c.args.at c.in-Some-2.place _ c.record_at.result
-    (c.in_ok-place.ensures.store.same_bytes ∙ c.in_ok-begin.ensures.store.same_bytes) (omega arith) (answering g at.In-Some-2)
-    c.record_at.ensures.found
-
-pub returns-clause-refused : goal.returns-clause-refused
-returns-clause-refused g c =
+pub returns-in_err-held-clause-refused : goal.returns-in_err-held-clause-refused
+returns-in_err-held-clause-refused g c =
     λ fault e.
-    let at = goal.at.returns-clause-refused g c in
+    let at = goal.at.returns-in_err-held-clause-refused g c in
     refused-answer _ _ c.args.at c.in-Some-2.place fault
     (c.in_ok-place.ensures.store.same_bytes ∙ c.in_ok-begin.ensures.store.same_bytes) (answering g at.In-Some-2)
-    (c.record_at.ensures.refused fault e)
+    (c.in_err-held.ensures.refused fault (ap Err (sym (rw e at c.from_residual-in_err-held.ensures.1))))
+
+pub returns-in_err-held-clause-handed : goal.returns-in_err-held-clause-handed
+returns-in_err-held-clause-handed g c = takes g (goal.at.returns-in_err-held-clause-handed g c).In-Some-2 _ c.in_err-held.ensures.handed
+
+pub returns-in_err-held-clause-handed_past : goal.returns-in_err-held-clause-handed_past
+returns-in_err-held-clause-handed_past g c =
+    λ past. absurd (omega (arith, past, below g (goal.at.returns-in_err-held-clause-handed_past g c).In-Some))
+
+pub returns-in_err-held-clause-memory : goal.returns-in_err-held-clause-memory
+returns-in_err-held-clause-memory g c =
+    λ e.
+    let at = goal.at.returns-in_err-held-clause-memory g c in
+    memory-for _ _ c.args.at c.in-Some-2.place
+    (c.in_ok-place.ensures.store.same_bytes ∙ c.in_ok-begin.ensures.store.same_bytes) (answering g at.In-Some-2)
+    (c.in_err-held.ensures.memory (ap Err (sym (rw e at c.from_residual-in_err-held.ensures.1))))
+
+pub returns-in_err-record_of-clause-handed : goal.returns-in_err-record_of-clause-handed
+returns-in_err-record_of-clause-handed g c =
+    takes g (goal.at.returns-in_err-record_of-clause-handed g c).In-Some-2 _ c.in_ok-held.ensures.handed
+
+pub returns-in_err-record_of-clause-handed_past : goal.returns-in_err-record_of-clause-handed_past
+returns-in_err-record_of-clause-handed_past g c =
+    λ past. absurd (omega (arith, past, below g (goal.at.returns-in_err-record_of-clause-handed_past g c).In-Some))
+
+pub returns-in_err-record_of-clause-memory : goal.returns-in_err-record_of-clause-memory
+returns-in_err-record_of-clause-memory g c =
+    λ e.
+    memory-in _ _ c.args.at c.in-Some-2.place c.in_ok-held.held
+    (c.in_ok-place.ensures.store.same_bytes ∙ c.in_ok-begin.ensures.store.same_bytes)
+    (answering g (goal.at.returns-in_err-record_of-clause-memory g c).In-Some-2) c.in_ok-held.ensures.begin c.in_ok-held.ensures.there
+
+pub returns-clause-found : goal.returns-clause-found
+returns-clause-found g c =
+    gives-answer _ _ c.args.at c.in-Some-2.place _ c.in_ok-held.held _
+    (c.in_ok-place.ensures.store.same_bytes ∙ c.in_ok-begin.ensures.store.same_bytes) (omega arith)
+    (answering g (goal.at.returns-clause-found g c).In-Some-2) c.in_ok-held.ensures.begin c.in_ok-held.ensures.there c.in_ok-record_of.ensures
 
 pub returns-clause-handed : goal.returns-clause-handed
-returns-clause-handed g c =
-    let at = goal.at.returns-clause-handed g c in
-    takes-record _ _ _ c.args.size c.args.at c.in-Some.begin c.in-Some-2.place _ _ _ _ c.in_ok-begin.ensures.store.same_bytes
-    (c.in_ok-place.ensures.store.same_bytes ∙ c.in_ok-begin.ensures.store.same_bytes) (sized g at.Start) c.requires.in_reach
-    (holds g at.In-Some) c.holder.ensures.handed c.answering_from.ensures.handed (answering g at.In-Some-2) c.record_at.ensures.handed
+returns-clause-handed g c = takes g (goal.at.returns-clause-handed g c).In-Some-2 _ c.in_ok-held.ensures.handed
 
 pub returns-clause-handed_past : goal.returns-clause-handed_past
 returns-clause-handed_past g c =
     λ past. absurd (omega (arith, past, below g (goal.at.returns-clause-handed_past g c).In-Some))
-
-pub returns-clause-memory : goal.returns-clause-memory
-returns-clause-memory g c =
-    λ e.
-    let at = goal.at.returns-clause-memory g c in
-    memory-for _ _ c.args.at c.in-Some-2.place
-    (c.in_ok-place.ensures.store.same_bytes ∙ c.in_ok-begin.ensures.store.same_bytes) (answering g at.In-Some-2)
-    (c.record_at.ensures.memory e)

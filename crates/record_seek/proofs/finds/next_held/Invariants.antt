@@ -2,13 +2,14 @@ use Rattle.std.proofs.Common.{◌-◌, ◌≤◌, IfSome}
 use Rattle.record_io.specs.Calls.{OnlyAsks}
 use Rattle.block_layout.specs.Layout.{IsBoundary}
 use Rattle.record_seek.proofs.ReadingOn.{IsEmptyTo}
-use Rattle.record_seek.proofs.finds.first_stands_before.Given as goal
+use Rattle.record_seek.proofs.finds.next_held.Given as goal
 
 abbrev pub invariant-loop-place : goal.invariant-loop-place
 invariant-loop-place g l = record {
   boundary : IsBoundary l.place;
+  onward : l.from ≤ l.place;
   within : l.place ≤ l.size;
-  empty : IfSome (g.S.Store.bytes l.fn.store) (λ file. IsEmptyTo file l.begin l.place (g.S.Store.handed l.fn.store) (g.S.Store.handed l.store));
+  empty : IfSome (g.S.Store.bytes l.fn.store) (λ file. IsEmptyTo file l.from l.place (g.S.Store.handed l.fn.store) (g.S.Store.handed l.store));
   asks : OnlyAsks g.S.Store.bytes g.S.Store.told g.S.Store.name g.S.Store.faults ⊥ l.fn.store l.store;
 }
 

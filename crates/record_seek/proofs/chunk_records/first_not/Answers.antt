@@ -2,17 +2,18 @@ use Rattle.std.proofs.Common.{arith}
 use Rattle.std.proofs.lemmas.Option.{slice_get_within}
 use Rattle.record_seek.specs.KeyTests.{StandsBefore}
 use Rattle.record_seek.proofs.Asking.{first_not_found}
-use Rattle.record_seek.proofs.chunk_records.first_not_of.Goals as goal
+use Rattle.record_seek.proofs.chunk_records.first_not.Goals as goal
 
 pub returns-then-not-before-clause-found : goal.returns-then-not-before-clause-found
 returns-then-not-before-clause-found g c =
     let bytes = c.get.result.now in
-    first_not_found (StandsBefore g.F.Fn c.args.test.now.test) c.args.records.now c.args.begin c.loop-number.number bytes c.record_of.result
-    (slice_get_within c.args.records.now c.loop-number.number bytes c.get.ensures) c.get.ensures
+    let held = c.args.held.now in
+    first_not_found (StandsBefore g.F.Fn c.args.test.now.test) held.records held.begin c.loop-number.number bytes c.record_of.result
+    (slice_get_within held.records c.loop-number.number bytes c.get.ensures) c.get.ensures
     (λ stands. cc (c.before-in-loop-number.ensures.exact.1 stands)) c.loop-number.invariant c.record_of.ensures
 
 pub returns-clause-found : goal.returns-clause-found
 returns-clause-found g c =
     λ i bytes stands.
     c.loop-number.invariant i bytes
-    (omega (arith, slice_get_within c.args.records.now i bytes stands, c.loop-number-test.false, c.len-number-end.ensures)) stands
+    (omega (arith, slice_get_within c.args.held.now.records i bytes stands, c.loop-number-test.false, c.len-number-end.ensures)) stands
