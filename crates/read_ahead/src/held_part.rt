@@ -7,7 +7,7 @@ use std::marker::Model;
 
 /// Bytes that stand at a place of a store, of which there are up to `N`.
 #[derive(Debug, Drop)]
-pub(crate) struct HeldPart<const N: usize> {
+pub struct HeldPart<const N: usize> {
     bytes: [u8; N],
     count: usize,
     from: u64,
@@ -25,8 +25,8 @@ impl<const N: usize> Model for HeldPart<N> {
 }
 
 impl<const N: usize> HeldPart<N> {
-    /// No bytes.
-    pub(crate) fn new() -> HeldPart<N>
+    /// No bytes. It takes no memory.
+    pub fn new() -> HeldPart<N>
         ensures { result.bytes ≡ [] }
     {
         HeldPart {
@@ -36,9 +36,16 @@ impl<const N: usize> HeldPart<N> {
         }
     }
 
+    /// Holds no bytes any more.
+    pub fn clear(&mut self)
+        ensures { self.new.bytes ≡ [] }
+    {
+        self.count = 0;
+    }
+
     /// Puts bytes that begin at a place of the store into the front of the buffer, and answers how many: at least 1. Where
     /// the store is asked it is for at most so many, or for as many as the buffer has room for.
-    pub(crate) fn serve<S: Store>(
+    pub fn serve<S: Store>(
         &mut self,
         store: &mut S,
         at: u64,
@@ -110,7 +117,7 @@ impl<const N: usize> HeldPart<N> {
         ensures handed { S.handed store.new ≤ S.handed store.old + most }
         ensures store { OnlyAsks S.bytes S.told S.name S.faults (IsErr result) store.old store.new }
     {
-        self.count = 0;
+        self.clear();
         let count = (size - at).min(most.min(N) as u64) as usize;
         self.count = ask(store, at, &mut self.bytes[..count])?;
         self.from = at;

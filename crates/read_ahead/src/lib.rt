@@ -5,3 +5,4 @@ mod ahead;
 mod held_part;
 
 pub use ahead::{ReadAhead, ReadAheadBy};
+pub use held_part::HeldPart;

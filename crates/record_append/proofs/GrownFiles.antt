@@ -22,7 +22,7 @@ use Rattle.chunk_reader.proofs.FaultsDecided.{file_judged}
 use Rattle.chunk_reader.proofs.FileFaults.{fault_or_none, longest_is_one}
 use Rattle.record_writer.specs.Written.{tail_chunks, tail_under}
 use Rattle.record_writer.specs.declared.options.WriteOptions.{WriteOptions}
-use Rattle.record_append.specs.Grown.{IsKeptTo, IsRefused, IsTaken, bytes_at, chunks_at, grown}
+use Rattle.record_append.specs.Grown.{IsKeptTo, IsRefused, IsUnrefused, bytes_at, chunks_at, grown}
 
 pub kept_once : (file : List ℕ) (a b : ℕ) → IsKeptTo file a → IsKeptTo file b → a ≡ b
 kept_once file a b (ks, longest) (ls, also) = longest_is_one ks ls file a b longest also
@@ -44,10 +44,10 @@ pub kept_somewhere : (file : List ℕ) → AreBytes file → (place : ℕ) × Is
 kept_somewhere file bytes = kept_by file (file_judged true file bytes)
 
 -- neither is refused
-pub taken_whole : (cut : Bool) (ks : List ChunkValue) (file : List ℕ) → IsFrame ks file → IsTaken cut file
+pub taken_whole : (cut : Bool) (ks : List ChunkValue) (file : List ℕ) → IsFrame ks file → IsUnrefused cut file
 taken_whole cut ks file h = λ fault refused. fault_or_none true file fault refused.is_fault (ks, h)
 
-pub empty_taken : (cut : Bool) → IsKeptTo [] 0 × IsTaken cut []
+pub empty_taken : (cut : Bool) → IsKeptTo [] 0 × IsUnrefused cut []
 empty_taken cut = (
   ([], record { chain = IsChainOf-nil []; greatest = λ others other chain. chain.within }),
   λ fault refused. refused.some refl,
@@ -55,14 +55,14 @@ empty_taken cut = (
 
 -- of no other file that isn't refused nothing is kept
 nothing_by : (cut : Bool) (b : ℕ) (bytes : List ℕ) → (HasNoFault true (b ∷ bytes)) ⊎ ((fault : Fault) × IsFault true (b ∷ bytes) fault)
-    → IsTaken cut (b ∷ bytes) → IsKeptTo (b ∷ bytes) 0 → ⊥
+    → IsUnrefused cut (b ∷ bytes) → IsKeptTo (b ∷ bytes) 0 → ⊥
 nothing_by cut b bytes (inl (ks, whole)) taken (ls, longest) = omega (arith, longest.greatest ks (length (b ∷ bytes)) whole.1)
 nothing_by cut b bytes (inr (fault, inl (unsigned, is))) taken kept =
     taken fault (record { some = λ none. absurd cc; is_fault = inl (unsigned, is); reason = inl (ap (λ (f : Fault). f.why) is) })
 nothing_by cut b bytes (inr (fault, inr (signed, rest))) taken (ls, longest) =
     omega (arith, longest.greatest _ 64 (signature_chain true (b ∷ bytes) signed))
 
-pub nothing_kept : (cut : Bool) (file : List ℕ) → AreBytes file → IsTaken cut file → IsKeptTo file 0 → file ≡ []
+pub nothing_kept : (cut : Bool) (file : List ℕ) → AreBytes file → IsUnrefused cut file → IsKeptTo file 0 → file ≡ []
 nothing_kept cut [] bytes taken kept = refl
 nothing_kept cut (b ∷ rest) bytes taken kept = absurd (nothing_by cut b rest (file_judged true (b ∷ rest) bytes) taken kept)
 

@@ -15,7 +15,7 @@ use Rattle.record_writer.specs.declared.options.WriteOptions.{WriteOptions}
 use Rattle.record_writer.specs.Written.{AnswersTotals, TakesFile, tail_chunks}
 use Rattle.chunk_reader.specs.declared.reasons.Fault.{Fault}
 use Rattle.record_append.specs.Appends.{AnswersGrown, AnswersRest, GrowsBy, GrowsFrom, HoldsCutOff, KeepsBy, end_of_write}
-use Rattle.record_append.specs.Grown.{IsKeptTo, IsTaken, bytes_at, totals_at}
+use Rattle.record_append.specs.Grown.{IsKeptTo, IsUnrefused, bytes_at, totals_at}
 use Rattle.record_append.specs.declared.appends.Appended.{Appended}
 use Rattle.record_append.specs.declared.appends.AppendEnd.{AppendEnd}
 use Rattle.record_append.specs.declared.appends.AppendEnd.TheVariants.{Refused, Device}
@@ -39,7 +39,7 @@ left_of file place mid is = is
 
 -- all was put
 pub grown_whole : (options : WriteOptions) (cut : Bool) (bytes mid held : Option (List ℕ)) (rests : Option Rest) (size place : ℕ) (put : Totals)
-    → IfSome bytes (λ file. IsTaken cut file × IsKeptTo file place) → IsSized bytes size → place ≤ size
+    → IfSome bytes (λ file. IsUnrefused cut file × IsKeptTo file place) → IsSized bytes size → place ≤ size
     → mid ≡ option_map (take place) bytes
     → IfSome rests (λ rest. AnswersTotals (Ok put) (totals_at options place rest.records) rest)
     → IfSome rests (λ rest. TakesFile (Ok put) mid held (bytes_at options place rest.records))
@@ -72,20 +72,20 @@ grown_whole options cut (Some file) mid held (Some rest) size place put (taken, 
 
 -- all before a stop was put
 grown_by : (options : WriteOptions) (cut : Bool) (file : List ℕ) (held : Option (List ℕ)) (records : List (List ℕ)) (place : ℕ)
-    → IsTaken cut file × IsKeptTo file place → held ≡ Some (take place file ++ bytes_at options place records)
+    → IsUnrefused cut file × IsKeptTo file place → held ≡ Some (take place file ++ bytes_at options place records)
     → GrowsBy options cut file records held
 grown_by options cut file held records place (taken, kept) grown = (place, record { taken = taken; kept = kept; grown = grown })
 
 -- a front of it was put
 cut_off : (options : WriteOptions) (cut : Bool) (file : List ℕ) (held : Option (List ℕ)) (records : List (List ℕ)) (place : ℕ)
-    → IsTaken cut file × IsKeptTo file place
+    → IsUnrefused cut file × IsKeptTo file place
     → (n : ℕ) × (n ≤ length (bytes_at options place records)) × (held ≡ Some (take place file ++ take n (bytes_at options place records)))
     → HoldsCutOff options cut file records held
 cut_off options cut file held records place (taken, kept) (n, fits, grown) =
     inr (record { place = place; count = n; taken = taken; kept = kept; front = fits; grown = grown })
 
 grown_end : (options : WriteOptions) (cut : Bool) (file : List ℕ) (held : Option (List ℕ)) (rest : Rest) (place : ℕ) (end : WriteEnd)
-    → IsTaken cut file × IsKeptTo file place
+    → IsUnrefused cut file × IsKeptTo file place
     → AnswersTotals (Err end) (totals_at options place rest.records) rest
     → TakesFile (Err end) (Some (take place file)) held (bytes_at options place rest.records)
     → AnswersGrown (Err (end_of_write end)) options cut file rest held
@@ -99,7 +99,7 @@ grown_end options cut file held rest place Made kept answer took = cut_off optio
 grown_end options cut file held rest place Memory kept answer took = cut_off options cut file held rest.records place kept took
 
 pub grown_ended : (options : WriteOptions) (cut : Bool) (bytes mid held : Option (List ℕ)) (rests : Option Rest) (place : ℕ) (end : WriteEnd)
-    → IfSome bytes (λ file. IsTaken cut file × IsKeptTo file place) → mid ≡ option_map (take place) bytes
+    → IfSome bytes (λ file. IsUnrefused cut file × IsKeptTo file place) → mid ≡ option_map (take place) bytes
     → IfSome rests (λ rest. AnswersTotals (Err end) (totals_at options place rest.records) rest)
     → IfSome rests (λ rest. TakesFile (Err end) mid held (bytes_at options place rest.records))
     → IfSome bytes (λ file. IfSome rests (λ rest. AnswersGrown (Err (end_of_write end)) options cut file rest held))
@@ -142,7 +142,7 @@ keeps_early cut (Some file) (Some now) end same early =
 
 -- where bytes were put behind what a cut left, what is kept stands before them
 pub grows_from : (cut : Bool) (bytes mid held : Option (List ℕ)) (place : ℕ)
-    → IfSome bytes (λ file. IsTaken cut file × IsKeptTo file place) → mid ≡ option_map (take place) bytes
+    → IfSome bytes (λ file. IsUnrefused cut file × IsKeptTo file place) → mid ≡ option_map (take place) bytes
     → IfSome mid (λ front. IsSomeAnd held (λ now. (rest : List ℕ) × (now ≡ front ++ rest)))
     → IfSome bytes (λ file. IsSomeAnd held (λ now. GrowsFrom cut file place now))
 grows_from cut None mid held place kept left behind = tt

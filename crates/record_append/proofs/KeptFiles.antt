@@ -8,7 +8,7 @@ use Rattle.chunk_reader.specs.Fronts.{IsFrontOf}
 use Rattle.chunk_reader.specs.declared.reasons.Fault.{Fault}
 use Rattle.chunk_reader.specs.declared.verifying.Front.{Front}
 use Rattle.chunk_reader.proofs.FileFaults.{fault_is_one, fault_or_none}
-use Rattle.record_append.specs.Grown.{IsKeptTo, IsRefused, IsTaken, RefusesFor}
+use Rattle.record_append.specs.Grown.{IsKeptTo, IsRefused, IsUnrefused, RefusesFor}
 use Rattle.record_append.specs.declared.appends.Appended.{Appended}
 use Rattle.record_append.specs.declared.appends.AppendEnd.{AppendEnd}
 use Rattle.record_append.specs.declared.appends.AppendEnd.TheVariants.{Refused, Device}
@@ -24,7 +24,7 @@ some_bytes (b ∷ bytes) some = omega arith
 -- a file is taken whose fault, if it has one, refuses it only where it is empty
 taken_by : (cut : Bool) (file : List ℕ) (ks : List ChunkValue) (fault : Option Fault)
     → MatchOption fault (IsFrame ks file) (IsFault true file)
-    → IfSome fault (λ own. 0 < length file → ¬ RefusesFor cut own.why) → IsTaken cut file
+    → IfSome fault (λ own. 0 < length file → ¬ RefusesFor cut own.why) → IsUnrefused cut file
 taken_by cut file ks None frame none = λ fault refused. fault_or_none true file fault refused.is_fault (ks, frame)
 taken_by cut file ks (Some own) is none =
     λ fault refused.
@@ -33,7 +33,7 @@ taken_by cut file ks (Some own) is none =
 
 pub kept_front : (cut : Bool) (bytes : Option (List ℕ)) (size : ℕ) (front : Front) → IsSized bytes size
     → IfSome bytes (λ file. IsFrontOf file front) → IfSome front.fault (λ own. 0 < size → ¬ RefusesFor cut own.why)
-    → IfSome bytes (λ file. IsTaken cut file × IsKeptTo file front.totals.bytes)
+    → IfSome bytes (λ file. IsUnrefused cut file × IsKeptTo file front.totals.bytes)
 kept_front cut None size front sized is none = tt
 kept_front cut (Some file) size front sized is none = (
   taken_by cut file is.ks front.fault is.fault
@@ -62,7 +62,7 @@ refused_alone cut (Some file) fault result is refused =
 
 -- and one that is taken with none
 pub taken_never : (cut : Bool) (bytes : Option (List ℕ)) (place : ℕ) (result : Result Appended AppendEnd)
-    → IfSome bytes (λ file. IsTaken cut file × IsKeptTo file place)
+    → IfSome bytes (λ file. IsUnrefused cut file × IsKeptTo file place)
     → IfSome bytes (λ file. (own : Fault) → IsRefused cut file own → (result ≡ Err (Refused own)) ⊎ (result ≡ Err Device))
 taken_never cut None place result kept = tt
 taken_never cut (Some file) place result (taken, kept) = λ own refused. absurd (taken own refused)

@@ -2,3 +2,4 @@ pub mod KeptFiles
 pub mod PutRecords
 pub mod Grows
 pub mod GrownFiles
+mod Values

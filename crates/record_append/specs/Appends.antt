@@ -6,7 +6,7 @@ use Rattle.record_writer.specs.declared.engine.WriteEnd.{WriteEnd}
 use Rattle.record_writer.specs.declared.engine.WriteEnd.TheVariants as write
 use Rattle.record_writer.specs.declared.feed.Stop.TheVariants.{TooLong as too_long, InputTooLong as input_too_long, BadLine as bad_line}
 use Rattle.record_writer.specs.declared.options.WriteOptions.{WriteOptions}
-use Rattle.record_append.specs.Grown.{IsKeptTo, IsTaken, bytes_at, grown}
+use Rattle.record_append.specs.Grown.{IsKeptTo, IsUnrefused, bytes_at, grown}
 use Rattle.record_append.specs.declared.appends.Appended.{Appended}
 use Rattle.record_append.specs.declared.appends.AppendEnd.{AppendEnd}
 use Rattle.record_append.specs.declared.appends.AppendEnd.TheVariants.{Refused, TooLong, InputTooLong, BadLine, Input, Device, Memory}
@@ -28,7 +28,7 @@ pub record MayBeKeptTo (size place : ℕ) : Type 0 where
 
 -- the old file isn't refused, it is kept up to this place, and a device holds it grown by these records
 pub record HoldsGrown (options : WriteOptions) (cut : Bool) (file : List ℕ) (place : ℕ) (records : List (List ℕ)) (held : Option (List ℕ)) : Type 0 where
-  pub taken : IsTaken cut file
+  pub taken : IsUnrefused cut file
   pub kept : IsKeptTo file place
   pub grown : held ≡ Some (grown options file place records)
 
@@ -36,7 +36,7 @@ pub record HoldsGrown (options : WriteOptions) (cut : Bool) (file : List ℕ) (p
 pub record HoldsGrownInPart (options : WriteOptions) (cut : Bool) (file : List ℕ) (records : List (List ℕ)) (held : Option (List ℕ)) : Type 0 where
   pub place : ℕ
   pub count : ℕ
-  pub taken : IsTaken cut file
+  pub taken : IsUnrefused cut file
   pub kept : IsKeptTo file place
   pub front : count ≤ length (bytes_at options place records)
   pub grown : held ≡ Some (take place file ++ take count (bytes_at options place records))
@@ -47,7 +47,7 @@ HoldsCutOff options cut file records held = (held ≡ Some file) ⊎ HoldsGrownI
 
 -- the old file isn't refused, it is kept up to this place, and a device holds what is kept of it and bytes behind that
 abbrev pub GrowsFrom : Bool → List ℕ → ℕ → List ℕ → Type 0
-GrowsFrom cut file place held = IsTaken cut file × IsKeptTo file place × ((rest : List ℕ) × (held ≡ take place file ++ rest))
+GrowsFrom cut file place held = IsUnrefused cut file × IsKeptTo file place × ((rest : List ℕ) × (held ≡ take place file ++ rest))
 
 -- no byte that is kept of an old file changes: a device holds that file or, where it isn't refused, that of it and more
 abbrev pub KeepsFront : Bool → List ℕ → List ℕ → Type 0

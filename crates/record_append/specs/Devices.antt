@@ -52,6 +52,21 @@ pub record Growing : Type 0 where
   -- how many faults there were
   pub faults : ℕ
 
+-- a device that reads ahead of another one
+pub record GrowingAhead : Type 0 where
+  -- the bytes of the file, where they are told
+  pub bytes : Option (List ℕ)
+  -- the size that was said last, if nothing was cut or put since
+  pub said : Option ℕ
+  -- how many bytes were handed out
+  pub handed : ℕ
+  -- how many bytes the other device handed out
+  pub inner_handed : ℕ
+  -- how many faults there were
+  pub faults : ℕ
+  -- how many faults the other device had
+  pub inner_faults : ℕ
+
 -- so many bytes were put where a file should end, if that was known, and then it should end behind them
 abbrev pub EndsBehind : Option ℕ → Option ℕ → ℕ → Type 0
 EndsBehind before after n = (size : ℕ) × IfSome before (λ end. size ≡ end) × (after ≡ Some (min (size + n) (2 ^ 64 - 1)))

@@ -44,5 +44,5 @@ pub record IsRefused (cut : Bool) (file : List ℕ) (fault : Fault) : Type 0 whe
   pub reason : RefusesFor cut fault.why
 
 -- an old file isn't refused
-abbrev pub IsTaken : Bool → List ℕ → Type 0
-IsTaken cut file = (fault : Fault) → ¬ IsRefused cut file fault
+abbrev pub IsUnrefused : Bool → List ℕ → Type 0
+IsUnrefused cut file = (fault : Fault) → ¬ IsRefused cut file fault

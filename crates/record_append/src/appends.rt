@@ -83,7 +83,7 @@ impl From<WriteEnd> for AppendEnd {
 ///
 /// The old file is judged first, as `verify_front` does: compressed and transposed chunks are kept. Then it is cut, if anything
 /// is dropped, and the chunks of the records are put, as `write_after` does. No byte that is kept changes. Where a stop follows
-/// the records, these are put too.
+/// the records, these are put too. Of what the feed reads as many bytes are left as it leaves in any case, also after a failure.
 ///
 /// # Errors
 ///
@@ -120,7 +120,7 @@ pub fn append<R: Threads + Sync, L: RecordFeed, G: Device + Send>(
     ensures told { IfOk result (λ told. MayBeKeptTo size told.kept × (told.kept + told.dropped ≡ size) × (told.kept ≤ told.bytes)) }
     ensures read_to_end { OnOk result (IfSome (L.rest feed.old) (λ _. L.rest feed.new ≡ Some nothing_left)) }
 
-    ensures feed { OnlyCounts L.name L.faults (result ≡ Err AppendEnd.Input) feed.old feed.new }
+    ensures feed { OnlyCounts L.origin L.faults (result ≡ Err AppendEnd.Input) feed.old feed.new }
     ensures device { CountsFaults G.faults (result ≡ Err AppendEnd.Device) device.old device.new }
 {
     let kept = judge(device, size, cut)?;
@@ -154,7 +154,7 @@ fn put_records<R: Threads + Sync, L: RecordFeed, G: Device + Send>(
     ensures behind { IfSome (G.bytes device.old) (λ front. IsSomeAnd (G.bytes device.new) (λ held. (rest : List ℕ) × (held ≡ front ++ rest))) }
     ensures in_reach { IfOk result (λ totals. place + totals.bytes < 2 ^ 64) }
     ensures read_to_end { OnOk result (IfSome (L.rest feed.old) (λ _. L.rest feed.new ≡ Some nothing_left)) }
-    ensures feed { OnlyCounts L.name L.faults (result ≡ Err WriteEnd.Input) feed.old feed.new }
+    ensures feed { OnlyCounts L.origin L.faults (result ≡ Err WriteEnd.Input) feed.old feed.new }
     ensures device { CountsFaults G.faults (result ≡ Err WriteEnd.Made) device.old device.new }
 {
     let mut sink = AsSink::new(device, place);

@@ -6,7 +6,7 @@ ghost use Rattle.chunk_header.specs.Chunks.{ChunkValue};
 ghost use Rattle.meta_chunk.specs.Files.{AreRecordsOf, IsFrame, IsFrameChain};
 ghost use Rattle.record_group.specs.Records.{AreRecords};
 ghost use Rattle.record_writer.specs.declared.options.WriteOptions.{WriteOptions};
-ghost use Rattle.record_append.specs.Grown.{IsKeptTo, IsTaken, chunks_at, grown};
+ghost use Rattle.record_append.specs.Grown.{IsKeptTo, IsUnrefused, chunks_at, grown};
 
 /// An old file is kept up to one place. A well-formed one is kept whole and isn't refused, nor is an empty one; of any other
 /// file that isn't refused some bytes are kept. Own.
@@ -14,9 +14,9 @@ pub fn old_files_are_kept_up_to_one_place()
     ensures one { (file : List ℕ) (a b : ℕ) → IsKeptTo file a → IsKeptTo file b → a ≡ b }
     ensures some { (file : List ℕ) → AreBytes file → (place : ℕ) × IsKeptTo file place }
     ensures whole { (ks : List ChunkValue) (file : List ℕ) → IsFrame ks file → IsKeptTo file (length file) }
-    ensures taken { (cut : Bool) (ks : List ChunkValue) (file : List ℕ) → IsFrame ks file → IsTaken cut file }
-    ensures empty { (cut : Bool) → IsKeptTo [] 0 × IsTaken cut [] }
-    ensures nothing { (cut : Bool) (file : List ℕ) → AreBytes file → IsTaken cut file → IsKeptTo file 0 → file ≡ [] }
+    ensures taken { (cut : Bool) (ks : List ChunkValue) (file : List ℕ) → IsFrame ks file → IsUnrefused cut file }
+    ensures empty { (cut : Bool) → IsKeptTo [] 0 × IsUnrefused cut [] }
+    ensures nothing { (cut : Bool) (file : List ℕ) → AreBytes file → IsUnrefused cut file → IsKeptTo file 0 → file ≡ [] }
 {}
 
 /// A grown file is one of the chunks that are kept of the old one and then those of the records, and holds the records of these

@@ -2,6 +2,7 @@
 //! them. All sizes and places are in bytes. Own, as a whole.
 #![tactic(auto)]
 
+mod ahead_device;
 mod appends;
 mod as_sink;
 mod as_store;
@@ -11,6 +12,7 @@ pub mod laws;
 mod mem_device;
 mod old_file;
 
+pub use ahead_device::{AheadDevice, AheadDeviceBy};
 pub use appends::{AppendEnd, Appended, append};
 pub use as_sink::AsSink;
 pub use as_store::AsStore;

@@ -2,7 +2,7 @@ ghost use Rattle.std.specs.Prelude.{◌≡◌, ◌≢◌, ◌+◌, ◌^◌, ◌<
 ghost use Rattle.chunk_reader.specs.declared.reasons.Fault.{Fault};
 ghost use Rattle.record_append.specs.Appends.{MayBeKeptTo};
 ghost use Rattle.record_append.specs.Devices.{CountsFaults};
-ghost use Rattle.record_append.specs.Grown.{IsKeptTo, IsRefused, IsTaken, RefusesFor};
+ghost use Rattle.record_append.specs.Grown.{IsKeptTo, IsRefused, IsUnrefused, RefusesFor};
 
 use crate::appends::AppendEnd;
 use crate::as_store::AsStore;
@@ -18,7 +18,7 @@ use record_io::Failed;
 pub(crate) fn judge<G: Device>(device: &mut G, size: u64, cut: bool) -> Result<u64, AppendEnd>
     requires told { G.told device.old ≡ Some size }
     requires in_reach { size ≤ 2 ^ 60 }
-    ensures kept { IfOk result (λ place. IfSome (G.bytes device.old) (λ file. IsTaken cut file × IsKeptTo file place)) }
+    ensures kept { IfOk result (λ place. IfSome (G.bytes device.old) (λ file. IsUnrefused cut file × IsKeptTo file place)) }
     ensures place { IfOk result (λ place. MayBeKeptTo size place) }
     ensures sized { IfSome (G.bytes device.old) (λ file. size ≡ length file) }
     ensures refused { (fault : Fault) → result ≡ Err (AppendEnd.Refused fault)
