@@ -3,7 +3,6 @@ use Rattle.std.proofs.Common.{◌≡◌, ℕ, zero, suc, ◌+◌, ◌<◌, ◌�
 use Rattle.std.specs.List.{AllByRecursion, flat_map, sum_by}
 use Rattle.std.proofs.lemmas.Bool.{cases_lt}
 use Rattle.record_values.specs.Bytes.{AreBytes}
-use Rattle.record_io.specs.Puts.{Made, Out, puts_to}
 use Rattle.chunk_header.specs.Chunks.{ChunkValue}
 use Rattle.meta_chunk.specs.Files.{AreRecordsOf, IsFile}
 use Rattle.meta_chunk.proofs.Held.{HoldEach-framed}
@@ -19,15 +18,12 @@ use Rattle.run_answers.specs.Answers.{Answer, noted}
 use Rattle.run_answers.specs.FileAnswers.{limit_text, most_file_bytes}
 use Rattle.run_answers.specs.declared.status.Status.TheVariants as status
 use Rattle.show_files.specs.Readings.{refused_file_text}
-use Rattle.collect_files.specs.CollectCommand.{AreInReach, IsCollectAnswer, IsOneTooLong, collected_file, collected_lines, too_much_text}
+use Rattle.collect_files.specs.CollectCommand.{AreInReach, IsCollectAnswer, IsOneTooLong, collected_answer, too_much_text}
 use Rattle.collect_files.proofs.Weaves.{in_turn, in_turn-bounds, in_turn-woven, numbers_from, too_long_or_short}
 
 -- the answer to files whose records are gathered so
-abbrev pub whole_answer : GatheredValue → Answer
-whole_answer made = record { puts = puts_to Made (collected_file made.records) ++ puts_to Out (collected_lines made); status = status.Ok }
-
 pub is_whole : (files : List (List ℕ)) (made : GatheredValue) → AreInReach (map length files) → AreGatheredOf files made
-    → IsCollectAnswer files (whole_answer made)
+    → IsCollectAnswer files (collected_answer made)
 is_whole files made reach gathered = inr (reach, inl (record { made = made; gathered = gathered; is = refl }))
 
 -- one of the sizes passes the limit, or none does
@@ -73,7 +69,7 @@ pub answer_in_reach : (files : List (List ℕ)) → AllByRecursion AreBytes file
     → (answer : Answer) × IsCollectAnswer files answer
 answer_in_reach files bytes reach = elim (files_judged false files bytes) [
   | inl none ↦ let each = records_of_files files none in elim (gathered_or_too_much files each.0 each.1) [
-    | inl (made, gathered) ↦ (whole_answer made, is_whole files made reach gathered)
+    | inl (made, gathered) ↦ (collected_answer made, is_whole files made reach gathered)
     | inr much ↦ (noted status.Limit too_much_text, inr (reach, inr (inr (much, refl))))
   ]
   | inr (index, fault, first) ↦

@@ -22,15 +22,15 @@ use Rattle.run_answers.proofs.ManyFiles.{bytes_of, told_by}
 use Rattle.run_answers.proofs.RunEnds.{GaveButNotes, Keeps, PutsLines-none, was-cut_off, went-so_far, runs-whole, runs-said, runs-cut_off}
 use Rattle.run_answers.proofs.TwoStreams.{bytes_to-neither}
 use Rattle.show_files.specs.Readings.{refused_file_text}
-use Rattle.collect_files.specs.CollectCommand.{AreInReach, IsOneTooLong, IsCollectAnswer, IsCollectedSoFar, collect_meaning, collected_file, collected_lines, too_much_text}
-use Rattle.collect_files.specs.CollectingEnds.{AreSized, IsPut, TakeCollected, collecting_ends, status_of_stop, text_of_stop}
-use Rattle.collect_files.specs.declared.stops.Stop.{Stop}
-use Rattle.collect_files.proofs.CollectAnswers.{answer_in_reach, collect_exists, is_whole, whole_answer}
+use Rattle.collect_files.specs.CollectCommand.{AreInReach, IsOneTooLong, IsCollectAnswer, IsCollectedSoFar, collect_meaning, collected_answer, collected_file, collected_lines, too_much_text}
+use Rattle.collect_files.specs.CollectingEnds.{AreSized, IsPut, TakeCollected, collecting_ends, uncollected_status, uncollected_text}
+use Rattle.collect_files.specs.declared.stops.Uncollected.{Uncollected}
+use Rattle.collect_files.proofs.CollectAnswers.{answer_in_reach, collect_exists, is_whole}
 use Rattle.collect_files.proofs.CollectedFiles.{collected-some}
 use Rattle.run_answers.specs.declared.ending.Cut.TheVariants as cut
 use Rattle.run_answers.specs.declared.ending.Ending.TheVariants as end
 use Rattle.run_answers.specs.declared.status.Status.TheVariants as status
-use Rattle.collect_files.specs.declared.stops.Stop.TheVariants as stop
+use Rattle.collect_files.specs.declared.stops.Uncollected.TheVariants as uncollected
 
 module _ (input made made_then : SeenStream) (files files_then : List SeenFile) (grown : SeenFile) (out out_then notes notes_then : SeenStream)
     (keeps : Keeps collect_meaning (seen input files made grown out notes) (seen input files_then made_then grown out_then notes_then))
@@ -107,12 +107,12 @@ module _ (input made made_then : SeenStream) (files files_then : List SeenFile) 
       (subst (λ (n : SeenStream). Takes notes.bytes n.bytes []) (sym kept) (Takes-nothing notes.bytes))
       (if_told _ (λ all bytes same.
       let (value, gathered, (whole, printed)) = took all same in
-      let went : GoOut Start Worked (whole_answer value).puts = both_went (collected_file value.records) (collected_lines value) whole printed in (
-        whole_answer value,
+      let went : GoOut Start Worked (collected_answer value).puts = both_went (collected_file value.records) (collected_lines value) whole printed in (
+        collected_answer value,
         is_whole all value (of_files AreInReach all same reach) gathered,
         record {
           same_status = refl;
-          went = subst (λ (n : SeenStream). GoOut Start (taken_by made_then.bytes out_then.bytes n.bytes) (whole_answer value).puts) (sym kept) went;
+          went = subst (λ (n : SeenStream). GoOut Start (taken_by made_then.bytes out_then.bytes n.bytes) (collected_answer value).puts) (sym kept) went;
         },
       )))
       (λ _ none. absurd (cc none)) (λ none. absurd (cc none)) tt keeps
@@ -205,14 +205,14 @@ module _ (input made made_then : SeenStream) (files files_then : List SeenFile) 
 
   -- a front of the file was made
   front_went : (ended : Status) (all : List (List ℕ)) (value : GatheredValue) → AreInReach (map length all) → AreGatheredOf all value
-      → ((count : ℕ) → BreaksOff Made (puts_to Made (take count (collected_file value.records))) (whole_answer value).puts
-      → Breaks ended (puts_to Made (take count (collected_file value.records))) (whole_answer value).puts)
+      → ((count : ℕ) → BreaksOff Made (puts_to Made (take count (collected_file value.records))) (collected_answer value).puts
+      → Breaks ended (puts_to Made (take count (collected_file value.records))) (collected_answer value).puts)
       → TakesFront made.bytes made_then.bytes (collected_file value.records) → out_then.bytes ≡ out.bytes → WentOf ended all
   front_went ended all value reach gathered breaks front unprinted =
       let count = TakesFront-count made.bytes made_then.bytes (collected_file value.records) front in
       let part : List Put = puts_to Made (take count.0 (collected_file value.records)) in
       record {
-        answer = whole_answer value;
+        answer = collected_answer value;
         is = is_whole all value reach gathered;
         part = part;
         breaks = breaks count.0
@@ -255,7 +255,7 @@ module _ (input made made_then : SeenStream) (files files_then : List SeenFile) 
             }
         of_put all bytes within (inr (value, gathered, front), unprinted) =
             front_went status.Memory all value within gathered
-            (λ count broke. BreaksOff-front Made (puts_to Made (take count (collected_file value.records))) (whole_answer value).puts broke)
+            (λ count broke. BreaksOff-front Made (puts_to Made (take count (collected_file value.records))) (collected_answer value).puts broke)
             front unprinted
 
   -- the lines were not printed whole
@@ -270,7 +270,7 @@ module _ (input made made_then : SeenStream) (files files_then : List SeenFile) 
       let count = TakesFront-count out.bytes out_then.bytes (collected_lines value) front in
       let last : List ℕ = take count.0 (collected_lines value) in
       record {
-        answer = whole_answer value;
+        answer = collected_answer value;
         is = is_whole all value (of_files AreInReach all told reach) gathered;
         part = puts_to Made file ++ puts_to Out last;
         breaks = BreaksOff-last Out (puts_to Made file) (collected_lines value) count.0 some;
@@ -281,7 +281,7 @@ module _ (input made made_then : SeenStream) (files files_then : List SeenFile) 
       (refl, rose) says
 
   -- by how the work ended
-  pub runs-collect : {X : Type 0} (result : Result X (Ending Stop)) (ended : Status) → AreSized result (told_by files_then)
+  pub runs-collect : {X : Type 0} (result : Result X (Ending Uncollected)) (ended : Status) → AreSized result (told_by files_then)
       → IfFiles (λ all. TakeCollected result all made.bytes made_then.bytes out.bytes out_then.bytes)
       → SaysEnd collecting_ends result ended notes notes_then
       → (result ≡ Err (end.Cut cut.File) → OneRose files files_then)
@@ -290,8 +290,8 @@ module _ (input made made_then : SeenStream) (files files_then : List SeenFile) 
       → Ended ended
   runs-collect {X} (Ok x) ended sized took says file_rose made_rose out_rose = subst Ended (sym says.0) (done X x sized took says.1)
   runs-collect (Err end.Limit) ended sized took says file_rose made_rose out_rose = too_long ended sized took says
-  runs-collect (Err (end.At (stop.Refused index fault))) ended sized took says file_rose made_rose out_rose = refused ended index fault sized took says
-  runs-collect (Err (end.At stop.TooMuch)) ended sized took says file_rose made_rose out_rose = too_much ended sized took says
+  runs-collect (Err (end.At (uncollected.Refused index fault))) ended sized took says file_rose made_rose out_rose = refused ended index fault sized took says
+  runs-collect (Err (end.At uncollected.TooMuch)) ended sized took says file_rose made_rose out_rose = too_much ended sized took says
   runs-collect (Err (end.Cut cut.File)) ended sized took says file_rose made_rose out_rose =
       subst Ended (sym says.0) (file_failed took (file_rose refl) says.1)
   runs-collect {X} (Err (end.Cut cut.Made)) ended sized took says file_rose made_rose out_rose =

@@ -23,7 +23,7 @@ use Rattle.run_answers.specs.Runs.{SeenStream, SeenFile, seen, seen_file, Runs}
 use Rattle.run_answers.proofs.ManyFiles.{keeps-files, one_rose}
 use Rattle.collect_files.specs.CollectCommand.{AreInReach, IsOneTooLong, collect_meaning, collected_file, collected_lines, files_lines}
 use Rattle.collect_files.specs.CollectingEnds.{AreSized, IsPut, TakeCollected, collecting_ends, end_of_gather}
-use Rattle.collect_files.specs.declared.stops.Stop.{Stop}
+use Rattle.collect_files.specs.declared.stops.Uncollected.{Uncollected}
 use Rattle.collect_files.proofs.CollectAnswers.{sizes_judged}
 use Rattle.collect_files.proofs.CollectRuns.{runs-collect}
 use Rattle.record_collect.specs.declared.gathering.GatherEnd.TheVariants as gather
@@ -46,11 +46,11 @@ none_too_long sizes is = elim (sizes_judged sizes) [
 ]
 
 -- what gathering took where it ended early
-pub took-ended : (X : Type 0) (e : GatherEnd) (why : Ending Stop) (made out : Option (List ℕ)) (all : List (List ℕ)) → why ≡ end_of_gather e
+pub took-ended : (X : Type 0) (e : GatherEnd) (why : Ending Uncollected) (made out : Option (List ℕ)) (all : List (List ℕ)) → why ≡ end_of_gather e
     → ((index : ℕ) (fault : Fault) → e ≡ gather.Refused index fault → IsFirstFault false all index fault)
     → (e ≡ gather.TooMuch → IsTooMuch all) → TakeCollected {X = X} (Err why) all made made out out
 took-ended X e why made out all is refused much =
-    subst (λ (w : Ending Stop). TakeCollected {X = X} (Err w) all made made out out) (sym is) (by_end e refused much) where
+    subst (λ (w : Ending Uncollected). TakeCollected {X = X} (Err w) all made made out out) (sym is) (by_end e refused much) where
       by_end : (e : GatherEnd) → ((index : ℕ) (fault : Fault) → e ≡ gather.Refused index fault → IsFirstFault false all index fault)
           → (e ≡ gather.TooMuch → IsTooMuch all) → TakeCollected {X = X} (Err (end_of_gather e)) all made made out out
       by_end (gather.Refused index fault) refused much = (refused index fault refl, refl, refl)
@@ -58,10 +58,10 @@ took-ended X e why made out all is refused much =
       by_end gather.Store refused much = (refl, refl)
       by_end gather.Memory refused much = (inl refl, refl)
 
-pub sized-ended : (X : Type 0) (e : GatherEnd) (why : Ending Stop) (told : List (Option ℕ)) (sizes : List ℕ) → why ≡ end_of_gather e
+pub sized-ended : (X : Type 0) (e : GatherEnd) (why : Ending Uncollected) (told : List (Option ℕ)) (sizes : List ℕ) → why ≡ end_of_gather e
     → told ≡ map Some sizes → AreInReach sizes → AreSized {X = X} (Err why) told
 sized-ended X e why told sizes is tells reach =
-    subst (λ (w : Ending Stop). AreSized {X = X} (Err w) told) (sym is) (by_end e) where
+    subst (λ (w : Ending Uncollected). AreSized {X = X} (Err w) told) (sym is) (by_end e) where
       by_end : (e : GatherEnd) → AreSized {X = X} (Err (end_of_gather e)) told
       by_end (gather.Refused index fault) = (sizes, tells, reach)
       by_end gather.TooMuch = (sizes, tells, reach)
@@ -69,15 +69,15 @@ sized-ended X e why told sizes is tells reach =
       by_end gather.Memory = (sizes, tells, reach)
 
 -- a file failed only where gathering says it
-pub file-failed : (X : Type 0) (e : GatherEnd) (why : Ending Stop) → why ≡ end_of_gather e
-    → ◌≡◌ {A = Result X (Ending Stop)} (Err why) (Err (end.Cut cut.File)) → e ≡ gather.Store
+pub file-failed : (X : Type 0) (e : GatherEnd) (why : Ending Uncollected) → why ≡ end_of_gather e
+    → ◌≡◌ {A = Result X (Ending Uncollected)} (Err why) (Err (end.Cut cut.File)) → e ≡ gather.Store
 file-failed X (gather.Refused index fault) why is failed = cc
 file-failed X gather.TooMuch why is failed = cc
 file-failed X gather.Store why is failed = refl
 file-failed X gather.Memory why is failed = cc
 
 -- of gathered records this was put
-pub took-put : {X : Type 0} (result : Result X (Ending Stop)) (value : GatheredValue) (made made_then out out_then : Option (List ℕ)) (all : List (List ℕ))
+pub took-put : {X : Type 0} (result : Result X (Ending Uncollected)) (value : GatheredValue) (made made_then out out_then : Option (List ℕ)) (all : List (List ℕ))
     → AreGatheredOf all value → IsPut result value made made_then out out_then → TakeCollected result all made made_then out out_then
 took-put (Ok x) value made made_then out out_then all gathered put = (value, gathered, put)
 took-put (Err end.Limit) value made made_then out out_then all gathered put = absurd put
@@ -87,7 +87,7 @@ took-put (Err (end.Cut cut.Memory)) value made made_then out out_then all gather
 took-put (Err (end.Cut cut.Out)) value made made_then out out_then all gathered put = (value, gathered, put)
 took-put (Err (end.Cut other)) value made made_then out out_then all gathered put = absurd put
 
-pub sized-put : {X : Type 0} (result : Result X (Ending Stop)) (value : GatheredValue) (made made_then out out_then : Option (List ℕ)) (told : List (Option ℕ)) (sizes : List ℕ)
+pub sized-put : {X : Type 0} (result : Result X (Ending Uncollected)) (value : GatheredValue) (made made_then out out_then : Option (List ℕ)) (told : List (Option ℕ)) (sizes : List ℕ)
     → IsPut result value made made_then out out_then → told ≡ map Some sizes → AreInReach sizes → AreSized result told
 sized-put (Ok x) value made made_then out out_then told sizes put tells reach = (sizes, tells, reach)
 sized-put (Err end.Limit) value made made_then out out_then told sizes put tells reach = absurd put
@@ -132,10 +132,10 @@ put-unprinted value records places made made_then out out_then same are took pri
 )
 
 -- which fails no file
-pub put-unread : {X : Type 0} {A : Type 0} (result : Result X (Ending Stop)) (value : GatheredValue) (made made_then out out_then : Option (List ℕ))
+pub put-unread : {X : Type 0} {A : Type 0} (result : Result X (Ending Uncollected)) (value : GatheredValue) (made made_then out out_then : Option (List ℕ))
     → IsPut result value made made_then out out_then → result ≡ Err (end.Cut cut.File) → A
 put-unread {X} result value made made_then out out_then put failed =
-    absurd (subst (λ (r : Result X (Ending Stop)). IsPut r value made made_then out out_then) failed put)
+    absurd (subst (λ (r : Result X (Ending Uncollected)). IsPut r value made made_then out out_then) failed put)
 
 -- how a run ends, by what became of the files
 module _ {S : Type 0} (bytes : S → Option (List ℕ)) (told : S → Option ℕ) (handed faults : S → ℕ) (files files_then : List S) where
@@ -143,7 +143,7 @@ module _ {S : Type 0} (bytes : S → Option (List ℕ)) (told : S → Option ℕ
   Shown fs = map (seen_file bytes told handed faults) fs
 
   pub runs-collected : {X : Type 0} (input made made_then : SeenStream) (grown : SeenFile) (out out_then notes notes_then : SeenStream)
-      (result : Result X (Ending Stop)) (ended : Status)
+      (result : Result X (Ending Uncollected)) (ended : Status)
       → ((all : List (List ℕ)) (sizes : List ℕ) → map bytes files ≡ map Some all → map told files_then ≡ map Some sizes → sizes ≡ map length all)
       → made.faults ≤ made_then.faults → out.faults ≤ out_then.faults → notes.faults ≤ notes_then.faults
       → ((place : ℕ) (a b : S) → slice_get files place ≡ Some a → slice_get files_then place ≡ Some b → faults a ≤ faults b)

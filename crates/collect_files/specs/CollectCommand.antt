@@ -50,12 +50,16 @@ collected_lines made = files_lines (places_in_file made.records default_chunk_si
 abbrev pub too_much_text : List ℕ
 too_much_text = line (codes "limit collect")
 
+-- the answer that makes the file of gathered records and prints where each stands there
+abbrev pub collected_answer : GatheredValue → Answer
+collected_answer made = record { puts = puts_to Made (collected_file made.records) ++ puts_to Out (collected_lines made); status = status.Ok }
+
 -- none of the files has a fault: the file of their records, in one of the orders that these may be gathered in, and where each
 -- record stands in it
 pub record AreCollectedIn (files : List (List ℕ)) (answer : Answer) : Type 0 where
   pub made : GatheredValue
   pub gathered : AreGatheredOf files made
-  pub is : answer ≡ record { puts = puts_to Made (collected_file made.records) ++ puts_to Out (collected_lines made); status = status.Ok }
+  pub is : answer ≡ collected_answer made
 
 -- one is the first with a fault: the line of that
 pub record AreRefusedIn (files : List (List ℕ)) (answer : Answer) : Type 0 where
@@ -93,7 +97,7 @@ abbrev pub collect_meaning : Meaning
 collect_meaning =
     record (meaning (record none_used { files = true; made = true; out = true; memory = true }) (λ r answer. IsCollectAnswer r.files answer)) {
       one = false;
-      may_have_put = λ r part. IsCollectedSoFar r.files part;
+      may_have_put = λ r before after part. IsCollectedSoFar r.files part;
       may_work = AreInReach;
       may_take = λ sizes before after. Unit {0};
       may_end = MayEndCollecting;

@@ -7,7 +7,7 @@ ghost use Rattle.collect_files.specs.CollectingEnds.{AreSized, TakeCollected, en
 
 use crate::collect_words::MOST_FILES;
 use crate::sizes::{is_one_too_long, sizes_told};
-use crate::stops::{Stop, end_collecting};
+use crate::stops::{Uncollected, end_collecting};
 use crate::writing::put_gathered;
 use record_collect::{GatherEnd, gather};
 use record_io::{Sink, Store};
@@ -46,7 +46,7 @@ fn make_collected<R: Threads + Sync, S: Store + Send, M: Sink + Send, O: Sink>(
     files: &mut [S],
     made: &mut M,
     out: &mut O,
-) -> Result<(), Ending<Stop>>
+) -> Result<(), Ending<Uncollected>>
     requires some { 0 < length files.old }
     requires few { length files.old ≤ 16 }
     ensures collected { IfAllTell S.bytes files.old (λ all. TakeCollected result all (M.taken made.old) (M.taken made.new) (O.taken out.old) (O.taken out.new)) }
@@ -80,7 +80,7 @@ fn collect_sized<R: Threads + Sync, S: Store + Send, M: Sink + Send, O: Sink>(
     sizes: &[u64],
     made: &mut M,
     out: &mut O,
-) -> Result<(), Ending<Stop>>
+) -> Result<(), Ending<Uncollected>>
     requires some { 0 < length files.old }
     requires few { length files.old ≤ 16 }
     requires told { AreTold S.told files.old sizes.now }
@@ -98,12 +98,12 @@ fn collect_sized<R: Threads + Sync, S: Store + Send, M: Sink + Send, O: Sink>(
 }
 
 /// The end by which the records of files were not gathered.
-fn end_of_gather(end: GatherEnd) -> Ending<Stop>
+fn end_of_gather(end: GatherEnd) -> Ending<Uncollected>
     ensures { result ≡ end_of_gather end }
 {
     match end {
-        GatherEnd::Refused { index, fault } => Ending::At(Stop::Refused { index, fault }),
-        GatherEnd::TooMuch => Ending::At(Stop::TooMuch),
+        GatherEnd::Refused { index, fault } => Ending::At(Uncollected::Refused { index, fault }),
+        GatherEnd::TooMuch => Ending::At(Uncollected::TooMuch),
         GatherEnd::Store => Ending::Cut(Cut::File),
         GatherEnd::Memory => Ending::Cut(Cut::Memory),
     }

@@ -3,6 +3,7 @@
 
 pub mod collect_words;
 mod collecting;
+pub mod laws;
 mod place_lines;
 mod sizes;
 mod stops;

@@ -2,7 +2,7 @@ ghost use Rattle.std.specs.Prelude.{◌≡◌};
 ghost use Rattle.record_io.specs.Calls.{OnlyCounts};
 ghost use Rattle.run_answers.specs.Endings.{SaysEnd};
 ghost use Rattle.run_answers.specs.Runs.{SaysAtEnd, seen_stream};
-ghost use Rattle.collect_files.specs.CollectingEnds.{collecting_ends, status_of_stop, text_of_stop};
+ghost use Rattle.collect_files.specs.CollectingEnds.{collecting_ends, uncollected_status, uncollected_text};
 
 use chunk_reader::Fault;
 use record_io::Sink;
@@ -11,7 +11,7 @@ use show_files::end_with_file_fault;
 
 /// What the records of files are not collected past.
 #[derive(Clone, Copy, Debug, PartialEq, Eq)]
-pub(crate) enum Stop {
+pub(crate) enum Uncollected {
     /// A file is refused.
     Refused {
         /// Which of the files, by its number from 0.
@@ -24,7 +24,10 @@ pub(crate) enum Stop {
 }
 
 /// Says in notes why the work ended before it was done.
-pub(crate) fn end_collecting<E: Sink>(ended: Result<(), Ending<Stop>>, notes: &mut E) -> Status
+pub(crate) fn end_collecting<E: Sink>(
+    ended: Result<(), Ending<Uncollected>>,
+    notes: &mut E,
+) -> Status
     ensures told { SaysEnd collecting_ends ended result (seen_stream E.taken E.faults notes.old)
         (seen_stream E.taken E.faults notes.new) }
     ensures notes_kept { result ≡ Status.Ok → notes.new ≡ notes.old }
@@ -39,13 +42,13 @@ pub(crate) fn end_collecting<E: Sink>(ended: Result<(), Ending<Stop>>, notes: &m
 }
 
 /// Ends the work with the line of what it doesn't go past.
-fn end_at_stop<E: Sink>(notes: &mut E, stop: &Stop) -> Status
-    ensures told { SaysAtEnd result (status_of_stop stop.now) (seen_stream E.taken E.faults notes.old)
-        (seen_stream E.taken E.faults notes.new) (text_of_stop stop.now) }
+fn end_at_stop<E: Sink>(notes: &mut E, stop: &Uncollected) -> Status
+    ensures told { SaysAtEnd result (uncollected_status stop.now) (seen_stream E.taken E.faults notes.old)
+        (seen_stream E.taken E.faults notes.new) (uncollected_text stop.now) }
     ensures notes { OnlyCounts E.lent E.faults ⊥ notes.old notes.new }
 {
     match stop {
-        Stop::Refused { index, fault } => end_with_file_fault(notes, *index, fault),
-        Stop::TooMuch => end(notes, "limit collect\n", Status::Limit),
+        Uncollected::Refused { index, fault } => end_with_file_fault(notes, *index, fault),
+        Uncollected::TooMuch => end(notes, "limit collect\n", Status::Limit),
     }
 }

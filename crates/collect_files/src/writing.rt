@@ -8,7 +8,7 @@ ghost use Rattle.collect_files.specs.CollectCommand.{collected_file};
 ghost use Rattle.collect_files.specs.CollectingEnds.{IsPut};
 
 use crate::place_lines::put_places;
-use crate::stops::Stop;
+use crate::stops::Uncollected;
 use record_collect::{Gathered, places};
 use record_group::Pad;
 use record_io::{Failed, Sink};
@@ -27,7 +27,7 @@ pub(crate) fn put_gathered<R: Threads + Sync, M: Sink + Send, O: Sink>(
     files: usize,
     made: &mut M,
     out: &mut O,
-) -> Result<(), Ending<Stop>>
+) -> Result<(), Ending<Uncollected>>
     requires { length gathered.now.numbers ≡ files }
     ensures put { IsPut result gathered.now (M.taken made.old) (M.taken made.new) (O.taken out.old) (O.taken out.new) }
     ensures made { OnlyCounts M.lent M.faults (result ≡ Err (Ending.Cut Cut.Made)) made.old made.new }

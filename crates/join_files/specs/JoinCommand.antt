@@ -72,7 +72,7 @@ MayEndJoining sizes ended text =
 -- what `join` means
 abbrev pub join_meaning : Meaning
 join_meaning = record (meaning (record none_used { files = true; made = true; out = true }) (λ r answer. IsJoinAnswer r.files answer)) {
-  may_have_put = λ r part. IsJoinedSoFar r.files part;
+  may_have_put = λ r before after part. IsJoinedSoFar r.files part;
   may_work = AreInReach;
   may_take = MayJoin;
   may_end = MayEndJoining;

@@ -4,8 +4,8 @@ use Rattle.std.specs.Prelude.{slice_get}
 use Rattle.std.proofs.lemmas.List.{take_more}
 use Rattle.number_shares.proofs.Lists.{all_push}
 use Rattle.chunk_reader.specs.declared.reasons.ReadEnd.{ReadEnd}
-use Rattle.record_collect.specs.declared.feeding.Taken.{Taken}
-use Rattle.record_collect.specs.declared.feeding.Taken.TheVariants.{Whole, Front}
+use Rattle.record_collect.specs.declared.feeding.Fed.{Fed}
+use Rattle.record_collect.specs.declared.feeding.Fed.TheVariants.{Whole, Front}
 use Rattle.record_collect.specs.Takings.{AreRead, IsRead, both_taken}
 
 -- what stands behind a list, and what stands in it
@@ -19,11 +19,11 @@ stands-before (z ∷ xs) ys zero x there = there
 stands-before (z ∷ xs) ys (suc i) x there = stands-before xs ys i x there
 
 -- one answer more
-read-push : (answers : List (Result Taken ReadEnd)) (a : Result Taken ReadEnd) (part more : Taken) → AreRead answers part → a ≡ Ok more
+read-push : (answers : List (Result Fed ReadEnd)) (a : Result Fed ReadEnd) (part more : Fed) → AreRead answers part → a ≡ Ok more
     → AreRead (answers ++ a ∷ []) (both_taken part more)
 read-push answers a Whole Whole h is = record {
   each = all_push IsRead answers a (Whole, is) h.each;
-  whole = λ e. all_push (λ (b : Result Taken ReadEnd). b ≡ Ok Whole) answers a is (h.whole refl);
+  whole = λ e. all_push (λ (b : Result Fed ReadEnd). b ≡ Ok Whole) answers a is (h.whole refl);
   front = λ e. absurd cc;
 }
 read-push answers a Whole Front h is = record {
@@ -37,13 +37,13 @@ read-push answers a Front more h is = record {
   front = λ e. (let one = h.front refl in (one.0, stands-before answers (a ∷ []) one.0 (Ok Front) one.1));
 }
 
-pub read-more : (answers : List (Result Taken ReadEnd)) (i : ℕ) (d : Result Taken ReadEnd) (part more both : Taken) → i < length answers
+pub read-more : (answers : List (Result Fed ReadEnd)) (i : ℕ) (d : Result Fed ReadEnd) (part more both : Fed) → i < length answers
     → AreRead (take i answers) part → get_or answers i d ≡ Ok more → both ≡ both_taken part more → AreRead (take (i + 1) answers) both
 read-more answers i d part more both below h is joined =
     subst (AreRead (take (i + 1) answers)) (sym joined)
-    (subst (λ (l : List (Result Taken ReadEnd)). AreRead l (both_taken part more)) (sym (take_more answers i d below))
+    (subst (λ (l : List (Result Fed ReadEnd)). AreRead l (both_taken part more)) (sym (take_more answers i d below))
     (read-push (take i answers) (get_or answers i d) part more h is))
 
 -- what is taken of all, by its form
-pub read_as : (answers : List (Result Taken ReadEnd)) (part form : Taken) → part ≡ form → AreRead answers part → AreRead answers form
+pub read_as : (answers : List (Result Fed ReadEnd)) (part form : Fed) → part ≡ form → AreRead answers part → AreRead answers form
 read_as answers part form is h = subst (AreRead answers) is h

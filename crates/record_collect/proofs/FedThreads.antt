@@ -11,7 +11,7 @@ use Rattle.chunk_reader.specs.ManyFiles.{IsFirstFault}
 use Rattle.chunk_reader.specs.declared.reasons.Fault.{Fault}
 use Rattle.chunk_reader.specs.declared.reasons.ReadEnd.{ReadEnd}
 use Rattle.chunk_reader.specs.declared.reasons.ReadEnd.TheVariants.{Refused, Store}
-use Rattle.record_collect.specs.declared.feeding.Taken.{Taken}
+use Rattle.record_collect.specs.declared.feeding.Fed.{Fed}
 use Rattle.record_collect.specs.GatheredFiles.{AreRecordsOfEach}
 use Rattle.record_collect.specs.Passes.{CollectorValue, PassValue, BelongsTo}
 use Rattle.record_collect.specs.Takings.{AreFed, HasTaken, IsFed, IsFirstRefused, IsRead, IsTakenOf}
@@ -45,7 +45,7 @@ all-front {X} P xs a c is all =
 pub record Taking : Type 0 where
   pub list : List (List ℕ)
   pub pass : PassValue
-  pub part : Taken
+  pub part : Fed
   pub has : HasTaken part pass list
 
 abbrev pub lists_of : List Taking → List (List (List ℕ))
@@ -54,29 +54,29 @@ lists_of rows = map (λ (r : Taking). r.list) rows
 abbrev pub passes_of : List Taking → List PassValue
 passes_of rows = map (λ (r : Taking). r.pass) rows
 
-abbrev pub answers_of : List Taking → List (Result Taken ReadEnd)
+abbrev pub answers_of : List Taking → List (Result Fed ReadEnd)
 answers_of rows = map (λ (r : Taking). Ok r.part) rows
 
 -- the files have no fault, and this is what the passes have of their records
-pub record AreTakings (files : List (List ℕ)) (passes : List PassValue) (answers : List (Result Taken ReadEnd)) : Type 0 where
+pub record AreTakings (files : List (List ℕ)) (passes : List PassValue) (answers : List (Result Fed ReadEnd)) : Type 0 where
   pub rows : List Taking
   pub are : AreRecordsOfEach files (lists_of rows)
   pub of_passes : passes ≡ passes_of rows
   pub of_answers : answers ≡ answers_of rows
 
 -- a file that was read to its end
-taken_of : (told : Option (List ℕ)) (file : List ℕ) (answer : Result Taken ReadEnd) (part : Taken) (pass : PassValue) → told ≡ Some file → answer ≡ Ok part
+taken_of : (told : Option (List ℕ)) (file : List ℕ) (answer : Result Fed ReadEnd) (part : Fed) (pass : PassValue) → told ≡ Some file → answer ≡ Ok part
     → IfOk answer (λ part. IfSome told (λ f. IsTakenOf f part pass)) → IsTakenOf file part pass
 taken_of told file answer part pass is read h =
     subst (λ (o : Option (List ℕ)). IfSome o (λ f. IsTakenOf f part pass)) is
-    (subst (λ (a : Result Taken ReadEnd). IfOk a (λ p. IfSome told (λ f. IsTakenOf f p pass))) read h)
+    (subst (λ (a : Result Fed ReadEnd). IfOk a (λ p. IfSome told (λ f. IsTakenOf f p pass))) read h)
 
 module _ {S L : Type 0} (bytes : S → Option (List ℕ)) (told : S → Option ℕ) (name : S → L) (faults : S → ℕ) where
-  abbrev Fed : CollectorValue → List PassValue → List S → List S → List (Result Taken ReadEnd) → Type 0
-  Fed = AreFed bytes told name faults
+  abbrev AllFed : CollectorValue → List PassValue → List S → List S → List (Result Fed ReadEnd) → Type 0
+  AllFed = AreFed bytes told name faults
 
-  fed_append : (collector : CollectorValue) (p q : List PassValue) (a b c d : List S) (x y : List (Result Taken ReadEnd))
-      → Fed collector p a b x → Fed collector q c d y → Fed collector (p ++ q) (a ++ c) (b ++ d) (x ++ y)
+  fed_append : (collector : CollectorValue) (p q : List PassValue) (a b c d : List S) (x y : List (Result Fed ReadEnd))
+      → AllFed collector p a b x → AllFed collector q c d y → AllFed collector (p ++ q) (a ++ c) (b ++ d) (x ++ y)
   fed_append collector [] q [] [] c d [] y h k = k
   fed_append collector [] q [] [] c d (r ∷ x) y h k = absurd h
   fed_append collector [] q [] (t ∷ b) c d x y h k = absurd h
@@ -86,19 +86,19 @@ module _ {S L : Type 0} (bytes : S → Option (List ℕ)) (told : S → Option �
   fed_append collector (e ∷ p) q (s ∷ a) (t ∷ b) c d [] y h k = absurd h
   fed_append collector (e ∷ p) q (s ∷ a) (t ∷ b) c d (r ∷ x) y h k = (h.0, fed_append collector p q a b c d x y h.1 k)
 
-  pub fed_halves : (collector : CollectorValue) (passes p q : List PassValue) (before after a b c d : List S) (answers x y : List (Result Taken ReadEnd))
+  pub fed_halves : (collector : CollectorValue) (passes p q : List PassValue) (before after a b c d : List S) (answers x y : List (Result Fed ReadEnd))
       → passes ≡ p ++ q → before ≡ a ++ c → after ≡ b ++ d → answers ≡ x ++ y
       → AreFed bytes told name faults collector p a b x → AreFed bytes told name faults collector q c d y
       → AreFed bytes told name faults collector passes before after answers
   fed_halves collector passes p q before after a b c d answers x y cut is then put h k =
-      subst (λ (ps : List PassValue). Fed collector ps before after answers) (sym cut)
-      (subst (λ (ss : List S). Fed collector (p ++ q) ss after answers) (sym is)
-      (subst (λ (ss : List S). Fed collector (p ++ q) (a ++ c) ss answers) (sym then)
-      (subst (Fed collector (p ++ q) (a ++ c) (b ++ d)) (sym put)
+      subst (λ (ps : List PassValue). AllFed collector ps before after answers) (sym cut)
+      (subst (λ (ss : List S). AllFed collector (p ++ q) ss after answers) (sym is)
+      (subst (λ (ss : List S). AllFed collector (p ++ q) (a ++ c) ss answers) (sym then)
+      (subst (AllFed collector (p ++ q) (a ++ c) (b ++ d)) (sym put)
       (fed_append collector p q a b c d x y h k))))
 
   -- one store, or none
-  pub fed-one : (collector : CollectorValue) (passes : List PassValue) (stores : List S) (answers : List (Result Taken ReadEnd)) (d : S) (pass : PassValue) (store : S) (answer : Result Taken ReadEnd)
+  pub fed-one : (collector : CollectorValue) (passes : List PassValue) (stores : List S) (answers : List (Result Fed ReadEnd)) (d : S) (pass : PassValue) (store : S) (answer : Result Fed ReadEnd)
       → length stores < 2 → length passes ≡ length stores → length answers ≡ length stores → IsFed bytes told name faults collector pass (slice_index_or stores 0 d) store answer
       → AreFed bytes told name faults collector (slice_set passes 0 pass) stores (slice_set stores 0 store) (slice_set answers 0 answer)
   fed-one collector [] [] [] d pass store answer short many as_many h = tt
@@ -112,7 +112,7 @@ module _ {S L : Type 0} (bytes : S → Option (List ℕ)) (told : S → Option �
   fed-one collector (p ∷ []) (s ∷ []) (a ∷ []) d pass store answer short many as_many h = (h, tt)
 
   -- as many passes as stores
-  pub fed-many : (collector : CollectorValue) (passes : List PassValue) (before after : List S) (answers : List (Result Taken ReadEnd))
+  pub fed-many : (collector : CollectorValue) (passes : List PassValue) (before after : List S) (answers : List (Result Fed ReadEnd))
       → AreFed bytes told name faults collector passes before after answers → length passes ≡ length before
   fed-many collector [] [] after answers h = refl
   fed-many collector [] (s ∷ before) after answers h = absurd h
@@ -122,21 +122,21 @@ module _ {S L : Type 0} (bytes : S → Option (List ℕ)) (told : S → Option �
   fed-many collector (p ∷ passes) (s ∷ before) (t ∷ after) (a ∷ answers) h = ap suc (fed-many collector passes before after answers h.1)
 
   -- the passes belong to the collector
-  belong : (collector : CollectorValue) (passes : List PassValue) (before after : List S) (answers : List (Result Taken ReadEnd))
-      → Fed collector passes before after answers → AllByRecursion (BelongsTo collector) passes
+  belong : (collector : CollectorValue) (passes : List PassValue) (before after : List S) (answers : List (Result Fed ReadEnd))
+      → AllFed collector passes before after answers → AllByRecursion (BelongsTo collector) passes
   belong collector [] before after answers h = tt
   belong collector (p ∷ passes) [] after answers h = absurd h
   belong collector (p ∷ passes) (s ∷ before) [] answers h = absurd h
   belong collector (p ∷ passes) (s ∷ before) (t ∷ after) [] h = absurd h
   belong collector (p ∷ passes) (s ∷ before) (t ∷ after) (a ∷ answers) h = (h.0.belongs, belong collector passes before after answers h.1)
 
-  pub all_belong : (collector : CollectorValue) (passes : List PassValue) (before after : List S) (answers : List (Result Taken ReadEnd))
+  pub all_belong : (collector : CollectorValue) (passes : List PassValue) (before after : List S) (answers : List (Result Fed ReadEnd))
       → AreFed bytes told name faults collector passes before after answers → All (BelongsTo collector) passes
   all_belong collector passes before after answers h =
       All-from_recursion (BelongsTo collector) passes (belong collector passes before after answers h)
 
-  each_asked : (collector : CollectorValue) (passes : List PassValue) (before after : List S) (answers : List (Result Taken ReadEnd))
-      → Fed collector passes before after answers → AllZip (OnlyAsks bytes told name faults ⊥) before after
+  each_asked : (collector : CollectorValue) (passes : List PassValue) (before after : List S) (answers : List (Result Fed ReadEnd))
+      → AllFed collector passes before after answers → AllZip (OnlyAsks bytes told name faults ⊥) before after
   each_asked collector [] [] [] answers h = tt
   each_asked collector [] [] (t ∷ after) answers h = absurd h
   each_asked collector [] (s ∷ before) after answers h = absurd h
@@ -146,8 +146,8 @@ module _ {S L : Type 0} (bytes : S → Option (List ℕ)) (told : S → Option �
   each_asked collector (p ∷ passes) (s ∷ before) (t ∷ after) (a ∷ answers) h =
       (asks_whatever bytes told name faults s t h.0.asks, each_asked collector passes before after answers h.1)
 
-  rose : (collector : CollectorValue) (passes : List PassValue) (before after : List S) (answers : List (Result Taken ReadEnd)) (i : ℕ)
-      → Fed collector passes before after answers → slice_get answers i ≡ Some (Err Store) → AnyRose faults before after
+  rose : (collector : CollectorValue) (passes : List PassValue) (before after : List S) (answers : List (Result Fed ReadEnd)) (i : ℕ)
+      → AllFed collector passes before after answers → slice_get answers i ≡ Some (Err Store) → AnyRose faults before after
   rose collector [] [] [] [] i h failed = absurd cc
   rose collector [] [] [] (a ∷ answers) i h failed = absurd h
   rose collector [] [] (t ∷ after) answers i h failed = absurd h
@@ -159,7 +159,7 @@ module _ {S L : Type 0} (bytes : S → Option (List ℕ)) (told : S → Option �
   rose collector (p ∷ passes) (s ∷ before) (t ∷ after) (a ∷ answers) (suc i) h failed = inr (rose collector passes before after answers i h.1 failed)
 
   -- the stores were only asked, and where one answered that it failed, a count rose
-  pub fed-asked : {F : Type 0} (collector : CollectorValue) (passes : List PassValue) (before after : List S) (answers : List (Result Taken ReadEnd))
+  pub fed-asked : {F : Type 0} (collector : CollectorValue) (passes : List PassValue) (before after : List S) (answers : List (Result Fed ReadEnd))
       → AreFed bytes told name faults collector passes before after answers → (F → (i : ℕ) × (slice_get answers i ≡ Some (Err Store)))
       → AreOnlyAsked bytes told name faults F before after
   fed-asked collector passes before after answers h failed = record {
@@ -168,7 +168,7 @@ module _ {S L : Type 0} (bytes : S → Option (List ℕ)) (told : S → Option �
   }
 
   -- the first answer that a file is refused has the first fault
-  pub first-refused : (collector : CollectorValue) (passes : List PassValue) (before after : List S) (answers : List (Result Taken ReadEnd)) (files : List (List ℕ)) (index : ℕ) (fault : Fault)
+  pub first-refused : (collector : CollectorValue) (passes : List PassValue) (before after : List S) (answers : List (Result Fed ReadEnd)) (files : List (List ℕ)) (index : ℕ) (fault : Fault)
       → AreTold bytes before files → AreFed bytes told name faults collector passes before after answers → IsFirstRefused answers index fault
       → IsFirstFault false files index fault
   first-refused collector [] [] [] [] files index fault tells h first = absurd (let no = first.there in cc)
@@ -203,7 +203,7 @@ module _ {S L : Type 0} (bytes : S → Option (List ℕ)) (told : S → Option �
       }
 
   -- what the passes have, where each file was read to its end
-  pub all-taken : (collector : CollectorValue) (passes : List PassValue) (before after : List S) (answers : List (Result Taken ReadEnd)) (files : List (List ℕ))
+  pub all-taken : (collector : CollectorValue) (passes : List PassValue) (before after : List S) (answers : List (Result Fed ReadEnd)) (files : List (List ℕ))
       → AreTold bytes before files → AreFed bytes told name faults collector passes before after answers → AllByRecursion IsRead answers
       → AreTakings files passes answers
   all-taken collector [] [] [] [] [] tells h read = record { rows = []; are = tt; of_passes = refl; of_answers = refl }
@@ -226,5 +226,5 @@ module _ {S L : Type 0} (bytes : S → Option (List ℕ)) (told : S → Option �
         rows = row ∷ rest.rows;
         are = ((taken.chunks, taken.is_file, taken.are), rest.are);
         of_passes = ap (λ (ps : List PassValue). p ∷ ps) rest.of_passes;
-        of_answers = ap (λ (r : Result Taken ReadEnd). r ∷ answers) one.1 ∙ ap (λ (rs : List (Result Taken ReadEnd)). Ok one.0 ∷ rs) rest.of_answers;
+        of_answers = ap (λ (r : Result Fed ReadEnd). r ∷ answers) one.1 ∙ ap (λ (rs : List (Result Fed ReadEnd)). Ok one.0 ∷ rs) rest.of_answers;
       }

@@ -18,7 +18,7 @@ use Rattle.record_collect.specs.declared.placed.Placed.{Placed}
 use Rattle.record_collect.specs.PutMachine.{IsHand, IsMine, numbers_taken}
 use Rattle.record_collect.specs.PutRule.{IsKept, hand_of}
 use Rattle.record_collect.specs.Passes.{Rises}
-use Rattle.record_collect.specs.Orders.{IsLaid, of_pass, piece_at, place_in}
+use Rattle.record_collect.specs.Orders.{ReceiptsAddUp, of_pass, piece_at, place_in}
 use Rattle.record_collect.proofs.Pieces.{covers, held, held-append, held-sum}
 use Rattle.record_collect.proofs.PassLemmas.{all_of_map}
 use Rattle.record_collect.proofs.Tables.{closed}
@@ -76,11 +76,11 @@ abbrev AllRise : List Placed → Type 0
 AllRise [] = Unit {0}
 AllRise (e ∷ es) = AllByRecursion (λ f. e.at < f.at) es × AllRise es
 
-laid_from : (at : ℕ) (es : List Placed) → IsLaid at es → AllByRecursion (λ f. at ≤ f.at) es
+laid_from : (at : ℕ) (es : List Placed) → ReceiptsAddUp at es → AllByRecursion (λ f. at ≤ f.at) es
 laid_from at [] laid = tt
 laid_from at (e ∷ es) laid = (omega (arith, laid.0), all_map (λ f. at + cost e.bytes ≤ f.at) (λ f. at ≤ f.at) es (λ f g. omega (arith, g)) (laid_from (at + cost e.bytes) es laid.1))
 
-laid_rises : (at : ℕ) (es : List Placed) → IsLaid at es → AllRise es
+laid_rises : (at : ℕ) (es : List Placed) → ReceiptsAddUp at es → AllRise es
 laid_rises at [] laid = tt
 laid_rises at (e ∷ es) laid = (
   all_map (λ f. at + cost e.bytes ≤ f.at) (λ f. e.at < f.at) es (λ f g. omega (arith, g, laid.0)) (laid_from (at + cost e.bytes) es laid.1),
@@ -151,7 +151,7 @@ same_rising (x ∷ xs) (y ∷ ys) up up' to back =
     rest P n [] later all = tt
     rest P n (e ∷ es) later all = (elim all.0 [ inl same ↦ absurd (omega (arith, later.0)) | inr holds ↦ holds ], rest P n es later.1 all.1)
 
-pub of_pass_sorted : (i : ℕ) (mine : List Accepted) (all es : List Placed) → of_pass i all ≡ map (place_in i) mine → Rises mine → IsLaid 0 es → IsPermutation all es
+pub of_pass_sorted : (i : ℕ) (mine : List Accepted) (all es : List Placed) → of_pass i all ≡ map (place_in i) mine → Rises mine → ReceiptsAddUp 0 es → IsPermutation all es
     → of_pass i es ≡ map (place_in i) mine
 of_pass_sorted i mine all es placed rises laid moved =
     let test : Placed → Bool = λ e. eqb e.pass i in

@@ -8,7 +8,7 @@ use Rattle.record_collect.specs.declared.table.Piece.{Piece}
 use Rattle.record_collect.specs.declared.placed.Placed.{Placed}
 use Rattle.record_collect.specs.PutMachine.{limit, IsMine, IsPast}
 use Rattle.simple_chunk.specs.Costs.{cost}
-use Rattle.record_collect.specs.Orders.{IsLaid, cost_of_placed, piece_at}
+use Rattle.record_collect.specs.Orders.{ReceiptsAddUp, cost_of_placed, piece_at}
 use Rattle.record_collect.proofs.PastPieces.{once-le, once-below, once-past, held-grows}
 use Rattle.record_collect.proofs.Pieces.{covers, held, held-cons, times-range-below, times-range-inside, times-range-more}
 
@@ -25,7 +25,7 @@ held-before p q (e ∷ es) below all =
 
 -- what is known of records in order: each has as its receipt what those before it cost, and the pieces that end above the limit hold the rest
 pub record IsTiled (from to : ℕ) (es : List Placed) (past : List Piece) : Type 0 where
-  pub laid : IsLaid from es
+  pub laid : ReceiptsAddUp from es
   pub within : from + cost_of_placed es ≤ to
   pub rest : (p : ℕ) → held p past + once_below (from + cost_of_placed es) p ≡ once_below to p
 
@@ -75,7 +75,7 @@ tiled from to (e ∷ es) past up ordered mine over each =
     }
 
 -- they end at or below the limit
-pub laid_most : (at : ℕ) (es : List Placed) → at ≤ limit → IsLaid at es → AllByRecursion (λ e. IsMine (piece_at e)) es → at + cost_of_placed es ≤ limit
+pub laid_most : (at : ℕ) (es : List Placed) → at ≤ limit → ReceiptsAddUp at es → AllByRecursion (λ e. IsMine (piece_at e)) es → at + cost_of_placed es ≤ limit
 laid_most at [] low laid mine = omega arith
 laid_most at (e ∷ es) low laid mine =
     omega (arith, sum_by-cons (λ (f : Placed). cost f.bytes) e es, laid_most (at + cost e.bytes) es (omega (arith, laid.0, mine.0.ends)) laid.1 mine.1)

@@ -17,3 +17,4 @@ pub mod WovenCosts
 pub mod FedThreads
 pub mod AllRead
 pub mod WholeGatherings
+mod Values

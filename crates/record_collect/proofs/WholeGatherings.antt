@@ -18,8 +18,8 @@ use Rattle.chunk_reader.specs.declared.reasons.Fault.{Fault}
 use Rattle.chunk_reader.specs.declared.reasons.ReadEnd.{ReadEnd}
 use Rattle.chunk_reader.specs.declared.reasons.ReadEnd.TheVariants as read
 use Rattle.chunk_reader.proofs.ManyFiles.{first_is_one, first_or_none}
-use Rattle.record_collect.specs.declared.feeding.Taken.{Taken}
-use Rattle.record_collect.specs.declared.feeding.Taken.TheVariants.{Whole, Front}
+use Rattle.record_collect.specs.declared.feeding.Fed.{Fed}
+use Rattle.record_collect.specs.declared.feeding.Fed.TheVariants.{Whole, Front}
 use Rattle.record_collect.specs.declared.gathering.GatherEnd.{GatherEnd}
 use Rattle.record_collect.specs.declared.gathering.GatherEnd.TheVariants as gather
 use Rattle.record_collect.specs.PutMachine.{limit, IsLeast}
@@ -33,7 +33,7 @@ use Rattle.record_collect.proofs.FedThreads.{AreTakings, Taking, all-taken, answ
 
 -- where each pass has all records of its file, these are the lists
 whole_list : (row : Taking) → row.part ≡ Whole → row.list ≡ records_of row.pass
-whole_list row is = sym (subst (λ (part : Taken). HasTaken part row.pass row.list) is row.has).0
+whole_list row is = sym (subst (λ (part : Fed). HasTaken part row.pass row.list) is row.has).0
 
 whole_lists : (rows : List Taking) → AllByRecursion (λ a. a ≡ Ok Whole) (answers_of rows) → lists_of rows ≡ map records_of (passes_of rows)
 whole_lists [] all = refl
@@ -45,7 +45,7 @@ whole_lists (row ∷ rows) all =
 pub many-gathered : (passes : List PassValue) (made : GatheredValue) → AreGathered passes made → length made.numbers ≡ length passes
 many-gathered passes made h = AllZip-long (HaveReceipts made.records) passes made.numbers h.receipts
 
-pub gathered-whole : (files : List (List ℕ)) (passes : List PassValue) (answers : List (Result Taken ReadEnd)) (made : GatheredValue)
+pub gathered-whole : (files : List (List ℕ)) (passes : List PassValue) (answers : List (Result Fed ReadEnd)) (made : GatheredValue)
     → AreTakings files passes answers → AreRead answers Whole → AreGathered passes made → IsInBounds made → AreGatheredOf files made
 gathered-whole files passes answers made h read are bounds =
     let all : AllByRecursion (λ a. a ≡ Ok Whole) (answers_of h.rows) = subst (AllByRecursion (λ a. a ≡ Ok Whole)) h.of_answers (read.whole refl) in
@@ -66,10 +66,10 @@ refused-cost row refused (rest, is) =
     let own : cost_of row.list ≡ cost_of (records_of row.pass ++ refused ∷ rest) = ap cost_of is in
     omega (arith, own, sum_by-append cost (records_of row.pass) (refused ∷ rest), sum_by-cons cost refused rest)
 
-row-cost : (row : Taking) (part : Taken) → row.part ≡ part → cost_of (records_of row.pass) ≤ cost_of row.list
+row-cost : (row : Taking) (part : Fed) → row.part ≡ part → cost_of (records_of row.pass) ≤ cost_of row.list
 row-cost row Whole is = omega (arith, ap cost_of (whole_list row is))
 row-cost row Front is =
-    let has = subst (λ (part : Taken). HasTaken part row.pass row.list) is row.has in
+    let has = subst (λ (part : Fed). HasTaken part row.pass row.list) is row.has in
     omega (arith, refused-cost row has.0 (has.1, has.2))
 
 rows-cost : (rows : List Taking) → sum_by cost_of (map records_of (passes_of rows)) ≤ sum_by cost_of (lists_of rows)
@@ -106,7 +106,7 @@ rows-refused (r ∷ rows) (suc i) row refused there h =
     )
 
 -- the row that an answer, or an end, is of
-row_answered : (rows : List Taking) (i : ℕ) (part : Taken) → slice_get (answers_of rows) i ≡ Some (Ok part)
+row_answered : (rows : List Taking) (i : ℕ) (part : Fed) → slice_get (answers_of rows) i ≡ Some (Ok part)
     → (row : Taking) × (slice_get rows i ≡ Some row) × (row.part ≡ part)
 row_answered [] i part there = absurd cc
 row_answered (r ∷ rows) zero part there = (r, refl, cc)
@@ -163,14 +163,14 @@ too_long rows i row refused there h long = record {
 }
 
 -- where the records of the passes cost the least number at which one ended, those of the files are too much
-over_at : (rows : List Taking) (n : ℕ) (h : IsEndedRow rows n) (part : Taken) → h.row.part ≡ part → sum_by cost_of (map records_of (passes_of rows)) ≡ n
+over_at : (rows : List Taking) (n : ℕ) (h : IsEndedRow rows n) (part : Fed) → h.row.part ≡ part → sum_by cost_of (map records_of (passes_of rows)) ≡ n
     → HasTooLong (lists_of rows) ⊎ (limit < sum_by cost_of (lists_of rows))
 over_at rows n h Whole is costs =
-    let has = subst (λ (part : Taken). HasTaken part h.row.pass h.row.list) is h.row.has in
+    let has = subst (λ (part : Fed). HasTaken part h.row.pass h.row.list) is h.row.has in
     let no : None ≡ Some n = sym has.1 ∙ h.ended in
     absurd cc
 over_at rows n h Front is costs =
-    let has = subst (λ (part : Taken). HasTaken part h.row.pass h.row.list) is h.row.has in
+    let has = subst (λ (part : Fed). HasTaken part h.row.pass h.row.list) is h.row.has in
     let was : WasRefused h.row.pass has.0 = has.3 in
     elim was [
       | inl long ↦ inl (too_long rows h.number h.row has.0 h.there (has.1, has.2) long)
@@ -185,7 +185,7 @@ over : (rows : List Taking) (made : GatheredValue) (i : ℕ) → AreGathered (pa
 over rows made i are there =
     let at = row_answered rows i Front there in
     let row : Taking = at.0 in
-    let has = subst (λ (part : Taken). HasTaken part row.pass row.list) at.2 row.has in
+    let has = subst (λ (part : Fed). HasTaken part row.pass row.list) at.2 row.has in
     let was : WasRefused row.pass has.0 = has.3 in
     elim was [
       | inl long ↦ inl (too_long rows i row has.0 at.1 (has.1, has.2) long)
@@ -195,7 +195,7 @@ over rows made i are there =
           over_at rows (cost_of made.records) ends ends.row.part refl (woven-cost (map records_of (passes_of rows)) made.records made.numbers are.woven)
     ]
 
-pub gathered-front : (files : List (List ℕ)) (passes : List PassValue) (answers : List (Result Taken ReadEnd)) (made : GatheredValue)
+pub gathered-front : (files : List (List ℕ)) (passes : List PassValue) (answers : List (Result Fed ReadEnd)) (made : GatheredValue)
     → AreTakings files passes answers → AreRead answers Front → AreGathered passes made → IsTooMuch files
 gathered-front files passes answers made h read are =
     let one = read.front refl in
@@ -203,11 +203,11 @@ gathered-front files passes answers made h read are =
       lists = lists_of h.rows;
       are = h.are;
       over = over h.rows made one.0 (subst (λ (ps : List PassValue). AreGathered ps made) h.of_passes are)
-          (subst (λ (l : List (Result Taken ReadEnd)). slice_get l one.0 ≡ Some (Ok Front)) h.of_answers one.1);
+          (subst (λ (l : List (Result Fed ReadEnd)). slice_get l one.0 ≡ Some (Ok Front)) h.of_answers one.1);
     }
 
 -- files have one list of records each
-lists_one : (files : List (List ℕ)) (a b : List (List (List ℕ))) → AreRecordsOfEach files a → AreRecordsOfEach files b → a ≡ b
+pub lists_one : (files : List (List ℕ)) (a b : List (List (List ℕ))) → AreRecordsOfEach files a → AreRecordsOfEach files b → a ≡ b
 lists_one [] [] [] h g = refl
 lists_one [] [] (m ∷ b) h g = absurd g
 lists_one [] (l ∷ a) b h g = absurd h
@@ -219,13 +219,13 @@ lists_one (file ∷ files) (l ∷ a) (m ∷ b) ((ks, is, are), h) ((others, is',
     ap (λ (r : List (List ℕ)). r ∷ a) list ∙ ap (λ (rs : List (List (List ℕ))). m ∷ rs) (lists_one files a b h g)
 
 -- and no fault
-none_of_each : (files : List (List ℕ)) (lists : List (List (List ℕ))) → AreRecordsOfEach files lists → HaveNoFault false files
+pub none_of_each : (files : List (List ℕ)) (lists : List (List (List ℕ))) → AreRecordsOfEach files lists → HaveNoFault false files
 none_of_each [] lists h = tt
 none_of_each (file ∷ files) [] h = absurd h
 none_of_each (file ∷ files) (l ∷ lists) ((ks, is, are), h) = ((ks, is), none_of_each files lists h)
 
 -- files that are gathered are not too much
-fits : (files : List (List ℕ)) (made : GatheredValue) → AreGatheredOf files made → ¬ IsTooMuch files
+pub fits : (files : List (List ℕ)) (made : GatheredValue) → AreGatheredOf files made → ¬ IsTooMuch files
 fits files made h much =
     let same : much.lists ≡ h.lists = lists_one files much.lists h.lists much.are h.are in
     let is : HasTooLong h.lists ⊎ (limit < sum_by cost_of h.lists) = subst (λ (ls : List (List (List ℕ))). HasTooLong ls ⊎ (limit < sum_by cost_of ls)) same much.over in
@@ -277,14 +277,14 @@ owed bytes stores (Err gather.Memory) gathered refused too_much files tells = (�
 
 -- what is answered, by what was put of the stores' files
 module _ {S L : Type 0} (bytes : S → Option (List ℕ)) (told : S → Option ℕ) (name : S → L) (faults : S → ℕ) (collector : CollectorValue)
-    (passes : List PassValue) (before after : List S) (answers given : List (Result Taken ReadEnd)) (result : Result GatheredValue GatherEnd)
+    (passes : List PassValue) (before after : List S) (answers given : List (Result Fed ReadEnd)) (result : Result GatheredValue GatherEnd)
     (same : given ≡ answers) (fed : AreFed bytes told name faults collector passes before after answers) where
   pub answers-gathered : IfOk result (λ made. AreRead given Whole × AreGathered passes made × IsInBounds made)
       → IfOk result (λ made. IfAllTell bytes before (λ files. AreGatheredOf files made))
   answers-gathered = IfOk-weaker result (λ made. AreRead given Whole × AreGathered passes made × IsInBounds made)
       (λ made. IfAllTell bytes before (λ files. AreGatheredOf files made))
       (λ made h files tells.
-      let whole : AreRead answers Whole = subst (λ (l : List (Result Taken ReadEnd)). AreRead l Whole) same h.0 in
+      let whole : AreRead answers Whole = subst (λ (l : List (Result Fed ReadEnd)). AreRead l Whole) same h.0 in
       let taken = all-taken bytes told name faults collector passes before after answers files tells fed whole.each in
       gathered-whole files passes answers made taken whole h.1 h.2)
 
@@ -298,13 +298,13 @@ module _ {S L : Type 0} (bytes : S → Option (List ℕ)) (told : S → Option �
       → (index : ℕ) (fault : Fault) → result ≡ Err (gather.Refused index fault) → IfAllTell bytes before (λ files. IsFirstFault false files index fault)
   answers-refused refused index fault is files tells =
       first-refused bytes told name faults collector passes before after answers files index fault tells fed
-      (subst (λ (l : List (Result Taken ReadEnd)). IsFirstRefused l index fault) same (refused index fault is))
+      (subst (λ (l : List (Result Fed ReadEnd)). IsFirstRefused l index fault) same (refused index fault is))
 
   pub answers-too_much : (result ≡ Err gather.TooMuch → (made : GatheredValue) × AreRead given Front × AreGathered passes made)
       → result ≡ Err gather.TooMuch → IfAllTell bytes before IsTooMuch
   answers-too_much too_much is files tells =
       let much = too_much is in
-      let front : AreRead answers Front = subst (λ (l : List (Result Taken ReadEnd)). AreRead l Front) same much.1 in
+      let front : AreRead answers Front = subst (λ (l : List (Result Fed ReadEnd)). AreRead l Front) same much.1 in
       let taken = all-taken bytes told name faults collector passes before after answers files tells fed front.each in
       gathered-front files passes answers much.0 taken front much.2
 
@@ -313,4 +313,4 @@ module _ {S L : Type 0} (bytes : S → Option (List ℕ)) (told : S → Option �
   answers-asked failed = fed-asked bytes told name faults collector passes before after answers fed
       (λ is.
       let one = failed is in
-      (one.0, subst (λ (l : List (Result Taken ReadEnd)). slice_get l one.0 ≡ Some (Err read.Store)) same one.1))
+      (one.0, subst (λ (l : List (Result Fed ReadEnd)). slice_get l one.0 ≡ Some (Err read.Store)) same one.1))

@@ -12,7 +12,7 @@ use Rattle.record_collect.specs.declared.placed.Placed.{Placed}
 use Rattle.record_collect.specs.PutMachine.{limit, IsLeast}
 use Rattle.record_collect.specs.Passes.{PassValue, ends_of, records_of}
 use Rattle.record_collect.specs.Gatherings.{AreGathered, GatheredValue, HaveReceipts, IsInBounds, StandAt}
-use Rattle.record_collect.specs.Orders.{IsLaid, bytes_in, cost_of_placed, gathered_of, of_pass, place_in, places_of}
+use Rattle.record_collect.specs.Orders.{ReceiptsAddUp, bytes_in, cost_of_placed, gathered_of, of_pass, place_in, places_of}
 use Rattle.record_collect.proofs.PlacedNumbers.{places_once, places_rise, places_below, records_stand}
 
 -- what holds of each pass and what belongs to its number
@@ -56,7 +56,7 @@ bytes_stand es (n ∷ ns) (e ∷ l) stand =
     ∙ ap (λ (os : List (Option (List ℕ))). Some e.bytes ∷ os) (bytes_stand es ns l tail)
 
 -- and the receipt of each is what all before it cost
-receipt_at : (at : ℕ) (es : List Placed) (n : ℕ) (e : Placed) → IsLaid at es → slice_get es n ≡ Some e → at + cost_of (take n (bytes_in es)) ≡ e.at
+receipt_at : (at : ℕ) (es : List Placed) (n : ℕ) (e : Placed) → ReceiptsAddUp at es → slice_get es n ≡ Some e → at + cost_of (take n (bytes_in es)) ≡ e.at
 receipt_at at [] n e laid sits = cc
 receipt_at at (f ∷ es) zero e laid sits =
     let same : f ≡ e = cc in
@@ -64,7 +64,7 @@ receipt_at at (f ∷ es) zero e laid sits =
 receipt_at at (f ∷ es) (suc n) e laid sits =
     omega (arith, sum_by-cons cost f.bytes (take n (bytes_in es)), receipt_at (at + cost f.bytes) es n e laid.1 sits)
 
-receipts_stand : (es : List Placed) (ns : List ℕ) (l : List Placed) → IsLaid 0 es → map (λ n. slice_get es n) ns ≡ map (λ e. Some e) l
+receipts_stand : (es : List Placed) (ns : List ℕ) (l : List Placed) → ReceiptsAddUp 0 es → map (λ n. slice_get es n) ns ≡ map (λ e. Some e) l
     → map (λ n. cost_of (take n (bytes_in es))) ns ≡ map (λ e. e.at) l
 receipts_stand es [] [] laid stand = refl
 receipts_stand es [] (e ∷ l) laid stand = cc
@@ -88,7 +88,7 @@ cost_alone (e ∷ es) = omega (arith, sum_by-cons cost e.bytes (bytes_in es), su
 
 pub are_gathered : (passes : List PassValue) (es : List Placed)
     → ((i : ℕ) (p : PassValue) → slice_get passes i ≡ Some p → of_pass i es ≡ map (place_in i) p.mine)
-    → AllByRecursion (λ e. e.pass < length passes) es → IsLaid 0 es → cost_of_placed es ≤ limit
+    → AllByRecursion (λ e. e.pass < length passes) es → ReceiptsAddUp 0 es → cost_of_placed es ≤ limit
     → (¬ (ends_of passes ≡ []) → IsLeast (cost_of_placed es) (ends_of passes))
     → AreGathered passes (gathered_of es (length passes))
 are_gathered passes es each no_other laid most ended =

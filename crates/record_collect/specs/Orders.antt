@@ -20,9 +20,9 @@ abbrev pub of_pass : ℕ → List Placed → List Placed
 of_pass pass es = filter (λ e. e.pass == pass) es
 
 -- the receipt of each record is what all before it cost, and so much more
-abbrev pub IsLaid : ℕ → List Placed → Type 0
-IsLaid at [] = Unit {0}
-IsLaid at (e ∷ es) = (e.at ≡ at) × IsLaid (at + cost e.bytes) es
+abbrev pub ReceiptsAddUp : ℕ → List Placed → Type 0
+ReceiptsAddUp at [] = Unit {0}
+ReceiptsAddUp at (e ∷ es) = (e.at ≡ at) × ReceiptsAddUp (at + cost e.bytes) es
 
 -- what they cost together
 abbrev pub cost_of_placed : List Placed → ℕ

@@ -11,8 +11,8 @@ use Rattle.chunk_reader.specs.Faults.{IsFault}
 use Rattle.chunk_reader.specs.declared.reasons.Fault.{Fault}
 use Rattle.chunk_reader.specs.declared.reasons.ReadEnd.{ReadEnd}
 use Rattle.chunk_reader.specs.declared.reasons.ReadEnd.TheVariants.{Refused, Store}
-use Rattle.record_collect.specs.declared.feeding.Taken.{Taken}
-use Rattle.record_collect.specs.declared.feeding.Taken.TheVariants.{Whole, Front}
+use Rattle.record_collect.specs.declared.feeding.Fed.{Fed}
+use Rattle.record_collect.specs.declared.feeding.Fed.TheVariants.{Whole, Front}
 use Rattle.record_collect.specs.PutMachine.{limit}
 use Rattle.record_collect.specs.Passes.{CollectorValue, PassValue, BelongsTo, records_of}
 
@@ -21,17 +21,17 @@ abbrev pub WasRefused : PassValue → List ℕ → Type 0
 WasRefused pass refused = (2 ^ 24 < length refused) ⊎ ((held : ℕ) × (pass.ended ≡ Some held) × (limit < held + cost refused))
 
 -- of these records the pass has each, and goes on; or those before one that it was refused
-abbrev pub HasTaken : Taken → PassValue → List (List ℕ) → Type 0
+abbrev pub HasTaken : Fed → PassValue → List (List ℕ) → Type 0
 HasTaken Whole pass records = (records_of pass ≡ records) × (pass.ended ≡ None)
 HasTaken Front pass records =
     (refused : List ℕ) × (rest : List (List ℕ)) × (records ≡ records_of pass ++ refused ∷ rest) × WasRefused pass refused
 
 -- the pass went on by these records, behind all that it was to take before
-pub record TakesOn (before : Taken) (old : PassValue) (after : Taken) (new : PassValue) (more : List (List ℕ)) : Type 0 where
+pub record TakesOn (before : Fed) (old : PassValue) (after : Fed) (new : PassValue) (more : List (List ℕ)) : Type 0 where
   pub behind : (records : List (List ℕ)) → HasTaken before old records → HasTaken after new (records ++ more)
 
 -- this is what it has of the records of the chunks at the front of a file that these totals count
-pub record IsTakenSoFar (file : List ℕ) (totals : Totals) (part : Taken) (pass : PassValue) : Type 0 where
+pub record IsTakenSoFar (file : List ℕ) (totals : Totals) (part : Fed) (pass : PassValue) : Type 0 where
   pub chunks : List ChunkValue
   pub records : List (List ℕ)
   pub chain : IsChain chunks file totals.bytes
@@ -40,7 +40,7 @@ pub record IsTakenSoFar (file : List ℕ) (totals : Totals) (part : Taken) (pass
   pub has : HasTaken part pass records
 
 -- the file has no fault, and this is what the pass has of its records
-pub record IsTakenOf (file : List ℕ) (part : Taken) (pass : PassValue) : Type 0 where
+pub record IsTakenOf (file : List ℕ) (part : Fed) (pass : PassValue) : Type 0 where
   pub chunks : List ChunkValue
   pub records : List (List ℕ)
   pub is_file : IsFile chunks file
@@ -48,35 +48,35 @@ pub record IsTakenOf (file : List ℕ) (part : Taken) (pass : PassValue) : Type 
   pub has : HasTaken part pass records
 
 -- what is taken of two files together: the whole where it is of both
-abbrev pub both_taken : Taken → Taken → Taken
+abbrev pub both_taken : Fed → Fed → Fed
 both_taken Whole part = part
 both_taken Front part = Front
 
 -- the answer is that a file was read to its end
-abbrev pub IsRead : Result Taken ReadEnd → Type 0
-IsRead answer = (part : Taken) × (answer ≡ Ok part)
+abbrev pub IsRead : Result Fed ReadEnd → Type 0
+IsRead answer = (part : Fed) × (answer ≡ Ok part)
 
 -- all files were read to their ends, and this is taken of all of them
-pub record AreRead (answers : List (Result Taken ReadEnd)) (part : Taken) : Type 0 where
+pub record AreRead (answers : List (Result Fed ReadEnd)) (part : Fed) : Type 0 where
   pub each : AllByRecursion IsRead answers
   pub whole : part ≡ Whole → AllByRecursion (λ a. a ≡ Ok Whole) answers
   pub front : part ≡ Front → (i : ℕ) × (slice_get answers i ≡ Some (Ok Front))
 
 -- the file of this number has this fault, and those before it were read to their ends
-pub record IsFirstRefused (answers : List (Result Taken ReadEnd)) (index : ℕ) (fault : Fault) : Type 0 where
+pub record IsFirstRefused (answers : List (Result Fed ReadEnd)) (index : ℕ) (fault : Fault) : Type 0 where
   pub before : AllByRecursion IsRead (take index answers)
   pub there : slice_get answers index ≡ Some (Err (Refused fault))
 
 module _ {S L : Type 0} (bytes : S → Option (List ℕ)) (told : S → Option ℕ) (name : S → L) (faults : S → ℕ) where
   -- one store was read by one pass, and answered so
-  pub record IsFed (collector : CollectorValue) (pass : PassValue) (before after : S) (answer : Result Taken ReadEnd) : Type 0 where
+  pub record IsFed (collector : CollectorValue) (pass : PassValue) (before after : S) (answer : Result Fed ReadEnd) : Type 0 where
     pub belongs : BelongsTo collector pass
     pub part : IfOk answer (λ part. IfSome (bytes before) (λ file. IsTakenOf file part pass))
     pub refused : (fault : Fault) → answer ≡ Err (Refused fault) → IfSome (bytes before) (λ file. IsFault false file fault)
     pub asks : OnlyAsks bytes told name faults (answer ≡ Err Store) before after
 
   -- each store was read by the pass of its number, and answered so
-  abbrev pub AreFed : CollectorValue → List PassValue → List S → List S → List (Result Taken ReadEnd) → Type 0
+  abbrev pub AreFed : CollectorValue → List PassValue → List S → List S → List (Result Fed ReadEnd) → Type 0
   AreFed collector [] [] [] [] = Unit {0}
   AreFed collector [] [] [] (a ∷ answers) = ⊥
   AreFed collector [] [] (t ∷ after) answers = ⊥

@@ -18,7 +18,7 @@ use std::alloc::AllocError;
 
 /// What a pass has of the records of a file.
 #[derive(Clone, Copy, Debug, PartialEq, Eq)]
-pub(crate) enum Taken {
+pub(crate) enum Fed {
     /// All of them.
     Whole,
     /// Those before one that was refused.
@@ -36,7 +36,7 @@ pub(crate) fn feed_file<S: Store>(
     store: &mut S,
     size: u64,
     pass: &mut Pass,
-) -> Result<Taken, ReadEnd>
+) -> Result<Fed, ReadEnd>
     requires told { S.told store.old ≡ Some size }
     requires in_reach { size ≤ 2 ^ 60 }
     requires belongs { BelongsTo collector.now pass.old }
@@ -48,7 +48,7 @@ pub(crate) fn feed_file<S: Store>(
     ensures store { OnlyAsks S.bytes S.told S.name S.faults (result ≡ Err ReadEnd.Store) store.old store.new }
 {
     let mut reader = Reader::new(size, false);
-    let mut part = Taken::Whole;
+    let mut part = Fed::Whole;
     while feed_next(collector, store, &mut reader, pass, &mut part)? {}
     Ok(part)
 }
@@ -59,7 +59,7 @@ fn feed_next<S: Store>(
     store: &mut S,
     reader: &mut Reader,
     pass: &mut Pass,
-    part: &mut Taken,
+    part: &mut Fed,
 ) -> Result<bool, ReadEnd>
     requires strict { reader.old.keep ≡ false }
     requires reads { ReadsIn (S.bytes store.old) (S.told store.old) reader.old }
@@ -87,8 +87,8 @@ fn feed_chunk(
     collector: &Collector,
     judged: &Judged,
     pass: &mut Pass,
-    part: Taken,
-) -> Result<Taken, AllocError>
+    part: Fed,
+) -> Result<Fed, AllocError>
     requires judged { (size place : ℕ) × (size ≤ 2 ^ 60) × IsJudged false size place judged.now }
     requires belongs { BelongsTo collector.now pass.old }
     ensures belongs { BelongsTo collector.now pass.new }
@@ -106,8 +106,8 @@ fn feed_records(
     collector: &Collector,
     records: &Records,
     pass: &mut Pass,
-    part: Taken,
-) -> Result<Taken, AllocError>
+    part: Fed,
+) -> Result<Fed, AllocError>
     requires { BelongsTo collector.now pass.old }
     ensures belongs { BelongsTo collector.now pass.new }
     ensures part { IfOk result (λ after. TakesOn part pass.old after pass.new records.now) }
@@ -125,28 +125,28 @@ fn feed_record(
     collector: &Collector,
     rec: &[u8],
     pass: &mut Pass,
-    part: Taken,
-) -> Result<Taken, AllocError>
+    part: Fed,
+) -> Result<Fed, AllocError>
     requires { BelongsTo collector.now pass.old }
     ensures belongs { BelongsTo collector.now pass.new }
     ensures part { IfOk result (λ after. TakesOn part pass.old after pass.new (rec.now ∷ [])) }
 {
     match part {
-        Taken::Whole => put_record(collector, rec, pass),
-        Taken::Front => Ok(Taken::Front),
+        Fed::Whole => put_record(collector, rec, pass),
+        Fed::Front => Ok(Fed::Front),
     }
 }
 
 /// Puts a record.
-fn put_record(collector: &Collector, rec: &[u8], pass: &mut Pass) -> Result<Taken, AllocError>
+fn put_record(collector: &Collector, rec: &[u8], pass: &mut Pass) -> Result<Fed, AllocError>
     requires { BelongsTo collector.now pass.old }
     ensures belongs { BelongsTo collector.now pass.new }
-    ensures part { IfOk result (λ after. TakesOn Taken.Whole pass.old after pass.new (rec.now ∷ [])) }
+    ensures part { IfOk result (λ after. TakesOn Fed.Whole pass.old after pass.new (rec.now ∷ [])) }
 {
     match collector.put(pass, rec) {
-        Ok(_) => Ok(Taken::Whole),
-        Err(PutEnd::TooLong) => Ok(Taken::Front),
-        Err(PutEnd::Full { .. }) => Ok(Taken::Front),
+        Ok(_) => Ok(Fed::Whole),
+        Err(PutEnd::TooLong) => Ok(Fed::Front),
+        Err(PutEnd::Full { .. }) => Ok(Fed::Front),
         Err(PutEnd::Memory) => Err(AllocError),
     }
 }

@@ -2,7 +2,7 @@
 ghost use Rattle.std.specs.Prelude.{◌≡◌, ◌≢◌, ℕ, ◌<◌, ◌≤◌, ◌^◌, Some, [], All, IfOk, length, map, vec_len, slice_get};
 ghost use Rattle.std.specs.List.{AllByRecursion};
 ghost use Rattle.record_collect.specs.Gatherings.{AreGathered, IsInBounds};
-ghost use Rattle.record_collect.specs.Orders.{IsLaid, cost_of_placed, of_pass, piece_at, place_in};
+ghost use Rattle.record_collect.specs.Orders.{ReceiptsAddUp, cost_of_placed, of_pass, piece_at, place_in};
 ghost use Rattle.record_collect.specs.Passes.{BelongsTo, PassValue, Rises, ends_of};
 ghost use Rattle.record_collect.specs.PutMachine.{IsLeast, limit};
 
@@ -34,7 +34,7 @@ impl Collector {
         requires each { All (BelongsTo self) passes.items }
         ensures each { IfOk result (λ all. (i : ℕ) (p : PassValue) → slice_get passes.items i ≡ Some p → of_pass i all.items ≡ map (place_in i) p.mine) }
         ensures no_other { IfOk result (λ all. AllByRecursion (λ e. e.pass < vec_len passes) all.items) }
-        ensures receipts { IfOk result (λ all. IsLaid 0 all.items) }
+        ensures receipts { IfOk result (λ all. ReceiptsAddUp 0 all.items) }
         ensures short { IfOk result (λ all. AllByRecursion (λ e. length e.bytes ≤ 2 ^ 24) all.items) }
         ensures most { IfOk result (λ all. cost_of_placed all.items ≤ limit) }
         ensures ended { IfOk result (λ all. ends_of passes.items ≢ [] → IsLeast (cost_of_placed all.items) (ends_of passes.items)) }

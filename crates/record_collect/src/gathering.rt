@@ -4,14 +4,14 @@ ghost use Rattle.std.specs.List.{AllByRecursion};
 ghost use Rattle.record_io.specs.ManyStores.{AreOnlyAsked, AreTold, IfAllTell};
 ghost use Rattle.chunk_reader.specs.ManyFiles.{IsFirstFault};
 ghost use Rattle.chunk_reader.specs.declared.reasons.Fault.{Fault};
-ghost use Rattle.record_collect.specs.declared.feeding.Taken.{Taken};
+ghost use Rattle.record_collect.specs.declared.feeding.Fed.{Fed};
 ghost use Rattle.record_collect.specs.Gatherings.{AreGathered, GatheredValue, IsInBounds};
 ghost use Rattle.record_collect.specs.GatheredFiles.{AreGatheredOf, IsTooMuch};
 ghost use Rattle.record_collect.specs.Passes.{BelongsTo};
 ghost use Rattle.record_collect.specs.Takings.{AreRead, IsFirstRefused, both_taken};
 
 use crate::collector::{Collector, Pass};
-use crate::feeding::Taken;
+use crate::feeding::Fed;
 use crate::gathered::Gathered;
 use crate::slots::feed_into;
 use chunk_reader::{Fault, ReadEnd};
@@ -82,14 +82,14 @@ fn all_gathered(
     alloc: Global,
     collector: Collector,
     passes: Vec<Pass>,
-    answers: &[Result<Taken, ReadEnd>],
+    answers: &[Result<Fed, ReadEnd>],
 ) -> Result<Gathered, GatherEnd>
     requires passes { vec_len passes ≡ collector.passes }
     requires each { All (BelongsTo collector) passes.items }
-    ensures read { IfOk result (λ made. AreRead answers.now Taken.Whole × AreGathered passes.items made × IsInBounds made) }
+    ensures read { IfOk result (λ made. AreRead answers.now Fed.Whole × AreGathered passes.items made × IsInBounds made) }
     ensures refused { (index : ℕ) (fault : Fault) → result ≡ Err (GatherEnd.Refused index fault) → IsFirstRefused answers.now index fault }
     ensures too_much { result ≡ Err GatherEnd.TooMuch
-        → (made : GatheredValue) × AreRead answers.now Taken.Front × AreGathered passes.items made }
+        → (made : GatheredValue) × AreRead answers.now Fed.Front × AreGathered passes.items made }
     ensures store { result ≡ Err GatherEnd.Store → (i : ℕ) × (slice_get answers.now i ≡ Some (Err ReadEnd.Store)) }
 {
     let part = all_read(answers)?;
@@ -97,13 +97,13 @@ fn all_gathered(
         return Err(GatherEnd::Memory);
     };
     match part {
-        Taken::Whole => Ok(made),
-        Taken::Front => Err(GatherEnd::TooMuch),
+        Fed::Whole => Ok(made),
+        Fed::Front => Err(GatherEnd::TooMuch),
     }
 }
 
 /// So many places for answers.
-fn unread(alloc: Global, count: usize) -> Result<Vec<Result<Taken, ReadEnd>>, AllocError>
+fn unread(alloc: Global, count: usize) -> Result<Vec<Result<Fed, ReadEnd>>, AllocError>
     ensures { IfOk result (λ answers. vec_len answers ≡ count) }
 {
     let mut answers = Vec::with_capacity(alloc, count)?;
@@ -114,13 +114,13 @@ fn unread(alloc: Global, count: usize) -> Result<Vec<Result<Taken, ReadEnd>>, Al
 }
 
 /// What was taken of all files together, or the first answer that a file was not read.
-fn all_read(answers: &[Result<Taken, ReadEnd>]) -> Result<Taken, GatherEnd>
+fn all_read(answers: &[Result<Fed, ReadEnd>]) -> Result<Fed, GatherEnd>
     ensures read { IfOk result (λ part. AreRead answers.now part) }
     ensures refused { (index : ℕ) (fault : Fault) → result ≡ Err (GatherEnd.Refused index fault) → IsFirstRefused answers.now index fault }
     ensures store { result ≡ Err GatherEnd.Store → (i : ℕ) × (slice_get answers.now i ≡ Some (Err ReadEnd.Store)) }
     ensures never { result ≢ Err GatherEnd.TooMuch }
 {
-    let mut part = Taken::Whole;
+    let mut part = Fed::Whole;
     for index in 0..answers.len() {
         part = with_answer(part, index as u64, &answers[index])?;
     }
@@ -128,16 +128,16 @@ fn all_read(answers: &[Result<Taken, ReadEnd>]) -> Result<Taken, GatherEnd>
 }
 
 /// What was taken of files together with the next one, which has this number and this answer.
-fn with_answer(part: Taken, index: u64, answer: &Result<Taken, ReadEnd>) -> Result<Taken, GatherEnd>
-    ensures read { IfOk result (λ both. (more : Taken) × (answer.now ≡ Ok more) × (both ≡ both_taken part more)) }
+fn with_answer(part: Fed, index: u64, answer: &Result<Fed, ReadEnd>) -> Result<Fed, GatherEnd>
+    ensures read { IfOk result (λ both. (more : Fed) × (answer.now ≡ Ok more) × (both ≡ both_taken part more)) }
     ensures refused { (number : ℕ) (fault : Fault) → result ≡ Err (GatherEnd.Refused number fault)
         → (number ≡ index) × (answer.now ≡ Err (ReadEnd.Refused fault)) }
     ensures store { result ≡ Err GatherEnd.Store → answer.now ≡ Err ReadEnd.Store }
     ensures never { result ≢ Err GatherEnd.TooMuch }
 {
     match *answer {
-        Ok(Taken::Whole) => Ok(part),
-        Ok(Taken::Front) => Ok(Taken::Front),
+        Ok(Fed::Whole) => Ok(part),
+        Ok(Fed::Front) => Ok(Fed::Front),
         Err(ReadEnd::Refused(fault)) => Err(GatherEnd::Refused { index, fault }),
         Err(ReadEnd::Store) => Err(GatherEnd::Store),
         Err(ReadEnd::Memory) => Err(GatherEnd::Memory),

@@ -7,7 +7,7 @@ ghost use Rattle.record_collect.specs.Passes.{BelongsTo, IsFresh};
 ghost use Rattle.record_collect.specs.Takings.{AreFed};
 
 use crate::collector::{Collector, Pass};
-use crate::feeding::{Taken, feed_file};
+use crate::feeding::{Fed, feed_file};
 use chunk_reader::ReadEnd;
 use record_io::Store;
 use std::thread::{Threads, join_mut};
@@ -20,7 +20,7 @@ pub(crate) fn feed_slots<R: Threads + Sync, S: Store + Send>(
     collector: &Collector,
     sizes: &[u64],
     passes: &mut [Pass],
-    answers: &mut [Result<Taken, ReadEnd>],
+    answers: &mut [Result<Fed, ReadEnd>],
     stores: &mut [S],
 )
     requires sizes { length sizes.now ≡ length stores.old }
@@ -62,7 +62,7 @@ fn feed_slot<S: Store>(
     collector: &Collector,
     sizes: &[u64],
     passes: &mut [Pass],
-    answers: &mut [Result<Taken, ReadEnd>],
+    answers: &mut [Result<Fed, ReadEnd>],
     stores: &mut [S],
 )
     requires short { length stores.old < 2 }
@@ -85,7 +85,7 @@ pub(crate) fn feed_into<R: Threads + Sync, S: Store + Send>(
     collector: &Collector,
     sizes: &[u64],
     passes: &mut Vec<Pass>,
-    answers: &mut Vec<Result<Taken, ReadEnd>>,
+    answers: &mut Vec<Result<Fed, ReadEnd>>,
     stores: &mut [S],
 )
     requires sizes { length sizes.now ≡ length stores.old }

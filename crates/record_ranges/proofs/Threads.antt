@@ -12,7 +12,7 @@ use Rattle.record_ranges.specs.declared.stretches.Stretch.{Stretch}
 use Rattle.record_ranges.specs.Stretches.{IsStretchOf}
 use Rattle.record_io.specs.ManyStores.{AnyRose, AreOnlyAsked}
 use Rattle.record_io.proofs.ManyStores.{AnyRose-then, Rose-after, asks_twice, asks_whatever, each_none}
-use Rattle.record_ranges.specs.Reads.{AreAnswered, AreReadIn, StandsIn}
+use Rattle.record_ranges.specs.Reads.{AreAnswered, AreReadIn, IsAmong}
 
 module _ {S L : Type 0} (bytes : S → Option (List ℕ)) (told : S → Option ℕ) (name : S → L) (faults : S → ℕ) where
   abbrev Answered : List Span → List S → List S → List (Result Stretch ReadEnd) → Type 0
@@ -78,7 +78,7 @@ module _ {S L : Type 0} (bytes : S → Option (List ℕ)) (told : S → Option �
 
   -- and where one answered that it failed, a count rose
   pub rose : (spans : List Span) (before after : List S) (answers : List (Result Stretch ReadEnd))
-      → AreAnswered bytes told name faults spans before after answers → StandsIn (Err Store) answers → AnyRose faults before after
+      → AreAnswered bytes told name faults spans before after answers → IsAmong (Err Store) answers → AnyRose faults before after
   rose spans before after answers h (x, y, is) =
       rose_at spans before after x y (subst (AreAnswered bytes told name faults spans before after) is h)
 
@@ -105,7 +105,7 @@ module _ {S L : Type 0} (bytes : S → Option (List ℕ)) (told : S → Option �
   pub asked_again : {F : Type 0} (spans : List Span) (before after : List S) (answers : List (Result Stretch ReadEnd)) (d t : S)
       → 0 < length before → AreAnswered bytes told name faults spans before after answers
       → OnlyAsks bytes told name faults ⊥ (slice_index_or after 0 d) t
-      → (F → StandsIn (Err Store) answers ⊎ Rose (faults (slice_index_or after 0 d)) (faults t))
+      → (F → IsAmong (Err Store) answers ⊎ Rose (faults (slice_index_or after 0 d)) (faults t))
       → AreOnlyAsked bytes told name faults F before (set after 0 t)
   asked_again spans [] after answers d t some h g cause = absurd (omega (arith, some))
   asked_again [] (a ∷ before) after answers d t some h g cause = absurd h

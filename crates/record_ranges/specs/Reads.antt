@@ -13,8 +13,8 @@ abbrev pub IfAllTellSame : {S : Type 0} → (S → Option (List ℕ)) → List S
 IfAllTellSame bytes stores P = (file : List ℕ) → AllByRecursion (λ s. bytes s ≡ Some file) stores → P file
 
 -- it stands in the list
-abbrev pub StandsIn : {X : Type 0} → X → List X → Type 0
-StandsIn {X} x xs = (before : List X) × (after : List X) × (xs ≡ before ++ x ∷ after)
+abbrev pub IsAmong : {X : Type 0} → X → List X → Type 0
+IsAmong {X} x xs = (before : List X) × (after : List X) × (xs ≡ before ++ x ∷ after)
 
 -- where an answer gave the chunks of a part, they are chunks of the file
 abbrev pub AreReadIn : List ℕ → List Span → List (Result Stretch ReadEnd) → Type 0

@@ -1,6 +1,6 @@
 ghost use Rattle.std.specs.Prelude.{◌≡◌, ◌⊎◌, ◌++◌, ◌∷◌, ◌↔◌, List, IsTrue, IfOk, Ok, Err, map, Result};
 ghost use Rattle.record_ranges.specs.Stretches.{MeetUpTo};
-ghost use Rattle.record_ranges.specs.Reads.{StandsIn};
+ghost use Rattle.record_ranges.specs.Reads.{IsAmong};
 ghost use Rattle.chunk_reader.specs.declared.reasons.ReadEnd.{ReadEnd};
 
 use crate::stretches::Stretch;
@@ -13,7 +13,7 @@ pub(crate) fn all_read(
     answers: Vec<Result<Stretch, ReadEnd>>,
 ) -> Result<Vec<Stretch>, ReadEnd>
     ensures all { IfOk result (λ read. answers.items ≡ map (λ s. Ok s) read.items) }
-    ensures some { (end : ReadEnd) → result ≡ Err end → (end ≡ ReadEnd.Memory) ⊎ StandsIn (Err end) answers.items }
+    ensures some { (end : ReadEnd) → result ≡ Err end → (end ≡ ReadEnd.Memory) ⊎ IsAmong (Err end) answers.items }
 {
     let mut all = Vec::new(alloc);
     for answer in answers {

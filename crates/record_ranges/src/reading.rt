@@ -5,7 +5,7 @@ ghost use Rattle.record_io.specs.Outside.{Rose};
 ghost use Rattle.chunk_reader.specs.Faults.{IsFault};
 ghost use Rattle.chunk_reader.specs.declared.reasons.Fault.{Fault};
 ghost use Rattle.record_ranges.specs.Ranges.{RiseUpTo, AreRangesOf};
-ghost use Rattle.record_ranges.specs.Reads.{IfAllTellSame, StandsIn, AreReadIn};
+ghost use Rattle.record_ranges.specs.Reads.{IfAllTellSame, IsAmong, AreReadIn};
 ghost use Rattle.record_ranges.specs.Stretches.{AreReadOf};
 
 use crate::alone::{check_front, read_alone};
@@ -90,7 +90,7 @@ fn judged_parts<S: Store>(
     ensures refused { (fault : Fault) → result ≡ Err (ReadEnd.Refused fault)
         → IfSome (S.bytes store.old) (λ file. IsFault false file fault) }
     ensures cause { result ≡ Err ReadEnd.Store
-        → StandsIn (Err ReadEnd.Store) answers.items ⊎ Rose (S.faults store.old) (S.faults store.new) }
+        → IsAmong (Err ReadEnd.Store) answers.items ⊎ Rose (S.faults store.old) (S.faults store.new) }
     ensures store { OnlyAsks S.bytes S.told S.name S.faults ⊥ store.old store.new }
 {
     match all_read(alloc, answers) {

@@ -1,9 +1,9 @@
 use Rattle.std.proofs.Common.{sym, subst}
 use Rattle.run_answers.specs.Runs.{SaysAtEnd, seen_stream}
-use Rattle.collect_files.specs.CollectingEnds.{status_of_stop, text_of_stop}
+use Rattle.collect_files.specs.CollectingEnds.{uncollected_status, uncollected_text}
 use Rattle.collect_files.proofs.stops.end_at_stop.Goals as goal
 
 pub returns-in-TooMuch-clause-told : goal.returns-in-TooMuch-clause-told
 returns-in-TooMuch-clause-told g c =
-    subst (λ s. SaysAtEnd c.end.result (status_of_stop s) (seen_stream g.E.Sink.taken g.E.Sink.faults c.args.notes.now)
-    (seen_stream g.E.Sink.taken g.E.Sink.faults c.end.new.notes) (text_of_stop s)) (sym c.in-TooMuch.is) c.end.ensures.told
+    subst (λ s. SaysAtEnd c.end.result (uncollected_status s) (seen_stream g.E.Sink.taken g.E.Sink.faults c.args.notes.now)
+    (seen_stream g.E.Sink.taken g.E.Sink.faults c.end.new.notes) (uncollected_text s)) (sym c.in-TooMuch.is) c.end.ensures.told
