@@ -21,10 +21,11 @@ use Rattle.run_answers.specs.Endings.{SaysEnd}
 use Rattle.run_answers.specs.FileAnswers.{OfFile, IsInReach, IsTooLong, limit_text, most_file_bytes}
 use Rattle.run_answers.specs.Meanings.{Read}
 use Rattle.run_answers.specs.Statuses.{fault_text}
-use Rattle.run_answers.specs.Runs.{SeenStream, SeenFile, Seen, seen, IsRead, IfRead, IfGrown, IsWhole, IsCutOff, IsCutShort, OfSizes, SaysAtEnd, TakesThen, Breaks, HasCause, Runs}
+use Rattle.run_answers.specs.Runs.{SeenStream, SeenFile, Seen, seen, IsRead, IfRead, IfGrown, IsWhole, IsCutOff, IsCutShort, OfSizes, SaysAtEnd, TakesThen, Breaks, HasCause, TakesAtMost, Runs}
 use Rattle.run_answers.proofs.GrownRuns.{GrowsFile, grown-size, keeps-cut_off, keeps-whole}
 use Rattle.run_answers.proofs.RunEnds.{GaveButNotes, KeepsAtEnd, PutsLines-none, was-cut_off, went-so_far, ends-whole, ends-said, ends-cut_off}
 use Rattle.show_files.specs.Readings.{refused_text}
+use Rattle.write_lines.specs.Input.{most_input_taken}
 use Rattle.write_lines.specs.WriteCommand.{stop_status, stop_text}
 use Rattle.riegeli_tool.specs.AppendCommand.{IsAppended, IsLeft, KeepsOld, MayBeLeft, append_meaning, grown_answer, grown_puts, grown_text, lines_taken}
 use Rattle.riegeli_tool.specs.AppendingEnds.{HasAppended, HasTold, IsSizedBy, IsStopped, IsTold, KeepsOldAtEnd, appending_ends, halt_status, halt_text}
@@ -85,6 +86,7 @@ keeps-map P Q size (Some file) (Some now) exact then keeps = then file now exact
 module _ (words : AppendWords) (input input_then : SeenStream) (files : List SeenFile) (made : SeenStream) (grown grown_then : SeenFile)
     (out out_then notes notes_then : SeenStream)
     (i : input.faults ≤ input_then.faults) (g : grown.faults ≤ grown_then.faults) (o : out.faults ≤ out_then.faults) (n : notes.faults ≤ notes_then.faults)
+    (taken : TakesAtMost most_input_taken input.bytes input_then.bytes)
     (handed : (grown_then.handed ≡ grown.handed) ⊎ HasTold grown.bytes (λ size. IsInReach (size ∷ []))) where
   abbrev Before : Seen
   Before = seen input files made grown out notes
@@ -124,13 +126,13 @@ module _ (words : AppendWords) (input input_then : SeenStream) (files : List See
       → KeepsAtEnd (append_meaning words) Before After ended
   whole ended is leaves keeps =
       keeps-whole (append_meaning words) (grows words) input input_then files made made grown grown_then out out_then notes notes_then
-      ended is i (omega arith) g o n leaves keeps handed
+      ended is i (omega arith) g o n taken leaves keeps handed
 
   short : (ended : Status) → IsCutOff ended ⊎ (ended ≡ status.Notes) → IfGrown (append_meaning words) Before After (append_meaning words).may_leave
       → Keeps (KeepsOld words.cut ended) → KeepsAtEnd (append_meaning words) Before After ended
   short ended is may_leave keeps =
       keeps-cut_off (append_meaning words) (grows words) input input_then files made made grown grown_then out out_then notes notes_then
-      ended is i (omega arith) g o n may_leave keeps handed
+      ended is i (omega arith) g o n taken may_leave keeps handed
 
   -- nothing was printed
   none_went : out_then.bytes ≡ out.bytes → GoOut Start Worked []

@@ -13,7 +13,7 @@ use Rattle.record_group.proofs.RecordFiles.{IsFile-file_of, IsPlain-record_chunk
 use Rattle.record_writer.specs.Written.{AreInLimits}
 use Rattle.record_writer.specs.declared.options.WriteOptions.{WriteOptions}
 use Rattle.record_append.specs.Appends.{HoldsGrown}
-use Rattle.record_append.specs.Grown.{IsKeptTo, IsTaken, chunks_at, grown}
+use Rattle.record_append.specs.Grown.{IsKeptTo, IsUnrefused, chunks_at, grown}
 use Rattle.record_append.proofs.GrownFiles.{grown_frame, grown_records, kept_once, kept_whole, taken_whole}
 use Rattle.run_answers.specs.FileAnswers.{most_file_bytes}
 use Rattle.write_lines.proofs.TakenRecords.{taken_from-records}
@@ -21,7 +21,7 @@ use Rattle.riegeli_tool.specs.AppendCommand.{IsLeft, lines_taken}
 use Rattle.riegeli_tool.specs.declared.append_words.AppendWords.{AppendWords}
 
 -- the file that is left of one that isn't refused
-left_of : (words : AppendWords) (input file held : List ℕ) (place : ℕ) → length file ≤ most_file_bytes → IsTaken words.cut file → IsKeptTo file place
+left_of : (words : AppendWords) (input file held : List ℕ) (place : ℕ) → length file ≤ most_file_bytes → IsUnrefused words.cut file → IsKeptTo file place
     → IsLeft words (lines_taken words input) file held → held ≡ grown words.write.options file place (lines_taken words input).records
 left_of words input file held place reach taken kept (inl (inl long, same)) = absurd (omega (arith, reach, long))
 left_of words input file held place reach taken kept (inl (inr (fault, refused), same)) = absurd (taken fault refused)
@@ -32,7 +32,7 @@ left_of words input file held place reach taken kept (inr (within, (other, holds
 
 -- it holds the records that are kept, and then those of the input's lines
 grown_with : (words : AppendWords) (input file held : List ℕ) (place : ℕ) (ks : List ChunkValue) (old : List (List ℕ))
-    → AreInLimits words.write.options → AreBytes input → length file ≤ most_file_bytes → IsTaken words.cut file
+    → AreInLimits words.write.options → AreBytes input → length file ≤ most_file_bytes → IsUnrefused words.cut file
     → IsFrameChain ks file place → IsKeptTo file place → AreRecordsOf ks old → IsLeft words (lines_taken words input) file held
     → IsFrame (ks ++ chunks_at words.write.options place (lines_taken words input).records) held
     × AreRecordsOf (ks ++ chunks_at words.write.options place (lines_taken words input).records) (old ++ (lines_taken words input).records)
@@ -46,7 +46,7 @@ grown_with words input file held place ks old limits bytes reach taken chain kep
     )
 
 pub grown_back : (words : AppendWords) (input file held : List ℕ) (place : ℕ) (ks : List ChunkValue) (old : List (List ℕ))
-    → AreInLimits words.write.options → AreBytes input → length file ≤ most_file_bytes → IsTaken words.cut file
+    → AreInLimits words.write.options → AreBytes input → length file ≤ most_file_bytes → IsUnrefused words.cut file
     → IsFrameChain ks file place → IsKeptTo file place → AreRecordsOf ks old → IsLeft words (lines_taken words input) file held
     → (new : List ChunkValue) × IsFrame (ks ++ new) held × AreRecordsOf (ks ++ new) (old ++ (lines_taken words input).records)
 grown_back words input file held place ks old limits bytes reach taken chain kept are left =

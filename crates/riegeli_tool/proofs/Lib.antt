@@ -11,6 +11,7 @@ pub mod CommandWords
 pub mod DigitsBack
 pub mod FileAnswersExist
 pub mod GrownBack
+mod NameValues
 pub mod RunsWith
 pub mod PastDamage
 pub mod RangesAnswers

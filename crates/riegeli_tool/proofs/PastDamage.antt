@@ -1,45 +1,37 @@
 -- The answers of the commands that go past damage, told by the numbers of the undamaged file's chunks, and to the front of a file.
-use Rattle.std.proofs.Common.{◌≡◌, ◌∙◌, ◌⊎◌, ℕ, ◌+◌, ◌^◌, ◌<◌, ◌≤◌, Bool, true, false, Option, Some, None, List, [], ◌∷◌, ◌++◌, length, take, refl, sym, ap, subst, inl, inr, append_assoc, arith}
-use Rattle.std.specs.Prelude.{MatchOption, slice_get}
-use Rattle.std.specs.List.{AllByRecursion}
-use Rattle.std.proofs.lemmas.Bool.{cases_lt, cases_Bool}
-use Rattle.std.proofs.lemmas.List.{append-nil}
-use Rattle.std.proofs.lemmas.Option.{slice_get_within}
+use Rattle.std.proofs.Common.{◌≡◌, ◌∙◌, ◌⊎◌, ℕ, ◌+◌, ◌^◌, ◌≤◌, Bool, true, false, Option, Some, None, List, [], ◌∷◌, ◌++◌, length, take, refl, sym, ap, subst, inl, inr, append_assoc, arith}
+use Rattle.std.specs.Prelude.{MatchOption}
+use Rattle.std.proofs.lemmas.Bool.{cases_Bool}
 use Rattle.chunk_header.specs.Chunks.{ChunkValue}
-use Rattle.meta_chunk.specs.Files.{IsFrame, AreRecordsOf, begin_of}
-use Rattle.meta_chunk.proofs.Begins.{begin_of-place, holder_of}
+use Rattle.meta_chunk.specs.Files.{IsFrame, AreRecordsOf}
 use Rattle.chunk_reader.specs.declared.reasons.Why.{Why}
 use Rattle.damage_skip.specs.Bounds.{may_skip, MaySkip, walked, refused_in}
-use Rattle.damage_skip.specs.Damage.{Intact, IsDamaged, AreReached, DamageLeaves, DamageLeavesEach, untouched}
+use Rattle.damage_skip.specs.Damage.{Intact, IsDamaged, DamageLeaves, DamageLeavesEach, untouched}
 use Rattle.damage_skip.specs.DamagedWalks.{IsLeftRegion}
-use Rattle.damage_skip.specs.Pieces.{PieceKind, Given, Kept, LeftOut, Skipped, Piece, AreTiles, ArePieces, events_in, AreEvents, records_in}
-use Rattle.damage_skip.specs.Regions.{regions_in}
+use Rattle.damage_skip.specs.Pieces.{PieceKind, Given, Kept, LeftOut, Skipped, Piece, events_in, AreEvents}
 use Rattle.damage_skip.specs.declared.regions.Region.{Region}
 use Rattle.damage_skip.proofs.BoundedWalks.{MaySkipEach, walked-all, refused-none, walked-to_refused, refused-there}
 use Rattle.damage_skip.proofs.Damaged.{pieces_left}
 use Rattle.damage_skip.proofs.FoundRecords.{records_in_events}
-use Rattle.damage_skip.proofs.Prefixes.{front_tiles, cut_between, cut_within}
+use Rattle.damage_skip.proofs.FrontWalks.{front_pieces}
 use Rattle.damage_skip.proofs.Reached.{left_numbers}
 use Rattle.damage_skip.proofs.Tiles.{same_piece, events-append, events_one}
 use Rattle.damage_skip.proofs.Untouched.{left_records, lost_to_a_block}
 use Rattle.damage_skip.proofs.WalkedTo.{piece_at, each_region}
-use Rattle.repair_copy.specs.Relaid.{chunks_in, copied}
 use Rattle.repair_copy.proofs.EventChunks.{chunks_in_events}
 use Rattle.repair_copy.proofs.LeftChunks.{left_chunks}
 use Rattle.run_answers.specs.Answers.{Answer}
-use Rattle.run_answers.specs.FileAnswers.{most_file_bytes, OfFile}
+use Rattle.run_answers.specs.FileAnswers.{OfFile}
 use Rattle.run_answers.specs.Meanings.{Read}
 use Rattle.run_answers.specs.Runs.{Seen, Runs}
 use Rattle.run_answers.specs.declared.status.Status.{Status}
 use Rattle.run_answers.proofs.OneAnswer.{same_answer}
 use Rattle.show_damaged.specs.RecoverCommand.{IsRecovered}
-use Rattle.show_damaged.specs.declared.recover_words.RecoverWords.{RecoverWords}
 use Rattle.riegeli_tool.specs.CommandAnswers.{IsAnswerTo, meaning_of}
-use Rattle.riegeli_tool.specs.PastDamage.{recovered_as, repaired_as, AreLostToABlock, IsAnswerPastDamage, IsCutAt, IsAnswerToFront, IsToldSo, IsToldPastDamage, meaning_past_damage}
+use Rattle.riegeli_tool.specs.PastDamage.{recovered_as, repaired_as, IsAnswerPastDamage, IsAnswerToFront, IsToldSo, IsToldPastDamage, meaning_past_damage}
 use Rattle.riegeli_tool.specs.RepairCommand.{IsRepaired}
 use Rattle.riegeli_tool.specs.declared.command.Command.{Command}
 use Rattle.riegeli_tool.specs.declared.command.Command.TheVariants.{Write, Show, Recover, Verify, Seek, Repair, Sample, Join, Ranges, Append, Collect}
-use Rattle.riegeli_tool.specs.declared.repair_words.RepairWords.{RepairWords}
 use Rattle.riegeli_tool.proofs.RunsWith.{runs-with}
 
 -- a piece that is no region, or one that may be skipped or not
@@ -123,7 +115,7 @@ module _ (keep : Bool) (most : Option ℕ) (ks : List ChunkValue) (intact : Inta
           records = subst (AreRecordsOf (untouched ks intact numbers.0)) (sym (records_in_events front))
               (left_records keep ks intact 0 to front numbers.0 left numbers.1);
           chunks = chunks_in_events front ∙ left_chunks keep ks intact d.frame.1.each 0 to front numbers.0 left numbers.1;
-          lost = λ whole lost before missed. lost_to_a_block ks intact to lost numbers.0 whole numbers.1 before missed;
+          lost = lost_to_a_block ks intact to numbers.0 numbers.1;
         }
 
     answer_past : AreEvents keep damaged events → IsAnswerPastDamage keep most answer_as ks intact answer
@@ -145,45 +137,16 @@ module _ (keep : Bool) (most : Option ℕ) (ks : List ChunkValue) (intact : Inta
 module _ (keep : Bool) (most : Option ℕ) (answer_as : List Piece → Option Region → Answer) (answer : Answer) (ks : List ChunkValue) (file bytes : List ℕ) (m : ℕ)
     (frame : IsFrame ks file) (within : m ≤ length file) (cut_off : bytes ≡ take m file) (events : List Piece) (are : AreEvents keep bytes events)
     (is : answer ≡ answer_as (walked most events) (refused_in most events)) where
-  answer_of : (count : ℕ) (front cut : List Piece) → AreTiles keep file 0 (begin_of ks count) front → IsCutAt ks count m cut
-      → ArePieces keep (take m file) (front ++ cut) → IsAnswerToFront keep most answer_as ks file m answer
-  answer_of count front cut whole there pieces = record {
-    count = count;
-    front = front;
-    whole = whole;
-    cut = cut;
-    cut_there = there;
-    answers = is ∙ ap (λ (es : List Piece). answer_as (walked most es) (refused_in most es))
-        (events_one keep bytes events (events_in (front ++ cut)) are
-        (subst (λ (b : List ℕ). AreEvents keep b (events_in (front ++ cut))) (sym cut_off) (front ++ cut, pieces, refl)));
-  }
-
-  at_begin : (count : ℕ) → m ≡ begin_of ks count → IsAnswerToFront keep most answer_as ks file m answer
-  at_begin count there =
-      let front = front_tiles keep ks file frame count in
-      answer_of count front.0 [] front.1 (inl (there, refl))
-      (subst (ArePieces keep (take m file)) (sym (append-nil front.0))
-      (subst (λ (x : ℕ). ArePieces keep (take x file) front.0) (sym there) (cut_between keep ks file frame count front.0 front.1)))
-
-  in_chunk : (count : ℕ) → count < length ks → begin_of ks count < m → m < begin_of ks (count + 1) → IsAnswerToFront keep most answer_as ks file m answer
-  in_chunk count inside after before =
-      let front = front_tiles keep ks file frame count in
-      let cut = cut_within keep ks file frame count m front.0 inside after before front.1 in
-      answer_of count front.0 (record { begin = begin_of ks count; end = m; what = Skipped cut.0 } ∷ []) front.1
-      (inr (inside, after, before, cut.0, cut.1, refl)) cut.2
-
   answer_to_front : IsAnswerToFront keep most answer_as ks file m answer
   answer_to_front =
-      let end : begin_of ks (length ks) ≡ length file = begin_of-place ks file (length file) frame.1.within frame.1.laid in
-      elim (cases_lt m (begin_of ks (length ks))) [
-        | inl short ↦
-            let holder = holder_of ks m short in
-            elim (cases_lt (begin_of ks holder.0) m) [
-              | inl after ↦ in_chunk holder.0 (slice_get_within ks holder.0 holder.1 holder.2) after holder.4
-              | inr at ↦ at_begin holder.0 (omega (arith, at, holder.3))
-            ]
-        | inr long ↦ at_begin (length ks) (omega (arith, long, end, within))
-      ]
+      let front = front_pieces keep ks file m frame within in
+      record {
+        pieces = front.0;
+        apart = front.1;
+        answers = is ∙ ap (λ (es : List Piece). answer_as (walked most es) (refused_in most es))
+            (events_one keep bytes events (events_in front.0) are
+            (subst (λ (b : List ℕ). AreEvents keep b (events_in front.0)) (sym cut_off) (front.0, front.2, refl)));
+      }
 
 -- so an answer that tells of the events of a file is so told
 told_so : (keep : Bool) (most : Option ℕ) (answer_as : List Piece → Option Region → Answer) (bytes : List ℕ) (answer : Answer) (events : List Piece)

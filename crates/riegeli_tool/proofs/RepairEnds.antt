@@ -1,5 +1,5 @@
 -- How the work of `repair` ends, by how the repair of its file did, where the file may tell its bytes.
-use Rattle.std.proofs.Common.{◌≡◌, ℕ, ◌≤◌, Bool, true, false, Option, Some, None, Ok, Err, IfSome, IsSomeAnd, List, [], ◌∷◌, length, refl, sym, subst}
+use Rattle.std.proofs.Common.{◌≡◌, ℕ, ◌-◌, ◌≤◌, ◌⊎◌, inl, inr, arith, Bool, true, false, Option, Some, None, Result, Ok, Err, IfSome, IsSomeAnd, List, [], ◌∷◌, length, refl, sym, subst}
 use Rattle.std.specs.Fn.{Shared}
 use denote.Ref.{Bor}
 use Rattle.std.proofs.lemmas.Option.{MatchOption-at_some}
@@ -7,10 +7,12 @@ use Rattle.record_io.specs.Outside.{Rose, Takes, TakesFront}
 use Rattle.record_io.specs.Puts.{taken_by}
 use Rattle.damage_skip.specs.declared.regions.Region.{Region}
 use Rattle.repair_copy.specs.Repairs.{Repairs, Skips}
+use Rattle.repair_copy.specs.ShortRepairs.{RepairsShort}
 use Rattle.repair_copy.specs.declared.repairs.Repaired.{Repaired}
 use Rattle.repair_copy.specs.declared.repairs.RepairEnd.{RepairEnd}
 use Rattle.damage_skip.specs.Bounds.{MaySkip}
 use Rattle.damage_skip.proofs.WalkedTo.{walked-none}
+use Rattle.damage_skip.proofs.Takings.{up_to-none}
 use Rattle.riegeli_tool.specs.declared.repair_words.RepairWords.{RepairWords}
 use Rattle.run_answers.specs.declared.status.Status.{Status}
 use Rattle.run_answers.specs.declared.ending.Ending.{Ending}
@@ -38,8 +40,14 @@ repair_walks words = record {
 }
 
 -- before the first event nothing is put
-pub repaired-none : (words : RepairWords) (file : List ℕ) → IsRepairedSoFar words file []
-repaired-none words file = record { place = 0; events = []; walked = walked-none true (MaySkip words.most) file; puts = refl }
+pub repaired-none : (words : RepairWords) (before after : ℕ) → after ≡ before → (file : List ℕ) → IsRepairedSoFar words before after file []
+repaired-none words before after same file = record {
+  place = 0;
+  events = [];
+  walked = walked-none true (MaySkip words.most) file;
+  puts = refl;
+  taken = up_to-none true file (after - before) (omega (arith, same));
+}
 
 module _ {F : Type 0} (g : Shared F (Bor Region × Unit {0}) Bool) (f : F) (words : RepairWords) (bound : IsBound g f words.most) where
   -- why the repair of a file ended
@@ -60,17 +68,17 @@ module _ {F : Type 0} (g : Shared F (Bor Region × Unit {0}) Bool) (f : F) (word
       some-answer (IsRepaired words) (repaired_exists words) (HasPutToCut cut.Notes (taken_by a o n) (taken_by b o m) []) file
       (λ answer is. (refl, untold-walked g f words bound file short x y a b o n m h.place h.events h.walked h.part h.took answer is h.went))
 
-  -- all that was put so far went out
-  cut-short : (file : List ℕ) → length file ≤ most_file_bytes → (e : RepairEnd) (x y : ℕ) (a b o n m : Option (List ℕ))
-      → Repairs g f (Err e) x y (taken_by a None n) (taken_by b None m) file → IsShort (end_of_repair e) → ¬ Rose x y
-      → HasPutSoFar (IsRepairedSoFar words file) (taken_by a o n) (taken_by b o m) []
-  cut-short file few (repair.Stopped region) x y a b o n m h short sound = absurd short
-  cut-short file few repair.Store x y a b o n m h short sound =
-      cut-so_far g f words bound file few x y a b o n m sound h.place h.events h.walked h.part h.went h.took
-  cut-short file few repair.Made x y a b o n m h short sound = absurd short
-  cut-short file few repair.Memory x y a b o n m h short sound =
-      cut-so_far g f words bound file few x y a b o n m sound h.place h.events h.walked h.part h.went h.took
-  cut-short file few repair.Notes x y a b o n m h short sound = absurd short
+  -- what is answered at an end
+  abbrev Ended : RepairEnd → Result Repaired RepairEnd
+  Ended e = Err e
+
+  -- what is read failed, or memory was wanting
+  is_short : (e : RepairEnd) → IsShort (end_of_repair e) → (Ended e ≡ Ended repair.Store) ⊎ (Ended e ≡ Ended repair.Memory)
+  is_short (repair.Stopped region) short = absurd short
+  is_short repair.Store short = inl refl
+  is_short repair.Made short = absurd short
+  is_short repair.Memory short = inr refl
+  is_short repair.Notes short = absurd short
 
   tells : (e : RepairEnd) (n m : Option (List ℕ)) → Skips g f (Err e) n m → TellsOf words.most (Err (end_of_repair e)) n m
   tells (repair.Stopped region) n m h =
@@ -93,17 +101,21 @@ module _ {F : Type 0} (g : Shared F (Bor Region × Unit {0}) Bool) (f : F) (word
           both (Some file) is few =
               cut-walks file few e x y a b o n m (MatchOption-at_some _ (Repairs g f (Err e) x y (taken_by a None n) (taken_by b None m)) file is h)
 
-    pub ended-so_far : (e : RepairEnd) (why : Ending Region) (x y : ℕ) (a b o n m : Option (List ℕ))
-        → why ≡ end_of_repair e → IfSome told (Repairs g f (Err e) x y (taken_by a None n) (taken_by b None m))
+    -- all that was put so far went out
+    pub ended-so_far : (e : RepairEnd) (why : Ending Region) (x y start now : ℕ) (a b o n m : Option (List ℕ))
+        → why ≡ end_of_repair e
+        → ((Ended e ≡ Ended repair.Store) ⊎ (Ended e ≡ Ended repair.Memory)
+        → IfSome told (RepairsShort g f x y (taken_by a None n) (taken_by b None m) (now - start)))
         → IsShort why → ¬ Rose x y
-        → IfSome bytes (λ file. HasPutSoFar (IsRepairedSoFar words file) (taken_by a o n) (taken_by b o m) [])
-    ended-so_far e why x y a b o n m is h ends sound = both bytes same short where
+        → IfSome bytes (λ file. HasPutSoFar (IsRepairedSoFar words start now file) (taken_by a o n) (taken_by b o m) [])
+    ended-so_far e why x y start now a b o n m is cuts ends sound = both bytes same short where
       both : (bs : Option (List ℕ)) → told ≡ bs → IfSome bs (λ file. length file ≤ most_file_bytes)
-          → IfSome bs (λ file. HasPutSoFar (IsRepairedSoFar words file) (taken_by a o n) (taken_by b o m) [])
+          → IfSome bs (λ file. HasPutSoFar (IsRepairedSoFar words start now file) (taken_by a o n) (taken_by b o m) [])
       both None same few = tt
       both (Some file) same few =
-          cut-short file few e x y a b o n m (MatchOption-at_some _ (Repairs g f (Err e) x y (taken_by a None n) (taken_by b None m)) file same h)
-          (subst (IsShort {W = Region}) is ends) sound
+          let h = MatchOption-at_some _ (RepairsShort g f x y (taken_by a None n) (taken_by b None m) (now - start)) file same
+          (cuts (is_short e (subst (IsShort {W = Region}) is ends))) in
+          cut-so_far g f words bound file few x y a b o n m sound h.place h.events h.walked h.part h.went h.took start now h.account
 
     -- the file was repaired, and the report printed
     pub done-walks : (repaired : Repaired) (x y : ℕ) (a b o p n m : Option (List ℕ)) (ended : Status)

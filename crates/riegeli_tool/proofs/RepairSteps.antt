@@ -1,5 +1,5 @@
 -- How the repair of a file stands to the answer.
-use Rattle.std.proofs.Common.{◌≡◌, ◌≢◌, ◌∙◌, ℕ, ◌+◌, ◌≤◌, Bool, true, false, Option, None, Result, Ok, Err, List, [], ◌∷◌, ◌++◌, length, length-append, append_assoc, take, refl, sym, ap, subst, inl, inr, arith}
+use Rattle.std.proofs.Common.{◌≡◌, ◌≢◌, ◌∙◌, ℕ, ◌+◌, ◌-◌, ◌≤◌, Bool, true, false, Option, None, Result, Ok, Err, List, [], ◌∷◌, ◌++◌, length, length-append, append_assoc, take, refl, sym, ap, subst, inl, inr, arith}
 use Rattle.std.specs.Fn.{Shared}
 use denote.Ref.{Bor}
 use Rattle.std.specs.List.{AllByRecursion}
@@ -14,6 +14,7 @@ use Rattle.meta_chunk.specs.Files.{signature, end_of_chunks}
 use Rattle.damage_skip.specs.Pieces.{Skipped, Piece, AreEvents}
 use Rattle.damage_skip.specs.Bounds.{may_skip, MaySkip, walked, refused_in}
 use Rattle.damage_skip.specs.Policies.{IsAllowedRegion}
+use Rattle.damage_skip.specs.Takings.{IsTakenUpTo}
 use Rattle.damage_skip.specs.Regions.{region_text, regions_in, skipped_text, IsWalkedTo}
 use Rattle.damage_skip.proofs.BoundedWalks.{MaySkipEach, walked-behind, walked-all, refused-none, walked-to_refused, refused-there}
 use Rattle.damage_skip.proofs.RegionsIn.{each_so, skipped_text-pieces}
@@ -269,12 +270,13 @@ module _ {F : Type 0} (g : Shared F (Bor Region × Unit {0}) Bool) (f : F) (word
 
     pub cut-so_far : ¬ Rose faults faults_then → (place : ℕ) (events : List Piece) → IsWalkedTo true (IsAllowedRegion g f) file place events
         → (part : List Put) → WentOutAtFault faults faults_then events part → GoOut (taken_by a None n) (taken_by b None m) part
-        → HasPutSoFar (IsRepairedSoFar words file) Start Then []
-    cut-so_far sound place events walk part went took =
+        → (start now : ℕ) → IsTakenUpTo true file 0 place (now - start)
+        → HasPutSoFar (IsRepairedSoFar words start now file) Start Then []
+    cut-so_far sound place events walk part went took start now taken =
         let same = all-first sound events part went in
         record {
           part = part;
-          is = record { place = place; events = events; walked = walked-to file place events walk; puts = same };
+          is = record { place = place; events = events; walked = walked-to file place events walk; puts = same; taken = taken };
           went = GoOutOrAreHeld-none Start Then Out part
               (beside_out a b o n m part took (ap (bytes_to Out) same ∙ none_out-first events));
         }

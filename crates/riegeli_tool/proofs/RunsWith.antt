@@ -62,4 +62,5 @@ module _ (m : Meaning) (answers : Read → Answer → Type 0) (so : (r : Read) (
     cut_off_said = ran.cut_off_said;
     front_said = λ failed. sizes_so _ (ran.front_said failed);
     counts = ran.counts;
+    input_taken = ran.input_taken;
   }

@@ -7,7 +7,7 @@ use Rattle.run_answers.specs.declared.status.Status.{Status}
 use Rattle.riegeli_tool.specs.Usage.{usage_text, usage}
 use Rattle.riegeli_tool.specs.CommandAnswers.{usage_meaning}
 use Rattle.run_answers.specs.Runs.{SeenStream, Seen, SaysAtEnd, Runs}
-use Rattle.run_answers.proofs.RunEnds.{OfSizes-unread, keeps-unread, runs-said}
+use Rattle.run_answers.proofs.RunEnds.{OfSizes-unread, keeps-unread, none-taken, runs-said}
 use Rattle.run_answers.specs.declared.status.Status.TheVariants as status
 
 -- words that are no command: the usage text was said, or notes failed
@@ -23,4 +23,5 @@ runs-usage others notes notes_then ended says counts =
       record { same_status = refl; puts = []; whole = refl; went = GoOut-nothing (taken_by others.made.bytes others.out.bytes notes.bytes) },
     ))
     (λ _. refl) refl
-    (keeps-unread usage_meaning others.input others.input others.files others.made others.made others.grown others.out others.out notes notes_then refl (λ r. tt) (omega arith) (omega arith) (omega arith) counts)
+    (keeps-unread usage_meaning others.input others.input others.files others.made others.made others.grown others.out others.out notes notes_then refl (λ r. tt) (omega arith) (omega arith) (omega arith) counts
+    (none-taken 0 others.input.bytes))

@@ -7,7 +7,7 @@ use Rattle.chunk_reader.specs.declared.reasons.Fault.{Fault}
 use Rattle.record_writer.specs.Feeds.{Rest}
 use Rattle.record_writer.specs.declared.feed.Stop.{Stop}
 use Rattle.record_append.specs.Appends.{GrowsBy, GrowsFrom, HoldsGrownInPart, KeepsFront}
-use Rattle.record_append.specs.Grown.{IsKeptTo, IsRefused, IsTaken, RefusesFor, grown}
+use Rattle.record_append.specs.Grown.{IsKeptTo, IsRefused, IsUnrefused, RefusesFor, grown}
 use Rattle.record_append.specs.declared.appends.Appended.{Appended}
 use Rattle.riegeli_tool.specs.declared.append_words.AppendWords.{AppendWords}
 use Rattle.run_answers.specs.Answers.{Answer, noted}
@@ -15,7 +15,7 @@ use Rattle.run_answers.specs.FileAnswers.{OfFile, IsInReach, IsTooLong, count_li
 use Rattle.run_answers.specs.Meanings.{Meaning, meaning, none_used}
 use Rattle.run_answers.specs.declared.status.Status.{Status}
 use Rattle.show_files.specs.Readings.{refused_text}
-use Rattle.write_lines.specs.Input.{taken_from}
+use Rattle.write_lines.specs.Input.{most_input_taken, taken_from}
 use Rattle.write_lines.specs.WriteCommand.{MayEndWrite, stop_status, stop_text}
 use Rattle.run_answers.specs.declared.status.Status.TheVariants as status
 
@@ -55,7 +55,7 @@ grown_answer words file place rest = record {
 abbrev pub IsAppended : AppendWords → Rest → (file : List ℕ) → Answer → Type 0
 IsAppended words rest file answer =
     ((fault : Fault) × IsRefused words.cut file fault × (answer ≡ noted status.Refused (refused_text fault)))
-    ⊎ ((place : ℕ) × IsTaken words.cut file × IsKeptTo file place × (answer ≡ grown_answer words file place rest))
+    ⊎ ((place : ℕ) × IsUnrefused words.cut file × IsKeptTo file place × (answer ≡ grown_answer words file place rest))
 
 -- what is taken from an input, of which 2 ^ 40 bytes are read
 abbrev pub lines_taken : AppendWords → (input : List ℕ) → Rest
@@ -103,4 +103,5 @@ append_meaning words =
       keeps = KeepsOld words.cut;
       may_work = IsInReach;
       may_end = MayEndAppending words.cut;
+      most_taken = most_input_taken;
     }

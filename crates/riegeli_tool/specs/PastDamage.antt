@@ -1,15 +1,13 @@
 -- What `show` and `repair` answer past damage, told by the numbers of the undamaged file's chunks, and to the front of a file. Own.
-use Rattle.std.specs.Prelude.{◌≡◌, ◌≢◌, ℕ, ◌+◌, ◌^◌, ◌<◌, ◌≤◌, ◌⊎◌, ⊤, Bool, true, false, Option, Some, None, MatchOption, List, [], ◌∷◌, ◌++◌, length, take, slice_get}
+use Rattle.std.specs.Prelude.{◌≡◌, ℕ, ◌+◌, ◌^◌, ◌≤◌, ⊤, Bool, true, false, Option, Some, MatchOption, List, [], ◌∷◌, ◌++◌, length, take}
 use Rattle.std.specs.List.{AllByRecursion, flat_map}
 use Rattle.record_io.specs.Puts.{Notes, puts_to}
-use Rattle.block_layout.specs.Layout.{IsBlock}
 use Rattle.chunk_header.specs.Chunks.{ChunkValue}
-use Rattle.meta_chunk.specs.Files.{IsFrame, AreRecordsOf, begin_of}
-use Rattle.chunk_reader.specs.declared.reasons.Why.{Why}
-use Rattle.chunk_reader.specs.declared.reasons.Why.TheVariants as why
+use Rattle.meta_chunk.specs.Files.{IsFrame, AreRecordsOf}
 use Rattle.damage_skip.specs.Bounds.{may_skip, MaySkip, walked, refused_in}
-use Rattle.damage_skip.specs.Damage.{Intact, IsDamaged, AreReached, DamageLeavesEach, untouched}
-use Rattle.damage_skip.specs.Pieces.{Piece, Skipped, AreTiles, events_in, records_in}
+use Rattle.damage_skip.specs.Damage.{Intact, IsDamaged, AreReached, AreLostToABlock, DamageLeavesEach, untouched}
+use Rattle.damage_skip.specs.Fronts.{AreFrontPieces}
+use Rattle.damage_skip.specs.Pieces.{Piece, Skipped, events_in, records_in}
 use Rattle.damage_skip.specs.Regions.{regions_in, stopped_text}
 use Rattle.damage_skip.specs.declared.regions.Region.{Region}
 use Rattle.repair_copy.specs.Relaid.{chunks_in, copied}
@@ -38,15 +36,6 @@ repaired_as given stopped = record {
   status = walk_status (regions_in given) stopped;
 }
 
--- where all block headers are intact, a chunk that isn't among those reached before one is behind a broken header, and ends at or
--- before the first block from that one's begin on
-abbrev pub AreLostToABlock : List ChunkValue → Intact → (to : ℕ) → List ℕ → Type 0
-AreLostToABlock ks intact to numbers =
-    ((b : ℕ) → IsBlock b → b < begin_of ks (length ks) → intact.block b ≡ true)
-    → (lost : ℕ) → lost < to → ((i : ℕ) → slice_get numbers i ≢ Some lost)
-    → (j : ℕ) × (j < lost) × (intact.header j ≡ false)
-    × ((b : ℕ) → IsBlock b → begin_of ks j ≤ b → begin_of ks (lost + 1) ≤ b)
-
 -- an answer to a damaged file is that of the chunks reached before one, where the walk ends: at the file's end, or at what
 -- damage leaves of this chunk where that is a region that may not be skipped. What is given are the records of the untouched
 -- ones, and their chunks, where they are copied; and the regions that damage leaves of the others
@@ -69,22 +58,11 @@ pub record IsAnswerPastDamage (keep : Bool) (most : Option ℕ) (answer_as : Lis
   pub chunks : chunks_in (events_in pieces) ≡ copied keep (untouched ks intact numbers)
   pub lost : AreLostToABlock ks intact to numbers
 
--- what is left of a chunk that is cut at a place: nothing where it begins there, and else a region up to there
-abbrev pub IsCutAt : List ChunkValue → (count m : ℕ) → List Piece → Type 0
-IsCutAt ks count m cut =
-    ((m ≡ begin_of ks count) × (cut ≡ []))
-    ⊎ ((count < length ks) × (begin_of ks count < m) × (m < begin_of ks (count + 1))
-    × (reason : Why) × ((reason ≡ why.Short) ⊎ (reason ≡ why.Truncated))
-    × (cut ≡ record { begin = begin_of ks count; end = m; what = Skipped reason } ∷ []))
-
 -- an answer to the front of a file of chunks is that of the pieces of the chunks that it has whole, and of the one that is cut
 pub record IsAnswerToFront (keep : Bool) (most : Option ℕ) (answer_as : List Piece → Option Region → Answer) (ks : List ChunkValue) (file : List ℕ) (m : ℕ) (answer : Answer) : Type 0 where
-  pub count : ℕ
-  pub front : List Piece
-  pub whole : AreTiles keep file 0 (begin_of ks count) front
-  pub cut : List Piece
-  pub cut_there : IsCutAt ks count m cut
-  pub answers : answer ≡ answer_as (walked most (events_in (front ++ cut))) (refused_in most (events_in (front ++ cut)))
+  pub pieces : List Piece
+  pub apart : AreFrontPieces keep ks file m pieces
+  pub answers : answer ≡ answer_as (walked most (events_in pieces)) (refused_in most (events_in pieces))
 
 -- the answer to a file is so told where the file is a damaged one, and where it is the front of a file of chunks
 pub record IsToldSo (keep : Bool) (most : Option ℕ) (answer_as : List Piece → Option Region → Answer) (bytes : List ℕ) (answer : Answer) : Type 0 where

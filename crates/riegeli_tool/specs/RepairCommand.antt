@@ -1,5 +1,5 @@
 -- What `repair` makes, prints, says and ends with. Own.
-use Rattle.std.specs.Prelude.{◌≡◌, ℕ, true, Option, Some, None, List, [], ◌∷◌, ◌++◌}
+use Rattle.std.specs.Prelude.{◌≡◌, ℕ, ◌-◌, true, Option, Some, None, List, [], ◌∷◌, ◌++◌}
 use lib.Chars.{codes}
 use Rattle.record_io.specs.Puts.{Put, Out, Notes, puts_to}
 use Rattle.chunk_header.specs.Chunks.{ChunkValue}
@@ -8,6 +8,7 @@ use Rattle.meta_chunk.specs.Files.{signature}
 use Rattle.damage_skip.specs.Pieces.{Piece, AreEvents}
 use Rattle.damage_skip.specs.Bounds.{MaySkip, walked, refused_in}
 use Rattle.damage_skip.specs.Regions.{region_text, regions_in, IsWalkedTo}
+use Rattle.damage_skip.specs.Takings.{IsTakenUpTo}
 use Rattle.show_damaged.specs.WalkAnswers.{walk_status, MaySayWalk, MayEndWalk}
 use Rattle.damage_skip.specs.declared.regions.Region.{Region}
 use Rattle.repair_copy.specs.Relaid.{chunks_in}
@@ -36,12 +37,13 @@ abbrev pub first_puts : List Piece → List Put
 first_puts [] = []
 first_puts (event ∷ events) = repair_puts (event ∷ events)
 
--- what was put so far: that of the events up to a place
-pub record IsRepairedSoFar (words : RepairWords) (file : List ℕ) (part : List Put) : Type 0 where
+-- what was put so far: that of the events up to a place. The pieces up to there and the one there account for what was handed out
+pub record IsRepairedSoFar (words : RepairWords) (before after : ℕ) (file : List ℕ) (part : List Put) : Type 0 where
   pub place : ℕ
   pub events : List Piece
   pub walked : IsWalkedTo true (MaySkip words.most) file place events
   pub puts : part ≡ first_puts events
+  pub taken : IsTakenUpTo true file 0 place (after - before)
 
 -- what `repair` means
 abbrev pub repair_meaning : RepairWords → Meaning

@@ -5,7 +5,8 @@ ghost use Rattle.record_append.specs.Devices.{CountsFaults};
 ghost use Rattle.record_writer.specs.Written.{AreInLimits};
 ghost use Rattle.run_answers.specs.Endings.{SaysEnd};
 ghost use Rattle.run_answers.specs.FileAnswers.{IsInReach, most_file_bytes};
-ghost use Rattle.run_answers.specs.Runs.{Runs, Seen, seen_file, seen_stream};
+ghost use Rattle.run_answers.specs.Runs.{Runs, Seen, TakesAtMost, seen_file, seen_stream};
+ghost use Rattle.write_lines.specs.Input.{most_input_taken};
 ghost use Rattle.riegeli_tool.specs.AppendCommand.{append_meaning, appended_text, lines_taken};
 ghost use Rattle.riegeli_tool.specs.AppendingEnds.{HasAppended, HasTold, IsSizedBy, IsUnsized, KeepsOldAtEnd, appending_ends, end_of_append};
 
@@ -67,6 +68,7 @@ fn append_lines<R: Threads + Sync, I: Source, G: Device + Send, O: Sink>(
     ensures sized { IsSizedBy result words.now.cut (G.bytes grown.old) (G.told grown.new) }
     ensures handed { (G.handed grown.new ≡ G.handed grown.old) ⊎ HasTold (G.bytes grown.old) (λ size. IsInReach (size ∷ [])) }
     ensures read_to_end { OnOk result (IfSome (I.left input.old) (λ _. I.left input.new ≡ Some [])) }
+    ensures input_taken { TakesAtMost most_input_taken (I.left input.old) (I.left input.new) }
     ensures input_cause { result ≡ Err (Ending.Cut Cut.Input) → Rose (I.faults input.old) (I.faults input.new) }
     ensures input_count { I.faults input.old ≤ I.faults input.new }
     ensures grown { CountsFaults G.faults (result ≡ Err (Ending.Cut Cut.Grown)) grown.old grown.new }

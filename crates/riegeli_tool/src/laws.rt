@@ -23,7 +23,7 @@ ghost use Rattle.run_answers.specs.Answers.{Answer, line};
 ghost use Rattle.riegeli_tool.specs.Commands.{accepted};
 ghost use Rattle.run_answers.specs.Meanings.{Read};
 ghost use Rattle.riegeli_tool.specs.CommandAnswers.{IsAnswerTo, meaning_of};
-ghost use Rattle.record_append.specs.Grown.{IsKeptTo, IsTaken};
+ghost use Rattle.record_append.specs.Grown.{IsKeptTo, IsUnrefused};
 ghost use Rattle.run_answers.specs.FileAnswers.{OfFile, most_file_bytes, report};
 ghost use Rattle.show_files.specs.Readings.{bare, digits_alone, record_line};
 ghost use Rattle.write_lines.specs.Input.{taken_from, with_last_end};
@@ -222,7 +222,7 @@ pub fn samples_read_back()
 /// those of the input's lines. Of a file without fault it leaves one. Own.
 pub fn grown_files_read_back()
     ensures kept { (words : AppendWords) (input file held : List ℕ) (place : ℕ) (ks : List ChunkValue) (old : List (List ℕ))
-        → AreInLimits words.write.options → AreBytes input → length file ≤ most_file_bytes → IsTaken words.cut file
+        → AreInLimits words.write.options → AreBytes input → length file ≤ most_file_bytes → IsUnrefused words.cut file
         → IsFrameChain ks file place → IsKeptTo file place → AreRecordsOf ks old → IsLeft words (lines_taken words input) file held
         → (new : List ChunkValue) × IsFrame (ks ++ new) held × AreRecordsOf (ks ++ new) (old ++ (lines_taken words input).records) }
     ensures faultless { (words : AppendWords) (input file held : List ℕ) (ks : List ChunkValue) (old : List (List ℕ))

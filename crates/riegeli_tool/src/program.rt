@@ -41,22 +41,32 @@ collect FROM... TO
 ///
 /// `files` are stores of the files that the command reads, as `names` tells them, `made` is the file that it makes, and
 /// `grown` the file that it grows.
-/// Text goes to `out` and messages go to `notes`. For now the commands are `write`, of lines, with `--chunk`, `--every`,
-/// `--workers`, `--pad` and `--hex`; `show`, with `--hex` and `--positions`, and with `--recover`, which goes on past damage, and `--most`,
-/// which bounds the bytes of a region that is skipped; `verify`, which takes no memory; `seek`, by a position with `--at` or by
-/// a key with `--key`, and with `--hex`; `repair`, which makes the file of what is intact of another one, with `--most` too;
-/// `sample`, which makes the file of records that a seed tells, with `--seed`, `--records`, `--chunk` and `--workers`; `join`,
-/// which makes one file of up to 64 others and takes no memory; and `append`, which puts lines behind the last whole chunk of
-/// a file, with the options of `write`, and with `--cut` also where it drops more than a chunk that the file ends within.
+/// Text goes to `out` and messages go to `notes`. Of the input at most 2^40 bytes are taken, and one that shows that it goes on.
+///
+/// The commands are `write`, of lines, with `--chunk`, `--every`, `--workers`, `--pad` and `--hex`; `show`, with `--hex` and
+/// `--positions`, and with `--recover`, which goes on past damage, and `--most`, which bounds the bytes of a region that is
+/// skipped; `verify`, which takes no memory; `seek`, by a position with `--at` or by a key with `--key`, and with `--hex`;
+/// `repair`, which makes the file of what is intact of another one, with `--most` too; `sample`, which makes the file of
+/// records that a seed tells, with `--seed`, `--records`, `--chunk` and `--workers`; `join`, which makes one file of up to 64
+/// others and takes no memory; `ranges`, which prints the records of a file that threads read, with `--parts`; `append`, which
+/// puts lines behind the last whole chunk of a file, with the options of `write`, and with `--cut` also where it drops more
+/// than a chunk that the file ends within; and `collect`, which makes one file of the records of up to 16 others, which threads
+/// read.
 ///
 /// # Errors
 ///
-/// `Usage` where the words are no command that reads so many files, `Refused` where the file is not well formed, or not where
-/// `seek` reads it, or `append` may not cut it, `NotFound` where `seek` finds no record, `Limit` where a line has more than 2^24 bytes, or 2^25 in the
-/// hexadecimal form, the input more than 2^40 or the file more than 2^60, as the files of `join` have together with
-/// 131,072 bytes for each but the last, `BadLine` where a line isn't in that form, `Skipped`
-/// where regions of the file were skipped, `Stopped` where one has more bytes than may be skipped, `Input`, `File`, `Made`,
-/// `Grown`, `Out` and `Notes` where that object failed, `Memory` where there wasn't enough. Own.
+/// - `Usage` where the words are no command that reads so many files.
+/// - `Refused` where the file is not well formed, or not where `seek` reads it, or `append` may not cut it; of several files
+///   where one is not.
+/// - `NotFound` where `seek` finds no record.
+/// - `Limit` where a line has more than 2^24 bytes, or 2^25 in the hexadecimal form, the input more than 2^40, the file more than
+///   2^60, as the files of `join` have together with 131,072 bytes for each but the last, or that of `ranges` more than 2^28, or
+///   where the records of `collect` cost more than 2^26 together or one has more than 2^24 bytes.
+/// - `Differ` where two stores of the file of `ranges` told different sizes.
+/// - `BadLine` where a line isn't in the hexadecimal form.
+/// - `Skipped` where regions of the file were skipped, `Stopped` where one has more bytes than may be skipped.
+/// - `Input`, `File`, `Made`, `Grown`, `Out` and `Notes` where that object failed.
+/// - `Memory` where there wasn't enough. Own.
 pub fn run<
     R: Threads + Sync,
     I: Source,

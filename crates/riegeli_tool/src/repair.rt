@@ -53,7 +53,7 @@ fn repair_file<S: Store, M: Sink, O: Sink, E: Sink>(
     ensures walks { IfSome (S.bytes file.old) (λ bytes. HasPutAtEnd walk_ends (IsRepaired words.now) result bytes
         (taken_by (M.taken made.old) (O.taken out.old) (E.taken notes.old)) (taken_by (M.taken made.new) (O.taken out.new) (E.taken notes.new)) []) }
     ensures so_far { IsErrAnd result IsShort → ¬ Rose (M.faults made.old) (M.faults made.new)
-        → IfSome (S.bytes file.old) (λ bytes. HasPutSoFar (IsRepairedSoFar words.now bytes)
+        → IfSome (S.bytes file.old) (λ bytes. HasPutSoFar (IsRepairedSoFar words.now (S.handed file.old) (S.handed file.new) bytes)
         (taken_by (M.taken made.old) (O.taken out.old) (E.taken notes.old)) (taken_by (M.taken made.new) (O.taken out.new) (E.taken notes.new)) []) }
     ensures said { TellsOf words.now.most result (E.taken notes.old) (E.taken notes.new) }
     ensures allowed { IsAllowedEnd (repair_meaning words.now) result (S.told file.new) }

@@ -2,7 +2,11 @@ use Rattle.std.proofs.Common.{◌≡◌, ◌+◌, Ok, Err, Some, [], ap, inr, le
 use Rattle.std.proofs.lemmas.Result.{err_from_is_err_and}
 use Rattle.record_io.specs.Outside.{Takes, TakesFront}
 use Rattle.record_append.specs.Appends.{KeepsFront}
+use Rattle.run_answers.specs.Runs.{TakesAtMost}
+use Rattle.run_answers.proofs.RunEnds.{none-taken}
+use Rattle.write_lines.specs.Input.{most_input_taken}
 use Rattle.write_lines.proofs.FeedSteps.{input-spent}
+use Rattle.write_lines.proofs.Origins.{taken-at_most}
 use Rattle.write_lines.proofs.WrittenLines.{read-spent}
 use Rattle.riegeli_tool.specs.AppendCommand.{lines_taken}
 use Rattle.riegeli_tool.proofs.AppendSteps.{ended-appended, ended-kept, ended-sized, told-appended, told-kept, unsized-appended, unsized-kept, unsized-sized}
@@ -78,3 +82,27 @@ returns-in-Ok-put_appended-clause-read_to_end g c =
     read-spent {X = Unit {0}} {E = Unit {0}} (Ok tt) (g.I.Source.left c.args.input.now) _ _ _ (lines_taken c.args.words.now)
     c.in-Ok.ensures.read_to_end c.new-lines.ensures.rest
     (λ spent. let all : g.I.Source.left feed.input.now ≡ Some [] = input-spent feed.hex (length feed.held + feed.asked) feed.held _ spent in search rules)
+
+pub returns-in_err-size-clause-input_taken : goal.returns-in_err-size-clause-input_taken
+returns-in_err-size-clause-input_taken g c = none-taken most_input_taken (g.I.Source.left c.args.input.now)
+
+pub returns-in-Err-clause-input_taken : goal.returns-in-Err-clause-input_taken
+returns-in-Err-clause-input_taken g c =
+    let feed = c.append.new.feed in
+    let taken : TakesAtMost most_input_taken (g.I.Source.left c.args.input.now) (g.I.Source.left feed.input.now) =
+    taken-at_most _ _ most_input_taken feed.asked _ _ (c.in-Err.ensures.feed.same_lent ∙ c.new-lines.ensures.origin) in
+    search rules
+
+pub returns-in-Ok-put_appended-clause-input_taken : goal.returns-in-Ok-put_appended-clause-input_taken
+returns-in-Ok-put_appended-clause-input_taken g c =
+    let feed = c.append.new.feed in
+    let taken : TakesAtMost most_input_taken (g.I.Source.left c.args.input.now) (g.I.Source.left feed.input.now) =
+    taken-at_most _ _ most_input_taken feed.asked _ _ (c.in-Ok.ensures.feed.same_lent ∙ c.new-lines.ensures.origin) in
+    search rules
+
+pub returns-in-Err-put_appended-clause-input_taken : goal.returns-in-Err-put_appended-clause-input_taken
+returns-in-Err-put_appended-clause-input_taken g c =
+    let feed = c.append.new.feed in
+    let taken : TakesAtMost most_input_taken (g.I.Source.left c.args.input.now) (g.I.Source.left feed.input.now) =
+    taken-at_most _ _ most_input_taken feed.asked _ _ (c.in-Ok.ensures.feed.same_lent ∙ c.new-lines.ensures.origin) in
+    search rules

@@ -23,14 +23,15 @@ returns-in-Err-clause-walks g c =
 
 pub returns-in_err-size-clause-so_far : goal.returns-in_err-size-clause-so_far
 returns-in_err-size-clause-so_far g c = λ short sound.
-    so_far-nothing (IsRepairedSoFar c.args.words.now) _ _ (repaired-none c.args.words.now)
+    so_far-nothing (IsRepairedSoFar c.args.words.now _ _) _ _ (repaired-none c.args.words.now _ _ c.in_err-size.ensures.same_handed)
 
 pub returns-in-Err-clause-so_far : goal.returns-in-Err-clause-so_far
 returns-in-Err-clause-so_far g c =
-    ended-so_far _ c.new-policy.result.test c.args.words.now (λ region allowed is returned. search (rules, tests)) _ _ c.in_ok-size.ensures.same_bytes
+    rw (← c.in_ok-size.ensures.same_handed)
+    (ended-so_far _ c.new-policy.result.test c.args.words.now (λ region allowed is returned. search (rules, tests)) _ _ c.in_ok-size.ensures.same_bytes
     (short_told _ _ c.in_ok-size.ensures.in_reach c.in_ok-size.ensures.exact)
-    c.in-Err.end _ _ _ _ _ _ _ _ c.end_of_repair.ensures
-    c.in-Err.ensures.repairs
+    c.in-Err.end _ _ _ _ _ _ _ _ _ _ c.end_of_repair.ensures
+    c.in-Err.ensures.cut_short)
 
 pub returns-in-Err-clause-said : goal.returns-in-Err-clause-said
 returns-in-Err-clause-said g c =
