@@ -4,24 +4,18 @@ ghost use Rattle.std.specs.Io.KnownBytes.{Appends};
 ghost use Rattle.record_io.specs.Outside.{Rose, faults_after};
 ghost use Rattle.record_io.specs.Edge.{AppendsFront};
 
-use record_io::{Failed, FileSink, Sink, counted, fault};
-use std::fs::{self, Metadata};
+use crate::apart::Apart;
+use record_io::{Failed, FileSink, Sink, counted};
 use std::marker::Model;
-use std::os::unix::fs::MetadataExt;
 use std::rt::Files;
 
 /// A file that is made as by `FileSink`, unless it is one of the given files or streams, whose bytes would be lost.
 ///
-/// The first call looks whether its path leads to a regular file that one of the other paths leads to as well: the same
-/// inode of the same device. Where it does, each call fails, and the file is neither opened nor emptied. A path that leads
-/// nowhere yet, or of which nothing can be learned, is taken for that of no other file. It takes no memory.
+/// The first call looks whether it is apart. Where it isn't, each call fails, and the file is neither opened nor emptied. It
+/// takes no memory.
 #[derive(Drop)]
 pub struct ApartSink<'a, R: Files> {
-    rt: &'a R,
-    path: &'a str,
-    files: &'a [String],
-    streams: &'a [&'a str],
-    apart: Option<bool>,
+    apart: Apart<'a, R>,
     made: FileSink<'a, R>,
     faults: u64,
 }
@@ -32,7 +26,7 @@ impl<'a, R: Files> Model for ApartSink<'a, R> {
 
     ghost Value = { WritingApart };
 
-    ghost view = { λ s. record { apart = s.apart; made = s.made; faults = s.faults } };
+    ghost view = { λ s. record { apart = s.apart.seen; made = s.made; faults = s.faults } };
 
     ghost invariant = { λ s. s.faults < 2 ^ 64 };
 }
@@ -52,11 +46,7 @@ impl<'a, R: Files> ApartSink<'a, R> {
         ensures faults { result.faults ≡ 0 }
     {
         ApartSink {
-            rt,
-            path,
-            files,
-            streams,
-            apart: None,
+            apart: Apart::new(rt, path, files, streams),
             made: FileSink::named(rt, path),
             faults: 0,
         }
@@ -90,33 +80,7 @@ impl<'a, R: Files> Sink for ApartSink<'a, R> {
         ensures counted { self.new.faults ≡ faults_after result self.old.faults }
         ensures made_cause { OnErr result (self.new.apart ≡ Some true → Rose self.old.made.faults self.new.made.faults) }
     {
-        let (rt, path) = (self.rt, self.path);
-        let (files, streams) = (self.files, self.streams);
-        let apart = *self
-            .apart
-            .get_or_insert_with(|| !is_one_of(rt, path, files, streams));
-        if !apart {
-            return Err(fault(&mut self.faults));
-        }
+        self.apart.look(&mut self.faults)?;
         counted(self.made.put(piece), &mut self.faults)
-    }
-}
-
-/// Whether this path leads to a regular file that one of the other paths leads to as well.
-fn is_one_of<R: Files>(rt: &R, path: &str, files: &[String], streams: &[&str]) -> bool {
-    match fs::metadata(rt, path) {
-        Ok(about) if about.is_file() => {
-            files.iter().any(|file| leads_to(rt, file.as_str(), &about))
-                || streams.iter().any(|stream| leads_to(rt, stream, &about))
-        }
-        _ => false,
-    }
-}
-
-/// Whether this path leads to the file that this is told of.
-fn leads_to<R: Files>(rt: &R, path: &str, file: &Metadata) -> bool {
-    match fs::metadata(rt, path) {
-        Ok(about) => about.dev() == file.dev() && about.ino() == file.ino(),
-        Err(_) => false,
     }
 }

@@ -1,6 +1,8 @@
 //! The program: makes the real files and streams of its words, and hands them to `run`.
 #![tactic(auto)]
 
+mod apart;
+mod apart_device;
 mod apart_sink;
 mod real_files;
 #[cfg(test)]
@@ -15,6 +17,9 @@ use std::fs::{self, File, OpenOptions};
 use std::io::{self, ErrorKind};
 use std::os::fd::{AsRawFd, IntoRawFd};
 use std::process::ExitCode;
+
+/// The paths of the files behind standard input, output and error.
+const STREAMS: [&str; 3] = ["/dev/stdin", "/dev/stdout", "/dev/stderr"];
 
 /// The greatest block of memory that is kept once it is freed, in bytes: above those of most chunks.
 const KEPT_MEMORY: usize = 16 << 20;
@@ -32,6 +37,7 @@ fn main(rt: HostRuntime) -> ExitCode {
         &rt,
         &rt,
         &words,
+        &STREAMS,
         &mut StdInput::new(rt.reader()),
         &mut StdOut::new(io::writer(&rt)),
         &mut StdErr::new(rt.stderr()),

@@ -3,22 +3,22 @@ ghost use Rattle.std.specs.Prelude.{◌≡◌, map, take, drop};
 ghost use Rattle.std.specs.String.{string_bytes};
 ghost use Rattle.riegeli_main.specs.Paths.{path_at};
 
+use crate::apart_device::ApartDevice;
 use crate::apart_sink::ApartSink;
 use read_ahead::ReadAhead;
-use record_append::FileDevice;
+use record_append::AheadDevice;
 use record_io::{FileStore, Sink, Source};
 use riegeli_tool::{Names, Status, names, run};
 use std::alloc::AllocError;
 use std::thread::Threads;
 
-/// The paths of the files behind standard input, output and error.
-const STREAMS: [&str; 3] = ["/dev/stdin", "/dev/stdout", "/dev/stderr"];
-
-/// Does what the words say over these streams and the files whose paths they name, by threads of `threads`.
+/// Does what the words say over the input, the output and the notes and the files whose paths they name, by threads of
+/// `threads`. No file is made or grown that a path of `streams` leads to.
 pub(crate) fn run_on_files<R: Threads + Sync, I: Source, O: Sink, E: Sink>(
     threads: &R,
     rt: &HostRuntime,
     words: &[String],
+    streams: &[&str],
     input: &mut I,
     out: &mut O,
     notes: &mut E,
@@ -28,8 +28,9 @@ pub(crate) fn run_on_files<R: Threads + Sync, I: Source, O: Sink, E: Sink>(
     let Ok(mut files) = files(rt, read, names.times) else {
         return Status::Memory;
     };
-    let mut made = ApartSink::named(rt, made_path(words, &names), read, &STREAMS);
-    let mut grown = FileDevice::named(rt, grown_path(words, &names));
+    let mut made = ApartSink::named(rt, made_path(words, &names), read, streams);
+    let apart = ApartDevice::named(rt, grown_path(words, &names), streams);
+    let mut grown = AheadDevice::new(apart);
     run(
         threads,
         rt.alloc(),

@@ -15,6 +15,11 @@ const SECOND: &str = "riegeli_main_second";
 
 const THIRD: &str = "riegeli_main_third";
 
+/// A file that stands behind a stream once it is made.
+const FOURTH: &str = "riegeli_main_fourth";
+
+const STREAMS: [&str; 1] = ["./riegeli_main_fourth"];
+
 /// A file that can't be opened or made.
 const ABSENT: &str = "no_such_folder/F";
 
@@ -35,6 +40,23 @@ const GROWN: &str = "kept 112\ndropped 0\nrecords 3\nbytes 160\n";
 
 const TWICE: &str = "a\nbc\n\na\nbc\n\n";
 
+/// The report of a file without records.
+const NO_RECORDS: &str = "chunks 1\nrecords 0\nbytes 64\nunread 0\n";
+
+/// What is told where the words are no command.
+const USAGE: &str = "usage:
+write [--chunk=N] [--every=N] [--workers=N] [--pad=start|end|both] [--hex] FILE
+show [--recover] [--most=N] [--hex] [--positions] FILE
+verify FILE
+seek (--at=N | --key=TEXT) [--hex] FILE
+repair [--most=N] FROM TO
+sample --seed=N --records=N [--chunk=N] [--workers=N] FILE
+join FROM... TO
+ranges --parts=N FILE
+append [--chunk=N] [--every=N] [--workers=N] [--pad=start|end|both] [--hex] [--cut] FILE
+collect FROM... TO
+";
+
 /// The records that are sampled, and the summary of their file.
 const SAMPLE: &str = "zr\nqdo\n";
 
@@ -43,7 +65,8 @@ const SUMMARY: &str = "records 2\nbytes 113\n";
 /// More than a run of these tests prints or tells.
 const ROOM: usize = 1024;
 
-/// Each run is given the lines as its input.
+/// Each run is given the lines as its input. A file that exists is kept until something is put: at last the signature, before
+/// a line that holds no digits.
 #[test]
 fn each_command_uses_the_files_that_its_words_name(rt: HostRuntime) -> Result<(), Fail> {
     for (words, status, printed, told) in [
@@ -76,6 +99,10 @@ fn each_command_uses_the_files_that_its_words_name(rt: HostRuntime) -> Result<()
         (&["show", THIRD], Status::Ok, TWICE, ""),
         (&["collect", FIRST, SECOND], Status::Ok, PLACES, ""),
         (&["show", SECOND], Status::Ok, LINES, ""),
+        (&["write", FOURTH], Status::Ok, "", ""),
+        (&["write", FOURTH], Status::Made, "", "made fault\n"),
+        (&["append", FOURTH], Status::Grown, "", "grown fault\n"),
+        (&["show", FOURTH], Status::Ok, LINES, ""),
         (
             &["repair", FIRST, "./riegeli_main_first"],
             Status::Made,
@@ -116,11 +143,19 @@ fn each_command_uses_the_files_that_its_words_name(rt: HostRuntime) -> Result<()
         (&["write", ABSENT], Status::Made, "", "made fault\n"),
         (&["append", ABSENT], Status::Grown, "", "grown fault\n"),
         (&["show", ABSENT], Status::File, "", "file fault\n"),
+        (&["write", FIRST, "more"], Status::Usage, "", USAGE),
         (&["verify", FIRST], Status::Ok, REPORT, ""),
+        (
+            &["write", "--hex", FIRST],
+            Status::BadLine,
+            "",
+            "bad line 0\n",
+        ),
+        (&["verify", FIRST], Status::Ok, NO_RECORDS, ""),
     ] {
         ends(&rt, &rt, words, status, printed, told)?;
     }
-    for path in [FIRST, SECOND, THIRD] {
+    for path in [FIRST, SECOND, THIRD, FOURTH] {
         fs::remove_file(&rt, path)?;
     }
     Ok(())
@@ -165,7 +200,9 @@ fn ends<R: Threads + Abort + Sync>(
     );
     let (mut out, mut notes) = (sink(alloc)?, sink(alloc)?);
     let words = owned(alloc, words)?;
-    let ended = run_on_files(threads, rt, &words, &mut input, &mut out, &mut notes);
+    let ended = run_on_files(
+        threads, rt, &words, &STREAMS, &mut input, &mut out, &mut notes,
+    );
     assert_eq!(threads; notes.taken(), told.as_bytes(), "{words:?}");
     assert_eq!(threads; out.taken(), printed.as_bytes(), "{words:?}");
     assert_eq!(threads; ended, status, "{words:?}");
