@@ -2,7 +2,6 @@
 
 use anyhow::{Result, bail};
 use std::alloc::{AllocError, Global};
-use std::io::BufRead;
 use std::ops::Range;
 
 /// The words of a line and of the indented lines below it, each as it is written: a text with its quotes.
@@ -44,19 +43,28 @@ impl Statement {
 /// The statements with this number in place of each `{}`.
 pub fn filled(alloc: Global, statements: &[Statement], number: usize) -> Result<Vec<Statement>> {
     let number = format!(in alloc; "{number}")?;
+    Ok(filled_with(alloc, statements, number.as_str())?)
+}
+
+/// The same with a number that is written out.
+fn filled_with(
+    alloc: Global,
+    statements: &[Statement],
+    number: &str,
+) -> Result<Vec<Statement>, AllocError> {
     let mut filled = Vec::new(alloc);
     for statement in statements {
-        filled.push(statement.filled(alloc, number.as_str())?)?;
+        filled.push(statement.filled(alloc, number)?)?;
     }
     Ok(filled)
 }
 
-/// The statements of these lines. A line without a word is no part of any.
-pub fn statements_of<B: BufRead + Drop>(alloc: Global, lines: B) -> Result<Vec<Statement>> {
-    let mut statements: Vec<Statement> = Vec::new(alloc);
-    for (number, line) in lines.lines(alloc).enumerate() {
+/// The statements of a text. A line without a word is no part of any.
+pub fn statements_of(alloc: Global, text: &str) -> Result<Vec<Statement>> {
+    let mut statements = Vec::new(alloc);
+    for (number, line) in text.split('\n').enumerate() {
         let number = (number as u64).saturating_add(1);
-        take_line(alloc, &mut statements, number, line?.as_str())?;
+        take_line(alloc, &mut statements, number, line)?;
     }
     Ok(statements)
 }
@@ -88,17 +96,24 @@ fn add_words(words: &mut Vec<String>, more: Vec<String>) -> Result<(), AllocErro
 /// The words of a line up to a comment.
 fn words_of(alloc: Global, line: &str) -> Result<Vec<String>, AllocError> {
     let mut words = Vec::new(alloc);
-    let mut rest = line.trim_start_matches(' ');
+    let mut rest = line;
     for _ in 0..line.len() {
-        if rest.is_empty() || rest.starts_with('#') {
+        let Some((word, after)) = first_word(rest) else {
             break;
-        }
-        let cut = rest.split_at_checked(end_of_word(rest));
-        let (word, after) = cut.unwrap_or((rest, ""));
+        };
         words.push(String::from_str(alloc, word)?)?;
-        rest = after.trim_start_matches(' ');
+        rest = after;
     }
     Ok(words)
+}
+
+/// The first word of a text and what follows it, unless a comment comes first.
+fn first_word(text: &str) -> Option<(&str, &str)> {
+    let text = text.trim_start_matches(' ');
+    if text.is_empty() || text.starts_with('#') {
+        return None;
+    }
+    text.split_at_checked(end_of_word(text))
 }
 
 /// Where the word ends that a text begins with: at its first blank, or at the first one behind its quotes.

@@ -1,5 +1,6 @@
-//! Calls that are saved: of a sink by a buffer before it, and of a store by reading ahead.
+//! Calls that are saved: of a sink by a buffer before it, and of a store and a device by reading ahead.
 use read_ahead::ReadAheadBy;
+use record_append::{AheadDeviceBy, AsStore, Device, MemDevice};
 use record_io::{Failed, MemSink, MemStore, PutBuffer, Sink, Store, get_exact};
 use std::alloc::{AllocError, Global};
 use std::test::Fail;
@@ -49,19 +50,40 @@ fn gives_in_pieces<S: Store>(store: &mut S, piece: u8) -> Result<bool, Failed> {
     Ok(true)
 }
 
+/// How long pieces are of which twelve bytes are read, and how many calls that takes where up to six bytes are held: one for
+/// each size, and those that read. Pieces of three bytes or more go straight through.
+const CALLS: [(u8, u32); 5] = [(1, 12 + 2), (2, 6 + 2), (3, 4 + 4), (4, 3 + 3), (12, 1 + 1)];
+
 /// A store of twelve bytes whose call with this number fails.
 fn failing_store(alloc: Global, number: u32) -> Result<MemStore, AllocError> {
     let bytes = b"abcdefghijkl".to_vec(alloc)?;
     Ok(MemStore::new(bytes, Vec::new(alloc), [number].to_vec(alloc)?))
 }
 
-/// Up to six bytes are held, and pieces of three bytes or more go straight through. The call that fails is the first one
-/// after all is read.
+/// The call that fails is the first one after all is read.
 #[test]
 fn small_reads_cost_few_calls_of_the_store(rt: HostRuntime) -> Result<(), Fail> {
-    for (piece, calls) in [(1, 12 + 2), (2, 6 + 2), (3, 4 + 4), (4, 3 + 3), (12, 1 + 1)] {
+    for (piece, calls) in CALLS {
         let mut ahead = ReadAheadBy::<_, 6>::new(failing_store(rt.alloc(), calls)?);
         assert_eq!(rt; gives_in_pieces(&mut ahead, piece), Ok(true), "{piece}");
+        assert_eq!(rt; ahead.size(), Err(Failed), "{piece}");
+    }
+    Ok(())
+}
+
+/// A device of twelve bytes whose call with this number fails.
+fn failing_device(alloc: Global, number: u32) -> Result<MemDevice, AllocError> {
+    let bytes = b"abcdefghijkl".to_vec(alloc)?;
+    MemDevice::new(alloc, bytes, 0, Vec::new(alloc), [number].to_vec(alloc)?)
+}
+
+/// The call that fails is the first one after all is read.
+#[test]
+fn small_reads_cost_few_calls_of_the_device(rt: HostRuntime) -> Result<(), Fail> {
+    for (piece, calls) in CALLS {
+        let mut ahead = AheadDeviceBy::<_, 6>::new(failing_device(rt.alloc(), calls)?);
+        let given = gives_in_pieces(&mut AsStore::new(&mut ahead), piece);
+        assert_eq!(rt; given, Ok(true), "{piece}");
         assert_eq!(rt; ahead.size(), Err(Failed), "{piece}");
     }
     Ok(())

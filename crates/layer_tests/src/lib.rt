@@ -4,7 +4,7 @@
 #![tactic(auto)]
 
 #[cfg(test)]
-mod appends;
+mod chunks;
 #[cfg(test)]
 mod collecting;
 #[cfg(test)]
@@ -20,15 +20,13 @@ mod hashes;
 #[cfg(test)]
 mod layout;
 #[cfg(test)]
-mod memory;
+mod lines;
 #[cfg(test)]
 mod order;
 #[cfg(test)]
 mod overlaps;
 #[cfg(test)]
 mod ranges;
-#[cfg(test)]
-mod records;
 #[cfg(test)]
 mod resyncs;
 #[cfg(test)]

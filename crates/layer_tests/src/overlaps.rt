@@ -8,7 +8,7 @@ use chunk_header::Chunk;
 use chunk_workers::Coder;
 use record_group::Pad;
 use record_io::{Bytes, Failed, MemSink, Sink};
-use record_writer::{FeedEnd, RecordFeed, WriteEnd, WriteOptions, write_coded, write_records};
+use record_writer::{FeedEnd, RecordFeed, WriteOptions, write_coded, write_records};
 use simple_chunk::{Records, encode};
 use std::alloc::{AllocError, Global};
 use std::hint;
@@ -59,8 +59,8 @@ pub(crate) fn options(workers: u32) -> WriteOptions
     }
 }
 
-fn sink(alloc: Global, fails: &[u32]) -> Result<MemSink, AllocError> {
-    MemSink::new(alloc, 4096, Vec::new(alloc), fails.to_vec(alloc)?)
+fn sink(alloc: Global) -> Result<MemSink, AllocError> {
+    MemSink::new(alloc, 4096, Vec::new(alloc), Vec::new(alloc))
 }
 
 /// The file of the records of one byte each from one on up to another, written by one worker in chunks of this size.
@@ -74,7 +74,7 @@ pub(crate) fn file_between<R: Threads + Abort + Sync>(
     requires size { (1 ≤ size) × (size ≤ 2 ^ 24) }
     requires order { next ≤ end }
 {
-    let mut made = sink(alloc, &[])?;
+    let mut made = sink(alloc)?;
     let mut feed = ByteFeed { next, end };
     let options = WriteOptions { size, ..options(1) };
     let ended = write_records(rt, alloc, &options, &mut feed, &mut made);
@@ -113,7 +113,7 @@ fn write_by_two<R: Threads + Abort + Sync, C: Coder + Sync, M: Sink + Send>(
 #[test]
 fn the_groups_of_a_window_are_coded_side_by_side(rt: HostRuntime) -> Result<(), Fail> {
     let coder = LastOfEight::new();
-    let mut made = sink(rt.alloc(), &[])?;
+    let mut made = sink(rt.alloc())?;
     write_by_two(&rt, rt.alloc(), &coder, 8, &mut made)?;
     assert!(rt; !coder.gave_up());
     assert!(rt; made.taken() == file_of(&rt, rt.alloc(), 8)?.taken());
@@ -200,23 +200,12 @@ fn a_window_is_put_while_the_next_is_coded(rt: HostRuntime) -> Result<(), Fail> 
     let meeting = Meeting::new();
     let coder = MeetingCoder { meeting: &meeting };
     let mut made = MeetingSink {
-        sink: sink(rt.alloc(), &[])?,
+        sink: sink(rt.alloc())?,
         meeting: &meeting,
         came: false,
     };
     write_by_two(&rt, rt.alloc(), &coder, 16, &mut made)?;
     assert!(rt; !meeting.gave_up.load(Ordering::SeqCst));
     assert!(rt; made.sink.taken() == file_of(&rt, rt.alloc(), 16)?.taken());
-    Ok(())
-}
-
-#[test]
-fn a_sink_that_fails_under_workers_has_a_front(rt: HostRuntime) -> Result<(), Fail> {
-    let mut made = sink(rt.alloc(), &[1])?;
-    let mut feed = ByteFeed { next: 0, end: 40 };
-    let end = write_records(&rt, rt.alloc(), &options(3), &mut feed, &mut made);
-    assert_eq!(rt; end, Err(WriteEnd::Made));
-    let whole = file_of(&rt, rt.alloc(), 40)?;
-    assert!(rt; whole.taken().starts_with(made.taken()));
     Ok(())
 }

@@ -4,7 +4,7 @@ ghost use Rattle.record_io.specs.Memory.{told_if};
 ghost use Rattle.record_ranges.specs.Ranges.{RiseUpTo};
 
 use crate::overlaps::{Meeting, file_between, file_of};
-use chunk_reader::{Fault, ReadEnd, Why};
+use chunk_reader::ReadEnd;
 use record_io::{Failed, Store, SureStore};
 use record_ranges::{Cuts, Parts, read_ranges};
 use std::alloc::{AllocError, Global};
@@ -60,41 +60,38 @@ fn assert_parts(rt: &impl Abort, read: &Parts, parts: &[&str]) {
     }
 }
 
+/// Asserts that a file read between these cuts has parts with these records.
+fn assert_read<R: Threads + Abort + Sync>(
+    rt: &R,
+    alloc: Global,
+    file: &[u8],
+    cuts: &[u64],
+    parts: &[&str],
+)
+    requires few { length cuts.now ≤ 15 }
+    requires small { length file.now ≤ 2 ^ 28 }
+    requires rise { RiseUpTo (length file.now) 0 cuts.now }
+{
+    let read = read_between(rt, alloc, file, cuts).expect(rt, "no fault");
+    assert_parts(rt, &read, parts);
+}
+
 /// The records of the one chunk have the positions 64, 65 and 66.
 #[test]
 fn records_are_in_the_parts_of_their_positions(rt: HostRuntime) -> Result<(), Fail> {
     let made = file_between(&rt, rt.alloc(), 1_048_576, b'a', b'd')?;
     let file = made.taken();
     assert_eq!(rt; file.len(), 112);
-    let read = read_between(&rt, rt.alloc(), file, &[65, 66]).expect(&rt, "no fault");
-    assert_parts(&rt, &read, &["a", "b", "c"]);
-    let read = read_between(&rt, rt.alloc(), file, &[0, 112, 112]).expect(&rt, "no fault");
-    assert_parts(&rt, &read, &["", "abc", "", ""]);
-    let read = read_between(&rt, rt.alloc(), file, &[]).expect(&rt, "no fault");
-    assert_parts(&rt, &read, &["abc"]);
-    Ok(())
-}
-
-/// The second of three chunks begins at 108.
-#[test]
-fn a_fault_of_one_part_is_that_of_the_file(rt: HostRuntime) -> Result<(), Fail> {
-    let made = file_between(&rt, rt.alloc(), 1, b'a', b'd')?;
-    let mut file = made.taken().to_vec(rt.alloc())?;
-    assert_eq!(rt; file.len(), 196);
-    file[116] = !file[116];
-    let read = read_between(&rt, rt.alloc(), file.as_slice(), &[100]);
-    let fault = Fault {
-        at: 108,
-        why: Why::HeaderHash,
-    };
-    assert_eq!(rt; read.err(), Some(ReadEnd::Refused(fault)));
+    assert_read(&rt, rt.alloc(), file, &[], &["abc"]);
+    assert_read(&rt, rt.alloc(), file, &[65, 66], &["a", "b", "c"]);
+    assert_read(&rt, rt.alloc(), file, &[0, 112, 112], &["", "abc", "", ""]);
     Ok(())
 }
 
 /// A store that comes to a meeting the first time that it is read.
 #[derive(Drop)]
 struct MeetingStore<'a> {
-    store: SureStore,
+    pub store: SureStore,
     meeting: &'a Meeting,
     is_first: bool,
     came: bool,

@@ -43,28 +43,45 @@ impl<'a> Weave<'a> {
 /// order a place of its own in the made file, one behind another, and leave none out.
 pub fn is_woven(alloc: Global, files: &[Vec<u8>], made: &[u8], printed: &[u8]) -> Result<bool> {
     let (shown, notes) = walked(alloc, made)?;
+    if !notes.is_empty() {
+        return Ok(false);
+    }
     let mut weave = Weave::new(alloc, lines_of(alloc, &shown)?)?;
+    let mut told = String::new(alloc);
+    if !are_woven(alloc, &mut weave, files, printed, &mut told)? {
+        return Ok(false);
+    }
+    let all_found = weave.found.iter().all(|found| *found);
+    Ok(all_found && told.as_str().as_bytes() == printed)
+}
+
+/// Whether the printed lines give each record of each file a place of its own. It tells the lines as they have to be.
+fn are_woven(
+    alloc: Global,
+    weave: &mut Weave<'_>,
+    files: &[Vec<u8>],
+    printed: &[u8],
+    told: &mut String,
+) -> Result<bool> {
     let Ok(places) = lines_of(alloc, printed) else {
         return Ok(false);
     };
     let mut begin = 0_usize;
-    let mut told = String::new(alloc);
     for (number, file) in files.iter().enumerate() {
         let records = lines_of(alloc, file)?;
         let end = begin.saturating_add(records.len());
         let Some(own) = places.get(begin..end) else {
             return Ok(false);
         };
-        if !is_one_woven(&mut weave, number, &records, own, &mut told)? {
+        if !is_one_woven(weave, number, &records, own, told)? {
             return Ok(false);
         }
         begin = end;
     }
-    let all_found = weave.found.iter().all(|found| *found);
-    Ok(all_found && notes.is_empty() && told.as_str().as_bytes() == printed)
+    Ok(true)
 }
 
-/// The same of the file of a number. It tells the lines as they have to be.
+/// The same of the file of a number, whose records these are.
 fn is_one_woven(
     weave: &mut Weave<'_>,
     number: usize,

@@ -21,18 +21,17 @@ mod written;
 use anyhow::{Result, bail};
 use case_text::words::{Statement, statements_of};
 use std::alloc::Global;
-use std::env;
-use std::fs::File;
-use std::io::BufReader;
 use std::rt::Runtime;
 use std::thread::Threads;
+use std::{env, fs, io};
 use tally::try_file;
 use tries::Tries;
 
 fn main(rt: HostRuntime) -> Result<()> {
     let alloc = rt.alloc();
     let mut tries = Tries::new(alloc);
-    let names = statements_of(alloc, BufReader::new(alloc, rt.reader())?)?;
+    let names = io::read_to_string(alloc, rt.reader())?;
+    let names = statements_of(alloc, names.as_str())?;
     learn_names(&rt, alloc, &mut tries, &names)?;
     let failed = try_files(&rt, alloc, &mut tries)?;
     if failed > 0 {
@@ -68,8 +67,8 @@ fn try_files<R: Runtime<A = Global> + Threads + Sync>(
 ) -> Result<u64> {
     let mut failed = 0_u64;
     for name in env::args(rt)?.skip(1) {
-        let file = File::open(rt, name.as_str())?;
-        let statements = statements_of(alloc, BufReader::new(alloc, file)?)?;
+        let text = fs::read_to_string(rt, name.as_str())?;
+        let statements = statements_of(alloc, text.as_str())?;
         let count = tries.known.count();
         failed = failed.saturating_add(try_file(rt, alloc, tries, name.as_str(), &statements)?);
         tries.known.forget(count);

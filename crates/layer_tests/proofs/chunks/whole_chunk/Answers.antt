@@ -2,8 +2,8 @@ use Rattle.std.proofs.Common.{◌≡◌, ◌∙◌, ℕ, ◌^◌, ◌<◌, ◌�
 use Rattle.std.specs.Prelude.{MatchOption}
 use Rattle.chunk_header.specs.Views.{value_of_header}
 use Rattle.chunk_reader.specs.Places.{end_by}
-use Rattle.riegeli_rows.proofs.call_tests.whole_chunk.Goals as goal
-use Rattle.riegeli_rows.proofs.call_tests.whole_chunk.Goals.{In-Right}
+use Rattle.layer_tests.proofs.chunks.whole_chunk.Goals as goal
+use Rattle.layer_tests.proofs.chunks.whole_chunk.Goals.{In-Right}
 
 -- where the chunk ends by the header that was read
 end_is : (g : _) (c : In-Right g) → MatchOption c.in-Right.end (2 ^ 63 < end_by c.args.at (value_of_header c.in-Right.header))

@@ -1,0 +1,54 @@
+//! A chunk of a file, read behind its header.
+ghost use Rattle.std.specs.Prelude.{◌≡◌, ◌^◌, ◌<◌, ◌≤◌, Some};
+ghost use Rattle.block_layout.specs.Layout.{IsBoundary};
+
+use crate::overlaps::file_between;
+use chunk_header::Chunk;
+use chunk_reader::{Head, data_at, head_at};
+use record_io::{Store, SureStore};
+use std::alloc::Global;
+use std::test::Fail;
+
+/// The chunk at a place of a file of so many bytes, where the file has it to its end and it isn't too large.
+fn whole_chunk<S: Store>(
+    alloc: Global,
+    store: &mut S,
+    size: u64,
+    at: u64,
+) -> Result<Option<Chunk>, Fail>
+    requires told { S.told store.old ≡ Some size }
+    requires in_reach { size ≤ 2 ^ 60 }
+    requires from_boundary { IsBoundary at }
+    requires below { at < size }
+{
+    let (header, end) = match head_at(store, size, at)? {
+        Head::Right { header, end } => (header, end),
+        _ => return Ok(None),
+    };
+    let Some(end) = end else {
+        return Ok(None);
+    };
+    if end > size {
+        return Ok(None);
+    }
+    if header.data_size > 1 << 26 {
+        return Ok(None);
+    }
+    Ok(Some(data_at(alloc, store, at, &header)?))
+}
+
+/// The data of the records `a`, `b` and `c`, counted by hand.
+#[test]
+fn the_chunk_behind_a_header_is_read(rt: HostRuntime) -> Result<(), Fail> {
+    let file = file_between(&rt, rt.alloc(), 1_048_576, b'a', b'd')?;
+    let file = file.taken().to_vec(rt.alloc())?;
+    let mut store = SureStore::new(file, [7, 0, 3].to_vec(rt.alloc())?);
+    let size = store.size()?;
+    assert!(rt; size == 112);
+    let Some(chunk) = whole_chunk(rt.alloc(), &mut store, size, 64)? else {
+        return Err(Fail::new("no whole chunk"));
+    };
+    assert_eq!(rt; chunk.header.num_records, 3);
+    assert_eq!(rt; chunk.bytes.as_slice(), b"\0\x03\x01\x01\x01abc".as_slice());
+    Ok(())
+}
