@@ -92,7 +92,7 @@ impl<S: Store + Drop, const N: usize> Store for ReadAheadBy<S, N> {
     fn size(&mut self) -> Result<u64, Failed>
         ensures tells { IfOk result (λ n. told_by self.new.said self.new.bytes ≡ Some n) }
         ensures exact { IfOk result (λ n. IfSome self.old.bytes (λ file. n ≡ length file)) }
-        ensures untold { OnErr result (self.new.said ≡ self.old.said) }
+        ensures same_told { OnErr result (self.new.said ≡ self.old.said) }
         ensures same_bytes { self.new.bytes ≡ self.old.bytes }
         ensures same_handed { self.new.handed ≡ self.old.handed }
         ensures same_ended { self.new.ended ≡ self.old.ended }

@@ -74,7 +74,7 @@ impl<G: Device + Drop, const N: usize> Device for AheadDeviceBy<G, N> {
     fn size(&mut self) -> Result<u64, Failed>
         ensures tells { IfOk result (λ n. told_by self.new.said self.new.bytes ≡ Some n) }
         ensures exact { IfOk result (λ n. IfSome self.old.bytes (λ file. n ≡ length file)) }
-        ensures untold { OnErr result (told_by self.new.said self.new.bytes ≡ told_by self.old.said self.old.bytes) }
+        ensures same_told { OnErr result (told_by self.new.said self.new.bytes ≡ told_by self.old.said self.old.bytes) }
         ensures same_bytes { self.new.bytes ≡ self.old.bytes }
         ensures same_handed { self.new.handed ≡ self.old.handed }
         ensures same_inner_handed { self.new.inner_handed ≡ self.old.inner_handed }

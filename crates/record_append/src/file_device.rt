@@ -80,7 +80,7 @@ impl<'a, R: Files> Device for FileDevice<'a, R> {
 
     fn size(&mut self) -> Result<u64, Failed>
         ensures tells { IfOk result (λ n. self.new.told ≡ Some n) }
-        ensures untold { OnErr result (self.new.told ≡ self.old.told) }
+        ensures same_told { OnErr result (self.new.told ≡ self.old.told) }
         ensures ends { IfOk result (λ n. self.new.end ≡ Some n) }
         ensures same_end { OnErr result (self.new.end ≡ self.old.end) }
         ensures same_handed { self.new.handed ≡ self.old.handed }

@@ -67,7 +67,7 @@ impl<'a, R: Files> Store for FileStore<'a, R> {
 
     fn size(&mut self) -> Result<u64, Failed>
         ensures tells { IfOk result (λ n. self.new.told ≡ Some n) }
-        ensures untold { OnErr result (self.new.told ≡ self.old.told) }
+        ensures same_told { OnErr result (self.new.told ≡ self.old.told) }
         ensures same_handed { self.new.handed ≡ self.old.handed }
         ensures opened_once { IfSome self.old.opened (λ could. self.new.opened ≡ Some could) }
         ensures opened { OnOk result (self.new.opened ≡ Some true) }

@@ -71,7 +71,7 @@ pub trait Store {
     fn size(&mut self) -> Result<u64, Failed>
         ensures tells { IfOk result (λ n. told self.new ≡ Some n) }
         ensures exact { IfOk result (λ n. IfSome (bytes self.old) (λ file. n ≡ length file)) }
-        ensures untold { OnErr result (told self.new ≡ told self.old) }
+        ensures same_told { OnErr result (told self.new ≡ told self.old) }
         ensures same_bytes { bytes self.new ≡ bytes self.old }
         ensures same_handed { handed self.new ≡ handed self.old }
         ensures same_name { name self.new ≡ name self.old }

@@ -23,7 +23,7 @@ use Rattle.ordered_writer.specs.Reorders.{HasEachFrom, Reordering, coming, held_
 use Rattle.ordered_writer.proofs.ByNumber.{IsWindow as CanCome, come-values, come-right, each_from_zero, with_each-room, with_each-wanted}
 use Rattle.ordered_writer.proofs.Reorderings.{count_held-empty}
 use Rattle.record_writer.specs.CodedWindows.{AreInOrder, CodesSimply}
-use Rattle.record_writer.specs.Progresses.{Progress, Lays, LaysFront, chunks_of_groups}
+use Rattle.record_writer.specs.MadeFiles.{MadeFileValue, Lays, LaysFront, chunks_of_groups}
 use Rattle.record_writer.proofs.Layings.{Lays-append, LaysFront-behind, LaysFront-failed, LaysFront-longer}
 
 -- each number of a window has one chunk
@@ -113,14 +113,14 @@ next-within place next limit all given rest c is at reach =
     )
 
 -- where those before it were put, so are those up to it
-pub Lays-next : (x y z : Option (List ℕ)) (s t u : Progress) (given : List Chunk) (c : Chunk)
+pub Lays-next : (x y z : Option (List ℕ)) (s t u : MadeFileValue) (given : List Chunk) (c : Chunk)
     → Lays x y s t (map value_of_chunk given) → Lays y z t u (value_of_chunk c ∷ []) → Lays x z s u (map value_of_chunk (given ++ c ∷ []))
 Lays-next x y z s t u given c first then =
     subst (λ (ks : List ChunkValue). Lays x z s u ks) (values-next given c)
     (Lays-append x y z s t u (map value_of_chunk given) (value_of_chunk c ∷ []) first then)
 
 -- or a front of them all, where it failed
-pub LaysFront-next : (x y z : Option (List ℕ)) (s t u : Progress) (all given rest : List Chunk) (c : Chunk) → given ++ c ∷ rest ≡ all
+pub LaysFront-next : (x y z : Option (List ℕ)) (s t u : MadeFileValue) (all given rest : List Chunk) (c : Chunk) → given ++ c ∷ rest ≡ all
     → Lays x y s t (map value_of_chunk given) → LaysFront y z t u (value_of_chunk c ∷ []) → LaysFront x z s u (map value_of_chunk all)
 LaysFront-next x y z s t u all given rest c is first then =
     subst (λ (ks : List ChunkValue). LaysFront x z s u ks) (values-split all given rest c is)
@@ -128,10 +128,10 @@ LaysFront-next x y z s t u all given rest c is first then =
     (LaysFront-behind x y z s t u (map value_of_chunk given) (value_of_chunk c ∷ []) first then))
 
 -- what is held goes out, which lays no chunk
-pub Lays-flushed : (x y : Option (List ℕ)) (s t : Progress) → s.spent ≡ false → t ≡ record s { held = [] } → Takes x y s.held → Lays x y s t []
+pub Lays-flushed : (x y : Option (List ℕ)) (s t : MadeFileValue) → s.spent ≡ false → t ≡ record s { held = [] } → Takes x y s.held → Lays x y s t []
 unfolding laid_each
 Lays-flushed x y s t going is out =
-    subst (λ (t : Progress). Lays x y s t []) (sym is)
+    subst (λ (t : MadeFileValue). Lays x y s t []) (sym is)
     (record {
       bytes = record { passed = s.held; parts = refl; taken = out };
       place = refl;
@@ -142,19 +142,19 @@ Lays-flushed x y s t going is out =
     })
 
 -- or a front of it
-pub LaysFront-flushed : (x y : Option (List ℕ)) (s t : Progress) (ks : List ChunkValue) → t ≡ record s { held = [] } → TakesFront x y s.held → LaysFront x y s t ks
+pub LaysFront-flushed : (x y : Option (List ℕ)) (s t : MadeFileValue) (ks : List ChunkValue) → t ≡ record s { held = [] } → TakesFront x y s.held → LaysFront x y s t ks
 LaysFront-flushed x y s t ks is front =
-    LaysFront-failed x y s t ks (ap (λ (t : Progress). t.held) is) (TakesFront-longer x y s.held (laid_each s.place ks) front)
+    LaysFront-failed x y s t ks (ap (λ (t : MadeFileValue). t.held) is) (TakesFront-longer x y s.held (laid_each s.place ks) front)
 
 -- chunks that were put between what went out before and what went out behind them
-pub Lays-out : {X E : Type 0} (result : Result X E) (w x y z : Option (List ℕ)) (s t u v : Progress) (ks : List ChunkValue)
+pub Lays-out : {X E : Type 0} (result : Result X E) (w x y z : Option (List ℕ)) (s t u v : MadeFileValue) (ks : List ChunkValue)
     → Lays w x s t [] → Lays x y t u ks → v ≡ record u { held = [] } → OnOk result (Takes y z u.held) → OnOk result (Lays w z s v ks)
 Lays-out (Ok r) w x y z s t u v ks first then is out =
     subst (λ (ks : List ChunkValue). Lays w z s v ks) (append-nil ks)
     (Lays-append w y z s u v ks [] (Lays-append w x y s t u [] ks first then) (Lays-flushed y z u v then.going is out))
 Lays-out (Err e) w x y z s t u v ks first then is out = tt
 
-pub LaysFront-out : {X E : Type 0} (result : Result X E) (w x y z : Option (List ℕ)) (s t u v : Progress) (ks : List ChunkValue)
+pub LaysFront-out : {X E : Type 0} (result : Result X E) (w x y z : Option (List ℕ)) (s t u v : MadeFileValue) (ks : List ChunkValue)
     → Lays w x s t [] → Lays x y t u ks → v ≡ record u { held = [] } → OnErr result (TakesFront y z u.held) → OnErr result (LaysFront w z s v ks)
 LaysFront-out (Ok r) w x y z s t u v ks first then is front = tt
 LaysFront-out (Err e) w x y z s t u v ks first then is front =

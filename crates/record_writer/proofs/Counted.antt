@@ -28,7 +28,7 @@ use Rattle.record_writer.specs.Feeds.{Rest}
 use Rattle.record_writer.specs.Ends.{answer_of, end_of_cut}
 use Rattle.record_writer.specs.declared.engine.WriteEnd.{WriteEnd}
 use Rattle.record_writer.specs.Written.{AnswersTotals, chunks_under, tail_chunks, totals_from}
-use Rattle.record_writer.specs.Progresses.{Progress, Lays, nothing_made, resumed_at, totals_behind, totals_made}
+use Rattle.record_writer.specs.MadeFiles.{MadeFileValue, Lays, nothing_made, resumed_at, totals_behind, totals_made}
 use Rattle.record_writer.specs.declared.engine.WriteEnd.TheVariants as end
 
 -- so many records are counted of chunks, and none of them is unread
@@ -109,7 +109,7 @@ same_totals : (chunks records bytes unread c r b u : ℕ) → chunks ≡ c → r
 same_totals chunks records bytes unread c r b u p q s t = rw (p, q, s, t)
 
 -- what was counted once a file's chunks were laid are their totals
-pub totals_made-laid : (a b : Option (List ℕ)) (made : Progress) (ks : List ChunkValue)
+pub totals_made-laid : (a b : Option (List ℕ)) (made : MadeFileValue) (ks : List ChunkValue)
     → Lays a b nothing_made made ks → totals_made made ≡ totals_of ks
 totals_made-laid a b made ks h =
     same_totals made.chunks made.records made.place made.unread
@@ -117,14 +117,14 @@ totals_made-laid a b made ks h =
     (omega (arith, h.chunks)) (omega (arith, h.records)) h.place (omega (arith, h.unread))
 
 -- behind what was there before, they are counted besides
-pub totals_made-behind : (a b : Option (List ℕ)) (s t : Progress) (ks : List ChunkValue) → Lays a b s t ks → totals_made t ≡ totals_behind s ks
+pub totals_made-behind : (a b : Option (List ℕ)) (s t : MadeFileValue) (ks : List ChunkValue) → Lays a b s t ks → totals_made t ≡ totals_behind s ks
 totals_made-behind a b s t ks h =
     same_totals t.chunks t.records t.place t.unread
     (s.chunks + length ks) (s.records + (totals_of ks).records) (end_of_chunks s.place ks) (s.unread + (totals_of ks).unread)
     h.chunks h.records h.place h.unread
 
 -- behind the signature that is the file's
-pub totals_behind-signed : (a b : Option (List ℕ)) (s : Progress) (options : WriteOptions) (records : List (List ℕ))
+pub totals_behind-signed : (a b : Option (List ℕ)) (s : MadeFileValue) (options : WriteOptions) (records : List (List ℕ))
     → Lays a b nothing_made s (signature ∷ [])
     → totals_behind s (tail_chunks options s.place records) ≡ totals_of (chunks_under options records)
 totals_behind-signed a b s options records h =
@@ -151,7 +151,7 @@ totals_behind-resumed at bytes ks is =
     (omega arith) (omega arith) (omega (arith, is, length-laid_each at ks)) (omega arith)
 
 -- with these totals the answer is the right one
-Answers-ended : (options : WriteOptions) (s : Progress) (rest : Rest) (stop : Option Stop) (totals : Totals) → s.records ≡ 0 → rest.stop ≡ stop
+Answers-ended : (options : WriteOptions) (s : MadeFileValue) (rest : Rest) (stop : Option Stop) (totals : Totals) → s.records ≡ 0 → rest.stop ≡ stop
     → totals ≡ totals_behind s (tail_chunks options s.place rest.records)
     → AnswersTotals (answer_of stop totals) (totals_behind s (tail_chunks options s.place rest.records)) rest
 Answers-ended options s rest None totals none same counted = (same, counted)
@@ -162,7 +162,7 @@ Answers-ended options s rest (Some BadLine) totals none same counted =
     (same, omega (arith, none, ap (λ (t : Totals). t.records) counted, (Count-tail options s.place rest.records).counted))
 
 -- where a feed told what was to come
-pub Answers-told : (options : WriteOptions) (s : Progress) (ra : Option Rest) (stop : Option Stop) (totals : Totals) → s.records ≡ 0
+pub Answers-told : (options : WriteOptions) (s : MadeFileValue) (ra : Option Rest) (stop : Option Stop) (totals : Totals) → s.records ≡ 0
     → IfSome ra (λ rest. rest.stop ≡ stop)
     → IfSome ra (λ rest. totals ≡ totals_behind s (tail_chunks options s.place rest.records))
     → IfSome ra (λ rest. AnswersTotals (answer_of stop totals) (totals_behind s (tail_chunks options s.place rest.records)) rest)
@@ -199,7 +199,7 @@ Answers-cut (Some rest) cut.Made wanted = tt
 Answers-cut (Some rest) cut.Memory wanted = tt
 
 -- the answer of the file is that of the chunks behind the signature
-pub Answers-signed : (a b : Option (List ℕ)) (s : Progress) (options : WriteOptions) (ra : Option Rest) (result : Result Totals WriteEnd)
+pub Answers-signed : (a b : Option (List ℕ)) (s : MadeFileValue) (options : WriteOptions) (ra : Option Rest) (result : Result Totals WriteEnd)
     → Lays a b nothing_made s (signature ∷ [])
     → IfSome ra (λ rest. AnswersTotals result (totals_behind s (tail_chunks options s.place rest.records)) rest)
     → IfSome ra (λ rest. AnswersTotals result (totals_of (chunks_under options rest.records)) rest)
@@ -219,11 +219,11 @@ Answers-resumed at options (Some rest) totals answer =
     )
 
 -- behind the signature the next chunk begins at 64, and no record is there
-pub signed_place : (a b : Option (List ℕ)) (s : Progress) → Lays a b nothing_made s (signature ∷ []) → s.place ≡ 64
+pub signed_place : (a b : Option (List ℕ)) (s : MadeFileValue) → Lays a b nothing_made s (signature ∷ []) → s.place ≡ 64
 signed_place a b s h = h.place ∙ end_of_chunk-signature
 
-pub signed_records : (a b : Option (List ℕ)) (s : Progress) → Lays a b nothing_made s (signature ∷ []) → s.records ≡ 0
+pub signed_records : (a b : Option (List ℕ)) (s : MadeFileValue) → Lays a b nothing_made s (signature ∷ []) → s.records ≡ 0
 signed_records a b s h = omega (arith, h.records, (Count-one signature refl).counted)
 
-pub signed_boundary : (a b : Option (List ℕ)) (s : Progress) → Lays a b nothing_made s (signature ∷ []) → IsBoundary s.place
+pub signed_boundary : (a b : Option (List ℕ)) (s : MadeFileValue) → Lays a b nothing_made s (signature ∷ []) → IsBoundary s.place
 signed_boundary a b s h = subst IsBoundary (sym (signed_place a b s h)) (inr (omega arith))

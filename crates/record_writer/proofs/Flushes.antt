@@ -19,16 +19,16 @@ use Rattle.record_writer.specs.declared.options.WriteOptions.{WriteOptions}
 use Rattle.record_writer.specs.Ends.{answer_of, end_of_cut}
 use Rattle.record_writer.specs.Feeds.{Rest}
 use Rattle.record_writer.specs.Written.{TakesFile, file_under, tail_chunks, tail_under}
-use Rattle.record_writer.specs.Progresses.{Progress, Lays, LaysFront, nothing_made, totals_behind, totals_made}
+use Rattle.record_writer.specs.MadeFiles.{MadeFileValue, Lays, LaysFront, nothing_made, totals_behind, totals_made}
 use Rattle.record_writer.proofs.Counted.{totals_made-behind}
 use Rattle.record_writer.proofs.Fronts.{Takes-flushed, TakesFront-flushed, TakesFront-front_flushed}
 
 -- the bytes of the chunks of records behind what is held
-abbrev bytes_behind : WriteOptions → Progress → List (List ℕ) → List ℕ
+abbrev bytes_behind : WriteOptions → MadeFileValue → List (List ℕ) → List ℕ
 bytes_behind options s records = s.held ++ tail_under options s.place records
 
 -- once what was held went out, the sink took these bytes, where the chunks were put whole
-pub Takes-ended : {T E : Type 0} (options : WriteOptions) (s : Progress) (a b c : Option (List ℕ)) (t : Progress) (ra : Option Rest) (r : Result T E)
+pub Takes-ended : {T E : Type 0} (options : WriteOptions) (s : MadeFileValue) (a b c : Option (List ℕ)) (t : MadeFileValue) (ra : Option Rest) (r : Result T E)
     → OnOk r (IfSome ra (λ rest. Lays a b s t (tail_chunks options s.place rest.records))) → Takes b c t.held
     → OnOk r (IfSome ra (λ rest. Takes a c (bytes_behind options s rest.records)))
 Takes-ended options s a b c t ra (Err e) whole flushed = tt
@@ -37,7 +37,7 @@ Takes-ended options s a b c t (Some rest) (Ok x) whole flushed =
     Takes-flushed a b c (bytes_behind options s rest.records) t.held whole.bytes flushed
 
 -- where that failed, or wasn't tried, it took a front, however the chunks were put
-pub TakesFront-ended : {T E : Type 0} (options : WriteOptions) (s : Progress) (a b c : Option (List ℕ)) (t : Progress) (ra : Option Rest) (r : Result T E)
+pub TakesFront-ended : {T E : Type 0} (options : WriteOptions) (s : MadeFileValue) (a b c : Option (List ℕ)) (t : MadeFileValue) (ra : Option Rest) (r : Result T E)
     → OnOk r (IfSome ra (λ rest. Lays a b s t (tail_chunks options s.place rest.records)))
     → OnErr r (IfSome ra (λ rest. LaysFront a b s t (tail_chunks options s.place rest.records)))
     → TakesFront b c t.held → IfSome ra (λ rest. TakesFront a c (bytes_behind options s rest.records))
@@ -65,7 +65,7 @@ TakesFile-ended bytes a c ra (Some InputTooLong) totals whole = whole
 TakesFile-ended bytes a c ra (Some BadLine) totals whole = whole
 
 -- what was counted then are the totals of the chunks behind what was there
-pub totals_made-ended : {T E : Type 0} (options : WriteOptions) (s : Progress) (a b : Option (List ℕ)) (t : Progress) (ra : Option Rest) (r : Result T E)
+pub totals_made-ended : {T E : Type 0} (options : WriteOptions) (s : MadeFileValue) (a b : Option (List ℕ)) (t : MadeFileValue) (ra : Option Rest) (r : Result T E)
     → OnOk r (IfSome ra (λ rest. Lays a b s t (tail_chunks options s.place rest.records)))
     → OnOk r (IfSome ra (λ rest. totals_made t ≡ totals_behind s (tail_chunks options s.place rest.records)))
 totals_made-ended options s a b t ra (Err e) whole = tt
@@ -89,7 +89,7 @@ unfolding laid_each
 signature-alone = append-nil signature_bytes
 
 -- behind the signature the chunks of records make the file
-signed_bytes : (a b : Option (List ℕ)) (s : Progress) (options : WriteOptions) (records : List (List ℕ)) (h : Lays a b nothing_made s (signature ∷ []))
+signed_bytes : (a b : Option (List ℕ)) (s : MadeFileValue) (options : WriteOptions) (records : List (List ℕ)) (h : Lays a b nothing_made s (signature ∷ []))
     → h.bytes.passed ++ bytes_behind options s records ≡ file_under options records
 signed_bytes a b s options records h =
     let tail : ℕ → List ℕ = λ place. tail_under options place records in
@@ -98,7 +98,7 @@ signed_bytes a b s options records h =
     ∙ ap (λ (place : ℕ). signature_bytes ++ tail place) h.place
     ∙ sym (file_of-signed records options.size options.every options.pad)
 
-pub TakesFile-signed : (a b c : Option (List ℕ)) (s : Progress) (options : WriteOptions) (ra : Option Rest) (result : Result Totals WriteEnd)
+pub TakesFile-signed : (a b c : Option (List ℕ)) (s : MadeFileValue) (options : WriteOptions) (ra : Option Rest) (result : Result Totals WriteEnd)
     → Lays a b nothing_made s (signature ∷ [])
     → IfSome ra (λ rest. TakesFile result b c (bytes_behind options s rest.records))
     → IfSome ra (λ rest. TakesFile result a c (file_under options rest.records))
@@ -108,7 +108,7 @@ TakesFile-signed a b c s options (Some rest) result h took =
     (TakesFile-behind result a b c h.bytes.passed (bytes_behind options s rest.records) h.bytes.taken took)
 
 -- a front of the signature is one of the file
-pub TakesFile-unsigned : (a b : Option (List ℕ)) (s : Progress) (options : WriteOptions) (ra : Option Rest)
+pub TakesFile-unsigned : (a b : Option (List ℕ)) (s : MadeFileValue) (options : WriteOptions) (ra : Option Rest)
     → LaysFront a b nothing_made s (signature ∷ [])
     → IfSome ra (λ rest. TakesFile (Err end.Made) a b (file_under options rest.records))
 TakesFile-unsigned a b s options None h = tt

@@ -4,7 +4,7 @@ use Rattle.std.proofs.lemmas.List.{append-nil, take-append-drop}
 use Rattle.record_io.specs.Outside.{Takes, TakesFront}
 use Rattle.record_io.specs.Buffers.{TakesAndHolds}
 use Rattle.record_io.proofs.Calls.{Takes-append, TakesFront-append, TakesFront-longer}
-use Rattle.record_writer.specs.Progresses.{TakesAndHoldsFront}
+use Rattle.record_writer.specs.MadeFiles.{TakesAndHoldsFront}
 
 -- a sink that isn't called takes nothing
 Takes-none : (a : Option (List ℕ)) → Takes a a []

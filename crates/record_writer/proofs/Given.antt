@@ -9,7 +9,7 @@ use Rattle.record_group.specs.Groupings.{Grouping, groups_from, IsPush}
 use Rattle.record_group.proofs.Pushes.{groups_from-push, all_pushed}
 use Rattle.record_writer.specs.declared.feed.Stop.{Stop}
 use Rattle.record_writer.specs.Feeds.{Rest, GivesRecord}
-use Rattle.record_writer.specs.Progresses.{Progress, AreGiven, Lays, LaysFront, chunks_of_groups}
+use Rattle.record_writer.specs.MadeFiles.{MadeFileValue, AreGiven, Lays, LaysFront, chunks_of_groups}
 use Rattle.record_writer.proofs.Layings.{Lays-append, LaysFront-behind}
 
 -- after one more record
@@ -47,20 +47,20 @@ pub chunks_of_groups-all : (all given more : List (List (List ℕ))) → all ≡
 chunks_of_groups-all all given more is = sym (ap chunks_of_groups is ∙ map-append simple_chunk given more)
 
 -- where the groups still to come were put, all were
-pub Lays-all : (a b c : Option (List ℕ)) (s t u : Progress) (all given more : List (List (List ℕ))) → all ≡ given ++ more
+pub Lays-all : (a b c : Option (List ℕ)) (s t u : MadeFileValue) (all given more : List (List (List ℕ))) → all ≡ given ++ more
     → Lays a b s t (chunks_of_groups given) → Lays b c t u (chunks_of_groups more) → Lays a c s u (chunks_of_groups all)
 Lays-all a b c s t u all given more is first then =
     subst (λ (ks : List ChunkValue). Lays a c s u ks) (chunks_of_groups-all all given more is)
     (Lays-append a b c s t u (chunks_of_groups given) (chunks_of_groups more) first then)
 
-pub LaysFront-all : (a b c : Option (List ℕ)) (s t u : Progress) (all given more : List (List (List ℕ))) → all ≡ given ++ more
+pub LaysFront-all : (a b c : Option (List ℕ)) (s t u : MadeFileValue) (all given more : List (List (List ℕ))) → all ≡ given ++ more
     → Lays a b s t (chunks_of_groups given) → LaysFront b c t u (chunks_of_groups more) → LaysFront a c s u (chunks_of_groups all)
 LaysFront-all a b c s t u all given more is first then =
     subst (λ (ks : List ChunkValue). LaysFront a c s u ks) (chunks_of_groups-all all given more is)
     (LaysFront-behind a b c s t u (chunks_of_groups given) (chunks_of_groups more) first then)
 
 -- where the groups that a grouper gives at first are put, those of the records are
-pub Lays-all_groups : (ra : Option Rest) (old : Grouping) (size : ℕ) (every : Option ℕ) (a b : Option (List ℕ)) (s t : Progress)
+pub Lays-all_groups : (ra : Option Rest) (old : Grouping) (size : ℕ) (every : Option ℕ) (a b : Option (List ℕ)) (s t : MadeFileValue)
     → ((records : List (List ℕ)) → groups_from old records ≡ groups records size every)
     → IfSome ra (λ rest. Lays a b s t (chunks_of_groups (groups_from old rest.records)))
     → IfSome ra (λ rest. Lays a b s t (chunks_of_groups (groups rest.records size every)))
@@ -68,7 +68,7 @@ Lays-all_groups None old size every a b s t all laid = tt
 Lays-all_groups (Some rest) old size every a b s t all laid =
     subst (λ (gs : List (List (List ℕ))). Lays a b s t (chunks_of_groups gs)) (all rest.records) laid
 
-pub LaysFront-all_groups : (ra : Option Rest) (old : Grouping) (size : ℕ) (every : Option ℕ) (a b : Option (List ℕ)) (s t : Progress)
+pub LaysFront-all_groups : (ra : Option Rest) (old : Grouping) (size : ℕ) (every : Option ℕ) (a b : Option (List ℕ)) (s t : MadeFileValue)
     → ((records : List (List ℕ)) → groups_from old records ≡ groups records size every)
     → IfSome ra (λ rest. LaysFront a b s t (chunks_of_groups (groups_from old rest.records)))
     → IfSome ra (λ rest. LaysFront a b s t (chunks_of_groups (groups rest.records size every)))

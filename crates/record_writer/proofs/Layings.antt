@@ -11,24 +11,24 @@ use Rattle.meta_chunk.specs.Counts.{is_unread}
 use Rattle.meta_chunk.specs.Files.{end_of_chunks, laid_each}
 use Rattle.meta_chunk.specs.PaddingSizes.{padding_at}
 use Rattle.meta_chunk.proofs.Joins.{end_of_chunks-append, laid_each-append}
-use Rattle.record_writer.specs.Progresses.{Progress, Lays, LaysFront, TakesAndHoldsFront, nothing_made}
+use Rattle.record_writer.specs.MadeFiles.{MadeFileValue, Lays, LaysFront, TakesAndHoldsFront, nothing_made}
 use Rattle.record_writer.proofs.Counted.{counted-padding_at, length-padding_at}
 use Rattle.record_writer.proofs.Fronts.{TakesAndHolds-none, TakesAndHoldsFront-none, TakesAndHoldsFront-failed, TakesAndHoldsFront-longer, TakesAndHoldsFront-behind}
 
 -- no chunks are laid where nothing is done
-pub Lays-none : (a : Option (List ℕ)) (s : Progress) → s.spent ≡ false → Lays a a s s []
+pub Lays-none : (a : Option (List ℕ)) (s : MadeFileValue) → s.spent ≡ false → Lays a a s s []
 unfolding laid_each
 Lays-none a s going =
     record { bytes = TakesAndHolds-none a s.held; place = omega arith; going = going; chunks = omega arith; records = omega arith; unread = omega arith }
 
 -- the bytes of chunks, and of those that are laid behind them
-bytes-append : (s t : Progress) (ks more : List ChunkValue) → t.place ≡ end_of_chunks s.place ks
+bytes-append : (s t : MadeFileValue) (ks more : List ChunkValue) → t.place ≡ end_of_chunks s.place ks
     → laid_each s.place ks ++ laid_each t.place more ≡ laid_each s.place (ks ++ more)
 bytes-append s t ks more next =
     ap (λ (place : ℕ). laid_each s.place ks ++ laid_each place more) next ∙ sym (laid_each-append s.place ks more)
 
 -- chunks, and behind them more chunks
-pub Lays-append : (a b c : Option (List ℕ)) (s t u : Progress) (ks more : List ChunkValue)
+pub Lays-append : (a b c : Option (List ℕ)) (s t u : MadeFileValue) (ks more : List ChunkValue)
     → Lays a b s t ks → Lays b c t u more → Lays a c s u (ks ++ more)
 Lays-append a b c s t u ks more first then = record {
   bytes = subst (λ (xs : List ℕ). TakesAndHolds a c (s.held ++ xs) u.held)
@@ -44,7 +44,7 @@ Lays-append a b c s t u ks more first then = record {
 }
 
 -- chunks, and behind them a front of more
-pub LaysFront-behind : (a b c : Option (List ℕ)) (s t u : Progress) (ks more : List ChunkValue)
+pub LaysFront-behind : (a b c : Option (List ℕ)) (s t u : MadeFileValue) (ks more : List ChunkValue)
     → Lays a b s t ks → LaysFront b c t u more → LaysFront a c s u (ks ++ more)
 LaysFront-behind a b c s t u ks more first then = record {
   bytes = subst (λ (xs : List ℕ). TakesAndHoldsFront a c (s.held ++ xs) u.held)
@@ -53,7 +53,7 @@ LaysFront-behind a b c s t u ks more first then = record {
 }
 
 -- a front of chunks is a front of these and more
-pub LaysFront-longer : (a b : Option (List ℕ)) (s t : Progress) (ks more : List ChunkValue) → LaysFront a b s t ks → LaysFront a b s t (ks ++ more)
+pub LaysFront-longer : (a b : Option (List ℕ)) (s t : MadeFileValue) (ks more : List ChunkValue) → LaysFront a b s t ks → LaysFront a b s t (ks ++ more)
 LaysFront-longer a b s t ks more front = record {
   bytes = subst (λ (xs : List ℕ). TakesAndHoldsFront a b (s.held ++ xs) t.held)
       (sym (laid_each-append s.place ks more))
@@ -61,16 +61,16 @@ LaysFront-longer a b s t ks more front = record {
 }
 
 -- where nothing is done, it is a front of any chunks
-pub LaysFront-none : (a : Option (List ℕ)) (s : Progress) (ks : List ChunkValue) → LaysFront a a s s ks
+pub LaysFront-none : (a : Option (List ℕ)) (s : MadeFileValue) (ks : List ChunkValue) → LaysFront a a s s ks
 LaysFront-none a s ks = record { bytes = TakesAndHoldsFront-none a s.held (laid_each s.place ks) }
 
 -- all of them are a front of them
-pub LaysFront-whole : (a b : Option (List ℕ)) (s t : Progress) (ks : List ChunkValue) → Lays a b s t ks → LaysFront a b s t ks
+pub LaysFront-whole : (a b : Option (List ℕ)) (s t : MadeFileValue) (ks : List ChunkValue) → Lays a b s t ks → LaysFront a b s t ks
 LaysFront-whole a b s t ks laid =
     subst (λ (ks : List ChunkValue). LaysFront a b s t ks) (append-nil ks) (LaysFront-behind a b b s t t ks [] laid (LaysFront-none b t []))
 
 -- where a put failed, the sink took a front of them and nothing is held
-pub LaysFront-failed : (a b : Option (List ℕ)) (s t : Progress) (ks : List ChunkValue) → t.held ≡ [] → TakesFront a b (s.held ++ laid_each s.place ks)
+pub LaysFront-failed : (a b : Option (List ℕ)) (s t : MadeFileValue) (ks : List ChunkValue) → t.held ≡ [] → TakesFront a b (s.held ++ laid_each s.place ks)
     → LaysFront a b s t ks
 LaysFront-failed a b s t ks emptied front =
     record { bytes = TakesAndHoldsFront-failed a b (s.held ++ laid_each s.place ks) t.held emptied front }
@@ -81,7 +81,7 @@ unfolding laid_each
 laid_each-one place k = append-nil (laid place k)
 
 -- one chunk that was laid
-Lays-one : (a b : Option (List ℕ)) (s t : Progress) (k : ChunkValue) → TakesAndHolds a b (s.held ++ laid s.place k) t.held
+Lays-one : (a b : Option (List ℕ)) (s t : MadeFileValue) (k : ChunkValue) → TakesAndHolds a b (s.held ++ laid s.place k) t.held
     → t.place ≡ end_of_chunk s.place k → t.spent ≡ false → t.chunks ≡ s.chunks + 1
     → t.records ≡ s.records + cond (is_unread k) 0 k.num_records → t.unread ≡ s.unread + cond (is_unread k) 1 0
     → Lays a b s t (k ∷ [])
@@ -95,7 +95,7 @@ Lays-one a b s t k bytes place going chunks records unread = record {
 }
 
 -- which counts as left unread
-pub Lays-unread : (a b : Option (List ℕ)) (s t : Progress) (k : ChunkValue) → TakesAndHolds a b (s.held ++ laid s.place k) t.held
+pub Lays-unread : (a b : Option (List ℕ)) (s t : MadeFileValue) (k : ChunkValue) → TakesAndHolds a b (s.held ++ laid s.place k) t.held
     → t.place ≡ end_of_chunk s.place k → t.spent ≡ false → t.chunks ≡ s.chunks + 1 → is_unread k ≡ true
     → t.records ≡ s.records → t.unread ≡ s.unread + 1 → Lays a b s t (k ∷ [])
 Lays-unread a b s t k bytes place going chunks is records unread =
@@ -104,7 +104,7 @@ Lays-unread a b s t k bytes place going chunks is records unread =
     (omega (arith, unread, ap {B = ℕ} (λ (x : Bool). cond x 1 0) is))
 
 -- or as read
-pub Lays-read : (a b : Option (List ℕ)) (s t : Progress) (k : ChunkValue) → TakesAndHolds a b (s.held ++ laid s.place k) t.held
+pub Lays-read : (a b : Option (List ℕ)) (s t : MadeFileValue) (k : ChunkValue) → TakesAndHolds a b (s.held ++ laid s.place k) t.held
     → t.place ≡ end_of_chunk s.place k → t.spent ≡ false → t.chunks ≡ s.chunks + 1 → is_unread k ≡ false
     → t.records ≡ s.records + k.num_records → t.unread ≡ s.unread → Lays a b s t (k ∷ [])
 Lays-read a b s t k bytes place going chunks is records unread =
@@ -113,14 +113,14 @@ Lays-read a b s t k bytes place going chunks is records unread =
     (omega (arith, unread, ap {B = ℕ} (λ (x : Bool). cond x 1 0) is))
 
 -- and one of which a front was put, where that failed
-pub LaysFront-one : (a b : Option (List ℕ)) (s t : Progress) (k : ChunkValue) → t.held ≡ [] → TakesFront a b (s.held ++ laid s.place k)
+pub LaysFront-one : (a b : Option (List ℕ)) (s t : MadeFileValue) (k : ChunkValue) → t.held ≡ [] → TakesFront a b (s.held ++ laid s.place k)
     → LaysFront a b s t (k ∷ [])
 LaysFront-one a b s t k emptied front =
     LaysFront-failed a b s t (k ∷ []) emptied
     (subst (λ (xs : List ℕ). TakesFront a b (s.held ++ xs)) (sym (laid_each-one s.place k)) front)
 
 -- padding up to a block, which counts as a chunk where it ends further on
-pub Lays-padding : (a b : Option (List ℕ)) (s t : Progress) → TakesAndHolds a b (s.held ++ laid_each s.place (padding_at s.place)) t.held
+pub Lays-padding : (a b : Option (List ℕ)) (s t : MadeFileValue) → TakesAndHolds a b (s.held ++ laid_each s.place (padding_at s.place)) t.held
     → t.place ≡ end_of_chunks s.place (padding_at s.place) → t.spent ≡ false → t.records ≡ s.records → t.unread ≡ s.unread
     → ((s.place < t.place) × (t.chunks ≡ s.chunks + 1)) ⊎ ((t.place ≤ s.place) × (t.chunks ≡ s.chunks))
     → Lays a b s t (padding_at s.place)
@@ -134,8 +134,8 @@ Lays-padding a b s t bytes place going records unread counted = record {
 }
 
 -- where nothing was made before
-pub Lays-at_front : (a b : Option (List ℕ)) (s t : Progress) (ks : List ChunkValue) → s ≡ nothing_made → Lays a b s t ks → Lays a b nothing_made t ks
-Lays-at_front a b s t ks is laid = subst (λ (p : Progress). Lays a b p t ks) is laid
+pub Lays-at_front : (a b : Option (List ℕ)) (s t : MadeFileValue) (ks : List ChunkValue) → s ≡ nothing_made → Lays a b s t ks → Lays a b nothing_made t ks
+Lays-at_front a b s t ks is laid = subst (λ (p : MadeFileValue). Lays a b p t ks) is laid
 
-pub LaysFront-at_front : (a b : Option (List ℕ)) (s t : Progress) (ks : List ChunkValue) → s ≡ nothing_made → LaysFront a b s t ks → LaysFront a b nothing_made t ks
-LaysFront-at_front a b s t ks is front = subst (λ (p : Progress). LaysFront a b p t ks) is front
+pub LaysFront-at_front : (a b : Option (List ℕ)) (s t : MadeFileValue) (ks : List ChunkValue) → s ≡ nothing_made → LaysFront a b s t ks → LaysFront a b nothing_made t ks
+LaysFront-at_front a b s t ks is front = subst (λ (p : MadeFileValue). LaysFront a b p t ks) is front

@@ -16,7 +16,7 @@ use Rattle.meta_chunk.proofs.Joins.{end_of_chunks-append}
 use Rattle.simple_chunk.specs.Costs.{cost, cost_of}
 use Rattle.simple_chunk.proofs.CostLemmas.{cost_of-is}
 use Rattle.record_group.specs.Groupings.{Grouping, IsPush}
-use Rattle.record_writer.specs.Progresses.{chunks_of_groups, reach_of}
+use Rattle.record_writer.specs.MadeFiles.{chunks_of_groups, reach_of}
 
 -- bytes end near their begin: less than two block headers, and one more for each block's bytes, lie between
 end_of-near : (begin size : ℕ) → 1 ≤ size → end_of begin size ≤ begin + 2 * size + 48

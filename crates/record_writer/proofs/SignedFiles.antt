@@ -10,14 +10,14 @@ use Rattle.record_writer.specs.declared.engine.WriteEnd.TheVariants.{Made}
 use Rattle.record_writer.specs.declared.options.WriteOptions.{WriteOptions}
 use Rattle.record_writer.specs.Behind.{MayFollow, WritesBehind}
 use Rattle.record_writer.specs.Feeds.{Rest}
-use Rattle.record_writer.specs.Progresses.{Progress, Lays, LaysFront, nothing_made}
+use Rattle.record_writer.specs.MadeFiles.{MadeFileValue, Lays, LaysFront, nothing_made}
 use Rattle.record_writer.specs.Written.{AreInLimits, WritesRecords, chunks_under, file_under}
 use Rattle.record_writer.proofs.Counted.{Answers-cut, Answers-signed, signed_boundary, signed_place, signed_records}
 use Rattle.record_writer.proofs.Flushes.{TakesFile-signed, TakesFile-unsigned}
 use Rattle.record_writer.proofs.Windows.{OnlyCounts-behind}
 
 -- records may follow the signature
-pub MayFollow-signed : (a b : Option (List ℕ)) (s : Progress) (options : WriteOptions) (bound : ℕ)
+pub MayFollow-signed : (a b : Option (List ℕ)) (s : MadeFileValue) (options : WriteOptions) (bound : ℕ)
     → Lays a b nothing_made s (signature ∷ []) → bound ≤ 2 ^ 41 → AreInLimits options → MayFollow s options bound
 MayFollow-signed a b s options bound laid in_reach in_limits = record {
   going = laid.going;
@@ -37,7 +37,7 @@ WritesFile rest origin feed_faults taken lent made_faults options =
 
 -- what was put behind the signature makes it
 pub WritesFile-signed : {L N M K : Type 0} (rest : L → Option Rest) (origin : L → N) (feed_faults : L → ℕ)
-    (taken : M → Option (List ℕ)) (lent : M → K) (made_faults : M → ℕ) (Fails : Type 0) (options : WriteOptions) (s : Progress)
+    (taken : M → Option (List ℕ)) (lent : M → K) (made_faults : M → ℕ) (Fails : Type 0) (options : WriteOptions) (s : MadeFileValue)
     (result : Result Totals WriteEnd) (before after : L) (sink signed sink_then : M)
     → Lays (taken sink) (taken signed) nothing_made s (signature ∷ []) → OnlyCounts lent made_faults Fails sink signed
     → WritesBehind rest origin feed_faults taken lent made_faults options s result before after signed sink_then
@@ -54,7 +54,7 @@ WritesFile-signed rest origin feed_faults taken lent made_faults Fails options s
 
 -- and so does a front of it, where that failed
 pub WritesFile-unsigned : {L N M K : Type 0} (rest : L → Option Rest) (origin : L → N) (feed_faults : L → ℕ)
-    (taken : M → Option (List ℕ)) (lent : M → K) (made_faults : M → ℕ) (Fails : Type 0) (options : WriteOptions) (s : Progress)
+    (taken : M → Option (List ℕ)) (lent : M → K) (made_faults : M → ℕ) (Fails : Type 0) (options : WriteOptions) (s : MadeFileValue)
     (feed : L) (sink sink_then : M)
     → LaysFront (taken sink) (taken sink_then) nothing_made s (signature ∷ []) → OnlyCounts lent made_faults Fails sink sink_then → Fails
     → WritesFile rest origin feed_faults taken lent made_faults options (Err Made) feed feed sink sink_then

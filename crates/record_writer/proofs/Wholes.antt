@@ -9,7 +9,7 @@ use Rattle.record_group.specs.Groups.{groups, pads_start, pads_end, padding_if, 
 use Rattle.record_group.proofs.Signed.{end_of_chunk-signature, file_of-signed}
 use Rattle.record_writer.specs.declared.options.WriteOptions.{WriteOptions}
 use Rattle.record_writer.specs.Written.{file_under, tail_chunks, tail_under}
-use Rattle.record_writer.specs.Progresses.{Progress, Lays, LaysFront, chunks_of_groups}
+use Rattle.record_writer.specs.MadeFiles.{MadeFileValue, Lays, LaysFront, chunks_of_groups}
 use Rattle.record_writer.proofs.Layings.{Lays-append, LaysFront-behind, LaysFront-longer}
 
 -- the file of records is the signature and the chunks behind it
@@ -23,11 +23,11 @@ padding_near : (wanted : Bool) (place : ℕ) → IsBoundary place → end_of_chu
 padding_near false place boundary = omega arith
 padding_near true place boundary = omega (arith, padding_at_near place boundary)
 
-pub padded_near : (wanted : Bool) (a b : Option (List ℕ)) (s t : Progress) → IsBoundary s.place → Lays a b s t (padding_if wanted s.place)
+pub padded_near : (wanted : Bool) (a b : Option (List ℕ)) (s t : MadeFileValue) → IsBoundary s.place → Lays a b s t (padding_if wanted s.place)
     → t.place ≤ s.place + 131072
 padded_near wanted a b s t boundary first = omega (arith, first.place, padding_near wanted s.place boundary)
 
-module _ (options : WriteOptions) (s : Progress) (records : List (List ℕ)) where
+module _ (options : WriteOptions) (s : MadeFileValue) (records : List (List ℕ)) where
   abbrev gs : List ChunkValue
   gs = chunks_of_groups (groups records options.size options.every)
 
@@ -35,14 +35,14 @@ module _ (options : WriteOptions) (s : Progress) (records : List (List ℕ)) whe
   end = end_padding s.place records options.size options.every options.pad
 
   -- behind the padding before them come the chunks of groups
-  pub Lays-grouped : (a b c : Option (List ℕ)) (t u : Progress)
+  pub Lays-grouped : (a b c : Option (List ℕ)) (t u : MadeFileValue)
       → Lays a b s t (padding_if (pads_start options.pad) s.place)
       → Lays b c t u (chunks_of_groups (groups records options.size options.every))
       → Lays a c s u (front_chunks s.place records options.size options.every options.pad)
   Lays-grouped a b c t u first then = Lays-append a b c s t u (front_padding s.place options.pad) gs first then
 
   -- and then the padding behind them
-  pub Lays-records : (a b c : Option (List ℕ)) (t u : Progress)
+  pub Lays-records : (a b c : Option (List ℕ)) (t u : MadeFileValue)
       → Lays a b s t (front_chunks s.place records options.size options.every options.pad)
       → Lays b c t u (padding_if (pads_end options.pad) t.place)
       → Lays a c s u (tail_chunks options s.place records)
@@ -51,13 +51,13 @@ module _ (options : WriteOptions) (s : Progress) (records : List (List ℕ)) whe
       (subst (λ (place : ℕ). Lays b c t u (padding_if (pads_end options.pad) place)) first.place then)
 
   -- a front of a part behind those that were put whole is one of them all
-  pub LaysFront-padding : (a b : Option (List ℕ)) (t : Progress) → LaysFront a b s t (padding_if (pads_start options.pad) s.place)
+  pub LaysFront-padding : (a b : Option (List ℕ)) (t : MadeFileValue) → LaysFront a b s t (padding_if (pads_start options.pad) s.place)
       → LaysFront a b s t (tail_chunks options s.place records)
   LaysFront-padding a b t front =
       LaysFront-longer a b s t (front_padding s.place options.pad ++ gs) end
       (LaysFront-longer a b s t (front_padding s.place options.pad) gs front)
 
-  pub LaysFront-groups : (a b c : Option (List ℕ)) (t u : Progress)
+  pub LaysFront-groups : (a b c : Option (List ℕ)) (t u : MadeFileValue)
       → Lays a b s t (padding_if (pads_start options.pad) s.place)
       → LaysFront b c t u (chunks_of_groups (groups records options.size options.every))
       → LaysFront a c s u (tail_chunks options s.place records)
@@ -65,7 +65,7 @@ module _ (options : WriteOptions) (s : Progress) (records : List (List ℕ)) whe
       LaysFront-longer a c s u (front_padding s.place options.pad ++ gs) end
       (LaysFront-behind a b c s t u (front_padding s.place options.pad) gs first then)
 
-  pub LaysFront-end : (a b c : Option (List ℕ)) (t u : Progress)
+  pub LaysFront-end : (a b c : Option (List ℕ)) (t u : MadeFileValue)
       → Lays a b s t (front_chunks s.place records options.size options.every options.pad)
       → LaysFront b c t u (padding_if (pads_end options.pad) t.place)
       → LaysFront a c s u (tail_chunks options s.place records)

@@ -19,7 +19,7 @@ use Rattle.record_writer.specs.declared.feed.Stop.{Stop}
 use Rattle.record_writer.specs.declared.group_taker.FeedPart.{FeedPart}
 use Rattle.record_writer.specs.declared.group_taker.FeedPart.TheVariants.{Window, All}
 use Rattle.record_writer.specs.Feeds.{Rest, nothing_left}
-use Rattle.record_writer.specs.Progresses.{Progress, AreGiven, Lays, LaysFront, chunks_of_groups, reach_of}
+use Rattle.record_writer.specs.MadeFiles.{MadeFileValue, AreGiven, Lays, LaysFront, chunks_of_groups, reach_of}
 use Rattle.record_writer.specs.Windows.{AreFront, AreTaken, TakesGroups, groups_of}
 use Rattle.record_writer.proofs.Layings.{Lays-append, LaysFront-behind, LaysFront-longer}
 use Rattle.record_writer.proofs.Given.{AreGiven-ended, chunks_of_groups-all}
@@ -86,7 +86,7 @@ chunk-within place next limit groups i group within is at reach =
     )
 
 -- where those up to it were put, so are those up to the next
-pub Lays-chunk : (a b c : Option (List ℕ)) (s t u : Progress) (groups : List (List (List ℕ))) (i : ℕ) (group : List (List ℕ))
+pub Lays-chunk : (a b c : Option (List ℕ)) (s t u : MadeFileValue) (groups : List (List (List ℕ))) (i : ℕ) (group : List (List ℕ))
     → i < length groups → group ≡ get_or groups i group
     → Lays a b s t (chunks_of_groups (take i groups)) → Lays b c t u (simple_chunk group ∷ []) → Lays a c s u (chunks_of_groups (take (i + 1) groups))
 Lays-chunk a b c s t u groups i group within is first then =
@@ -94,7 +94,7 @@ Lays-chunk a b c s t u groups i group within is first then =
     (Lays-append a b c s t u (chunks_of_groups (take i groups)) (simple_chunk group ∷ []) first then)
 
 -- or a front of them all, where it failed
-pub LaysFront-chunk : (a b c : Option (List ℕ)) (s t u : Progress) (groups : List (List (List ℕ))) (i : ℕ) (group : List (List ℕ))
+pub LaysFront-chunk : (a b c : Option (List ℕ)) (s t u : MadeFileValue) (groups : List (List (List ℕ))) (i : ℕ) (group : List (List ℕ))
     → i < length groups → group ≡ get_or groups i group
     → Lays a b s t (chunks_of_groups (take i groups)) → LaysFront b c t u (simple_chunk group ∷ []) → LaysFront a c s u (chunks_of_groups groups)
 LaysFront-chunk a b c s t u groups i group within is first then =
@@ -143,7 +143,7 @@ AreTaken-front (Ok (All stop)) (Some all) b old new given h = ([], h.1 ∙ sym (
 AreTaken-front (Err cut) a b old new given h = h
 
 -- so where a front of their chunks was put, that is one of all
-pub LaysFront-taken : (t : Result FeedPart CutOff) (ra rb : Option Rest) (old new : Grouping) (given : List (List (List ℕ))) (a b : Option (List ℕ)) (s u : Progress)
+pub LaysFront-taken : (t : Result FeedPart CutOff) (ra rb : Option Rest) (old new : Grouping) (given : List (List (List ℕ))) (a b : Option (List ℕ)) (s u : MadeFileValue)
     → AreTaken t ra rb old new given → LaysFront a b s u (chunks_of_groups given)
     → IfSome ra (λ rest. LaysFront a b s u (chunks_of_groups (groups_from old rest.records)))
 LaysFront-taken t None rb old new given a b s u taken front = tt
@@ -154,7 +154,7 @@ LaysFront-taken t (Some all) rb old new given a b s u taken front =
     (LaysFront-longer a b s u (chunks_of_groups given) (chunks_of_groups rest.0) front)
 
 -- and where the chunks of all groups were put, so were those of the feed's records
-pub Lays-taken : (stop : Option Stop) (ra rb : Option Rest) (old new : Grouping) (given : List (List (List ℕ))) (a b : Option (List ℕ)) (s u : Progress)
+pub Lays-taken : (stop : Option Stop) (ra rb : Option Rest) (old new : Grouping) (given : List (List (List ℕ))) (a b : Option (List ℕ)) (s u : MadeFileValue)
     → AreTaken (Ok (All stop)) ra rb old new given → Lays a b s u (chunks_of_groups given)
     → IfSome ra (λ rest. Lays a b s u (chunks_of_groups (groups_from old rest.records)))
 Lays-taken stop None rb old new given a b s u taken laid = tt

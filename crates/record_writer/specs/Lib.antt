@@ -1,6 +1,6 @@
 pub mod Feeds
 pub mod Written
-pub mod Progresses
+pub mod MadeFiles
 pub mod Ends
 pub mod Windows
 pub mod CodedWindows

@@ -9,7 +9,7 @@ use Rattle.record_writer.specs.declared.cut_off.CutOff.TheVariants.{Input, Made}
 use Rattle.record_writer.specs.declared.group_taker.FeedPart.{FeedPart}
 use Rattle.record_writer.specs.declared.group_taker.FeedPart.TheVariants.{Window, All}
 use Rattle.record_writer.specs.Feeds.{Rest, nothing_left}
-use Rattle.record_writer.specs.Progresses.{AreGiven, chunks_of_groups, reach_of}
+use Rattle.record_writer.specs.MadeFiles.{AreGiven, chunks_of_groups, reach_of}
 
 -- the groups whose chunks these are
 abbrev pub groups_of : List SimpleValue → List (List (List ℕ))

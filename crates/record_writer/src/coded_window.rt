@@ -5,7 +5,7 @@ ghost use Rattle.meta_chunk.specs.Counts.{is_unread};
 ghost use Rattle.meta_chunk.specs.Files.{end_of_chunks};
 ghost use Rattle.ordered_writer.specs.Reorders.{coming};
 ghost use Rattle.record_writer.specs.CodedWindows.{AreInOrder};
-ghost use Rattle.record_writer.specs.Progresses.{LaysTo};
+ghost use Rattle.record_writer.specs.MadeFiles.{LaysTo};
 
 use crate::made_file::MadeFile;
 use crate::pace::Pace;
@@ -48,7 +48,7 @@ impl Model for CodedWindow {
     ghost use Rattle.std.specs.Option.{ForSome};
     ghost use Rattle.simple_chunk.specs.Costs.{cost_of};
     ghost use Rattle.record_writer.specs.CodedWindows.{AreInOrder, CodedGroups};
-    ghost use Rattle.record_writer.specs.Progresses.{chunks_of_groups};
+    ghost use Rattle.record_writer.specs.MadeFiles.{chunks_of_groups};
 
     ghost Value = { CodedGroups };
 

@@ -8,7 +8,7 @@ ghost use Rattle.record_writer.specs.Behind.{MayFollow, WritesBehind};
 ghost use Rattle.record_writer.specs.CodedWindows.{CodesSimply};
 ghost use Rattle.record_writer.specs.Ends.{answer_of};
 ghost use Rattle.record_writer.specs.Feeds.{nothing_left};
-ghost use Rattle.record_writer.specs.Progresses.{Lays, LaysFront, chunks_of_groups, reach_of};
+ghost use Rattle.record_writer.specs.MadeFiles.{Lays, LaysFront, chunks_of_groups, reach_of};
 ghost use Rattle.record_writer.specs.Written.{AreInLimits, WritesRecords, chunks_under, file_under, tail_chunks, tail_under, totals_from};
 
 use crate::coded_window::CodedWindow;

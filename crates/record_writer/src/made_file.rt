@@ -8,7 +8,7 @@ ghost use Rattle.meta_chunk.specs.Files.{signature};
 ghost use Rattle.meta_chunk.specs.Laid.{end_of_chunk};
 ghost use Rattle.meta_chunk.specs.PaddingSizes.{padding_at};
 ghost use Rattle.record_group.specs.Groups.{padding_if};
-ghost use Rattle.record_writer.specs.Progresses.{Lays, LaysFront, nothing_made, resumed_at, spent_in, totals_made};
+ghost use Rattle.record_writer.specs.MadeFiles.{Lays, LaysFront, nothing_made, resumed_at, spent_in, totals_made};
 
 use chunk_header::Chunk;
 use ordered_writer::OrderedWriter;
@@ -30,9 +30,9 @@ pub struct MadeFile {
 
 impl Model for MadeFile {
     ghost use Rattle.std.specs.Prelude.{◌≤◌};
-    ghost use Rattle.record_writer.specs.Progresses.{Progress};
+    ghost use Rattle.record_writer.specs.MadeFiles.{MadeFileValue};
 
-    ghost Value = { Progress };
+    ghost Value = { MadeFileValue };
 
     ghost view = { λ f. record { place = f.writer.position; spent = f.writer.spent; held = f.buffer; chunks = f.chunks; records = f.records; unread = f.unread } };
 

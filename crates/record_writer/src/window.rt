@@ -2,7 +2,7 @@ ghost use Rattle.std.specs.Prelude.{◌≡◌, ℕ, ◌^◌, ◌<◌, ◌≤◌,
 ghost use Rattle.meta_chunk.specs.Files.{end_of_chunks};
 ghost use Rattle.simple_chunk.specs.Costs.{cost_of};
 ghost use Rattle.record_writer.specs.CodedWindows.{AreInOrder};
-ghost use Rattle.record_writer.specs.Progresses.{LaysTo, chunks_of_groups};
+ghost use Rattle.record_writer.specs.MadeFiles.{LaysTo, chunks_of_groups};
 
 use crate::made_file::MadeFile;
 use crate::pace::Pace;

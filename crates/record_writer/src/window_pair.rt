@@ -4,7 +4,7 @@ ghost use Rattle.meta_chunk.specs.Files.{end_of_chunks};
 ghost use Rattle.record_group.specs.Groups.{groups};
 ghost use Rattle.record_group.specs.Groupings.{groups_from};
 ghost use Rattle.record_writer.specs.CodedWindows.{CodesSimply};
-ghost use Rattle.record_writer.specs.Progresses.{LaysTo, chunks_of_groups};
+ghost use Rattle.record_writer.specs.MadeFiles.{LaysTo, chunks_of_groups};
 ghost use Rattle.record_writer.specs.Windows.{TakesGroups};
 ghost use Rattle.record_writer.specs.Written.{AreInLimits};
 

@@ -16,7 +16,7 @@ use Rattle.meta_chunk.specs.Files.{signature, end_of_chunks, laid_each}
 use Rattle.meta_chunk.proofs.Joins.{length-laid_each}
 use Rattle.meta_chunk.proofs.LaidChunks.{end_of_chunk_after}
 use Rattle.chunk_reader.proofs.Verdicts.{is_unread-plain}
-use Rattle.record_writer.specs.Progresses.{Progress, Lays, LaysFront, nothing_made, totals_made}
+use Rattle.record_writer.specs.MadeFiles.{MadeFileValue, Lays, LaysFront, nothing_made, totals_made}
 use Rattle.record_writer.proofs.Layings.{Lays-append}
 use Rattle.record_writer.proofs.Counted.{totals_made-laid}
 use Rattle.damage_skip.specs.Pieces.{Piece}
@@ -38,19 +38,19 @@ use Rattle.repair_copy.proofs.HeldPuts.{held_more, held_broken, breaks_off-front
 use Rattle.repair_copy.proofs.RepairPuts.{repair_puts-append}
 
 -- what is held went out: no chunk is laid then
-Lays-flushed : (a b : Option (List ℕ)) (s t : Progress) → s.spent ≡ false → Takes a b s.held → t ≡ record s { held = [] } → Lays a b s t []
+Lays-flushed : (a b : Option (List ℕ)) (s t : MadeFileValue) → s.spent ≡ false → Takes a b s.held → t ≡ record s { held = [] } → Lays a b s t []
 unfolding laid_each
 Lays-flushed a b s t going taken is = record {
-  bytes = record { passed = s.held; parts = ap (λ (xs : List ℕ). s.held ++ xs) (sym (ap (λ (p : Progress). p.held) is)); taken = taken };
-  place = ap (λ (p : Progress). p.place) is;
-  going = ap (λ (p : Progress). p.spent) is ∙ going;
-  chunks = omega (arith, ap (λ (p : Progress). p.chunks) is);
-  records = omega (arith, ap (λ (p : Progress). p.records) is);
-  unread = omega (arith, ap (λ (p : Progress). p.unread) is);
+  bytes = record { passed = s.held; parts = ap (λ (xs : List ℕ). s.held ++ xs) (sym (ap (λ (p : MadeFileValue). p.held) is)); taken = taken };
+  place = ap (λ (p : MadeFileValue). p.place) is;
+  going = ap (λ (p : MadeFileValue). p.spent) is ∙ going;
+  chunks = omega (arith, ap (λ (p : MadeFileValue). p.chunks) is);
+  records = omega (arith, ap (λ (p : MadeFileValue). p.records) is);
+  unread = omega (arith, ap (λ (p : MadeFileValue). p.unread) is);
 }
 
 -- what is put of a piece without a line, or without a chunk
-puts_of-chunk : (s : Progress) (p : Piece) → region_of p ≡ None
+puts_of-chunk : (s : MadeFileValue) (p : Piece) → region_of p ≡ None
     → puts_behind s p ≡ puts_to Made (s.held ++ laid_each s.place (chunk_in p.what))
 unfolding puts_from
 puts_of-chunk s p none =
@@ -58,7 +58,7 @@ puts_of-chunk s p none =
     ∙ ap (λ (xs : List Put). puts_to Made s.held ++ xs) (append-nil (puts_to Made (laid_each s.place (chunk_in p.what))))
     ∙ sym (puts_to-append Made s.held (laid_each s.place (chunk_in p.what)))
 
-puts_of-line : (s : Progress) (p : Piece) → chunk_in p.what ≡ []
+puts_of-line : (s : MadeFileValue) (p : Piece) → chunk_in p.what ≡ []
     → puts_behind s p ≡ puts_to Made s.held ++ puts_to Notes (told_text (region_of p))
 unfolding puts_from laid_each
 puts_of-line s p none =
@@ -85,7 +85,7 @@ chunk_put a b n s t p k one none lays begun counted = record {
 }
 
 -- or not whole
-pub chunk_failed : (a b n : Option (List ℕ)) (s t : Progress) (p : Piece) (k : ChunkValue) → chunk_in p.what ≡ k ∷ [] → region_of p ≡ None
+pub chunk_failed : (a b n : Option (List ℕ)) (s t : MadeFileValue) (p : Piece) (k : ChunkValue) → chunk_in p.what ≡ k ∷ [] → region_of p ≡ None
     → LaysFront a b s t (k ∷ []) → (c : FailedSink) → cut.Made ≡ c
     → CopiesFront c (taken_by a None n) (taken_by b None n) s p
 chunk_failed a b n s t p k one none front c is =
@@ -109,7 +109,7 @@ line_put a b n m s t p none one going taken held line begun counted = record {
     parts = puts_of-line s.file p none
         ∙ sym (append-nil (puts_to Made s.file.held ++ puts_to Notes (told_text (region_of p))))
         ∙ ap (λ (xs : List ℕ). (puts_to Made s.file.held ++ puts_to Notes (told_text (region_of p))) ++ puts_to Made xs)
-        (sym (ap (λ (f : Progress). f.held) held));
+        (sym (ap (λ (f : MadeFileValue). f.held) held));
     went = GoOut-append (taken_by a None n) (taken_by b None n) (taken_by b None m) (puts_to Made s.file.held)
         (puts_to Notes (told_text (region_of p))) (GoOut-made a b None n s.file.held taken)
         (GoOut-notes b None n m (told_text (region_of p)) line);
@@ -119,7 +119,7 @@ line_put a b n m s t p none one going taken held line begun counted = record {
 }
 
 -- or what was held before it was not put whole
-pub flush_failed : (a b n : Option (List ℕ)) (s : Progress) (p : Piece) → chunk_in p.what ≡ [] → s.held ≢ [] → TakesFront a b s.held
+pub flush_failed : (a b n : Option (List ℕ)) (s : MadeFileValue) (p : Piece) → chunk_in p.what ≡ [] → s.held ≢ [] → TakesFront a b s.held
     → (c : FailedSink) → cut.Made ≡ c → CopiesFront c (taken_by a None n) (taken_by b None n) s p
 flush_failed a b n s p none some front c is =
     let took = TakesFront-count a b s.held front in
@@ -132,7 +132,7 @@ flush_failed a b n s p none some front c is =
     })
 
 -- or the line itself
-pub line_failed : (a b n m : Option (List ℕ)) (s : Progress) (p : Piece) → chunk_in p.what ≡ [] → Takes a b s.held
+pub line_failed : (a b n m : Option (List ℕ)) (s : MadeFileValue) (p : Piece) → chunk_in p.what ≡ [] → Takes a b s.held
     → told_text (region_of p) ≢ [] → TakesFront n m (told_text (region_of p)) → (c : FailedSink) → cut.Notes ≡ c
     → CopiesFront c (taken_by a None n) (taken_by b None m) s p
 line_failed a b n m s p none taken some front c is =
@@ -167,7 +167,7 @@ has_begun before a b n s t events (inr (h, some)) (inl (begun, same, made)) =
 has_begun before a b n s t events (inr (h, some)) (inr (unbegun, begun, counted, lays)) = cc (h.begun, unbegun)
 
 -- or that was cut off
-pub begin_failed : (before : Taken) (a b n : Option (List ℕ)) (s : Copied) (t : Progress) (events more : List Piece)
+pub begin_failed : (before : Taken) (a b n : Option (List ℕ)) (s : Copied) (t : MadeFileValue) (events more : List Piece)
     → HasCopied before (taken_by a None n) s events → s.begun ≡ false → LaysFront a b nothing_made t (signature ∷ [])
     → (c : FailedSink) → cut.Made ≡ c → HasCopiedFront c before (taken_by b None n) (events ++ more)
 begin_failed before a b n s t events more (inr (h, some)) unbegun front c is = cc (h.begun, unbegun)
@@ -276,14 +276,14 @@ put_at_fault (Ok done) before a b n s events f g whole front some rose (inl h) =
     (subst (λ (x : Taken). HasPutAtFault f g x (taken_by b None n) []) h.same (record {
       part = [];
       went = refl;
-      took = GoOut-made a b None n [] (subst (λ (p : Progress). Takes a b p.held) h.file whole);
+      took = GoOut-made a b None n [] (subst (λ (p : MadeFileValue). Takes a b p.held) h.file whole);
     }))
 put_at_fault (Ok done) before a b n s events f g whole front some rose (inr (h, more)) = record {
   part = repair_puts events;
   went = all_at_fault f g events more;
   took = held_flushed before a b n (repair_puts events) s.file.held h.puts whole;
 }
-put_at_fault (Err failed) before a b n s events f g whole front some rose (inl h) = absurd (some (ap (λ (p : Progress). p.held) h.file))
+put_at_fault (Err failed) before a b n s events f g whole front some rose (inl h) = absurd (some (ap (λ (p : MadeFileValue). p.held) h.file))
 put_at_fault (Err failed) before a b n s events f g whole front some rose (inr (h, more)) =
     let broke = flush_broke before a b n (repair_puts events) s.file.held h.puts front some in
     record { part = broke.0; went = front_at_fault f g events broke.0 broke.3 more (rose refl) broke.4; took = broke.1 }

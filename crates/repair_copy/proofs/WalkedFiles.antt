@@ -5,7 +5,7 @@ use Rattle.std.specs.Fn.{Shared, FnReturnsAt}
 use denote.Ref.{Bor}
 use Rattle.record_io.specs.Outside.{Rose}
 use Rattle.record_io.specs.Puts.{Put, Taken}
-use Rattle.record_writer.specs.Progresses.{nothing_made, totals_made}
+use Rattle.record_writer.specs.MadeFiles.{nothing_made, totals_made}
 use Rattle.chunk_reader.specs.Reasons.{Applies, NoneOf, loading_reasons}
 use Rattle.chunk_reader.proofs.Rooms.{IsSized}
 use Rattle.damage_skip.specs.Pieces.{Piece}

@@ -10,7 +10,7 @@ use Rattle.chunk_header.specs.declared.Chunk.{Chunk}
 use Rattle.meta_chunk.specs.Counts.{is_unread, totals_of}
 use Rattle.meta_chunk.specs.Files.{signature, end_of_chunks}
 use Rattle.meta_chunk.specs.Laid.{end_of_chunk}
-use Rattle.record_writer.specs.Progresses.{Progress, Lays, nothing_made, totals_made}
+use Rattle.record_writer.specs.MadeFiles.{MadeFileValue, Lays, nothing_made, totals_made}
 use Rattle.damage_skip.specs.Pieces.{Piece}
 use Rattle.damage_skip.specs.Policies.{IsAllowedRegion}
 use Rattle.damage_skip.specs.Regions.{regions_in, skipped_text, IsWalkedTo}
@@ -53,7 +53,7 @@ Begins made_before made_after old new =
     × Lays made_before made_after nothing_made new.file (signature ∷ []))
 
 -- what is put of an event that is copied behind what is held
-abbrev pub puts_behind : Progress → Piece → List Put
+abbrev pub puts_behind : MadeFileValue → Piece → List Put
 puts_behind file event = puts_to Made file.held ++ puts_from file.place (event ∷ [])
 
 -- an event was copied: its chunk was laid and its line taken, in this order, and it was counted if it is a region
@@ -64,7 +64,7 @@ pub record Copies (before after : Taken) (old new : Copied) (event : Piece) : Ty
   pub regions : new.regions ≡ old.regions + length (regions_in (event ∷ []))
 
 -- the copying of an event was cut off
-pub record CopiesFront (cut : FailedSink) (before after : Taken) (old : Progress) (event : Piece) : Type 0 where
+pub record CopiesFront (cut : FailedSink) (before after : Taken) (old : MadeFileValue) (event : Piece) : Type 0 where
   pub part : List Put
   pub went : GoOut before after part
   pub broken : BreaksOff (stream_of cut) part (puts_behind old event)

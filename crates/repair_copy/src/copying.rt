@@ -3,7 +3,7 @@ ghost use Rattle.record_io.specs.Outside.{Takes};
 ghost use Rattle.record_io.specs.Puts.{Taken, taken_by};
 ghost use Rattle.record_io.specs.Calls.{OnlyCounts};
 ghost use Rattle.meta_chunk.specs.Files.{signature, end_of_chunks};
-ghost use Rattle.record_writer.specs.Progresses.{LaysFront, nothing_made};
+ghost use Rattle.record_writer.specs.MadeFiles.{LaysFront, nothing_made};
 ghost use Rattle.damage_skip.specs.Pieces.{Piece};
 ghost use Rattle.damage_skip.specs.Regions.{regions_in};
 ghost use Rattle.damage_skip.specs.Walks.{piece_of, event_text};

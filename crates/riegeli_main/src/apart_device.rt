@@ -72,7 +72,7 @@ impl<'a, R: Files> Device for ApartDevice<'a, R> {
         ensures untouched { self.new.apart ≡ Some false → self.new.grown ≡ self.old.grown }
 
         ensures tells { IfOk result (λ n. self.new.grown.told ≡ Some n) }
-        ensures untold { OnErr result (self.new.grown.told ≡ self.old.grown.told) }
+        ensures same_told { OnErr result (self.new.grown.told ≡ self.old.grown.told) }
         ensures ends { IfOk result (λ n. self.new.grown.end ≡ Some n) }
         ensures same_end { OnErr result (self.new.grown.end ≡ self.old.grown.end) }
         ensures same_handed { self.new.grown.handed ≡ self.old.grown.handed }

@@ -6,7 +6,7 @@ use Rattle.chunk_header.specs.Views.{HasRightHash, value_of_chunk}
 use Rattle.chunk_header.specs.declared.Chunk.{Chunk}
 use Rattle.meta_chunk.specs.Counts.{is_unread}
 use Rattle.ordered_writer.specs.Reorders.{coming}
-use Rattle.record_writer.specs.Progresses.{Lays}
+use Rattle.record_writer.specs.MadeFiles.{Lays}
 use Rattle.record_writer.proofs.Layings.{Lays-none}
 use Rattle.record_writer.proofs.CodedWindows.{coming-none, next-within, Lays-next, LaysFront-next}
 use Rattle.record_writer.proofs.coded_window.put_in_order.Goals as goal

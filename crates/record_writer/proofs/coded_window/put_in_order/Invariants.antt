@@ -5,7 +5,7 @@ use Rattle.chunk_header.specs.Views.{HasRightHash, value_of_chunk}
 use Rattle.chunk_header.specs.declared.Chunk.{Chunk}
 use Rattle.meta_chunk.specs.Counts.{is_unread}
 use Rattle.ordered_writer.specs.Reorders.{coming, count_held, room_of}
-use Rattle.record_writer.specs.Progresses.{Lays}
+use Rattle.record_writer.specs.MadeFiles.{Lays}
 use Rattle.record_writer.proofs.coded_window.put_in_order.Given as goal
 
 abbrev pub invariant-loop-chunk : goal.invariant-loop-chunk

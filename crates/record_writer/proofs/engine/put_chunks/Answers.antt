@@ -5,7 +5,7 @@ use Rattle.record_group.specs.Groups.{pads_start, pads_end, padding_if}
 use Rattle.meta_chunk.proofs.Joins.{end_of_chunks_past}
 use Rattle.simple_chunk.specs.Costs.{cost_of}
 use Rattle.record_writer.specs.Feeds.{Rest}
-use Rattle.record_writer.specs.Progresses.{Progress}
+use Rattle.record_writer.specs.MadeFiles.{MadeFileValue}
 use Rattle.record_writer.proofs.Given.{whatever_is_left, Lays-all_groups, LaysFront-all_groups}
 use Rattle.record_writer.proofs.Windows.{OnOk-any}
 use Rattle.record_writer.proofs.Wholes.{padded_near, Lays-grouped, Lays-records, LaysFront-padding, LaysFront-groups, LaysFront-end}

@@ -5,7 +5,7 @@ use Rattle.meta_chunk.proofs.Joins.{end_of_chunks_past}
 use Rattle.record_writer.specs.declared.cut_off.CutOff.{CutOff}
 use Rattle.record_writer.specs.declared.group_taker.FeedPart.{FeedPart}
 use Rattle.record_writer.specs.declared.group_taker.FeedPart.TheVariants.{Window, All}
-use Rattle.record_writer.specs.Progresses.{chunks_of_groups}
+use Rattle.record_writer.specs.MadeFiles.{chunks_of_groups}
 use Rattle.record_writer.specs.Windows.{AreTaken, TakesGroups}
 use Rattle.record_writer.proofs.Layings.{Lays-none, LaysFront-whole}
 use Rattle.record_writer.proofs.Given.{Lays-all, LaysFront-all}

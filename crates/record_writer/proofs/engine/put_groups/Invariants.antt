@@ -1,6 +1,6 @@
 use Rattle.std.proofs.Common.{◌≡◌, ℕ, ◌++◌, List, []}
 use Rattle.record_io.specs.Calls.{OnlyCounts}
-use Rattle.record_writer.specs.Progresses.{Lays, chunks_of_groups}
+use Rattle.record_writer.specs.MadeFiles.{Lays, chunks_of_groups}
 use Rattle.record_writer.specs.Windows.{TakesGroups}
 use Rattle.record_writer.proofs.Windows.{to_take}
 use Rattle.record_writer.proofs.engine.put_groups.Given as goal

@@ -5,7 +5,7 @@ use Rattle.record_io.proofs.Calls.{TakesFront-whole, TakesFront-none}
 use Rattle.record_values.specs.declared.file_totals.Totals.{Totals}
 use Rattle.record_writer.specs.declared.cut_off.CutOff.TheVariants.{Made}
 use Rattle.record_writer.specs.declared.feed.Stop.{Stop}
-use Rattle.record_writer.specs.Progresses.{totals_behind, totals_made}
+use Rattle.record_writer.specs.MadeFiles.{totals_behind, totals_made}
 use Rattle.record_writer.specs.Written.{tail_chunks, tail_under}
 use Rattle.record_writer.proofs.Counted.{Answers-told, Answers-cut, IfOk-ended}
 use Rattle.record_writer.proofs.Flushes.{Takes-ended, TakesFront-ended, totals_made-ended, TakesFile-cut, TakesFile-ended}

@@ -1,6 +1,6 @@
 use Rattle.std.proofs.Common.{rules}
 use Rattle.std.proofs.lemmas.Result.{err_from_is_err_and}
-use Rattle.record_writer.specs.Progresses.{resumed_at, totals_behind}
+use Rattle.record_writer.specs.MadeFiles.{resumed_at, totals_behind}
 use Rattle.record_writer.specs.Written.{tail_chunks, totals_from}
 use Rattle.record_writer.proofs.Counted.{Answers-stopped, Answers-resumed}
 use Rattle.record_writer.proofs.engine.write_after.Goals as goal

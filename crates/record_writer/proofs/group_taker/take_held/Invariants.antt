@@ -1,5 +1,5 @@
 use Rattle.std.proofs.Common.{◌≡◌, ℕ, ◌≤◌, []}
-use Rattle.record_writer.specs.Progresses.{AreGiven, reach_of}
+use Rattle.record_writer.specs.MadeFiles.{AreGiven, reach_of}
 use Rattle.record_writer.proofs.group_taker.take_held.Given as goal
 
 abbrev pub invariant-loop : goal.invariant-loop

@@ -3,7 +3,7 @@ use Rattle.std.specs.List.{AllByRecursion}
 use Rattle.std.proofs.lemmas.Result.{err_from_is_err_and}
 use Rattle.record_io.specs.Puts.{taken_by}
 use Rattle.record_io.specs.Calls.{OnlyAsks, OnlyCounts}
-use Rattle.record_writer.specs.Progresses.{nothing_made}
+use Rattle.record_writer.specs.MadeFiles.{nothing_made}
 use Rattle.record_values.specs.declared.file_totals.Totals.{Totals}
 use Rattle.chunk_reader.specs.Reasons.{Applies, NoneOf, loading_reasons}
 use Rattle.chunk_reader.proofs.Rooms.{IsSized}

@@ -1,7 +1,7 @@
 use Rattle.std.proofs.Common.{◌≡◌, ◌-◌, ◌*◌, ◌+◌, ◌≤◌, false, true, None, IfSome}
 use Rattle.record_io.specs.Puts.{taken_by}
 use Rattle.record_io.specs.Calls.{OnlyAsks, OnlyCounts}
-use Rattle.record_writer.specs.Progresses.{nothing_made}
+use Rattle.record_writer.specs.MadeFiles.{nothing_made}
 use Rattle.damage_skip.specs.Takings.{IsTakenFrom}
 use Rattle.damage_skip.specs.Walks.{StandsIn}
 use Rattle.repair_copy.specs.Copies.{HasSkipped, HasWalked}

@@ -6,7 +6,7 @@ pub size-tells : goal.size-tells
 size-tells g c = record {
   tells = c.ensures.tells;
   exact = c.ensures.exact;
-  untold = on_err_weaker c.result (λ said i. told_by (said i) (c.ensures.same_bytes i)) c.ensures.untold;
+  same_told = on_err_weaker c.result (λ said i. told_by (said i) (c.ensures.same_bytes i)) c.ensures.same_told;
   same_bytes = c.ensures.same_bytes;
   same_handed = c.ensures.same_handed;
   same_name = c.ensures.same_name;

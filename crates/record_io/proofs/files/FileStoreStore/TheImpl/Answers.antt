@@ -6,7 +6,7 @@ pub size-tells : goal.size-tells
 size-tells g c = record {
   tells = c.ensures.tells;
   exact = IfOk-weaker c.result _ _ (λ _ _. tt) c.ensures.tells;
-  untold = c.ensures.untold;
+  same_told = c.ensures.same_told;
   same_bytes = refl;
   same_name = refl;
   same_handed = c.ensures.same_handed;

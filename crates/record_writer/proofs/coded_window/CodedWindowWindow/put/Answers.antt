@@ -2,7 +2,7 @@ use Rattle.std.proofs.Common.{◌≡◌, List, [], ℕ, sym, subst, rules}
 use Rattle.chunk_header.specs.Chunks.{ChunkValue}
 use Rattle.ordered_writer.specs.Reorders.{coming}
 use Rattle.record_writer.specs.CodedWindows.{AreInOrder}
-use Rattle.record_writer.specs.Progresses.{Lays, chunks_of_groups}
+use Rattle.record_writer.specs.MadeFiles.{Lays, chunks_of_groups}
 use Rattle.record_writer.proofs.CodedWindows.{all-read}
 use Rattle.record_writer.proofs.Layings.{Lays-none}
 use Rattle.record_writer.proofs.coded_window.CodedWindowWindow.put.Goals as goal

@@ -1,7 +1,7 @@
 use Rattle.std.proofs.Common.{◌∙◌, List, ap, subst}
 use Rattle.chunk_header.specs.Chunks.{ChunkValue}
 use Rattle.record_writer.specs.CodedWindows.{AreInOrder}
-use Rattle.record_writer.specs.Progresses.{chunks_of_groups}
+use Rattle.record_writer.specs.MadeFiles.{chunks_of_groups}
 use Rattle.record_writer.proofs.CodedWindows.{coded-simply}
 use Rattle.record_writer.proofs.group_taker.GroupTaker.code.Goals as goal
 

@@ -1,7 +1,7 @@
 use Rattle.std.proofs.Common.{◌≤◌, ℕ, Some, None, Ok, Err, ap, arith, rules}
 use Rattle.std.proofs.lemmas.Result.{err_from_is_err_and}
 use Rattle.meta_chunk.specs.Files.{end_of_chunks}
-use Rattle.record_writer.specs.Progresses.{AreGiven, chunks_of_groups, reach_of}
+use Rattle.record_writer.specs.MadeFiles.{AreGiven, chunks_of_groups, reach_of}
 use Rattle.record_writer.proofs.Given.{AreGiven-push}
 use Rattle.record_writer.proofs.Windows.{AreGiven-front, AreGiven-no_more, TakesGroups-ended}
 use Rattle.record_writer.proofs.group_taker.GroupTaker.take_groups.Goals as goal

@@ -1,6 +1,6 @@
 use Rattle.std.proofs.Common.{◌≡◌, ◌≤◌, length, take}
 use Rattle.record_io.specs.Calls.{OnlyCounts}
-use Rattle.record_writer.specs.Progresses.{Lays, chunks_of_groups}
+use Rattle.record_writer.specs.MadeFiles.{Lays, chunks_of_groups}
 use Rattle.record_writer.specs.Windows.{groups_of}
 use Rattle.record_writer.proofs.simple_window.SimpleWindowWindow.put.Given as goal
 

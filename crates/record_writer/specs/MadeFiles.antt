@@ -14,7 +14,7 @@ use Rattle.record_writer.specs.Feeds.{Rest}
 
 -- where the next chunk begins, whether a put failed, the bytes on their way to the sink, and how many chunks, records that
 -- can be read and chunks that are left unread there are
-pub record Progress : Type 0 where
+pub record MadeFileValue : Type 0 where
   pub place : ℕ
   pub spent : Bool
   pub held : List ℕ
@@ -23,23 +23,23 @@ pub record Progress : Type 0 where
   pub unread : ℕ
 
 -- nothing is written yet
-abbrev pub nothing_made : Progress
+abbrev pub nothing_made : MadeFileValue
 nothing_made = record { place = 0; spent = false; held = []; chunks = 0; records = 0; unread = 0 }
 
 -- nothing is written yet behind a place, up to which others wrote
-abbrev pub resumed_at : ℕ → Progress
+abbrev pub resumed_at : ℕ → MadeFileValue
 resumed_at at = record nothing_made { place = at }
 
 -- what a put leaves that failed: no other follows, nothing is held, and the counts are as before
-abbrev pub spent_in : Progress → Progress
+abbrev pub spent_in : MadeFileValue → MadeFileValue
 spent_in p = record p { spent = true; held = [] }
 
 -- what was counted
-abbrev pub totals_made : Progress → Totals
+abbrev pub totals_made : MadeFileValue → Totals
 totals_made p = record { chunks = p.chunks; records = p.records; bytes = p.place; unread = p.unread }
 
 -- what is counted with chunks behind what was there
-abbrev pub totals_behind : Progress → List ChunkValue → Totals
+abbrev pub totals_behind : MadeFileValue → List ChunkValue → Totals
 totals_behind p ks = record {
   chunks = p.chunks + length ks;
   records = p.records + (totals_of ks).records;
@@ -48,7 +48,7 @@ totals_behind p ks = record {
 }
 
 -- chunks were laid behind those that were there
-pub record Lays (before after : Option (List ℕ)) (old new : Progress) (ks : List ChunkValue) : Type 0 where
+pub record Lays (before after : Option (List ℕ)) (old new : MadeFileValue) (ks : List ChunkValue) : Type 0 where
   pub bytes : TakesAndHolds before after (old.held ++ laid_each old.place ks) new.held
   pub place : new.place ≡ end_of_chunks old.place ks
   pub going : new.spent ≡ false
@@ -64,12 +64,12 @@ pub record TakesAndHoldsFront (before after : Option (List ℕ)) (bytes held : L
   pub taken : Takes before after passed
 
 -- a front of the bytes of chunks was laid behind those that were there
-pub record LaysFront (before after : Option (List ℕ)) (old new : Progress) (ks : List ChunkValue) : Type 0 where
+pub record LaysFront (before after : Option (List ℕ)) (old new : MadeFileValue) (ks : List ChunkValue) : Type 0 where
   pub bytes : TakesAndHoldsFront before after (old.held ++ laid_each old.place ks) new.held
 
 -- chunks were laid by way of a sink: all of them, or where that failed a front of them, and then the sink is the cause
 pub record LaysTo {M K X E : Type 0} (taken : M → Option (List ℕ)) (lent : M → K) (faults : M → ℕ)
-    (result : Result X E) (old new : Progress) (ks : List ChunkValue) (before after : M) : Type 0 where
+    (result : Result X E) (old new : MadeFileValue) (ks : List ChunkValue) (before after : M) : Type 0 where
   pub whole : OnOk result (Lays (taken before) (taken after) old new ks)
   pub front : OnErr result (LaysFront (taken before) (taken after) old new ks)
   pub counts : OnlyCounts lent faults (IsErr result) before after
