@@ -126,7 +126,7 @@ truncated_piece (Some file) keep size at h piece sized fits right past unloaded 
     (subst (λ (e : ℕ). IsUnloaded file at e size why.Truncated piece) ends unloaded)
 
 -- the size of its data, as the header says
-says_size : (file : List ℕ) (at : ℕ) (h : Header) → IsHeader h → HasRightHead h at file → h.data_size ≡ (header_at file at).data_size
+pub says_size : (file : List ℕ) (at : ℕ) (h : Header) → IsHeader h → HasRightHead h at file → h.data_size ≡ (header_at file at).data_size
 says_size file at h fits right = ap (λ (v : HeaderValue). v.data_size) (sym (header_at-header file at h fits right.1))
 
 -- a chunk that has too much data

@@ -1,24 +1,31 @@
 -- How many bytes the steps of a walk take, where the bytes of the file may be told.
-use Rattle.std.proofs.Common.{◌≡◌, ◌∙◌, ℕ, ◌+◌, ◌-◌, ◌*◌, ◌<◌, ◌≤◌, Bool, inl, inr, Option, Some, None, Result, Ok, Err, IfSome, List, [], ◌∷◌, ◌++◌, length, refl, sym, subst, arith}
+use Rattle.std.proofs.Common.{◌≡◌, ◌∙◌, ℕ, ◌+◌, ◌-◌, ◌*◌, ◌<◌, ◌≤◌, min, Bool, ◌⊎◌, inl, inr, Option, Some, None, Result, Ok, Err, IfOk, IfSome, List, [], ◌∷◌, ◌++◌, length, refl, sym, subst, arith}
 use Rattle.std.proofs.lemmas.Bool.{cases_lt}
-use Rattle.block_layout.specs.Layout.{IsBlock, blocks_below}
+use Rattle.block_layout.specs.Layout.{IsBlock, blocks_below, end_of}
+use Rattle.block_layout.proofs.Ends.{end_of_room}
+use Rattle.chunk_header.proofs.Decided.{IsDecided, both, not_decided}
 use Rattle.chunk_header.specs.declared.Header.{Header}
 use Rattle.chunk_header.specs.Views.{IsHeader, value_of_header}
 use Rattle.meta_chunk.specs.Files.{max_data_size}
+use Rattle.chunk_reader.specs.Heads.{IsHead}
 use Rattle.chunk_reader.specs.Places.{end_by, end_at}
-use Rattle.chunk_reader.specs.Reasons.{Applies, NoneOf, header_reasons}
+use Rattle.chunk_reader.specs.Reasons.{Applies, NoneOf, header_reasons, loading_reasons}
+use Rattle.chunk_reader.specs.declared.heads.Head.{Head}
+use Rattle.chunk_reader.specs.declared.heads.Head.TheVariants as head
+use Rattle.chunk_reader.specs.declared.reasons.Why.{Why}
+use Rattle.chunk_reader.proofs.FaultsDecided.{reason_decided}
 use Rattle.chunk_reader.proofs.PassedChunks.{end_at_after}
 use Rattle.chunk_reader.proofs.Rooms.{IsSized}
 use Rattle.chunk_reader.proofs.Verdicts.{end_by-at}
 use Rattle.chunk_reader.proofs.WholeHeads.{HasRightHead, none_loading, none_unpassed}
-use Rattle.damage_skip.specs.Pieces.{Piece, AreTiles}
+use Rattle.damage_skip.specs.Pieces.{Piece}
 use Rattle.damage_skip.specs.Resyncs.{StandsFrom, Contradicts}
 use Rattle.damage_skip.specs.Steps.{ContradictsIn, LeadsTo}
-use Rattle.damage_skip.specs.Takings.{LooksAtBlocks, Decides, MayTakeAt, AccountFor, IsTakenFrom, IsTakenUpTo, TakesByCall}
+use Rattle.damage_skip.specs.Takings.{LooksAtBlocks, MayTakeAt, StopsInChunk, StopsWhereContradicted, MayTakeFor, AccountFor, IsTakenFrom, IsTakenUpTo, TakesByCall}
 use Rattle.damage_skip.specs.declared.events.Event.{Event}
 use Rattle.damage_skip.specs.declared.events.WalkEnd.{WalkEnd}
 use Rattle.damage_skip.specs.declared.pieces.Piece as code
-use Rattle.damage_skip.proofs.PieceSteps.{IsPieceThere}
+use Rattle.damage_skip.proofs.PieceSteps.{IsPieceThere, says_size}
 use Rattle.damage_skip.proofs.Resyncing.{StandNotBelow}
 use Rattle.damage_skip.proofs.WalkSteps.{tiles_joined, piece_value}
 
@@ -29,9 +36,11 @@ looks_fewer P from to less taken few h =
     record { up_to = h.up_to; within = h.within; first = h.first; few = omega (arith, few, h.few) }
 
 pub may_take_less : (file : List ℕ) (place less taken : ℕ) → less ≤ taken → MayTakeAt file place taken → MayTakeAt file place less
-may_take_less file place less taken few (inl (none, within)) = inl (none, omega (arith, few, within))
-may_take_less file place less taken few (inr looks) =
-    inr (looks_fewer (Decides file place) place (length file) (less - 40) (taken - 40) (omega (arith, few)) looks)
+may_take_less file place less taken few (inl (unread, looks)) =
+    inl (unread, looks_fewer (StandsFrom file place) place (length file) (less - 40) (taken - 40) (omega (arith, few)) looks)
+may_take_less file place less taken few (inr (inl (right, unloaded, looks))) =
+    inr (inl (right, unloaded, looks_fewer (Contradicts file place (end_at file place)) place (min (end_at file place) (length file)) (less - 40) (taken - 40) (omega (arith, few)) looks))
+may_take_less file place less taken few (inr (inr (loaded, within))) = inr (inr (loaded, omega (arith, few, within)))
 
 -- the block that is looked at last, before which P holds of none
 looks_at : (P : (block previous next : ℕ) → Type 0) (from to block before middle after : ℕ) → IsBlock block → from ≤ block → block < to
@@ -96,20 +105,34 @@ leads-looked (Some file) begin end from to block before after at past near none 
     looks_past (ContradictsIn file begin end from to) from to block before after at past near
     (behind_none file begin end from to block none) few
 
--- a block that decides has a header from the place on
-decides_stands : (file : List ℕ) (place b p n : ℕ) → Decides file place b p n → StandsFrom file place b p n
-decides_stands file place b p n (inl (unread, stands)) = stands
-decides_stands file place b p n (inr c) = record { stands = c.stands; from = c.from }
+-- whether none of some reasons applies
+none_decided : (file : List ℕ) (place : ℕ) (reasons : List Why) → IsDecided (NoneOf (Applies file place) reasons)
+none_decided file place [] = inl tt
+none_decided file place (w ∷ reasons) = both _ _ (not_decided _ (reason_decided file place w)) (none_decided file place reasons)
 
--- no more than a chunk header
+-- a chunk that can be loaded has a header that can be read
+loaded_right : (file : List ℕ) (place : ℕ) → NoneOf (Applies file place) loading_reasons → NoneOf (Applies file place) header_reasons
+loaded_right file place loaded = (loaded.0, (loaded.1.0, tt))
+
+-- no more than a chunk header, whatever stands there
 pub may_take_head : (file : List ℕ) (place taken : ℕ) → place ≤ length file → taken ≤ 40 → MayTakeAt file place taken
-may_take_head file place taken within few =
-    inr (record {
-      up_to = place;
-      within = within;
-      first = λ b p n d. omega (arith, (decides_stands file place b p n d).from);
-      few = omega (arith, few);
-    })
+may_take_head file place taken within few = elim (none_decided file place header_reasons) [
+  | inr unread ↦
+      inl (unread, record { up_to = place; within = within; first = λ b p n h. omega (arith, h.from); few = omega (arith, few) })
+  | inl right ↦ elim (none_decided file place loading_reasons) [
+    | inl loaded ↦ inr (inr (loaded, omega (arith, few, end_at_after file place)))
+    | inr unloaded ↦ inr (inl (
+      right,
+      unloaded,
+      record {
+        up_to = place;
+        within = omega (arith, within, end_at_after file place);
+        first = λ b p n h. omega (arith, h.from);
+        few = omega (arith, few);
+      },
+    ))
+  ]
+]
 
 pub takes_head : (bytes : Option (List ℕ)) (size place before after : ℕ) → IsSized bytes (Some size) → place < size → after ≤ before + 40
     → IfSome bytes (λ file. MayTakeAt file place (after - before))
@@ -117,52 +140,88 @@ takes_head None size place before after sized below few = tt
 takes_head (Some file) size place before after sized below few =
     may_take_head file place (after - before) (omega (arith, sized, below)) (omega (arith, few))
 
--- a chunk header that can't be read, and the search for where reading goes on
+-- no chunk header can be read
+pub unread_short : (bytes : Option (List ℕ)) (place : ℕ) (found : Head) → found ≡ head.Short → IfSome bytes (λ file. IsHead file place found)
+    → IfSome bytes (λ file. ¬ NoneOf (Applies file place) header_reasons)
+unread_short None place found is there = tt
+unread_short (Some file) place found is there = let short : IsHead file place head.Short = subst (IsHead file place) is there in λ none. none.0 short
+
+pub unread_hash : (bytes : Option (List ℕ)) (place : ℕ) (found : Head) → found ≡ head.BadHash → IfSome bytes (λ file. IsHead file place found)
+    → IfSome bytes (λ file. ¬ NoneOf (Applies file place) header_reasons)
+unread_hash None place found is there = tt
+unread_hash (Some file) place found is there =
+    let wrong : IsHead file place head.BadHash = subst (IsHead file place) is there in
+    λ none. none.1.0 wrong.1
+
+-- so reading goes on where a block leads that is searched for
 pub takes_resync : (bytes now : Option (List ℕ)) (size place before middle after : ℕ) → now ≡ bytes → IsSized bytes (Some size)
+    → IfSome bytes (λ file. ¬ NoneOf (Applies file place) header_reasons)
     → middle ≤ before + 40 → IfSome now (λ file. LooksAtBlocks (StandsFrom file place) place size (after - middle))
     → IfSome bytes (λ file. MayTakeAt file place (after - before))
-takes_resync None now size place before middle after same sized few looks = tt
-takes_resync (Some file) None size place before middle after same sized few looks = absurd (cc same)
-takes_resync (Some file) (Some other) size place before middle after same sized few looks =
-    let is : other ≡ file = cc same in
+takes_resync None now size place before middle after same sized unread few looks = tt
+takes_resync (Some file) None size place before middle after same sized unread few looks = absurd (cc same)
+takes_resync (Some file) (Some other) size place before middle after same sized unread few looks =
     let h : LooksAtBlocks (StandsFrom file place) place size (after - middle) =
-    subst (λ (f : List ℕ). LooksAtBlocks (StandsFrom f place) place size (after - middle)) is looks in
-    inr (record {
-      up_to = h.up_to;
-      within = omega (arith, h.within, sized);
-      first = λ b p n d. h.first b p n (decides_stands file place b p n d);
-      few = omega (arith, h.few, few);
-    })
+    subst (λ (f : List ℕ). LooksAtBlocks (StandsFrom f place) place size (after - middle)) (cc same) looks in
+    inl (
+      unread,
+      record { up_to = h.up_to; within = omega (arith, h.within, sized); first = h.first; few = omega (arith, h.few, few) },
+    )
 
--- a chunk whose header is right and whose data isn't read
-looks_unloaded : (file : List ℕ) (place end to taken : ℕ) → NoneOf (Applies file place) header_reasons → end ≡ end_at file place
-    → to ≤ length file → LooksAtBlocks (ContradictsIn file place end place to) place to taken
-    → LooksAtBlocks (Decides file place) place (length file) taken
-looks_unloaded file place end to taken right ends within h = record {
+pub stops_unread : (bytes : Option (List ℕ)) (place taken : ℕ) → IfSome bytes (λ file. ¬ NoneOf (Applies file place) header_reasons)
+    → IfSome bytes (λ file. StopsWhereContradicted file place taken)
+stops_unread None place taken unread = tt
+stops_unread (Some file) place taken unread = λ loaded. absurd (unread (loaded_right file place loaded))
+
+-- a chunk whose header is right and whose data isn't read, as the file hasn't it to its end or it is too large
+abbrev pub IsUnread : (size place : ℕ) → Header → Type 0
+IsUnread size place h = (size < end_by place (value_of_header h)) ⊎ (max_data_size < h.data_size)
+
+unloaded : (file : List ℕ) (place : ℕ) (h : Header) → IsHeader h → HasRightHead h place file → IsUnread (length file) place h
+    → ¬ NoneOf (Applies file place) loading_reasons
+unloaded file place h fits right (inl past) = λ none. none.1.1.0 (omega (arith, past, end_by-at file place h fits right.1))
+unloaded file place h fits right (inr large) =
+    λ none. none.1.1.1.0 (subst (λ (v : ℕ). max_data_size < v) (says_size file place h fits right) large)
+
+looks_unloaded : (file : List ℕ) (place end to taken : ℕ) → end ≡ end_at file place → to ≤ end → to ≤ length file
+    → LooksAtBlocks (ContradictsIn file place end place to) place to taken
+    → LooksAtBlocks (Contradicts file place (end_at file place)) place (min (end_at file place) (length file)) taken
+looks_unloaded file place end to taken ends in_chunk within h = record {
   up_to = h.up_to;
-  within = omega (arith, h.within, within);
-  first = λ b p n d. elim d [
-    | inl unread ↦ absurd (unread.0 right)
-    | inr c ↦ elim (cases_lt b to) [
-      | inl below ↦ h.first b p n (record {
-        contradicts = subst (λ (e : ℕ). Contradicts file place e b p n) (sym ends) c;
-        from_place = c.from;
-        below = below;
-      })
-      | inr past ↦ omega (arith, h.within, past)
-    ]
+  within = omega (arith, h.within, within, in_chunk, ends);
+  first = λ b p n c. elim (cases_lt b to) [
+    | inl below ↦ h.first b p n (record {
+      contradicts = subst (λ (e : ℕ). Contradicts file place e b p n) (sym ends) c;
+      from_place = c.from;
+      below = below;
+    })
+    | inr past ↦ omega (arith, h.within, past)
   ];
   few = h.few;
 }
 
 pub takes_unloaded : (bytes : Option (List ℕ)) (size place end to : ℕ) (h : Header) (before after : ℕ) → IsSized bytes (Some size) → IsHeader h
-    → IfSome bytes (HasRightHead h place) → end ≡ end_by place (value_of_header h) → to ≤ size
+    → IfSome bytes (HasRightHead h place) → IsUnread size place h → end ≡ end_by place (value_of_header h) → to ≤ end → to ≤ size
     → IfSome bytes (λ file. LooksAtBlocks (ContradictsIn file place end place to) place to (after - before))
     → IfSome bytes (λ file. MayTakeAt file place (40 + (after - before)))
-takes_unloaded None size place end to h before after sized fits right is within looks = tt
-takes_unloaded (Some file) size place end to h before after sized fits right is within looks =
-    inr (looks_fewer (Decides file place) place (length file) ((40 + (after - before)) - 40) (after - before) (omega arith)
-    (looks_unloaded file place end to (after - before) right.0 (is ∙ end_by-at file place h fits right.1) (omega (arith, within, sized)) looks))
+takes_unloaded None size place end to h before after sized fits right why is in_chunk within looks = tt
+takes_unloaded (Some file) size place end to h before after sized fits right why is in_chunk within looks =
+    let ends : end ≡ end_at file place = is ∙ end_by-at file place h fits right.1 in
+    let unread : IsUnread (length file) place h = subst (λ (n : ℕ). IsUnread n place h) (omega (arith, sized)) why in
+    inr (inl (
+      right.0,
+      unloaded file place h fits right unread,
+      looks_fewer (Contradicts file place (end_at file place)) place (min (end_at file place) (length file)) ((40 + (after - before)) - 40) (after - before) (omega arith)
+          (looks_unloaded file place end to (after - before) ends in_chunk (omega (arith, within, sized)) looks),
+    ))
+
+pub stops_unloaded : (bytes : Option (List ℕ)) (size place taken : ℕ) (h : Header) → IsSized bytes (Some size) → IsHeader h
+    → IfSome bytes (HasRightHead h place) → IsUnread size place h
+    → IfSome bytes (λ file. StopsWhereContradicted file place taken)
+stops_unloaded None size place taken h sized fits right why = tt
+stops_unloaded (Some file) size place taken h sized fits right why =
+    let unread : IsUnread (length file) place h = subst (λ (n : ℕ). IsUnread n place h) (omega (arith, sized)) why in
+    λ loaded. absurd (unloaded file place h fits right unread loaded)
 
 -- a chunk that is loaded, no more of which is taken than it has
 pub takes_loaded : (bytes : Option (List ℕ)) (size place end : ℕ) (h : Header) (before after : ℕ) → IsSized bytes (Some size) → IsHeader h
@@ -172,10 +231,55 @@ pub takes_loaded : (bytes : Option (List ℕ)) (size place end : ℕ) (h : Heade
 takes_loaded None size place end h before after sized fits right is within small few = tt
 takes_loaded (Some file) size place end h before after sized fits right is within small few =
     let ends : end ≡ end_at file place = is ∙ end_by-at file place h fits right.1 in
-    inl (
+    inr (inr (
       none_loading (Some file) place h fits right.1 (none_unpassed (Some file) size place h sized fits right (omega (arith, is, within))) small,
       omega (arith, few, ends, end_at_after file place),
-    )
+    ))
+
+-- nor behind a block that contradicts it
+pub stops_loaded : (bytes : Option (List ℕ)) (place end : ℕ) (h : Header) (before after : ℕ) → IsHeader h
+    → IfSome bytes (HasRightHead h place) → end ≡ end_by place (value_of_header h)
+    → IfSome bytes (λ file. StopsInChunk file place end (place + 40 + (after - before)))
+    → IfSome bytes (λ file. StopsWhereContradicted file place (40 + (after - before)))
+stops_loaded None place end h before after fits right is stops = tt
+stops_loaded (Some file) place end h before after fits right is stops =
+    let ends : end ≡ end_at file place = is ∙ end_by-at file place h fits right.1 in
+    λ loaded b p n c. omega (arith, stops b p n (subst (λ (e : ℕ). Contradicts file place e b p n) (sym ends) c))
+
+-- reading stops in the chunk's header
+pub stops_in_header : (bytes : Option (List ℕ)) (begin end before after : ℕ) → after + (begin + 40) ≤ before + end_of begin 40
+    → IfSome bytes (λ file. StopsInChunk file begin end (begin + 40 + (after - before)))
+stops_in_header None begin end before after few = tt
+stops_in_header (Some file) begin end before after few = λ b p n c. omega (arith, few, end_of_room begin 40)
+
+-- or at the first block that contradicts the chunk
+stops_at : (file : List ℕ) (begin end place before middle after : ℕ) → LeadsTo file begin end begin place None
+    → middle + (begin + 40) ≤ before + place → ((b p n : ℕ) → ContradictsIn file begin end place end b p n → after + place ≤ middle + (b + 24))
+    → StopsInChunk file begin end (begin + 40 + (after - before))
+stops_at file begin end place before middle after none few first =
+    λ b p n c. elim (cases_lt b place) [
+      | inl below ↦ absurd (none b p n (record { contradicts = c; from_place = c.from; below = below }))
+      | inr past ↦ omega (arith, few, first b p n (record { contradicts = c; from_place = past; below = c.below }), end_of_room begin 40)
+    ]
+
+pub stops_before_data : (bytes : Option (List ℕ)) (begin end place before middle after : ℕ)
+    → IfSome bytes (λ file. LeadsTo file begin end begin place None) → middle + (begin + 40) ≤ before + place → after ≤ middle + 24
+    → IfSome bytes (λ file. StopsInChunk file begin end (begin + 40 + (after - before)))
+stops_before_data None begin end place before middle after none few more = tt
+stops_before_data (Some file) begin end place before middle after none few more =
+    stops_at file begin end place before middle after none few (λ b p n h. omega (arith, more, h.from_place))
+
+pub stops_behind_data : (bytes now : Option (List ℕ)) (begin end place before middle after : ℕ) → now ≡ bytes
+    → IfSome bytes (λ file. LeadsTo file begin end begin place None) → middle + (begin + 40) ≤ before + place
+    → IfSome now (λ file. LooksAtBlocks (ContradictsIn file begin end place end) place end (after - middle))
+    → IfSome bytes (λ file. StopsInChunk file begin end (begin + 40 + (after - before)))
+stops_behind_data None now begin end place before middle after same none few looks = tt
+stops_behind_data (Some file) None begin end place before middle after same none few looks = absurd (cc same)
+stops_behind_data (Some file) (Some other) begin end place before middle after same none few looks =
+    let h : LooksAtBlocks (ContradictsIn file begin end place end) place end (after - middle) =
+    subst (λ (f : List ℕ). LooksAtBlocks (ContradictsIn f begin end place end) place end (after - middle)) (cc same) looks in
+    stops_at file begin end place before middle after none few
+    (λ b p n c. omega (arith, h.first b p n c, h.few, c.contradicts.stands.is_block, c.from_place))
 
 -- with the chunk header before it
 pub takes_headed : (bytes now : Option (List ℕ)) (place before middle after : ℕ) → now ≡ bytes → middle ≤ before + 40
@@ -185,6 +289,18 @@ takes_headed (Some file) None place before middle after same few takes = absurd 
 takes_headed (Some file) (Some other) place before middle after same few takes =
     may_take_less file place (after - before) (40 + (after - middle)) (omega (arith, few))
     (subst (λ (f : List ℕ). MayTakeAt f place (40 + (after - middle))) (cc same) takes)
+
+pub stops_headed : {E : Type 0} (result : Result code.Piece E) (bytes now : Option (List ℕ)) (place before middle after : ℕ) → now ≡ bytes
+    → middle ≤ before + 40
+    → IfOk result (λ piece. IfSome now (λ file. StopsWhereContradicted file place (40 + (after - middle))))
+    → IfOk result (λ piece. IfSome bytes (λ file. StopsWhereContradicted file place (after - before)))
+stops_headed (Err e) bytes now place before middle after same few stops = tt
+stops_headed (Ok piece) None now place before middle after same few stops = tt
+stops_headed (Ok piece) (Some file) None place before middle after same few stops = absurd (cc same)
+stops_headed (Ok piece) (Some file) (Some other) place before middle after same few stops =
+    let here : StopsWhereContradicted file place (40 + (after - middle)) =
+    subst (λ (f : List ℕ). StopsWhereContradicted f place (40 + (after - middle))) (cc same) stops in
+    λ loaded b p n c. omega (arith, few, here loaded b p n c)
 
 -- pieces account for fewer bytes too
 account_less : (file : List ℕ) (pieces : List Piece) (less taken : ℕ) → less ≤ taken → AccountFor file pieces taken → AccountFor file pieces less
@@ -231,13 +347,14 @@ taken-still (Some file) keep size place taken sized within none =
 pub taken-past : (bytes now : Option (List ℕ)) (keep kept : Bool) (size from at : ℕ) (piece : code.Piece) (start middle after : ℕ)
     → now ≡ bytes → kept ≡ keep → IsSized bytes (Some size) → at < size
     → IfSome bytes (λ file. IsTakenFrom keep file from at (middle - start)) → IfSome now (IsPieceThere kept at piece)
-    → IfSome now (λ file. MayTakeAt file at (after - middle)) → IfSome bytes (λ file. IsTakenFrom keep file from piece.end (after - start))
-taken-past None now keep kept size from at piece start middle after same same_keep sized below on there takes = tt
-taken-past (Some file) None keep kept size from at piece start middle after same same_keep sized below on there takes = absurd (cc same)
-taken-past (Some file) (Some other) keep kept size from at piece start middle after same same_keep sized below on there takes =
+    → IfSome now (λ file. MayTakeAt file at (after - middle)) → IfSome now (λ file. StopsWhereContradicted file at (after - middle))
+    → IfSome bytes (λ file. IsTakenFrom keep file from piece.end (after - start))
+taken-past None now keep kept size from at piece start middle after same same_keep sized below on there takes stops = tt
+taken-past (Some file) None keep kept size from at piece start middle after same same_keep sized below on there takes stops = absurd (cc same)
+taken-past (Some file) (Some other) keep kept size from at piece start middle after same same_keep sized below on there takes stops =
     let is : other ≡ file = cc same in
     let here : IsPieceThere keep at piece file = subst (λ (k : Bool). IsPieceThere k at piece file) same_keep (subst (IsPieceThere kept at piece) is there) in
-    let may : MayTakeAt file at (after - middle) = subst (λ (f : List ℕ). MayTakeAt f at (after - middle)) is takes in
+    let may : MayTakeFor file at (after - middle) = subst (λ (f : List ℕ). MayTakeFor f at (after - middle)) is (takes, stops) in
     taken-joined keep file from at piece.end (middle - start) (after - middle) (after - start) (omega arith) on
     (piece_value at piece ∷ [], (refl, omega (arith, sized, below), here, refl), (after - middle, may, omega arith))
 

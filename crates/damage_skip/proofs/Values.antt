@@ -15,12 +15,13 @@ use Rattle.meta_chunk.specs.Files.{signature, IsFrame, begin_of, LiesIn}
 use Rattle.meta_chunk.specs.Laid.{laid_bytes}
 use Rattle.chunk_reader.specs.Faults.{BeginsWithSignature}
 use Rattle.chunk_reader.specs.Places.{header_bytes_at, data_at, end_at}
-use Rattle.chunk_reader.specs.Reasons.{IsFirstOf}
+use Rattle.chunk_reader.specs.Reasons.{Applies, NoneOf, IsFirstOf, loading_reasons}
 use Rattle.chunk_reader.proofs.Blocks.{stands_within}
 use Rattle.chunk_reader.proofs.SignedFiles.{IsPlain-signature, IsLaid-signature}
 use Rattle.chunk_reader.specs.declared.reasons.Why.TheVariants as why
 use Rattle.damage_skip.specs.Resyncs.{landing, IsResync, Contradicts}
 use Rattle.damage_skip.specs.Damage.{Intact, IsNext, IsDamaged, IsIntactFrom, AreReached, DamageLeavesEach}
+use Rattle.damage_skip.specs.Takings.{MayTakeAt, MayTakeFor}
 use Rattle.damage_skip.specs.Pieces.{Given, LeftOut, Skipped, Piece, SkipsFor, walk_reasons, ArePieces, events_in, records_in, placed_in}
 
 -- a block met before the chunk that it interrupts leads to that chunk's begin
@@ -476,3 +477,67 @@ signed_is_damaged = record {
   block_shows = λ b is below broken. subst (λ (c : ℕ). ¬ IsRightBlockHeader (slice_range changed c (c + 24)))
       (sym (only_block b is below)) block_is_wrong;
 }
+
+-- no more is taken for its chunk than it has
+signed_end : end_at signed 0 ≡ 64
+unfolding signed usable_bytes chunk_end_of end_of
+signed_end = refl
+
+signed_loads : NoneOf (Applies signed 0) loading_reasons
+unfolding signed usable_bytes chunk_end_of end_of hash_of finished after_remainder after_packets finishing_round updated mixed multiplied zipped reset lanes_of remainder_packet
+signed_loads = (λ short. omega (arith, short), (λ wrong. wrong (refl, refl), (λ cut. omega (arith, cut), (λ large. omega (arith, large), tt))))
+
+takes_signature : MayTakeAt signed 0 64
+takes_signature = inr (inr (signed_loads, omega (arith, signed_end)))
+
+takes_no_more : ¬ MayTakeAt signed 0 65
+takes_no_more (inl (unread, looks)) = unread (signed_loads.0, (signed_loads.1.0, tt))
+takes_no_more (inr (inl (right, unloaded, looks))) = unloaded signed_loads
+takes_no_more (inr (inr (loads, within))) = omega (arith, within, signed_end)
+
+-- where no chunk header can be read, none behind the first block header that stands
+first_looks : ¬ MayTakeAt first_header 0 65
+unfolding first_header end_of
+first_looks (inl (unread, looks)) = omega (arith, looks.first 0 0 64 (record { stands = first_stands; from = lit≤ tt }), looks.few)
+first_looks (inr (inl (right, unloaded, looks))) = right.0 (lit< tt)
+first_looks (inr (inr (loads, within))) = loads.0 (lit< tt)
+
+-- nor of a chunk that ends behind the file, behind the first that contradicts it
+cut_looks : ¬ MayTakeAt cut_chunk 0 65
+unfolding cut_chunk first_header usable_bytes end_of hash_of finished after_remainder after_packets finishing_round updated mixed multiplied zipped reset lanes_of remainder_packet
+cut_looks (inl (unread, looks)) = unread (λ short. omega (arith, short), (λ wrong. wrong (refl, refl), tt))
+cut_looks (inr (inl (right, unloaded, looks))) = omega (arith, looks.first 0 0 64 header_says_another_end, looks.few)
+cut_looks (inr (inr (loads, within))) = loads.1.1.0 is_cut
+
+-- with its data the chunk can be loaded: while a walk stands there no more may be taken than it has, and once it is passed for that
+-- block header, none of its data
+whole_chunk : List ℕ
+whole_chunk = cut_chunk ++ replicate 8 0
+
+whole_end : end_at whole_chunk 0 ≡ 72
+unfolding whole_chunk cut_chunk first_header usable_bytes chunk_end_of end_of hash_of finished after_remainder after_packets finishing_round updated mixed multiplied zipped reset lanes_of remainder_packet
+whole_end = refl
+
+whole_loads : NoneOf (Applies whole_chunk 0) loading_reasons
+unfolding whole_chunk cut_chunk first_header usable_bytes chunk_end_of end_of hash_of finished after_remainder after_packets finishing_round updated mixed multiplied zipped reset lanes_of remainder_packet
+whole_loads = (λ short. omega (arith, short), (λ wrong. wrong (refl, refl), (λ cut. omega (arith, cut), (λ large. omega (arith, large), tt))))
+
+whole_says_another_end : Contradicts whole_chunk 0 (end_at whole_chunk 0) 0 0 64
+unfolding whole_chunk cut_chunk first_header usable_bytes chunk_end_of end_of hash_of finished after_remainder after_packets finishing_round updated mixed multiplied zipped reset lanes_of remainder_packet
+whole_says_another_end = record {
+  stands = record {
+    is_block = refl;
+    bytes = refl;
+    sane = record { back = lit≤ tt; past_itself = lit≤ tt; in_reach = lit≤ tt; from_boundary = inl refl; to_boundary = inr (lit≤ tt) };
+  };
+  from = lit≤ tt;
+  below = lit< tt;
+  differs = inr (λ same. omega (arith, same));
+}
+
+whole_takes : MayTakeAt whole_chunk 0 72 × (¬ MayTakeFor whole_chunk 0 65)
+unfolding end_of
+whole_takes = (
+  inr (inr (whole_loads, omega (arith, whole_end))),
+  λ may. omega (arith, may.1 whole_loads 0 0 64 whole_says_another_end),
+)

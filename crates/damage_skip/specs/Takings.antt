@@ -1,6 +1,6 @@
 -- How many bytes of a file a walk takes: what the pieces account for that it passes, and the one that it stands at. Own.
-use Rattle.std.specs.Prelude.{◌≡◌, ℕ, ◌+◌, ◌-◌, ◌*◌, ◌≤◌, ◌⊎◌, Bool, Option, Result, Ok, Err, List, [], ◌∷◌, length}
-use Rattle.block_layout.specs.Layout.{block_header_size, chunk_header_size, blocks_below}
+use Rattle.std.specs.Prelude.{ℕ, ◌+◌, ◌-◌, ◌*◌, ◌≤◌, ◌⊎◌, min, max, Bool, Option, Result, Ok, Err, List, [], ◌∷◌, length}
+use Rattle.block_layout.specs.Layout.{block_header_size, chunk_header_size, blocks_below, end_of}
 use Rattle.chunk_reader.specs.Places.{end_at}
 use Rattle.chunk_reader.specs.Reasons.{Applies, NoneOf, header_reasons, loading_reasons}
 use Rattle.damage_skip.specs.Pieces.{Piece, AreTiles}
@@ -15,24 +15,46 @@ pub record LooksAtBlocks (P : (block previous next : ℕ) → Type 0) (from to t
   pub first : (block previous next : ℕ) → P block previous next → up_to ≤ block + 1
   pub few : taken ≤ block_header_size * (blocks_below up_to - blocks_below from)
 
--- a block decides where reading goes on from a place: its header is right and sane, and no chunk header can be read at the place,
--- or it contradicts the chunk there
-abbrev pub Decides : List ℕ → (place block previous next : ℕ) → Type 0
-Decides file place block previous next =
-    ((¬ NoneOf (Applies file place) header_reasons) × StandsFrom file place block previous next)
-    ⊎ Contradicts file place (end_at file place) block previous next
+-- where no chunk header can be read: one, and the headers of the blocks from there up to the first that stands
+abbrev pub MayTakeUnread : List ℕ → (place taken : ℕ) → Type 0
+MayTakeUnread file place taken =
+    (¬ NoneOf (Applies file place) header_reasons)
+    × LooksAtBlocks (StandsFrom file place) place (length file) (taken - chunk_header_size)
 
--- so many bytes may be taken of a file at a place: no more than a whole chunk has that stands there and whose data isn't too
--- large, or, whatever stands there, a chunk header and the headers of blocks up to the first that decides, if one does
+-- where a chunk header can be read, of a chunk that the file hasn't to its end or whose data is too large: that header, and those
+-- of the blocks within the chunk up to the first that contradicts it
+abbrev pub MayTakeUnloaded : List ℕ → (place taken : ℕ) → Type 0
+MayTakeUnloaded file place taken =
+    NoneOf (Applies file place) header_reasons × (¬ NoneOf (Applies file place) loading_reasons)
+    × LooksAtBlocks (Contradicts file place (end_at file place)) place (min (end_at file place) (length file)) (taken - chunk_header_size)
+
+-- where a chunk stands that can be loaded: no more than it has
+abbrev pub MayTakeLoaded : List ℕ → (place taken : ℕ) → Type 0
+MayTakeLoaded file place taken = NoneOf (Applies file place) loading_reasons × (place + taken ≤ end_at file place)
+
+-- so many bytes may be taken of a file at a place, by what stands there
 abbrev pub MayTakeAt : List ℕ → (place taken : ℕ) → Type 0
-MayTakeAt file place taken =
-    (NoneOf (Applies file place) loading_reasons × (place + taken ≤ end_at file place))
-    ⊎ LooksAtBlocks (Decides file place) place (length file) (taken - chunk_header_size)
+MayTakeAt file place taken = MayTakeUnread file place taken ⊎ MayTakeUnloaded file place taken ⊎ MayTakeLoaded file place taken
 
--- pieces account for so many bytes: each for what may be taken at its begin
+-- no byte up to a place stands behind a block that contradicts a chunk from a begin to an end, but in the chunk's header
+abbrev pub StopsInChunk : List ℕ → (begin end to : ℕ) → Type 0
+StopsInChunk file begin end to =
+    (block previous next : ℕ) → Contradicts file begin end block previous next
+    → to ≤ max (end_of begin chunk_header_size) (block + block_header_size)
+
+-- so none is taken at a place of a chunk that can be loaded
+abbrev pub StopsWhereContradicted : List ℕ → (place taken : ℕ) → Type 0
+StopsWhereContradicted file place taken =
+    NoneOf (Applies file place) loading_reasons → StopsInChunk file place (end_at file place) (place + taken)
+
+-- so many bytes may be taken for the piece at a place, once it is passed
+abbrev pub MayTakeFor : List ℕ → (place taken : ℕ) → Type 0
+MayTakeFor file place taken = MayTakeAt file place taken × StopsWhereContradicted file place taken
+
+-- pieces account for so many bytes: each for what may be taken for it
 abbrev pub AccountFor : List ℕ → List Piece → ℕ → Type 0
 AccountFor file [] taken = taken ≤ 0
-AccountFor file (piece ∷ pieces) taken = (here : ℕ) × MayTakeAt file piece.begin here × AccountFor file pieces (taken - here)
+AccountFor file (piece ∷ pieces) taken = (here : ℕ) × MayTakeFor file piece.begin here × AccountFor file pieces (taken - here)
 
 -- the pieces of a file from a place up to another account for so many bytes
 abbrev pub IsTakenFrom : Bool → List ℕ → (from to taken : ℕ) → Type 0

@@ -1,11 +1,12 @@
-ghost use Rattle.std.specs.Prelude.{◌≡◌, ℕ, ◌+◌, ◌^◌, ◌<◌, ◌≤◌, length, take, Some, None, IfOk, IfSome, IsErr, Err};
+ghost use Rattle.std.specs.Prelude.{◌≡◌, ℕ, ◌+◌, ◌-◌, ◌^◌, ◌<◌, ◌≤◌, length, take, Some, None, IfOk, IfSome, IsErr, Err};
 ghost use Rattle.record_io.specs.Calls.{OnlyAsks};
-ghost use Rattle.block_layout.specs.Layout.{chunk_header_size, IsBoundary, IsOnBoundary, end_of, own_bytes_at};
+ghost use Rattle.block_layout.specs.Layout.{block_header_size, chunk_header_size, IsBoundary, IsOnBoundary, end_of, own_bytes_at};
 ghost use Rattle.chunk_header.specs.Views.{value_of_header};
 ghost use Rattle.meta_chunk.specs.Files.{max_data_size};
 ghost use Rattle.chunk_reader.specs.HeldData.{HeldData};
 ghost use Rattle.chunk_reader.specs.Places.{end_by};
 ghost use Rattle.damage_skip.specs.Steps.{IsOnward, IsEndOf, LeadsTo, IsLoadOf, IsLoadIn};
+ghost use Rattle.damage_skip.specs.Takings.{StopsInChunk};
 
 use crate::block_checks::Span;
 use block_layout::BLOCK_SIZE;
@@ -42,6 +43,8 @@ pub(crate) fn load<S: Store>(
     ensures loaded { IfOk result (λ loaded. IsLoadOf size at header loaded) }
     ensures sound { IfOk result (λ loaded. IfSome (S.bytes store.old) (λ file. IsLoadIn file at end header loaded)) }
     ensures handed { S.handed store.new + (at + chunk_header_size) ≤ S.handed store.old + end }
+    ensures stops { IfOk result (λ loaded. IfSome (S.bytes store.old) (λ file.
+        StopsInChunk file at end (at + chunk_header_size + (S.handed store.new - S.handed store.old)))) }
     ensures store { OnlyAsks S.bytes S.told S.name S.faults (result ≡ Err LoadEnd.Store) store.old store.new }
 {
     match read_data(alloc, store, size, at, end, header)? {
@@ -87,6 +90,8 @@ fn read_data<S: Store>(
     ensures leads { (to : ℕ) → result ≡ Ok (DataRead.Contradicted to)
         → IfSome (S.bytes store.old) (λ file. LeadsTo file at end at end (Some to)) }
     ensures handed { S.handed store.new + (at + chunk_header_size) ≤ S.handed store.old + end }
+    ensures stops { IfOk result (λ read. IfSome (S.bytes store.old) (λ file.
+        StopsInChunk file at end (at + chunk_header_size + (S.handed store.new - S.handed store.old)))) }
     ensures store { OnlyAsks S.bytes S.told S.name S.faults (result ≡ Err LoadEnd.Store) store.old store.new }
 {
     let span = Span {
@@ -151,6 +156,7 @@ fn take_next<S: Store>(
     ensures leads { (to end : ℕ) → result ≡ Ok (NextBytes.Contradicted to) → IsEndOf span.end end
         → IfSome (S.bytes store.old) (λ file. LeadsTo file span.begin end own.old.place (own.old.place + 1) (Some to)) }
     ensures handed { (n : ℕ) → result ≡ Ok (NextBytes.Count n) → S.handed store.new + own.old.place ≤ S.handed store.old + own.new.place }
+    ensures looked { (to : ℕ) → result ≡ Ok (NextBytes.Contradicted to) → S.handed store.new ≤ S.handed store.old + block_header_size }
     ensures handed_at_most { S.handed store.new + own.old.place ≤ S.handed store.old + end_of own.old.place (length buf.old) }
     ensures store { OnlyAsks S.bytes S.told S.name S.faults (IsErr result) store.old store.new }
 {

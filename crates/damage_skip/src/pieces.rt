@@ -6,7 +6,7 @@ ghost use Rattle.chunk_reader.specs.Heads.{IsHead};
 ghost use Rattle.chunk_reader.specs.Places.{end_by};
 ghost use Rattle.chunk_reader.specs.Reasons.{Applies, NoneOf, loading_reasons};
 ghost use Rattle.damage_skip.specs.Pieces.{IsPieceOf};
-ghost use Rattle.damage_skip.specs.Takings.{LooksAtBlocks, MayTakeAt};
+ghost use Rattle.damage_skip.specs.Takings.{LooksAtBlocks, MayTakeAt, StopsWhereContradicted};
 ghost use Rattle.damage_skip.specs.Steps.{ContradictsIn, IsEndOf, IsReadAs, IsUnloaded, IsPieceFrom, value_of_piece_kind};
 
 use crate::block_checks::Span;
@@ -58,6 +58,8 @@ pub(crate) fn piece_at<S: Store>(
     ensures sound { IfOk result (λ piece. IfSome (S.bytes store.old) (λ file. IsPieceOf keep file at piece.end (value_of_piece_kind piece.what))) }
     ensures memory { result ≡ Err LoadEnd.Memory → IfSome (S.bytes store.old) (λ file. NoneOf (Applies file at) loading_reasons) }
     ensures takes { IfSome (S.bytes store.old) (λ file. MayTakeAt file at (S.handed store.new - S.handed store.old)) }
+    ensures stops { IfOk result (λ piece. IfSome (S.bytes store.old) (λ file.
+        StopsWhereContradicted file at (S.handed store.new - S.handed store.old))) }
     ensures store { OnlyAsks S.bytes S.told S.name S.faults (result ≡ Err LoadEnd.Store) store.old store.new }
 {
     match head_at(store, size, at)? {
@@ -88,6 +90,8 @@ fn headed_piece<S: Store>(
     ensures sound { IfOk result (λ piece. IfSome (S.bytes store.old) (λ file. IsPieceOf keep file at piece.end (value_of_piece_kind piece.what))) }
     ensures memory { result ≡ Err LoadEnd.Memory → IfSome (S.bytes store.old) (λ file. NoneOf (Applies file at) loading_reasons) }
     ensures takes { IfSome (S.bytes store.old) (λ file. MayTakeAt file at (chunk_header_size + (S.handed store.new - S.handed store.old))) }
+    ensures stops { IfOk result (λ piece. IfSome (S.bytes store.old) (λ file.
+        StopsWhereContradicted file at (chunk_header_size + (S.handed store.new - S.handed store.old)))) }
     ensures store { OnlyAsks S.bytes S.told S.name S.faults (result ≡ Err LoadEnd.Store) store.old store.new }
 {
     let span = Span { begin: at, end };
@@ -118,6 +122,8 @@ fn held_piece<S: Store>(
     ensures sound { IfOk result (λ piece. IfSome (S.bytes store.old) (λ file. IsPieceOf keep file at piece.end (value_of_piece_kind piece.what))) }
     ensures memory { result ≡ Err LoadEnd.Memory → IfSome (S.bytes store.old) (λ file. NoneOf (Applies file at) loading_reasons) }
     ensures takes { IfSome (S.bytes store.old) (λ file. MayTakeAt file at (chunk_header_size + (S.handed store.new - S.handed store.old))) }
+    ensures stops { IfOk result (λ piece. IfSome (S.bytes store.old) (λ file.
+        StopsWhereContradicted file at (chunk_header_size + (S.handed store.new - S.handed store.old)))) }
     ensures store { OnlyAsks S.bytes S.told S.name S.faults (result ≡ Err LoadEnd.Store) store.old store.new }
 {
     if header.data_size > MAX_DATA_SIZE {

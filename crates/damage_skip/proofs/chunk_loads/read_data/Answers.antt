@@ -1,4 +1,4 @@
-use Rattle.std.proofs.Common.{◌≡◌, ◌∙◌, ℕ, List, ◌+◌, ◌-◌, ◌*◌, ◌%◌, ◌<◌, ◌≤◌, inl, inr, Option, Some, None, IfSome, length, take, drop, ◌++◌, ap, sym, refl, length-append, arith, rules}
+use Rattle.std.proofs.Common.{◌≡◌, ◌∙◌, ℕ, List, ◌+◌, ◌-◌, ◌*◌, ◌%◌, ◌≤◌, inl, inr, Option, Some, None, IfSome, length, take, drop, ◌++◌, ap, sym, refl, length-append, arith, rules}
 use Rattle.std.proofs.lemmas.Bool.{cases_lt}
 use Rattle.std.proofs.lemmas.List.{length-take, length-take-le, take-append-le}
 use Rattle.block_layout.specs.Layout.{IsOnBoundary, blocks_below, end_of}
@@ -8,6 +8,7 @@ use Rattle.chunk_reader.proofs.Loads.{IsOnBoundary-of}
 use Rattle.chunk_reader.proofs.Scans.{headers-of_header}
 use Rattle.damage_skip.specs.Steps.{LeadsTo}
 use Rattle.damage_skip.proofs.Leads.{leads-at, leads-joined, leads-wider}
+use Rattle.damage_skip.proofs.Takings.{stops_in_header, stops_before_data, stops_behind_data}
 use Rattle.damage_skip.proofs.Fills.{header_past, read_past, read_within, read_before, told_within}
 use Rattle.damage_skip.proofs.chunk_loads.read_data.Goals as goal
 use Rattle.damage_skip.proofs.chunk_loads.read_data.Goals.{In_ok-landing-2}
@@ -280,3 +281,31 @@ returns-in-None-clause-handed g c =
     headers_behind c.loop-left.own.place c.args.end _ _ _ (c.args.at + 40)
     (data_read c.args.at c.args.header.data_size c.loop-left.left c.loop-left.own.place c.args.end kept.within kept.moved c.requires.room)
     c.requires.to_boundary kept.handed c.contradicted_between-2.ensures.handed
+
+pub returns-in-Some-clause-stops : goal.returns-in-Some-clause-stops
+returns-in-Some-clause-stops g c =
+    stops_in_header _ c.args.at c.args.end _ _
+    (omega (
+      arith,
+      c.contradicted_between.ensures.handed,
+      c.behind_header-own.ensures,
+      headers-of_header c.args.at (IsOnBoundary-of c.args.at c.requires.from_boundary),
+    ))
+
+pub returns-in-Contradicted-clause-stops : goal.returns-in-Contradicted-clause-stops
+returns-in-Contradicted-clause-stops g c =
+    let kept = c.loop-left.invariant in
+    stops_before_data _ c.args.at c.args.end c.loop-left.own.place _ _ _ kept.none kept.handed
+    (c.in_ok-count.ensures.looked c.in-Contradicted.landing (cc))
+
+pub returns-in-Some-2-clause-stops : goal.returns-in-Some-2-clause-stops
+returns-in-Some-2-clause-stops g c =
+    let kept = c.loop-left.invariant in
+    stops_behind_data _ _ c.args.at c.args.end c.loop-left.own.place _ _ _ kept.asks.same_bytes kept.none kept.handed
+    (c.in_ok-landing-2.ensures.looks c.args.end refl)
+
+pub returns-in-None-clause-stops : goal.returns-in-None-clause-stops
+returns-in-None-clause-stops g c =
+    let kept = c.loop-left.invariant in
+    stops_behind_data _ _ c.args.at c.args.end c.loop-left.own.place _ _ _ kept.asks.same_bytes kept.none kept.handed
+    (c.in_ok-landing-2.ensures.looks c.args.end refl)

@@ -1,10 +1,10 @@
-use Rattle.std.proofs.Common.{Some, refl, subst}
+use Rattle.std.proofs.Common.{Some, inr, refl, subst, arith}
 use Rattle.chunk_reader.proofs.Rooms.{IsSized}
 use Rattle.damage_skip.proofs.PieceSteps.{too_large_piece, contradicted_piece, read_piece, read_from, onward_end}
 use Rattle.damage_skip.specs.Steps.{IsLoadOf, IsLoadIn}
 use Rattle.damage_skip.specs.declared.chunk_loads.Loaded.{Loaded}
 use Rattle.std.specs.Prelude.{IfSome}
-use Rattle.damage_skip.proofs.Takings.{takes_unloaded, takes_loaded}
+use Rattle.damage_skip.proofs.Takings.{takes_unloaded, takes_loaded, stops_unloaded, stops_loaded}
 use Rattle.damage_skip.proofs.pieces.held_piece.Goals as goal
 
 pub unloaded_piece-requires-clause-after : goal.unloaded_piece-requires-clause-after
@@ -56,14 +56,16 @@ pub returns-in_err-unloaded_piece-clause-takes : goal.returns-in_err-unloaded_pi
 returns-in_err-unloaded_piece-clause-takes g c =
     let sized : IsSized (g.S.Store.bytes c.args.store.now) (Some c.args.size) =
     subst (IsSized (g.S.Store.bytes c.args.store.now)) c.requires.told (g.met.S.Store.sized c.args.store.now) in
-    takes_unloaded _ c.args.size c.args.at c.args.end c.args.end c.args.header _ _ sized c.requires.fits c.requires.head c.requires.end c.requires.within
+    takes_unloaded _ c.args.size c.args.at c.args.end c.args.end c.args.header _ _ sized c.requires.fits c.requires.head
+    (inr c.if-header-gt-MAX_DATA_SIZE.true) c.requires.end (omega arith) c.requires.within
     (c.in_err-unloaded_piece.ensures.looks c.args.end refl)
 
 pub returns-then-header-gt-MAX_DATA_SIZE-clause-takes : goal.returns-then-header-gt-MAX_DATA_SIZE-clause-takes
 returns-then-header-gt-MAX_DATA_SIZE-clause-takes g c =
     let sized : IsSized (g.S.Store.bytes c.args.store.now) (Some c.args.size) =
     subst (IsSized (g.S.Store.bytes c.args.store.now)) c.requires.told (g.met.S.Store.sized c.args.store.now) in
-    takes_unloaded _ c.args.size c.args.at c.args.end c.args.end c.args.header _ _ sized c.requires.fits c.requires.head c.requires.end c.requires.within
+    takes_unloaded _ c.args.size c.args.at c.args.end c.args.end c.args.header _ _ sized c.requires.fits c.requires.head
+    (inr c.if-header-gt-MAX_DATA_SIZE.true) c.requires.end (omega arith) c.requires.within
     (c.in_ok-unloaded_piece.ensures.looks c.args.end refl)
 
 pub returns-in_err-chunk-clause-takes : goal.returns-in_err-chunk-clause-takes
@@ -93,3 +95,17 @@ returns-in-Contradicted-clause-takes g c =
     subst (IsSized (g.S.Store.bytes c.args.store.now)) c.requires.told (g.met.S.Store.sized c.args.store.now) in
     takes_loaded _ c.args.size c.args.at c.args.end c.args.header _ _ sized c.requires.fits c.requires.head c.requires.end c.requires.within
     c.if-header-gt-MAX_DATA_SIZE.false c.in_ok-chunk.ensures.handed
+
+pub returns-then-header-gt-MAX_DATA_SIZE-clause-stops : goal.returns-then-header-gt-MAX_DATA_SIZE-clause-stops
+returns-then-header-gt-MAX_DATA_SIZE-clause-stops g c =
+    let sized : IsSized (g.S.Store.bytes c.args.store.now) (Some c.args.size) =
+    subst (IsSized (g.S.Store.bytes c.args.store.now)) c.requires.told (g.met.S.Store.sized c.args.store.now) in
+    stops_unloaded _ c.args.size c.args.at _ c.args.header sized c.requires.fits c.requires.head (inr c.if-header-gt-MAX_DATA_SIZE.true)
+
+pub returns-in_ok-whole_piece-in-Whole-clause-stops : goal.returns-in_ok-whole_piece-in-Whole-clause-stops
+returns-in_ok-whole_piece-in-Whole-clause-stops g c =
+    stops_loaded _ c.args.at c.args.end c.args.header _ _ c.requires.fits c.requires.head c.requires.end c.in_ok-chunk.ensures.stops
+
+pub returns-in-Contradicted-clause-stops : goal.returns-in-Contradicted-clause-stops
+returns-in-Contradicted-clause-stops g c =
+    stops_loaded _ c.args.at c.args.end c.args.header _ _ c.requires.fits c.requires.head c.requires.end c.in_ok-chunk.ensures.stops

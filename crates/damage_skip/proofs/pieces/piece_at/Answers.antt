@@ -1,7 +1,7 @@
 use Rattle.std.proofs.Common.{Some, subst}
 use Rattle.chunk_reader.proofs.Rooms.{IsSized}
 use Rattle.damage_skip.proofs.PieceSteps.{short_piece, bad_hash_piece}
-use Rattle.damage_skip.proofs.Takings.{takes_head, takes_resync, takes_headed}
+use Rattle.damage_skip.proofs.Takings.{takes_head, takes_resync, takes_headed, unread_short, unread_hash, stops_unread, stops_headed}
 use Rattle.damage_skip.proofs.pieces.piece_at.Goals as goal
 
 pub returns-in_ok-resync-in-Short-clause-sound : goal.returns-in_ok-resync-in-Short-clause-sound
@@ -24,30 +24,46 @@ pub returns-in_err-resync-in-Short-clause-takes : goal.returns-in_err-resync-in-
 returns-in_err-resync-in-Short-clause-takes g c =
     let sized : IsSized (g.S.Store.bytes c.args.store.now) (Some c.args.size) =
     subst (IsSized (g.S.Store.bytes c.args.store.now)) c.requires.told (g.met.S.Store.sized c.args.store.now) in
-    takes_resync _ _ c.args.size c.args.at _ _ _ c.in_ok-head_at.ensures.store.same_bytes sized c.in_ok-head_at.ensures.handed
+    takes_resync _ _ c.args.size c.args.at _ _ _ c.in_ok-head_at.ensures.store.same_bytes sized
+    (unread_short _ c.args.at c.in_ok-head_at.field-0 c.in-Short.is c.in_ok-head_at.ensures.head) c.in_ok-head_at.ensures.handed
     c.in_err-resync-in-Short.ensures.looks
 
 pub returns-in_ok-resync-in-Short-clause-takes : goal.returns-in_ok-resync-in-Short-clause-takes
 returns-in_ok-resync-in-Short-clause-takes g c =
     let sized : IsSized (g.S.Store.bytes c.args.store.now) (Some c.args.size) =
     subst (IsSized (g.S.Store.bytes c.args.store.now)) c.requires.told (g.met.S.Store.sized c.args.store.now) in
-    takes_resync _ _ c.args.size c.args.at _ _ _ c.in_ok-head_at.ensures.store.same_bytes sized c.in_ok-head_at.ensures.handed
+    takes_resync _ _ c.args.size c.args.at _ _ _ c.in_ok-head_at.ensures.store.same_bytes sized
+    (unread_short _ c.args.at c.in_ok-head_at.field-0 c.in-Short.is c.in_ok-head_at.ensures.head) c.in_ok-head_at.ensures.handed
     c.in_ok-resync-in-Short.ensures.looks
 
 pub returns-in_err-resync-in-BadHash-clause-takes : goal.returns-in_err-resync-in-BadHash-clause-takes
 returns-in_err-resync-in-BadHash-clause-takes g c =
     let sized : IsSized (g.S.Store.bytes c.args.store.now) (Some c.args.size) =
     subst (IsSized (g.S.Store.bytes c.args.store.now)) c.requires.told (g.met.S.Store.sized c.args.store.now) in
-    takes_resync _ _ c.args.size c.args.at _ _ _ c.in_ok-head_at.ensures.store.same_bytes sized c.in_ok-head_at.ensures.handed
+    takes_resync _ _ c.args.size c.args.at _ _ _ c.in_ok-head_at.ensures.store.same_bytes sized
+    (unread_hash _ c.args.at c.in_ok-head_at.field-0 c.in-BadHash.is c.in_ok-head_at.ensures.head) c.in_ok-head_at.ensures.handed
     c.in_err-resync-in-BadHash.ensures.looks
 
 pub returns-in_ok-resync-in-BadHash-clause-takes : goal.returns-in_ok-resync-in-BadHash-clause-takes
 returns-in_ok-resync-in-BadHash-clause-takes g c =
     let sized : IsSized (g.S.Store.bytes c.args.store.now) (Some c.args.size) =
     subst (IsSized (g.S.Store.bytes c.args.store.now)) c.requires.told (g.met.S.Store.sized c.args.store.now) in
-    takes_resync _ _ c.args.size c.args.at _ _ _ c.in_ok-head_at.ensures.store.same_bytes sized c.in_ok-head_at.ensures.handed
+    takes_resync _ _ c.args.size c.args.at _ _ _ c.in_ok-head_at.ensures.store.same_bytes sized
+    (unread_hash _ c.args.at c.in_ok-head_at.field-0 c.in-BadHash.is c.in_ok-head_at.ensures.head) c.in_ok-head_at.ensures.handed
     c.in_ok-resync-in-BadHash.ensures.looks
 
 pub returns-in-Right-clause-takes : goal.returns-in-Right-clause-takes
 returns-in-Right-clause-takes g c =
     takes_headed _ _ c.args.at _ _ _ c.in_ok-head_at.ensures.store.same_bytes c.in_ok-head_at.ensures.handed c.headed_piece.ensures.takes
+
+pub returns-in_ok-resync-in-Short-clause-stops : goal.returns-in_ok-resync-in-Short-clause-stops
+returns-in_ok-resync-in-Short-clause-stops g c =
+    stops_unread _ c.args.at _ (unread_short _ c.args.at c.in_ok-head_at.field-0 c.in-Short.is c.in_ok-head_at.ensures.head)
+
+pub returns-in_ok-resync-in-BadHash-clause-stops : goal.returns-in_ok-resync-in-BadHash-clause-stops
+returns-in_ok-resync-in-BadHash-clause-stops g c =
+    stops_unread _ c.args.at _ (unread_hash _ c.args.at c.in_ok-head_at.field-0 c.in-BadHash.is c.in_ok-head_at.ensures.head)
+
+pub returns-in-Right-clause-stops : goal.returns-in-Right-clause-stops
+returns-in-Right-clause-stops g c =
+    stops_headed c.headed_piece.result _ _ c.args.at _ _ _ c.in_ok-head_at.ensures.store.same_bytes c.in_ok-head_at.ensures.handed c.headed_piece.ensures.stops

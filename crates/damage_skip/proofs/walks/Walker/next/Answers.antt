@@ -62,6 +62,7 @@ taken g c =
     subst (IsSized (g.S.Store.bytes c.args.store.now)) c.requires.stands.size (g.met.S.Store.sized c.args.store.now) in
     taken-past _ _ from.keep at.keep from.size from.place at.place c.in_ok-piece.piece _ _ _ kept.asks.same_bytes kept.on.same_keep sized
     (omega (arith, c.loop-self-test.true, kept.on.same_size)) kept.taken c.in_ok-piece.ensures.sound c.in_ok-piece.ensures.takes
+    c.in_ok-piece.ensures.stops
 
 pub returns-in_err-piece-clause-stands : goal.returns-in_err-piece-clause-stands
 returns-in_err-piece-clause-stands g c = stands g (goal.at.returns-in_err-piece-clause-stands g c).At-loop-self
