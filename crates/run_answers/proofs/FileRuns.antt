@@ -1,5 +1,5 @@
 -- What a run of a command that reads one file follows from, and what it keeps.
-use Rattle.std.proofs.Common.{◌≡◌, ◌∙◌, ◌+◌, ℕ, zero, suc, ◌≤◌, true, false, Option, Some, None, List, [], ◌∷◌, length, slice_get, drop, map, refl, sym, ap, subst, inl, inr, arith, IfSome, IsSomeAnd}
+use Rattle.std.proofs.Common.{◌≡◌, ◌∙◌, ◌+◌, ℕ, zero, suc, ◌≤◌, Bool, true, false, Option, Some, None, List, [], ◌∷◌, length, slice_get, drop, map, refl, sym, ap, subst, inl, inr, arith, IfSome, IsSomeAnd}
 use Rattle.std.specs.List.{AllByRecursion}
 use Rattle.std.proofs.lemmas.Option.{MatchOption-at_some}
 use Rattle.record_values.specs.Bytes.{AreBytes}
@@ -26,11 +26,19 @@ pub record ReadsFile (m : Meaning) (P : List ℕ → Answer → Type 0) (Q : (be
   pub may_work : (sizes : List ℕ) → IsInReach sizes → m.may_work sizes
 
 -- so of one whose meaning is that, whatever else it means
-pub reads_file : (P : List ℕ → Answer → Type 0) (Q : (before after : ℕ) → List ℕ → List Put → Type 0) (uses : Uses) (may_take : List ℕ → List ℕ → List ℕ → Type 0)
+pub reads_file : (P : List ℕ → Answer → Type 0) (Q : (before after : ℕ) → List ℕ → List Put → Type 0) (uses : Uses) (one : Bool)
+    (may_take : List ℕ → List ℕ → List ℕ → Type 0) (may_take_of : Read → List ℕ → List ℕ → Type 0)
     (may_end : List ℕ → Status → List ℕ → Type 0) (may_say : List ℕ → Type 0)
     → uses.input ≡ false → uses.files ≡ true → uses.grown ≡ false → uses.out ≡ true
-    → ReadsFile (record (file_meaning P Q) { uses = uses; may_take = may_take; may_end = may_end; may_say = may_say }) P Q
-reads_file P Q uses may_take may_end may_say input files grown out = record {
+    → ReadsFile (record (file_meaning P Q) {
+      uses = uses;
+      one = one;
+      may_take = may_take;
+      may_take_of = may_take_of;
+      may_end = may_end;
+      may_say = may_say;
+    }) P Q
+reads_file P Q uses one may_take may_take_of may_end may_say input files grown out = record {
   command = refl;
   input = input;
   files = files;
@@ -121,11 +129,10 @@ module _ (m : Meaning) (P : List ℕ → Answer → Type 0) (Q : (before after :
       (GoOut-none_held start then Out put.part [] refl put.went) less says
 
   -- what holds of the bytes that the file tells holds of the files that are read
-  pub told-files : (R : List (List ℕ) → Type 0) → ((bytes : List ℕ) → file.bytes ≡ Some bytes → R (bytes ∷ []))
-      → IfRead m Asked (λ r. R r.files)
+  pub told-files : (R : List (List ℕ) → Type 0) → IfSome file.bytes (λ bytes. R (bytes ∷ [])) → IfRead m Asked (λ r. R r.files)
   told-files R known = λ r is.
       let one = one_told file.bytes r.files (is.files reads.files).0 in
-      subst R (sym one.1) (known one.0 one.2)
+      subst R (sym one.1) (MatchOption-at_some _ (λ (b : List ℕ). R (b ∷ [])) one.0 one.2 known)
 
   -- what follows from the size that the file told
   pub told-size : (R : List ℕ → Type 0) → IsSomeAnd file_then.told (λ size. R (size ∷ []))

@@ -1,5 +1,5 @@
--- What strict reading of a record file prints and says. Own.
-use Rattle.std.specs.Prelude.{◌≡◌, ℕ, ◌⊎◌, Bool, true, false, Option, Some, None, List, [], ◌∷◌, ◌++◌, decimal, if◌then◌else◌}
+-- What strict reading of a record file takes, prints and says. Own.
+use Rattle.std.specs.Prelude.{◌≡◌, ℕ, ◌+◌, ◌≤◌, ◌⊎◌, Bool, true, false, Option, Some, None, List, [], ◌∷◌, ◌++◌, decimal, if◌then◌else◌}
 use lib.Chars.{codes}
 use Rattle.hex.specs.Hex.{encode_lower}
 use Rattle.chunk_reader.specs.declared.reasons.Fault.{Fault}
@@ -44,6 +44,11 @@ bytes_text hex bytes = if hex then encode_lower bytes else bytes
 -- a record as a line
 abbrev pub record_line : RecordForm → ℕ × List ℕ → List ℕ
 record_line form placed = line (position_text form.positions placed.0 ++ bytes_text form.hex placed.1)
+
+-- how many bytes of a file of such a size strict reading hands out at most, whatever it holds: each once
+abbrev pub MayTakeOnce : (sizes before after : List ℕ) → Type 0
+MayTakeOnce (size ∷ []) (before ∷ []) (after ∷ []) = after ≤ before + size
+MayTakeOnce sizes before after = ⊥
 
 -- how strict reading of a file of such a size may end, whatever it holds: with its work done or with a fault, or as the
 -- file is too long

@@ -9,7 +9,7 @@ use Rattle.chunk_reader.specs.ReadBounds.{MayBeReadTo}
 use Rattle.chunk_reader.specs.declared.reasons.Fault.{Fault}
 use Rattle.show_files.specs.declared.show_words.ShowWords.{ShowWords}
 use Rattle.run_answers.specs.Answers.{Answer}
-use Rattle.show_files.specs.Readings.{refused_text, record_line, MayEndReading}
+use Rattle.show_files.specs.Readings.{refused_text, record_line, MayTakeOnce, MayEndReading}
 use Rattle.run_answers.specs.FileAnswers.{file_meaning}
 use Rattle.run_answers.specs.Meanings.{Meaning}
 use Rattle.run_answers.specs.declared.status.Status.TheVariants as status
@@ -39,4 +39,4 @@ pub record IsShownSoFar (words : ShowWords) (before after : ℕ) (file : List �
 
 -- what `show` means
 abbrev pub show_meaning : ShowWords → Meaning
-show_meaning words = record (file_meaning (IsShown words) (IsShownSoFar words)) { may_end = MayEndReading }
+show_meaning words = record (file_meaning (IsShown words) (IsShownSoFar words)) { may_take = MayTakeOnce; may_end = MayEndReading }

@@ -1,5 +1,5 @@
 -- What `verify` prints, says and ends with. Own.
-use Rattle.std.specs.Prelude.{◌≡◌, ℕ, ◌⊎◌, true, List, ◌+◌, ◌≤◌, [], ◌∷◌}
+use Rattle.std.specs.Prelude.{◌≡◌, ℕ, ◌⊎◌, true, List, []}
 use Rattle.record_io.specs.Puts.{Out, puts_to, Put}
 use Rattle.chunk_header.specs.Chunks.{ChunkValue}
 use Rattle.meta_chunk.specs.Counts.{totals_of}
@@ -7,7 +7,7 @@ use Rattle.meta_chunk.specs.Files.{IsFrame}
 use Rattle.chunk_reader.specs.Faults.{IsFault}
 use Rattle.chunk_reader.specs.declared.reasons.Fault.{Fault}
 use Rattle.run_answers.specs.Answers.{Answer, noted}
-use Rattle.show_files.specs.Readings.{refused_text, MayEndReading}
+use Rattle.show_files.specs.Readings.{refused_text, MayTakeOnce, MayEndReading}
 use Rattle.run_answers.specs.FileAnswers.{file_meaning, report}
 use Rattle.run_answers.specs.Meanings.{Meaning, none_used}
 use Rattle.run_answers.specs.declared.status.Status.TheVariants as status
@@ -23,15 +23,10 @@ IsVerified file answer =
 abbrev pub IsVerifiedSoFar : (before after : ℕ) → List ℕ → List Put → Type 0
 IsVerifiedSoFar before after file part = part ≡ []
 
--- how many bytes of a file judging hands out at most: each once
-abbrev pub MayJudge : (sizes before after : List ℕ) → Type 0
-MayJudge (size ∷ []) (before ∷ []) (after ∷ []) = after ≤ before + size
-MayJudge sizes before after = ⊥
-
 -- what `verify` means
 abbrev pub verify_meaning : Meaning
 verify_meaning = record (file_meaning IsVerified IsVerifiedSoFar) {
   uses = record none_used { files = true; out = true };
-  may_take = MayJudge;
+  may_take = MayTakeOnce;
   may_end = MayEndReading;
 }

@@ -87,6 +87,7 @@ fn print_chunks<S: Store, O: Sink>(
         → IfSome (S.bytes file.old) (λ bytes. HasPutSoFar (IsShownSoFar words.now (S.handed file.old) (S.handed file.new) bytes)
         (taken_by made (O.taken out.old) notes) (taken_by made (O.taken out.new) notes) lines.new) }
     ensures allowed { IsAllowedEnd (show_meaning words.now) result (S.told file.new) }
+    ensures handed { S.handed file.new ≤ S.handed file.old + size }
     ensures file { OnlyAsks S.bytes S.told S.name S.faults (result ≡ Err (Ending.Cut Cut.File)) file.old file.new }
     ensures out { OnlyCounts O.lent O.faults (result ≡ Err (Ending.Cut Cut.Out)) out.old out.new }
 {
@@ -112,6 +113,7 @@ fn print_next<S: Store, O: Sink>(
         IsPrinted words.now bytes reader.old.totals before (taken_by made (O.taken out.old) notes) lines.old
         → PrintsOn words.now result bytes reader.new.totals before (taken_by made (O.taken out.new) notes) lines.new) }
     ensures handed { result ≡ Ok true → S.handed file.new + reader.old.totals.bytes ≤ S.handed file.old + reader.new.totals.bytes }
+    ensures handed_at_most { S.handed file.new + reader.old.totals.bytes ≤ S.handed file.old + reader.old.size }
     ensures read_to { IfSome (S.bytes file.old) (λ bytes.
         MayBeReadTo bytes reader.old.totals.bytes (reader.old.totals.bytes + (S.handed file.new - S.handed file.old))) }
     ensures same_lines { IsErrAnd result IsShort → lines.new ≡ lines.old }

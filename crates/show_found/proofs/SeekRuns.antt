@@ -1,9 +1,8 @@
 -- How a run of `seek` ends, by how its work ended.
 use Rattle.std.proofs.Common.{◌≡◌, ℕ, IfSome, List, [], ◌∷◌, refl, inl, inr}
-use Rattle.std.proofs.lemmas.Option.{MatchOption-at_some}
 use Rattle.run_answers.specs.Runs.{SeenStream, SeenFile, seen, IfRead}
 use Rattle.run_answers.proofs.FileEnds.{EndsWhole, MayEndInReach}
-use Rattle.run_answers.proofs.FileRuns.{ReadsFile, told-files}
+use Rattle.run_answers.proofs.FileRuns.{ReadsFile, reads_file, told-files}
 use Rattle.show_files.proofs.ReadingRuns.{IsReading}
 use Rattle.show_found.specs.Searches.{TakesOf}
 use Rattle.show_found.specs.SeekCommand.{IsSeekAnswer, IsSeekSoFar, MayTakeOf, seek_meaning}
@@ -14,16 +13,7 @@ use Rattle.show_found.specs.declared.seek_words.SeekWords.{SeekWords}
 use Rattle.run_answers.specs.declared.status.Status.TheVariants as status
 
 seek_reads_file : (words : SeekWords) → ReadsFile (seek_meaning words) (IsSeekAnswer words) IsSeekSoFar
-seek_reads_file words = record {
-  command = refl;
-  input = refl;
-  files = refl;
-  grown = refl;
-  out = refl;
-  answers = λ r answer is. is;
-  so_far = λ r before after part is. is;
-  may_work = λ sizes within. within;
-}
+seek_reads_file words = reads_file (IsSeekAnswer words) IsSeekSoFar _ _ _ _ _ _ refl refl refl refl
 
 -- how it ends where no record was found
 unfound_whole : (words : SeekWords) (why : Unfound) → EndsWhole (seek_meaning words) (unfound_status why)
@@ -64,5 +54,4 @@ pub seek_takes : (words : SeekWords) (input made : SeenStream) (file grown : See
     → IfRead (seek_meaning words) (seen input (file ∷ []) made grown out notes) (λ r. MayTakeOf words.by r.files (file.handed ∷ []) (after ∷ []))
 seek_takes words input made file grown out notes after takes =
     told-files (seek_meaning words) (IsSeekAnswer words) IsSeekSoFar (seek_reads_file words) input made made file file grown out out notes notes
-    (λ files. MayTakeOf words.by files (file.handed ∷ []) (after ∷ []))
-    (λ bytes told. MatchOption-at_some _ (λ (b : List ℕ). TakesOf words.by b file.handed after) bytes told takes)
+    (λ files. MayTakeOf words.by files (file.handed ∷ []) (after ∷ [])) takes

@@ -1,4 +1,4 @@
-use Rattle.std.proofs.Common.{refl, ◌∙◌}
+use Rattle.std.proofs.Common.{arith, refl, ◌∙◌}
 use Rattle.record_io.specs.Puts.{taken_by}
 use Rattle.show_files.specs.ShowCommand.{IsShown, IsShownSoFar, show_meaning}
 use Rattle.show_files.specs.ReadingEnds.{reading_ends}
@@ -46,9 +46,9 @@ returns-in-Err-clause-so_far g c = λ short sound.
 pub returns-in-Ok-clause-handed : goal.returns-in-Ok-clause-handed
 returns-in-Ok-clause-handed g c =
     handed-work (show_meaning c.args.words.now) _ c.in_ok-size.size _ _ (c.print_chunks-printed.ensures.file.same_told ∙ c.in_ok-size.ensures.told)
-    (c.in_ok-size.ensures.in_reach, tt)
+    (c.in_ok-size.ensures.in_reach, omega (arith, c.print_chunks-printed.ensures.handed, c.in_ok-size.ensures.same_handed))
 
 pub returns-in-Err-clause-handed : goal.returns-in-Err-clause-handed
 returns-in-Err-clause-handed g c =
     handed-work (show_meaning c.args.words.now) _ c.in_ok-size.size _ _ (c.print_chunks-printed.ensures.file.same_told ∙ c.in_ok-size.ensures.told)
-    (c.in_ok-size.ensures.in_reach, tt)
+    (c.in_ok-size.ensures.in_reach, omega (arith, c.print_chunks-printed.ensures.handed, c.in_ok-size.ensures.same_handed))
