@@ -61,6 +61,13 @@ one_told told [] same = absurd (cc same)
 one_told told (file ∷ []) same = (file, refl, cc same)
 one_told told (file ∷ other ∷ files) same = absurd (cc same)
 
+-- what holds of the bytes that the one file tells holds of the files that are read
+pub told-files : (m : Meaning) (input made : SeenStream) (file grown : SeenFile) (out notes : SeenStream) (R : List (List ℕ) → Type 0) → m.uses.files ≡ true
+    → IfSome file.bytes (λ bytes. R (bytes ∷ [])) → IfRead m (seen input (file ∷ []) made grown out notes) (λ r. R r.files)
+told-files m input made file grown out notes R uses known = λ r is.
+    let one = one_told file.bytes r.files (is.files uses).0 in
+    subst R (sym one.1) (MatchOption-at_some _ (λ (b : List ℕ). R (b ∷ [])) one.0 one.2 known)
+
 -- the size of a file whose bytes stayed
 pub still-sized : (bytes bytes_then : Option (List ℕ)) (told : Option ℕ) → bytes_then ≡ bytes
     → IfSome bytes_then (λ file. IfSome told (λ size. size ≡ length file)) → IfSome bytes (λ file. IfSome told (λ size. size ≡ length file))
@@ -127,12 +134,6 @@ module _ (m : Meaning) (P : List ℕ → Answer → Type 0) (Q : (before after :
       (reads.so_far r (file.handed ∷ []) (file_then.handed ∷ []) put.part
       (subst (λ (fs : List (List ℕ)). OfFileSoFar Q fs (file.handed ∷ []) (file_then.handed ∷ []) put.part) (sym one.1) put.is))
       (GoOut-none_held start then Out put.part [] refl put.went) less says
-
-  -- what holds of the bytes that the file tells holds of the files that are read
-  pub told-files : (R : List (List ℕ) → Type 0) → IfSome file.bytes (λ bytes. R (bytes ∷ [])) → IfRead m Asked (λ r. R r.files)
-  told-files R known = λ r is.
-      let one = one_told file.bytes r.files (is.files reads.files).0 in
-      subst R (sym one.1) (MatchOption-at_some _ (λ (b : List ℕ). R (b ∷ [])) one.0 one.2 known)
 
   -- what follows from the size that the file told
   pub told-size : (R : List ℕ → Type 0) → IsSomeAnd file_then.told (λ size. R (size ∷ []))

@@ -1,11 +1,9 @@
 -- How a run of `seek` ends, by how its work ended.
-use Rattle.std.proofs.Common.{◌≡◌, ℕ, IfSome, List, [], ◌∷◌, refl, inl, inr}
-use Rattle.run_answers.specs.Runs.{SeenStream, SeenFile, seen, IfRead}
+use Rattle.std.proofs.Common.{◌≡◌, [], refl, inl, inr}
 use Rattle.run_answers.proofs.FileEnds.{EndsWhole, MayEndInReach}
-use Rattle.run_answers.proofs.FileRuns.{ReadsFile, reads_file, told-files}
+use Rattle.run_answers.proofs.FileRuns.{ReadsFile, reads_file}
 use Rattle.show_files.proofs.ReadingRuns.{IsReading}
-use Rattle.show_found.specs.Searches.{TakesOf}
-use Rattle.show_found.specs.SeekCommand.{IsSeekAnswer, IsSeekSoFar, MayTakeOf, seek_meaning}
+use Rattle.show_found.specs.SeekCommand.{IsSeekAnswer, IsSeekSoFar, seek_meaning}
 use Rattle.show_found.specs.SeekEnds.{unfound_text, unfound_status, seek_ends}
 use Rattle.show_found.specs.declared.seeking.Unfound.{Unfound}
 use Rattle.show_found.specs.declared.seeking.Unfound.TheVariants as unfound
@@ -47,11 +45,3 @@ seek_reads words = record {
   says_nothing = λ text is. is;
   may_say = refl;
 }
-
--- what it takes of the file that it reads
-pub seek_takes : (words : SeekWords) (input made : SeenStream) (file grown : SeenFile) (out notes : SeenStream) (after : ℕ)
-    → IfSome file.bytes (λ bytes. TakesOf words.by bytes file.handed after)
-    → IfRead (seek_meaning words) (seen input (file ∷ []) made grown out notes) (λ r. MayTakeOf words.by r.files (file.handed ∷ []) (after ∷ []))
-seek_takes words input made file grown out notes after takes =
-    told-files (seek_meaning words) (IsSeekAnswer words) IsSeekSoFar (seek_reads_file words) input made made file file grown out out notes notes
-    (λ files. MayTakeOf words.by files (file.handed ∷ []) (after ∷ [])) takes

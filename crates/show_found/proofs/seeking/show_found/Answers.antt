@@ -1,9 +1,9 @@
-use Rattle.std.proofs.Common.{ap, arith}
-use Rattle.run_answers.proofs.FileRuns.{still-sized, file-keeps}
+use Rattle.std.proofs.Common.{[], ◌∷◌, ap, refl, arith}
+use Rattle.run_answers.proofs.FileRuns.{still-sized, told-files, file-keeps}
 use Rattle.show_files.proofs.ReadingRuns.{runs-reading}
 use Rattle.show_files.proofs.VerifyEnds.{unprinted-so_far}
-use Rattle.show_found.specs.SeekCommand.{IsSeekAnswer, IsSeekSoFar, seek_meaning}
-use Rattle.show_found.proofs.SeekRuns.{seek_reads, seek_takes}
+use Rattle.show_found.specs.SeekCommand.{IsSeekAnswer, IsSeekSoFar, MayTakeOf, seek_meaning}
+use Rattle.show_found.proofs.SeekRuns.{seek_reads}
 use Rattle.show_found.proofs.seeking.show_found.Goals as goal
 
 pub returns-clause-runs : goal.returns-clause-runs
@@ -14,7 +14,8 @@ returns-clause-runs g c = λ others.
     runs-reading (seek_meaning words) (IsSeekAnswer words) IsSeekSoFar (seek_reads words) others.input others.made _ _ others.grown _ _ _ _
     (file-keeps (seek_meaning words) (IsSeekAnswer words) IsSeekSoFar (seek_reads words).one others.input others.made others.made _ _ others.grown _ _ _ _
     did.file.never_falls (omega arith) did.out.never_falls c.end_search.ensures.notes.never_falls exact did.handed
-    (seek_takes words others.input others.made _ others.grown _ _ _ did.handed_of))
+    (told-files (seek_meaning words) others.input others.made _ others.grown _ _
+    (λ files. MayTakeOf words.by files (g.S.Store.handed c.args.file.now ∷ []) (g.S.Store.handed c.print_found-ended.new.file ∷ [])) refl did.handed_of))
     c.print_found-ended.result _ did.allowed exact
     (did.printed others.made.bytes (g.E.Sink.taken c.args.notes.now))
     (λ short sound. unprinted-so_far _ others.made.bytes _ _ (g.E.Sink.taken c.args.notes.now)
