@@ -20,5 +20,6 @@ pub mod WalkSteps
 pub mod Takings
 pub mod RegionsIn
 pub mod WalkedTo
+pub mod WalkTakings
 pub mod BoundedWalks
 mod Values

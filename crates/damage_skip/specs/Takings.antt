@@ -4,9 +4,11 @@ use Rattle.block_layout.specs.Layout.{block_header_size, chunk_header_size, bloc
 use Rattle.chunk_reader.specs.Places.{end_at}
 use Rattle.chunk_reader.specs.Reasons.{Applies, NoneOf, header_reasons, loading_reasons}
 use Rattle.damage_skip.specs.Pieces.{Piece, AreTiles}
+use Rattle.damage_skip.specs.Regions.{IsWalkedTo}
 use Rattle.damage_skip.specs.Resyncs.{StandsFrom, Contradicts}
 use Rattle.damage_skip.specs.declared.events.Event.{Event}
 use Rattle.damage_skip.specs.declared.events.WalkEnd.{WalkEnd}
+use Rattle.damage_skip.specs.declared.regions.Region.{Region}
 
 -- so many bytes are taken of the headers of the blocks from a place up to another, and of none behind a block of which P holds
 pub record LooksAtBlocks (P : (block previous next : ℕ) → Type 0) (from to taken : ℕ) : Type 0 where
@@ -70,3 +72,11 @@ IsTakenUpTo keep file from to taken =
 abbrev pub TakesByCall : Bool → List ℕ → (from to : ℕ) → Result (Option Event) WalkEnd → (taken : ℕ) → Type 0
 TakesByCall keep file from to (Ok _) taken = IsTakenFrom keep file from to taken
 TakesByCall keep file from to (Err _) taken = IsTakenUpTo keep file from to taken
+
+-- so many bytes are taken by a walk up to some place, past regions of which P holds: the pieces up to there account for them, and
+-- the one there
+pub record IsTakenByWalk (keep : Bool) (P : Region → Type 0) (file : List ℕ) (taken : ℕ) : Type 0 where
+  pub place : ℕ
+  pub events : List Piece
+  pub walked : IsWalkedTo keep P file place events
+  pub account : IsTakenUpTo keep file 0 place taken
