@@ -10,11 +10,13 @@ use Rattle.record_values.specs.Bytes.{AreBytes}
 use Rattle.record_io.specs.Puts.{Out, Taken}
 use Rattle.record_io.proofs.Puts.{GoOut-nothing, GoOutOrAreHeld-none}
 use Rattle.damage_skip.specs.Bounds.{may_skip, MaySkip}
-use Rattle.damage_skip.proofs.WalkedTo.{walked-none}
+use Rattle.damage_skip.proofs.WalkedTo.{walked-none, walked-further, walked-on}
 use Rattle.damage_skip.proofs.BoundedWalks.{MaySkipEach}
 use Rattle.damage_skip.specs.Regions.{regions_in}
-use Rattle.damage_skip.specs.Takings.{IsTakenUpTo}
+use Rattle.damage_skip.specs.Pieces.{Piece}
+use Rattle.damage_skip.specs.Takings.{IsTakenFrom, IsTakenUpTo, IsTakenByWalk}
 use Rattle.damage_skip.proofs.Takings.{up_to-none}
+use Rattle.damage_skip.proofs.WalkTakings.{by_walk-passed}
 use Rattle.damage_skip.specs.Walks.{piece_of, events_of, GoesOn, IsStoppedAt, IsStop, IsEventIn, event_text}
 use Rattle.show_damaged.proofs.RecoverSteps.{by_sink, given-front, given-so_far, given-whole, given-stopped, given-on, given-event, event-unprinted, event-untold, event-passed, event-said, event-unsaid, event-front, told-event, told-still, told-front, status-event}
 use Rattle.show_damaged.specs.RecoverProgress.{HasPositions, end_of_walk, event_lines, status_after, GivesEvent, IsGivenTo}
@@ -224,6 +226,29 @@ pub step-so_far : (words : RecoverWords) (bytes : Option (List ℕ)) (place next
 step-so_far words None place next a b held ended e start now h on taken = tt
 step-so_far words (Some f) place next a b held ended e start now h on taken =
     given-so_far words f next a b held ended start now (given-on words f place next a b held ended h on) taken
+
+-- what was taken where the walk ended before the file, and where these events were met
+pub step-stood : (words : RecoverWords) (bytes : Option (List ℕ)) (place next : ℕ) (a b : Taken) (held : List ℕ) (ended : Status) (e : WalkEnd) (taken : ℕ)
+    → IfSome bytes (λ f. IsGivenTo words f place a b held ended) → IfSome bytes (λ f. GoesOn false f place next (events_of (Err e)))
+    → IfSome bytes (λ f. IsTakenUpTo false f 0 next taken)
+    → IfSome bytes (λ f. IsTakenByWalk false (MaySkip words.most) f taken)
+step-stood words None place next a b held ended e taken h on account = tt
+step-stood words (Some f) place next a b held ended e taken h on account = record {
+  place = next;
+  events = h.events;
+  walked = walked-further false (MaySkip words.most) f place next h.events h.walked on;
+  account = account;
+}
+
+pub step-passed : (words : RecoverWords) (bytes : Option (List ℕ)) (place next : ℕ) (a b : Taken) (held : List ℕ) (ended : Status) (events : List Piece) (taken : ℕ)
+    → MaySkipEach words.most events
+    → IfSome bytes (λ f. IsGivenTo words f place a b held ended) → IfSome bytes (λ f. GoesOn false f place next events)
+    → IfSome bytes (λ f. IsTakenFrom false f 0 next taken)
+    → IfSome bytes (λ f. IsTakenByWalk false (MaySkip words.most) f taken)
+step-passed words None place next a b held ended events taken each h on account = tt
+step-passed words (Some f) place next a b held ended events taken each h on account =
+    by_walk-passed false (MaySkip words.most) f next (h.events ++ events) taken
+    (walked-on false (MaySkip words.most) f place next h.events events h.walked on each) account
 
 -- the file's end was come to
 pub step-done : (words : RecoverWords) (bytes : Option (List ℕ)) (place next size : ℕ) (a b : Taken) (held : List ℕ) (ended : Status)

@@ -11,7 +11,7 @@ use Rattle.show_files.specs.Readings.{record_line}
 use Rattle.damage_skip.specs.Bounds.{MaySkip, walked, refused_in}
 use Rattle.damage_skip.specs.Regions.{region_of, regions_in, told_text, IsWalkedTo, stopped_text}
 use Rattle.damage_skip.specs.Takings.{IsTakenUpTo}
-use Rattle.show_damaged.specs.WalkAnswers.{walk_status, MaySayWalk, MayEndWalk}
+use Rattle.show_damaged.specs.WalkAnswers.{walk_status, MayTakeWalk, MaySayWalk, MayEndWalk}
 use Rattle.run_answers.specs.Meanings.{Meaning}
 
 -- what is put of an event: the lines of its records, or its line, if it is a region
@@ -40,6 +40,7 @@ pub record IsRecoveredSoFar (words : RecoverWords) (before after : ℕ) (file : 
 -- what `show` means where it goes on past damage
 abbrev pub recover_meaning : RecoverWords → Meaning
 recover_meaning words = record (file_meaning (IsRecovered words) (IsRecoveredSoFar words)) {
+  may_take_of = λ r before after. MayTakeWalk false words.most r.files before after;
   may_end = MayEndWalk words.most;
   may_say = MaySayWalk words.most;
 }

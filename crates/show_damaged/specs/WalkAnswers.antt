@@ -1,8 +1,9 @@
--- What the commands that walk a record file past its damage say of it and end with. Own.
-use Rattle.std.specs.Prelude.{◌≡◌, ℕ, ◌⊎◌, false, Option, Some, None, IfSome, List, [], ◌∷◌}
+-- What the commands that walk a record file past its damage take and say of it, and end with. Own.
+use Rattle.std.specs.Prelude.{◌≡◌, ℕ, ◌-◌, ◌⊎◌, Bool, false, Option, Some, None, IfSome, List, [], ◌∷◌}
 use Rattle.std.specs.List.{AllByRecursion}
 use Rattle.damage_skip.specs.Bounds.{may_skip, MaySkip}
 use Rattle.damage_skip.specs.Regions.{skipped_text, walk_text}
+use Rattle.damage_skip.specs.Takings.{IsTakenByWalk}
 use Rattle.damage_skip.specs.declared.regions.Region.{Region}
 use Rattle.run_answers.specs.declared.status.Status.{Status}
 use Rattle.run_answers.specs.FileAnswers.{IsInReach, IsTooLong, limit_text}
@@ -13,6 +14,11 @@ abbrev pub walk_status : List Region → Option Region → Status
 walk_status skipped (Some region) = status.Stopped
 walk_status [] None = status.Ok
 walk_status (region ∷ skipped) None = status.Skipped
+
+-- how many bytes of the file may be handed out, by its bytes: those that a walk past regions that may be skipped takes
+abbrev pub MayTakeWalk : Bool → Option ℕ → (files : List (List ℕ)) → (before after : List ℕ) → Type 0
+MayTakeWalk keep most (file ∷ []) (before ∷ []) (after ∷ []) = IsTakenByWalk keep (MaySkip most) file (after - before)
+MayTakeWalk keep most files before after = ⊥
 
 -- what a walk may say before its end, whatever the file holds
 abbrev pub MaySayWalk : Option ℕ → List ℕ → Type 0

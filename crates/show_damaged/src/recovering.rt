@@ -1,4 +1,4 @@
-ghost use Rattle.std.specs.Prelude.{◌≡◌, ◌≢◌, ℕ, ◌^◌, ◌≤◌, ◌⊎◌, Option, Some, None, Ok, Err, List, [], ◌∷◌, false, length, IfOk, IfSome, OnErr, IsErrAnd};
+ghost use Rattle.std.specs.Prelude.{◌≡◌, ◌≢◌, ℕ, ◌-◌, ◌^◌, ◌≤◌, ◌⊎◌, Option, Some, None, Ok, Err, List, [], ◌∷◌, false, length, IfOk, IfSome, OnErr, IsErrAnd};
 ghost use Rattle.record_io.specs.Outside.{Rose};
 ghost use Rattle.record_io.specs.Puts.{taken_by};
 ghost use Rattle.record_io.specs.Calls.{OnlyAsks, OnlyCounts};
@@ -6,7 +6,8 @@ ghost use Rattle.damage_skip.specs.Policies.{IsTest};
 ghost use Rattle.damage_skip.specs.Walkers.{progress_of, test_of};
 ghost use Rattle.run_answers.specs.FileAnswers.{HandsOut};
 ghost use Rattle.show_damaged.specs.RecoverCommand.{IsRecovered, IsRecoveredSoFar, recover_meaning};
-ghost use Rattle.damage_skip.specs.Bounds.{may_skip};
+ghost use Rattle.damage_skip.specs.Bounds.{may_skip, MaySkip};
+ghost use Rattle.damage_skip.specs.Takings.{IsTakenByWalk};
 ghost use Rattle.damage_skip.specs.Walks.{StandsIn, event_text};
 ghost use Rattle.show_damaged.specs.RecoverProgress.{GivesEvent, HasPositions, end_of_walk, event_lines, status_after};
 ghost use Rattle.run_answers.specs.Runs.{Runs, Seen, seen_stream, seen_file};
@@ -59,6 +60,8 @@ fn recover_file<S: Store, O: Sink, E: Sink>(
     ensures allowed { IsAllowedEnd (recover_meaning words.now) result (S.told file.new) }
     ensures notes_kept { result ≡ Ok Status.Ok → notes.new ≡ notes.old }
     ensures handed { HandsOut (recover_meaning words.now) (S.told file.new) (S.handed file.old) (S.handed file.new) }
+    ensures handed_of { IfSome (S.bytes file.old) (λ bytes.
+        IsTakenByWalk false (MaySkip words.now.most) bytes (S.handed file.new - S.handed file.old)) }
     ensures same_bytes { S.bytes file.new ≡ S.bytes file.old }
     ensures file { OnlyCounts S.name S.faults (result ≡ Err (Ending.Cut Cut.File)) file.old file.new }
     ensures out { OnlyCounts O.lent O.faults (result ≡ Err (Ending.Cut Cut.Out)) out.old out.new }
@@ -101,6 +104,8 @@ fn print_events<F: Fn(&Region) -> bool + Drop, S: Store, O: Sink, E: Sink>(
     ensures said { TellsOf words.now.most result (E.taken notes.old) (E.taken notes.new) }
     ensures allowed { IsAllowedEnd (recover_meaning words.now) result (S.told file.new) }
     ensures notes_kept { result ≡ Ok Status.Ok → notes.new ≡ notes.old }
+    ensures handed_of { IfSome (S.bytes file.old) (λ bytes.
+        IsTakenByWalk false (MaySkip words.now.most) bytes (S.handed file.new - S.handed file.old)) }
     ensures file { OnlyAsks S.bytes S.told S.name S.faults (result ≡ Err (Ending.Cut Cut.File)) file.old file.new }
     ensures out { OnlyCounts O.lent O.faults (result ≡ Err (Ending.Cut Cut.Out)) out.old out.new }
     ensures notes { OnlyCounts E.lent E.faults (result ≡ Err (Ending.Cut Cut.Notes)) notes.old notes.new }

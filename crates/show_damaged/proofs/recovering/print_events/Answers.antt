@@ -1,9 +1,9 @@
-use Rattle.std.proofs.Common.{◌≡◌, ◌∙◌, false, ℕ, Option, List, Ok, Err, Some, None, [], ap, sym, subst, refl, inl, inr, arith, rules}
+use Rattle.std.proofs.Common.{◌≡◌, ◌∙◌, false, ℕ, Option, List, Ok, Err, Some, None, [], ◌∷◌, ap, sym, subst, refl, inl, inr, arith, rules}
 use Rattle.record_io.proofs.Calls.{Takes-nothing}
 use Rattle.damage_skip.specs.Policies.{IsTest}
 use Rattle.damage_skip.specs.Walkers.{progress_of, test_of}
 use Rattle.damage_skip.specs.Bounds.{may_skip}
-use Rattle.damage_skip.specs.Walks.{StandsIn, stop_of}
+use Rattle.damage_skip.specs.Walks.{StandsIn, piece_of, stop_of}
 use Rattle.damage_skip.proofs.Takings.{taken-front, called-on, called-to}
 use Rattle.show_damaged.proofs.RecoverSteps.{after-ok}
 use Rattle.damage_skip.specs.declared.events.WalkEnd.TheVariants.{Stopped}
@@ -11,7 +11,7 @@ use Rattle.damage_skip.specs.declared.regions.Region.{Region}
 use Rattle.run_answers.specs.declared.status.Status.{Status}
 use Rattle.run_answers.proofs.FileRuns.{told-in_reach}
 use Rattle.show_damaged.proofs.RecoverRuns.{step-allowed, walk-allowed}
-use Rattle.show_damaged.proofs.RecoverLoop.{bound-same, event-allowed, given-none, goes-same, step-by, step-done, step-ended, step-failed, step-given, step-not_short, step-said, step-so_far, step-told, step-untold, stop-refused, stop-same}
+use Rattle.show_damaged.proofs.RecoverLoop.{bound-same, event-allowed, given-none, goes-same, step-by, step-done, step-ended, step-failed, step-given, step-not_short, step-said, step-passed, step-so_far, step-stood, step-told, step-untold, stop-refused, stop-same}
 use Rattle.show_files.proofs.ShowSteps.{exact_told, short_told}
 use Rattle.show_damaged.proofs.recovering.print_events.Goals as goal
 use Rattle.show_damaged.proofs.recovering.print_events.Goals.{In-Err}
@@ -173,3 +173,37 @@ returns-in-Ok-None-clause-printed g c = λ made.
     step-done c.args.words.now _ (progress_of c.loop-event.walker).place (progress_of c.next.new.self).place (progress_of c.args.walker.now).size _ _ _ c.loop-event.status
     c.requires.stands.in_reach (exact_told _ _ _ c.requires.stands.size (g.met.S.Store.sized c.args.file.now)) (c.in-Ok-None.ensures.ended (ap Ok c.in-Ok-None.field-0-is) ∙ c.loop-event.invariant.same_size) (c.loop-event.invariant.given made)
     (goes-same _ _ _ _ _ _ (Ok None) c.loop-event.invariant.file.same_bytes c.loop-event.invariant.not_kept (ap Ok c.in-Ok-None.field-0-is) c.in-Ok-None.ensures.goes_on.past)
+
+pub returns-in-Err-clause-handed_of : goal.returns-in-Err-clause-handed_of
+returns-in-Err-clause-handed_of g c =
+    step-stood c.args.words.now _ (progress_of c.loop-event.walker).place (progress_of c.next.new.self).place _ _ _ c.loop-event.status c.in-Err.end _
+    (c.loop-event.invariant.given None)
+    (goes-same _ _ _ _ _ (Err c.in-Err.end) (Err c.in-Err.end) c.loop-event.invariant.file.same_bytes c.loop-event.invariant.not_kept refl
+    c.in-Err.ensures.goes_on.past)
+    (called-to _ _ (progress_of c.loop-event.walker).keep false 0 (progress_of c.loop-event.walker).place (progress_of c.next.new.self).place
+    (Err c.in-Err.end) c.in-Err.end _ _ _ c.loop-event.invariant.file.same_bytes c.loop-event.invariant.not_kept refl c.loop-event.invariant.taken
+    c.in-Err.ensures.takes)
+
+pub returns-in-Ok-None-clause-handed_of : goal.returns-in-Ok-None-clause-handed_of
+returns-in-Ok-None-clause-handed_of g c =
+    step-passed c.args.words.now _ (progress_of c.loop-event.walker).place (progress_of c.next.new.self).place _ _ _ c.loop-event.status [] _ tt
+    (c.loop-event.invariant.given None)
+    (goes-same _ _ _ _ _ _ (Ok None) c.loop-event.invariant.file.same_bytes c.loop-event.invariant.not_kept (ap Ok c.in-Ok-None.field-0-is)
+    c.in-Ok-None.ensures.goes_on.past)
+    (called-on _ _ (progress_of c.loop-event.walker).keep false 0 (progress_of c.loop-event.walker).place (progress_of c.next.new.self).place _
+    None _ _ _ c.loop-event.invariant.file.same_bytes c.loop-event.invariant.not_kept (ap Ok c.in-Ok-None.field-0-is)
+    c.loop-event.invariant.taken c.in-Ok-None.ensures.takes)
+
+pub returns-in_err-status-in-Ok-Some-clause-handed_of : goal.returns-in_err-status-in-Ok-Some-clause-handed_of
+returns-in_err-status-in-Ok-Some-clause-handed_of g c =
+    let e = c.in-Ok-Some.ensures.event c.in-Ok-Some.event (ap Ok c.in-Ok-Some.field-0-is) in
+    step-passed c.args.words.now _ (progress_of c.loop-event.walker).place (progress_of c.next.new.self).place _ _ _ c.loop-event.status
+    (piece_of c.in-Ok-Some.event ∷ []) _
+    (event-allowed g.F.Fn (test_of c.loop-event.walker) c.args.words.now.most _ _ (progress_of c.next.new.self).size c.in-Ok-Some.event
+    (bound-same g.F.Fn _ _ c.args.words.now.most c.loop-event.invariant.same_test c.requires.bound)
+    e.bounds (progress_of c.next.new.self).within c.in-Ok-Some.ensures.stands.in_reach e.allowed)
+    (c.loop-event.invariant.given None)
+    (goes-same _ _ _ _ _ _ (Ok (Some c.in-Ok-Some.event)) c.loop-event.invariant.file.same_bytes c.loop-event.invariant.not_kept (ap Ok c.in-Ok-Some.field-0-is) c.in-Ok-Some.ensures.goes_on.past)
+    (called-on _ _ (progress_of c.loop-event.walker).keep false 0 (progress_of c.loop-event.walker).place (progress_of c.next.new.self).place _
+    (Some c.in-Ok-Some.event) _ _ _ c.loop-event.invariant.file.same_bytes c.loop-event.invariant.not_kept (ap Ok c.in-Ok-Some.field-0-is)
+    c.loop-event.invariant.taken c.in-Ok-Some.ensures.takes)

@@ -1,8 +1,9 @@
-use Rattle.std.proofs.Common.{arith, refl}
+use Rattle.std.proofs.Common.{false, [], ◌∷◌, arith, refl}
 use Rattle.show_damaged.specs.RecoverCommand.{IsRecovered, IsRecoveredSoFar, recover_meaning}
+use Rattle.show_damaged.specs.WalkAnswers.{MayTakeWalk}
 use Rattle.run_answers.specs.declared.ending.Cut.TheVariants.{Made}
 use Rattle.run_answers.proofs.FileEnds.{cut-allowed}
-use Rattle.run_answers.proofs.FileRuns.{still-sized, file-keeps}
+use Rattle.run_answers.proofs.FileRuns.{still-sized, told-files, file-keeps}
 use Rattle.show_damaged.proofs.RecoverRuns.{recover_walks}
 use Rattle.show_damaged.proofs.WalkRuns.{runs-walking}
 use Rattle.show_damaged.proofs.recovering.recover.Goals as goal
@@ -14,7 +15,9 @@ returns-clause-runs g c = λ others.
     let exact = still-sized _ _ _ did.same_bytes (g.met.S.Store.sized c.recover_file-ended.new.file) in
     runs-walking (recover_meaning words) (IsRecovered words) (IsRecoveredSoFar words) words.most (recover_walks words) others.input others.made others.made _ _ others.grown _ _ _ _ _
     (file-keeps (recover_meaning words) (IsRecovered words) (IsRecoveredSoFar words) (recover_walks words).one others.input others.made others.made _ _ others.grown _ _ _ _
-    did.file.never_falls (omega arith) did.out.never_falls (omega (arith, did.notes.never_falls, c.end_walk.ensures.notes.never_falls)) exact did.handed (λ r is. tt))
+    did.file.never_falls (omega arith) did.out.never_falls (omega (arith, did.notes.never_falls, c.end_walk.ensures.notes.never_falls)) exact did.handed
+    (told-files (recover_meaning words) others.input others.made _ others.grown _ _
+    (λ files. MayTakeWalk false words.most files (g.S.Store.handed c.args.file.now ∷ []) (g.S.Store.handed c.recover_file-ended.new.file ∷ [])) refl did.handed_of))
     c.recover_file-ended.result _ did.allowed exact
     (did.printed others.made.bytes)
     (λ short sound. did.so_far short (sound.out refl) others.made.bytes) did.said c.end_walk.ensures.told did.notes.never_falls

@@ -1,5 +1,7 @@
-use Rattle.std.proofs.Common.{refl, ◌∙◌}
+use Rattle.std.proofs.Common.{false, refl, ◌∙◌}
 use Rattle.record_io.specs.Puts.{taken_by}
+use Rattle.damage_skip.specs.Bounds.{MaySkip}
+use Rattle.damage_skip.proofs.WalkTakings.{by_walk-none, by_walk-then}
 use Rattle.show_damaged.specs.RecoverCommand.{IsRecovered, IsRecoveredSoFar, recover_meaning}
 use Rattle.run_answers.proofs.FileRuns.{handed-work}
 use Rattle.run_answers.proofs.PutSoFar.{so_far-nothing, so_far-flushed}
@@ -55,3 +57,17 @@ pub returns-in-Err-clause-handed : goal.returns-in-Err-clause-handed
 returns-in-Err-clause-handed g c =
     handed-work (recover_meaning c.args.words.now) _ c.in_ok-size.size _ _ (c.print_events-walked.ensures.file.same_told ∙ c.in_ok-size.ensures.told)
     (c.in_ok-size.ensures.in_reach, tt)
+
+pub returns-in_err-size-clause-handed_of : goal.returns-in_err-size-clause-handed_of
+returns-in_err-size-clause-handed_of g c =
+    by_walk-none false (MaySkip c.args.words.now.most) _ _ _ c.in_err-size.ensures.same_handed
+
+pub returns-in-Ok-clause-handed_of : goal.returns-in-Ok-clause-handed_of
+returns-in-Ok-clause-handed_of g c =
+    by_walk-then false (MaySkip c.args.words.now.most) (MaySkip c.args.words.now.most) _ _ _ _ _ c.in_ok-size.ensures.same_bytes
+    c.in_ok-size.ensures.same_handed (λ region may. may) c.print_events-walked.ensures.handed_of
+
+pub returns-in-Err-clause-handed_of : goal.returns-in-Err-clause-handed_of
+returns-in-Err-clause-handed_of g c =
+    by_walk-then false (MaySkip c.args.words.now.most) (MaySkip c.args.words.now.most) _ _ _ _ _ c.in_ok-size.ensures.same_bytes
+    c.in_ok-size.ensures.same_handed (λ region may. may) c.print_events-walked.ensures.handed_of
