@@ -9,8 +9,8 @@ use std::marker::Model;
 /// The bytes of a page: what is asked for is a multiple of it, where nothing is read ahead.
 const PAGE: usize = 4096;
 
-/// A store over another one, of which it holds up to 128 KiB.
-pub type ReadAhead<S> = ReadAheadBy<S, 131_072>;
+/// A store over another one, of which it holds up to 64 KiB.
+pub type ReadAhead<S> = ReadAheadBy<S, 65_536>;
 
 /// A store over another one that it owns, of whose bytes it holds up to `N`, so that small requests cost no call of the
 /// other one. It takes no memory.

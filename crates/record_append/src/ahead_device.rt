@@ -9,8 +9,8 @@ use read_ahead::HeldPart;
 use record_io::{Failed, counted, fault};
 use std::marker::Model;
 
-/// A device over another one, of which it holds up to 128 KiB.
-pub type AheadDevice<G> = AheadDeviceBy<G, 131_072>;
+/// A device over another one, of which it holds up to 64 KiB.
+pub type AheadDevice<G> = AheadDeviceBy<G, 65_536>;
 
 /// A device over another one that it owns, of whose bytes it holds up to `N`, so that small reads cost no call of the other
 /// one. It takes no memory.

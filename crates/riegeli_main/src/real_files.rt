@@ -52,7 +52,7 @@ fn paths<'a>(words: &'a [String], names: &Names) -> &'a [String]
     behind.get(..names.count).unwrap_or(behind)
 }
 
-/// So many stores of each of the files of these paths, which are read in pieces of up to 128 KiB.
+/// So many stores of each of the files of these paths, which are read in pieces of up to 64 KiB.
 fn files<'a>(
     rt: &'a HostRuntime,
     paths: &'a [String],
