@@ -1,11 +1,10 @@
 -- Up to where an old file is kept, and the file that it grows to.
-use Rattle.std.proofs.Common.{◌≡◌, ◌≢◌, ℕ, zero, suc, ◌+◌, ◌^◌, ◌≤◌, Bool, true, Some, ◌⊎◌, List, [], ◌∷◌, ◌++◌, length, take, refl, sym, ap, subst, inl, inr, arith}
-use Rattle.std.specs.List.{AllByRecursion}
+use Rattle.std.proofs.Common.{◌≡◌, ℕ, zero, suc, ◌^◌, ◌≤◌, Bool, true, Some, ◌⊎◌, List, [], ◌∷◌, ◌++◌, length, take, refl, sym, ap, subst, inl, inr, arith}
 use Rattle.std.proofs.lemmas.List.{length-take-le, take_all}
 use Rattle.std.proofs.lemmas.List.Elements.{All-append, All-from_recursion, All-weaker, recursion_from_All}
 use Rattle.record_values.specs.Bytes.{AreBytes}
 use Rattle.chunk_header.specs.Chunks.{ChunkValue}
-use Rattle.meta_chunk.specs.Files.{AreLaid, AreRecordsOf, IsChainOf, IsFileOf, IsFrame, IsFramed, IsPlain, end_of_chunks}
+use Rattle.meta_chunk.specs.Files.{AreLaid, AreRecordsOf, IsChainOf, IsFrame, IsFramed, IsPlain, end_of_chunks}
 use Rattle.meta_chunk.specs.Laid.{end_of_chunk}
 use Rattle.meta_chunk.proofs.Chains.{IsChainOf-weaker}
 use Rattle.meta_chunk.proofs.Held.{AreRecordsOf-append}
@@ -14,7 +13,7 @@ use Rattle.meta_chunk.proofs.LaidChunks.{end_of_chunk_after}
 use Rattle.record_group.specs.Groups.{file_of}
 use Rattle.record_group.specs.Records.{AreRecords}
 use Rattle.record_group.proofs.RecordFiles.{AreLaid-record_chunks, AreRecordsOf-chunks_of, AreRecordsOf-record_chunks, IsFile-file_of, IsPlain-record_chunks}
-use Rattle.chunk_reader.specs.Faults.{BeginsWithSignature, HasNoFault, IsFault, IsLongest}
+use Rattle.chunk_reader.specs.Faults.{BeginsWithSignature, HasNoFault, IsFault}
 use Rattle.chunk_reader.specs.declared.reasons.Fault.{Fault}
 use Rattle.chunk_reader.proofs.ChainReads.{no_further_unsigned}
 use Rattle.chunk_reader.proofs.ChainSteps.{IsChainOf-nil, chain_boundary, longest_where_whole, no_chunks, signature_chain}
@@ -22,7 +21,7 @@ use Rattle.chunk_reader.proofs.FaultsDecided.{file_judged}
 use Rattle.chunk_reader.proofs.FileFaults.{fault_or_none, longest_is_one}
 use Rattle.record_writer.specs.Written.{tail_chunks, tail_under}
 use Rattle.record_writer.specs.declared.options.WriteOptions.{WriteOptions}
-use Rattle.record_append.specs.Grown.{IsKeptTo, IsRefused, IsUnrefused, bytes_at, chunks_at, grown}
+use Rattle.record_append.specs.Grown.{IsKeptTo, IsUnrefused, bytes_at, chunks_at, grown}
 
 pub kept_once : (file : List ℕ) (a b : ℕ) → IsKeptTo file a → IsKeptTo file b → a ≡ b
 kept_once file a b (ks, longest) (ls, also) = longest_is_one ks ls file a b longest also

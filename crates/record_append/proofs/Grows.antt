@@ -1,11 +1,11 @@
 -- What a device holds of an old file and new records, by how the writing of these ended.
-use Rattle.std.proofs.Common.{◌≡◌, ◌∙◌, ℕ, zero, suc, ◌+◌, ◌-◌, ◌≤◌, ◌⊎◌, Bool, true, Option, Some, None, IfSome, IsSomeAnd, Result, Ok, Err, List, [], ◌∷◌, ◌++◌, length, take, cond, refl, sym, ap, subst, inl, inr, arith}
+use Rattle.std.proofs.Common.{◌≡◌, ◌∙◌, ℕ, zero, suc, ◌+◌, ◌-◌, ◌≤◌, ◌⊎◌, Bool, Option, Some, None, IfSome, IsSomeAnd, Ok, Err, List, ◌++◌, length, take, cond, refl, sym, ap, subst, inl, inr, arith}
 use Rattle.std.specs.Prelude.{option_map}
 use Rattle.std.proofs.lemmas.List.{length-append, length-take-le}
 use Rattle.std.proofs.lemmas.List.Sums.{sum_by-cons}
 use Rattle.record_values.specs.declared.file_totals.Totals.{Totals}
 use Rattle.chunk_header.specs.Chunks.{ChunkValue}
-use Rattle.meta_chunk.specs.Counts.{is_unread, totals_of}
+use Rattle.meta_chunk.specs.Counts.{is_unread}
 use Rattle.meta_chunk.specs.Files.{signature}
 use Rattle.meta_chunk.specs.Laid.{end_of_chunk}
 use Rattle.record_writer.specs.Feeds.{Rest}
@@ -16,7 +16,6 @@ use Rattle.record_writer.specs.Written.{AnswersTotals, TakesFile, tail_chunks}
 use Rattle.chunk_reader.specs.declared.reasons.Fault.{Fault}
 use Rattle.record_append.specs.Appends.{AnswersGrown, AnswersRest, GrowsBy, GrowsFrom, HoldsCutOff, KeepsBy, end_of_write}
 use Rattle.record_append.specs.Grown.{IsKeptTo, IsUnrefused, bytes_at, totals_at}
-use Rattle.record_append.specs.declared.appends.Appended.{Appended}
 use Rattle.record_append.specs.declared.appends.AppendEnd.{AppendEnd}
 use Rattle.record_append.specs.declared.appends.AppendEnd.TheVariants.{Refused, Device}
 use Rattle.record_writer.proofs.Counted.{counted-tail}

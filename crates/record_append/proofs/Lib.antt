@@ -1,3 +1,4 @@
+pub mod Untold
 pub mod KeptFiles
 pub mod PutRecords
 pub mod Grows

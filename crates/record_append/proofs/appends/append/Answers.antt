@@ -1,9 +1,5 @@
-use Rattle.std.proofs.Common.{◌≡◌, ◌+◌, ◌-◌, IfSome, Result, Err, ℕ, ap, refl}
+use Rattle.std.proofs.Common.{◌+◌, ◌-◌, Err, ap, refl}
 use Rattle.std.proofs.lemmas.Result.{err_from_is_err_and}
-use Rattle.chunk_reader.specs.declared.reasons.Fault.{Fault}
-use Rattle.record_append.specs.declared.appends.AppendEnd.{AppendEnd}
-use Rattle.record_append.specs.declared.appends.AppendEnd.TheVariants.{Refused}
-use Rattle.record_append.specs.Grown.{IsKeptTo, IsRefused, IsUnrefused}
 use Rattle.record_append.proofs.Grows.{answered_whole, grown_whole}
 use Rattle.record_append.proofs.KeptFiles.{complete_early, ended_early, taken_never}
 use Rattle.record_append.proofs.appends.append.Goals as goal

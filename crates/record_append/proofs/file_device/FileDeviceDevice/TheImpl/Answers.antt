@@ -1,55 +1,15 @@
-use Rattle.std.proofs.Common.{refl}
-use Rattle.std.proofs.lemmas.Result.{IfOk-weaker, on_err_weaker, on_ok_weaker}
+use Rattle.std.proofs.Common.{rules}
+use Rattle.record_append.proofs.Untold.{untold}
 use Rattle.record_append.proofs.file_device.FileDeviceDevice.TheImpl.Goals as goal
 
 pub size-tells : goal.size-tells
-size-tells g c = record {
-  tells = c.ensures.tells;
-  exact = IfOk-weaker c.result _ _ (λ _ _. tt) c.ensures.tells;
-  same_told = c.ensures.same_told;
-  same_bytes = refl;
-  same_handed = c.ensures.same_handed;
-  cause = c.ensures.cause;
-  never_falls = c.ensures.never_falls;
-  small = c.ensures.small;
-}
+size-tells g c = search (rules, untold c.result)
 
 pub read_at-tells : goal.read_at-tells
-read_at-tells g c = record {
-  some = c.ensures.some;
-  fits = c.ensures.fits;
-  within = c.ensures.within;
-  given = IfOk-weaker c.result _ _ (λ _ _. tt) c.ensures.some;
-  handed_out = c.ensures.handed_out;
-  same_handed = c.ensures.same_handed;
-  same_bytes = refl;
-  same_told = c.ensures.same_told;
-  told_small = c.ensures.told_small;
-  cause = c.ensures.cause;
-  never_falls = c.ensures.never_falls;
-  small = c.ensures.small;
-}
+read_at-tells g c = search (rules, untold c.result)
 
 pub cut-tells : goal.cut-tells
-cut-tells g c = record {
-  leaves = on_ok_weaker c.result (λ _. refl) c.ensures.opened;
-  kept = on_err_weaker c.result (λ _. refl) c.ensures.cause;
-  untold = c.ensures.untold;
-  same_handed = c.ensures.same_handed;
-  cause = c.ensures.cause;
-  never_falls = c.ensures.never_falls;
-  small = c.ensures.small;
-}
+cut-tells g c = search (rules, untold c.result)
 
 pub put-tells : goal.put-tells
-put-tells g c = record {
-  some = c.ensures.some;
-  fits = c.ensures.fits;
-  grows = IfOk-weaker c.result _ _ (λ _ _. refl) c.ensures.some;
-  kept = on_err_weaker c.result (λ _. refl) c.ensures.cause;
-  untold = c.ensures.untold;
-  same_handed = c.ensures.same_handed;
-  cause = c.ensures.cause;
-  never_falls = c.ensures.never_falls;
-  small = c.ensures.small;
-}
+put-tells g c = search (rules, untold c.result)
