@@ -5,7 +5,7 @@ use Rattle.std.specs.List.{cons_option}
 use Rattle.std.proofs.lemmas.List.{append-nil, take-append-drop}
 use Rattle.record_io.specs.Outside.{Rose, Takes, TakesFront}
 use Rattle.record_io.specs.declared.outside.Failed.{Failed}
-use Rattle.std.specs.Result.{OnOk, OnErr, IsErr}
+use Rattle.std.specs.Result.{OnOk, OnErr, IsErr, is_err}
 use Rattle.record_group.proofs.Signed.{end_of_chunk-signature}
 use Rattle.record_io.specs.Buffers.{TakesAndHolds}
 use Rattle.record_io.specs.Puts.{Made, Notes, Put, Taken, taken_by, puts_to, GoOut, GoOutOrAreHeld, BreaksOff}
@@ -226,7 +226,7 @@ event_copied (Ok done) a b n then s t u e begins copies =
     λ before events h. copies_more before (taken_by b None n) then t u events e (has_begun before a b n s t events h begins) copies
 
 -- where what is held went out, all did
-pub put_all : (before : Taken) (a b n : Option (List ℕ)) (s t : Copied) (events : List Piece) → HasBegun before (taken_by a None n) s events
+put_all : (before : Taken) (a b n : Option (List ℕ)) (s t : Copied) (events : List Piece) → HasBegun before (taken_by a None n) s events
     → Takes a b s.file.held → totals_made t.file ≡ totals_made s.file → t.regions ≡ s.regions → HasPutAll before (taken_by b None n) t events
 put_all before a b n s t events h taken totals counted = record {
   puts = held_flushed before a b n (repair_puts events) s.file.held h.puts taken;
@@ -252,11 +252,37 @@ flush_broke before a b n ps held h front some =
           ∙ sym (append_assoc h.passed (puts_to Made (take took.0 held)) (puts_to Made (drop took.0 held))),
     )
 
-pub finish_failed : (before : Taken) (a b n : Option (List ℕ)) (s : Copied) (events : List Piece) → HasBegun before (taken_by a None n) s events
-    → s.file.held ≢ [] → TakesFront a b s.file.held → (c : FailedSink) → cut.Made ≡ c → HasCopiedFront c before (taken_by b None n) events
-finish_failed before a b n s events h some front c is =
+finish_failed : (before : Taken) (a b n : Option (List ℕ)) (s : Copied) (events : List Piece) → HasBegun before (taken_by a None n) s events
+    → s.file.held ≢ [] → TakesFront a b s.file.held → HasCopiedFront cut.Made before (taken_by b None n) events
+finish_failed before a b n s events h some front =
     let broke = flush_broke before a b n (repair_puts events) s.file.held h.puts front some in
-    subst (λ (x : FailedSink). HasCopiedFront x before (taken_by b None n) events) is (record { part = broke.0; went = broke.1; broken = broke.2 })
+    record { part = broke.0; went = broke.1; broken = broke.2 }
+
+-- so it is behind the signature
+pub finish_whole : (r : Result (Unit {0}) Failed) (a b c : Option (List ℕ)) (s t u : Copied) → Begins a b s t → OnOk r (Takes b c t.file.held)
+    → totals_made u.file ≡ totals_made t.file → u.regions ≡ t.regions
+    → OnOk r ((before : Taken) (n : Option (List ℕ)) (events : List Piece) → HasCopied before (taken_by a None n) s events
+    → HasPutAll before (taken_by c None n) u events)
+finish_whole (Err failed) a b c s t u begins taken totals counted = tt
+finish_whole (Ok done) a b c s t u begins taken totals counted =
+    λ before n events h. put_all before b c n t u events (has_begun before a b n s t events h begins) taken totals counted
+
+pub finish_front : (r : Result (Unit {0}) Failed) (a b c : Option (List ℕ)) (s t : Copied) → Begins a b s t → OnErr r (TakesFront b c t.file.held)
+    → OnErr r (t.file.held ≢ [])
+    → OnErr r ((before : Taken) (n : Option (List ℕ)) (events : List Piece) → HasCopied before (taken_by a None n) s events
+    → HasCopiedFront cut.Made before (taken_by c None n) events)
+finish_front (Ok done) a b c s t begins front some = tt
+finish_front (Err failed) a b c s t begins front some =
+    λ before n events h. finish_failed before b c n t events (has_begun before a b n s t events h begins) some front
+
+-- what holds where a call failed, and where it didn't
+pub where_failed : {X E P : Type 0} (result : Result X E) → is_err result ≡ true → OnErr result P → P
+where_failed (Ok done) failed h = absurd (cc failed)
+where_failed (Err e) failed h = h
+
+pub where_done : {X E P : Type 0} (result : Result X E) → is_err result ≡ false → OnOk result P → P
+where_done (Ok done) went h = h
+where_done (Err e) went h = absurd (cc went)
 
 -- at a fault too, but for what wasn't begun
 all_at_fault : (f g : ℕ) (events : List Piece) → events ≢ [] → WentOutAtFault f g events (repair_puts events)

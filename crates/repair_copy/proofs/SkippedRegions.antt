@@ -1,5 +1,5 @@
 -- The regions that are passed over, whatever the store tells.
-use Rattle.std.proofs.Common.{◌≡◌, ◌≢◌, ◌∙◌, ℕ, ◌+◌, ◌^◌, ◌≤◌, Bool, true, Option, Result, Err, List, [], ◌∷◌, ◌++◌, length, length-append, refl, sym, ap, subst, append-nil, arith}
+use Rattle.std.proofs.Common.{◌≡◌, ◌≢◌, ℕ, ◌+◌, ◌^◌, ◌≤◌, Bool, true, Option, Result, Err, List, [], ◌∷◌, ◌++◌, length, length-append, refl, sym, subst, append-nil, arith}
 use Rattle.std.specs.List.{AllByRecursion}
 use Rattle.std.specs.Fn.{Shared, FnReturnsAt}
 use denote.Ref.{Bor}
@@ -83,13 +83,6 @@ module _ {F : Type 0} (test : Shared F (Bor Region × Unit {0}) Bool) (f : F) wh
       → AllByRecursion (IsAllowedRegion test f) (regions_of e) → Skips test f result n o
   skips_cut result cut count n m o e is h line pass =
       subst (λ (x : Result Repaired RepairEnd). Skips test f x n o) (sym is) (skips_cut_off cut count n m o e h line pass)
-
-  -- what is held of the made file was not put whole
-  pub skips_made : (result : Result Repaired RepairEnd) (cut : FailedSink) (count : ℕ) (n m : Option (List ℕ)) → result ≡ Err (end_of_failed cut)
-      → cut ≡ Made → HasSkipped test f count n m → Skips test f result n m
-  skips_made result cut count n m is made h =
-      subst (λ (x : Result Repaired RepairEnd). Skips test f x n m) (sym (is ∙ ap (λ (c : FailedSink). Err (end_of_failed c)) made))
-      (record { regions = h.regions; allowed = h.allowed; answer = tt; lines = h.lines })
 
   -- also up to one that was refused
   pub skips_stopped : (count : ℕ) (region : Region) (n m : Option (List ℕ)) → HasSkipped test f count n m

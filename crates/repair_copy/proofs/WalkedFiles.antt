@@ -174,13 +174,13 @@ module _ {F : Type 0} (test : Shared F (Bor Region × Unit {0}) Bool) (f : F) wh
   }
 
   -- or what was held was not put whole
-  pub repairs_unfinished : (bytes : Option (List ℕ)) (place : ℕ) (s : Copied) (result : Result Repaired RepairEnd) (cut : FailedSink)
-      (faults faults_then : ℕ) (before a b : Taken) → result ≡ Err (end_of_failed cut) → IfSome bytes (HasWalked test f place s before a)
-      → ((x : Taken) (events : List Piece) → HasCopied x a s events → HasCopiedFront cut x b events)
-      → IfSome bytes (Repairs test f result faults faults_then before b)
-  repairs_unfinished None place s result cut faults faults_then before a b is h front = tt
-  repairs_unfinished (Some file) place s result cut faults faults_then before a b is h front =
-      repairs_cut result cut faults faults_then before b file place h.events is h.walked (front before h.events h.copies)
+  pub repairs_unfinished : (bytes : Option (List ℕ)) (place : ℕ) (s : Copied) (faults faults_then : ℕ) (before a b : Taken)
+      → IfSome bytes (HasWalked test f place s before a)
+      → ((x : Taken) (events : List Piece) → HasCopied x a s events → HasCopiedFront Made x b events)
+      → IfSome bytes (Repairs test f (Err end.Made) faults faults_then before b)
+  repairs_unfinished None place s faults faults_then before a b h front = tt
+  repairs_unfinished (Some file) place s faults faults_then before a b h front =
+      repairs_broken_off Made faults faults_then before b file place h.events h.walked (front before h.events h.copies)
 
   -- or up to where the store failed
   pub repairs_store : (bytes : Option (List ℕ)) (place : ℕ) (s : Copied) (faults between faults_then : ℕ) (before a b : Taken) → faults ≤ between

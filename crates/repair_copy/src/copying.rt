@@ -1,4 +1,4 @@
-ghost use Rattle.std.specs.Prelude.{◌≡◌, ◌≢◌, ℕ, ◌+◌, ◌^◌, ◌<◌, true, false, Err, Option, List, [], ◌∷◌, ◌++◌, length, OnOk, OnErr, IsErr};
+ghost use Rattle.std.specs.Prelude.{◌≡◌, ℕ, ◌+◌, ◌^◌, ◌<◌, true, false, Err, Option, List, [], ◌∷◌, ◌++◌, length, OnOk, OnErr, IsErr};
 ghost use Rattle.record_io.specs.Outside.{Takes};
 ghost use Rattle.record_io.specs.Puts.{Taken, taken_by};
 ghost use Rattle.record_io.specs.Calls.{OnlyCounts};
@@ -89,21 +89,20 @@ impl Copied {
     }
 
     /// Puts out what is held of a file that was copied whole, or up to a region that stops the work. Nothing is held then.
-    pub fn finish<M: Sink>(&mut self, made: &mut M) -> Result<(), FailedSink>
+    pub fn finish<M: Sink>(&mut self, made: &mut M) -> Result<(), Failed>
         requires unbegun { self.old.begun ≡ false → self.old.file ≡ nothing_made }
         ensures whole { OnOk result ((before : Taken) (notes : Option (List ℕ)) (events : List Piece)
             → HasCopied before (taken_by (M.taken made.old) None notes) self.old events
             → HasPutAll before (taken_by (M.taken made.new) None notes) self.new events) }
-        ensures front { (cut : FailedSink) → result ≡ Err cut → (before : Taken) (notes : Option (List ℕ)) (events : List Piece)
+        ensures front { OnErr result ((before : Taken) (notes : Option (List ℕ)) (events : List Piece)
             → HasCopied before (taken_by (M.taken made.old) None notes) self.old events
-            → HasCopiedFront cut before (taken_by (M.taken made.new) None notes) events }
+            → HasCopiedFront FailedSink.Made before (taken_by (M.taken made.new) None notes) events) }
         ensures place { OnOk result (self.new.file.place ≡ next_place self.old) }
         ensures regions { OnOk result (self.new.regions ≡ self.old.regions) }
-        ensures made_alone { result ≢ Err FailedSink.Notes }
         ensures made { OnlyCounts M.lent M.faults (IsErr result) made.old made.new }
     {
         self.begin(made)?;
-        Ok(self.file.flush(made)?)
+        self.file.flush(made)
     }
 
     /// Puts out what is held of a file that can't be read on, which is nothing before the first event. That this fails too

@@ -116,14 +116,18 @@ pub fn repair<S: Store, F: Fn(&Region) -> bool + Drop, M: Sink, E: Sink>(
         match walker.next(alloc, store) {
             Ok(Some(event)) => copied.put(&event, made, notes)?,
             Ok(None) => {
-                copied.finish(made)?;
+                if copied.finish(made).is_err() {
+                    return Err(RepairEnd::Made);
+                }
                 return Ok(Repaired {
                     totals: copied.file.totals(),
                     regions: copied.regions,
                 });
             }
             Err(WalkEnd::Stopped(region)) => {
-                copied.finish(made)?;
+                if copied.finish(made).is_err() {
+                    return Err(RepairEnd::Made);
+                }
                 return Err(RepairEnd::Stopped(region));
             }
             Err(WalkEnd::Store) => {

@@ -16,7 +16,7 @@ use Rattle.damage_skip.specs.Walks.{piece_of, IsEventIn, IsAllowedEvent, IsRefus
 use Rattle.damage_skip.specs.declared.regions.Region.{Region}
 use Rattle.repair_copy.specs.Copies.{next_place, HasSkipped, HasWalked}
 use Rattle.damage_skip.proofs.RegionsIn.{one_region}
-use Rattle.repair_copy.proofs.CopySteps.{fits, grows, next_place_small}
+use Rattle.repair_copy.proofs.CopySteps.{fits, grows, next_place_small, where_failed, where_done}
 use Rattle.repair_copy.proofs.DamagedRepairs.{repairs_damage}
 use Rattle.repair_copy.proofs.ShortRepairs.{repairs-short, failed-not_short}
 use Rattle.repair_copy.proofs.WalkedFiles.{walked_none, walked_to_end, walked_next, cut_within, ends_at_end, ends_at_region, repairs_whole, repairs_stopped, repairs_unfinished, repairs_store, repairs_memory}
@@ -192,14 +192,13 @@ sized : (g : _) (c : After-next g) → IsSized (g.S.Store.bytes c.loop-event.sto
 sized g c =
     subst (IsSized (g.S.Store.bytes c.loop-event.store)) c.loop-event.invariant.stands.size (g.met.S.Store.sized c.loop-event.store)
 
-pub returns-in_err-finish-in-Ok-None-clause-repairs : goal.returns-in_err-finish-in-Ok-None-clause-repairs
-returns-in_err-finish-in-Ok-None-clause-repairs g c =
-    let at = goal.at.returns-in_err-finish-in-Ok-None-clause-repairs g c in
-    let p = err_from_is_err_and c.from_residual-in_err-finish-in-Ok-None.result c.from_residual-in_err-finish-in-Ok-None.ensures.1 in
-    repairs_unfinished g.F.Fn c.args.policy.test _ c.next.new.self.progress.place c.loop-event.copied c.from_residual-in_err-finish-in-Ok-None.result
-    c.in_err-finish-in-Ok-None.field-0.0 _ _ _ _ _ (p.1 ∙ ap Err p.2)
+pub returns-then-is_err-clause-repairs : goal.returns-then-is_err-clause-repairs
+returns-then-is_err-clause-repairs g c =
+    let at = goal.at.returns-then-is_err-clause-repairs g c in
+    let front = where_failed c.finish.result (cc) c.finish.ensures.front in
+    repairs_unfinished g.F.Fn c.args.policy.test _ c.next.new.self.progress.place c.loop-event.copied _ _ _ _ _
     (ended g at.After-next (rw c.in-Ok-None.field-0-is at c.in-Ok-None.ensures.goes_on).past)
-    (λ before events. c.in_err-finish-in-Ok-None.ensures.front c.in_err-finish-in-Ok-None.field-0.0 refl before (g.E.Sink.taken c.loop-event.notes) events)
+    (λ before events. front before (g.E.Sink.taken c.loop-event.notes) events)
 
 pub returns-in-Ok-None-clause-repairs : goal.returns-in-Ok-None-clause-repairs
 returns-in-Ok-None-clause-repairs g c =
@@ -209,7 +208,7 @@ returns-in-Ok-None-clause-repairs g c =
     (ended g at.After-next (rw c.in-Ok-None.field-0-is at c.in-Ok-None.ensures.goes_on).past)
     (ends_at_end g.F.Fn c.args.policy.test _ _ c.loop-event.walker.progress.keep c.loop-event.walker.progress.place c.next.new.self.progress.place kept.store.same_bytes kept.keeps
     c.loop-event.walker.progress.size (sized g at.After-next) (c.in-Ok-None.ensures.ended (ap Ok c.in-Ok-None.field-0-is)))
-    (λ before events. c.in_ok-finish-in-Ok-None.ensures.whole before (g.E.Sink.taken c.loop-event.notes) events)
+    (λ before events. where_done c.finish.result (cc) c.finish.ensures.whole before (g.E.Sink.taken c.loop-event.notes) events)
     c.totals.ensures.counted refl
 
 pub returns-in-Ok-None-clause-bytes : goal.returns-in-Ok-None-clause-bytes
@@ -217,7 +216,7 @@ returns-in-Ok-None-clause-bytes g c =
     omega (
       arith,
       ap (λ (t : Totals). t.bytes) c.totals.ensures.counted,
-      c.in_ok-finish-in-Ok-None.ensures.place,
+      where_done c.finish.result (cc) c.finish.ensures.place,
       next_place_small c.loop-event.walker.progress.place c.loop-event.copied c.loop-event.invariant.small,
       c.in-Ok-None.ensures.goes_on.rises,
       c.next.new.self.progress.within,
@@ -232,14 +231,13 @@ refused g c =
     rw (← c.loop-event.invariant.same_test)
     (c.in-Err-Stopped.ensures.refused c.in-Err-Stopped.region (ap Err c.in-Err-Stopped.field-0-is) c.loop-event.invariant.going_on)
 
-pub returns-in_err-finish-in-Err-Stopped-clause-repairs : goal.returns-in_err-finish-in-Err-Stopped-clause-repairs
-returns-in_err-finish-in-Err-Stopped-clause-repairs g c =
-    let at = goal.at.returns-in_err-finish-in-Err-Stopped-clause-repairs g c in
-    let p = err_from_is_err_and c.from_residual-in_err-finish-in-Err-Stopped.result c.from_residual-in_err-finish-in-Err-Stopped.ensures.1 in
-    repairs_unfinished g.F.Fn c.args.policy.test _ c.next.new.self.progress.place c.loop-event.copied c.from_residual-in_err-finish-in-Err-Stopped.result
-    c.in_err-finish-in-Err-Stopped.field-0.0 _ _ _ _ _ (p.1 ∙ ap Err p.2)
+pub returns-then-is_err-2-clause-repairs : goal.returns-then-is_err-2-clause-repairs
+returns-then-is_err-2-clause-repairs g c =
+    let at = goal.at.returns-then-is_err-2-clause-repairs g c in
+    let front = where_failed c.finish-in-Err-Stopped.result (cc) c.finish-in-Err-Stopped.ensures.front in
+    repairs_unfinished g.F.Fn c.args.policy.test _ c.next.new.self.progress.place c.loop-event.copied _ _ _ _ _
     (ended g at.After-next c.in-Err-Stopped.ensures.goes_on.past)
-    (λ before events. c.in_err-finish-in-Err-Stopped.ensures.front c.in_err-finish-in-Err-Stopped.field-0.0 refl before (g.E.Sink.taken c.loop-event.notes) events)
+    (λ before events. front before (g.E.Sink.taken c.loop-event.notes) events)
 
 pub returns-in-Err-Stopped-clause-repairs : goal.returns-in-Err-Stopped-clause-repairs
 returns-in-Err-Stopped-clause-repairs g c =
@@ -258,7 +256,7 @@ returns-in-Err-Stopped-clause-repairs g c =
     IsStoppedAt c.next.new.self.progress.keep file c.next.new.self.progress.place stopped))
     (e.goes_on.stopped ∙ ap stop_of (ap Err c.in-Err-Stopped.field-0-is)) e.stands.stopped_there)
     there.refused)
-    (λ before events. c.in_ok-finish-in-Err-Stopped.ensures.whole before (g.E.Sink.taken c.loop-event.notes) events))
+    (λ before events. where_done c.finish-in-Err-Stopped.result (cc) c.finish-in-Err-Stopped.ensures.whole before (g.E.Sink.taken c.loop-event.notes) events))
 
 pub returns-in-Err-Stopped-clause-skips : goal.returns-in-Err-Stopped-clause-skips
 returns-in-Err-Stopped-clause-skips g c =
@@ -301,14 +299,14 @@ returns-in-Err-Memory-clause-repairs g c =
 pub returns-in_err-put-in-Ok-Some-clause-damaged : goal.returns-in_err-put-in-Ok-Some-clause-damaged
 returns-in_err-put-in-Ok-Some-clause-damaged g c = repairs_damage g.F.Fn c.args.policy.test _ _ _ _ _ _ (returns-in_err-put-in-Ok-Some-clause-repairs g c)
 
-pub returns-in_err-finish-in-Ok-None-clause-damaged : goal.returns-in_err-finish-in-Ok-None-clause-damaged
-returns-in_err-finish-in-Ok-None-clause-damaged g c = repairs_damage g.F.Fn c.args.policy.test _ _ _ _ _ _ (returns-in_err-finish-in-Ok-None-clause-repairs g c)
+pub returns-then-is_err-clause-damaged : goal.returns-then-is_err-clause-damaged
+returns-then-is_err-clause-damaged g c = repairs_damage g.F.Fn c.args.policy.test _ _ _ _ _ _ (returns-then-is_err-clause-repairs g c)
 
 pub returns-in-Ok-None-clause-damaged : goal.returns-in-Ok-None-clause-damaged
 returns-in-Ok-None-clause-damaged g c = repairs_damage g.F.Fn c.args.policy.test _ _ _ _ _ _ (returns-in-Ok-None-clause-repairs g c)
 
-pub returns-in_err-finish-in-Err-Stopped-clause-damaged : goal.returns-in_err-finish-in-Err-Stopped-clause-damaged
-returns-in_err-finish-in-Err-Stopped-clause-damaged g c = repairs_damage g.F.Fn c.args.policy.test _ _ _ _ _ _ (returns-in_err-finish-in-Err-Stopped-clause-repairs g c)
+pub returns-then-is_err-2-clause-damaged : goal.returns-then-is_err-2-clause-damaged
+returns-then-is_err-2-clause-damaged g c = repairs_damage g.F.Fn c.args.policy.test _ _ _ _ _ _ (returns-then-is_err-2-clause-repairs g c)
 
 pub returns-in-Err-Stopped-clause-damaged : goal.returns-in-Err-Stopped-clause-damaged
 returns-in-Err-Stopped-clause-damaged g c = repairs_damage g.F.Fn c.args.policy.test _ _ _ _ _ _ (returns-in-Err-Stopped-clause-repairs g c)
@@ -323,16 +321,6 @@ pub returns-in_err-put-in-Ok-Some-clause-cut_short : goal.returns-in_err-put-in-
 returns-in_err-put-in-Ok-Some-clause-cut_short g c =
     let p = err_from_is_err_and c.from_residual.result c.from_residual.ensures.1 in
     λ short. absurd (failed-not_short c.in_err-put-in-Ok-Some.field-0.0 c.from_residual.result (p.1 ∙ ap Err p.2) short)
-
-pub returns-in_err-finish-in-Ok-None-clause-cut_short : goal.returns-in_err-finish-in-Ok-None-clause-cut_short
-returns-in_err-finish-in-Ok-None-clause-cut_short g c =
-    let p = err_from_is_err_and c.from_residual-in_err-finish-in-Ok-None.result c.from_residual-in_err-finish-in-Ok-None.ensures.1 in
-    λ short. absurd (failed-not_short c.in_err-finish-in-Ok-None.field-0.0 c.from_residual-in_err-finish-in-Ok-None.result (p.1 ∙ ap Err p.2) short)
-
-pub returns-in_err-finish-in-Err-Stopped-clause-cut_short : goal.returns-in_err-finish-in-Err-Stopped-clause-cut_short
-returns-in_err-finish-in-Err-Stopped-clause-cut_short g c =
-    let p = err_from_is_err_and c.from_residual-in_err-finish-in-Err-Stopped.result c.from_residual-in_err-finish-in-Err-Stopped.ensures.1 in
-    λ short. absurd (failed-not_short c.in_err-finish-in-Err-Stopped.field-0.0 c.from_residual-in_err-finish-in-Err-Stopped.result (p.1 ∙ ap Err p.2) short)
 
 pub returns-in-Err-Store-clause-cut_short : goal.returns-in-Err-Store-clause-cut_short
 returns-in-Err-Store-clause-cut_short g c = λ short.
@@ -363,14 +351,14 @@ returns-in-Err-Stopped-clause-cut_short g c = λ short. elim short [ inl store �
 pub returns-in_err-put-in-Ok-Some-clause-cut : goal.returns-in_err-put-in-Ok-Some-clause-cut
 returns-in_err-put-in-Ok-Some-clause-cut g c = repairs_front g.F.Fn c.args.policy.test _ _ _ _ _ _ (returns-in_err-put-in-Ok-Some-clause-repairs g c)
 
-pub returns-in_err-finish-in-Ok-None-clause-cut : goal.returns-in_err-finish-in-Ok-None-clause-cut
-returns-in_err-finish-in-Ok-None-clause-cut g c = repairs_front g.F.Fn c.args.policy.test _ _ _ _ _ _ (returns-in_err-finish-in-Ok-None-clause-repairs g c)
+pub returns-then-is_err-clause-cut : goal.returns-then-is_err-clause-cut
+returns-then-is_err-clause-cut g c = repairs_front g.F.Fn c.args.policy.test _ _ _ _ _ _ (returns-then-is_err-clause-repairs g c)
 
 pub returns-in-Ok-None-clause-cut : goal.returns-in-Ok-None-clause-cut
 returns-in-Ok-None-clause-cut g c = repairs_front g.F.Fn c.args.policy.test _ _ _ _ _ _ (returns-in-Ok-None-clause-repairs g c)
 
-pub returns-in_err-finish-in-Err-Stopped-clause-cut : goal.returns-in_err-finish-in-Err-Stopped-clause-cut
-returns-in_err-finish-in-Err-Stopped-clause-cut g c = repairs_front g.F.Fn c.args.policy.test _ _ _ _ _ _ (returns-in_err-finish-in-Err-Stopped-clause-repairs g c)
+pub returns-then-is_err-2-clause-cut : goal.returns-then-is_err-2-clause-cut
+returns-then-is_err-2-clause-cut g c = repairs_front g.F.Fn c.args.policy.test _ _ _ _ _ _ (returns-then-is_err-2-clause-repairs g c)
 
 pub returns-in-Err-Stopped-clause-cut : goal.returns-in-Err-Stopped-clause-cut
 returns-in-Err-Stopped-clause-cut g c = repairs_front g.F.Fn c.args.policy.test _ _ _ _ _ _ (returns-in-Err-Stopped-clause-repairs g c)
