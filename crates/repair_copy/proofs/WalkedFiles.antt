@@ -11,9 +11,11 @@ use Rattle.chunk_reader.proofs.Rooms.{IsSized}
 use Rattle.damage_skip.specs.Pieces.{Piece}
 use Rattle.damage_skip.specs.Policies.{IsAllowedRegion}
 use Rattle.damage_skip.specs.Regions.{regions_in, IsWalkedTo}
+use Rattle.damage_skip.specs.Takings.{IsTakenFrom, IsTakenUpTo, IsTakenByWalk}
 use Rattle.damage_skip.specs.Walks.{GoesOn, IsStop, IsStoppedAt}
 use Rattle.damage_skip.specs.declared.regions.Region.{Region}
 use Rattle.damage_skip.proofs.WalkedTo.{walked-further, walked-on}
+use Rattle.damage_skip.proofs.WalkTakings.{by_walk-passed}
 use Rattle.repair_copy.specs.RepairPuts.{repair_puts, WentOutAtFault}
 use Rattle.repair_copy.specs.Walked.{EndsAt}
 use Rattle.repair_copy.specs.Copies.{HasCopied, HasBegun, HasPutAll, HasCopiedFront, HasPutAtFault, HasWalked}
@@ -56,6 +58,22 @@ module _ {F : Type 0} (test : Shared F (Bor Region × Unit {0}) Bool) (f : F) wh
     walked = record { walked = ([], sym front, refl); each = tt };
     copies = inl (record { unbegun = unbegun; file = at; regions = none; none = refl; same = refl });
   }
+
+  -- the walk takes what the pieces up to its place account for, and the one there
+  pub taken_there : (bytes : Option (List ℕ)) (place : ℕ) (s : Copied) (before then : Taken) (taken : ℕ)
+      → IfSome bytes (HasWalked test f place s before then) → IfSome bytes (λ file. IsTakenUpTo true file 0 place taken)
+      → IfSome bytes (λ file. IsTakenByWalk true (IsAllowedRegion test f) file taken)
+  taken_there None place s before then taken h account = tt
+  taken_there (Some file) place s before then taken h account =
+      record { place = place; events = h.events; walked = h.walked; account = account }
+
+  -- or where it was given an event or the file's end, these pieces alone
+  pub taken_before : (bytes : Option (List ℕ)) (place : ℕ) (s : Copied) (before then : Taken) (taken : ℕ)
+      → IfSome bytes (HasWalked test f place s before then) → IfSome bytes (λ file. IsTakenFrom true file 0 place taken)
+      → IfSome bytes (λ file. IsTakenByWalk true (IsAllowedRegion test f) file taken)
+  taken_before None place s before then taken h account = tt
+  taken_before (Some file) place s before then taken h account =
+      by_walk-passed true (IsAllowedRegion test f) file place h.events taken h.walked account
 
   -- what is put of the events broke off
   repairs_broken_off : (cut : FailedSink) (faults faults_then : ℕ) (before after : Taken) (file : List ℕ) (place : ℕ) (events : List Piece)
@@ -117,6 +135,19 @@ module _ {F : Type 0} (test : Shared F (Bor Region × Unit {0}) Bool) (f : F) wh
       both (Some file) h on =
           repairs_cut result cut faults faults_then before then file to (h.events ++ e ∷ []) is
           (walked-on true (IsAllowedRegion test f) file place to h.events (e ∷ []) h.walked on pass) (front before h.events h.copies)
+
+    -- the pieces up to there account for what was taken
+    pub taken_within : (s : Copied) (before now_taken : Taken) (e : Piece) (taken : ℕ) → IfSome bytes (HasWalked test f place s before now_taken)
+        → IfSome now (λ file. GoesOn keep file place to (e ∷ [])) → AllByRecursion (IsAllowedRegion test f) (regions_in (e ∷ []))
+        → IfSome bytes (λ file. IsTakenFrom true file 0 to taken)
+        → IfSome bytes (λ file. IsTakenByWalk true (IsAllowedRegion test f) file taken)
+    taken_within s before now_taken e taken h on pass account = both bytes h (goes_on (e ∷ []) on) account where
+      both : (x : Option (List ℕ)) → IfSome x (HasWalked test f place s before now_taken) → IfSome x (λ file. GoesOn true file place to (e ∷ []))
+          → IfSome x (λ file. IsTakenFrom true file 0 to taken) → IfSome x (λ file. IsTakenByWalk true (IsAllowedRegion test f) file taken)
+      both None h on account = tt
+      both (Some file) h on account =
+          by_walk-passed true (IsAllowedRegion test f) file to (h.events ++ e ∷ []) taken
+          (walked-on true (IsAllowedRegion test f) file place to h.events (e ∷ []) h.walked on pass) account
 
     -- it ends at the file's end
     pub ends_at_end : (size : ℕ) → IsSized now (Some size) → to ≡ size → IfSome bytes (λ file. EndsAt test f file to None)

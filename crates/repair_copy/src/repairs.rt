@@ -1,11 +1,12 @@
-ghost use Rattle.std.specs.Prelude.{◌≡◌, ◌+◌, ◌-◌, ◌*◌, ◌^◌, ◌≤◌, ◌⊎◌, ℕ, Some, None, Err, IfOk, IfSome, List, length, take};
+ghost use Rattle.std.specs.Prelude.{◌≡◌, ◌+◌, ◌-◌, ◌*◌, ◌^◌, ◌≤◌, ◌⊎◌, ℕ, true, Some, None, Err, IfOk, IfSome, List, length, take};
 ghost use Rattle.record_io.specs.Puts.{taken_by};
 ghost use Rattle.record_io.specs.Calls.{OnlyAsks, OnlyCounts};
 ghost use Rattle.chunk_header.specs.Chunks.{ChunkValue};
 ghost use Rattle.meta_chunk.specs.Files.{IsFrame};
 ghost use Rattle.damage_skip.specs.Damage.{Intact, IsDamaged};
-ghost use Rattle.damage_skip.specs.Policies.{IsTest};
+ghost use Rattle.damage_skip.specs.Policies.{IsTest, IsAllowedRegion};
 ghost use Rattle.damage_skip.specs.Steps.{IsOnward};
+ghost use Rattle.damage_skip.specs.Takings.{IsTakenByWalk};
 ghost use Rattle.damage_skip.specs.declared.regions.Region.{Region};
 ghost use Rattle.repair_copy.specs.DamagedRepairs.{RepairsDamage};
 ghost use Rattle.repair_copy.specs.FrontRepairs.{RepairsFront};
@@ -66,6 +67,9 @@ impl From<FailedSink> for RepairEnd {
 /// behind a changed header ends at or before the first block from its chunk's begin on. Of the front of a file of chunks, it has
 /// those that the front has whole, and one region is told for a chunk that is cut.
 ///
+/// However the work ends, what was taken of the store is accounted for by the pieces up to some place and the one there, and no
+/// region before that place is one that the policy doesn't allow to pass over.
+///
 /// # Errors
 ///
 /// `Stopped` exactly where the next region is one that the policy doesn't allow to pass over: the file of all chunks before
@@ -98,6 +102,8 @@ pub fn repair<S: Store, F: Fn(&Region) -> bool + Drop, M: Sink, E: Sink>(
     ensures cut_short { (result ≡ Err RepairEnd.Store) ⊎ (result ≡ Err RepairEnd.Memory) → IfSome (S.bytes store.old)
         (RepairsShort F.Fn policy.test (M.faults made.old) (M.faults made.new) (taken_by (M.taken made.old) None (E.taken notes.old))
         (taken_by (M.taken made.new) None (E.taken notes.new)) (S.handed store.new - S.handed store.old)) }
+    ensures takes { IfSome (S.bytes store.old) (λ file.
+        IsTakenByWalk true (IsAllowedRegion F.Fn policy.test) file (S.handed store.new - S.handed store.old)) }
     ensures skips { Skips F.Fn policy.test result (E.taken notes.old) (E.taken notes.new) }
     ensures quiet { IfOk result (λ repaired. repaired.regions ≡ 0 → notes.new ≡ notes.old) }
     ensures stop { (region : Region) → result ≡ Err (RepairEnd.Stopped region) → IsOnward size region.begin region.end }

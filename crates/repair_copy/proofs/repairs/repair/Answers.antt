@@ -19,7 +19,7 @@ use Rattle.damage_skip.proofs.RegionsIn.{one_region}
 use Rattle.repair_copy.proofs.CopySteps.{fits, grows, next_place_small, where_failed, where_done}
 use Rattle.repair_copy.proofs.DamagedRepairs.{repairs_damage}
 use Rattle.repair_copy.proofs.ShortRepairs.{repairs-short, failed-not_short}
-use Rattle.repair_copy.proofs.WalkedFiles.{walked_none, walked_to_end, walked_next, cut_within, ends_at_end, ends_at_region, repairs_whole, repairs_stopped, repairs_unfinished, repairs_store, repairs_memory}
+use Rattle.repair_copy.proofs.WalkedFiles.{taken_there, taken_before, taken_within, walked_none, walked_to_end, walked_next, cut_within, ends_at_end, ends_at_region, repairs_whole, repairs_stopped, repairs_unfinished, repairs_store, repairs_memory}
 use Rattle.repair_copy.proofs.FrontRepairs.{repairs_front}
 use Rattle.repair_copy.proofs.SkippedRegions.{regions_of, event_allowed, skipped_next, skips_cut, skips_stopped}
 use Rattle.repair_copy.proofs.repairs.repair.Goals as goal
@@ -347,6 +347,69 @@ returns-in-Ok-None-clause-cut_short g c = λ short. elim short [ inl store ↦ a
 
 pub returns-in-Err-Stopped-clause-cut_short : goal.returns-in-Err-Stopped-clause-cut_short
 returns-in-Err-Stopped-clause-cut_short g c = λ short. elim short [ inl store ↦ absurd (cc store) | inr memory ↦ absurd (cc memory) ]
+
+pub returns-in_err-put-in-Ok-Some-clause-takes : goal.returns-in_err-put-in-Ok-Some-clause-takes
+returns-in_err-put-in-Ok-Some-clause-takes g c =
+    let at = (goal.at.returns-in_err-put-in-Ok-Some-clause-takes g c).In-Ok-Some in
+    let kept = c.loop-event.invariant in
+    taken_within g.F.Fn c.args.policy.test _ _ c.loop-event.walker.progress.keep c.loop-event.walker.progress.place c.next.new.self.progress.place kept.store.same_bytes kept.keeps
+    c.loop-event.copied _ _ (piece_of c.in-Ok-Some.event) _ kept.copied (on g at).past (allowed g at)
+    (called-on _ _ c.loop-event.walker.progress.keep true 0 c.loop-event.walker.progress.place c.next.new.self.progress.place _
+    (Some c.in-Ok-Some.event) _ _ _ kept.store.same_bytes kept.keeps (ap Ok c.in-Ok-Some.field-0-is) kept.taken c.in-Ok-Some.ensures.takes)
+
+pub returns-in_err-finish-in-Ok-None-clause-takes : goal.returns-in_err-finish-in-Ok-None-clause-takes
+returns-in_err-finish-in-Ok-None-clause-takes g c =
+    let at = goal.at.returns-in_err-finish-in-Ok-None-clause-takes g c in
+    let kept = c.loop-event.invariant in
+    taken_before g.F.Fn c.args.policy.test _ c.next.new.self.progress.place c.loop-event.copied _ _ _
+    (ended g at.After-next (rw c.in-Ok-None.field-0-is at c.in-Ok-None.ensures.goes_on).past)
+    (called-on _ _ c.loop-event.walker.progress.keep true 0 c.loop-event.walker.progress.place c.next.new.self.progress.place _ None _ _ _
+    kept.store.same_bytes kept.keeps (ap Ok c.in-Ok-None.field-0-is) kept.taken c.in-Ok-None.ensures.takes)
+
+pub returns-in-Ok-None-clause-takes : goal.returns-in-Ok-None-clause-takes
+returns-in-Ok-None-clause-takes g c =
+    let at = goal.at.returns-in-Ok-None-clause-takes g c in
+    let kept = c.loop-event.invariant in
+    taken_before g.F.Fn c.args.policy.test _ c.next.new.self.progress.place c.loop-event.copied _ _ _
+    (ended g at.After-next (rw c.in-Ok-None.field-0-is at c.in-Ok-None.ensures.goes_on).past)
+    (called-on _ _ c.loop-event.walker.progress.keep true 0 c.loop-event.walker.progress.place c.next.new.self.progress.place _ None _ _ _
+    kept.store.same_bytes kept.keeps (ap Ok c.in-Ok-None.field-0-is) kept.taken c.in-Ok-None.ensures.takes)
+
+pub returns-in_err-finish-in-Err-Stopped-clause-takes : goal.returns-in_err-finish-in-Err-Stopped-clause-takes
+returns-in_err-finish-in-Err-Stopped-clause-takes g c =
+    let at = goal.at.returns-in_err-finish-in-Err-Stopped-clause-takes g c in
+    let kept = c.loop-event.invariant in
+    taken_there g.F.Fn c.args.policy.test _ c.next.new.self.progress.place c.loop-event.copied _ _ _
+    (ended g at.After-next c.in-Err-Stopped.ensures.goes_on.past)
+    (called-to _ _ c.loop-event.walker.progress.keep true 0 c.loop-event.walker.progress.place c.next.new.self.progress.place _ _ _ _ _
+    kept.store.same_bytes kept.keeps (ap Err c.in-Err-Stopped.field-0-is) kept.taken c.in-Err-Stopped.ensures.takes)
+
+pub returns-in-Err-Stopped-clause-takes : goal.returns-in-Err-Stopped-clause-takes
+returns-in-Err-Stopped-clause-takes g c =
+    let at = goal.at.returns-in-Err-Stopped-clause-takes g c in
+    let kept = c.loop-event.invariant in
+    taken_there g.F.Fn c.args.policy.test _ c.next.new.self.progress.place c.loop-event.copied _ _ _
+    (ended g at.After-next c.in-Err-Stopped.ensures.goes_on.past)
+    (called-to _ _ c.loop-event.walker.progress.keep true 0 c.loop-event.walker.progress.place c.next.new.self.progress.place _ _ _ _ _
+    kept.store.same_bytes kept.keeps (ap Err c.in-Err-Stopped.field-0-is) kept.taken c.in-Err-Stopped.ensures.takes)
+
+pub returns-in-Err-Store-clause-takes : goal.returns-in-Err-Store-clause-takes
+returns-in-Err-Store-clause-takes g c =
+    let at = goal.at.returns-in-Err-Store-clause-takes g c in
+    let kept = c.loop-event.invariant in
+    taken_there g.F.Fn c.args.policy.test _ c.next.new.self.progress.place c.loop-event.copied _ _ _
+    (ended g at.After-next c.in-Err-Store.ensures.goes_on.past)
+    (called-to _ _ c.loop-event.walker.progress.keep true 0 c.loop-event.walker.progress.place c.next.new.self.progress.place _ _ _ _ _
+    kept.store.same_bytes kept.keeps (ap Err c.in-Err-Store.field-0-is) kept.taken c.in-Err-Store.ensures.takes)
+
+pub returns-in-Err-Memory-clause-takes : goal.returns-in-Err-Memory-clause-takes
+returns-in-Err-Memory-clause-takes g c =
+    let at = goal.at.returns-in-Err-Memory-clause-takes g c in
+    let kept = c.loop-event.invariant in
+    taken_there g.F.Fn c.args.policy.test _ c.next.new.self.progress.place c.loop-event.copied _ _ _
+    (ended g at.After-next c.in-Err-Memory.ensures.goes_on.past)
+    (called-to _ _ c.loop-event.walker.progress.keep true 0 c.loop-event.walker.progress.place c.next.new.self.progress.place _ _ _ _ _
+    kept.store.same_bytes kept.keeps (ap Err c.in-Err-Memory.field-0-is) kept.taken c.in-Err-Memory.ensures.takes)
 
 pub returns-in_err-put-in-Ok-Some-clause-cut : goal.returns-in_err-put-in-Ok-Some-clause-cut
 returns-in_err-put-in-Ok-Some-clause-cut g c = repairs_front g.F.Fn c.args.policy.test _ _ _ _ _ _ (returns-in_err-put-in-Ok-Some-clause-repairs g c)
