@@ -11,8 +11,11 @@ use Rattle.repair_copy.specs.ShortRepairs.{RepairsShort}
 use Rattle.repair_copy.specs.declared.repairs.Repaired.{Repaired}
 use Rattle.repair_copy.specs.declared.repairs.RepairEnd.{RepairEnd}
 use Rattle.damage_skip.specs.Bounds.{MaySkip}
+use Rattle.damage_skip.specs.Policies.{IsAllowedRegion}
+use Rattle.damage_skip.specs.Takings.{IsTakenByWalk}
 use Rattle.damage_skip.proofs.WalkedTo.{walked-none}
 use Rattle.damage_skip.proofs.Takings.{up_to-none}
+use Rattle.damage_skip.proofs.WalkTakings.{by_walk-then}
 use Rattle.riegeli_tool.specs.declared.repair_words.RepairWords.{RepairWords}
 use Rattle.run_answers.specs.declared.status.Status.{Status}
 use Rattle.run_answers.specs.declared.ending.Ending.{Ending}
@@ -26,7 +29,7 @@ use Rattle.show_damaged.specs.WalkingEnds.{walk_ends, IsBound, TellsOf}
 use Rattle.run_answers.proofs.FileEnds.{some-answer}
 use Rattle.run_answers.proofs.FileRuns.{reads_file}
 use Rattle.riegeli_tool.proofs.FileAnswersExist.{repaired_exists}
-use Rattle.riegeli_tool.proofs.RepairSteps.{cut-so_far, cut-walked, repaired-walked, stopped-walked, told-front, told-of, unmade-walked, unreported-walked, untold-walked}
+use Rattle.riegeli_tool.proofs.RepairSteps.{allowed-may, cut-so_far, cut-walked, repaired-walked, stopped-walked, told-front, told-of, unmade-walked, unreported-walked, untold-walked}
 use Rattle.show_damaged.proofs.WalkRuns.{IsWalking, untold-may}
 use Rattle.repair_copy.specs.declared.repairs.RepairEnd.TheVariants as repair
 use Rattle.run_answers.specs.declared.ending.Cut.TheVariants as cut
@@ -50,6 +53,13 @@ repaired-none words before after same file = record {
 }
 
 module _ {F : Type 0} (g : Shared F (Bor Region × Unit {0}) Bool) (f : F) (words : RepairWords) (bound : IsBound g f words.most) where
+  -- what the repair takes of a file of which the size was asked before
+  pub repair-takes : (told bytes : Option (List ℕ)) (before then after : ℕ) → told ≡ bytes → then ≡ before
+      → IfSome told (λ file. IsTakenByWalk true (IsAllowedRegion g f) file (after - then))
+      → IfSome bytes (λ file. IsTakenByWalk true (MaySkip words.most) file (after - before))
+  repair-takes told bytes before then after same first takes =
+      by_walk-then true (IsAllowedRegion g f) (MaySkip words.most) told bytes before then after same first (allowed-may g f words bound) takes
+
   -- why the repair of a file ended
   cut-walks : (file : List ℕ) → length file ≤ most_file_bytes → (e : RepairEnd) (x y : ℕ) (a b o n m : Option (List ℕ))
       → Repairs g f (Err e) x y (taken_by a None n) (taken_by b None m) file

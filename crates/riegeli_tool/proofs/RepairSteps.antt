@@ -147,15 +147,15 @@ notes-behind events bytes =
 
 module _ {F : Type 0} (g : Shared F (Bor Region × Unit {0}) Bool) (f : F) (words : RepairWords) (bound : IsBound g f words.most) where
   -- what a test allows may be skipped
-  may : (region : Region) → IsAllowedRegion g f region → MaySkip words.most region
-  may region allowed = sym (bound region true allowed.0 allowed.1)
+  pub allowed-may : (region : Region) → IsAllowedRegion g f region → MaySkip words.most region
+  allowed-may region allowed = sym (bound region true allowed.0 allowed.1)
 
   walked-to : (file : List ℕ) (place : ℕ) (events : List Piece) → IsWalkedTo true (IsAllowedRegion g f) file place events
       → IsWalkedTo true (MaySkip words.most) file place events
-  walked-to file place events h = walked-so true (IsAllowedRegion g f) file (MaySkip words.most) place events may h
+  walked-to file place events h = walked-so true (IsAllowedRegion g f) file (MaySkip words.most) place events allowed-may h
 
   regions-may : (regions : List Region) → AllByRecursion (IsAllowedRegion g f) regions → AllByRecursion (MaySkip words.most) regions
-  regions-may regions h = each_so (IsAllowedRegion g f) (MaySkip words.most) may regions h
+  regions-may regions h = each_so (IsAllowedRegion g f) (MaySkip words.most) allowed-may regions h
 
   pub told-of : (n m : Option (List ℕ)) (regions : List Region) → AllByRecursion (IsAllowedRegion g f) regions → Takes n m (skipped_text regions) → HasToldOf words.most n m regions
   told-of n m regions passed says = record { may = regions-may regions passed; says = says }

@@ -9,7 +9,7 @@ use Rattle.damage_skip.specs.Pieces.{Piece, AreEvents}
 use Rattle.damage_skip.specs.Bounds.{MaySkip, walked, refused_in}
 use Rattle.damage_skip.specs.Regions.{region_text, regions_in, IsWalkedTo}
 use Rattle.damage_skip.specs.Takings.{IsTakenUpTo}
-use Rattle.show_damaged.specs.WalkAnswers.{walk_status, MaySayWalk, MayEndWalk}
+use Rattle.show_damaged.specs.WalkAnswers.{walk_status, MayTakeWalk, MaySayWalk, MayEndWalk}
 use Rattle.damage_skip.specs.declared.regions.Region.{Region}
 use Rattle.repair_copy.specs.Relaid.{chunks_in}
 use Rattle.repair_copy.specs.RepairPuts.{repair_puts}
@@ -49,6 +49,7 @@ pub record IsRepairedSoFar (words : RepairWords) (before after : ℕ) (file : Li
 abbrev pub repair_meaning : RepairWords → Meaning
 repair_meaning words = record (file_meaning (IsRepaired words) (IsRepairedSoFar words)) {
   uses = record none_used { files = true; made = true; out = true; memory = true };
+  may_take_of = λ r before after. MayTakeWalk true words.most r.files before after;
   may_end = MayEndWalk words.most;
   may_say = MaySayWalk words.most;
 }

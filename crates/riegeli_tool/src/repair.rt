@@ -1,7 +1,9 @@
-ghost use Rattle.std.specs.Prelude.{◌≡◌, Ok, Err, [], ◌∷◌, IfSome, IsErrAnd};
+ghost use Rattle.std.specs.Prelude.{◌≡◌, ◌-◌, true, Ok, Err, [], ◌∷◌, IfSome, IsErrAnd};
 ghost use Rattle.record_io.specs.Outside.{Rose};
 ghost use Rattle.record_io.specs.Puts.{taken_by};
 ghost use Rattle.record_io.specs.Calls.{OnlyCounts};
+ghost use Rattle.damage_skip.specs.Bounds.{MaySkip};
+ghost use Rattle.damage_skip.specs.Takings.{IsTakenByWalk};
 ghost use Rattle.run_answers.specs.FileAnswers.{HandsOut};
 ghost use Rattle.riegeli_tool.specs.RepairCommand.{IsRepaired, IsRepairedSoFar, repair_meaning};
 ghost use Rattle.riegeli_tool.specs.RepairingEnds.{end_of_repair};
@@ -59,6 +61,8 @@ fn repair_file<S: Store, M: Sink, O: Sink, E: Sink>(
     ensures allowed { IsAllowedEnd (repair_meaning words.now) result (S.told file.new) }
     ensures notes_kept { result ≡ Ok Status.Ok → notes.new ≡ notes.old }
     ensures handed { HandsOut (repair_meaning words.now) (S.told file.new) (S.handed file.old) (S.handed file.new) }
+    ensures handed_of { IfSome (S.bytes file.old) (λ bytes.
+        IsTakenByWalk true (MaySkip words.now.most) bytes (S.handed file.new - S.handed file.old)) }
     ensures same_bytes { S.bytes file.new ≡ S.bytes file.old }
     ensures file { OnlyCounts S.name S.faults (result ≡ Err (Ending.Cut Cut.File)) file.old file.new }
     ensures made { OnlyCounts M.lent M.faults (result ≡ Err (Ending.Cut Cut.Made)) made.old made.new }

@@ -1,11 +1,13 @@
-use Rattle.std.proofs.Common.{◌∙◌, refl, rules, tests}
+use Rattle.std.proofs.Common.{◌∙◌, true, refl, rules, tests}
+use Rattle.damage_skip.specs.Bounds.{MaySkip}
+use Rattle.damage_skip.proofs.WalkTakings.{by_walk-none}
 use Rattle.riegeli_tool.specs.RepairCommand.{IsRepaired, IsRepairedSoFar, repair_meaning}
 use Rattle.show_damaged.specs.WalkingEnds.{walk_ends}
 use Rattle.run_answers.proofs.FileEnds.{unsized-put, unsized-allowed}
 use Rattle.run_answers.proofs.FileRuns.{handed-work, told-in_reach}
 use Rattle.riegeli_tool.proofs.FileAnswersExist.{repaired_exists}
 use Rattle.run_answers.proofs.PutSoFar.{so_far-nothing}
-use Rattle.riegeli_tool.proofs.RepairEnds.{repaired-none, ended-walks, ended-so_far, ended-tells, ended-allowed, done-walks, done-tells, unreported-ends, unreported-tells}
+use Rattle.riegeli_tool.proofs.RepairEnds.{repaired-none, repair-takes, ended-walks, ended-so_far, ended-tells, ended-allowed, done-walks, done-tells, unreported-ends, unreported-tells}
 use Rattle.riegeli_tool.proofs.RepairSteps.{status_of-none, status_of-some}
 use Rattle.show_files.proofs.ShowSteps.{short_told}
 use Rattle.show_damaged.proofs.WalkRuns.{tells-unsized}
@@ -102,3 +104,27 @@ pub returns-in-Err-put_report-clause-handed : goal.returns-in-Err-put_report-cla
 returns-in-Err-put_report-clause-handed g c =
     handed-work (repair_meaning c.args.words.now) _ c.in_ok-size.size _ _ (c.in-Ok.ensures.store.same_told ∙ c.in_ok-size.ensures.told)
     (c.in_ok-size.ensures.in_reach, tt)
+
+pub returns-in_err-size-clause-handed_of : goal.returns-in_err-size-clause-handed_of
+returns-in_err-size-clause-handed_of g c =
+    by_walk-none true (MaySkip c.args.words.now.most) _ _ _ c.in_err-size.ensures.same_handed
+
+pub returns-in-Err-clause-handed_of : goal.returns-in-Err-clause-handed_of
+returns-in-Err-clause-handed_of g c =
+    repair-takes _ c.new-policy.result.test c.args.words.now (λ region allowed is returned. search (rules, tests)) _ _ _ _ _
+    c.in_ok-size.ensures.same_bytes c.in_ok-size.ensures.same_handed c.in-Err.ensures.takes
+
+pub returns-in-Ok-put_report-clause-handed_of : goal.returns-in-Ok-put_report-clause-handed_of
+returns-in-Ok-put_report-clause-handed_of g c =
+    repair-takes _ c.new-policy.result.test c.args.words.now (λ region allowed is returned. search (rules, tests)) _ _ _ _ _
+    c.in_ok-size.ensures.same_bytes c.in_ok-size.ensures.same_handed c.in-Ok.ensures.takes
+
+pub returns-in-Ok-2-clause-handed_of : goal.returns-in-Ok-2-clause-handed_of
+returns-in-Ok-2-clause-handed_of g c =
+    repair-takes _ c.new-policy.result.test c.args.words.now (λ region allowed is returned. search (rules, tests)) _ _ _ _ _
+    c.in_ok-size.ensures.same_bytes c.in_ok-size.ensures.same_handed c.in-Ok.ensures.takes
+
+pub returns-in-Err-put_report-clause-handed_of : goal.returns-in-Err-put_report-clause-handed_of
+returns-in-Err-put_report-clause-handed_of g c =
+    repair-takes _ c.new-policy.result.test c.args.words.now (λ region allowed is returned. search (rules, tests)) _ _ _ _ _
+    c.in_ok-size.ensures.same_bytes c.in_ok-size.ensures.same_handed c.in-Ok.ensures.takes
