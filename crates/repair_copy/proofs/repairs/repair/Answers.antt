@@ -357,9 +357,9 @@ returns-in_err-put-in-Ok-Some-clause-takes g c =
     (called-on _ _ c.loop-event.walker.progress.keep true 0 c.loop-event.walker.progress.place c.next.new.self.progress.place _
     (Some c.in-Ok-Some.event) _ _ _ kept.store.same_bytes kept.keeps (ap Ok c.in-Ok-Some.field-0-is) kept.taken c.in-Ok-Some.ensures.takes)
 
-pub returns-in_err-finish-in-Ok-None-clause-takes : goal.returns-in_err-finish-in-Ok-None-clause-takes
-returns-in_err-finish-in-Ok-None-clause-takes g c =
-    let at = goal.at.returns-in_err-finish-in-Ok-None-clause-takes g c in
+pub returns-then-is_err-clause-takes : goal.returns-then-is_err-clause-takes
+returns-then-is_err-clause-takes g c =
+    let at = goal.at.returns-then-is_err-clause-takes g c in
     let kept = c.loop-event.invariant in
     taken_before g.F.Fn c.args.policy.test _ c.next.new.self.progress.place c.loop-event.copied _ _ _
     (ended g at.After-next (rw c.in-Ok-None.field-0-is at c.in-Ok-None.ensures.goes_on).past)
@@ -375,9 +375,9 @@ returns-in-Ok-None-clause-takes g c =
     (called-on _ _ c.loop-event.walker.progress.keep true 0 c.loop-event.walker.progress.place c.next.new.self.progress.place _ None _ _ _
     kept.store.same_bytes kept.keeps (ap Ok c.in-Ok-None.field-0-is) kept.taken c.in-Ok-None.ensures.takes)
 
-pub returns-in_err-finish-in-Err-Stopped-clause-takes : goal.returns-in_err-finish-in-Err-Stopped-clause-takes
-returns-in_err-finish-in-Err-Stopped-clause-takes g c =
-    let at = goal.at.returns-in_err-finish-in-Err-Stopped-clause-takes g c in
+pub returns-then-is_err-2-clause-takes : goal.returns-then-is_err-2-clause-takes
+returns-then-is_err-2-clause-takes g c =
+    let at = goal.at.returns-then-is_err-2-clause-takes g c in
     let kept = c.loop-event.invariant in
     taken_there g.F.Fn c.args.policy.test _ c.next.new.self.progress.place c.loop-event.copied _ _ _
     (ended g at.After-next c.in-Err-Stopped.ensures.goes_on.past)
