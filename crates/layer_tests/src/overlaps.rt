@@ -110,13 +110,27 @@ fn write_by_two<R: Threads + Abort + Sync, C: Coder + Sync, M: Sink + Send>(
     Ok(())
 }
 
+/// Writes the file of eight records, of which the group of this one waits for the others, and compares it with these bytes.
+fn write_last_of_eight<R: Threads + Abort + Sync>(
+    rt: &R,
+    alloc: Global,
+    last: u8,
+    file: &[u8],
+) -> Result<(), AllocError> {
+    let coder = LastOfEight::new(last);
+    let mut made = sink(alloc)?;
+    write_by_two(rt, alloc, &coder, 8, &mut made)?;
+    assert!(rt; !coder.gave_up(), "gave up on group {last}");
+    assert!(rt; made.taken() == file);
+    Ok(())
+}
+
 #[test]
 fn the_groups_of_a_window_are_coded_side_by_side(rt: HostRuntime) -> Result<(), Fail> {
-    let coder = LastOfEight::new();
-    let mut made = sink(rt.alloc())?;
-    write_by_two(&rt, rt.alloc(), &coder, 8, &mut made)?;
-    assert!(rt; !coder.gave_up());
-    assert!(rt; made.taken() == file_of(&rt, rt.alloc(), 8)?.taken());
+    let file = file_of(&rt, rt.alloc(), 8)?;
+    for last in 0..8 {
+        write_last_of_eight(&rt, rt.alloc(), last, file.taken())?;
+    }
     Ok(())
 }
 

@@ -61,16 +61,18 @@ fn two_groups_have_numbers_0_and_1(rt: HostRuntime) -> Result<(), Fail> {
     code_each_once(&rt, rt.alloc(), &SimpleCoder, 2)
 }
 
-/// Codes the group of byte 0 only once seven others are coded, or gives up.
+/// Codes the group of this byte only once seven others are coded, or gives up.
 #[derive(Drop)]
 pub(crate) struct LastOfEight {
+    last: u8,
     coded: AtomicU64,
     gave_up: AtomicBool,
 }
 
 impl LastOfEight {
-    pub fn new() -> LastOfEight {
+    pub fn new(last: u8) -> LastOfEight {
         LastOfEight {
+            last,
             coded: AtomicU64::new(0),
             gave_up: AtomicBool::new(false),
         }
@@ -97,7 +99,7 @@ impl Coder for LastOfEight {
     ghost chunk_of = { λ _ records. simple_chunk records };
 
     fn code(&self, alloc: Global, records: &Records) -> Result<Chunk, AllocError> {
-        if records.values() == [0].as_slice() {
+        if records.values() == [self.last].as_slice() {
             self.wait_for_the_others();
         }
         let chunk = encode(alloc, records)?;
@@ -106,10 +108,13 @@ impl Coder for LastOfEight {
     }
 }
 
+/// Where groups are dealt out before they are coded, one of them waits for another that comes behind it.
 #[test]
-fn groups_are_coded_while_another_is(rt: HostRuntime) -> Result<(), Fail> {
-    let coder = LastOfEight::new();
-    code_each_once(&rt, rt.alloc(), &coder, 8)?;
-    assert!(rt; !coder.gave_up());
+fn groups_are_coded_while_any_other_is(rt: HostRuntime) -> Result<(), Fail> {
+    for last in 0..8 {
+        let coder = LastOfEight::new(last);
+        code_each_once(&rt, rt.alloc(), &coder, 8)?;
+        assert!(rt; !coder.gave_up(), "gave up on group {last}");
+    }
     Ok(())
 }
