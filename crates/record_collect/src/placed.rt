@@ -38,10 +38,20 @@ pub(crate) fn records_alone(alloc: Global, all: &[Placed]) -> Result<Records, Al
     ensures { IfOk result (λ records. records ≡ bytes_in all.now) }
 {
     let mut records = Records::new(alloc);
+    records.reserve(bytes_together(all), all.len())?;
     for place in 0..all.len() {
         records.push(all[place].bytes.as_slice())?;
     }
     Ok(records)
+}
+
+/// How many bytes the records have together, or the greatest number where that is greater.
+fn bytes_together(all: &[Placed]) -> usize {
+    let mut bytes = 0usize;
+    for e in all {
+        bytes = bytes.saturating_add(e.bytes.len());
+    }
+    bytes
 }
 
 /// At which numbers the records of a pass stand.

@@ -52,6 +52,14 @@ impl Stretch {
         }
     }
 
+    /// Takes room for the bytes of all records of a part that is whole, so that none is moved as more come.
+    fn make_room(&mut self, span: Span) -> Result<(), AllocError>
+        requires { span.from ≤ span.to }
+        ensures { self.new ≡ self.old }
+    {
+        self.records.reserve((span.to - span.from) as usize, 0)
+    }
+
     /// Goes on by a chunk that was judged, which is the next one.
     pub(crate) fn take(&mut self, judged: &Judged, span: Span) -> Result<(), AllocError>
         requires judged { (size place : ℕ) × (size ≤ 2 ^ 60) × IsJudged false size place judged.now }
@@ -146,6 +154,7 @@ fn read_on<S: Store>(
     ensures store { OnlyAsks S.bytes S.told S.name S.faults (result ≡ Err ReadEnd.Store) store.old store.new }
 {
     let mut stretch = Stretch::at(alloc, begin);
+    stretch.make_room(span)?;
     while stretch.end < span.to {
         read_next(alloc, store, size, span, &mut stretch)?;
     }
