@@ -1,1 +1,2 @@
 mod NumberLists
+mod ToldSizes

@@ -14,6 +14,8 @@ mod draws;
 #[cfg(test)]
 mod files;
 #[cfg(test)]
+mod gathered_files;
+#[cfg(test)]
 mod gathering;
 #[cfg(test)]
 mod hashes;

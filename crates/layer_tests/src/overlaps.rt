@@ -1,5 +1,5 @@
 //! Files whose groups are coded by workers, and put meanwhile.
-ghost use Rattle.std.specs.Prelude.{◌≡◌, ◌^◌, ◌≤◌};
+ghost use Rattle.std.specs.Prelude.{◌≡◌, ◌^◌, ◌≤◌, true};
 ghost use Rattle.record_writer.specs.CodedWindows.{CodesSimply};
 ghost use Rattle.record_writer.specs.Written.{AreInLimits};
 
@@ -60,7 +60,25 @@ pub(crate) fn options(workers: u32) -> WriteOptions
 }
 
 fn sink(alloc: Global) -> Result<MemSink, AllocError> {
-    MemSink::new(alloc, 4096, Vec::new(alloc), Vec::new(alloc))
+    MemSink::new(alloc, 1 << 17, Vec::new(alloc), Vec::new(alloc))
+}
+
+/// The file of the records of a feed, written by one worker in chunks of this size.
+pub(crate) fn file_fed<R: Threads + Abort + Sync, L: RecordFeed>(
+    rt: &R,
+    alloc: Global,
+    size: u64,
+    feed: &mut L,
+) -> Result<MemSink, AllocError>
+    requires size { (1 ≤ size) × (size ≤ 2 ^ 24) }
+    requires going { L.going feed.old ≡ true }
+    requires in_reach { L.bound feed.old ≤ 2 ^ 41 }
+{
+    let mut made = sink(alloc)?;
+    let options = WriteOptions { size, ..options(1) };
+    let ended = write_records(rt, alloc, &options, feed, &mut made);
+    assert!(rt; ended.is_ok());
+    Ok(made)
 }
 
 /// The file of the records of one byte each from one on up to another, written by one worker in chunks of this size.
@@ -74,12 +92,7 @@ pub(crate) fn file_between<R: Threads + Abort + Sync>(
     requires size { (1 ≤ size) × (size ≤ 2 ^ 24) }
     requires order { next ≤ end }
 {
-    let mut made = sink(alloc)?;
-    let mut feed = ByteFeed { next, end };
-    let options = WriteOptions { size, ..options(1) };
-    let ended = write_records(rt, alloc, &options, &mut feed, &mut made);
-    assert!(rt; ended.is_ok());
-    Ok(made)
+    file_fed(rt, alloc, size, &mut ByteFeed { next, end })
 }
 
 /// The file of so many records, each in a chunk of its own.

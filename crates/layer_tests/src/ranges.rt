@@ -3,15 +3,17 @@ ghost use Rattle.std.specs.Prelude.{◌≡◌, ◌^◌, ◌≤◌, All, Some, If
 ghost use Rattle.record_io.specs.Memory.{told_if};
 ghost use Rattle.record_ranges.specs.Ranges.{RiseUpTo};
 
-use crate::overlaps::{Meeting, file_between, file_of};
+use crate::overlaps::{Meeting, file_fed, file_of};
 use chunk_reader::ReadEnd;
-use record_io::{Failed, Store, SureStore};
+use record_io::{Failed, MemInput, MemSink, Store, SureStore};
 use record_ranges::{Cuts, Parts, read_ranges};
+use simple_chunk::Records;
 use std::alloc::{AllocError, Global};
 use std::process::Abort;
 use std::sync::atomic::Ordering;
 use std::test::Fail;
 use std::thread::Threads;
+use write_lines::LineFeed;
 
 /// A store of these bytes, whose size was asked.
 fn asked_store(alloc: Global, file: &[u8]) -> Result<SureStore, AllocError>
@@ -50,47 +52,134 @@ fn read_between<R: Threads + Sync>(
     read_ranges(rt, alloc, stores.as_mut_slice(), file.len() as u64, &cuts)
 }
 
-/// Asserts that these are parts with these records, which have one byte each.
-fn assert_parts(rt: &impl Abort, read: &Parts, parts: &[&str]) {
-    assert_eq!(rt; read.len(), parts.len());
-    for number in 0..read.len() {
-        let part = read.part(number);
-        assert_eq!(rt; part.len(), parts[number].len(), "{number}");
-        assert_eq!(rt; part.values(), parts[number].as_bytes(), "{number}");
+/// A line for each record.
+fn lines_of(alloc: Global, records: &Records) -> Result<Vec<u8>, AllocError> {
+    let mut lines = Vec::new(alloc);
+    for number in 0..records.len() {
+        lines.extend_from_slice(records.get(number))?;
+        lines.push(b'\n')?;
     }
+    Ok(lines)
 }
 
-/// Asserts that a file read between these cuts has parts with these records.
+/// Asserts that these are parts whose records make these lines.
+fn assert_parts(
+    rt: &impl Abort,
+    alloc: Global,
+    read: &Parts,
+    parts: &[&[u8]],
+) -> Result<(), AllocError> {
+    assert_eq!(rt; read.len(), parts.len());
+    for number in 0..read.len() {
+        let lines = lines_of(alloc, read.part(number))?;
+        assert!(rt; lines.as_slice() == parts[number], "{number}");
+    }
+    Ok(())
+}
+
+/// Asserts that a file read between these cuts has parts whose records make these lines.
 fn assert_read<R: Threads + Abort + Sync>(
     rt: &R,
     alloc: Global,
     file: &[u8],
     cuts: &[u64],
-    parts: &[&str],
+    parts: &[&[u8]],
+) -> Result<(), AllocError>
+    requires few { length cuts.now ≤ 15 }
+    requires small { length file.now ≤ 2 ^ 28 }
+    requires rise { RiseUpTo (length file.now) 0 cuts.now }
+{
+    let read = read_between(rt, alloc, file, cuts).expect(rt, "no fault");
+    assert_parts(rt, alloc, &read, parts)
+}
+
+/// The file of these lines, in chunks of this size.
+fn file_of_lines<R: Threads + Abort + Sync>(
+    rt: &R,
+    alloc: Global,
+    size: u64,
+    lines: &[u8],
+) -> Result<MemSink, AllocError>
+    requires { (1 ≤ size) × (size ≤ 2 ^ 24) }
+{
+    let mut input = MemInput::new(lines.to_vec(alloc)?, Vec::new(alloc), Vec::new(alloc));
+    let mut feed = LineFeed::new(alloc, &mut input, false, 1 << 20);
+    file_fed(rt, alloc, size, &mut feed)
+}
+
+/// The records of the one chunk have the positions 64, 65 and 66.
+#[test]
+fn records_are_in_the_parts_of_their_positions(rt: HostRuntime) -> Result<(), Fail> {
+    let alloc = rt.alloc();
+    let made = file_of_lines(&rt, alloc, 1_048_576, b"a\nbc\n\n")?;
+    let file = made.taken();
+    assert_eq!(rt; file.len(), 112);
+    assert_read(&rt, alloc, file, &[], &[b"a\nbc\n\n"])?;
+    assert_read(&rt, alloc, file, &[65, 66], &[b"a\n", b"bc\n", b"\n"])?;
+    assert_read(
+        &rt,
+        alloc,
+        file,
+        &[0, 112, 112],
+        &[b"", b"a\nbc\n\n", b"", b""],
+    )?;
+    Ok(())
+}
+
+/// Four lines of 30,000 bytes each.
+fn long_lines(alloc: Global) -> Result<Vec<u8>, AllocError> {
+    let mut lines = Vec::new(alloc);
+    for byte in b'a'..b'e' {
+        lines.extend_from_slice(&[byte; 30_000])?;
+        lines.push(b'\n')?;
+    }
+    Ok(lines)
+}
+
+/// Asserts that this part has a record of 30,000 bytes for each of these letters.
+fn assert_long_part(rt: &impl Abort, part: &Records, letters: &[u8]) {
+    assert_eq!(rt; part.len(), letters.len());
+    for number in 0..part.len() {
+        assert!(rt;
+            part.get(number) == &[letters[number]; 30_000][..],
+            "{number}"
+        );
+    }
+}
+
+/// Asserts that a file read between these cuts has such parts.
+fn assert_long_parts<R: Threads + Abort + Sync>(
+    rt: &R,
+    alloc: Global,
+    file: &[u8],
+    cuts: &[u64],
+    parts: &[&[u8]],
 )
     requires few { length cuts.now ≤ 15 }
     requires small { length file.now ≤ 2 ^ 28 }
     requires rise { RiseUpTo (length file.now) 0 cuts.now }
 {
     let read = read_between(rt, alloc, file, cuts).expect(rt, "no fault");
-    assert_parts(rt, &read, parts);
+    assert_eq!(rt; read.len(), parts.len());
+    for number in 0..read.len() {
+        assert_long_part(rt, read.part(number), parts[number]);
+    }
 }
 
-/// The records of the one chunk have the positions 64, 65 and 66.
+/// The chunks, of one record each, begin at 64, 30109, 60154 and 90223: the header of the block at 65536 lies in the third.
 #[test]
-fn records_are_in_the_parts_of_their_positions(rt: HostRuntime) -> Result<(), Fail> {
-    let made = file_between(&rt, rt.alloc(), 1_048_576, b'a', b'd')?;
+fn a_part_begins_with_the_first_chunk_behind_its_cut(rt: HostRuntime) -> Result<(), Fail> {
+    let alloc = rt.alloc();
+    let made = file_of_lines(&rt, alloc, 1, &long_lines(alloc)?)?;
     let file = made.taken();
-    assert_eq!(rt; file.len(), 112);
-    assert_read(&rt, rt.alloc(), file, &[], &["abc"]);
-    assert_read(&rt, rt.alloc(), file, &[65, 66], &["a", "b", "c"]);
-    assert_read(&rt, rt.alloc(), file, &[0, 112, 112], &["", "abc", "", ""]);
+    assert_eq!(rt; file.len(), 120_268);
+    assert_long_parts(&rt, alloc, file, &[40_089, 80_178], &[b"ab", b"c", b"d"]);
     Ok(())
 }
 
 /// A store that comes to a meeting the first time that it is read.
 #[derive(Drop)]
-struct MeetingStore<'a> {
+pub(crate) struct MeetingStore<'a> {
     pub store: SureStore,
     meeting: &'a Meeting,
     is_first: bool,
@@ -150,7 +239,7 @@ fn meeting_store<'a>(
 }
 
 /// Two stores of a file that meet.
-fn meeting_stores<'a>(
+pub(crate) fn meeting_stores<'a>(
     alloc: Global,
     file: &[u8],
     meeting: &'a Meeting,
