@@ -3,14 +3,14 @@ use Rattle.std.specs.Prelude.{◌≡◌, ℕ, Bool, Some, List, slice_get, take}
 use Rattle.std.specs.List.{AllByRecursion}
 use Rattle.chunk_reader.specs.Faults.{HasNoFault, IsFault}
 use Rattle.chunk_reader.specs.declared.reasons.Fault.{Fault}
-
--- none of the files has a fault, strictly or as a frame, of which compressed and transposed chunks are left unread
+-- none of the files has a fault, strictly or with compressed and transposed chunks left unread
+-- none of the files has a fault, strictly or as a keep, of which compressed and transposed chunks are left unread
 abbrev pub HaveNoFault : Bool → List (List ℕ) → Type 0
-HaveNoFault frame files = AllByRecursion (HasNoFault frame) files
+HaveNoFault keep files = AllByRecursion (HasNoFault keep) files
 
 -- of the files that have a fault this is the first, by its number from 0, and this is its fault
-pub record IsFirstFault (frame : Bool) (files : List (List ℕ)) (index : ℕ) (fault : Fault) : Type 0 where
-  pub before : HaveNoFault frame (take index files)
+pub record IsFirstFault (keep : Bool) (files : List (List ℕ)) (index : ℕ) (fault : Fault) : Type 0 where
+  pub before : HaveNoFault keep (take index files)
   pub file : List ℕ
   pub there : slice_get files index ≡ Some file
-  pub is_fault : IsFault frame file fault
+  pub is_fault : IsFault keep file fault
