@@ -1,12 +1,17 @@
 -- What answers of stores say together.
-use Rattle.std.proofs.Common.{◌≡◌, ◌∙◌, ℕ, ◌+◌, ◌<◌, zero, suc, Result, Some, Ok, List, [], ◌∷◌, ◌++◌, length, take, get_or, refl, sym, ap, subst}
+use Rattle.std.proofs.Common.{◌≡◌, ◌∙◌, ℕ, ◌+◌, ◌<◌, zero, suc, Result, Some, Ok, Err, List, [], ◌∷◌, ◌++◌, length, take, get_or, refl, sym, ap, subst}
 use Rattle.std.specs.Prelude.{slice_get}
 use Rattle.std.proofs.lemmas.List.{take_more}
 use Rattle.number_shares.proofs.Lists.{all_push}
+use Rattle.chunk_reader.specs.declared.reasons.Fault.{Fault}
 use Rattle.chunk_reader.specs.declared.reasons.ReadEnd.{ReadEnd}
+use Rattle.chunk_reader.specs.declared.reasons.ReadEnd.TheVariants as read
 use Rattle.record_collect.specs.declared.feeding.Fed.{Fed}
 use Rattle.record_collect.specs.declared.feeding.Fed.TheVariants.{Whole, Front}
-use Rattle.record_collect.specs.Takings.{AreRead, IsRead, both_taken}
+use Rattle.record_collect.specs.declared.gathering.GatherEnd.{GatherEnd}
+use Rattle.record_collect.specs.declared.gathering.GatherEnd.TheVariants as gather
+use Rattle.record_collect.specs.Ends.{gather_end_of}
+use Rattle.record_collect.specs.Takings.{AreRead, IsFirstStopped, IsRead, both_taken}
 
 -- what stands behind a list, and what stands in it
 pub stands-behind : {X : Type 0} (xs : List X) (y : X) (ys : List X) → slice_get (xs ++ y ∷ ys) (length xs) ≡ Some y
@@ -47,3 +52,19 @@ read-more answers i d part more both below h is joined =
 -- what is taken of all, by its form
 pub read_as : (answers : List (Result Fed ReadEnd)) (part form : Fed) → part ≡ form → AreRead answers part → AreRead answers form
 read_as answers part form is h = subst (AreRead answers) is h
+
+-- how gathering ends by the first file that was not read to its end
+pub stopped-refused : (answers : List (Result Fed ReadEnd)) (at : ℕ) (end : ReadEnd) (index : ℕ) (fault : Fault) → IsFirstStopped answers at end
+    → gather_end_of at end ≡ gather.Refused index fault → IsFirstStopped answers index (read.Refused fault)
+stopped-refused answers at (read.Refused f) index fault first is =
+    let same : (at ≡ index) × (f ≡ fault) = (cc, cc) in
+    subst (λ (i : ℕ). IsFirstStopped answers i (read.Refused fault)) same.0
+    (subst (λ (f : Fault). IsFirstStopped answers at (read.Refused f)) same.1 first)
+stopped-refused answers at read.Store index fault first is = absurd cc
+stopped-refused answers at read.Memory index fault first is = absurd cc
+
+pub stopped-store : (answers : List (Result Fed ReadEnd)) (at : ℕ) (end : ReadEnd) → IsFirstStopped answers at end
+    → gather_end_of at end ≡ gather.Store → (i : ℕ) × (slice_get answers i ≡ Some (Err read.Store))
+stopped-store answers at (read.Refused f) first is = absurd cc
+stopped-store answers at read.Store first is = (at, first.there)
+stopped-store answers at read.Memory first is = absurd cc

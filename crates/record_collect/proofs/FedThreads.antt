@@ -14,7 +14,7 @@ use Rattle.chunk_reader.specs.declared.reasons.ReadEnd.TheVariants.{Refused, Sto
 use Rattle.record_collect.specs.declared.feeding.Fed.{Fed}
 use Rattle.record_collect.specs.GatheredFiles.{AreRecordsOfEach}
 use Rattle.record_collect.specs.Passes.{CollectorValue, PassValue, BelongsTo}
-use Rattle.record_collect.specs.Takings.{AreFed, HasTaken, IsFed, IsFirstRefused, IsRead, IsTakenOf}
+use Rattle.record_collect.specs.Takings.{AreFed, HasTaken, IsFed, IsFirstStopped, IsRead, IsTakenOf}
 
 -- what a front of the stores tells, and what the others do
 pub told-front : {S X : Type 0} (tell : S → Option X) (stores a c : List S) (told x y : List X) → stores ≡ a ++ c → told ≡ x ++ y → length x ≡ length a
@@ -169,7 +169,7 @@ module _ {S L : Type 0} (bytes : S → Option (List ℕ)) (told : S → Option �
 
   -- the first answer that a file is refused has the first fault
   pub first-refused : (collector : CollectorValue) (passes : List PassValue) (before after : List S) (answers : List (Result Fed ReadEnd)) (files : List (List ℕ)) (index : ℕ) (fault : Fault)
-      → AreTold bytes before files → AreFed bytes told name faults collector passes before after answers → IsFirstRefused answers index fault
+      → AreTold bytes before files → AreFed bytes told name faults collector passes before after answers → IsFirstStopped answers index (Refused fault)
       → IsFirstFault false files index fault
   first-refused collector [] [] [] [] files index fault tells h first = absurd (let no = first.there in cc)
   first-refused collector [] [] [] (a ∷ answers) files index fault tells h first = absurd h

@@ -26,7 +26,7 @@ use Rattle.record_collect.specs.PutMachine.{limit, IsLeast}
 use Rattle.record_collect.specs.Passes.{CollectorValue, PassValue, ends_of, records_of}
 use Rattle.record_collect.specs.Gatherings.{AreGathered, AreWoven, GatheredValue, HaveReceipts, IsInBounds}
 use Rattle.record_collect.specs.GatheredFiles.{AreGatheredOf, AreRecordsOfEach, HasTooLong, IsTooMuch}
-use Rattle.record_collect.specs.Takings.{AreFed, AreRead, HasTaken, IsFirstRefused, WasRefused}
+use Rattle.record_collect.specs.Takings.{AreFed, AreRead, HasTaken, IsFirstStopped, WasRefused}
 use Rattle.record_collect.proofs.WovenCosts.{woven-cost, woven-stands}
 use Rattle.record_collect.proofs.AllRead.{stands-behind}
 use Rattle.record_collect.proofs.FedThreads.{AreTakings, Taking, all-taken, answers_of, fed-asked, fed-many, first-refused, lists_of, passes_of}
@@ -294,11 +294,11 @@ module _ {S L : Type 0} (bytes : S → Option (List ℕ)) (told : S → Option �
       (λ made. length made.numbers ≡ length before)
       (λ made h. many-gathered passes made h.1 ∙ fed-many bytes told name faults collector passes before after answers fed)
 
-  pub answers-refused : ((index : ℕ) (fault : Fault) → result ≡ Err (gather.Refused index fault) → IsFirstRefused given index fault)
+  pub answers-refused : ((index : ℕ) (fault : Fault) → result ≡ Err (gather.Refused index fault) → IsFirstStopped given index (read.Refused fault))
       → (index : ℕ) (fault : Fault) → result ≡ Err (gather.Refused index fault) → IfAllTell bytes before (λ files. IsFirstFault false files index fault)
   answers-refused refused index fault is files tells =
       first-refused bytes told name faults collector passes before after answers files index fault tells fed
-      (subst (λ (l : List (Result Fed ReadEnd)). IsFirstRefused l index fault) same (refused index fault is))
+      (subst (λ (l : List (Result Fed ReadEnd)). IsFirstStopped l index (read.Refused fault)) same (refused index fault is))
 
   pub answers-too_much : (result ≡ Err gather.TooMuch → (made : GatheredValue) × AreRead given Front × AreGathered passes made)
       → result ≡ Err gather.TooMuch → IfAllTell bytes before IsTooMuch

@@ -6,3 +6,4 @@ pub mod Orders
 pub mod FilePlaces
 pub mod Takings
 pub mod GatheredFiles
+pub mod Ends

@@ -62,10 +62,10 @@ pub record AreRead (answers : List (Result Fed ReadEnd)) (part : Fed) : Type 0 w
   pub whole : part ≡ Whole → AllByRecursion (λ a. a ≡ Ok Whole) answers
   pub front : part ≡ Front → (i : ℕ) × (slice_get answers i ≡ Some (Ok Front))
 
--- the file of this number has this fault, and those before it were read to their ends
-pub record IsFirstRefused (answers : List (Result Fed ReadEnd)) (index : ℕ) (fault : Fault) : Type 0 where
+-- the file of this number was not read to its end, and those before it were
+pub record IsFirstStopped (answers : List (Result Fed ReadEnd)) (index : ℕ) (end : ReadEnd) : Type 0 where
   pub before : AllByRecursion IsRead (take index answers)
-  pub there : slice_get answers index ≡ Some (Err (Refused fault))
+  pub there : slice_get answers index ≡ Some (Err end)
 
 module _ {S L : Type 0} (bytes : S → Option (List ℕ)) (told : S → Option ℕ) (name : S → L) (faults : S → ℕ) where
   -- one store was read by one pass, and answered so

@@ -1,14 +1,15 @@
 //! Files whose records are gathered into one list, by threads.
-ghost use Rattle.std.specs.Prelude.{◌≡◌, ◌≢◌, ℕ, All, ◌+◌, ◌^◌, ◌<◌, ◌≤◌, ◌⊎◌, Some, IfOk, Ok, Err, false, length, slice_get, vec_len};
+ghost use Rattle.std.specs.Prelude.{◌≡◌, ℕ, All, ◌+◌, ◌^◌, ◌<◌, ◌≤◌, ◌⊎◌, Some, IfOk, Ok, Err, false, length, slice_get, vec_len};
 ghost use Rattle.std.specs.List.{AllByRecursion};
 ghost use Rattle.record_io.specs.ManyStores.{AreOnlyAsked, AreTold, IfAllTell};
 ghost use Rattle.chunk_reader.specs.ManyFiles.{IsFirstFault};
 ghost use Rattle.chunk_reader.specs.declared.reasons.Fault.{Fault};
 ghost use Rattle.record_collect.specs.declared.feeding.Fed.{Fed};
+ghost use Rattle.record_collect.specs.declared.gathering.Stopped.{Stopped};
 ghost use Rattle.record_collect.specs.Gatherings.{AreGathered, GatheredValue, IsInBounds};
 ghost use Rattle.record_collect.specs.GatheredFiles.{AreGatheredOf, IsTooMuch};
 ghost use Rattle.record_collect.specs.Passes.{BelongsTo};
-ghost use Rattle.record_collect.specs.Takings.{AreRead, IsFirstRefused, both_taken};
+ghost use Rattle.record_collect.specs.Takings.{AreRead, IsFirstStopped, both_taken};
 
 use crate::collector::{Collector, Pass};
 use crate::feeding::Fed;
@@ -35,6 +36,28 @@ pub enum GatherEnd {
     Store,
     /// There was not enough memory.
     Memory,
+}
+
+/// A file that was not read to its end, by its number from 0, and why. Own.
+#[derive(Clone, Copy)]
+struct Stopped {
+    index: u64,
+    end: ReadEnd,
+}
+
+impl From<Stopped> for GatherEnd {
+    ghost use Rattle.record_collect.specs.Ends.{gather_end_of};
+
+    ghost from_gives = { λ stopped end. end ≡ gather_end_of stopped.index stopped.end };
+
+    fn from(stopped: Stopped) -> GatherEnd {
+        let index = stopped.index;
+        match stopped.end {
+            ReadEnd::Refused(fault) => GatherEnd::Refused { index, fault },
+            ReadEnd::Store => GatherEnd::Store,
+            ReadEnd::Memory => GatherEnd::Memory,
+        }
+    }
 }
 
 /// Gathers the records of 1 to 16 files into one list, by threads: one reads each store to its end or its fault, strictly, and
@@ -87,7 +110,7 @@ fn all_gathered(
     requires passes { vec_len passes ≡ collector.passes }
     requires each { All (BelongsTo collector) passes.items }
     ensures read { IfOk result (λ made. AreRead answers.now Fed.Whole × AreGathered passes.items made × IsInBounds made) }
-    ensures refused { (index : ℕ) (fault : Fault) → result ≡ Err (GatherEnd.Refused index fault) → IsFirstRefused answers.now index fault }
+    ensures refused { (index : ℕ) (fault : Fault) → result ≡ Err (GatherEnd.Refused index fault) → IsFirstStopped answers.now index (ReadEnd.Refused fault) }
     ensures too_much { result ≡ Err GatherEnd.TooMuch
         → (made : GatheredValue) × AreRead answers.now Fed.Front × AreGathered passes.items made }
     ensures store { result ≡ Err GatherEnd.Store → (i : ℕ) × (slice_get answers.now i ≡ Some (Err ReadEnd.Store)) }
@@ -113,33 +136,33 @@ fn unread(alloc: Global, count: usize) -> Result<Vec<Result<Fed, ReadEnd>>, Allo
     Ok(answers)
 }
 
-/// What was taken of all files together, or the first answer that a file was not read.
-fn all_read(answers: &[Result<Fed, ReadEnd>]) -> Result<Fed, GatherEnd>
+/// What was taken of all files together, or the first that was not read to its end.
+fn all_read(answers: &[Result<Fed, ReadEnd>]) -> Result<Fed, Stopped>
     ensures read { IfOk result (λ part. AreRead answers.now part) }
-    ensures refused { (index : ℕ) (fault : Fault) → result ≡ Err (GatherEnd.Refused index fault) → IsFirstRefused answers.now index fault }
-    ensures store { result ≡ Err GatherEnd.Store → (i : ℕ) × (slice_get answers.now i ≡ Some (Err ReadEnd.Store)) }
-    ensures never { result ≢ Err GatherEnd.TooMuch }
+    ensures stopped { (stopped : Stopped) → result ≡ Err stopped → IsFirstStopped answers.now stopped.index stopped.end }
 {
     let mut part = Fed::Whole;
     for index in 0..answers.len() {
-        part = with_answer(part, index as u64, &answers[index])?;
+        let more = match answers[index] {
+            Ok(more) => more,
+            Err(end) => {
+                return Err(Stopped {
+                    index: index as u64,
+                    end,
+                });
+            }
+        };
+        part = both_taken(part, more);
     }
     Ok(part)
 }
 
-/// What was taken of files together with the next one, which has this number and this answer.
-fn with_answer(part: Fed, index: u64, answer: &Result<Fed, ReadEnd>) -> Result<Fed, GatherEnd>
-    ensures read { IfOk result (λ both. (more : Fed) × (answer.now ≡ Ok more) × (both ≡ both_taken part more)) }
-    ensures refused { (number : ℕ) (fault : Fault) → result ≡ Err (GatherEnd.Refused number fault)
-        → (number ≡ index) × (answer.now ≡ Err (ReadEnd.Refused fault)) }
-    ensures store { result ≡ Err GatherEnd.Store → answer.now ≡ Err ReadEnd.Store }
-    ensures never { result ≢ Err GatherEnd.TooMuch }
+/// What is taken of files together with one more.
+fn both_taken(part: Fed, more: Fed) -> Fed
+    ensures { result ≡ both_taken part more }
 {
-    match *answer {
-        Ok(Fed::Whole) => Ok(part),
-        Ok(Fed::Front) => Ok(Fed::Front),
-        Err(ReadEnd::Refused(fault)) => Err(GatherEnd::Refused { index, fault }),
-        Err(ReadEnd::Store) => Err(GatherEnd::Store),
-        Err(ReadEnd::Memory) => Err(GatherEnd::Memory),
+    match part {
+        Fed::Whole => more,
+        Fed::Front => Fed::Front,
     }
 }

@@ -3,5 +3,5 @@ use Rattle.record_collect.proofs.gathering.all_read.Goals as goal
 
 pub loop-index-preserved : goal.loop-index-preserved
 loop-index-preserved c =
-    let next = c.in_ok-part.ensures.read in
-    read-more c.args.answers.now c.loop-index.index _ c.loop-index.part next.0 c.in_ok-part.part c.loop-index-test.true c.loop-index.invariant next.1 next.2
+    read-more c.args.answers.now c.loop-index.index _ c.loop-index.part c.in-Ok.more c.both_taken-part.result c.loop-index-test.true c.loop-index.invariant
+    c.in-Ok.is c.both_taken-part.ensures
