@@ -37,7 +37,8 @@ looks_fewer P from to less taken few h =
 
 pub may_take_less : (file : List ℕ) (place less taken : ℕ) → less ≤ taken → MayTakeAt file place taken → MayTakeAt file place less
 may_take_less file place less taken few (inl (unread, looks)) =
-    inl (unread, looks_fewer (StandsFrom file place) place (length file) (less - 40) (taken - 40) (omega (arith, few)) looks)
+    let head : ℕ = min 40 (length file - place) in
+    inl (unread, looks_fewer (StandsFrom file place) place (length file) (less - head) (taken - head) (omega (arith, few)) looks)
 may_take_less file place less taken few (inr (inl (right, unloaded, looks))) =
     inr (inl (right, unloaded, looks_fewer (Contradicts file place (end_at file place)) place (min (end_at file place) (length file)) (less - 40) (taken - 40) (omega (arith, few)) looks))
 may_take_less file place less taken few (inr (inr (loaded, within))) = inr (inr (loaded, omega (arith, few, within)))
@@ -114,11 +115,14 @@ none_decided file place (w ∷ reasons) = both _ _ (not_decided _ (reason_decide
 loaded_right : (file : List ℕ) (place : ℕ) → NoneOf (Applies file place) loading_reasons → NoneOf (Applies file place) header_reasons
 loaded_right file place loaded = (loaded.0, (loaded.1.0, tt))
 
--- no more than a chunk header, whatever stands there
-pub may_take_head : (file : List ℕ) (place taken : ℕ) → place ≤ length file → taken ≤ 40 → MayTakeAt file place taken
+-- no more than a chunk header, and no more than the file has, whatever stands there
+pub may_take_head : (file : List ℕ) (place taken : ℕ) → place + taken ≤ length file → taken ≤ 40 → MayTakeAt file place taken
 may_take_head file place taken within few = elim (none_decided file place header_reasons) [
   | inr unread ↦
-      inl (unread, record { up_to = place; within = within; first = λ b p n h. omega (arith, h.from); few = omega (arith, few) })
+      inl (
+        unread,
+        record { up_to = place; within = omega (arith, within); first = λ b p n h. omega (arith, h.from); few = omega (arith, within, few) },
+      )
   | inl right ↦ elim (none_decided file place loading_reasons) [
     | inl loaded ↦ inr (inr (loaded, omega (arith, few, end_at_after file place)))
     | inr unloaded ↦ inr (inl (
@@ -135,10 +139,10 @@ may_take_head file place taken within few = elim (none_decided file place header
 ]
 
 pub takes_head : (bytes : Option (List ℕ)) (size place before after : ℕ) → IsSized bytes (Some size) → place < size → after ≤ before + 40
-    → IfSome bytes (λ file. MayTakeAt file place (after - before))
-takes_head None size place before after sized below few = tt
-takes_head (Some file) size place before after sized below few =
-    may_take_head file place (after - before) (omega (arith, sized, below)) (omega (arith, few))
+    → after + place ≤ before + size → IfSome bytes (λ file. MayTakeAt file place (after - before))
+takes_head None size place before after sized below few within = tt
+takes_head (Some file) size place before after sized below few within =
+    may_take_head file place (after - before) (omega (arith, sized, below, within)) (omega (arith, few))
 
 -- no chunk header can be read
 pub unread_short : (bytes : Option (List ℕ)) (place : ℕ) (found : Head) → found ≡ head.Short → IfSome bytes (λ file. IsHead file place found)
@@ -156,16 +160,17 @@ unread_hash (Some file) place found is there =
 -- so reading goes on where a block leads that is searched for
 pub takes_resync : (bytes now : Option (List ℕ)) (size place before middle after : ℕ) → now ≡ bytes → IsSized bytes (Some size)
     → IfSome bytes (λ file. ¬ NoneOf (Applies file place) header_reasons)
-    → middle ≤ before + 40 → IfSome now (λ file. LooksAtBlocks (StandsFrom file place) place size (after - middle))
+    → middle ≤ before + 40 → middle + place ≤ before + size
+    → IfSome now (λ file. LooksAtBlocks (StandsFrom file place) place size (after - middle))
     → IfSome bytes (λ file. MayTakeAt file place (after - before))
-takes_resync None now size place before middle after same sized unread few looks = tt
-takes_resync (Some file) None size place before middle after same sized unread few looks = absurd (cc same)
-takes_resync (Some file) (Some other) size place before middle after same sized unread few looks =
+takes_resync None now size place before middle after same sized unread few within looks = tt
+takes_resync (Some file) None size place before middle after same sized unread few within looks = absurd (cc same)
+takes_resync (Some file) (Some other) size place before middle after same sized unread few within looks =
     let h : LooksAtBlocks (StandsFrom file place) place size (after - middle) =
     subst (λ (f : List ℕ). LooksAtBlocks (StandsFrom f place) place size (after - middle)) (cc same) looks in
     inl (
       unread,
-      record { up_to = h.up_to; within = omega (arith, h.within, sized); first = h.first; few = omega (arith, h.few, few) },
+      record { up_to = h.up_to; within = omega (arith, h.within, sized); first = h.first; few = omega (arith, h.few, few, within, sized) },
     )
 
 pub stops_unread : (bytes : Option (List ℕ)) (place taken : ℕ) → IfSome bytes (λ file. ¬ NoneOf (Applies file place) header_reasons)
@@ -341,7 +346,7 @@ pub taken-still : (bytes : Option (List ℕ)) (keep : Bool) (size place taken : 
     → IfSome bytes (λ file. IsTakenUpTo keep file place place taken)
 taken-still None keep size place taken sized within none = tt
 taken-still (Some file) keep size place taken sized within none =
-    (0, taken-none keep file place 0 (omega arith), may_take_head file place (taken - 0) (omega (arith, sized, within)) (omega (arith, none)))
+    (0, taken-none keep file place 0 (omega arith), may_take_head file place (taken - 0) (omega (arith, sized, within, none)) (omega (arith, none)))
 
 -- or goes on past a piece
 pub taken-past : (bytes now : Option (List ℕ)) (keep kept : Bool) (size from at : ℕ) (piece : code.Piece) (start middle after : ℕ)
@@ -411,4 +416,4 @@ taken-front bytes keep place taken front none =
 
 pub up_to-none : (keep : Bool) (file : List ℕ) (taken : ℕ) → taken ≤ 0 → IsTakenUpTo keep file 0 0 taken
 up_to-none keep file taken none =
-    (0, taken-none keep file 0 0 (omega arith), may_take_head file 0 (taken - 0) (omega arith) (omega (arith, none)))
+    (0, taken-none keep file 0 0 (omega arith), may_take_head file 0 (taken - 0) (omega (arith, none)) (omega (arith, none)))

@@ -495,12 +495,19 @@ takes_no_more (inl (unread, looks)) = unread (signed_loads.0, (signed_loads.1.0,
 takes_no_more (inr (inl (right, unloaded, looks))) = unloaded signed_loads
 takes_no_more (inr (inr (loads, within))) = omega (arith, within, signed_end)
 
--- where no chunk header can be read, none behind the first block header that stands
-first_looks : ¬ MayTakeAt first_header 0 65
+-- where no chunk header can be read, no more than the file has from there, and none behind the first block header that stands
+first_looks : ¬ MayTakeAt first_header 0 49
 unfolding first_header end_of
 first_looks (inl (unread, looks)) = omega (arith, looks.first 0 0 64 (record { stands = first_stands; from = lit≤ tt }), looks.few)
 first_looks (inr (inl (right, unloaded, looks))) = right.0 (lit< tt)
 first_looks (inr (inr (loads, within))) = loads.0 (lit< tt)
+
+-- and at the file's end none
+end_takes : ¬ MayTakeAt first_header 24 1
+unfolding first_header end_of
+end_takes (inl (unread, looks)) = omega (arith, looks.within, looks.few)
+end_takes (inr (inl (right, unloaded, looks))) = right.0 (lit< tt)
+end_takes (inr (inr (loads, within))) = loads.0 (lit< tt)
 
 -- nor of a chunk that ends behind the file, behind the first that contradicts it
 cut_looks : ¬ MayTakeAt cut_chunk 0 65

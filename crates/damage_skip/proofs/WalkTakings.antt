@@ -12,7 +12,7 @@ use Rattle.damage_skip.proofs.WalkedTo.{walked-none, walked-so}
 up_to-passed : (keep : Bool) (file : List ℕ) (place taken : ℕ) → IsTakenFrom keep file 0 place taken → IsTakenUpTo keep file 0 place taken
 up_to-passed keep file place taken h =
     let within : place ≤ length file = (tiles_within keep file 0 place h.0 (omega arith) h.1).1 in
-    (taken, h, may_take_head file place (taken - taken) within (omega arith))
+    (taken, h, may_take_head file place (taken - taken) (omega (arith, within)) (omega arith))
 
 module _ (keep : Bool) (P : Region → Type 0) where
   pub by_walk-passed : (file : List ℕ) (place : ℕ) (events : List Piece) (taken : ℕ) → IsWalkedTo keep P file place events

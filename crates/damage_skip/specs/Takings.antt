@@ -17,11 +17,11 @@ pub record LooksAtBlocks (P : (block previous next : ℕ) → Type 0) (from to t
   pub first : (block previous next : ℕ) → P block previous next → up_to ≤ block + 1
   pub few : taken ≤ block_header_size * (blocks_below up_to - blocks_below from)
 
--- where no chunk header can be read: one, and the headers of the blocks from there up to the first that stands
+-- where no chunk header can be read: one, or the file's rest if that is less, and the headers of blocks up to the first that stands
 abbrev pub MayTakeUnread : List ℕ → (place taken : ℕ) → Type 0
 MayTakeUnread file place taken =
     (¬ NoneOf (Applies file place) header_reasons)
-    × LooksAtBlocks (StandsFrom file place) place (length file) (taken - chunk_header_size)
+    × LooksAtBlocks (StandsFrom file place) place (length file) (taken - min chunk_header_size (length file - place))
 
 -- where a chunk header can be read, of a chunk that the file hasn't to its end or whose data is too large: that header, and those
 -- of the blocks within the chunk up to the first that contradicts it

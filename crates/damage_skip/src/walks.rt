@@ -60,9 +60,10 @@ impl<F: Fn(&Region) -> bool + Drop> Walker<F> {
     /// whole, and one region for a chunk that is cut.
     ///
     /// No more is handed out than the pieces account for that are passed: a chunk that can be loaded for no more than it has, and
-    /// for none behind a block that contradicts it; another piece for a chunk header and the headers of blocks, within its chunk
-    /// up to the first that contradicts it, or where no chunk header can be read up to the first that stands. Where no event
-    /// comes, and not the file's end, what stands at the walk's place is added: of a chunk that can be loaded all that it has.
+    /// for none behind a block that contradicts it; another piece for a chunk header, or what the file has from there if that is
+    /// less, and for the headers of blocks, within its chunk up to the first that contradicts it, or where no chunk header can be
+    /// read up to the first that stands. Where no event comes, and not the file's end, what stands at the walk's place is added:
+    /// of a chunk that can be loaded all that it has.
     ///
     /// # Errors
     ///
