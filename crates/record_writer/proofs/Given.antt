@@ -1,5 +1,5 @@
 -- The groups that were given of a feed's records, and those still to come.
-use Rattle.std.proofs.Common.{◌≡◌, ◌∙◌, ℕ, Option, Some, None, List, [], ◌++◌, sym, ap, subst}
+use Rattle.std.proofs.Common.{◌≡◌, ◌∙◌, ℕ, Option, Some, None, List, [], ◌++◌, sym, ap, subst, refl}
 use Rattle.std.specs.Option.{IfSome, option_to_list}
 use Rattle.std.proofs.lemmas.List.{map-append}
 use Rattle.chunk_header.specs.Chunks.{ChunkValue}
@@ -10,7 +10,7 @@ use Rattle.record_group.proofs.Pushes.{groups_from-push, all_pushed}
 use Rattle.record_writer.specs.declared.feed.Stop.{Stop}
 use Rattle.record_writer.specs.Feeds.{Rest, GivesRecord}
 use Rattle.record_writer.specs.MadeFiles.{MadeFileValue, AreGiven, Lays, LaysFront, chunks_of_groups}
-use Rattle.record_writer.proofs.Layings.{Lays-append, LaysFront-behind}
+use Rattle.record_writer.proofs.Layings.{Lays-append, LaysFront-behind, LaysFront-longer}
 
 -- after one more record
 pub AreGiven-push : (a b c : Option Rest) (old between new : Grouping) (given : List (List (List ℕ))) (record_bytes : List ℕ) (closed : Option (List (List ℕ)))
@@ -58,6 +58,13 @@ pub LaysFront-all : (a b c : Option (List ℕ)) (s t u : MadeFileValue) (all giv
 LaysFront-all a b c s t u all given more is first then =
     subst (λ (ks : List ChunkValue). LaysFront a c s u ks) (chunks_of_groups-all all given more is)
     (LaysFront-behind a b c s t u (chunks_of_groups given) (chunks_of_groups more) first then)
+
+-- a front of the chunks of groups is one of theirs and of those of groups behind them
+pub LaysFront-more : (a b : Option (List ℕ)) (s t : MadeFileValue) (given more : List (List (List ℕ)))
+    → LaysFront a b s t (chunks_of_groups given) → LaysFront a b s t (chunks_of_groups (given ++ more))
+LaysFront-more a b s t given more front =
+    subst (λ (ks : List ChunkValue). LaysFront a b s t ks) (chunks_of_groups-all (given ++ more) given more refl)
+    (LaysFront-longer a b s t (chunks_of_groups given) (chunks_of_groups more) front)
 
 -- where the groups that a grouper gives at first are put, those of the records are
 pub Lays-all_groups : (ra : Option Rest) (old : Grouping) (size : ℕ) (every : Option ℕ) (a b : Option (List ℕ)) (s t : MadeFileValue)

@@ -12,7 +12,7 @@ use Rattle.chunk_header.specs.SimpleChunks.{sizes_of, simple_data, simple_chunk}
 use Rattle.chunk_header.proofs.SimpleChunks.{length-sizes_of, length-simple_data}
 use Rattle.meta_chunk.specs.Laid.{end_of_chunk}
 use Rattle.meta_chunk.specs.Files.{end_of_chunks}
-use Rattle.meta_chunk.proofs.Joins.{end_of_chunks-append}
+use Rattle.meta_chunk.proofs.Joins.{end_of_chunks-append, end_of_chunks_past}
 use Rattle.simple_chunk.specs.Costs.{cost, cost_of}
 use Rattle.simple_chunk.proofs.CostLemmas.{cost_of-is}
 use Rattle.record_group.specs.Groupings.{Grouping, IsPush}
@@ -84,17 +84,35 @@ reach_of-handed place old new bound now limit record_bytes push lowers reach =
 pub reach_of-kept : (place : ℕ) (old new : Grouping) (bound now limit : ℕ) → new ≡ old → now ≡ bound → reach_of place old bound ≤ limit → reach_of place new now ≤ limit
 reach_of-kept place old new bound now limit same kept reach = omega (arith, reach, kept, ap (λ (g : Grouping). cost_of g.group) same)
 
--- where the chunks of the groups that were given first were put, those of the others end within it
+-- the chunks of groups, and of those behind them
+end_of-groups : (place : ℕ) (before behind : List (List (List ℕ)))
+    → end_of_chunks place (chunks_of_groups (before ++ behind)) ≡ end_of_chunks (end_of_chunks place (chunks_of_groups before)) (chunks_of_groups behind)
+end_of-groups place before behind =
+    ap (λ (ks : List ChunkValue). end_of_chunks place ks) (map-append simple_chunk before behind)
+    ∙ end_of_chunks-append place (chunks_of_groups before) (chunks_of_groups behind)
+
+-- where all end within a place, those before do
+pub within-before : (place limit : ℕ) (before behind : List (List (List ℕ))) → end_of_chunks place (chunks_of_groups (before ++ behind)) ≤ limit
+    → end_of_chunks place (chunks_of_groups before) ≤ limit
+within-before place limit before behind reach =
+    omega (
+      arith,
+      reach,
+      end_of-groups place before behind,
+      end_of_chunks_past (end_of_chunks place (chunks_of_groups before)) (chunks_of_groups behind),
+    )
+
+-- and those behind, once the others were put
+pub within-behind : (place next limit : ℕ) (before behind : List (List (List ℕ))) → next ≡ end_of_chunks place (chunks_of_groups before)
+    → end_of_chunks place (chunks_of_groups (before ++ behind)) ≤ limit → end_of_chunks next (chunks_of_groups behind) ≤ limit
+within-behind place next limit before behind at reach =
+    omega (arith, reach, end_of-groups place before behind, ap (λ (place : ℕ). end_of_chunks place (chunks_of_groups behind)) at)
+
+-- where the chunks of the groups that were given first were put, those of the others end within what all reach
 pub reach_of-window : (place next : ℕ) (given window : List (List (List ℕ))) (grouping : Grouping) (bound limit : ℕ) → next ≡ end_of_chunks place (chunks_of_groups given)
     → reach_of (end_of_chunks place (chunks_of_groups (given ++ window))) grouping bound ≤ limit → end_of_chunks next (chunks_of_groups window) ≤ limit
 reach_of-window place next given window grouping bound limit at reach =
-    omega (
-      arith,
-      ap (λ (place : ℕ). end_of_chunks place (chunks_of_groups window)) at,
-      reach,
-      ap (λ (ks : List ChunkValue). end_of_chunks place ks) (map-append simple_chunk given window),
-      end_of_chunks-append place (chunks_of_groups given) (chunks_of_groups window),
-    )
+    within-behind place next limit given window at (omega (arith, reach))
 
 -- the last group's chunk ends within it
 pub reach_of-last : (place : ℕ) (grouping : Grouping) (group : List (List ℕ)) (limit : ℕ)

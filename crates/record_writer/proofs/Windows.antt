@@ -14,7 +14,7 @@ use Rattle.meta_chunk.proofs.Joins.{end_of_chunks-append, end_of_chunks_past}
 use Rattle.simple_chunk.specs.SimpleParts.{SimpleValue}
 use Rattle.record_group.specs.Groupings.{Grouping, groups_from}
 use Rattle.record_writer.specs.declared.cut_off.CutOff.{CutOff}
-use Rattle.record_writer.specs.declared.cut_off.CutOff.TheVariants.{Input, Memory}
+use Rattle.record_writer.specs.declared.cut_off.CutOff.TheVariants.{Input}
 use Rattle.record_writer.specs.declared.feed.Stop.{Stop}
 use Rattle.record_writer.specs.declared.group_taker.FeedPart.{FeedPart}
 use Rattle.record_writer.specs.declared.group_taker.FeedPart.TheVariants.{Window, All}
@@ -130,11 +130,6 @@ pub AreGiven-front : (a b : Option Rest) (old new : Grouping) (given : List (Lis
 AreGiven-front None b old new given h = tt
 AreGiven-front (Some all) b old new given (rest, told, of) = (groups_from new rest.records, of.groups)
 
--- as no groups are
-AreFront-none : (a : Option Rest) (old : Grouping) → AreFront a old []
-AreFront-none None old = tt
-AreFront-none (Some all) old = (groups_from old all.records, refl)
-
 -- as are those that were taken, however that ended
 AreTaken-front : (t : Result FeedPart CutOff) (a b : Option Rest) (old new : Grouping) (given : List (List (List ℕ))) → AreTaken t a b old new given → AreFront a old given
 AreTaken-front (Ok Window) a b old new given h = AreGiven-front a b old new given h
@@ -224,6 +219,13 @@ drained-at_end (Some all) b c old between given None (rest, told, of) ended kept
     kept refl ∙ told ∙ ap Some (subst (λ (o : Option Rest). IfSome o (λ r. r ≡ nothing_left)) told ended)
 drained-at_end (Some all) b c old between given (Some stop) before ended kept none = absurd (none-some stop (sym none))
 
+-- groups that were put, those that are held, and more behind them
+groups-moved : (given made taken more held : List (List (List ℕ))) → held ≡ taken ++ more → (given ++ (made ++ taken)) ++ more ≡ (given ++ made) ++ held
+groups-moved given made taken more held is =
+    append_assoc given (made ++ taken) more
+    ∙ ap (λ (gs : List (List (List ℕ))). given ++ gs) (append_assoc made taken more ∙ ap (λ (gs : List (List (List ℕ))). made ++ gs) (sym is))
+    ∙ sym (append_assoc given made held)
+
 module _ (L N : Type 0) (rest : L → Option Rest) (bound : L → ℕ) (going : L → Bool) (origin : L → N) (faults : L → ℕ) where
   -- a window of groups, and what was taken behind it
   pub TakesGroups-append : (a b c : L) (old between new : Grouping) (given more : List (List (List ℕ))) (t : Result FeedPart CutOff)
@@ -246,6 +248,14 @@ module _ (L N : Type 0) (rest : L → Option Rest) (bound : L → ℕ) (going : 
     counts = OnlyCounts-behind origin faults (Ok Window ≡ Err Input) (t ≡ Err Input) a b c first.counts then.counts;
   }
 
+  -- where those that were made are put, and what was taken is held behind the others
+  pub TakesGroups-moved : (a b c : L) (old between new : Grouping) (given made taken more held : List (List (List ℕ))) (t : Result FeedPart CutOff) → held ≡ taken ++ more
+      → TakesGroups rest bound going origin faults a b old between (given ++ (made ++ taken)) (Ok Window) → TakesGroups rest bound going origin faults b c between new more t
+      → TakesGroups rest bound going origin faults a c old new ((given ++ made) ++ held) t
+  TakesGroups-moved a b c old between new given made taken more held t is first then =
+      subst (λ (gs : List (List (List ℕ))). TakesGroups rest bound going origin faults a c old new gs t) (groups-moved given made taken more held is)
+      (TakesGroups-append a b c old between new (given ++ (made ++ taken)) more t first then)
+
   -- where no record was left, and this stop followed, or none, and the last group was taken too
   pub TakesGroups-ended : (a b c : L) (old between new : Grouping) (given all : List (List (List ℕ))) (stop : Option Stop)
       → AreGiven (rest a) (rest b) old between given → IfSome (rest b) (λ r. r ≡ record { records = []; stop = stop }) → (stop ≡ None → rest c ≡ rest b)
@@ -263,18 +273,4 @@ module _ (L N : Type 0) (rest : L → Option Rest) (bound : L → ℕ) (going : 
     drained = λ at_end. drained-at_end (rest a) (rest b) (rest c) old between given stop before ended kept (ap stop_in at_end);
     no_sink = search rules;
     counts = counts;
-  }
-
-  -- where there was no memory to make them ready, none is left
-  pub TakesGroups-lost : (a b : L) (old new : Grouping) (given : List (List (List ℕ))) (t : Result FeedPart CutOff)
-      → TakesGroups rest bound going origin faults a b old new given t → TakesGroups rest bound going origin faults a b old new [] (Err Memory)
-  TakesGroups-lost a b old new given t taken = record {
-    given_of = AreFront-none (rest a) old;
-    may_go_on = search rules;
-    lowers = search rules;
-    in_reach = λ place. omega (arith, taken.in_reach place, end_of_chunks_past place (chunks_of_groups given));
-    drained = search rules;
-    no_sink = search rules;
-    counts = OnlyCounts-behind origin faults (t ≡ Err Input) (Err Memory ≡ Err Input) a b b taken.counts
-        (record { same_lent = refl; cause = search rules; never_falls = omega arith; small = λ below. below });
   }

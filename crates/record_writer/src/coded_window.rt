@@ -17,10 +17,14 @@ use std::alloc::{AllocError, Global};
 use std::marker::Model;
 use std::mem;
 
-/// How many groups a full window has at least for each worker.
-const GROUPS_PER_WORKER: usize = 4;
+/// How many groups the first window has at least for each worker when it is full, whatever they cost, so that the workers begin
+/// soon.
+const FIRST_GROUPS: usize = 4;
 
-/// What the groups of a full window cost at least behind the first, so that the start of threads costs little beside them.
+/// How many a later one has.
+const LATER_GROUPS: usize = 2;
+
+/// What the groups of a later one cost at least, so that the start of threads costs little beside them.
 const LEAST: u64 = 3 << 19;
 
 /// With what cost a window is full, however few groups it has.
@@ -36,9 +40,9 @@ pub(crate) struct CodedWindow {
     groups: Vec<Records>,
     /// Groups that were put, whose memory serves again.
     spares: Vec<Records>,
-    /// What the groups cost, and what they cost at least in a full window.
     cost: u64,
-    least: u64,
+    /// No window comes before it.
+    is_first: bool,
     /// The chunks of the groups, once they are coded.
     chunks: Option<Reorder>,
 }
@@ -71,9 +75,23 @@ impl CodedWindow {
             groups: Vec::new(alloc),
             spares: Vec::new(alloc),
             cost: 0,
-            least: 0,
+            is_first: true,
             chunks: None,
         }
+    }
+
+    /// Forgets the groups, and keeps their memory unless it is much.
+    fn empty(&mut self)
+        ensures { self.new.groups ≡ [] }
+    {
+        mem::swap(&mut self.groups, &mut self.spares);
+        self.groups.clear();
+        if self.cost > KEPT {
+            self.spares.clear();
+        }
+        self.cost = 0;
+        self.is_first = false;
+        self.chunks = None;
     }
 }
 
@@ -84,15 +102,22 @@ impl Window for CodedWindow {
 
     fn another(&self, alloc: Global) -> CodedWindow {
         let mut window = CodedWindow::new(alloc, self.workers);
-        window.least = LEAST;
+        window.is_first = false;
         window
     }
 
-    // The first window is as small as its workers can do with, so that they begin soon.
+    fn is_empty(&self) -> bool {
+        self.groups.is_empty()
+    }
+
     fn is_full(&self, pace: &Pace) -> bool {
-        let many = self.workers as usize * GROUPS_PER_WORKER;
+        let (groups, least) = if self.is_first {
+            (FIRST_GROUPS, 0)
+        } else {
+            (LATER_GROUPS, LEAST)
+        };
         let count = self.groups.len();
-        (count >= many && self.cost >= self.least)
+        (count >= self.workers as usize * groups && self.cost >= least)
             || self.cost >= FULL
             || count >= MOST_GROUPS
             || pace.has_failed()
@@ -124,17 +149,6 @@ impl Window for CodedWindow {
 
     fn keep(&mut self, chunks: Reorder) {
         self.chunks = Some(chunks);
-    }
-
-    fn empty(&mut self) {
-        mem::swap(&mut self.groups, &mut self.spares);
-        self.groups.clear();
-        if self.cost > KEPT {
-            self.spares.clear();
-        }
-        self.cost = 0;
-        self.least = LEAST;
-        self.chunks = None;
     }
 
     fn put<M: Sink>(&mut self, file: &mut MadeFile, made: &mut M) -> Result<(), Failed> {

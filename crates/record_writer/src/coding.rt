@@ -1,18 +1,54 @@
 //! Chunks of groups, coded by workers.
-ghost use Rattle.std.specs.Prelude.{◌≡◌, ◌^◌, ◌≤◌, All, IfOk, length, map};
+ghost use Rattle.std.specs.Prelude.{◌≡◌, ◌^◌, ◌≤◌, All, IfOk, length, map, OnOk};
 ghost use Rattle.simple_chunk.specs.Costs.{cost_of};
 ghost use Rattle.chunk_workers.specs.Windows.{paired};
 ghost use Rattle.ordered_writer.specs.Reorders.{HasEachFrom, reordering_from, with_each};
-ghost use Rattle.record_writer.specs.CodedWindows.{AreInOrder};
+ghost use Rattle.record_writer.specs.CodedWindows.{AreInOrder, CodesSimply};
 
+use crate::window::Window;
 use chunk_workers::{Coder, Draws, Numbered, encode_window};
 use ordered_writer::Reorder;
 use simple_chunk::Records;
 use std::alloc::{AllocError, Global};
 use std::thread::Threads;
 
+/// Workers that code in threads of their own. Own.
+#[derive(Drop)]
+pub(crate) struct Workers {
+    alloc: Global,
+    count: u32,
+    ghost in_limits: { (1 ≤ count) × (count ≤ 16) },
+}
+
+impl Workers {
+    /// So many.
+    pub fn new(alloc: Global, count: u32) -> Workers
+        requires { (1 ≤ count) × (count ≤ 16) }
+    {
+        Workers { alloc, count }
+    }
+
+    /// Makes the chunks of a window's groups, where they are to be made before they are put.
+    pub fn code<R: Threads + Sync, C: Coder + Sync, W: Window>(
+        &self,
+        rt: &R,
+        coder: &C,
+        window: &mut W,
+    ) -> Result<(), AllocError>
+        requires { CodesSimply (C.chunk_of coder.now) }
+        ensures ready { OnOk result (W.ready window.new) }
+        ensures same { OnOk result (W.groups window.new ≡ W.groups window.old) }
+    {
+        if let Some(groups) = window.to_code() {
+            let chunks = code_in_order(rt, self.alloc, self.count, coder, groups)?;
+            window.keep(chunks);
+        }
+        Ok(())
+    }
+}
+
 /// The chunks of groups, in their order, made by so many workers in threads of their own.
-pub(crate) fn code_in_order<R: Threads + Sync, C: Coder + Sync>(
+fn code_in_order<R: Threads + Sync, C: Coder + Sync>(
     rt: &R,
     alloc: Global,
     workers: u32,

@@ -17,9 +17,9 @@ use crate::feed::{RecordFeed, Stop};
 use crate::group_taker::FeedPart;
 use crate::made_file::MadeFile;
 use crate::options::WriteOptions;
+use crate::pipeline::Pipeline;
 use crate::simple_window::SimpleWindow;
 use crate::window::Window;
-use crate::window_pair::WindowPair;
 use chunk_workers::{Coder, SimpleCoder};
 use record_group::Pad;
 use record_io::{Failed, Sink, Totals};
@@ -141,11 +141,12 @@ pub fn write_after<R: Threads + Sync, L: RecordFeed, M: Sink + Send>(
 /// Writes the same file as `write_records`, with the same answers, where the coder's chunk of each list of records that costs
 /// at most 2^25 is the one that `encode` gives.
 ///
-/// The chunks of each window are coded in threads, one for each worker, and put in order while the next window is taken and
-/// coded. The first window has 4 groups for each worker; the others cost 1.5 MiB at least beside that, so that the start of
-/// threads costs little. A window of a cost of 2^26, or of 65,536 groups, has enough in any case. What is held at a time are
-/// two windows, with their groups and the chunks of these. The signature goes out by itself, with the padding behind it, and
-/// each window when it is put. Where no thread can be made, all that is done here, one part after another.
+/// Three windows are at work at a time: the chunks of one are put, in order, by a thread; those of the next are coded in
+/// threads, one for each worker; and the one behind that is taken here. The first window has 4 groups for each worker. Each
+/// other has 2, which cost 1.5 MiB at least, so that the start of threads costs little. A window of a cost of 2^26, or of
+/// 65,536 groups, has enough in any case. What is held at a time are three windows with their groups, two of them with the
+/// chunks of these. The signature goes out by itself, with the padding behind it, and each window when it is put. Where no
+/// thread can be made, all that is done here, one part after another.
 ///
 /// # Errors
 ///
@@ -209,8 +210,8 @@ fn write<R: Threads + Sync, C: Coder + Sync, W: Window + Send, L: RecordFeed, M:
     requires feed_going { L.going feed.old ≡ true }
     ensures { WritesBehind L.rest L.origin L.faults M.taken M.lent M.faults options.now file.old result feed.old feed.new made.old made.new }
 {
-    let mut windows = WindowPair::new(alloc, options, window);
-    let stop = put_chunks(rt, coder, file, options, &mut windows, feed, made);
+    let mut pipeline = Pipeline::new(alloc, options, window);
+    let stop = put_chunks(rt, coder, file, options, &mut pipeline, feed, made);
     // What is held goes out, however the work ended, unless it was cut off before a chunk of records.
     if stop.is_ok() || file.totals().records > 0 {
         file.flush(made)?;
@@ -236,7 +237,7 @@ fn put_chunks<R: Threads + Sync, C: Coder + Sync, W: Window + Send, L: RecordFee
     coder: &C,
     file: &mut MadeFile,
     options: &WriteOptions,
-    windows: &mut WindowPair<W>,
+    pipeline: &mut Pipeline<W>,
     feed: &mut L,
     made: &mut M,
 ) -> Result<Option<Stop>, CutOff>
@@ -244,10 +245,12 @@ fn put_chunks<R: Threads + Sync, C: Coder + Sync, W: Window + Send, L: RecordFee
     requires going { file.old.spent ≡ false }
     requires from_boundary { IsBoundary file.old.place }
     requires within { file.old.place ≤ 2 ^ 60 }
-    requires no_record { windows.old.taker.group ≡ [] }
-    requires all { (records : List (List ℕ)) → groups_from windows.old.taker records ≡ groups records options.now.size options.now.every }
-    requires window { W.groups windows.old.window ≡ [] }
-    requires next { W.groups windows.old.next ≡ [] }
+    requires no_record { pipeline.old.coming.taker.group ≡ [] }
+    requires all { (records : List (List ℕ)) → groups_from pipeline.old.coming.taker records ≡ groups records options.now.size options.now.every }
+    requires made { W.groups pipeline.old.made ≡ [] }
+    requires taken { W.groups pipeline.old.coming.taken ≡ [] }
+    requires free { W.groups pipeline.old.coming.free ≡ [] }
+    requires ready { W.ready pipeline.old.coming.taken }
     requires feed_going { L.going feed.old ≡ true }
     requires in_reach { L.bound feed.old ≤ 2 ^ 41 }
     ensures stop { IfOk result (λ stop. IfSome (L.rest feed.old) (λ rest. rest.stop ≡ stop)) }
@@ -261,7 +264,7 @@ fn put_chunks<R: Threads + Sync, C: Coder + Sync, W: Window + Send, L: RecordFee
     ensures made { OnlyCounts M.lent M.faults (result ≡ Err CutOff.Made) made.old made.new }
 {
     file.pad_if(pads_start(options.pad), made)?;
-    let stop = put_groups(rt, coder, file, windows, feed, made)?;
+    let stop = put_groups(rt, coder, file, pipeline, feed, made)?;
     file.pad_if(pads_end(options.pad), made)?;
     Ok(stop)
 }
@@ -282,45 +285,43 @@ fn pads_end(pad: Pad) -> bool
 
 /// Puts a chunk for each group of the feed's records, and answers which stop follows them.
 ///
-/// A window is put while the next one is taken and made ready, unless it is large.
+/// A window is put while the next one is coded and the one behind that is taken.
 fn put_groups<R: Threads + Sync, C: Coder + Sync, W: Window + Send, L: RecordFeed, M: Sink + Send>(
     rt: &R,
     coder: &C,
     file: &mut MadeFile,
-    windows: &mut WindowPair<W>,
+    pipeline: &mut Pipeline<W>,
     feed: &mut L,
     made: &mut M,
 ) -> Result<Option<Stop>, CutOff>
     requires codes { CodesSimply (C.chunk_of coder.now) }
     requires going { file.old.spent ≡ false }
-    requires window { W.groups windows.old.window ≡ [] }
-    requires next { W.groups windows.old.next ≡ [] }
+    requires made { W.groups pipeline.old.made ≡ [] }
+    requires taken { W.groups pipeline.old.coming.taken ≡ [] }
+    requires free { W.groups pipeline.old.coming.free ≡ [] }
+    requires ready { W.ready pipeline.old.coming.taken }
     requires feed_going { L.going feed.old ≡ true }
-    requires in_reach { reach_of file.old.place windows.old.taker (L.bound feed.old) ≤ 2 ^ 61 }
+    requires in_reach { reach_of file.old.place pipeline.old.coming.taker (L.bound feed.old) ≤ 2 ^ 61 }
     ensures stop { IfOk result (λ stop. IfSome (L.rest feed.old) (λ rest. rest.stop ≡ stop)) }
     ensures whole { OnOk result (IfSome (L.rest feed.old) (λ rest.
-        Lays (M.taken made.old) (M.taken made.new) file.old file.new (chunks_of_groups (groups_from windows.old.taker rest.records)))) }
+        Lays (M.taken made.old) (M.taken made.new) file.old file.new (chunks_of_groups (groups_from pipeline.old.coming.taker rest.records)))) }
     ensures front { OnErr result (IfSome (L.rest feed.old) (λ rest.
-        LaysFront (M.taken made.old) (M.taken made.new) file.old file.new (chunks_of_groups (groups_from windows.old.taker rest.records)))) }
+        LaysFront (M.taken made.old) (M.taken made.new) file.old file.new (chunks_of_groups (groups_from pipeline.old.coming.taker rest.records)))) }
     ensures going { OnOk result (file.new.spent ≡ false) }
     ensures place { OnOk result ((file.old.place ≤ file.new.place) × (file.new.place ≤ 2 ^ 61)) }
     ensures drained { result ≡ Ok None → IfSome (L.rest feed.old) (λ _. L.rest feed.new ≡ Some nothing_left) }
     ensures feed { OnlyCounts L.origin L.faults (result ≡ Err CutOff.Input) feed.old feed.new }
     ensures made { OnlyCounts M.lent M.faults (result ≡ Err CutOff.Made) made.old made.new }
 {
-    let mut taken = windows
-        .taker
-        .take_window(rt, coder, feed, &mut windows.window, &windows.pace);
+    let mut part = pipeline.begin(feed);
     let end = loop {
-        match taken {
-            Ok(FeedPart::Window) => {
-                taken = windows.put_and_take(rt, coder, file, feed, made)?;
-            }
+        match part {
+            Ok(FeedPart::Window) => part = pipeline.go_on(rt, coder, file, feed, made)?,
             Ok(FeedPart::All(stop)) => break Ok(stop),
             Err(cut) => break Err(cut),
         }
     };
     // What was taken before the work was cut off is put too.
-    windows.window.put(file, made)?;
+    pipeline.finish(rt, coder, file, made)?;
     end
 }

@@ -3,24 +3,20 @@ ghost use Rattle.std.specs.Prelude.{◌≡◌, ℕ, ◌+◌, ◌^◌, ◌<◌, �
 ghost use Rattle.meta_chunk.specs.Files.{end_of_chunks};
 ghost use Rattle.record_group.specs.Groups.{groups};
 ghost use Rattle.record_group.specs.Groupings.{groups_from, IsPush};
-ghost use Rattle.record_writer.specs.CodedWindows.{CodesSimply};
 ghost use Rattle.record_writer.specs.MadeFiles.{AreGiven, chunks_of_groups, reach_of};
 ghost use Rattle.record_writer.specs.Windows.{TakesGroups};
 ghost use Rattle.record_writer.specs.Written.{AreInLimits};
 
-use crate::coding::code_in_order;
 use crate::cut_off::CutOff;
 use crate::feed::{FeedEnd, RecordFeed, Stop};
 use crate::options::WriteOptions;
 use crate::pace::Pace;
 use crate::window::Window;
-use chunk_workers::Coder;
 use record_group::Grouper;
 use record_io::Bytes;
 use std::alloc::{AllocError, Global};
 use std::marker::Model;
 use std::mem;
-use std::thread::Threads;
 
 /// How much of a feed was taken. Own.
 #[derive(Clone, Copy, Debug, PartialEq, Eq)]
@@ -67,57 +63,9 @@ impl GroupTaker {
         }
     }
 
-    /// Takes the feed's next records into an empty window, and makes the window ready to be put. At the end of the feed, also
-    /// where that is a stop, the last group is in it.
-    pub fn take_window<R: Threads + Sync, C: Coder + Sync, W: Window, L: RecordFeed>(
-        &mut self,
-        rt: &R,
-        coder: &C,
-        feed: &mut L,
-        window: &mut W,
-        pace: &Pace,
-    ) -> Result<FeedPart, CutOff>
-        requires codes { CodesSimply (C.chunk_of coder.now) }
-        requires feed_going { L.going feed.old ≡ true }
-        requires empty { W.groups window.old ≡ [] }
-        ensures taken { TakesGroups L.rest L.bound L.going L.origin L.faults feed.old feed.new self.old self.new (W.groups window.new) result }
-        ensures ready { W.ready window.new }
-    {
-        let part = self.take_groups(feed, window, pace);
-        self.code(rt, coder, window)?;
-        part
-    }
-
-    /// Makes the chunks of a window's groups, where they are to be made before they are put. After want of memory the window has
-    /// no group.
-    fn code<R: Threads + Sync, C: Coder + Sync, W: Window>(
-        &self,
-        rt: &R,
-        coder: &C,
-        window: &mut W,
-    ) -> Result<(), AllocError>
-        requires { CodesSimply (C.chunk_of coder.now) }
-        ensures ready { W.ready window.new }
-        ensures kept { OnOk result (W.groups window.new ≡ W.groups window.old) }
-        ensures emptied { OnErr result (W.groups window.new ≡ []) }
-    {
-        let Some(groups) = window.to_code() else {
-            return Ok(());
-        };
-        match code_in_order(rt, self.alloc, self.options.workers, coder, groups) {
-            Ok(chunks) => {
-                window.keep(chunks);
-                Ok(())
-            }
-            Err(error) => {
-                window.empty();
-                Err(error)
-            }
-        }
-    }
-
-    /// Takes the feed's records and keeps each group that closes, until the window is full.
-    fn take_groups<W: Window, L: RecordFeed>(
+    /// Takes the feed's next records into an empty window, and keeps each group that closes, until the window is full. At the end
+    /// of the feed, also where that is a stop, the last group is in it.
+    pub fn take_groups<W: Window, L: RecordFeed>(
         &mut self,
         feed: &mut L,
         window: &mut W,

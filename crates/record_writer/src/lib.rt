@@ -11,10 +11,10 @@ pub mod laws;
 mod made_file;
 mod options;
 mod pace;
+mod pipeline;
 mod records_feed;
 mod simple_window;
 mod window;
-mod window_pair;
 
 pub use engine::{WriteEnd, write_after, write_coded, write_records};
 pub use feed::{FeedEnd, RecordFeed, Stop};

@@ -55,6 +55,21 @@ impl SimpleWindow {
             size: 0,
         }
     }
+
+    /// Forgets the groups, and keeps their memory unless it is much.
+    fn empty(&mut self)
+        ensures { self.new ≡ [] }
+    {
+        let mut kept: u64 = 0;
+        for chunk in &self.chunks {
+            kept = kept.saturating_add(size_of(chunk));
+        }
+        if kept > LARGEST {
+            self.chunks.clear();
+        }
+        self.count = 0;
+        self.size = 0;
+    }
 }
 
 impl Window for SimpleWindow {
@@ -64,6 +79,10 @@ impl Window for SimpleWindow {
 
     fn another(&self, alloc: Global) -> SimpleWindow {
         SimpleWindow::new(alloc)
+    }
+
+    fn is_empty(&self) -> bool {
+        self.count == 0
     }
 
     fn is_full(&self, pace: &Pace) -> bool {
@@ -99,18 +118,6 @@ impl Window for SimpleWindow {
     }
 
     fn keep(&mut self, _chunks: Reorder) {}
-
-    fn empty(&mut self) {
-        let mut kept: u64 = 0;
-        for chunk in &self.chunks {
-            kept = kept.saturating_add(size_of(chunk));
-        }
-        if kept > LARGEST {
-            self.chunks.clear();
-        }
-        self.count = 0;
-        self.size = 0;
-    }
 
     fn put<M: Sink>(&mut self, file: &mut MadeFile, made: &mut M) -> Result<(), Failed> {
         for i in 0..self.count {

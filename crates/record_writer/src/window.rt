@@ -1,4 +1,4 @@
-ghost use Rattle.std.specs.Prelude.{◌≡◌, ℕ, ◌^◌, ◌<◌, ◌≤◌, false, List, [], ◌∷◌, ◌++◌, All, length, IfNone, IfSome, OnOk, OnErr};
+ghost use Rattle.std.specs.Prelude.{◌≡◌, ℕ, ◌^◌, ◌<◌, ◌≤◌, true, false, List, [], ◌∷◌, ◌++◌, All, length, IfNone, IfSome, OnOk, OnErr};
 ghost use Rattle.meta_chunk.specs.Files.{end_of_chunks};
 ghost use Rattle.simple_chunk.specs.Costs.{cost_of};
 ghost use Rattle.record_writer.specs.CodedWindows.{AreInOrder};
@@ -24,7 +24,12 @@ pub(crate) trait Window: Drop {
 
     /// A window of the same kind, without a group.
     fn another(&self, alloc: Global) -> Self
-        ensures { groups result ≡ [] };
+        ensures empty { groups result ≡ [] }
+        ensures ready { ready result };
+
+    /// Whether it has no group.
+    fn is_empty(&self) -> bool
+        ensures { result ≡ true → groups self.now ≡ [] };
 
     /// Whether it has enough to be put, which depends on how the put of the window before gets on. Else there is room for more.
     fn is_full(&self, pace: &Pace) -> bool
@@ -54,11 +59,6 @@ pub(crate) trait Window: Drop {
         requires { AreInOrder (chunks_of_groups (groups self.old)) chunks }
         ensures ready { ready self.new }
         ensures same { groups self.new ≡ groups self.old };
-
-    /// Forgets the groups, and keeps their memory unless it is much.
-    fn empty(&mut self)
-        ensures ready { ready self.new }
-        ensures emptied { groups self.new ≡ [] };
 
     /// Puts the chunks of the groups, one after another, of which none is left then.
     ///

@@ -1,13 +1,11 @@
-use Rattle.std.proofs.Common.{◌≡◌, ℕ, List, ap, arith}
+use Rattle.std.proofs.Common.{ℕ, List, ap, arith}
 use Rattle.std.proofs.lemmas.Option.{IfSome_then}
 use Rattle.std.proofs.lemmas.Result.{err_from_is_err_and}
-use Rattle.record_group.specs.Groups.{pads_start, pads_end, padding_if}
+use Rattle.record_group.specs.Groups.{padding_if}
 use Rattle.meta_chunk.proofs.Joins.{end_of_chunks_past}
 use Rattle.simple_chunk.specs.Costs.{cost_of}
 use Rattle.record_writer.specs.Feeds.{Rest}
-use Rattle.record_writer.specs.MadeFiles.{MadeFileValue}
 use Rattle.record_writer.proofs.Given.{whatever_is_left, Lays-all_groups, LaysFront-all_groups}
-use Rattle.record_writer.proofs.Windows.{OnOk-any}
 use Rattle.record_writer.proofs.Wholes.{padded_near, Lays-grouped, Lays-records, LaysFront-padding, LaysFront-groups, LaysFront-end}
 use Rattle.record_writer.proofs.engine.put_chunks.Goals as goal
 
@@ -30,7 +28,7 @@ pub returns-in_err-stop-clause-front : goal.returns-in_err-stop-clause-front
 returns-in_err-stop-clause-front g c =
     let p = err_from_is_err_and c.from_residual-in_err-stop.result c.from_residual-in_err-stop.ensures.1 in
     let padded = rw c.pads_start.ensures at c.in_ok-pad_if.ensures.whole in
-    let front = LaysFront-all_groups (g.L.RecordFeed.rest c.args.feed.now) c.args.windows.now.taker c.args.options.now.size c.args.options.now.every
+    let front = LaysFront-all_groups (g.L.RecordFeed.rest c.args.feed.now) c.args.pipeline.now.coming.taker c.args.options.now.size c.args.options.now.every
     (g.M.Sink.taken c.pad_if.new.made) (g.M.Sink.taken c.put_groups.new.made) c.pad_if.new.self c.put_groups.new.file
     c.requires.all
     c.in_err-stop.ensures.front in
@@ -43,7 +41,7 @@ returns-in_err-pad_if-2-clause-front g c =
     let p = err_from_is_err_and c.from_residual-in_err-pad_if-2.result c.from_residual-in_err-pad_if-2.ensures.1 in
     let padded = rw c.pads_start.ensures at c.in_ok-pad_if.ensures.whole in
     let front = rw c.pads_end.ensures at c.in_err-pad_if-2.ensures.front in
-    let grouped = Lays-all_groups (g.L.RecordFeed.rest c.args.feed.now) c.args.windows.now.taker c.args.options.now.size c.args.options.now.every
+    let grouped = Lays-all_groups (g.L.RecordFeed.rest c.args.feed.now) c.args.pipeline.now.coming.taker c.args.options.now.size c.args.options.now.every
     (g.M.Sink.taken c.pad_if.new.made) (g.M.Sink.taken c.put_groups.new.made) c.pad_if.new.self c.put_groups.new.file
     c.requires.all
     c.in_ok-stop.ensures.whole in
@@ -57,7 +55,7 @@ pub returns-clause-whole : goal.returns-clause-whole
 returns-clause-whole g c =
     let padded = rw c.pads_start.ensures at c.in_ok-pad_if.ensures.whole in
     let end = rw c.pads_end.ensures at c.in_ok-pad_if-2.ensures.whole in
-    let grouped = Lays-all_groups (g.L.RecordFeed.rest c.args.feed.now) c.args.windows.now.taker c.args.options.now.size c.args.options.now.every
+    let grouped = Lays-all_groups (g.L.RecordFeed.rest c.args.feed.now) c.args.pipeline.now.coming.taker c.args.options.now.size c.args.options.now.every
     (g.M.Sink.taken c.pad_if.new.made) (g.M.Sink.taken c.put_groups.new.made) c.pad_if.new.self c.put_groups.new.file
     c.requires.all
     c.in_ok-stop.ensures.whole in

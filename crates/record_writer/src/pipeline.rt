@@ -1,0 +1,316 @@
+ghost use Rattle.std.specs.Prelude.{◌≡◌, ◌≢◌, ℕ, ◌^◌, ◌≤◌, true, false, List, [], ◌++◌, Ok, Err, IfOk, OnOk, OnErr};
+ghost use Rattle.record_io.specs.Calls.{OnlyCounts};
+ghost use Rattle.meta_chunk.specs.Files.{end_of_chunks};
+ghost use Rattle.record_group.specs.Groups.{groups};
+ghost use Rattle.record_group.specs.Groupings.{groups_from};
+ghost use Rattle.record_writer.specs.CodedWindows.{CodesSimply};
+ghost use Rattle.record_writer.specs.MadeFiles.{Lays, LaysFront, LaysTo, chunks_of_groups};
+ghost use Rattle.record_writer.specs.Windows.{TakesGroups};
+ghost use Rattle.record_writer.specs.Written.{AreInLimits};
+
+use crate::coding::Workers;
+use crate::cut_off::CutOff;
+use crate::feed::RecordFeed;
+use crate::group_taker::{FeedPart, GroupTaker};
+use crate::made_file::MadeFile;
+use crate::options::WriteOptions;
+use crate::pace::Pace;
+use crate::window::Window;
+use chunk_workers::Coder;
+use record_io::{Failed, Sink};
+use std::alloc::{AllocError, Global};
+use std::mem;
+use std::thread::{Threads, join_mut};
+
+/// The window that is put next, and those behind it, which are coded and taken meanwhile. Own.
+#[derive(Drop)]
+pub(crate) struct Pipeline<W: Window> {
+    /// Its chunks can be put.
+    pub made: W,
+    pub coming: Coming<W>,
+    pub pace: Pace,
+}
+
+/// The window that is coded next, one to take groups meanwhile, and what codes and takes them. Own.
+#[derive(Drop)]
+pub(crate) struct Coming<W: Window> {
+    pub taken: W,
+    pub free: W,
+    pub workers: Workers,
+    pub taker: GroupTaker,
+}
+
+impl<W: Window + Send> Pipeline<W> {
+    /// Three windows without a group, of which this is one, and a taker that has taken no record.
+    pub fn new(alloc: Global, options: &WriteOptions, window: W) -> Pipeline<W>
+        requires in_limits { AreInLimits options.now }
+        requires empty { W.groups window ≡ [] }
+        ensures made { W.groups result.made ≡ [] }
+        ensures taken { W.groups result.coming.taken ≡ [] }
+        ensures free { W.groups result.coming.free ≡ [] }
+        ensures taken_ready { W.ready result.coming.taken }
+        ensures no_record { result.coming.taker.group ≡ [] }
+        ensures all { (records : List (List ℕ)) → groups_from result.coming.taker records ≡ groups records options.now.size options.now.every }
+    {
+        let made = window.another(alloc);
+        let taken = window.another(alloc);
+        Pipeline {
+            made,
+            coming: Coming {
+                taken,
+                free: window,
+                workers: Workers::new(alloc, options.workers),
+                taker: GroupTaker::new(alloc, options),
+            },
+            pace: Pace::new(),
+        }
+    }
+
+    /// Takes the first window. At the end of the feed, also where that is a stop, the last group is in it.
+    pub fn begin<L: RecordFeed>(&mut self, feed: &mut L) -> Result<FeedPart, CutOff>
+        requires made { W.groups self.old.made ≡ [] }
+        requires taken { W.groups self.old.coming.taken ≡ [] }
+        requires free { W.groups self.old.coming.free ≡ [] }
+        requires ready { W.ready self.old.coming.taken }
+        requires feed_going { L.going feed.old ≡ true }
+        ensures taken { TakesGroups L.rest L.bound L.going L.origin L.faults feed.old feed.new self.old.coming.taker self.new.coming.taker
+            (W.groups self.new.made ++ W.groups self.new.coming.taken) result }
+        ensures ready { W.ready self.new.made }
+        ensures free { W.groups self.new.coming.free ≡ [] }
+    {
+        let part = self.coming.take(feed, &self.pace);
+        self.move_on();
+        part
+    }
+
+    /// Puts the window whose chunks are made while the one behind it is coded and the next one is taken, and moves each a
+    /// step on. At the end of the feed, also where that is a stop, the last group is taken too.
+    ///
+    /// # Errors
+    ///
+    /// Only where the sink failed, or there was no memory to code. The sink took a front of what was held and the chunks, and
+    /// what was coded and taken is not to be put.
+    pub fn go_on<R: Threads + Sync, C: Coder + Sync, L: RecordFeed, M: Sink + Send>(
+        &mut self,
+        rt: &R,
+        coder: &C,
+        file: &mut MadeFile,
+        feed: &mut L,
+        made: &mut M,
+    ) -> Result<Result<FeedPart, CutOff>, CutOff>
+        requires codes { CodesSimply (C.chunk_of coder.now) }
+        requires going { file.old.spent ≡ false }
+        requires ready { W.ready self.old.made }
+        requires free { W.groups self.old.coming.free ≡ [] }
+        requires feed_going { L.going feed.old ≡ true }
+        requires in_reach { end_of_chunks file.old.place (chunks_of_groups (W.groups self.old.made)) ≤ 2 ^ 62 }
+        ensures whole { OnOk result (Lays (M.taken made.old) (M.taken made.new) file.old file.new (chunks_of_groups (W.groups self.old.made))) }
+        ensures front { OnErr result (LaysFront (M.taken made.old) (M.taken made.new) file.old file.new (chunks_of_groups (W.groups self.old.made))) }
+        ensures taken { IfOk result (λ part. (more : List (List (List ℕ)))
+            × (W.groups self.new.made ++ W.groups self.new.coming.taken ≡ W.groups self.old.coming.taken ++ more)
+            × TakesGroups L.rest L.bound L.going L.origin L.faults feed.old feed.new self.old.coming.taker self.new.coming.taker more part) }
+        ensures ready { OnOk result (W.ready self.new.made) }
+        ensures free { OnOk result (W.groups self.new.coming.free ≡ []) }
+        ensures feed { OnlyCounts L.origin L.faults (result ≡ Err CutOff.Input) feed.old feed.new }
+        ensures made { OnlyCounts M.lent M.faults (result ≡ Err CutOff.Made) made.old made.new }
+    {
+        let (laid, (coded, part)) = if self.made.is_empty() || self.made.is_large() {
+            let laid = self.made.put(file, made);
+            (laid, self.coming.code_and_take(rt, coder, feed, &self.pace))
+        } else {
+            self.put_beside(rt, coder, file, feed, made)
+        };
+        laid?;
+        coded?;
+        self.move_on();
+        Ok(part)
+    }
+
+    /// Puts the window whose chunks are made while the one behind it is coded and the next one is taken.
+    fn put_beside<R: Threads + Sync, C: Coder + Sync, L: RecordFeed, M: Sink + Send>(
+        &mut self,
+        rt: &R,
+        coder: &C,
+        file: &mut MadeFile,
+        feed: &mut L,
+        made: &mut M,
+    ) -> (
+        Result<(), Failed>,
+        (Result<(), AllocError>, Result<FeedPart, CutOff>),
+    )
+        requires codes { CodesSimply (C.chunk_of coder.now) }
+        requires going { file.old.spent ≡ false }
+        requires ready { W.ready self.old.made }
+        requires free { W.groups self.old.coming.free ≡ [] }
+        requires feed_going { L.going feed.old ≡ true }
+        requires in_reach { end_of_chunks file.old.place (chunks_of_groups (W.groups self.old.made)) ≤ 2 ^ 62 }
+        ensures laid { LaysTo M.taken M.lent M.faults result.0 file.old file.new (chunks_of_groups (W.groups self.old.made)) made.old made.new }
+        ensures emptied { OnOk result.0 (W.groups self.new.made ≡ []) }
+        ensures ready { OnOk result.1.0 (W.ready self.new.coming.taken) }
+        ensures same { OnOk result.1.0 (W.groups self.new.coming.taken ≡ W.groups self.old.coming.taken) }
+        ensures taken { TakesGroups L.rest L.bound L.going L.origin L.faults feed.old feed.new self.old.coming.taker self.new.coming.taker
+            (W.groups self.new.coming.free) result.1.1 }
+    {
+        let Pipeline {
+            made: window,
+            coming,
+            pace,
+        } = self;
+        pace.begin_put();
+        join_mut(
+            rt,
+            &mut || {
+                let put = window.put(file, made);
+                pace.end_put(put.is_err());
+                put
+            },
+            &mut || -> (Result<(), AllocError>, Result<FeedPart, CutOff>)
+                requires codes { CodesSimply (C.chunk_of coder.now) }
+                requires feed_going { L.going feed.now ≡ true }
+                requires free { W.groups coming.now.free ≡ [] }
+            { coming.code_and_take(rt, coder, feed, pace) },
+        )
+    }
+
+    /// Puts all groups: those whose chunks are made, while the others are coded, and then these.
+    ///
+    /// # Errors
+    ///
+    /// Only where the sink failed, or there was no memory to code. The sink took a front of what was held and the chunks.
+    pub fn finish<R: Threads + Sync, C: Coder + Sync, M: Sink + Send>(
+        &mut self,
+        rt: &R,
+        coder: &C,
+        file: &mut MadeFile,
+        made: &mut M,
+    ) -> Result<(), CutOff>
+        requires codes { CodesSimply (C.chunk_of coder.now) }
+        requires going { file.old.spent ≡ false }
+        requires ready { W.ready self.old.made }
+        requires in_reach { end_of_chunks file.old.place (chunks_of_groups (W.groups self.old.made ++ W.groups self.old.coming.taken)) ≤ 2 ^ 62 }
+        ensures whole { OnOk result (Lays (M.taken made.old) (M.taken made.new) file.old file.new
+            (chunks_of_groups (W.groups self.old.made ++ W.groups self.old.coming.taken))) }
+        ensures front { OnErr result (LaysFront (M.taken made.old) (M.taken made.new) file.old file.new
+            (chunks_of_groups (W.groups self.old.made ++ W.groups self.old.coming.taken))) }
+        ensures no_feed { result ≢ Err CutOff.Input }
+        ensures made { OnlyCounts M.lent M.faults (result ≡ Err CutOff.Made) made.old made.new }
+    {
+        let (put, coded) = self.put_and_code(rt, coder, file, made);
+        put?;
+        coded?;
+        self.coming.taken.put(file, made)?;
+        Ok(())
+    }
+
+    /// Puts the window whose chunks are made while the one behind it is coded.
+    fn put_and_code<R: Threads + Sync, C: Coder + Sync, M: Sink + Send>(
+        &mut self,
+        rt: &R,
+        coder: &C,
+        file: &mut MadeFile,
+        made: &mut M,
+    ) -> (Result<(), Failed>, Result<(), AllocError>)
+        requires codes { CodesSimply (C.chunk_of coder.now) }
+        requires going { file.old.spent ≡ false }
+        requires ready { W.ready self.old.made }
+        requires in_reach { end_of_chunks file.old.place (chunks_of_groups (W.groups self.old.made)) ≤ 2 ^ 62 }
+        ensures laid { LaysTo M.taken M.lent M.faults result.0 file.old file.new (chunks_of_groups (W.groups self.old.made)) made.old made.new }
+        ensures ready { OnOk result.1 (W.ready self.new.coming.taken) }
+        ensures same { OnOk result.1 (W.groups self.new.coming.taken ≡ W.groups self.old.coming.taken) }
+    {
+        let Pipeline {
+            made: window,
+            coming,
+            ..
+        } = self;
+        if window.is_empty() || coming.taken.to_code().is_none() {
+            let put = window.put(file, made);
+            return (put, coming.code(rt, coder));
+        }
+        join_mut(
+            rt,
+            &mut || window.put(file, made),
+            &mut || -> Result<(), AllocError>
+                requires codes { CodesSimply (C.chunk_of coder.now) }
+            { coming.code(rt, coder) },
+        )
+    }
+
+    /// Hands the window that was coded on to be put, and the one that was taken to be coded, or at once to be put where it need
+    /// not be coded and no other is before it. The window that was put is free.
+    fn move_on(&mut self)
+        requires put { W.groups self.old.made ≡ [] }
+        requires coded { W.ready self.old.coming.taken }
+        ensures same { W.groups self.new.made ++ W.groups self.new.coming.taken ≡ W.groups self.old.coming.taken ++ W.groups self.old.coming.free }
+        ensures ready { W.ready self.new.made }
+        ensures free { W.groups self.new.coming.free ≡ [] }
+        ensures same_taker { self.new.coming.taker ≡ self.old.coming.taker }
+    {
+        mem::swap(&mut self.made, &mut self.coming.taken);
+        mem::swap(&mut self.coming.taken, &mut self.coming.free);
+        if self.made.is_empty() && self.coming.taken.to_code().is_none() {
+            mem::swap(&mut self.made, &mut self.coming.taken);
+        }
+    }
+}
+
+impl<W: Window + Send> Coming<W> {
+    /// Codes the window that was taken while the next one is taken.
+    fn code_and_take<R: Threads + Sync, C: Coder + Sync, L: RecordFeed>(
+        &mut self,
+        rt: &R,
+        coder: &C,
+        feed: &mut L,
+        pace: &Pace,
+    ) -> (Result<(), AllocError>, Result<FeedPart, CutOff>)
+        requires codes { CodesSimply (C.chunk_of coder.now) }
+        requires feed_going { L.going feed.old ≡ true }
+        requires free { W.groups self.old.free ≡ [] }
+        ensures ready { OnOk result.0 (W.ready self.new.taken) }
+        ensures same { OnOk result.0 (W.groups self.new.taken ≡ W.groups self.old.taken) }
+        ensures taken { TakesGroups L.rest L.bound L.going L.origin L.faults feed.old feed.new self.old.taker self.new.taker (W.groups self.new.free) result.1 }
+    {
+        if self.taken.to_code().is_none() {
+            return (Ok(()), self.take(feed, pace));
+        }
+        let Coming {
+            taken,
+            free,
+            workers,
+            taker,
+        } = self;
+        join_mut(
+            rt,
+            &mut || -> Result<(), AllocError>
+                requires codes { CodesSimply (C.chunk_of coder.now) }
+            { workers.code(rt, coder, taken) },
+            &mut || -> Result<FeedPart, CutOff>
+                requires feed_going { L.going feed.now ≡ true }
+                requires free { W.groups free.now ≡ [] }
+            { taker.take_groups(feed, free, pace) },
+        )
+    }
+
+    /// Codes the window that was taken.
+    fn code<R: Threads + Sync, C: Coder + Sync>(
+        &mut self,
+        rt: &R,
+        coder: &C,
+    ) -> Result<(), AllocError>
+        requires { CodesSimply (C.chunk_of coder.now) }
+        ensures ready { OnOk result (W.ready self.new.taken) }
+        ensures same { OnOk result (W.groups self.new.taken ≡ W.groups self.old.taken) }
+    {
+        self.workers.code(rt, coder, &mut self.taken)
+    }
+
+    /// Takes the next window.
+    fn take<L: RecordFeed>(&mut self, feed: &mut L, pace: &Pace) -> Result<FeedPart, CutOff>
+        requires feed_going { L.going feed.old ≡ true }
+        requires free { W.groups self.old.free ≡ [] }
+        ensures taken { TakesGroups L.rest L.bound L.going L.origin L.faults feed.old feed.new self.old.taker self.new.taker (W.groups self.new.free) result }
+        ensures same { self.new.taken ≡ self.old.taken }
+    {
+        self.taker.take_groups(feed, &mut self.free, pace)
+    }
+}
