@@ -68,7 +68,7 @@ fn files_are_gathered_side_by_side(rt: HostRuntime) -> Result<(), Fail> {
     let made = file_between(&rt, rt.alloc(), 1_048_576, b'a', b'd')?;
     let file = made.taken();
     assert_eq!(rt; file.len(), 112);
-    let meeting = Meeting::new();
+    let meeting = Meeting::of(2);
     let bytes = bytes_by_two(&rt, rt.alloc(), file, &meeting)?;
     assert!(rt; !meeting.gave_up.load(Ordering::SeqCst));
     assert_eq!(rt; bytes, [*b"abc", *b"abc"]);

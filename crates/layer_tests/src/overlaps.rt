@@ -1,5 +1,5 @@
 //! Files whose groups are coded by workers, and put meanwhile.
-ghost use Rattle.std.specs.Prelude.{◌≡◌, ◌^◌, ◌≤◌, true};
+ghost use Rattle.std.specs.Prelude.{◌≡◌, ◌^◌, ◌≤◌, true, length};
 ghost use Rattle.record_writer.specs.CodedWindows.{CodesSimply};
 ghost use Rattle.record_writer.specs.Written.{AreInLimits};
 
@@ -13,7 +13,7 @@ use simple_chunk::{Records, encode};
 use std::alloc::{AllocError, Global};
 use std::hint;
 use std::process::Abort;
-use std::sync::atomic::{AtomicBool, Ordering};
+use std::sync::atomic::{AtomicBool, AtomicU32, Ordering};
 use std::test::Fail;
 use std::thread::Threads;
 
@@ -60,7 +60,7 @@ pub(crate) fn options(workers: u32) -> WriteOptions
 }
 
 fn sink(alloc: Global) -> Result<MemSink, AllocError> {
-    MemSink::new(alloc, 1 << 17, Vec::new(alloc), Vec::new(alloc))
+    MemSink::new(alloc, 1 << 22, Vec::new(alloc), Vec::new(alloc))
 }
 
 /// The file of the records of a feed, written by one worker in chunks of this size.
@@ -104,23 +104,30 @@ pub(crate) fn file_of<R: Threads + Abort + Sync>(
     file_between(rt, alloc, 1, 0, count)
 }
 
-/// Writes the file of so many records by two workers that have this coder.
-fn write_by_two<R: Threads + Abort + Sync, C: Coder + Sync, M: Sink + Send>(
+/// The records of one byte each from 0 on, of which there are so many.
+fn first_bytes(count: u8) -> ByteFeed
+    ensures { (result.next ≡ 0) × (result.end ≡ count) }
+{
+    ByteFeed {
+        next: 0,
+        end: count,
+    }
+}
+
+/// Writes the file of the records of a feed by two workers that have this coder.
+fn write_by_two<R: Threads + Abort + Sync, C: Coder + Sync, L: RecordFeed, M: Sink + Send>(
     rt: &R,
     alloc: Global,
     coder: &C,
-    count: u8,
+    feed: &mut L,
     made: &mut M,
-) -> Result<(), AllocError>
-    requires { CodesSimply (C.chunk_of coder.now) }
+)
+    requires codes { CodesSimply (C.chunk_of coder.now) }
+    requires going { L.going feed.old ≡ true }
+    requires in_reach { L.bound feed.old ≤ 2 ^ 41 }
 {
-    let mut feed = ByteFeed {
-        next: 0,
-        end: count,
-    };
-    let end = write_coded(rt, alloc, &options(2), coder, &mut feed, made);
+    let end = write_coded(rt, alloc, &options(2), coder, feed, made);
     assert!(rt; end.is_ok());
-    Ok(())
 }
 
 /// Writes the file of eight records, of which the group of this one waits for the others, and compares it with these bytes.
@@ -132,7 +139,7 @@ fn write_last_of_eight<R: Threads + Abort + Sync>(
 ) -> Result<(), AllocError> {
     let coder = LastOfEight::new(last);
     let mut made = sink(alloc)?;
-    write_by_two(rt, alloc, &coder, 8, &mut made)?;
+    write_by_two(rt, alloc, &coder, &mut first_bytes(8), &mut made);
     assert!(rt; !coder.gave_up(), "gave up on group {last}");
     assert!(rt; made.taken() == file);
     Ok(())
@@ -147,28 +154,28 @@ fn the_groups_of_a_window_are_coded_side_by_side(rt: HostRuntime) -> Result<(), 
     Ok(())
 }
 
-/// Where two wait for each other, or give up.
+/// Where so many wait for each other, or give up.
 #[derive(Drop)]
 pub(crate) struct Meeting {
-    pub first_came: AtomicBool,
-    pub second_came: AtomicBool,
+    awaited: u32,
+    came: AtomicU32,
     pub gave_up: AtomicBool,
 }
 
 impl Meeting {
-    pub fn new() -> Meeting {
+    pub fn of(awaited: u32) -> Meeting {
         Meeting {
-            first_came: AtomicBool::new(false),
-            second_came: AtomicBool::new(false),
+            awaited,
+            came: AtomicU32::new(0),
             gave_up: AtomicBool::new(false),
         }
     }
 
-    /// Comes, and looks for the other.
-    pub fn meet(&self, mine: &AtomicBool, other: &AtomicBool) {
-        mine.store(true, Ordering::SeqCst);
+    /// Comes, and looks for the others.
+    pub fn meet(&self) {
+        self.came.fetch_add(1, Ordering::SeqCst);
         for _ in 0..100_000_000 {
-            if other.load(Ordering::SeqCst) {
+            if self.came.load(Ordering::SeqCst) >= self.awaited {
                 return;
             }
             hint::spin_loop();
@@ -177,10 +184,11 @@ impl Meeting {
     }
 }
 
-/// Comes to the meeting on the group of byte 8.
+/// Comes to the meeting on the group of the record that begins with this byte.
 #[derive(Drop)]
 struct MeetingCoder<'a> {
     meeting: &'a Meeting,
+    byte: u8,
 }
 
 impl<'a> Coder for MeetingCoder<'a> {
@@ -189,9 +197,8 @@ impl<'a> Coder for MeetingCoder<'a> {
     ghost chunk_of = { λ _ records. simple_chunk records };
 
     fn code(&self, alloc: Global, records: &Records) -> Result<Chunk, AllocError> {
-        if records.values() == [8].as_slice() {
-            self.meeting
-                .meet(&self.meeting.first_came, &self.meeting.second_came);
+        if records.values().first() == Some(&self.byte) {
+            self.meeting.meet();
         }
         encode(alloc, records)
     }
@@ -215,24 +222,117 @@ impl<'a> Sink for MeetingSink<'a> {
     fn put(&mut self, piece: &[u8]) -> Result<usize, Failed> {
         if !self.came && self.sink.taken().len() >= 64 {
             self.came = true;
-            self.meeting
-                .meet(&self.meeting.second_came, &self.meeting.first_came);
+            self.meeting.meet();
         }
         self.sink.put(piece)
     }
 }
 
+impl<'a> MeetingSink<'a> {
+    fn new(alloc: Global, meeting: &'a Meeting) -> Result<MeetingSink<'a>, AllocError> {
+        Ok(MeetingSink {
+            sink: sink(alloc)?,
+            meeting,
+            came: false,
+        })
+    }
+}
+
 #[test]
 fn a_window_is_put_while_the_next_is_coded(rt: HostRuntime) -> Result<(), Fail> {
-    let meeting = Meeting::new();
-    let coder = MeetingCoder { meeting: &meeting };
-    let mut made = MeetingSink {
-        sink: sink(rt.alloc())?,
+    let meeting = Meeting::of(2);
+    let coder = MeetingCoder {
         meeting: &meeting,
-        came: false,
+        byte: 8,
     };
-    write_by_two(&rt, rt.alloc(), &coder, 16, &mut made)?;
+    let mut made = MeetingSink::new(rt.alloc(), &meeting)?;
+    write_by_two(&rt, rt.alloc(), &coder, &mut first_bytes(16), &mut made);
     assert!(rt; !meeting.gave_up.load(Ordering::SeqCst));
     assert!(rt; made.sink.taken() == file_of(&rt, rt.alloc(), 16)?.taken());
+    Ok(())
+}
+
+/// Records of one byte each from 0 on, the longer ones of which go on with zeros. Comes to the meeting when it is asked for the
+/// record of a byte.
+#[derive(Drop)]
+struct MeetingFeed<'a> {
+    meeting: &'a Meeting,
+    asked: u8,
+    next: u8,
+    end: u8,
+    longer_from: u8,
+    zeros: &'a [u8],
+    ghost within: { next ≤ end },
+    ghost short: { length zeros.now ≤ 500000 },
+}
+
+impl<'a> RecordFeed for MeetingFeed<'a> {
+    ghost use Rattle.std.specs.Prelude.{None, ◌*◌, ◌-◌};
+
+    ghost rest = { λ _. None };
+
+    ghost bound = { λ s. 500002 * (s.end - s.next) };
+
+    ghost faults = { λ _. 0 };
+
+    fn pull(&mut self, _alloc: Global, into: &mut Bytes) -> Result<bool, FeedEnd> {
+        if self.next == self.end {
+            return Ok(false);
+        }
+        if self.next == self.asked {
+            self.meeting.meet();
+        }
+        into.clear();
+        into.push_all(&[self.next])?;
+        if self.next >= self.longer_from {
+            into.push_all(self.zeros)?;
+        }
+        self.next += 1;
+        Ok(true)
+    }
+}
+
+#[test]
+fn a_window_is_coded_while_the_next_is_taken(rt: HostRuntime) -> Result<(), Fail> {
+    let meeting = Meeting::of(2);
+    let coder = MeetingCoder {
+        meeting: &meeting,
+        byte: 0,
+    };
+    let mut feed = MeetingFeed {
+        meeting: &meeting,
+        asked: 12,
+        next: 0,
+        end: 16,
+        longer_from: 16,
+        zeros: &[],
+    };
+    let mut made = sink(rt.alloc())?;
+    write_by_two(&rt, rt.alloc(), &coder, &mut feed, &mut made);
+    assert!(rt; !meeting.gave_up.load(Ordering::SeqCst));
+    assert!(rt; made.taken() == file_of(&rt, rt.alloc(), 16)?.taken());
+    Ok(())
+}
+
+/// The second window is full with the records 8 to 11.
+#[test]
+fn three_windows_are_put_coded_and_taken(rt: HostRuntime) -> Result<(), Fail> {
+    let zeros = vec![in rt.alloc(); 0; 400_000]?;
+    let meeting = Meeting::of(3);
+    let coder = MeetingCoder {
+        meeting: &meeting,
+        byte: 8,
+    };
+    let mut feed = MeetingFeed {
+        meeting: &meeting,
+        asked: 13,
+        next: 0,
+        end: 14,
+        longer_from: 8,
+        zeros: zeros.as_slice(),
+    };
+    let mut made = MeetingSink::new(rt.alloc(), &meeting)?;
+    write_by_two(&rt, rt.alloc(), &coder, &mut feed, &mut made);
+    assert!(rt; !meeting.gave_up.load(Ordering::SeqCst));
     Ok(())
 }

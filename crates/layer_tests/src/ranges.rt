@@ -182,7 +182,6 @@ fn a_part_begins_with_the_first_chunk_behind_its_cut(rt: HostRuntime) -> Result<
 pub(crate) struct MeetingStore<'a> {
     pub store: SureStore,
     meeting: &'a Meeting,
-    is_first: bool,
     came: bool,
 }
 
@@ -206,34 +205,23 @@ impl<'a> Store for MeetingStore<'a> {
     fn read_at(&mut self, at: u64, buf: &mut [u8]) -> Result<usize, Failed> {
         if !self.came {
             self.came = true;
-            come(self.meeting, self.is_first);
+            self.meeting.meet();
         }
         self.store.read_at(at, buf)
     }
 }
 
-/// Comes to a meeting as one of two.
-fn come(meeting: &Meeting, is_first: bool) {
-    if is_first {
-        meeting.meet(&meeting.first_came, &meeting.second_came);
-    } else {
-        meeting.meet(&meeting.second_came, &meeting.first_came);
-    }
-}
-
-/// A store of this file that comes to a meeting as one of two.
+/// A store of this file that comes to a meeting.
 fn meeting_store<'a>(
     alloc: Global,
     file: &[u8],
     meeting: &'a Meeting,
-    is_first: bool,
 ) -> Result<MeetingStore<'a>, AllocError>
     ensures { IfOk result (λ s. told_if s.store.asked (length s.store.bytes) ≡ Some (length file.now)) }
 {
     Ok(MeetingStore {
         store: asked_store(alloc, file)?,
         meeting,
-        is_first,
         came: false,
     })
 }
@@ -248,8 +236,8 @@ pub(crate) fn meeting_stores<'a>(
     ensures told { IfOk result (λ stores. All (λ s. told_if s.store.asked (length s.store.bytes) ≡ Some (length file.now)) stores.items) }
 {
     let mut stores = Vec::new(alloc);
-    stores.push(meeting_store(alloc, file, meeting, true)?)?;
-    stores.push(meeting_store(alloc, file, meeting, false)?)?;
+    stores.push(meeting_store(alloc, file, meeting)?)?;
+    stores.push(meeting_store(alloc, file, meeting)?)?;
     Ok(stores)
 }
 
@@ -258,7 +246,7 @@ fn parts_are_read_side_by_side(rt: HostRuntime) -> Result<(), Fail> {
     let made = file_of(&rt, rt.alloc(), 40)?;
     let file = made.taken();
     assert!(rt; 100 <= file.len() && file.len() <= 10_000);
-    let meeting = Meeting::new();
+    let meeting = Meeting::of(2);
     let mut stores = meeting_stores(rt.alloc(), file, &meeting)?;
     let cuts = Cuts::of(rt.alloc(), &[100])?;
     let size = file.len() as u64;
