@@ -1,9 +1,8 @@
 -- The parts of the chunks of records, put one after another.
-use Rattle.std.proofs.Common.{◌≡◌, ◌∙◌, ℕ, ◌+◌, ◌≤◌, Bool, true, false, Option, List, ◌++◌, ap, subst, sym, arith}
+use Rattle.std.proofs.Common.{◌≡◌, ◌∙◌, ℕ, ◌+◌, ◌≤◌, Bool, true, false, Option, List, ◌++◌, ap, subst, arith}
 use Rattle.block_layout.specs.Layout.{IsBoundary}
 use Rattle.chunk_header.specs.Chunks.{ChunkValue}
 use Rattle.meta_chunk.specs.Files.{signature_bytes, end_of_chunks}
-use Rattle.meta_chunk.specs.PaddingSizes.{padding_at}
 use Rattle.meta_chunk.proofs.PaddingLemmas.{padding_at_near}
 use Rattle.record_group.specs.Groups.{groups, pads_start, pads_end, padding_if, front_padding, front_chunks, end_padding}
 use Rattle.record_group.proofs.Signed.{end_of_chunk-signature, file_of-signed}

@@ -146,7 +146,7 @@ pub fn write_after<R: Threads + Sync, L: RecordFeed, M: Sink + Send>(
 /// other has 2, which cost 1.5 MiB at least, so that the start of threads costs little. A window of a cost of 2^26, or of
 /// 65,536 groups, has enough in any case. What is held at a time are three windows with their groups, two of them with the
 /// chunks of these. The signature goes out by itself, with the padding behind it, and each window when it is put. Where no
-/// thread can be made, all that is done here, one part after another.
+/// thread can be made, all that is done here, one part after another. No clause says what is at work at a time, or held.
 ///
 /// # Errors
 ///
