@@ -2,7 +2,7 @@
 ghost use Rattle.std.specs.Prelude.{◌≡◌, ◌<◌, ◌≤◌, ◌^◌, All, Some, IfSome, length};
 ghost use Rattle.record_io.specs.Memory.{told_if};
 
-use crate::overlaps::{Meeting, file_between};
+use crate::overlaps::{FIRST_STORE, Meeting, SECOND_STORE, file_between};
 use crate::ranges::{MeetingStore, meeting_stores};
 use record_collect::{Gathered, Numbers, gather};
 use std::alloc::{AllocError, Global};
@@ -68,7 +68,7 @@ fn files_are_gathered_side_by_side(rt: HostRuntime) -> Result<(), Fail> {
     let made = file_between(&rt, rt.alloc(), 1_048_576, b'a', b'd')?;
     let file = made.taken();
     assert_eq!(rt; file.len(), 112);
-    let meeting = Meeting::of(2);
+    let meeting = Meeting::of(FIRST_STORE | SECOND_STORE);
     let bytes = bytes_by_two(&rt, rt.alloc(), file, &meeting)?;
     assert!(rt; !meeting.gave_up.load(Ordering::SeqCst));
     assert_eq!(rt; bytes, [*b"abc", *b"abc"]);

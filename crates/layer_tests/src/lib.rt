@@ -22,8 +22,6 @@ mod hashes;
 #[cfg(test)]
 mod layout;
 #[cfg(test)]
-mod lines;
-#[cfg(test)]
 mod order;
 #[cfg(test)]
 mod overlaps;

@@ -154,28 +154,39 @@ fn the_groups_of_a_window_are_coded_side_by_side(rt: HostRuntime) -> Result<(), 
     Ok(())
 }
 
-/// Where so many wait for each other, or give up.
+/// The flags of those who come to a meeting.
+const CODER: u32 = 1;
+
+const SINK: u32 = 2;
+
+const FEED: u32 = 4;
+
+pub(crate) const FIRST_STORE: u32 = 8;
+
+pub(crate) const SECOND_STORE: u32 = 16;
+
+/// Where those who have these flags wait for each other, or give up.
 #[derive(Drop)]
 pub(crate) struct Meeting {
-    awaited: u32,
-    came: AtomicU32,
+    all: u32,
+    raised: AtomicU32,
     pub gave_up: AtomicBool,
 }
 
 impl Meeting {
-    pub fn of(awaited: u32) -> Meeting {
+    pub fn of(all: u32) -> Meeting {
         Meeting {
-            awaited,
-            came: AtomicU32::new(0),
+            all,
+            raised: AtomicU32::new(0),
             gave_up: AtomicBool::new(false),
         }
     }
 
-    /// Comes, and looks for the others.
-    pub fn meet(&self) {
-        self.came.fetch_add(1, Ordering::SeqCst);
+    /// Raises one's own flag, and looks for the others.
+    pub fn meet(&self, own: u32) {
+        self.raised.fetch_or(own, Ordering::SeqCst);
         for _ in 0..100_000_000 {
-            if self.came.load(Ordering::SeqCst) >= self.awaited {
+            if self.raised.load(Ordering::SeqCst) == self.all {
                 return;
             }
             hint::spin_loop();
@@ -198,7 +209,7 @@ impl<'a> Coder for MeetingCoder<'a> {
 
     fn code(&self, alloc: Global, records: &Records) -> Result<Chunk, AllocError> {
         if records.values().first() == Some(&self.byte) {
-            self.meeting.meet();
+            self.meeting.meet(CODER);
         }
         encode(alloc, records)
     }
@@ -222,7 +233,7 @@ impl<'a> Sink for MeetingSink<'a> {
     fn put(&mut self, piece: &[u8]) -> Result<usize, Failed> {
         if !self.came && self.sink.taken().len() >= 64 {
             self.came = true;
-            self.meeting.meet();
+            self.meeting.meet(SINK);
         }
         self.sink.put(piece)
     }
@@ -240,7 +251,7 @@ impl<'a> MeetingSink<'a> {
 
 #[test]
 fn a_window_is_put_while_the_next_is_coded(rt: HostRuntime) -> Result<(), Fail> {
-    let meeting = Meeting::of(2);
+    let meeting = Meeting::of(CODER | SINK);
     let coder = MeetingCoder {
         meeting: &meeting,
         byte: 8,
@@ -280,7 +291,7 @@ impl<'a> RecordFeed for MeetingFeed<'a> {
             return Ok(false);
         }
         if self.next == self.asked {
-            self.meeting.meet();
+            self.meeting.meet(FEED);
         }
         into.clear();
         into.push_all(&[self.next])?;
@@ -294,7 +305,7 @@ impl<'a> RecordFeed for MeetingFeed<'a> {
 
 #[test]
 fn a_window_is_coded_while_the_next_is_taken(rt: HostRuntime) -> Result<(), Fail> {
-    let meeting = Meeting::of(2);
+    let meeting = Meeting::of(CODER | FEED);
     let coder = MeetingCoder {
         meeting: &meeting,
         byte: 0,
@@ -318,7 +329,7 @@ fn a_window_is_coded_while_the_next_is_taken(rt: HostRuntime) -> Result<(), Fail
 #[test]
 fn three_windows_are_put_coded_and_taken(rt: HostRuntime) -> Result<(), Fail> {
     let zeros = vec![in rt.alloc(); 0; 400_000]?;
-    let meeting = Meeting::of(3);
+    let meeting = Meeting::of(CODER | SINK | FEED);
     let coder = MeetingCoder {
         meeting: &meeting,
         byte: 8,

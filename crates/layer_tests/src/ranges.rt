@@ -3,7 +3,7 @@ ghost use Rattle.std.specs.Prelude.{◌≡◌, ◌^◌, ◌≤◌, All, Some, If
 ghost use Rattle.record_io.specs.Memory.{told_if};
 ghost use Rattle.record_ranges.specs.Ranges.{RiseUpTo};
 
-use crate::overlaps::{Meeting, file_fed, file_of};
+use crate::overlaps::{FIRST_STORE, Meeting, SECOND_STORE, file_fed, file_of};
 use chunk_reader::ReadEnd;
 use record_io::{Failed, MemInput, MemSink, Store, SureStore};
 use record_ranges::{Cuts, Parts, read_ranges};
@@ -182,6 +182,7 @@ fn a_part_begins_with_the_first_chunk_behind_its_cut(rt: HostRuntime) -> Result<
 pub(crate) struct MeetingStore<'a> {
     pub store: SureStore,
     meeting: &'a Meeting,
+    flag: u32,
     came: bool,
 }
 
@@ -205,23 +206,25 @@ impl<'a> Store for MeetingStore<'a> {
     fn read_at(&mut self, at: u64, buf: &mut [u8]) -> Result<usize, Failed> {
         if !self.came {
             self.came = true;
-            self.meeting.meet();
+            self.meeting.meet(self.flag);
         }
         self.store.read_at(at, buf)
     }
 }
 
-/// A store of this file that comes to a meeting.
+/// A store of this file that comes to a meeting with this flag.
 fn meeting_store<'a>(
     alloc: Global,
     file: &[u8],
     meeting: &'a Meeting,
+    flag: u32,
 ) -> Result<MeetingStore<'a>, AllocError>
     ensures { IfOk result (λ s. told_if s.store.asked (length s.store.bytes) ≡ Some (length file.now)) }
 {
     Ok(MeetingStore {
         store: asked_store(alloc, file)?,
         meeting,
+        flag,
         came: false,
     })
 }
@@ -236,8 +239,8 @@ pub(crate) fn meeting_stores<'a>(
     ensures told { IfOk result (λ stores. All (λ s. told_if s.store.asked (length s.store.bytes) ≡ Some (length file.now)) stores.items) }
 {
     let mut stores = Vec::new(alloc);
-    stores.push(meeting_store(alloc, file, meeting)?)?;
-    stores.push(meeting_store(alloc, file, meeting)?)?;
+    stores.push(meeting_store(alloc, file, meeting, FIRST_STORE)?)?;
+    stores.push(meeting_store(alloc, file, meeting, SECOND_STORE)?)?;
     Ok(stores)
 }
 
@@ -246,7 +249,7 @@ fn parts_are_read_side_by_side(rt: HostRuntime) -> Result<(), Fail> {
     let made = file_of(&rt, rt.alloc(), 40)?;
     let file = made.taken();
     assert!(rt; 100 <= file.len() && file.len() <= 10_000);
-    let meeting = Meeting::of(2);
+    let meeting = Meeting::of(FIRST_STORE | SECOND_STORE);
     let mut stores = meeting_stores(rt.alloc(), file, &meeting)?;
     let cuts = Cuts::of(rt.alloc(), &[100])?;
     let size = file.len() as u64;

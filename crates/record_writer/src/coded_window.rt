@@ -17,20 +17,20 @@ use std::alloc::{AllocError, Global};
 use std::marker::Model;
 use std::mem;
 
-/// How many groups the first window has at least for each worker when it is full, whatever they cost, so that the workers begin
-/// soon.
+/// With how many groups for each worker the first window is full, whatever they cost, so that the workers begin soon.
 const FIRST_GROUPS: usize = 4;
 
-/// How many a later one has.
+/// How many a later one has at least.
 const LATER_GROUPS: usize = 2;
 
-/// What the groups of a later one cost at least, so that the start of threads costs little beside them.
+/// What the groups of a later one cost at least beside, so that the start of threads costs little.
 const LEAST: u64 = 3 << 19;
 
 /// With what cost a window is full, however few groups it has.
 const FULL: u64 = 1 << 26;
 
-/// For groups of what cost at most a window keeps memory, for the next ones.
+/// For what cost a window keeps the memory of its groups for the next ones, each reckoned as the largest so far: memory that
+/// served for that one may have come to serve for any.
 const KEPT: u64 = 1 << 23;
 
 /// Groups whose chunks are made, by so many workers, before they are put. Own.
@@ -41,6 +41,8 @@ pub(crate) struct CodedWindow {
     /// Groups that were put, whose memory serves again.
     spares: Vec<Records>,
     cost: u64,
+    /// What the largest group so far costs, of this window or another.
+    largest: u64,
     /// No window comes before it.
     is_first: bool,
     /// The chunks of the groups, once they are coded.
@@ -75,6 +77,7 @@ impl CodedWindow {
             groups: Vec::new(alloc),
             spares: Vec::new(alloc),
             cost: 0,
+            largest: 0,
             is_first: true,
             chunks: None,
         }
@@ -86,9 +89,7 @@ impl CodedWindow {
     {
         mem::swap(&mut self.groups, &mut self.spares);
         self.groups.clear();
-        if self.cost > KEPT {
-            self.spares.clear();
-        }
+        self.spares.truncate((KEPT / self.largest.max(1)) as usize);
         self.cost = 0;
         self.is_first = false;
         self.chunks = None;
@@ -127,7 +128,7 @@ impl Window for CodedWindow {
         false
     }
 
-    fn push(&mut self, alloc: Global, group: &mut Records, _pace: &Pace) -> Result<(), AllocError> {
+    fn push(&mut self, alloc: Global, group: &mut Records, pace: &Pace) -> Result<(), AllocError> {
         let spare = match self.spares.pop() {
             Some(spare) => spare,
             None => Records::new(alloc),
@@ -135,6 +136,7 @@ impl Window for CodedWindow {
         let cost = group.cost();
         self.groups.push(mem::replace(group, spare))?;
         self.cost = self.cost.saturating_add(cost);
+        self.largest = pace.largest_with(cost);
         self.chunks = None;
         Ok(())
     }

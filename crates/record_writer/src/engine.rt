@@ -142,11 +142,12 @@ pub fn write_after<R: Threads + Sync, L: RecordFeed, M: Sink + Send>(
 /// at most 2^25 is the one that `encode` gives.
 ///
 /// Three windows are at work at a time: the chunks of one are put, in order, by a thread; those of the next are coded in
-/// threads, one for each worker; and the one behind that is taken here. The first window has 4 groups for each worker. Each
-/// other has 2, which cost 1.5 MiB at least, so that the start of threads costs little. A window of a cost of 2^26, or of
-/// 65,536 groups, has enough in any case. What is held at a time are three windows with their groups, two of them with the
-/// chunks of these. The signature goes out by itself, with the padding behind it, and each window when it is put. Where no
-/// thread can be made, all that is done here, one part after another. No clause says what is at work at a time, or held.
+/// threads, one for each worker; and the one behind that is taken here. The first window is full with 4 groups for each worker.
+/// Each other has at least 2 for each and costs 1.5 MiB at least, so that the start of threads costs little. One of a cost of
+/// 2^26, or of 65,536 groups, is full in any case. What is held at a time are three windows with their groups, two of them with
+/// the chunks of these; in each the memory of groups that cost up to 8 MiB, for the next ones; the open group; and the record
+/// behind it. The signature goes out by itself, with the padding behind it, and each window when it is put. Where no thread can
+/// be made, all that is done here, one part after another. No clause says what is at work at a time, or held.
 ///
 /// # Errors
 ///

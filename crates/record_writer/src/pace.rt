@@ -1,10 +1,12 @@
-use std::sync::atomic::{AtomicBool, Ordering};
+use std::sync::atomic::{AtomicBool, AtomicU64, Ordering};
 
-/// How the put of a window gets on, which the thread that puts it tells the one that takes the next. Own.
+/// How the put of a window gets on, which the thread that puts it tells the one that takes another, and how large the groups
+/// are that were taken. Own.
 #[derive(Drop)]
 pub(crate) struct Pace {
     putting: AtomicBool,
     failed: AtomicBool,
+    largest: AtomicU64,
 }
 
 impl Pace {
@@ -13,6 +15,7 @@ impl Pace {
         Pace {
             putting: AtomicBool::new(false),
             failed: AtomicBool::new(false),
+            largest: AtomicU64::new(0),
         }
     }
 
@@ -35,5 +38,10 @@ impl Pace {
     /// Whether its put failed, so that nothing more is to be taken.
     pub fn has_failed(&self) -> bool {
         self.failed.load(Ordering::Relaxed)
+    }
+
+    /// What the largest group so far costs, where the next one costs this.
+    pub fn largest_with(&self, cost: u64) -> u64 {
+        self.largest.fetch_max(cost, Ordering::Relaxed).max(cost)
     }
 }
