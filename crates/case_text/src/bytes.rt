@@ -3,10 +3,10 @@
 use crate::chunks::{header_of, kind_of};
 use crate::names::Known;
 use crate::texts::unescaped;
-use crate::words::{number_of, range_of};
+use crate::words::{number_of, range_of, refused};
 use anyhow::{Result, bail};
 use block_layout::BlockHeader;
-use std::alloc::Global;
+use std::alloc::{AllocError, Global};
 
 /// The bytes of these words, of which there are some.
 pub fn bytes_of(alloc: Global, known: &Known, words: &[String]) -> Result<Vec<u8>> {
@@ -22,32 +22,49 @@ pub fn bytes_of(alloc: Global, known: &Known, words: &[String]) -> Result<Vec<u8
 
 /// Adds the bytes of a word, as often as it says.
 fn add_word(alloc: Global, known: &Known, bytes: &mut Vec<u8>, word: &str) -> Result<()> {
-    if let Some(quoted) = word.strip_prefix('"') {
-        let Some((text, times)) = quoted.rsplit_once('"') else {
-            bail!("a text without an end");
-        };
-        return add_times(bytes, &unescaped(alloc, text)?, times);
+    let (said, times) = split_times(word)?;
+    let times = times_of(times)?;
+    Ok(add_times(bytes, &said_once(alloc, known, said)?, times)?)
+}
+
+/// What a word says and how often: a text without its closing quote, and what stands behind that.
+fn split_times(word: &str) -> Result<(&str, &str)> {
+    if !word.starts_with('"') {
+        let end = word.find('*').unwrap_or(word.len());
+        return Ok(word.split_at_checked(end).unwrap_or((word, "")));
     }
-    let end = word.find('*').unwrap_or(word.len());
-    let (word, times) = word.split_at_checked(end).unwrap_or((word, ""));
-    if let Some(digits) = word.strip_prefix("0x") {
-        add_times(bytes, &digits_of(alloc, digits)?, times)
-    } else if let Some((name, arguments)) = word.split_once('(') {
-        add_times(bytes, &made_of(alloc, name, arguments)?, times)
-    } else {
-        add_times(bytes, part_of(known, word)?, times)
+    match word.rsplit_once('"') {
+        Some((text, times)) if !text.is_empty() => Ok((text, times)),
+        _ => bail!("a text without an end"),
     }
 }
 
-/// Adds bytes once, or as often as `*N` says.
-fn add_times(bytes: &mut Vec<u8>, more: &[u8], times: &str) -> Result<()> {
-    let times = match times.strip_prefix('*') {
-        Some(digits) => number_of(digits)?,
-        None if times.is_empty() => 1,
+/// Once, or as often as `*N` says.
+fn times_of(times: &str) -> Result<usize> {
+    match times.strip_prefix('*') {
+        Some(digits) => number_of(digits),
+        None if times.is_empty() => Ok(1),
         None => bail!("a text goes on behind its end"),
-    };
+    }
+}
+
+/// The bytes of a word, whose text has no closing quote.
+fn said_once(alloc: Global, known: &Known, said: &str) -> Result<Vec<u8>> {
+    if let Some(text) = said.strip_prefix('"') {
+        unescaped(alloc, text)
+    } else if let Some(digits) = said.strip_prefix("0x") {
+        digits_of(alloc, digits)
+    } else if let Some((name, arguments)) = said.split_once('(') {
+        made_of(alloc, name, arguments)
+    } else {
+        Ok(part_of(known, said)?.to_vec(alloc)?)
+    }
+}
+
+/// Adds bytes so many times.
+fn add_times(bytes: &mut Vec<u8>, more: &[u8], times: usize) -> Result<(), AllocError> {
     if let [byte] = more {
-        return Ok(bytes.resize(bytes.len().saturating_add(times), *byte)?);
+        return bytes.resize(bytes.len().saturating_add(times), *byte);
     }
     for _ in 0..times {
         bytes.extend_from_slice(more)?;
@@ -78,41 +95,55 @@ fn digits_of(alloc: Global, digits: &str) -> Result<Vec<u8>> {
 /// The bytes of a name before a bracket, and of the arguments in it.
 fn made_of(alloc: Global, name: &str, arguments: &str) -> Result<Vec<u8>> {
     let Some(arguments) = arguments.strip_suffix(')') else {
-        bail!("no closing bracket: {name}({arguments}");
+        return Err(refused("no closing bracket", name));
     };
-    let arguments: Vec<&str> = arguments.split(',').collect(alloc)?;
-    match (name, arguments.as_slice()) {
-        ("le64", [number]) => le64(alloc, number),
-        ("block", [previous, next]) => block(alloc, previous, next),
-        ("header", [kind, records, decoded, size]) => header(alloc, kind, records, decoded, size),
-        ("lines", [from, to]) => lines(alloc, number_of(from)?, number_of(to)?),
-        ("random", [seed, count]) => random(alloc, number_of(seed)?, number_of(count)?),
+    match name {
+        "le64" => le64(alloc, arguments),
+        "block" => block(alloc, arguments),
+        "header" => header(alloc, arguments),
+        "lines" => lines(alloc, arguments),
+        "random" => random(alloc, arguments),
         _ => bail!("no such bytes: {name}(..)"),
     }
 }
 
+/// So many numbers with commas between them.
+fn numbers<const N: usize>(text: &str) -> Result<[usize; N]> {
+    let mut numbers = [0; N];
+    let mut words = text.split(',');
+    for number in &mut numbers {
+        *number = number_of(words.next().unwrap_or(""))?;
+    }
+    if words.next().is_some() {
+        return Err(refused("too many arguments", text));
+    }
+    Ok(numbers)
+}
+
 /// A number of eight bytes, the lowest first.
-fn le64(alloc: Global, number: &str) -> Result<Vec<u8>> {
-    let number = number_of(number)? as u64;
+fn le64(alloc: Global, arguments: &str) -> Result<Vec<u8>> {
+    let number = number_of(arguments)? as u64;
     Ok(number.to_le_bytes().to_vec(alloc)?)
 }
 
 /// A block header with its right hash.
-fn block(alloc: Global, previous: &str, next: &str) -> Result<Vec<u8>> {
-    let (previous, next) = (number_of(previous)? as u64, number_of(next)? as u64);
+fn block(alloc: Global, arguments: &str) -> Result<Vec<u8>> {
+    let [previous, next] = numbers::<2>(arguments)?;
+    let (previous, next) = (previous as u64, next as u64);
     Ok(BlockHeader { previous, next }.to_bytes().to_vec(alloc)?)
 }
 
 /// A chunk header with its right hash.
-fn header(alloc: Global, kind: &str, records: &str, decoded: &str, size: &str) -> Result<Vec<u8>> {
-    let kind = kind_of(alloc, kind)?;
-    let (records, decoded, size) = (number_of(records)?, number_of(decoded)?, number_of(size)?);
-    let header = header_of(kind, records, decoded, size, 0)?;
+fn header(alloc: Global, arguments: &str) -> Result<Vec<u8>> {
+    let (kind, arguments) = arguments.split_once(',').unwrap_or((arguments, ""));
+    let [records, decoded, size] = numbers::<3>(arguments)?;
+    let header = header_of(kind_of(alloc, kind)?, records, decoded, size, 0)?;
     Ok(header.to_bytes().to_vec(alloc)?)
 }
 
 /// A line for each number from one on below another one.
-fn lines(alloc: Global, from: usize, to: usize) -> Result<Vec<u8>> {
+fn lines(alloc: Global, arguments: &str) -> Result<Vec<u8>> {
+    let [from, to] = numbers::<2>(arguments)?;
     let mut lines = String::new(alloc);
     for number in from..to {
         writeln!(lines, "{number}")?;
@@ -121,7 +152,8 @@ fn lines(alloc: Global, from: usize, to: usize) -> Result<Vec<u8>> {
 }
 
 /// So many bytes of a generator of numbers.
-fn random(alloc: Global, seed: usize, count: usize) -> Result<Vec<u8>> {
+fn random(alloc: Global, arguments: &str) -> Result<Vec<u8>> {
+    let [seed, count] = numbers::<2>(arguments)?;
     let mut bytes = Vec::new(alloc);
     let mut state = seed as u64;
     for _ in 0..count {

@@ -1,6 +1,7 @@
 //! Chunks and their headers, laid with right hashes.
 
 use crate::texts::plain;
+use crate::words::refused;
 use anyhow::{Result, bail};
 use block_layout::{BLOCK_HEADER_SIZE, BLOCK_SIZE, BlockHeader, chunk_end, is_boundary};
 use chunk_header::{HEADER_SIZE, Header};
@@ -15,7 +16,7 @@ pub fn kind_of(alloc: Global, word: &str) -> Result<u8> {
     let bytes = plain(alloc, word)?;
     match bytes.as_slice() {
         [kind] => Ok(*kind),
-        _ => bail!("no kind: {word}"),
+        _ => Err(refused("no kind", word)),
     }
 }
 
@@ -41,40 +42,35 @@ pub fn header_of(
 }
 
 /// Lays one more chunk at the end of a file: with the block headers that interrupt it, and zero bytes up to its own end.
-pub fn lay(
-    alloc: Global,
-    file: &mut Vec<u8>,
-    kind: u8,
-    records: usize,
-    decoded: usize,
-    data: &[u8],
-) -> Result<()> {
-    let header = header_of(
-        kind,
-        records,
-        decoded,
-        data.len(),
-        hash_lanes(&RIEGELI, data),
-    )?;
+pub fn lay(alloc: Global, file: &mut Vec<u8>, header: &Header, data: &[u8]) -> Result<()> {
     let begin = file.len() as u64;
-    let end = end_of(begin, &header)?;
+    let end = end_of(begin, header)?;
     let mut bytes = header.to_bytes().to_vec(alloc)?;
     bytes.extend_from_slice(data)?;
-    let mut rest = bytes.as_slice();
+    Ok(lay_bytes(file, begin, end, &bytes)?)
+}
+
+/// Lays the bytes of the chunk that goes from the end of a file to a place.
+fn lay_bytes(file: &mut Vec<u8>, begin: u64, end: u64, bytes: &[u8]) -> Result<(), AllocError> {
+    let mut rest = bytes;
     for block in begin / BLOCK_SIZE..end.div_ceil(BLOCK_SIZE) {
         let at = block.saturating_mul(BLOCK_SIZE);
         if at >= begin {
             let (previous, next) = (at - begin, end.saturating_sub(at));
             file.extend_from_slice(&BlockHeader { previous, next }.to_bytes())?;
         }
-        let until = end.min(at.saturating_add(BLOCK_SIZE)) as usize;
-        let room = until.saturating_sub(file.len());
-        let (piece, after) = rest.split_at_checked(room).unwrap_or((rest, b""));
-        file.extend_from_slice(piece)?;
-        file.resize(until, 0)?;
-        rest = after;
+        rest = fill_with(file, end.min(at.saturating_add(BLOCK_SIZE)) as usize, rest)?;
     }
     Ok(())
+}
+
+/// Fills a file up to this size with bytes, and with zero bytes behind them. What is left of the bytes.
+fn fill_with<'a>(file: &mut Vec<u8>, size: usize, bytes: &'a [u8]) -> Result<&'a [u8], AllocError> {
+    let room = size.saturating_sub(file.len());
+    let (piece, rest) = bytes.split_at_checked(room).unwrap_or((bytes, b""));
+    file.extend_from_slice(piece)?;
+    file.resize(size, 0)?;
+    Ok(rest)
 }
 
 /// Where the chunk of this header ends that begins at a place.
@@ -98,7 +94,7 @@ pub fn rehash(alloc: Global, file: &mut [u8], place: usize) -> Result<bool, Allo
         return Ok(false);
     }
     let bytes = bytes_at(alloc, file, fields)?;
-    put_at(file, hash, hash_lanes(&RIEGELI, &bytes));
+    put_at(file, hash, &hash_lanes(&RIEGELI, &bytes).to_le_bytes());
     Ok(true)
 }
 
@@ -130,11 +126,11 @@ pub fn bytes_at(alloc: Global, file: &[u8], places: &[usize]) -> Result<Vec<u8>,
     Ok(bytes)
 }
 
-/// Puts a number of up to eight bytes at these places, its lowest byte at the first one.
-pub fn put_at(file: &mut [u8], places: &[usize], number: u64) {
-    for (at, byte) in places.iter().zip(number.to_le_bytes()) {
+/// Puts bytes at these places, the first at the first one.
+pub fn put_at(file: &mut [u8], places: &[usize], bytes: &[u8]) {
+    for (at, byte) in places.iter().zip(bytes) {
         if let Some(old) = file.get_mut(*at) {
-            *old = byte;
+            *old = *byte;
         }
     }
 }

@@ -1,10 +1,12 @@
 //! Files that are read or grown, and how statements change them.
 
 use crate::bytes::bytes_of;
-use crate::chunks::{kind_of, lay, rehash};
+use crate::chunks::{header_of, kind_of, lay, rehash};
 use crate::names::Known;
-use crate::words::{Statement, number_of};
+use crate::words::{Statement, number_of, one_number, refused, refused_size};
 use anyhow::{Result, bail};
+use chunk_header::Header;
+use highway_hash::{RIEGELI, hash_lanes};
 use std::alloc::Global;
 
 /// A file that is read or grown.
@@ -35,58 +37,61 @@ pub fn change(
     file: &mut GivenFile,
     statement: &Statement,
 ) -> Result<()> {
-    let bytes = &mut file.bytes;
-    match (statement.kind(), statement.rest()) {
-        ("cut", [size]) => cut(bytes, number_of(size.as_str())?),
-        ("zeros", [size]) => fill_up(bytes, number_of(size.as_str())?),
-        ("flip", [places @ ..]) => flip(bytes, places),
-        ("put", [place, words @ ..]) => {
-            let new = bytes_of(alloc, known, words)?;
-            put(bytes, number_of(place.as_str())?, &new)
-        }
-        ("rehash", [place]) => mend(alloc, bytes, number_of(place.as_str())?),
-        ("chunk", [kind, records, decoded, words @ ..]) => {
-            let data = bytes_of(alloc, known, words)?;
-            let records = number_of(records.as_str())?;
-            let decoded = number_of(decoded.as_str())?;
-            lay(
-                alloc,
-                bytes,
-                kind_of(alloc, kind.as_str())?,
-                records,
-                decoded,
-                &data,
-            )
-        }
-        ("sound", []) => {
+    let words = statement.rest();
+    match statement.kind() {
+        "sound" if words.is_empty() => {
             file.sound = true;
             Ok(())
         }
-        ("untold", [size]) => {
-            let size = number_of(size.as_str())?;
-            if size < bytes.len() {
-                bail!("the file has more bytes: {}", bytes.len());
-            }
-            file.untold = Some(size as u64);
-            Ok(())
-        }
-        (kind, _) => bail!("no such statement, or not with these words: {kind}"),
+        "untold" => tell_nothing(file, words),
+        kind => change_bytes(alloc, known, &mut file.bytes, kind, words),
     }
 }
 
-/// Cuts a file to this size.
-fn cut(file: &mut Vec<u8>, size: usize) -> Result<()> {
+/// Carries out a statement that changes the bytes of a file.
+fn change_bytes(
+    alloc: Global,
+    known: &Known,
+    bytes: &mut Vec<u8>,
+    kind: &str,
+    words: &[String],
+) -> Result<()> {
+    match kind {
+        "cut" => cut(bytes, words),
+        "zeros" => fill_up(bytes, words),
+        "flip" => flip(bytes, words),
+        "put" => put(alloc, known, bytes, words),
+        "rehash" => mend(alloc, bytes, words),
+        "chunk" => add_chunk(alloc, known, bytes, words),
+        _ => Err(refused("no such statement, or not with these words", kind)),
+    }
+}
+
+/// Lets a file tell nothing of its bytes, and have the size that the words are.
+fn tell_nothing(file: &mut GivenFile, words: &[String]) -> Result<()> {
+    let size = one_number(words)?;
+    if size < file.bytes.len() {
+        return Err(refused_size("the file has more bytes", file.bytes.len()));
+    }
+    file.untold = Some(size as u64);
+    Ok(())
+}
+
+/// Cuts a file to the size that the words are.
+fn cut(file: &mut Vec<u8>, words: &[String]) -> Result<()> {
+    let size = one_number(words)?;
     if size > file.len() {
-        bail!("the file has fewer bytes: {}", file.len());
+        return Err(refused_size("the file has fewer bytes", file.len()));
     }
     file.truncate(size);
     Ok(())
 }
 
-/// Fills a file up to this size with zero bytes.
-fn fill_up(file: &mut Vec<u8>, size: usize) -> Result<()> {
+/// Fills a file up to the size that the words are with zero bytes.
+fn fill_up(file: &mut Vec<u8>, words: &[String]) -> Result<()> {
+    let size = one_number(words)?;
     if size < file.len() {
-        bail!("the file has more bytes: {}", file.len());
+        return Err(refused_size("the file has more bytes", file.len()));
     }
     Ok(file.resize(size, 0)?)
 }
@@ -105,8 +110,9 @@ fn flip(file: &mut [u8], places: &[String]) -> Result<()> {
     Ok(())
 }
 
-/// Makes the hash of the chunk header right that begins at a place.
-fn mend(alloc: Global, file: &mut [u8], place: usize) -> Result<()> {
+/// Makes the hash of the chunk header right that begins at the place that the words are.
+fn mend(alloc: Global, file: &mut [u8], words: &[String]) -> Result<()> {
+    let place = one_number(words)?;
     if !rehash(alloc, file, place)? {
         bail!("no chunk header at {place}");
     }
@@ -114,12 +120,44 @@ fn mend(alloc: Global, file: &mut [u8], place: usize) -> Result<()> {
 }
 
 /// Puts bytes in the place of others.
-fn put(file: &mut [u8], place: usize, new: &[u8]) -> Result<()> {
+fn put(alloc: Global, known: &Known, file: &mut [u8], words: &[String]) -> Result<()> {
+    let Some((place, words)) = words.split_first() else {
+        bail!("no place");
+    };
+    let place = number_of(place.as_str())?;
+    put_bytes(file, place, &bytes_of(alloc, known, words)?)
+}
+
+/// Puts these bytes at a place.
+fn put_bytes(file: &mut [u8], place: usize, new: &[u8]) -> Result<()> {
     if place > file.len() || new.len() > file.len() - place {
         bail!("not so many bytes at {place}");
     }
     file[place..place + new.len()].copy_from_slice(new);
     Ok(())
+}
+
+/// Lays a chunk of a kind, a number of records, a decoded size and bytes.
+fn add_chunk(alloc: Global, known: &Known, file: &mut Vec<u8>, words: &[String]) -> Result<()> {
+    let Some((fields, words)) = words.split_first_chunk::<3>() else {
+        bail!("no kind, number of records and decoded size");
+    };
+    let data = bytes_of(alloc, known, words)?;
+    lay(alloc, file, &header_over(alloc, fields, &data)?, &data)
+}
+
+/// The header of a kind, a number of records and a decoded size, over this data.
+fn header_over(alloc: Global, fields: &[String; 3], data: &[u8]) -> Result<Header> {
+    let kind = kind_of(alloc, fields[0].as_str())?;
+    let records = number_of(fields[1].as_str())?;
+    let decoded = number_of(fields[2].as_str())?;
+    header_of(
+        kind,
+        records,
+        decoded,
+        data.len(),
+        hash_lanes(&RIEGELI, data),
+    )
 }
 
 /// Lets the last file stand so many times.

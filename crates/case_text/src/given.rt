@@ -3,7 +3,7 @@
 use crate::bytes::bytes_of;
 use crate::files::{GivenFile, change, copy};
 use crate::names::Known;
-use crate::words::{Statement, count_of, one_number};
+use crate::words::{Statement, count_of, one_number, refused};
 use anyhow::{Result, bail};
 use std::alloc::{AllocError, Global};
 
@@ -31,7 +31,7 @@ impl Object {
             "grown" => Ok(Object::Grown),
             "out" => Ok(Object::Out),
             "notes" => Ok(Object::Notes),
-            _ => bail!("no such object: {word}"),
+            _ => Err(refused("no such object", word)),
         }
     }
 
@@ -100,21 +100,39 @@ impl Given {
     pub fn carry_out(&mut self, alloc: Global, known: &Known, statement: &Statement) -> Result<()> {
         let words = statement.rest();
         match statement.kind() {
-            "input" => self.input = Some(bytes_of(alloc, known, words)?),
-            "copies" => copy(alloc, &mut self.files, one_number(words)?)?,
-            "grows" => self.grow_last(words)?,
-            "cuts" => self.cuts = cuts_of(alloc, words)?,
-            "fails" => set_fails(&mut self.fails, words)?,
-            "room" => self.room = Some(one_number(words)?),
-            _ => match self.files.last_mut() {
-                Some(file) => change(alloc, known, file, statement)?,
-                None => bail!(
-                    "no such statement, or no file above it: {}",
-                    statement.kind()
-                ),
-            },
+            "input" => self.take_input(alloc, known, words),
+            "copies" => self.copy_last(alloc, words),
+            "grows" => self.grow_last(words),
+            "cuts" => set_cuts(&mut self.cuts, words),
+            "fails" => set_fails(&mut self.fails, words),
+            "room" => self.take_room(words),
+            _ => self.change_last(alloc, known, statement),
         }
+    }
+
+    /// Lets the bytes of these words be standard input.
+    fn take_input(&mut self, alloc: Global, known: &Known, words: &[String]) -> Result<()> {
+        self.input = Some(bytes_of(alloc, known, words)?);
         Ok(())
+    }
+
+    /// Lets the last file stand as often as the words say.
+    fn copy_last(&mut self, alloc: Global, words: &[String]) -> Result<()> {
+        copy(alloc, &mut self.files, one_number(words)?)
+    }
+
+    /// Takes in how many bytes there is room for.
+    fn take_room(&mut self, words: &[String]) -> Result<()> {
+        self.room = Some(one_number(words)?);
+        Ok(())
+    }
+
+    /// Carries out a statement that changes the last file.
+    fn change_last(&mut self, alloc: Global, known: &Known, statement: &Statement) -> Result<()> {
+        match self.files.last_mut() {
+            Some(file) => change(alloc, known, file, statement),
+            None => Err(refused("no such statement, or no file above it", statement.kind())),
+        }
     }
 
     /// Lets the last file be grown in place of being read.
@@ -130,27 +148,27 @@ impl Given {
     }
 }
 
-/// The numbers of bytes that these words are, of which there are some.
-fn cuts_of(alloc: Global, words: &[String]) -> Result<Vec<u32>> {
+/// Lets the numbers that these words are, of which there are some, take the place of others.
+fn set_cuts(cuts: &mut Vec<u32>, words: &[String]) -> Result<()> {
     if words.is_empty() {
         bail!("no number");
     }
-    let mut cuts = Vec::new(alloc);
+    cuts.clear();
     for word in words {
         cuts.push(count_of(word.as_str())?)?;
     }
-    Ok(cuts)
+    Ok(())
 }
 
 /// Takes in the calls of `OBJECT N .. A..B ..` in place of those of this object before.
 fn set_fails(fails: &mut Vec<(Object, u32)>, words: &[String]) -> Result<()> {
-    let Some((object, calls)) = words.split_first() else {
+    let [object, calls @ ..] = words else {
         bail!("no object");
     };
-    let object = Object::named(object.as_str())?;
     if calls.is_empty() {
         bail!("no number");
     }
+    let object = Object::named(object.as_str())?;
     fails.retain(|(failing, _)| *failing != object);
     for word in calls {
         add_fails(fails, object, word.as_str())?;
@@ -160,12 +178,16 @@ fn set_fails(fails: &mut Vec<(Object, u32)>, words: &[String]) -> Result<()> {
 
 /// Adds the calls of `N` or `A..B`.
 fn add_fails(fails: &mut Vec<(Object, u32)>, object: Object, word: &str) -> Result<()> {
-    let Some((from, to)) = word.split_once("..") else {
-        return Ok(fails.push((object, count_of(word)?))?);
-    };
-    let (from, to) = (count_of(from)?, count_of(to)?);
+    match word.split_once("..") {
+        Some((from, to)) => add_calls(fails, object, count_of(from)?, count_of(to)?),
+        None => Ok(fails.push((object, count_of(word)?))?),
+    }
+}
+
+/// Adds the calls from one on below another one, of which there are some.
+fn add_calls(fails: &mut Vec<(Object, u32)>, object: Object, from: u32, to: u32) -> Result<()> {
     if from >= to {
-        bail!("an empty range: {word}");
+        bail!("an empty range");
     }
     for call in from..to {
         fails.push((object, call))?;

@@ -123,15 +123,24 @@ fn change(
 ) -> Result<(), AllocError> {
     let begin = begins.get(draws.below(begins.len())).copied().unwrap_or(0);
     match draws.below(9) {
+        2 => move_part(alloc, file, draws),
+        5 | 6 => change_header(alloc, file, begin, draws),
+        7 => change_data(alloc, file, begin, draws),
+        way => {
+            change_in_place(file, way, draws);
+            Ok(())
+        }
+    }
+}
+
+/// Changes a file in one of the ways that need no memory.
+fn change_in_place(file: &mut Vec<u8>, way: usize, draws: &mut Draws) {
+    match way {
         0 => cut(file, draws),
         1 => change_part(file, draws),
-        2 => move_part(alloc, file, draws)?,
         3 | 4 => change_block(file, draws),
-        5 | 6 => change_header(alloc, file, begin, draws)?,
-        7 => change_data(alloc, file, begin, draws)?,
         _ => change_byte(file, draws),
     }
-    Ok(())
 }
 
 /// Cuts the file anywhere.
@@ -211,7 +220,7 @@ fn change_header(
         .and_then(|rest| rest.get(..size))
         .unwrap_or(&[]);
     let old = number_at(file, field);
-    put_at(file, field, draws.number(old));
+    put_at(file, field, &draws.number(old).to_le_bytes());
     if draws.below(8) > 0 {
         let _whole = rehash(alloc, file, begin)?;
     }
@@ -238,19 +247,27 @@ fn change_data(
     let Some((header, rest)) = places.split_first_chunk::<HEADER_SIZE>() else {
         return Ok(());
     };
-    let size = number_at(file, &header[8..16]);
-    if size > rest.len() as u64 {
+    let size = number_at(file, &header[8..16]) as usize;
+    let Some(data) = rest.get(..size) else {
         return Ok(());
-    }
-    let data = &rest[..size as usize];
-    let mut bytes = bytes_at(alloc, file, data)?;
+    };
+    let hash = change_bytes(alloc, file, data, draws)?;
+    put_at(file, &header[16..24], &hash.to_le_bytes());
+    let _whole = rehash(alloc, file, begin)?;
+    Ok(())
+}
+
+/// Changes some of the bytes at these places of a file. The hash of all of them then.
+fn change_bytes(
+    alloc: Global,
+    file: &mut [u8],
+    places: &[usize],
+    draws: &mut Draws,
+) -> Result<u64, AllocError> {
+    let mut bytes = bytes_at(alloc, file, places)?;
     for _ in 0..=draws.below(3) {
         change_byte(&mut bytes, draws);
     }
-    for (at, byte) in data.iter().zip(&bytes) {
-        put_at(file, &[*at], u64::from(*byte));
-    }
-    put_at(file, &header[16..24], hash_lanes(&RIEGELI, &bytes));
-    let _whole = rehash(alloc, file, begin)?;
-    Ok(())
+    put_at(file, places, &bytes);
+    Ok(hash_lanes(&RIEGELI, &bytes))
 }

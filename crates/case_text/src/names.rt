@@ -1,6 +1,7 @@
 //! Names of bytes.
 
-use anyhow::{Result, bail};
+use crate::words::refused;
+use anyhow::Result;
 use std::alloc::{AllocError, Global};
 
 /// Bytes with a name.
@@ -43,11 +44,14 @@ impl Known {
 
     /// The bytes of this name.
     pub fn bytes(&self, name: &str) -> Result<&[u8]> {
-        for named in self.names.iter().rev() {
-            if named.name.as_str() == name {
-                return Ok(named.bytes.as_slice());
-            }
+        match self.named(name) {
+            Some(named) => Ok(named.bytes.as_slice()),
+            None => Err(refused("no such name", name)),
         }
-        bail!("no such name: {name}")
+    }
+
+    /// The youngest bytes of this name, if there are some.
+    fn named(&self, name: &str) -> Option<&Named> {
+        self.names.iter().rfind(|named| named.name.as_str() == name)
     }
 }

@@ -31,33 +31,46 @@ pub fn unescaped(alloc: Global, text: &str) -> Result<Vec<u8>> {
     let mut bytes = Vec::new(alloc);
     let mut rest = text.as_bytes();
     for _ in 0..text.len() {
-        let Some((first, after)) = rest.split_first() else {
+        let Some((byte, after)) = first_byte(rest)? else {
             break;
         };
+        bytes.push(byte)?;
         rest = after;
-        match *first {
-            b'"' => bail!("a text goes on behind its end"),
-            b'\\' => {
-                let (byte, after) = escaped(rest)?;
-                bytes.push(byte)?;
-                rest = after;
-            }
-            byte => bytes.push(byte)?,
-        }
     }
     Ok(bytes)
 }
 
+/// The first byte that a text says and what follows it, if it isn't empty.
+fn first_byte(text: &[u8]) -> Result<Option<(u8, &[u8])>> {
+    match text {
+        [] => Ok(None),
+        [b'"', ..] => bail!("a text goes on behind its end"),
+        [b'\\', rest @ ..] => Ok(Some(escaped(rest)?)),
+        [byte, rest @ ..] => Ok(Some((*byte, rest))),
+    }
+}
+
 /// The byte that stands behind a backslash, and what follows.
 fn escaped(text: &[u8]) -> Result<(u8, &[u8])> {
-    match text {
-        [b'n', rest @ ..] => Ok((b'\n', rest)),
-        [b'r', rest @ ..] => Ok((b'\r', rest)),
-        [b'0', rest @ ..] => Ok((0, rest)),
-        [b'\\', rest @ ..] => Ok((b'\\', rest)),
-        [b'"', rest @ ..] => Ok((b'"', rest)),
-        [b'x', high, low, rest @ ..] => Ok((digit(*high)? << 4 | digit(*low)?, rest)),
+    let [first, rest @ ..] = text else {
+        bail!("nothing behind a backslash");
+    };
+    let byte = match *first {
+        b'n' => b'\n',
+        b'r' => b'\r',
+        b'0' => 0,
+        b'\\' | b'"' => *first,
+        b'x' => return byte_of_digits(rest),
         _ => bail!("nothing known behind a backslash"),
+    };
+    Ok((byte, rest))
+}
+
+/// The byte of two hexadecimal digits, and what follows.
+fn byte_of_digits(text: &[u8]) -> Result<(u8, &[u8])> {
+    match text {
+        [high, low, rest @ ..] => Ok((digit(*high)? << 4 | digit(*low)?, rest)),
+        _ => bail!("not two hexadecimal digits"),
     }
 }
 

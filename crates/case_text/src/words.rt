@@ -1,6 +1,6 @@
 //! Statements, and the words and numbers that they are made of.
 
-use anyhow::{Result, bail};
+use anyhow::{Error, Result, anyhow, bail};
 use std::alloc::{AllocError, Global};
 use std::ops::Range;
 
@@ -62,8 +62,9 @@ fn filled_with(
 /// The statements of a text. A line without a word is no part of any.
 pub fn statements_of(alloc: Global, text: &str) -> Result<Vec<Statement>> {
     let mut statements = Vec::new(alloc);
-    for (number, line) in text.split('\n').enumerate() {
-        let number = (number as u64).saturating_add(1);
+    let mut number = 0_u64;
+    for line in text.split('\n') {
+        number = number.saturating_add(1);
         take_line(alloc, &mut statements, number, line)?;
     }
     Ok(statements)
@@ -71,31 +72,21 @@ pub fn statements_of(alloc: Global, text: &str) -> Result<Vec<Statement>> {
 
 /// Takes in a line: a statement, or more words of the last one.
 fn take_line(alloc: Global, statements: &mut Vec<Statement>, line: u64, text: &str) -> Result<()> {
-    let words = words_of(alloc, text)?;
-    if words.is_empty() {
+    if first_word(text).is_none() {
         return Ok(());
     }
     if !text.starts_with(' ') {
+        let words = Vec::new(alloc);
         statements.push(Statement { line, words })?;
-        return Ok(());
     }
     match statements.last_mut() {
-        Some(statement) => Ok(add_words(&mut statement.words, words)?),
+        Some(statement) => Ok(add_words(alloc, &mut statement.words, text)?),
         None => bail!("line {line}: no statement stands above it"),
     }
 }
 
-/// Adds words to others.
-fn add_words(words: &mut Vec<String>, more: Vec<String>) -> Result<(), AllocError> {
-    for word in more {
-        words.push(word)?;
-    }
-    Ok(())
-}
-
-/// The words of a line up to a comment.
-fn words_of(alloc: Global, line: &str) -> Result<Vec<String>, AllocError> {
-    let mut words = Vec::new(alloc);
+/// Adds the words of a line up to a comment.
+fn add_words(alloc: Global, words: &mut Vec<String>, line: &str) -> Result<(), AllocError> {
     let mut rest = line;
     for _ in 0..line.len() {
         let Some((word, after)) = first_word(rest) else {
@@ -104,7 +95,7 @@ fn words_of(alloc: Global, line: &str) -> Result<Vec<String>, AllocError> {
         words.push(String::from_str(alloc, word)?)?;
         rest = after;
     }
-    Ok(words)
+    Ok(())
 }
 
 /// The first word of a text and what follows it, unless a comment comes first.
@@ -133,11 +124,21 @@ fn end_of_word(text: &str) -> usize {
     text.len()
 }
 
+/// Why a word can't be taken in.
+pub fn refused(what: &str, word: &str) -> Error {
+    anyhow!("{what}: {word}")
+}
+
+/// Why something can't be done with a file of this size.
+pub(crate) fn refused_size(what: &str, size: usize) -> Error {
+    anyhow!("{what}: {size}")
+}
+
 /// The decimal number of these digits.
 pub fn number_of(digits: &str) -> Result<usize> {
     match digits.parse() {
         Ok(number) => Ok(number),
-        Err(_) => bail!("no number: {digits}"),
+        Err(_) => Err(refused("no number", digits)),
     }
 }
 
@@ -145,7 +146,7 @@ pub fn number_of(digits: &str) -> Result<usize> {
 pub fn count_of(digits: &str) -> Result<u32> {
     match digits.parse() {
         Ok(number) => Ok(number),
-        Err(_) => bail!("no number of 32 bits: {digits}"),
+        Err(_) => Err(refused("no number of 32 bits", digits)),
     }
 }
 
@@ -160,11 +161,11 @@ pub fn one_number(words: &[String]) -> Result<usize> {
 /// The numbers of `A..B`, of which there are some.
 pub fn range_of(text: &str) -> Result<Range<usize>> {
     let Some((from, to)) = text.split_once("..") else {
-        bail!("no range: {text}");
+        return Err(refused("no range", text));
     };
     let (from, to) = (number_of(from)?, number_of(to)?);
     if from >= to {
-        bail!("an empty range: {text}");
+        return Err(refused("an empty range", text));
     }
     Ok(from..to)
 }
