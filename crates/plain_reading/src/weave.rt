@@ -1,104 +1,129 @@
 //! `collect` beside a plain look at the records of each file and at those of the made one.
 
-use crate::search::{Line, lines_of};
+use crate::search::text_lines;
 use crate::walk::walked;
-use anyhow::Result;
-use std::alloc::{AllocError, Global};
+use anyhow::{Result, bail};
+use std::alloc::Global;
 
-/// The records of a made file.
-#[derive(Drop)]
-struct Weave<'a> {
-    records: Vec<Line<'a>>,
-    /// Which of them were found to be of some file.
-    found: Vec<bool>,
-}
-
-impl<'a> Weave<'a> {
-    /// These records, of no file yet.
-    fn new(alloc: Global, records: Vec<Line<'a>>) -> Result<Weave<'a>, AllocError> {
-        let mut found = Vec::new(alloc);
-        found.resize(records.len(), false)?;
-        Ok(Weave { records, found })
-    }
-
-    /// Finds a record of a file at a position, from the record of a number on. The number of the next one, if it is there and of
-    /// no file yet.
-    fn find(&mut self, from: usize, position: u64, record: &str) -> Option<usize> {
-        let gap = self
-            .records
-            .get(from..)?
-            .iter()
-            .position(|line| line.position == position)?;
-        let number = from.saturating_add(gap);
-        let found = self.found.get_mut(number)?;
-        if *found || self.records.get(number)?.record != record {
-            return None;
-        }
-        *found = true;
-        Some(number.saturating_add(1))
-    }
+/// The line that is shown of a record of a made file.
+#[derive(Clone, Copy)]
+struct Shown<'a> {
+    /// The record's position.
+    position: &'a str,
+    record: &'a str,
+    /// Whether it was found to be of some file.
+    found: bool,
 }
 
 /// Whether the printed lines, each a file's number and a position, give each record of each file, as they are shown of it, in
 /// order a place of its own in the made file, one behind another, and leave none out.
 pub fn is_woven(alloc: Global, files: &[Vec<u8>], made: &[u8], printed: &[u8]) -> Result<bool> {
     let (shown, notes) = walked(alloc, made)?;
-    if !notes.is_empty() {
+    if !notes.is_empty() || !(printed.is_empty() || printed.ends_with(b"\n")) {
         return Ok(false);
     }
-    let mut weave = Weave::new(alloc, lines_of(alloc, &shown)?)?;
-    let mut told = String::new(alloc);
-    if !are_woven(alloc, &mut weave, files, printed, &mut told)? {
-        return Ok(false);
-    }
-    let all_found = weave.found.iter().all(|found| *found);
-    Ok(all_found && told.as_str().as_bytes() == printed)
+    let mut records = records_of(alloc, &shown)?;
+    Ok(are_woven(alloc, &mut records, files, printed)? && are_found(&records))
 }
 
-/// Whether the printed lines give each record of each file a place of its own. It tells the lines as they have to be.
+/// The records of these lines, of no file yet.
+fn records_of(alloc: Global, shown: &[u8]) -> Result<Vec<Shown<'_>>> {
+    let lines = text_lines(alloc, shown)?;
+    let mut records = Vec::new(alloc);
+    for line in &lines {
+        let (position, record) = split_line(line)?;
+        records.push(Shown {
+            position,
+            record,
+            found: false,
+        })?;
+    }
+    Ok(records)
+}
+
+/// What stands before the first blank of a line, and behind it.
+fn split_line(line: &str) -> Result<(&str, &str)> {
+    match line.split_once(' ') {
+        Some(parts) => Ok(parts),
+        None => bail!("a line without a position"),
+    }
+}
+
+/// Whether all of these were found to be of some file.
+fn are_found(records: &[Shown<'_>]) -> bool {
+    for record in records {
+        if !record.found {
+            return false;
+        }
+    }
+    true
+}
+
+/// Whether the printed lines give each record of each file a place of its own among these.
 fn are_woven(
     alloc: Global,
-    weave: &mut Weave<'_>,
+    records: &mut [Shown<'_>],
     files: &[Vec<u8>],
     printed: &[u8],
-    told: &mut String,
 ) -> Result<bool> {
-    let Ok(places) = lines_of(alloc, printed) else {
+    let Ok(printed) = text_lines(alloc, printed) else {
         return Ok(false);
     };
     let mut begin = 0_usize;
     for (number, file) in files.iter().enumerate() {
-        let records = lines_of(alloc, file)?;
-        let end = begin.saturating_add(records.len());
-        let Some(own) = places.get(begin..end) else {
+        let own = text_lines(alloc, file)?;
+        let end = begin.saturating_add(own.len());
+        let Some(places) = printed.get(begin..end) else {
             return Ok(false);
         };
-        if !is_one_woven(weave, number, &records, own, told)? {
+        if !is_one_woven(alloc, records, number, &own, places)? {
             return Ok(false);
         }
         begin = end;
     }
-    Ok(true)
+    Ok(begin == printed.len())
 }
 
-/// The same of the file of a number, whose records these are.
+/// The same of the file of a number, of which these lines are shown, and these printed.
 fn is_one_woven(
-    weave: &mut Weave<'_>,
+    alloc: Global,
+    records: &mut [Shown<'_>],
     number: usize,
-    records: &[Line<'_>],
-    places: &[Line<'_>],
-    told: &mut String,
+    shown: &[&str],
+    printed: &[&str],
 ) -> Result<bool> {
+    let number = format!(in alloc; "{number}")?;
     let mut from = 0;
-    for (record, place) in records.iter().zip(places) {
-        let Ok(position) = place.record.parse() else {
-            return Ok(false);
-        };
-        match weave.find(from, position, record.record) {
+    for (line, place) in shown.iter().zip(printed) {
+        let (_, record) = split_line(line)?;
+        match place_of(records, from, place, number.as_str(), record) {
             Some(next) => from = next,
             None => return Ok(false),
         }
-        writeln!(told, "{number} {position}")?;
     }
     Ok(true)
+}
+
+/// Finds the place that a printed line gives a record of the file of a number, from a place on. The next one, if the record
+/// stands there and is of no file yet.
+fn place_of(
+    records: &mut [Shown<'_>],
+    from: usize,
+    printed: &str,
+    number: &str,
+    record: &str,
+) -> Option<usize> {
+    let (file, position) = printed.split_once(' ')?;
+    if file != number {
+        return None;
+    }
+    for at in from..records.len() {
+        let shown = records.get_mut(at)?;
+        if shown.position == position {
+            let is_own = !shown.found && shown.record == record;
+            shown.found = true;
+            return is_own.then_some(at.saturating_add(1));
+        }
+    }
+    None
 }

@@ -2,27 +2,16 @@
 
 use crate::hostile_growth::try_growth;
 use crate::hostile_parts::{try_collected, try_parts};
-use crate::running::{Left, alone, run_words};
+use crate::running::{alone, run_line};
 use crate::tries::Tries;
 use anyhow::{Result, bail};
 use case_text::given::Given;
 use case_text::hostile::{begins_of, hostile};
+use case_text::left::Left;
 use case_text::words::number_of;
 use plain_reading::walk::walked;
 use std::alloc::Global;
 use std::thread::Threads;
-
-/// What the commands leave of a hostile file.
-#[derive(Drop)]
-struct Judged {
-    verified: Left,
-    shown: Left,
-    /// What `show --recover` leaves.
-    recovered: Left,
-    /// The same, with positions.
-    placed: Left,
-    repaired: Left,
-}
 
 /// Makes hostile files of the last file, one for each seed from one on, so many, and tries the commands on each.
 pub(crate) fn try_hostile<R: Threads + Sync>(
@@ -32,6 +21,20 @@ pub(crate) fn try_hostile<R: Threads + Sync>(
     given: &Given,
     words: &[String],
 ) -> Result<()> {
+    let (first, count) = seeds_of(words)?;
+    let file = given.last_file()?.bytes.as_slice();
+    let begins = begins_of(alloc, file)?;
+    for seed in first..first.saturating_add(count) {
+        let made = alone(alloc, hostile(alloc, file, &begins, seed as u64)?)?;
+        if let Err(why) = try_file(rt, alloc, tries, &made) {
+            bail!("the file of seed {seed}: {why}");
+        }
+    }
+    Ok(())
+}
+
+/// The first seed, and how many there are.
+fn seeds_of(words: &[String]) -> Result<(usize, usize)> {
     let [first, count] = words else {
         bail!("not a seed and a count");
     };
@@ -39,150 +42,135 @@ pub(crate) fn try_hostile<R: Threads + Sync>(
     if count == 0 {
         bail!("no hostile file");
     }
-    let file = given.last_file()?.bytes.as_slice();
-    let begins = begins_of(alloc, file)?;
-    for seed in first..first.saturating_add(count) {
-        let file = hostile(alloc, file, &begins, seed as u64)?;
-        let given = alone(alloc, file)?;
-        if let Some(why) = try_file(rt, alloc, tries, &given)? {
-            bail!("the file of seed {seed}: {why}");
-        }
-    }
-    Ok(())
+    Ok((first, count))
 }
 
-/// Tries the commands on a file. Tells what is wrong.
+/// Tries the commands on a file.
 fn try_file<R: Threads + Sync>(
     rt: &R,
     alloc: Global,
     tries: &mut Tries,
     given: &Given,
-) -> Result<Option<&'static str>> {
-    let judged = Judged {
-        verified: run_words(rt, alloc, tries, given, &["verify", "F"])?,
-        shown: run_words(rt, alloc, tries, given, &["show", "F"])?,
-        recovered: run_words(rt, alloc, tries, given, &["show", "--recover", "F"])?,
-        placed: run_words(
-            rt,
-            alloc,
-            tries,
-            given,
-            &["show", "--recover", "--positions", "F"],
-        )?,
-        repaired: run_words(rt, alloc, tries, given, &["repair", "F", "G"])?,
-    };
-    if let Some(why) = judged.strictly() {
-        return Ok(Some(why));
-    }
-    if !judged.is_walked(alloc, &given.last_file()?.bytes)? {
-        return Ok(Some("show --recover differs from the plain walk"));
-    }
-    if !judged.is_repaired(alloc)? {
-        return Ok(Some("repair tells of other ranges"));
-    }
-    let made = judged.repaired.made.taken().to_vec(alloc)?;
-    let repaired = try_repaired(rt, alloc, tries, &judged, &alone(alloc, made)?)?;
-    if repaired.is_some() {
-        return Ok(repaired);
-    }
-    try_again(rt, alloc, tries, given, &judged)
-}
-
-/// Grows the file, reads it in parts and collects it. Tells what is wrong.
-fn try_again<R: Threads + Sync>(
-    rt: &R,
-    alloc: Global,
-    tries: &mut Tries,
-    given: &Given,
-    judged: &Judged,
-) -> Result<Option<&'static str>> {
+) -> Result<()> {
     let file = given.last_file()?.bytes.as_slice();
-    let grown = try_growth(rt, alloc, tries, file, &judged.verified)?;
-    if grown.is_some() {
-        return Ok(grown);
-    }
-    let parts = try_parts(rt, alloc, tries, file, &judged.shown)?;
-    if parts.is_some() {
-        return Ok(parts);
-    }
-    try_collected(rt, alloc, tries, given, &judged.shown)
+    let verified = run_line(rt, alloc, tries, given, "verify F")?;
+    let shown = run_line(rt, alloc, tries, given, "show F")?;
+    check_refusal(&verified, &shown)?;
+    try_recovered(rt, alloc, tries, given, &shown)?;
+    try_growth(rt, alloc, tries, file, &verified)?;
+    try_parts(rt, alloc, tries, file, &shown)?;
+    try_collected(rt, alloc, tries, given, &shown)
 }
 
-/// Tries the commands on the file that `repair` made. Tells what is wrong.
-fn try_repaired<R: Threads + Sync>(
-    rt: &R,
-    alloc: Global,
-    tries: &mut Tries,
-    judged: &Judged,
-    given: &Given,
-) -> Result<Option<&'static str>> {
-    let verified = run_words(rt, alloc, tries, given, &["verify", "G"])?;
-    if verified.status != 0 || verified.out.taken() != judged.repaired.out.taken() {
-        return Ok(Some("the repaired file isn't that of the report"));
+/// Checks how `verify` and `show` refused a file, or didn't.
+fn check_refusal(verified: &Left, shown: &Left) -> Result<()> {
+    if verified.status > 1 || shown.status > 1 {
+        bail!("verify or show has another status");
     }
-    let shown = run_words(rt, alloc, tries, given, &["show", "--recover", "G"])?;
-    if shown.out.taken() != judged.recovered.out.taken() {
-        return Ok(Some("the repaired file has other records"));
+    if verified.status > shown.status {
+        bail!("verify refuses what show doesn't");
     }
-    Ok(None)
+    if verified.notes != shown.notes && !is_unread(text_of(&shown.notes)) {
+        bail!("verify and show refuse for other reasons");
+    }
+    Ok(())
 }
 
-/// Whether a line tells of a range that `show --recover` skips and `repair` copies unread.
+/// The text that bytes are, or none.
+fn text_of(bytes: &[u8]) -> &str {
+    str::from_utf8(bytes).unwrap_or("")
+}
+
+/// Whether a line tells of a chunk that `verify` leaves unread, `show --recover` skips and `repair` copies unread.
 fn is_unread(line: &str) -> bool {
     line.ends_with(" Compressed\n") || line.ends_with(" Transposed\n")
 }
 
-impl Judged {
-    /// What is wrong with what `verify` and `show` left, if anything.
-    fn strictly(&self) -> Option<&'static str> {
-        let whole = self.recovered.out.taken();
-        let (verify, show) = (self.verified.notes.taken(), self.shown.notes.taken());
-        if self.verified.status > 1 || self.shown.status > 1 {
-            Some("verify or show has another status")
-        } else if self.verified.status > self.shown.status {
-            Some("verify refuses what show doesn't")
-        } else if verify != show && !tells_unread(show) {
-            Some("verify and show refuse for other reasons")
-        } else if self.shown.status == 0 && self.shown.out.taken() != whole {
-            Some("show has not all records of a whole file")
-        } else if !whole.starts_with(self.shown.out.taken()) {
-            Some("show has other records than show --recover")
-        } else {
-            None
-        }
-    }
-
-    /// Whether `show --recover` left what a plain walk over the file gives.
-    fn is_walked(&self, alloc: Global, file: &[u8]) -> Result<bool> {
-        let (out, notes) = walked(alloc, file)?;
-        let status = if notes.is_empty() { 0 } else { 9 };
-        Ok(
-            self.placed.status == status
-                && self.recovered.status == status
-                && self.placed.out.taken() == out.as_slice()
-                && self.placed.notes.taken() == notes.as_slice()
-                && self.recovered.notes.taken() == notes.as_slice(),
-        )
-    }
-
-    /// Whether `repair` tells of the ranges of `show --recover` but those of chunks that it copies unread.
-    fn is_repaired(&self, alloc: Global) -> Result<bool> {
-        let mut told = String::new(alloc);
-        let skipped = str::from_utf8(self.recovered.notes.taken()).unwrap_or("");
-        for line in skipped.split_inclusive('\n') {
-            if !is_unread(line) {
-                told.push_str(line)?;
-            }
-        }
-        let status = if told.as_str().is_empty() { 0 } else { 9 };
-        Ok(
-            self.repaired.status == status
-                && self.repaired.notes.taken() == told.as_str().as_bytes(),
-        )
-    }
+/// Tries `show --recover` and `repair`, where this is what `show` left.
+fn try_recovered<R: Threads + Sync>(
+    rt: &R,
+    alloc: Global,
+    tries: &mut Tries,
+    given: &Given,
+    shown: &Left,
+) -> Result<()> {
+    let recovered = run_line(rt, alloc, tries, given, "show --recover F")?;
+    check_front(shown, &recovered)?;
+    let placed = run_line(rt, alloc, tries, given, "show --recover --positions F")?;
+    check_walk(alloc, given, &recovered, &placed)?;
+    try_repair(rt, alloc, tries, given, &recovered)
 }
 
-/// Whether `show` refused a chunk that `verify` leaves unread.
-fn tells_unread(notes: &[u8]) -> bool {
-    is_unread(str::from_utf8(notes).unwrap_or(""))
+/// Checks that `show` left the front of what is recovered.
+fn check_front(shown: &Left, recovered: &Left) -> Result<()> {
+    if shown.status == 0 && shown.out != recovered.out {
+        bail!("show has not all records of a whole file");
+    }
+    if !recovered.out.starts_with(&shown.out) {
+        bail!("show has other records than show --recover");
+    }
+    Ok(())
+}
+
+/// Checks that `show --recover` left what a plain walk over the file gives, without positions and with them.
+fn check_walk(alloc: Global, given: &Given, recovered: &Left, placed: &Left) -> Result<()> {
+    let (out, notes) = walked(alloc, &given.last_file()?.bytes)?;
+    let is_walked = has_notes(recovered, &notes) && has_notes(placed, &notes);
+    if !is_walked || placed.out != out {
+        bail!("show --recover differs from the plain walk");
+    }
+    Ok(())
+}
+
+/// Whether a run told of these ranges, and its status says whether there are some.
+fn has_notes(left: &Left, notes: &[u8]) -> bool {
+    let status = if notes.is_empty() { 0 } else { 9 };
+    left.status == status && left.notes.as_slice() == notes
+}
+
+/// Tries `repair`, and the commands on the file that it makes, where this is what `show --recover` left.
+fn try_repair<R: Threads + Sync>(
+    rt: &R,
+    alloc: Global,
+    tries: &mut Tries,
+    given: &Given,
+    recovered: &Left,
+) -> Result<()> {
+    let repaired = run_line(rt, alloc, tries, given, "repair F G")?;
+    let told = told_by_repair(alloc, text_of(&recovered.notes))?;
+    if !has_notes(&repaired, told.as_str().as_bytes()) {
+        bail!("repair tells of other ranges");
+    }
+    try_repaired(rt, alloc, tries, &repaired, recovered)
+}
+
+/// Tries the commands on the file that `repair` made.
+fn try_repaired<R: Threads + Sync>(
+    rt: &R,
+    alloc: Global,
+    tries: &mut Tries,
+    repaired: &Left,
+    recovered: &Left,
+) -> Result<()> {
+    let made = alone(alloc, repaired.made.to_vec(alloc)?)?;
+    let verified = run_line(rt, alloc, tries, &made, "verify G")?;
+    if verified.status != 0 || verified.out != repaired.out {
+        bail!("the repaired file isn't that of the report");
+    }
+    let shown = run_line(rt, alloc, tries, &made, "show --recover G")?;
+    if shown.out != recovered.out {
+        bail!("the repaired file has other records");
+    }
+    Ok(())
+}
+
+/// The lines of these but those of chunks that `repair` copies unread.
+fn told_by_repair(alloc: Global, skipped: &str) -> Result<String> {
+    let mut told = String::new(alloc);
+    for line in skipped.split_inclusive('\n') {
+        if !is_unread(line) {
+            told.push_str(line)?;
+        }
+    }
+    Ok(told)
 }

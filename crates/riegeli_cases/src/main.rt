@@ -2,9 +2,7 @@
 //! `docs/CASES.md` has their language. The arguments name the files of cases, and standard input has names for all of them.
 #![tactic(auto)]
 
-mod answers;
 mod cases;
-mod facts;
 mod faults;
 mod hostile_files;
 mod hostile_growth;
@@ -13,7 +11,6 @@ mod running;
 mod sought;
 mod stores;
 mod tally;
-mod telling;
 mod trial;
 mod tries;
 mod written;

@@ -5,6 +5,7 @@ use crate::tries::Tries;
 use anyhow::{Result, bail};
 use case_text::files::GivenFile;
 use case_text::given::{Given, Object};
+use case_text::left::Left;
 use record_append::{Device, MemDevice};
 use record_io::{MemInput, MemSink, MemStore, Store};
 use riegeli_tool::run;
@@ -17,41 +18,6 @@ const ROOM: usize = 1 << 18;
 /// How many bytes a sink has room for, for each byte that a run is given.
 const ROOM_FOR_EACH: usize = 4;
 
-/// What a run left.
-#[derive(Drop)]
-pub(crate) struct Left {
-    pub(crate) status: u8,
-    pub(crate) made: MemSink,
-    pub(crate) out: MemSink,
-    pub(crate) notes: MemSink,
-    /// The bytes that the grown file had and then has, which are none where it is an untold one.
-    old: Vec<u8>,
-    grown: Vec<u8>,
-    /// How many bytes the last file handed out, where it is an untold one.
-    pub(crate) handed: u64,
-}
-
-impl Left {
-    /// The bytes that the object took, or that it has where it is grown.
-    pub(crate) fn taken(&self, object: Object) -> &[u8] {
-        match object {
-            Object::Made => self.made.taken(),
-            Object::Grown => &self.grown,
-            Object::Out => self.out.taken(),
-            Object::Notes => self.notes.taken(),
-            Object::Input | Object::File => b"",
-        }
-    }
-
-    /// The same where nothing is done with the object.
-    pub(crate) fn before(&self, object: Object) -> &[u8] {
-        match object {
-            Object::Grown => &self.old,
-            _ => b"",
-        }
-    }
-}
-
 /// A file by itself, which tells no bytes, since then no run copies it.
 pub(crate) fn alone(alloc: Global, bytes: Vec<u8>) -> Result<Given> {
     let mut file = GivenFile::new(bytes);
@@ -59,6 +25,21 @@ pub(crate) fn alone(alloc: Global, bytes: Vec<u8>) -> Result<Given> {
     let mut given = Given::new(alloc);
     given.files.push(file)?;
     Ok(given)
+}
+
+/// Runs the words of a line over what is given.
+pub(crate) fn run_line<R: Threads + Sync>(
+    rt: &R,
+    alloc: Global,
+    tries: &mut Tries,
+    given: &Given,
+    line: &str,
+) -> Result<Left> {
+    let mut words = Vec::new(alloc);
+    for word in line.split(' ') {
+        words.push(String::from_str(alloc, word)?)?;
+    }
+    run_in_memory(rt, alloc, &words, given, &mut tries.runs)
 }
 
 /// Runs the words over what is given.
@@ -70,14 +51,35 @@ pub(crate) fn run_in_memory<R: Threads + Sync>(
     runs: &mut u64,
 ) -> Result<Left> {
     *runs = runs.saturating_add(1);
-    if given.files.iter().any(|file| file.untold.is_some()) {
-        return run_over_untold(rt, alloc, words, given);
+    if are_told(&given.files) {
+        Ok(run_over_told(rt, alloc, words, given)?)
+    } else {
+        run_over_untold(rt, alloc, words, given)
     }
+}
+
+/// Whether each of these files tells its bytes.
+fn are_told(files: &[GivenFile]) -> bool {
+    for file in files {
+        if file.untold.is_some() {
+            return false;
+        }
+    }
+    true
+}
+
+/// Runs the words where each file tells its bytes.
+fn run_over_told<R: Threads + Sync>(
+    rt: &R,
+    alloc: Global,
+    words: &[String],
+    given: &Given,
+) -> Result<Left, AllocError> {
     let mut files = Vec::new(alloc);
     for file in &given.files {
         files.push(store_of(alloc, given, file)?)?;
     }
-    Ok(run_over(rt, alloc, words, given, &mut files)?)
+    run_over(rt, alloc, words, given, &mut files)
 }
 
 /// The store that this file is.
@@ -91,22 +93,7 @@ fn store_of(alloc: Global, given: &Given, file: &GivenFile) -> Result<MemStore, 
     Ok(MemStore::new(file.bytes.to_vec(alloc)?, cuts, fails))
 }
 
-/// Runs these words over what is given.
-pub(crate) fn run_words<R: Threads + Sync>(
-    rt: &R,
-    alloc: Global,
-    tries: &mut Tries,
-    given: &Given,
-    words: &[&str],
-) -> Result<Left> {
-    let mut command = Vec::new(alloc);
-    for word in words {
-        command.push(String::from_str(alloc, word)?)?;
-    }
-    run_in_memory(rt, alloc, &command, given, &mut tries.runs)
-}
-
-/// The same where a file tells nothing: then none does.
+/// Runs the words where a file tells nothing: then none does.
 fn run_over_untold<R: Threads + Sync>(
     rt: &R,
     alloc: Global,
@@ -116,14 +103,22 @@ fn run_over_untold<R: Threads + Sync>(
     if !given.cuts.is_empty() || !given.fails_of(alloc, Object::File)?.is_empty() {
         bail!("no call of an untold file is cut or fails");
     }
-    let mut files = Vec::new(alloc);
-    for file in &given.files {
-        let size = file.untold.unwrap_or(file.bytes.len() as u64);
-        files.push(Untold::new(&file.bytes, size))?;
-    }
+    let mut files = untold_files(alloc, &given.files)?;
     let mut left = run_over(rt, alloc, words, given, &mut files)?;
-    left.handed = files.last().map_or(0, |file| file.handed());
+    if let Some(file) = files.last() {
+        left.handed = file.handed();
+    }
     Ok(left)
+}
+
+/// These files, of which nothing is told.
+fn untold_files(alloc: Global, files: &[GivenFile]) -> Result<Vec<Untold<'_>>, AllocError> {
+    let mut untold = Vec::new(alloc);
+    for file in files {
+        let size = file.untold.unwrap_or(file.bytes.len() as u64);
+        untold.push(Untold::new(&file.bytes, size))?;
+    }
+    Ok(untold)
 }
 
 /// Runs the words over these files, and what is given beside them.
@@ -140,6 +135,17 @@ fn run_over<R: Threads + Sync, S: Store + Send>(
         let mut grown = Untold::new(&file.bytes, size);
         return run_on(rt, alloc, words, given, files, &mut grown);
     }
+    run_on_told(rt, alloc, words, given, files)
+}
+
+/// The same where the grown file tells its bytes.
+fn run_on_told<R: Threads + Sync, S: Store + Send>(
+    rt: &R,
+    alloc: Global,
+    words: &[String],
+    given: &Given,
+    files: &mut [S],
+) -> Result<Left, AllocError> {
     let mut grown = device_of(alloc, given)?;
     let old = grown.bytes().to_vec(alloc)?;
     let mut left = run_on(rt, alloc, words, given, files, &mut grown)?;
@@ -158,27 +164,48 @@ fn run_on<R: Threads + Sync, S: Store + Send, G: Device + Send>(
     grown: &mut G,
 ) -> Result<Left, AllocError> {
     let mut input = input_of(alloc, given)?;
-    let mut made = sink_of(alloc, given, Object::Made)?;
-    let mut out = sink_of(alloc, given, Object::Out)?;
-    let mut notes = sink_of(alloc, given, Object::Notes)?;
-    let status = run(
-        rt, alloc, words, &mut input, files, &mut made, grown, &mut out, &mut notes,
-    );
-    Ok(Left {
-        status: status.number(),
-        made,
-        out,
-        notes,
-        old: Vec::new(alloc),
-        grown: Vec::new(alloc),
-        handed: 0,
-    })
+    let mut sinks = Sinks::new(alloc, given)?;
+    let Sinks { made, out, notes } = &mut sinks;
+    let status = run(rt, alloc, words, &mut input, files, made, grown, out, notes);
+    sinks.left(alloc, status.number())
+}
+
+/// What takes bytes, beside a grown file.
+#[derive(Drop)]
+struct Sinks {
+    made: MemSink,
+    out: MemSink,
+    notes: MemSink,
+}
+
+impl Sinks {
+    /// Those of a run that is given this.
+    fn new(alloc: Global, given: &Given) -> Result<Sinks, AllocError> {
+        let room = room_for(given);
+        Ok(Sinks {
+            made: sink_of(alloc, given, Object::Made, given.room.unwrap_or(room))?,
+            out: sink_of(alloc, given, Object::Out, room)?,
+            notes: sink_of(alloc, given, Object::Notes, room)?,
+        })
+    }
+
+    /// What is left of a run that ended with this status and grew nothing.
+    fn left(&self, alloc: Global, status: u8) -> Result<Left, AllocError> {
+        Ok(Left {
+            status,
+            made: self.made.taken().to_vec(alloc)?,
+            out: self.out.taken().to_vec(alloc)?,
+            notes: self.notes.taken().to_vec(alloc)?,
+            old: Vec::new(alloc),
+            grown: Vec::new(alloc),
+            handed: 0,
+        })
+    }
 }
 
 /// The input, whose first call fails where none is given.
 fn input_of(alloc: Global, given: &Given) -> Result<MemInput, AllocError> {
     let mut fails = given.fails_of(alloc, Object::Input)?;
-    let cuts = given.cuts.to_vec(alloc)?;
     let bytes = match &given.input {
         Some(bytes) => bytes.to_vec(alloc)?,
         None => {
@@ -186,13 +213,12 @@ fn input_of(alloc: Global, given: &Given) -> Result<MemInput, AllocError> {
             Vec::new(alloc)
         }
     };
-    Ok(MemInput::new(bytes, cuts, fails))
+    Ok(MemInput::new(bytes, given.cuts.to_vec(alloc)?, fails))
 }
 
 /// The file that is grown, whose first call fails where none is given.
 fn device_of(alloc: Global, given: &Given) -> Result<MemDevice, AllocError> {
     let mut fails = given.fails_of(alloc, Object::Grown)?;
-    let cuts = given.cuts.to_vec(alloc)?;
     let bytes = match &given.grown {
         Some(file) => file.bytes.to_vec(alloc)?,
         None => {
@@ -201,15 +227,16 @@ fn device_of(alloc: Global, given: &Given) -> Result<MemDevice, AllocError> {
         }
     };
     let room = given.room.unwrap_or(room_for(given));
-    MemDevice::new(alloc, bytes, room, cuts, fails)
+    MemDevice::new(alloc, bytes, room, given.cuts.to_vec(alloc)?, fails)
 }
 
-/// The sink that this object is.
-fn sink_of(alloc: Global, given: &Given, object: Object) -> Result<MemSink, AllocError> {
-    let room = match given.room {
-        Some(room) if object == Object::Made => room,
-        _ => room_for(given),
-    };
+/// The sink that this object is, with room for so many bytes.
+fn sink_of(
+    alloc: Global,
+    given: &Given,
+    object: Object,
+    room: usize,
+) -> Result<MemSink, AllocError> {
     let cuts = given.cuts.to_vec(alloc)?;
     MemSink::new(alloc, room, cuts, given.fails_of(alloc, object)?)
 }

@@ -1,12 +1,13 @@
 //! `seek` of each position and of each record, beside a plain search through what `show --positions` prints.
 
-use crate::running::{Left, alone, run_words};
+use crate::running::{alone, run_in_memory, run_line};
 use crate::tries::Tries;
 use anyhow::{Result, bail};
 use case_text::given::Given;
+use case_text::left::Left;
 use case_text::words::{number_of, range_of};
 use plain_reading::search::{Line, first_at, lines_of, may_find};
-use std::alloc::Global;
+use std::alloc::{AllocError, Global};
 use std::ops::Range;
 use std::thread::Threads;
 
@@ -19,18 +20,18 @@ pub(crate) fn try_sought<R: Threads + Sync>(
     given: &Given,
     words: &[String],
 ) -> Result<()> {
-    let given = alone(alloc, given.last_file()?.bytes.to_vec(alloc)?)?;
-    let shown = run_words(rt, alloc, tries, &given, &["show", "--positions", "F"])?;
-    if shown.status != 0 {
-        bail!("the file is refused");
-    }
-    let lines = lines_of(alloc, shown.out.taken())?;
-    if lines.is_empty() {
-        bail!("the file has no records");
-    }
     let Some((what, numbers)) = words.split_first() else {
         bail!("what is sought?");
     };
+    let given = alone(alloc, given.last_file()?.bytes.to_vec(alloc)?)?;
+    let shown = run_line(rt, alloc, tries, &given, "show --positions F")?;
+    if shown.status != 0 {
+        bail!("the file is refused");
+    }
+    let lines = lines_of(alloc, &shown.out)?;
+    if lines.is_empty() {
+        bail!("the file has no records");
+    }
     match what.as_str() {
         "at" => try_positions(rt, alloc, tries, &given, &lines, numbers),
         "keys" => try_keys(rt, alloc, tries, &given, &lines, numbers),
@@ -58,9 +59,9 @@ fn try_positions<R: Threads + Sync>(
 ) -> Result<()> {
     let (range, step) = numbers_of(words)?;
     for position in range.step_by(step.max(1)) {
-        let word = format!(in alloc; "--at={position}")?;
-        let left = run_words(rt, alloc, tries, given, &["seek", word.as_str(), "F"])?;
-        if found_line(alloc, lines, &left)? != first_at(lines, position as u64) {
+        let sought = format!(in alloc; "--at={position}")?;
+        let found = found_by(rt, alloc, tries, given, lines, sought)?;
+        if found != first_at(lines, position as u64) {
             bail!("the position {position} finds another record");
         }
     }
@@ -82,30 +83,66 @@ fn try_keys<R: Threads + Sync>(
         numbers_of(words)?
     };
     for number in range.step_by(step.max(1)) {
-        let Some(line) = lines.get(number) else {
-            bail!("no record {number}");
-        };
-        let word = format!(in alloc; "--key={}", line.record)?;
-        let left = run_words(rt, alloc, tries, given, &["seek", word.as_str(), "F"])?;
-        if !may_find(lines, line.record, found_line(alloc, lines, &left)?) {
+        let key = record_of(lines, number)?;
+        let sought = format!(in alloc; "--key={key}")?;
+        let found = found_by(rt, alloc, tries, given, lines, sought)?;
+        if !may_find(lines, key, found) {
             bail!("the key of record {number} finds another record");
         }
     }
     Ok(())
 }
 
-/// Which of the lines a run of `seek` found, if any.
-fn found_line(alloc: Global, lines: &[Line<'_>], left: &Left) -> Result<Option<usize>> {
-    let (out, notes) = (left.out.taken(), left.notes.taken());
-    if left.status == 11 && out.is_empty() && notes == b"not found\n".as_slice() {
+/// The record of this number.
+fn record_of<'a>(lines: &[Line<'a>], number: usize) -> Result<&'a str> {
+    match lines.get(number) {
+        Some(line) => Ok(line.record),
+        None => bail!("no record {number}"),
+    }
+}
+
+/// Which of the lines a run of `seek` finds with this word, if any.
+fn found_by<R: Threads + Sync>(
+    rt: &R,
+    alloc: Global,
+    tries: &mut Tries,
+    given: &Given,
+    lines: &[Line<'_>],
+    sought: String,
+) -> Result<Option<usize>> {
+    let words = command_of_seek(alloc, sought)?;
+    let left = run_in_memory(rt, alloc, &words, given, &mut tries.runs)?;
+    if left.status == 11
+        && left.out.is_empty()
+        && left.notes.as_slice() == b"not found\n".as_slice()
+    {
         return Ok(None);
     }
-    let found = lines_of(alloc, out)?;
+    if left.status != 0 || !left.notes.is_empty() {
+        bail!("what is found is no record, or more is said");
+    }
+    Ok(Some(number_in(alloc, lines, &left)?))
+}
+
+/// The words of `seek` with this one.
+fn command_of_seek(alloc: Global, sought: String) -> Result<Vec<String>, AllocError> {
+    let mut words = Vec::new(alloc);
+    words.push(String::from_str(alloc, "seek")?)?;
+    words.push(sought)?;
+    words.push(String::from_str(alloc, "F")?)?;
+    Ok(words)
+}
+
+/// Which of the lines the one line is that a run printed.
+fn number_in(alloc: Global, lines: &[Line<'_>], left: &Left) -> Result<usize> {
+    let found = lines_of(alloc, &left.out)?;
     let [found] = found.as_slice() else {
         bail!("not one record is found");
     };
-    match lines.iter().position(|line| line == found) {
-        Some(number) if left.status == 0 && notes.is_empty() => Ok(Some(number)),
-        _ => bail!("what is found is no record, or more is said"),
+    for (number, line) in lines.iter().enumerate() {
+        if line.position == found.position && line.record == found.record {
+            return Ok(number);
+        }
     }
+    bail!("what is found is no record, or more is said")
 }

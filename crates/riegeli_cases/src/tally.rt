@@ -1,9 +1,8 @@
 //! Tries the cases of a file, and prints which of them fail, and how many there were.
 
 use crate::cases::try_case;
-use crate::trial::Failure;
 use crate::tries::Tries;
-use anyhow::{Result, bail};
+use anyhow::{Error, Result, bail};
 use case_text::words::Statement;
 use std::alloc::Global;
 use std::io;
@@ -34,19 +33,32 @@ pub(crate) fn try_file<R: Threads + Sync + Print>(
         failed: 0,
     };
     tries.runs = 0;
+    if let Err(error) = try_parts(rt, alloc, tries, &mut tally, statements) {
+        bail!("{name}, line {}: {error}", tries.line);
+    }
+    print_tally(rt, name, tally, tries.runs)?;
+    Ok(tally.failed)
+}
+
+/// Takes in the names and tries the cases that these statements are.
+fn try_parts<R: Threads + Sync + Print>(
+    rt: &R,
+    alloc: Global,
+    tries: &mut Tries,
+    tally: &mut Tally,
+    statements: &[Statement],
+) -> Result<()> {
     let mut rest = statements;
     for _ in 0..statements.len() {
         let Some((first, after)) = rest.split_first() else {
             break;
         };
         let (body, after) = body_of(first, after);
-        if let Err(error) = try_part(rt, alloc, tries, &mut tally, first, body) {
-            bail!("{name}, line {}: {error}", first.line);
-        }
+        tries.begin(first.line);
+        try_part(rt, alloc, tries, tally, first, body)?;
         rest = after;
     }
-    print_tally(rt, name, tally, tries.runs)?;
-    Ok(tally.failed)
+    Ok(())
 }
 
 /// The statements that belong to this one, if it is a case, and what follows.
@@ -54,14 +66,23 @@ fn body_of<'a>(
     first: &Statement,
     statements: &'a [Statement],
 ) -> (&'a [Statement], &'a [Statement]) {
-    let is_end = |statement: &Statement| matches!(statement.kind(), "let" | "case" | "wrong");
-    let end = match first.kind() {
-        "case" | "wrong" => statements.iter().position(is_end),
-        _ => Some(0),
+    let size = match first.kind() {
+        "let" => 0,
+        _ => size_of_body(statements),
     };
     statements
-        .split_at_checked(end.unwrap_or(statements.len()))
+        .split_at_checked(size)
         .unwrap_or((statements, &[]))
+}
+
+/// How many statements stand before the next name or case.
+fn size_of_body(statements: &[Statement]) -> usize {
+    for (size, statement) in statements.iter().enumerate() {
+        if matches!(statement.kind(), "let" | "case" | "wrong") {
+            return size;
+        }
+    }
+    statements.len()
 }
 
 /// Takes in a name, or tries a case.
@@ -73,44 +94,73 @@ fn try_part<R: Threads + Sync + Print>(
     first: &Statement,
     body: &[Statement],
 ) -> Result<()> {
-    match (first.kind(), first.rest()) {
-        ("let", _) => tries.learn(rt, alloc, first),
-        ("case", [name]) => {
-            let tried = try_case(rt, alloc, tries, first.line, body);
-            tally.cases = tally.cases.saturating_add(1);
-            if let Err(failure) = tried {
-                tally.failed = tally.failed.saturating_add(1);
-                print_failure(rt, name.as_str(), &failure)?;
-            }
-            Ok(())
-        }
-        ("wrong", [name]) => {
-            match try_case(rt, alloc, tries, first.line, body) {
-                Ok(()) => {
-                    tally.failed = tally.failed.saturating_add(1);
-                    println!(rt; "{name} did not fail")?;
-                }
-                Err(failure) => {
-                    tally.wrong = tally.wrong.saturating_add(1);
-                    print_failure(rt, name.as_str(), &failure)?;
-                }
-            }
-            Ok(())
-        }
-        _ => bail!("a statement of no case, or a case without a name of one word"),
+    match first.kind() {
+        "let" => tries.learn(rt, alloc, first),
+        "case" => try_right(rt, alloc, tries, tally, first.rest(), body),
+        "wrong" => try_wrong(rt, alloc, tries, tally, first.rest(), body),
+        _ => bail!("a statement of no case"),
     }
 }
 
-/// Prints why a case failed.
-fn print_failure(rt: &impl Print, name: &str, failure: &Failure) -> io::Result<()> {
-    print!(rt; "{name}, line {}", failure.line)?;
-    if let Some(number) = failure.number {
+/// The name of a case.
+fn name_of(words: &[String]) -> Result<&str> {
+    match words {
+        [name] => Ok(name.as_str()),
+        _ => bail!("a case without a name of one word"),
+    }
+}
+
+/// Tries a case that must not fail.
+fn try_right<R: Threads + Sync + Print>(
+    rt: &R,
+    alloc: Global,
+    tries: &mut Tries,
+    tally: &mut Tally,
+    name: &[String],
+    body: &[Statement],
+) -> Result<()> {
+    let name = name_of(name)?;
+    tally.cases = tally.cases.saturating_add(1);
+    if let Err(why) = try_case(rt, alloc, tries, body) {
+        tally.failed = tally.failed.saturating_add(1);
+        print_failure(rt, name, tries, &why)?;
+    }
+    Ok(())
+}
+
+/// Tries a case that must fail.
+fn try_wrong<R: Threads + Sync + Print>(
+    rt: &R,
+    alloc: Global,
+    tries: &mut Tries,
+    tally: &mut Tally,
+    name: &[String],
+    body: &[Statement],
+) -> Result<()> {
+    let name = name_of(name)?;
+    match try_case(rt, alloc, tries, body) {
+        Ok(()) => {
+            tally.failed = tally.failed.saturating_add(1);
+            println!(rt; "{name} did not fail")?;
+        }
+        Err(why) => {
+            tally.wrong = tally.wrong.saturating_add(1);
+            print_failure(rt, name, tries, &why)?;
+        }
+    }
+    Ok(())
+}
+
+/// Prints why a case failed, and where.
+fn print_failure(rt: &impl Print, name: &str, tries: &Tries, why: &Error) -> io::Result<()> {
+    print!(rt; "{name}, line {}", tries.line)?;
+    if let Some(number) = tries.number {
         print!(rt; ", for {number}")?;
     }
-    if let Some(way) = failure.way {
+    if let Some(way) = tries.way {
         print!(rt; ", cut in way {way}")?;
     }
-    println!(rt; ": {}{}", failure.why, failure.got)
+    println!(rt; ": {why}{}", tries.got)
 }
 
 /// Prints how many cases of a file there were.

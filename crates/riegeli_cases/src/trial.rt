@@ -1,55 +1,19 @@
 //! The statements of a case, carried out one after another.
 
-use crate::answers::{Answer, says_answer};
 use crate::faults::try_faults;
 use crate::hostile_files::try_hostile;
 use crate::running::run_in_memory;
 use crate::sought::try_sought;
 use crate::tries::Tries;
-use crate::written::said_bytes;
-use anyhow::{Error, Result, anyhow, bail};
+use crate::written::{fact_of, said_bytes};
+use anyhow::{Result, bail};
 use case_text::files::GivenFile;
 use case_text::given::{Given, Object};
 use case_text::texts::command_of;
 use case_text::words::Statement;
-use std::alloc::Global;
-use std::mem;
+use plain_reading::answers::{Answer, says_answer};
+use std::alloc::{AllocError, Global};
 use std::thread::Threads;
-
-/// Why a case fails.
-#[derive(Drop)]
-pub(crate) struct Failure {
-    /// The line of the statement, or of the run.
-    pub(crate) line: u64,
-    /// The number that the case failed for, where it is for many.
-    pub(crate) number: Option<usize>,
-    /// Which way to cut calls it failed for, where it is for many, from 0.
-    pub(crate) way: Option<usize>,
-    pub(crate) why: Error,
-    /// What was got in place of the answer, each in a line of its own.
-    pub(crate) got: String,
-}
-
-impl Failure {
-    /// The failure of a statement that can't be carried out.
-    pub(crate) fn new(alloc: Global, line: u64, why: Error) -> Failure {
-        Failure {
-            line,
-            number: None,
-            way: None,
-            why,
-            got: String::new(alloc),
-        }
-    }
-
-    /// Makes of an error the failure of the statement at this line.
-    pub(crate) fn at<T: Drop>(alloc: Global, line: u64, tried: Result<T>) -> Result<T, Failure> {
-        match tried {
-            Ok(value) => Ok(value),
-            Err(why) => Err(Failure::new(alloc, line, why)),
-        }
-    }
-}
 
 /// A run whose answer is awaited.
 #[derive(Drop)]
@@ -74,12 +38,17 @@ pub(crate) struct Trial {
 
 impl Trial {
     /// Nothing is given yet, the calls of these objects fail in turn, and calls are cut in this way.
-    pub(crate) fn new(alloc: Global, failing: &[Object], cuts: &[u32]) -> Result<Trial> {
+    pub(crate) fn new(
+        alloc: Global,
+        failing: &[Object],
+        cuts: &[u32],
+    ) -> Result<Trial, AllocError> {
+        let failing = failing.to_vec(alloc)?;
         let mut given = Given::new(alloc);
         given.cuts = cuts.to_vec(alloc)?;
         Ok(Trial {
             given,
-            failing: failing.to_vec(alloc)?,
+            failing,
             runs: Vec::new(alloc),
             answer: Answer::new(alloc),
             files_used: false,
@@ -87,25 +56,25 @@ impl Trial {
         })
     }
 
-    /// Carries out the statements of the case whose name stands at a line.
+    /// Carries out the statements of the case.
     pub(crate) fn carry_out_all<R: Threads + Sync>(
         &mut self,
         rt: &R,
         alloc: Global,
         tries: &mut Tries,
-        line: u64,
         statements: &[Statement],
-    ) -> Result<(), Failure> {
+    ) -> Result<()> {
         for statement in statements {
             if self.is_settled_by(statement.kind()) {
                 self.settle(rt, alloc, tries)?;
             }
-            let tried = self.carry_out(rt, alloc, tries, statement);
-            Failure::at(alloc, statement.line, tried)?;
+            tries.line = statement.line;
+            self.carry_out(rt, alloc, tries, statement)?;
         }
         self.settle(rt, alloc, tries)?;
+        tries.line = tries.case;
         if !self.ran {
-            return Err(Failure::new(alloc, line, anyhow!("nothing is run")));
+            bail!("nothing is run");
         }
         Ok(())
     }
@@ -123,15 +92,23 @@ impl Trial {
         tries: &mut Tries,
         statement: &Statement,
     ) -> Result<()> {
+        let words = statement.rest();
         match statement.kind() {
             "each" => Ok(()),
             "run" => self.take_run(alloc, statement),
-            "sought" | "hostile" => self.take_many(rt, alloc, tries, statement),
-            "file" => self.take_file(rt, alloc, tries, statement.rest()),
-            kind if !says_answer(kind) => self.given.carry_out(alloc, &tries.known, statement),
-            _ if self.runs.is_empty() => bail!("no run stands above it"),
-            _ => self.answer.take(rt, alloc, tries, &self.given, statement),
+            "file" => self.take_file(rt, alloc, tries, words),
+            "sought" => try_sought(rt, alloc, tries, self.used(), words),
+            "hostile" => try_hostile(rt, alloc, tries, self.used(), words),
+            kind if says_answer(kind) => self.take_answer(rt, alloc, tries, statement),
+            _ => self.given.carry_out(alloc, &tries.known, statement),
         }
+    }
+
+    /// What is given, to many runs, which other runs tell their answers.
+    fn used(&mut self) -> &Given {
+        self.files_used = true;
+        self.ran = true;
+        &self.given
     }
 
     /// Takes in one more run.
@@ -144,21 +121,26 @@ impl Trial {
         Ok(())
     }
 
-    /// Carries out many runs over the last file, which are told their answers by other runs.
-    fn take_many<R: Threads + Sync>(
+    /// Takes in what the runs above answer.
+    fn take_answer<R: Threads + Sync>(
         &mut self,
         rt: &R,
         alloc: Global,
         tries: &mut Tries,
         statement: &Statement,
     ) -> Result<()> {
-        self.files_used = true;
-        self.ran = true;
-        let words = statement.rest();
-        match statement.kind() {
-            "sought" => try_sought(rt, alloc, tries, &self.given, words),
-            _ => try_hostile(rt, alloc, tries, &self.given, words),
+        if self.runs.is_empty() {
+            bail!("no run stands above it");
         }
+        let is_taken = self
+            .answer
+            .take(alloc, &tries.known, &self.given, statement)?;
+        if is_taken {
+            return Ok(());
+        }
+        let object = Object::named(statement.kind())?;
+        let fact = fact_of(rt, alloc, tries, statement.rest())?;
+        self.answer.add_fact(object, fact)
     }
 
     /// Takes in one more file, or gives the last one a name.
@@ -174,12 +156,12 @@ impl Trial {
                 let bytes = self.given.last_file()?.bytes.to_vec(alloc)?;
                 Ok(tries.known.add(alloc, name.as_str(), bytes)?)
             }
-            _ => self.add_file(said_bytes(rt, alloc, tries, words)?),
+            _ => Ok(self.add_file(said_bytes(rt, alloc, tries, words)?)?),
         }
     }
 
     /// Adds a file of these bytes, the first one where a run stands above.
-    fn add_file(&mut self, bytes: Vec<u8>) -> Result<()> {
+    fn add_file(&mut self, bytes: Vec<u8>) -> Result<(), AllocError> {
         if self.files_used {
             self.given.files.clear();
             self.files_used = false;
@@ -194,59 +176,57 @@ impl Trial {
         rt: &R,
         alloc: Global,
         tries: &mut Tries,
-    ) -> Result<(), Failure> {
-        let runs = mem::replace(&mut self.runs, Vec::new(alloc));
-        let answer = mem::replace(&mut self.answer, Answer::new(alloc));
-        self.try_runs(rt, alloc, tries, &runs, &answer)
-    }
-
-    /// Runs these, and compares what they answer.
-    fn try_runs<R: Threads + Sync>(
-        &mut self,
-        rt: &R,
-        alloc: Global,
-        tries: &mut Tries,
-        runs: &[Run],
-        answer: &Answer,
-    ) -> Result<(), Failure> {
-        for run in runs {
-            if !answer.told {
-                let why = anyhow!("nothing is said of this run");
-                return Err(Failure::new(alloc, run.line, why));
-            }
-            let tried = self.try_run(rt, alloc, tries, &run.words, answer);
-            let got = Failure::at(alloc, run.line, tried)?;
-            if !got.is_empty() {
-                let why = anyhow!("it answers something else");
-                let mut failure = Failure::new(alloc, run.line, why);
-                failure.got = got;
-                return Err(failure);
-            }
+    ) -> Result<()> {
+        for run in &self.runs {
+            tries.line = run.line;
+            try_run(
+                rt,
+                alloc,
+                tries,
+                &run.words,
+                &mut self.given,
+                &self.answer,
+                &self.failing,
+            )?;
         }
+        self.runs.clear();
+        self.answer = Answer::new(alloc);
         Ok(())
     }
+}
 
-    /// Runs the words. Tells what was got in place of the answer, or nothing.
-    fn try_run<R: Threads + Sync>(
-        &mut self,
-        rt: &R,
-        alloc: Global,
-        tries: &mut Tries,
-        words: &[String],
-        answer: &Answer,
-    ) -> Result<String> {
-        for object in &self.failing {
-            let got = try_faults(rt, alloc, tries, words, &mut self.given, answer, *object)?;
-            if !got.is_empty() {
-                return Ok(got);
-            }
-        }
-        if !self.failing.is_empty() {
-            return Ok(String::new(alloc));
-        }
-        let left = run_in_memory(rt, alloc, words, &self.given, &mut tries.runs)?;
-        let got = answer.differences(alloc, &left)?;
-        answer.name_left(alloc, tries, &left)?;
-        Ok(got)
+/// Runs the words, where calls of objects are to fail with each of these calls failing, and compares what is answered.
+fn try_run<R: Threads + Sync>(
+    rt: &R,
+    alloc: Global,
+    tries: &mut Tries,
+    words: &[String],
+    given: &mut Given,
+    answer: &Answer,
+    failing: &[Object],
+) -> Result<()> {
+    if !answer.told {
+        bail!("nothing is said of this run");
     }
+    if failing.is_empty() {
+        return try_whole(rt, alloc, tries, words, given, answer);
+    }
+    for object in failing {
+        try_faults(rt, alloc, tries, words, given, answer, *object)?;
+    }
+    Ok(())
+}
+
+/// Runs the words once, and compares what is answered.
+fn try_whole<R: Threads + Sync>(
+    rt: &R,
+    alloc: Global,
+    tries: &mut Tries,
+    words: &[String],
+    given: &Given,
+    answer: &Answer,
+) -> Result<()> {
+    let left = run_in_memory(rt, alloc, words, given, &mut tries.runs)?;
+    tries.compare(answer.differences(alloc, &left)?)?;
+    Ok(answer.name_left(alloc, &mut tries.known, &left)?)
 }

@@ -14,6 +14,16 @@ pub(crate) struct Tries {
     pub(crate) known: Known,
     /// How many runs there were.
     pub(crate) runs: u64,
+    /// The line of the case's name.
+    pub(crate) case: u64,
+    /// The line of the statement, or of the run, at which it stands.
+    pub(crate) line: u64,
+    /// The number that it is carried out for, where it is for many.
+    pub(crate) number: Option<usize>,
+    /// Which way to cut calls it is carried out for, where it is for many, from 0.
+    pub(crate) way: Option<usize>,
+    /// What was got in place of an answer, each in a line of its own.
+    pub(crate) got: String,
 }
 
 impl Tries {
@@ -21,7 +31,30 @@ impl Tries {
         Tries {
             known: Known::new(alloc),
             runs: 0,
+            case: 0,
+            line: 0,
+            number: None,
+            way: None,
+            got: String::new(alloc),
         }
+    }
+
+    /// Begins the case whose name stands at a line.
+    pub(crate) fn begin(&mut self, line: u64) {
+        self.case = line;
+        self.line = line;
+        self.number = None;
+        self.way = None;
+        self.got.clear();
+    }
+
+    /// Fails where something was got in place of an answer.
+    pub(crate) fn compare(&mut self, got: String) -> Result<()> {
+        if got.as_str().is_empty() {
+            return Ok(());
+        }
+        self.got = got;
+        bail!("it answers something else")
     }
 
     /// Adds the name of a statement `let NAME BYTES`.

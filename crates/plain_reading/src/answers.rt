@@ -1,23 +1,21 @@
 //! What a run is to answer, and where it answers something else.
 
-use crate::facts::{Fact, fact_of};
-use crate::running::Left;
-use crate::telling::{tell_status, tell_taken};
-use crate::tries::Tries;
+use crate::walk::walked;
+use crate::weave::is_woven;
 use anyhow::{Result, bail};
+use case_text::facts::Fact;
+use case_text::files::GivenFile;
 use case_text::given::{Given, Object};
+use case_text::left::Left;
 use case_text::names::Known;
-use case_text::words::{Statement, one_number};
-use plain_reading::walk::walked;
-use plain_reading::weave::is_woven;
-use std::alloc::Global;
-use std::thread::Threads;
+use case_text::words::{Statement, one_number, refused};
+use std::alloc::{AllocError, Global};
 
 /// What a run is to answer.
 #[derive(Drop)]
-pub(crate) struct Answer {
+pub struct Answer {
     /// Whether anything is said of it.
-    pub(crate) told: bool,
+    pub told: bool,
     /// Whether nothing but status 0 is allowed.
     silent: bool,
     /// What is said of the status.
@@ -34,26 +32,22 @@ pub(crate) struct Answer {
     woven: Option<Vec<Vec<u8>>>,
 }
 
+/// The kinds of statements that say what a run answers.
+const KINDS: &str = "silent status made grown kept out notes handed walked woven";
+
 /// Whether this kind of statement says what a run answers.
-pub(crate) fn says_answer(kind: &str) -> bool {
-    matches!(
-        kind,
-        "silent"
-            | "status"
-            | "made"
-            | "grown"
-            | "kept"
-            | "out"
-            | "notes"
-            | "handed"
-            | "walked"
-            | "woven"
-    )
+pub fn says_answer(kind: &str) -> bool {
+    for said in KINDS.split(' ') {
+        if said == kind {
+            return true;
+        }
+    }
+    false
 }
 
 impl Answer {
     /// Status 0, and no bytes. Nothing is said of it yet.
-    pub(crate) fn new(alloc: Global) -> Answer {
+    pub fn new(alloc: Global) -> Answer {
         Answer {
             told: false,
             silent: false,
@@ -66,41 +60,53 @@ impl Answer {
         }
     }
 
-    /// Takes in a statement that says what the run answers that is given this.
-    pub(crate) fn take<R: Threads + Sync>(
+    /// Takes in a statement that says what the run answers that is given this. Whether it did: what is said of bytes is a fact to
+    /// add.
+    pub fn take(
         &mut self,
-        rt: &R,
         alloc: Global,
-        tries: &mut Tries,
+        known: &Known,
         given: &Given,
         statement: &Statement,
-    ) -> Result<()> {
-        let words = statement.rest();
-        if self.silent || self.told && statement.kind() == "silent" {
+    ) -> Result<bool> {
+        let (kind, words) = (statement.kind(), statement.rest());
+        if self.silent || self.told && kind == "silent" {
             bail!("silent, and more is said");
         }
         self.told = true;
-        match statement.kind() {
-            "silent" | "walked" | "woven" if !words.is_empty() => bail!("no word follows it"),
-            "silent" => {
-                self.silent = true;
-                Ok(())
-            }
-            "status" => self.take_status(alloc, &tries.known, words),
-            "handed" => self.take_handed(given, words),
+        match kind {
+            "silent" | "walked" | "woven" => self.take_word(alloc, given, kind, words)?,
+            "status" => self.take_status(alloc, known, words)?,
+            "handed" => self.take_handed(given, words)?,
+            "kept" => self.take_kept(words)?,
+            _ => return Ok(false),
+        }
+        Ok(true)
+    }
+
+    /// Takes in a statement that is one word.
+    fn take_word(
+        &mut self,
+        alloc: Global,
+        given: &Given,
+        kind: &str,
+        words: &[String],
+    ) -> Result<()> {
+        if !words.is_empty() {
+            bail!("no word follows it");
+        }
+        match kind {
             "walked" => self.take_walk(alloc, given),
             "woven" => self.take_weave(alloc, given),
-            "kept" => self.take_kept(words),
-            object => {
-                let object = Object::named(object)?;
-                let fact = fact_of(rt, alloc, tries, words)?;
-                self.add_fact(object, fact)
+            _ => {
+                self.silent = true;
+                Ok(())
             }
         }
     }
 
     /// Adds what is said of the bytes of an object.
-    fn add_fact(&mut self, object: Object, fact: Fact) -> Result<()> {
+    pub fn add_fact(&mut self, object: Object, fact: Fact) -> Result<()> {
         self.facts.push((object, fact))?;
         Ok(())
     }
@@ -142,17 +148,7 @@ impl Answer {
     fn take_weave(&mut self, alloc: Global, given: &Given) -> Result<()> {
         let mut woven = Vec::new(alloc);
         for file in &given.files {
-            if file
-                .untold
-                .is_some_and(|size| size != file.bytes.len() as u64)
-            {
-                bail!("no walk goes over an untold file");
-            }
-            let (shown, notes) = walked(alloc, &file.bytes)?;
-            if !notes.is_empty() {
-                bail!("a file is refused");
-            }
-            woven.push(shown)?;
+            woven.push(shown_whole(alloc, file)?)?;
         }
         self.woven = Some(woven);
         Ok(())
@@ -165,7 +161,7 @@ impl Answer {
     }
 
     /// Whether the status is as it is said: 0 where nothing is.
-    pub(crate) fn is_status(&self, status: u8) -> bool {
+    pub fn is_status(&self, status: u8) -> bool {
         if self.statuses.is_empty() {
             self.status_name.is_some() || status == 0
         } else {
@@ -189,25 +185,22 @@ impl Answer {
     }
 
     /// All bytes that the object is to take, or to have where it is grown.
-    pub(crate) fn whole<'a>(&'a self, object: Object, left: &'a Left) -> Result<&'a [u8]> {
+    pub fn whole<'a>(&'a self, object: Object, left: &'a Left) -> Result<&'a [u8]> {
         if self.woven.is_some() {
             bail!("records may be woven in many ways");
         }
         let mut whole = left.before(object);
         for (about, fact) in &self.facts {
             if *about == object {
-                match fact {
-                    Fact::All(bytes) => whole = bytes,
-                    _ => bail!("not all bytes of {} are said", object.name()),
-                }
+                whole = all_bytes(object, fact)?;
             }
         }
         Ok(whole)
     }
 
     /// Whether the grown file is as it was, or has the front that it keeps and a front of what is to stand behind it.
-    pub(crate) fn is_grown_in_part(&self, left: &Left) -> Result<bool> {
-        let (old, held) = (left.before(Object::Grown), left.taken(Object::Grown));
+    pub fn is_grown_in_part(&self, left: &Left) -> Result<bool> {
+        let (old, held) = (left.old.as_slice(), left.grown.as_slice());
         let whole = self.whole(Object::Grown, left)?;
         let kept = self.kept.unwrap_or(old.len());
         if old.len() < kept || !whole.starts_with(old.get(..kept).unwrap_or(old)) {
@@ -217,51 +210,86 @@ impl Answer {
     }
 
     /// Tells of what a run left all that is something else. It is empty where nothing is.
-    pub(crate) fn differences(&self, alloc: Global, left: &Left) -> Result<String> {
+    pub fn differences(&self, alloc: Global, left: &Left) -> Result<String> {
         let mut told = String::new(alloc);
         if !self.is_status(left.status) {
-            tell_status(&mut told, left)?;
+            left.tell_status(&mut told)?;
         }
         for object in Object::TAKING {
             if !self.holds(object, left) {
-                tell_taken(alloc, &mut told, left, object)?;
+                left.tell_taken(alloc, &mut told, object)?;
             }
         }
-        if let Some(files) = &self.woven
-            && !is_woven(
-                alloc,
-                files,
-                left.taken(Object::Made),
-                left.taken(Object::Out),
-            )?
-        {
-            write!(told, "\n  not woven")?;
-            tell_taken(alloc, &mut told, left, Object::Made)?;
-            tell_taken(alloc, &mut told, left, Object::Out)?;
+        if let Some(files) = &self.woven {
+            compare_weave(alloc, &mut told, files, left)?;
         }
-        if let Some(most) = self.handed
-            && left.handed > most
-        {
-            write!(told, "\n  handed {}", left.handed)?;
-        }
+        self.compare_handed(&mut told, left)?;
         Ok(told)
     }
 
+    /// Tells how many bytes the last file handed out, where they are too many.
+    fn compare_handed(&self, told: &mut String, left: &Left) -> Result<(), AllocError> {
+        match self.handed {
+            Some(most) if left.handed > most => write!(told, "\n  handed {}", left.handed),
+            _ => Ok(()),
+        }
+    }
+
     /// Gives what a run left the names that are wanted.
-    pub(crate) fn name_left(&self, alloc: Global, tries: &mut Tries, left: &Left) -> Result<()> {
+    pub fn name_left(
+        &self,
+        alloc: Global,
+        known: &mut Known,
+        left: &Left,
+    ) -> Result<(), AllocError> {
         if let Some(name) = &self.status_name {
-            let status = format!(in alloc; "{}", left.status)?;
-            tries.known.add(alloc, name.as_str(), status.into_bytes())?;
+            name_status(alloc, known, name.as_str(), left.status)?;
         }
         for (object, fact) in &self.facts {
             if let Fact::Named(name) = fact {
-                tries
-                    .known
-                    .add(alloc, name.as_str(), left.taken(*object).to_vec(alloc)?)?;
+                known.add(alloc, name.as_str(), left.taken(*object).to_vec(alloc)?)?;
             }
         }
         Ok(())
     }
+}
+
+/// Gives a status a name.
+fn name_status(alloc: Global, known: &mut Known, name: &str, status: u8) -> Result<(), AllocError> {
+    let digits = format!(in alloc; "{status}")?;
+    known.add(alloc, name, digits.into_bytes())
+}
+
+/// Tells what a run left where its records aren't those of these files.
+fn compare_weave(alloc: Global, told: &mut String, files: &[Vec<u8>], left: &Left) -> Result<()> {
+    if is_woven(alloc, files, &left.made, &left.out)? {
+        return Ok(());
+    }
+    told.push_str("\n  not woven")?;
+    left.tell_taken(alloc, told, Object::Made)?;
+    left.tell_taken(alloc, told, Object::Out)?;
+    Ok(())
+}
+
+/// The bytes that are all that the object takes, by this fact.
+fn all_bytes(object: Object, fact: &Fact) -> Result<&[u8]> {
+    match fact {
+        Fact::All(bytes) => Ok(bytes),
+        _ => bail!("not all bytes of {} are said", object.name()),
+    }
+}
+
+/// What a plain walk shows of a file that is whole and tells its bytes.
+fn shown_whole(alloc: Global, file: &GivenFile) -> Result<Vec<u8>> {
+    let size = file.bytes.len() as u64;
+    if file.untold.unwrap_or(size) != size {
+        bail!("no walk goes over an untold file");
+    }
+    let (shown, notes) = walked(alloc, &file.bytes)?;
+    if !notes.is_empty() {
+        bail!("a file is refused");
+    }
+    Ok(shown)
 }
 
 /// The status that a word says: a number, or the name of what a run ended with.
@@ -272,6 +300,6 @@ fn status_of(known: &Known, word: &str) -> Result<u8> {
     let named = str::from_utf8(known.bytes(word)?).unwrap_or("");
     match named.parse() {
         Ok(status) => Ok(status),
-        Err(_) => bail!("no status: {word}"),
+        Err(_) => Err(refused("no status", word)),
     }
 }
