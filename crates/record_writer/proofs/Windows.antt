@@ -13,8 +13,8 @@ use Rattle.meta_chunk.specs.Files.{end_of_chunks}
 use Rattle.meta_chunk.proofs.Joins.{end_of_chunks-append, end_of_chunks_past}
 use Rattle.simple_chunk.specs.SimpleParts.{SimpleValue}
 use Rattle.record_group.specs.Groupings.{Grouping, groups_from}
-use Rattle.record_writer.specs.declared.cut_off.CutOff.{CutOff}
-use Rattle.record_writer.specs.declared.cut_off.CutOff.TheVariants.{Input}
+use Rattle.record_writer.specs.declared.cut_off.TakeEnd.{TakeEnd}
+use Rattle.record_writer.specs.declared.cut_off.TakeEnd.TheVariants.{Input}
 use Rattle.record_writer.specs.declared.feed.Stop.{Stop}
 use Rattle.record_writer.specs.declared.group_taker.FeedPart.{FeedPart}
 use Rattle.record_writer.specs.declared.group_taker.FeedPart.TheVariants.{Window, All}
@@ -131,14 +131,14 @@ AreGiven-front None b old new given h = tt
 AreGiven-front (Some all) b old new given (rest, told, of) = (groups_from new rest.records, of.groups)
 
 -- as are those that were taken, however that ended
-AreTaken-front : (t : Result FeedPart CutOff) (a b : Option Rest) (old new : Grouping) (given : List (List (List ℕ))) → AreTaken t a b old new given → AreFront a old given
+AreTaken-front : (t : Result FeedPart TakeEnd) (a b : Option Rest) (old new : Grouping) (given : List (List (List ℕ))) → AreTaken t a b old new given → AreFront a old given
 AreTaken-front (Ok Window) a b old new given h = AreGiven-front a b old new given h
 AreTaken-front (Ok (All stop)) None b old new given h = tt
 AreTaken-front (Ok (All stop)) (Some all) b old new given h = ([], h.1 ∙ sym (append-nil given))
 AreTaken-front (Err cut) a b old new given h = h
 
 -- so where a front of their chunks was put, that is one of all
-pub LaysFront-taken : (t : Result FeedPart CutOff) (ra rb : Option Rest) (old new : Grouping) (given : List (List (List ℕ))) (a b : Option (List ℕ)) (s u : MadeFileValue)
+pub LaysFront-taken : (t : Result FeedPart TakeEnd) (ra rb : Option Rest) (old new : Grouping) (given : List (List (List ℕ))) (a b : Option (List ℕ)) (s u : MadeFileValue)
     → AreTaken t ra rb old new given → LaysFront a b s u (chunks_of_groups given)
     → IfSome ra (λ rest. LaysFront a b s u (chunks_of_groups (groups_from old rest.records)))
 LaysFront-taken t None rb old new given a b s u taken front = tt
@@ -156,7 +156,7 @@ Lays-taken stop None rb old new given a b s u taken laid = tt
 Lays-taken stop (Some all) rb old new given a b s u taken laid = subst (λ (gs : List (List (List ℕ))). Lays a b s u (chunks_of_groups gs)) (sym taken.1) laid
 
 -- a number that falls with each window
-abbrev pub to_take : Result FeedPart CutOff → ℕ → ℕ
+abbrev pub to_take : Result FeedPart TakeEnd → ℕ → ℕ
 to_take (Ok Window) bound = bound + 1
 to_take (Ok (All stop)) bound = 0
 to_take (Err cut) bound = 0
@@ -168,7 +168,7 @@ IfSome-given None b old new given P h p = tt
 IfSome-given (Some all) b old new given P (rest, told, of) p = subst (λ (o : Option Rest). IfSome o (λ _. P)) told p
 
 -- groups that were taken behind a window
-AreTaken-append : (t : Result FeedPart CutOff) (a b c : Option Rest) (old between new : Grouping) (given more : List (List (List ℕ)))
+AreTaken-append : (t : Result FeedPart TakeEnd) (a b c : Option Rest) (old between new : Grouping) (given more : List (List (List ℕ)))
     → AreGiven a b old between given → AreTaken t b c between new more → AreTaken t a c old new (given ++ more)
 AreTaken-append (Ok Window) a b c old between new given more h then = AreGiven-append a b c old between new given more h then
 AreTaken-append (Ok (All stop)) None b c old between new given more h then = tt
@@ -202,10 +202,10 @@ OnlyCounts-behind lent faults P Q a b c first then = record {
 }
 
 -- all was taken, and this stop follows
-abbrev all_taken : Option Stop → Result FeedPart CutOff
+abbrev all_taken : Option Stop → Result FeedPart TakeEnd
 all_taken stop = Ok (All stop)
 
-stop_in : Result FeedPart CutOff → Option Stop
+stop_in : Result FeedPart TakeEnd → Option Stop
 stop_in (Ok Window) = None
 stop_in (Ok (All stop)) = stop
 stop_in (Err cut) = None
@@ -228,7 +228,7 @@ groups-moved given made taken more held is =
 
 module _ (L N : Type 0) (rest : L → Option Rest) (bound : L → ℕ) (going : L → Bool) (origin : L → N) (faults : L → ℕ) where
   -- a window of groups, and what was taken behind it
-  pub TakesGroups-append : (a b c : L) (old between new : Grouping) (given more : List (List (List ℕ))) (t : Result FeedPart CutOff)
+  pub TakesGroups-append : (a b c : L) (old between new : Grouping) (given more : List (List (List ℕ))) (t : Result FeedPart TakeEnd)
       → TakesGroups rest bound going origin faults a b old between given (Ok Window) → TakesGroups rest bound going origin faults b c between new more t
       → TakesGroups rest bound going origin faults a c old new (given ++ more) t
   TakesGroups-append a b c old between new given more t first then = record {
@@ -244,12 +244,11 @@ module _ (L N : Type 0) (rest : L → Option Rest) (bound : L → ℕ) (going : 
           ap (λ (ks : List ChunkValue). end_of_chunks place ks) (chunks_of_groups-all (given ++ more) given more refl),
         );
     drained = λ ended. IfSome-given (rest a) (rest b) old between given (rest c ≡ Some nothing_left) first.given_of (then.drained ended);
-    no_sink = then.no_sink;
     counts = OnlyCounts-behind origin faults (Ok Window ≡ Err Input) (t ≡ Err Input) a b c first.counts then.counts;
   }
 
   -- where those that were made are put, and what was taken is held behind the others
-  pub TakesGroups-moved : (a b c : L) (old between new : Grouping) (given made taken more held : List (List (List ℕ))) (t : Result FeedPart CutOff) → held ≡ taken ++ more
+  pub TakesGroups-moved : (a b c : L) (old between new : Grouping) (given made taken more held : List (List (List ℕ))) (t : Result FeedPart TakeEnd) → held ≡ taken ++ more
       → TakesGroups rest bound going origin faults a b old between (given ++ (made ++ taken)) (Ok Window) → TakesGroups rest bound going origin faults b c between new more t
       → TakesGroups rest bound going origin faults a c old new ((given ++ made) ++ held) t
   TakesGroups-moved a b c old between new given made taken more held t is first then =
@@ -271,6 +270,5 @@ module _ (L N : Type 0) (rest : L → Option Rest) (bound : L → ℕ) (going : 
     lowers = search rules;
     in_reach = reach;
     drained = λ at_end. drained-at_end (rest a) (rest b) (rest c) old between given stop before ended kept (ap stop_in at_end);
-    no_sink = search rules;
     counts = counts;
   }

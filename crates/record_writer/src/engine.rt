@@ -248,7 +248,7 @@ fn put_chunks<R: Threads + Sync, C: Coder + Sync, W: Window + Send, L: RecordFee
     requires within { file.old.place ≤ 2 ^ 60 }
     requires no_record { pipeline.old.coming.taker.group ≡ [] }
     requires all { (records : List (List ℕ)) → groups_from pipeline.old.coming.taker records ≡ groups records options.now.size options.now.every }
-    requires made { W.groups pipeline.old.made ≡ [] }
+    requires next { W.groups pipeline.old.next ≡ [] }
     requires taken { W.groups pipeline.old.coming.taken ≡ [] }
     requires free { W.groups pipeline.old.coming.free ≡ [] }
     requires ready { W.ready pipeline.old.coming.taken }
@@ -297,7 +297,7 @@ fn put_groups<R: Threads + Sync, C: Coder + Sync, W: Window + Send, L: RecordFee
 ) -> Result<Option<Stop>, CutOff>
     requires codes { CodesSimply (C.chunk_of coder.now) }
     requires going { file.old.spent ≡ false }
-    requires made { W.groups pipeline.old.made ≡ [] }
+    requires next { W.groups pipeline.old.next ≡ [] }
     requires taken { W.groups pipeline.old.coming.taken ≡ [] }
     requires free { W.groups pipeline.old.coming.free ≡ [] }
     requires ready { W.ready pipeline.old.coming.taken }
@@ -319,7 +319,7 @@ fn put_groups<R: Threads + Sync, C: Coder + Sync, W: Window + Send, L: RecordFee
         match part {
             Ok(FeedPart::Window) => part = pipeline.go_on(rt, coder, file, feed, made)?,
             Ok(FeedPart::All(stop)) => break Ok(stop),
-            Err(cut) => break Err(cut),
+            Err(end) => break Err(CutOff::from(end)),
         }
     };
     // What was taken before the work was cut off is put too.

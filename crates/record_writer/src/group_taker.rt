@@ -7,7 +7,7 @@ ghost use Rattle.record_writer.specs.MadeFiles.{AreGiven, chunks_of_groups, reac
 ghost use Rattle.record_writer.specs.Windows.{TakesGroups};
 ghost use Rattle.record_writer.specs.Written.{AreInLimits};
 
-use crate::cut_off::CutOff;
+use crate::cut_off::TakeEnd;
 use crate::feed::{FeedEnd, RecordFeed, Stop};
 use crate::options::WriteOptions;
 use crate::pace::Pace;
@@ -70,7 +70,7 @@ impl GroupTaker {
         feed: &mut L,
         window: &mut W,
         pace: &Pace,
-    ) -> Result<FeedPart, CutOff>
+    ) -> Result<FeedPart, TakeEnd>
         requires feed_going { L.going feed.old ≡ true }
         requires empty { W.groups window.old ≡ [] }
         ensures { TakesGroups L.rest L.bound L.going L.origin L.faults feed.old feed.new self.old self.new (W.groups window.new) result }
@@ -87,8 +87,8 @@ impl GroupTaker {
                 )?,
                 Ok(false) => break None,
                 Err(FeedEnd::Stop(stop)) => break Some(stop),
-                Err(FeedEnd::Failed) => return Err(CutOff::Input),
-                Err(FeedEnd::Memory) => return Err(CutOff::Memory),
+                Err(FeedEnd::Failed) => return Err(TakeEnd::Input),
+                Err(FeedEnd::Memory) => return Err(TakeEnd::Memory),
             }
             if window.is_full(pace) {
                 return Ok(FeedPart::Window);

@@ -146,7 +146,7 @@ impl MadeFile {
         if wanted { self.pad(made) } else { Ok(()) }
     }
 
-    // Puts the padding up to a block, which at a block is none.
+    /// Puts the padding up to a block, which at a block is none.
     fn pad<M: Sink>(&mut self, made: &mut M) -> Result<(), Failed>
         requires going { self.old.spent ≡ false }
         requires in_reach { self.old.place ≤ 2 ^ 61 }

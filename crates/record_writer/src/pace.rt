@@ -21,27 +21,27 @@ impl Pace {
 
     /// A window is to be put.
     pub fn begin_put(&self) {
-        self.putting.store(true, Ordering::Relaxed);
+        self.putting.store(true, Ordering::SeqCst);
     }
 
     /// It was put, or that failed.
     pub fn end_put(&self, failed: bool) {
-        self.failed.store(failed, Ordering::Relaxed);
-        self.putting.store(false, Ordering::Relaxed);
+        self.failed.store(failed, Ordering::SeqCst);
+        self.putting.store(false, Ordering::SeqCst);
     }
 
     /// Whether the window before isn't put yet.
     pub fn is_putting(&self) -> bool {
-        self.putting.load(Ordering::Relaxed)
+        self.putting.load(Ordering::SeqCst)
     }
 
     /// Whether its put failed, so that nothing more is to be taken.
     pub fn has_failed(&self) -> bool {
-        self.failed.load(Ordering::Relaxed)
+        self.failed.load(Ordering::SeqCst)
     }
 
     /// What the largest group so far costs, where the next one costs this.
     pub fn largest_with(&self, cost: u64) -> u64 {
-        self.largest.fetch_max(cost, Ordering::Relaxed).max(cost)
+        self.largest.fetch_max(cost, Ordering::SeqCst).max(cost)
     }
 }

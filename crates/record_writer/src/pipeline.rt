@@ -9,7 +9,7 @@ ghost use Rattle.record_writer.specs.Windows.{TakesGroups};
 ghost use Rattle.record_writer.specs.Written.{AreInLimits};
 
 use crate::coding::Workers;
-use crate::cut_off::CutOff;
+use crate::cut_off::{PutEnd, TakeEnd};
 use crate::feed::RecordFeed;
 use crate::group_taker::{FeedPart, GroupTaker};
 use crate::made_file::MadeFile;
@@ -26,7 +26,7 @@ use std::thread::{Threads, join_mut};
 #[derive(Drop)]
 pub(crate) struct Pipeline<W: Window> {
     /// Its chunks can be put.
-    pub made: W,
+    pub next: W,
     pub coming: Coming<W>,
     pub pace: Pace,
 }
@@ -45,17 +45,17 @@ impl<W: Window + Send> Pipeline<W> {
     pub fn new(alloc: Global, options: &WriteOptions, window: W) -> Pipeline<W>
         requires in_limits { AreInLimits options.now }
         requires empty { W.groups window ≡ [] }
-        ensures made { W.groups result.made ≡ [] }
+        ensures next { W.groups result.next ≡ [] }
         ensures taken { W.groups result.coming.taken ≡ [] }
         ensures free { W.groups result.coming.free ≡ [] }
         ensures taken_ready { W.ready result.coming.taken }
         ensures no_record { result.coming.taker.group ≡ [] }
         ensures all { (records : List (List ℕ)) → groups_from result.coming.taker records ≡ groups records options.now.size options.now.every }
     {
-        let made = window.another(alloc);
+        let next = window.another(alloc);
         let taken = window.another(alloc);
         Pipeline {
-            made,
+            next,
             coming: Coming {
                 taken,
                 free: window,
@@ -67,15 +67,15 @@ impl<W: Window + Send> Pipeline<W> {
     }
 
     /// Takes the first window. At the end of the feed, also where that is a stop, the last group is in it.
-    pub fn begin<L: RecordFeed>(&mut self, feed: &mut L) -> Result<FeedPart, CutOff>
-        requires made { W.groups self.old.made ≡ [] }
+    pub fn begin<L: RecordFeed>(&mut self, feed: &mut L) -> Result<FeedPart, TakeEnd>
+        requires next { W.groups self.old.next ≡ [] }
         requires taken { W.groups self.old.coming.taken ≡ [] }
         requires free { W.groups self.old.coming.free ≡ [] }
         requires ready { W.ready self.old.coming.taken }
         requires feed_going { L.going feed.old ≡ true }
         ensures taken { TakesGroups L.rest L.bound L.going L.origin L.faults feed.old feed.new self.old.coming.taker self.new.coming.taker
-            (W.groups self.new.made ++ W.groups self.new.coming.taken) result }
-        ensures ready { W.ready self.new.made }
+            (W.groups self.new.next ++ W.groups self.new.coming.taken) result }
+        ensures ready { W.ready self.new.next }
         ensures free { W.groups self.new.coming.free ≡ [] }
     {
         let part = self.coming.take(feed, &self.pace);
@@ -97,25 +97,25 @@ impl<W: Window + Send> Pipeline<W> {
         file: &mut MadeFile,
         feed: &mut L,
         made: &mut M,
-    ) -> Result<Result<FeedPart, CutOff>, CutOff>
+    ) -> Result<Result<FeedPart, TakeEnd>, PutEnd>
         requires codes { CodesSimply (C.chunk_of coder.now) }
         requires going { file.old.spent ≡ false }
-        requires ready { W.ready self.old.made }
+        requires ready { W.ready self.old.next }
         requires free { W.groups self.old.coming.free ≡ [] }
         requires feed_going { L.going feed.old ≡ true }
-        requires in_reach { end_of_chunks file.old.place (chunks_of_groups (W.groups self.old.made)) ≤ 2 ^ 62 }
-        ensures whole { OnOk result (Lays (M.taken made.old) (M.taken made.new) file.old file.new (chunks_of_groups (W.groups self.old.made))) }
-        ensures front { OnErr result (LaysFront (M.taken made.old) (M.taken made.new) file.old file.new (chunks_of_groups (W.groups self.old.made))) }
+        requires in_reach { end_of_chunks file.old.place (chunks_of_groups (W.groups self.old.next)) ≤ 2 ^ 62 }
+        ensures whole { OnOk result (Lays (M.taken made.old) (M.taken made.new) file.old file.new (chunks_of_groups (W.groups self.old.next))) }
+        ensures front { OnErr result (LaysFront (M.taken made.old) (M.taken made.new) file.old file.new (chunks_of_groups (W.groups self.old.next))) }
         ensures taken { IfOk result (λ part. (more : List (List (List ℕ)))
-            × (W.groups self.new.made ++ W.groups self.new.coming.taken ≡ W.groups self.old.coming.taken ++ more)
+            × (W.groups self.new.next ++ W.groups self.new.coming.taken ≡ W.groups self.old.coming.taken ++ more)
             × TakesGroups L.rest L.bound L.going L.origin L.faults feed.old feed.new self.old.coming.taker self.new.coming.taker more part) }
-        ensures ready { OnOk result (W.ready self.new.made) }
+        ensures ready { OnOk result (W.ready self.new.next) }
         ensures free { OnOk result (W.groups self.new.coming.free ≡ []) }
-        ensures feed { OnlyCounts L.origin L.faults (result ≡ Err CutOff.Input) feed.old feed.new }
-        ensures made { OnlyCounts M.lent M.faults (result ≡ Err CutOff.Made) made.old made.new }
+        ensures feed { OnlyCounts L.origin L.faults ⊥ feed.old feed.new }
+        ensures made { OnlyCounts M.lent M.faults (result ≡ Err PutEnd.Made) made.old made.new }
     {
-        let (laid, (coded, part)) = if self.made.is_empty() || self.made.is_large() {
-            let laid = self.made.put(file, made);
+        let (laid, (coded, part)) = if self.next.is_empty() || self.next.is_large() {
+            let laid = self.next.put(file, made);
             (laid, self.coming.code_and_take(rt, coder, feed, &self.pace))
         } else {
             self.put_beside(rt, coder, file, feed, made)
@@ -136,23 +136,23 @@ impl<W: Window + Send> Pipeline<W> {
         made: &mut M,
     ) -> (
         Result<(), Failed>,
-        (Result<(), AllocError>, Result<FeedPart, CutOff>),
+        (Result<(), AllocError>, Result<FeedPart, TakeEnd>),
     )
         requires codes { CodesSimply (C.chunk_of coder.now) }
         requires going { file.old.spent ≡ false }
-        requires ready { W.ready self.old.made }
+        requires ready { W.ready self.old.next }
         requires free { W.groups self.old.coming.free ≡ [] }
         requires feed_going { L.going feed.old ≡ true }
-        requires in_reach { end_of_chunks file.old.place (chunks_of_groups (W.groups self.old.made)) ≤ 2 ^ 62 }
-        ensures laid { LaysTo M.taken M.lent M.faults result.0 file.old file.new (chunks_of_groups (W.groups self.old.made)) made.old made.new }
-        ensures emptied { OnOk result.0 (W.groups self.new.made ≡ []) }
+        requires in_reach { end_of_chunks file.old.place (chunks_of_groups (W.groups self.old.next)) ≤ 2 ^ 62 }
+        ensures laid { LaysTo M.taken M.lent M.faults result.0 file.old file.new (chunks_of_groups (W.groups self.old.next)) made.old made.new }
+        ensures emptied { OnOk result.0 (W.groups self.new.next ≡ []) }
         ensures ready { OnOk result.1.0 (W.ready self.new.coming.taken) }
         ensures same { OnOk result.1.0 (W.groups self.new.coming.taken ≡ W.groups self.old.coming.taken) }
         ensures taken { TakesGroups L.rest L.bound L.going L.origin L.faults feed.old feed.new self.old.coming.taker self.new.coming.taker
             (W.groups self.new.coming.free) result.1.1 }
     {
         let Pipeline {
-            made: window,
+            next: window,
             coming,
             pace,
         } = self;
@@ -164,7 +164,7 @@ impl<W: Window + Send> Pipeline<W> {
                 pace.end_put(put.is_err());
                 put
             },
-            &mut || -> (Result<(), AllocError>, Result<FeedPart, CutOff>)
+            &mut || -> (Result<(), AllocError>, Result<FeedPart, TakeEnd>)
                 requires codes { CodesSimply (C.chunk_of coder.now) }
                 requires feed_going { L.going feed.now ≡ true }
                 requires free { W.groups coming.now.free ≡ [] }
@@ -183,17 +183,16 @@ impl<W: Window + Send> Pipeline<W> {
         coder: &C,
         file: &mut MadeFile,
         made: &mut M,
-    ) -> Result<(), CutOff>
+    ) -> Result<(), PutEnd>
         requires codes { CodesSimply (C.chunk_of coder.now) }
         requires going { file.old.spent ≡ false }
-        requires ready { W.ready self.old.made }
-        requires in_reach { end_of_chunks file.old.place (chunks_of_groups (W.groups self.old.made ++ W.groups self.old.coming.taken)) ≤ 2 ^ 62 }
+        requires ready { W.ready self.old.next }
+        requires in_reach { end_of_chunks file.old.place (chunks_of_groups (W.groups self.old.next ++ W.groups self.old.coming.taken)) ≤ 2 ^ 62 }
         ensures whole { OnOk result (Lays (M.taken made.old) (M.taken made.new) file.old file.new
-            (chunks_of_groups (W.groups self.old.made ++ W.groups self.old.coming.taken))) }
+            (chunks_of_groups (W.groups self.old.next ++ W.groups self.old.coming.taken))) }
         ensures front { OnErr result (LaysFront (M.taken made.old) (M.taken made.new) file.old file.new
-            (chunks_of_groups (W.groups self.old.made ++ W.groups self.old.coming.taken))) }
-        ensures no_feed { result ≢ Err CutOff.Input }
-        ensures made { OnlyCounts M.lent M.faults (result ≡ Err CutOff.Made) made.old made.new }
+            (chunks_of_groups (W.groups self.old.next ++ W.groups self.old.coming.taken))) }
+        ensures made { OnlyCounts M.lent M.faults (result ≡ Err PutEnd.Made) made.old made.new }
     {
         let (put, coded) = self.put_and_code(rt, coder, file, made);
         put?;
@@ -212,14 +211,14 @@ impl<W: Window + Send> Pipeline<W> {
     ) -> (Result<(), Failed>, Result<(), AllocError>)
         requires codes { CodesSimply (C.chunk_of coder.now) }
         requires going { file.old.spent ≡ false }
-        requires ready { W.ready self.old.made }
-        requires in_reach { end_of_chunks file.old.place (chunks_of_groups (W.groups self.old.made)) ≤ 2 ^ 62 }
-        ensures laid { LaysTo M.taken M.lent M.faults result.0 file.old file.new (chunks_of_groups (W.groups self.old.made)) made.old made.new }
+        requires ready { W.ready self.old.next }
+        requires in_reach { end_of_chunks file.old.place (chunks_of_groups (W.groups self.old.next)) ≤ 2 ^ 62 }
+        ensures laid { LaysTo M.taken M.lent M.faults result.0 file.old file.new (chunks_of_groups (W.groups self.old.next)) made.old made.new }
         ensures ready { OnOk result.1 (W.ready self.new.coming.taken) }
         ensures same { OnOk result.1 (W.groups self.new.coming.taken ≡ W.groups self.old.coming.taken) }
     {
         let Pipeline {
-            made: window,
+            next: window,
             coming,
             ..
         } = self;
@@ -239,17 +238,17 @@ impl<W: Window + Send> Pipeline<W> {
     /// Hands the window that was coded on to be put, and the one that was taken to be coded, or at once to be put where it need
     /// not be coded and no other is before it. The window that was put is free.
     fn move_on(&mut self)
-        requires put { W.groups self.old.made ≡ [] }
+        requires put { W.groups self.old.next ≡ [] }
         requires coded { W.ready self.old.coming.taken }
-        ensures same { W.groups self.new.made ++ W.groups self.new.coming.taken ≡ W.groups self.old.coming.taken ++ W.groups self.old.coming.free }
-        ensures ready { W.ready self.new.made }
+        ensures same { W.groups self.new.next ++ W.groups self.new.coming.taken ≡ W.groups self.old.coming.taken ++ W.groups self.old.coming.free }
+        ensures ready { W.ready self.new.next }
         ensures free { W.groups self.new.coming.free ≡ [] }
         ensures same_taker { self.new.coming.taker ≡ self.old.coming.taker }
     {
-        mem::swap(&mut self.made, &mut self.coming.taken);
+        mem::swap(&mut self.next, &mut self.coming.taken);
         mem::swap(&mut self.coming.taken, &mut self.coming.free);
-        if self.made.is_empty() && self.coming.taken.to_code().is_none() {
-            mem::swap(&mut self.made, &mut self.coming.taken);
+        if self.next.is_empty() && self.coming.taken.to_code().is_none() {
+            mem::swap(&mut self.next, &mut self.coming.taken);
         }
     }
 }
@@ -262,7 +261,7 @@ impl<W: Window + Send> Coming<W> {
         coder: &C,
         feed: &mut L,
         pace: &Pace,
-    ) -> (Result<(), AllocError>, Result<FeedPart, CutOff>)
+    ) -> (Result<(), AllocError>, Result<FeedPart, TakeEnd>)
         requires codes { CodesSimply (C.chunk_of coder.now) }
         requires feed_going { L.going feed.old ≡ true }
         requires free { W.groups self.old.free ≡ [] }
@@ -284,7 +283,7 @@ impl<W: Window + Send> Coming<W> {
             &mut || -> Result<(), AllocError>
                 requires codes { CodesSimply (C.chunk_of coder.now) }
             { workers.code(rt, coder, taken) },
-            &mut || -> Result<FeedPart, CutOff>
+            &mut || -> Result<FeedPart, TakeEnd>
                 requires feed_going { L.going feed.now ≡ true }
                 requires free { W.groups free.now ≡ [] }
             { taker.take_groups(feed, free, pace) },
@@ -305,7 +304,7 @@ impl<W: Window + Send> Coming<W> {
     }
 
     /// Takes the next window.
-    fn take<L: RecordFeed>(&mut self, feed: &mut L, pace: &Pace) -> Result<FeedPart, CutOff>
+    fn take<L: RecordFeed>(&mut self, feed: &mut L, pace: &Pace) -> Result<FeedPart, TakeEnd>
         requires feed_going { L.going feed.old ≡ true }
         requires free { W.groups self.old.free ≡ [] }
         ensures taken { TakesGroups L.rest L.bound L.going L.origin L.faults feed.old feed.new self.old.taker self.new.taker (W.groups self.new.free) result }

@@ -2,7 +2,7 @@ use Rattle.std.proofs.Common.{◌≡◌, ◌^◌, ◌≤◌, ◌++◌, Ok, Resul
 use Rattle.record_io.proofs.Calls.{OnErr-any}
 use Rattle.meta_chunk.specs.Files.{end_of_chunks}
 use Rattle.meta_chunk.proofs.Joins.{end_of_chunks_past}
-use Rattle.record_writer.specs.declared.cut_off.CutOff.{CutOff}
+use Rattle.record_writer.specs.declared.cut_off.TakeEnd.{TakeEnd}
 use Rattle.record_writer.specs.declared.group_taker.FeedPart.{FeedPart}
 use Rattle.record_writer.specs.declared.group_taker.FeedPart.TheVariants.{Window, All}
 use Rattle.record_writer.specs.MadeFiles.{chunks_of_groups}
@@ -24,43 +24,43 @@ loop-part-init g c = record {
 pub go_on-requires-clause-in_reach : goal.go_on-requires-clause-in_reach
 go_on-requires-clause-in_reach g c =
     let before = c.loop-part.invariant.laid in
-    let held = g.W.Window.groups c.loop-part.pipeline.made ++ g.W.Window.groups c.loop-part.pipeline.coming.taken in
+    let held = g.W.Window.groups c.loop-part.pipeline.next ++ g.W.Window.groups c.loop-part.pipeline.coming.taken in
     let near : end_of_chunks c.loop-part.file.place (chunks_of_groups held) ≤ 2 ^ 61 =
     reach_of-window c.args.file.now.place c.loop-part.file.place before.0 held c.loop-part.pipeline.coming.taker (g.L.RecordFeed.bound c.loop-part.feed) (2 ^ 61)
     before.1.place (omega (arith, before.2.in_reach c.args.file.now.place, c.requires.in_reach)) in
     omega (
       arith,
-      within-before c.loop-part.file.place (2 ^ 61) (g.W.Window.groups c.loop-part.pipeline.made) (g.W.Window.groups c.loop-part.pipeline.coming.taken) near,
+      within-before c.loop-part.file.place (2 ^ 61) (g.W.Window.groups c.loop-part.pipeline.next) (g.W.Window.groups c.loop-part.pipeline.coming.taken) near,
     )
 
 pub returns-in_err-part-in-Ok-Window-clause-front : goal.returns-in_err-part-in-Ok-Window-clause-front
 returns-in_err-part-in-Ok-Window-clause-front g c =
     let before = c.loop-part.invariant.laid in
-    let made = g.W.Window.groups c.loop-part.pipeline.made in
+    let first = g.W.Window.groups c.loop-part.pipeline.next in
     let taken = g.W.Window.groups c.loop-part.pipeline.coming.taken in
     OnErr-any _
-    (LaysFront-taken c.loop-part.part _ (g.L.RecordFeed.rest c.loop-part.feed) _ c.loop-part.pipeline.coming.taker (before.0 ++ (made ++ taken)) _ _ _ _ before.2.given_of
-    (LaysFront-all _ _ _ _ c.loop-part.file c.go_on.new.file (before.0 ++ (made ++ taken)) before.0 (made ++ taken) refl before.1
-    (LaysFront-more _ _ c.loop-part.file c.go_on.new.file made taken c.in_err-part-in-Ok-Window.ensures.front)))
+    (LaysFront-taken c.loop-part.part _ (g.L.RecordFeed.rest c.loop-part.feed) _ c.loop-part.pipeline.coming.taker (before.0 ++ (first ++ taken)) _ _ _ _ before.2.given_of
+    (LaysFront-all _ _ _ _ c.loop-part.file c.go_on.new.file (before.0 ++ (first ++ taken)) before.0 (first ++ taken) refl before.1
+    (LaysFront-more _ _ c.loop-part.file c.go_on.new.file first taken c.in_err-part-in-Ok-Window.ensures.front)))
 
 pub loop-part-preserved : goal.loop-part-preserved
 loop-part-preserved g c =
     let before = c.loop-part.invariant.laid in
-    let made = g.W.Window.groups c.loop-part.pipeline.made in
+    let first = g.W.Window.groups c.loop-part.pipeline.next in
     let taken = g.W.Window.groups c.loop-part.pipeline.coming.taken in
     let next = c.in_ok-part-in-Ok-Window.ensures.taken in
     let more : c.loop-part.part ≡ Ok Window = search rules in
     record {
       laid = (
-        before.0 ++ made,
-        Lays-all _ _ _ _ c.loop-part.file c.go_on.new.file (before.0 ++ made) before.0 made refl before.1 c.in_ok-part-in-Ok-Window.ensures.whole,
+        before.0 ++ first,
+        Lays-all _ _ _ _ c.loop-part.file c.go_on.new.file (before.0 ++ first) before.0 first refl before.1 c.in_ok-part-in-Ok-Window.ensures.whole,
         TakesGroups-moved _ _ g.L.RecordFeed.rest g.L.RecordFeed.bound g.L.RecordFeed.going g.L.RecordFeed.origin g.L.RecordFeed.faults
             c.args.feed.now c.loop-part.feed c.go_on.new.feed c.args.pipeline.now.coming.taker c.loop-part.pipeline.coming.taker c.go_on.new.self.coming.taker
-            before.0 made taken next.0 (g.W.Window.groups c.go_on.new.self.made ++ g.W.Window.groups c.go_on.new.self.coming.taken)
+            before.0 first taken next.0 (g.W.Window.groups c.go_on.new.self.next ++ g.W.Window.groups c.go_on.new.self.coming.taken)
             c.in_ok-part-in-Ok-Window.part next.1
-            (subst (λ (t : Result FeedPart CutOff). TakesGroups g.L.RecordFeed.rest g.L.RecordFeed.bound g.L.RecordFeed.going g.L.RecordFeed.origin
+            (subst (λ (t : Result FeedPart TakeEnd). TakesGroups g.L.RecordFeed.rest g.L.RecordFeed.bound g.L.RecordFeed.going g.L.RecordFeed.origin
             g.L.RecordFeed.faults c.args.feed.now c.loop-part.feed c.args.pipeline.now.coming.taker c.loop-part.pipeline.coming.taker
-            (before.0 ++ (made ++ taken)) t) more before.2)
+            (before.0 ++ (first ++ taken)) t) more before.2)
             next.2,
       );
       ready = c.in_ok-part-in-Ok-Window.ensures.ready;
@@ -71,7 +71,7 @@ loop-part-preserved g c =
 pub finish-requires-clause-in_reach : goal.finish-requires-clause-in_reach
 finish-requires-clause-in_reach g c =
     let before = c.loop-part.invariant.laid in
-    let held = g.W.Window.groups c.loop-part.pipeline.made ++ g.W.Window.groups c.loop-part.pipeline.coming.taken in
+    let held = g.W.Window.groups c.loop-part.pipeline.next ++ g.W.Window.groups c.loop-part.pipeline.coming.taken in
     let near : end_of_chunks c.loop-part.file.place (chunks_of_groups held) ≤ 2 ^ 61 =
     reach_of-window c.args.file.now.place c.loop-part.file.place before.0 held c.loop-part.pipeline.coming.taker (g.L.RecordFeed.bound c.loop-part.feed) (2 ^ 61)
     before.1.place (omega (arith, before.2.in_reach c.args.file.now.place, c.requires.in_reach)) in
@@ -80,7 +80,7 @@ finish-requires-clause-in_reach g c =
 pub returns-in_err-finish-clause-front : goal.returns-in_err-finish-clause-front
 returns-in_err-finish-clause-front g c =
     let before = c.loop-part.invariant.laid in
-    let held = g.W.Window.groups c.loop-part.pipeline.made ++ g.W.Window.groups c.loop-part.pipeline.coming.taken in
+    let held = g.W.Window.groups c.loop-part.pipeline.next ++ g.W.Window.groups c.loop-part.pipeline.coming.taken in
     OnErr-any _
     (LaysFront-taken c.loop-part.part _ (g.L.RecordFeed.rest c.loop-part.feed) _ c.loop-part.pipeline.coming.taker (before.0 ++ held) _ _ _ _ before.2.given_of
     (LaysFront-all _ _ _ _ c.loop-part.file c.finish.new.file (before.0 ++ held) before.0 held refl before.1 c.in_err-finish.ensures.front))
@@ -88,7 +88,7 @@ returns-in_err-finish-clause-front g c =
 pub returns-clause-whole : goal.returns-clause-whole
 returns-clause-whole g c =
     let before = c.loop-part.invariant.laid in
-    let held = g.W.Window.groups c.loop-part.pipeline.made ++ g.W.Window.groups c.loop-part.pipeline.coming.taken in
+    let held = g.W.Window.groups c.loop-part.pipeline.next ++ g.W.Window.groups c.loop-part.pipeline.coming.taken in
     let laid = Lays-all _ _ _ c.args.file.now c.loop-part.file c.finish.new.file (before.0 ++ held) before.0 held refl before.1 c.in_ok-finish.ensures.whole in
     elim c.match-part.branch [
       | goal.in-Ok-All w ↦
@@ -96,7 +96,7 @@ returns-clause-whole g c =
           rw w.end-is
           (Lays-taken w.in-Ok-All.stop (g.L.RecordFeed.rest c.args.feed.now) (g.L.RecordFeed.rest c.loop-part.feed) c.args.pipeline.now.coming.taker
           c.loop-part.pipeline.coming.taker (before.0 ++ held) _ _ _ _
-          (subst (λ (t : Result FeedPart CutOff). AreTaken t (g.L.RecordFeed.rest c.args.feed.now) (g.L.RecordFeed.rest c.loop-part.feed) c.args.pipeline.now.coming.taker
+          (subst (λ (t : Result FeedPart TakeEnd). AreTaken t (g.L.RecordFeed.rest c.args.feed.now) (g.L.RecordFeed.rest c.loop-part.feed) c.args.pipeline.now.coming.taker
           c.loop-part.pipeline.coming.taker (before.0 ++ held)) ended before.2.given_of)
           laid)
       | goal.in-Err w ↦ rw w.end-is tt
@@ -105,7 +105,7 @@ returns-clause-whole g c =
 pub returns-clause-front : goal.returns-clause-front
 returns-clause-front g c =
     let before = c.loop-part.invariant.laid in
-    let held = g.W.Window.groups c.loop-part.pipeline.made ++ g.W.Window.groups c.loop-part.pipeline.coming.taken in
+    let held = g.W.Window.groups c.loop-part.pipeline.next ++ g.W.Window.groups c.loop-part.pipeline.coming.taken in
     OnErr-any _
     (LaysFront-taken c.loop-part.part _ (g.L.RecordFeed.rest c.loop-part.feed) _ c.loop-part.pipeline.coming.taker (before.0 ++ held) _ _ _ _ before.2.given_of
     (LaysFront-all _ _ _ _ c.loop-part.file c.finish.new.file (before.0 ++ held) before.0 held refl before.1
@@ -114,7 +114,7 @@ returns-clause-front g c =
 pub returns-clause-place : goal.returns-clause-place
 returns-clause-place g c =
     let before = c.loop-part.invariant.laid in
-    let held = g.W.Window.groups c.loop-part.pipeline.made ++ g.W.Window.groups c.loop-part.pipeline.coming.taken in
+    let held = g.W.Window.groups c.loop-part.pipeline.next ++ g.W.Window.groups c.loop-part.pipeline.coming.taken in
     let near : end_of_chunks c.loop-part.file.place (chunks_of_groups held) ≤ 2 ^ 61 =
     reach_of-window c.args.file.now.place c.loop-part.file.place before.0 held c.loop-part.pipeline.coming.taker (g.L.RecordFeed.bound c.loop-part.feed) (2 ^ 61)
     before.1.place (omega (arith, before.2.in_reach c.args.file.now.place, c.requires.in_reach)) in

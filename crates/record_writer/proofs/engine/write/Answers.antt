@@ -1,4 +1,4 @@
-use Rattle.std.proofs.Common.{◌≡◌, ◌≤◌, ◌∙◌, ◌++◌, Option, IfSome, refl, ap, arith, rules}
+use Rattle.std.proofs.Common.{◌≡◌, ◌∙◌, ◌++◌, Option, IfSome, refl, ap, arith, rules}
 use Rattle.std.proofs.lemmas.Result.{IfOk-at_ok, err_from_is_err_and}
 use Rattle.record_io.specs.Outside.{Takes, TakesFront}
 use Rattle.record_io.proofs.Calls.{TakesFront-whole, TakesFront-none}

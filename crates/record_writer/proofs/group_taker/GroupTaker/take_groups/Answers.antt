@@ -38,7 +38,6 @@ returns-in_err-take_held g c =
       lowers = search rules;
       in_reach = λ place. held_reach g at place;
       drained = search rules;
-      no_sink = search rules;
       counts = search rules;
     })
 
@@ -60,7 +59,6 @@ returns-in_err-take_record-in-Ok-true g c =
             c.in-Ok-true.ensures.lowers (ap Ok c.in-Ok-true.field-0-test),
           );
       drained = search rules;
-      no_sink = search rules;
       counts = search rules;
     })
 
@@ -73,7 +71,6 @@ returns-in-Err-Failed g c =
       lowers = search rules;
       in_reach = λ place. omega (arith, held_reach g at place, c.pull.ensures.never_rises);
       drained = search rules;
-      no_sink = search rules;
       counts = search rules;
     }
 
@@ -86,7 +83,6 @@ returns-in-Err-Memory g c =
       lowers = search rules;
       in_reach = λ place. omega (arith, held_reach g at place, c.pull.ensures.never_rises);
       drained = search rules;
-      no_sink = search rules;
       counts = search rules;
     }
 
@@ -103,7 +99,6 @@ returns-then-is_full g c =
       lowers = λ goes_on. omega (arith, less, c.take_held.ensures.lowers, c.loop-feed.invariant.lowers);
       in_reach = λ place. omega (arith, held_reach g at place, c.in_ok-take_record-in-Ok-true.ensures.in_reach place, less);
       drained = search rules;
-      no_sink = search rules;
       counts = search rules;
     }
 
@@ -144,7 +139,6 @@ returns-in_err-take_last g c =
                 omega (arith, held_reach g at place, last, c.pull.ensures.never_rises)
           ];
       drained = search rules;
-      no_sink = search rules;
       counts = search rules;
     })
 

@@ -8,51 +8,51 @@ use Rattle.record_writer.proofs.pipeline.Pipeline.finish.Goals as goal
 
 pub put_and_code-put-requires-clause-in_reach : goal.put_and_code-put-requires-clause-in_reach
 put_and_code-put-requires-clause-in_reach g c κs within =
-    within-before c.args.file.now.place (2 ^ 62) (g.W.Window.groups c.args.self.now.made) (g.W.Window.groups c.args.self.now.coming.taken) c.requires.in_reach
+    within-before c.args.file.now.place (2 ^ 62) (g.W.Window.groups c.args.self.now.next) (g.W.Window.groups c.args.self.now.coming.taken) c.requires.in_reach
 
 pub returns-in_err-put-clause-front : goal.returns-in_err-put-clause-front
 returns-in_err-put-clause-front g c =
-    let made = g.W.Window.groups c.args.self.now.made in
+    let first = g.W.Window.groups c.args.self.now.next in
     let front : LaysFront (g.M.Sink.taken c.args.made.now) (g.M.Sink.taken c.put_and_code-put.new.made) c.args.file.now c.put_and_code-put.new.file
-    (chunks_of_groups made) = search rules in
-    OnErr-any _ (LaysFront-more _ _ c.args.file.now c.put_and_code-put.new.file made (g.W.Window.groups c.args.self.now.coming.taken) front)
+    (chunks_of_groups first) = search rules in
+    OnErr-any _ (LaysFront-more _ _ c.args.file.now c.put_and_code-put.new.file first (g.W.Window.groups c.args.self.now.coming.taken) front)
 
 pub returns-in_err-coded-clause-front : goal.returns-in_err-coded-clause-front
 returns-in_err-coded-clause-front g c =
-    let made = g.W.Window.groups c.args.self.now.made in
+    let first = g.W.Window.groups c.args.self.now.next in
     let laid : Lays (g.M.Sink.taken c.args.made.now) (g.M.Sink.taken c.put_and_code-put.new.made) c.args.file.now c.put_and_code-put.new.file
-    (chunks_of_groups made) = search rules in
+    (chunks_of_groups first) = search rules in
     OnErr-any _
-    (LaysFront-more _ _ c.args.file.now c.put_and_code-put.new.file made (g.W.Window.groups c.args.self.now.coming.taken) (LaysFront-whole _ _ _ _ _ laid))
+    (LaysFront-more _ _ c.args.file.now c.put_and_code-put.new.file first (g.W.Window.groups c.args.self.now.coming.taken) (LaysFront-whole _ _ _ _ _ laid))
 
 pub put-requires-clause-in_reach : goal.put-requires-clause-in_reach
 put-requires-clause-in_reach g c =
-    let made = g.W.Window.groups c.args.self.now.made in
+    let first = g.W.Window.groups c.args.self.now.next in
     let taken = g.W.Window.groups c.args.self.now.coming.taken in
     let laid : Lays (g.M.Sink.taken c.args.made.now) (g.M.Sink.taken c.put_and_code-put.new.made) c.args.file.now c.put_and_code-put.new.file
-    (chunks_of_groups made) = search rules in
+    (chunks_of_groups first) = search rules in
     let same : g.W.Window.groups c.put_and_code-put.new.self.coming.taken ≡ taken = search rules in
-    rw same (within-behind c.args.file.now.place c.put_and_code-put.new.file.place (2 ^ 62) made taken laid.place c.requires.in_reach)
+    rw same (within-behind c.args.file.now.place c.put_and_code-put.new.file.place (2 ^ 62) first taken laid.place c.requires.in_reach)
 
 pub returns-in_err-put-2-clause-front : goal.returns-in_err-put-2-clause-front
 returns-in_err-put-2-clause-front g c =
-    let made = g.W.Window.groups c.args.self.now.made in
+    let first = g.W.Window.groups c.args.self.now.next in
     let taken = g.W.Window.groups c.args.self.now.coming.taken in
     let laid : Lays (g.M.Sink.taken c.args.made.now) (g.M.Sink.taken c.put_and_code-put.new.made) c.args.file.now c.put_and_code-put.new.file
-    (chunks_of_groups made) = search rules in
+    (chunks_of_groups first) = search rules in
     let same : g.W.Window.groups c.put_and_code-put.new.self.coming.taken ≡ taken = search rules in
     OnErr-any _
-    (LaysFront-all _ _ _ c.args.file.now c.put_and_code-put.new.file c.put.new.file (made ++ taken) made taken refl laid
+    (LaysFront-all _ _ _ c.args.file.now c.put_and_code-put.new.file c.put.new.file (first ++ taken) first taken refl laid
     (subst (λ (gs : List (List (List ℕ))). LaysFront (g.M.Sink.taken c.put_and_code-put.new.made) (g.M.Sink.taken c.put.new.made) c.put_and_code-put.new.file
     c.put.new.file (chunks_of_groups gs)) same c.in_err-put-2.ensures.laid.front))
 
 pub returns-clause-whole : goal.returns-clause-whole
 returns-clause-whole g c =
-    let made = g.W.Window.groups c.args.self.now.made in
+    let first = g.W.Window.groups c.args.self.now.next in
     let taken = g.W.Window.groups c.args.self.now.coming.taken in
     let laid : Lays (g.M.Sink.taken c.args.made.now) (g.M.Sink.taken c.put_and_code-put.new.made) c.args.file.now c.put_and_code-put.new.file
-    (chunks_of_groups made) = search rules in
+    (chunks_of_groups first) = search rules in
     let same : g.W.Window.groups c.put_and_code-put.new.self.coming.taken ≡ taken = search rules in
-    Lays-all _ _ _ c.args.file.now c.put_and_code-put.new.file c.put.new.file (made ++ taken) made taken refl laid
+    Lays-all _ _ _ c.args.file.now c.put_and_code-put.new.file c.put.new.file (first ++ taken) first taken refl laid
     (subst (λ (gs : List (List (List ℕ))). Lays (g.M.Sink.taken c.put_and_code-put.new.made) (g.M.Sink.taken c.put.new.made) c.put_and_code-put.new.file
     c.put.new.file (chunks_of_groups gs)) same c.in_ok-put-2.ensures.laid.whole)
