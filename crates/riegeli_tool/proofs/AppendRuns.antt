@@ -21,7 +21,7 @@ use Rattle.run_answers.specs.Endings.{SaysEnd}
 use Rattle.run_answers.specs.FileAnswers.{OfFile, IsInReach, IsTooLong, limit_text, most_file_bytes}
 use Rattle.run_answers.specs.Meanings.{Read}
 use Rattle.run_answers.specs.Statuses.{fault_text}
-use Rattle.run_answers.specs.Runs.{SeenStream, SeenFile, Seen, seen, IsRead, IfRead, IfGrown, IsWhole, IsCutOff, IsCutShort, OfSizes, SaysAtEnd, TakesThen, Breaks, HasCause, TakesAtMost, Runs}
+use Rattle.run_answers.specs.Runs.{SeenStream, SeenFile, Seen, seen, IsReadBy, IfRead, IfGrown, IsWhole, IsCutOff, IsCutShort, OfSizes, SaysAtEnd, TakesThen, Breaks, HasCause, TakesAtMost, Runs}
 use Rattle.run_answers.proofs.GrownRuns.{GrowsFile, grown-size, keeps-cut_off, keeps-whole}
 use Rattle.run_answers.proofs.RunEnds.{GaveButNotes, KeepsAtEnd, PutsLines-none, was-cut_off, went-so_far, ends-whole, ends-said, ends-cut_off}
 use Rattle.show_files.specs.Readings.{refused_text}
@@ -118,7 +118,7 @@ module _ (words : AppendWords) (input input_then : SeenStream) (files : List See
 
   -- the size of a file that was read is that which it told
   read_size : (P : ℕ → Type 0) (size : ℕ) → P size → IfSome grown.bytes (λ file. size ≡ length file)
-      → (r : Read) → IsRead (append_meaning words) Before r → P (length r.grown)
+      → (r : Read) → IsReadBy (append_meaning words) Before r → P (length r.grown)
   read_size P size holds exact r is =
       subst P (MatchOption-at_some _ (λ (file : List ℕ). size ≡ length file) r.grown (is.grown refl).0 exact) holds
 
@@ -140,7 +140,7 @@ module _ (words : AppendWords) (input input_then : SeenStream) (files : List See
 
   -- all was put to the file, and what became of it was printed
   done : HasTold grown.bytes (λ size. IsInReach (size ∷ []))
-      → ((r : Read) → IsRead (append_meaning words) Before r → IsTold Takes words (Lines r) r.grown grown_then.bytes out.bytes out_then.bytes)
+      → ((r : Read) → IsReadBy (append_meaning words) Before r → IsTold Takes words (Lines r) r.grown grown_then.bytes out.bytes out_then.bytes)
       → IfSome input.bytes (λ _. input_then.bytes ≡ Some [])
       → Keeps (λ file held. (place : ℕ) × GrowsFrom words.cut file place held) → notes_then ≡ notes → Ended status.Ok
   done (size, within, exact) told read keeps kept =
@@ -170,7 +170,7 @@ module _ (words : AppendWords) (input input_then : SeenStream) (files : List See
   said : (ended wanted : Status) (text : List ℕ) → SaysAtEnd ended wanted notes notes_then text → text ≢ [] → IsWhole wanted → wanted ≢ status.Ok
       → HasCause wanted (append_meaning words) Before After
       → OfSizes (append_meaning words) Before After (λ sizes. (append_meaning words).may_end sizes wanted text)
-      → ((r : Read) → IsRead (append_meaning words) Before r
+      → ((r : Read) → IsReadBy (append_meaning words) Before r
       → (answer : Answer) × (append_meaning words).answers r answer × GaveButNotes wanted Start Worked text answer)
       → IfGrown (append_meaning words) Before After (append_meaning words).leaves
       → IfGrown (append_meaning words) Before After (append_meaning words).may_leave
@@ -183,7 +183,7 @@ module _ (words : AppendWords) (input input_then : SeenStream) (files : List See
   ungrown : (ended wanted : Status) (text : List ℕ) → SaysAtEnd ended wanted notes notes_then text → text ≢ [] → IsWhole wanted → wanted ≢ status.Ok
       → HasCause wanted (append_meaning words) Before After
       → OfSizes (append_meaning words) Before After (λ sizes. (append_meaning words).may_end sizes wanted text)
-      → ((r : Read) → IsRead (append_meaning words) Before r
+      → ((r : Read) → IsReadBy (append_meaning words) Before r
       → OfFile (IsAppended words (Lines r)) (r.grown ∷ []) (noted wanted text)
       × ((most_file_bytes < length r.grown) ⊎ ((fault : Fault) × IsRefused words.cut r.grown fault))
       × (grown_then.bytes ≡ Some r.grown) × (out_then.bytes ≡ out.bytes))
@@ -199,7 +199,7 @@ module _ (words : AppendWords) (input input_then : SeenStream) (files : List See
 
   -- it is too long
   too_long : (ended : Status) → HasTold grown.bytes (λ size. IsTooLong (size ∷ []) × (grown_then.told ≡ Some size))
-      → ((r : Read) → IsRead (append_meaning words) Before r
+      → ((r : Read) → IsReadBy (append_meaning words) Before r
       → (most_file_bytes < length r.grown) × (grown_then.bytes ≡ Some r.grown) × (out_then.bytes ≡ out.bytes))
       → Keeps (λ file held. held ≡ file) → SaysAtEnd ended status.Limit notes notes_then limit_text → Ended ended
   too_long ended (size, (long, told), exact) known keeps says =
@@ -213,7 +213,7 @@ module _ (words : AppendWords) (input input_then : SeenStream) (files : List See
   -- it is refused
   refused : (ended : Status) (fault : Fault)
       → HasTold grown.bytes (λ size. IsInReach (size ∷ []) × (grown_then.told ≡ Some size) × (0 < size) × RefusesFor words.cut fault.why)
-      → ((r : Read) → IsRead (append_meaning words) Before r
+      → ((r : Read) → IsReadBy (append_meaning words) Before r
       → IsRefused words.cut r.grown fault × (grown_then.bytes ≡ Some r.grown) × (out_then.bytes ≡ out.bytes))
       → Keeps (λ file held. held ≡ file) → SaysAtEnd ended status.Refused notes notes_then (refused_text fault) → Ended ended
   refused ended fault (size, (within, told, some, reason), exact) known keeps says =
@@ -231,7 +231,7 @@ module _ (words : AppendWords) (input input_then : SeenStream) (files : List See
       → HasCause (stop_status (Some s)) (append_meaning words) Before After
       → ((file held : List ℕ) → length file ≤ most_file_bytes → ((place : ℕ) × GrowsFrom words.cut file place held) → KeepsOld words.cut (stop_status (Some s)) file held)
       → HasTold grown.bytes (λ size. IsInReach (size ∷ []))
-      → ((r : Read) → IsRead (append_meaning words) Before r
+      → ((r : Read) → IsReadBy (append_meaning words) Before r
       → IsStopped words (Lines r) r.grown grown_then.bytes s count × (out_then.bytes ≡ out.bytes))
       → Keeps (λ file held. (place : ℕ) × GrowsFrom words.cut file place held)
       → SaysAtEnd ended (stop_status (Some s)) notes notes_then (stop_text count (Some s)) → Ended ended
@@ -270,7 +270,7 @@ module _ (words : AppendWords) (input input_then : SeenStream) (files : List See
   -- by which it was
   by_stop : (ended : Status) (s : Stop) (count : ℕ)
       → HasTold grown.bytes (λ size. IsInReach (size ∷ []))
-      → ((r : Read) → IsRead (append_meaning words) Before r
+      → ((r : Read) → IsReadBy (append_meaning words) Before r
       → IsStopped words (Lines r) r.grown grown_then.bytes s count × (out_then.bytes ≡ out.bytes))
       → Keeps (λ file held. (place : ℕ) × GrowsFrom words.cut file place held)
       → SaysAtEnd ended (stop_status (Some s)) notes notes_then (stop_text count (Some s)) → Ended ended
@@ -284,9 +284,9 @@ module _ (words : AppendWords) (input input_then : SeenStream) (files : List See
   -- a fault or want of memory cut the work off, when this of an answer had gone out
   cut_off : (ended : Status) → IsCutOff ended
       → (ended ≢ status.File → ended ≢ status.Grown → OfSizes (append_meaning words) Before After IsInReach)
-      → ((r : Read) → IsRead (append_meaning words) Before r → (answer : Answer) × (append_meaning words).answers r answer
+      → ((r : Read) → IsReadBy (append_meaning words) Before r → (answer : Answer) × (append_meaning words).answers r answer
       × (part : List Put) × Breaks ended part answer.puts × (bytes_to Notes part ≡ []) × GoOut Start Worked part × (IsCutShort ended → part ≡ []))
-      → ((r : Read) → IsRead (append_meaning words) Before r → (bytes : List ℕ) × (grown_then.bytes ≡ Some bytes) × MayBeLeft words (Lines r) r.grown bytes)
+      → ((r : Read) → IsReadBy (append_meaning words) Before r → (bytes : List ℕ) × (grown_then.bytes ≡ Some bytes) × MayBeLeft words (Lines r) r.grown bytes)
       → HasCause ended (append_meaning words) Before After → Keeps (KeepsOld words.cut ended)
       → TakesThen notes notes_then [] (fault_text ended) → Ended ended
   cut_off ended cuts within put left cause keeps says =
@@ -302,7 +302,7 @@ module _ (words : AppendWords) (input input_then : SeenStream) (files : List See
   -- before anything was printed
   unprinted_cut : (ended : Status) → IsCutOff ended → ((puts : List Put) → Breaks ended [] puts)
       → (ended ≢ status.File → ended ≢ status.Grown → OfSizes (append_meaning words) Before After IsInReach)
-      → ((r : Read) → IsRead (append_meaning words) Before r
+      → ((r : Read) → IsReadBy (append_meaning words) Before r
       → ((grown_then.bytes ≡ Some r.grown)
       ⊎ ((length r.grown ≤ most_file_bytes) × HoldsGrownInPart words.write.options words.cut r.grown (Lines r).records grown_then.bytes))
       × (out_then.bytes ≡ out.bytes))
@@ -318,7 +318,7 @@ module _ (words : AppendWords) (input input_then : SeenStream) (files : List See
 
   -- standard output failed
   out_failed : HasTold grown.bytes (λ size. IsInReach (size ∷ []))
-      → ((r : Read) → IsRead (append_meaning words) Before r → IsTold TakesFront words (Lines r) r.grown grown_then.bytes out.bytes out_then.bytes)
+      → ((r : Read) → IsReadBy (append_meaning words) Before r → IsTold TakesFront words (Lines r) r.grown grown_then.bytes out.bytes out_then.bytes)
       → Rose out.faults out_then.faults → Keeps (KeepsFront words.cut) → TakesThen notes notes_then [] (fault_text status.Out) → Ended status.Out
   out_failed (size, within, exact) told rose keeps says =
       cut_off status.Out tt (λ _ _. of_size IsInReach size (inr within) exact within)
@@ -347,14 +347,14 @@ module _ (words : AppendWords) (input input_then : SeenStream) (files : List See
 
   -- P holds of what is read, where that is told
   if_read : (P : List ℕ → Rest → Type 0) → IfSome grown.bytes (λ file. IfSome input.bytes (λ bytes. P file (lines_taken words bytes)))
-      → (r : Read) → IsRead (append_meaning words) Before r → P r.grown (Lines r)
+      → (r : Read) → IsReadBy (append_meaning words) Before r → P r.grown (Lines r)
   if_read P holds r is =
       MatchOption-at_some _ (λ (bytes : List ℕ). P r.grown (lines_taken words bytes)) r.input (is.input refl)
       (MatchOption-at_some _ (λ (file : List ℕ). IfSome input.bytes (λ bytes. P file (lines_taken words bytes))) r.grown (is.grown refl).0 holds)
 
   -- by how the work ended
   by_end : {X : Type 0} (result : Result X (Ending Halt)) (ended : Status) → IsSizedBy result words.cut grown.bytes grown_then.told
-      → ((r : Read) → IsRead (append_meaning words) Before r
+      → ((r : Read) → IsReadBy (append_meaning words) Before r
       → HasAppended result words (Lines r) r.grown grown_then.bytes out.bytes out_then.bytes)
       → Keeps (KeepsOldAtEnd result words.cut)
       → (result ≡ Err (end.Cut cut.Input) → Rose input.faults input_then.faults)

@@ -4,13 +4,13 @@ use Rattle.run_answers.specs.declared.status.Status.{Status}
 use Rattle.run_answers.specs.Answers.{Answer}
 use Rattle.run_answers.specs.Meanings.{Meaning, Read}
 use Rattle.run_answers.specs.declared.status.Status.TheVariants as status
-use Rattle.run_answers.specs.Runs.{Seen, IsRead, IfRead, IfTold, OfSizes, WentOutSoFar, HasCause, IfGrown, handed_by, Runs}
+use Rattle.run_answers.specs.Runs.{Seen, IsReadBy, IfRead, IfTold, OfSizes, WentOutSoFar, HasCause, IfGrown, handed_by, Runs}
 
 module _ (m : Meaning) (answers : Read → Answer → Type 0) (so : (r : Read) (a : Answer) → m.answers r a → answers r a) (before after : Seen) where
   abbrev with_answers : Meaning
   with_answers = record m { answers = answers }
 
-  read_by : (r : Read) → IsRead with_answers before r → IsRead m before r
+  read_by : (r : Read) → IsReadBy with_answers before r → IsReadBy m before r
   read_by r is = record { input = is.input; files = is.files; grown = is.grown; supposed = is.supposed }
 
   told_so : (P : Answer → Type 0) → IfTold m before P → IfTold with_answers before P

@@ -31,7 +31,7 @@ ghost use Rattle.show_damaged.specs.RecoverCommand.{IsRecovered};
 ghost use Rattle.riegeli_tool.specs.RangesCommand.{AreOneFile, IsRangesAnswer, MayBeRead, most_range_bytes};
 ghost use Rattle.riegeli_tool.specs.AppendCommand.{IsAppended, IsLeft, grown_answer, grown_text, lines_taken};
 ghost use Rattle.riegeli_tool.specs.RepairCommand.{end_puts, IsRepaired};
-ghost use Rattle.run_answers.specs.Runs.{IsSound, IsWhole, Runs, Seen};
+ghost use Rattle.run_answers.specs.Runs.{HadNoFault, IsWhole, Runs, Seen};
 ghost use Rattle.sample_records.specs.SampleCommand.{sampled, sample_answer, sample_file, sample_summary};
 ghost use Rattle.show_files.specs.ShowCommand.{IsShown};
 ghost use Rattle.show_files.specs.VerifyCommand.{IsVerified};
@@ -66,7 +66,7 @@ pub fn answers_are_one()
 /// a fault never stands without one. Own.
 pub fn no_fault_without_a_cause()
     ensures whole { (command : Option Command) (before after : Seen) (ended : Status)
-        → Runs (meaning_of command) before after ended → IsSound (meaning_of command).uses before after
+        → Runs (meaning_of command) before after ended → HadNoFault (meaning_of command).uses before after
         → IsWhole ended ⊎ (ended ≡ status.Memory) }
 {}
 

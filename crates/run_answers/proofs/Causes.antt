@@ -2,12 +2,12 @@
 use Rattle.std.proofs.Common.{◌≡◌, ◌⊎◌, inl, inr, refl}
 use Rattle.run_answers.specs.declared.status.Status.{Status}
 use Rattle.run_answers.specs.Meanings.{Meaning}
-use Rattle.run_answers.specs.Runs.{Seen, IsWhole, IsSound, HasCause}
+use Rattle.run_answers.specs.Runs.{Seen, IsWhole, HadNoFault, HasCause}
 use Rattle.run_answers.specs.declared.status.Status.TheVariants as status
 
 -- without a fault a status that has a cause is that of a whole answer, or tells want of memory
 pub whole-or-memory : (m : Meaning) (before after : Seen) (ended : Status)
-    → HasCause ended m before after → IsSound m.uses before after → IsWhole ended ⊎ (ended ≡ status.Memory)
+    → HasCause ended m before after → HadNoFault m.uses before after → IsWhole ended ⊎ (ended ≡ status.Memory)
 whole-or-memory m before after status.Input cause sound = absurd (sound.input cause.0 cause.1)
 whole-or-memory m before after status.File cause sound = absurd (sound.files cause.0 cause.1)
 whole-or-memory m before after status.Made cause sound = absurd (sound.made cause.0 cause.1)

@@ -17,7 +17,7 @@ use Rattle.run_answers.specs.FileAnswers.{OfFile, IsInReach, IsTooLong, limit_te
 use Rattle.run_answers.specs.FileSizes.{IsUnsized}
 use Rattle.run_answers.specs.Meanings.{Meaning}
 use Rattle.run_answers.specs.Statuses.{fault_text}
-use Rattle.run_answers.specs.Runs.{SeenStream, SeenFile, Seen, seen, IfTold, OfSizes, IsWhole, IsCutOff, IsCutShort, AreSinksSound, TakesThen, SaysAtEnd, Breaks, PutsLines, WasCutOff, FailedToSay, HasCause, Runs}
+use Rattle.run_answers.specs.Runs.{SeenStream, SeenFile, Seen, seen, IfTold, OfSizes, IsWhole, IsCutOff, IsCutShort, HadNoSinkFault, TakesThen, SaysAtEnd, Breaks, PutsLines, WasCutOff, FailedToSay, HasCause, Runs}
 use Rattle.run_answers.specs.PutSoFar.{HasPut, HasPutSoFar, HasPutFront}
 use Rattle.run_answers.proofs.OneAnswer.{of_file_exists}
 use Rattle.run_answers.proofs.PutSoFar.{front-nothing, noted-nothing, gave-put, whole-flushed, front-flushed, broken-flushed, untold-flushed, whole-unflushed, front-unflushed}
@@ -236,7 +236,7 @@ module _ (m : Meaning) (P : List ℕ → Answer → Type 0) (Q : (before after :
 
   -- all that was put so far went out
   abbrev PutSoFar : Type 0
-  PutSoFar = AreSinksSound m.uses Before After → IfSome file.bytes (λ bytes. HasPutSoFar (Q file.handed file_then.handed bytes) Start Worked [])
+  PutSoFar = HadNoSinkFault m.uses Before After → IfSome file.bytes (λ bytes. HasPutSoFar (Q file.handed file_then.handed bytes) Start Worked [])
 
   -- a front of an answer, up to bytes that go to the sink that failed
   broken : (why : Cut) → why ≢ cut.Notes → (answer : Answer) → HasPutToCut why Start Worked [] answer

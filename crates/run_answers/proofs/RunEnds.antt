@@ -9,7 +9,7 @@ use Rattle.run_answers.specs.declared.status.Status.{Status}
 use Rattle.run_answers.specs.Statuses.{fault_text}
 use Rattle.run_answers.specs.Answers.{Answer}
 use Rattle.run_answers.specs.Meanings.{Meaning, Read}
-use Rattle.run_answers.specs.Runs.{SeenStream, SeenFile, Seen, seen, IsWhole, IsCutOff, IsCutShort, IsSound, AreSinksSound, IfRead, IfTold, OfSizes, handed_by, taken_in, Gave, TakesThen, SaysAtEnd, Breaks, PutsLines, WasCutOff, WentOutSoFar, FailedToSay, HasCause, NoneFell, IfGrown, TakesAtMost, Runs}
+use Rattle.run_answers.specs.Runs.{SeenStream, SeenFile, Seen, seen, IsWhole, IsCutOff, IsCutShort, HadNoFault, HadNoSinkFault, IfRead, IfTold, OfSizes, handed_by, taken_in, Gave, TakesThen, SaysAtEnd, Breaks, PutsLines, WasCutOff, WentOutSoFar, FailedToSay, HasCause, NoneFell, IfGrown, TakesAtMost, Runs}
 use Rattle.run_answers.specs.declared.status.Status.TheVariants as status
 
 -- what every end of a run keeps that grows no file
@@ -132,7 +132,7 @@ whole-cut_short other whole short = short
 complete : (m : Meaning) (before after : Seen) (ended : Status)
     → (IsWhole ended → IfTold m before (Gave ended before after))
     → (IsCutOff ended → IfTold m before (WasCutOff ended before after))
-    → HasCause ended m before after → IsSound m.uses before after
+    → HasCause ended m before after → HadNoFault m.uses before after
     → IfTold m before (λ answer. (ended ≡ answer.status) ⊎ (ended ≡ status.Memory))
 complete m before after status.Input whole cut cause sound = absurd (sound.input cause.0 cause.1)
 complete m before after status.File whole cut cause sound = absurd (sound.files cause.0 cause.1)
@@ -215,7 +215,7 @@ pub ends-cut_off : (m : Meaning) (before after : Seen) (ended : Status) (text : 
     → IsCutOff ended → (ended ≢ status.File → ended ≢ status.Grown → OfSizes m before after m.may_work)
     → m.may_say text → TakesThen before.notes after.notes text (fault_text ended)
     → IfTold m before (WasCutOff ended before after)
-    → (IsCutShort ended → AreSinksSound m.uses before after → IfRead m before (WentOutSoFar m ended before after))
+    → (IsCutShort ended → HadNoSinkFault m.uses before after → IfRead m before (WentOutSoFar m ended before after))
     → m.is_command ≡ true → HasCause ended m before after → KeepsAtEnd m before after ended
     → Runs m before after ended
 ends-cut_off m before after ended text cut within may_say said was so_far some cause keeps = record {
@@ -264,7 +264,7 @@ pub runs-cut_off : (m : Meaning) (before after : Seen) (ended : Status) (text : 
     → IsCutOff ended → (ended ≢ status.File → OfSizes m before after m.may_work)
     → m.may_say text → TakesThen before.notes after.notes text (fault_text ended)
     → IfTold m before (WasCutOff ended before after)
-    → (IsCutShort ended → AreSinksSound m.uses before after → IfRead m before (WentOutSoFar m ended before after))
+    → (IsCutShort ended → HadNoSinkFault m.uses before after → IfRead m before (WentOutSoFar m ended before after))
     → m.is_command ≡ true → HasCause ended m before after → Keeps m before after
     → Runs m before after ended
 runs-cut_off m before after ended text cut within may_say said was so_far some cause keeps =

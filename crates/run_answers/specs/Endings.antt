@@ -1,5 +1,5 @@
 -- How the work of a command that reads one file ends, and what it has put and says then. Own.
-use Rattle.std.specs.Prelude.{◌≡◌, ◌≢◌, ℕ, true, Option, Result, Ok, Err, List, [], ◌∷◌, IsSomeAnd}
+use Rattle.std.specs.Prelude.{◌≡◌, ◌≢◌, ℕ, true, Option, Some, Result, Ok, Err, List, [], ◌∷◌, map, IsSomeAnd}
 use Rattle.record_values.specs.Bytes.{AreBytes}
 use Rattle.record_io.specs.Puts.{Made, Out, Taken}
 use Rattle.run_answers.specs.declared.ending.Cut.{Cut}
@@ -62,6 +62,20 @@ IsAllowedEnd m (Err end.Limit) told = IsSomeAnd told (λ size. IsTooLong (size �
 IsAllowedEnd m (Err (end.At _)) told = IsSomeAnd told (λ size. IsInReach (size ∷ []))
 IsAllowedEnd m (Err (end.Cut cut.File)) told = m.uses.files ≡ true
 IsAllowedEnd m (Err (end.Cut cut)) told = MayBeCut m cut × IsSomeAnd told (λ size. IsInReach (size ∷ []))
+
+-- files told sizes of which P holds
+abbrev pub HaveTold : List (Option ℕ) → (List ℕ → Type 0) → Type 0
+HaveTold told P = (sizes : List ℕ) × (told ≡ map Some sizes) × P sizes
+
+-- the work of a command that reads several files may end so, by the sizes that they told: at the limit by these, at what it
+-- doesn't go past by those, and else by such as let it go on to its work, unless a file failed
+abbrev pub IsAllowedEndOfMany : {X W : Type 0} → Meaning → (past : List ℕ → Type 0) → (stops : W → List ℕ → Type 0)
+    → Result X (Ending W) → List (Option ℕ) → Type 0
+IsAllowedEndOfMany m past stops (Ok _) told = HaveTold told m.may_work
+IsAllowedEndOfMany m past stops (Err end.Limit) told = HaveTold told past
+IsAllowedEndOfMany m past stops (Err (end.At w)) told = HaveTold told (stops w)
+IsAllowedEndOfMany m past stops (Err (end.Cut cut.File)) told = m.uses.files ≡ true
+IsAllowedEndOfMany m past stops (Err (end.Cut cut)) told = MayBeCut m cut × HaveTold told m.may_work
 
 -- the ends by a fault of what is read or want of memory
 abbrev pub IsShort : {W : Type 0} → Ending W → Type 0

@@ -83,7 +83,7 @@ OneRose before after =
     × (slice_get before place ≡ Some a) × (slice_get after place ≡ Some b) × Rose a.faults b.faults
 
 -- no object that is used had a fault
-pub record IsSound (uses : Uses) (before after : Seen) : Type 0 where
+pub record HadNoFault (uses : Uses) (before after : Seen) : Type 0 where
   pub input : uses.input ≡ true → ¬ Rose before.input.faults after.input.faults
   pub files : uses.files ≡ true → ¬ OneRose before.files after.files
   pub made : uses.made ≡ true → ¬ Rose before.made.faults after.made.faults
@@ -92,12 +92,12 @@ pub record IsSound (uses : Uses) (before after : Seen) : Type 0 where
   pub notes : ¬ Rose before.notes.faults after.notes.faults
 
 -- neither the made file nor standard output had a fault, where they are used
-pub record AreSinksSound (uses : Uses) (before after : Seen) : Type 0 where
+pub record HadNoSinkFault (uses : Uses) (before after : Seen) : Type 0 where
   pub made : uses.made ≡ true → ¬ Rose before.made.faults after.made.faults
   pub out : uses.out ≡ true → ¬ Rose before.out.faults after.out.faults
 
 -- this is what a command reads, where the objects that it uses tell their bytes, and what is supposed of it holds
-pub record IsRead (m : Meaning) (before : Seen) (r : Read) : Type 0 where
+pub record IsReadBy (m : Meaning) (before : Seen) (r : Read) : Type 0 where
   pub input : m.uses.input ≡ true → before.input.bytes ≡ Some r.input
   pub files : m.uses.files ≡ true → (map (λ file. file.bytes) before.files ≡ map Some r.files) × AllByRecursion AreBytes r.files
   pub grown : m.uses.grown ≡ true → (before.grown.bytes ≡ Some r.grown) × AreBytes r.grown
@@ -105,7 +105,7 @@ pub record IsRead (m : Meaning) (before : Seen) (r : Read) : Type 0 where
 
 -- P holds of what a command reads, where it tells its bytes
 abbrev pub IfRead : Meaning → Seen → (Read → Type 0) → Type 0
-IfRead m before P = (r : Read) → IsRead m before r → P r
+IfRead m before P = (r : Read) → IsReadBy m before r → P r
 
 -- P holds of an answer to the command, where what it reads tells its bytes
 abbrev pub IfTold : Meaning → Seen → (Answer → Type 0) → Type 0
@@ -226,7 +226,7 @@ pub record Runs (m : Meaning) (before after : Seen) (ended : Status) : Type 0 wh
   pub grown : IsWhole ended → IfGrown m before after m.leaves
   pub read_to_end : ended ≡ status.Ok → m.uses.input ≡ true → IfSome before.input.bytes (λ _. after.input.bytes ≡ Some [])
   -- where nothing that is used had a fault, the status is an answer's, or tells want of memory
-  pub complete : IsSound m.uses before after → IfTold m before (λ answer. (ended ≡ answer.status) ⊎ (ended ≡ status.Memory))
+  pub complete : HadNoFault m.uses before after → IfTold m before (λ answer. (ended ≡ answer.status) ⊎ (ended ≡ status.Memory))
   pub usage : m.is_command ≡ false → (ended ≡ status.Usage) ⊎ (ended ≡ status.Notes)
   pub cause : HasCause ended m before after
   -- where the work was cut off, or notes failed, a front of what an answer puts went out
@@ -236,7 +236,7 @@ pub record Runs (m : Meaning) (before after : Seen) (ended : Status) : Type 0 wh
   pub grown_kept : m.uses.grown ≡ true → IfSome before.grown.bytes (λ held. IsSomeAnd after.grown.bytes (λ holds. m.keeps ended held holds))
   -- where what is read failed or memory was wanting, and no sink of the work failed too, what went out ends where a command
   -- may be cut short, as behind a whole chunk of a file that is shown
-  pub so_far : IsCutShort ended → AreSinksSound m.uses before after → IfRead m before (WentOutSoFar m ended before after)
+  pub so_far : IsCutShort ended → HadNoSinkFault m.uses before after → IfRead m before (WentOutSoFar m ended before after)
   -- files are asked their sizes first: what cuts the work off, unless it is a fault of theirs, finds them within the limit
   pub in_reach : IsCutOff ended → ended ≢ status.File → ended ≢ status.Grown → OfSizes m before after m.may_work
   -- and only then are they read, and no more of them than the command may take

@@ -7,7 +7,7 @@ ghost use Rattle.run_answers.specs.FileSizes.{IsUnsized};
 use record_io::{Failed, Store};
 
 /// The most bytes that a record file may have that is read.
-const MOST_FILE_BYTES: u64 = 1 << 60;
+pub const MOST_FILE_BYTES: u64 = 1 << 60;
 
 /// Why no size was told of a file that may be read.
 #[derive(Clone, Copy, Debug, PartialEq, Eq)]

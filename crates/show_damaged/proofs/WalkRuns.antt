@@ -17,7 +17,7 @@ use Rattle.damage_skip.specs.Bounds.{may_skip, MaySkip}
 use Rattle.damage_skip.specs.Regions.{skipped_text, walk_text}
 use Rattle.show_damaged.specs.WalkAnswers.{walk_status, MaySayWalk, MayEndWalk}
 use Rattle.run_answers.specs.Meanings.{Meaning}
-use Rattle.run_answers.specs.Runs.{SeenStream, SeenFile, Seen, seen, AreSinksSound, Runs}
+use Rattle.run_answers.specs.Runs.{SeenStream, SeenFile, Seen, seen, HadNoSinkFault, Runs}
 use Rattle.run_answers.specs.PutSoFar.{HasPutSoFar}
 use Rattle.show_damaged.specs.WalkingEnds.{walk_ends, TellsOf}
 use Rattle.run_answers.proofs.FileEnds.{EndsBy, EndsWhole, HasSaid, MayEndInReach, runs-file}
@@ -113,7 +113,7 @@ module _ (m : Meaning) (P : List ℕ → Answer → Type 0) (Q : (before after :
         → IsAllowedEnd m result file_then.told
         → IfSome file.bytes (λ bytes. IfSome file_then.told (λ size. size ≡ length bytes))
         → IfSome file.bytes (λ bytes. HasPutAtEnd walk_ends P result bytes Start Walked [])
-        → (IsErrAnd result IsShort → AreSinksSound m.uses Before After → IfSome file.bytes (λ bytes. HasPutSoFar (Q file.handed file_then.handed bytes) Start Walked []))
+        → (IsErrAnd result IsShort → HadNoSinkFault m.uses Before After → IfSome file.bytes (λ bytes. HasPutSoFar (Q file.handed file_then.handed bytes) Start Walked []))
         → TellsOf most result notes.bytes mid.bytes → SaysEnd walk_ends result ended mid notes_then → notes.faults ≤ mid.faults
         → (result ≡ Err (end.Cut cut.File) → Rose file.faults file_then.faults)
         → (result ≡ Err (end.Cut cut.Made) → Rose made.faults made_then.faults)
