@@ -1,5 +1,5 @@
 -- What a device holds of an old file and new records, by how the writing of these ended.
-use Rattle.std.proofs.Common.{◌≡◌, ◌∙◌, ℕ, zero, suc, ◌+◌, ◌-◌, ◌≤◌, ◌⊎◌, Bool, Option, Some, None, IfSome, IsSomeAnd, Ok, Err, List, ◌++◌, length, take, cond, refl, sym, ap, subst, inl, inr, arith}
+use Rattle.std.proofs.Common.{◌≡◌, ◌∙◌, ℕ, zero, suc, ◌+◌, ◌-◌, ◌≤◌, Bool, Option, Some, None, IfSome, IsSomeAnd, Ok, Err, List, ◌++◌, length, take, cond, refl, sym, ap, subst, inl, inr, arith}
 use Rattle.std.specs.Prelude.{option_map}
 use Rattle.std.proofs.lemmas.List.{length-append, length-take-le}
 use Rattle.std.proofs.lemmas.List.Sums.{sum_by-cons}
@@ -13,11 +13,11 @@ use Rattle.record_writer.specs.declared.engine.WriteEnd.{WriteEnd}
 use Rattle.record_writer.specs.declared.engine.WriteEnd.TheVariants.{TooLong, InputTooLong, BadLine, Input, Made, Memory}
 use Rattle.record_writer.specs.declared.options.WriteOptions.{WriteOptions}
 use Rattle.record_writer.specs.Written.{AnswersTotals, TakesFile, tail_chunks}
-use Rattle.chunk_reader.specs.declared.reasons.Fault.{Fault}
-use Rattle.record_append.specs.Appends.{AnswersGrown, AnswersRest, GrowsBy, GrowsFrom, HoldsCutOff, KeepsBy, end_of_write}
+use Rattle.chunk_reader.specs.declared.reasons.VerifyEnd.{VerifyEnd}
+use Rattle.chunk_reader.specs.declared.reasons.VerifyEnd.TheVariants as verify
+use Rattle.record_append.specs.Appends.{AnswersGrown, AnswersRest, GrowsBy, GrowsFrom, HoldsCutOff, KeepsBy}
+use Rattle.record_append.specs.Ends.{end_of_verify, end_of_write}
 use Rattle.record_append.specs.Grown.{IsKeptTo, IsUnrefused, bytes_at, totals_at}
-use Rattle.record_append.specs.declared.appends.AppendEnd.{AppendEnd}
-use Rattle.record_append.specs.declared.appends.AppendEnd.TheVariants.{Refused, Device}
 use Rattle.record_writer.proofs.Counted.{counted-tail}
 use Rattle.record_append.proofs.KeptFiles.{IsSized}
 
@@ -108,36 +108,30 @@ grown_ended options cut (Some file) mid held (Some rest) place end kept left ans
     grown_end options cut file held rest place end kept answer
     (subst (λ (o : Option (List ℕ)). TakesFile (Err end) o held (bytes_at options place rest.records)) left took)
 
--- nothing was put, and the device is as it was
-abbrev pub IsEarly : AppendEnd → Type 0
-IsEarly end = (end ≡ Device) ⊎ ((fault : Fault) × (end ≡ Refused fault))
+-- where judging ended early nothing was put, and the device is as it was
+early_end : (options : WriteOptions) (cut : Bool) (file : List ℕ) (held : Option (List ℕ)) (rest : Rest) (end : VerifyEnd)
+    → held ≡ Some file → AnswersGrown (Err (end_of_verify end)) options cut file rest held
+early_end options cut file held rest (verify.Refused fault) same = same
+early_end options cut file held rest verify.Store same = inl same
 
-early_end : (options : WriteOptions) (cut : Bool) (file : List ℕ) (held : Option (List ℕ)) (rest : Rest) (end : AppendEnd)
-    → held ≡ Some file → IsEarly end → AnswersGrown (Err end) options cut file rest held
-early_end options cut file held rest end same (inl device) =
-    subst (λ (e : AppendEnd). AnswersGrown (Err e) options cut file rest held) (sym device) (inl same)
-early_end options cut file held rest end same (inr (fault, refused)) =
-    subst (λ (e : AppendEnd). AnswersGrown (Err e) options cut file rest held) (sym refused) same
-
-pub grown_early : (options : WriteOptions) (cut : Bool) (bytes held : Option (List ℕ)) (rests : Option Rest) (end : AppendEnd)
-    → held ≡ bytes → IsEarly end
-    → IfSome bytes (λ file. IfSome rests (λ rest. AnswersGrown (Err end) options cut file rest held))
-grown_early options cut None held rests end same early = tt
-grown_early options cut (Some file) held None end same early = tt
-grown_early options cut (Some file) held (Some rest) end same early = early_end options cut file held rest end same early
+pub grown_early : (options : WriteOptions) (cut : Bool) (bytes held : Option (List ℕ)) (rests : Option Rest) (end : VerifyEnd)
+    → held ≡ bytes → IfSome bytes (λ file. IfSome rests (λ rest. AnswersGrown (Err (end_of_verify end)) options cut file rest held))
+grown_early options cut None held rests end same = tt
+grown_early options cut (Some file) held None end same = tt
+grown_early options cut (Some file) held (Some rest) end same = early_end options cut file held rest end same
 
 -- no byte that is kept changes where nothing was put
-keeps_own : (cut : Bool) (file : List ℕ) (end : AppendEnd) → IsEarly end → KeepsBy (Err end) cut file file
-keeps_own cut file end (inl device) = subst (λ (e : AppendEnd). KeepsBy (Err e) cut file file) (sym device) (inl refl)
-keeps_own cut file end (inr (fault, refused)) = subst (λ (e : AppendEnd). KeepsBy (Err e) cut file file) (sym refused) refl
+keeps_own : (cut : Bool) (file : List ℕ) (end : VerifyEnd) → KeepsBy (Err (end_of_verify end)) cut file file
+keeps_own cut file (verify.Refused fault) = refl
+keeps_own cut file verify.Store = inl refl
 
-pub keeps_early : (cut : Bool) (bytes held : Option (List ℕ)) (end : AppendEnd) → held ≡ bytes → IsEarly end
-    → IfSome bytes (λ file. IsSomeAnd held (λ now. KeepsBy (Err end) cut file now))
-keeps_early cut None held end same early = tt
-keeps_early cut (Some file) None end same early = cc
-keeps_early cut (Some file) (Some now) end same early =
+pub keeps_early : (cut : Bool) (bytes held : Option (List ℕ)) (end : VerifyEnd) → held ≡ bytes
+    → IfSome bytes (λ file. IsSomeAnd held (λ now. KeepsBy (Err (end_of_verify end)) cut file now))
+keeps_early cut None held end same = tt
+keeps_early cut (Some file) None end same = cc
+keeps_early cut (Some file) (Some now) end same =
     let is : now ≡ file = cc in
-    subst (λ (xs : List ℕ). KeepsBy (Err end) cut file xs) (sym is) (keeps_own cut file end early)
+    subst (λ (xs : List ℕ). KeepsBy (Err (end_of_verify end)) cut file xs) (sym is) (keeps_own cut file end)
 
 -- where bytes were put behind what a cut left, what is kept stands before them
 pub grows_from : (cut : Bool) (bytes mid held : Option (List ℕ)) (place : ℕ)
@@ -190,10 +184,10 @@ pub answered_ended : (options : WriteOptions) (rests : Option Rest) (place : ℕ
 answered_ended options None place end answer = tt
 answered_ended options (Some rest) place end answer = answered_end (totals_at options place rest.records) rest end answer
 
-silent : (rest : Rest) (end : AppendEnd) → IsEarly end → AnswersRest (Err end) rest
-silent rest end (inl device) = subst (λ (e : AppendEnd). AnswersRest (Err e) rest) (sym device) tt
-silent rest end (inr (fault, refused)) = subst (λ (e : AppendEnd). AnswersRest (Err e) rest) (sym refused) tt
+silent : (rest : Rest) (end : VerifyEnd) → AnswersRest (Err (end_of_verify end)) rest
+silent rest (verify.Refused fault) = tt
+silent rest verify.Store = tt
 
-pub answered_early : (rests : Option Rest) (end : AppendEnd) → IsEarly end → IfSome rests (AnswersRest (Err end))
-answered_early None end early = tt
-answered_early (Some rest) end early = silent rest end early
+pub answered_early : (rests : Option Rest) (end : VerifyEnd) → IfSome rests (AnswersRest (Err (end_of_verify end)))
+answered_early None end = tt
+answered_early (Some rest) end = silent rest end

@@ -6,8 +6,11 @@ use Rattle.meta_chunk.specs.Files.{IsFrame}
 use Rattle.chunk_reader.specs.Faults.{IsFault}
 use Rattle.chunk_reader.specs.Fronts.{IsFrontOf}
 use Rattle.chunk_reader.specs.declared.reasons.Fault.{Fault}
+use Rattle.chunk_reader.specs.declared.reasons.VerifyEnd.{VerifyEnd}
+use Rattle.chunk_reader.specs.declared.reasons.VerifyEnd.TheVariants as verify
 use Rattle.chunk_reader.specs.declared.verifying.Front.{Front}
 use Rattle.chunk_reader.proofs.FileFaults.{fault_is_one, fault_or_none}
+use Rattle.record_append.specs.Ends.{end_of_verify}
 use Rattle.record_append.specs.Grown.{IsKeptTo, IsRefused, IsUnrefused, RefusesFor}
 use Rattle.record_append.specs.declared.appends.Appended.{Appended}
 use Rattle.record_append.specs.declared.appends.AppendEnd.{AppendEnd}
@@ -79,18 +82,14 @@ pub front_of : (bytes held : Option (List ℕ)) (front : Front) → held ≡ byt
 front_of bytes held front same is = subst (λ (o : Option (List ℕ)). IfSome o (λ file. IsFrontOf file front)) same is
 
 -- where judging ended early, that is so too
-pub complete_early : (cut : Bool) (bytes : Option (List ℕ)) (result : Result Appended AppendEnd) (end : AppendEnd) → result ≡ Err end
-    → (end ≡ Device) ⊎ ((fault : Fault) × (end ≡ Refused fault))
-    → ((fault : Fault) → end ≡ Refused fault → IfSome bytes (λ file. IsRefused cut file fault))
+pub complete_early : (cut : Bool) (bytes : Option (List ℕ)) (result : Result Appended AppendEnd) (end : VerifyEnd) → result ≡ Err (end_of_verify end)
+    → ((fault : Fault) → end ≡ verify.Refused fault → IfSome bytes (λ file. IsRefused cut file fault))
     → IfSome bytes (λ file. (own : Fault) → IsRefused cut file own → (result ≡ Err (Refused own)) ⊎ (result ≡ Err Device))
-complete_early cut None result end is early refused = tt
-complete_early cut (Some file) result end is (inl device) refused = λ own also. inr (is ∙ ap (λ (e : AppendEnd). Err e) device)
-complete_early cut (Some file) result end is (inr (fault, same)) refused =
-    refused_alone cut (Some file) fault result (is ∙ ap (λ (e : AppendEnd). Err e) same) (refused fault same)
+complete_early cut None result end is refused = tt
+complete_early cut (Some file) result (verify.Refused fault) is refused = refused_alone cut (Some file) fault result is (refused fault refl)
+complete_early cut (Some file) result verify.Store is refused = λ own also. inr is
 
--- how judging ended
-pub ended_early : (end : AppendEnd) (judged : Result ℕ AppendEnd) → judged ≡ Err end
-    → (judged ≡ Err Device) ⊎ ((fault : Fault) × (judged ≡ Err (Refused fault)))
-    → (end ≡ Device) ⊎ ((fault : Fault) × (end ≡ Refused fault))
-ended_early end judged is (inl device) = inl cc
-ended_early end judged is (inr (fault, refused)) = inr (fault, cc)
+-- and a refusal is one by the same fault
+pub refused_early : (end : VerifyEnd) (fault : Fault) → end_of_verify end ≡ Refused fault → end ≡ verify.Refused fault
+refused_early (verify.Refused own) fault is = cc
+refused_early verify.Store fault is = cc

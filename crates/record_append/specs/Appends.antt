@@ -2,23 +2,12 @@
 use Rattle.std.specs.Prelude.{◌≡◌, ℕ, ◌+◌, ◌≤◌, ◌<◌, Bool, ◌⊎◌, Option, Some, None, Result, Ok, Err, List, ◌++◌, length, take}
 use Rattle.block_layout.specs.Layout.{IsOnBoundary}
 use Rattle.record_writer.specs.Feeds.{Rest}
-use Rattle.record_writer.specs.declared.engine.WriteEnd.{WriteEnd}
-use Rattle.record_writer.specs.declared.engine.WriteEnd.TheVariants as write
 use Rattle.record_writer.specs.declared.feed.Stop.TheVariants.{TooLong as too_long, InputTooLong as input_too_long, BadLine as bad_line}
 use Rattle.record_writer.specs.declared.options.WriteOptions.{WriteOptions}
 use Rattle.record_append.specs.Grown.{IsKeptTo, IsUnrefused, bytes_at, grown}
 use Rattle.record_append.specs.declared.appends.Appended.{Appended}
 use Rattle.record_append.specs.declared.appends.AppendEnd.{AppendEnd}
 use Rattle.record_append.specs.declared.appends.AppendEnd.TheVariants.{Refused, TooLong, InputTooLong, BadLine, Input, Device, Memory}
-
--- where the writing of records ended, behind the old file's
-abbrev pub end_of_write : WriteEnd → AppendEnd
-end_of_write (write.TooLong count) = TooLong count
-end_of_write write.InputTooLong = InputTooLong
-end_of_write (write.BadLine count) = BadLine count
-end_of_write write.Input = Input
-end_of_write write.Made = Device
-end_of_write write.Memory = Memory
 
 -- a place of a file of so many bytes up to which it may be kept: its front, or a boundary behind the signature
 pub record MayBeKeptTo (size place : ℕ) : Type 0 where

@@ -1,3 +1,4 @@
 pub mod Devices
 pub mod Grown
+pub mod Ends
 pub mod Appends

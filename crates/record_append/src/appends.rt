@@ -10,7 +10,7 @@ ghost use Rattle.record_append.specs.Grown.{IsRefused, RefusesFor, bytes_at, tot
 use crate::as_sink::AsSink;
 use crate::device::Device;
 use crate::old_file::{cut_to, judge};
-use chunk_reader::Fault;
+use chunk_reader::{Fault, VerifyEnd};
 use record_io::{Failed, Totals};
 use record_writer::{RecordFeed, WriteEnd, WriteOptions, write_after, write_records};
 use std::alloc::Global;
@@ -59,9 +59,23 @@ impl From<Failed> for AppendEnd {
     }
 }
 
+impl From<VerifyEnd> for AppendEnd {
+    ghost use Rattle.std.specs.Prelude.{◌≡◌};
+    ghost use Rattle.record_append.specs.Ends.{end_of_verify};
+
+    ghost from_gives = { λ end append_end. append_end ≡ end_of_verify end };
+
+    fn from(end: VerifyEnd) -> AppendEnd {
+        match end {
+            VerifyEnd::Refused(fault) => AppendEnd::Refused(fault),
+            VerifyEnd::Store => AppendEnd::Device,
+        }
+    }
+}
+
 impl From<WriteEnd> for AppendEnd {
     ghost use Rattle.std.specs.Prelude.{◌≡◌};
-    ghost use Rattle.record_append.specs.Appends.{end_of_write};
+    ghost use Rattle.record_append.specs.Ends.{end_of_write};
 
     ghost from_gives = { λ end append_end. append_end ≡ end_of_write end };
 

@@ -1,37 +1,35 @@
-ghost use Rattle.std.specs.Prelude.{◌≡◌, ◌≢◌, ◌+◌, ◌^◌, ◌<◌, ◌≤◌, ◌⊎◌, ◌↔◌, IsTrue, None, Some, Err, IfOk, IfSome, IsErr, OnErr, OnOk, length, option_map, take};
+ghost use Rattle.std.specs.Prelude.{◌≡◌, ◌+◌, ◌^◌, ◌<◌, ◌≤◌, ◌↔◌, IsTrue, None, Some, Err, IfOk, IfSome, IsErr, OnErr, OnOk, length, option_map, take};
 ghost use Rattle.chunk_reader.specs.declared.reasons.Fault.{Fault};
 ghost use Rattle.record_append.specs.Appends.{MayBeKeptTo};
 ghost use Rattle.record_append.specs.Devices.{CountsFaults};
 ghost use Rattle.record_append.specs.Grown.{IsKeptTo, IsRefused, IsUnrefused, RefusesFor};
 
-use crate::appends::AppendEnd;
 use crate::as_store::AsStore;
 use crate::device::Device;
-use chunk_reader::{Fault, Front, Why, verify_front};
+use chunk_reader::{Fault, Front, VerifyEnd, Why, verify_front};
 use record_io::Failed;
 
 /// Judges the old file of a device, of `size` bytes, which were told, and answers up to which place it is kept.
 ///
 /// # Errors
 ///
-/// `Refused` where the file is refused, and `Device` where the device failed.
-pub(crate) fn judge<G: Device>(device: &mut G, size: u64, cut: bool) -> Result<u64, AppendEnd>
+/// `Refused` where the file is refused, and `Store` where the device failed.
+pub(crate) fn judge<G: Device>(device: &mut G, size: u64, cut: bool) -> Result<u64, VerifyEnd>
     requires told { G.told device.old ≡ Some size }
     requires in_reach { size ≤ 2 ^ 60 }
     ensures kept { IfOk result (λ place. IfSome (G.bytes device.old) (λ file. IsUnrefused cut file × IsKeptTo file place)) }
     ensures place { IfOk result (λ place. MayBeKeptTo size place) }
     ensures sized { IfSome (G.bytes device.old) (λ file. size ≡ length file) }
-    ensures refused { (fault : Fault) → result ≡ Err (AppendEnd.Refused fault)
+    ensures refused { (fault : Fault) → result ≡ Err (VerifyEnd.Refused fault)
         → (0 < size) × RefusesFor cut fault.why × IfSome (G.bytes device.old) (λ file. IsRefused cut file fault) }
-    ensures ends { OnErr result ((result ≡ Err AppendEnd.Device) ⊎ ((fault : Fault) × (result ≡ Err (AppendEnd.Refused fault)))) }
     ensures same_bytes { G.bytes device.new ≡ G.bytes device.old }
     ensures same_told { G.told device.new ≡ G.told device.old }
     ensures handed { G.handed device.new ≤ G.handed device.old + size }
-    ensures counts { CountsFaults G.faults (result ≡ Err AppendEnd.Device) device.old device.new }
+    ensures counts { CountsFaults G.faults (result ≡ Err VerifyEnd.Store) device.old device.new }
 {
     let front = verify_front(&mut AsStore::new(device), size)?;
     match refusal(&front, size, cut) {
-        Some(fault) => Err(AppendEnd::Refused(fault)),
+        Some(fault) => Err(VerifyEnd::Refused(fault)),
         None => Ok(front.totals.bytes),
     }
 }

@@ -1,22 +1,20 @@
-use Rattle.std.proofs.Common.{◌+◌, ◌-◌, Err, ap, refl}
+use Rattle.std.proofs.Common.{◌+◌, ◌-◌, Err, ap}
 use Rattle.std.proofs.lemmas.Result.{err_from_is_err_and}
 use Rattle.record_append.proofs.Grows.{answered_whole, grown_whole}
-use Rattle.record_append.proofs.KeptFiles.{complete_early, ended_early, taken_never}
+use Rattle.record_append.proofs.KeptFiles.{complete_early, refused_early, taken_never}
 use Rattle.record_append.proofs.appends.append.Goals as goal
 
 pub returns-in_err-kept-clause-complete : goal.returns-in_err-kept-clause-complete
 returns-in_err-kept-clause-complete g c =
     let p = err_from_is_err_and c.from_residual.result c.from_residual.ensures.1 in
-    let end = c.in_err-kept.field-0.0 in
-    complete_early c.args.cut (g.G.Device.bytes c.args.device.now) c.from_residual.result end (rw p.2 at p.1)
-    (ended_early end _ refl c.in_err-kept.ensures.ends)
+    complete_early c.args.cut (g.G.Device.bytes c.args.device.now) c.from_residual.result c.in_err-kept.field-0.0 (rw p.2 at p.1)
     (λ fault is. (c.in_err-kept.ensures.refused fault (ap Err is)).2)
 
 pub returns-in_err-kept-clause-refused : goal.returns-in_err-kept-clause-refused
 returns-in_err-kept-clause-refused g c =
     λ fault is.
     let p = err_from_is_err_and c.from_residual.result c.from_residual.ensures.1 in
-    c.in_err-kept.ensures.refused fault cc
+    c.in_err-kept.ensures.refused fault (ap Err (refused_early c.in_err-kept.field-0.0 fault cc))
 
 pub returns-in_err-put-clause-complete : goal.returns-in_err-put-clause-complete
 returns-in_err-put-clause-complete g c =
