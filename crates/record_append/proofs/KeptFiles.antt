@@ -11,7 +11,7 @@ use Rattle.chunk_reader.specs.declared.reasons.VerifyEnd.TheVariants as verify
 use Rattle.chunk_reader.specs.declared.verifying.Front.{Front}
 use Rattle.chunk_reader.proofs.FileFaults.{fault_is_one, fault_or_none}
 use Rattle.record_append.specs.Ends.{end_of_verify}
-use Rattle.record_append.specs.Grown.{IsKeptTo, IsRefused, IsUnrefused, RefusesFor}
+use Rattle.record_append.specs.Grown.{IsKeptTo, IsRefusedToGrow, IsUnrefused, RefusesFor}
 use Rattle.record_append.specs.declared.appends.Appended.{Appended}
 use Rattle.record_append.specs.declared.appends.AppendEnd.{AppendEnd}
 use Rattle.record_append.specs.declared.appends.AppendEnd.TheVariants.{Refused, Device}
@@ -47,7 +47,7 @@ kept_front cut (Some file) size front sized is none = (
 -- and refused where it does
 pub refused_front : (cut : Bool) (bytes : Option (List ℕ)) (size : ℕ) (front : Front) (fault : Fault) → IsSized bytes size
     → IfSome bytes (λ file. IsFrontOf file front) → (front.fault ≡ Some fault) × (0 < size) × RefusesFor cut fault.why
-    → IfSome bytes (λ file. IsRefused cut file fault)
+    → IfSome bytes (λ file. IsRefusedToGrow cut file fault)
 refused_front cut None size front fault sized is (own, some, reason) = tt
 refused_front cut (Some file) size front fault sized is (own, some, reason) = record {
   some = λ none. omega (arith, sized, ap length none);
@@ -57,8 +57,8 @@ refused_front cut (Some file) size front fault sized is (own, some, reason) = re
 
 -- a refused file is refused with its own fault alone
 pub refused_alone : (cut : Bool) (bytes : Option (List ℕ)) (fault : Fault) (result : Result Appended AppendEnd) → result ≡ Err (Refused fault)
-    → IfSome bytes (λ file. IsRefused cut file fault)
-    → IfSome bytes (λ file. (own : Fault) → IsRefused cut file own → (result ≡ Err (Refused own)) ⊎ (result ≡ Err Device))
+    → IfSome bytes (λ file. IsRefusedToGrow cut file fault)
+    → IfSome bytes (λ file. (own : Fault) → IsRefusedToGrow cut file own → (result ≡ Err (Refused own)) ⊎ (result ≡ Err Device))
 refused_alone cut None fault result is refused = tt
 refused_alone cut (Some file) fault result is refused =
     λ own also. inl (is ∙ ap (λ (f : Fault). Err (Refused f)) (fault_is_one true file fault own refused.is_fault also.is_fault))
@@ -66,7 +66,7 @@ refused_alone cut (Some file) fault result is refused =
 -- and one that is taken with none
 pub taken_never : (cut : Bool) (bytes : Option (List ℕ)) (place : ℕ) (result : Result Appended AppendEnd)
     → IfSome bytes (λ file. IsUnrefused cut file × IsKeptTo file place)
-    → IfSome bytes (λ file. (own : Fault) → IsRefused cut file own → (result ≡ Err (Refused own)) ⊎ (result ≡ Err Device))
+    → IfSome bytes (λ file. (own : Fault) → IsRefusedToGrow cut file own → (result ≡ Err (Refused own)) ⊎ (result ≡ Err Device))
 taken_never cut None place result kept = tt
 taken_never cut (Some file) place result (taken, kept) = λ own refused. absurd (taken own refused)
 
@@ -83,8 +83,8 @@ front_of bytes held front same is = subst (λ (o : Option (List ℕ)). IfSome o 
 
 -- where judging ended early, that is so too
 pub complete_early : (cut : Bool) (bytes : Option (List ℕ)) (result : Result Appended AppendEnd) (end : VerifyEnd) → result ≡ Err (end_of_verify end)
-    → ((fault : Fault) → end ≡ verify.Refused fault → IfSome bytes (λ file. IsRefused cut file fault))
-    → IfSome bytes (λ file. (own : Fault) → IsRefused cut file own → (result ≡ Err (Refused own)) ⊎ (result ≡ Err Device))
+    → ((fault : Fault) → end ≡ verify.Refused fault → IfSome bytes (λ file. IsRefusedToGrow cut file fault))
+    → IfSome bytes (λ file. (own : Fault) → IsRefusedToGrow cut file own → (result ≡ Err (Refused own)) ⊎ (result ≡ Err Device))
 complete_early cut None result end is refused = tt
 complete_early cut (Some file) result (verify.Refused fault) is refused = refused_alone cut (Some file) fault result is (refused fault refl)
 complete_early cut (Some file) result verify.Store is refused = λ own also. inr is

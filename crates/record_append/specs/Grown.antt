@@ -38,11 +38,11 @@ abbrev pub RefusesFor : Bool → Why → Type 0
 RefusesFor cut reason = (reason ≡ why.NoSignature) ⊎ ((cut ≡ false) × (reason ≢ why.Short) × (reason ≢ why.Truncated))
 
 -- an old file, which isn't empty, is refused with its fault
-pub record IsRefused (cut : Bool) (file : List ℕ) (fault : Fault) : Type 0 where
+pub record IsRefusedToGrow (cut : Bool) (file : List ℕ) (fault : Fault) : Type 0 where
   pub some : file ≢ []
   pub is_fault : IsFault true file fault
   pub reason : RefusesFor cut fault.why
 
 -- an old file isn't refused
 abbrev pub IsUnrefused : Bool → List ℕ → Type 0
-IsUnrefused cut file = (fault : Fault) → ¬ IsRefused cut file fault
+IsUnrefused cut file = (fault : Fault) → ¬ IsRefusedToGrow cut file fault

@@ -5,7 +5,7 @@ ghost use Rattle.record_writer.specs.Feeds.{nothing_left};
 ghost use Rattle.record_writer.specs.Written.{AnswersTotals, AreInLimits, TakesFile};
 ghost use Rattle.record_append.specs.Appends.{AnswersGrown, AnswersRest, KeepsBy, MayBeKeptTo};
 ghost use Rattle.record_append.specs.Devices.{CountsFaults};
-ghost use Rattle.record_append.specs.Grown.{IsRefused, RefusesFor, bytes_at, totals_at};
+ghost use Rattle.record_append.specs.Grown.{IsRefusedToGrow, RefusesFor, bytes_at, totals_at};
 
 use crate::as_sink::AsSink;
 use crate::device::Device;
@@ -124,8 +124,8 @@ pub fn append<R: Threads + Sync, L: RecordFeed, G: Device + Send>(
         AnswersGrown result options.now cut file rest (G.bytes device.new))) }
     ensures answer { IfSome (L.rest feed.old) (AnswersRest result) }
     ensures refused { (fault : Fault) → result ≡ Err (AppendEnd.Refused fault)
-        → (0 < size) × RefusesFor cut fault.why × IfSome (G.bytes device.old) (λ file. IsRefused cut file fault) }
-    ensures complete { IfSome (G.bytes device.old) (λ file. (fault : Fault) → IsRefused cut file fault
+        → (0 < size) × RefusesFor cut fault.why × IfSome (G.bytes device.old) (λ file. IsRefusedToGrow cut file fault) }
+    ensures complete { IfSome (G.bytes device.old) (λ file. (fault : Fault) → IsRefusedToGrow cut file fault
         → (result ≡ Err (AppendEnd.Refused fault)) ⊎ (result ≡ Err AppendEnd.Device)) }
     ensures untouched { (fault : Fault) → result ≡ Err (AppendEnd.Refused fault)
         → (G.bytes device.new ≡ G.bytes device.old) × (G.told device.new ≡ G.told device.old)

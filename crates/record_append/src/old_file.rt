@@ -2,7 +2,7 @@ ghost use Rattle.std.specs.Prelude.{◌≡◌, ◌+◌, ◌^◌, ◌<◌, ◌≤
 ghost use Rattle.chunk_reader.specs.declared.reasons.Fault.{Fault};
 ghost use Rattle.record_append.specs.Appends.{MayBeKeptTo};
 ghost use Rattle.record_append.specs.Devices.{CountsFaults};
-ghost use Rattle.record_append.specs.Grown.{IsKeptTo, IsRefused, IsUnrefused, RefusesFor};
+ghost use Rattle.record_append.specs.Grown.{IsKeptTo, IsRefusedToGrow, IsUnrefused, RefusesFor};
 
 use crate::as_store::AsStore;
 use crate::device::Device;
@@ -21,7 +21,7 @@ pub(crate) fn judge<G: Device>(device: &mut G, size: u64, cut: bool) -> Result<u
     ensures place { IfOk result (λ place. MayBeKeptTo size place) }
     ensures sized { IfSome (G.bytes device.old) (λ file. size ≡ length file) }
     ensures refused { (fault : Fault) → result ≡ Err (VerifyEnd.Refused fault)
-        → (0 < size) × RefusesFor cut fault.why × IfSome (G.bytes device.old) (λ file. IsRefused cut file fault) }
+        → (0 < size) × RefusesFor cut fault.why × IfSome (G.bytes device.old) (λ file. IsRefusedToGrow cut file fault) }
     ensures same_bytes { G.bytes device.new ≡ G.bytes device.old }
     ensures same_told { G.told device.new ≡ G.told device.old }
     ensures handed { G.handed device.new ≤ G.handed device.old + size }

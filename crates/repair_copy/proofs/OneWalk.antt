@@ -12,7 +12,7 @@ use Rattle.damage_skip.specs.declared.regions.Region.{Region}
 use Rattle.damage_skip.proofs.OnePiece.{piece_one}
 use Rattle.damage_skip.proofs.RegionsIn.{regions_in-append}
 use Rattle.damage_skip.proofs.Tiles.{same_piece, goes_on_front, goes_on_one, events_of}
-use Rattle.repair_copy.specs.Walked.{IsRefused, EndsAt}
+use Rattle.repair_copy.specs.Walked.{IsRefusedRegionAt, EndsAt}
 
 -- of two fronts of a list one is a front of the other
 fronts : {X : Type 0} (ps qs ms ns : List X) → ps ++ ms ≡ qs ++ ns
@@ -43,7 +43,7 @@ module _ {F : Type 0} (test : Shared F (Bor Region × Unit {0}) Bool) (f : F) (o
   none_behind place x rest end on = cc (goes_on_one true file place (length file) (x ∷ rest) [] on ([], end, refl))
 
   -- a region that is refused is the first event behind the place, and is not allowed
-  refused_stays : (place : ℕ) (region : Region) (x : Piece) (rest others : List Piece) → IsRefused test f file place region
+  refused_stays : (place : ℕ) (region : Region) (x : Piece) (rest others : List Piece) → IsRefusedRegionAt test f file place region
       → GoesOn true file place (length file) (x ∷ rest) → AllByRecursion (IsAllowedRegion test f) (regions_in (x ∷ others)) → ⊥
   refused_stays place region x rest others h ([], on, are) each = cc are
   refused_stays place region x rest others h (q ∷ qs, (begin, under, is, on), are) each =

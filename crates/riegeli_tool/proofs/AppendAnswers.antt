@@ -12,7 +12,7 @@ use Rattle.chunk_reader.proofs.FaultsDecided.{file_judged}
 use Rattle.chunk_reader.proofs.FileFaults.{fault_is_one}
 use Rattle.record_writer.specs.Feeds.{Rest}
 use Rattle.record_writer.specs.declared.feed.Stop.{Stop}
-use Rattle.record_append.specs.Grown.{IsKeptTo, IsRefused, IsUnrefused, RefusesFor}
+use Rattle.record_append.specs.Grown.{IsKeptTo, IsRefusedToGrow, IsUnrefused, RefusesFor}
 use Rattle.record_append.specs.declared.appends.Appended.{Appended}
 use Rattle.record_append.proofs.GrownFiles.{empty_taken, kept_once, kept_somewhere, taken_whole}
 use Rattle.run_answers.specs.Answers.{Answer, noted}
@@ -33,7 +33,7 @@ refuses_decided false other = inl (inr (refl, (λ e. cc e), (λ e. cc e)))
 
 -- an old file is refused or not
 judged_by : (cut : Bool) (b : ℕ) (bytes : List ℕ) → (HasNoFault true (b ∷ bytes)) ⊎ ((fault : Fault) × IsFault true (b ∷ bytes) fault)
-    → ((fault : Fault) × IsRefused cut (b ∷ bytes) fault) ⊎ IsUnrefused cut (b ∷ bytes)
+    → ((fault : Fault) × IsRefusedToGrow cut (b ∷ bytes) fault) ⊎ IsUnrefused cut (b ∷ bytes)
 judged_by cut b bytes (inl (ks, whole)) = inr (taken_whole cut ks (b ∷ bytes) whole)
 judged_by cut b bytes (inr (fault, is)) = elim (refuses_decided cut fault.why) [
   | inl refuses ↦ inl (fault, record { some = λ none. absurd cc; is_fault = is; reason = refuses })
@@ -41,7 +41,7 @@ judged_by cut b bytes (inr (fault, is)) = elim (refuses_decided cut fault.why) [
       not (subst (λ (f : Fault). RefusesFor cut f.why) (fault_is_one true (b ∷ bytes) own fault refused.is_fault is) refused.reason))
 ]
 
-pub refused_or_taken : (cut : Bool) (file : List ℕ) → AreBytes file → ((fault : Fault) × IsRefused cut file fault) ⊎ IsUnrefused cut file
+pub refused_or_taken : (cut : Bool) (file : List ℕ) → AreBytes file → ((fault : Fault) × IsRefusedToGrow cut file fault) ⊎ IsUnrefused cut file
 refused_or_taken cut [] bytes = inr (empty_taken cut).1
 refused_or_taken cut (b ∷ rest) bytes = judged_by cut b rest (file_judged true (b ∷ rest) bytes)
 

@@ -13,7 +13,7 @@ use Rattle.record_writer.specs.Feeds.{Rest}
 use Rattle.record_writer.specs.declared.feed.Stop.{Stop}
 use Rattle.record_writer.specs.declared.options.WriteOptions.{WriteOptions}
 use Rattle.record_append.specs.Appends.{GrowsBy, GrowsFrom, HoldsGrown, HoldsGrownInPart, KeepsFront}
-use Rattle.record_append.specs.Grown.{IsRefused, RefusesFor, bytes_at}
+use Rattle.record_append.specs.Grown.{IsRefusedToGrow, RefusesFor, bytes_at}
 use Rattle.run_answers.specs.declared.ending.Ending.{Ending}
 use Rattle.run_answers.specs.declared.status.Status.{Status}
 use Rattle.run_answers.specs.Answers.{Answer, noted}
@@ -185,7 +185,7 @@ module _ (words : AppendWords) (input input_then : SeenStream) (files : List See
       → OfSizes (append_meaning words) Before After (λ sizes. (append_meaning words).may_end sizes wanted text)
       → ((r : Read) → IsReadBy (append_meaning words) Before r
       → OfFile (IsAppended words (Lines r)) (r.grown ∷ []) (noted wanted text)
-      × ((most_file_bytes < length r.grown) ⊎ ((fault : Fault) × IsRefused words.cut r.grown fault))
+      × ((most_file_bytes < length r.grown) ⊎ ((fault : Fault) × IsRefusedToGrow words.cut r.grown fault))
       × (grown_then.bytes ≡ Some r.grown) × (out_then.bytes ≡ out.bytes))
       → Keeps (KeepsOld words.cut wanted) → Keeps (KeepsOld words.cut status.Notes) → Ended ended
   ungrown ended wanted text says some is other cause may known keeps keeps_untold =
@@ -214,7 +214,7 @@ module _ (words : AppendWords) (input input_then : SeenStream) (files : List See
   refused : (ended : Status) (fault : Fault)
       → HasTold grown.bytes (λ size. IsInReach (size ∷ []) × (grown_then.told ≡ Some size) × (0 < size) × RefusesFor words.cut fault.why)
       → ((r : Read) → IsReadBy (append_meaning words) Before r
-      → IsRefused words.cut r.grown fault × (grown_then.bytes ≡ Some r.grown) × (out_then.bytes ≡ out.bytes))
+      → IsRefusedToGrow words.cut r.grown fault × (grown_then.bytes ≡ Some r.grown) × (out_then.bytes ≡ out.bytes))
       → Keeps (λ file held. held ≡ file) → SaysAtEnd ended status.Refused notes notes_then (refused_text fault) → Ended ended
   refused ended fault (size, (within, told, some, reason), exact) known keeps says =
       ungrown ended status.Refused (refused_text fault) says (λ e. cc e) tt (λ e. cc e) tt

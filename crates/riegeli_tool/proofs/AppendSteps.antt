@@ -5,7 +5,7 @@ use Rattle.std.proofs.lemmas.Option.{MatchOption-at_some}
 use Rattle.chunk_reader.specs.declared.reasons.Fault.{Fault}
 use Rattle.record_writer.specs.Feeds.{Rest}
 use Rattle.record_append.specs.Appends.{AnswersGrown, GrowsFrom, HoldsCutOff, HoldsGrownInPart, KeepsBy, Tells}
-use Rattle.record_append.specs.Grown.{IsRefused, RefusesFor, grown}
+use Rattle.record_append.specs.Grown.{IsRefusedToGrow, RefusesFor, grown}
 use Rattle.record_append.specs.declared.appends.Appended.{Appended}
 use Rattle.record_append.specs.declared.appends.AppendEnd.{AppendEnd}
 use Rattle.run_answers.specs.FileAnswers.{IsInReach, IsTooLong, most_file_bytes}
@@ -84,7 +84,7 @@ module _ (words : AppendWords) where
   cut_by rest file held reach (inr part) = inr (reach, part)
 
   ended_by : (e : AppendEnd) (rest : Rest) (file : List ℕ) (held out : Option (List ℕ)) → length file ≤ most_file_bytes
-      → ((fault : Fault) → e ≡ append.Refused fault → IsRefused words.cut file fault)
+      → ((fault : Fault) → e ≡ append.Refused fault → IsRefusedToGrow words.cut file fault)
       → AnswersGrown (Err e) words.write.options words.cut file rest held → HasAppended {X = Unit {0}} (Err (end_of_append e)) words rest file held out out
   ended_by (append.Refused fault) rest file held out reach refused same = (refused fault refl, same, refl)
   ended_by (append.TooLong count) rest file held out reach refused (is, counted, grows) =
@@ -121,7 +121,7 @@ module _ (words : AppendWords) where
   pub ended-appended : (e : AppendEnd) (why : Ending Halt) (size : ℕ) (bytes mid held input out : Option (List ℕ)) (rests : Option Rest)
       → why ≡ end_of_append e → mid ≡ bytes → rests ≡ option_map (lines_taken words) input
       → size ≤ most_file_bytes → IfSome bytes (λ file. size ≡ length file)
-      → ((fault : Fault) → e ≡ append.Refused fault → IfSome mid (λ file. IsRefused words.cut file fault))
+      → ((fault : Fault) → e ≡ append.Refused fault → IfSome mid (λ file. IsRefusedToGrow words.cut file fault))
       → IfSome mid (λ file. IfSome rests (λ rest. AnswersGrown (Err e) words.write.options words.cut file rest held))
       → IfBoth words bytes input (λ file rest. HasAppended {X = Unit {0}} (Err why) words rest file held out out)
   ended-appended e why size None mid held input out rests is same given within exact refused holds = tt
@@ -130,7 +130,7 @@ module _ (words : AppendWords) where
       let rest : Rest = lines_taken words taken in
       subst (λ (w : Ending Halt). HasAppended {X = Unit {0}} (Err w) words rest file held out out) (sym is)
       (ended_by e rest file held out (subst (λ (n : ℕ). n ≤ most_file_bytes) exact within)
-      (λ fault its. MatchOption-at_some _ (λ (f : List ℕ). IsRefused words.cut f fault) file same (refused fault its))
+      (λ fault its. MatchOption-at_some _ (λ (f : List ℕ). IsRefusedToGrow words.cut f fault) file same (refused fault its))
       (MatchOption-at_some _ (λ (r : Rest). AnswersGrown (Err e) words.write.options words.cut file r held) rest given
       (MatchOption-at_some _ (λ (f : List ℕ). IfSome rests (λ r. AnswersGrown (Err e) words.write.options words.cut f r held)) file same holds)))
 

@@ -7,7 +7,7 @@ use Rattle.chunk_reader.specs.declared.reasons.Fault.{Fault}
 use Rattle.record_writer.specs.Feeds.{Rest}
 use Rattle.record_writer.specs.declared.feed.Stop.{Stop}
 use Rattle.record_append.specs.Appends.{GrowsBy, GrowsFrom, HoldsGrownInPart, KeepsFront}
-use Rattle.record_append.specs.Grown.{IsKeptTo, IsRefused, IsUnrefused, RefusesFor, grown}
+use Rattle.record_append.specs.Grown.{IsKeptTo, IsRefusedToGrow, IsUnrefused, RefusesFor, grown}
 use Rattle.record_append.specs.declared.appends.Appended.{Appended}
 use Rattle.riegeli_tool.specs.declared.append_words.AppendWords.{AppendWords}
 use Rattle.run_answers.specs.Answers.{Answer, noted}
@@ -54,7 +54,7 @@ grown_answer words file place rest = record {
 -- the answer to an old file and to records: the file's fault where it is refused, and else what became of it, or the stop
 abbrev pub IsAppended : AppendWords → Rest → (file : List ℕ) → Answer → Type 0
 IsAppended words rest file answer =
-    ((fault : Fault) × IsRefused words.cut file fault × (answer ≡ noted status.Refused (refused_text fault)))
+    ((fault : Fault) × IsRefusedToGrow words.cut file fault × (answer ≡ noted status.Refused (refused_text fault)))
     ⊎ ((place : ℕ) × IsUnrefused words.cut file × IsKeptTo file place × (answer ≡ grown_answer words file place rest))
 
 -- what is taken from an input, of which 2 ^ 40 bytes are read
@@ -64,7 +64,7 @@ lines_taken words input = taken_from input words.write.hex (2 ^ 40)
 -- what the file holds then: what it held where it is too long or refused, and else that grown by the records before the stop
 abbrev pub IsLeft : AppendWords → Rest → (file held : List ℕ) → Type 0
 IsLeft words rest file held =
-    (((most_file_bytes < length file) ⊎ ((fault : Fault) × IsRefused words.cut file fault)) × (held ≡ file))
+    (((most_file_bytes < length file) ⊎ ((fault : Fault) × IsRefusedToGrow words.cut file fault)) × (held ≡ file))
     ⊎ ((length file ≤ most_file_bytes) × GrowsBy words.write.options words.cut file rest.records (Some held))
 
 -- what it may hold where the work was cut off: what it held or, where it isn't refused, what is kept of that and a front of what

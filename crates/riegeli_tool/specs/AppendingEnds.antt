@@ -4,7 +4,7 @@ use Rattle.record_io.specs.Outside.{Takes, TakesFront}
 use Rattle.record_writer.specs.Feeds.{Rest}
 use Rattle.record_writer.specs.declared.feed.Stop.{Stop}
 use Rattle.record_append.specs.Appends.{GrowsBy, GrowsFrom, HoldsGrown, HoldsGrownInPart, KeepsFront}
-use Rattle.record_append.specs.Grown.{IsRefused, RefusesFor}
+use Rattle.record_append.specs.Grown.{IsRefusedToGrow, RefusesFor}
 use Rattle.record_append.specs.declared.appends.AppendEnd.{AppendEnd}
 use Rattle.run_answers.specs.Endings.{Endings}
 use Rattle.run_answers.specs.FileAnswers.{IsInReach, IsTooLong, most_file_bytes}
@@ -86,7 +86,7 @@ abbrev pub HasAppended : {X : Type 0} → Result X (Ending Halt) → AppendWords
 HasAppended (Ok x) words rest file held out out_then = IsTold Takes words rest file held out out_then
 HasAppended (Err end.Limit) words rest file held out out_then = (most_file_bytes < length file) × (held ≡ Some file) × (out_then ≡ out)
 HasAppended (Err (end.At (Refused fault))) words rest file held out out_then =
-    IsRefused words.cut file fault × (held ≡ Some file) × (out_then ≡ out)
+    IsRefusedToGrow words.cut file fault × (held ≡ Some file) × (out_then ≡ out)
 HasAppended (Err (end.At (Stopped stop count))) words rest file held out out_then =
     IsStopped words rest file held stop count × (out_then ≡ out)
 HasAppended (Err (end.Cut cut.Out)) words rest file held out out_then = IsTold TakesFront words rest file held out out_then

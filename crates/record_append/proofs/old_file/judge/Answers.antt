@@ -1,6 +1,6 @@
 use Rattle.std.proofs.Common.{◌≡◌, ◌<◌, IfSome, refl, subst}
 use Rattle.chunk_reader.specs.declared.reasons.Fault.{Fault}
-use Rattle.record_append.specs.Grown.{IsRefused, RefusesFor}
+use Rattle.record_append.specs.Grown.{IsRefusedToGrow, RefusesFor}
 use Rattle.record_append.proofs.KeptFiles.{IsSized, kept_front, refused_front, sized_told, front_of}
 use Rattle.record_append.proofs.old_file.judge.Goals as goal
 
@@ -10,7 +10,7 @@ returns-in-Some-clause-refused g c =
     let same : c.in-Some.fault ≡ fault = cc in
     let bytes = g.G.Device.bytes c.args.device.now in
     let sized : IsSized bytes c.args.size = sized_told bytes (g.G.Device.told c.args.device.now) c.args.size (g.met.G.Device.sized c.args.device.now) c.requires.told in
-    subst (λ (f : Fault). (0 < c.args.size) × RefusesFor c.args.cut f.why × IfSome bytes (λ file. IsRefused c.args.cut file f)) same (
+    subst (λ (f : Fault). (0 < c.args.size) × RefusesFor c.args.cut f.why × IfSome bytes (λ file. IsRefusedToGrow c.args.cut file f)) same (
       c.in-Some.ensures.refused.1,
       c.in-Some.ensures.refused.2,
       refused_front c.args.cut bytes c.args.size c.in_ok-front.front c.in-Some.fault sized
