@@ -1,5 +1,5 @@
 -- What a damaged file is repaired to under a test of regions, and how that ends. Own.
-use Rattle.std.specs.Prelude.{◌≡◌, ◌≢◌, ℕ, Bool, true, ⊤, Option, Some, None, Result, Ok, Err, List, [], ◌∷◌, length}
+use Rattle.std.specs.Prelude.{◌≡◌, ◌≢◌, ℕ, ◌+◌, ◌*◌, ◌≤◌, Bool, true, ⊤, Option, Some, None, Result, Ok, Err, List, [], ◌∷◌, length}
 use Rattle.std.specs.List.{AllByRecursion}
 use Rattle.std.specs.Fn.{Shared}
 use denote.Ref.{Bor}
@@ -67,6 +67,15 @@ pub record Skips {F : Type 0} (test : Shared F (Bor Region × Unit {0}) Bool) (f
   pub allowed : AllByRecursion (IsAllowedRegion test f) regions
   pub answer : AnswersSkipped test f result regions
   pub lines : TakesNotes result before after (skipped_text regions)
+
+-- what is told of the repair of a file of so many bytes: the made one has at most twice as many behind its signature, no count
+-- passes its bytes, and the regions are no more than the bytes of the file
+pub record IsRepairWithin (size : ℕ) (repaired : Repaired) : Type 0 where
+  pub bytes : repaired.totals.bytes ≤ 64 + 2 * size
+  pub chunks : repaired.totals.chunks ≤ repaired.totals.bytes
+  pub records : repaired.totals.records ≤ repaired.totals.bytes
+  pub unread : repaired.totals.unread ≤ repaired.totals.chunks
+  pub regions : repaired.regions ≤ size
 
 -- why a repair ended that was cut off
 abbrev pub end_of_failed : FailedSink → RepairEnd

@@ -1,4 +1,4 @@
-ghost use Rattle.std.specs.Prelude.{◌≡◌, ◌+◌, ◌-◌, ◌*◌, ◌^◌, ◌≤◌, ◌⊎◌, ℕ, true, Some, None, Err, IfOk, IfSome, List, length, take};
+ghost use Rattle.std.specs.Prelude.{◌≡◌, ◌-◌, ◌^◌, ◌≤◌, ◌⊎◌, ℕ, true, Some, None, Err, IfOk, IfSome, List, length, take};
 ghost use Rattle.record_io.specs.Puts.{taken_by};
 ghost use Rattle.record_io.specs.Calls.{OnlyAsks, OnlyCounts};
 ghost use Rattle.chunk_header.specs.Chunks.{ChunkValue};
@@ -10,7 +10,7 @@ ghost use Rattle.damage_skip.specs.Takings.{IsTakenByWalk};
 ghost use Rattle.damage_skip.specs.declared.regions.Region.{Region};
 ghost use Rattle.repair_copy.specs.DamagedRepairs.{RepairsDamage};
 ghost use Rattle.repair_copy.specs.FrontRepairs.{RepairsFront};
-ghost use Rattle.repair_copy.specs.Repairs.{Skips, Repairs};
+ghost use Rattle.repair_copy.specs.Repairs.{IsRepairWithin, Skips, Repairs};
 ghost use Rattle.repair_copy.specs.ShortRepairs.{RepairsShort};
 
 use crate::copying::{Copied, FailedSink};
@@ -107,11 +107,7 @@ pub fn repair<S: Store, F: Fn(&Region) -> bool + Drop, M: Sink, E: Sink>(
     ensures skips { Skips F.Fn policy.test result (E.taken notes.old) (E.taken notes.new) }
     ensures quiet { IfOk result (λ repaired. repaired.regions ≡ 0 → notes.new ≡ notes.old) }
     ensures stop { (region : Region) → result ≡ Err (RepairEnd.Stopped region) → IsOnward size region.begin region.end }
-    ensures bytes { IfOk result (λ repaired. repaired.totals.bytes ≤ 64 + 2 * size) }
-    ensures chunks { IfOk result (λ repaired. repaired.totals.chunks ≤ repaired.totals.bytes) }
-    ensures records { IfOk result (λ repaired. repaired.totals.records ≤ repaired.totals.bytes) }
-    ensures unread { IfOk result (λ repaired. repaired.totals.unread ≤ repaired.totals.chunks) }
-    ensures regions { IfOk result (λ repaired. repaired.regions ≤ size) }
+    ensures bounds { IfOk result (IsRepairWithin size) }
     ensures store { OnlyAsks S.bytes S.told S.name S.faults (result ≡ Err RepairEnd.Store) store.old store.new }
     ensures made { OnlyCounts M.lent M.faults (result ≡ Err RepairEnd.Made) made.old made.new }
     ensures notes { OnlyCounts E.lent E.faults (result ≡ Err RepairEnd.Notes) notes.old notes.new }

@@ -211,18 +211,34 @@ returns-in-Ok-None-clause-repairs g c =
     (λ before events. where_done c.finish.result (cc) c.finish.ensures.whole before (g.E.Sink.taken c.loop-event.notes) events)
     c.totals.ensures.counted refl
 
-pub returns-in-Ok-None-clause-bytes : goal.returns-in-Ok-None-clause-bytes
-returns-in-Ok-None-clause-bytes g c =
-    omega (
-      arith,
-      ap (λ (t : Totals). t.bytes) c.totals.ensures.counted,
-      where_done c.finish.result (cc) c.finish.ensures.place,
-      next_place_small c.loop-event.walker.progress.place c.loop-event.copied c.loop-event.invariant.small,
-      c.in-Ok-None.ensures.goes_on.rises,
-      c.next.new.self.progress.within,
-      c.in-Ok-None.ensures.goes_on.same_size,
-      c.loop-event.invariant.same_size,
-    )
+pub returns-in-Ok-None-clause-bounds : goal.returns-in-Ok-None-clause-bounds
+returns-in-Ok-None-clause-bounds g c =
+    let kept = c.loop-event.invariant in
+    let on = c.in-Ok-None.ensures.goes_on in
+    record {
+      bytes = omega (
+        arith,
+        ap (λ (t : Totals). t.bytes) c.totals.ensures.counted,
+        where_done c.finish.result (cc) c.finish.ensures.place,
+        next_place_small c.loop-event.walker.progress.place c.loop-event.copied kept.small,
+        on.rises,
+        c.next.new.self.progress.within,
+        on.same_size,
+        kept.same_size,
+      );
+      chunks = c.totals.ensures.chunks;
+      records = c.totals.ensures.records;
+      unread = c.totals.ensures.unread;
+      regions = omega (
+        arith,
+        where_done c.finish.result (cc) c.finish.ensures.regions,
+        kept.few,
+        on.rises,
+        c.next.new.self.progress.within,
+        on.same_size,
+        kept.same_size,
+      );
+    }
 
 -- where the walk stops, at a region that the test can refuse
 refused : (g : _) (c : In-Err-Stopped g)
