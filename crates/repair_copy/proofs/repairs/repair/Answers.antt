@@ -9,9 +9,8 @@ use Rattle.chunk_reader.specs.Reasons.{Applies, NoneOf, loading_reasons}
 use Rattle.chunk_reader.proofs.Rooms.{IsSized}
 use Rattle.damage_skip.specs.Policies.{IsAllowedRegion}
 use Rattle.damage_skip.specs.Steps.{IsOnward}
-use Rattle.damage_skip.specs.Takings.{IsTakenFrom, IsTakenUpTo}
-use Rattle.damage_skip.specs.declared.events.WalkEnd.{WalkEnd}
-use Rattle.damage_skip.proofs.Takings.{taken-front, called-on, called-to}
+use Rattle.damage_skip.specs.Takings.{IsTakenFrom}
+use Rattle.damage_skip.proofs.Takings.{called-on, called-to}
 use Rattle.damage_skip.specs.Walks.{piece_of, IsEventIn, IsAllowedEvent, IsRefusedStop, IsStop, IsStoppedAt, GoesOn, StandsIn, WalksOn, stop_of}
 use Rattle.damage_skip.specs.declared.regions.Region.{Region}
 use Rattle.repair_copy.specs.Copies.{next_place, HasSkipped, HasWalked}
@@ -19,7 +18,7 @@ use Rattle.damage_skip.proofs.RegionsIn.{one_region}
 use Rattle.repair_copy.proofs.CopySteps.{fits, grows, next_place_small, where_failed, where_done}
 use Rattle.repair_copy.proofs.DamagedRepairs.{repairs_damage}
 use Rattle.repair_copy.proofs.ShortRepairs.{repairs-short, failed-not_short}
-use Rattle.repair_copy.proofs.WalkedFiles.{taken_there, taken_before, taken_within, walked_none, walked_to_end, walked_next, cut_within, ends_at_end, ends_at_region, repairs_whole, repairs_stopped, repairs_unfinished, repairs_store, repairs_memory}
+use Rattle.repair_copy.proofs.WalkedFiles.{taken_there, taken_before, taken_within, walked_to_end, walked_next, cut_within, ends_at_end, ends_at_region, repairs_whole, repairs_stopped, repairs_unfinished, repairs_store, repairs_memory}
 use Rattle.repair_copy.proofs.FrontRepairs.{repairs_front}
 use Rattle.repair_copy.proofs.SkippedRegions.{regions_of, event_allowed, skipped_next, skips_cut, skips_stopped}
 use Rattle.repair_copy.proofs.repairs.repair.Goals as goal
