@@ -6,7 +6,6 @@ use Rattle.meta_chunk.specs.Counts.{totals_of}
 use Rattle.meta_chunk.specs.Files.{IsFrame}
 use Rattle.chunk_reader.specs.ManyFiles.{HaveNoFault, IsFirstFault}
 use Rattle.chunk_reader.specs.declared.reasons.Fault.{Fault}
-use Rattle.chunk_reader.specs.ManyFiles.{HaveNoFault, IsFirstFault}
 use Rattle.record_join.specs.Joined.{joined, joined_at_most}
 use Rattle.run_answers.specs.Answers.{Answer, noted}
 use Rattle.run_answers.specs.FileAnswers.{limit_text, most_file_bytes, report}
