@@ -16,7 +16,7 @@ use Rattle.record_join.proofs.JoinedFiles.{joined-no_fault}
 use Rattle.run_answers.specs.declared.ending.Ending.{Ending}
 use Rattle.run_answers.specs.declared.status.Status.{Status}
 use Rattle.run_answers.specs.Answers.{Answer, noted}
-use Rattle.run_answers.specs.Endings.{SaysEnd}
+use Rattle.run_answers.specs.Endings.{HaveTold, IsAllowedEndOfMany, SaysEnd}
 use Rattle.run_answers.specs.FileAnswers.{limit_text, report}
 use Rattle.run_answers.specs.Statuses.{fault_text}
 use Rattle.run_answers.specs.Runs.{SeenStream, SeenFile, Seen, seen, IfTold, IsWhole, IsCutOff, IsCutShort, OfSizes, OneRose, SaysAtEnd, TakesThen, Breaks, HasCause, Runs}
@@ -26,7 +26,7 @@ use Rattle.run_answers.proofs.RunEnds.{GaveButNotes, Keeps, PutsLines-none, was-
 use Rattle.run_answers.proofs.TwoStreams.{bytes_to-neither}
 use Rattle.show_files.specs.Readings.{refused_file_text}
 use Rattle.join_files.specs.JoinCommand.{AreInReach, AreTooLong, IsJoinAnswer, AreToJoin, IsJoinedSoFar, join_meaning}
-use Rattle.join_files.specs.JoiningEnds.{AreSized, AreReported, TakeJoined, joining_ends}
+use Rattle.join_files.specs.JoiningEnds.{AreReported, TakeJoined, joining_ends}
 use Rattle.join_files.specs.declared.refusals.Refusal.{Refusal}
 use Rattle.join_files.proofs.JoinAnswers.{whole_answer, refused_answer, join_exists, joined-some, joined-some_before}
 use Rattle.run_answers.specs.declared.ending.Cut.TheVariants as cut
@@ -124,7 +124,7 @@ module _ (input made made_then : SeenStream) (files files_then : List SeenFile) 
 
   -- the files told sizes of which P holds
   abbrev Told : (List ℕ → Type 0) → Type 0
-  Told P = (sizes : List ℕ) × (told_by files_then ≡ map Some sizes) × P sizes
+  Told P = HaveTold (told_by files_then) P
 
   of_sizes : (P Q : List ℕ → Type 0) → ((sizes : List ℕ) → P sizes → Q sizes) → Told P → OfSizes join_meaning Before After Q
   of_sizes P Q then told = record {
@@ -313,7 +313,8 @@ module _ (input made made_then : SeenStream) (files files_then : List SeenFile) 
       (refl, rose) says
 
   -- by how the work ended
-  pub runs-join : {X : Type 0} (result : Result X (Ending Refusal)) (ended : Status) → AreSized result (told_by files_then)
+  pub runs-join : {X : Type 0} (result : Result X (Ending Refusal)) (ended : Status)
+      → IsAllowedEndOfMany join_meaning AreTooLong (λ _. AreInReach) result (told_by files_then)
       → ((all : List (List ℕ)) → bytes_of files ≡ map Some all → TakeJoined result all made.bytes made_then.bytes out.bytes out_then.bytes)
       → SaysEnd joining_ends result ended notes notes_then
       → (result ≡ Err (end.Cut cut.File) → OneRose files files_then)
@@ -326,7 +327,10 @@ module _ (input made made_then : SeenStream) (files files_then : List SeenFile) 
   runs-join (Err (end.Cut cut.File)) ended sized took says file_rose made_rose out_rose =
       subst Ended (sym says.0) (file_failed took (file_rose refl) says.1)
   runs-join (Err (end.Cut cut.Made)) ended sized took says file_rose made_rose out_rose =
-      subst Ended (sym says.0) (made_failed sized took (made_rose refl) says.1)
+      subst Ended (sym says.0) (made_failed sized.1 took (made_rose refl) says.1)
   runs-join (Err (end.Cut cut.Out)) ended sized took says file_rose made_rose out_rose =
-      subst Ended (sym says.0) (out_failed sized took (out_rose refl) says.1)
-  runs-join (Err (end.Cut other)) ended sized took says file_rose made_rose out_rose = absurd sized
+      subst Ended (sym says.0) (out_failed sized.1 took (out_rose refl) says.1)
+  runs-join (Err (end.Cut cut.Input)) ended sized took says file_rose made_rose out_rose = absurd (cc sized.0)
+  runs-join (Err (end.Cut cut.Grown)) ended sized took says file_rose made_rose out_rose = absurd (cc sized.0)
+  runs-join (Err (end.Cut cut.Notes)) ended sized took says file_rose made_rose out_rose = absurd (sized.0.2 sized.0.1)
+  runs-join (Err (end.Cut cut.Memory)) ended sized took says file_rose made_rose out_rose = absurd (cc sized.0)

@@ -7,9 +7,10 @@ use Rattle.chunk_reader.specs.declared.reasons.Fault.{Fault}
 use Rattle.record_join.specs.Joins.{AreJoinedUpTo, IsFrontJoined}
 use Rattle.record_join.specs.declared.joins.JoinEnd.{JoinEnd}
 use Rattle.run_answers.specs.declared.ending.Ending.{Ending}
+use Rattle.run_answers.specs.Endings.{HaveTold, IsAllowedEndOfMany}
 use Rattle.run_answers.proofs.ManyFiles.{shown_at}
-use Rattle.join_files.specs.JoinCommand.{AreInReach, MayJoin}
-use Rattle.join_files.specs.JoiningEnds.{AreSized, TakeJoined, end_of_join}
+use Rattle.join_files.specs.JoinCommand.{AreInReach, AreTooLong, MayJoin, join_meaning}
+use Rattle.join_files.specs.JoiningEnds.{TakeJoined, end_of_join}
 use Rattle.join_files.specs.declared.refusals.Refusal.{Refusal}
 use Rattle.record_join.specs.declared.joins.JoinEnd.TheVariants as join
 use Rattle.run_answers.specs.declared.ending.Cut.TheVariants as cut
@@ -41,12 +42,13 @@ took-ended X result e why made made_then out all ended is reach refused front fi
 
 -- and what the files told then
 pub sized-ended : (X : Type 0) (e : JoinEnd) (why : Ending Refusal) (told : List (Option ℕ)) → why ≡ end_of_join e
-    → (sizes : List ℕ) × (told ≡ map Some sizes) × AreInReach sizes → AreSized {X = X} (Err why) told
-sized-ended X e why told is sized = subst (λ (w : Ending Refusal). AreSized {X = X} (Err w) told) (sym is) (by_end e) where
-  by_end : (e : JoinEnd) → AreSized {X = X} (Err (end_of_join e)) told
-  by_end (join.Refused index fault) = sized
-  by_end join.Store = tt
-  by_end join.Made = sized
+    → HaveTold told AreInReach → IsAllowedEndOfMany {X = X} join_meaning AreTooLong (λ _. AreInReach) (Err why) told
+sized-ended X e why told is sized =
+    subst (λ (w : Ending Refusal). IsAllowedEndOfMany {X = X} join_meaning AreTooLong (λ _. AreInReach) (Err w) told) (sym is) (by_end e) where
+      by_end : (e : JoinEnd) → IsAllowedEndOfMany {X = X} join_meaning AreTooLong (λ _. AreInReach) (Err (end_of_join e)) told
+      by_end (join.Refused index fault) = sized
+      by_end join.Store = refl
+      by_end join.Made = (refl, sized)
 
 -- a file failed where the stores are said to have
 pub file-failed : (X : Type 0) {A : Type 0} (result : Result Totals JoinEnd) (e : JoinEnd) (why : Ending Refusal) → result ≡ Err e → why ≡ end_of_join e

@@ -7,11 +7,11 @@ use Rattle.record_io.specs.Outside.{Rose}
 use Rattle.record_io.proofs.ManyStores.{none_falls, same_bytes}
 use Rattle.run_answers.specs.declared.ending.Ending.{Ending}
 use Rattle.run_answers.specs.declared.status.Status.{Status}
-use Rattle.run_answers.specs.Endings.{SaysEnd}
+use Rattle.run_answers.specs.Endings.{IsAllowedEndOfMany, SaysEnd}
 use Rattle.run_answers.specs.Runs.{SeenStream, SeenFile, seen, seen_file, Runs}
 use Rattle.run_answers.proofs.ManyFiles.{bytes_of, exact_shown, keeps-files, one_rose, told_by}
-use Rattle.join_files.specs.JoinCommand.{AreInReach, MayJoin, join_meaning}
-use Rattle.join_files.specs.JoiningEnds.{AreSized, TakeJoined, joining_ends}
+use Rattle.join_files.specs.JoinCommand.{AreInReach, AreTooLong, MayJoin, join_meaning}
+use Rattle.join_files.specs.JoiningEnds.{TakeJoined, joining_ends}
 use Rattle.join_files.specs.declared.refusals.Refusal.{Refusal}
 use Rattle.join_files.proofs.JoinRuns.{runs-join}
 use Rattle.run_answers.specs.declared.ending.Cut.TheVariants as cut
@@ -31,7 +31,7 @@ pub runs-joined : {S L X : Type 0} (bytes : S → Option (List ℕ)) (told : S �
     → ((place : ℕ) (file : S) → slice_get files_then place ≡ Some file → told file ≡ None → drop (place + 1) files_then ≡ drop (place + 1) files)
     → (map handed files_then ≡ map handed files)
     ⊎ ((sizes : List ℕ) × (map told files_then ≡ map Some sizes) × AreInReach sizes × MayJoin sizes (map handed files) (map handed files_then))
-    → AreSized result (map told files_then)
+    → IsAllowedEndOfMany join_meaning AreTooLong (λ _. AreInReach) result (map told files_then)
     → ((all : List (List ℕ)) → map bytes files ≡ map Some all → TakeJoined result all made.bytes made_then.bytes out.bytes out_then.bytes)
     → SaysEnd joining_ends result ended notes notes_then
     → (result ≡ Err (end.Cut cut.Made) → Rose made.faults made_then.faults)
@@ -48,5 +48,5 @@ runs-joined {S} bytes told handed name faults files files_then input made made_t
     (keeps-files bytes told handed faults files files_then join_meaning input made made_then grown out out_then notes notes_then refl refl
     (λ r before after. tt) m o n (none_falls bytes (λ (s : S). None) name faults files files_then asked.each) in_order its handed_out)
     (λ all is. some_told bytes files all some (sym as_bytes ∙ is)) its
-    result ended (subst (AreSized result) (sym as_told) sizes) (λ all is. took all (sym as_bytes ∙ is)) says
+    result ended (subst (IsAllowedEndOfMany join_meaning AreTooLong (λ _. AreInReach) result) (sym as_told) sizes) (λ all is. took all (sym as_bytes ∙ is)) says
     (λ failed. one_rose bytes told handed faults files files_then (asked.cause failed)) made_rose out_rose

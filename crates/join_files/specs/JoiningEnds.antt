@@ -1,5 +1,5 @@
 -- How the work of `join` ends. Own.
-use Rattle.std.specs.Prelude.{◌≡◌, ℕ, ◌⊎◌, true, Option, Some, Result, Ok, Err, List, length, map, take}
+use Rattle.std.specs.Prelude.{◌≡◌, ℕ, ◌⊎◌, true, Option, Result, Ok, Err, List, length, map, take}
 use Rattle.record_io.specs.Outside.{Takes, TakesFront}
 use Rattle.chunk_header.specs.Chunks.{ChunkValue}
 use Rattle.meta_chunk.specs.Counts.{totals_of}
@@ -12,7 +12,7 @@ use Rattle.run_answers.specs.Endings.{Endings}
 use Rattle.run_answers.specs.FileAnswers.{report}
 use Rattle.run_answers.specs.declared.ending.Ending.{Ending}
 use Rattle.show_files.specs.Readings.{refused_file_text}
-use Rattle.join_files.specs.JoinCommand.{AreInReach, AreTooLong}
+use Rattle.join_files.specs.JoinCommand.{AreInReach}
 use Rattle.join_files.specs.declared.refusals.Refusal.{Refusal}
 use Rattle.record_join.specs.declared.joins.JoinEnd.TheVariants as join
 use Rattle.run_answers.specs.declared.ending.Cut.TheVariants as cut
@@ -33,31 +33,19 @@ joining_ends = record {
   status = λ _. status.Refused;
 }
 
--- the files told these sizes when it ended, which are within reach, or past it where it ended at the limit; where a file failed
--- they may have told none. Nothing else ends it
-abbrev pub AreSized : {X : Type 0} → Result X (Ending Refusal) → List (Option ℕ) → Type 0
-AreSized (Ok x) told = (sizes : List ℕ) × (told ≡ map Some sizes) × AreInReach sizes
-AreSized (Err end.Limit) told = (sizes : List ℕ) × (told ≡ map Some sizes) × AreTooLong sizes
-AreSized (Err (end.At refusal)) told = (sizes : List ℕ) × (told ≡ map Some sizes) × AreInReach sizes
-AreSized (Err (end.Cut cut.File)) told = Unit {0}
-AreSized (Err (end.Cut cut.Made)) told = (sizes : List ℕ) × (told ≡ map Some sizes) × AreInReach sizes
-AreSized (Err (end.Cut cut.Out)) told = (sizes : List ℕ) × (told ≡ map Some sizes) × AreInReach sizes
-AreSized (Err (end.Cut other)) told = ⊥
-
 -- all files were joined, and this of the report was printed
 abbrev pub AreReported : ((before after : Option (List ℕ)) → List ℕ → Type 0) → List (List ℕ) → (made made_then out out_then : Option (List ℕ)) → Type 0
 AreReported Prints files made made_then out out_then =
     HaveNoFault true files × (chunks : List ChunkValue) × IsFrame chunks (joined files)
     × Takes made made_then (joined files) × Prints out out_then (report (totals_of chunks))
 
--- what the made file and standard output took of files, by how it ended
+-- what the made file and standard output took of files, by how it ended: nothing, unless it is said here
 abbrev pub TakeJoined : {X : Type 0} → Result X (Ending Refusal) → List (List ℕ) → (made made_then out out_then : Option (List ℕ)) → Type 0
 TakeJoined (Ok x) files made made_then out out_then = AreReported Takes files made made_then out out_then
-TakeJoined (Err end.Limit) files made made_then out out_then = (made_then ≡ made) × (out_then ≡ out)
 TakeJoined (Err (end.At refusal)) files made made_then out out_then = AreJoinedUpTo files refusal.index refusal.fault made made_then × (out_then ≡ out)
 TakeJoined (Err (end.Cut cut.File)) files made made_then out out_then =
     ((made_then ≡ made) ⊎ (AreInReach (map length files) × IsFrontJoined files made made_then)) × (out_then ≡ out)
 TakeJoined (Err (end.Cut cut.Made)) files made made_then out out_then =
     HaveNoFault true (take 1 files) × IsFrontJoined files made made_then × (out_then ≡ out)
 TakeJoined (Err (end.Cut cut.Out)) files made made_then out out_then = AreReported TakesFront files made made_then out out_then
-TakeJoined (Err (end.Cut other)) files made made_then out out_then = ⊥
+TakeJoined (Err other) files made made_then out out_then = (made_then ≡ made) × (out_then ≡ out)

@@ -44,9 +44,12 @@ returns-in-Ok-put_report-clause-handed g c =
 
 pub returns-in-Err-put_report-clause-sized : goal.returns-in-Err-put_report-clause-sized
 returns-in-Err-put_report-clause-sized g c = (
-  c.args.sizes.now,
-  same_told g.S.Store.bytes g.S.Store.told g.S.Store.name g.S.Store.faults c.args.files.now c.join.new.stores c.in-Ok.ensures.stores.each ∙ c.requires.told,
-  c.requires.in_reach,
+  refl,
+  (
+    c.args.sizes.now,
+    same_told g.S.Store.bytes g.S.Store.told g.S.Store.name g.S.Store.faults c.args.files.now c.join.new.stores c.in-Ok.ensures.stores.each ∙ c.requires.told,
+    c.requires.in_reach,
+  ),
 )
 
 pub returns-in-Err-put_report-clause-handed : goal.returns-in-Err-put_report-clause-handed
