@@ -1,5 +1,5 @@
 -- Files of bytes have an answer of `collect`.
-use Rattle.std.proofs.Common.{◌≡◌, ℕ, zero, suc, ◌+◌, ◌<◌, ◌≤◌, ◌⊎◌, true, false, List, [], ◌∷◌, ◌++◌, length, map, refl, inl, inr, arith}
+use Rattle.std.proofs.Common.{ℕ, suc, ◌⊎◌, false, List, [], ◌∷◌, length, map, refl, inl, inr, arith}
 use Rattle.std.specs.List.{AllByRecursion, flat_map, sum_by}
 use Rattle.std.proofs.lemmas.Bool.{cases_lt}
 use Rattle.record_values.specs.Bytes.{AreBytes}

@@ -1,5 +1,5 @@
 -- The file of collected records.
-use Rattle.std.proofs.Common.{◌≡◌, ◌≢◌, ◌∙◌, None, List, [], ℕ, length, map, ap, sym, arith}
+use Rattle.std.proofs.Common.{◌≡◌, ◌≢◌, ◌∙◌, None, List, [], ℕ, length, ap, sym, arith}
 use Rattle.std.proofs.lemmas.List.{length-map}
 use Rattle.meta_chunk.specs.Files.{signature}
 use Rattle.meta_chunk.specs.Laid.{end_of_chunk}

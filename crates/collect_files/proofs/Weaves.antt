@@ -3,7 +3,7 @@ use Rattle.std.proofs.Common.{◌≡◌, ◌∙◌, ℕ, zero, suc, ◌+◌, ◌
 use Rattle.std.specs.Prelude.{slice_get}
 use Rattle.std.specs.List.{AllByRecursion, AllZip, flat_map, range_with_len, sum_by}
 use Rattle.std.proofs.lemmas.Bool.{cases_lt}
-use Rattle.std.proofs.lemmas.List.{append_assoc, append-nil, get_or-append-add, length-append}
+use Rattle.std.proofs.lemmas.List.{append_assoc, get_or-append-add, length-append}
 use Rattle.std.proofs.lemmas.List.FromFn.{get_or-range_with_len, length-range_with_len}
 use Rattle.std.proofs.lemmas.List.Sums.{sum_by-append, sum_by-cons}
 use Rattle.std.proofs.lemmas.Option.{slice_get-get_or}
@@ -12,7 +12,7 @@ use Rattle.number_shares.specs.Once.{HasEachBelow, times}
 use Rattle.number_shares.proofs.Counting.{each_below_from_times, once_below, once_below-more, once_below-no, times-append, times-cons}
 use Rattle.number_shares.proofs.Lists.{all_append}
 use Rattle.record_collect.specs.GatheredFiles.{HasTooLong}
-use Rattle.record_collect.specs.Gatherings.{AreWoven, GatheredValue, IsInBounds, StandAt}
+use Rattle.record_collect.specs.Gatherings.{AreWoven, IsInBounds, StandAt}
 use Rattle.record_collect.specs.PutMachine.{limit}
 
 -- the records of lists, one list behind another, and the numbers of each from one on
