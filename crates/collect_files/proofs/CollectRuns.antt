@@ -1,7 +1,6 @@
 -- How a run of `collect` ends, by how its work ended.
-use Rattle.std.proofs.Common.{◌≡◌, ◌≢◌, ◌∙◌, ℕ, ◌+◌, ◌≤◌, ◌⊎◌, false, Option, Some, Result, Ok, Err, List, [], ◌∷◌, ◌++◌, length, map, take, drop, refl, sym, ap, subst, inl, inr, arith, append_assoc}
+use Rattle.std.proofs.Common.{◌≡◌, ◌≢◌, ℕ, false, Option, Some, Result, Ok, Err, List, [], ◌++◌, length, map, take, refl, sym, subst, inl, inr, arith}
 use Rattle.std.specs.List.{AllByRecursion}
-use Rattle.std.proofs.lemmas.List.{take-append-drop}
 use Rattle.record_values.specs.Bytes.{AreBytes}
 use Rattle.record_io.specs.Outside.{Rose, Takes, TakesFront}
 use Rattle.record_io.specs.Puts.{Put, Made, Out, Notes, Taken, taken_by, GoOut, BreaksOff, puts_to, bytes_to}
@@ -14,16 +13,16 @@ use Rattle.record_collect.specs.Gatherings.{GatheredValue}
 use Rattle.run_answers.specs.declared.ending.Ending.{Ending}
 use Rattle.run_answers.specs.declared.status.Status.{Status}
 use Rattle.run_answers.specs.Answers.{Answer, noted}
-use Rattle.run_answers.specs.Endings.{SaysEnd}
+use Rattle.run_answers.specs.Endings.{HaveTold, IsAllowedEndOfMany, SaysEnd}
 use Rattle.run_answers.specs.FileAnswers.{limit_text}
 use Rattle.run_answers.specs.Statuses.{fault_text}
 use Rattle.run_answers.specs.Runs.{SeenStream, SeenFile, Seen, seen, IfTold, IsWhole, IsCutOff, IsCutShort, OfSizes, OneRose, SaysAtEnd, TakesThen, Breaks, HasCause, Runs}
 use Rattle.run_answers.proofs.ManyFiles.{bytes_of, told_by}
-use Rattle.run_answers.proofs.RunEnds.{GaveButNotes, Keeps, PutsLines-none, was-cut_off, went-so_far, runs-whole, runs-said, runs-cut_off}
+use Rattle.run_answers.proofs.RunEnds.{Keeps, PutsLines-none, was-cut_off, went-so_far, runs-whole, runs-said, runs-cut_off}
 use Rattle.run_answers.proofs.TwoStreams.{bytes_to-neither}
 use Rattle.show_files.specs.Readings.{refused_file_text}
 use Rattle.collect_files.specs.CollectCommand.{AreInReach, IsOneTooLong, IsCollectAnswer, IsCollectedSoFar, collect_meaning, collected_answer, collected_file, collected_lines, too_much_text}
-use Rattle.collect_files.specs.CollectingEnds.{AreSized, IsPut, TakeCollected, collecting_ends, uncollected_status, uncollected_text}
+use Rattle.collect_files.specs.CollectingEnds.{TakeCollected, collecting_ends}
 use Rattle.collect_files.specs.declared.stops.Uncollected.{Uncollected}
 use Rattle.collect_files.proofs.CollectAnswers.{answer_in_reach, collect_exists, is_whole}
 use Rattle.collect_files.proofs.CollectedFiles.{collected-some}
@@ -53,7 +52,7 @@ module _ (input made made_then : SeenStream) (files files_then : List SeenFile) 
 
   -- the files told sizes of which P holds
   abbrev Told : (List ℕ → Type 0) → Type 0
-  Told P = (sizes : List ℕ) × (told_by files_then ≡ map Some sizes) × P sizes
+  Told P = HaveTold (told_by files_then) P
 
   -- P holds of the bytes that they tell
   abbrev IfFiles : (List (List ℕ) → Type 0) → Type 0
@@ -242,7 +241,7 @@ module _ (input made made_then : SeenStream) (files files_then : List SeenFile) 
       (λ all bytes told. of_put all bytes (of_files AreInReach all told reach) (put all told)) refl says where
         of_put : (all : List (List ℕ)) → AllByRecursion AreBytes all → AreInReach (map length all)
             → TakeCollected {X = X} (Err (end.Cut cut.Memory)) all made.bytes made_then.bytes out.bytes out_then.bytes → WentOf status.Memory all
-        of_put all bytes within (inl same, unprinted) =
+        of_put all bytes within (inl (same, unprinted)) =
             let found = answer_in_reach all bytes within in
             record {
               answer = found.0;
@@ -253,7 +252,7 @@ module _ (input made made_then : SeenStream) (files files_then : List SeenFile) 
               went = none_went same unprinted;
               so_far = λ short. inl refl;
             }
-        of_put all bytes within (inr (value, gathered, front), unprinted) =
+        of_put all bytes within (inr (value, gathered, (front, unprinted))) =
             front_went status.Memory all value within gathered
             (λ count broke. BreaksOff-front Made (puts_to Made (take count (collected_file value.records))) (collected_answer value).puts broke)
             front unprinted
@@ -281,7 +280,8 @@ module _ (input made made_then : SeenStream) (files files_then : List SeenFile) 
       (refl, rose) says
 
   -- by how the work ended
-  pub runs-collect : {X : Type 0} (result : Result X (Ending Uncollected)) (ended : Status) → AreSized result (told_by files_then)
+  pub runs-collect : {X : Type 0} (result : Result X (Ending Uncollected)) (ended : Status)
+      → IsAllowedEndOfMany collect_meaning IsOneTooLong (λ _. AreInReach) result (told_by files_then)
       → IfFiles (λ all. TakeCollected result all made.bytes made_then.bytes out.bytes out_then.bytes)
       → SaysEnd collecting_ends result ended notes notes_then
       → (result ≡ Err (end.Cut cut.File) → OneRose files files_then)
@@ -295,9 +295,11 @@ module _ (input made made_then : SeenStream) (files files_then : List SeenFile) 
   runs-collect (Err (end.Cut cut.File)) ended sized took says file_rose made_rose out_rose =
       subst Ended (sym says.0) (file_failed took (file_rose refl) says.1)
   runs-collect {X} (Err (end.Cut cut.Made)) ended sized took says file_rose made_rose out_rose =
-      subst Ended (sym says.0) (made_failed X sized took (made_rose refl) says.1)
+      subst Ended (sym says.0) (made_failed X sized.1 took (made_rose refl) says.1)
   runs-collect {X} (Err (end.Cut cut.Memory)) ended sized took says file_rose made_rose out_rose =
-      subst Ended (sym says.0) (memory_wanting X sized took says.1)
+      subst Ended (sym says.0) (memory_wanting X sized.1 took says.1)
   runs-collect {X} (Err (end.Cut cut.Out)) ended sized took says file_rose made_rose out_rose =
-      subst Ended (sym says.0) (out_failed X sized took (out_rose refl) says.1)
-  runs-collect (Err (end.Cut other)) ended sized took says file_rose made_rose out_rose = absurd sized
+      subst Ended (sym says.0) (out_failed X sized.1 took (out_rose refl) says.1)
+  runs-collect (Err (end.Cut cut.Input)) ended sized took says file_rose made_rose out_rose = absurd (cc sized.0)
+  runs-collect (Err (end.Cut cut.Grown)) ended sized took says file_rose made_rose out_rose = absurd (cc sized.0)
+  runs-collect (Err (end.Cut cut.Notes)) ended sized took says file_rose made_rose out_rose = absurd (sized.0.2 sized.0.1)

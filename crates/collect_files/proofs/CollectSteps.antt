@@ -1,5 +1,5 @@
 -- Files that are asked their sizes, and whose records are then gathered and put into one.
-use Rattle.std.proofs.Common.{◌≡◌, ◌≢◌, ◌∙◌, ℕ, ◌+◌, ◌≤◌, ◌⊎◌, false, true, Option, Some, None, Result, Ok, Err, List, [], length, map, drop, refl, sym, ap, subst, inl, inr, arith}
+use Rattle.std.proofs.Common.{◌≡◌, ◌≢◌, ◌∙◌, ℕ, ◌+◌, ◌≤◌, ◌⊎◌, false, true, Option, Some, None, Result, Err, List, [], length, map, drop, refl, sym, ap, subst, inl, inr}
 use Rattle.std.specs.Prelude.{nat_lt, slice_get}
 use Rattle.std.specs.List.{list_any}
 use Rattle.std.proofs.lemmas.Bool.{lt-ltb, ltb-true}
@@ -9,20 +9,19 @@ use Rattle.record_io.specs.ManyStores.{AnyRose}
 use Rattle.record_io.specs.Outside.{Rose, Takes, TakesFront}
 use Rattle.chunk_reader.specs.ManyFiles.{IsFirstFault}
 use Rattle.chunk_reader.specs.declared.reasons.Fault.{Fault}
-use Rattle.record_collect.specs.GatheredFiles.{AreGatheredOf, IsTooMuch}
+use Rattle.record_collect.specs.GatheredFiles.{IsTooMuch}
 use Rattle.record_collect.specs.FilePlaces.{places_in_file}
 use Rattle.record_collect.specs.Gatherings.{GatheredValue}
 use Rattle.word_options.specs.Writing.{default_chunk_size}
 use Rattle.record_collect.specs.declared.gathering.GatherEnd.{GatherEnd}
-use Rattle.run_answers.specs.declared.ending.Cut.{Cut}
 use Rattle.run_answers.specs.declared.ending.Ending.{Ending}
 use Rattle.run_answers.specs.declared.status.Status.{Status}
-use Rattle.run_answers.specs.Endings.{SaysEnd}
+use Rattle.run_answers.specs.Endings.{HaveTold, IsAllowedEndOfMany, SaysEnd}
 use Rattle.run_answers.specs.FileAnswers.{most_file_bytes}
 use Rattle.run_answers.specs.Runs.{SeenStream, SeenFile, seen, seen_file, Runs}
 use Rattle.run_answers.proofs.ManyFiles.{keeps-files, one_rose}
 use Rattle.collect_files.specs.CollectCommand.{AreInReach, IsOneTooLong, collect_meaning, collected_file, collected_lines, files_lines}
-use Rattle.collect_files.specs.CollectingEnds.{AreSized, IsPut, TakeCollected, collecting_ends, end_of_gather}
+use Rattle.collect_files.specs.CollectingEnds.{TakeCollected, collecting_ends, end_of_gather}
 use Rattle.collect_files.specs.declared.stops.Uncollected.{Uncollected}
 use Rattle.collect_files.proofs.CollectAnswers.{sizes_judged}
 use Rattle.collect_files.proofs.CollectRuns.{runs-collect}
@@ -56,17 +55,17 @@ took-ended X e why made out all is refused much =
       by_end (gather.Refused index fault) refused much = (refused index fault refl, refl, refl)
       by_end gather.TooMuch refused much = (much refl, refl, refl)
       by_end gather.Store refused much = (refl, refl)
-      by_end gather.Memory refused much = (inl refl, refl)
+      by_end gather.Memory refused much = inl (refl, refl)
 
-pub sized-ended : (X : Type 0) (e : GatherEnd) (why : Ending Uncollected) (told : List (Option ℕ)) (sizes : List ℕ) → why ≡ end_of_gather e
-    → told ≡ map Some sizes → AreInReach sizes → AreSized {X = X} (Err why) told
-sized-ended X e why told sizes is tells reach =
-    subst (λ (w : Ending Uncollected). AreSized {X = X} (Err w) told) (sym is) (by_end e) where
-      by_end : (e : GatherEnd) → AreSized {X = X} (Err (end_of_gather e)) told
-      by_end (gather.Refused index fault) = (sizes, tells, reach)
-      by_end gather.TooMuch = (sizes, tells, reach)
-      by_end gather.Store = tt
-      by_end gather.Memory = (sizes, tells, reach)
+pub sized-ended : (X : Type 0) (e : GatherEnd) (why : Ending Uncollected) (told : List (Option ℕ)) → why ≡ end_of_gather e
+    → HaveTold told AreInReach → IsAllowedEndOfMany {X = X} collect_meaning IsOneTooLong (λ _. AreInReach) (Err why) told
+sized-ended X e why told is sized =
+    subst (λ (w : Ending Uncollected). IsAllowedEndOfMany {X = X} collect_meaning IsOneTooLong (λ _. AreInReach) (Err w) told) (sym is) (by_end e) where
+      by_end : (e : GatherEnd) → IsAllowedEndOfMany {X = X} collect_meaning IsOneTooLong (λ _. AreInReach) (Err (end_of_gather e)) told
+      by_end (gather.Refused index fault) = sized
+      by_end gather.TooMuch = sized
+      by_end gather.Store = refl
+      by_end gather.Memory = (refl, sized)
 
 -- a file failed only where gathering says it
 pub file-failed : (X : Type 0) (e : GatherEnd) (why : Ending Uncollected) → why ≡ end_of_gather e
@@ -75,35 +74,6 @@ file-failed X (gather.Refused index fault) why is failed = cc
 file-failed X gather.TooMuch why is failed = cc
 file-failed X gather.Store why is failed = refl
 file-failed X gather.Memory why is failed = cc
-
--- of gathered records this was put
-pub took-put : {X : Type 0} (result : Result X (Ending Uncollected)) (value : GatheredValue) (made made_then out out_then : Option (List ℕ)) (all : List (List ℕ))
-    → AreGatheredOf all value → IsPut result value made made_then out out_then → TakeCollected result all made made_then out out_then
-took-put (Ok x) value made made_then out out_then all gathered put = (value, gathered, put)
-took-put (Err end.Limit) value made made_then out out_then all gathered put = absurd put
-took-put (Err (end.At reason)) value made made_then out out_then all gathered put = absurd put
-took-put (Err (end.Cut cut.Made)) value made made_then out out_then all gathered put = (value, gathered, put)
-took-put (Err (end.Cut cut.Memory)) value made made_then out out_then all gathered (front, unprinted) = (inr (value, gathered, front), unprinted)
-took-put (Err (end.Cut cut.Out)) value made made_then out out_then all gathered put = (value, gathered, put)
-took-put (Err (end.Cut other)) value made made_then out out_then all gathered put = absurd put
-
-pub sized-put : {X : Type 0} (result : Result X (Ending Uncollected)) (value : GatheredValue) (made made_then out out_then : Option (List ℕ)) (told : List (Option ℕ)) (sizes : List ℕ)
-    → IsPut result value made made_then out out_then → told ≡ map Some sizes → AreInReach sizes → AreSized result told
-sized-put (Ok x) value made made_then out out_then told sizes put tells reach = (sizes, tells, reach)
-sized-put (Err end.Limit) value made made_then out out_then told sizes put tells reach = absurd put
-sized-put (Err (end.At reason)) value made made_then out out_then told sizes put tells reach = absurd put
-sized-put (Err (end.Cut cut.Made)) value made made_then out out_then told sizes put tells reach = (sizes, tells, reach)
-sized-put (Err (end.Cut cut.Memory)) value made made_then out out_then told sizes put tells reach = (sizes, tells, reach)
-sized-put (Err (end.Cut cut.Out)) value made made_then out out_then told sizes put tells reach = (sizes, tells, reach)
-sized-put (Err (end.Cut other)) value made made_then out out_then told sizes put tells reach = absurd put
-
--- where the file was not made, a front of it was put, and nothing was printed
-pub cut-put : (X : Type 0) (c : Cut) (value : GatheredValue) (made made_then out : Option (List ℕ)) → (c ≡ cut.Made) ⊎ (c ≡ cut.Memory)
-    → TakesFront made made_then (collected_file value.records) → IsPut {X = X} (Err (end.Cut c)) value made made_then out out
-cut-put X c value made made_then out (inl is) front =
-    subst (λ (k : Cut). IsPut {X = X} (Err (end.Cut k)) value made made_then out out) (sym is) (front, refl)
-cut-put X c value made made_then out (inr is) front =
-    subst (λ (k : Cut). IsPut {X = X} (Err (end.Cut k)) value made made_then out out) (sym is) (front, refl)
 
 -- the lines of the positions in the file
 lines-of : (value : GatheredValue) (records : List (List ℕ)) (places : List ℕ) → records ≡ value.records → places ≡ places_in_file records default_chunk_size
@@ -131,12 +101,6 @@ put-unprinted value records places made made_then out out_then same are took pri
   subst (λ (text : List ℕ). text ≢ []) (lines-of value records places same are) some,
 )
 
--- which fails no file
-pub put-unread : {X : Type 0} {A : Type 0} (result : Result X (Ending Uncollected)) (value : GatheredValue) (made made_then out out_then : Option (List ℕ))
-    → IsPut result value made made_then out out_then → result ≡ Err (end.Cut cut.File) → A
-put-unread {X} result value made made_then out out_then put failed =
-    absurd (subst (λ (r : Result X (Ending Uncollected)). IsPut r value made made_then out out_then) failed put)
-
 -- how a run ends, by what became of the files
 module _ {S : Type 0} (bytes : S → Option (List ℕ)) (told : S → Option ℕ) (handed faults : S → ℕ) (files files_then : List S) where
   abbrev Shown : List S → List SeenFile
@@ -149,7 +113,7 @@ module _ {S : Type 0} (bytes : S → Option (List ℕ)) (told : S → Option ℕ
       → ((place : ℕ) (a b : S) → slice_get files place ≡ Some a → slice_get files_then place ≡ Some b → faults a ≤ faults b)
       → ((place : ℕ) (file : S) → slice_get files_then place ≡ Some file → told file ≡ None → drop (place + 1) files_then ≡ drop (place + 1) files)
       → (map handed files_then ≡ map handed files) ⊎ ((sizes : List ℕ) × (map told files_then ≡ map Some sizes) × AreInReach sizes)
-      → AreSized result (map told files_then)
+      → IsAllowedEndOfMany collect_meaning IsOneTooLong (λ _. AreInReach) result (map told files_then)
       → ((all : List (List ℕ)) → map bytes files ≡ map Some all → TakeCollected result all made.bytes made_then.bytes out.bytes out_then.bytes)
       → SaysEnd collecting_ends result ended notes notes_then
       → (result ≡ Err (end.Cut cut.File) → AnyRose faults files files_then)
@@ -166,5 +130,5 @@ module _ {S : Type 0} (bytes : S → Option (List ℕ)) (told : S → Option ℕ
       runs-collect input made made_then (map show files) (map show files_then) grown out out_then notes notes_then
       (keeps-files bytes told handed faults files files_then collect_meaning input made made_then grown out out_then notes notes_then
       refl refl (λ r before after. tt) m o n falls in_order its (elim handed_out [ inl unread ↦ inl unread | inr (some, tells, reach) ↦ inr (some, tells, reach, tt) ]))
-      its result ended (subst (AreSized result) (sym as_told) sizes) (λ all is. took all (sym as_bytes ∙ is)) says
+      its result ended (subst (IsAllowedEndOfMany collect_meaning IsOneTooLong (λ _. AreInReach) result) (sym as_told) sizes) (λ all is. took all (sym as_bytes ∙ is)) says
       (λ failed. one_rose bytes told handed faults files files_then (file_rose failed)) made_rose out_rose

@@ -1,14 +1,15 @@
 ghost use Rattle.std.specs.Prelude.{◌≡◌, ◌+◌, ◌<◌, ◌≤◌, ◌⊎◌, ℕ, None, Some, Err, List, drop, length, map, slice_get};
 ghost use Rattle.record_io.specs.Calls.{OnlyCounts};
 ghost use Rattle.record_io.specs.ManyStores.{AreOnlyAsked, AreTold, IfAllTell};
+ghost use Rattle.run_answers.specs.Endings.{IsAllowedEndOfMany};
 ghost use Rattle.run_answers.specs.Runs.{Runs, Seen, seen_file, seen_stream};
-ghost use Rattle.collect_files.specs.CollectCommand.{AreInReach, collect_meaning};
-ghost use Rattle.collect_files.specs.CollectingEnds.{AreSized, TakeCollected, end_of_gather};
+ghost use Rattle.collect_files.specs.CollectCommand.{AreInReach, IsOneTooLong, collect_meaning};
+ghost use Rattle.collect_files.specs.CollectingEnds.{TakeCollected, end_of_gather};
 
 use crate::collect_words::MOST_FILES;
 use crate::sizes::{is_one_too_long, sizes_told};
 use crate::stops::{Uncollected, end_collecting};
-use crate::writing::put_gathered;
+use crate::writing::{PutCut, put_gathered};
 use record_collect::{GatherEnd, gather};
 use record_io::{Sink, Store};
 use run_answers::{Cut, Ending, Status};
@@ -50,7 +51,7 @@ fn make_collected<R: Threads + Sync, S: Store + Send, M: Sink + Send, O: Sink>(
     requires some { 0 < length files.old }
     requires few { length files.old ≤ 16 }
     ensures collected { IfAllTell S.bytes files.old (λ all. TakeCollected result all (M.taken made.old) (M.taken made.new) (O.taken out.old) (O.taken out.new)) }
-    ensures sized { AreSized result (map (λ file. S.told file) files.new) }
+    ensures sized { IsAllowedEndOfMany collect_meaning IsOneTooLong (λ _. AreInReach) result (map (λ file. S.told file) files.new) }
     ensures exact { (all : List (List ℕ)) (sizes : List ℕ) → AreTold S.bytes files.old all → AreTold S.told files.new sizes → sizes ≡ map length all }
     ensures in_order { (place : ℕ) (file : S) → slice_get files.new place ≡ Some file → S.told file ≡ None
         → drop (place + 1) files.new ≡ drop (place + 1) files.old }
@@ -86,14 +87,20 @@ fn collect_sized<R: Threads + Sync, S: Store + Send, M: Sink + Send, O: Sink>(
     requires told { AreTold S.told files.old sizes.now }
     requires in_reach { AreInReach sizes.now }
     ensures collected { IfAllTell S.bytes files.old (λ all. TakeCollected result all (M.taken made.old) (M.taken made.new) (O.taken out.old) (O.taken out.new)) }
-    ensures sized { AreSized result (map (λ file. S.told file) files.new) }
+    ensures sized { IsAllowedEndOfMany collect_meaning IsOneTooLong (λ _. AreInReach) result (map (λ file. S.told file) files.new) }
     ensures files { AreOnlyAsked S.bytes S.told S.name S.faults (result ≡ Err (Ending.Cut Cut.File)) files.old files.new }
     ensures made { OnlyCounts M.lent M.faults (result ≡ Err (Ending.Cut Cut.Made)) made.old made.new }
     ensures out { OnlyCounts O.lent O.faults (result ≡ Err (Ending.Cut Cut.Out)) out.old out.new }
 {
-    match gather(rt, alloc, files, sizes) {
+    let put = match gather(rt, alloc, files, sizes) {
         Ok(gathered) => put_gathered(rt, alloc, &gathered, files.len(), made, out),
-        Err(end) => Err(end_of_gather(end)),
+        Err(end) => return Err(end_of_gather(end)),
+    };
+    match put {
+        Ok(()) => Ok(()),
+        Err(PutCut::Made) => Err(Ending::Cut(Cut::Made)),
+        Err(PutCut::Out) => Err(Ending::Cut(Cut::Out)),
+        Err(PutCut::Memory) => Err(Ending::Cut(Cut::Memory)),
     }
 }
 

@@ -1,4 +1,4 @@
-ghost use Rattle.std.specs.Prelude.{◌≡◌, ◌⊎◌, ◌^◌, ◌≤◌, Err, OnErr, OnOk, length};
+ghost use Rattle.std.specs.Prelude.{◌≡◌, ◌^◌, ◌≤◌, Err, OnErr, OnOk, length};
 ghost use Rattle.std.specs.List.{AllByRecursion};
 ghost use Rattle.record_io.specs.Calls.{OnlyCounts};
 ghost use Rattle.record_io.specs.Outside.{Takes, TakesFront};
@@ -8,16 +8,34 @@ ghost use Rattle.collect_files.specs.CollectCommand.{collected_file};
 ghost use Rattle.collect_files.specs.CollectingEnds.{IsPut};
 
 use crate::place_lines::put_places;
-use crate::stops::Uncollected;
 use record_collect::{Gathered, places};
 use record_group::Pad;
 use record_io::{Failed, Sink};
 use record_writer::{RecordsFeed, WriteEnd, WriteOptions, write_records};
-use run_answers::{Cut, Ending};
 use simple_chunk::Records;
 use std::alloc::Global;
 use std::thread::Threads;
 use word_options::DEFAULT_CHUNK_SIZE;
+
+/// What cuts the putting of gathered records off.
+#[derive(Clone, Copy)]
+pub(crate) enum PutCut {
+    /// The file that is made failed.
+    Made,
+    /// Standard output failed.
+    Out,
+    /// There was not enough memory.
+    Memory,
+}
+
+/// What cuts the writing of their file off.
+#[derive(Clone, Copy)]
+enum FileCut {
+    /// The file that is made failed.
+    Made,
+    /// There was not enough memory.
+    Memory,
+}
 
 /// Makes the file of the gathered records of so many files, and prints where each record stands in it.
 pub(crate) fn put_gathered<R: Threads + Sync, M: Sink + Send, O: Sink>(
@@ -27,22 +45,24 @@ pub(crate) fn put_gathered<R: Threads + Sync, M: Sink + Send, O: Sink>(
     files: usize,
     made: &mut M,
     out: &mut O,
-) -> Result<(), Ending<Uncollected>>
+) -> Result<(), PutCut>
     requires { length gathered.now.numbers ≡ files }
     ensures put { IsPut result gathered.now (M.taken made.old) (M.taken made.new) (O.taken out.old) (O.taken out.new) }
-    ensures made { OnlyCounts M.lent M.faults (result ≡ Err (Ending.Cut Cut.Made)) made.old made.new }
-    ensures out { OnlyCounts O.lent O.faults (result ≡ Err (Ending.Cut Cut.Out)) out.old out.new }
+    ensures made { OnlyCounts M.lent M.faults (result ≡ Err PutCut.Made) made.old made.new }
+    ensures out { OnlyCounts O.lent O.faults (result ≡ Err PutCut.Out) out.old out.new }
 {
     let records = gathered.records();
     let Ok(places) = places(alloc, records, DEFAULT_CHUNK_SIZE) else {
-        return Err(Ending::Cut(Cut::Memory));
+        return Err(PutCut::Memory);
     };
-    if let Err(cut) = write_file(rt, alloc, records, made) {
-        return Err(Ending::Cut(cut));
+    match write_file(rt, alloc, records, made) {
+        Ok(()) => {}
+        Err(FileCut::Made) => return Err(PutCut::Made),
+        Err(FileCut::Memory) => return Err(PutCut::Memory),
     }
     match put_places(gathered, &places, files, out) {
         Ok(()) => Ok(()),
-        Err(Failed) => Err(Ending::Cut(Cut::Out)),
+        Err(Failed) => Err(PutCut::Out),
     }
 }
 
@@ -52,13 +72,12 @@ fn write_file<R: Threads + Sync, M: Sink + Send>(
     alloc: Global,
     records: &Records,
     made: &mut M,
-) -> Result<(), Cut>
+) -> Result<(), FileCut>
     requires short { AllByRecursion (λ r. length r ≤ 2 ^ 24) records.now }
     requires most { cost_of records.now ≤ limit }
     ensures whole { OnOk result (Takes (M.taken made.old) (M.taken made.new) (collected_file records.now)) }
     ensures front { OnErr result (TakesFront (M.taken made.old) (M.taken made.new) (collected_file records.now)) }
-    ensures cuts { OnErr result ((result ≡ Err Cut.Made) ⊎ (result ≡ Err Cut.Memory)) }
-    ensures made { OnlyCounts M.lent M.faults (result ≡ Err Cut.Made) made.old made.new }
+    ensures made { OnlyCounts M.lent M.faults (result ≡ Err FileCut.Made) made.old made.new }
 {
     let options = WriteOptions {
         size: DEFAULT_CHUNK_SIZE,
@@ -68,8 +87,8 @@ fn write_file<R: Threads + Sync, M: Sink + Send>(
     };
     match write_records(rt, alloc, &options, &mut RecordsFeed::new(records), made) {
         Ok(_) => Ok(()),
-        Err(WriteEnd::Made) => Err(Cut::Made),
-        Err(WriteEnd::Memory) => Err(Cut::Memory),
+        Err(WriteEnd::Made) => Err(FileCut::Made),
+        Err(WriteEnd::Memory) => Err(FileCut::Memory),
         Err(_) => unreachable!(),
     }
 }

@@ -14,9 +14,9 @@ put_places-requires-clause-placed g c =
 pub returns-in-Ok-put_places-clause-put : goal.returns-in-Ok-put_places-clause-put
 returns-in-Ok-put_places-clause-put g c =
     put-whole c.args.gathered.now c.records-records.result.now c.in-Ok.places _ _ _ _ c.records-records.ensures.value c.in-Ok.ensures
-    c.in_default-write_file.ensures.whole c.in-Ok-put_places.ensures.out.whole
+    c.in-Ok-write_file.ensures.whole c.in-Ok-put_places.ensures.out.whole
 
 pub returns-clause-put : goal.returns-clause-put
 returns-clause-put g c =
     put-unprinted c.args.gathered.now c.records-records.result.now c.in-Ok.places _ _ _ _ c.records-records.ensures.value c.in-Ok.ensures
-    c.in_default-write_file.ensures.whole c.in-Err-put_places.ensures.out.front c.in-Err-put_places.ensures.some
+    c.in-Ok-write_file.ensures.whole c.in-Err.ensures.out.front c.in-Err.ensures.some
