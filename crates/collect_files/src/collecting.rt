@@ -7,12 +7,12 @@ ghost use Rattle.collect_files.specs.CollectCommand.{AreInReach, IsOneTooLong, c
 ghost use Rattle.collect_files.specs.CollectingEnds.{TakeCollected, end_of_gather};
 
 use crate::collect_words::MOST_FILES;
-use crate::sizes::{is_one_too_long, sizes_told};
+use crate::sizes::is_one_too_long;
 use crate::stops::{Uncollected, end_collecting};
 use crate::writing::{PutCut, put_gathered};
 use record_collect::{GatherEnd, gather};
 use record_io::{Sink, Store};
-use run_answers::{Cut, Ending, Status};
+use run_answers::{Cut, Ending, Status, ask_sizes};
 use std::alloc::Global;
 use std::thread::Threads;
 
@@ -52,7 +52,6 @@ fn make_collected<R: Threads + Sync, S: Store + Send, M: Sink + Send, O: Sink>(
     requires few { length files.old ≤ 16 }
     ensures collected { IfAllTell S.bytes files.old (λ all. TakeCollected result all (M.taken made.old) (M.taken made.new) (O.taken out.old) (O.taken out.new)) }
     ensures sized { IsAllowedEndOfMany collect_meaning IsOneTooLong (λ _. AreInReach) result (map (λ file. S.told file) files.new) }
-    ensures exact { (all : List (List ℕ)) (sizes : List ℕ) → AreTold S.bytes files.old all → AreTold S.told files.new sizes → sizes ≡ map length all }
     ensures in_order { (place : ℕ) (file : S) → slice_get files.new place ≡ Some file → S.told file ≡ None
         → drop (place + 1) files.new ≡ drop (place + 1) files.old }
     ensures handed { (map (λ file. S.handed file) files.new ≡ map (λ file. S.handed file) files.old)
@@ -64,7 +63,7 @@ fn make_collected<R: Threads + Sync, S: Store + Send, M: Sink + Send, O: Sink>(
 {
     let mut room = [0; MOST_FILES];
     let sizes = &mut room[..files.len()];
-    let Ok(()) = sizes_told(files, sizes) else {
+    let Ok(()) = ask_sizes(files, sizes) else {
         return Err(Ending::Cut(Cut::File));
     };
     if is_one_too_long(sizes) {

@@ -2,19 +2,18 @@ ghost use Rattle.std.specs.Prelude.{◌≡◌, ◌<◌, ◌≤◌, length, nat_l
 ghost use Rattle.record_join.specs.Joined.{joined_at_most};
 ghost use Rattle.run_answers.specs.FileAnswers.{most_file_bytes};
 
-/// The most bytes that files have one after another which are joined. Own.
-const MOST_BYTES: u64 = 1 << 60;
+use run_answers::MOST_FILE_BYTES;
 
 /// The most bytes of the padding behind a file: less than two blocks.
 const MOST_PADDING: u64 = 131_072;
 
-/// Whether files of these sizes have so few bytes one after another that they are joined.
+/// Whether files of these sizes have so few bytes one after another that they are joined: no more than one that is read.
 pub(crate) fn are_in_reach(sizes: &[u64]) -> bool
     requires some { 0 < length sizes.now }
     requires few { length sizes.now ≤ 64 }
     ensures { result ≡ nat_le (joined_at_most sizes.now) most_file_bytes }
 {
-    let mut room = MOST_BYTES - MOST_PADDING * (sizes.len() as u64 - 1);
+    let mut room = MOST_FILE_BYTES - MOST_PADDING * (sizes.len() as u64 - 1);
     for size in sizes {
         if *size > room {
             return false;

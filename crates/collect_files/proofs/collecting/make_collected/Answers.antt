@@ -7,62 +7,56 @@ use Rattle.collect_files.proofs.collecting.make_collected.Goals.{After-collect_s
 
 pub returns-in_default-clause-handed : goal.returns-in_default-clause-handed
 returns-in_default-clause-handed g c =
-    inl (same_handed g.S.Store.bytes g.S.Store.handed g.S.Store.name g.S.Store.faults c.args.files.now c.sizes_told.new.files c.in_default.ensures.files.each)
+    inl (same_handed g.S.Store.bytes g.S.Store.handed g.S.Store.name g.S.Store.faults c.args.files.now c.ask_sizes.new.files c.in_default.ensures.files.each)
 
 pub returns-in_default-clause-files : goal.returns-in_default-clause-files
 returns-in_default-clause-files g c =
-    untold g.S.Store.bytes (λ file. Some (g.S.Store.handed file)) g.S.Store.name g.S.Store.faults c.args.files.now c.sizes_told.new.files
+    untold g.S.Store.bytes (λ file. Some (g.S.Store.handed file)) g.S.Store.name g.S.Store.faults c.args.files.now c.ask_sizes.new.files
     (λ failed. search rules) c.in_default.ensures.files
 
 pub returns-then-is_one_too_long-clause-sized : goal.returns-then-is_one_too_long-clause-sized
 returns-then-is_one_too_long-clause-sized g c = (
-  c.sizes_told.new.sizes,
+  c.ask_sizes.new.sizes,
   c.in-Ok.ensures.told,
-  one_too_long c.sizes_told.new.sizes (sym c.is_one_too_long.ensures ∙ c.if-is_one_too_long.true),
+  one_too_long c.ask_sizes.new.sizes (sym c.is_one_too_long.ensures ∙ c.if-is_one_too_long.true),
 )
 
 pub returns-then-is_one_too_long-clause-handed : goal.returns-then-is_one_too_long-clause-handed
 returns-then-is_one_too_long-clause-handed g c =
-    inl (same_handed g.S.Store.bytes g.S.Store.handed g.S.Store.name g.S.Store.faults c.args.files.now c.sizes_told.new.files c.in-Ok.ensures.files.each)
+    inl (same_handed g.S.Store.bytes g.S.Store.handed g.S.Store.name g.S.Store.faults c.args.files.now c.ask_sizes.new.files c.in-Ok.ensures.files.each)
 
 pub returns-then-is_one_too_long-clause-files : goal.returns-then-is_one_too_long-clause-files
 returns-then-is_one_too_long-clause-files g c =
-    untold g.S.Store.bytes (λ file. Some (g.S.Store.handed file)) g.S.Store.name g.S.Store.faults c.args.files.now c.sizes_told.new.files
+    untold g.S.Store.bytes (λ file. Some (g.S.Store.handed file)) g.S.Store.name g.S.Store.faults c.args.files.now c.ask_sizes.new.files
     (λ failed. absurd (cc failed)) c.in-Ok.ensures.files
 
 pub collect_sized-requires-clause-in_reach : goal.collect_sized-requires-clause-in_reach
 collect_sized-requires-clause-in_reach g c κs within =
-    none_too_long c.sizes_told.new.sizes (sym c.is_one_too_long.ensures ∙ c.if-is_one_too_long.false)
+    none_too_long c.ask_sizes.new.sizes (sym c.is_one_too_long.ensures ∙ c.if-is_one_too_long.false)
 
 -- the files told these sizes after the work too
-tells : (g : _) (c : After-collect_sized g) → map g.S.Store.told c.collect_sized.new.files ≡ map (λ size. Some size) c.sizes_told.new.sizes
+tells : (g : _) (c : After-collect_sized g) → map g.S.Store.told c.collect_sized.new.files ≡ map (λ size. Some size) c.ask_sizes.new.sizes
 tells g c =
-    same_told g.S.Store.bytes g.S.Store.told g.S.Store.name g.S.Store.faults c.sizes_told.new.files c.collect_sized.new.files c.collect_sized.ensures.files.each
+    same_told g.S.Store.bytes g.S.Store.told g.S.Store.name g.S.Store.faults c.ask_sizes.new.files c.collect_sized.new.files c.collect_sized.ensures.files.each
     ∙ c.in-Ok.ensures.told
 
 pub returns-clause-collected : goal.returns-clause-collected
 returns-clause-collected g c = λ all told.
     c.collect_sized.ensures.collected all
-    (same_bytes g.S.Store.bytes (λ file. Some (g.S.Store.handed file)) g.S.Store.name g.S.Store.faults c.args.files.now c.sizes_told.new.files c.in-Ok.ensures.files.each
+    (same_bytes g.S.Store.bytes (λ file. Some (g.S.Store.handed file)) g.S.Store.name g.S.Store.faults c.args.files.now c.ask_sizes.new.files c.in-Ok.ensures.files.each
     ∙ told)
 
 pub returns-clause-in_order : goal.returns-clause-in_order
 returns-clause-in_order g c = λ place file there untold.
     let at = (goal.at.returns-clause-in_order g c).After-collect_sized in
-    none_untold g.S.Store.told c.collect_sized.new.files c.sizes_told.new.sizes place file (tells g at) there untold
+    none_untold g.S.Store.told c.collect_sized.new.files c.ask_sizes.new.sizes place file (tells g at) there untold
 
 pub returns-clause-handed : goal.returns-clause-handed
 returns-clause-handed g c =
     let at = (goal.at.returns-clause-handed g c).After-collect_sized in
-    inr (c.sizes_told.new.sizes, tells g at, none_too_long c.sizes_told.new.sizes (sym c.is_one_too_long.ensures ∙ c.if-is_one_too_long.false))
+    inr (c.ask_sizes.new.sizes, tells g at, none_too_long c.ask_sizes.new.sizes (sym c.is_one_too_long.ensures ∙ c.if-is_one_too_long.false))
 
 pub returns-clause-files : goal.returns-clause-files
 returns-clause-files g c =
     asked_twice g.S.Store.bytes (λ file. Some (g.S.Store.handed file)) g.S.Store.told g.S.Store.name g.S.Store.faults
-    c.args.files.now c.sizes_told.new.files c.collect_sized.new.files (λ failed. inr failed) c.in-Ok.ensures.files c.collect_sized.ensures.files
-
-pub returns-clause-exact : goal.returns-clause-exact
-returns-clause-exact g c = λ all sizes its told.
-    c.in-Ok.ensures.exact all sizes its
-    (sym (same_told g.S.Store.bytes g.S.Store.told g.S.Store.name g.S.Store.faults c.sizes_told.new.files c.collect_sized.new.files c.collect_sized.ensures.files.each)
-    ∙ told)
+    c.args.files.now c.ask_sizes.new.files c.collect_sized.new.files (λ failed. inr failed) c.in-Ok.ensures.files c.collect_sized.ensures.files
