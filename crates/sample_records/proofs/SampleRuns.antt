@@ -5,7 +5,6 @@ use Rattle.record_io.specs.Puts.{Put, Made, Out, Notes, taken_by, GoOut, BreaksO
 use Rattle.record_io.proofs.Calls.{Takes-nothing}
 use Rattle.record_io.proofs.Puts.{GoOut-append, GoOut-made, GoOut-out, TakesFront-count, BreaksOff-front, BreaksOff-last, bytes_to-other}
 use Rattle.record_group.proofs.Signed.{end_of_chunk-signature, length-file_of-signed}
-use Rattle.run_answers.specs.declared.ending.Cut.{Cut}
 use Rattle.run_answers.specs.declared.status.Status.{Status}
 use Rattle.run_answers.specs.Endings.{status_of}
 use Rattle.run_answers.specs.Statuses.{fault_text}
@@ -14,9 +13,10 @@ use Rattle.run_answers.proofs.RunEnds.{Keeps, OfSizes-unread, PutsLines-none, wa
 use Rattle.run_answers.proofs.TwoStreams.{bytes_to-neither}
 use Rattle.sample_records.specs.declared.sample_words.SampleWords.{SampleWords}
 use Rattle.sample_records.specs.SampleCommand.{sampled, sample_file, sample_summary, sample_answer, sample_meaning, IsSampledSoFar}
-use Rattle.sample_records.specs.SampleEnds.{TakeSample}
+use Rattle.sample_records.specs.declared.sampling.SampleCut.{SampleCut}
+use Rattle.sample_records.specs.SampleEnds.{TakeSample, cut_of}
 use Rattle.sample_records.proofs.SummaryLines.{summary-some}
-use Rattle.run_answers.specs.declared.ending.Cut.TheVariants as cut
+use Rattle.sample_records.specs.declared.sampling.SampleCut.TheVariants as cut
 use Rattle.run_answers.specs.declared.status.Status.TheVariants as status
 
 module _ (words : SampleWords) (input : SeenStream) (files : List SeenFile) (made made_then : SeenStream) (grown : SeenFile) (out out_then notes notes_then : SeenStream)
@@ -98,9 +98,9 @@ module _ (words : SampleWords) (input : SeenStream) (files : List SeenFile) (mad
       (GoOut-made made.bytes made_then.bytes out.bytes notes.bytes (take count (sample_file words)) took)
 
   -- the work was cut off
-  pub sample-cut_off : (X : Type 0) (how : Cut) → TakeSample {X = X} (Err how) words made.bytes made_then.bytes out.bytes out_then.bytes
+  pub sample-cut_off : (X : Type 0) (how : SampleCut) → TakeSample {X = X} (Err how) words made.bytes made_then.bytes out.bytes out_then.bytes
       → (how ≡ cut.Made → Rose made.faults made_then.faults) → (how ≡ cut.Out → Rose out.faults out_then.faults)
-      → TakesThen notes notes_then [] (fault_text (status_of how)) → Ended (status_of how)
+      → TakesThen notes notes_then [] (fault_text (status_of (cut_of how))) → Ended (status_of (cut_of how))
   sample-cut_off X cut.Made took made_rose out_rose said =
       let count = TakesFront-count made.bytes made_then.bytes (sample_file words) took.0 in
       cut_off status.Made (front count.0) tt (broken count.0) (λ short. absurd short) (refl, made_rose refl)
@@ -120,4 +120,3 @@ module _ (words : SampleWords) (input : SeenStream) (files : List SeenFile) (mad
       (GoOut-made made.bytes made_then.bytes out.bytes notes.bytes (sample_file words) took.0)
       (GoOut-out made_then.bytes out.bytes out_then.bytes notes.bytes printed count.1))
       said
-  sample-cut_off X other took made_rose out_rose said = absurd took

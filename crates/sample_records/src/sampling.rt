@@ -1,9 +1,9 @@
-ghost use Rattle.std.specs.Prelude.{◌≡◌, ◌≤◌, ◌⊎◌, Err};
+ghost use Rattle.std.specs.Prelude.{◌≡◌, ◌≤◌, Err};
 ghost use Rattle.record_io.specs.Calls.{OnlyCounts};
 ghost use Rattle.record_writer.specs.Written.{AreInLimits};
 ghost use Rattle.run_answers.specs.Runs.{Runs, Seen, seen_stream};
 ghost use Rattle.sample_records.specs.SampleCommand.{sample_meaning};
-ghost use Rattle.sample_records.specs.SampleEnds.{TakeSample};
+ghost use Rattle.sample_records.specs.SampleEnds.{TakeSample, cut_of};
 ghost use Rattle.sample_records.specs.SampleWords.{most_records};
 
 use crate::sample_feed::SampleFeed;
@@ -13,6 +13,17 @@ use record_writer::{WriteEnd, write_records};
 use run_answers::{Cut, Status, cut_off, put_counts};
 use std::alloc::Global;
 use std::thread::Threads;
+
+/// What cuts off the making of a sample. Own.
+#[derive(Clone, Copy, Debug, PartialEq, Eq)]
+enum SampleCut {
+    /// The made file failed.
+    Made,
+    /// Standard output failed.
+    Out,
+    /// There was not enough memory.
+    Memory,
+}
 
 /// Writes the file of the records of a seed and then prints how many records and bytes it has, or says in notes why it ended
 /// before that: the made file or standard output failed, or memory was short.
@@ -34,7 +45,7 @@ pub fn sample<R: Threads + Sync, M: Sink + Send, O: Sink, E: Sink>(
 {
     match make_sample(rt, alloc, words, made, out) {
         Ok(()) => Status::Ok,
-        Err(cut) => cut_off(notes, cut),
+        Err(cut) => cut_off(notes, cut_of(cut)),
     }
 }
 
@@ -45,34 +56,35 @@ fn make_sample<R: Threads + Sync, M: Sink + Send, O: Sink>(
     words: &SampleWords,
     made: &mut M,
     out: &mut O,
-) -> Result<(), Cut>
+) -> Result<(), SampleCut>
     requires in_limits { AreInLimits words.now.options }
     requires most { words.now.count ≤ most_records }
     ensures taken { TakeSample result words.now (M.taken made.old) (M.taken made.new) (O.taken out.old) (O.taken out.new) }
-    ensures made { OnlyCounts M.lent M.faults (result ≡ Err Cut.Made) made.old made.new }
-    ensures out { OnlyCounts O.lent O.faults (result ≡ Err Cut.Out) out.old out.new }
+    ensures made { OnlyCounts M.lent M.faults (result ≡ Err SampleCut.Made) made.old made.new }
+    ensures out { OnlyCounts O.lent O.faults (result ≡ Err SampleCut.Out) out.old out.new }
 {
     let mut records = SampleFeed::new(words.seed, words.count);
     let totals = match write_records(rt, alloc, &words.options, &mut records, made) {
         Ok(totals) => totals,
-        Err(end) => return Err(cut_of(end)),
+        Err(WriteEnd::Made) => return Err(SampleCut::Made),
+        Err(WriteEnd::Memory) => return Err(SampleCut::Memory),
+        // The records come from no input, and no stop follows them.
+        Err(_) => unreachable!(),
     };
     let counts = [("records", totals.records), ("bytes", totals.bytes)];
     match put_counts(&counts, out) {
         Ok(()) => Ok(()),
-        Err(Failed) => Err(Cut::Out),
+        Err(Failed) => Err(SampleCut::Out),
     }
 }
 
-/// What cut off the writing of records that come from no input and end without a stop.
-fn cut_of(end: WriteEnd) -> Cut
-    requires sound { (end ≡ WriteEnd.Made) ⊎ (end ≡ WriteEnd.Memory) }
-    ensures made { end ≡ WriteEnd.Made → result ≡ Cut.Made }
-    ensures memory { end ≡ WriteEnd.Memory → result ≡ Cut.Memory }
+/// What cut off the command.
+fn cut_of(cut: SampleCut) -> Cut
+    ensures { result ≡ cut_of cut }
 {
-    match end {
-        WriteEnd::Made => Cut::Made,
-        WriteEnd::Memory => Cut::Memory,
-        _ => unreachable!(),
+    match cut {
+        SampleCut::Made => Cut::Made,
+        SampleCut::Out => Cut::Out,
+        SampleCut::Memory => Cut::Memory,
     }
 }
