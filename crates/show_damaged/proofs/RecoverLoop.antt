@@ -19,12 +19,13 @@ use Rattle.damage_skip.proofs.Takings.{up_to-none}
 use Rattle.damage_skip.proofs.WalkTakings.{by_walk-passed}
 use Rattle.damage_skip.specs.Walks.{piece_of, events_of, GoesOn, IsStoppedAt, IsStop, IsEventIn, event_text}
 use Rattle.show_damaged.proofs.RecoverSteps.{by_sink, given-front, given-so_far, given-whole, given-stopped, given-on, given-event, event-unprinted, event-untold, event-passed, event-said, event-unsaid, event-front, told-event, told-still, told-front, status-event}
-use Rattle.show_damaged.specs.RecoverProgress.{HasPositions, end_of_walk, event_lines, status_after, GivesEvent, IsGivenTo}
+use Rattle.show_damaged.specs.RecoverProgress.{HasPositions, end_of_sink, end_of_walk, event_lines, status_after, GivesEvent, IsGivenTo}
 use Rattle.show_damaged.specs.WalkAnswers.{walk_status}
 use Rattle.damage_skip.specs.declared.events.Event.{Event}
 use Rattle.damage_skip.specs.declared.events.WalkEnd.{WalkEnd}
 use Rattle.damage_skip.specs.declared.regions.Region.{Region}
 use Rattle.show_damaged.specs.declared.recover_words.RecoverWords.{RecoverWords}
+use Rattle.show_damaged.specs.declared.recovering.FailedSink.{FailedSink}
 use Rattle.run_answers.specs.declared.status.Status.{Status}
 use Rattle.run_answers.specs.declared.ending.Ending.{Ending}
 use Rattle.run_answers.specs.Answers.{Answer}
@@ -40,6 +41,7 @@ use Rattle.damage_skip.specs.declared.events.WalkEnd.TheVariants as walk
 use Rattle.run_answers.specs.declared.status.Status.TheVariants as status
 use Rattle.run_answers.specs.declared.ending.Cut.TheVariants as cut
 use Rattle.run_answers.specs.declared.ending.Ending.TheVariants as end
+use Rattle.show_damaged.specs.declared.recovering.FailedSink.TheVariants as sink
 
 -- nothing was given yet
 pub given-none : (words : RecoverWords) (bytes : Option (List ℕ)) (place : ℕ) (taken : Taken) (held : List ℕ)
@@ -133,48 +135,44 @@ step-told words l b c held held_then ended e then same (skipped, told, is) passe
 
 -- or it failed to be
 pub step-failed : (X : Type 0) (words : RecoverWords) (bytes : Option (List ℕ)) (place next : ℕ) (a b c : Taken) (held held_then : List ℕ) (ended : Status)
-    (e : Event) (why : Ending Region) (result : Result Status (Ending Region)) → IsErr result → IsErrAnd result (λ end. end ≡ why)
+    (e : Event) (failed : FailedSink) (result : Result Status (Ending Region)) → IsErr result → IsErrAnd result (λ end. end ≡ end_of_sink failed)
     → IfSome bytes (λ f. length f ≤ most_file_bytes)
     → IfSome bytes (λ f. IsGivenTo words f place a b held ended) → IfSome bytes (λ f. GoesOn false f place next (piece_of e ∷ []))
-    → MaySkipEach words.most (piece_of e ∷ []) → GivesEvent {X = X} (Err why) (event_lines words e) (event_text e) b c held held_then
+    → MaySkipEach words.most (piece_of e ∷ []) → GivesEvent {X = X} (Err failed) (event_lines words e) (event_text e) b c held held_then
     → held_then ≡ []
     → IfSome bytes (λ f. HasPutAtEnd walk_ends (IsRecovered words) result f a c held_then)
-step-failed X words None place next a b c held held_then ended e why result err is short h on passed gives none = tt
-step-failed X words (Some f) place next a b c held held_then ended e why (Ok x) err is short h on passed gives none = absurd (cc err)
-step-failed X words (Some f) place next a b c held held_then ended e why (Err result) err is short h on passed gives none =
+step-failed X words None place next a b c held held_then ended e failed result err is short h on passed gives none = tt
+step-failed X words (Some f) place next a b c held held_then ended e failed (Ok x) err is short h on passed gives none = absurd (cc err)
+step-failed X words (Some f) place next a b c held held_then ended e failed (Err result) err is short h on passed gives none =
     subst (λ (x : Ending Region). HasPutAtEnd walk_ends (IsRecovered words) (Err x) f a c held_then) (sym is)
-    (by_sink X (λ x. HasPutAtEnd walk_ends (IsRecovered words) (Err x) f a c held_then) why (event_lines words e) (event_text e) b c held held_then gives
-    (λ failed.
+    (by_sink X (λ x. HasPutAtEnd walk_ends (IsRecovered words) (Err x) f a c held_then) failed (event_lines words e) (event_text e) b c held held_then gives
+    (λ gave.
     some-answer (IsRecovered words) (recovered_exists words) (HasPutToCut cut.Out a c held_then) f
-    (event-unprinted X words f place next a b c held held_then ended e short h on passed failed none))
-    (λ failed.
+    (event-unprinted X words f place next a b c held held_then ended e short h on passed gave none))
+    (λ gave.
     some-answer (IsRecovered words) (recovered_exists words) (HasPutToCut cut.Notes a c held_then) f
-    (λ answer is. (none, event-untold X words f place next a b c held held_then ended e short h on passed failed answer is))))
+    (λ answer is. (none, event-untold X words f place next a b c held held_then ended e short h on passed gave answer is))))
 
 pub step-untold : (X : Type 0) (words : RecoverWords) (l : Option (List ℕ)) (b c : Taken) (held held_then : List ℕ) (ended : Status)
-    (e : Event) (why : Ending Region) (result : Result Status (Ending Region)) → IsErr result → IsErrAnd result (λ end. end ≡ why)
+    (e : Event) (failed : FailedSink) (result : Result Status (Ending Region)) → IsErr result → IsErrAnd result (λ end. end ≡ end_of_sink failed)
     → (skipped : List Region) × HasToldOf words.most l b.notes skipped × (ended ≡ walk_status skipped None)
-    → MaySkipEach words.most (piece_of e ∷ []) → GivesEvent {X = X} (Err why) (event_lines words e) (event_text e) b c held held_then
+    → MaySkipEach words.most (piece_of e ∷ []) → GivesEvent {X = X} (Err failed) (event_lines words e) (event_text e) b c held held_then
     → TellsOf words.most result l c.notes
-step-untold X words l b c held held_then ended e why (Ok x) err is told passed gives = absurd (cc err)
-step-untold X words l b c held held_then ended e why (Err result) err is (skipped, told, status) passed gives =
+step-untold X words l b c held held_then ended e failed (Ok x) err is told passed gives = absurd (cc err)
+step-untold X words l b c held held_then ended e failed (Err result) err is (skipped, told, status) passed gives =
     subst (λ (x : Ending Region). TellsOf words.most (Err x) l c.notes) (sym is)
-    (by_sink X (λ x. TellsOf words.most (Err x) l c.notes) why (event_lines words e) (event_text e) b c held held_then gives
-    (λ failed.
-    (skipped, told-still words.most l b.notes c.notes skipped told (event-unsaid b c (take failed.1 (held ++ event_lines words e)) failed.2)))
-    (λ failed.
-    told-front words.most l b.notes c.notes skipped e told passed failed.0 (event-front b c (held ++ event_lines words e) (event_text e) failed.1 failed.2)))
+    (by_sink X (λ x. TellsOf words.most (Err x) l c.notes) failed (event_lines words e) (event_text e) b c held held_then gives
+    (λ gave.
+    (skipped, told-still words.most l b.notes c.notes skipped told (event-unsaid b c (take gave.1 (held ++ event_lines words e)) gave.2)))
+    (λ gave.
+    told-front words.most l b.notes c.notes skipped e told passed gave.0 (event-front b c (held ++ event_lines words e) (event_text e) gave.1 gave.2)))
 
 -- which is by a sink
-pub step-by : (X : Type 0) (why : Ending Region) (result : Result Status (Ending Region)) → IsErr result → IsErrAnd result (λ end. end ≡ why)
-    → (lines text : List ℕ) (b c : Taken) (held held_then : List ℕ) → GivesEvent {X = X} (Err why) lines text b c held held_then
+pub step-by : (failed : FailedSink) (result : Result Status (Ending Region)) → IsErr result → IsErrAnd result (λ end. end ≡ end_of_sink failed)
     → (result ≡ Err (end.Cut cut.Out)) ⊎ (result ≡ Err (end.Cut cut.Notes))
-step-by X why (Ok x) err is lines text b c held held_then gives = absurd (cc err)
-step-by X why (Err result) err is lines text b c held held_then gives =
-    elim (by_sink X (λ x. (x ≡ end.Cut cut.Out) ⊎ (x ≡ end.Cut cut.Notes)) why lines text b c held held_then gives (λ _. inl refl) (λ _. inr refl)) [
-      | inl out ↦ inl (ap Err (is ∙ out))
-      | inr notes ↦ inr (ap Err (is ∙ notes))
-    ]
+step-by failed (Ok x) err is = absurd (cc err)
+step-by sink.Out (Err result) err is = inl (ap Err is)
+step-by sink.Notes (Err result) err is = inr (ap Err is)
 
 -- and not by what is read
 pub step-not_short : (result : Result Status (Ending Region)) → (result ≡ Err (end.Cut cut.Out)) ⊎ (result ≡ Err (end.Cut cut.Notes)) → ¬ IsErrAnd result IsShort

@@ -20,13 +20,14 @@ use Rattle.damage_skip.proofs.RegionsIn.{regions_in-append, each_append, skipped
 use Rattle.damage_skip.proofs.WalkedTo.{piece_at, walked-further, walked-on, rest_of, rest_from}
 use Rattle.show_damaged.proofs.RecoverStreams.{events_notes}
 use Rattle.show_damaged.proofs.WalkStatuses.{status-more, status-all, status-stopped}
-use Rattle.show_damaged.specs.RecoverProgress.{event_lines, status_after, GivesEvent, IsGivenTo}
+use Rattle.show_damaged.specs.RecoverProgress.{end_of_sink, event_lines, status_after, GivesEvent, IsGivenTo}
 use Rattle.show_damaged.specs.WalkAnswers.{walk_status}
 use Rattle.damage_skip.specs.declared.events.Event.{Event}
 use Rattle.damage_skip.specs.declared.regions.Region.{Region}
 use Rattle.damage_skip.proofs.Tiles.{goes_on_whole}
 use lib.Chars.{codes}
 use Rattle.show_damaged.specs.declared.recover_words.RecoverWords.{RecoverWords}
+use Rattle.show_damaged.specs.declared.recovering.FailedSink.{FailedSink}
 use Rattle.run_answers.specs.declared.status.Status.{Status}
 use Rattle.run_answers.specs.declared.ending.Ending.{Ending}
 use Rattle.run_answers.specs.Answers.{Answer}
@@ -44,6 +45,7 @@ use Rattle.damage_skip.specs.declared.events.Event.TheVariants as event
 use Rattle.run_answers.specs.declared.status.Status.TheVariants as status
 use Rattle.run_answers.specs.declared.ending.Cut.TheVariants as cut
 use Rattle.run_answers.specs.declared.ending.Ending.TheVariants as end
+use Rattle.show_damaged.specs.declared.recovering.FailedSink.TheVariants as sink
 
 -- what is put of events
 abbrev pub puts_of : RecoverWords → List Piece → List Put
@@ -212,7 +214,7 @@ gives-lines x words e made b c notes held held_then quiet h = record {
 }
 
 pub breaks-lines : (X : Type 0) (lines text : List ℕ) (made b c notes : Option (List ℕ)) (held held_then : List ℕ) → held ++ lines ≢ []
-    → TakesFront b c (held ++ lines) → GivesEvent {X = X} (Err (end.Cut cut.Out)) lines text (taken_by made b notes) (taken_by made c notes) held held_then
+    → TakesFront b c (held ++ lines) → GivesEvent {X = X} (Err sink.Out) lines text (taken_by made b notes) (taken_by made c notes) held held_then
 breaks-lines X lines text made b c notes held held_then some front =
     let count = TakesFront-count b c (held ++ lines) front in
     (some, count.0, GoOut-out made b c notes (take count.0 (held ++ lines)) count.1)
@@ -233,19 +235,18 @@ module _ (text : List ℕ) (made b c notes notes_then : Option (List ℕ)) (held
       (GoOutOrAreHeld-none (taken_by made b notes) (taken_by made c notes_then) Out (puts_to Out (held ++ []) ++ puts_to Notes text) (before-text text said))
 
   pub breaks-text : (X : Type 0) (held_then : List ℕ) → text ≢ [] → TakesFront notes notes_then text
-      → GivesEvent {X = X} (Err (end.Cut cut.Notes)) [] text (taken_by made b notes) (taken_by made c notes_then) held held_then
+      → GivesEvent {X = X} (Err sink.Notes) [] text (taken_by made b notes) (taken_by made c notes_then) held held_then
   breaks-text X held_then some front =
       let count = TakesFront-count notes notes_then text front in (some, count.0, before-text (take count.0 text) count.1)
 
--- an event fails by a sink that takes what it puts
-pub by_sink : (X : Type 0) (C : Ending Region → Type 0) (why : Ending Region) (lines text : List ℕ) (before after : Taken) (held held_then : List ℕ)
-    → GivesEvent {X = X} (Err why) lines text before after held held_then
-    → (GivesEvent {X = X} (Err (end.Cut cut.Out)) lines text before after held held_then → C (end.Cut cut.Out))
-    → (GivesEvent {X = X} (Err (end.Cut cut.Notes)) lines text before after held held_then → C (end.Cut cut.Notes))
-    → C why
-by_sink X C (end.Cut cut.Out) lines text before after held held_then gives out notes = out gives
-by_sink X C (end.Cut cut.Notes) lines text before after held held_then gives out notes = notes gives
-by_sink X C other lines text before after held held_then gives out notes = absurd gives
+-- what holds of both sinks that may fail holds of the one by which an event did
+pub by_sink : (X : Type 0) (C : Ending Region → Type 0) (failed : FailedSink) (lines text : List ℕ) (before after : Taken) (held held_then : List ℕ)
+    → GivesEvent {X = X} (Err failed) lines text before after held held_then
+    → (GivesEvent {X = X} (Err sink.Out) lines text before after held held_then → C (end.Cut cut.Out))
+    → (GivesEvent {X = X} (Err sink.Notes) lines text before after held held_then → C (end.Cut cut.Notes))
+    → C (end_of_sink failed)
+by_sink X C sink.Out lines text before after held held_then gives out notes = out gives
+by_sink X C sink.Notes lines text before after held held_then gives out notes = notes gives
 
 -- no event more
 pub given-on : (words : RecoverWords) (file : List ℕ) (place next : ℕ) (before after : Taken) (held : List ℕ) (ended : Status)
@@ -280,7 +281,7 @@ given-event words file place next a b c held held_then ended e x h on passed giv
 pub event-unprinted : (X : Type 0) (words : RecoverWords) (file : List ℕ) (place next : ℕ) (a b c : Taken) (held held_then : List ℕ) (ended : Status)
     (e : Event) → length file ≤ most_file_bytes → IsGivenTo words file place a b held ended → GoesOn false file place next (piece_of e ∷ [])
     → MaySkipEach words.most (piece_of e ∷ [])
-    → GivesEvent {X = X} (Err (end.Cut cut.Out)) (event_lines words e) (event_text e) b c held held_then → held_then ≡ []
+    → GivesEvent {X = X} (Err sink.Out) (event_lines words e) (event_text e) b c held held_then → held_then ≡ []
     → (answer : Answer) → OfFile (IsRecovered words) (file ∷ []) answer → HasBrokenOff Out a c held_then answer
 event-unprinted X words file place next a b c held held_then ended e short h on passed (some, count, gives) none answer is =
     let more = puts-front words file next (h.events ++ piece_of e ∷ []) answer short
@@ -314,7 +315,7 @@ event-unprinted X words file place next a b c held held_then ended e short h on 
 pub event-untold : (X : Type 0) (words : RecoverWords) (file : List ℕ) (place next : ℕ) (a b c : Taken) (held held_then : List ℕ) (ended : Status)
     (e : Event) → length file ≤ most_file_bytes → IsGivenTo words file place a b held ended → GoesOn false file place next (piece_of e ∷ [])
     → MaySkipEach words.most (piece_of e ∷ [])
-    → GivesEvent {X = X} (Err (end.Cut cut.Notes)) (event_lines words e) (event_text e) b c held held_then
+    → GivesEvent {X = X} (Err sink.Notes) (event_lines words e) (event_text e) b c held held_then
     → (answer : Answer) → OfFile (IsRecovered words) (file ∷ []) answer → FailedToSay a c answer
 event-untold X words file place next a b c held held_then ended e short h on passed (some, count, gives) answer is =
     let more = puts-front words file next (h.events ++ piece_of e ∷ []) answer short

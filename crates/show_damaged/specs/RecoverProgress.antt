@@ -10,6 +10,7 @@ use Rattle.show_damaged.specs.WalkAnswers.{walk_status}
 use Rattle.damage_skip.specs.declared.events.Event.{Event}
 use Rattle.damage_skip.specs.declared.events.WalkEnd.{WalkEnd}
 use Rattle.show_damaged.specs.declared.recover_words.RecoverWords.{RecoverWords}
+use Rattle.show_damaged.specs.declared.recovering.FailedSink.{FailedSink}
 use Rattle.run_answers.specs.declared.status.Status.{Status}
 use Rattle.damage_skip.specs.declared.regions.Region.{Region}
 use Rattle.run_answers.specs.declared.ending.Ending.{Ending}
@@ -20,6 +21,7 @@ use Rattle.damage_skip.specs.declared.events.WalkEnd.TheVariants as walk
 use Rattle.run_answers.specs.declared.status.Status.TheVariants as status
 use Rattle.run_answers.specs.declared.ending.Cut.TheVariants as cut
 use Rattle.run_answers.specs.declared.ending.Ending.TheVariants as end
+use Rattle.show_damaged.specs.declared.recovering.FailedSink.TheVariants as sink
 
 -- the positions of an event's records are below 2 ^ 64
 abbrev pub HasPositions : Event → Type 0
@@ -41,16 +43,20 @@ end_of_walk (walk.Stopped region) = end.At region
 end_of_walk walk.Store = end.Cut cut.File
 end_of_walk walk.Memory = end.Cut cut.Memory
 
+-- and by which a sink failed
+abbrev pub end_of_sink : FailedSink → Ending Region
+end_of_sink sink.Out = end.Cut cut.Out
+end_of_sink sink.Notes = end.Cut cut.Notes
+
 -- behind what is held an event puts its lines, and then its line, if it is a region: all of it went out, but for lines that are
 -- held; or a front did, up to bytes to the sink that failed
-abbrev pub GivesEvent : {X : Type 0} → Result X (Ending Region) → (lines text : List ℕ) → (before after : Taken) → (held held_then : List ℕ) → Type 0
+abbrev pub GivesEvent : {X : Type 0} → Result X FailedSink → (lines text : List ℕ) → (before after : Taken) → (held held_then : List ℕ) → Type 0
 GivesEvent (Ok _) lines text before after held held_then =
     GoOutOrAreHeld before after Out (puts_to Out (held ++ lines) ++ puts_to Notes text) held_then
-GivesEvent (Err (end.Cut cut.Out)) lines text before after held held_then =
+GivesEvent (Err sink.Out) lines text before after held held_then =
     (held ++ lines ≢ []) × (count : ℕ) × GoOut before after (puts_to Out (take count (held ++ lines)))
-GivesEvent (Err (end.Cut cut.Notes)) lines text before after held held_then =
+GivesEvent (Err sink.Notes) lines text before after held held_then =
     (text ≢ []) × (count : ℕ) × GoOut before after (puts_to Out (held ++ lines) ++ puts_to Notes (take count text))
-GivesEvent (Err other) lines text before after held held_then = ⊥
 
 -- all that events up to a place put went out, but for lines that are held
 pub record IsGivenTo (words : RecoverWords) (file : List ℕ) (place : ℕ) (before after : Taken) (held : List ℕ) (ended : Status) : Type 0 where

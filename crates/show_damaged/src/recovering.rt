@@ -23,6 +23,27 @@ use run_answers::{Cut, Ending, Status, size_of, unprinted};
 use show_files::{LINES, put_records};
 use std::alloc::Global;
 
+/// The sink that failed, which cut the work off.
+#[derive(Clone, Copy, Debug, PartialEq, Eq)]
+enum FailedSink {
+    Out,
+    Notes,
+}
+
+impl From<FailedSink> for Ending<Region> {
+    ghost use Rattle.std.specs.Prelude.{◌≡◌};
+    ghost use Rattle.show_damaged.specs.RecoverProgress.{end_of_sink};
+
+    ghost from_gives = { λ sink ending. ending ≡ end_of_sink sink };
+
+    fn from(sink: FailedSink) -> Ending<Region> {
+        match sink {
+            FailedSink::Out => Ending::Cut(Cut::Out),
+            FailedSink::Notes => Ending::Cut(Cut::Notes),
+        }
+    }
+}
+
 /// Prints the records of a file past its damage, and says in notes what is skipped and why it ended before the file did.
 pub fn recover<S: Store, O: Sink, E: Sink>(
     alloc: Global,
@@ -139,21 +160,21 @@ fn print_event<O: Sink, E: Sink>(
     lines: &mut PutBuffer<LINES>,
     out: &mut O,
     notes: &mut E,
-) -> Result<Status, Ending<Region>>
+) -> Result<Status, FailedSink>
     requires { HasPositions event }
     ensures status { IfOk result (λ ended. ended ≡ status_after status event) }
     ensures given { (made : Option (List ℕ)) → GivesEvent result (event_lines words.now event) (event_text event)
         (taken_by made (O.taken out.old) (E.taken notes.old)) (taken_by made (O.taken out.new) (E.taken notes.new)) lines.old lines.new }
     ensures emptied { OnErr result (lines.new ≡ []) }
     ensures quiet { event_text event ≡ [] → notes.new ≡ notes.old }
-    ensures out { OnlyCounts O.lent O.faults (result ≡ Err (Ending.Cut Cut.Out)) out.old out.new }
-    ensures notes { OnlyCounts E.lent E.faults (result ≡ Err (Ending.Cut Cut.Notes)) notes.old notes.new }
+    ensures out { OnlyCounts O.lent O.faults (result ≡ Err FailedSink.Out) out.old out.new }
+    ensures notes { OnlyCounts E.lent E.faults (result ≡ Err FailedSink.Notes) notes.old notes.new }
 {
     match event {
         Event::Records { begin, records, .. } => {
             match put_records(&words.show.form, begin, &records, lines, out) {
                 Ok(()) => Ok(status),
-                Err(Failed) => Err(Ending::Cut(Cut::Out)),
+                Err(Failed) => Err(FailedSink::Out),
             }
         }
         Event::Kept { .. } => Ok(status),
@@ -170,18 +191,18 @@ fn tell_region<O: Sink, E: Sink>(
     lines: &mut PutBuffer<LINES>,
     out: &mut O,
     notes: &mut E,
-) -> Result<(), Ending<Region>>
+) -> Result<(), FailedSink>
     ensures given { (made : Option (List ℕ)) → GivesEvent result [] (event_text (Event.Skipped region.now))
         (taken_by made (O.taken out.old) (E.taken notes.old)) (taken_by made (O.taken out.new) (E.taken notes.new)) lines.old lines.new }
     ensures emptied { lines.new ≡ [] }
-    ensures out { OnlyCounts O.lent O.faults (result ≡ Err (Ending.Cut Cut.Out)) out.old out.new }
-    ensures notes { OnlyCounts E.lent E.faults (result ≡ Err (Ending.Cut Cut.Notes)) notes.old notes.new }
+    ensures out { OnlyCounts O.lent O.faults (result ≡ Err FailedSink.Out) out.old out.new }
+    ensures notes { OnlyCounts E.lent E.faults (result ≡ Err FailedSink.Notes) notes.old notes.new }
 {
     if lines.flush(out).is_err() {
-        return Err(Ending::Cut(Cut::Out));
+        return Err(FailedSink::Out);
     }
     match region_line(notes, "skipped", region) {
         Ok(()) => Ok(()),
-        Err(Failed) => Err(Ending::Cut(Cut::Notes)),
+        Err(Failed) => Err(FailedSink::Notes),
     }
 }

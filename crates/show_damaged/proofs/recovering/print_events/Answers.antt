@@ -79,8 +79,7 @@ returns-in-Err-clause-allowed g c =
 
 pub returns-in_err-status-in-Ok-Some-clause-so_far : goal.returns-in_err-status-in-Ok-Some-clause-so_far
 returns-in_err-status-in-Ok-Some-clause-so_far g c = λ short.
-    absurd (step-not_short _ (step-by Status c.in_err-status-in-Ok-Some.field-0.0 c.from_residual.result c.from_residual.ensures.0 c.from_residual.ensures.1
-    _ _ _ _ _ _ (c.in_err-status-in-Ok-Some.ensures.given None)) short)
+    absurd (step-not_short _ (step-by c.in_err-status-in-Ok-Some.field-0.0 c.from_residual.result c.from_residual.ensures.0 c.from_residual.ensures.1) short)
 
 pub returns-in_err-status-in-Ok-Some-clause-printed : goal.returns-in_err-status-in-Ok-Some-clause-printed
 returns-in_err-status-in-Ok-Some-clause-printed g c = λ made.
@@ -125,8 +124,7 @@ returns-in_err-status-in-Ok-Some-clause-file g c =
       same_told = asked.same_told ∙ kept.same_told;
       same_name = asked.same_name ∙ kept.same_name;
       cause = λ is.
-          elim (step-by Status c.in_err-status-in-Ok-Some.field-0.0 c.from_residual.result c.from_residual.ensures.0 c.from_residual.ensures.1
-          _ _ _ _ _ _ (c.in_err-status-in-Ok-Some.ensures.given None)) [ inl out ↦ absurd (cc (sym out ∙ is)) | inr notes ↦ absurd (cc (sym notes ∙ is)) ];
+          elim (step-by c.in_err-status-in-Ok-Some.field-0.0 c.from_residual.result c.from_residual.ensures.0 c.from_residual.ensures.1) [ inl out ↦ absurd (cc (sym out ∙ is)) | inr notes ↦ absurd (cc (sym notes ∙ is)) ];
       never_falls = omega (arith, kept.never_falls, asked.never_falls);
       small = λ h. asked.small (kept.small h);
     }
