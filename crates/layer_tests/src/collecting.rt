@@ -1,8 +1,8 @@
 //! Records that passes put into one list, in turns and in threads.
-ghost use Rattle.std.specs.Prelude.{◌≡◌, ◌≤◌, ◌^◌, All, IfOk, length, vec_len};
+ghost use Rattle.std.specs.Prelude.{◌≡◌, All, IfOk, length, vec_len};
 ghost use Rattle.record_collect.specs.Passes.{BelongsTo};
 
-use record_collect::{Collector, Gathered, Numbers, Pass, PutEnd, Receipt, places};
+use record_collect::{Collector, Gathered, Numbers, Pass, Receipt};
 use simple_chunk::Records;
 use std::alloc::{AllocError, Global};
 use std::process::Abort;
@@ -10,18 +10,12 @@ use std::test::Fail;
 use std::thread;
 use std::thread::Threads;
 
-/// Puts a record, and asserts the answer.
-fn put(
-    rt: &impl Abort,
-    collector: &Collector,
-    pass: &mut Pass,
-    rec: &[u8],
-    answer: Result<Receipt, PutEnd>,
-)
+/// Puts a record, and asserts its receipt.
+fn put(rt: &impl Abort, collector: &Collector, pass: &mut Pass, rec: &[u8], at: u64)
     requires { BelongsTo collector.now pass.old }
     ensures { BelongsTo collector.now pass.new }
 {
-    assert_eq!(rt; collector.put(pass, rec), answer);
+    assert_eq!(rt; collector.put(pass, rec), Ok(Receipt { at }));
 }
 
 /// What a collector makes of its passes: each has a list of numbers.
@@ -55,9 +49,9 @@ fn gathered_in_turns(rt: &impl Abort, alloc: Global) -> Result<Gathered, AllocEr
     let (collector, mut passes) = Collector::new(alloc, 2)?;
     let mut second = passes.pop().expect(rt, "two passes");
     let mut first = passes.pop().expect(rt, "two passes");
-    put(rt, &collector, &mut first, b"a", Ok(Receipt { at: 0 }));
-    put(rt, &collector, &mut second, b"bc", Ok(Receipt { at: 9 }));
-    put(rt, &collector, &mut first, b"", Ok(Receipt { at: 19 }));
+    put(rt, &collector, &mut first, b"a", 0);
+    put(rt, &collector, &mut second, b"bc", 9);
+    put(rt, &collector, &mut first, b"", 19);
     assert_eq!(rt; first.ended(), None);
     assert_eq!(rt; second.ended(), None);
     let mut passes = Vec::with_capacity(alloc, 2)?;
@@ -72,88 +66,6 @@ fn records_stand_in_the_order_of_their_receipts(rt: HostRuntime) -> Result<(), F
     assert_records(&rt, gathered.records(), &["a", "bc", ""]);
     assert_numbers(&rt, gathered.numbers(0), &[0, 2]);
     assert_numbers(&rt, gathered.numbers(1), &[1]);
-    Ok(())
-}
-
-/// Asserts at which places the records stand in a file of chunks of this size.
-fn assert_places(
-    rt: &impl Abort,
-    alloc: Global,
-    gathered: &Gathered,
-    size: u64,
-    expected: &[u64],
-) -> Result<(), AllocError>
-    requires size { (1 ≤ size) × (size ≤ 2 ^ 24) }
-{
-    let places = places(alloc, gathered.records(), size)?;
-    assert_numbers(rt, &places, expected);
-    Ok(())
-}
-
-/// A chunk has a header of 40 bytes, a 0 byte, the size of the sizes in one, the sizes in one each, and the values: those of
-/// `a` and of `bc` alone have 44 and 45.
-#[test]
-fn places_are_those_of_one_chunk_or_of_a_chunk_each(rt: HostRuntime) -> Result<(), Fail> {
-    let alloc = rt.alloc();
-    let gathered = gathered_in_turns(&rt, alloc)?;
-    assert_places(&rt, alloc, &gathered, 1_048_576, &[64, 65, 66])?;
-    assert_places(&rt, alloc, &gathered, 9, &[64, 108, 153])?;
-    Ok(())
-}
-
-/// So many bytes.
-fn bytes(alloc: Global, count: usize) -> Result<Vec<u8>, AllocError> {
-    let mut bytes = Vec::new(alloc);
-    bytes.resize(count, 7)?;
-    Ok(bytes)
-}
-
-/// A record of 2^24 bytes costs 2^24 + 8: three do not pass 2^26, and four do.
-#[test]
-fn a_pass_ends_with_the_first_record_that_is_too_much(rt: HostRuntime) -> Result<(), Fail> {
-    let alloc = rt.alloc();
-    let long = bytes(alloc, 1 << 24)?;
-    let full = Err(PutEnd::Full { held: 50331672 });
-    let (collector, mut passes) = Collector::new(alloc, 1)?;
-    let mut pass = passes.pop().expect(&rt, "a pass");
-    put(&rt, &collector, &mut pass, &long, Ok(Receipt { at: 0 }));
-    put(
-        &rt,
-        &collector,
-        &mut pass,
-        &long,
-        Ok(Receipt { at: 16777224 }),
-    );
-    put(
-        &rt,
-        &collector,
-        &mut pass,
-        &long,
-        Ok(Receipt { at: 33554448 }),
-    );
-    put(&rt, &collector, &mut pass, &long, full);
-    put(&rt, &collector, &mut pass, b"x", full);
-    assert_eq!(rt; pass.ended(), Some(50331672));
-    let mut passes = Vec::with_capacity(alloc, 1)?;
-    passes.push_reserved(pass);
-    let gathered = finish(alloc, collector, passes)?;
-    assert_eq!(rt; gathered.records().len(), 3);
-    assert_numbers(&rt, gathered.numbers(0), &[0, 1, 2]);
-    Ok(())
-}
-
-#[test]
-fn a_record_that_is_too_long_is_not_taken(rt: HostRuntime) -> Result<(), Fail> {
-    let alloc = rt.alloc();
-    let long = bytes(alloc, (1 << 24) + 1)?;
-    let (collector, mut passes) = Collector::new(alloc, 1)?;
-    let mut pass = passes.pop().expect(&rt, "a pass");
-    put(&rt, &collector, &mut pass, &long, Err(PutEnd::TooLong));
-    let mut passes = Vec::with_capacity(alloc, 1)?;
-    passes.push_reserved(pass);
-    let gathered = finish(alloc, collector, passes)?;
-    assert_records(&rt, gathered.records(), &[]);
-    assert_numbers(&rt, gathered.numbers(0), &[]);
     Ok(())
 }
 

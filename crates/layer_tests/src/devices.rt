@@ -1,67 +1,20 @@
-//! Devices that are lent, over stand-ins, and real ones.
-ghost use Rattle.std.specs.Prelude.{◌≡◌, ℕ, ◌≤◌, ◌⊎◌, ◌++◌, Some, length, take, IfSome, IsSomeAnd, IsErr, OnOk, OnErr};
-ghost use Rattle.record_io.specs.Outside.{Rose};
-ghost use Rattle.record_io.specs.Calls.{PutsTo};
+//! Devices over stand-ins, and real ones.
+ghost use Rattle.std.specs.Prelude.{◌≤◌, length, IsSomeAnd};
 
 use crate::stand_ins::{Call, FOLDER, FakeFiles, REPLACED, Script};
-use record_append::{AsSink, AsStore, Device, FileDevice, MemDevice};
-use record_io::{Failed, Sink, get_exact, put_all};
-use std::alloc::{AllocError, Global};
+use record_append::{AsSink, AsStore, Device, FileDevice};
+use record_io::{Failed, get_exact, put_all};
 use std::fs::{self, OpenFile, OpenOptions};
 use std::test::Fail;
 
-/// Puts a piece to a sink that another thread may use.
-fn put_sent<M: Sink + Send>(sink: &mut M, piece: &[u8]) -> Result<(), Failed>
-    ensures sink { PutsTo M.taken M.lent M.faults result piece.now sink.old sink.new }
-{
-    put_all(sink, piece)
-}
-
-/// Reads the front of a device, cuts off what is behind it, and puts a piece there. The device is lent twice, and what
-/// became of it is told all the same.
-fn regrow<G: Device + Send>(device: &mut G, front: &mut [u8], piece: &[u8]) -> Result<(), Failed>
+/// Reads the front of a device, cuts off what is behind it, and puts a piece there.
+fn regrow<G: Device>(device: &mut G, front: &mut [u8], piece: &[u8]) -> Result<(), Failed>
     requires { IsSomeAnd (G.told device.old) (λ size. length front.old ≤ size) }
-    ensures grown { OnOk result (IfSome (G.bytes device.old) (λ file. G.bytes device.new ≡ Some (take (length front.old) file ++ piece.now))) }
-    ensures failed { OnErr result (IfSome (G.bytes device.old) (λ file. (G.bytes device.new ≡ Some file)
-        ⊎ ((n : ℕ) × (n ≤ length piece.now) × (G.bytes device.new ≡ Some (take (length front.old) file ++ take n piece.now))))) }
-    ensures cause { OnErr result (Rose (G.faults device.old) (G.faults device.new)) }
-    ensures never_falls { G.faults device.old ≤ G.faults device.new }
 {
     get_exact(&mut AsStore::new(device), 0, front)?;
     let at = front.len() as u64;
     device.cut(at)?;
-    put_sent(&mut AsSink::new(device, at), piece)
-}
-
-/// Eight bytes and room for one more, whose call with this number fails. Calls move 2 and 3 bytes by turns.
-fn failing_device(alloc: Global, number: u32) -> Result<MemDevice, AllocError> {
-    let bytes = b"abcdefgh".to_vec(alloc)?;
-    let cuts = [2, 3].to_vec(alloc)?;
-    MemDevice::new(alloc, bytes, 1, cuts, [number].to_vec(alloc)?)
-}
-
-/// The calls are those of the size, two of reading, one of cutting and two of putting.
-#[test]
-fn what_calls_that_fail_in_turn_leave_of_a_device(rt: HostRuntime) -> Result<(), Fail> {
-    for (number, left) in [
-        (0, "abcdefgh"),
-        (1, "abcdefgh"),
-        (2, "abcdefgh"),
-        (3, "abcdefgh"),
-        (4, "abcde"),
-        (5, "abcdewx"),
-        (6, "abcdewxyz"),
-    ] {
-        let mut device = failing_device(rt.alloc(), number)?;
-        let mut front = [0; 5];
-        let ended = match device.size() {
-            Ok(size) if size >= 5 => regrow(&mut device, &mut front, b"wxyz"),
-            _ => Err(Failed),
-        };
-        assert_eq!(rt; ended.is_ok(), number == 6, "{number}");
-        assert_eq!(rt; device.bytes(), left.as_bytes(), "{number}");
-    }
-    Ok(())
+    put_all(&mut AsSink::new(device, at), piece)
 }
 
 /// What a device answers that is asked for its size, cut and put to.

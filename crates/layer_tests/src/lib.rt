@@ -22,13 +22,9 @@ mod hashes;
 #[cfg(test)]
 mod layout;
 #[cfg(test)]
-mod order;
-#[cfg(test)]
 mod overlaps;
 #[cfg(test)]
 mod ranges;
-#[cfg(test)]
-mod resyncs;
 #[cfg(test)]
 mod stand_ins;
 #[cfg(test)]

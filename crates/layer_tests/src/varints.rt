@@ -1,32 +1,5 @@
-//! Numbers and their spellings, by each call.
-use varint_wire::{Feed, Step, VarintFault, len, read, write};
-
-#[test]
-fn the_shortest_spelling_is_written(rt: HostRuntime) {
-    let cases: [(u64, &[u8]); 12] = [
-        (0, &[0x00]),
-        (127, &[0x7f]),
-        (128, &[0x80, 0x01]),
-        (9709, &[0xed, 0x4b]),
-        (30000, &[0xb0, 0xea, 0x01]),
-        (65388, &[0xec, 0xfe, 0x03]),
-        (65421, &[0x8d, 0xff, 0x03]),
-        (65427, &[0x93, 0xff, 0x03]),
-        (65428, &[0x94, 0xff, 0x03]),
-        (70000, &[0xf0, 0xa2, 0x04]),
-        (16777216, &[0x80, 0x80, 0x80, 0x08]),
-        (
-            u64::MAX,
-            &[0xff, 0xff, 0xff, 0xff, 0xff, 0xff, 0xff, 0xff, 0xff, 0x01],
-        ),
-    ];
-    for (value, bytes) in cases {
-        let mut buf = [0xee; 10];
-        let length = write(value, &mut buf);
-        assert_eq!(rt; &buf[..length], bytes, "{value}");
-        assert_eq!(rt; len(value), bytes.len(), "{value}");
-    }
-}
+//! Spellings of numbers, read by each call.
+use varint_wire::{Feed, Step, VarintFault, read};
 
 /// What a new feed answers where `read` is given the bytes.
 fn read_by_feed(bytes: &[u8]) -> Result<(u64, usize), VarintFault> {
