@@ -28,9 +28,9 @@ use Rattle.show_files.specs.Readings.{refused_text}
 use Rattle.write_lines.specs.Input.{most_input_taken}
 use Rattle.write_lines.specs.WriteCommand.{stop_status, stop_text}
 use Rattle.riegeli_tool.specs.AppendCommand.{IsAppended, IsLeft, KeepsOld, MayBeLeft, append_meaning, grown_answer, grown_puts, grown_text, lines_taken}
-use Rattle.riegeli_tool.specs.AppendingEnds.{HasAppended, HasTold, IsSizedBy, IsStopped, IsTold, KeepsOldAtEnd, appending_ends, halt_status, halt_text}
-use Rattle.riegeli_tool.specs.declared.append.Halt.{Halt}
-use Rattle.riegeli_tool.specs.declared.append.Halt.TheVariants.{Refused, Stopped}
+use Rattle.riegeli_tool.specs.AppendingEnds.{HasAppended, HasTold, IsSizedBy, IsStopped, IsTold, KeepsOldAtEnd, appending_ends, unappended_status, unappended_text}
+use Rattle.riegeli_tool.specs.declared.append.Unappended.{Unappended}
+use Rattle.riegeli_tool.specs.declared.append.Unappended.TheVariants.{Refused, Stopped}
 use Rattle.riegeli_tool.specs.declared.append_words.AppendWords.{AppendWords}
 use Rattle.riegeli_tool.proofs.AppendAnswers.{appended-some, grown_exists}
 use Rattle.record_writer.specs.declared.feed.Stop.TheVariants as stop
@@ -253,14 +253,14 @@ module _ (words : AppendWords) (input input_then : SeenStream) (files : List See
         },
       ))
       (λ _ r read.
-      let (halt, unprinted) = known r read in
-      left-grown words (Lines r) r.grown grown_then.bytes (read_size (λ bytes. bytes ≤ most_file_bytes) size within exact r read) halt.2)
+      let (stops, unprinted) = known r read in
+      left-grown words (Lines r) r.grown grown_then.bytes (read_size (λ bytes. bytes ≤ most_file_bytes) size within exact r read) stops.2)
       (λ _ r read.
-      let (halt, unprinted) = known r read in
+      let (stops, unprinted) = known r read in
       left-in_part words (Lines r) r.grown grown_then.bytes
       (inr (
         read_size (λ bytes. bytes ≤ most_file_bytes) size within exact r read,
-        part-of-whole words.write.options words.cut r.grown (Lines r).records grown_then.bytes halt.2,
+        part-of-whole words.write.options words.cut r.grown (Lines r).records grown_then.bytes stops.2,
       )))
       (keeps-map (λ file held. (place : ℕ) × GrowsFrom words.cut file place held) (KeepsOld words.cut (stop_status (Some s))) size grown.bytes grown_then.bytes exact
       (λ file held is grows_from. then file held (subst (λ (k : ℕ). k ≤ most_file_bytes) is within) grows_from) keeps)
@@ -353,7 +353,7 @@ module _ (words : AppendWords) (input input_then : SeenStream) (files : List See
       (MatchOption-at_some _ (λ (file : List ℕ). IfSome input.bytes (λ bytes. P file (lines_taken words bytes))) r.grown (is.grown refl).0 holds)
 
   -- by how the work ended
-  by_end : {X : Type 0} (result : Result X (Ending Halt)) (ended : Status) → IsSizedBy result words.cut grown.bytes grown_then.told
+  by_end : {X : Type 0} (result : Result X (Ending Unappended)) (ended : Status) → IsSizedBy result words.cut grown.bytes grown_then.told
       → ((r : Read) → IsReadBy (append_meaning words) Before r
       → HasAppended result words (Lines r) r.grown grown_then.bytes out.bytes out_then.bytes)
       → Keeps (KeepsOldAtEnd result words.cut)
@@ -382,7 +382,7 @@ module _ (words : AppendWords) (input input_then : SeenStream) (files : List See
   by_end (Err (end.Cut other)) ended sized has keeps input_rose grown_rose out_rose read says = absurd sized
 
   -- of what the file and the input told
-  pub runs-append : {X : Type 0} (result : Result X (Ending Halt)) (ended : Status) → IsSizedBy result words.cut grown.bytes grown_then.told
+  pub runs-append : {X : Type 0} (result : Result X (Ending Unappended)) (ended : Status) → IsSizedBy result words.cut grown.bytes grown_then.told
       → IfSome grown.bytes (λ file. IfSome input.bytes (λ bytes.
       HasAppended result words (lines_taken words bytes) file grown_then.bytes out.bytes out_then.bytes))
       → Keeps (KeepsOldAtEnd result words.cut)

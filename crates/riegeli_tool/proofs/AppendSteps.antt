@@ -13,7 +13,7 @@ use Rattle.run_answers.specs.declared.ending.Ending.{Ending}
 use Rattle.write_lines.specs.WriteCommand.{stop_text}
 use Rattle.riegeli_tool.specs.AppendCommand.{appended_text, grown_text, lines_taken}
 use Rattle.riegeli_tool.specs.AppendingEnds.{HasAppended, HasTold, IsSizedBy, IsTold, IsUnsized, KeepsOldAtEnd, end_of_append}
-use Rattle.riegeli_tool.specs.declared.append.Halt.{Halt}
+use Rattle.riegeli_tool.specs.declared.append.Unappended.{Unappended}
 use Rattle.riegeli_tool.specs.declared.append_words.AppendWords.{AppendWords}
 use Rattle.record_append.specs.declared.appends.AppendEnd.TheVariants as append
 use Rattle.record_writer.specs.declared.feed.Stop.TheVariants as stop
@@ -31,7 +31,7 @@ if-kept (Some file) None P Q then keeps = keeps
 if-kept (Some file) (Some now) P Q then keeps = then file now keeps
 
 module _ (words : AppendWords) where
-  unsized_has : (e : Ending Halt) (told : Option ℕ) (bytes held input out : Option (List ℕ)) → IsUnsized e bytes told → held ≡ bytes
+  unsized_has : (e : Ending Unappended) (told : Option ℕ) (bytes held input out : Option (List ℕ)) → IsUnsized e bytes told → held ≡ bytes
       → IfBoth words bytes input (λ file rest. HasAppended {X = Unit {0}} (Err e) words rest file held out out)
   unsized_has e told None held input out is same = tt
   unsized_has e told (Some file) held None out is same = tt
@@ -39,42 +39,42 @@ module _ (words : AppendWords) where
       (subst (λ (n : ℕ). most_file_bytes < n) exact long, same, refl)
   unsized_has (end.Cut cut.Grown) told (Some file) held (Some given) out is same = (inl same, refl)
   unsized_has (end.Cut other) told (Some file) held (Some given) out is same = absurd is
-  unsized_has (end.At halt) told (Some file) held (Some given) out is same = absurd is
+  unsized_has (end.At stop) told (Some file) held (Some given) out is same = absurd is
 
-  unsized_keeps : (e : Ending Halt) (told : Option ℕ) (bytes held : Option (List ℕ)) → IsUnsized e bytes told → held ≡ bytes
+  unsized_keeps : (e : Ending Unappended) (told : Option ℕ) (bytes held : Option (List ℕ)) → IsUnsized e bytes told → held ≡ bytes
       → IfSome bytes (λ file. IsSomeAnd held (KeepsOldAtEnd {X = Unit {0}} (Err e) words.cut file))
   unsized_keeps e told None held is same = tt
   unsized_keeps e told (Some file) None is same = cc same
   unsized_keeps end.Limit told (Some file) (Some now) is same = cc same
   unsized_keeps (end.Cut cut.Grown) told (Some file) (Some now) is same = inl (cc same)
   unsized_keeps (end.Cut other) told (Some file) (Some now) is same = absurd is
-  unsized_keeps (end.At halt) told (Some file) (Some now) is same = absurd is
+  unsized_keeps (end.At stop) told (Some file) (Some now) is same = absurd is
 
-  unsized_told : (e : Ending Halt) (told : Option ℕ) (bytes : Option (List ℕ)) → IsUnsized e bytes told → IsSizedBy {X = Unit {0}} (Err e) words.cut bytes told
+  unsized_told : (e : Ending Unappended) (told : Option ℕ) (bytes : Option (List ℕ)) → IsUnsized e bytes told → IsSizedBy {X = Unit {0}} (Err e) words.cut bytes told
   unsized_told end.Limit told bytes is = is
   unsized_told (end.Cut cut.Grown) told bytes is = tt
   unsized_told (end.Cut other) told bytes is = absurd is
-  unsized_told (end.At halt) told bytes is = absurd is
+  unsized_told (end.At stop) told bytes is = absurd is
 
   -- the same of an answer that is known
-  pub unsized-appended : (result : Result (Unit {0}) (Ending Halt)) (e : Ending Halt) (told : Option ℕ) (bytes held input out : Option (List ℕ))
+  pub unsized-appended : (result : Result (Unit {0}) (Ending Unappended)) (e : Ending Unappended) (told : Option ℕ) (bytes held input out : Option (List ℕ))
       → result ≡ Err e → IsUnsized e bytes told → held ≡ bytes
       → IfBoth words bytes input (λ file rest. HasAppended result words rest file held out out)
   unsized-appended result e told bytes held input out is unsized same =
-      subst (λ (r : Result (Unit {0}) (Ending Halt)). IfBoth words bytes input (λ file rest. HasAppended r words rest file held out out)) (sym is)
+      subst (λ (r : Result (Unit {0}) (Ending Unappended)). IfBoth words bytes input (λ file rest. HasAppended r words rest file held out out)) (sym is)
       (unsized_has e told bytes held input out unsized same)
 
-  pub unsized-kept : (result : Result (Unit {0}) (Ending Halt)) (e : Ending Halt) (told : Option ℕ) (bytes held : Option (List ℕ))
+  pub unsized-kept : (result : Result (Unit {0}) (Ending Unappended)) (e : Ending Unappended) (told : Option ℕ) (bytes held : Option (List ℕ))
       → result ≡ Err e → IsUnsized e bytes told → held ≡ bytes
       → IfSome bytes (λ file. IsSomeAnd held (KeepsOldAtEnd result words.cut file))
   unsized-kept result e told bytes held is unsized same =
-      subst (λ (r : Result (Unit {0}) (Ending Halt)). IfSome bytes (λ file. IsSomeAnd held (KeepsOldAtEnd r words.cut file))) (sym is)
+      subst (λ (r : Result (Unit {0}) (Ending Unappended)). IfSome bytes (λ file. IsSomeAnd held (KeepsOldAtEnd r words.cut file))) (sym is)
       (unsized_keeps e told bytes held unsized same)
 
-  pub unsized-sized : (result : Result (Unit {0}) (Ending Halt)) (e : Ending Halt) (told : Option ℕ) (bytes : Option (List ℕ))
+  pub unsized-sized : (result : Result (Unit {0}) (Ending Unappended)) (e : Ending Unappended) (told : Option ℕ) (bytes : Option (List ℕ))
       → result ≡ Err e → IsUnsized e bytes told → IsSizedBy result words.cut bytes told
   unsized-sized result e told bytes is unsized =
-      subst (λ (r : Result (Unit {0}) (Ending Halt)). IsSizedBy r words.cut bytes told) (sym is) (unsized_told e told bytes unsized)
+      subst (λ (r : Result (Unit {0}) (Ending Unappended)). IsSizedBy r words.cut bytes told) (sym is) (unsized_told e told bytes unsized)
 
   -- records were not put to the end of their feed
   cut_by : (rest : Rest) (file : List ℕ) (held : Option (List ℕ)) → length file ≤ most_file_bytes
@@ -118,7 +118,7 @@ module _ (words : AppendWords) where
   sized_by append.Memory size bytes told within exact refused = (size, within, exact)
 
   -- the same of what the device and the feed told
-  pub ended-appended : (e : AppendEnd) (why : Ending Halt) (size : ℕ) (bytes mid held input out : Option (List ℕ)) (rests : Option Rest)
+  pub ended-appended : (e : AppendEnd) (why : Ending Unappended) (size : ℕ) (bytes mid held input out : Option (List ℕ)) (rests : Option Rest)
       → why ≡ end_of_append e → mid ≡ bytes → rests ≡ option_map (lines_taken words) input
       → size ≤ most_file_bytes → IfSome bytes (λ file. size ≡ length file)
       → ((fault : Fault) → e ≡ append.Refused fault → IfSome mid (λ file. IsRefusedToGrow words.cut file fault))
@@ -128,26 +128,26 @@ module _ (words : AppendWords) where
   ended-appended e why size (Some file) mid held None out rests is same given within exact refused holds = tt
   ended-appended e why size (Some file) mid held (Some taken) out rests is same given within exact refused holds =
       let rest : Rest = lines_taken words taken in
-      subst (λ (w : Ending Halt). HasAppended {X = Unit {0}} (Err w) words rest file held out out) (sym is)
+      subst (λ (w : Ending Unappended). HasAppended {X = Unit {0}} (Err w) words rest file held out out) (sym is)
       (ended_by e rest file held out (subst (λ (n : ℕ). n ≤ most_file_bytes) exact within)
       (λ fault its. MatchOption-at_some _ (λ (f : List ℕ). IsRefusedToGrow words.cut f fault) file same (refused fault its))
       (MatchOption-at_some _ (λ (r : Rest). AnswersGrown (Err e) words.write.options words.cut file r held) rest given
       (MatchOption-at_some _ (λ (f : List ℕ). IfSome rests (λ r. AnswersGrown (Err e) words.write.options words.cut f r held)) file same holds)))
 
-  pub ended-kept : (e : AppendEnd) (why : Ending Halt) (bytes mid held : Option (List ℕ)) → why ≡ end_of_append e → mid ≡ bytes
+  pub ended-kept : (e : AppendEnd) (why : Ending Unappended) (bytes mid held : Option (List ℕ)) → why ≡ end_of_append e → mid ≡ bytes
       → IfSome mid (λ file. IsSomeAnd held (λ now. KeepsBy (Err e) words.cut file now))
       → IfSome bytes (λ file. IsSomeAnd held (λ now. KeepsOldAtEnd {X = Unit {0}} (Err why) words.cut file now))
   ended-kept e why bytes mid held is same keeps =
       subst (λ (b : Option (List ℕ)). IfSome b (λ file. IsSomeAnd held (λ now. KeepsOldAtEnd {X = Unit {0}} (Err why) words.cut file now))) same
-      (subst (λ (w : Ending Halt). IfSome mid (λ file. IsSomeAnd held (λ now. KeepsOldAtEnd {X = Unit {0}} (Err w) words.cut file now))) (sym is)
+      (subst (λ (w : Ending Unappended). IfSome mid (λ file. IsSomeAnd held (λ now. KeepsOldAtEnd {X = Unit {0}} (Err w) words.cut file now))) (sym is)
       (if-kept mid held (KeepsBy (Err e) words.cut) (KeepsOldAtEnd {X = Unit {0}} (Err (end_of_append e)) words.cut) (kept_by e) keeps))
 
-  pub ended-sized : (e : AppendEnd) (why : Ending Halt) (size : ℕ) (bytes : Option (List ℕ)) (told : Option ℕ) → why ≡ end_of_append e
+  pub ended-sized : (e : AppendEnd) (why : Ending Unappended) (size : ℕ) (bytes : Option (List ℕ)) (told : Option ℕ) → why ≡ end_of_append e
       → size ≤ most_file_bytes → IfSome bytes (λ file. size ≡ length file)
       → ((fault : Fault) → e ≡ append.Refused fault → (told ≡ Some size) × (0 < size) × RefusesFor words.cut fault.why)
       → IsSizedBy {X = Unit {0}} (Err why) words.cut bytes told
   ended-sized e why size bytes told is within exact refused =
-      subst (λ (w : Ending Halt). IsSizedBy {X = Unit {0}} (Err w) words.cut bytes told) (sym is) (sized_by e size bytes told within exact refused)
+      subst (λ (w : Ending Unappended). IsSizedBy {X = Unit {0}} (Err w) words.cut bytes told) (sym is) (sized_by e size bytes told within exact refused)
 
 -- all that is told of a file that was grown
 told_all : (words : AppendWords) (file : List ℕ) (added : List (List ℕ)) (told : Appended) → Tells words.write.options file added told

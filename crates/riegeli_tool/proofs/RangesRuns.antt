@@ -20,12 +20,12 @@ use Rattle.run_answers.proofs.ManyFiles.{bytes_of, told_by}
 use Rattle.show_files.specs.Readings.{refused_text}
 use Rattle.riegeli_tool.specs.RangesCommand.{AreOneFile, AreWithin, Differ, IsOnePast, IsRangesAnswer, IsTextOfFile, MayBeRead, MayEndRanges, differ_text, ranges_meaning}
 use Rattle.riegeli_tool.specs.RangesEnds.{AreSized, IsPrinted, PrintsFile, range_ends}
-use Rattle.riegeli_tool.specs.declared.range_ends.Halt.{Halt}
+use Rattle.riegeli_tool.specs.declared.range_ends.Unread.{Unread}
 use Rattle.riegeli_tool.proofs.RangesAnswers.{first_of_all, printed, ranges_exists}
 use Rattle.run_answers.specs.declared.ending.Cut.TheVariants as cut
 use Rattle.run_answers.specs.declared.ending.Ending.TheVariants as end
 use Rattle.run_answers.specs.declared.status.Status.TheVariants as status
-use Rattle.riegeli_tool.specs.declared.range_ends.Halt.TheVariants as halt
+use Rattle.riegeli_tool.specs.declared.range_ends.Unread.TheVariants as unread
 
 module _ (input made : SeenStream) (files files_then : List SeenFile) (grown : SeenFile) (out out_then notes notes_then : SeenStream)
     (keeps : Keeps ranges_meaning (seen input files made grown out notes) (seen input files_then made grown out_then notes_then))
@@ -198,7 +198,7 @@ module _ (input made : SeenStream) (files files_then : List SeenFile) (grown : S
       (refl, rose) says
 
   -- by how the work ended
-  pub runs-ranges : {X : Type 0} (result : Result X (Ending Halt)) (ended : Status) → AreSized result (told_by files_then)
+  pub runs-ranges : {X : Type 0} (result : Result X (Ending Unread)) (ended : Status) → AreSized result (told_by files_then)
       → OfFile (λ file. PrintsFile result file out.bytes out_then.bytes)
       → IsPrinted result out.bytes out_then.bytes
       → SaysEnd range_ends result ended notes notes_then
@@ -207,8 +207,8 @@ module _ (input made : SeenStream) (files files_then : List SeenFile) (grown : S
       → Ended ended
   runs-ranges (Ok x) ended sized took none says file_rose out_rose = subst Ended (sym says.0) (done sized took says.1)
   runs-ranges (Err end.Limit) ended sized took none says file_rose out_rose = too_long ended sized none says
-  runs-ranges (Err (end.At (halt.Refused fault))) ended sized took none says file_rose out_rose = refused ended fault sized none took says
-  runs-ranges (Err (end.At (halt.Differ first other))) ended sized took none says file_rose out_rose = differ ended first other sized none says
+  runs-ranges (Err (end.At (unread.Refused fault))) ended sized took none says file_rose out_rose = refused ended fault sized none took says
+  runs-ranges (Err (end.At (unread.Differ first other))) ended sized took none says file_rose out_rose = differ ended first other sized none says
   runs-ranges (Err (end.Cut cut.File)) ended sized took none says file_rose out_rose =
       subst Ended (sym says.0)
       (cut_at_once status.File tt (λ puts. (puts, refl)) (λ other. absurd (other refl)) none (refl, file_rose refl) says.1)

@@ -9,8 +9,8 @@ use Rattle.run_answers.specs.declared.ending.Cut.TheVariants as cut
 use Rattle.run_answers.specs.declared.ending.Ending.TheVariants as end
 use Rattle.riegeli_tool.specs.RangesCommand.{AreAlike, AreWithin, Differ, IsOnePast, MayBeRead, most_range_bytes}
 use Rattle.riegeli_tool.specs.RangesEnds.{IsSizeBy, IsSizeTold}
-use Rattle.riegeli_tool.specs.declared.range_ends.Halt.{Halt}
-use Rattle.riegeli_tool.specs.declared.range_ends.Halt.TheVariants as halt
+use Rattle.riegeli_tool.specs.declared.range_ends.Unread.{Unread}
+use Rattle.riegeli_tool.specs.declared.range_ends.Unread.TheVariants as unread
 
 -- one size is past the limit, or none is
 pub one_past : (sizes : List ℕ) → list_any (λ size. nat_lt most_range_bytes size) sizes ≡ true → IsOnePast sizes
@@ -94,7 +94,7 @@ sizes_judged (first ∷ sizes) some = elim (cases_Bool (list_any (λ size. nat_l
   of_others within (Some other) is = inr (inl (within, first, other, (refl, is)))
 
 -- what stores told from which a size was had, or why none was
-pub told-by : (told : List (Option ℕ)) (sizes : List ℕ) (result : Result ℕ (Ending Halt)) → told ≡ map Some sizes → IsSizeBy result sizes → IsSizeTold result told
+pub told-by : (told : List (Option ℕ)) (sizes : List ℕ) (result : Result ℕ (Ending Unread)) → told ≡ map Some sizes → IsSizeBy result sizes → IsSizeTold result told
 told-by told sizes (Ok size) tells by = (sizes, tells, by)
 told-by told sizes (Err end.Limit) tells by = (sizes, tells, by)
 told-by told sizes (Err (end.At why)) tells by = (sizes, tells, by)
@@ -102,8 +102,8 @@ told-by told sizes (Err (end.Cut cut.File)) tells by = tt
 told-by told sizes (Err (end.Cut other)) tells by = absurd by
 
 -- no store is said to have failed where sizes were had
-pub by-no_fault : (sizes : List ℕ) (result : Result ℕ (Ending Halt)) → IsSizeBy result sizes → result ≡ Err (end.Cut cut.File) → ⊥
-by-no_fault sizes result by is = subst (λ (r : Result ℕ (Ending Halt)). IsSizeBy r sizes) is by
+pub by-no_fault : (sizes : List ℕ) (result : Result ℕ (Ending Unread)) → IsSizeBy result sizes → result ≡ Err (end.Cut cut.File) → ⊥
+by-no_fault sizes result by is = subst (λ (r : Result ℕ (Ending Unread)). IsSizeBy r sizes) is by
 
 -- the first of sizes within the limit
 pub within_first : (sizes : List ℕ) (d : ℕ) → 0 < length sizes → AreWithin sizes → get_or sizes 0 d ≤ most_range_bytes

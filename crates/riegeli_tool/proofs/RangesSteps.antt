@@ -8,11 +8,11 @@ use Rattle.chunk_reader.specs.declared.reasons.Fault.{Fault}
 use Rattle.chunk_reader.specs.declared.reasons.ReadEnd.{ReadEnd}
 use Rattle.run_answers.specs.declared.ending.Ending.{Ending}
 use Rattle.riegeli_tool.specs.RangesEnds.{AreReady, AreSized, IsPrinted, IsReadIn, IsSizeTold, PrintsFile, end_of_read}
-use Rattle.riegeli_tool.specs.declared.range_ends.Halt.{Halt}
+use Rattle.riegeli_tool.specs.declared.range_ends.Unread.{Unread}
 use Rattle.chunk_reader.specs.declared.reasons.ReadEnd.TheVariants as read
 use Rattle.run_answers.specs.declared.ending.Cut.TheVariants as cut
 use Rattle.run_answers.specs.declared.ending.Ending.TheVariants as end
-use Rattle.riegeli_tool.specs.declared.range_ends.Halt.TheVariants as halt
+use Rattle.riegeli_tool.specs.declared.range_ends.Unread.TheVariants as unread
 
 -- the end that is handed on
 pub same_end : {X W : Type 0} (result : Result X W) (e : W) → IsErrAnd result (λ made. made ≡ e) → result ≡ Err e
@@ -33,36 +33,36 @@ still_one bytes (a ∷ before) (b ∷ after) file same one =
     (first ∙ one.0, still_one bytes before after file others one.1)
 
 -- the work ended as no size was told
-module _ {X : Type 0} (result : Result X (Ending Halt)) (e : Ending Halt) (is : result ≡ Err e) (told : List (Option ℕ)) (h : IsSizeTold (Err e) told) where
+module _ {X : Type 0} (result : Result X (Ending Unread)) (e : Ending Unread) (is : result ≡ Err e) (told : List (Option ℕ)) (h : IsSizeTold (Err e) told) where
   pub unsized-sized : AreSized result told
-  unsized-sized = subst (λ (r : Result X (Ending Halt)). AreSized r told) (sym is) (by_end e h) where
-    by_end : (e : Ending Halt) → IsSizeTold (Err e) told → AreSized {X = X} (Err e) told
+  unsized-sized = subst (λ (r : Result X (Ending Unread)). AreSized r told) (sym is) (by_end e h) where
+    by_end : (e : Ending Unread) → IsSizeTold (Err e) told → AreSized {X = X} (Err e) told
     by_end end.Limit h = h
-    by_end (end.At (halt.Refused fault)) h = absurd h.2
-    by_end (end.At (halt.Differ first other)) h = h
+    by_end (end.At (unread.Refused fault)) h = absurd h.2
+    by_end (end.At (unread.Differ first other)) h = h
     by_end (end.Cut cut.File) h = tt
     by_end (end.Cut other) h = absurd h.2
 
   pub unsized-file : (file : List ℕ) (out : Option (List ℕ)) → PrintsFile result file out out
-  unsized-file file out = subst (λ (r : Result X (Ending Halt)). PrintsFile r file out out) (sym is) (by_end e h) where
-    by_end : (e : Ending Halt) → IsSizeTold (Err e) told → PrintsFile {X = X} (Err e) file out out
+  unsized-file file out = subst (λ (r : Result X (Ending Unread)). PrintsFile r file out out) (sym is) (by_end e h) where
+    by_end : (e : Ending Unread) → IsSizeTold (Err e) told → PrintsFile {X = X} (Err e) file out out
     by_end end.Limit h = tt
-    by_end (end.At (halt.Refused fault)) h = absurd h.2
-    by_end (end.At (halt.Differ first other)) h = tt
+    by_end (end.At (unread.Refused fault)) h = absurd h.2
+    by_end (end.At (unread.Differ first other)) h = tt
     by_end (end.Cut cut.File) h = tt
     by_end (end.Cut other) h = absurd h.2
 
   pub unsized-printed : (out : Option (List ℕ)) → IsPrinted result out out
-  unsized-printed out = subst (λ (r : Result X (Ending Halt)). IsPrinted r out out) (sym is) (by_end e h) where
-    by_end : (e : Ending Halt) → IsSizeTold (Err e) told → IsPrinted {X = X} (Err e) out out
+  unsized-printed out = subst (λ (r : Result X (Ending Unread)). IsPrinted r out out) (sym is) (by_end e h) where
+    by_end : (e : Ending Unread) → IsSizeTold (Err e) told → IsPrinted {X = X} (Err e) out out
     by_end end.Limit h = refl
     by_end (end.At why) h = refl
     by_end (end.Cut cut.File) h = refl
     by_end (end.Cut other) h = absurd h.2
 
 -- it ended as the file was not read
-module _ {X : Type 0} (result : Result X (Ending Halt)) (e : Ending Halt) (is : result ≡ Err e) (why : ReadEnd) (ended : e ≡ end_of_read why) where
-  by_read : (P : Result X (Ending Halt) → Type 0) → P (Err (end_of_read why)) → P result
+module _ {X : Type 0} (result : Result X (Ending Unread)) (e : Ending Unread) (is : result ≡ Err e) (why : ReadEnd) (ended : e ≡ end_of_read why) where
+  by_read : (P : Result X (Ending Unread) → Type 0) → P (Err (end_of_read why)) → P result
   by_read P h = subst P (sym (is ∙ ap Err ended)) h
 
   pub unread-sized : (told : List (Option ℕ)) → AreReady told → AreSized result told
@@ -73,7 +73,7 @@ module _ {X : Type 0} (result : Result X (Ending Halt)) (e : Ending Halt) (is : 
     by_end read.Memory = ready
 
   pub unread-file : (file : List ℕ) (out : Option (List ℕ)) → IsReadIn (Err e) file → PrintsFile result file out out
-  unread-file file out h = by_read (λ r. PrintsFile r file out out) (by_end why (subst (λ (x : Ending Halt). IsReadIn (Err x) file) ended h)) where
+  unread-file file out h = by_read (λ r. PrintsFile r file out out) (by_end why (subst (λ (x : Ending Unread). IsReadIn (Err x) file) ended h)) where
     by_end : (why : ReadEnd) → IsReadIn (Err (end_of_read why)) file → PrintsFile {X = X} (Err (end_of_read why)) file out out
     by_end (read.Refused fault) h = h
     by_end read.Store h = tt
@@ -87,16 +87,16 @@ module _ {X : Type 0} (result : Result X (Ending Halt)) (e : Ending Halt) (is : 
     by_end read.Memory = refl
 
 -- what is known of a file that was not read
-pub read-ended : (e : ReadEnd) (why : Ending Halt) (file : List ℕ) → why ≡ end_of_read e → ((fault : Fault) → e ≡ read.Refused fault → IsFault false file fault)
+pub read-ended : (e : ReadEnd) (why : Ending Unread) (file : List ℕ) → why ≡ end_of_read e → ((fault : Fault) → e ≡ read.Refused fault → IsFault false file fault)
     → IsReadIn (Err why) file
-read-ended e why file is refused = subst (λ (w : Ending Halt). IsReadIn (Err w) file) (sym is) (by_end e refused) where
+read-ended e why file is refused = subst (λ (w : Ending Unread). IsReadIn (Err w) file) (sym is) (by_end e refused) where
   by_end : (e : ReadEnd) → ((fault : Fault) → e ≡ read.Refused fault → IsFault false file fault) → IsReadIn (Err (end_of_read e)) file
   by_end (read.Refused fault) refused = refused fault refl
   by_end read.Store refused = tt
   by_end read.Memory refused = tt
 
 -- a store failed where that is told
-pub store_failed : (e : ReadEnd) (why : Ending Halt) → why ≡ end_of_read e → why ≡ end.Cut cut.File → e ≡ read.Store
+pub store_failed : (e : ReadEnd) (why : Ending Unread) → why ≡ end_of_read e → why ≡ end.Cut cut.File → e ≡ read.Store
 store_failed (read.Refused fault) why is failed = absurd (cc (sym is ∙ failed))
 store_failed read.Store why is failed = refl
 store_failed read.Memory why is failed = absurd (cc (sym is ∙ failed))

@@ -13,7 +13,7 @@ use Rattle.run_answers.specs.Runs.{SeenStream, SeenFile, seen, seen_file, Runs}
 use Rattle.run_answers.proofs.ManyFiles.{bytes_of, keeps-files, one_rose, told_by}
 use Rattle.riegeli_tool.specs.RangesCommand.{AreAlike, ranges_meaning}
 use Rattle.riegeli_tool.specs.RangesEnds.{AreReady, AreSized, IsPrinted, PrintsFile, range_ends}
-use Rattle.riegeli_tool.specs.declared.range_ends.Halt.{Halt}
+use Rattle.riegeli_tool.specs.declared.range_ends.Unread.{Unread}
 use Rattle.riegeli_tool.proofs.RangesRuns.{runs-ranges}
 use Rattle.run_answers.specs.declared.ending.Cut.TheVariants as cut
 use Rattle.run_answers.specs.declared.ending.Ending.TheVariants as end
@@ -63,7 +63,7 @@ module _ {S L : Type 0} (bytes : S → Option (List ℕ)) (told : S → Option �
   abbrev Show : S → SeenFile
   Show = seen_file bytes told handed faults
 
-  pub runs-read : {X : Type 0} (input made : SeenStream) (grown : SeenFile) (out out_then notes notes_then : SeenStream) (result : Result X (Ending Halt)) (ended : Status)
+  pub runs-read : {X : Type 0} (input made : SeenStream) (grown : SeenFile) (out out_then notes notes_then : SeenStream) (result : Result X (Ending Unread)) (ended : Status)
       → 0 < length files
       → ((all : List (List ℕ)) (sizes : List ℕ) → map bytes files ≡ map Some all → map told files_then ≡ map Some sizes → sizes ≡ map length all)
       → AreOnlyAsked bytes (λ s. None) name faults (result ≡ Err (end.Cut cut.File)) files files_then

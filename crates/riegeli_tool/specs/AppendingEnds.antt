@@ -13,8 +13,8 @@ use Rattle.run_answers.specs.declared.status.Status.{Status}
 use Rattle.show_files.specs.Readings.{refused_text}
 use Rattle.write_lines.specs.WriteCommand.{stop_status, stop_text}
 use Rattle.riegeli_tool.specs.AppendCommand.{grown_text}
-use Rattle.riegeli_tool.specs.declared.append.Halt.{Halt}
-use Rattle.riegeli_tool.specs.declared.append.Halt.TheVariants.{Refused, Stopped}
+use Rattle.riegeli_tool.specs.declared.append.Unappended.{Unappended}
+use Rattle.riegeli_tool.specs.declared.append.Unappended.TheVariants.{Refused, Stopped}
 use Rattle.riegeli_tool.specs.declared.append_words.AppendWords.{AppendWords}
 use Rattle.record_append.specs.declared.appends.AppendEnd.TheVariants as append
 use Rattle.record_writer.specs.declared.feed.Stop.TheVariants as stop
@@ -23,7 +23,7 @@ use Rattle.run_answers.specs.declared.ending.Ending.TheVariants as end
 use Rattle.run_answers.specs.declared.status.Status.TheVariants as status
 
 -- the end by which records were not put to a file to the end of their feed
-abbrev pub end_of_append : AppendEnd → Ending Halt
+abbrev pub end_of_append : AppendEnd → Ending Unappended
 end_of_append (append.Refused fault) = end.At (Refused fault)
 end_of_append (append.TooLong count) = end.At (Stopped stop.TooLong count)
 end_of_append append.InputTooLong = end.At (Stopped stop.InputTooLong 0)
@@ -33,31 +33,31 @@ end_of_append append.Device = end.Cut cut.Grown
 end_of_append append.Memory = end.Cut cut.Memory
 
 -- what is said where it goes no further, and the status
-abbrev pub halt_text : Halt → List ℕ
-halt_text (Refused fault) = refused_text fault
-halt_text (Stopped stop count) = stop_text count (Some stop)
+abbrev pub unappended_text : Unappended → List ℕ
+unappended_text (Refused fault) = refused_text fault
+unappended_text (Stopped stop count) = stop_text count (Some stop)
 
-abbrev pub halt_status : Halt → Status
-halt_status (Refused fault) = status.Refused
-halt_status (Stopped stop count) = stop_status (Some stop)
+abbrev pub unappended_status : Unappended → Status
+unappended_status (Refused fault) = status.Refused
+unappended_status (Stopped stop count) = stop_status (Some stop)
 
 -- where it is done nothing is said
-abbrev pub appending_ends : {X : Type 0} → Endings X Halt
-appending_ends = record { done = λ _. status.Ok; text = halt_text; status = halt_status }
+abbrev pub appending_ends : {X : Type 0} → Endings X Unappended
+appending_ends = record { done = λ _. status.Ok; text = unappended_text; status = unappended_status }
 
 -- the file, whose bytes are these, where it tells them, told a size, of which P holds
 abbrev pub HasTold : (bytes : Option (List ℕ)) → (ℕ → Type 0) → Type 0
 HasTold bytes P = (size : ℕ) × P size × IfSome bytes (λ file. size ≡ length file)
 
 -- no size was told of the file that it may have: it told too many bytes, or it failed
-abbrev pub IsUnsized : Ending Halt → (bytes : Option (List ℕ)) (told : Option ℕ) → Type 0
+abbrev pub IsUnsized : Ending Unappended → (bytes : Option (List ℕ)) (told : Option ℕ) → Type 0
 IsUnsized end.Limit bytes told = HasTold bytes (λ size. IsTooLong (size ∷ []) × (told ≡ Some size))
 IsUnsized (end.Cut cut.Grown) bytes told = Unit {0}
 IsUnsized other bytes told = ⊥
 
 -- before the work ended so, the file had told a size, if it didn't fail: one within reach, or one past it; it tells that still where
 -- it is too long or refused. Nothing else ends it
-abbrev pub IsSizedBy : {X : Type 0} → Result X (Ending Halt) → (may_cut : Bool) (bytes : Option (List ℕ)) (told : Option ℕ) → Type 0
+abbrev pub IsSizedBy : {X : Type 0} → Result X (Ending Unappended) → (may_cut : Bool) (bytes : Option (List ℕ)) (told : Option ℕ) → Type 0
 IsSizedBy (Ok x) may_cut bytes told = HasTold bytes (λ size. IsInReach (size ∷ []))
 IsSizedBy (Err end.Limit) may_cut bytes told = HasTold bytes (λ size. IsTooLong (size ∷ []) × (told ≡ Some size))
 IsSizedBy (Err (end.At (Refused fault))) may_cut bytes told =
@@ -82,7 +82,7 @@ IsStopped words rest file held stop count =
     × GrowsBy words.write.options words.cut file rest.records held
 
 -- what an old file holds of a feed's records and standard output took, by how the work ended
-abbrev pub HasAppended : {X : Type 0} → Result X (Ending Halt) → AppendWords → Rest → (file : List ℕ) (held out out_then : Option (List ℕ)) → Type 0
+abbrev pub HasAppended : {X : Type 0} → Result X (Ending Unappended) → AppendWords → Rest → (file : List ℕ) (held out out_then : Option (List ℕ)) → Type 0
 HasAppended (Ok x) words rest file held out out_then = IsTold Takes words rest file held out out_then
 HasAppended (Err end.Limit) words rest file held out out_then = (most_file_bytes < length file) × (held ≡ Some file) × (out_then ≡ out)
 HasAppended (Err (end.At (Refused fault))) words rest file held out out_then =
@@ -96,7 +96,7 @@ HasAppended (Err (end.Cut other)) words rest file held out out_then =
     × (out_then ≡ out)
 
 -- what the file keeps of what it held, by how the work ended
-abbrev pub KeepsOldAtEnd : {X : Type 0} → Result X (Ending Halt) → Bool → (file held : List ℕ) → Type 0
+abbrev pub KeepsOldAtEnd : {X : Type 0} → Result X (Ending Unappended) → Bool → (file held : List ℕ) → Type 0
 KeepsOldAtEnd (Ok x) may_cut file held = (place : ℕ) × GrowsFrom may_cut file place held
 KeepsOldAtEnd (Err end.Limit) may_cut file held = held ≡ file
 KeepsOldAtEnd (Err (end.At (Refused fault))) may_cut file held = held ≡ file

@@ -10,41 +10,41 @@ use Rattle.run_answers.specs.declared.ending.Ending.{Ending}
 use Rattle.run_answers.specs.declared.status.Status.{Status}
 use Rattle.show_files.specs.Readings.{refused_text}
 use Rattle.riegeli_tool.specs.RangesCommand.{AreAlike, AreWithin, Differ, IsOnePast, IsTextOfFile, MayBeRead, differ_text}
-use Rattle.riegeli_tool.specs.declared.range_ends.Halt.{Halt}
+use Rattle.riegeli_tool.specs.declared.range_ends.Unread.{Unread}
 use Rattle.chunk_reader.specs.declared.reasons.ReadEnd.TheVariants as read
 use Rattle.run_answers.specs.declared.ending.Cut.TheVariants as cut
 use Rattle.run_answers.specs.declared.ending.Ending.TheVariants as end
 use Rattle.run_answers.specs.declared.status.Status.TheVariants as status
-use Rattle.riegeli_tool.specs.declared.range_ends.Halt.TheVariants as halt
+use Rattle.riegeli_tool.specs.declared.range_ends.Unread.TheVariants as unread
 
--- the line that tells at what the work halts, and the status
-abbrev pub halt_text : Halt → List ℕ
-halt_text (halt.Refused fault) = refused_text fault
-halt_text (halt.Differ first other) = differ_text first other
+-- the line that tells why the file is not read, and the status
+abbrev pub unread_text : Unread → List ℕ
+unread_text (unread.Refused fault) = refused_text fault
+unread_text (unread.Differ first other) = differ_text first other
 
-abbrev pub halt_status : Halt → Status
-halt_status (halt.Refused fault) = status.Refused
-halt_status (halt.Differ first other) = status.Differ
+abbrev pub unread_status : Unread → Status
+unread_status (unread.Refused fault) = status.Refused
+unread_status (unread.Differ first other) = status.Differ
 
 -- where it is done nothing is said
-abbrev pub range_ends : {X : Type 0} → Endings X Halt
-range_ends = record { done = λ _. status.Ok; text = halt_text; status = halt_status }
+abbrev pub range_ends : {X : Type 0} → Endings X Unread
+range_ends = record { done = λ _. status.Ok; text = unread_text; status = unread_status }
 
 -- the end by which a file was not read
-abbrev pub end_of_read : ReadEnd → Ending Halt
-end_of_read (read.Refused fault) = end.At (halt.Refused fault)
+abbrev pub end_of_read : ReadEnd → Ending Unread
+end_of_read (read.Refused fault) = end.At (unread.Refused fault)
 end_of_read read.Store = end.Cut cut.File
 end_of_read read.Memory = end.Cut cut.Memory
 
 -- the size of a file by those that its stores told, or why it isn't read
-abbrev pub IsSizeBy : Result ℕ (Ending Halt) → List ℕ → Type 0
+abbrev pub IsSizeBy : Result ℕ (Ending Unread) → List ℕ → Type 0
 IsSizeBy (Ok size) sizes = AreAlike size sizes
 IsSizeBy (Err end.Limit) sizes = IsOnePast sizes
-IsSizeBy (Err (end.At (halt.Differ first other))) sizes = AreWithin sizes × Differ sizes first other
+IsSizeBy (Err (end.At (unread.Differ first other))) sizes = AreWithin sizes × Differ sizes first other
 IsSizeBy (Err other) sizes = ⊥
 
 -- the same by what the stores told, of which none is asked behind one that failed
-abbrev pub IsSizeTold : Result ℕ (Ending Halt) → List (Option ℕ) → Type 0
+abbrev pub IsSizeTold : Result ℕ (Ending Unread) → List (Option ℕ) → Type 0
 IsSizeTold (Err (end.Cut cut.File)) told = Unit {0}
 IsSizeTold result told = (sizes : List ℕ) × (told ≡ map Some sizes) × IsSizeBy result sizes
 
@@ -53,11 +53,11 @@ abbrev pub AreReady : List (Option ℕ) → Type 0
 AreReady told = (sizes : List ℕ) × (told ≡ map Some sizes) × MayBeRead sizes
 
 -- what the stores had told when the work ended so: nothing else ends it, and where a store failed they may have told no size
-abbrev pub AreSized : {X : Type 0} → Result X (Ending Halt) → List (Option ℕ) → Type 0
+abbrev pub AreSized : {X : Type 0} → Result X (Ending Unread) → List (Option ℕ) → Type 0
 AreSized (Ok x) told = AreReady told
 AreSized (Err end.Limit) told = (sizes : List ℕ) × (told ≡ map Some sizes) × IsOnePast sizes
-AreSized (Err (end.At (halt.Refused fault))) told = AreReady told
-AreSized (Err (end.At (halt.Differ first other))) told = (sizes : List ℕ) × (told ≡ map Some sizes) × (AreWithin sizes × Differ sizes first other)
+AreSized (Err (end.At (unread.Refused fault))) told = AreReady told
+AreSized (Err (end.At (unread.Differ first other))) told = (sizes : List ℕ) × (told ≡ map Some sizes) × (AreWithin sizes × Differ sizes first other)
 AreSized (Err (end.Cut cut.File)) told = Unit {0}
 AreSized (Err (end.Cut cut.Out)) told = AreReady told
 AreSized (Err (end.Cut cut.Memory)) told = AreReady told
@@ -71,20 +71,20 @@ abbrev pub all_lines : List (List (List ℕ)) → List ℕ
 all_lines parts = flat_map part_lines parts
 
 -- what a file that was read, by how that ended, is
-abbrev pub IsReadIn : Result (List (List (List ℕ))) (Ending Halt) → List ℕ → Type 0
+abbrev pub IsReadIn : Result (List (List (List ℕ))) (Ending Unread) → List ℕ → Type 0
 IsReadIn (Ok parts) file = IsTextOfFile file (all_lines parts)
-IsReadIn (Err (end.At (halt.Refused fault))) file = IsFault false file fault
+IsReadIn (Err (end.At (unread.Refused fault))) file = IsFault false file fault
 IsReadIn (Err other) file = Unit {0}
 
 -- what standard output took of a file by how the work ended, where it is the one that all stores tell
-abbrev pub PrintsFile : {X : Type 0} → Result X (Ending Halt) → List ℕ → (out out_then : Option (List ℕ)) → Type 0
+abbrev pub PrintsFile : {X : Type 0} → Result X (Ending Unread) → List ℕ → (out out_then : Option (List ℕ)) → Type 0
 PrintsFile (Ok x) file out out_then = (text : List ℕ) × IsTextOfFile file text × Takes out out_then text
-PrintsFile (Err (end.At (halt.Refused fault))) file out out_then = IsFault false file fault
+PrintsFile (Err (end.At (unread.Refused fault))) file out out_then = IsFault false file fault
 PrintsFile (Err (end.Cut cut.Out)) file out out_then = (text : List ℕ) × IsTextOfFile file text × (text ≢ []) × TakesFront out out_then text
 PrintsFile (Err other) file out out_then = Unit {0}
 
 -- nothing is printed of a file that isn't read to its end
-abbrev pub IsPrinted : {X : Type 0} → Result X (Ending Halt) → (out out_then : Option (List ℕ)) → Type 0
+abbrev pub IsPrinted : {X : Type 0} → Result X (Ending Unread) → (out out_then : Option (List ℕ)) → Type 0
 IsPrinted (Ok x) out out_then = Unit {0}
 IsPrinted (Err (end.Cut cut.Out)) out out_then = Unit {0}
 IsPrinted (Err other) out out_then = out_then ≡ out

@@ -21,9 +21,9 @@ use std::alloc::Global;
 use std::thread::Threads;
 use write_lines::{LineFeed, MOST_INPUT, end_with_stop};
 
-/// What `append` goes no further at.
+/// What the lines of an input are not appended past.
 #[derive(Clone, Copy, Debug, PartialEq, Eq)]
-pub(crate) enum Halt {
+pub(crate) enum Unappended {
     /// The old file is refused.
     Refused(Fault),
     /// A stop, behind so many records.
@@ -60,7 +60,7 @@ fn append_lines<R: Threads + Sync, I: Source, G: Device + Send, O: Sink>(
     input: &mut I,
     grown: &mut G,
     out: &mut O,
-) -> Result<(), Ending<Halt>>
+) -> Result<(), Ending<Unappended>>
     requires in_limits { AreInLimits words.now.write.options }
     ensures appended { IfSome (G.bytes grown.old) (λ file. IfSome (I.left input.old) (λ bytes.
         HasAppended result words.now (lines_taken words.now bytes) file (G.bytes grown.new) (O.taken out.old) (O.taken out.new))) }
@@ -90,7 +90,7 @@ fn append_lines<R: Threads + Sync, I: Source, G: Device + Send, O: Sink>(
 }
 
 /// The size of a file that may be grown.
-fn size_in_reach<G: Device>(grown: &mut G) -> Result<u64, Ending<Halt>>
+fn size_in_reach<G: Device>(grown: &mut G) -> Result<u64, Ending<Unappended>>
     ensures told { IfOk result (λ size. G.told grown.new ≡ Some size) }
     ensures in_reach { IfOk result (λ size. size ≤ most_file_bytes) }
     ensures exact { IfOk result (λ size. IfSome (G.bytes grown.old) (λ bytes. size ≡ length bytes)) }
@@ -107,14 +107,14 @@ fn size_in_reach<G: Device>(grown: &mut G) -> Result<u64, Ending<Halt>>
 }
 
 /// The end by which records were not put to a file to the end of their feed.
-fn end_of_append(end: AppendEnd) -> Ending<Halt>
+fn end_of_append(end: AppendEnd) -> Ending<Unappended>
     ensures { result ≡ end_of_append end }
 {
     match end {
-        AppendEnd::Refused(fault) => Ending::At(Halt::Refused(fault)),
-        AppendEnd::TooLong(count) => Ending::At(Halt::Stopped(Stop::TooLong, count)),
-        AppendEnd::InputTooLong => Ending::At(Halt::Stopped(Stop::InputTooLong, 0)),
-        AppendEnd::BadLine(count) => Ending::At(Halt::Stopped(Stop::BadLine, count)),
+        AppendEnd::Refused(fault) => Ending::At(Unappended::Refused(fault)),
+        AppendEnd::TooLong(count) => Ending::At(Unappended::Stopped(Stop::TooLong, count)),
+        AppendEnd::InputTooLong => Ending::At(Unappended::Stopped(Stop::InputTooLong, 0)),
+        AppendEnd::BadLine(count) => Ending::At(Unappended::Stopped(Stop::BadLine, count)),
         AppendEnd::Input => Ending::Cut(Cut::Input),
         AppendEnd::Device => Ending::Cut(Cut::Grown),
         AppendEnd::Memory => Ending::Cut(Cut::Memory),
@@ -135,7 +135,7 @@ fn put_appended<O: Sink>(appended: &Appended, out: &mut O) -> Result<(), Failed>
 }
 
 /// Says in notes why the work ended before it was done.
-fn end_appending<E: Sink>(ended: Result<(), Ending<Halt>>, notes: &mut E) -> Status
+fn end_appending<E: Sink>(ended: Result<(), Ending<Unappended>>, notes: &mut E) -> Status
     ensures told { SaysEnd appending_ends ended result (seen_stream E.taken E.faults notes.old)
         (seen_stream E.taken E.faults notes.new) }
     ensures notes_kept { result ≡ Status.Ok → notes.new ≡ notes.old }
@@ -144,8 +144,8 @@ fn end_appending<E: Sink>(ended: Result<(), Ending<Halt>>, notes: &mut E) -> Sta
     match ended {
         Ok(()) => Status::Ok,
         Err(Ending::Limit) => end(notes, "limit file\n", Status::Limit),
-        Err(Ending::At(Halt::Refused(fault))) => end_with_fault(notes, &fault),
-        Err(Ending::At(Halt::Stopped(stop, count))) => end_with_stop(notes, stop, count),
+        Err(Ending::At(Unappended::Refused(fault))) => end_with_fault(notes, &fault),
+        Err(Ending::At(Unappended::Stopped(stop, count))) => end_with_stop(notes, stop, count),
         Err(Ending::Cut(cut)) => cut_off(notes, cut),
     }
 }

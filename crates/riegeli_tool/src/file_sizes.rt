@@ -4,7 +4,7 @@ ghost use Rattle.record_io.specs.ManyStores.{AreOnlyAsked, AreTold};
 ghost use Rattle.riegeli_tool.specs.RangesCommand.{most_range_bytes};
 ghost use Rattle.riegeli_tool.specs.RangesEnds.{IsSizeBy, IsSizeTold};
 
-use crate::range_ends::Halt;
+use crate::range_ends::Unread;
 use crate::ranges_words::MOST_PARTS;
 use record_io::Store;
 use run_answers::{Cut, Ending, ask_sizes};
@@ -13,7 +13,7 @@ use run_answers::{Cut, Ending, ask_sizes};
 const MOST_BYTES: u64 = 1 << 28;
 
 /// The size that all stores of a file tell, which are asked one after another.
-pub(crate) fn one_size<S: Store>(files: &mut [S]) -> Result<u64, Ending<Halt>>
+pub(crate) fn one_size<S: Store>(files: &mut [S]) -> Result<u64, Ending<Unread>>
     requires some { 0 < length files.old }
     requires few { length files.old ≤ 16 }
     ensures size { IsSizeTold result (map (λ file. S.told file) files.new) }
@@ -32,7 +32,7 @@ pub(crate) fn one_size<S: Store>(files: &mut [S]) -> Result<u64, Ending<Halt>>
 }
 
 /// The size that stores told, where none told more bytes than are read, nor another size than the first.
-fn size_by(sizes: &[u64]) -> Result<u64, Ending<Halt>>
+fn size_by(sizes: &[u64]) -> Result<u64, Ending<Unread>>
     requires some { 0 < length sizes.now }
     ensures { IsSizeBy result sizes.now }
 {
@@ -41,7 +41,7 @@ fn size_by(sizes: &[u64]) -> Result<u64, Ending<Halt>>
     }
     let first = sizes[0];
     match first_other(first, sizes) {
-        Some(other) => Err(Ending::At(Halt::Differ { first, other })),
+        Some(other) => Err(Ending::At(Unread::Differ { first, other })),
         None => Ok(first),
     }
 }

@@ -3,7 +3,7 @@ ghost use Rattle.record_io.specs.Calls.{OnlyCounts, PutsTo};
 ghost use Rattle.run_answers.specs.Endings.{SaysEnd};
 ghost use Rattle.run_answers.specs.Runs.{SaysAtEnd, seen_stream};
 ghost use Rattle.riegeli_tool.specs.RangesCommand.{differ_text};
-ghost use Rattle.riegeli_tool.specs.RangesEnds.{end_of_read, halt_status, halt_text, range_ends};
+ghost use Rattle.riegeli_tool.specs.RangesEnds.{end_of_read, range_ends, unread_status, unread_text};
 
 use chunk_reader::{Fault, ReadEnd};
 use itoa::Buffer;
@@ -11,9 +11,9 @@ use record_io::{Failed, PutBuffer, Sink};
 use run_answers::{Cut, Ending, LINE, Status, cut_off, end};
 use show_files::end_with_fault;
 
-/// At what the work of `ranges` halts.
+/// Why the file is not read.
 #[derive(Clone, Copy, Debug, PartialEq, Eq)]
-pub(crate) enum Halt {
+pub(crate) enum Unread {
     /// The file is refused.
     Refused(Fault),
     /// Two stores of the file told different sizes: the first one, and the first that told another.
@@ -21,18 +21,18 @@ pub(crate) enum Halt {
 }
 
 /// The end by which a file was not read.
-pub(crate) fn end_of_read(end: ReadEnd) -> Ending<Halt>
+pub(crate) fn end_of_read(end: ReadEnd) -> Ending<Unread>
     ensures { result ≡ end_of_read end }
 {
     match end {
-        ReadEnd::Refused(fault) => Ending::At(Halt::Refused(fault)),
+        ReadEnd::Refused(fault) => Ending::At(Unread::Refused(fault)),
         ReadEnd::Store => Ending::Cut(Cut::File),
         ReadEnd::Memory => Ending::Cut(Cut::Memory),
     }
 }
 
 /// Says in notes why the work ended before it was done.
-pub(crate) fn end_ranges<E: Sink>(ended: Result<(), Ending<Halt>>, notes: &mut E) -> Status
+pub(crate) fn end_ranges<E: Sink>(ended: Result<(), Ending<Unread>>, notes: &mut E) -> Status
     ensures told { SaysEnd range_ends ended result (seen_stream E.taken E.faults notes.old)
         (seen_stream E.taken E.faults notes.new) }
     ensures notes_kept { result ≡ Status.Ok → notes.new ≡ notes.old }
@@ -41,21 +41,21 @@ pub(crate) fn end_ranges<E: Sink>(ended: Result<(), Ending<Halt>>, notes: &mut E
     match ended {
         Ok(()) => Status::Ok,
         Err(Ending::Limit) => end(notes, "limit file\n", Status::Limit),
-        Err(Ending::At(halt)) => end_with_halt(notes, &halt),
+        Err(Ending::At(why)) => end_unread(notes, &why),
         Err(Ending::Cut(cut)) => cut_off(notes, cut),
     }
 }
 
-/// Ends the work with the line of what it halts at.
-fn end_with_halt<E: Sink>(notes: &mut E, halt: &Halt) -> Status
-    ensures told { SaysAtEnd result (halt_status halt.now) (seen_stream E.taken E.faults notes.old)
-        (seen_stream E.taken E.faults notes.new) (halt_text halt.now) }
+/// Ends the work with the line of why the file is not read.
+fn end_unread<E: Sink>(notes: &mut E, why: &Unread) -> Status
+    ensures told { SaysAtEnd result (unread_status why.now) (seen_stream E.taken E.faults notes.old)
+        (seen_stream E.taken E.faults notes.new) (unread_text why.now) }
     ensures not_ok { result ≢ Status.Ok }
     ensures notes { OnlyCounts E.lent E.faults ⊥ notes.old notes.new }
 {
-    match halt {
-        Halt::Refused(fault) => end_with_fault(notes, fault),
-        Halt::Differ { first, other } => end_with_sizes(notes, *first, *other),
+    match why {
+        Unread::Refused(fault) => end_with_fault(notes, fault),
+        Unread::Differ { first, other } => end_with_sizes(notes, *first, *other),
     }
 }
 

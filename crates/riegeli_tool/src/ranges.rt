@@ -8,11 +8,11 @@ ghost use Rattle.run_answers.specs.declared.ending.Ending.{Ending};
 ghost use Rattle.run_answers.specs.Runs.{Runs, Seen, seen_stream, seen_file};
 ghost use Rattle.riegeli_tool.specs.RangesCommand.{ranges_meaning};
 ghost use Rattle.riegeli_tool.specs.RangesEnds.{AreReady, AreSized, IsPrinted, IsReadIn, PrintsFile, end_of_read};
-ghost use Rattle.riegeli_tool.specs.declared.range_ends.Halt.{Halt};
+ghost use Rattle.riegeli_tool.specs.declared.range_ends.Unread.{Unread};
 
 use crate::file_sizes::one_size;
 use crate::part_lines::put_parts;
-use crate::range_ends::{Halt, end_of_read, end_ranges};
+use crate::range_ends::{Unread, end_of_read, end_ranges};
 use crate::ranges_words::RangesWords;
 use record_io::{Failed, Sink, Store};
 use record_ranges::{Cuts, Parts, read_ranges};
@@ -52,7 +52,7 @@ fn print_file<R: Threads + Sync, S: Store + Send, O: Sink>(
     parts: u32,
     files: &mut [S],
     out: &mut O,
-) -> Result<(), Ending<Halt>>
+) -> Result<(), Ending<Unread>>
     requires one_each { length files.old ≡ parts }
     requires some { 1 ≤ parts }
     requires few { parts ≤ 16 }
@@ -83,7 +83,7 @@ fn read_parts<R: Threads + Sync, S: Store + Send>(
     size: u64,
     parts: u32,
     files: &mut [S],
-) -> Result<Parts, Ending<Halt>>
+) -> Result<Parts, Ending<Unread>>
     requires one_each { length files.old ≡ parts }
     requires some { 1 ≤ parts }
     requires few { parts ≤ 16 }
@@ -91,7 +91,7 @@ fn read_parts<R: Threads + Sync, S: Store + Send>(
     requires exact { IfAllTellSame S.bytes files.old (λ file. size ≡ length file) }
     requires small { size ≤ 2 ^ 28 }
     ensures read { IfAllTellSame S.bytes files.old (IsReadIn result) }
-    ensures ended { (end : Ending Halt) → result ≡ Err end → (why : ReadEnd) × (end ≡ end_of_read why) }
+    ensures ended { (end : Ending Unread) → result ≡ Err end → (why : ReadEnd) × (end ≡ end_of_read why) }
     ensures files { AreOnlyAsked S.bytes S.told S.name S.faults (result ≡ Err (Ending.Cut Cut.File)) files.old files.new }
 {
     let Ok(cuts) = Cuts::even(alloc, size, parts) else {
