@@ -1,11 +1,9 @@
 -- What a sink over a device takes, behind what the device held.
-use Rattle.std.proofs.Common.{◌≡◌, ◌≢◌, ◌∙◌, ℕ, zero, suc, ◌%◌, Option, Some, None, IfSome, IsSomeAnd, Result, Ok, Err, List, [], ◌++◌, length, take, drop, refl, sym, ap, subst, inl, inr, arith}
+use Rattle.std.proofs.Common.{◌≡◌, ◌≢◌, ◌∙◌, ℕ, zero, suc, Option, Some, None, IfSome, IsSomeAnd, Result, Ok, Err, List, [], ◌++◌, length, take, drop, refl, sym, ap, subst, arith}
 use Rattle.std.specs.Prelude.{option_map}
-use Rattle.std.proofs.lemmas.Bool.{cases_lt}
 use Rattle.std.proofs.lemmas.List.{take-append-drop}
 use Rattle.record_io.specs.Outside.{Takes, TakesFront}
 use Rattle.record_values.specs.declared.file_totals.Totals.{Totals}
-use Rattle.block_layout.specs.Layout.{IsBoundary, IsOnBoundary}
 use Rattle.chunk_header.specs.Chunks.{ChunkValue}
 use Rattle.meta_chunk.specs.Counts.{totals_of}
 use Rattle.meta_chunk.specs.Files.{end_of_chunks, laid_each}
@@ -18,10 +16,6 @@ use Rattle.record_writer.specs.declared.options.WriteOptions.{WriteOptions}
 use Rattle.record_writer.specs.Written.{Answers, AnswersTotals, TakesFile, chunks_under, file_under, tail_under, totals_from}
 use Rattle.record_append.specs.Devices.{bytes_before, bytes_from}
 use Rattle.record_append.specs.Grown.{bytes_at, totals_at}
-
--- a place behind the front at which a file may be cut is a boundary
-pub on_boundary : (place : ℕ) → IsOnBoundary place → IsBoundary place
-on_boundary place h = elim (cases_lt 0 (place % 65536)) [ inl inside ↦ inr (h inside) | inr none ↦ inl (omega (arith, none)) ]
 
 -- bytes that end at a place, and those from there on
 held_behind : (front taken : List ℕ) (place : ℕ) (held : Option (List ℕ))
