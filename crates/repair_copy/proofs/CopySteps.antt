@@ -321,10 +321,6 @@ next_when_begun s begun = cond-true s.begun s.file.place (end_of_chunks 0 (signa
 pub next_when_unbegun : (s : Copied) → s.begun ≡ false → next_place s ≡ 64
 next_when_unbegun s unbegun = cond-false s.begun s.file.place (end_of_chunks 0 (signature ∷ [])) unbegun ∙ end_of_chunk-signature
 
-pub next_place-begun : (a b : Option (List ℕ)) (s t : Copied) → Begins a b s t → t.file.place ≡ next_place s
-next_place-begun a b s t (inl (begun, same, made)) = ap (λ (x : Copied). x.file.place) same ∙ sym (next_when_begun s begun)
-next_place-begun a b s t (inr (unbegun, begun, counted, lays)) = lays.place ∙ sym (cond-false s.begun s.file.place (end_of_chunks 0 (signature ∷ [])) unbegun)
-
 pub next_place_small : (from : ℕ) (s : Copied) → s.file.place ≤ 64 + 2 * from → next_place s ≤ 64 + 2 * from
 next_place_small from s small = elim (cases_Bool s.begun) [
   | inl begun ↦ omega (arith, small, next_when_begun s begun)

@@ -4,7 +4,7 @@ use Rattle.std.specs.List.{AllByRecursion}
 use Rattle.std.specs.Fn.{Shared, FnReturnsAt}
 use denote.Ref.{Bor}
 use Rattle.record_io.specs.Outside.{Takes, TakesFront}
-use Rattle.record_io.proofs.Calls.{Takes-append, Takes-nothing, TakesFront-append}
+use Rattle.record_io.proofs.Calls.{Takes-append, TakesFront-append}
 use Rattle.damage_skip.specs.Policies.{IsAllowedRegion, IsRefusedRegion}
 use Rattle.damage_skip.specs.Regions.{regions_in, skipped_text}
 use Rattle.damage_skip.specs.Walks.{piece_of, event_text, IsEventIn}
@@ -42,10 +42,6 @@ module _ {F : Type 0} (test : Shared F (Bor Region × Unit {0}) Bool) (f : F) wh
     ),
     tt,
   )
-
-  -- none was passed over yet
-  pub skipped_none : (count : ℕ) (n : Option (List ℕ)) → count ≡ 0 → HasSkipped test f count n n
-  skipped_none count n none = record { regions = []; allowed = tt; lines = Takes-nothing n; counted = none }
 
   -- an event was copied
   pub skipped_next : (count now : ℕ) (n m o : Option (List ℕ)) (e : Event) → HasSkipped test f count n m

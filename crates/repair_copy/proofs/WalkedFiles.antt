@@ -5,7 +5,7 @@ use Rattle.std.specs.Fn.{Shared, FnReturnsAt}
 use denote.Ref.{Bor}
 use Rattle.record_io.specs.Outside.{Rose}
 use Rattle.record_io.specs.Puts.{Put, Taken}
-use Rattle.record_writer.specs.MadeFiles.{nothing_made, totals_made}
+use Rattle.record_writer.specs.MadeFiles.{totals_made}
 use Rattle.chunk_reader.specs.Reasons.{Applies, NoneOf, loading_reasons}
 use Rattle.chunk_reader.proofs.Rooms.{IsSized}
 use Rattle.damage_skip.specs.Pieces.{Piece}
@@ -49,16 +49,6 @@ some_last [] e = λ none. cc none
 some_last (f ∷ events) e = λ none. cc none
 
 module _ {F : Type 0} (test : Shared F (Bor Region × Unit {0}) Bool) (f : F) where
-  -- before the first event
-  pub walked_none : (bytes : Option (List ℕ)) (place : ℕ) (before : Taken) (s : Copied) → place ≡ 0 → s.begun ≡ false → s.file ≡ nothing_made
-      → s.regions ≡ 0 → IfSome bytes (HasWalked test f place s before before)
-  walked_none None place before s front unbegun file none = tt
-  walked_none (Some file) place before s front unbegun at none = record {
-    events = [];
-    walked = record { walked = ([], sym front, refl); each = tt };
-    copies = inl (record { unbegun = unbegun; file = at; regions = none; none = refl; same = refl });
-  }
-
   -- the walk takes what the pieces up to its place account for, and the one there
   pub taken_there : (bytes : Option (List ℕ)) (place : ℕ) (s : Copied) (before then : Taken) (taken : ℕ)
       → IfSome bytes (HasWalked test f place s before then) → IfSome bytes (λ file. IsTakenUpTo true file 0 place taken)
