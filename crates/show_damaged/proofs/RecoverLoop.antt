@@ -90,10 +90,10 @@ event-room from to size (event.Kept begin chunk unread) h within reach = omega (
 event-room from to size (event.Skipped region) h within reach = omega (arith, h.rises, h.to_place, within, reach)
 
 -- and is not refused
-pub event-allowed : {F : Type 0} (g : Shared F (Bor Region × Unit {0}) Bool) (f : F) (most : Option ℕ) (from to size : ℕ) (e : Event) → IsBound g f most
+pub event-allowed : {F : Type 0} (g : Shared F (Bor Region × Unit {0}) Bool) (f : F) (most : Option ℕ) (from to size : ℕ) (e : Event)
     → IsEventIn from to e → to ≤ size → size ≤ 2 ^ 60 → ((region : Region) → e ≡ event.Skipped region → FnReturnsAt g f region true)
-    → MaySkipEach most (piece_of e ∷ [])
-event-allowed g f most from to size e bound h within reach asked =
+    → IsBound g f most → MaySkipEach most (piece_of e ∷ [])
+event-allowed g f most from to size e h within reach asked bound =
     event-passed most e (λ region is.
     let there : IsEventIn from to (event.Skipped region) = subst (IsEventIn from to) is h in
     sym (bound region true
@@ -105,9 +105,9 @@ pub bound-same : {F : Type 0} (g : Shared F (Bor Region × Unit {0}) Bool) (f kn
 bound-same {F} g f known most same bound = subst (λ (t : F). IsBound g t most) (sym same) bound
 
 -- where a walk stops it is refused
-pub stop-refused : {F : Type 0} (g : Shared F (Bor Region × Unit {0}) Bool) (f : F) (most : Option ℕ) (size place : ℕ) (region : Region) → IsBound g f most
-    → IsStop size place region → size ≤ 2 ^ 60 → FnReturnsAt g f region false → may_skip most region ≡ false
-stop-refused g f most size place region bound h reach asked =
+pub stop-refused : {F : Type 0} (g : Shared F (Bor Region × Unit {0}) Bool) (f : F) (most : Option ℕ) (size place : ℕ) (region : Region)
+    → IsStop size place region → size ≤ 2 ^ 60 → FnReturnsAt g f region false → IsBound g f most → may_skip most region ≡ false
+stop-refused g f most size place region h reach asked bound =
     sym (bound region false
     (record { ordered = omega (arith, h.begin, h.onward.past); in_reach = omega (arith, h.onward.within, reach) }) asked)
 

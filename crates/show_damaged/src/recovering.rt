@@ -1,19 +1,17 @@
-ghost use Rattle.std.specs.Prelude.{◌≡◌, ◌≢◌, ℕ, ◌-◌, ◌^◌, ◌≤◌, ◌⊎◌, Option, Some, None, Ok, Err, List, [], ◌∷◌, false, length, IfOk, IfSome, OnErr, IsErrAnd};
+ghost use Rattle.std.specs.Prelude.{◌≡◌, ℕ, ◌-◌, ◌^◌, ◌≤◌, Option, Some, Ok, Err, List, [], ◌∷◌, false, IfOk, IfSome, OnErr, IsErrAnd};
 ghost use Rattle.record_io.specs.Outside.{Rose};
 ghost use Rattle.record_io.specs.Puts.{taken_by};
 ghost use Rattle.record_io.specs.Calls.{OnlyAsks, OnlyCounts};
-ghost use Rattle.damage_skip.specs.Policies.{IsTest};
-ghost use Rattle.damage_skip.specs.Walkers.{progress_of, test_of};
 ghost use Rattle.run_answers.specs.FileAnswers.{HandsOut};
 ghost use Rattle.show_damaged.specs.RecoverCommand.{IsRecovered, IsRecoveredSoFar, recover_meaning};
 ghost use Rattle.damage_skip.specs.Bounds.{may_skip, MaySkip};
 ghost use Rattle.damage_skip.specs.Takings.{IsTakenByWalk};
-ghost use Rattle.damage_skip.specs.Walks.{StandsIn, event_text};
+ghost use Rattle.damage_skip.specs.Walks.{event_text};
 ghost use Rattle.show_damaged.specs.RecoverProgress.{GivesEvent, HasPositions, end_of_walk, event_lines, status_after};
 ghost use Rattle.run_answers.specs.Runs.{Runs, Seen, seen_stream, seen_file};
 ghost use Rattle.run_answers.specs.PutSoFar.{HasPutSoFar};
 ghost use Rattle.run_answers.specs.Endings.{HasPutAtEnd, IsAllowedEnd, IsShort};
-ghost use Rattle.show_damaged.specs.WalkingEnds.{IsBound, TellsOf, walk_ends};
+ghost use Rattle.show_damaged.specs.WalkingEnds.{TellsOf, walk_ends};
 
 use crate::recover_words::RecoverWords;
 use crate::walking::{end_walk, may_skip};
@@ -89,33 +87,26 @@ fn recover_file<S: Store, O: Sink, E: Sink>(
     ensures notes { OnlyCounts E.lent E.faults (result ≡ Err (Ending.Cut Cut.Notes)) notes.old notes.new }
 {
     let size = size_of(file)?;
-    let most = words.most;
-    let policy = Policy::new(|region: &Region| may_skip(most, region));
-    let mut walker = Walker::new(size, false, policy);
     let mut lines = PutBuffer::new();
-    let walked = print_events(alloc, words, &mut walker, file, &mut lines, out, notes);
+    let walked = print_events(alloc, words, size, file, &mut lines, out, notes);
     match lines.flush(out) {
         Ok(()) => walked,
         Err(Failed) => Err(Ending::Cut(unprinted(&walked))),
     }
 }
 
-/// Prints the records of the events of a walk, and tells its regions. The last lines may be held.
-fn print_events<F: Fn(&Region) -> bool + Drop, S: Store, O: Sink, E: Sink>(
+/// Prints the records of the events of a file of so many bytes, and tells its regions. The last lines may be held.
+fn print_events<S: Store, O: Sink, E: Sink>(
     alloc: Global,
     words: &RecoverWords,
-    walker: &mut Walker<F>,
+    size: u64,
     file: &mut S,
     lines: &mut PutBuffer<LINES>,
     out: &mut O,
     notes: &mut E,
 ) -> Result<Status, Ending<Region>>
-    requires stands { StandsIn (S.bytes file.old) (S.told file.old) (progress_of walker.old) }
-    requires at_front { (progress_of walker.old).place ≡ 0 }
-    requires not_kept { (progress_of walker.old).keep ≡ false }
-    requires going { (progress_of walker.old).stopped ≡ None }
-    requires test { IsTest F.Fn (test_of walker.old) }
-    requires bound { IsBound F.Fn (test_of walker.old) words.now.most }
+    requires told { S.told file.old ≡ Some size }
+    requires in_reach { size ≤ 2 ^ 60 }
     requires none_held { lines.old ≡ [] }
     ensures printed { (made : Option (List ℕ)) → IfSome (S.bytes file.old) (λ bytes. HasPutAtEnd walk_ends (IsRecovered words.now) result bytes
         (taken_by made (O.taken out.old) (E.taken notes.old)) (taken_by made (O.taken out.new) (E.taken notes.new)) lines.new) }
@@ -131,6 +122,9 @@ fn print_events<F: Fn(&Region) -> bool + Drop, S: Store, O: Sink, E: Sink>(
     ensures out { OnlyCounts O.lent O.faults (result ≡ Err (Ending.Cut Cut.Out)) out.old out.new }
     ensures notes { OnlyCounts E.lent E.faults (result ≡ Err (Ending.Cut Cut.Notes)) notes.old notes.new }
 {
+    let most = words.most;
+    let policy = Policy::new(|region: &Region| may_skip(most, region));
+    let mut walker = Walker::new(size, false, policy);
     let mut status = Status::Ok;
     loop {
         match walker.next(alloc, file) {

@@ -1,6 +1,6 @@
 use Rattle.std.proofs.Common.{◌≡◌, ◌∙◌, false, ℕ, Option, List, Ok, Err, Some, None, [], ◌∷◌, ap, sym, subst, refl, inl, inr, arith, rules}
 use Rattle.record_io.proofs.Calls.{Takes-nothing}
-use Rattle.damage_skip.specs.Policies.{IsTest}
+use Rattle.damage_skip.proofs.BoundedWalks.{MaySkipEach}
 use Rattle.damage_skip.specs.Walkers.{progress_of, test_of}
 use Rattle.damage_skip.specs.Bounds.{may_skip}
 use Rattle.damage_skip.specs.Walks.{StandsIn, piece_of, stop_of}
@@ -14,40 +14,45 @@ use Rattle.show_damaged.proofs.RecoverRuns.{step-allowed, walk-allowed}
 use Rattle.show_damaged.proofs.RecoverLoop.{bound-same, event-allowed, given-none, goes-same, step-by, step-done, step-ended, step-failed, step-given, step-not_short, step-said, step-passed, step-so_far, step-stood, step-told, step-untold, stop-refused, stop-same}
 use Rattle.show_files.proofs.ShowSteps.{exact_told, short_told}
 use Rattle.show_damaged.proofs.recovering.print_events.Goals as goal
-use Rattle.show_damaged.proofs.recovering.print_events.Goals.{In-Err}
+use Rattle.show_damaged.proofs.recovering.print_events.Goals.{After-print_event, In-Err}
 
 pub loop-event-init : goal.loop-event-init
 loop-event-init g c = record {
-  same_size = refl;
-  not_kept = c.requires.not_kept;
-  going = c.requires.going;
+  same_size = c.new-walker.ensures.size;
+  not_kept = c.new-walker.ensures.keep;
+  going = c.new-walker.ensures.going;
   same_test = refl;
   file = search rules;
-  stands = c.requires.stands;
-  given = λ made. given-none c.args.words.now _ _ _ _ c.requires.at_front c.requires.none_held;
+  stands = search rules;
+  given = λ made. given-none c.args.words.now _ _ _ _ c.new-walker.ensures.at_front c.requires.none_held;
   told_of = ([], record { may = tt; says = Takes-nothing _ }, refl);
   kept = λ _. refl;
-  taken = taken-front _ false _ _ c.requires.at_front (omega arith);
+  taken = taken-front _ false _ _ c.new-walker.ensures.at_front (omega arith);
   out = search rules;
   notes = search rules;
 }
-
-pub next-requires-clause-test : goal.next-requires-clause-test
-next-requires-clause-test g c = subst (λ test. IsTest g.F.Fn test) (sym c.loop-event.invariant.same_test) c.requires.test
 
 -- the region at which the walk stopped may not be skipped
 refused : (g : _) (c : In-Err g) (region : Region) → c.in-Err.end ≡ Stopped region → may_skip c.args.words.now.most region ≡ false
 refused g c region is =
     let there = c.in-Err.ensures.refused region (ap Err is) c.loop-event.invariant.going in
-    stop-refused g.F.Fn (test_of c.loop-event.walker) c.args.words.now.most (progress_of c.next.new.self).size (progress_of c.next.new.self).place region
-    (bound-same g.F.Fn _ _ c.args.words.now.most c.loop-event.invariant.same_test c.requires.bound)
+    stop-refused _ (test_of c.loop-event.walker) c.args.words.now.most (progress_of c.next.new.self).size (progress_of c.next.new.self).place region
     there.stop c.in-Err.ensures.stands.in_reach there.refused
+    (bound-same _ _ _ c.args.words.now.most c.loop-event.invariant.same_test (search rules))
+
+-- an event that is given may be passed
+passed : (g : _) (c : After-print_event g) → MaySkipEach c.args.words.now.most (piece_of c.in-Ok-Some.event ∷ [])
+passed g c =
+    let e = c.in-Ok-Some.ensures.event c.in-Ok-Some.event (ap Ok c.in-Ok-Some.field-0-is) in
+    event-allowed _ (test_of c.loop-event.walker) c.args.words.now.most _ _ (progress_of c.next.new.self).size c.in-Ok-Some.event
+    e.bounds (progress_of c.next.new.self).within c.in-Ok-Some.ensures.stands.in_reach e.allowed
+    (bound-same _ _ _ c.args.words.now.most c.loop-event.invariant.same_test (search rules))
 
 pub returns-in-Err-clause-printed : goal.returns-in-Err-clause-printed
 returns-in-Err-clause-printed g c = λ made.
-    step-ended c.args.words.now _ (progress_of c.loop-event.walker).place (progress_of c.next.new.self).place (progress_of c.args.walker.now).size (progress_of c.next.new.self).size
+    step-ended c.args.words.now _ (progress_of c.loop-event.walker).place (progress_of c.next.new.self).place c.args.size (progress_of c.next.new.self).size
     _ _ _ c.loop-event.status c.in-Err.end _ c.end_of_walk.ensures
-    c.requires.stands.in_reach (exact_told _ _ _ c.requires.stands.size (g.met.S.Store.sized c.args.file.now)) (c.in-Err.ensures.goes_on.same_size ∙ c.loop-event.invariant.same_size) (c.loop-event.invariant.given made)
+    c.requires.in_reach (exact_told _ _ _ c.requires.told (g.met.S.Store.sized c.args.file.now)) (c.in-Err.ensures.goes_on.same_size ∙ c.loop-event.invariant.same_size) (c.loop-event.invariant.given made)
     (goes-same _ _ _ _ _ (Err c.in-Err.end) (Err c.in-Err.end) c.loop-event.invariant.file.same_bytes c.loop-event.invariant.not_kept refl
     c.in-Err.ensures.goes_on.past)
     (λ region is. (
@@ -75,7 +80,7 @@ returns-in-Err-clause-said g c =
 pub returns-in-Err-clause-allowed : goal.returns-in-Err-clause-allowed
 returns-in-Err-clause-allowed g c =
     walk-allowed c.args.words.now c.in-Err.end _ _ c.end_of_walk.ensures
-    (told-in_reach _ _ (c.in-Err.ensures.store.same_told ∙ c.loop-event.invariant.file.same_told ∙ c.requires.stands.size) c.requires.stands.in_reach)
+    (told-in_reach _ _ (c.in-Err.ensures.store.same_told ∙ c.loop-event.invariant.file.same_told ∙ c.requires.told) c.requires.in_reach)
 
 pub returns-in_err-status-in-Ok-Some-clause-so_far : goal.returns-in_err-status-in-Ok-Some-clause-so_far
 returns-in_err-status-in-Ok-Some-clause-so_far g c = λ short.
@@ -83,37 +88,28 @@ returns-in_err-status-in-Ok-Some-clause-so_far g c = λ short.
 
 pub returns-in_err-status-in-Ok-Some-clause-printed : goal.returns-in_err-status-in-Ok-Some-clause-printed
 returns-in_err-status-in-Ok-Some-clause-printed g c = λ made.
-    let e = c.in-Ok-Some.ensures.event c.in-Ok-Some.event (ap Ok c.in-Ok-Some.field-0-is) in
     step-failed Status c.args.words.now _ (progress_of c.loop-event.walker).place (progress_of c.next.new.self).place _ _ _ _ _ c.loop-event.status
     c.in-Ok-Some.event c.in_err-status-in-Ok-Some.field-0.0 c.from_residual.result c.from_residual.ensures.0 c.from_residual.ensures.1
-    (short_told _ _ c.requires.stands.in_reach (exact_told _ _ _ c.requires.stands.size (g.met.S.Store.sized c.args.file.now))) (c.loop-event.invariant.given made)
+    (short_told _ _ c.requires.in_reach (exact_told _ _ _ c.requires.told (g.met.S.Store.sized c.args.file.now))) (c.loop-event.invariant.given made)
     (goes-same _ _ _ _ _ _ (Ok (Some c.in-Ok-Some.event)) c.loop-event.invariant.file.same_bytes c.loop-event.invariant.not_kept (ap Ok c.in-Ok-Some.field-0-is) c.in-Ok-Some.ensures.goes_on.past)
-    (event-allowed g.F.Fn (test_of c.loop-event.walker) c.args.words.now.most _ _ (progress_of c.next.new.self).size c.in-Ok-Some.event
-    (bound-same g.F.Fn _ _ c.args.words.now.most c.loop-event.invariant.same_test c.requires.bound)
-    e.bounds (progress_of c.next.new.self).within c.in-Ok-Some.ensures.stands.in_reach e.allowed)
+    (passed g (goal.at.returns-in_err-status-in-Ok-Some-clause-printed g c).After-print_event)
     (c.in_err-status-in-Ok-Some.ensures.given made) c.in_err-status-in-Ok-Some.ensures.emptied
 
 pub returns-in_err-status-in-Ok-Some-clause-said : goal.returns-in_err-status-in-Ok-Some-clause-said
 returns-in_err-status-in-Ok-Some-clause-said g c =
-    let e = c.in-Ok-Some.ensures.event c.in-Ok-Some.event (ap Ok c.in-Ok-Some.field-0-is) in
     step-untold Status c.args.words.now _ _ _ _ _ c.loop-event.status
     c.in-Ok-Some.event c.in_err-status-in-Ok-Some.field-0.0 c.from_residual.result c.from_residual.ensures.0 c.from_residual.ensures.1
     c.loop-event.invariant.told_of
-    (event-allowed g.F.Fn (test_of c.loop-event.walker) c.args.words.now.most _ _ (progress_of c.next.new.self).size c.in-Ok-Some.event
-    (bound-same g.F.Fn _ _ c.args.words.now.most c.loop-event.invariant.same_test c.requires.bound)
-    e.bounds (progress_of c.next.new.self).within c.in-Ok-Some.ensures.stands.in_reach e.allowed)
+    (passed g (goal.at.returns-in_err-status-in-Ok-Some-clause-said g c).After-print_event)
     (c.in_err-status-in-Ok-Some.ensures.given None)
 
 pub returns-in_err-status-in-Ok-Some-clause-allowed : goal.returns-in_err-status-in-Ok-Some-clause-allowed
 returns-in_err-status-in-Ok-Some-clause-allowed g c =
-    let e = c.in-Ok-Some.ensures.event c.in-Ok-Some.event (ap Ok c.in-Ok-Some.field-0-is) in
     step-allowed Status c.args.words.now _ _ _ _ c.in-Ok-Some.event
     c.in_err-status-in-Ok-Some.field-0.0 c.from_residual.result _ c.from_residual.ensures.0 c.from_residual.ensures.1
-    (event-allowed g.F.Fn (test_of c.loop-event.walker) c.args.words.now.most _ _ (progress_of c.next.new.self).size c.in-Ok-Some.event
-    (bound-same g.F.Fn _ _ c.args.words.now.most c.loop-event.invariant.same_test c.requires.bound)
-    e.bounds (progress_of c.next.new.self).within c.in-Ok-Some.ensures.stands.in_reach e.allowed)
+    (passed g (goal.at.returns-in_err-status-in-Ok-Some-clause-allowed g c).After-print_event)
     (c.in_err-status-in-Ok-Some.ensures.given None)
-    (told-in_reach _ _ (c.in-Ok-Some.ensures.store.same_told ∙ c.loop-event.invariant.file.same_told ∙ c.requires.stands.size) c.requires.stands.in_reach)
+    (told-in_reach _ _ (c.in-Ok-Some.ensures.store.same_told ∙ c.loop-event.invariant.file.same_told ∙ c.requires.told) c.requires.in_reach)
 
 pub returns-in_err-status-in-Ok-Some-clause-file : goal.returns-in_err-status-in-Ok-Some-clause-file
 returns-in_err-status-in-Ok-Some-clause-file g c =
@@ -137,10 +133,6 @@ loop-event-smaller g c =
 pub loop-event-preserved : goal.loop-event-preserved
 loop-event-preserved g c =
     let asked = c.in-Ok-Some.ensures in
-    let e = asked.event c.in-Ok-Some.event (ap Ok c.in-Ok-Some.field-0-is) in
-    let passed = event-allowed g.F.Fn (test_of c.loop-event.walker) c.args.words.now.most _ _ (progress_of c.next.new.self).size c.in-Ok-Some.event
-    (bound-same g.F.Fn _ _ c.args.words.now.most c.loop-event.invariant.same_test c.requires.bound)
-    e.bounds (progress_of c.next.new.self).within c.in-Ok-Some.ensures.stands.in_reach e.allowed in
     record {
       same_size = asked.goes_on.same_size ∙ c.loop-event.invariant.same_size;
       not_kept = asked.goes_on.same_keep ∙ c.loop-event.invariant.not_kept;
@@ -153,8 +145,9 @@ loop-event-preserved g c =
           step-given c.args.words.now _ (progress_of c.loop-event.walker).place (progress_of c.next.new.self).place _ _ _ _ _ c.loop-event.status
           c.in-Ok-Some.event _ c.in_ok-status-in-Ok-Some.ensures.status (c.loop-event.invariant.given made)
           (goes-same _ _ _ _ _ _ (Ok (Some c.in-Ok-Some.event)) c.loop-event.invariant.file.same_bytes c.loop-event.invariant.not_kept (ap Ok c.in-Ok-Some.field-0-is) c.in-Ok-Some.ensures.goes_on.past)
-          passed (c.in_ok-status-in-Ok-Some.ensures.given made);
-      told_of = step-told c.args.words.now _ _ _ _ _ c.loop-event.status c.in-Ok-Some.event _ c.in_ok-status-in-Ok-Some.ensures.status c.loop-event.invariant.told_of passed
+          (passed g (goal.at.loop-event-preserved g c).After-print_event) (c.in_ok-status-in-Ok-Some.ensures.given made);
+      told_of = step-told c.args.words.now _ _ _ _ _ c.loop-event.status c.in-Ok-Some.event _ c.in_ok-status-in-Ok-Some.ensures.status c.loop-event.invariant.told_of
+          (passed g (goal.at.loop-event-preserved g c).After-print_event)
           (c.in_ok-status-in-Ok-Some.ensures.given None);
       kept = λ is.
           let before = after-ok c.loop-event.status c.in-Ok-Some.event (sym c.in_ok-status-in-Ok-Some.ensures.status ∙ is) in
@@ -168,8 +161,8 @@ loop-event-preserved g c =
 
 pub returns-in-Ok-None-clause-printed : goal.returns-in-Ok-None-clause-printed
 returns-in-Ok-None-clause-printed g c = λ made.
-    step-done c.args.words.now _ (progress_of c.loop-event.walker).place (progress_of c.next.new.self).place (progress_of c.args.walker.now).size _ _ _ c.loop-event.status
-    c.requires.stands.in_reach (exact_told _ _ _ c.requires.stands.size (g.met.S.Store.sized c.args.file.now)) (c.in-Ok-None.ensures.ended (ap Ok c.in-Ok-None.field-0-is) ∙ c.loop-event.invariant.same_size) (c.loop-event.invariant.given made)
+    step-done c.args.words.now _ (progress_of c.loop-event.walker).place (progress_of c.next.new.self).place c.args.size _ _ _ c.loop-event.status
+    c.requires.in_reach (exact_told _ _ _ c.requires.told (g.met.S.Store.sized c.args.file.now)) (c.in-Ok-None.ensures.ended (ap Ok c.in-Ok-None.field-0-is) ∙ c.loop-event.invariant.same_size) (c.loop-event.invariant.given made)
     (goes-same _ _ _ _ _ _ (Ok None) c.loop-event.invariant.file.same_bytes c.loop-event.invariant.not_kept (ap Ok c.in-Ok-None.field-0-is) c.in-Ok-None.ensures.goes_on.past)
 
 pub returns-in-Err-clause-handed_of : goal.returns-in-Err-clause-handed_of
@@ -194,12 +187,9 @@ returns-in-Ok-None-clause-handed_of g c =
 
 pub returns-in_err-status-in-Ok-Some-clause-handed_of : goal.returns-in_err-status-in-Ok-Some-clause-handed_of
 returns-in_err-status-in-Ok-Some-clause-handed_of g c =
-    let e = c.in-Ok-Some.ensures.event c.in-Ok-Some.event (ap Ok c.in-Ok-Some.field-0-is) in
     step-passed c.args.words.now _ (progress_of c.loop-event.walker).place (progress_of c.next.new.self).place _ _ _ c.loop-event.status
     (piece_of c.in-Ok-Some.event ∷ []) _
-    (event-allowed g.F.Fn (test_of c.loop-event.walker) c.args.words.now.most _ _ (progress_of c.next.new.self).size c.in-Ok-Some.event
-    (bound-same g.F.Fn _ _ c.args.words.now.most c.loop-event.invariant.same_test c.requires.bound)
-    e.bounds (progress_of c.next.new.self).within c.in-Ok-Some.ensures.stands.in_reach e.allowed)
+    (passed g (goal.at.returns-in_err-status-in-Ok-Some-clause-handed_of g c).After-print_event)
     (c.loop-event.invariant.given None)
     (goes-same _ _ _ _ _ _ (Ok (Some c.in-Ok-Some.event)) c.loop-event.invariant.file.same_bytes c.loop-event.invariant.not_kept (ap Ok c.in-Ok-Some.field-0-is) c.in-Ok-Some.ensures.goes_on.past)
     (called-on _ _ (progress_of c.loop-event.walker).keep false 0 (progress_of c.loop-event.walker).place (progress_of c.next.new.self).place _

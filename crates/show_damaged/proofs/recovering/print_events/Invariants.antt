@@ -13,10 +13,10 @@ use Rattle.show_damaged.proofs.recovering.print_events.Given as goal
 
 abbrev pub invariant-loop-event : goal.invariant-loop-event
 invariant-loop-event g l = record {
-  same_size : (progress_of l.walker).size ≡ (progress_of l.fn.walker).size;
+  same_size : (progress_of l.walker).size ≡ l.fn.size;
   not_kept : (progress_of l.walker).keep ≡ false;
   going : (progress_of l.walker).stopped ≡ None;
-  same_test : test_of l.walker ≡ test_of l.fn.walker;
+  same_test : test_of l.walker ≡ test_of l.initial.walker;
   file : OnlyAsks g.S.Store.bytes g.S.Store.told g.S.Store.name g.S.Store.faults ⊥ l.fn.file l.file;
   stands : StandsIn (g.S.Store.bytes l.file) (g.S.Store.told l.file) (progress_of l.walker);
   given : (made : Option (List ℕ)) → IfSome (g.S.Store.bytes l.fn.file) (λ file. IsGivenTo l.words file (progress_of l.walker).place
