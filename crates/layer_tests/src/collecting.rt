@@ -43,21 +43,31 @@ fn assert_records(rt: &impl Abort, records: &Records, expected: &[&str]) {
 }
 
 /// Two passes put three records in turns: the first `a`, the second `bc`, and the first an empty one.
+fn put_in_turns(rt: &impl Abort, collector: &Collector, first: &mut Pass, second: &mut Pass)
+    requires first { BelongsTo collector.now first.old }
+    requires second { BelongsTo collector.now second.old }
+    ensures first { BelongsTo collector.now first.new }
+    ensures second { BelongsTo collector.now second.new }
+{
+    put(rt, collector, first, b"a", 0);
+    put(rt, collector, second, b"bc", 9);
+    put(rt, collector, first, b"", 19);
+    assert_eq!(rt; first.ended(), None);
+    assert_eq!(rt; second.ended(), None);
+}
+
+/// What is made of these passes.
 fn gathered_in_turns(rt: &impl Abort, alloc: Global) -> Result<Gathered, AllocError>
     ensures { IfOk result (λ made. length made.numbers ≡ 2) }
 {
+    let mut ended = Vec::with_capacity(alloc, 2)?;
     let (collector, mut passes) = Collector::new(alloc, 2)?;
     let mut second = passes.pop().expect(rt, "two passes");
     let mut first = passes.pop().expect(rt, "two passes");
-    put(rt, &collector, &mut first, b"a", 0);
-    put(rt, &collector, &mut second, b"bc", 9);
-    put(rt, &collector, &mut first, b"", 19);
-    assert_eq!(rt; first.ended(), None);
-    assert_eq!(rt; second.ended(), None);
-    let mut passes = Vec::with_capacity(alloc, 2)?;
-    passes.push_reserved(first);
-    passes.push_reserved(second);
-    finish(alloc, collector, passes)
+    put_in_turns(rt, &collector, &mut first, &mut second);
+    ended.push_reserved(first);
+    ended.push_reserved(second);
+    finish(alloc, collector, ended)
 }
 
 #[test]
@@ -69,62 +79,38 @@ fn records_stand_in_the_order_of_their_receipts(rt: HostRuntime) -> Result<(), F
     Ok(())
 }
 
-/// A pass, and the length of its records.
-#[derive(Drop)]
-struct Job {
-    pass: Pass,
-    len: usize,
-}
-
-/// Puts 100 records of one length, or those before the first that is refused.
-fn put_hundred(collector: &Collector, job: Job) -> Pass
-    requires { BelongsTo collector.now job.pass }
+/// Puts 100 records, or those before the first that is refused.
+fn put_hundred(collector: &Collector, mut pass: Pass) -> Pass
+    requires { BelongsTo collector.now pass }
     ensures { BelongsTo collector.now result }
 {
-    let Job { mut pass, len } = job;
-    let rec = [7; 2];
-    let rec = &rec[..len.min(2)];
     for _ in 0..100 {
-        if collector.put(&mut pass, rec).is_err() {
+        if collector.put(&mut pass, b"a").is_err() {
             break;
         }
     }
     pass
 }
 
-/// Does the jobs in threads.
+/// Puts records of each pass in a thread of its own.
 fn put_in_threads<R: Threads + Sync>(
     rt: &R,
     collector: &Collector,
-    jobs: Vec<Job>,
+    passes: Vec<Pass>,
 ) -> Result<Vec<Pass>, AllocError>
-    requires { All (λ job. BelongsTo collector.now job.pass) jobs.items }
-    ensures count { IfOk result (λ passes. vec_len passes ≡ vec_len jobs) }
-    ensures each { IfOk result (λ passes. All (BelongsTo collector.now) passes.items) }
+    requires { All (BelongsTo collector.now) passes.items }
+    ensures count { IfOk result (λ put. vec_len put ≡ vec_len passes) }
+    ensures each { IfOk result (λ put. All (BelongsTo collector.now) put.items) }
 {
-    thread::map_vec(rt, jobs, &|job| put_hundred(collector, job))
+    thread::map_vec(rt, passes, &|pass| put_hundred(collector, pass))
 }
 
-/// Two passes put 100 records each, of one byte and of two, side by side.
-fn gathered_in_threads<R: Threads + Abort + Sync>(
-    rt: &R,
-    alloc: Global,
-) -> Result<Gathered, AllocError>
+/// Two passes put 100 records each side by side.
+fn gathered_in_threads<R: Threads + Sync>(rt: &R, alloc: Global) -> Result<Gathered, AllocError>
     ensures { IfOk result (λ made. length made.numbers ≡ 2) }
 {
-    let (collector, mut passes) = Collector::new(alloc, 2)?;
-    let second = passes.pop().expect(rt, "two passes");
-    let first = passes.pop().expect(rt, "two passes");
-    let mut jobs = Vec::with_capacity(alloc, 2)?;
-    jobs.push_reserved(Job {
-        pass: first,
-        len: 1,
-    });
-    jobs.push_reserved(Job {
-        pass: second,
-        len: 2,
-    });
-    let passes = put_in_threads(rt, &collector, jobs)?;
+    let (collector, passes) = Collector::new(alloc, 2)?;
+    let passes = put_in_threads(rt, &collector, passes)?;
     finish(alloc, collector, passes)
 }
 
@@ -139,13 +125,20 @@ fn count_numbers(rt: &impl Abort, numbers: &Numbers, counts: &mut [u8]) {
     }
 }
 
+/// Asserts that each of 200 numbers is one of two passes, once.
+fn assert_each_once(rt: &impl Abort, gathered: &Gathered)
+    requires { length gathered.now.numbers ≡ 2 }
+{
+    let mut counts = [0u8; 200];
+    count_numbers(rt, gathered.numbers(0), &mut counts);
+    count_numbers(rt, gathered.numbers(1), &mut counts);
+    assert!(rt; counts.iter().all(|&count| count == 1));
+}
+
 #[test]
 fn records_of_two_threads_stand_each_once(rt: HostRuntime) -> Result<(), Fail> {
     let gathered = gathered_in_threads(&rt, rt.alloc())?;
     assert_eq!(rt; gathered.records().len(), 200);
-    let mut counts = [0u8; 200];
-    count_numbers(&rt, gathered.numbers(0), &mut counts);
-    count_numbers(&rt, gathered.numbers(1), &mut counts);
-    assert!(rt; counts.iter().all(|&count| count == 1));
+    assert_each_once(&rt, &gathered);
     Ok(())
 }

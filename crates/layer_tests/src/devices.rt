@@ -5,6 +5,8 @@ use crate::stand_ins::{Call, FOLDER, FakeFiles, REPLACED, Script};
 use record_append::{AsSink, AsStore, Device, FileDevice};
 use record_io::{Failed, get_exact, put_all};
 use std::fs::{self, OpenFile, OpenOptions};
+use std::io;
+use std::process::Abort;
 use std::test::Fail;
 
 /// Reads the front of a device, cuts off what is behind it, and puts a piece there.
@@ -18,88 +20,157 @@ fn regrow<G: Device>(device: &mut G, front: &mut [u8], piece: &[u8]) -> Result<(
 }
 
 /// What a device answers that is asked for its size, cut and put to.
-fn size_cut_and_put<G: Device>(
-    device: &mut G,
-) -> (
+type SizeCutAndPut = (
     Result<u64, Failed>,
     Result<(), Failed>,
     Result<usize, Failed>,
-) {
+);
+
+fn size_cut_and_put<G: Device>(device: &mut G) -> SizeCutAndPut {
     match device.size() {
         Ok(size) if size > 2 => (Ok(size), device.cut(2), device.put(b"abc")),
         size => (size, Err(Failed), device.put(b"abc")),
     }
 }
 
-/// A stand-in is never cut, and keeps its size.
+/// The name of a file, which call fails, the answers of the size and of the put, and how often the file is opened.
+const DEVICES: [(
+    &str,
+    Option<Call>,
+    Result<u64, Failed>,
+    Result<usize, Failed>,
+    u32,
+); 8] = [
+    ("file", None, Ok(8), Ok(3), 1),
+    ("file", Some(Call::About), Ok(8), Ok(3), 1),
+    ("file", Some(Call::Open), Err(Failed), Err(Failed), 1),
+    ("file", Some(Call::Size), Err(Failed), Err(Failed), 1),
+    ("file", Some(Call::Write), Ok(8), Err(Failed), 1),
+    ("file", Some(Call::Flush), Ok(8), Err(Failed), 1),
+    (FOLDER, None, Err(Failed), Err(Failed), 0),
+    (REPLACED, None, Err(Failed), Err(Failed), 1),
+];
+
+/// Asks, cuts and puts to a device twice. A stand-in is never cut, and keeps its size.
+fn use_twice<G: Device>(device: &mut G) -> [SizeCutAndPut; 2] {
+    [size_cut_and_put(device), size_cut_and_put(device)]
+}
+
+fn assert_device(
+    rt: &impl Abort,
+    path: &str,
+    script: Script,
+    answers: &SizeCutAndPut,
+    opened: u32,
+) {
+    let files = FakeFiles::new(script);
+    let mut device = FileDevice::named(&files, path);
+    assert_eq!(rt; files.opened.get(), 0);
+    let used = use_twice(&mut device);
+    let is_right = used == [*answers; 2] && files.opened.get() == opened;
+    assert!(rt; is_right, "{path}, {script:?}: {used:?}");
+}
+
 #[test]
 fn devices_fail_with_each_call_of_a_file(rt: HostRuntime) {
-    for (path, fails, size, put, opened) in [
-        ("file", None, Ok(8), Ok(3), 1),
-        ("file", Some(Call::About), Ok(8), Ok(3), 1),
-        ("file", Some(Call::Open), Err(Failed), Err(Failed), 1),
-        ("file", Some(Call::Size), Err(Failed), Err(Failed), 1),
-        ("file", Some(Call::Write), Ok(8), Err(Failed), 1),
-        ("file", Some(Call::Flush), Ok(8), Err(Failed), 1),
-        (FOLDER, None, Err(Failed), Err(Failed), 0),
-        (REPLACED, None, Err(Failed), Err(Failed), 1),
-    ] {
-        let files = FakeFiles::new(Script { fails, most: 9 });
-        let mut device = FileDevice::named(&files, path);
-        assert_eq!(rt; files.opened.get(), 0);
-        for _ in 0..2 {
-            assert_eq!(rt;
-                size_cut_and_put(&mut device),
-                (size, Err(Failed), put),
-                "{path}, {fails:?}"
-            );
-        }
-        assert_eq!(rt; files.opened.get(), opened, "{path}, {fails:?}");
+    for (path, fails, size, put, opened) in DEVICES {
+        let answers = (size, Err(Failed), put);
+        assert_device(&rt, path, Script { fails, most: 9 }, &answers, opened);
     }
 }
 
-/// Each time the front is read before the rest is cut off.
-#[test]
-fn a_file_is_made_cut_and_grown_at_its_end(rt: HostRuntime) -> Result<(), Fail> {
-    let path = "grown";
-    let mut device = FileDevice::named(&rt, path);
-    for (size, front, piece) in [(0, "", "abcdef"), (6, "abcd", "gh"), (6, "abcdgh", "i")] {
-        let told = device.size()?;
-        assert_eq!(rt; told, size, "{piece}");
-        let mut buf = [0; 6];
-        assert!(rt; front.len() <= 6 && front.len() as u64 <= told, "{piece}");
-        let read = &mut buf[..front.len()];
-        regrow(&mut device, read, piece.as_bytes())?;
-        assert_eq!(rt; &buf[..front.len()], front.as_bytes(), "{piece}");
-    }
-    assert_eq!(rt; device.size(), Ok(7));
-    fs::remove_file(&rt, path)?;
+/// The size, the front that is read before the rest is cut off, and what is put behind it.
+const GROWN: [(u64, &str, &str); 3] = [(0, "", "abcdef"), (6, "abcd", "gh"), (6, "abcdgh", "i")];
+
+/// Grows a device.
+fn assert_grown<G: Device>(
+    rt: &impl Abort,
+    device: &mut G,
+    size: u64,
+    front: &[u8],
+    piece: &[u8],
+) -> Result<(), Failed> {
+    let told = device.size()?;
+    assert!(rt; told == size && front.len() as u64 <= told && front.len() <= 6);
+    let mut buf = [0; 6];
+    let read = &mut buf[..front.len()];
+    regrow(device, read, piece)?;
+    assert_eq!(rt; &buf[..front.len()], front);
     Ok(())
 }
 
-/// Somebody else gives the file a size before it is cut to five bytes, and one before a byte is put.
+#[test]
+fn a_file_is_made_cut_and_grown_at_its_end(rt: HostRuntime) -> Result<(), Fail> {
+    let mut device = FileDevice::named(&rt, "grown");
+    for (size, front, piece) in GROWN {
+        assert_grown(&rt, &mut device, size, front.as_bytes(), piece.as_bytes())?;
+    }
+    assert_eq!(rt; device.size(), Ok(7));
+    fs::remove_file(&rt, "grown")?;
+    Ok(())
+}
+
+/// The size that somebody else gives a file of seven bytes before it is cut to five, the answer, the size before a byte is put,
+/// the answer, and the last size.
+const CHANGES: [(u64, Result<(), Failed>, u64, Result<usize, Failed>, u64); 5] = [
+    (7, Ok(()), 5, Ok(1), 6),
+    (7, Ok(()), 6, Err(Failed), 6),
+    (7, Ok(()), 4, Err(Failed), 4),
+    (8, Err(Failed), 8, Err(Failed), 8),
+    (4, Err(Failed), 4, Err(Failed), 4),
+];
+
+/// Cuts a device whose file is given a size after the device told its own.
+fn assert_cut<G: Device, F: OpenFile>(
+    rt: &impl Abort,
+    device: &mut G,
+    file: &F,
+    size: u64,
+    answer: Result<(), Failed>,
+) -> io::Result<()> {
+    let told = device.size().expect(rt, "a size");
+    assert!(rt; told >= 5);
+    file.set_len(size)?;
+    assert_eq!(rt; device.cut(5), answer, "{size}");
+    Ok(())
+}
+
+/// Puts to a device whose file is given a size, and asks for the last one.
+fn assert_put<G: Device, F: OpenFile>(
+    rt: &impl Abort,
+    device: &mut G,
+    file: &F,
+    size: u64,
+    answer: Result<usize, Failed>,
+    last: u64,
+) -> io::Result<()> {
+    file.set_len(size)?;
+    assert_eq!(rt; device.put(b"x"), answer, "{size}");
+    assert_eq!(rt; device.size(), Ok(last), "{size}");
+    Ok(())
+}
+
+/// Uses a device by turns with somebody else.
+fn assert_changed<G: Device, F: OpenFile>(
+    rt: &impl Abort,
+    device: &mut G,
+    file: &F,
+    row: &(u64, Result<(), Failed>, u64, Result<usize, Failed>, u64),
+) -> io::Result<()> {
+    let (before_cut, cut, before_put, put, last) = *row;
+    file.set_len(7)?;
+    assert_cut(rt, device, file, before_cut, cut)?;
+    assert_put(rt, device, file, before_put, put, last)
+}
+
 #[test]
 fn a_file_that_somebody_else_changes_is_left_as_it_is(rt: HostRuntime) -> Result<(), Fail> {
-    let path = "shared";
-    let mut device = FileDevice::named(&rt, path);
+    let mut device = FileDevice::named(&rt, "shared");
     assert_eq!(rt; device.put(b"abcdefg"), Ok(7));
-    let file = OpenOptions::new().write(true).open(&rt, path)?;
-    for (before_cut, cut, before_put, put, size) in [
-        (7, Ok(()), 5, Ok(1), 6),
-        (7, Ok(()), 6, Err(Failed), 6),
-        (7, Ok(()), 4, Err(Failed), 4),
-        (8, Err(Failed), 8, Err(Failed), 8),
-        (4, Err(Failed), 4, Err(Failed), 4),
-    ] {
-        file.set_len(7)?;
-        let told = device.size()?;
-        assert!(rt; told >= 5);
-        file.set_len(before_cut)?;
-        assert_eq!(rt; device.cut(5), cut, "{before_cut}");
-        file.set_len(before_put)?;
-        assert_eq!(rt; device.put(b"x"), put, "{before_cut}, {before_put}");
-        assert_eq!(rt; device.size(), Ok(size), "{before_cut}, {before_put}");
+    let file = OpenOptions::new().write(true).open(&rt, "shared")?;
+    for row in &CHANGES {
+        assert_changed(&rt, &mut device, &file, row)?;
     }
-    fs::remove_file(&rt, path)?;
+    fs::remove_file(&rt, "shared")?;
     Ok(())
 }

@@ -107,22 +107,28 @@ fn file_of_lines<R: Threads + Abort + Sync>(
     file_fed(rt, alloc, size, &mut feed)
 }
 
-/// The records of the one chunk have the positions 64, 65 and 66.
-#[test]
-fn records_are_in_the_parts_of_their_positions(rt: HostRuntime) -> Result<(), Fail> {
-    let alloc = rt.alloc();
-    let made = file_of_lines(&rt, alloc, 1_048_576, b"a\nbc\n\n")?;
-    let file = made.taken();
+/// Asserts which parts a file has whose records have the positions 64, 65 and 66.
+fn assert_three_records<R: Threads + Abort + Sync>(
+    rt: &R,
+    alloc: Global,
+    file: &[u8],
+) -> Result<(), AllocError> {
     assert_eq!(rt; file.len(), 112);
-    assert_read(&rt, alloc, file, &[], &[b"a\nbc\n\n"])?;
-    assert_read(&rt, alloc, file, &[65, 66], &[b"a\n", b"bc\n", b"\n"])?;
+    assert_read(rt, alloc, file, &[], &[b"a\nbc\n\n"])?;
+    assert_read(rt, alloc, file, &[65, 66], &[b"a\n", b"bc\n", b"\n"])?;
     assert_read(
-        &rt,
+        rt,
         alloc,
         file,
         &[0, 112, 112],
         &[b"", b"a\nbc\n\n", b"", b""],
-    )?;
+    )
+}
+
+#[test]
+fn records_are_in_the_parts_of_their_positions(rt: HostRuntime) -> Result<(), Fail> {
+    let made = file_of_lines(&rt, rt.alloc(), 1_048_576, b"a\nbc\n\n")?;
+    assert_three_records(&rt, rt.alloc(), made.taken())?;
     Ok(())
 }
 
@@ -136,44 +142,25 @@ fn long_lines(alloc: Global) -> Result<Vec<u8>, AllocError> {
     Ok(lines)
 }
 
-/// Asserts that this part has a record of 30,000 bytes for each of these letters.
-fn assert_long_part(rt: &impl Abort, part: &Records, letters: &[u8]) {
-    assert_eq!(rt; part.len(), letters.len());
-    for number in 0..part.len() {
-        assert!(rt;
-            part.get(number) == &[letters[number]; 30_000][..],
-            "{number}"
-        );
-    }
-}
-
-/// Asserts that a file read between these cuts has such parts.
+/// Asserts which parts the file of the long lines has.
 fn assert_long_parts<R: Threads + Abort + Sync>(
     rt: &R,
     alloc: Global,
     file: &[u8],
-    cuts: &[u64],
-    parts: &[&[u8]],
-)
-    requires few { length cuts.now ≤ 15 }
-    requires small { length file.now ≤ 2 ^ 28 }
-    requires rise { RiseUpTo (length file.now) 0 cuts.now }
-{
-    let read = read_between(rt, alloc, file, cuts).expect(rt, "no fault");
-    assert_eq!(rt; read.len(), parts.len());
-    for number in 0..read.len() {
-        assert_long_part(rt, read.part(number), parts[number]);
-    }
+    lines: &[u8],
+) -> Result<(), AllocError> {
+    assert!(rt; file.len() == 120_268 && lines.len() == 120_004);
+    let (two, others) = lines.split_at(60_002);
+    let (third, fourth) = others.split_at(30_001);
+    assert_read(rt, alloc, file, &[40_089, 80_178], &[two, third, fourth])
 }
 
 /// The chunks, of one record each, begin at 64, 30109, 60154 and 90223: the header of the block at 65536 lies in the third.
 #[test]
 fn a_part_begins_with_the_first_chunk_behind_its_cut(rt: HostRuntime) -> Result<(), Fail> {
-    let alloc = rt.alloc();
-    let made = file_of_lines(&rt, alloc, 1, &long_lines(alloc)?)?;
-    let file = made.taken();
-    assert_eq!(rt; file.len(), 120_268);
-    assert_long_parts(&rt, alloc, file, &[40_089, 80_178], &[b"ab", b"c", b"d"]);
+    let lines = long_lines(rt.alloc())?;
+    let made = file_of_lines(&rt, rt.alloc(), 1, &lines)?;
+    assert_long_parts(&rt, rt.alloc(), made.taken(), &lines)?;
     Ok(())
 }
 
@@ -238,26 +225,45 @@ pub(crate) fn meeting_stores<'a>(
     ensures count { IfOk result (λ stores. vec_len stores ≡ 2) }
     ensures told { IfOk result (λ stores. All (λ s. told_if s.store.asked (length s.store.bytes) ≡ Some (length file.now)) stores.items) }
 {
-    let mut stores = Vec::new(alloc);
-    stores.push(meeting_store(alloc, file, meeting, FIRST_STORE)?)?;
-    stores.push(meeting_store(alloc, file, meeting, SECOND_STORE)?)?;
+    let mut stores = Vec::with_capacity(alloc, 2)?;
+    stores.push_reserved(meeting_store(alloc, file, meeting, FIRST_STORE)?);
+    stores.push_reserved(meeting_store(alloc, file, meeting, SECOND_STORE)?);
     Ok(stores)
+}
+
+/// Reads a file between its front of 100 bytes and the rest, from two stores that meet.
+fn read_by_two<R: Threads + Sync>(
+    rt: &R,
+    alloc: Global,
+    file: &[u8],
+    meeting: &Meeting,
+) -> Result<Parts, ReadEnd>
+    requires { (100 ≤ length file.now) × (length file.now ≤ 10000) }
+{
+    let cuts = Cuts::of(alloc, &[100])?;
+    let mut stores = meeting_stores(alloc, file, meeting)?;
+    read_ranges(rt, alloc, stores.as_mut_slice(), file.len() as u64, &cuts)
+}
+
+/// How many records both parts have.
+fn counts_by_two<R: Threads + Abort + Sync>(
+    rt: &R,
+    alloc: Global,
+    file: &[u8],
+    meeting: &Meeting,
+) -> [usize; 2] {
+    assert!(rt; 100 <= file.len() && file.len() <= 10_000);
+    let parts = read_by_two(rt, alloc, file, meeting).expect(rt, "no fault");
+    assert_eq!(rt; parts.len(), 2);
+    [parts.part(0).len(), parts.part(1).len()]
 }
 
 #[test]
 fn parts_are_read_side_by_side(rt: HostRuntime) -> Result<(), Fail> {
     let made = file_of(&rt, rt.alloc(), 40)?;
-    let file = made.taken();
-    assert!(rt; 100 <= file.len() && file.len() <= 10_000);
     let meeting = Meeting::of(FIRST_STORE | SECOND_STORE);
-    let mut stores = meeting_stores(rt.alloc(), file, &meeting)?;
-    let cuts = Cuts::of(rt.alloc(), &[100])?;
-    let size = file.len() as u64;
-    let read = read_ranges(&rt, rt.alloc(), stores.as_mut_slice(), size, &cuts);
+    let counts = counts_by_two(&rt, rt.alloc(), made.taken(), &meeting);
     assert!(rt; !meeting.gave_up.load(Ordering::SeqCst));
-    let parts = read.expect(&rt, "no fault");
-    assert_eq!(rt; parts.len(), 2);
-    assert_eq!(rt; parts.part(0).len(), 1);
-    assert_eq!(rt; parts.part(1).len(), 39);
+    assert_eq!(rt; counts, [1, 39]);
     Ok(())
 }

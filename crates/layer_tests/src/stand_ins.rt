@@ -1,4 +1,6 @@
 //! Files and streams of 8 bytes, which fail at a call and move fewer bytes than they are asked to.
+ghost use Rattle.std.specs.Prelude.{◌≤◌, length};
+
 use std::alloc::Allocator;
 use std::cell::Cell;
 use std::fs::{Metadata, OpenFile, OpenOptions};
@@ -18,7 +20,7 @@ pub enum Call {
 }
 
 /// Which call fails, and how many bytes a call moves at most.
-#[derive(Clone, Copy)]
+#[derive(Clone, Copy, Debug)]
 pub struct Script {
     pub fails: Option<Call>,
     pub most: usize,
@@ -52,12 +54,20 @@ impl Fake {
     }
 }
 
+/// Puts at most so many bytes into a buffer, and answers how many.
+fn put_front(bytes: &[u8], most: usize, buf: &mut [u8]) -> usize
+    ensures { result ≤ length buf.old }
+{
+    let count = most.min(bytes.len()).min(buf.len());
+    buf[..count].copy_from_slice(&bytes[..count]);
+    count
+}
+
 impl Read for Fake {
     fn read(&mut self, buf: &mut [u8]) -> io::Result<usize> {
         let most = self.script.begin(Call::Read)?;
         let left = b"abcdefgh".get(self.at..).unwrap_or(b"");
-        let count = most.min(left.len()).min(buf.len());
-        buf[..count].copy_from_slice(&left[..count]);
+        let count = put_front(left, most, buf);
         self.at = self.at.saturating_add(count);
         Ok(count)
     }

@@ -3,7 +3,7 @@ ghost use Rattle.std.specs.Prelude.{◌≡◌, ◌^◌, ◌≤◌, ◌∷◌, []
 ghost use Rattle.simple_chunk.specs.Costs.{cost_of};
 
 use chunk_header::Chunk;
-use chunk_workers::{Coder, Draws, SimpleCoder, encode_window};
+use chunk_workers::{Coder, Draws, Numbered, SimpleCoder, encode_window};
 use simple_chunk::{Records, encode};
 use std::alloc::{AllocError, Global};
 use std::hint;
@@ -33,32 +33,46 @@ fn numbered_groups(alloc: Global, count: u8) -> Result<Vec<Records>, AllocError>
     Ok(groups)
 }
 
+/// Codes so many groups by two workers.
+fn coded_by_two<R: Threads + Sync, C: Coder + Sync>(
+    rt: &R,
+    alloc: Global,
+    coder: &C,
+    count: u8,
+) -> Result<Vec<Numbered>, AllocError> {
+    let groups = numbered_groups(alloc, count)?;
+    let (draws, seats) = Draws::new(alloc, count as u64, 2)?;
+    let (chunks, ended) = encode_window(rt, alloc, &draws, seats, coder, &groups)?;
+    draws.finish(ended);
+    Ok(chunks)
+}
+
+/// Whether there is a chunk of this number, and the right one.
+fn is_coded(chunks: &[Numbered], byte: u8) -> bool {
+    // No compression, one byte of sizes, a size of 1, and the record.
+    let data = [0, 1, 1, byte];
+    chunks.iter().any(|c| c.number == byte as u64 && c.chunk.bytes.as_slice() == data.as_slice())
+}
+
 /// Codes so many groups by two workers, and asserts that there is one chunk for each number, and the right one.
 fn code_each_once<R: Threads + Abort + Sync, C: Coder + Sync>(
     rt: &R,
     alloc: Global,
     coder: &C,
     count: u8,
-) -> Result<(), Fail> {
-    let groups = numbered_groups(alloc, count)?;
-    let (draws, seats) = Draws::new(alloc, count as u64, 2)?;
-    let (chunks, ended) = encode_window(rt, alloc, &draws, seats, coder, &groups)?;
-    draws.finish(ended);
+) -> Result<(), AllocError> {
+    let chunks = coded_by_two(rt, alloc, coder, count)?;
     assert_eq!(rt; chunks.len(), count as usize);
     for byte in 0..count {
-        // No compression, one byte of sizes, a size of 1, and the record.
-        let data = [0, 1, 1, byte];
-        let is_coded = chunks.iter().any(|c| {
-            c.number == byte as u64 && c.chunk.bytes.as_slice() == data.as_slice()
-        });
-        assert!(rt; is_coded, "number {byte}");
+        assert!(rt; is_coded(&chunks, byte), "number {byte}");
     }
     Ok(())
 }
 
 #[test]
 fn two_groups_have_numbers_0_and_1(rt: HostRuntime) -> Result<(), Fail> {
-    code_each_once(&rt, rt.alloc(), &SimpleCoder, 2)
+    code_each_once(&rt, rt.alloc(), &SimpleCoder, 2)?;
+    Ok(())
 }
 
 /// Codes the group of this byte only once seven others are coded, or gives up.
