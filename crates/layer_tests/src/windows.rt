@@ -33,15 +33,18 @@ fn numbered_groups(alloc: Global, count: u8) -> Result<Vec<Records>, AllocError>
     Ok(groups)
 }
 
-/// Codes so many groups by two workers.
-fn coded_by_two<R: Threads + Sync, C: Coder + Sync>(
+/// Codes so many groups by so many workers.
+fn coded_by<R: Threads + Sync, C: Coder + Sync>(
     rt: &R,
     alloc: Global,
+    workers: u32,
     coder: &C,
     count: u8,
-) -> Result<Vec<Numbered>, AllocError> {
+) -> Result<Vec<Numbered>, AllocError>
+    requires workers { (1 ≤ workers) × (workers ≤ 16) }
+{
     let groups = numbered_groups(alloc, count)?;
-    let (draws, seats) = Draws::new(alloc, count as u64, 2)?;
+    let (draws, seats) = Draws::new(alloc, count as u64, workers)?;
     let (chunks, ended) = encode_window(rt, alloc, &draws, seats, coder, &groups)?;
     draws.finish(ended);
     Ok(chunks)
@@ -54,14 +57,17 @@ fn is_coded(chunks: &[Numbered], byte: u8) -> bool {
     chunks.iter().any(|c| c.number == byte as u64 && c.chunk.bytes.as_slice() == data.as_slice())
 }
 
-/// Codes so many groups by two workers, and asserts that there is one chunk for each number, and the right one.
+/// Codes so many groups by so many workers, and asserts that there is one chunk for each number, and the right one.
 fn code_each_once<R: Threads + Abort + Sync, C: Coder + Sync>(
     rt: &R,
     alloc: Global,
+    workers: u32,
     coder: &C,
     count: u8,
-) -> Result<(), AllocError> {
-    let chunks = coded_by_two(rt, alloc, coder, count)?;
+) -> Result<(), AllocError>
+    requires workers { (1 ≤ workers) × (workers ≤ 16) }
+{
+    let chunks = coded_by(rt, alloc, workers, coder, count)?;
     assert_eq!(rt; chunks.len(), count as usize);
     for byte in 0..count {
         assert!(rt; is_coded(&chunks, byte), "number {byte}");
@@ -71,7 +77,9 @@ fn code_each_once<R: Threads + Abort + Sync, C: Coder + Sync>(
 
 #[test]
 fn two_groups_have_numbers_0_and_1(rt: HostRuntime) -> Result<(), Fail> {
-    code_each_once(&rt, rt.alloc(), &SimpleCoder, 2)?;
+    for workers in [1, 2, 3, 16] {
+        code_each_once(&rt, rt.alloc(), workers, &SimpleCoder, 2)?;
+    }
     Ok(())
 }
 
@@ -127,7 +135,7 @@ impl Coder for LastOfEight {
 fn groups_are_coded_while_any_other_is(rt: HostRuntime) -> Result<(), Fail> {
     for last in 0..8 {
         let coder = LastOfEight::new(last);
-        code_each_once(&rt, rt.alloc(), &coder, 8)?;
+        code_each_once(&rt, rt.alloc(), 2, &coder, 8)?;
         assert!(rt; !coder.gave_up(), "gave up on group {last}");
     }
     Ok(())
