@@ -69,22 +69,34 @@ fn are_woven(
     let Ok(printed) = text_lines(alloc, printed) else {
         return Ok(false);
     };
-    let mut begin = 0_usize;
+    let mut begin = 0;
     for (number, file) in files.iter().enumerate() {
-        let own = text_lines(alloc, file)?;
-        let end = begin.saturating_add(own.len());
-        let Some(places) = printed.get(begin..end) else {
-            return Ok(false);
-        };
-        if !is_one_woven(alloc, records, number, &own, places)? {
-            return Ok(false);
+        match end_of_woven(alloc, records, number, file, &printed, begin)? {
+            Some(end) => begin = end,
+            None => return Ok(false),
         }
-        begin = end;
     }
     Ok(begin == printed.len())
 }
 
-/// The same of the file of a number, of which these lines are shown, and these printed.
+/// Where the printed lines of the file of a number end that begin at a place, if they give each of its records such a place.
+fn end_of_woven(
+    alloc: Global,
+    records: &mut [Shown<'_>],
+    number: usize,
+    file: &[u8],
+    printed: &[&str],
+    begin: usize,
+) -> Result<Option<usize>> {
+    let own = text_lines(alloc, file)?;
+    let end = begin.saturating_add(own.len());
+    match printed.get(begin..end) {
+        Some(places) if is_one_woven(alloc, records, number, &own, places)? => Ok(Some(end)),
+        _ => Ok(None),
+    }
+}
+
+/// Whether these printed lines give each record that is shown of the file of a number a place of its own.
 fn is_one_woven(
     alloc: Global,
     records: &mut [Shown<'_>],
@@ -93,10 +105,20 @@ fn is_one_woven(
     printed: &[&str],
 ) -> Result<bool> {
     let number = format!(in alloc; "{number}")?;
+    are_in_order(records, number.as_str(), shown, printed)
+}
+
+/// The same of a number in digits.
+fn are_in_order(
+    records: &mut [Shown<'_>],
+    number: &str,
+    shown: &[&str],
+    printed: &[&str],
+) -> Result<bool> {
     let mut from = 0;
     for (line, place) in shown.iter().zip(printed) {
         let (_, record) = split_line(line)?;
-        match place_of(records, from, place, number.as_str(), record) {
+        match place_of(records, from, place, number, record) {
             Some(next) => from = next,
             None => return Ok(false),
         }
