@@ -1,5 +1,5 @@
 -- How a run of `ranges` ends, by how its work ended.
-use Rattle.std.proofs.Common.{◌≡◌, ◌≢◌, ◌∙◌, ℕ, ◌⊎◌, false, Option, Some, Result, Ok, Err, List, [], ◌∷◌, ◌++◌, length, map, take, refl, sym, ap, subst, inl, inr, arith}
+use Rattle.std.proofs.Common.{◌≡◌, ◌≢◌, ℕ, false, Option, Some, Result, Ok, Err, List, [], length, map, take, refl, sym, subst, inl, inr, arith}
 use Rattle.std.specs.List.{AllByRecursion}
 use Rattle.record_values.specs.Bytes.{AreBytes}
 use Rattle.record_io.specs.Outside.{Rose, Takes, TakesFront}
@@ -11,15 +11,15 @@ use Rattle.chunk_reader.specs.declared.reasons.Fault.{Fault}
 use Rattle.run_answers.specs.declared.ending.Ending.{Ending}
 use Rattle.run_answers.specs.declared.status.Status.{Status}
 use Rattle.run_answers.specs.Answers.{Answer, noted}
-use Rattle.run_answers.specs.Endings.{SaysEnd}
+use Rattle.run_answers.specs.Endings.{HaveTold, IsAllowedEndOfMany, SaysEnd}
 use Rattle.run_answers.specs.FileAnswers.{limit_text}
 use Rattle.run_answers.specs.Statuses.{fault_text}
 use Rattle.run_answers.specs.Runs.{SeenStream, SeenFile, Seen, seen, IfTold, IsWhole, IsCutOff, IsCutShort, OfSizes, OneRose, SaysAtEnd, TakesThen, Breaks, HasCause, Runs}
-use Rattle.run_answers.proofs.RunEnds.{GaveButNotes, Keeps, PutsLines-none, was-cut_off, went-so_far, runs-whole, runs-said, runs-cut_off}
+use Rattle.run_answers.proofs.RunEnds.{Keeps, PutsLines-none, was-cut_off, went-so_far, runs-whole, runs-said, runs-cut_off}
 use Rattle.run_answers.proofs.ManyFiles.{bytes_of, told_by}
 use Rattle.show_files.specs.Readings.{refused_text}
 use Rattle.riegeli_tool.specs.RangesCommand.{AreOneFile, AreWithin, Differ, IsOnePast, IsRangesAnswer, IsTextOfFile, MayBeRead, MayEndRanges, differ_text, ranges_meaning}
-use Rattle.riegeli_tool.specs.RangesEnds.{AreSized, IsPrinted, PrintsFile, range_ends}
+use Rattle.riegeli_tool.specs.RangesEnds.{IsPrinted, PrintsFile, StopsBy, range_ends}
 use Rattle.riegeli_tool.specs.declared.range_ends.Unread.{Unread}
 use Rattle.riegeli_tool.proofs.RangesAnswers.{first_of_all, printed, ranges_exists}
 use Rattle.run_answers.specs.declared.ending.Cut.TheVariants as cut
@@ -49,7 +49,7 @@ module _ (input made : SeenStream) (files files_then : List SeenFile) (grown : S
 
   -- the stores told sizes of which P holds
   abbrev Told : (List ℕ → Type 0) → Type 0
-  Told P = (sizes : List ℕ) × (told_by files_then ≡ map Some sizes) × P sizes
+  Told = HaveTold (told_by files_then)
 
   of_sizes : (P Q : List ℕ → Type 0) → ((sizes : List ℕ) → P sizes → Q sizes) → Told P → OfSizes ranges_meaning Before After Q
   of_sizes P Q then told = record {
@@ -198,23 +198,27 @@ module _ (input made : SeenStream) (files files_then : List SeenFile) (grown : S
       (refl, rose) says
 
   -- by how the work ended
-  pub runs-ranges : {X : Type 0} (result : Result X (Ending Unread)) (ended : Status) → AreSized result (told_by files_then)
+  pub runs-ranges : {X : Type 0} (result : Result X (Ending Unread)) (ended : Status)
+      → IsAllowedEndOfMany ranges_meaning IsOnePast StopsBy result (told_by files_then)
       → OfFile (λ file. PrintsFile result file out.bytes out_then.bytes)
       → IsPrinted result out.bytes out_then.bytes
       → SaysEnd range_ends result ended notes notes_then
       → (result ≡ Err (end.Cut cut.File) → OneRose files files_then)
       → (result ≡ Err (end.Cut cut.Out) → Rose out.faults out_then.faults)
       → Ended ended
-  runs-ranges (Ok x) ended sized took none says file_rose out_rose = subst Ended (sym says.0) (done sized took says.1)
-  runs-ranges (Err end.Limit) ended sized took none says file_rose out_rose = too_long ended sized none says
-  runs-ranges (Err (end.At (unread.Refused fault))) ended sized took none says file_rose out_rose = refused ended fault sized none took says
-  runs-ranges (Err (end.At (unread.Differ first other))) ended sized took none says file_rose out_rose = differ ended first other sized none says
-  runs-ranges (Err (end.Cut cut.File)) ended sized took none says file_rose out_rose =
+  runs-ranges (Ok x) ended ready took none says file_rose out_rose = subst Ended (sym says.0) (done ready took says.1)
+  runs-ranges (Err end.Limit) ended past took none says file_rose out_rose = too_long ended past none says
+  runs-ranges (Err (end.At (unread.Refused fault))) ended ready took none says file_rose out_rose = refused ended fault ready none took says
+  runs-ranges (Err (end.At (unread.Differ first other))) ended differs took none says file_rose out_rose = differ ended first other differs none says
+  runs-ranges (Err (end.Cut cut.File)) ended used took none says file_rose out_rose =
       subst Ended (sym says.0)
       (cut_at_once status.File tt (λ puts. (puts, refl)) (λ other. absurd (other refl)) none (refl, file_rose refl) says.1)
-  runs-ranges (Err (end.Cut cut.Out)) ended sized took none says file_rose out_rose =
-      subst Ended (sym says.0) (out_failed sized took (out_rose refl) says.1)
-  runs-ranges (Err (end.Cut cut.Memory)) ended sized took none says file_rose out_rose =
+  runs-ranges (Err (end.Cut cut.Out)) ended (used, ready) took none says file_rose out_rose =
+      subst Ended (sym says.0) (out_failed ready took (out_rose refl) says.1)
+  runs-ranges (Err (end.Cut cut.Memory)) ended (used, ready) took none says file_rose out_rose =
       subst Ended (sym says.0)
-      (cut_at_once status.Memory tt (λ puts. (puts, refl)) (λ _. of_sizes MayBeRead MayBeRead (λ sizes may. may) sized) none refl says.1)
-  runs-ranges (Err (end.Cut other)) ended sized took none says file_rose out_rose = absurd sized
+      (cut_at_once status.Memory tt (λ puts. (puts, refl)) (λ _. of_sizes MayBeRead MayBeRead (λ sizes may. may) ready) none refl says.1)
+  runs-ranges (Err (end.Cut cut.Input)) ended (used, ready) took none says file_rose out_rose = absurd (cc used)
+  runs-ranges (Err (end.Cut cut.Made)) ended (used, ready) took none says file_rose out_rose = absurd (cc used)
+  runs-ranges (Err (end.Cut cut.Grown)) ended (used, ready) took none says file_rose out_rose = absurd (cc used)
+  runs-ranges (Err (end.Cut cut.Notes)) ended ((text, says_it, some), ready) took none says file_rose out_rose = absurd (some says_it)

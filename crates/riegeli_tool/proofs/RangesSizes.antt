@@ -1,16 +1,10 @@
 -- The sizes that the stores of one file tell.
-use Rattle.std.proofs.Common.{◌≡◌, ◌∙◌, ℕ, zero, suc, ◌<◌, ◌≤◌, ◌⊎◌, Bool, true, false, cond, not, ◌||◌, Option, Some, None, Result, Ok, Err, List, [], ◌∷◌, get_or, length, map, refl, sym, ap, subst, inl, inr, arith}
+use Rattle.std.proofs.Common.{◌≡◌, ◌∙◌, ℕ, zero, suc, ◌<◌, ◌≤◌, ◌⊎◌, Bool, true, false, cond, not, ◌||◌, Option, Some, None, List, [], ◌∷◌, get_or, length, refl, sym, ap, subst, inl, inr, arith}
 use Rattle.std.specs.Prelude.{◌==◌, nat_lt, slice_get}
-use Rattle.std.specs.List.{AllByRecursion, Any, find, list_any}
-use Rattle.std.proofs.lemmas.Bool.{cases_Bool, cases_lt, eqb-true, eq-eqb, ltb-false, ltb-true}
+use Rattle.std.specs.List.{AllByRecursion, find, list_any}
+use Rattle.std.proofs.lemmas.Bool.{cases_Bool, eqb-true, eq-eqb, ltb-false, ltb-true}
 use Rattle.std.proofs.lemmas.List.Folds.{Any-from_list_any}
-use Rattle.run_answers.specs.declared.ending.Ending.{Ending}
-use Rattle.run_answers.specs.declared.ending.Cut.TheVariants as cut
-use Rattle.run_answers.specs.declared.ending.Ending.TheVariants as end
 use Rattle.riegeli_tool.specs.RangesCommand.{AreAlike, AreWithin, Differ, IsOnePast, MayBeRead, most_range_bytes}
-use Rattle.riegeli_tool.specs.RangesEnds.{IsSizeBy, IsSizeTold}
-use Rattle.riegeli_tool.specs.declared.range_ends.Unread.{Unread}
-use Rattle.riegeli_tool.specs.declared.range_ends.Unread.TheVariants as unread
 
 -- one size is past the limit, or none is
 pub one_past : (sizes : List ℕ) → list_any (λ size. nat_lt most_range_bytes size) sizes ≡ true → IsOnePast sizes
@@ -92,18 +86,6 @@ sizes_judged (first ∷ sizes) some = elim (cases_Bool (list_any (λ size. nat_l
   of_others within None is =
       inr (inr (first, record { some = some; same = all_same first (first ∷ sizes) is; within = within.0 }))
   of_others within (Some other) is = inr (inl (within, first, other, (refl, is)))
-
--- what stores told from which a size was had, or why none was
-pub told-by : (told : List (Option ℕ)) (sizes : List ℕ) (result : Result ℕ (Ending Unread)) → told ≡ map Some sizes → IsSizeBy result sizes → IsSizeTold result told
-told-by told sizes (Ok size) tells by = (sizes, tells, by)
-told-by told sizes (Err end.Limit) tells by = (sizes, tells, by)
-told-by told sizes (Err (end.At why)) tells by = (sizes, tells, by)
-told-by told sizes (Err (end.Cut cut.File)) tells by = tt
-told-by told sizes (Err (end.Cut other)) tells by = absurd by
-
--- no store is said to have failed where sizes were had
-pub by-no_fault : (sizes : List ℕ) (result : Result ℕ (Ending Unread)) → IsSizeBy result sizes → result ≡ Err (end.Cut cut.File) → ⊥
-by-no_fault sizes result by is = subst (λ (r : Result ℕ (Ending Unread)). IsSizeBy r sizes) is by
 
 -- the first of sizes within the limit
 pub within_first : (sizes : List ℕ) (d : ℕ) → 0 < length sizes → AreWithin sizes → get_or sizes 0 d ≤ most_range_bytes

@@ -1,5 +1,5 @@
 -- What a run of `ranges` keeps, by what became of its stores.
-use Rattle.std.proofs.Common.{◌≡◌, ◌≢◌, ◌∙◌, ℕ, ◌+◌, ◌<◌, ◌≤◌, ◌⊎◌, All, Option, Some, None, Result, Ok, Err, List, [], ◌∷◌, length, map, drop, refl, sym, ap, subst, inl, inr, arith}
+use Rattle.std.proofs.Common.{◌≡◌, ◌≢◌, ◌∙◌, ℕ, ◌+◌, ◌<◌, ◌≤◌, ◌⊎◌, Option, Some, None, Result, Err, List, [], ◌∷◌, length, map, drop, refl, sym, ap, subst, inl, inr, arith}
 use Rattle.std.specs.Prelude.{slice_get}
 use Rattle.std.specs.List.{AllByRecursion}
 use Rattle.std.proofs.lemmas.Simd.{map-map}
@@ -8,11 +8,11 @@ use Rattle.record_io.specs.Outside.{Rose}
 use Rattle.record_io.proofs.ManyStores.{none_falls}
 use Rattle.run_answers.specs.declared.ending.Ending.{Ending}
 use Rattle.run_answers.specs.declared.status.Status.{Status}
-use Rattle.run_answers.specs.Endings.{SaysEnd}
+use Rattle.run_answers.specs.Endings.{HaveTold, IsAllowedEndOfMany, SaysEnd}
 use Rattle.run_answers.specs.Runs.{SeenStream, SeenFile, seen, seen_file, Runs}
 use Rattle.run_answers.proofs.ManyFiles.{bytes_of, keeps-files, one_rose, told_by}
-use Rattle.riegeli_tool.specs.RangesCommand.{AreAlike, ranges_meaning}
-use Rattle.riegeli_tool.specs.RangesEnds.{AreReady, AreSized, IsPrinted, PrintsFile, range_ends}
+use Rattle.riegeli_tool.specs.RangesCommand.{AreAlike, IsOnePast, MayBeRead, ranges_meaning}
+use Rattle.riegeli_tool.specs.RangesEnds.{IsPrinted, PrintsFile, StopsBy, range_ends}
 use Rattle.riegeli_tool.specs.declared.range_ends.Unread.{Unread}
 use Rattle.riegeli_tool.proofs.RangesRuns.{runs-ranges}
 use Rattle.run_answers.specs.declared.ending.Cut.TheVariants as cut
@@ -69,14 +69,14 @@ module _ {S L : Type 0} (bytes : S → Option (List ℕ)) (told : S → Option �
       → AreOnlyAsked bytes (λ s. None) name faults (result ≡ Err (end.Cut cut.File)) files files_then
       → out.faults ≤ out_then.faults → notes.faults ≤ notes_then.faults
       → ((place : ℕ) (file : S) → slice_get files_then place ≡ Some file → told file ≡ None → drop (place + 1) files_then ≡ drop (place + 1) files)
-      → (map handed files_then ≡ map handed files) ⊎ AreReady (map told files_then)
-      → AreSized result (map told files_then)
+      → (map handed files_then ≡ map handed files) ⊎ HaveTold (map told files_then) MayBeRead
+      → IsAllowedEndOfMany ranges_meaning IsOnePast StopsBy result (map told files_then)
       → ((file : List ℕ) → AllByRecursion (λ s. bytes s ≡ Some file) files → PrintsFile result file out.bytes out_then.bytes)
       → IsPrinted result out.bytes out_then.bytes
       → SaysEnd range_ends result ended notes notes_then
       → (result ≡ Err (end.Cut cut.Out) → Rose out.faults out_then.faults)
       → Runs ranges_meaning (seen input (map Show files) made grown out notes) (seen input (map Show files_then) made grown out_then notes_then) ended
-  runs-read input made grown out out_then notes notes_then result ended some exact asked o n in_order handed_out sizes took printed says out_rose =
+  runs-read input made grown out out_then notes notes_then result ended some exact asked o n in_order handed_out allowed took printed says out_rose =
       let as_bytes : bytes_of (map Show files) ≡ map bytes files = map-map (λ (f : SeenFile). f.bytes) Show files in
       let as_told : told_by (map Show files_then) ≡ map told files_then = map-map (λ (f : SeenFile). f.told) Show files_then in
       let its : (all : List (List ℕ)) (sizes : List ℕ) → bytes_of (map Show files) ≡ map Some all → told_by (map Show files_then) ≡ map Some sizes → sizes ≡ map length all =
@@ -89,6 +89,6 @@ module _ {S L : Type 0} (bytes : S → Option (List ℕ)) (told : S → Option �
         | inr (all, tells, may) ↦ inr (all, tells, may, tt)
       ]))
       (λ all is. some_told bytes files all some (sym as_bytes ∙ is)) its
-      result ended (subst (AreSized result) (sym as_told) sizes)
+      result ended (subst (IsAllowedEndOfMany ranges_meaning IsOnePast StopsBy result) (sym as_told) allowed)
       (λ all file is one. took file (of_one bytes files all file (sym as_bytes ∙ is) one))
       printed says (λ failed. one_rose bytes told handed faults files files_then (asked.cause failed)) out_rose

@@ -1,6 +1,6 @@
 -- How the work of `ranges` ends. Own.
-use Rattle.std.specs.Prelude.{◌≡◌, ◌≢◌, ℕ, false, Option, Some, Result, Ok, Err, List, [], map}
-use Rattle.std.specs.List.{AllByRecursion, flat_map}
+use Rattle.std.specs.Prelude.{◌≡◌, ◌≢◌, ℕ, false, Option, Result, Ok, Err, List, []}
+use Rattle.std.specs.List.{flat_map}
 use Rattle.record_io.specs.Outside.{Takes, TakesFront}
 use Rattle.chunk_reader.specs.Faults.{IsFault}
 use Rattle.chunk_reader.specs.declared.reasons.ReadEnd.{ReadEnd}
@@ -10,11 +10,13 @@ use Rattle.run_answers.specs.declared.ending.Ending.{Ending}
 use Rattle.run_answers.specs.declared.status.Status.{Status}
 use Rattle.show_files.specs.Readings.{refused_text}
 use Rattle.riegeli_tool.specs.RangesCommand.{AreAlike, AreWithin, Differ, IsOnePast, IsTextOfFile, MayBeRead, differ_text}
+use Rattle.riegeli_tool.specs.declared.file_sizes.SizesEnd.{SizesEnd}
 use Rattle.riegeli_tool.specs.declared.range_ends.Unread.{Unread}
 use Rattle.chunk_reader.specs.declared.reasons.ReadEnd.TheVariants as read
 use Rattle.run_answers.specs.declared.ending.Cut.TheVariants as cut
 use Rattle.run_answers.specs.declared.ending.Ending.TheVariants as end
 use Rattle.run_answers.specs.declared.status.Status.TheVariants as status
+use Rattle.riegeli_tool.specs.declared.file_sizes.SizesEnd.TheVariants as sizes_end
 use Rattle.riegeli_tool.specs.declared.range_ends.Unread.TheVariants as unread
 
 -- the line that tells why the file is not read, and the status
@@ -37,31 +39,15 @@ end_of_read read.Store = end.Cut cut.File
 end_of_read read.Memory = end.Cut cut.Memory
 
 -- the size of a file by those that its stores told, or why it isn't read
-abbrev pub IsSizeBy : Result ℕ (Ending Unread) → List ℕ → Type 0
+abbrev pub IsSizeBy : Result ℕ SizesEnd → List ℕ → Type 0
 IsSizeBy (Ok size) sizes = AreAlike size sizes
-IsSizeBy (Err end.Limit) sizes = IsOnePast sizes
-IsSizeBy (Err (end.At (unread.Differ first other))) sizes = AreWithin sizes × Differ sizes first other
-IsSizeBy (Err other) sizes = ⊥
+IsSizeBy (Err sizes_end.Limit) sizes = IsOnePast sizes
+IsSizeBy (Err (sizes_end.Differ first other)) sizes = AreWithin sizes × Differ sizes first other
 
--- the same by what the stores told, of which none is asked behind one that failed
-abbrev pub IsSizeTold : Result ℕ (Ending Unread) → List (Option ℕ) → Type 0
-IsSizeTold (Err (end.Cut cut.File)) told = Unit {0}
-IsSizeTold result told = (sizes : List ℕ) × (told ≡ map Some sizes) × IsSizeBy result sizes
-
--- the stores told sizes by which the file is read
-abbrev pub AreReady : List (Option ℕ) → Type 0
-AreReady told = (sizes : List ℕ) × (told ≡ map Some sizes) × MayBeRead sizes
-
--- what the stores had told when the work ended so: nothing else ends it, and where a store failed they may have told no size
-abbrev pub AreSized : {X : Type 0} → Result X (Ending Unread) → List (Option ℕ) → Type 0
-AreSized (Ok x) told = AreReady told
-AreSized (Err end.Limit) told = (sizes : List ℕ) × (told ≡ map Some sizes) × IsOnePast sizes
-AreSized (Err (end.At (unread.Refused fault))) told = AreReady told
-AreSized (Err (end.At (unread.Differ first other))) told = (sizes : List ℕ) × (told ≡ map Some sizes) × (AreWithin sizes × Differ sizes first other)
-AreSized (Err (end.Cut cut.File)) told = Unit {0}
-AreSized (Err (end.Cut cut.Out)) told = AreReady told
-AreSized (Err (end.Cut cut.Memory)) told = AreReady told
-AreSized (Err (end.Cut other)) told = ⊥
+-- the sizes of its stores by which it isn't read: those of a file that is judged, where it is refused, and such as differ
+abbrev pub StopsBy : Unread → List ℕ → Type 0
+StopsBy (unread.Refused fault) sizes = MayBeRead sizes
+StopsBy (unread.Differ first other) sizes = AreWithin sizes × Differ sizes first other
 
 -- the records of parts, one after another, each as a line
 abbrev pub part_lines : List (List ℕ) → List ℕ
@@ -71,9 +57,9 @@ abbrev pub all_lines : List (List (List ℕ)) → List ℕ
 all_lines parts = flat_map part_lines parts
 
 -- what a file that was read, by how that ended, is
-abbrev pub IsReadIn : Result (List (List (List ℕ))) (Ending Unread) → List ℕ → Type 0
+abbrev pub IsReadIn : Result (List (List (List ℕ))) ReadEnd → List ℕ → Type 0
 IsReadIn (Ok parts) file = IsTextOfFile file (all_lines parts)
-IsReadIn (Err (end.At (unread.Refused fault))) file = IsFault false file fault
+IsReadIn (Err (read.Refused fault)) file = IsFault false file fault
 IsReadIn (Err other) file = Unit {0}
 
 -- what standard output took of a file by how the work ended, where it is the one that all stores tell

@@ -1,47 +1,47 @@
-ghost use Rattle.std.specs.Prelude.{◌≡◌, ◌+◌, ◌<◌, ◌≤◌, ℕ, None, Some, Err, List, not, ◌==◌, drop, length, map, nat_lt, slice_get};
+ghost use Rattle.std.specs.Prelude.{◌≡◌, ◌+◌, ◌<◌, ℕ, None, Some, List, IsErr, OnOk, not, ◌==◌, drop, length, map, nat_lt, slice_get};
 ghost use Rattle.std.specs.List.{find, list_any};
 ghost use Rattle.record_io.specs.ManyStores.{AreOnlyAsked, AreTold};
 ghost use Rattle.riegeli_tool.specs.RangesCommand.{most_range_bytes};
-ghost use Rattle.riegeli_tool.specs.RangesEnds.{IsSizeBy, IsSizeTold};
+ghost use Rattle.riegeli_tool.specs.RangesEnds.{IsSizeBy};
 
-use crate::range_ends::Unread;
-use crate::ranges_words::MOST_PARTS;
-use record_io::Store;
-use run_answers::{Cut, Ending, ask_sizes};
+use record_io::{Failed, Store};
+use run_answers::ask_sizes;
 
 /// The most bytes of a file that is read in parts: 256 MiB. All its records are held at once.
 const MOST_BYTES: u64 = 1 << 28;
 
-/// The size that all stores of a file tell, which are asked one after another.
-pub(crate) fn one_size<S: Store>(files: &mut [S]) -> Result<u64, Ending<Unread>>
-    requires some { 0 < length files.old }
-    requires few { length files.old ≤ 16 }
-    ensures size { IsSizeTold result (map (λ file. S.told file) files.new) }
-    ensures exact { (all : List (List ℕ)) (sizes : List ℕ) → AreTold S.bytes files.old all → AreTold S.told files.new sizes → sizes ≡ map length all }
+/// Why a file is not read by the sizes that its stores told.
+#[derive(Clone, Copy, Debug, PartialEq, Eq)]
+pub(crate) enum SizesEnd {
+    /// One of them told more bytes than are read.
+    Limit,
+    /// They told different sizes: the first one, and the first that is another.
+    Differ { first: u64, other: u64 },
+}
+
+/// Asks all stores of a file its size, one after another. What is told are the sizes of their bytes.
+pub(crate) fn sizes_told<S: Store>(files: &mut [S], sizes: &mut [u64]) -> Result<(), Failed>
+    requires as_many { length sizes.old ≡ length files.old }
+    ensures told { OnOk result (AreTold S.told files.new sizes.new) }
+    ensures exact { (all : List (List ℕ)) (told : List ℕ) → AreTold S.bytes files.old all → AreTold S.told files.new told → told ≡ map length all }
     ensures in_order { (place : ℕ) (file : S) → slice_get files.new place ≡ Some file → S.told file ≡ None
         → drop (place + 1) files.new ≡ drop (place + 1) files.old }
-    // Of each store its bytes stay, how many of them it handed out, and what it borrows.
-    ensures files { AreOnlyAsked S.bytes (λ file. Some (S.handed file)) S.name S.faults (result ≡ Err (Ending.Cut Cut.File)) files.old files.new }
+    ensures files { AreOnlyAsked S.bytes (λ file. Some (S.handed file)) S.name S.faults (IsErr result) files.old files.new }
 {
-    let mut room = [0; MOST_PARTS];
-    let sizes = &mut room[..files.len()];
-    let Ok(()) = ask_sizes(files, sizes) else {
-        return Err(Ending::Cut(Cut::File));
-    };
-    size_by(sizes)
+    ask_sizes(files, sizes)
 }
 
 /// The size that stores told, where none told more bytes than are read, nor another size than the first.
-fn size_by(sizes: &[u64]) -> Result<u64, Ending<Unread>>
+pub(crate) fn size_by(sizes: &[u64]) -> Result<u64, SizesEnd>
     requires some { 0 < length sizes.now }
     ensures { IsSizeBy result sizes.now }
 {
     if is_one_past(sizes) {
-        return Err(Ending::Limit);
+        return Err(SizesEnd::Limit);
     }
     let first = sizes[0];
     match first_other(first, sizes) {
-        Some(other) => Err(Ending::At(Unread::Differ { first, other })),
+        Some(other) => Err(SizesEnd::Differ { first, other }),
         None => Ok(first),
     }
 }

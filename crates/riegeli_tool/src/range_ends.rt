@@ -1,9 +1,9 @@
-ghost use Rattle.std.specs.Prelude.{◌≡◌, ◌≢◌};
+ghost use Rattle.std.specs.Prelude.{◌≡◌};
 ghost use Rattle.record_io.specs.Calls.{OnlyCounts, PutsTo};
 ghost use Rattle.run_answers.specs.Endings.{SaysEnd};
 ghost use Rattle.run_answers.specs.Runs.{SaysAtEnd, seen_stream};
 ghost use Rattle.riegeli_tool.specs.RangesCommand.{differ_text};
-ghost use Rattle.riegeli_tool.specs.RangesEnds.{end_of_read, range_ends, unread_status, unread_text};
+ghost use Rattle.riegeli_tool.specs.RangesEnds.{end_of_read, range_ends};
 
 use chunk_reader::{Fault, ReadEnd};
 use itoa::Buffer;
@@ -41,21 +41,9 @@ pub(crate) fn end_ranges<E: Sink>(ended: Result<(), Ending<Unread>>, notes: &mut
     match ended {
         Ok(()) => Status::Ok,
         Err(Ending::Limit) => end(notes, "limit file\n", Status::Limit),
-        Err(Ending::At(why)) => end_unread(notes, &why),
+        Err(Ending::At(Unread::Refused(fault))) => end_with_fault(notes, &fault),
+        Err(Ending::At(Unread::Differ { first, other })) => end_with_sizes(notes, first, other),
         Err(Ending::Cut(cut)) => cut_off(notes, cut),
-    }
-}
-
-/// Ends the work with the line of why the file is not read.
-fn end_unread<E: Sink>(notes: &mut E, why: &Unread) -> Status
-    ensures told { SaysAtEnd result (unread_status why.now) (seen_stream E.taken E.faults notes.old)
-        (seen_stream E.taken E.faults notes.new) (unread_text why.now) }
-    ensures not_ok { result ≢ Status.Ok }
-    ensures notes { OnlyCounts E.lent E.faults ⊥ notes.old notes.new }
-{
-    match why {
-        Unread::Refused(fault) => end_with_fault(notes, fault),
-        Unread::Differ { first, other } => end_with_sizes(notes, *first, *other),
     }
 }
 

@@ -1,19 +1,17 @@
 ghost use Rattle.std.specs.Prelude.{◌≡◌, ◌+◌, ◌^◌, ◌≤◌, ◌<◌, ◌⊎◌, ℕ, All, None, Some, Ok, Err, List, drop, length, map, slice_get};
-ghost use Rattle.std.specs.List.{AllByRecursion};
 ghost use Rattle.record_io.specs.Calls.{OnlyCounts};
 ghost use Rattle.record_io.specs.ManyStores.{AreOnlyAsked, AreTold};
-ghost use Rattle.chunk_reader.specs.declared.reasons.ReadEnd.{ReadEnd};
 ghost use Rattle.record_ranges.specs.Reads.{IfAllTellSame};
-ghost use Rattle.run_answers.specs.declared.ending.Ending.{Ending};
+ghost use Rattle.run_answers.specs.Endings.{HaveTold, IsAllowedEndOfMany};
 ghost use Rattle.run_answers.specs.Runs.{Runs, Seen, seen_stream, seen_file};
-ghost use Rattle.riegeli_tool.specs.RangesCommand.{ranges_meaning};
-ghost use Rattle.riegeli_tool.specs.RangesEnds.{AreReady, AreSized, IsPrinted, IsReadIn, PrintsFile, end_of_read};
-ghost use Rattle.riegeli_tool.specs.declared.range_ends.Unread.{Unread};
+ghost use Rattle.riegeli_tool.specs.RangesCommand.{AreAlike, IsOnePast, MayBeRead, ranges_meaning};
+ghost use Rattle.riegeli_tool.specs.RangesEnds.{IsPrinted, IsReadIn, PrintsFile, StopsBy, end_of_read};
 
-use crate::file_sizes::one_size;
+use crate::file_sizes::{SizesEnd, size_by, sizes_told};
 use crate::part_lines::put_parts;
 use crate::range_ends::{Unread, end_of_read, end_ranges};
-use crate::ranges_words::RangesWords;
+use crate::ranges_words::{MOST_PARTS, RangesWords};
+use chunk_reader::ReadEnd;
 use record_io::{Failed, Sink, Store};
 use record_ranges::{Cuts, Parts, read_ranges};
 use run_answers::{Cut, Ending, Status};
@@ -58,18 +56,52 @@ fn print_file<R: Threads + Sync, S: Store + Send, O: Sink>(
     requires few { parts ≤ 16 }
     ensures file { IfAllTellSame S.bytes files.old (λ file. PrintsFile result file (O.taken out.old) (O.taken out.new)) }
     ensures printed { IsPrinted result (O.taken out.old) (O.taken out.new) }
-    ensures sized { AreSized result (map (λ file. S.told file) files.new) }
+    ensures allowed { IsAllowedEndOfMany ranges_meaning IsOnePast StopsBy result (map (λ file. S.told file) files.new) }
     ensures exact { (all : List (List ℕ)) (sizes : List ℕ) → AreTold S.bytes files.old all → AreTold S.told files.new sizes → sizes ≡ map length all }
     ensures in_order { (place : ℕ) (file : S) → slice_get files.new place ≡ Some file → S.told file ≡ None
         → drop (place + 1) files.new ≡ drop (place + 1) files.old }
     ensures handed { (map (λ file. S.handed file) files.new ≡ map (λ file. S.handed file) files.old)
-        ⊎ AreReady (map (λ file. S.told file) files.new) }
+        ⊎ HaveTold (map (λ file. S.told file) files.new) MayBeRead }
     // Of each store its bytes stay, and what it borrows.
     ensures files { AreOnlyAsked S.bytes (λ file. None) S.name S.faults (result ≡ Err (Ending.Cut Cut.File)) files.old files.new }
     ensures out { OnlyCounts O.lent O.faults (result ≡ Err (Ending.Cut Cut.Out)) out.old out.new }
 {
-    let size = one_size(files)?;
-    let read = read_parts(rt, alloc, size, parts, files)?;
+    let mut room = [0; MOST_PARTS];
+    let sizes = &mut room[..files.len()];
+    let Ok(()) = sizes_told(files, sizes) else {
+        return Err(Ending::Cut(Cut::File));
+    };
+    match size_by(sizes) {
+        Ok(size) => print_sized(rt, alloc, size, parts, files, out),
+        Err(SizesEnd::Limit) => Err(Ending::Limit),
+        Err(SizesEnd::Differ { first, other }) => Err(Ending::At(Unread::Differ { first, other })),
+    }
+}
+
+/// The same with stores that all told this size.
+fn print_sized<R: Threads + Sync, S: Store + Send, O: Sink>(
+    rt: &R,
+    alloc: Global,
+    size: u64,
+    parts: u32,
+    files: &mut [S],
+    out: &mut O,
+) -> Result<(), Ending<Unread>>
+    requires one_each { length files.old ≡ parts }
+    requires some { 1 ≤ parts }
+    requires few { parts ≤ 16 }
+    requires told { HaveTold (map (λ file. S.told file) files.old) (AreAlike size) }
+    requires exact { IfAllTellSame S.bytes files.old (λ file. size ≡ length file) }
+    ensures file { IfAllTellSame S.bytes files.old (λ file. PrintsFile result file (O.taken out.old) (O.taken out.new)) }
+    ensures printed { IsPrinted result (O.taken out.old) (O.taken out.new) }
+    ensures allowed { IsAllowedEndOfMany ranges_meaning IsOnePast StopsBy result (map (λ file. S.told file) files.new) }
+    ensures files { AreOnlyAsked S.bytes S.told S.name S.faults (result ≡ Err (Ending.Cut Cut.File)) files.old files.new }
+    ensures out { OnlyCounts O.lent O.faults (result ≡ Err (Ending.Cut Cut.Out)) out.old out.new }
+{
+    let read = match read_parts(rt, alloc, size, parts, files) {
+        Ok(read) => read,
+        Err(end) => return Err(end_of_read(end)),
+    };
     match put_parts(&read, out) {
         Ok(()) => Ok(()),
         Err(Failed) => Err(Ending::Cut(Cut::Out)),
@@ -83,7 +115,7 @@ fn read_parts<R: Threads + Sync, S: Store + Send>(
     size: u64,
     parts: u32,
     files: &mut [S],
-) -> Result<Parts, Ending<Unread>>
+) -> Result<Parts, ReadEnd>
     requires one_each { length files.old ≡ parts }
     requires some { 1 ≤ parts }
     requires few { parts ≤ 16 }
@@ -91,14 +123,10 @@ fn read_parts<R: Threads + Sync, S: Store + Send>(
     requires exact { IfAllTellSame S.bytes files.old (λ file. size ≡ length file) }
     requires small { size ≤ 2 ^ 28 }
     ensures read { IfAllTellSame S.bytes files.old (IsReadIn result) }
-    ensures ended { (end : Ending Unread) → result ≡ Err end → (why : ReadEnd) × (end ≡ end_of_read why) }
-    ensures files { AreOnlyAsked S.bytes S.told S.name S.faults (result ≡ Err (Ending.Cut Cut.File)) files.old files.new }
+    ensures files { AreOnlyAsked S.bytes S.told S.name S.faults (result ≡ Err ReadEnd.Store) files.old files.new }
 {
     let Ok(cuts) = Cuts::even(alloc, size, parts) else {
-        return Err(Ending::Cut(Cut::Memory));
+        return Err(ReadEnd::Memory);
     };
-    match read_ranges(rt, alloc, files, size, &cuts) {
-        Ok(read) => Ok(read),
-        Err(end) => Err(end_of_read(end)),
-    }
+    read_ranges(rt, alloc, files, size, &cuts)
 }

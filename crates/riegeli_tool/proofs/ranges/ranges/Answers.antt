@@ -8,7 +8,7 @@ returns-clause-runs g c = λ others.
     let did = c.print_file-ended.ensures in
     runs-read g.S.Store.bytes g.S.Store.told g.S.Store.handed g.S.Store.name g.S.Store.faults c.args.files.now c.print_file-ended.new.files
     others.input others.made others.grown _ _ _ _ c.print_file-ended.result _ (omega (arith, c.requires.one_each, c.requires.some))
-    did.exact did.files did.out.never_falls c.end_ranges.ensures.notes.never_falls did.in_order did.handed did.sized
+    did.exact did.files did.out.never_falls c.end_ranges.ensures.notes.never_falls did.in_order did.handed did.allowed
     did.file did.printed c.end_ranges.ensures.told did.out.cause
 
 pub returns-clause-same_bytes : goal.returns-clause-same_bytes
