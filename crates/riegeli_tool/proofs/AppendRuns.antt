@@ -12,7 +12,7 @@ use Rattle.chunk_reader.specs.declared.reasons.Fault.{Fault}
 use Rattle.record_writer.specs.Feeds.{Rest}
 use Rattle.record_writer.specs.declared.feed.Stop.{Stop}
 use Rattle.record_writer.specs.declared.options.WriteOptions.{WriteOptions}
-use Rattle.record_append.specs.Appends.{GrowsBy, GrowsFrom, HoldsGrown, HoldsGrownInPart, KeepsFront}
+use Rattle.record_append.specs.Appends.{GrowsBy, GrowsFrom, HoldsGrownInPart, KeepsFront}
 use Rattle.record_append.specs.Grown.{IsRefusedToGrow, RefusesFor, bytes_at}
 use Rattle.run_answers.specs.declared.ending.Ending.{Ending}
 use Rattle.run_answers.specs.declared.status.Status.{Status}
@@ -21,14 +21,14 @@ use Rattle.run_answers.specs.Endings.{SaysEnd}
 use Rattle.run_answers.specs.FileAnswers.{OfFile, IsInReach, IsTooLong, limit_text, most_file_bytes}
 use Rattle.run_answers.specs.Meanings.{Read}
 use Rattle.run_answers.specs.Statuses.{fault_text}
-use Rattle.run_answers.specs.Runs.{SeenStream, SeenFile, Seen, seen, IsReadBy, IfRead, IfGrown, IsWhole, IsCutOff, IsCutShort, OfSizes, SaysAtEnd, TakesThen, Breaks, HasCause, TakesAtMost, Runs}
+use Rattle.run_answers.specs.Runs.{SeenStream, SeenFile, Seen, seen, IsReadBy, IfGrown, IsWhole, IsCutOff, IsCutShort, OfSizes, SaysAtEnd, TakesThen, Breaks, HasCause, TakesAtMost, Runs}
 use Rattle.run_answers.proofs.GrownRuns.{GrowsFile, grown-size, keeps-cut_off, keeps-whole}
 use Rattle.run_answers.proofs.RunEnds.{GaveButNotes, KeepsAtEnd, PutsLines-none, was-cut_off, went-so_far, ends-whole, ends-said, ends-cut_off}
 use Rattle.show_files.specs.Readings.{refused_text}
 use Rattle.write_lines.specs.Input.{most_input_taken}
 use Rattle.write_lines.specs.WriteCommand.{stop_status, stop_text}
 use Rattle.riegeli_tool.specs.AppendCommand.{IsAppended, IsLeft, KeepsOld, MayBeLeft, append_meaning, grown_answer, grown_puts, grown_text, lines_taken}
-use Rattle.riegeli_tool.specs.AppendingEnds.{HasAppended, HasTold, IsSizedBy, IsStopped, IsTold, KeepsOldAtEnd, appending_ends, unappended_status, unappended_text}
+use Rattle.riegeli_tool.specs.AppendingEnds.{HasAppended, HasTold, IsSizedBy, IsStopped, IsTold, KeepsOldAtEnd, appending_ends}
 use Rattle.riegeli_tool.specs.declared.append.Unappended.{Unappended}
 use Rattle.riegeli_tool.specs.declared.append.Unappended.TheVariants.{Refused, Stopped}
 use Rattle.riegeli_tool.specs.declared.append_words.AppendWords.{AppendWords}
@@ -353,7 +353,7 @@ module _ (words : AppendWords) (input input_then : SeenStream) (files : List See
       (MatchOption-at_some _ (λ (file : List ℕ). IfSome input.bytes (λ bytes. P file (lines_taken words bytes))) r.grown (is.grown refl).0 holds)
 
   -- by how the work ended
-  by_end : {X : Type 0} (result : Result X (Ending Unappended)) (ended : Status) → IsSizedBy result words.cut grown.bytes grown_then.told
+  by_end : {X : Type 0} (result : Result X (Ending Unappended)) (ended : Status) → IsSizedBy result words grown.bytes grown_then.told
       → ((r : Read) → IsReadBy (append_meaning words) Before r
       → HasAppended result words (Lines r) r.grown grown_then.bytes out.bytes out_then.bytes)
       → Keeps (KeepsOldAtEnd result words.cut)
@@ -367,22 +367,24 @@ module _ (words : AppendWords) (input input_then : SeenStream) (files : List See
   by_end (Err end.Limit) ended sized has keeps input_rose grown_rose out_rose read says = too_long ended sized has keeps says
   by_end (Err (end.At (Refused fault))) ended sized has keeps input_rose grown_rose out_rose read says = refused ended fault sized has keeps says
   by_end (Err (end.At (Stopped s count))) ended sized has keeps input_rose grown_rose out_rose read says = by_stop ended s count sized has keeps says
-  by_end (Err (end.Cut cut.Input)) ended (size, within, exact) has keeps input_rose grown_rose out_rose read says =
+  by_end (Err (end.Cut cut.Input)) ended (used, (size, within, exact)) has keeps input_rose grown_rose out_rose read says =
       subst Ended (sym says.0)
       (unprinted_cut status.Input tt (λ puts. (puts, refl)) (λ _ _. of_size IsInReach size (inr within) exact within) has
       (refl, input_rose refl) keeps says.1)
   by_end (Err (end.Cut cut.Grown)) ended sized has keeps input_rose grown_rose out_rose read says =
       subst Ended (sym says.0)
       (unprinted_cut status.Grown tt (λ puts. (puts, refl)) (λ _ other. absurd (other refl)) has (refl, grown_rose refl) keeps says.1)
-  by_end (Err (end.Cut cut.Memory)) ended (size, within, exact) has keeps input_rose grown_rose out_rose read says =
+  by_end (Err (end.Cut cut.Memory)) ended (used, (size, within, exact)) has keeps input_rose grown_rose out_rose read says =
       subst Ended (sym says.0)
       (unprinted_cut status.Memory tt (λ puts. (puts, refl)) (λ _ _. of_size IsInReach size (inr within) exact within) has refl keeps says.1)
-  by_end (Err (end.Cut cut.Out)) ended sized has keeps input_rose grown_rose out_rose read says =
+  by_end (Err (end.Cut cut.Out)) ended (used, sized) has keeps input_rose grown_rose out_rose read says =
       subst Ended (sym says.0) (out_failed sized has (out_rose refl) keeps says.1)
-  by_end (Err (end.Cut other)) ended sized has keeps input_rose grown_rose out_rose read says = absurd sized
+  by_end (Err (end.Cut cut.File)) ended (used, sized) has keeps input_rose grown_rose out_rose read says = absurd (cc used)
+  by_end (Err (end.Cut cut.Made)) ended (used, sized) has keeps input_rose grown_rose out_rose read says = absurd (cc used)
+  by_end (Err (end.Cut cut.Notes)) ended ((text, says_it, some), sized) has keeps input_rose grown_rose out_rose read says = absurd (some says_it)
 
   -- of what the file and the input told
-  pub runs-append : {X : Type 0} (result : Result X (Ending Unappended)) (ended : Status) → IsSizedBy result words.cut grown.bytes grown_then.told
+  pub runs-append : {X : Type 0} (result : Result X (Ending Unappended)) (ended : Status) → IsSizedBy result words grown.bytes grown_then.told
       → IfSome grown.bytes (λ file. IfSome input.bytes (λ bytes.
       HasAppended result words (lines_taken words bytes) file grown_then.bytes out.bytes out_then.bytes))
       → Keeps (KeepsOldAtEnd result words.cut)

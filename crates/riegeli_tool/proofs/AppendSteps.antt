@@ -1,5 +1,5 @@
 -- How the work of `append` ends, by the answers of its calls.
-use Rattle.std.proofs.Common.{◌≡◌, ◌∙◌, ℕ, ◌+◌, ◌-◌, ◌<◌, ◌≤◌, ◌⊎◌, Bool, Option, Some, None, Result, Ok, Err, List, [], ◌∷◌, length, option_map, refl, sym, ap, subst, inl, inr, arith}
+use Rattle.std.proofs.Common.{◌≡◌, ◌∙◌, ℕ, ◌-◌, ◌<◌, ◌≤◌, ◌⊎◌, Option, Some, None, Ok, Err, List, length, option_map, refl, sym, ap, subst, inl, inr, arith}
 use Rattle.std.specs.Option.{IfSome, IsSomeAnd}
 use Rattle.std.proofs.lemmas.Option.{MatchOption-at_some}
 use Rattle.chunk_reader.specs.declared.reasons.Fault.{Fault}
@@ -8,17 +8,19 @@ use Rattle.record_append.specs.Appends.{AnswersGrown, GrowsFrom, HoldsCutOff, Ho
 use Rattle.record_append.specs.Grown.{IsRefusedToGrow, RefusesFor, grown}
 use Rattle.record_append.specs.declared.appends.Appended.{Appended}
 use Rattle.record_append.specs.declared.appends.AppendEnd.{AppendEnd}
-use Rattle.run_answers.specs.FileAnswers.{IsInReach, IsTooLong, most_file_bytes}
+use Rattle.run_answers.specs.FileAnswers.{most_file_bytes}
+use Rattle.run_answers.specs.FileSizes.{IsUnsized}
 use Rattle.run_answers.specs.declared.ending.Ending.{Ending}
 use Rattle.write_lines.specs.WriteCommand.{stop_text}
 use Rattle.riegeli_tool.specs.AppendCommand.{appended_text, grown_text, lines_taken}
-use Rattle.riegeli_tool.specs.AppendingEnds.{HasAppended, HasTold, IsSizedBy, IsTold, IsUnsized, KeepsOldAtEnd, end_of_append}
+use Rattle.riegeli_tool.specs.AppendingEnds.{HasAppended, IsSizedBy, IsTold, KeepsOldAtEnd, end_of_append}
 use Rattle.riegeli_tool.specs.declared.append.Unappended.{Unappended}
 use Rattle.riegeli_tool.specs.declared.append_words.AppendWords.{AppendWords}
 use Rattle.record_append.specs.declared.appends.AppendEnd.TheVariants as append
 use Rattle.record_writer.specs.declared.feed.Stop.TheVariants as stop
 use Rattle.run_answers.specs.declared.ending.Cut.TheVariants as cut
 use Rattle.run_answers.specs.declared.ending.Ending.TheVariants as end
+use Rattle.run_answers.specs.declared.sizes.SizeEnd.TheVariants as size
 
 -- P holds of an old file and of what an input gives, where these are told
 abbrev pub IfBoth : AppendWords → (bytes input : Option (List ℕ)) → (List ℕ → Rest → Type 0) → Type 0
@@ -30,51 +32,39 @@ if-kept None held P Q then keeps = tt
 if-kept (Some file) None P Q then keeps = keeps
 if-kept (Some file) (Some now) P Q then keeps = then file now keeps
 
+-- what holds by what is taken of an input holds by what that gives
+pub taken-given : (words : AppendWords) (bytes input : Option (List ℕ)) (rests : Option Rest) (P : List ℕ → Rest → Type 0)
+    → rests ≡ option_map (lines_taken words) input → IfSome bytes (λ file. IfSome rests (λ rest. P file rest)) → IfBoth words bytes input P
+taken-given words None input rests P given holds = tt
+taken-given words (Some file) None rests P given holds = tt
+taken-given words (Some file) (Some taken) rests P given holds = MatchOption-at_some _ (P file) (lines_taken words taken) given holds
+
+-- a file of which the bytes stay keeps them
+pub stays-kept : (bytes held : Option (List ℕ)) (P : List ℕ → List ℕ → Type 0) → held ≡ bytes → ((file now : List ℕ) → now ≡ file → P file now)
+    → IfSome bytes (λ file. IsSomeAnd held (P file))
+stays-kept None held P same then = tt
+stays-kept (Some file) None P same then = cc same
+stays-kept (Some file) (Some now) P same then = then file now (cc same)
+
 module _ (words : AppendWords) where
-  unsized_has : (e : Ending Unappended) (told : Option ℕ) (bytes held input out : Option (List ℕ)) → IsUnsized e bytes told → held ≡ bytes
-      → IfBoth words bytes input (λ file rest. HasAppended {X = Unit {0}} (Err e) words rest file held out out)
-  unsized_has e told None held input out is same = tt
-  unsized_has e told (Some file) held None out is same = tt
-  unsized_has end.Limit told (Some file) held (Some given) out (size, (long, tells), exact) same =
-      (subst (λ (n : ℕ). most_file_bytes < n) exact long, same, refl)
-  unsized_has (end.Cut cut.Grown) told (Some file) held (Some given) out is same = (inl same, refl)
-  unsized_has (end.Cut other) told (Some file) held (Some given) out is same = absurd is
-  unsized_has (end.At stop) told (Some file) held (Some given) out is same = absurd is
+  -- the file told too large a size
+  pub long-appended : (told : Option ℕ) (bytes held input out : Option (List ℕ)) (m n : ℕ) → IsUnsized size.Limit told bytes m n → held ≡ bytes
+      → IfBoth words bytes input (λ file rest. HasAppended {X = Unit {0}} (Err end.Limit) words rest file held out out)
+  long-appended told None held input out m n is same = tt
+  long-appended told (Some file) held None out m n is same = tt
+  long-appended told (Some file) held (Some given) out m n is same = (is.1, same, refl)
 
-  unsized_keeps : (e : Ending Unappended) (told : Option ℕ) (bytes held : Option (List ℕ)) → IsUnsized e bytes told → held ≡ bytes
-      → IfSome bytes (λ file. IsSomeAnd held (KeepsOldAtEnd {X = Unit {0}} (Err e) words.cut file))
-  unsized_keeps e told None held is same = tt
-  unsized_keeps e told (Some file) None is same = cc same
-  unsized_keeps end.Limit told (Some file) (Some now) is same = cc same
-  unsized_keeps (end.Cut cut.Grown) told (Some file) (Some now) is same = inl (cc same)
-  unsized_keeps (end.Cut other) told (Some file) (Some now) is same = absurd is
-  unsized_keeps (end.At stop) told (Some file) (Some now) is same = absurd is
+  pub long-sized : (told : Option ℕ) (bytes : Option (List ℕ)) (m n : ℕ) → IsUnsized size.Limit told bytes m n
+      → IfSome bytes (λ file. IfSome told (λ size. size ≡ length file)) → IsSizedBy {X = Unit {0}} (Err end.Limit) words bytes told
+  long-sized None bytes m n is exact = absurd is.0
+  long-sized (Some size) bytes m n is exact = (size, (is.0, refl), exact)
 
-  unsized_told : (e : Ending Unappended) (told : Option ℕ) (bytes : Option (List ℕ)) → IsUnsized e bytes told → IsSizedBy {X = Unit {0}} (Err e) words.cut bytes told
-  unsized_told end.Limit told bytes is = is
-  unsized_told (end.Cut cut.Grown) told bytes is = tt
-  unsized_told (end.Cut other) told bytes is = absurd is
-  unsized_told (end.At stop) told bytes is = absurd is
-
-  -- the same of an answer that is known
-  pub unsized-appended : (result : Result (Unit {0}) (Ending Unappended)) (e : Ending Unappended) (told : Option ℕ) (bytes held input out : Option (List ℕ))
-      → result ≡ Err e → IsUnsized e bytes told → held ≡ bytes
-      → IfBoth words bytes input (λ file rest. HasAppended result words rest file held out out)
-  unsized-appended result e told bytes held input out is unsized same =
-      subst (λ (r : Result (Unit {0}) (Ending Unappended)). IfBoth words bytes input (λ file rest. HasAppended r words rest file held out out)) (sym is)
-      (unsized_has e told bytes held input out unsized same)
-
-  pub unsized-kept : (result : Result (Unit {0}) (Ending Unappended)) (e : Ending Unappended) (told : Option ℕ) (bytes held : Option (List ℕ))
-      → result ≡ Err e → IsUnsized e bytes told → held ≡ bytes
-      → IfSome bytes (λ file. IsSomeAnd held (KeepsOldAtEnd result words.cut file))
-  unsized-kept result e told bytes held is unsized same =
-      subst (λ (r : Result (Unit {0}) (Ending Unappended)). IfSome bytes (λ file. IsSomeAnd held (KeepsOldAtEnd r words.cut file))) (sym is)
-      (unsized_keeps e told bytes held unsized same)
-
-  pub unsized-sized : (result : Result (Unit {0}) (Ending Unappended)) (e : Ending Unappended) (told : Option ℕ) (bytes : Option (List ℕ))
-      → result ≡ Err e → IsUnsized e bytes told → IsSizedBy result words.cut bytes told
-  unsized-sized result e told bytes is unsized =
-      subst (λ (r : Result (Unit {0}) (Ending Unappended)). IsSizedBy r words.cut bytes told) (sym is) (unsized_told e told bytes unsized)
+  -- it failed before it told one
+  pub failed-appended : (bytes held input out : Option (List ℕ)) → held ≡ bytes
+      → IfBoth words bytes input (λ file rest. HasAppended {X = Unit {0}} (Err (end.Cut cut.Grown)) words rest file held out out)
+  failed-appended None held input out same = tt
+  failed-appended (Some file) held None out same = tt
+  failed-appended (Some file) held (Some given) out same = (inl same, refl)
 
   -- records were not put to the end of their feed
   cut_by : (rest : Rest) (file : List ℕ) (held : Option (List ℕ)) → length file ≤ most_file_bytes
@@ -107,32 +97,30 @@ module _ (words : AppendWords) where
 
   sized_by : (e : AppendEnd) (size : ℕ) (bytes : Option (List ℕ)) (told : Option ℕ) → size ≤ most_file_bytes → IfSome bytes (λ file. size ≡ length file)
       → ((fault : Fault) → e ≡ append.Refused fault → (told ≡ Some size) × (0 < size) × RefusesFor words.cut fault.why)
-      → IsSizedBy {X = Unit {0}} (Err (end_of_append e)) words.cut bytes told
+      → IsSizedBy {X = Unit {0}} (Err (end_of_append e)) words bytes told
   sized_by (append.Refused fault) size bytes told within exact refused =
       let its = refused fault refl in (size, (within, its.0, its.1, its.2), exact)
   sized_by (append.TooLong count) size bytes told within exact refused = (size, within, exact)
   sized_by append.InputTooLong size bytes told within exact refused = (size, within, exact)
   sized_by (append.BadLine count) size bytes told within exact refused = (size, within, exact)
-  sized_by append.Input size bytes told within exact refused = (size, within, exact)
-  sized_by append.Device size bytes told within exact refused = tt
-  sized_by append.Memory size bytes told within exact refused = (size, within, exact)
+  sized_by append.Input size bytes told within exact refused = (refl, (size, within, exact))
+  sized_by append.Device size bytes told within exact refused = refl
+  sized_by append.Memory size bytes told within exact refused = (refl, (size, within, exact))
 
-  -- the same of what the device and the feed told
-  pub ended-appended : (e : AppendEnd) (why : Ending Unappended) (size : ℕ) (bytes mid held input out : Option (List ℕ)) (rests : Option Rest)
-      → why ≡ end_of_append e → mid ≡ bytes → rests ≡ option_map (lines_taken words) input
-      → size ≤ most_file_bytes → IfSome bytes (λ file. size ≡ length file)
+  -- the same of what the device and the input told
+  pub ended-appended : (e : AppendEnd) (why : Ending Unappended) (size : ℕ) (bytes mid held input out : Option (List ℕ))
+      → why ≡ end_of_append e → mid ≡ bytes → size ≤ most_file_bytes → IfSome bytes (λ file. size ≡ length file)
       → ((fault : Fault) → e ≡ append.Refused fault → IfSome mid (λ file. IsRefusedToGrow words.cut file fault))
-      → IfSome mid (λ file. IfSome rests (λ rest. AnswersGrown (Err e) words.write.options words.cut file rest held))
+      → IfBoth words mid input (λ file rest. AnswersGrown (Err e) words.write.options words.cut file rest held)
       → IfBoth words bytes input (λ file rest. HasAppended {X = Unit {0}} (Err why) words rest file held out out)
-  ended-appended e why size None mid held input out rests is same given within exact refused holds = tt
-  ended-appended e why size (Some file) mid held None out rests is same given within exact refused holds = tt
-  ended-appended e why size (Some file) mid held (Some taken) out rests is same given within exact refused holds =
+  ended-appended e why size None mid held input out is same within exact refused holds = tt
+  ended-appended e why size (Some file) mid held None out is same within exact refused holds = tt
+  ended-appended e why size (Some file) mid held (Some taken) out is same within exact refused holds =
       let rest : Rest = lines_taken words taken in
       subst (λ (w : Ending Unappended). HasAppended {X = Unit {0}} (Err w) words rest file held out out) (sym is)
       (ended_by e rest file held out (subst (λ (n : ℕ). n ≤ most_file_bytes) exact within)
       (λ fault its. MatchOption-at_some _ (λ (f : List ℕ). IsRefusedToGrow words.cut f fault) file same (refused fault its))
-      (MatchOption-at_some _ (λ (r : Rest). AnswersGrown (Err e) words.write.options words.cut file r held) rest given
-      (MatchOption-at_some _ (λ (f : List ℕ). IfSome rests (λ r. AnswersGrown (Err e) words.write.options words.cut f r held)) file same holds)))
+      (MatchOption-at_some _ (λ (f : List ℕ). AnswersGrown (Err e) words.write.options words.cut f rest held) file same holds))
 
   pub ended-kept : (e : AppendEnd) (why : Ending Unappended) (bytes mid held : Option (List ℕ)) → why ≡ end_of_append e → mid ≡ bytes
       → IfSome mid (λ file. IsSomeAnd held (λ now. KeepsBy (Err e) words.cut file now))
@@ -145,9 +133,9 @@ module _ (words : AppendWords) where
   pub ended-sized : (e : AppendEnd) (why : Ending Unappended) (size : ℕ) (bytes : Option (List ℕ)) (told : Option ℕ) → why ≡ end_of_append e
       → size ≤ most_file_bytes → IfSome bytes (λ file. size ≡ length file)
       → ((fault : Fault) → e ≡ append.Refused fault → (told ≡ Some size) × (0 < size) × RefusesFor words.cut fault.why)
-      → IsSizedBy {X = Unit {0}} (Err why) words.cut bytes told
+      → IsSizedBy {X = Unit {0}} (Err why) words bytes told
   ended-sized e why size bytes told is within exact refused =
-      subst (λ (w : Ending Unappended). IsSizedBy {X = Unit {0}} (Err w) words.cut bytes told) (sym is) (sized_by e size bytes told within exact refused)
+      subst (λ (w : Ending Unappended). IsSizedBy {X = Unit {0}} (Err w) words bytes told) (sym is) (sized_by e size bytes told within exact refused)
 
 -- all that is told of a file that was grown
 told_all : (words : AppendWords) (file : List ℕ) (added : List (List ℕ)) (told : Appended) → Tells words.write.options file added told
@@ -161,16 +149,14 @@ told_all words file added told tells =
 
 -- all records were put, and this was printed
 pub told-appended : (words : AppendWords) (Prints : (before after : Option (List ℕ)) → List ℕ → Type 0) (told : Appended)
-    (bytes mid held input out out_then : Option (List ℕ)) (rests : Option Rest)
-    → mid ≡ bytes → rests ≡ option_map (lines_taken words) input
-    → IfSome mid (λ file. IfSome rests (λ rest. AnswersGrown (Ok told) words.write.options words.cut file rest held))
+    (bytes mid held input out out_then : Option (List ℕ)) → mid ≡ bytes
+    → IfBoth words mid input (λ file rest. AnswersGrown (Ok told) words.write.options words.cut file rest held)
     → Prints out out_then (appended_text told) → IfBoth words bytes input (λ file rest. IsTold Prints words rest file held out out_then)
-told-appended words Prints told None mid held input out out_then rests same given put printed = tt
-told-appended words Prints told (Some file) mid held None out out_then rests same given put printed = tt
-told-appended words Prints told (Some file) mid held (Some taken) out out_then rests same given put printed =
+told-appended words Prints told None mid held input out out_then same put printed = tt
+told-appended words Prints told (Some file) mid held None out out_then same put printed = tt
+told-appended words Prints told (Some file) mid held (Some taken) out out_then same put printed =
     let rest : Rest = lines_taken words taken in
-    let (none, holds, tells) = MatchOption-at_some _ (λ (r : Rest). AnswersGrown (Ok told) words.write.options words.cut file r held) rest given
-    (MatchOption-at_some _ (λ (f : List ℕ). IfSome rests (λ r. AnswersGrown (Ok told) words.write.options words.cut f r held)) file same put) in
+    let (none, holds, tells) = MatchOption-at_some _ (λ (f : List ℕ). AnswersGrown (Ok told) words.write.options words.cut f rest held) file same put in
     (none, told.kept, holds, subst (Prints out out_then) (told_all words file rest.records told tells) printed)
 
 pub told-kept : (words : AppendWords) (told : Appended) (P : List ℕ → List ℕ → Type 0) (bytes mid held : Option (List ℕ)) → mid ≡ bytes

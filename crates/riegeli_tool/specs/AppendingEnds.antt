@@ -1,18 +1,18 @@
 -- How the work of `append` ends. Own.
-use Rattle.std.specs.Prelude.{◌≡◌, ℕ, ◌<◌, ◌≤◌, ◌⊎◌, Bool, Option, Some, None, Result, Ok, Err, IfSome, List, [], ◌∷◌, length}
+use Rattle.std.specs.Prelude.{◌≡◌, ℕ, ◌<◌, ◌≤◌, ◌⊎◌, true, Bool, Option, Some, None, Result, Ok, Err, IfSome, List, [], ◌∷◌, length}
 use Rattle.record_io.specs.Outside.{Takes, TakesFront}
 use Rattle.record_writer.specs.Feeds.{Rest}
 use Rattle.record_writer.specs.declared.feed.Stop.{Stop}
 use Rattle.record_append.specs.Appends.{GrowsBy, GrowsFrom, HoldsGrown, HoldsGrownInPart, KeepsFront}
 use Rattle.record_append.specs.Grown.{IsRefusedToGrow, RefusesFor}
 use Rattle.record_append.specs.declared.appends.AppendEnd.{AppendEnd}
-use Rattle.run_answers.specs.Endings.{Endings}
+use Rattle.run_answers.specs.Endings.{Endings, MayBeCut}
 use Rattle.run_answers.specs.FileAnswers.{IsInReach, IsTooLong, most_file_bytes}
 use Rattle.run_answers.specs.declared.ending.Ending.{Ending}
 use Rattle.run_answers.specs.declared.status.Status.{Status}
 use Rattle.show_files.specs.Readings.{refused_text}
 use Rattle.write_lines.specs.WriteCommand.{stop_status, stop_text}
-use Rattle.riegeli_tool.specs.AppendCommand.{grown_text}
+use Rattle.riegeli_tool.specs.AppendCommand.{append_meaning, grown_text}
 use Rattle.riegeli_tool.specs.declared.append.Unappended.{Unappended}
 use Rattle.riegeli_tool.specs.declared.append.Unappended.TheVariants.{Refused, Stopped}
 use Rattle.riegeli_tool.specs.declared.append_words.AppendWords.{AppendWords}
@@ -49,25 +49,16 @@ appending_ends = record { done = λ _. status.Ok; text = unappended_text; status
 abbrev pub HasTold : (bytes : Option (List ℕ)) → (ℕ → Type 0) → Type 0
 HasTold bytes P = (size : ℕ) × P size × IfSome bytes (λ file. size ≡ length file)
 
--- no size was told of the file that it may have: it told too many bytes, or it failed
-abbrev pub IsUnsized : Ending Unappended → (bytes : Option (List ℕ)) (told : Option ℕ) → Type 0
-IsUnsized end.Limit bytes told = HasTold bytes (λ size. IsTooLong (size ∷ []) × (told ≡ Some size))
-IsUnsized (end.Cut cut.Grown) bytes told = Unit {0}
-IsUnsized other bytes told = ⊥
-
--- before the work ended so, the file had told a size, if it didn't fail: one within reach, or one past it; it tells that still where
--- it is too long or refused. Nothing else ends it
-abbrev pub IsSizedBy : {X : Type 0} → Result X (Ending Unappended) → (may_cut : Bool) (bytes : Option (List ℕ)) (told : Option ℕ) → Type 0
-IsSizedBy (Ok x) may_cut bytes told = HasTold bytes (λ size. IsInReach (size ∷ []))
-IsSizedBy (Err end.Limit) may_cut bytes told = HasTold bytes (λ size. IsTooLong (size ∷ []) × (told ≡ Some size))
-IsSizedBy (Err (end.At (Refused fault))) may_cut bytes told =
-    HasTold bytes (λ size. IsInReach (size ∷ []) × (told ≡ Some size) × (0 < size) × RefusesFor may_cut fault.why)
-IsSizedBy (Err (end.At (Stopped stop count))) may_cut bytes told = HasTold bytes (λ size. IsInReach (size ∷ []))
-IsSizedBy (Err (end.Cut cut.Grown)) may_cut bytes told = Unit {0}
-IsSizedBy (Err (end.Cut cut.Input)) may_cut bytes told = HasTold bytes (λ size. IsInReach (size ∷ []))
-IsSizedBy (Err (end.Cut cut.Out)) may_cut bytes told = HasTold bytes (λ size. IsInReach (size ∷ []))
-IsSizedBy (Err (end.Cut cut.Memory)) may_cut bytes told = HasTold bytes (λ size. IsInReach (size ∷ []))
-IsSizedBy (Err (end.Cut other)) may_cut bytes told = ⊥
+-- the work may end so, by the size that the file told: past the limit, or within it, unless the file failed; it tells that still
+-- where it is too long or refused
+abbrev pub IsSizedBy : {X : Type 0} → Result X (Ending Unappended) → AppendWords → (bytes : Option (List ℕ)) (told : Option ℕ) → Type 0
+IsSizedBy (Ok x) words bytes told = HasTold bytes (λ size. IsInReach (size ∷ []))
+IsSizedBy (Err end.Limit) words bytes told = HasTold bytes (λ size. IsTooLong (size ∷ []) × (told ≡ Some size))
+IsSizedBy (Err (end.At (Refused fault))) words bytes told =
+    HasTold bytes (λ size. IsInReach (size ∷ []) × (told ≡ Some size) × (0 < size) × RefusesFor words.cut fault.why)
+IsSizedBy (Err (end.At (Stopped stop count))) words bytes told = HasTold bytes (λ size. IsInReach (size ∷ []))
+IsSizedBy (Err (end.Cut cut.Grown)) words bytes told = (append_meaning words).uses.grown ≡ true
+IsSizedBy (Err (end.Cut cut)) words bytes told = MayBeCut (append_meaning words) cut × HasTold bytes (λ size. IsInReach (size ∷ []))
 
 -- all records were put to the file, and this was printed of what became of it
 abbrev pub IsTold : ((before after : Option (List ℕ)) → List ℕ → Type 0) → AppendWords → Rest → (file : List ℕ) (held out out_then : Option (List ℕ)) → Type 0

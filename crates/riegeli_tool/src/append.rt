@@ -1,14 +1,18 @@
-ghost use Rattle.std.specs.Prelude.{◌≡◌, ◌≤◌, ◌⊎◌, Some, Ok, Err, [], ◌∷◌, IfErr, IfOk, IfSome, IsSomeAnd, OnOk, length};
+ghost use Rattle.std.specs.Prelude.{◌≡◌, ◌<◌, ◌≤◌, ◌⊎◌, Some, Ok, Err, [], ◌∷◌, IfErr, IfOk, IfSome, IsSomeAnd, OnOk, length};
 ghost use Rattle.record_io.specs.Outside.{Rose};
 ghost use Rattle.record_io.specs.Calls.{OnlyCounts, PutsTo};
+ghost use Rattle.chunk_reader.specs.declared.reasons.Fault.{Fault};
+ghost use Rattle.record_append.specs.Appends.{AnswersGrown, KeepsBy};
 ghost use Rattle.record_append.specs.Devices.{CountsFaults};
+ghost use Rattle.record_append.specs.Grown.{IsRefusedToGrow, RefusesFor};
 ghost use Rattle.record_writer.specs.Written.{AreInLimits};
 ghost use Rattle.run_answers.specs.Endings.{SaysEnd};
 ghost use Rattle.run_answers.specs.FileAnswers.{IsInReach, most_file_bytes};
+ghost use Rattle.run_answers.specs.FileSizes.{IsUnsized};
 ghost use Rattle.run_answers.specs.Runs.{Runs, Seen, TakesAtMost, seen_file, seen_stream};
 ghost use Rattle.write_lines.specs.Input.{most_input_taken};
 ghost use Rattle.riegeli_tool.specs.AppendCommand.{append_meaning, appended_text, lines_taken};
-ghost use Rattle.riegeli_tool.specs.AppendingEnds.{HasAppended, HasTold, IsSizedBy, IsUnsized, KeepsOldAtEnd, appending_ends, end_of_append};
+ghost use Rattle.riegeli_tool.specs.AppendingEnds.{HasAppended, HasTold, IsSizedBy, KeepsOldAtEnd, appending_ends, end_of_append};
 
 use crate::append_words::AppendWords;
 use chunk_reader::Fault;
@@ -65,7 +69,7 @@ fn append_lines<R: Threads + Sync, I: Source, G: Device + Send, O: Sink>(
     ensures appended { IfSome (G.bytes grown.old) (λ file. IfSome (I.left input.old) (λ bytes.
         HasAppended result words.now (lines_taken words.now bytes) file (G.bytes grown.new) (O.taken out.old) (O.taken out.new))) }
     ensures kept { IfSome (G.bytes grown.old) (λ file. IsSomeAnd (G.bytes grown.new) (λ held. KeepsOldAtEnd result words.now.cut file held)) }
-    ensures sized { IsSizedBy result words.now.cut (G.bytes grown.old) (G.told grown.new) }
+    ensures sized { IsSizedBy result words.now (G.bytes grown.old) (G.told grown.new) }
     ensures handed { (G.handed grown.new ≡ G.handed grown.old) ⊎ HasTold (G.bytes grown.old) (λ size. IsInReach (size ∷ [])) }
     ensures read_to_end { OnOk result (IfSome (I.left input.old) (λ _. I.left input.new ≡ Some [])) }
     ensures input_taken { TakesAtMost most_input_taken (I.left input.old) (I.left input.new) }
@@ -74,12 +78,12 @@ fn append_lines<R: Threads + Sync, I: Source, G: Device + Send, O: Sink>(
     ensures grown { CountsFaults G.faults (result ≡ Err (Ending.Cut Cut.Grown)) grown.old grown.new }
     ensures out { OnlyCounts O.lent O.faults (result ≡ Err (Ending.Cut Cut.Out)) out.old out.new }
 {
-    let size = size_in_reach(grown)?;
-    let mut lines = LineFeed::new(alloc, input, words.write.hex, MOST_INPUT);
-    let options = &words.write.options;
-    let appended = match record_append::append(
-        rt, alloc, options, words.cut, &mut lines, grown, size,
-    ) {
+    let size = match size_in_reach(grown) {
+        Ok(size) => size,
+        Err(SizeEnd::Limit) => return Err(Ending::Limit),
+        Err(SizeEnd::File) => return Err(Ending::Cut(Cut::Grown)),
+    };
+    let appended = match grow(rt, alloc, words, input, grown, size) {
         Ok(appended) => appended,
         Err(end) => return Err(end_of_append(end)),
     };
@@ -90,20 +94,46 @@ fn append_lines<R: Threads + Sync, I: Source, G: Device + Send, O: Sink>(
 }
 
 /// The size of a file that may be grown.
-fn size_in_reach<G: Device>(grown: &mut G) -> Result<u64, Ending<Unappended>>
+fn size_in_reach<G: Device>(grown: &mut G) -> Result<u64, SizeEnd>
     ensures told { IfOk result (λ size. G.told grown.new ≡ Some size) }
     ensures in_reach { IfOk result (λ size. size ≤ most_file_bytes) }
     ensures exact { IfOk result (λ size. IfSome (G.bytes grown.old) (λ bytes. size ≡ length bytes)) }
-    ensures no_size { IfErr result (λ ended. IsUnsized ended (G.bytes grown.old) (G.told grown.new)) }
+    ensures sized { IfSome (G.bytes grown.old) (λ bytes. IfSome (G.told grown.new) (λ size. size ≡ length bytes)) }
+    ensures unread { IfErr result (λ ended. IsUnsized ended (G.told grown.new) (G.bytes grown.old) (G.faults grown.old) (G.faults grown.new)) }
     ensures same_handed { G.handed grown.new ≡ G.handed grown.old }
     ensures same_bytes { G.bytes grown.new ≡ G.bytes grown.old }
-    ensures grown { CountsFaults G.faults (result ≡ Err (Ending.Cut Cut.Grown)) grown.old grown.new }
+    ensures grown { CountsFaults G.faults ⊥ grown.old grown.new }
 {
-    match size_of(&mut AsStore::new(grown)) {
-        Ok(size) => Ok(size),
-        Err(SizeEnd::Limit) => Err(Ending::Limit),
-        Err(SizeEnd::File) => Err(Ending::Cut(Cut::Grown)),
-    }
+    size_of(&mut AsStore::new(grown))
+}
+
+/// Puts the records of the input's lines behind the last whole chunk of a file of so many bytes.
+fn grow<R: Threads + Sync, I: Source, G: Device + Send>(
+    rt: &R,
+    alloc: Global,
+    words: &AppendWords,
+    input: &mut I,
+    grown: &mut G,
+    size: u64,
+) -> Result<Appended, AppendEnd>
+    requires in_limits { AreInLimits words.now.write.options }
+    requires told { G.told grown.old ≡ Some size }
+    requires in_reach { size ≤ most_file_bytes }
+    ensures put { IfSome (G.bytes grown.old) (λ file. IfSome (I.left input.old) (λ bytes.
+        AnswersGrown result words.now.write.options words.now.cut file (lines_taken words.now bytes) (G.bytes grown.new))) }
+    ensures refused { (fault : Fault) → result ≡ Err (AppendEnd.Refused fault)
+        → (G.told grown.new ≡ Some size) × (0 < size) × RefusesFor words.now.cut fault.why
+        × IfSome (G.bytes grown.old) (λ file. IsRefusedToGrow words.now.cut file fault) }
+    ensures kept { IfSome (G.bytes grown.old) (λ file. IsSomeAnd (G.bytes grown.new) (λ held. KeepsBy result words.now.cut file held)) }
+    ensures read_to_end { OnOk result (IfSome (I.left input.old) (λ _. I.left input.new ≡ Some [])) }
+    ensures input_taken { TakesAtMost most_input_taken (I.left input.old) (I.left input.new) }
+    ensures input_cause { result ≡ Err AppendEnd.Input → Rose (I.faults input.old) (I.faults input.new) }
+    ensures input_count { I.faults input.old ≤ I.faults input.new }
+    ensures grown { CountsFaults G.faults (result ≡ Err AppendEnd.Device) grown.old grown.new }
+{
+    let mut lines = LineFeed::new(alloc, input, words.write.hex, MOST_INPUT);
+    let options = &words.write.options;
+    record_append::append(rt, alloc, options, words.cut, &mut lines, grown, size)
 }
 
 /// The end by which records were not put to a file to the end of their feed.

@@ -1,0 +1,36 @@
+use Rattle.std.proofs.Common.{◌≡◌, ◌+◌, ◌∙◌, Some, [], length, rules}
+use Rattle.record_append.specs.Appends.{AnswersGrown}
+use Rattle.run_answers.specs.Runs.{TakesAtMost}
+use Rattle.write_lines.specs.Input.{most_input_taken}
+use Rattle.write_lines.proofs.FeedSteps.{input-spent}
+use Rattle.write_lines.proofs.Origins.{taken-at_most}
+use Rattle.write_lines.proofs.WrittenLines.{read-spent}
+use Rattle.riegeli_tool.specs.AppendCommand.{lines_taken}
+use Rattle.riegeli_tool.proofs.AppendSteps.{taken-given}
+use Rattle.riegeli_tool.proofs.append.grow.Goals as goal
+
+pub returns-clause-put : goal.returns-clause-put
+returns-clause-put g c =
+    let words = c.args.words.now in
+    taken-given words (g.G.Device.bytes c.args.grown.now) _ _
+    (λ file rest. AnswersGrown c.append.result words.write.options words.cut file rest (g.G.Device.bytes c.append.new.device))
+    c.new-lines.ensures.rest c.append.ensures.grown
+
+pub returns-clause-refused : goal.returns-clause-refused
+returns-clause-refused g c = λ fault is.
+    let refused = c.append.ensures.refused fault is in
+    ((c.append.ensures.untouched fault is).1 ∙ c.requires.told, refused.0, refused.1, refused.2)
+
+pub returns-clause-read_to_end : goal.returns-clause-read_to_end
+returns-clause-read_to_end g c =
+    let feed = c.append.new.feed in
+    read-spent c.append.result (g.I.Source.left c.args.input.now) _ _ _ (lines_taken c.args.words.now)
+    c.append.ensures.read_to_end c.new-lines.ensures.rest
+    (λ spent. let all : g.I.Source.left feed.input.now ≡ Some [] = input-spent feed.hex (length feed.held + feed.asked) feed.held _ spent in search rules)
+
+pub returns-clause-input_taken : goal.returns-clause-input_taken
+returns-clause-input_taken g c =
+    let feed = c.append.new.feed in
+    let taken : TakesAtMost most_input_taken (g.I.Source.left c.args.input.now) (g.I.Source.left feed.input.now) =
+    taken-at_most _ _ most_input_taken feed.asked _ _ (c.append.ensures.feed.same_lent ∙ c.new-lines.ensures.origin) in
+    search rules
