@@ -23,21 +23,25 @@ show_command_of words =
     if goes_past_damage words then option_map Recover (recover_words_of words)
     else option_map Show (show_words_of words)
 
--- the command that words are, if they are one
+-- the command of this name that words are, if they are one
+abbrev pub command_named : (name : List ℕ) → List (List ℕ) → Option Command
+command_named name words =
+    if bytes_eq name (codes "write") then option_map Write (write_words_of words)
+    else if bytes_eq name (codes "show") then show_command_of words
+    else if bytes_eq name (codes "verify") then option_map Verify (verify_words_of words)
+    else if bytes_eq name (codes "seek") then option_map Seek (seek_words_of words)
+    else if bytes_eq name (codes "repair") then option_map Repair (repair_words_of words)
+    else if bytes_eq name (codes "sample") then option_map Sample (sample_words_of words)
+    else if bytes_eq name (codes "join") then option_map Join (join_words_of words)
+    else if bytes_eq name (codes "ranges") then option_map Ranges (ranges_words_of words)
+    else if bytes_eq name (codes "append") then option_map Append (append_words_of words)
+    else if bytes_eq name (codes "collect") then option_map Collect (collect_words_of words)
+    else None
+
+-- the command that words are, by the first of them
 abbrev pub command_of : List (List ℕ) → Option Command
 command_of [] = None
-command_of (name ∷ words) =
-    if bytes_eq name (codes "write") then option_map Write (write_words_of (name ∷ words))
-    else if bytes_eq name (codes "show") then show_command_of (name ∷ words)
-    else if bytes_eq name (codes "verify") then option_map Verify (verify_words_of (name ∷ words))
-    else if bytes_eq name (codes "seek") then option_map Seek (seek_words_of (name ∷ words))
-    else if bytes_eq name (codes "repair") then option_map Repair (repair_words_of (name ∷ words))
-    else if bytes_eq name (codes "sample") then option_map Sample (sample_words_of (name ∷ words))
-    else if bytes_eq name (codes "join") then option_map Join (join_words_of (name ∷ words))
-    else if bytes_eq name (codes "ranges") then option_map Ranges (ranges_words_of (name ∷ words))
-    else if bytes_eq name (codes "append") then option_map Append (append_words_of (name ∷ words))
-    else if bytes_eq name (codes "collect") then option_map Collect (collect_words_of (name ∷ words))
-    else None
+command_of (name ∷ words) = command_named name (name ∷ words)
 
 -- no words name a file
 abbrev pub none_named : Names

@@ -1,6 +1,6 @@
 ghost use Rattle.std.specs.Prelude.{◌≡◌, map};
 ghost use Rattle.std.specs.String.{string_bytes};
-ghost use Rattle.riegeli_tool.specs.Commands.{command_of, show_command_of, names_of, accepted};
+ghost use Rattle.riegeli_tool.specs.Commands.{accepted, command_named, command_of, names_of, show_command_of};
 
 use crate::append_words::append_words;
 use crate::command::{Command, Names};
@@ -29,7 +29,14 @@ pub fn names(words: &[String]) -> Names
 fn parse<'a>(words: &'a [String]) -> Option<Command<'a>>
     ensures { result ≡ command_of (map string_bytes words.now) }
 {
-    match words.first()?.as_str() {
+    command_named(words.first()?.as_str(), words)
+}
+
+/// The command of this name that the words are.
+fn command_named<'a>(name: &str, words: &'a [String]) -> Option<Command<'a>>
+    ensures { result ≡ command_named name.now (map string_bytes words.now) }
+{
+    match name {
         "write" => Some(Command::Write(write_words(words)?)),
         "show" => show_command(words),
         "verify" => Some(Command::Verify(verify_words(words)?)),
@@ -59,5 +66,8 @@ fn show_command<'a>(words: &'a [String]) -> Option<Command<'a>>
 pub(crate) fn accept<'a>(words: &'a [String], count: usize) -> Option<Command<'a>>
     ensures { result ≡ accepted (map string_bytes words.now) count }
 {
-    parse(words).filter(|command| command.takes(count))
+    match parse(words) {
+        Some(command) if command.takes(count) => Some(command),
+        _ => None,
+    }
 }
