@@ -1,15 +1,17 @@
-ghost use Rattle.std.specs.Prelude.{◌≡◌, ◌-◌, true, Ok, Err, [], ◌∷◌, IfSome, IsErrAnd};
+ghost use Rattle.std.specs.Prelude.{◌≡◌, ◌-◌, true, None, Ok, Err, List, [], ◌∷◌, IfSome, IsErrAnd, length};
 ghost use Rattle.record_io.specs.Outside.{Rose};
 ghost use Rattle.record_io.specs.Puts.{taken_by};
 ghost use Rattle.record_io.specs.Calls.{OnlyCounts};
 ghost use Rattle.damage_skip.specs.Bounds.{MaySkip};
 ghost use Rattle.damage_skip.specs.Takings.{IsTakenByWalk};
+ghost use Rattle.damage_skip.specs.declared.regions.Region.{Region};
 ghost use Rattle.run_answers.specs.FileAnswers.{HandsOut};
 ghost use Rattle.riegeli_tool.specs.RepairCommand.{IsRepaired, IsRepairedSoFar, repair_meaning};
 ghost use Rattle.riegeli_tool.specs.RepairingEnds.{end_of_repair};
 ghost use Rattle.run_answers.specs.Runs.{Runs, Seen, seen_stream, seen_file};
 ghost use Rattle.run_answers.specs.PutSoFar.{HasPutSoFar};
 ghost use Rattle.run_answers.specs.Endings.{HasPutAtEnd, IsAllowedEnd, IsShort};
+ghost use Rattle.show_damaged.specs.WalkAnswers.{walk_status};
 ghost use Rattle.show_damaged.specs.WalkingEnds.{TellsOf, walk_ends};
 
 use crate::repair_words::RepairWords;
@@ -77,9 +79,20 @@ fn repair_file<S: Store, M: Sink, O: Sink, E: Sink>(
         Err(end) => return Err(end_of_repair(end)),
     };
     match put_report(&repaired.totals, out) {
-        Ok(()) if repaired.regions == 0 => Ok(Status::Ok),
-        Ok(()) => Ok(Status::Skipped),
+        Ok(()) => Ok(status_past(repaired.regions)),
         Err(Failed) => Err(Ending::Cut(Cut::Out)),
+    }
+}
+
+/// The status of a repair past so many regions.
+fn status_past(regions: u64) -> Status
+    ensures told { (skipped : List Region) → regions ≡ length skipped → result ≡ walk_status skipped None }
+    ensures none { result ≡ Status.Ok → regions ≡ 0 }
+{
+    if regions == 0 {
+        Status::Ok
+    } else {
+        Status::Skipped
     }
 }
 

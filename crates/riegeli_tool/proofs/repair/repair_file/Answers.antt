@@ -8,7 +8,6 @@ use Rattle.run_answers.proofs.FileRuns.{handed-work, told-in_reach}
 use Rattle.riegeli_tool.proofs.FileAnswersExist.{repaired_exists}
 use Rattle.run_answers.proofs.PutSoFar.{so_far-nothing}
 use Rattle.riegeli_tool.proofs.RepairEnds.{repaired-none, repair-takes, ended-walks, ended-so_far, ended-tells, ended-allowed, done-walks, done-tells, unreported-ends, unreported-tells}
-use Rattle.riegeli_tool.proofs.RepairSteps.{status_of-none, status_of-some}
 use Rattle.show_files.proofs.ShowSteps.{short_told}
 use Rattle.show_damaged.proofs.WalkRuns.{tells-unsized}
 use Rattle.riegeli_tool.proofs.repair.repair_file.Goals as goal
@@ -52,19 +51,12 @@ returns-in-Ok-put_report-clause-walks g c =
     done-walks _ c.new-policy.result.test c.args.words.now (λ region allowed is returned. search (rules, tests)) _ _ c.in_ok-size.ensures.same_bytes
     (short_told _ _ c.in_ok-size.ensures.in_reach c.in_ok-size.ensures.exact)
     c.in-Ok.repaired _ _ _ _ _ _ _ _ _ c.in-Ok.ensures.repairs c.in-Ok-put_report.ensures.out.whole
-    (status_of-none c.in-Ok.repaired.regions c.if-repaired-eq0.true)
+    c.status_past.ensures.told
 
-pub returns-in-Ok-2-clause-walks : goal.returns-in-Ok-2-clause-walks
-returns-in-Ok-2-clause-walks g c =
-    done-walks _ c.new-policy.result.test c.args.words.now (λ region allowed is returned. search (rules, tests)) _ _ c.in_ok-size.ensures.same_bytes
-    (short_told _ _ c.in_ok-size.ensures.in_reach c.in_ok-size.ensures.exact)
-    c.in-Ok.repaired _ _ _ _ _ _ _ _ _ c.in-Ok.ensures.repairs c.in-Ok-2.ensures.out.whole
-    (status_of-some c.in-Ok.repaired.regions c.if-repaired-eq0.false)
-
-pub returns-in-Ok-2-clause-said : goal.returns-in-Ok-2-clause-said
-returns-in-Ok-2-clause-said g c =
+pub returns-in-Ok-put_report-clause-said : goal.returns-in-Ok-put_report-clause-said
+returns-in-Ok-put_report-clause-said g c =
     done-tells _ c.new-policy.result.test c.args.words.now (λ region allowed is returned. search (rules, tests))
-    c.in-Ok.repaired _ _ _ c.in-Ok.ensures.skips (status_of-some c.in-Ok.repaired.regions c.if-repaired-eq0.false)
+    c.in-Ok.repaired _ _ _ c.in-Ok.ensures.skips c.status_past.ensures.told
 
 pub returns-in-Err-put_report-clause-walks : goal.returns-in-Err-put_report-clause-walks
 returns-in-Err-put_report-clause-walks g c =
@@ -95,11 +87,6 @@ returns-in-Ok-put_report-clause-handed g c =
     handed-work (repair_meaning c.args.words.now) _ c.in_ok-size.size _ _ (c.in-Ok.ensures.store.same_told ∙ c.in_ok-size.ensures.told)
     (c.in_ok-size.ensures.in_reach, tt)
 
-pub returns-in-Ok-2-clause-handed : goal.returns-in-Ok-2-clause-handed
-returns-in-Ok-2-clause-handed g c =
-    handed-work (repair_meaning c.args.words.now) _ c.in_ok-size.size _ _ (c.in-Ok.ensures.store.same_told ∙ c.in_ok-size.ensures.told)
-    (c.in_ok-size.ensures.in_reach, tt)
-
 pub returns-in-Err-put_report-clause-handed : goal.returns-in-Err-put_report-clause-handed
 returns-in-Err-put_report-clause-handed g c =
     handed-work (repair_meaning c.args.words.now) _ c.in_ok-size.size _ _ (c.in-Ok.ensures.store.same_told ∙ c.in_ok-size.ensures.told)
@@ -116,11 +103,6 @@ returns-in-Err-clause-handed_of g c =
 
 pub returns-in-Ok-put_report-clause-handed_of : goal.returns-in-Ok-put_report-clause-handed_of
 returns-in-Ok-put_report-clause-handed_of g c =
-    repair-takes _ c.new-policy.result.test c.args.words.now (λ region allowed is returned. search (rules, tests)) _ _ _ _ _
-    c.in_ok-size.ensures.same_bytes c.in_ok-size.ensures.same_handed c.in-Ok.ensures.takes
-
-pub returns-in-Ok-2-clause-handed_of : goal.returns-in-Ok-2-clause-handed_of
-returns-in-Ok-2-clause-handed_of g c =
     repair-takes _ c.new-policy.result.test c.args.words.now (λ region allowed is returned. search (rules, tests)) _ _ _ _ _
     c.in_ok-size.ensures.same_bytes c.in_ok-size.ensures.same_handed c.in-Ok.ensures.takes
 
