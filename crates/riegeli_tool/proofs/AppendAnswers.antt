@@ -2,7 +2,7 @@
 use Rattle.std.proofs.Common.{if◌then◌else◌, ◌≡◌, ◌≢◌, ◌∙◌, ℕ, Bool, true, false, Option, Some, None, ◌⊎◌, List, [], ◌∷◌, length, refl, sym, ap, subst, inl, inr}
 use Rattle.std.specs.Prelude.{is_some}
 use Rattle.record_values.specs.Bytes.{AreBytes}
-use Rattle.record_io.specs.Puts.{Put, Made, Out, Notes, bytes_to}
+use Rattle.record_io.specs.Puts.{Made, Out, Notes, bytes_to}
 use Rattle.record_io.proofs.Puts.{bytes_to-own, bytes_to-other}
 use Rattle.chunk_reader.specs.Faults.{HasNoFault, IsFault}
 use Rattle.chunk_reader.specs.declared.reasons.Fault.{Fault}
@@ -12,7 +12,7 @@ use Rattle.chunk_reader.proofs.FaultsDecided.{file_judged}
 use Rattle.chunk_reader.proofs.FileFaults.{fault_is_one}
 use Rattle.record_writer.specs.Feeds.{Rest}
 use Rattle.record_writer.specs.declared.feed.Stop.{Stop}
-use Rattle.record_append.specs.Grown.{IsKeptTo, IsRefusedToGrow, IsUnrefused, RefusesFor}
+use Rattle.record_append.specs.Grown.{IsRefusedToGrow, IsUnrefused, RefusesFor}
 use Rattle.record_append.specs.declared.appends.Appended.{Appended}
 use Rattle.record_append.proofs.GrownFiles.{empty_taken, kept_once, kept_somewhere, taken_whole}
 use Rattle.run_answers.specs.Answers.{Answer, noted}

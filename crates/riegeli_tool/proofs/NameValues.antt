@@ -1,5 +1,5 @@
 -- The files that words name, judged by hand, computed from the definitions.
-use Rattle.std.proofs.Common.{◌≡◌, ℕ, Option, Some, None, List, [], ◌∷◌, codes, refl}
+use Rattle.std.proofs.Common.{◌≡◌, ℕ, Some, List, [], ◌∷◌, codes, refl}
 use Rattle.riegeli_tool.specs.declared.command.Names.{Names}
 use Rattle.riegeli_tool.specs.Commands.{command_of, names_of, none_named}
 use Rattle.riegeli_tool.specs.RangesWords.{ranges_words_of}

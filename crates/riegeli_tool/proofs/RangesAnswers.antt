@@ -1,29 +1,23 @@
 -- Stores of one file have one answer of `ranges`.
-use Rattle.std.proofs.Common.{◌≡◌, ◌≢◌, ◌∙◌, ℕ, zero, suc, ◌<◌, ◌≤◌, ◌⊎◌, true, false, Option, Some, None, List, [], ◌∷◌, ◌++◌, length, map, refl, sym, ap, subst, inl, inr, arith}
+use Rattle.std.proofs.Common.{◌≡◌, ◌≢◌, ◌∙◌, ℕ, ◌<◌, false, Some, List, [], ◌∷◌, length, map, refl, sym, ap, subst, inl, inr, arith}
 use Rattle.std.specs.Prelude.{slice_get}
 use Rattle.std.specs.List.{AllByRecursion, flat_map}
-use Rattle.std.proofs.lemmas.List.{append-nil, length-map}
 use Rattle.record_values.specs.Bytes.{AreBytes}
-use Rattle.record_io.specs.Puts.{Made, Out, Notes, puts_to, bytes_to}
-use Rattle.record_io.proofs.Puts.{bytes_to-own, bytes_to-other}
+use Rattle.record_io.specs.Puts.{Out, puts_to}
 use Rattle.chunk_header.specs.Chunks.{ChunkValue}
 use Rattle.meta_chunk.specs.Files.{ArePlaced, placed_from}
 use Rattle.meta_chunk.proofs.Held.{HoldEach-framed}
 use Rattle.meta_chunk.proofs.Placed.{ArePlaced-one}
-use Rattle.chunk_reader.specs.Faults.{HasNoFault, IsFault}
+use Rattle.chunk_reader.specs.Faults.{HasNoFault}
 use Rattle.chunk_reader.specs.declared.reasons.Fault.{Fault}
 use Rattle.chunk_reader.proofs.FileFaults.{fault_is_one, fault_or_none}
 use Rattle.chunk_reader.proofs.Frames.{chain_is_one, frame_of_plain}
 use Rattle.chunk_reader.proofs.FaultsDecided.{file_judged}
 use Rattle.run_answers.specs.Answers.{Answer, noted}
 use Rattle.run_answers.specs.FileAnswers.{limit_text}
-use Rattle.run_answers.proofs.OneAnswer.{same_answer}
 use Rattle.run_answers.specs.declared.status.Status.TheVariants as status
 use Rattle.show_files.specs.Readings.{bare, record_line, refused_text}
-use Rattle.show_files.specs.ShowCommand.{IsShown}
-use Rattle.show_files.specs.declared.show_words.RecordForm.{RecordForm}
-use Rattle.show_files.specs.declared.show_words.ShowWords.{ShowWords}
-use Rattle.riegeli_tool.specs.RangesCommand.{AreOneFile, AreWithin, Differ, IsOnePast, IsRangesAnswer, IsReadAnswer, IsTextOfFile, MayBeRead, differ_text}
+use Rattle.riegeli_tool.specs.RangesCommand.{AreOneFile, Differ, IsRangesAnswer, IsReadAnswer, IsTextOfFile, MayBeRead, differ_text}
 use Rattle.riegeli_tool.proofs.RangesSizes.{alike_or_differ, alike_within, past_or_within, sizes_judged}
 
 -- an answer that is printed alone

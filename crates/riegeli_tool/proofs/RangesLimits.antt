@@ -1,5 +1,5 @@
 -- What the words of `ranges` say is within its limits.
-use Rattle.std.proofs.Common.{if◌then◌else◌, ◌≡◌, ℕ, ◌≤◌, Bool, true, false, Option, Some, None, List, sym, ap, codes}
+use Rattle.std.proofs.Common.{if◌then◌else◌, ◌≡◌, ℕ, ◌≤◌, Bool, true, false, Option, Some, None, List, ap, codes}
 use Rattle.word_options.specs.Numbers.{number_within}
 use Rattle.word_options.specs.Options.{value_given, are_words_of, file_places, only, ◌>>=◌}
 use Rattle.word_options.proofs.WithinBounds.{and_then_some, number_within-bounds}

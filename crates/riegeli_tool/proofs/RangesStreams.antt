@@ -1,6 +1,5 @@
 -- What each stream takes of an answer of `ranges`, and that `show` prints the same.
 use Rattle.std.proofs.Common.{◌≡◌, ◌≢◌, ◌∙◌, ℕ, ◌≤◌, ◌<◌, false, List, [], ◌∷◌, ◌++◌, length, map, refl, sym, ap, subst, inl, inr, arith}
-use Rattle.std.specs.Prelude.{slice_get}
 use Rattle.std.specs.List.{AllByRecursion, flat_map}
 use Rattle.std.proofs.lemmas.List.{append-nil}
 use Rattle.record_io.specs.Puts.{Made, Out, Notes, puts_to, bytes_to}
@@ -8,8 +7,7 @@ use Rattle.record_io.proofs.Puts.{bytes_to-own, bytes_to-other}
 use Rattle.chunk_header.specs.Chunks.{ChunkValue}
 use Rattle.meta_chunk.specs.Files.{IsPlain, IsChainOf, ArePlaced}
 use Rattle.meta_chunk.proofs.Placed.{ArePlaced-one}
-use Rattle.chunk_reader.specs.Faults.{HasNoFault, IsFault}
-use Rattle.chunk_reader.specs.declared.reasons.Fault.{Fault}
+use Rattle.chunk_reader.specs.Faults.{HasNoFault}
 use Rattle.chunk_reader.proofs.FileFaults.{fault_is_one, fault_or_none}
 use Rattle.chunk_reader.proofs.Frames.{chain_is_one}
 use Rattle.run_answers.specs.Answers.{Answer, noted}

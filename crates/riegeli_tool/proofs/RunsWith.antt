@@ -1,10 +1,10 @@
 -- A run of a command is one of the same command with further facts of its answers.
-use Rattle.std.proofs.Common.{◌≡◌, ℕ, true, ◌⊎◌, inl, inr, List}
+use Rattle.std.proofs.Common.{ℕ, inl, inr, List}
 use Rattle.run_answers.specs.declared.status.Status.{Status}
 use Rattle.run_answers.specs.Answers.{Answer}
 use Rattle.run_answers.specs.Meanings.{Meaning, Read}
 use Rattle.run_answers.specs.declared.status.Status.TheVariants as status
-use Rattle.run_answers.specs.Runs.{Seen, IsReadBy, IfRead, IfTold, OfSizes, WentOutSoFar, HasCause, IfGrown, handed_by, Runs}
+use Rattle.run_answers.specs.Runs.{Seen, IsReadBy, IfTold, OfSizes, WentOutSoFar, HasCause, Runs}
 
 module _ (m : Meaning) (answers : Read → Answer → Type 0) (so : (r : Read) (a : Answer) → m.answers r a → answers r a) (before after : Seen) where
   abbrev with_answers : Meaning

@@ -1,5 +1,5 @@
 -- What `show` and `repair` answer past damage, told by the numbers of the undamaged file's chunks, and to the front of a file. Own.
-use Rattle.std.specs.Prelude.{◌≡◌, ℕ, ◌+◌, ◌^◌, ◌≤◌, ⊤, Bool, true, false, Option, Some, MatchOption, List, [], ◌∷◌, ◌++◌, length, take}
+use Rattle.std.specs.Prelude.{◌≡◌, ℕ, ◌^◌, ◌≤◌, ⊤, Bool, true, false, Option, Some, MatchOption, List, [], ◌∷◌, ◌++◌, length, take}
 use Rattle.std.specs.List.{AllByRecursion, flat_map}
 use Rattle.record_io.specs.Puts.{Notes, puts_to}
 use Rattle.chunk_header.specs.Chunks.{ChunkValue}
@@ -21,7 +21,6 @@ use Rattle.riegeli_tool.specs.CommandAnswers.{meaning_of}
 use Rattle.riegeli_tool.specs.RepairCommand.{end_puts}
 use Rattle.riegeli_tool.specs.declared.command.Command.{Command}
 use Rattle.riegeli_tool.specs.declared.command.Command.TheVariants.{Recover, Repair}
-use Rattle.riegeli_tool.specs.declared.repair_words.RepairWords.{RepairWords}
 
 -- what a command that goes past damage answers where a walk gave these events, and then stopped at this region, if at one
 abbrev pub recovered_as : RecoverWords → List Piece → Option Region → Answer

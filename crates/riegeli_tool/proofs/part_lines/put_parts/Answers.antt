@@ -1,6 +1,5 @@
-use Rattle.std.proofs.Common.{◌≢◌, ◌++◌, List, ℕ, [], OnErr, rules, subst}
+use Rattle.std.proofs.Common.{rules}
 use Rattle.std.proofs.lemmas.Result.{on_ok_weaker, on_err_weaker}
-use Rattle.record_io.specs.Buffers.{TakesAndHolds}
 use Rattle.run_answers.proofs.NoteLines.{OnErr-map, front-flushed, whole-flushed}
 use Rattle.riegeli_tool.specs.RangesEnds.{all_lines}
 use Rattle.riegeli_tool.proofs.RangesLines.{held_some}
