@@ -120,19 +120,19 @@ const CHANGES: [(u64, Result<(), Failed>, u64, Result<usize, Failed>, u64); 5] =
     (4, Err(Failed), 4, Err(Failed), 4),
 ];
 
-/// Cuts a device whose file is given a size after the device told its own.
-fn assert_cut<G: Device, F: OpenFile>(
-    rt: &impl Abort,
-    device: &mut G,
-    file: &F,
-    size: u64,
-    answer: Result<(), Failed>,
-) -> io::Result<()> {
+/// Has a device tell a size of at least five.
+fn tell_five<G: Device>(rt: &impl Abort, device: &mut G)
+    ensures { IsSomeAnd (G.told device.new) (λ size. 5 ≤ size) }
+{
     let told = device.size().expect(rt, "a size");
     assert!(rt; told >= 5);
-    file.set_len(size)?;
-    assert_eq!(rt; device.cut(5), answer, "{size}");
-    Ok(())
+}
+
+/// Cuts a device that told such a size to five bytes.
+fn assert_cut<G: Device>(rt: &impl Abort, device: &mut G, answer: Result<(), Failed>)
+    requires { IsSomeAnd (G.told device.old) (λ size. 5 ≤ size) }
+{
+    assert_eq!(rt; device.cut(5), answer);
 }
 
 /// Puts to a device whose file is given a size, and asks for the last one.
@@ -159,7 +159,9 @@ fn assert_changed<G: Device, F: OpenFile>(
 ) -> io::Result<()> {
     let (before_cut, cut, before_put, put, last) = *row;
     file.set_len(7)?;
-    assert_cut(rt, device, file, before_cut, cut)?;
+    tell_five(rt, device);
+    file.set_len(before_cut)?;
+    assert_cut(rt, device, cut);
     assert_put(rt, device, file, before_put, put, last)
 }
 

@@ -1,8 +1,9 @@
 //! Calls that are saved: of a sink by a buffer before it, and of a store and a device by reading ahead.
 use read_ahead::ReadAheadBy;
-use record_append::{AheadDeviceBy, AsStore, Device, MemDevice};
+use record_append::{AheadDeviceBy, AsStore, MemDevice};
 use record_io::{Failed, MemSink, MemStore, PutBuffer, Sink, Store, get_exact};
 use std::alloc::{AllocError, Global};
+use std::process::Abort;
 use std::test::Fail;
 
 /// How many bytes the sink has taken after each piece, and after what was held went out.
@@ -54,6 +55,12 @@ fn gives_in_pieces<S: Store>(store: &mut S, piece: u8) -> Result<bool, Failed> {
 /// each size, and those that read. Pieces of three bytes or more go straight through.
 const CALLS: [(u8, u32); 5] = [(1, 12 + 2), (2, 6 + 2), (3, 4 + 4), (4, 3 + 3), (12, 1 + 1)];
 
+/// Asserts that all bytes of a store are read in such pieces, and that its next call fails.
+fn assert_last_call<S: Store>(rt: &impl Abort, store: &mut S, piece: u8) {
+    assert_eq!(rt; gives_in_pieces(store, piece), Ok(true), "{piece}");
+    assert_eq!(rt; store.size(), Err(Failed), "{piece}");
+}
+
 /// A store of twelve bytes whose call with this number fails.
 fn failing_store(alloc: Global, number: u32) -> Result<MemStore, AllocError> {
     let bytes = b"abcdefghijkl".to_vec(alloc)?;
@@ -65,8 +72,7 @@ fn failing_store(alloc: Global, number: u32) -> Result<MemStore, AllocError> {
 fn small_reads_cost_few_calls_of_the_store(rt: HostRuntime) -> Result<(), Fail> {
     for (piece, calls) in CALLS {
         let mut ahead = ReadAheadBy::<_, 6>::new(failing_store(rt.alloc(), calls)?);
-        assert_eq!(rt; gives_in_pieces(&mut ahead, piece), Ok(true), "{piece}");
-        assert_eq!(rt; ahead.size(), Err(Failed), "{piece}");
+        assert_last_call(&rt, &mut ahead, piece);
     }
     Ok(())
 }
@@ -82,9 +88,7 @@ fn failing_device(alloc: Global, number: u32) -> Result<MemDevice, AllocError> {
 fn small_reads_cost_few_calls_of_the_device(rt: HostRuntime) -> Result<(), Fail> {
     for (piece, calls) in CALLS {
         let mut ahead = AheadDeviceBy::<_, 6>::new(failing_device(rt.alloc(), calls)?);
-        let given = gives_in_pieces(&mut AsStore::new(&mut ahead), piece);
-        assert_eq!(rt; given, Ok(true), "{piece}");
-        assert_eq!(rt; ahead.size(), Err(Failed), "{piece}");
+        assert_last_call(&rt, &mut AsStore::new(&mut ahead), piece);
     }
     Ok(())
 }
