@@ -8,20 +8,11 @@ use std::process::Abort;
 use std::test::Fail;
 use std::thread::Threads;
 
-/// A file that is written, one that is made of it, and one that grows.
-const FIRST: &str = "riegeli_main_first";
+/// The files that are made: one that is written, one that is made of it, one that grows, and one that stands behind a stream
+/// once it is made.
+const MADE: [&str; 4] = ["f1", "f2", "f3", "f4"];
 
-const SECOND: &str = "riegeli_main_second";
-
-const THIRD: &str = "riegeli_main_third";
-
-/// A file that stands behind a stream once it is made.
-const FOURTH: &str = "riegeli_main_fourth";
-
-const STREAMS: [&str; 1] = ["./riegeli_main_fourth"];
-
-/// A file that can't be opened or made.
-const ABSENT: &str = "no_such_folder/F";
+const STREAMS: [&str; 1] = ["./f4"];
 
 /// The lines that are written, and the report of their file.
 const LINES: &str = "a\nbc\n\n";
@@ -65,121 +56,116 @@ const SUMMARY: &str = "records 2\nbytes 113\n";
 /// More than a run of these tests prints or tells.
 const ROOM: usize = 1024;
 
-/// Each run is given the lines as its input. A file that exists is kept until something is put: at last the signature, before
-/// a line that holds no digits.
+/// Words, how their run ends, what it prints, and what it tells. There is no folder `no`.
+type Run = (&'static str, Status, &'static str, &'static str);
+
+/// A file that exists is kept until something is put: at last the signature, before a line that holds no digits.
+const RUNS: [Run; 37] = [
+    ("write f1", Status::Ok, "", ""),
+    ("show f1", Status::Ok, LINES, ""),
+    ("show --recover f1", Status::Ok, LINES, ""),
+    ("verify f1", Status::Ok, REPORT, ""),
+    ("seek --at=65 f1", Status::Ok, "65 bc\n", ""),
+    ("seek --key=b f1", Status::Ok, "65 bc\n", ""),
+    ("seek --at=112 f1", Status::NotFound, "", "not found\n"),
+    ("repair f1 f2", Status::Ok, REPORT, ""),
+    ("show f2", Status::Ok, LINES, ""),
+    ("join f1 f1 f2", Status::Ok, JOINED, ""),
+    ("verify f2", Status::Ok, JOINED, ""),
+    ("sample --seed=116 --records=2 f2", Status::Ok, SUMMARY, ""),
+    ("show f2", Status::Ok, SAMPLE, ""),
+    ("ranges --parts=3 f1", Status::Ok, LINES, ""),
+    ("append f3", Status::Ok, FIRST_GROWN, ""),
+    ("append f3", Status::Ok, GROWN, ""),
+    ("show f3", Status::Ok, TWICE, ""),
+    ("collect f1 f2", Status::Ok, PLACES, ""),
+    ("show f2", Status::Ok, LINES, ""),
+    ("write f4", Status::Ok, "", ""),
+    ("write f4", Status::Made, "", "made fault\n"),
+    ("append f4", Status::Grown, "", "grown fault\n"),
+    ("show f4", Status::Ok, LINES, ""),
+    ("repair f1 ./f1", Status::Made, "", "made fault\n"),
+    ("join f2 f1 ./f1", Status::Made, "", "made fault\n"),
+    ("collect f2 f1 ./f1", Status::Made, "", "made fault\n"),
+    ("repair no/f f1", Status::File, "", "file fault\n"),
+    ("join f1 no/f f2", Status::File, "", "file fault\n"),
+    ("ranges --parts=2 no/f", Status::File, "", "file fault\n"),
+    ("collect f1 no/f f2", Status::File, "", "file fault\n"),
+    ("write no/f", Status::Made, "", "made fault\n"),
+    ("append no/f", Status::Grown, "", "grown fault\n"),
+    ("show no/f", Status::File, "", "file fault\n"),
+    ("write f1 more", Status::Usage, "", USAGE),
+    ("verify f1", Status::Ok, REPORT, ""),
+    ("write --hex f1", Status::BadLine, "", "bad line 0\n"),
+    ("verify f1", Status::Ok, NO_RECORDS, ""),
+];
+
 #[test]
 fn each_command_uses_the_files_that_its_words_name(rt: HostRuntime) -> Result<(), Fail> {
-    for (words, status, printed, told) in [
-        (["write", FIRST].as_slice(), Status::Ok, "", ""),
-        (&["show", FIRST], Status::Ok, LINES, ""),
-        (&["show", "--recover", FIRST], Status::Ok, LINES, ""),
-        (&["verify", FIRST], Status::Ok, REPORT, ""),
-        (&["seek", "--at=65", FIRST], Status::Ok, "65 bc\n", ""),
-        (&["seek", "--key=b", FIRST], Status::Ok, "65 bc\n", ""),
-        (
-            &["seek", "--at=112", FIRST],
-            Status::NotFound,
-            "",
-            "not found\n",
-        ),
-        (&["repair", FIRST, SECOND], Status::Ok, REPORT, ""),
-        (&["show", SECOND], Status::Ok, LINES, ""),
-        (&["join", FIRST, FIRST, SECOND], Status::Ok, JOINED, ""),
-        (&["verify", SECOND], Status::Ok, JOINED, ""),
-        (
-            &["sample", "--seed=116", "--records=2", SECOND],
-            Status::Ok,
-            SUMMARY,
-            "",
-        ),
-        (&["show", SECOND], Status::Ok, SAMPLE, ""),
-        (&["ranges", "--parts=3", FIRST], Status::Ok, LINES, ""),
-        (&["append", THIRD], Status::Ok, FIRST_GROWN, ""),
-        (&["append", THIRD], Status::Ok, GROWN, ""),
-        (&["show", THIRD], Status::Ok, TWICE, ""),
-        (&["collect", FIRST, SECOND], Status::Ok, PLACES, ""),
-        (&["show", SECOND], Status::Ok, LINES, ""),
-        (&["write", FOURTH], Status::Ok, "", ""),
-        (&["write", FOURTH], Status::Made, "", "made fault\n"),
-        (&["append", FOURTH], Status::Grown, "", "grown fault\n"),
-        (&["show", FOURTH], Status::Ok, LINES, ""),
-        (
-            &["repair", FIRST, "./riegeli_main_first"],
-            Status::Made,
-            "",
-            "made fault\n",
-        ),
-        (
-            &["join", SECOND, FIRST, "./riegeli_main_first"],
-            Status::Made,
-            "",
-            "made fault\n",
-        ),
-        (
-            &["collect", SECOND, FIRST, "./riegeli_main_first"],
-            Status::Made,
-            "",
-            "made fault\n",
-        ),
-        (&["repair", ABSENT, FIRST], Status::File, "", "file fault\n"),
-        (
-            &["join", FIRST, ABSENT, SECOND],
-            Status::File,
-            "",
-            "file fault\n",
-        ),
-        (
-            &["ranges", "--parts=2", ABSENT],
-            Status::File,
-            "",
-            "file fault\n",
-        ),
-        (
-            &["collect", FIRST, ABSENT, SECOND],
-            Status::File,
-            "",
-            "file fault\n",
-        ),
-        (&["write", ABSENT], Status::Made, "", "made fault\n"),
-        (&["append", ABSENT], Status::Grown, "", "grown fault\n"),
-        (&["show", ABSENT], Status::File, "", "file fault\n"),
-        (&["write", FIRST, "more"], Status::Usage, "", USAGE),
-        (&["verify", FIRST], Status::Ok, REPORT, ""),
-        (
-            &["write", "--hex", FIRST],
-            Status::BadLine,
-            "",
-            "bad line 0\n",
-        ),
-        (&["verify", FIRST], Status::Ok, NO_RECORDS, ""),
-    ] {
-        ends(&rt, &rt, words, status, printed, told)?;
+    for row in &RUNS {
+        ends(&rt, &rt, row)?;
     }
-    for path in [FIRST, SECOND, THIRD, FOURTH] {
+    for path in MADE {
         fs::remove_file(&rt, path)?;
     }
     Ok(())
 }
 
-/// The file of lines ends within its chunk, which goes from 64 to 112, or within its first bytes.
+/// The file of lines, from 64 to 112, is cut off within its chunk: how it grows.
+const CUT_CHUNK: Run = (
+    "append --cut f5",
+    Status::Ok,
+    "kept 64\ndropped 36\nrecords 3\nbytes 112\n",
+    "",
+);
+
+/// It is cut off within its first bytes.
+const NO_FILE: Run = (
+    "append --cut f5",
+    Status::Refused,
+    "",
+    "refused 0 NoSignature\n",
+);
+
 #[test]
 fn a_file_that_is_cut_off_grows_unless_it_is_none(rt: HostRuntime) -> Result<(), Fail> {
-    let path = "riegeli_main_cut";
-    let kept = "kept 64\ndropped 36\nrecords 3\nbytes 112\n";
-    for (size, status, printed, told, left) in [
-        (100, Status::Ok, kept, "", 112),
-        (63, Status::Refused, "", "refused 0 NoSignature\n", 63),
-    ] {
-        ends(&rt, &rt, &["write", path], Status::Ok, "", "")?;
-        let file = fs::read(&rt, path)?;
-        fs::write(&rt, path, file.get(..size).unwrap_or(b""))?;
-        ends(&rt, &rt, &["append", "--cut", path], status, printed, told)?;
-        assert_eq!(rt;
-            fs::read(&rt, path)?.as_slice(),
-            file.get(..left).unwrap_or(b"")
-        );
-    }
-    fs::remove_file(&rt, path)?;
+    grows(&rt, &rt, 100, &CUT_CHUNK, 112)?;
+    grows(&rt, &rt, 63, &NO_FILE, 63)?;
+    fs::remove_file(&rt, "f5")?;
+    Ok(())
+}
+
+/// Asserts how the file of lines grows that is cut to a size, and which front of it is left.
+fn grows<R: Threads + Abort + Sync>(
+    threads: &R,
+    rt: &HostRuntime,
+    size: usize,
+    row: &Run,
+    left: usize,
+) -> Result<(), Fail> {
+    ends(threads, rt, &("write f5", Status::Ok, "", ""))?;
+    let file = fs::read(rt, "f5")?;
+    grows_to(
+        threads,
+        rt,
+        row,
+        file.get(..size).unwrap_or(b""),
+        file.get(..left).unwrap_or(b""),
+    )
+}
+
+/// Asserts how a file grows, and what is left of it.
+fn grows_to<R: Threads + Abort + Sync>(
+    threads: &R,
+    rt: &HostRuntime,
+    row: &Run,
+    file: &[u8],
+    left: &[u8],
+) -> Result<(), Fail> {
+    fs::write(rt, "f5", file)?;
+    ends(threads, rt, row)?;
+    let grown = fs::read(rt, "f5")?;
+    assert_eq!(threads; grown.as_slice(), left);
     Ok(())
 }
 
@@ -187,35 +173,44 @@ fn a_file_that_is_cut_off_grows_unless_it_is_none(rt: HostRuntime) -> Result<(),
 fn ends<R: Threads + Abort + Sync>(
     threads: &R,
     rt: &HostRuntime,
-    words: &[&str],
-    status: Status,
-    printed: &str,
-    told: &str,
+    row: &Run,
 ) -> Result<(), AllocError> {
-    let alloc = rt.alloc();
-    let mut input = MemInput::new(
-        LINES.as_bytes().to_vec(alloc)?,
-        Vec::new(alloc),
-        Vec::new(alloc),
-    );
-    let (mut out, mut notes) = (sink(alloc)?, sink(alloc)?);
-    let words = owned(alloc, words)?;
-    let ended = run_on_files(
-        threads, rt, &words, &STREAMS, &mut input, &mut out, &mut notes,
-    );
-    assert_eq!(threads; notes.taken(), told.as_bytes(), "{words:?}");
-    assert_eq!(threads; out.taken(), printed.as_bytes(), "{words:?}");
-    assert_eq!(threads; ended, status, "{words:?}");
+    let (words, status, printed, told) = *row;
+    let mut out = sink(rt.alloc())?;
+    let mut notes = sink(rt.alloc())?;
+    let ended = run_words(threads, rt, words, &mut out, &mut notes)?;
+    assert_eq!(threads; notes.taken(), told.as_bytes(), "{words}");
+    assert_eq!(threads; out.taken(), printed.as_bytes(), "{words}");
+    assert_eq!(threads; ended, status, "{words}");
     Ok(())
 }
 
-/// The words as the program gets them.
-fn owned(alloc: Global, words: &[&str]) -> Result<Vec<String>, AllocError> {
-    let mut owned = Vec::new(alloc);
-    for word in words {
-        owned.push(String::from_str(alloc, word)?)?;
+/// Runs the words with the lines as input.
+fn run_words<R: Threads + Sync>(
+    threads: &R,
+    rt: &HostRuntime,
+    words: &str,
+    out: &mut MemSink,
+    notes: &mut MemSink,
+) -> Result<Status, AllocError> {
+    let words = split(rt.alloc(), words)?;
+    let mut input = input(rt.alloc())?;
+    Ok(run_on_files(threads, rt, &words, &STREAMS, &mut input, out, notes))
+}
+
+/// The words of a line, as the program gets them.
+fn split(alloc: Global, line: &str) -> Result<Vec<String>, AllocError> {
+    let mut words = Vec::new(alloc);
+    for word in line.split(' ') {
+        words.push(String::from_str(alloc, word)?)?;
     }
-    Ok(owned)
+    Ok(words)
+}
+
+/// The lines as input.
+fn input(alloc: Global) -> Result<MemInput, AllocError> {
+    let lines = LINES.as_bytes().to_vec(alloc)?;
+    Ok(MemInput::new(lines, Vec::new(alloc), Vec::new(alloc)))
 }
 
 /// A sink that doesn't fail.
