@@ -2,7 +2,7 @@
 use Rattle.std.specs.Prelude.{◌≡◌, ℕ, ◌+◌, ◌-◌, ◌^◌, ◌<◌, ◌≤◌, [], ◌++◌, length, map, slice_index}
 use Rattle.std.specs.List.{AllByRecursion}
 use Rattle.atomic_table.specs.Table.{State, Me, Step}
-use Rattle.number_shares.specs.Shared.{Kind, IsShared}
+use Rattle.number_shares.specs.Shared.{ViewKind, IsShared}
 use Rattle.chunk_workers.specs.declared.table.SeatView.{SeatView}
 use Rattle.chunk_workers.specs.declared.table.Terms.{Terms}
 use Rattle.chunk_workers.specs.DrawMachine.{Hand, Machine, IsHand, drawn, numbers_in}
@@ -49,7 +49,7 @@ pub record IsAtWork (terms : Terms) (v : SeatView) : Type 0 where
   pub past : length v.past ≤ v.weight
 
 -- what the views share out: the numbers that their seats drew
-abbrev pub drawing : Terms → Kind SeatView
+abbrev pub drawing : Terms → ViewKind SeatView
 drawing terms = record { spent = spent_view; Works = IsAtWork terms; weight = λ v. v.weight; numbers = λ v. numbers_in (hand_of v) }
 
 -- the machine's state: the word, and what the views have

@@ -41,18 +41,18 @@ collecting_ends = record { done = λ _. status.Ok; text = uncollected_text; stat
 
 -- what the made file and standard output took of gathered records, by how it ended: the file, and the lines of where each record
 -- stands; where standard output failed, a front of the lines; and where the file or memory failed, a front of the file
-abbrev pub IsPut : {X : Type 0} → Result X PutCut → GatheredValue → (made made_then out out_then : Option (List ℕ)) → Type 0
-IsPut (Ok x) all made made_then out out_then =
+abbrev pub PutsGathered : {X : Type 0} → Result X PutCut → GatheredValue → (made made_then out out_then : Option (List ℕ)) → Type 0
+PutsGathered (Ok x) all made made_then out out_then =
     Takes made made_then (collected_file all.records) × Takes out out_then (collected_lines all)
-IsPut (Err put.Out) all made made_then out out_then =
+PutsGathered (Err put.Out) all made made_then out out_then =
     Takes made made_then (collected_file all.records) × TakesFront out out_then (collected_lines all) × (collected_lines all ≢ [])
-IsPut (Err other) all made made_then out out_then =
+PutsGathered (Err other) all made made_then out out_then =
     TakesFront made made_then (collected_file all.records) × (out_then ≡ out)
 
 -- the records of files were gathered, and this was put of them
 abbrev pub AreGatheredAndPut : {X : Type 0} → Result X PutCut → List (List ℕ) → (made made_then out out_then : Option (List ℕ)) → Type 0
 AreGatheredAndPut result files made made_then out out_then =
-    (all : GatheredValue) × AreGatheredOf files all × IsPut result all made made_then out out_then
+    (all : GatheredValue) × AreGatheredOf files all × PutsGathered result all made made_then out out_then
 
 -- what they took of files: where all was judged, that of the gathered records, and else nothing
 abbrev pub TakeCollected : {X : Type 0} → Result X (Ending Uncollected) → List (List ℕ) → (made made_then out out_then : Option (List ℕ)) → Type 0

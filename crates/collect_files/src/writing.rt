@@ -5,7 +5,7 @@ ghost use Rattle.record_io.specs.Outside.{Takes, TakesFront};
 ghost use Rattle.simple_chunk.specs.Costs.{cost_of};
 ghost use Rattle.record_collect.specs.PutMachine.{limit};
 ghost use Rattle.collect_files.specs.CollectCommand.{collected_file};
-ghost use Rattle.collect_files.specs.CollectingEnds.{IsPut};
+ghost use Rattle.collect_files.specs.CollectingEnds.{PutsGathered};
 
 use crate::place_lines::put_places;
 use record_collect::{Gathered, places};
@@ -47,7 +47,7 @@ pub(crate) fn put_gathered<R: Threads + Sync, M: Sink + Send, O: Sink>(
     out: &mut O,
 ) -> Result<(), PutCut>
     requires { length gathered.now.numbers ≡ files }
-    ensures put { IsPut result gathered.now (M.taken made.old) (M.taken made.new) (O.taken out.old) (O.taken out.new) }
+    ensures put { PutsGathered result gathered.now (M.taken made.old) (M.taken made.new) (O.taken out.old) (O.taken out.new) }
     ensures made { OnlyCounts M.lent M.faults (result ≡ Err PutCut.Made) made.old made.new }
     ensures out { OnlyCounts O.lent O.faults (result ≡ Err PutCut.Out) out.old out.new }
 {

@@ -14,7 +14,7 @@ use Rattle.chunk_reader.specs.declared.reasons.Fault.{Fault}
 use Rattle.chunk_reader.proofs.ChainSteps.{IsChainOf-nil}
 use Rattle.record_collect.specs.declared.feeding.Fed.{Fed}
 use Rattle.record_collect.specs.declared.feeding.Fed.TheVariants.{Whole}
-use Rattle.record_collect.specs.Passes.{PassValue, IsFresh, records_of}
+use Rattle.record_collect.specs.Passes.{PassValue, IsFresh, pass_records}
 use Rattle.record_collect.specs.Takings.{IsTakenOf, IsTakenSoFar, TakesOn}
 
 -- the records of one chunk
@@ -33,7 +33,7 @@ taken-fresh (Some file) totals pass none fresh =
       chain = IsChainOf-nil file;
       counted = refl;
       are = ([], refl, refl);
-      has = (ap (λ m. records_of (record pass { mine = m })) fresh.0, fresh.1);
+      has = (ap (λ m. pass_records (record pass { mine = m })) fresh.0, fresh.1);
     })
 
 -- one chunk more

@@ -14,7 +14,7 @@ use Rattle.chunk_reader.specs.declared.reasons.ReadEnd.TheVariants.{Refused, Sto
 use Rattle.record_collect.specs.declared.feeding.Fed.{Fed}
 use Rattle.record_collect.specs.GatheredFiles.{AreRecordsOfEach}
 use Rattle.record_collect.specs.Passes.{CollectorValue, PassValue, BelongsTo}
-use Rattle.record_collect.specs.Takings.{AreFed, HasTaken, IsFed, IsFirstStopped, IsRead, IsTakenOf}
+use Rattle.record_collect.specs.Takings.{AreFed, HasAccepted, IsFed, IsFirstStopped, IsRead, IsTakenOf}
 
 -- what a front of the stores tells, and what the others do
 pub told-front : {S X : Type 0} (tell : S → Option X) (stores a c : List S) (told x y : List X) → stores ≡ a ++ c → told ≡ x ++ y → length x ≡ length a
@@ -46,7 +46,7 @@ pub record Taking : Type 0 where
   pub list : List (List ℕ)
   pub pass : PassValue
   pub part : Fed
-  pub has : HasTaken part pass list
+  pub has : HasAccepted part pass list
 
 abbrev pub lists_of : List Taking → List (List (List ℕ))
 lists_of rows = map (λ (r : Taking). r.list) rows

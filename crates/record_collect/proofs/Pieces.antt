@@ -9,7 +9,7 @@ use Rattle.number_shares.specs.Once.{times}
 use Rattle.number_shares.proofs.Counting.{one_if, one_if-same, one_if-other, once_below, once_below-yes, once_below-no, times-cons, times-append}
 use Rattle.number_shares.proofs.Lists.{all_append, all_back, all_front}
 use Rattle.record_collect.specs.declared.table.Piece.{Piece}
-use Rattle.record_collect.specs.PutMachine.{numbers_of, numbers_in}
+use Rattle.record_collect.specs.PutMachine.{piece_numbers, numbers_in}
 
 -- neighbouring numbers
 pub times-range-below : (p at n : ℕ) → p < at → times p (range_with_len at n) ≡ 0
@@ -58,17 +58,17 @@ range-ends at (suc (suc n)) m some all = omega (arith, range-ends (at + 1) (suc 
 
 -- how often a piece holds a number, and how often pieces do
 abbrev pub covers : ℕ → Piece → ℕ
-covers p x = times p (numbers_of x)
+covers p x = times p (piece_numbers x)
 
 abbrev pub held : ℕ → List Piece → ℕ
 held p xs = times p (numbers_in xs)
 
 pub held-cons : (p : ℕ) (x : Piece) (xs : List Piece) → held p (x ∷ xs) ≡ covers p x + held p xs
-held-cons p x xs = times-append p (numbers_of x) (numbers_in xs)
+held-cons p x xs = times-append p (piece_numbers x) (numbers_in xs)
 
 pub numbers-append : (xs ys : List Piece) → numbers_in (xs ++ ys) ≡ numbers_in xs ++ numbers_in ys
 numbers-append [] ys = refl
-numbers-append (x ∷ xs) ys = ap (λ (l : List ℕ). numbers_of x ++ l) (numbers-append xs ys) ∙ sym (append_assoc (numbers_of x) (numbers_in xs) (numbers_in ys))
+numbers-append (x ∷ xs) ys = ap (λ (l : List ℕ). piece_numbers x ++ l) (numbers-append xs ys) ∙ sym (append_assoc (piece_numbers x) (numbers_in xs) (numbers_in ys))
 
 pub held-append : (p : ℕ) (xs ys : List Piece) → held p (xs ++ ys) ≡ held p xs + held p ys
 held-append p xs ys = ap (times p) (numbers-append xs ys) ∙ times-append p (numbers_in xs) (numbers_in ys)
@@ -80,18 +80,18 @@ held-sum p (x ∷ xs) = omega (arith, held-cons p x xs, held-sum p xs, sum_by-co
 -- how far pieces come
 pub numbers_below : (m : ℕ) (xs : List Piece) → AllByRecursion (λ x. x.at + x.cost ≤ m) xs → AllByRecursion (λ p. p < m) (numbers_in xs)
 numbers_below m [] all = tt
-numbers_below m (x ∷ xs) all = all_append (λ p. p < m) (numbers_of x) (numbers_in xs) (all-range x.at x.cost m all.0) (numbers_below m xs all.1)
+numbers_below m (x ∷ xs) all = all_append (λ p. p < m) (piece_numbers x) (numbers_in xs) (all-range x.at x.cost m all.0) (numbers_below m xs all.1)
 
 pub pieces_below : (m : ℕ) (xs : List Piece) → AllByRecursion (λ x. 1 ≤ x.cost) xs → AllByRecursion (λ p. p < m) (numbers_in xs) → AllByRecursion (λ x. x.at + x.cost ≤ m) xs
 pieces_below m [] some all = tt
 pieces_below m (x ∷ xs) some all =
-    (range-ends x.at x.cost m some.0 (all_front (λ p. p < m) (numbers_of x) (numbers_in xs) all), pieces_below m xs some.1 (all_back (λ p. p < m) (numbers_of x) (numbers_in xs) all))
+    (range-ends x.at x.cost m some.0 (all_front (λ p. p < m) (piece_numbers x) (numbers_in xs) all), pieces_below m xs some.1 (all_back (λ p. p < m) (piece_numbers x) (numbers_in xs) all))
 
 -- so many numbers do so many pieces hold, at most
 pub length-numbers-le : (most : ℕ) (xs : List Piece) → AllByRecursion (λ x. x.cost ≤ most) xs → length (numbers_in xs) ≤ most * length xs
 length-numbers-le most [] all = omega arith
 length-numbers-le most (x ∷ xs) all =
     let rest : length (numbers_in xs) ≤ most * length xs = length-numbers-le most xs all.1 in
-    let here : length (numbers_in (x ∷ xs)) ≡ x.cost + length (numbers_in xs) = omega (arith, length-append (numbers_of x) (numbers_in xs), length-range_with_len x.at x.cost) in
+    let here : length (numbers_in (x ∷ xs)) ≡ x.cost + length (numbers_in xs) = omega (arith, length-append (piece_numbers x) (numbers_in xs), length-range_with_len x.at x.cost) in
     let more : most * length (x ∷ xs) ≡ most * length xs + most = grind arith in
     omega (arith, all.0)

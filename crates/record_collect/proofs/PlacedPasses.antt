@@ -9,7 +9,7 @@ use Rattle.number_shares.proofs.Lists.{all_append}
 use Rattle.record_collect.specs.declared.collector.Accepted.{Accepted}
 use Rattle.record_collect.specs.declared.placed.Placed.{Placed}
 use Rattle.record_collect.specs.declared.table.Piece.{Piece}
-use Rattle.record_collect.specs.Passes.{PassValue, Rises, piece_of}
+use Rattle.record_collect.specs.Passes.{PassValue, Rises, accepted_piece}
 use Rattle.record_collect.specs.Orders.{of_pass, piece_at, place_in}
 
 of_pass-same : (n : ℕ) (es : List Accepted) → of_pass n (map (place_in n) es) ≡ map (place_in n) es
@@ -92,6 +92,6 @@ gathered_more rest passes p es rises h =
     }
 
 -- a record's piece is the same in the list of all
-pub pieces_placed : (n : ℕ) (es : List Accepted) → map piece_at (map (place_in n) es) ≡ map piece_of es
+pub pieces_placed : (n : ℕ) (es : List Accepted) → map piece_at (map (place_in n) es) ≡ map accepted_piece es
 pieces_placed n [] = refl
-pieces_placed n (e ∷ es) = ap (λ (l : List Piece). piece_of e ∷ l) (pieces_placed n es)
+pieces_placed n (e ∷ es) = ap (λ (l : List Piece). accepted_piece e ∷ l) (pieces_placed n es)

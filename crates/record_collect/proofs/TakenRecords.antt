@@ -4,14 +4,14 @@ use Rattle.std.specs.Prelude.{slice_get}
 use Rattle.std.proofs.lemmas.List.{append_assoc}
 use Rattle.record_collect.specs.declared.feeding.Fed.{Fed}
 use Rattle.record_collect.specs.declared.feeding.Fed.TheVariants.{Front}
-use Rattle.record_collect.specs.Passes.{PassValue, records_of}
-use Rattle.record_collect.specs.Takings.{HasTaken, TakesOn}
+use Rattle.record_collect.specs.Passes.{PassValue, pass_records}
+use Rattle.record_collect.specs.Takings.{HasAccepted, TakesOn}
 
 -- one after the other
 pub takes-then : (a b c : Fed) (p q r : PassValue) (first second : List (List ℕ)) → TakesOn a p b q first → TakesOn b q c r second
     → TakesOn a p c r (first ++ second)
 takes-then a b c p q r first second h g = record {
-  behind = λ records has. subst (HasTaken c r) (append_assoc records first second) (g.behind (records ++ first) (h.behind records has));
+  behind = λ records has. subst (HasAccepted c r) (append_assoc records first second) (g.behind (records ++ first) (h.behind records has));
 }
 
 -- where a record was refused, none behind it is put
@@ -20,7 +20,7 @@ takes-refused pass more = record {
   behind = λ records has. (
     has.0,
     has.1 ++ more,
-    ap (λ (l : List (List ℕ)). l ++ more) has.2 ∙ append_assoc (records_of pass) (has.0 ∷ has.1) more,
+    ap (λ (l : List (List ℕ)). l ++ more) has.2 ∙ append_assoc (pass_records pass) (has.0 ∷ has.1) more,
     has.3,
   );
 }

@@ -23,23 +23,23 @@ use Rattle.record_collect.specs.declared.feeding.Fed.TheVariants.{Whole, Front}
 use Rattle.record_collect.specs.declared.gathering.GatherEnd.{GatherEnd}
 use Rattle.record_collect.specs.declared.gathering.GatherEnd.TheVariants as gather
 use Rattle.record_collect.specs.PutMachine.{limit, IsLeast}
-use Rattle.record_collect.specs.Passes.{CollectorValue, PassValue, ends_of, records_of}
+use Rattle.record_collect.specs.Passes.{CollectorValue, PassValue, ends_of, pass_records}
 use Rattle.record_collect.specs.Gatherings.{AreGathered, AreWoven, GatheredValue, HaveReceipts, IsInBounds}
 use Rattle.record_collect.specs.GatheredFiles.{AreGatheredOf, AreRecordsOfEach, HasTooLong, IsTooMuch}
-use Rattle.record_collect.specs.Takings.{AreFed, AreRead, HasTaken, IsFirstStopped, WasRefused}
+use Rattle.record_collect.specs.Takings.{AreFed, AreRead, HasAccepted, IsFirstStopped, WasRefused}
 use Rattle.record_collect.proofs.WovenCosts.{woven-cost, woven-stands}
 use Rattle.record_collect.proofs.AllRead.{stands-behind}
 use Rattle.record_collect.proofs.FedThreads.{AreTakings, Taking, all-taken, answers_of, fed-asked, fed-many, first-refused, lists_of, passes_of}
 
 -- where each pass has all records of its file, these are the lists
-whole_list : (row : Taking) → row.part ≡ Whole → row.list ≡ records_of row.pass
-whole_list row is = sym (subst (λ (part : Fed). HasTaken part row.pass row.list) is row.has).0
+whole_list : (row : Taking) → row.part ≡ Whole → row.list ≡ pass_records row.pass
+whole_list row is = sym (subst (λ (part : Fed). HasAccepted part row.pass row.list) is row.has).0
 
-whole_lists : (rows : List Taking) → AllByRecursion (λ a. a ≡ Ok Whole) (answers_of rows) → lists_of rows ≡ map records_of (passes_of rows)
+whole_lists : (rows : List Taking) → AllByRecursion (λ a. a ≡ Ok Whole) (answers_of rows) → lists_of rows ≡ map pass_records (passes_of rows)
 whole_lists [] all = refl
 whole_lists (row ∷ rows) all =
     let part : row.part ≡ Whole = (let is = all.0 in cc) in
-    ap (λ (l : List (List ℕ)). l ∷ lists_of rows) (whole_list row part) ∙ ap (λ (ls : List (List (List ℕ))). records_of row.pass ∷ ls) (whole_lists rows all.1)
+    ap (λ (l : List (List ℕ)). l ∷ lists_of rows) (whole_list row part) ∙ ap (λ (ls : List (List (List ℕ))). pass_records row.pass ∷ ls) (whole_lists rows all.1)
 
 -- there is a list of numbers for each pass
 pub many-gathered : (passes : List PassValue) (made : GatheredValue) → AreGathered passes made → length made.numbers ≡ length passes
@@ -49,7 +49,7 @@ pub gathered-whole : (files : List (List ℕ)) (passes : List PassValue) (answer
     → AreTakings files passes answers → AreRead answers Whole → AreGathered passes made → IsInBounds made → AreGatheredOf files made
 gathered-whole files passes answers made h read are bounds =
     let all : AllByRecursion (λ a. a ≡ Ok Whole) (answers_of h.rows) = subst (AllByRecursion (λ a. a ≡ Ok Whole)) h.of_answers (read.whole refl) in
-    let same : map records_of passes ≡ lists_of h.rows = ap (map records_of) h.of_passes ∙ sym (whole_lists h.rows all) in
+    let same : map pass_records passes ≡ lists_of h.rows = ap (map pass_records) h.of_passes ∙ sym (whole_lists h.rows all) in
     record {
       lists = lists_of h.rows;
       are = h.are;
@@ -59,32 +59,32 @@ gathered-whole files passes answers made h read are bounds =
 
 -- what a pass has costs no more than the records of its file, and one that it was refused comes on top
 abbrev pub IsRefusedAt : Taking → List ℕ → Type 0
-IsRefusedAt row refused = (rest : List (List ℕ)) × (row.list ≡ records_of row.pass ++ refused ∷ rest)
+IsRefusedAt row refused = (rest : List (List ℕ)) × (row.list ≡ pass_records row.pass ++ refused ∷ rest)
 
-refused-cost : (row : Taking) (refused : List ℕ) → IsRefusedAt row refused → cost_of (records_of row.pass) + cost refused ≤ cost_of row.list
+refused-cost : (row : Taking) (refused : List ℕ) → IsRefusedAt row refused → cost_of (pass_records row.pass) + cost refused ≤ cost_of row.list
 refused-cost row refused (rest, is) =
-    let own : cost_of row.list ≡ cost_of (records_of row.pass ++ refused ∷ rest) = ap cost_of is in
-    omega (arith, own, sum_by-append cost (records_of row.pass) (refused ∷ rest), sum_by-cons cost refused rest)
+    let own : cost_of row.list ≡ cost_of (pass_records row.pass ++ refused ∷ rest) = ap cost_of is in
+    omega (arith, own, sum_by-append cost (pass_records row.pass) (refused ∷ rest), sum_by-cons cost refused rest)
 
-row-cost : (row : Taking) (part : Fed) → row.part ≡ part → cost_of (records_of row.pass) ≤ cost_of row.list
+row-cost : (row : Taking) (part : Fed) → row.part ≡ part → cost_of (pass_records row.pass) ≤ cost_of row.list
 row-cost row Whole is = omega (arith, ap cost_of (whole_list row is))
 row-cost row Front is =
-    let has = subst (λ (part : Fed). HasTaken part row.pass row.list) is row.has in
+    let has = subst (λ (part : Fed). HasAccepted part row.pass row.list) is row.has in
     omega (arith, refused-cost row has.0 (has.1, has.2))
 
-rows-cost : (rows : List Taking) → sum_by cost_of (map records_of (passes_of rows)) ≤ sum_by cost_of (lists_of rows)
+rows-cost : (rows : List Taking) → sum_by cost_of (map pass_records (passes_of rows)) ≤ sum_by cost_of (lists_of rows)
 rows-cost [] = omega arith
 rows-cost (row ∷ rows) =
     omega (
       arith,
       row-cost row row.part refl,
       rows-cost rows,
-      sum_by-cons cost_of (records_of row.pass) (map records_of (passes_of rows)),
+      sum_by-cons cost_of (pass_records row.pass) (map pass_records (passes_of rows)),
       sum_by-cons cost_of row.list (lists_of rows),
     )
 
 rows-refused : (rows : List Taking) (i : ℕ) (row : Taking) (refused : List ℕ) → slice_get rows i ≡ Some row → IsRefusedAt row refused
-    → sum_by cost_of (map records_of (passes_of rows)) + cost refused ≤ sum_by cost_of (lists_of rows)
+    → sum_by cost_of (map pass_records (passes_of rows)) + cost refused ≤ sum_by cost_of (lists_of rows)
 rows-refused [] i row refused there h = absurd cc
 rows-refused (r ∷ rows) zero row refused there h =
     let is : r ≡ row = cc in
@@ -93,7 +93,7 @@ rows-refused (r ∷ rows) zero row refused there h =
       arith,
       own,
       rows-cost rows,
-      sum_by-cons cost_of (records_of r.pass) (map records_of (passes_of rows)),
+      sum_by-cons cost_of (pass_records r.pass) (map pass_records (passes_of rows)),
       sum_by-cons cost_of r.list (lists_of rows),
     )
 rows-refused (r ∷ rows) (suc i) row refused there h =
@@ -101,7 +101,7 @@ rows-refused (r ∷ rows) (suc i) row refused there h =
       arith,
       row-cost r r.part refl,
       rows-refused rows i row refused there h,
-      sum_by-cons cost_of (records_of r.pass) (map records_of (passes_of rows)),
+      sum_by-cons cost_of (pass_records r.pass) (map pass_records (passes_of rows)),
       sum_by-cons cost_of r.list (lists_of rows),
     )
 
@@ -154,23 +154,23 @@ too_long : (rows : List Taking) (i : ℕ) (row : Taking) (refused : List ℕ) �
     → HasTooLong (lists_of rows)
 too_long rows i row refused there h long = record {
   list_number = i;
-  number = length (records_of row.pass);
+  number = length (pass_records row.pass);
   list = row.list;
   long = refused;
   one_list = list_at rows i row there;
-  one_record = ap (λ (l : List (List ℕ)). slice_get l (length (records_of row.pass))) h.1 ∙ stands-behind (records_of row.pass) refused h.0;
+  one_record = ap (λ (l : List (List ℕ)). slice_get l (length (pass_records row.pass))) h.1 ∙ stands-behind (pass_records row.pass) refused h.0;
   more = long;
 }
 
 -- where the records of the passes cost the least number at which one ended, those of the files are too much
-over_at : (rows : List Taking) (n : ℕ) (h : IsEndedRow rows n) (part : Fed) → h.row.part ≡ part → sum_by cost_of (map records_of (passes_of rows)) ≡ n
+over_at : (rows : List Taking) (n : ℕ) (h : IsEndedRow rows n) (part : Fed) → h.row.part ≡ part → sum_by cost_of (map pass_records (passes_of rows)) ≡ n
     → HasTooLong (lists_of rows) ⊎ (limit < sum_by cost_of (lists_of rows))
 over_at rows n h Whole is costs =
-    let has = subst (λ (part : Fed). HasTaken part h.row.pass h.row.list) is h.row.has in
+    let has = subst (λ (part : Fed). HasAccepted part h.row.pass h.row.list) is h.row.has in
     let no : None ≡ Some n = sym has.1 ∙ h.ended in
     absurd cc
 over_at rows n h Front is costs =
-    let has = subst (λ (part : Fed). HasTaken part h.row.pass h.row.list) is h.row.has in
+    let has = subst (λ (part : Fed). HasAccepted part h.row.pass h.row.list) is h.row.has in
     let was : WasRefused h.row.pass has.0 = has.3 in
     elim was [
       | inl long ↦ inl (too_long rows h.number h.row has.0 h.there (has.1, has.2) long)
@@ -185,14 +185,14 @@ over : (rows : List Taking) (made : GatheredValue) (i : ℕ) → AreGathered (pa
 over rows made i are there =
     let at = row_answered rows i Front there in
     let row : Taking = at.0 in
-    let has = subst (λ (part : Fed). HasTaken part row.pass row.list) at.2 row.has in
+    let has = subst (λ (part : Fed). HasAccepted part row.pass row.list) at.2 row.has in
     let was : WasRefused row.pass has.0 = has.3 in
     elim was [
       | inl long ↦ inl (too_long rows i row has.0 at.1 (has.1, has.2) long)
       | inr full ↦
           let least : IsLeast (cost_of made.records) (ends_of (passes_of rows)) = are.ended (some_end rows i row full.0 at.1 full.1) in
           let ends = row_ended rows least.one.0 (cost_of made.records) least.one.1 in
-          over_at rows (cost_of made.records) ends ends.row.part refl (woven-cost (map records_of (passes_of rows)) made.records made.numbers are.woven)
+          over_at rows (cost_of made.records) ends ends.row.part refl (woven-cost (map pass_records (passes_of rows)) made.records made.numbers are.woven)
     ]
 
 pub gathered-front : (files : List (List ℕ)) (passes : List PassValue) (answers : List (Result Fed ReadEnd)) (made : GatheredValue)

@@ -10,7 +10,7 @@ use Rattle.number_shares.specs.Once.{HasEachBelow}
 use Rattle.record_collect.specs.declared.collector.Accepted.{Accepted}
 use Rattle.record_collect.specs.declared.placed.Placed.{Placed}
 use Rattle.record_collect.specs.PutMachine.{limit, IsLeast}
-use Rattle.record_collect.specs.Passes.{PassValue, ends_of, records_of}
+use Rattle.record_collect.specs.Passes.{PassValue, ends_of, pass_records}
 use Rattle.record_collect.specs.Gatherings.{AreGathered, GatheredValue, HaveReceipts, IsInBounds, StandAt}
 use Rattle.record_collect.specs.Orders.{ReceiptsAddUp, bytes_in, cost_of_placed, gathered_of, of_pass, place_in, places_of}
 use Rattle.record_collect.proofs.PlacedNumbers.{places_once, places_rise, places_below, records_stand}
@@ -98,15 +98,15 @@ are_gathered passes es each no_other laid most ended =
     let same : cost_of (bytes_in es) ≡ cost_of_placed es = cost_alone es in
     record {
       woven = record {
-        each = zip_map (StandAt (bytes_in es)) records_of passes (map f (range_with_len 0 (length passes)))
-            (zip_passes (λ p ns. StandAt (bytes_in es) (records_of p) ns) f 0 passes
+        each = zip_map (StandAt (bytes_in es)) pass_records passes (map f (range_with_len 0 (length passes)))
+            (zip_passes (λ p ns. StandAt (bytes_in es) (pass_records p) ns) f 0 passes
             (λ i p sits. (
             let from_none : i ≡ 0 + i = omega arith in
-            let at_place : StandAt (bytes_in es) (records_of p) (f i) = record {
+            let at_place : StandAt (bytes_in es) (pass_records p) (f i) = record {
               rise = places_rise i es;
               stand = bytes_stand es (f i) (map (place_in i) p.mine) (stand i p sits) ∙ ap (map (λ r. Some r)) (bytes_placed i p.mine);
             } in
-            subst (λ (n : ℕ). StandAt (bytes_in es) (records_of p) (f n)) from_none at_place
+            subst (λ (n : ℕ). StandAt (bytes_in es) (pass_records p) (f n)) from_none at_place
             )));
         once = subst (λ (n : ℕ). HasEachBelow n (flat_map (λ ns. ns) (map f (range_with_len 0 (length passes))))) (sym (length-map es (λ (e : Placed). e.bytes)))
             (subst (HasEachBelow (length es)) (sym (joined_numbers f (range_with_len 0 (length passes)))) (places_once (length passes) es no_other));

@@ -5,7 +5,7 @@ use Rattle.std.specs.List.Sorted.{IsStrictlyIncreasing}
 use Rattle.simple_chunk.specs.Costs.{cost_of}
 use Rattle.number_shares.specs.Once.{HasEachBelow}
 use Rattle.record_collect.specs.PutMachine.{limit, IsLeast}
-use Rattle.record_collect.specs.Passes.{PassValue, ends_of, receipts_of, records_of}
+use Rattle.record_collect.specs.Passes.{PassValue, ends_of, receipts_of, pass_records}
 
 -- the records in one list, and for each pass the numbers at which its records stand there
 pub record GatheredValue : Type 0 where
@@ -35,7 +35,7 @@ HaveReceipts records pass numbers = map (λ n. cost_of (take n records)) numbers
 -- what a collector makes of its passes: their records woven into one list, in which the receipt of each is what all before it
 -- cost; together they cost no more than the limit, and where a pass ended, the least number at which one did
 pub record AreGathered (passes : List PassValue) (made : GatheredValue) : Type 0 where
-  pub woven : AreWoven (map records_of passes) made.records made.numbers
+  pub woven : AreWoven (map pass_records passes) made.records made.numbers
   pub receipts : AllZip (HaveReceipts made.records) passes made.numbers
   pub most : cost_of made.records ≤ limit
   pub ended : ends_of passes ≢ [] → IsLeast (cost_of made.records) (ends_of passes)

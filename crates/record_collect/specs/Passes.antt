@@ -31,8 +31,8 @@ abbrev pub IsFresh : PassValue → Type 0
 IsFresh pass = (pass.mine ≡ []) × (pass.ended ≡ None)
 
 -- the piece of an accepted record
-abbrev pub piece_of : Accepted → Piece
-piece_of e = record { at = e.at; cost = cost e.bytes }
+abbrev pub accepted_piece : Accepted → Piece
+accepted_piece e = record { at = e.at; cost = cost e.bytes }
 
 -- each receipt is below the next
 abbrev pub Rises : List Accepted → Type 0
@@ -63,8 +63,8 @@ IsRefused old record_bytes (Full held) new =
 IsRefused old record_bytes Memory new = (length record_bytes ≤ 2 ^ 24) × (old.ended ≡ None) × (new ≡ old)
 
 -- the records that were accepted of a pass
-abbrev pub records_of : PassValue → List (List ℕ)
-records_of pass = map (λ e. e.bytes) pass.mine
+abbrev pub pass_records : PassValue → List (List ℕ)
+pass_records pass = map (λ e. e.bytes) pass.mine
 
 -- their receipts
 abbrev pub receipts_of : PassValue → List ℕ

@@ -9,12 +9,12 @@ abbrev pub limit : ℕ
 limit = 2 ^ 26
 
 -- the numbers that a piece holds
-abbrev pub numbers_of : Piece → List ℕ
-numbers_of x = range_with_len x.at x.cost
+abbrev pub piece_numbers : Piece → List ℕ
+piece_numbers x = range_with_len x.at x.cost
 
 -- the numbers that pieces hold
 abbrev pub numbers_in : List Piece → List ℕ
-numbers_in xs = flat_map numbers_of xs
+numbers_in xs = flat_map piece_numbers xs
 
 -- a piece of a record of at most 2 ^ 24 bytes that ends at or below the limit
 pub record IsMine (x : Piece) : Type 0 where

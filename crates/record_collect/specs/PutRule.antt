@@ -2,7 +2,7 @@
 use Rattle.std.specs.Prelude.{◌≡◌, ℕ, ◌+◌, ◌*◌, ◌-◌, ◌^◌, ◌≤◌, [], ◌++◌, length, map, slice_index}
 use Rattle.std.specs.List.{AllByRecursion}
 use Rattle.atomic_table.specs.Table.{State, Me, Step}
-use Rattle.number_shares.specs.Shared.{Kind, IsShared}
+use Rattle.number_shares.specs.Shared.{ViewKind, IsShared}
 use Rattle.record_collect.specs.declared.table.Piece.{Piece}
 use Rattle.record_collect.specs.declared.table.SeatView.{SeatView}
 use Rattle.record_collect.specs.declared.table.Terms.{Terms}
@@ -54,7 +54,7 @@ pub record IsAtWork (v : SeatView) : Type 0 where
   pub ends : length v.past ≤ v.weight
 
 -- what the views share out: the numbers that their pieces hold
-abbrev pub sharing : Kind SeatView
+abbrev pub sharing : ViewKind SeatView
 sharing = record { spent = spent_view; Works = IsAtWork; weight = λ v. v.weight; numbers = λ v. numbers_taken (hand_of v) }
 
 -- the machine's state: the word, and what the views have

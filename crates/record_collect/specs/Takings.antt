@@ -14,21 +14,21 @@ use Rattle.chunk_reader.specs.declared.reasons.ReadEnd.TheVariants.{Refused, Sto
 use Rattle.record_collect.specs.declared.feeding.Fed.{Fed}
 use Rattle.record_collect.specs.declared.feeding.Fed.TheVariants.{Whole, Front}
 use Rattle.record_collect.specs.PutMachine.{limit}
-use Rattle.record_collect.specs.Passes.{CollectorValue, PassValue, BelongsTo, records_of}
+use Rattle.record_collect.specs.Passes.{CollectorValue, PassValue, BelongsTo, pass_records}
 
 -- the pass was refused this record: it is too long, or the pass ended there, since it would end above the limit
 abbrev pub WasRefused : PassValue → List ℕ → Type 0
 WasRefused pass refused = (2 ^ 24 < length refused) ⊎ ((held : ℕ) × (pass.ended ≡ Some held) × (limit < held + cost refused))
 
 -- of these records the pass has each, and goes on; or those before one that it was refused
-abbrev pub HasTaken : Fed → PassValue → List (List ℕ) → Type 0
-HasTaken Whole pass records = (records_of pass ≡ records) × (pass.ended ≡ None)
-HasTaken Front pass records =
-    (refused : List ℕ) × (rest : List (List ℕ)) × (records ≡ records_of pass ++ refused ∷ rest) × WasRefused pass refused
+abbrev pub HasAccepted : Fed → PassValue → List (List ℕ) → Type 0
+HasAccepted Whole pass records = (pass_records pass ≡ records) × (pass.ended ≡ None)
+HasAccepted Front pass records =
+    (refused : List ℕ) × (rest : List (List ℕ)) × (records ≡ pass_records pass ++ refused ∷ rest) × WasRefused pass refused
 
 -- the pass went on by these records, behind all that it was to take before
 pub record TakesOn (before : Fed) (old : PassValue) (after : Fed) (new : PassValue) (more : List (List ℕ)) : Type 0 where
-  pub behind : (records : List (List ℕ)) → HasTaken before old records → HasTaken after new (records ++ more)
+  pub behind : (records : List (List ℕ)) → HasAccepted before old records → HasAccepted after new (records ++ more)
 
 -- this is what it has of the records of the chunks at the front of a file that these totals count
 pub record IsTakenSoFar (file : List ℕ) (totals : Totals) (part : Fed) (pass : PassValue) : Type 0 where
@@ -37,7 +37,7 @@ pub record IsTakenSoFar (file : List ℕ) (totals : Totals) (part : Fed) (pass :
   pub chain : IsChain chunks file totals.bytes
   pub counted : totals ≡ totals_of chunks
   pub are : AreRecordsOf chunks records
-  pub has : HasTaken part pass records
+  pub has : HasAccepted part pass records
 
 -- the file has no fault, and this is what the pass has of its records
 pub record IsTakenOf (file : List ℕ) (part : Fed) (pass : PassValue) : Type 0 where
@@ -45,7 +45,7 @@ pub record IsTakenOf (file : List ℕ) (part : Fed) (pass : PassValue) : Type 0 
   pub records : List (List ℕ)
   pub is_file : IsFile chunks file
   pub are : AreRecordsOf chunks records
-  pub has : HasTaken part pass records
+  pub has : HasAccepted part pass records
 
 -- what is taken of two files together: the whole where it is of both
 abbrev pub both_taken : Fed → Fed → Fed

@@ -74,13 +74,13 @@ pub struct Pass {
 impl Model for Pass {
     ghost use Rattle.std.specs.Prelude.{◌≡◌, [], map};
     ghost use Rattle.std.specs.Option.{option_to_list};
-    ghost use Rattle.record_collect.specs.Passes.{PassValue, Rises, piece_of};
+    ghost use Rattle.record_collect.specs.Passes.{PassValue, Rises, accepted_piece};
 
     ghost Value = { PassValue };
 
     ghost view = { λ p. record { table = p.seat.table_id; mine = p.records.items; ended = p.ended } };
 
-    ghost invariant = { λ p. (p.seat.me.0.mine ≡ map piece_of p.records.items) × (map (λ x. x.at) p.seat.me.0.past ≡ option_to_list p.ended) × (p.seat.me.0.weight ≡ 1) × (p.seat.me.1 ≡ []) × Rises p.records.items };
+    ghost invariant = { λ p. (p.seat.me.0.mine ≡ map accepted_piece p.records.items) × (map (λ x. x.at) p.seat.me.0.past ≡ option_to_list p.ended) × (p.seat.me.0.weight ≡ 1) × (p.seat.me.1 ≡ []) × Rises p.records.items };
 }
 
 impl Collector {

@@ -14,7 +14,7 @@ use Rattle.meta_chunk.proofs.PaddingLemmas.{IsBlock-padding_at, padding_at-block
 use Rattle.ordered_writer.specs.Writers.{padding_bytes}
 use Rattle.chunk_reader.specs.Faults.{HasNoFault}
 use Rattle.chunk_reader.specs.Progress.{AreInBounds}
-use Rattle.record_join.specs.Joined.{totals_behind}
+use Rattle.record_join.specs.Joined.{totals_joined}
 use Rattle.record_join.specs.Joins.{AreTotalsWith, IsFrontPut}
 
 pub on_boundary : (p : ℕ) → IsOnBoundary p → IsBoundary p
@@ -34,7 +34,7 @@ padding_count p (inr inside) =
 -- the totals, by where the padding ends and how many chunks it is
 pub counted_behind : (before file : Totals) (begin count : ℕ) → begin ≡ end_of_chunks before.bytes (padding_at before.bytes) → count ≡ length (padding_at before.bytes)
     → record { chunks = before.chunks + count + file.chunks; records = before.records + file.records; bytes = begin + file.bytes; unread = before.unread + file.unread }
-    ≡ totals_behind before file
+    ≡ totals_joined before file
 counted_behind before file begin count end chunks =
     ap (λ (n : ℕ). record { chunks = before.chunks + n + file.chunks; records = before.records + file.records; bytes = begin + file.bytes; unread = before.unread + file.unread }) chunks
     ∙ ap (λ (p : ℕ). record { chunks = before.chunks + length (padding_at before.bytes) + file.chunks; records = before.records + file.records; bytes = p + file.bytes; unread = before.unread + file.unread }) end
@@ -72,12 +72,12 @@ front_of_file None a b c padding totals h whole front = tt
 front_of_file (Some file) a b c padding totals h whole front = inr ((h.0, h.1), TakesFront-append a b c padding file whole front)
 
 -- and the whole file
-pub whole_behind : (bytes a b c : Option (List ℕ)) (before file_totals totals : Totals) → HasTotals bytes file_totals → totals ≡ totals_behind before file_totals
+pub whole_behind : (bytes a b c : Option (List ℕ)) (before file_totals totals : Totals) → HasTotals bytes file_totals → totals ≡ totals_joined before file_totals
     → Takes a b (padding_bytes before.bytes) → IfSome bytes (λ file. Takes b c file)
     → IfSome bytes (λ file. AreTotalsWith before file totals × Takes a c (padding_bytes before.bytes ++ file))
 whole_behind None a b c before file_totals totals h is padding whole = tt
 whole_behind (Some file) a b c before file_totals totals h is padding whole = (
-  (h.0, h.1, is ∙ ap (totals_behind before) h.2),
+  (h.0, h.1, is ∙ ap (totals_joined before) h.2),
   Takes-append a b c (padding_bytes before.bytes) file padding whole,
 )
 

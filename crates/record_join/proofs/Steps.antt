@@ -20,7 +20,7 @@ use Rattle.chunk_reader.specs.Faults.{HasNoFault, IsFault}
 use Rattle.chunk_reader.specs.declared.reasons.Fault.{Fault}
 use Rattle.block_layout.specs.Layout.{IsBoundary}
 use Rattle.chunk_reader.specs.ManyFiles.{HaveNoFault, IsFirstFault}
-use Rattle.record_join.specs.Joined.{joined, joined_at_most, totals_behind}
+use Rattle.record_join.specs.Joined.{joined, joined_at_most, totals_joined}
 use Rattle.record_join.specs.Joins.{AreJoined, AreJoinedUpTo, AreTotalsWith, IsFrontJoined, IsFrontPut}
 use Rattle.record_join.specs.declared.joins.JoinEnd.{JoinEnd}
 use Rattle.record_join.specs.declared.joins.JoinEnd.TheVariants as end
@@ -60,9 +60,9 @@ all_and P [] x h is = (is, tt)
 all_and P (y ∷ xs) x h is = (h.0, all_and P xs x h.1 is)
 
 -- the totals behind those of no file are those of the file
-totals_behind-none : (t : Totals) → totals_behind (totals_of []) t ≡ t
+totals_joined-none : (t : Totals) → totals_joined (totals_of []) t ≡ t
 unfolding padding_at
-totals_behind-none t =
+totals_joined-none t =
     let zero : (n : ℕ) → 0 + n ≡ n = λ n. omega arith in
     ap (λ (n : ℕ). record { chunks = n; records = 0 + t.records; bytes = 0 + t.bytes; unread = 0 + t.unread }) (zero t.chunks)
     ∙ ap (λ (n : ℕ). record { chunks = t.chunks; records = n; bytes = 0 + t.bytes; unread = 0 + t.unread }) (zero t.records)
@@ -88,7 +88,7 @@ module _ (files : List (List ℕ)) (file : List ℕ) (totals then : Totals) (wit
       inr (
         more.0,
         subst (IsFrame more.0) alone more.1,
-        more.2 ∙ ap (λ (t : Totals). totals_behind t (totals_of more.0)) zero ∙ totals_behind-none (totals_of more.0),
+        more.2 ∙ ap (λ (t : Totals). totals_joined t (totals_of more.0)) zero ∙ totals_joined-none (totals_of more.0),
       )
 
   counted_behind : (ls : List ChunkValue) → IsFrame ls (joined files) → totals ≡ totals_of ls → AreCounted (files ++ file ∷ []) then

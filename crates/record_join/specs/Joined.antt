@@ -24,8 +24,8 @@ abbrev pub joined_at_most : List ℕ → ℕ
 joined_at_most sizes = sum sizes + 2 * block_size * (length sizes - 1)
 
 -- the totals of files and of one more behind them, with the padding between
-abbrev pub totals_behind : Totals → Totals → Totals
-totals_behind before file = record {
+abbrev pub totals_joined : Totals → Totals → Totals
+totals_joined before file = record {
   chunks = before.chunks + length (padding_at before.bytes) + file.chunks;
   records = before.records + file.records;
   bytes = end_of_chunks before.bytes (padding_at before.bytes) + file.bytes;

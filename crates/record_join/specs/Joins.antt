@@ -8,12 +8,12 @@ use Rattle.meta_chunk.specs.Files.{IsFrame}
 use Rattle.chunk_reader.specs.Faults.{HasNoFault}
 use Rattle.chunk_reader.specs.declared.reasons.Fault.{Fault}
 use Rattle.chunk_reader.specs.ManyFiles.{HaveNoFault, IsFirstFault}
-use Rattle.record_join.specs.Joined.{joined, totals_behind}
+use Rattle.record_join.specs.Joined.{joined, totals_joined}
 
 -- one more file is well-formed chunks, and these are the totals with it behind those before
 abbrev pub AreTotalsWith : Totals → List ℕ → Totals → Type 0
 AreTotalsWith before file totals =
-    (ks : List ChunkValue) × IsFrame ks file × (totals ≡ totals_behind before (totals_of ks))
+    (ks : List ChunkValue) × IsFrame ks file × (totals ≡ totals_joined before (totals_of ks))
 
 -- none of the files has a fault, all were put one after another, and these are the totals of what they make
 pub record AreJoined (files : List (List ℕ)) (counted : Totals) (before after : Option (List ℕ)) : Type 0 where

@@ -8,7 +8,7 @@ ghost use Rattle.chunk_reader.specs.Faults.{HasNoFault, IsFault};
 ghost use Rattle.chunk_reader.specs.Progress.{AreInBounds};
 ghost use Rattle.chunk_reader.specs.declared.reasons.Fault.{Fault};
 ghost use Rattle.chunk_reader.specs.ManyFiles.{HaveNoFault, IsFirstFault};
-ghost use Rattle.record_join.specs.Joined.{joined_at_most, totals_behind};
+ghost use Rattle.record_join.specs.Joined.{joined_at_most, totals_joined};
 ghost use Rattle.record_io.specs.ManyStores.{AreOnlyAsked, AreTold, IfAllTell};
 ghost use Rattle.record_join.specs.Joins.{AreJoined, AreJoinedUpTo, AreTotalsWith, IsFrontJoined, IsFrontPut};
 
@@ -127,17 +127,17 @@ fn join_file<S: Store, M: Sink>(
     let mut writer = OrderedWriter::resume(before.bytes);
     writer.pad(made)?;
     match copy_file(store, size, made) {
-        Ok(()) => Ok(totals_behind(before, &file)),
+        Ok(()) => Ok(totals_joined(before, &file)),
         Err(CopyEnd::Store) => Err(JoinEnd::Store),
         Err(CopyEnd::Made) => Err(JoinEnd::Made),
     }
 }
 
 /// The totals of files and of one more behind them, with the padding between.
-fn totals_behind(before: &Totals, file: &Totals) -> Totals
+fn totals_joined(before: &Totals, file: &Totals) -> Totals
     requires before { AreInBounds (2 ^ 60) before.now }
     requires file { AreInBounds (2 ^ 60) file.now }
-    ensures value { result ≡ totals_behind before.now file.now }
+    ensures value { result ≡ totals_joined before.now file.now }
     ensures bounds { AreInBounds result.bytes result }
 {
     let begin = padded(before.bytes);

@@ -30,10 +30,10 @@ IsAnswer file position (Some place) = AnswersAt file position place
 IsAnswer file position None = SearchComesTo file position (length file)
 
 -- the records that a chunk was found to hold: none where it isn't a chunk of records
-abbrev pub records_of : What → List (List ℕ)
-records_of (what.Records records) = records
-records_of what.Passive = []
-records_of what.Unread = []
+abbrev pub records_found : What → List (List ℕ)
+records_found (what.Records records) = records
+records_found what.Passive = []
+records_found what.Unread = []
 
 -- a chunk between boundaries, the positions of whose records are numbers of 64 bits, and each of whose records is no longer than
 -- a chunk's data may be

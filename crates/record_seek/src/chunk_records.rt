@@ -6,7 +6,7 @@ ghost use Rattle.chunk_reader.specs.Places.{end_at};
 ghost use Rattle.chunk_reader.specs.Reasons.{Applies, NoneOf, unpassed_reasons, loading_reasons};
 ghost use Rattle.chunk_reader.specs.declared.reasons.Fault.{Fault};
 ghost use Rattle.record_seek.specs.KeyTests.{IsKeyTest, StandsBefore};
-ghost use Rattle.record_seek.specs.Steps.{records_of, IsHeld, IsHeldAt, IsNumbered, IsFirstAsked, IsFirstNot};
+ghost use Rattle.record_seek.specs.Steps.{records_found, IsHeld, IsHeldAt, IsNumbered, IsFirstAsked, IsFirstNot};
 
 use crate::key_tests::KeyTest;
 use chunk_reader::{ReadEnd, What, strict_at};
@@ -60,13 +60,13 @@ pub(crate) fn held_at<S: Store>(
     Ok(Held {
         begin: judged.begin,
         end: judged.end,
-        records: records_of(alloc, judged.what),
+        records: records_found(alloc, judged.what),
     })
 }
 
 /// The records that a chunk was found to hold.
-fn records_of(alloc: Global, what: What) -> Records
-    ensures { result ≡ records_of what }
+fn records_found(alloc: Global, what: What) -> Records
+    ensures { result ≡ records_found what }
 {
     match what {
         What::Records(records) => records,

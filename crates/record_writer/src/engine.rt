@@ -1,4 +1,4 @@
-ghost use Rattle.std.specs.Prelude.{◌≡◌, ℕ, ◌+◌, ◌^◌, ◌<◌, ◌≤◌, true, false, Some, None, List, [], ◌++◌, IfOk, IfSome, OnOk, OnErr};
+ghost use Rattle.std.specs.Prelude.{◌≡◌, ℕ, ◌+◌, ◌^◌, ◌<◌, ◌≤◌, true, false, Some, None, List, [], IfOk, IfSome, OnOk, OnErr};
 ghost use Rattle.block_layout.specs.Layout.{IsBoundary};
 ghost use Rattle.record_io.specs.Calls.{OnlyCounts};
 ghost use Rattle.meta_chunk.specs.Counts.{totals_of};

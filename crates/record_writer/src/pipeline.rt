@@ -1,4 +1,4 @@
-ghost use Rattle.std.specs.Prelude.{◌≡◌, ◌≢◌, ℕ, ◌^◌, ◌≤◌, true, false, List, [], ◌++◌, Ok, Err, IfOk, OnOk, OnErr};
+ghost use Rattle.std.specs.Prelude.{◌≡◌, ℕ, ◌^◌, ◌≤◌, true, false, List, [], ◌++◌, Ok, Err, IfOk, OnOk, OnErr};
 ghost use Rattle.record_io.specs.Calls.{OnlyCounts};
 ghost use Rattle.meta_chunk.specs.Files.{end_of_chunks};
 ghost use Rattle.record_group.specs.Groups.{groups};

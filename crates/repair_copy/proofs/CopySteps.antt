@@ -27,7 +27,7 @@ use Rattle.damage_skip.specs.declared.events.Event.TheVariants as event
 use Rattle.damage_skip.specs.declared.regions.Region.{Region}
 use Rattle.repair_copy.specs.Relaid.{chunk_in, chunks_in}
 use Rattle.repair_copy.specs.RepairPuts.{puts_from, repair_puts, WentOutAtFault}
-use Rattle.repair_copy.specs.Copies.{FitsAt, stream_of, next_place, puts_behind, Begins, Copies, CopiesFront, HasBegun, HasCopied, HasPutAll, HasCopiedFront, HasPutAtFault}
+use Rattle.repair_copy.specs.Copies.{FitsAt, stream_of, next_chunk_place, puts_behind, Begins, Copies, CopiesFront, HasBegun, HasCopied, HasPutAll, HasCopiedFront, HasPutAtFault}
 use Rattle.repair_copy.specs.declared.copying.Copied.{Copied}
 use Rattle.repair_copy.specs.declared.copying.FailedSink.{FailedSink}
 use Rattle.repair_copy.specs.declared.copying.FailedSink.TheVariants as cut
@@ -315,13 +315,13 @@ put_at_fault (Err failed) before a b n s events f g whole front some rose (inr (
     record { part = broke.0; went = front_at_fault f g events broke.0 broke.3 more (rose refl) broke.4; took = broke.1 }
 
 -- the next chunk is laid behind what was made
-pub next_when_begun : (s : Copied) → s.begun ≡ true → next_place s ≡ s.file.place
+pub next_when_begun : (s : Copied) → s.begun ≡ true → next_chunk_place s ≡ s.file.place
 next_when_begun s begun = cond-true s.begun s.file.place (end_of_chunks 0 (signature ∷ [])) begun
 
-pub next_when_unbegun : (s : Copied) → s.begun ≡ false → next_place s ≡ 64
+pub next_when_unbegun : (s : Copied) → s.begun ≡ false → next_chunk_place s ≡ 64
 next_when_unbegun s unbegun = cond-false s.begun s.file.place (end_of_chunks 0 (signature ∷ [])) unbegun ∙ end_of_chunk-signature
 
-pub next_place_small : (from : ℕ) (s : Copied) → s.file.place ≤ 64 + 2 * from → next_place s ≤ 64 + 2 * from
+pub next_place_small : (from : ℕ) (s : Copied) → s.file.place ≤ 64 + 2 * from → next_chunk_place s ≤ 64 + 2 * from
 next_place_small from s small = elim (cases_Bool s.begun) [
   | inl begun ↦ omega (arith, small, next_when_begun s begun)
   | inr unbegun ↦ omega (arith, next_when_unbegun s unbegun)

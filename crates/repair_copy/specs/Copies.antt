@@ -42,8 +42,8 @@ stream_of cut.Made = Made
 stream_of cut.Notes = Notes
 
 -- where the next chunk is laid: the signature comes before the first
-abbrev pub next_place : Copied → ℕ
-next_place copied = if copied.begun then copied.file.place else end_of_chunks 0 (signature ∷ [])
+abbrev pub next_chunk_place : Copied → ℕ
+next_chunk_place copied = if copied.begun then copied.file.place else end_of_chunks 0 (signature ∷ [])
 
 -- the signature was put, or had been
 abbrev pub Begins : (made_before made_after : Option (List ℕ)) → (old new : Copied) → Type 0

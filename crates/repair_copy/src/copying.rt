@@ -8,7 +8,7 @@ ghost use Rattle.damage_skip.specs.Pieces.{Piece};
 ghost use Rattle.damage_skip.specs.Regions.{regions_in};
 ghost use Rattle.damage_skip.specs.Walks.{piece_of, event_text};
 ghost use Rattle.repair_copy.specs.Relaid.{chunks_in};
-ghost use Rattle.repair_copy.specs.Copies.{FitsAt, next_place, Begins, Copies, CopiesFront, TakesLine, HasCopied, HasBegun, HasPutAll, HasCopiedFront, HasPutAtFault};
+ghost use Rattle.repair_copy.specs.Copies.{FitsAt, next_chunk_place, Begins, Copies, CopiesFront, TakesLine, HasCopied, HasBegun, HasPutAll, HasCopiedFront, HasPutAtFault};
 
 use damage_skip::{Event, Region, region_line};
 use record_io::{Failed, Sink};
@@ -65,7 +65,7 @@ impl Copied {
     ) -> Result<(), FailedSink>
         requires unbegun { self.old.begun ≡ false → self.old.file ≡ nothing_made }
         requires going { self.old.file.spent ≡ false }
-        requires fits { FitsAt (next_place self.old) event.now }
+        requires fits { FitsAt (next_chunk_place self.old) event.now }
         requires few { self.old.regions < 2 ^ 63 }
         ensures whole { OnOk result ((before : Taken) (events : List Piece)
             → HasCopied before (taken_by (M.taken made.old) None (E.taken notes.old)) self.old events
@@ -78,7 +78,7 @@ impl Copied {
             → TakesLine cut (E.taken notes.old) (E.taken notes.new) (event_text event.now) }
         ensures begun { OnOk result (self.new.begun ≡ true) }
         ensures going { OnOk result (self.new.file.spent ≡ false) }
-        ensures place { OnOk result (self.new.file.place ≡ end_of_chunks (next_place self.old) (chunks_in (piece_of event.now ∷ []))) }
+        ensures place { OnOk result (self.new.file.place ≡ end_of_chunks (next_chunk_place self.old) (chunks_in (piece_of event.now ∷ []))) }
         ensures regions { OnOk result (self.new.regions ≡ self.old.regions + length (regions_in (piece_of event.now ∷ []))) }
         ensures quiet { OnOk result (self.new.regions ≡ self.old.regions → notes.new ≡ notes.old) }
         ensures made { OnlyCounts M.lent M.faults (result ≡ Err FailedSink.Made) made.old made.new }
@@ -97,7 +97,7 @@ impl Copied {
         ensures front { OnErr result ((before : Taken) (notes : Option (List ℕ)) (events : List Piece)
             → HasCopied before (taken_by (M.taken made.old) None notes) self.old events
             → HasCopiedFront FailedSink.Made before (taken_by (M.taken made.new) None notes) events) }
-        ensures place { OnOk result (self.new.file.place ≡ next_place self.old) }
+        ensures place { OnOk result (self.new.file.place ≡ next_chunk_place self.old) }
         ensures regions { OnOk result (self.new.regions ≡ self.old.regions) }
         ensures made { OnlyCounts M.lent M.faults (IsErr result) made.old made.new }
     {

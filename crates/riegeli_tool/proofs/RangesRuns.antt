@@ -19,7 +19,7 @@ use Rattle.run_answers.proofs.RunEnds.{Keeps, PutsLines-none, was-cut_off, went-
 use Rattle.run_answers.proofs.ManyFiles.{bytes_of, told_by}
 use Rattle.show_files.specs.Readings.{refused_text}
 use Rattle.riegeli_tool.specs.RangesCommand.{AreOneFile, AreWithin, Differ, IsOnePast, IsRangesAnswer, IsTextOfFile, MayBeRead, MayEndRanges, differ_text, ranges_meaning}
-use Rattle.riegeli_tool.specs.RangesEnds.{IsPrinted, PrintsFile, StopsBy, range_ends}
+use Rattle.riegeli_tool.specs.RangesEnds.{PrintsOnlyWhole, PrintsFile, StopsBy, range_ends}
 use Rattle.riegeli_tool.specs.declared.range_ends.Unread.{Unread}
 use Rattle.riegeli_tool.proofs.RangesAnswers.{first_of_all, printed, ranges_exists}
 use Rattle.run_answers.specs.declared.ending.Cut.TheVariants as cut
@@ -201,7 +201,7 @@ module _ (input made : SeenStream) (files files_then : List SeenFile) (grown : S
   pub runs-ranges : {X : Type 0} (result : Result X (Ending Unread)) (ended : Status)
       → IsAllowedEndOfMany ranges_meaning IsOnePast StopsBy result (told_by files_then)
       → OfFile (λ file. PrintsFile result file out.bytes out_then.bytes)
-      → IsPrinted result out.bytes out_then.bytes
+      → PrintsOnlyWhole result out.bytes out_then.bytes
       → SaysEnd range_ends result ended notes notes_then
       → (result ≡ Err (end.Cut cut.File) → OneRose files files_then)
       → (result ≡ Err (end.Cut cut.Out) → Rose out.faults out_then.faults)

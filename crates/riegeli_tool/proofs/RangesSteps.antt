@@ -8,7 +8,7 @@ use Rattle.chunk_reader.specs.declared.reasons.ReadEnd.{ReadEnd}
 use Rattle.run_answers.specs.Endings.{HaveTold, IsAllowedEndOfMany}
 use Rattle.run_answers.specs.declared.ending.Ending.{Ending}
 use Rattle.riegeli_tool.specs.RangesCommand.{IsOnePast, IsTextOfFile, MayBeRead, ranges_meaning}
-use Rattle.riegeli_tool.specs.RangesEnds.{IsPrinted, IsReadIn, PrintsFile, StopsBy, all_lines, end_of_read}
+use Rattle.riegeli_tool.specs.RangesEnds.{PrintsOnlyWhole, IsReadIn, PrintsFile, StopsBy, all_lines, end_of_read}
 use Rattle.riegeli_tool.specs.declared.range_ends.Unread.{Unread}
 use Rattle.chunk_reader.specs.declared.reasons.ReadEnd.TheVariants as read
 use Rattle.run_answers.specs.declared.ending.Cut.TheVariants as cut
@@ -50,9 +50,9 @@ module _ (e : ReadEnd) (why : Ending Unread) (is : why ≡ end_of_read e) where
     by_end read.Store h = tt
     by_end read.Memory h = tt
 
-  pub unread-printed : (out : Option (List ℕ)) → IsPrinted {X = Unit {0}} (Err why) out out
-  unread-printed out = subst (λ (w : Ending Unread). IsPrinted {X = Unit {0}} (Err w) out out) (sym is) (by_end e) where
-    by_end : (e : ReadEnd) → IsPrinted {X = Unit {0}} (Err (end_of_read e)) out out
+  pub unread-printed : (out : Option (List ℕ)) → PrintsOnlyWhole {X = Unit {0}} (Err why) out out
+  unread-printed out = subst (λ (w : Ending Unread). PrintsOnlyWhole {X = Unit {0}} (Err w) out out) (sym is) (by_end e) where
+    by_end : (e : ReadEnd) → PrintsOnlyWhole {X = Unit {0}} (Err (end_of_read e)) out out
     by_end (read.Refused fault) = refl
     by_end read.Store = refl
     by_end read.Memory = refl

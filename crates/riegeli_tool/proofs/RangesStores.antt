@@ -12,7 +12,7 @@ use Rattle.run_answers.specs.Endings.{HaveTold, IsAllowedEndOfMany, SaysEnd}
 use Rattle.run_answers.specs.Runs.{SeenStream, SeenFile, seen, seen_file, Runs}
 use Rattle.run_answers.proofs.ManyFiles.{bytes_of, keeps-files, one_rose, told_by}
 use Rattle.riegeli_tool.specs.RangesCommand.{AreAlike, IsOnePast, MayBeRead, ranges_meaning}
-use Rattle.riegeli_tool.specs.RangesEnds.{IsPrinted, PrintsFile, StopsBy, range_ends}
+use Rattle.riegeli_tool.specs.RangesEnds.{PrintsOnlyWhole, PrintsFile, StopsBy, range_ends}
 use Rattle.riegeli_tool.specs.declared.range_ends.Unread.{Unread}
 use Rattle.riegeli_tool.proofs.RangesRuns.{runs-ranges}
 use Rattle.run_answers.specs.declared.ending.Cut.TheVariants as cut
@@ -72,7 +72,7 @@ module _ {S L : Type 0} (bytes : S → Option (List ℕ)) (told : S → Option �
       → (map handed files_then ≡ map handed files) ⊎ HaveTold (map told files_then) MayBeRead
       → IsAllowedEndOfMany ranges_meaning IsOnePast StopsBy result (map told files_then)
       → ((file : List ℕ) → AllByRecursion (λ s. bytes s ≡ Some file) files → PrintsFile result file out.bytes out_then.bytes)
-      → IsPrinted result out.bytes out_then.bytes
+      → PrintsOnlyWhole result out.bytes out_then.bytes
       → SaysEnd range_ends result ended notes notes_then
       → (result ≡ Err (end.Cut cut.Out) → Rose out.faults out_then.faults)
       → Runs ranges_meaning (seen input (map Show files) made grown out notes) (seen input (map Show files_then) made grown out_then notes_then) ended

@@ -70,7 +70,7 @@ PrintsFile (Err (end.Cut cut.Out)) file out out_then = (text : List ℕ) × IsTe
 PrintsFile (Err other) file out out_then = Unit {0}
 
 -- nothing is printed of a file that isn't read to its end
-abbrev pub IsPrinted : {X : Type 0} → Result X (Ending Unread) → (out out_then : Option (List ℕ)) → Type 0
-IsPrinted (Ok x) out out_then = Unit {0}
-IsPrinted (Err (end.Cut cut.Out)) out out_then = Unit {0}
-IsPrinted (Err other) out out_then = out_then ≡ out
+abbrev pub PrintsOnlyWhole : {X : Type 0} → Result X (Ending Unread) → (out out_then : Option (List ℕ)) → Type 0
+PrintsOnlyWhole (Ok x) out out_then = Unit {0}
+PrintsOnlyWhole (Err (end.Cut cut.Out)) out out_then = Unit {0}
+PrintsOnlyWhole (Err other) out out_then = out_then ≡ out

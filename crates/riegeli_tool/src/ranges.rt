@@ -5,7 +5,7 @@ ghost use Rattle.record_ranges.specs.Reads.{IfAllTellSame};
 ghost use Rattle.run_answers.specs.Endings.{HaveTold, IsAllowedEndOfMany};
 ghost use Rattle.run_answers.specs.Runs.{Runs, Seen, seen_stream, seen_file};
 ghost use Rattle.riegeli_tool.specs.RangesCommand.{AreAlike, IsOnePast, MayBeRead, ranges_meaning};
-ghost use Rattle.riegeli_tool.specs.RangesEnds.{IsPrinted, IsReadIn, PrintsFile, StopsBy, end_of_read};
+ghost use Rattle.riegeli_tool.specs.RangesEnds.{PrintsOnlyWhole, IsReadIn, PrintsFile, StopsBy, end_of_read};
 
 use crate::file_sizes::{SizesEnd, size_by, sizes_told};
 use crate::part_lines::put_parts;
@@ -55,7 +55,7 @@ fn print_file<R: Threads + Sync, S: Store + Send, O: Sink>(
     requires some { 1 ≤ parts }
     requires few { parts ≤ 16 }
     ensures file { IfAllTellSame S.bytes files.old (λ file. PrintsFile result file (O.taken out.old) (O.taken out.new)) }
-    ensures printed { IsPrinted result (O.taken out.old) (O.taken out.new) }
+    ensures printed { PrintsOnlyWhole result (O.taken out.old) (O.taken out.new) }
     ensures allowed { IsAllowedEndOfMany ranges_meaning IsOnePast StopsBy result (map (λ file. S.told file) files.new) }
     ensures exact { (all : List (List ℕ)) (sizes : List ℕ) → AreTold S.bytes files.old all → AreTold S.told files.new sizes → sizes ≡ map length all }
     ensures in_order { (place : ℕ) (file : S) → slice_get files.new place ≡ Some file → S.told file ≡ None
@@ -93,7 +93,7 @@ fn print_sized<R: Threads + Sync, S: Store + Send, O: Sink>(
     requires told { HaveTold (map (λ file. S.told file) files.old) (AreAlike size) }
     requires exact { IfAllTellSame S.bytes files.old (λ file. size ≡ length file) }
     ensures file { IfAllTellSame S.bytes files.old (λ file. PrintsFile result file (O.taken out.old) (O.taken out.new)) }
-    ensures printed { IsPrinted result (O.taken out.old) (O.taken out.new) }
+    ensures printed { PrintsOnlyWhole result (O.taken out.old) (O.taken out.new) }
     ensures allowed { IsAllowedEndOfMany ranges_meaning IsOnePast StopsBy result (map (λ file. S.told file) files.new) }
     ensures files { AreOnlyAsked S.bytes S.told S.name S.faults (result ≡ Err (Ending.Cut Cut.File)) files.old files.new }
     ensures out { OnlyCounts O.lent O.faults (result ≡ Err (Ending.Cut Cut.Out)) out.old out.new }

@@ -1,4 +1,4 @@
--- How the work of a command that reads one file ends, and what it has put and says then. Own.
+-- How the work of a command that reads files ends, and what it has put and says then. Own.
 use Rattle.std.specs.Prelude.{◌≡◌, ◌≢◌, ℕ, true, Option, Some, Result, Ok, Err, List, [], ◌∷◌, map, IsSomeAnd}
 use Rattle.record_values.specs.Bytes.{AreBytes}
 use Rattle.record_io.specs.Puts.{Made, Out, Taken}

@@ -3,7 +3,7 @@ use Rattle.std.proofs.Common.{◌≡◌, ℕ, zero, suc, ◌+◌, ◌%◌, ◌<�
 use Rattle.std.proofs.lemmas.List.{take_more_set}
 use Rattle.record_values.specs.Bytes.{AreBytes}
 use Rattle.record_group.specs.Records.{AreRecords}
-use Rattle.sample_records.specs.Generator.{next_state, draw, letter, letters, letter_count, state_after, record_from, state_behind, records_from, sample_of}
+use Rattle.sample_records.specs.Generator.{next_state, draw, letter, letters, letter_count, state_after, record_from, state_behind, drawn_from, sample_of}
 
 pub length-letters : (count state : ℕ) → length (letters count state) ≡ count
 unfolding letters
@@ -37,19 +37,19 @@ letters-set place i first state drawn within filled left is =
     ∙ sym (letters-more i first)
 
 -- the first of some records
-pub records_from-some : (count rest state : ℕ) → count ≡ rest + 1 → records_from count state ≡ record_from state ∷ records_from rest (state_behind state)
-unfolding records_from
-records_from-some count rest state is = rw (is, add-one) refl
+pub drawn_from-some : (count rest state : ℕ) → count ≡ rest + 1 → drawn_from count state ≡ record_from state ∷ drawn_from rest (state_behind state)
+unfolding drawn_from
+drawn_from-some count rest state is = rw (is, add-one) refl
 
-pub records_from-none : (count state : ℕ) → count ≡ 0 → records_from count state ≡ []
-unfolding records_from
-records_from-none zero state none = refl
-records_from-none (suc count) state none = absurd (omega (arith, none))
+pub drawn_from-none : (count state : ℕ) → count ≡ 0 → drawn_from count state ≡ []
+unfolding drawn_from
+drawn_from-none zero state none = refl
+drawn_from-none (suc count) state none = absurd (omega (arith, none))
 
-pub length-records_from : (count state : ℕ) → length (records_from count state) ≡ count
-unfolding records_from
-length-records_from zero state = refl
-length-records_from (suc count) state = ap (λ n. suc n) (length-records_from count (state_behind state))
+pub length-drawn_from : (count state : ℕ) → length (drawn_from count state) ≡ count
+unfolding drawn_from
+length-drawn_from zero state = refl
+length-drawn_from (suc count) state = ap (λ n. suc n) (length-drawn_from count (state_behind state))
 
 -- letters are bytes
 letters-bytes : (count state : ℕ) → AreBytes (letters count state)
@@ -58,16 +58,16 @@ letters-bytes zero state = tt
 letters-bytes (suc count) state = (omega arith, letters-bytes count (next_state state))
 
 -- so the records of a seed can be written
-records_from-records : (count state : ℕ) → AreRecords (records_from count state)
-unfolding records_from
-records_from-records zero state = tt
-records_from-records (suc count) state = (
+drawn_from-records : (count state : ℕ) → AreRecords (drawn_from count state)
+unfolding drawn_from
+drawn_from-records zero state = tt
+drawn_from-records (suc count) state = (
   record {
     are_bytes = letters-bytes (letter_count state) (next_state state);
     at_most = omega (arith, length-letters (letter_count state) (next_state state));
   },
-  records_from-records count (state_behind state),
+  drawn_from-records count (state_behind state),
 )
 
 pub sample_of-records : (seed count : ℕ) → AreRecords (sample_of seed count)
-sample_of-records seed count = records_from-records count seed
+sample_of-records seed count = drawn_from-records count seed

@@ -1,7 +1,7 @@
 -- Values counted by hand, computed from the definitions.
 use Rattle.std.proofs.Common.{◌≡◌, [], ◌∷◌, length, map, take, codes, refl}
 use Rattle.std.specs.Fmt.{digits}
-use Rattle.sample_records.specs.Generator.{draw, state_after, letters, record_from, records_from, sample_of}
+use Rattle.sample_records.specs.Generator.{draw, state_after, letters, record_from, drawn_from, sample_of}
 use Rattle.sample_records.specs.SampleCommand.{summary}
 
 -- the first draw of seed 0, and the first three of the greatest seed
@@ -23,25 +23,25 @@ letters_of_zero = refl
 
 -- two short records of one seed, and the lengths of the two behind them
 two_of_116 : sample_of 116 2 ≡ codes "zr" ∷ codes "qdo" ∷ []
-unfolding records_from letters state_after
+unfolding drawn_from letters state_after
 two_of_116 = refl
 
 lengths_of_116 : map (λ r. length r) (sample_of 116 4) ≡ 2 ∷ 3 ∷ 89 ∷ 126 ∷ []
-unfolding records_from letters state_after
+unfolding drawn_from letters state_after
 lengths_of_116 = refl
 
 -- an empty record, and one of the greatest length
 empty_of_82 : map (λ r. length r) (sample_of 82 2) ≡ 0 ∷ 251 ∷ []
-unfolding records_from letters state_after
+unfolding drawn_from letters state_after
 empty_of_82 = refl
 
 longest_of_155 : map (λ r. length r) (sample_of 155 3) ≡ 118 ∷ 196 ∷ 255 ∷ []
-unfolding records_from letters state_after
+unfolding drawn_from letters state_after
 longest_of_155 = refl
 
 -- no record
 none_of_7 : sample_of 7 0 ≡ []
-unfolding records_from
+unfolding drawn_from
 none_of_7 = refl
 
 -- a summary

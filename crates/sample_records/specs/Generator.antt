@@ -35,10 +35,10 @@ abbrev pub state_behind : ℕ → ℕ
 state_behind state = state_after (letter_count state) (next_state state)
 
 -- so many records from a state on, each from the state that the one before it leaves
-unfoldable pub records_from : ℕ → ℕ → List (List ℕ)
-records_from zero state = []
-records_from (suc count) state = record_from state ∷ records_from count (state_behind state)
+unfoldable pub drawn_from : ℕ → ℕ → List (List ℕ)
+drawn_from zero state = []
+drawn_from (suc count) state = record_from state ∷ drawn_from count (state_behind state)
 
 -- the first records of a seed
 abbrev pub sample_of : (seed count : ℕ) → List (List ℕ)
-sample_of seed count = records_from count seed
+sample_of seed count = drawn_from count seed

@@ -1,6 +1,6 @@
 ghost use Rattle.std.specs.Prelude.{◌≡◌, ◌≤◌, ◌*◌, Some, None};
 ghost use Rattle.record_writer.specs.Feeds.{Rest};
-ghost use Rattle.sample_records.specs.Generator.{records_from, sample_of};
+ghost use Rattle.sample_records.specs.Generator.{drawn_from, sample_of};
 ghost use Rattle.sample_records.specs.SampleWords.{most_records};
 
 use crate::generator::Generator;
@@ -31,7 +31,7 @@ impl SampleFeed {
 }
 
 impl RecordFeed for SampleFeed {
-    ghost rest = { λ f. Some (record { records = records_from f.left f.generator.state; stop = None }) };
+    ghost rest = { λ f. Some (record { records = drawn_from f.left f.generator.state; stop = None }) };
 
     ghost bound = { λ f. 256 * f.left };
 

@@ -46,6 +46,6 @@ pub returns-in-Ok-copy_file-clause-whole : goal.returns-in-Ok-copy_file-clause-w
 returns-in-Ok-copy_file-clause-whole g c =
     let at = goal.at.returns-in-Ok-copy_file-clause-whole g c in
     let P : Option (List ℕ) → Type 0 = λ o. IfSome o (λ file. Takes (g.M.Sink.taken c.pad.new.sink) (g.M.Sink.taken c.copy_file.new.made) file) in
-    whole_behind (g.S.Store.bytes c.args.store.now) _ (g.M.Sink.taken c.pad.new.sink) _ c.args.before.now c.in-Ok.file c.totals_behind.result
-    c.in-Ok.ensures.whole c.totals_behind.ensures.value (padding g at.In_ok-pad)
+    whole_behind (g.S.Store.bytes c.args.store.now) _ (g.M.Sink.taken c.pad.new.sink) _ c.args.before.now c.in-Ok.file c.totals_joined.result
+    c.in-Ok.ensures.whole c.totals_joined.ensures.value (padding g at.In_ok-pad)
     (subst P c.in-Ok.ensures.store.same_bytes c.in-Ok-copy_file.ensures.whole)

@@ -13,7 +13,7 @@ use Rattle.damage_skip.specs.Takings.{IsTakenFrom}
 use Rattle.damage_skip.proofs.Takings.{called-on, called-to}
 use Rattle.damage_skip.specs.Walks.{piece_of, IsEventIn, IsAllowedEvent, IsRefusedStop, IsStop, IsStoppedAt, GoesOn, StandsIn, WalksOn, stop_of}
 use Rattle.damage_skip.specs.declared.regions.Region.{Region}
-use Rattle.repair_copy.specs.Copies.{next_place, HasSkipped, HasWalked}
+use Rattle.repair_copy.specs.Copies.{next_chunk_place, HasSkipped, HasWalked}
 use Rattle.damage_skip.proofs.RegionsIn.{one_region}
 use Rattle.repair_copy.proofs.CopySteps.{fits, grows, next_place_small, where_failed, where_done}
 use Rattle.repair_copy.proofs.DamagedRepairs.{repairs_damage}
@@ -44,7 +44,7 @@ allowed g c =
 pub put-requires-clause-fits : goal.put-requires-clause-fits
 put-requires-clause-fits g c =
     let at = (goal.at.put-requires-clause-fits g c).In-Ok-Some in
-    fits c.loop-event.walker.progress.place c.next.new.self.progress.place (next_place c.loop-event.copied) c.in-Ok-Some.event (given g at).bounds
+    fits c.loop-event.walker.progress.place c.next.new.self.progress.place (next_chunk_place c.loop-event.copied) c.in-Ok-Some.event (given g at).bounds
     (next_place_small c.loop-event.walker.progress.place c.loop-event.copied c.loop-event.invariant.small)
     (omega (arith, c.next.new.self.progress.within, c.in-Ok-Some.ensures.stands.in_reach))
 
@@ -91,7 +91,7 @@ small g c there =
     omega (
       arith,
       c.in_ok-put-in-Ok-Some.ensures.place,
-      grows c.loop-event.walker.progress.place c.next.new.self.progress.place (next_place c.loop-event.copied) c.in-Ok-Some.event there
+      grows c.loop-event.walker.progress.place c.next.new.self.progress.place (next_chunk_place c.loop-event.copied) c.in-Ok-Some.event there
           (next_place_small c.loop-event.walker.progress.place c.loop-event.copied c.loop-event.invariant.small),
     )
 

@@ -6,7 +6,7 @@ use Rattle.record_collect.specs.declared.collector.Accepted.{Accepted}
 use Rattle.record_collect.specs.declared.table.SeatView.{SeatView}
 use Rattle.record_collect.specs.PutMachine.{with_mine}
 use Rattle.record_collect.specs.PutRule.{hand_of, with_hand}
-use Rattle.record_collect.specs.Passes.{PassValue, Rises, piece_of}
+use Rattle.record_collect.specs.Passes.{PassValue, Rises, accepted_piece}
 use Rattle.record_collect.proofs.Machines.{taken-mine}
 use Rattle.record_collect.proofs.Tables.{puts}
 use Rattle.record_collect.proofs.PassLemmas.{no_past, all_of_map, map-push, Rises-push, same_pass}
@@ -33,7 +33,7 @@ accepted_in c = record { at = c.fetch_add-held.result; bytes = c.args.rec.now }
 
 above : (c : goal.After-push_reserved) → AllByRecursion (λ (e : Accepted). e.at + cost e.bytes ≤ c.fetch_add-held.result) (records_in c)
 above c =
-    all_of_map (λ (y : Piece). y.at + y.cost ≤ c.fetch_add-held.result) piece_of (records_in c)
+    all_of_map (λ (y : Piece). y.at + y.cost ≤ c.fetch_add-held.result) accepted_piece (records_in c)
     (subst (AllByRecursion (λ (y : Piece). y.at + y.cost ≤ c.fetch_add-held.result)) c.pass.invariant.0 c.fetch_add-held.ensures.2.above)
 
 appended : (c : goal.After-push_reserved) → c.push_reserved.new.self.items ≡ records_in c ++ accepted_in c ∷ []
@@ -57,12 +57,12 @@ returns-clause-ok c =
 pub invariant_of-pass-2 : goal.invariant_of-pass-2
 invariant_of-pass-2 c =
     let old : SeatView = c.pass.inside.seat.me.0 in
-    let x : Piece = piece_of (accepted_in c) in
+    let x : Piece = accepted_piece (accepted_in c) in
     let view : c.fetch_add-held.new.seat.me.0 ≡ with_hand old (with_mine x (hand_of old)) = c.fetch_add-held.ensures.2.view ∙ ap (with_hand old) (taken-mine x (hand_of old) c.if-held-cost-gt-LIMIT.false) in (
       ap (λ (v : SeatView). v.mine) view
           ∙ ap (λ (xs : List Piece). xs ++ x ∷ []) c.pass.invariant.0
-          ∙ sym (map-push piece_of (records_in c) (accepted_in c))
-          ∙ ap (map piece_of) (sym (appended c)),
+          ∙ sym (map-push accepted_piece (records_in c) (accepted_in c))
+          ∙ ap (map accepted_piece) (sym (appended c)),
       ap (λ (v : SeatView). map (λ (y : Piece). y.at) v.past) view ∙ c.pass.invariant.1,
       ap (λ (v : SeatView). v.weight) view ∙ c.pass.invariant.2,
       c.fetch_add-held.ensures.2.slots ∙ c.pass.invariant.3,

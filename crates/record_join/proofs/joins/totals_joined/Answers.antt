@@ -1,7 +1,7 @@
 use Rattle.std.proofs.Common.{◌≡◌, ◌+◌, ◌≤◌, ℕ, ◌^◌, length, inl, inr, arith}
 use Rattle.meta_chunk.specs.PaddingSizes.{padding_at}
 use Rattle.record_join.proofs.Behind.{bounds_behind, counted_behind, on_boundary, padding_count}
-use Rattle.record_join.proofs.joins.totals_behind.Goals as goal
+use Rattle.record_join.proofs.joins.totals_joined.Goals as goal
 
 pub returns-clause-value : goal.returns-clause-value
 returns-clause-value c =
