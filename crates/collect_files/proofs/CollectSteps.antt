@@ -25,7 +25,6 @@ use Rattle.collect_files.specs.CollectCommand.{AreInReach, IsOneTooLong, collect
 use Rattle.collect_files.specs.CollectingEnds.{TakeCollected, collecting_ends, end_of_gather}
 use Rattle.collect_files.specs.declared.stops.Uncollected.{Uncollected}
 use Rattle.collect_files.proofs.CollectAnswers.{sizes_judged}
-use Rattle.collect_files.proofs.CollectRuns.{runs-collect}
 use Rattle.record_collect.specs.declared.gathering.GatherEnd.TheVariants as gather
 use Rattle.run_answers.specs.declared.ending.Cut.TheVariants as cut
 use Rattle.run_answers.specs.declared.ending.Ending.TheVariants as end
@@ -101,34 +100,3 @@ put-unprinted value records places made made_then out out_then same are took pri
   subst (λ (text : List ℕ). TakesFront out out_then text) (lines-of value records places same are) printed,
   subst (λ (text : List ℕ). text ≢ []) (lines-of value records places same are) some,
 )
-
--- how a run ends, by what became of the files
-module _ {S L : Type 0} (bytes : S → Option (List ℕ)) (told : S → Option ℕ) (handed : S → ℕ) (name : S → L) (faults : S → ℕ) (files files_then : List S) where
-  abbrev Shown : List S → List SeenFile
-  Shown fs = map (seen_file bytes told handed faults) fs
-
-  pub runs-collected : {X : Type 0} (input made made_then : SeenStream) (grown : SeenFile) (out out_then notes notes_then : SeenStream)
-      (result : Result X (Ending Uncollected)) (ended : Status)
-      → ((file : S) → IfSome (bytes file) (λ bs. IfSome (told file) (λ size. size ≡ length bs)))
-      → AreOnlyAsked bytes (λ s. None) name faults (result ≡ Err (end.Cut cut.File)) files files_then
-      → made.faults ≤ made_then.faults → out.faults ≤ out_then.faults → notes.faults ≤ notes_then.faults
-      → ((place : ℕ) (file : S) → slice_get files_then place ≡ Some file → told file ≡ None → drop (place + 1) files_then ≡ drop (place + 1) files)
-      → (map handed files_then ≡ map handed files) ⊎ ((sizes : List ℕ) × (map told files_then ≡ map Some sizes) × AreInReach sizes)
-      → IsAllowedEndOfMany collect_meaning IsOneTooLong (λ _. AreInReach) result (map told files_then)
-      → ((all : List (List ℕ)) → map bytes files ≡ map Some all → TakeCollected result all made.bytes made_then.bytes out.bytes out_then.bytes)
-      → SaysEnd collecting_ends result ended notes notes_then
-      → (result ≡ Err (end.Cut cut.Made) → Rose made.faults made_then.faults)
-      → (result ≡ Err (end.Cut cut.Out) → Rose out.faults out_then.faults)
-      → Runs collect_meaning (seen input (Shown files) made grown out notes) (seen input (Shown files_then) made_then grown out_then notes_then) ended
-  runs-collected input made made_then grown out out_then notes notes_then result ended sized asked m o n in_order handed_out sizes took says made_rose out_rose =
-      let show : S → SeenFile = seen_file bytes told handed faults in
-      let as_told : told_by (map show files_then) ≡ map told files_then = map-map (λ (f : SeenFile). f.told) show files_then in
-      let as_bytes : bytes_of (map show files) ≡ map bytes files = map-map (λ (f : SeenFile). f.bytes) show files in
-      let its = exact_shown bytes told handed faults files files_then sized (same_bytes bytes (λ (s : S). None) name faults files files_then asked.each) in
-      runs-collect input made made_then (map show files) (map show files_then) grown out out_then notes notes_then
-      (keeps-files bytes told handed faults files files_then collect_meaning input made made_then grown out out_then notes notes_then refl refl
-      (λ r before after. tt) m o n (none_falls bytes (λ (s : S). None) name faults files files_then asked.each) in_order its
-      (elim handed_out [ inl unread ↦ inl unread | inr (some, tells, reach) ↦ inr (some, tells, reach, tt) ]))
-      its result ended (subst (IsAllowedEndOfMany collect_meaning IsOneTooLong (λ _. AreInReach) result) (sym as_told) sizes)
-      (λ all is. took all (sym as_bytes ∙ is)) says
-      (λ failed. one_rose bytes told handed faults files files_then (asked.cause failed)) made_rose out_rose

@@ -6,7 +6,7 @@ ghost use Rattle.collect_files.specs.CollectingEnds.{collecting_ends, uncollecte
 
 use chunk_reader::Fault;
 use record_io::Sink;
-use run_answers::{Ending, Status, cut_off, end};
+use run_answers::{Ending, Status, cut_off, end, end_too_long};
 use show_files::end_with_file_fault;
 
 /// What the records of files are not collected past.
@@ -35,7 +35,7 @@ pub(crate) fn end_collecting<E: Sink>(
 {
     match ended {
         Ok(()) => Status::Ok,
-        Err(Ending::Limit) => end(notes, "limit file\n", Status::Limit),
+        Err(Ending::Limit) => end_too_long(notes),
         Err(Ending::At(stop)) => end_at_stop(notes, &stop),
         Err(Ending::Cut(cut)) => cut_off(notes, cut),
     }

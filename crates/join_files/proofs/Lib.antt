@@ -1,4 +1,3 @@
 pub mod JoinAnswers
 pub mod JoinRuns
 pub mod JoinSteps
-pub mod KeptFiles

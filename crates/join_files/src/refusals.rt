@@ -6,7 +6,7 @@ ghost use Rattle.join_files.specs.JoiningEnds.{joining_ends};
 
 use chunk_reader::Fault;
 use record_io::Sink;
-use run_answers::{Ending, Status, cut_off, end};
+use run_answers::{Ending, Status, cut_off, end_too_long};
 use show_files::end_with_file_fault;
 
 /// A file that is refused.
@@ -27,7 +27,7 @@ pub(crate) fn end_joining<E: Sink>(ended: Result<(), Ending<Refusal>>, notes: &m
 {
     match ended {
         Ok(()) => Status::Ok,
-        Err(Ending::Limit) => end(notes, "limit file\n", Status::Limit),
+        Err(Ending::Limit) => end_too_long(notes),
         Err(Ending::At(refusal)) => end_with_file_fault(notes, refusal.index, &refusal.fault),
         Err(Ending::Cut(cut)) => cut_off(notes, cut),
     }

@@ -19,7 +19,7 @@ use chunk_reader::Fault;
 use record_append::{AppendEnd, Appended, AsStore, Device};
 use record_io::{Failed, Sink, Source};
 use record_writer::Stop;
-use run_answers::{Cut, Ending, SizeEnd, Status, cut_off, end, put_counts, size_of};
+use run_answers::{Cut, Ending, SizeEnd, Status, cut_off, end_too_long, put_counts, size_of};
 use show_files::end_with_fault;
 use std::alloc::Global;
 use std::thread::Threads;
@@ -173,7 +173,7 @@ fn end_appending<E: Sink>(ended: Result<(), Ending<Unappended>>, notes: &mut E) 
 {
     match ended {
         Ok(()) => Status::Ok,
-        Err(Ending::Limit) => end(notes, "limit file\n", Status::Limit),
+        Err(Ending::Limit) => end_too_long(notes),
         Err(Ending::At(Unappended::Refused(fault))) => end_with_fault(notes, &fault),
         Err(Ending::At(Unappended::Stopped(stop, count))) => end_with_stop(notes, stop, count),
         Err(Ending::Cut(cut)) => cut_off(notes, cut),

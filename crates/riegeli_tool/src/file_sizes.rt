@@ -1,11 +1,7 @@
-ghost use Rattle.std.specs.Prelude.{◌≡◌, ◌+◌, ◌<◌, ℕ, None, Some, List, IsErr, OnOk, not, ◌==◌, drop, length, map, nat_lt, slice_get};
+ghost use Rattle.std.specs.Prelude.{◌≡◌, ◌<◌, not, ◌==◌, length, nat_lt};
 ghost use Rattle.std.specs.List.{find, list_any};
-ghost use Rattle.record_io.specs.ManyStores.{AreOnlyAsked, AreTold};
 ghost use Rattle.riegeli_tool.specs.RangesCommand.{most_range_bytes};
 ghost use Rattle.riegeli_tool.specs.RangesEnds.{IsSizeBy};
-
-use record_io::{Failed, Store};
-use run_answers::ask_sizes;
 
 /// The most bytes of a file that is read in parts: 256 MiB. All its records are held at once.
 const MOST_BYTES: u64 = 1 << 28;
@@ -17,18 +13,6 @@ pub(crate) enum SizesEnd {
     Limit,
     /// They told different sizes: the first one, and the first that is another.
     Differ { first: u64, other: u64 },
-}
-
-/// Asks all stores of a file its size, one after another. What is told are the sizes of their bytes.
-pub(crate) fn sizes_told<S: Store>(files: &mut [S], sizes: &mut [u64]) -> Result<(), Failed>
-    requires as_many { length sizes.old ≡ length files.old }
-    ensures told { OnOk result (AreTold S.told files.new sizes.new) }
-    ensures exact { (all : List (List ℕ)) (told : List ℕ) → AreTold S.bytes files.old all → AreTold S.told files.new told → told ≡ map length all }
-    ensures in_order { (place : ℕ) (file : S) → slice_get files.new place ≡ Some file → S.told file ≡ None
-        → drop (place + 1) files.new ≡ drop (place + 1) files.old }
-    ensures files { AreOnlyAsked S.bytes (λ file. Some (S.handed file)) S.name S.faults (IsErr result) files.old files.new }
-{
-    ask_sizes(files, sizes)
 }
 
 /// The size that stores told, where none told more bytes than are read, nor another size than the first.

@@ -8,7 +8,7 @@ ghost use Rattle.riegeli_tool.specs.RangesEnds.{end_of_read, range_ends};
 use chunk_reader::{Fault, ReadEnd};
 use itoa::Buffer;
 use record_io::{Failed, PutBuffer, Sink};
-use run_answers::{Cut, Ending, LINE, Status, cut_off, end};
+use run_answers::{Cut, Ending, LINE, Status, cut_off, end_too_long};
 use show_files::end_with_fault;
 
 /// Why the file is not read.
@@ -40,7 +40,7 @@ pub(crate) fn end_ranges<E: Sink>(ended: Result<(), Ending<Unread>>, notes: &mut
 {
     match ended {
         Ok(()) => Status::Ok,
-        Err(Ending::Limit) => end(notes, "limit file\n", Status::Limit),
+        Err(Ending::Limit) => end_too_long(notes),
         Err(Ending::At(Unread::Refused(fault))) => end_with_fault(notes, &fault),
         Err(Ending::At(Unread::Differ { first, other })) => end_with_sizes(notes, first, other),
         Err(Ending::Cut(cut)) => cut_off(notes, cut),

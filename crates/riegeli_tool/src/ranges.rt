@@ -1,20 +1,20 @@
-ghost use Rattle.std.specs.Prelude.{◌≡◌, ◌+◌, ◌^◌, ◌≤◌, ◌<◌, ◌⊎◌, ℕ, All, None, Some, Ok, Err, List, drop, length, map, slice_get};
+ghost use Rattle.std.specs.Prelude.{◌≡◌, ◌+◌, ◌^◌, ◌≤◌, ◌<◌, ◌⊎◌, ℕ, All, None, Some, Ok, Err, drop, length, map, slice_get};
 ghost use Rattle.record_io.specs.Calls.{OnlyCounts};
-ghost use Rattle.record_io.specs.ManyStores.{AreOnlyAsked, AreTold};
+ghost use Rattle.record_io.specs.ManyStores.{AreOnlyAsked};
 ghost use Rattle.record_ranges.specs.Reads.{IfAllTellSame};
 ghost use Rattle.run_answers.specs.Endings.{HaveTold, IsAllowedEndOfMany};
 ghost use Rattle.run_answers.specs.Runs.{Runs, Seen, seen_stream, seen_file};
 ghost use Rattle.riegeli_tool.specs.RangesCommand.{AreAlike, IsOnePast, MayBeRead, ranges_meaning};
 ghost use Rattle.riegeli_tool.specs.RangesEnds.{PrintsOnlyWhole, IsReadIn, PrintsFile, StopsBy, end_of_read};
 
-use crate::file_sizes::{SizesEnd, size_by, sizes_told};
+use crate::file_sizes::{SizesEnd, size_by};
 use crate::part_lines::put_parts;
 use crate::range_ends::{Unread, end_of_read, end_ranges};
 use crate::ranges_words::{MOST_PARTS, RangesWords};
 use chunk_reader::ReadEnd;
 use record_io::{Failed, Sink, Store};
 use record_ranges::{Cuts, Parts, read_ranges};
-use run_answers::{Cut, Ending, Status};
+use run_answers::{Cut, Ending, Status, ask_sizes};
 use std::alloc::Global;
 use std::thread::Threads;
 
@@ -57,7 +57,6 @@ fn print_file<R: Threads + Sync, S: Store + Send, O: Sink>(
     ensures file { IfAllTellSame S.bytes files.old (λ file. PrintsFile result file (O.taken out.old) (O.taken out.new)) }
     ensures printed { PrintsOnlyWhole result (O.taken out.old) (O.taken out.new) }
     ensures allowed { IsAllowedEndOfMany ranges_meaning IsOnePast StopsBy result (map (λ file. S.told file) files.new) }
-    ensures exact { (all : List (List ℕ)) (sizes : List ℕ) → AreTold S.bytes files.old all → AreTold S.told files.new sizes → sizes ≡ map length all }
     ensures in_order { (place : ℕ) (file : S) → slice_get files.new place ≡ Some file → S.told file ≡ None
         → drop (place + 1) files.new ≡ drop (place + 1) files.old }
     ensures handed { (map (λ file. S.handed file) files.new ≡ map (λ file. S.handed file) files.old)
@@ -68,7 +67,7 @@ fn print_file<R: Threads + Sync, S: Store + Send, O: Sink>(
 {
     let mut room = [0; MOST_PARTS];
     let sizes = &mut room[..files.len()];
-    let Ok(()) = sizes_told(files, sizes) else {
+    let Ok(()) = ask_sizes(files, sizes) else {
         return Err(Ending::Cut(Cut::File));
     };
     match size_by(sizes) {

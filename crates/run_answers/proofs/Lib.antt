@@ -12,3 +12,4 @@ pub mod ReportLines
 pub mod TwoStreams
 pub mod AskedSizes
 pub mod ManyFiles
+pub mod ManyFilesEnds

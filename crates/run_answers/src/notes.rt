@@ -2,6 +2,7 @@ ghost use Rattle.std.specs.Prelude.{◌≡◌, ◌++◌, [], decimal};
 ghost use Rattle.record_io.specs.Calls.{OnlyCounts, PutsTo};
 ghost use Rattle.run_answers.specs.Answers.{line};
 ghost use Rattle.run_answers.specs.Endings.{status_of};
+ghost use Rattle.run_answers.specs.FileAnswers.{limit_text};
 ghost use Rattle.run_answers.specs.Runs.{SaysAtEnd, TakesThen, seen_stream};
 ghost use Rattle.run_answers.specs.Statuses.{fault_text};
 
@@ -23,6 +24,15 @@ pub fn end<E: Sink>(notes: &mut E, text: &str, status: Status) -> Status
         Ok(()) => status,
         Err(Failed) => Status::Notes,
     }
+}
+
+/// The same where a file has more bytes than are read.
+pub fn end_too_long<E: Sink>(notes: &mut E) -> Status
+    ensures told { SaysAtEnd result Status.Limit (seen_stream E.taken E.faults notes.old)
+        (seen_stream E.taken E.faults notes.new) limit_text }
+    ensures notes { OnlyCounts E.lent E.faults ⊥ notes.old notes.new }
+{
+    end(notes, "limit file\n", Status::Limit)
 }
 
 /// The same with a line of a text and a number.

@@ -9,7 +9,7 @@ ghost use Rattle.damage_skip.specs.Regions.{region_text};
 
 use damage_skip::{Region, region_line};
 use record_io::{Failed, Sink};
-use run_answers::{Ending, Status, cut_off, end};
+use run_answers::{Ending, Status, cut_off, end_too_long};
 
 /// Whether a region may be skipped, where they may be bounded to so many bytes.
 pub fn may_skip(most: Option<u64>, region: &Region) -> bool
@@ -31,7 +31,7 @@ pub fn end_walk<E: Sink>(ended: Result<Status, Ending<Region>>, notes: &mut E) -
 {
     match ended {
         Ok(status) => status,
-        Err(Ending::Limit) => end(notes, "limit file\n", Status::Limit),
+        Err(Ending::Limit) => end_too_long(notes),
         Err(Ending::At(region)) => end_with_region(notes, &region),
         Err(Ending::Cut(cut)) => cut_off(notes, cut),
     }

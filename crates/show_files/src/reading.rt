@@ -7,7 +7,7 @@ ghost use Rattle.show_files.specs.ReadingEnds.{reading_ends};
 use crate::fault_lines::end_with_fault;
 use chunk_reader::Fault;
 use record_io::Sink;
-use run_answers::{Ending, Status, cut_off, end};
+use run_answers::{Ending, Status, cut_off, end_too_long};
 
 /// Says in notes why the work ended before it was done.
 pub(crate) fn end_reading<E: Sink>(ended: Result<(), Ending<Fault>>, notes: &mut E) -> Status
@@ -18,7 +18,7 @@ pub(crate) fn end_reading<E: Sink>(ended: Result<(), Ending<Fault>>, notes: &mut
 {
     match ended {
         Ok(()) => Status::Ok,
-        Err(Ending::Limit) => end(notes, "limit file\n", Status::Limit),
+        Err(Ending::Limit) => end_too_long(notes),
         Err(Ending::At(fault)) => end_with_fault(notes, &fault),
         Err(Ending::Cut(cut)) => cut_off(notes, cut),
     }

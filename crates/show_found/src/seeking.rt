@@ -14,7 +14,7 @@ use crate::seek_words::SeekWords;
 use chunk_reader::{Fault, ReadEnd};
 use record_io::{Failed, PutBuffer, Sink, Store};
 use record_seek::Found;
-use run_answers::{Cut, Ending, Status, cut_off, end, size_of};
+use run_answers::{Cut, Ending, Status, cut_off, end, end_too_long, size_of};
 use show_files::show_words::RecordForm;
 use show_files::{end_with_fault, put_record};
 use std::alloc::Global;
@@ -108,7 +108,7 @@ fn end_search<E: Sink>(ended: Result<(), Ending<Unfound>>, notes: &mut E) -> Sta
 {
     match ended {
         Ok(()) => Status::Ok,
-        Err(Ending::Limit) => end(notes, "limit file\n", Status::Limit),
+        Err(Ending::Limit) => end_too_long(notes),
         Err(Ending::At(Unfound::Nothing)) => end(notes, "not found\n", Status::NotFound),
         Err(Ending::At(Unfound::Refused(fault))) => end_with_fault(notes, &fault),
         Err(Ending::Cut(cut)) => cut_off(notes, cut),

@@ -1,6 +1,6 @@
 use Rattle.std.proofs.Common.{None}
 use Rattle.record_io.proofs.ManyStores.{same_bytes, same_names}
-use Rattle.collect_files.proofs.CollectSteps.{runs-collected}
+use Rattle.collect_files.proofs.CollectRuns.{runs-collected}
 use Rattle.collect_files.proofs.collecting.collect_files.Goals as goal
 
 pub returns-clause-runs : goal.returns-clause-runs

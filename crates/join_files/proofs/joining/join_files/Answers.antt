@@ -1,6 +1,6 @@
 use Rattle.std.proofs.Common.{None}
 use Rattle.record_io.proofs.ManyStores.{same_bytes, same_names}
-use Rattle.join_files.proofs.KeptFiles.{runs-joined}
+use Rattle.join_files.proofs.JoinRuns.{runs-joined}
 use Rattle.join_files.proofs.joining.join_files.Goals as goal
 
 pub returns-clause-runs : goal.returns-clause-runs
