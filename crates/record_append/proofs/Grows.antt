@@ -10,7 +10,7 @@ use Rattle.meta_chunk.specs.Files.{signature}
 use Rattle.meta_chunk.specs.Laid.{end_of_chunk}
 use Rattle.record_writer.specs.Feeds.{Rest}
 use Rattle.record_writer.specs.declared.options.WriteOptions.{WriteOptions}
-use Rattle.record_writer.specs.Written.{AnswersTotals, TakesFile, tail_chunks}
+use Rattle.record_writer.specs.Written.{TellsTotals, TakesFile, tail_chunks}
 use Rattle.record_append.specs.Appends.{AnswersGrown, AnswersRest}
 use Rattle.record_append.specs.Grown.{IsKeptTo, IsUnrefused, bytes_at, totals_at}
 use Rattle.record_writer.proofs.Counted.{counted-tail}
@@ -31,7 +31,7 @@ records_at options (suc n) records = counted-tail options (suc n) records
 pub grown_whole : (options : WriteOptions) (cut : Bool) (bytes mid held : Option (List ℕ)) (rests : Option Rest) (size place : ℕ) (put : Totals)
     → IfSome bytes (λ file. IsUnrefused cut file × IsKeptTo file place) → IsSized bytes size → place ≤ size
     → mid ≡ option_map (take place) bytes
-    → IfSome rests (λ rest. AnswersTotals (Ok put) (totals_at options place rest.records) rest)
+    → IfSome rests (λ rest. TellsTotals (Ok put) (totals_at options place rest.records) rest)
     → IfSome rests (λ rest. TakesFile (Ok put) mid held (bytes_at options place rest.records))
     → IfSome bytes (λ file. IfSome rests (λ rest.
     AnswersGrown (Ok (record { kept = place; dropped = size - place; records = put.records; bytes = place + put.bytes })) options cut file rest held))
@@ -62,7 +62,7 @@ grown_whole options cut (Some file) mid held (Some rest) size place put (taken, 
 
 -- what is answered of the feed's records and the stop behind them
 pub answered_whole : (options : WriteOptions) (rests : Option Rest) (place dropped bytes : ℕ) (put : Totals)
-    → IfSome rests (λ rest. AnswersTotals (Ok put) (totals_at options place rest.records) rest)
+    → IfSome rests (λ rest. TellsTotals (Ok put) (totals_at options place rest.records) rest)
     → IfSome rests (AnswersRest (Ok (record { kept = place; dropped = dropped; records = put.records; bytes = bytes })))
 answered_whole options None place dropped bytes put answer = tt
 answered_whole options (Some rest) place dropped bytes put (none, counted) =

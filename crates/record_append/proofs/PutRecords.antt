@@ -13,7 +13,7 @@ use Rattle.record_writer.specs.Feeds.{Rest}
 use Rattle.record_writer.specs.declared.engine.WriteEnd.{WriteEnd}
 use Rattle.record_writer.specs.declared.engine.WriteEnd.TheVariants.{TooLong, InputTooLong, BadLine, Input, Made, Memory}
 use Rattle.record_writer.specs.declared.options.WriteOptions.{WriteOptions}
-use Rattle.record_writer.specs.Written.{Answers, AnswersTotals, TakesFile, chunks_under, file_under, tail_under, totals_from}
+use Rattle.record_writer.specs.Written.{TellsWritten, TellsTotals, TakesFile, chunks_under, file_under, tail_under, totals_from}
 use Rattle.record_append.specs.Devices.{bytes_before, bytes_from}
 use Rattle.record_append.specs.Grown.{bytes_at, totals_at}
 
@@ -96,11 +96,11 @@ totals_at-front options place front records =
     (totals_from-front (chunks_under options records))
 
 pub answered_at-front : (options : WriteOptions) (place : ℕ) (result : Result Totals WriteEnd) (rests : Option Rest) → place ≡ 0
-    → IfSome rests (Answers result options)
-    → IfSome rests (λ rest. AnswersTotals result (totals_at options place rest.records) rest)
+    → IfSome rests (TellsWritten result options)
+    → IfSome rests (λ rest. TellsTotals result (totals_at options place rest.records) rest)
 answered_at-front options place result None front answer = tt
 answered_at-front options place result (Some rest) front answer =
-    subst (λ (t : Totals). AnswersTotals result t rest) (totals_at-front options place front rest.records) answer
+    subst (λ (t : Totals). TellsTotals result t rest) (totals_at-front options place front rest.records) answer
 
 -- and the device holds what it held, and what was put behind
 pub held_more : (bytes held : Option (List ℕ)) (place : ℕ) → bytes_before place held ≡ bytes

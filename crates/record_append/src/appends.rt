@@ -2,7 +2,7 @@ ghost use Rattle.std.specs.Prelude.{◌≡◌, ◌+◌, ◌^◌, ◌<◌, ◌≤
 ghost use Rattle.record_io.specs.Calls.{OnlyCounts};
 ghost use Rattle.chunk_reader.specs.declared.reasons.Fault.{Fault};
 ghost use Rattle.record_writer.specs.Feeds.{nothing_left};
-ghost use Rattle.record_writer.specs.Written.{AnswersTotals, AreInLimits, TakesFile};
+ghost use Rattle.record_writer.specs.Written.{TellsTotals, AreInLimits, TakesFile};
 ghost use Rattle.record_append.specs.Appends.{AnswersGrown, AnswersRest, KeepsBy, MayBeKeptTo};
 ghost use Rattle.record_append.specs.Devices.{CountsFaults};
 ghost use Rattle.record_append.specs.Grown.{IsRefusedToGrow, RefusesFor, bytes_at, totals_at};
@@ -162,7 +162,7 @@ fn put_records<R: Threads + Sync, L: RecordFeed, G: Device + Send>(
     requires feed_going { L.going feed.old ≡ true }
     requires in_reach { L.bound feed.old ≤ 2 ^ 41 }
     requires in_limits { AreInLimits options.now }
-    ensures answer { IfSome (L.rest feed.old) (λ rest. AnswersTotals result (totals_at options.now place rest.records) rest) }
+    ensures answer { IfSome (L.rest feed.old) (λ rest. TellsTotals result (totals_at options.now place rest.records) rest) }
     ensures put { IfSome (L.rest feed.old) (λ rest.
         TakesFile result (G.bytes device.old) (G.bytes device.new) (bytes_at options.now place rest.records)) }
     ensures behind { IfSome (G.bytes device.old) (λ front. IsSomeAnd (G.bytes device.new) (λ held. (rest : List ℕ) × (held ≡ front ++ rest))) }

@@ -27,7 +27,7 @@ use Rattle.record_writer.specs.declared.options.WriteOptions.{WriteOptions}
 use Rattle.record_writer.specs.Feeds.{Rest}
 use Rattle.record_writer.specs.Ends.{answer_of, end_of_cut}
 use Rattle.record_writer.specs.declared.engine.WriteEnd.{WriteEnd}
-use Rattle.record_writer.specs.Written.{AnswersTotals, chunks_under, tail_chunks, totals_from}
+use Rattle.record_writer.specs.Written.{TellsTotals, chunks_under, tail_chunks, totals_from}
 use Rattle.record_writer.specs.MadeFiles.{MadeFileValue, Lays, nothing_made, resumed_at, totals_behind, totals_made}
 use Rattle.record_writer.specs.declared.engine.WriteEnd.TheVariants as end
 
@@ -151,23 +151,23 @@ totals_behind-resumed at bytes ks is =
     (omega arith) (omega arith) (omega (arith, is, length-laid_each at ks)) (omega arith)
 
 -- with these totals the answer is the right one
-Answers-ended : (options : WriteOptions) (s : MadeFileValue) (rest : Rest) (stop : Option Stop) (totals : Totals) → s.records ≡ 0 → rest.stop ≡ stop
+TellsTotals-ended : (options : WriteOptions) (s : MadeFileValue) (rest : Rest) (stop : Option Stop) (totals : Totals) → s.records ≡ 0 → rest.stop ≡ stop
     → totals ≡ totals_behind s (tail_chunks options s.place rest.records)
-    → AnswersTotals (answer_of stop totals) (totals_behind s (tail_chunks options s.place rest.records)) rest
-Answers-ended options s rest None totals none same counted = (same, counted)
-Answers-ended options s rest (Some TooLong) totals none same counted =
+    → TellsTotals (answer_of stop totals) (totals_behind s (tail_chunks options s.place rest.records)) rest
+TellsTotals-ended options s rest None totals none same counted = (same, counted)
+TellsTotals-ended options s rest (Some TooLong) totals none same counted =
     (same, omega (arith, none, ap (λ (t : Totals). t.records) counted, (Count-tail options s.place rest.records).counted))
-Answers-ended options s rest (Some InputTooLong) totals none same counted = same
-Answers-ended options s rest (Some BadLine) totals none same counted =
+TellsTotals-ended options s rest (Some InputTooLong) totals none same counted = same
+TellsTotals-ended options s rest (Some BadLine) totals none same counted =
     (same, omega (arith, none, ap (λ (t : Totals). t.records) counted, (Count-tail options s.place rest.records).counted))
 
 -- where a feed told what was to come
-pub Answers-told : (options : WriteOptions) (s : MadeFileValue) (ra : Option Rest) (stop : Option Stop) (totals : Totals) → s.records ≡ 0
+pub TellsTotals-told : (options : WriteOptions) (s : MadeFileValue) (ra : Option Rest) (stop : Option Stop) (totals : Totals) → s.records ≡ 0
     → IfSome ra (λ rest. rest.stop ≡ stop)
     → IfSome ra (λ rest. totals ≡ totals_behind s (tail_chunks options s.place rest.records))
-    → IfSome ra (λ rest. AnswersTotals (answer_of stop totals) (totals_behind s (tail_chunks options s.place rest.records)) rest)
-Answers-told options s None stop totals none same counted = tt
-Answers-told options s (Some rest) stop totals none same counted = Answers-ended options s rest stop totals none same counted
+    → IfSome ra (λ rest. TellsTotals (answer_of stop totals) (totals_behind s (tail_chunks options s.place rest.records)) rest)
+TellsTotals-told options s None stop totals none same counted = tt
+TellsTotals-told options s (Some rest) stop totals none same counted = TellsTotals-ended options s rest stop totals none same counted
 
 -- what holds of the totals holds of the answer where it is they
 pub IfOk-ended : (P : Totals → Type 0) (stop : Option Stop) (totals : Totals) → P totals → IfOk (answer_of stop totals) P
@@ -177,42 +177,42 @@ IfOk-ended P (Some InputTooLong) totals h = tt
 IfOk-ended P (Some BadLine) totals h = tt
 
 -- an answer of other totals says the same where it is no totals
-Answers-err : (end : WriteEnd) (wanted other : Totals) (rest : Rest) → AnswersTotals (Err end) wanted rest → AnswersTotals (Err end) other rest
-Answers-err (end.TooLong count) wanted other rest h = h
-Answers-err end.InputTooLong wanted other rest h = h
-Answers-err (end.BadLine count) wanted other rest h = h
-Answers-err end.Input wanted other rest h = h
-Answers-err end.Made wanted other rest h = h
-Answers-err end.Memory wanted other rest h = h
+TellsTotals-err : (end : WriteEnd) (wanted other : Totals) (rest : Rest) → TellsTotals (Err end) wanted rest → TellsTotals (Err end) other rest
+TellsTotals-err (end.TooLong count) wanted other rest h = h
+TellsTotals-err end.InputTooLong wanted other rest h = h
+TellsTotals-err (end.BadLine count) wanted other rest h = h
+TellsTotals-err end.Input wanted other rest h = h
+TellsTotals-err end.Made wanted other rest h = h
+TellsTotals-err end.Memory wanted other rest h = h
 
-pub Answers-stopped : (ra : Option Rest) (end : WriteEnd) (wanted other : List (List ℕ) → Totals)
-    → IfSome ra (λ rest. AnswersTotals (Err end) (wanted rest.records) rest) → IfSome ra (λ rest. AnswersTotals (Err end) (other rest.records) rest)
-Answers-stopped None end wanted other h = tt
-Answers-stopped (Some rest) end wanted other h = Answers-err end (wanted rest.records) (other rest.records) rest h
+pub TellsTotals-stopped : (ra : Option Rest) (end : WriteEnd) (wanted other : List (List ℕ) → Totals)
+    → IfSome ra (λ rest. TellsTotals (Err end) (wanted rest.records) rest) → IfSome ra (λ rest. TellsTotals (Err end) (other rest.records) rest)
+TellsTotals-stopped None end wanted other h = tt
+TellsTotals-stopped (Some rest) end wanted other h = TellsTotals-err end (wanted rest.records) (other rest.records) rest h
 
 -- where the work was cut off, it says nothing of them
-pub Answers-cut : (ra : Option Rest) (cause : CutOff) (wanted : List (List ℕ) → Totals)
-    → IfSome ra (λ rest. AnswersTotals (Err (end_of_cut cause)) (wanted rest.records) rest)
-Answers-cut None cause wanted = tt
-Answers-cut (Some rest) cut.Input wanted = tt
-Answers-cut (Some rest) cut.Made wanted = tt
-Answers-cut (Some rest) cut.Memory wanted = tt
+pub TellsTotals-cut : (ra : Option Rest) (cause : CutOff) (wanted : List (List ℕ) → Totals)
+    → IfSome ra (λ rest. TellsTotals (Err (end_of_cut cause)) (wanted rest.records) rest)
+TellsTotals-cut None cause wanted = tt
+TellsTotals-cut (Some rest) cut.Input wanted = tt
+TellsTotals-cut (Some rest) cut.Made wanted = tt
+TellsTotals-cut (Some rest) cut.Memory wanted = tt
 
 -- the answer of the file is that of the chunks behind the signature
-pub Answers-signed : (a b : Option (List ℕ)) (s : MadeFileValue) (options : WriteOptions) (ra : Option Rest) (result : Result Totals WriteEnd)
+pub TellsTotals-signed : (a b : Option (List ℕ)) (s : MadeFileValue) (options : WriteOptions) (ra : Option Rest) (result : Result Totals WriteEnd)
     → Lays a b nothing_made s (signature ∷ [])
-    → IfSome ra (λ rest. AnswersTotals result (totals_behind s (tail_chunks options s.place rest.records)) rest)
-    → IfSome ra (λ rest. AnswersTotals result (totals_of (chunks_under options rest.records)) rest)
-Answers-signed a b s options None result h answer = tt
-Answers-signed a b s options (Some rest) result h answer =
-    subst (λ (wanted : Totals). AnswersTotals result wanted rest) (totals_behind-signed a b s options rest.records h) answer
+    → IfSome ra (λ rest. TellsTotals result (totals_behind s (tail_chunks options s.place rest.records)) rest)
+    → IfSome ra (λ rest. TellsTotals result (totals_of (chunks_under options rest.records)) rest)
+TellsTotals-signed a b s options None result h answer = tt
+TellsTotals-signed a b s options (Some rest) result h answer =
+    subst (λ (wanted : Totals). TellsTotals result wanted rest) (totals_behind-signed a b s options rest.records h) answer
 
 -- the answer of the tail is that of the chunks behind bytes that others wrote, without these bytes
-pub Answers-resumed : (at : ℕ) (options : WriteOptions) (ra : Option Rest) (totals : Totals)
-    → IfSome ra (λ rest. AnswersTotals (Ok totals) (totals_behind (resumed_at at) (tail_chunks options at rest.records)) rest)
-    → IfSome ra (λ rest. AnswersTotals (Ok (record totals { bytes = totals.bytes - at })) (totals_from at (tail_chunks options at rest.records)) rest)
-Answers-resumed at options None totals answer = tt
-Answers-resumed at options (Some rest) totals answer =
+pub TellsTotals-resumed : (at : ℕ) (options : WriteOptions) (ra : Option Rest) (totals : Totals)
+    → IfSome ra (λ rest. TellsTotals (Ok totals) (totals_behind (resumed_at at) (tail_chunks options at rest.records)) rest)
+    → IfSome ra (λ rest. TellsTotals (Ok (record totals { bytes = totals.bytes - at })) (totals_from at (tail_chunks options at rest.records)) rest)
+TellsTotals-resumed at options None totals answer = tt
+TellsTotals-resumed at options (Some rest) totals answer =
     let ks : List ChunkValue = tail_chunks options at rest.records in (
       answer.0,
       ap (λ (t : Totals). record t { bytes = t.bytes - at }) answer.1 ∙ totals_behind-resumed at (end_of_chunks at ks) ks refl,

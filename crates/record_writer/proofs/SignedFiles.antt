@@ -12,7 +12,7 @@ use Rattle.record_writer.specs.Behind.{MayFollow, WritesBehind}
 use Rattle.record_writer.specs.Feeds.{Rest}
 use Rattle.record_writer.specs.MadeFiles.{MadeFileValue, Lays, LaysFront, nothing_made}
 use Rattle.record_writer.specs.Written.{AreInLimits, WritesRecords, chunks_under, file_under}
-use Rattle.record_writer.proofs.Counted.{Answers-cut, Answers-signed, signed_boundary, signed_place, signed_records}
+use Rattle.record_writer.proofs.Counted.{TellsTotals-cut, TellsTotals-signed, signed_boundary, signed_place, signed_records}
 use Rattle.record_writer.proofs.Flushes.{TakesFile-signed, TakesFile-unsigned}
 use Rattle.record_writer.proofs.Windows.{OnlyCounts-behind}
 
@@ -45,7 +45,7 @@ pub WritesFile-signed : {L N M K : Type 0} (rest : L → Option Rest) (origin : 
 WritesFile-signed rest origin feed_faults taken lent made_faults Fails options s result before after sink signed sink_then laid counts behind =
     let written = behind.written in
     record {
-      answer = Answers-signed (taken sink) (taken signed) s options (rest before) result laid written.answer;
+      answer = TellsTotals-signed (taken sink) (taken signed) s options (rest before) result laid written.answer;
       made = TakesFile-signed (taken sink) (taken signed) (taken sink_then) s options (rest before) result laid written.made;
       read_to_end = written.read_to_end;
       feed = written.feed;
@@ -60,7 +60,7 @@ pub WritesFile-unsigned : {L N M K : Type 0} (rest : L → Option Rest) (origin 
     → WritesFile rest origin feed_faults taken lent made_faults options (Err Made) feed feed sink sink_then
 WritesFile-unsigned rest origin feed_faults taken lent made_faults Fails options s feed sink sink_then front counts failed =
     record {
-      answer = Answers-cut (rest feed) cut.Made (λ records. totals_of (chunks_under options records));
+      answer = TellsTotals-cut (rest feed) cut.Made (λ records. totals_of (chunks_under options records));
       made = TakesFile-unsigned (taken sink) (taken sink_then) s options (rest feed) front;
       read_to_end = tt;
       feed = record { same_lent = refl; cause = λ fails. cc; never_falls = omega arith; small = λ below. below };

@@ -48,18 +48,18 @@ totals_from at ks = record {
 
 -- the answer where these were a feed's records and the stop behind them: these totals where there was no stop, and else
 -- that stop, with the number of the records before it. A fault and want of memory say nothing of them
-abbrev pub AnswersTotals : Result Totals WriteEnd → Totals → Rest → Type 0
-AnswersTotals (Ok totals) wanted rest = (rest.stop ≡ None) × (totals ≡ wanted)
-AnswersTotals (Err (TooLong count)) wanted rest = (rest.stop ≡ Some too_long) × (count ≡ length rest.records)
-AnswersTotals (Err InputTooLong) wanted rest = rest.stop ≡ Some input_too_long
-AnswersTotals (Err (BadLine count)) wanted rest = (rest.stop ≡ Some bad_line) × (count ≡ length rest.records)
-AnswersTotals (Err Input) wanted rest = Unit {0}
-AnswersTotals (Err Made) wanted rest = Unit {0}
-AnswersTotals (Err Memory) wanted rest = Unit {0}
+abbrev pub TellsTotals : Result Totals WriteEnd → Totals → Rest → Type 0
+TellsTotals (Ok totals) wanted rest = (rest.stop ≡ None) × (totals ≡ wanted)
+TellsTotals (Err (TooLong count)) wanted rest = (rest.stop ≡ Some too_long) × (count ≡ length rest.records)
+TellsTotals (Err InputTooLong) wanted rest = rest.stop ≡ Some input_too_long
+TellsTotals (Err (BadLine count)) wanted rest = (rest.stop ≡ Some bad_line) × (count ≡ length rest.records)
+TellsTotals (Err Input) wanted rest = Unit {0}
+TellsTotals (Err Made) wanted rest = Unit {0}
+TellsTotals (Err Memory) wanted rest = Unit {0}
 
 -- with the totals of the file of the records
-abbrev pub Answers : Result Totals WriteEnd → WriteOptions → Rest → Type 0
-Answers result options rest = AnswersTotals result (totals_of (chunks_under options rest.records)) rest
+abbrev pub TellsWritten : Result Totals WriteEnd → WriteOptions → Rest → Type 0
+TellsWritten result options rest = TellsTotals result (totals_of (chunks_under options rest.records)) rest
 
 -- what a sink took with that answer: a file, or a front of it where a fault or want of memory cut the work off
 abbrev pub TakesFile : Result Totals WriteEnd → Option (List ℕ) → Option (List ℕ) → List ℕ → Type 0
@@ -78,7 +78,7 @@ pub record WritesRecords {L N M K : Type 0} (rest : L → Option Rest) (origin :
     (taken : M → Option (List ℕ)) (lent : M → K) (made_faults : M → ℕ)
     (totals_of_records : List (List ℕ) → Totals) (bytes_of_records : List (List ℕ) → List ℕ)
     (result : Result Totals WriteEnd) (before after : L) (sink sink_then : M) : Type 0 where
-  pub answer : IfSome (rest before) (λ all. AnswersTotals result (totals_of_records all.records) all)
+  pub answer : IfSome (rest before) (λ all. TellsTotals result (totals_of_records all.records) all)
   pub made : IfSome (rest before) (λ all. TakesFile result (taken sink) (taken sink_then) (bytes_of_records all.records))
   pub read_to_end : OnOk result (IfSome (rest before) (λ _. rest after ≡ Some nothing_left))
   pub feed : OnlyCounts origin feed_faults (result ≡ Err Input) before after

@@ -102,7 +102,7 @@ pub fn write_records<R: Threads + Sync, L: RecordFeed, M: Sink + Send>(
 {
     let mut file = MadeFile::new();
     file.start(made)?;
-    write_behind(rt, alloc, options, &mut file, feed, made)
+    write_rest(rt, alloc, options, &mut file, feed, made)
 }
 
 /// Writes the same chunks of records as `write_records` would, with the padding that is wanted, but lays them from a place on,
@@ -131,7 +131,7 @@ pub fn write_after<R: Threads + Sync, L: RecordFeed, M: Sink + Send>(
     ensures in_reach { IfOk result (λ totals. at + totals.bytes < 2 ^ 64) }
 {
     let mut file = MadeFile::resume(at);
-    let totals = write_behind(rt, alloc, options, &mut file, feed, made)?;
+    let totals = write_rest(rt, alloc, options, &mut file, feed, made)?;
     Ok(Totals {
         bytes: totals.bytes - at,
         ..totals
@@ -174,7 +174,7 @@ pub fn write_coded<R: Threads + Sync, C: Coder + Sync, L: RecordFeed, M: Sink + 
 }
 
 /// Writes the chunks of the feed's records behind what a file has already, which is no record. The totals are of the file.
-fn write_behind<R: Threads + Sync, L: RecordFeed, M: Sink + Send>(
+fn write_rest<R: Threads + Sync, L: RecordFeed, M: Sink + Send>(
     rt: &R,
     alloc: Global,
     options: &WriteOptions,
@@ -194,7 +194,7 @@ fn write_behind<R: Threads + Sync, L: RecordFeed, M: Sink + Send>(
     write(rt, alloc, options, &SimpleCoder, window, file, feed, made)
 }
 
-/// As `write_behind`, with a coder and in windows of the kind of this empty one.
+/// As `write_rest`, with a coder and in windows of the kind of this empty one.
 fn write<R: Threads + Sync, C: Coder + Sync, W: Window + Send, L: RecordFeed, M: Sink + Send>(
     rt: &R,
     alloc: Global,

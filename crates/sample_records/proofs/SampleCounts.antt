@@ -13,7 +13,7 @@ use Rattle.record_group.proofs.RecordFiles.{IsFile-file_of, AreRecordsOf-chunks_
 use Rattle.record_values.specs.declared.file_totals.Totals.{Totals}
 use Rattle.record_writer.specs.declared.options.WriteOptions.{WriteOptions}
 use Rattle.record_writer.specs.Feeds.{Rest}
-use Rattle.record_writer.specs.Written.{Answers, TakesFile, chunks_under, file_under}
+use Rattle.record_writer.specs.Written.{TellsWritten, TakesFile, chunks_under, file_under}
 use Rattle.record_io.specs.Outside.{Takes}
 use Rattle.sample_records.specs.declared.sample_words.SampleWords.{SampleWords}
 use Rattle.sample_records.specs.SampleCommand.{sampled, sample_file, summary, sample_summary}
@@ -47,10 +47,10 @@ written words totals made made_then small counted took =
 
 pub sample-written : (words : SampleWords) (rest : Option Rest) (totals : Totals) (made made_then : Option (List ℕ)) → words.options.size ≤ 2 ^ 24
     → rest ≡ Some (record { records = sampled words; stop = None })
-    → IfSome rest (Answers (Ok totals) words.options)
+    → IfSome rest (TellsWritten (Ok totals) words.options)
     → IfSome rest (λ r. TakesFile (Ok totals) made made_then (file_under words.options r.records))
     → (summary totals.records totals.bytes ≡ sample_summary words) × Takes made made_then (sample_file words)
 sample-written words rest totals made made_then small is answer took =
-    let told = subst (λ (o : Option Rest). IfSome o (Answers (Ok totals) words.options)) is answer in
+    let told = subst (λ (o : Option Rest). IfSome o (TellsWritten (Ok totals) words.options)) is answer in
     written words totals made made_then small told.1
     (subst (λ (o : Option Rest). IfSome o (λ r. TakesFile (Ok totals) made made_then (file_under words.options r.records))) is took)

@@ -10,7 +10,7 @@ use Rattle.record_values.specs.declared.file_totals.Totals.{Totals}
 use Rattle.record_group.proofs.Signed.{end_of_chunk-signature, length-file_of-signed}
 use Rattle.record_writer.specs.declared.engine.WriteEnd.{WriteEnd}
 use Rattle.record_writer.specs.declared.feed.Stop.{Stop}
-use Rattle.record_writer.specs.Written.{Answers, TakesFile, file_under}
+use Rattle.record_writer.specs.Written.{TellsWritten, TakesFile, file_under}
 use Rattle.run_answers.specs.declared.status.Status.{Status}
 use Rattle.write_lines.specs.declared.write_words.WriteWords.{WriteWords}
 use Rattle.run_answers.specs.Statuses.{fault_text}
@@ -36,16 +36,16 @@ made-some words bytes = λ none.
 -- the write engine's answer to an input that tells its bytes, and what the made file took of that file
 pub record Wrote (words : WriteWords) (input made made_then : SeenStream) (result : Result Totals WriteEnd) : Type 0 where
   pub told : (bytes : List ℕ) → input.bytes ≡ Some bytes
-      → Answers result words.options (taken_from bytes words.hex (2 ^ 40))
+      → TellsWritten result words.options (taken_from bytes words.hex (2 ^ 40))
       × TakesFile result made.bytes made_then.bytes (made_of words bytes)
 
 pub wrote : (words : WriteWords) (input made made_then : SeenStream) (result : Result Totals WriteEnd)
-    → IfSome input.bytes (λ bytes. Answers result words.options (taken_from bytes words.hex (2 ^ 40)))
+    → IfSome input.bytes (λ bytes. TellsWritten result words.options (taken_from bytes words.hex (2 ^ 40)))
     → IfSome input.bytes (λ bytes. TakesFile result made.bytes made_then.bytes (made_of words bytes))
     → Wrote words input made made_then result
 wrote words input made made_then result answer took = record {
   told = λ bytes told. (
-    MatchOption-at_some _ (λ (b : List ℕ). Answers result words.options (taken_from b words.hex (2 ^ 40))) bytes told answer,
+    MatchOption-at_some _ (λ (b : List ℕ). TellsWritten result words.options (taken_from b words.hex (2 ^ 40))) bytes told answer,
     MatchOption-at_some _ (λ (b : List ℕ). TakesFile result made.bytes made_then.bytes (made_of words b)) bytes told took,
   );
 }

@@ -1,7 +1,7 @@
 ghost use Rattle.std.specs.Prelude.{◌≡◌, ◌^◌, ◌≤◌, Some, [], IfSome, OnOk, Err};
 ghost use Rattle.record_io.specs.Outside.{Rose};
 ghost use Rattle.record_io.specs.Calls.{OnlyCounts};
-ghost use Rattle.record_writer.specs.Written.{AreInLimits, Answers, TakesFile, file_under};
+ghost use Rattle.record_writer.specs.Written.{AreInLimits, TellsWritten, TakesFile, file_under};
 ghost use Rattle.write_lines.specs.Input.{most_input_taken, taken_from};
 ghost use Rattle.write_lines.specs.WriteCommand.{stop_status, stop_text, write_meaning};
 ghost use Rattle.run_answers.specs.Runs.{Runs, SaysAtEnd, Seen, TakesAtMost, seen_stream};
@@ -66,7 +66,7 @@ fn write_lines<R: Threads + Sync, I: Source, M: Sink + Send>(
     made: &mut M,
 ) -> Result<Totals, WriteEnd>
     requires in_limits { AreInLimits words.now.options }
-    ensures answer { IfSome (I.left input.old) (λ bytes. Answers result words.now.options (taken_from bytes words.now.hex (2 ^ 40))) }
+    ensures answer { IfSome (I.left input.old) (λ bytes. TellsWritten result words.now.options (taken_from bytes words.now.hex (2 ^ 40))) }
     ensures made { IfSome (I.left input.old) (λ bytes. TakesFile result (M.taken made.old) (M.taken made.new)
         (file_under words.now.options (taken_from bytes words.now.hex (2 ^ 40)).records)) }
     ensures read_to_end { OnOk result (IfSome (I.left input.old) (λ _. I.left input.new ≡ Some [])) }

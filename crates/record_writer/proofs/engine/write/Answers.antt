@@ -7,7 +7,7 @@ use Rattle.record_writer.specs.declared.cut_off.CutOff.TheVariants.{Made}
 use Rattle.record_writer.specs.declared.feed.Stop.{Stop}
 use Rattle.record_writer.specs.MadeFiles.{totals_behind, totals_made}
 use Rattle.record_writer.specs.Written.{tail_chunks, tail_under}
-use Rattle.record_writer.proofs.Counted.{Answers-told, Answers-cut, IfOk-ended}
+use Rattle.record_writer.proofs.Counted.{TellsTotals-told, TellsTotals-cut, IfOk-ended}
 use Rattle.record_writer.proofs.Flushes.{Takes-ended, TakesFront-ended, totals_made-ended, TakesFile-cut, TakesFile-ended}
 use Rattle.record_writer.proofs.Windows.{where_done}
 use Rattle.record_writer.proofs.engine.write.Goals as goal
@@ -19,7 +19,7 @@ returns-in_err-flush g c =
     rw (p.1, p.2)
     (record {
       written = record {
-        answer = Answers-cut (g.L.RecordFeed.rest c.args.feed.now) Made (λ records. totals_behind c.args.file.now (tail_chunks c.args.options.now c.args.file.now.place records));
+        answer = TellsTotals-cut (g.L.RecordFeed.rest c.args.feed.now) Made (λ records. totals_behind c.args.file.now (tail_chunks c.args.options.now c.args.file.now.place records));
         made = TakesFront-ended c.args.options.now c.args.file.now _ _ _ c.put_chunks-stop.new.file _ c.put_chunks-stop.result put.whole put.front
             c.in_err-flush.ensures.made.front;
         read_to_end = tt;
@@ -41,7 +41,7 @@ returns-in_err-stop g c =
     rw (p.1, p.2)
     (record {
       written = record {
-        answer = Answers-cut (g.L.RecordFeed.rest c.args.feed.now) c.in_err-stop.field-0.0 (λ records. totals_behind c.args.file.now (tail_chunks c.args.options.now c.args.file.now.place records));
+        answer = TellsTotals-cut (g.L.RecordFeed.rest c.args.feed.now) c.in_err-stop.field-0.0 (λ records. totals_behind c.args.file.now (tail_chunks c.args.options.now c.args.file.now.place records));
         made = TakesFile-cut (λ records. c.args.file.now.held ++ tail_under c.args.options.now c.args.file.now.place records) _ _ _ c.in_err-stop.field-0.0
             (TakesFront-ended c.args.options.now c.args.file.now _ _ _ c.put_chunks-stop.new.file _ c.put_chunks-stop.result put.whole put.front front);
         read_to_end = tt;
@@ -69,7 +69,7 @@ returns g c =
     rw c.answer.ensures
     (record {
       written = record {
-        answer = Answers-told c.args.options.now c.args.file.now _ c.in_ok-stop.field-0 c.totals-2.result c.requires.follows.no_record
+        answer = TellsTotals-told c.args.options.now c.args.file.now _ c.in_ok-stop.field-0 c.totals-2.result c.requires.follows.no_record
             (IfOk-at_ok (λ (stop : Option Stop). IfSome (g.L.RecordFeed.rest c.args.feed.now) (λ rest. rest.stop ≡ stop)) c.in_ok-stop.was put.stop)
             (rw (c.totals-2.ensures.counted, same) (where_done _ _ c.in_ok-stop.was totals));
         made = TakesFile-ended (λ records. c.args.file.now.held ++ tail_under c.args.options.now c.args.file.now.place records) _ _ _ c.in_ok-stop.field-0

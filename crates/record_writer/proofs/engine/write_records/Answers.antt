@@ -12,13 +12,13 @@ returns-in_err-start g c =
     (WritesFile-unsigned g.L.RecordFeed.rest g.L.RecordFeed.origin g.L.RecordFeed.faults g.M.Sink.taken g.M.Sink.lent g.M.Sink.faults _ c.args.options.now
     c.start.new.self _ _ _ front c.in_err-start.ensures.made refl)
 
-pub write_behind-requires-clause-follows : goal.write_behind-requires-clause-follows
-write_behind-requires-clause-follows g c κs within =
+pub write_rest-requires-clause-follows : goal.write_rest-requires-clause-follows
+write_rest-requires-clause-follows g c κs within =
     MayFollow-signed _ _ c.start.new.self c.args.options.now _ (Lays-at_front _ _ _ c.start.new.self _ c.new-file.ensures c.in_ok-start.ensures.whole)
     c.requires.in_reach c.requires.in_limits
 
 pub returns : goal.returns
 returns g c =
     WritesFile-signed g.L.RecordFeed.rest g.L.RecordFeed.origin g.L.RecordFeed.faults g.M.Sink.taken g.M.Sink.lent g.M.Sink.faults _ c.args.options.now
-    c.start.new.self c.write_behind.result _ _ _ _ _ (Lays-at_front _ _ _ c.start.new.self _ c.new-file.ensures c.in_ok-start.ensures.whole)
-    c.in_ok-start.ensures.made c.write_behind.ensures
+    c.start.new.self c.write_rest.result _ _ _ _ _ (Lays-at_front _ _ _ c.start.new.self _ c.new-file.ensures c.in_ok-start.ensures.whole)
+    c.in_ok-start.ensures.made c.write_rest.ensures
