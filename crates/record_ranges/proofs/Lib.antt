@@ -7,3 +7,12 @@ pub mod AllParts
 pub mod EvenCuts
 pub mod Answering
 mod Values
+pub mod RangesAnswers
+pub mod RangesLimits
+pub mod RangesLines
+pub mod RangesRuns
+pub mod RangesSizes
+pub mod RangesSteps
+pub mod RangesStores
+pub mod RangesStreams
+mod RangesValues

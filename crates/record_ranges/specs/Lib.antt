@@ -1,3 +1,6 @@
 pub mod Ranges
 pub mod Stretches
 pub mod Reads
+pub mod RangesCommand
+pub mod RangesEnds
+pub mod RangesWords

@@ -9,7 +9,7 @@ use Rattle.show_found.specs.SeekWords.{seek_words_of}
 use Rattle.show_files.specs.ShowWords.{show_words_of}
 use Rattle.show_damaged.specs.RecoverWords.{goes_past_damage, recover_words_of}
 use Rattle.show_files.specs.VerifyWords.{verify_words_of}
-use Rattle.riegeli_tool.specs.RangesWords.{most_parts, ranges_words_of}
+use Rattle.record_ranges.specs.RangesWords.{most_parts, ranges_words_of}
 use Rattle.riegeli_tool.specs.RepairWords.{repair_words_of}
 use Rattle.sample_records.specs.SampleWords.{most_records, sample_words_of}
 use Rattle.sample_records.proofs.SampleLimits.{sample_words_of-within}
@@ -18,7 +18,7 @@ use Rattle.collect_files.specs.CollectWords.{collect_words_of}
 use Rattle.word_options.proofs.FilesLimits.{files_words_of-within}
 use Rattle.write_lines.specs.WriteWords.{write_words_of, write_options}
 use Rattle.write_lines.proofs.WriteLimits.{line_words_of-within}
-use Rattle.riegeli_tool.proofs.RangesLimits.{ranges_words_of-within}
+use Rattle.record_ranges.proofs.RangesLimits.{ranges_words_of-within}
 use Rattle.riegeli_tool.specs.AppendWords.{append_words_of}
 use Rattle.riegeli_tool.proofs.AppendLimits.{append_words_of-within}
 use Rattle.riegeli_tool.specs.Commands.{command_of, takes, accepted_of, accepted}

@@ -23,7 +23,7 @@ use Rattle.show_found.specs.SeekCommand.{IsSeekAnswer}
 use Rattle.show_found.proofs.OneSought.{one_sought}
 use Rattle.show_files.proofs.OneReading.{one_shown, one_verified}
 use Rattle.join_files.proofs.JoinAnswers.{join_is_one}
-use Rattle.riegeli_tool.proofs.RangesAnswers.{ranges_is_one}
+use Rattle.record_ranges.proofs.RangesAnswers.{ranges_is_one}
 use Rattle.riegeli_tool.specs.AppendCommand.{IsAppended, lines_taken}
 use Rattle.riegeli_tool.proofs.AppendAnswers.{one_appended}
 

@@ -32,7 +32,7 @@ use Rattle.join_files.proofs.JoinAnswers.{join_exists}
 use Rattle.collect_files.proofs.CollectAnswers.{collect_exists}
 use Rattle.riegeli_tool.specs.AppendCommand.{lines_taken}
 use Rattle.riegeli_tool.proofs.AcceptedLimits.{IsWithin, accepted-within}
-use Rattle.riegeli_tool.proofs.RangesAnswers.{ranges_exists}
+use Rattle.record_ranges.proofs.RangesAnswers.{ranges_exists}
 use Rattle.riegeli_tool.proofs.AppendAnswers.{grown_exists}
 
 -- `repair` has an answer

@@ -14,15 +14,6 @@ pub mod GrownBack
 mod NameValues
 pub mod RunsWith
 pub mod PastDamage
-pub mod RangesAnswers
-pub mod RangesLimits
-pub mod RangesLines
-pub mod RangesRuns
-pub mod RangesSizes
-pub mod RangesSteps
-pub mod RangesStores
-pub mod RangesStreams
-mod RangesValues
 pub mod ReadBack
 mod ReadWordValues
 mod RecoverValues

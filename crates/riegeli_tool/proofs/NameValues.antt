@@ -2,7 +2,7 @@
 use Rattle.std.proofs.Common.{◌≡◌, ℕ, Some, List, [], ◌∷◌, codes, refl}
 use Rattle.riegeli_tool.specs.declared.command.Names.{Names}
 use Rattle.riegeli_tool.specs.Commands.{command_of, names_of, none_named}
-use Rattle.riegeli_tool.specs.RangesWords.{ranges_words_of}
+use Rattle.record_ranges.specs.RangesWords.{ranges_words_of}
 use Rattle.riegeli_tool.specs.RepairWords.{repair_words_of}
 use Rattle.word_options.specs.FilesWords.{files_words_of}
 use Rattle.write_lines.specs.WriteWords.{line_words_of}

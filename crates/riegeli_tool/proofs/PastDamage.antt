@@ -28,7 +28,7 @@ use Rattle.run_answers.specs.declared.status.Status.{Status}
 use Rattle.run_answers.proofs.OneAnswer.{same_answer}
 use Rattle.show_damaged.specs.RecoverCommand.{IsRecovered}
 use Rattle.riegeli_tool.specs.CommandAnswers.{IsAnswerTo, meaning_of}
-use Rattle.riegeli_tool.specs.PastDamage.{recovered_as, repaired_as, IsAnswerPastDamage, IsAnswerToFront, IsToldSo, IsToldPastDamage, meaning_past_damage}
+use Rattle.riegeli_tool.specs.PastDamage.{recovered_as, repaired_as, IsAnswerPastDamage, IsAnswerToFront, IsToldSo, IsToldPastDamage, RunsCommand, meaning_past_damage}
 use Rattle.riegeli_tool.specs.RepairCommand.{IsRepaired}
 use Rattle.riegeli_tool.specs.declared.command.Command.{Command}
 use Rattle.riegeli_tool.specs.declared.command.Command.TheVariants.{Write, Show, Recover, Verify, Seek, Repair, Sample, Join, Ranges, Append, Collect}
@@ -187,10 +187,17 @@ told_past_damage (Some (Ranges words)) r answer h bytes same reach = tt
 told_past_damage (Some (Append words)) r answer h bytes same reach = tt
 told_past_damage (Some (Collect words)) r answer h bytes same reach = tt
 
-pub runs-past_damage : (command : Option Command) (before after : Seen) (ended : Status) → Runs (meaning_of command) before after ended
+runs-past_damage : (command : Option Command) (before after : Seen) (ended : Status) → Runs (meaning_of command) before after ended
     → Runs (meaning_past_damage command) before after ended
 runs-past_damage command before after ended ran =
     runs-with (meaning_of command)
     (λ r answer. (meaning_of command).answers r answer
     × ((bytes : List ℕ) → r.files ≡ bytes ∷ [] → length bytes ≤ 2 ^ 60 → IsToldPastDamage command bytes answer))
     (λ r answer h. (h, told_past_damage command r answer h)) before after ended ran
+
+-- a run of a command goes so where it has this meaning
+pub runs-as : (known command : Option Command) (before after : Seen) (ended : Status) → known ≡ command → Runs (meaning_of known) before after ended
+    → RunsCommand command before after ended
+runs-as known command before after ended same ran =
+    subst (λ (c : Option Command). RunsCommand c before after ended) same
+    (record { runs = ran; damaged = runs-past_damage known before after ended ran })

@@ -28,7 +28,7 @@ use Rattle.show_files.specs.Readings.{bare, record_line}
 use Rattle.write_lines.specs.WriteCommand.{stop_status, write_answer}
 use Rattle.show_files.specs.ShowCommand.{IsShown}
 use Rattle.riegeli_tool.proofs.AnswerStreams.{written_made}
-use Rattle.riegeli_tool.proofs.RangesLines.{bare_lines}
+use Rattle.record_ranges.proofs.RangesLines.{bare_lines}
 use Rattle.show_files.proofs.OneReading.{EndsReading}
 use Rattle.run_answers.proofs.OneAnswer.{same_answer}
 use Rattle.write_lines.proofs.TakenRecords.{taken_from-records, taken_from-all, lines-joined}

@@ -10,7 +10,7 @@ use Rattle.show_files.specs.ShowCommand.{show_meaning}
 use Rattle.show_damaged.specs.RecoverCommand.{recover_meaning}
 use Rattle.show_files.specs.VerifyCommand.{verify_meaning}
 use Rattle.show_found.specs.SeekCommand.{seek_meaning}
-use Rattle.riegeli_tool.specs.RangesCommand.{ranges_meaning}
+use Rattle.record_ranges.specs.RangesCommand.{ranges_meaning}
 use Rattle.riegeli_tool.specs.RepairCommand.{repair_meaning}
 use Rattle.sample_records.specs.SampleCommand.{sample_meaning}
 use Rattle.join_files.specs.JoinCommand.{join_meaning}

@@ -10,7 +10,7 @@ use Rattle.show_files.specs.ShowWords.{show_words_of}
 use Rattle.show_damaged.specs.RecoverWords.{goes_past_damage, recover_words_of}
 use Rattle.show_files.specs.VerifyWords.{verify_words_of}
 use Rattle.show_found.specs.SeekWords.{seek_words_of}
-use Rattle.riegeli_tool.specs.RangesWords.{ranges_words_of}
+use Rattle.record_ranges.specs.RangesWords.{ranges_words_of}
 use Rattle.riegeli_tool.specs.RepairWords.{repair_words_of}
 use Rattle.sample_records.specs.SampleWords.{sample_words_of}
 use Rattle.join_files.specs.JoinWords.{join_words_of}

@@ -1,7 +1,4 @@
 pub mod Usage
-pub mod RangesCommand
-pub mod RangesEnds
-pub mod RangesWords
 pub mod RepairCommand
 pub mod RepairingEnds
 pub mod CommandAnswers

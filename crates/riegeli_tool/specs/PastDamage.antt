@@ -14,6 +14,8 @@ use Rattle.repair_copy.specs.Relaid.{chunks_in, copied}
 use Rattle.repair_copy.specs.RepairPuts.{repair_puts}
 use Rattle.run_answers.specs.Answers.{Answer}
 use Rattle.run_answers.specs.Meanings.{Meaning}
+use Rattle.run_answers.specs.Runs.{Seen, Runs}
+use Rattle.run_answers.specs.declared.status.Status.{Status}
 use Rattle.show_damaged.specs.RecoverCommand.{event_puts}
 use Rattle.show_damaged.specs.WalkAnswers.{walk_status}
 use Rattle.show_damaged.specs.declared.recover_words.RecoverWords.{RecoverWords}
@@ -82,3 +84,8 @@ meaning_past_damage command = record (meaning_of command) {
   answers = λ r answer. (meaning_of command).answers r answer
       × ((bytes : List ℕ) → r.files ≡ bytes ∷ [] → length bytes ≤ 2 ^ 60 → IsToldPastDamage command bytes answer);
 }
+
+-- how a run of a command goes, and the same past damage
+pub record RunsCommand (command : Option Command) (before after : Seen) (ended : Status) : Type 0 where
+  pub runs : Runs (meaning_of command) before after ended
+  pub damaged : Runs (meaning_past_damage command) before after ended

@@ -2,8 +2,8 @@ ghost use Rattle.std.specs.Prelude.{◌≡◌};
 ghost use Rattle.riegeli_tool.specs.Commands.{names_by, none_named, takes};
 
 use crate::append_words::AppendWords;
-use crate::ranges_words::RangesWords;
 use crate::repair_words::RepairWords;
+use record_ranges::ranges_words::RangesWords;
 use sample_records::sample_words::SampleWords;
 use show_damaged::recover_words::RecoverWords;
 use show_files::show_words::ShowWords;

@@ -28,7 +28,7 @@ ghost use Rattle.run_answers.specs.FileAnswers.{OfFile, most_file_bytes, report}
 ghost use Rattle.show_files.specs.Readings.{bare, digits_alone, record_line};
 ghost use Rattle.write_lines.specs.Input.{taken_from, with_last_end};
 ghost use Rattle.show_damaged.specs.RecoverCommand.{IsRecovered};
-ghost use Rattle.riegeli_tool.specs.RangesCommand.{AreOneFile, IsRangesAnswer, MayBeRead, most_range_bytes};
+ghost use Rattle.record_ranges.specs.RangesCommand.{AreOneFile, IsRangesAnswer, MayBeRead, most_range_bytes};
 ghost use Rattle.riegeli_tool.specs.AppendCommand.{IsAppended, IsLeft, grown_answer, grown_text, lines_taken};
 ghost use Rattle.riegeli_tool.specs.RepairCommand.{end_puts, IsRepaired};
 ghost use Rattle.run_answers.specs.Runs.{HadNoFault, IsWhole, Runs, Seen};

@@ -4,13 +4,8 @@
 mod append;
 mod append_words;
 mod command;
-mod file_sizes;
 pub mod laws;
-mod part_lines;
 mod program;
-mod range_ends;
-mod ranges;
-mod ranges_words;
 mod repair;
 mod repair_words;
 mod words;

@@ -2,18 +2,18 @@ ghost use Rattle.std.specs.Prelude.{◌≡◌, false, map, length};
 ghost use Rattle.std.specs.String.{string_bytes};
 ghost use Rattle.riegeli_tool.specs.Commands.{accepted};
 ghost use Rattle.riegeli_tool.specs.CommandAnswers.{meaning_of};
-ghost use Rattle.riegeli_tool.specs.PastDamage.{meaning_past_damage};
-ghost use Rattle.run_answers.specs.Runs.{Runs, seen, seen_stream, seen_file};
+ghost use Rattle.riegeli_tool.specs.PastDamage.{RunsCommand};
+ghost use Rattle.run_answers.specs.Runs.{seen, seen_stream, seen_file};
 
 use crate::append::append;
 use crate::command::Command;
-use crate::ranges::ranges;
 use crate::repair::repair;
 use crate::words::accept;
 use collect_files::collect_files;
 use join_files::join_files;
 use record_append::Device;
 use record_io::{Sink, Source, Store};
+use record_ranges::ranges;
 use run_answers::{Status, end};
 use sample_records::sample;
 use show_damaged::recover;
@@ -86,16 +86,9 @@ pub fn run<
     out: &mut O,
     notes: &mut E,
 ) -> Status
-    // What the status and the objects tell: the answer, or which of them failed and what went out before.
-    ensures runs { Runs (meaning_of (accepted (map string_bytes words.now) (length files.old)))
-        (seen (seen_stream I.left I.faults input.old) (map (seen_file S.bytes S.told S.handed S.faults) files.old) (seen_stream M.taken M.faults made.old)
-        (seen_file G.bytes G.told G.handed G.faults grown.old) (seen_stream O.taken O.faults out.old) (seen_stream E.taken E.faults notes.old))
-        (seen (seen_stream I.left I.faults input.new) (map (seen_file S.bytes S.told S.handed S.faults) files.new) (seen_stream M.taken M.faults made.new)
-        (seen_file G.bytes G.told G.handed G.faults grown.new) (seen_stream O.taken O.faults out.new) (seen_stream E.taken E.faults notes.new))
-        result }
-
-    // Past damage: the same, with the answers told by the numbers of the undamaged file's chunks, and to the front of a file.
-    ensures damaged { Runs (meaning_past_damage (accepted (map string_bytes words.now) (length files.old)))
+    // What the status and the objects tell: the answer, or which of them failed and what went out before. Past damage the answer
+    // is told by the numbers of the undamaged file's chunks too, and to the front of a file.
+    ensures runs { RunsCommand (accepted (map string_bytes words.now) (length files.old))
         (seen (seen_stream I.left I.faults input.old) (map (seen_file S.bytes S.told S.handed S.faults) files.old) (seen_stream M.taken M.faults made.old)
         (seen_file G.bytes G.told G.handed G.faults grown.old) (seen_stream O.taken O.faults out.old) (seen_stream E.taken E.faults notes.old))
         (seen (seen_stream I.left I.faults input.new) (map (seen_file S.bytes S.told S.handed S.faults) files.new) (seen_stream M.taken M.faults made.new)

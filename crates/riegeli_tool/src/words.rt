@@ -4,10 +4,10 @@ ghost use Rattle.riegeli_tool.specs.Commands.{accepted, command_named, command_o
 
 use crate::append_words::append_words;
 use crate::command::{Command, Names};
-use crate::ranges_words::ranges_words;
 use crate::repair_words::repair_words;
 use collect_files::collect_words::collect_words;
 use join_files::join_words::join_words;
+use record_ranges::ranges_words::ranges_words;
 use sample_records::sample_words::sample_words;
 use show_damaged::recover_words::{goes_past_damage, recover_words};
 use show_files::show_words::show_words;

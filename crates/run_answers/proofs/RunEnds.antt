@@ -87,11 +87,6 @@ keeps-unread m input input_then files made made_then grown out out_then notes no
   input_taken = taken;
 }
 
--- a command by another name
-pub runs-of : (known m : Meaning) (before after : Seen) (ended : Status)
-    → known ≡ m → Runs known before after ended → Runs m before after ended
-runs-of known m before after ended same ran = subst (λ (c : Meaning). Runs c before after ended) same ran
-
 -- a command that reads no files asks no sizes
 pub OfSizes-unread : (m : Meaning) (before after : Seen) (P : List ℕ → Type 0)
     → m.uses.files ≡ false → m.uses.grown ≡ false → P [] → OfSizes m before after P

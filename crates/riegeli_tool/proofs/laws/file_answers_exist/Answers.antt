@@ -3,7 +3,7 @@ use Rattle.show_damaged.proofs.OneRecovery.{recovered_exists}
 use Rattle.show_found.proofs.OneSought.{sought_exists}
 use Rattle.join_files.proofs.JoinAnswers.{join_exists}
 use Rattle.collect_files.proofs.CollectAnswers.{collect_exists}
-use Rattle.riegeli_tool.proofs.RangesAnswers.{ranges_exists}
+use Rattle.record_ranges.proofs.RangesAnswers.{ranges_exists}
 use Rattle.riegeli_tool.proofs.FileAnswersExist.{repaired_exists, answer_exists}
 use Rattle.riegeli_tool.specs.AppendCommand.{lines_taken}
 use Rattle.riegeli_tool.proofs.AppendAnswers.{grown_exists}

@@ -1,6 +1,6 @@
 use Rattle.show_damaged.proofs.RecoverStreams.{recovered-streams}
 use Rattle.riegeli_tool.proofs.AnswerStreams.{written-streams, shown-streams, repaired-streams, sampled-streams, joined-streams, refused-streams, collected-streams}
-use Rattle.riegeli_tool.proofs.RangesStreams.{ranges-streams}
+use Rattle.record_ranges.proofs.RangesStreams.{ranges-streams}
 use Rattle.riegeli_tool.proofs.AppendAnswers.{grown-streams}
 use Rattle.riegeli_tool.proofs.laws.streams_take_their_parts.Goals as goal
 

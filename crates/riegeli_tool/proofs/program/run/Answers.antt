@@ -2,10 +2,9 @@ use Rattle.std.proofs.Common.{None, Some, [], ap, sym, map, ◌∙◌, length, a
 use Rattle.std.specs.String.{string_bytes}
 use Rattle.riegeli_tool.specs.declared.command.Command.TheVariants.{Write, Show, Recover, Verify, Seek, Repair, Sample, Join, Ranges, Append, Collect}
 use Rattle.riegeli_tool.specs.Commands.{command_of, accepted}
-use Rattle.riegeli_tool.specs.CommandAnswers.{meaning_of}
 use Rattle.run_answers.specs.Runs.{seen, unseen, seen_file}
-use Rattle.run_answers.proofs.RunEnds.{runs-of, runs-one_file}
-use Rattle.riegeli_tool.proofs.PastDamage.{runs-past_damage}
+use Rattle.run_answers.proofs.RunEnds.{runs-one_file}
+use Rattle.riegeli_tool.proofs.PastDamage.{runs-as}
 use Rattle.riegeli_tool.proofs.UsageRuns.{runs-usage}
 use Rattle.riegeli_tool.proofs.FileAnswersExist.{accepted-takes}
 use Rattle.riegeli_tool.proofs.AcceptedLimits.{accepted-within}
@@ -124,17 +123,17 @@ bounds-files-0-in-Some-Repair g c =
 
 pub returns-in-Some-Write-clause-runs : goal.returns-in-Some-Write-clause-runs
 returns-in-Some-Write-clause-runs g c =
-    runs-of _ _ _ _ _ (ap meaning_of (ap Some (sym c.in-Some-Write.field-0-is) ∙ c.in-Some-Write.ensures))
+    runs-as _ _ _ _ _ (ap Some (sym c.in-Some-Write.field-0-is) ∙ c.in-Some-Write.ensures)
     (c.write.ensures.runs (seen unseen _ unseen _ _ unseen))
 
 pub returns-in-None-clause-runs : goal.returns-in-None-clause-runs
 returns-in-None-clause-runs g c =
-    runs-of _ _ _ _ _ (ap meaning_of c.in-None.ensures) (runs-usage (seen _ _ _ _ _ unseen) _ _ _ c.end.ensures.told c.end.ensures.notes.never_falls)
+    runs-as _ _ _ _ _ c.in-None.ensures (runs-usage (seen _ _ _ _ _ unseen) _ _ _ c.end.ensures.told c.end.ensures.notes.never_falls)
 
 pub returns-in-Some-Show-clause-runs : goal.returns-in-Some-Show-clause-runs
 returns-in-Some-Show-clause-runs g c =
     let is = ap Some (sym c.in-Some-Show.field-0-is) ∙ c.in-Some-Show.ensures in
-    runs-of _ _ _ _ _ (ap meaning_of is)
+    runs-as _ _ _ _ _ is
     (runs-one_file (seen_file g.S.Store.bytes g.S.Store.told g.S.Store.handed g.S.Store.faults) c.args.files.now _ c.show.new.file _ (seen _ [] _ _ _ _) (seen _ [] _ _ _ _) _
     (accepted-takes (command_of (map string_bytes c.args.words.now)) (length c.args.files.now) (Show c.in-Some-Show.words) (sym is))
     (c.show.ensures.runs (seen _ [] _ _ unseen unseen)))
@@ -142,7 +141,7 @@ returns-in-Some-Show-clause-runs g c =
 pub returns-in-Some-Recover-clause-runs : goal.returns-in-Some-Recover-clause-runs
 returns-in-Some-Recover-clause-runs g c =
     let is = ap Some (sym c.in-Some-Recover.field-0-is) ∙ c.in-Some-Recover.ensures in
-    runs-of _ _ _ _ _ (ap meaning_of is)
+    runs-as _ _ _ _ _ is
     (runs-one_file (seen_file g.S.Store.bytes g.S.Store.told g.S.Store.handed g.S.Store.faults) c.args.files.now _ c.recover.new.file _ (seen _ [] _ _ _ _) (seen _ [] _ _ _ _) _
     (accepted-takes (command_of (map string_bytes c.args.words.now)) (length c.args.files.now) (Recover c.in-Some-Recover.words) (sym is))
     (c.recover.ensures.runs (seen _ [] _ _ unseen unseen)))
@@ -150,7 +149,7 @@ returns-in-Some-Recover-clause-runs g c =
 pub returns-in-Some-Verify-clause-runs : goal.returns-in-Some-Verify-clause-runs
 returns-in-Some-Verify-clause-runs g c =
     let is = ap Some (sym c.in-Some-Verify.field-0-is) ∙ c.in-Some-Verify.ensures in
-    runs-of _ _ _ _ _ (ap meaning_of is)
+    runs-as _ _ _ _ _ is
     (runs-one_file (seen_file g.S.Store.bytes g.S.Store.told g.S.Store.handed g.S.Store.faults) c.args.files.now _ c.verify.new.file _ (seen _ [] _ _ _ _) (seen _ [] _ _ _ _) _
     (accepted-takes (command_of (map string_bytes c.args.words.now)) (length c.args.files.now) (Verify c.in-Some-Verify.field-0-0) (sym is))
     (c.verify.ensures.runs (seen _ [] _ _ unseen unseen)))
@@ -158,7 +157,7 @@ returns-in-Some-Verify-clause-runs g c =
 pub returns-in-Some-Seek-clause-runs : goal.returns-in-Some-Seek-clause-runs
 returns-in-Some-Seek-clause-runs g c =
     let is = ap Some (sym c.in-Some-Seek.field-0-is) ∙ c.in-Some-Seek.ensures in
-    runs-of _ _ _ _ _ (ap meaning_of is)
+    runs-as _ _ _ _ _ is
     (runs-one_file (seen_file g.S.Store.bytes g.S.Store.told g.S.Store.handed g.S.Store.faults) c.args.files.now _ c.show_found.new.file _ (seen _ [] _ _ _ _) (seen _ [] _ _ _ _) _
     (accepted-takes (command_of (map string_bytes c.args.words.now)) (length c.args.files.now) (Seek c.in-Some-Seek.words) (sym is))
     (c.show_found.ensures.runs (seen _ [] _ _ unseen unseen)))
@@ -166,68 +165,32 @@ returns-in-Some-Seek-clause-runs g c =
 pub returns-in-Some-Repair-clause-runs : goal.returns-in-Some-Repair-clause-runs
 returns-in-Some-Repair-clause-runs g c =
     let is = ap Some (sym c.in-Some-Repair.field-0-is) ∙ c.in-Some-Repair.ensures in
-    runs-of _ _ _ _ _ (ap meaning_of is)
+    runs-as _ _ _ _ _ is
     (runs-one_file (seen_file g.S.Store.bytes g.S.Store.told g.S.Store.handed g.S.Store.faults) c.args.files.now _ c.repair.new.file _ (seen _ [] _ _ _ _) (seen _ [] _ _ _ _) _
     (accepted-takes (command_of (map string_bytes c.args.words.now)) (length c.args.files.now) (Repair c.in-Some-Repair.words) (sym is))
     (c.repair.ensures.runs (seen _ [] unseen _ unseen unseen)))
 
 pub returns-in-Some-Sample-clause-runs : goal.returns-in-Some-Sample-clause-runs
 returns-in-Some-Sample-clause-runs g c =
-    runs-of _ _ _ _ _ (ap meaning_of (ap Some (sym c.in-Some-Sample.field-0-is) ∙ c.in-Some-Sample.ensures))
+    runs-as _ _ _ _ _ (ap Some (sym c.in-Some-Sample.field-0-is) ∙ c.in-Some-Sample.ensures)
     (c.sample.ensures.runs (seen _ _ unseen _ unseen unseen))
 
 pub returns-in-Some-Join-clause-runs : goal.returns-in-Some-Join-clause-runs
 returns-in-Some-Join-clause-runs g c =
-    runs-of _ _ _ _ _ (ap meaning_of (ap Some (sym c.in-Some-Join.field-0-is) ∙ c.in-Some-Join.ensures))
+    runs-as _ _ _ _ _ (ap Some (sym c.in-Some-Join.field-0-is) ∙ c.in-Some-Join.ensures)
     (c.join_files.ensures.runs (seen _ [] unseen _ unseen unseen))
 
 pub returns-in-Some-Ranges-clause-runs : goal.returns-in-Some-Ranges-clause-runs
 returns-in-Some-Ranges-clause-runs g c =
-    runs-of _ _ _ _ _ (ap meaning_of (ap Some (sym c.in-Some-Ranges.field-0-is) ∙ c.in-Some-Ranges.ensures))
+    runs-as _ _ _ _ _ (ap Some (sym c.in-Some-Ranges.field-0-is) ∙ c.in-Some-Ranges.ensures)
     (c.ranges-in-Some-Ranges.ensures.runs (seen _ [] _ _ unseen unseen))
 
 pub returns-in-Some-Append-clause-runs : goal.returns-in-Some-Append-clause-runs
 returns-in-Some-Append-clause-runs g c =
-    runs-of _ _ _ _ _ (ap meaning_of (ap Some (sym c.in-Some-Append.field-0-is) ∙ c.in-Some-Append.ensures))
+    runs-as _ _ _ _ _ (ap Some (sym c.in-Some-Append.field-0-is) ∙ c.in-Some-Append.ensures)
     (c.append.ensures.runs (seen unseen _ _ (record { bytes = None; told = None; handed = 0; faults = 0 }) unseen unseen))
 
 pub returns-in-Some-Collect-clause-runs : goal.returns-in-Some-Collect-clause-runs
 returns-in-Some-Collect-clause-runs g c =
-    runs-of _ _ _ _ _ (ap meaning_of (ap Some (sym c.in-Some-Collect.field-0-is) ∙ c.in-Some-Collect.ensures))
+    runs-as _ _ _ _ _ (ap Some (sym c.in-Some-Collect.field-0-is) ∙ c.in-Some-Collect.ensures)
     (c.collect_files.ensures.runs (seen _ [] unseen _ unseen unseen))
-
-pub returns-in-Some-Write-clause-damaged : goal.returns-in-Some-Write-clause-damaged
-returns-in-Some-Write-clause-damaged g c = runs-past_damage (accepted (map string_bytes c.args.words.now) (length c.args.files.now)) _ _ _ (returns-in-Some-Write-clause-runs g c)
-
-pub returns-in-None-clause-damaged : goal.returns-in-None-clause-damaged
-returns-in-None-clause-damaged g c = runs-past_damage (accepted (map string_bytes c.args.words.now) (length c.args.files.now)) _ _ _ (returns-in-None-clause-runs g c)
-
-pub returns-in-Some-Show-clause-damaged : goal.returns-in-Some-Show-clause-damaged
-returns-in-Some-Show-clause-damaged g c = runs-past_damage (accepted (map string_bytes c.args.words.now) (length c.args.files.now)) _ _ _ (returns-in-Some-Show-clause-runs g c)
-
-pub returns-in-Some-Recover-clause-damaged : goal.returns-in-Some-Recover-clause-damaged
-returns-in-Some-Recover-clause-damaged g c = runs-past_damage (accepted (map string_bytes c.args.words.now) (length c.args.files.now)) _ _ _ (returns-in-Some-Recover-clause-runs g c)
-
-pub returns-in-Some-Verify-clause-damaged : goal.returns-in-Some-Verify-clause-damaged
-returns-in-Some-Verify-clause-damaged g c = runs-past_damage (accepted (map string_bytes c.args.words.now) (length c.args.files.now)) _ _ _ (returns-in-Some-Verify-clause-runs g c)
-
-pub returns-in-Some-Seek-clause-damaged : goal.returns-in-Some-Seek-clause-damaged
-returns-in-Some-Seek-clause-damaged g c = runs-past_damage (accepted (map string_bytes c.args.words.now) (length c.args.files.now)) _ _ _ (returns-in-Some-Seek-clause-runs g c)
-
-pub returns-in-Some-Repair-clause-damaged : goal.returns-in-Some-Repair-clause-damaged
-returns-in-Some-Repair-clause-damaged g c = runs-past_damage (accepted (map string_bytes c.args.words.now) (length c.args.files.now)) _ _ _ (returns-in-Some-Repair-clause-runs g c)
-
-pub returns-in-Some-Sample-clause-damaged : goal.returns-in-Some-Sample-clause-damaged
-returns-in-Some-Sample-clause-damaged g c = runs-past_damage (accepted (map string_bytes c.args.words.now) (length c.args.files.now)) _ _ _ (returns-in-Some-Sample-clause-runs g c)
-
-pub returns-in-Some-Join-clause-damaged : goal.returns-in-Some-Join-clause-damaged
-returns-in-Some-Join-clause-damaged g c = runs-past_damage (accepted (map string_bytes c.args.words.now) (length c.args.files.now)) _ _ _ (returns-in-Some-Join-clause-runs g c)
-
-pub returns-in-Some-Ranges-clause-damaged : goal.returns-in-Some-Ranges-clause-damaged
-returns-in-Some-Ranges-clause-damaged g c = runs-past_damage (accepted (map string_bytes c.args.words.now) (length c.args.files.now)) _ _ _ (returns-in-Some-Ranges-clause-runs g c)
-
-pub returns-in-Some-Append-clause-damaged : goal.returns-in-Some-Append-clause-damaged
-returns-in-Some-Append-clause-damaged g c = runs-past_damage (accepted (map string_bytes c.args.words.now) (length c.args.files.now)) _ _ _ (returns-in-Some-Append-clause-runs g c)
-
-pub returns-in-Some-Collect-clause-damaged : goal.returns-in-Some-Collect-clause-damaged
-returns-in-Some-Collect-clause-damaged g c = runs-past_damage (accepted (map string_bytes c.args.words.now) (length c.args.files.now)) _ _ _ (returns-in-Some-Collect-clause-runs g c)

@@ -1,0 +1,154 @@
+-- How a run of `ranges` ends, by how its work ended.
+use Rattle.std.proofs.Common.{◌≡◌, ◌≢◌, ℕ, ◌+◌, ◌<◌, ◌≤◌, ◌⊎◌, true, Option, Some, None, Result, Ok, Err, List, [], length, map, take, drop, refl, subst, inl, inr, arith, IfSome}
+use Rattle.std.specs.Prelude.{slice_get}
+use Rattle.std.specs.List.{AllByRecursion}
+use Rattle.record_values.specs.Bytes.{AreBytes}
+use Rattle.record_io.specs.ManyStores.{AreOnlyAsked}
+use Rattle.record_io.specs.Outside.{Rose}
+use Rattle.record_io.specs.Puts.{Put, Out, Notes, taken_by, puts_to}
+use Rattle.record_io.proofs.Puts.{GoOut-out, TakesFront-count, BreaksOff-last, bytes_to-other}
+use Rattle.run_answers.specs.declared.ending.Ending.{Ending}
+use Rattle.run_answers.specs.declared.status.Status.{Status}
+use Rattle.run_answers.specs.Answers.{noted}
+use Rattle.run_answers.specs.Endings.{HaveTold, IsAllowedEndOfMany, SaysEnd}
+use Rattle.run_answers.specs.FileAnswers.{limit_text}
+use Rattle.run_answers.specs.Runs.{SeenStream, SeenFile, seen, seen_file, Breaks, Runs}
+use Rattle.run_answers.proofs.FileEnds.{EndsWhole}
+use Rattle.run_answers.proofs.ManyFilesEnds.{MayEndBy, EndsBySizes, ReadsFiles, WentAtEnd, WentButNotes, WentToCut, reads_files, runs-files, some_told, went_none, went_noted, went_whole}
+use Rattle.run_answers.proofs.TwoStreams.{GoOut-neither}
+use Rattle.show_files.specs.Readings.{refused_text}
+use Rattle.record_ranges.specs.RangesCommand.{AreOneFile, IsOnePast, IsRangesAnswer, MayBeRead, MayEndRanges, differ_text, ranges_meaning}
+use Rattle.record_ranges.specs.RangesEnds.{PrintsOnlyWhole, PrintsFile, StopsBy, range_ends, unread_status, unread_text}
+use Rattle.record_ranges.specs.declared.range_ends.Unread.{Unread}
+use Rattle.record_ranges.proofs.RangesAnswers.{first_of_all, printed, ranges_exists}
+use Rattle.record_ranges.proofs.RangesStores.{of_one}
+use Rattle.run_answers.specs.declared.ending.Cut.TheVariants as cut
+use Rattle.run_answers.specs.declared.ending.Ending.TheVariants as end
+use Rattle.run_answers.specs.declared.status.Status.TheVariants as status
+use Rattle.record_ranges.specs.declared.range_ends.Unread.TheVariants as unread
+
+-- what is supposed of the stores of one file
+abbrev TellOne : List (List ℕ) → Type 0
+TellOne all = MayBeRead (map length all) → AreOneFile all
+
+-- so `ranges` reads its file, and so it may end by the sizes that its stores told
+reads-ranges : ReadsFiles ranges_meaning TellOne IsRangesAnswer (λ all part. part ≡ [])
+reads-ranges =
+    reads_files ranges_meaning.uses true TellOne IsRangesAnswer (λ all part. part ≡ []) MayBeRead (λ sizes before after. Unit {0}) MayEndRanges refl refl refl
+
+stop_ranges : (w : Unread) (sizes : List ℕ) → StopsBy w sizes → ranges_meaning.may_end sizes (unread_status w) (unread_text w)
+stop_ranges (unread.Refused fault) sizes may = inr (inl (may, fault, refl, refl))
+stop_ranges (unread.Differ first other) sizes (within, differ) = inr (inr (inr (within, first, other, differ, refl, refl)))
+
+stop_whole : (w : Unread) → EndsWhole ranges_meaning (unread_status w)
+stop_whole (unread.Refused fault) = (tt, λ before after. tt)
+stop_whole (unread.Differ first other) = (tt, λ before after. tt)
+
+stop_other : (w : Unread) → unread_status w ≢ status.Ok
+stop_other (unread.Refused fault) is = cc is
+stop_other (unread.Differ first other) is = cc is
+
+stop_some : (w : Unread) → unread_text w ≢ []
+stop_some (unread.Refused fault) is = cc is
+stop_some (unread.Differ first other) is = cc is
+
+ends-ranges : {X : Type 0} → EndsBySizes {X = X} ranges_meaning range_ends IsOnePast StopsBy
+ends-ranges = record {
+  done = λ x. refl;
+  may_work = λ sizes may. inl (may, refl, refl);
+  too_long = λ sizes past. inr (inr (inl (past, refl, refl)));
+  stop = stop_ranges;
+  whole = stop_whole;
+  other = stop_other;
+  some = stop_some;
+}
+
+module _ (all : List (List ℕ)) (made out out_then notes : Option (List ℕ)) where
+  -- nothing was printed
+  nothing_went : (ended : Status) → ((puts : List Put) → Breaks ended [] puts) → AllByRecursion AreBytes all → all ≢ [] → TellOne all → out_then ≡ out
+      → WentToCut (IsRangesAnswer all) (λ part. part ≡ []) ended (taken_by made out notes) (taken_by made out_then notes)
+  nothing_went ended breaks bytes some supposed unprinted =
+      let found = ranges_exists all some bytes supposed in
+      went_none (IsRangesAnswer all) (λ part. part ≡ []) ended found.0 (taken_by made out notes) (taken_by made out_then notes) found.1
+      (breaks found.0.puts) refl (GoOut-neither made made out out_then notes refl unprinted)
+
+  -- the line that tells why the file isn't read
+  noted_went : (ended : Status) (text : List ℕ) → IsRangesAnswer all (noted ended text) → out_then ≡ out
+      → WentButNotes (IsRangesAnswer all) ended (taken_by made out notes) (taken_by made out_then notes) text
+  noted_went ended text is unprinted =
+      went_noted (IsRangesAnswer all) ended text (taken_by made out notes) (taken_by made out_then notes) is
+      (GoOut-neither made made out out_then notes refl unprinted)
+
+  -- P holds of the one file that all stores tell
+  abbrev OfFile : (List ℕ → Type 0) → Type 0
+  OfFile P = (file : List ℕ) → AllByRecursion (λ other. other ≡ file) all → P file
+
+  went-ranges : {X : Type 0} (result : Result X (Ending Unread)) → AllByRecursion AreBytes all → all ≢ [] → TellOne all
+      → MayEndBy ranges_meaning IsOnePast StopsBy result (map length all)
+      → OfFile (λ file. PrintsFile result file out out_then) → PrintsOnlyWhole result out out_then
+      → WentAtEnd range_ends (IsRangesAnswer all) (λ part. part ≡ []) result (taken_by made out notes) (taken_by made out_then notes)
+  went-ranges (Ok x) bytes some supposed may took none =
+      let one = supposed may in
+      let (text, is, lines) = took one.0 one.1 in
+      went_whole (IsRangesAnswer all) (printed text) (taken_by made out notes) (taken_by made out_then notes)
+      (inr (inr (may, one.0, first_of_all all one.0 some one.1, inl (text, is, refl))))
+      (GoOut-out made out out_then notes text lines)
+  went-ranges (Err end.Limit) bytes some supposed past took none = noted_went status.Limit limit_text (inl (past, refl)) none
+  went-ranges (Err (end.At (unread.Refused fault))) bytes some supposed may took none =
+      let one = supposed may in
+      noted_went status.Refused (refused_text fault)
+      (inr (inr (may, one.0, first_of_all all one.0 some one.1, inr (fault, took one.0 one.1, refl)))) none
+  went-ranges (Err (end.At (unread.Differ first other))) bytes some supposed (within, differ) took none =
+      noted_went status.Differ (differ_text first other) (inr (inl (within, first, other, differ, refl))) none
+  went-ranges (Err (end.Cut cut.File)) bytes some supposed sizes took none =
+      nothing_went status.File (λ puts. (puts, refl)) bytes some supposed none
+  went-ranges (Err (end.Cut cut.Memory)) bytes some supposed (used, may) took none =
+      nothing_went status.Memory (λ puts. (puts, refl)) bytes some supposed none
+  went-ranges (Err (end.Cut cut.Out)) bytes some supposed (used, may) took none =
+      let one = supposed may in
+      let (text, is, some_text, front) = took one.0 one.1 in
+      let count = TakesFront-count out out_then text front in
+      let part : List ℕ = take count.0 text in
+      record {
+        answer = printed text;
+        is = inr (inr (may, one.0, first_of_all all one.0 some one.1, inl (text, is, refl)));
+        part = puts_to Out part;
+        breaks = BreaksOff-last Out [] text count.0 some_text;
+        quiet = bytes_to-other Notes Out part refl;
+        went = GoOut-out made out out_then notes part count.1;
+        so_far = λ short. absurd short;
+      }
+  went-ranges (Err (end.Cut cut.Input)) bytes some supposed (used, may) took none = absurd (cc used)
+  went-ranges (Err (end.Cut cut.Made)) bytes some supposed (used, may) took none = absurd (cc used)
+  went-ranges (Err (end.Cut cut.Grown)) bytes some supposed (used, may) took none = absurd (cc used)
+  went-ranges (Err (end.Cut cut.Notes)) bytes some supposed ((text, says, silent), may) took none = absurd (silent says)
+
+pub runs-read : {S L X : Type 0} (bytes : S → Option (List ℕ)) (told : S → Option ℕ) (handed : S → ℕ) (name : S → L) (faults : S → ℕ) (files files_then : List S)
+    (input made : SeenStream) (grown : SeenFile) (out out_then notes notes_then : SeenStream) (result : Result X (Ending Unread)) (ended : Status)
+    → 0 < length files
+    → ((file : S) → IfSome (bytes file) (λ bs. IfSome (told file) (λ size. size ≡ length bs)))
+    → AreOnlyAsked bytes (λ s. None) name faults (result ≡ Err (end.Cut cut.File)) files files_then
+    → out.faults ≤ out_then.faults → notes.faults ≤ notes_then.faults
+    → ((place : ℕ) (file : S) → slice_get files_then place ≡ Some file → told file ≡ None → drop (place + 1) files_then ≡ drop (place + 1) files)
+    → (map handed files_then ≡ map handed files) ⊎ HaveTold (map told files_then) MayBeRead
+    → IsAllowedEndOfMany ranges_meaning IsOnePast StopsBy result (map told files_then)
+    → ((file : List ℕ) → AllByRecursion (λ s. bytes s ≡ Some file) files → PrintsFile result file out.bytes out_then.bytes)
+    → PrintsOnlyWhole result out.bytes out_then.bytes
+    → SaysEnd range_ends result ended notes notes_then
+    → (result ≡ Err (end.Cut cut.Out) → Rose out.faults out_then.faults)
+    → Runs ranges_meaning
+    (seen input (map (seen_file bytes told handed faults) files) made grown out notes)
+    (seen input (map (seen_file bytes told handed faults) files_then) made grown out_then notes_then) ended
+runs-read bytes told handed name faults files files_then input made grown out out_then notes notes_then result ended some sized asked o n in_order handed_out allowed took printed says out_rose =
+    runs-files bytes told handed name faults files files_then ranges_meaning TellOne IsRangesAnswer (λ all part. part ≡ []) reads-ranges
+    range_ends IsOnePast StopsBy ends-ranges input made made grown out out_then notes notes_then result ended
+    sized asked (omega arith) o n in_order
+    (elim handed_out [ inl same ↦ inl same | inr (all, tells, may) ↦ inr (all, tells, may, tt) ]) allowed
+    (λ all is are supposed within.
+    went-ranges all made.bytes out.bytes out_then.bytes notes.bytes result are (some_told bytes files all some is) supposed within
+    (λ file one. took file (of_one bytes files all file is one)) printed)
+    says (λ failed. absurd (unmade result allowed failed)) out_rose where
+      unmade : {X : Type 0} (result : Result X (Ending Unread)) → IsAllowedEndOfMany ranges_meaning IsOnePast StopsBy result (map told files_then)
+          → result ≡ Err (end.Cut cut.Made) → ⊥
+      unmade {X} result allowed failed =
+          cc (subst (λ (r : Result X (Ending Unread)). IsAllowedEndOfMany ranges_meaning IsOnePast StopsBy r (map told files_then)) failed allowed).0

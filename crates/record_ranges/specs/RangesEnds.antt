@@ -1,0 +1,76 @@
+-- How the work of `ranges` ends. Own.
+use Rattle.std.specs.Prelude.{◌≡◌, ◌≢◌, ℕ, false, Option, Result, Ok, Err, List, []}
+use Rattle.std.specs.List.{flat_map}
+use Rattle.record_io.specs.Outside.{Takes, TakesFront}
+use Rattle.chunk_reader.specs.Faults.{IsFault}
+use Rattle.chunk_reader.specs.declared.reasons.ReadEnd.{ReadEnd}
+use Rattle.run_answers.specs.Answers.{line}
+use Rattle.run_answers.specs.Endings.{Endings}
+use Rattle.run_answers.specs.declared.ending.Ending.{Ending}
+use Rattle.run_answers.specs.declared.status.Status.{Status}
+use Rattle.show_files.specs.Readings.{refused_text}
+use Rattle.record_ranges.specs.RangesCommand.{AreAlike, AreWithin, Differ, IsOnePast, IsTextOfFile, MayBeRead, differ_text}
+use Rattle.record_ranges.specs.declared.file_sizes.SizesEnd.{SizesEnd}
+use Rattle.record_ranges.specs.declared.range_ends.Unread.{Unread}
+use Rattle.chunk_reader.specs.declared.reasons.ReadEnd.TheVariants as read
+use Rattle.run_answers.specs.declared.ending.Cut.TheVariants as cut
+use Rattle.run_answers.specs.declared.ending.Ending.TheVariants as end
+use Rattle.run_answers.specs.declared.status.Status.TheVariants as status
+use Rattle.record_ranges.specs.declared.file_sizes.SizesEnd.TheVariants as sizes_end
+use Rattle.record_ranges.specs.declared.range_ends.Unread.TheVariants as unread
+
+-- the line that tells why the file is not read, and the status
+abbrev pub unread_text : Unread → List ℕ
+unread_text (unread.Refused fault) = refused_text fault
+unread_text (unread.Differ first other) = differ_text first other
+
+abbrev pub unread_status : Unread → Status
+unread_status (unread.Refused fault) = status.Refused
+unread_status (unread.Differ first other) = status.Differ
+
+-- where it is done nothing is said
+abbrev pub range_ends : {X : Type 0} → Endings X Unread
+range_ends = record { done = λ _. status.Ok; text = unread_text; status = unread_status }
+
+-- the end by which a file was not read
+abbrev pub end_of_read : ReadEnd → Ending Unread
+end_of_read (read.Refused fault) = end.At (unread.Refused fault)
+end_of_read read.Store = end.Cut cut.File
+end_of_read read.Memory = end.Cut cut.Memory
+
+-- the size of a file by those that its stores told, or why it isn't read
+abbrev pub IsSizeBy : Result ℕ SizesEnd → List ℕ → Type 0
+IsSizeBy (Ok size) sizes = AreAlike size sizes
+IsSizeBy (Err sizes_end.Limit) sizes = IsOnePast sizes
+IsSizeBy (Err (sizes_end.Differ first other)) sizes = AreWithin sizes × Differ sizes first other
+
+-- the sizes of its stores by which it isn't read: those of a file that is judged, where it is refused, and such as differ
+abbrev pub StopsBy : Unread → List ℕ → Type 0
+StopsBy (unread.Refused fault) sizes = MayBeRead sizes
+StopsBy (unread.Differ first other) sizes = AreWithin sizes × Differ sizes first other
+
+-- the records of parts, one after another, each as a line
+abbrev pub part_lines : List (List ℕ) → List ℕ
+part_lines records = flat_map line records
+
+abbrev pub all_lines : List (List (List ℕ)) → List ℕ
+all_lines parts = flat_map part_lines parts
+
+-- what a file that was read, by how that ended, is
+abbrev pub IsReadIn : Result (List (List (List ℕ))) ReadEnd → List ℕ → Type 0
+IsReadIn (Ok parts) file = IsTextOfFile file (all_lines parts)
+IsReadIn (Err (read.Refused fault)) file = IsFault false file fault
+IsReadIn (Err other) file = Unit {0}
+
+-- what standard output took of a file by how the work ended, where it is the one that all stores tell
+abbrev pub PrintsFile : {X : Type 0} → Result X (Ending Unread) → List ℕ → (out out_then : Option (List ℕ)) → Type 0
+PrintsFile (Ok x) file out out_then = (text : List ℕ) × IsTextOfFile file text × Takes out out_then text
+PrintsFile (Err (end.At (unread.Refused fault))) file out out_then = IsFault false file fault
+PrintsFile (Err (end.Cut cut.Out)) file out out_then = (text : List ℕ) × IsTextOfFile file text × (text ≢ []) × TakesFront out out_then text
+PrintsFile (Err other) file out out_then = Unit {0}
+
+-- nothing is printed of a file that isn't read to its end
+abbrev pub PrintsOnlyWhole : {X : Type 0} → Result X (Ending Unread) → (out out_then : Option (List ℕ)) → Type 0
+PrintsOnlyWhole (Ok x) out out_then = Unit {0}
+PrintsOnlyWhole (Err (end.Cut cut.Out)) out out_then = Unit {0}
+PrintsOnlyWhole (Err other) out out_then = out_then ≡ out

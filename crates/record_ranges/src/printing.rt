@@ -1,0 +1,133 @@
+ghost use Rattle.std.specs.Prelude.{◌≡◌, ◌+◌, ◌^◌, ◌≤◌, ◌<◌, ◌⊎◌, ℕ, All, None, Some, Ok, Err, drop, length, map, slice_get};
+ghost use Rattle.record_io.specs.Calls.{OnlyCounts};
+ghost use Rattle.record_io.specs.ManyStores.{AreOnlyAsked};
+ghost use Rattle.record_ranges.specs.Reads.{IfAllTellSame};
+ghost use Rattle.run_answers.specs.Endings.{HaveTold, IsAllowedEndOfMany};
+ghost use Rattle.run_answers.specs.Runs.{Runs, Seen, seen_stream, seen_file};
+ghost use Rattle.record_ranges.specs.RangesCommand.{AreAlike, IsOnePast, MayBeRead, ranges_meaning};
+ghost use Rattle.record_ranges.specs.RangesEnds.{PrintsOnlyWhole, IsReadIn, PrintsFile, StopsBy, end_of_read};
+
+use crate::cut_places::Cuts;
+use crate::file_parts::Parts;
+use crate::file_sizes::{SizesEnd, size_by};
+use crate::part_lines::put_parts;
+use crate::range_ends::{Unread, end_of_read, end_ranges};
+use crate::ranges_words::{MOST_PARTS, RangesWords};
+use crate::reading::read_ranges;
+use chunk_reader::ReadEnd;
+use record_io::{Failed, Sink, Store};
+use run_answers::{Cut, Ending, Status, ask_sizes};
+use std::alloc::Global;
+use std::thread::Threads;
+
+/// Prints the records of a file that is read in parts by threads, each by a store of its own, or says in notes why it is
+/// refused.
+pub fn ranges<R: Threads + Sync, S: Store + Send, O: Sink, E: Sink>(
+    rt: &R,
+    alloc: Global,
+    words: &RangesWords,
+    files: &mut [S],
+    out: &mut O,
+    notes: &mut E,
+) -> Status
+    requires one_each { length files.old ≡ words.now.parts }
+    requires some { 1 ≤ words.now.parts }
+    requires few { words.now.parts ≤ 16 }
+    ensures runs { (others : Seen) → Runs ranges_meaning
+        (record others { files = map (seen_file S.bytes S.told S.handed S.faults) files.old; out = seen_stream O.taken O.faults out.old; notes = seen_stream E.taken E.faults notes.old })
+        (record others { files = map (seen_file S.bytes S.told S.handed S.faults) files.new; out = seen_stream O.taken O.faults out.new; notes = seen_stream E.taken E.faults notes.new })
+        result }
+    ensures same_bytes { map (λ file. S.bytes file) files.new ≡ map (λ file. S.bytes file) files.old }
+    ensures same_names { map (λ file. S.name file) files.new ≡ map (λ file. S.name file) files.old }
+    ensures notes_kept { result ≡ Status.Ok → notes.new ≡ notes.old }
+{
+    let ended = print_file(rt, alloc, words.parts, files, out);
+    end_ranges(ended, notes)
+}
+
+/// Prints the records of a file that is read in so many parts.
+fn print_file<R: Threads + Sync, S: Store + Send, O: Sink>(
+    rt: &R,
+    alloc: Global,
+    parts: u32,
+    files: &mut [S],
+    out: &mut O,
+) -> Result<(), Ending<Unread>>
+    requires one_each { length files.old ≡ parts }
+    requires some { 1 ≤ parts }
+    requires few { parts ≤ 16 }
+    ensures file { IfAllTellSame S.bytes files.old (λ file. PrintsFile result file (O.taken out.old) (O.taken out.new)) }
+    ensures printed { PrintsOnlyWhole result (O.taken out.old) (O.taken out.new) }
+    ensures allowed { IsAllowedEndOfMany ranges_meaning IsOnePast StopsBy result (map (λ file. S.told file) files.new) }
+    ensures in_order { (place : ℕ) (file : S) → slice_get files.new place ≡ Some file → S.told file ≡ None
+        → drop (place + 1) files.new ≡ drop (place + 1) files.old }
+    ensures handed { (map (λ file. S.handed file) files.new ≡ map (λ file. S.handed file) files.old)
+        ⊎ HaveTold (map (λ file. S.told file) files.new) MayBeRead }
+    // Of each store its bytes stay, and what it borrows.
+    ensures files { AreOnlyAsked S.bytes (λ file. None) S.name S.faults (result ≡ Err (Ending.Cut Cut.File)) files.old files.new }
+    ensures out { OnlyCounts O.lent O.faults (result ≡ Err (Ending.Cut Cut.Out)) out.old out.new }
+{
+    let mut room = [0; MOST_PARTS];
+    let sizes = &mut room[..files.len()];
+    let Ok(()) = ask_sizes(files, sizes) else {
+        return Err(Ending::Cut(Cut::File));
+    };
+    match size_by(sizes) {
+        Ok(size) => print_sized(rt, alloc, size, parts, files, out),
+        Err(SizesEnd::Limit) => Err(Ending::Limit),
+        Err(SizesEnd::Differ { first, other }) => Err(Ending::At(Unread::Differ { first, other })),
+    }
+}
+
+/// The same with stores that all told this size.
+fn print_sized<R: Threads + Sync, S: Store + Send, O: Sink>(
+    rt: &R,
+    alloc: Global,
+    size: u64,
+    parts: u32,
+    files: &mut [S],
+    out: &mut O,
+) -> Result<(), Ending<Unread>>
+    requires one_each { length files.old ≡ parts }
+    requires some { 1 ≤ parts }
+    requires few { parts ≤ 16 }
+    requires told { HaveTold (map (λ file. S.told file) files.old) (AreAlike size) }
+    requires exact { IfAllTellSame S.bytes files.old (λ file. size ≡ length file) }
+    ensures file { IfAllTellSame S.bytes files.old (λ file. PrintsFile result file (O.taken out.old) (O.taken out.new)) }
+    ensures printed { PrintsOnlyWhole result (O.taken out.old) (O.taken out.new) }
+    ensures allowed { IsAllowedEndOfMany ranges_meaning IsOnePast StopsBy result (map (λ file. S.told file) files.new) }
+    ensures files { AreOnlyAsked S.bytes S.told S.name S.faults (result ≡ Err (Ending.Cut Cut.File)) files.old files.new }
+    ensures out { OnlyCounts O.lent O.faults (result ≡ Err (Ending.Cut Cut.Out)) out.old out.new }
+{
+    let read = match read_parts(rt, alloc, size, parts, files) {
+        Ok(read) => read,
+        Err(end) => return Err(end_of_read(end)),
+    };
+    match put_parts(&read, out) {
+        Ok(()) => Ok(()),
+        Err(Failed) => Err(Ending::Cut(Cut::Out)),
+    }
+}
+
+/// Reads a file of so many bytes in so many parts that are alike.
+fn read_parts<R: Threads + Sync, S: Store + Send>(
+    rt: &R,
+    alloc: Global,
+    size: u64,
+    parts: u32,
+    files: &mut [S],
+) -> Result<Parts, ReadEnd>
+    requires one_each { length files.old ≡ parts }
+    requires some { 1 ≤ parts }
+    requires few { parts ≤ 16 }
+    requires told { All (λ s. S.told s ≡ Some size) files.old }
+    requires exact { IfAllTellSame S.bytes files.old (λ file. size ≡ length file) }
+    requires small { size ≤ 2 ^ 28 }
+    ensures read { IfAllTellSame S.bytes files.old (IsReadIn result) }
+    ensures files { AreOnlyAsked S.bytes S.told S.name S.faults (result ≡ Err ReadEnd.Store) files.old files.new }
+{
+    let Ok(cuts) = Cuts::even(alloc, size, parts) else {
+        return Err(ReadEnd::Memory);
+    };
+    read_ranges(rt, alloc, files, size, &cuts)
+}
