@@ -1,9 +1,9 @@
 -- What is drawn of a seed.
-use Rattle.std.proofs.Common.{◌≡◌, ℕ, zero, suc, ◌+◌, ◌%◌, ◌<◌, List, [], ◌∷◌, ◌++◌, length, take, slice_set, add-one, refl, sym, ap, ◌∙◌, arith}
+use Rattle.std.proofs.Common.{◌≡◌, ℕ, zero, suc, ◌+◌, ◌<◌, List, [], ◌∷◌, ◌++◌, length, take, slice_set, add-one, refl, sym, ap, ◌∙◌, arith}
 use Rattle.std.proofs.lemmas.List.{take_more_set}
 use Rattle.record_values.specs.Bytes.{AreBytes}
 use Rattle.record_group.specs.Records.{AreRecords}
-use Rattle.sample_records.specs.Generator.{next_state, draw, letter, letters, letter_count, state_after, record_from, state_behind, drawn_from, sample_of}
+use Rattle.sample_records.specs.Generator.{next_state, letter, letters, letter_count, state_after, record_from, state_behind, drawn_from, sample_of}
 
 pub length-letters : (count state : ℕ) → length (letters count state) ≡ count
 unfolding letters
@@ -21,20 +21,31 @@ unfolding letters state_after
 letters-suc zero state = refl
 letters-suc (suc count) state = ap (λ (bs : List ℕ). letter state ∷ bs) (letters-suc count (next_state state))
 
-pub state_after-more : (count state : ℕ) → state_after (count + 1) state ≡ next_state (state_after count state)
-state_after-more count state = rw add-one (state_after-suc count state)
+pub state_after-more : (count n state : ℕ) → n ≡ count + 1 → state_after n state ≡ next_state (state_after count state)
+state_after-more count n state is = rw (is, add-one) (state_after-suc count state)
 
-pub letters-more : (count state : ℕ) → letters (count + 1) state ≡ letters count state ++ letter (state_after count state) ∷ []
+-- so many draws, and then some more
+pub state_after-sum : (count more state : ℕ) → state_after more (state_after count state) ≡ state_after (count + more) state
+unfolding state_after
+state_after-sum zero more state =
+    let same : 0 + more ≡ more = omega arith in
+    rw same refl
+state_after-sum (suc count) more state =
+    let moved : suc count + more ≡ suc (count + more) = omega arith in
+    rw moved (state_after-sum count more (next_state state))
+
+letters-more : (count state : ℕ) → letters (count + 1) state ≡ letters count state ++ letter (state_after count state) ∷ []
 letters-more count state = rw add-one (letters-suc count state)
 
 -- a letter more in its place
-pub letters-set : (place : List ℕ) (i first state drawn : ℕ) → i < length place → take i place ≡ letters i first
-    → state ≡ state_after i first → drawn ≡ draw state → take (i + 1) (slice_set place i (97 + drawn % 26)) ≡ letters (i + 1) first
-letters-set place i first state drawn within filled left is =
-    take_more_set place i (97 + drawn % 26) within
-    ∙ ap (λ (bs : List ℕ). bs ++ (97 + drawn % 26) ∷ []) filled
-    ∙ ap (λ (d : ℕ). letters i first ++ (97 + d % 26) ∷ []) (is ∙ ap (λ (s : ℕ). draw s) left)
+pub letters-set : (place : List ℕ) (i n first drawn : ℕ) → n ≡ i + 1 → i < length place → take i place ≡ letters i first
+    → drawn ≡ letter (state_after i first) → take n (slice_set place i drawn) ≡ letters n first
+letters-set place i n first drawn next within filled is = rw next (
+    take_more_set place i drawn within
+    ∙ ap (λ (bs : List ℕ). bs ++ drawn ∷ []) filled
+    ∙ ap (λ (d : ℕ). letters i first ++ d ∷ []) is
     ∙ sym (letters-more i first)
+    )
 
 -- the first of some records
 pub drawn_from-some : (count rest state : ℕ) → count ≡ rest + 1 → drawn_from count state ≡ record_from state ∷ drawn_from rest (state_behind state)

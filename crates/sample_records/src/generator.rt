@@ -1,4 +1,4 @@
-ghost use Rattle.std.specs.Prelude.{◌≡◌, ◌≤◌, length, OnOk};
+ghost use Rattle.std.specs.Prelude.{◌≡◌, ◌≤◌, ◌+◌, ◌%◌, length, OnOk};
 ghost use Rattle.sample_records.specs.Generator.{draw, letter_count, letters, next_state, record_from, state_after, state_behind};
 
 use record_io::Bytes;
@@ -6,6 +6,22 @@ use std::alloc::AllocError;
 
 /// The most letters of a record.
 const MOST_LETTERS: usize = 255;
+
+/// How many letters a step draws.
+const STEP: usize = 8;
+
+/// What leads from a state to those that its next draws leave, the first to the eighth: times the factor, plus the term. So no
+/// draw of a step waits for the one before it.
+const JUMPS: [(u64, u64); STEP] = [
+    (6364136223846793005, 1442695040888963407),
+    (7520897724310334953, 1876011003808476466),
+    (793875393913628917, 11166244414315200793),
+    (18108194425815612945, 7401132627792533940),
+    (7596774164172298237, 7076646890315895283),
+    (17333513496047876729, 10346034117385188870),
+    (8758975453663301189, 1459328389850446429),
+    (13086856194709077281, 6566661184467396264),
+];
 
 /// Numbers below 2^31 that a seed tells, and records of letters that are drawn by them. Own.
 #[derive(Debug, Drop)]
@@ -42,8 +58,19 @@ impl Generator {
         ensures filled { place.new ≡ letters (length place.old) self.old.state }
         ensures left { self.new.state ≡ state_after (length place.old) self.old.state }
     {
-        for letter in place.iter_mut() {
-            *letter = b'a' + (self.draw() % 26) as u8;
+        let steps = place.len() / STEP;
+        let mut state = self.state;
+        for step in 0..steps {
+            let before = state;
+            for letter in 0..STEP {
+                let (factor, term) = JUMPS[letter];
+                state = before.wrapping_mul(factor).wrapping_add(term);
+                place[STEP * step + letter] = letter_of(state >> 33);
+            }
+        }
+        self.state = state;
+        for rest in STEP * steps..place.len() {
+            place[rest] = letter_of(self.draw());
         }
     }
 
@@ -52,10 +79,15 @@ impl Generator {
         ensures number { result ≡ draw self.old.state }
         ensures left { self.new.state ≡ next_state self.old.state }
     {
-        self.state = self
-            .state
-            .wrapping_mul(6364136223846793005)
-            .wrapping_add(1442695040888963407);
+        let (factor, term) = JUMPS[0];
+        self.state = self.state.wrapping_mul(factor).wrapping_add(term);
         self.state >> 33
     }
+}
+
+/// The letter of a number, from `a` to `z`.
+fn letter_of(number: u64) -> u8
+    ensures { result ≡ 97 + number % 26 }
+{
+    b'a' + (number % 26) as u8
 }
