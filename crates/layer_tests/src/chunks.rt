@@ -2,7 +2,7 @@
 ghost use Rattle.std.specs.Prelude.{◌≡◌, ◌^◌, ◌<◌, ◌≤◌, Some};
 ghost use Rattle.block_layout.specs.Layout.{IsBoundary};
 
-use crate::overlaps::file_between;
+use crate::byte_files::file_between;
 use chunk_header::Chunk;
 use chunk_reader::{Head, data_at, head_at};
 use record_io::{Store, SureStore};

@@ -4,6 +4,8 @@
 #![tactic(auto)]
 
 #[cfg(test)]
+mod byte_files;
+#[cfg(test)]
 mod chunks;
 #[cfg(test)]
 mod collecting;
@@ -14,17 +16,17 @@ mod draws;
 #[cfg(test)]
 mod files;
 #[cfg(test)]
-mod gathered_files;
-#[cfg(test)]
 mod gathering;
 #[cfg(test)]
 mod hashes;
 #[cfg(test)]
 mod layout;
 #[cfg(test)]
+mod meetings;
+#[cfg(test)]
 mod overlaps;
 #[cfg(test)]
-mod ranges;
+mod side_by_side;
 #[cfg(test)]
 mod stand_ins;
 #[cfg(test)]

@@ -2,13 +2,11 @@
 ghost use Rattle.std.specs.Prelude.{◌≡◌, ◌^◌, ◌≤◌, ◌∷◌, [], All, IfOk, vec_len};
 ghost use Rattle.simple_chunk.specs.Costs.{cost_of};
 
-use chunk_header::Chunk;
+use crate::meetings::{FIRST_EIGHT, Meeting, MeetingCoder};
 use chunk_workers::{Coder, Draws, Numbered, SimpleCoder, encode_window};
-use simple_chunk::{Records, encode};
+use simple_chunk::Records;
 use std::alloc::{AllocError, Global};
-use std::hint;
 use std::process::Abort;
-use std::sync::atomic::{AtomicBool, AtomicU64, Ordering};
 use std::test::Fail;
 use std::thread::Threads;
 
@@ -83,60 +81,17 @@ fn two_groups_have_numbers_0_and_1(rt: HostRuntime) -> Result<(), Fail> {
     Ok(())
 }
 
-/// Codes the group of this byte only once seven others are coded, or gives up.
-#[derive(Drop)]
-pub(crate) struct LastOfEight {
-    last: u8,
-    coded: AtomicU64,
-    gave_up: AtomicBool,
-}
-
-impl LastOfEight {
-    pub fn new(last: u8) -> LastOfEight {
-        LastOfEight {
-            last,
-            coded: AtomicU64::new(0),
-            gave_up: AtomicBool::new(false),
-        }
-    }
-
-    pub fn gave_up(&self) -> bool {
-        self.gave_up.load(Ordering::SeqCst)
-    }
-
-    fn wait_for_the_others(&self) {
-        for _ in 0..100_000_000 {
-            if self.coded.load(Ordering::SeqCst) == 7 {
-                return;
-            }
-            hint::spin_loop();
-        }
-        self.gave_up.store(true, Ordering::SeqCst);
-    }
-}
-
-impl Coder for LastOfEight {
-    ghost use Rattle.chunk_header.specs.SimpleChunks.{simple_chunk};
-
-    ghost chunk_of = { λ _ records. simple_chunk records };
-
-    fn code(&self, alloc: Global, records: &Records) -> Result<Chunk, AllocError> {
-        if records.values() == [self.last].as_slice() {
-            self.wait_for_the_others();
-        }
-        let chunk = encode(alloc, records)?;
-        self.coded.fetch_add(1, Ordering::SeqCst);
-        Ok(chunk)
-    }
-}
-
 /// Where groups are dealt out before they are coded, one of them waits for another that comes behind it.
 #[test]
 fn groups_are_coded_while_any_other_is(rt: HostRuntime) -> Result<(), Fail> {
-    for last in 0..8 {
-        let coder = LastOfEight::new(last);
+    for byte in 0..8 {
+        let meeting = Meeting::of(FIRST_EIGHT);
+        let coder = MeetingCoder {
+            meeting: &meeting,
+            byte,
+        };
         code_each_once(&rt, rt.alloc(), 2, &coder, 8)?;
-        assert!(rt; !coder.gave_up(), "gave up on group {last}");
+        assert!(rt; !meeting.gave_up(), "given up on group {byte}");
     }
     Ok(())
 }

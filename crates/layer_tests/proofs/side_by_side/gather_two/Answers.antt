@@ -1,8 +1,8 @@
 use Rattle.std.proofs.Common.{length}
 use Rattle.record_io.specs.Memory.{told_if}
-use Rattle.layer_tests.specs.declared.ranges.MeetingStore.{MeetingStore}
+use Rattle.layer_tests.specs.declared.side_by_side.MeetingStore.{MeetingStore}
 use Rattle.layer_tests.proofs.ToldSizes.{two_told}
-use Rattle.layer_tests.proofs.gathered_files.gather_two.Goals as goal
+use Rattle.layer_tests.proofs.side_by_side.gather_two.Goals as goal
 
 pub gather-requires-clause-told : goal.gather-requires-clause-told
 gather-requires-clause-told g c κs within =
