@@ -1,2 +1,4 @@
 mod NumberLists
 mod ToldSizes
+mod Values
+mod Vectors

@@ -1,6 +1,5 @@
-//! Tests of the crates below the program, one by one: of what no contract says and no case shows, and of tables. Each
-//! expected value is published, counted by hand, or of an independent program; but files by several workers are compared
-//! with that by one worker.
+//! Tests of the crates below the program, one by one, of what no contract says and no case shows. Each expected value is
+//! counted by hand; but files by several workers are compared with that by one worker.
 #![tactic(auto)]
 
 #[cfg(test)]
@@ -18,10 +17,6 @@ mod files;
 #[cfg(test)]
 mod gathering;
 #[cfg(test)]
-mod hashes;
-#[cfg(test)]
-mod layout;
-#[cfg(test)]
 mod meetings;
 #[cfg(test)]
 mod overlaps;
@@ -31,7 +26,5 @@ mod side_by_side;
 mod stand_ins;
 #[cfg(test)]
 mod streams;
-#[cfg(test)]
-mod varints;
 #[cfg(test)]
 mod windows;
