@@ -22,17 +22,14 @@ fn whole_chunk<S: Store>(
     requires from_boundary { IsBoundary at }
     requires below { at < size }
 {
-    let (header, end) = match head_at(store, size, at)? {
-        Head::Right { header, end } => (header, end),
-        _ => return Ok(None),
-    };
-    let Some(end) = end else {
+    let Head::Right {
+        header,
+        end: Some(end),
+    } = head_at(store, size, at)?
+    else {
         return Ok(None);
     };
-    if end > size {
-        return Ok(None);
-    }
-    if header.data_size > 1 << 26 {
+    if end > size || header.data_size > 1 << 26 {
         return Ok(None);
     }
     Ok(Some(data_at(alloc, store, at, &header)?))
