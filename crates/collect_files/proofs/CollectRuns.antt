@@ -1,5 +1,5 @@
 -- How a run of `collect` ends, by how its work ended.
-use Rattle.std.proofs.Common.{◌≡◌, ◌≢◌, ◌∙◌, ℕ, ◌+◌, ◌≤◌, ◌⊎◌, false, Option, Some, None, Result, Ok, Err, List, [], ◌++◌, length, map, take, drop, refl, inl, inr, IfSome}
+use Rattle.std.proofs.Common.{◌≡◌, ◌≢◌, ℕ, ◌+◌, ◌≤◌, ◌⊎◌, false, Option, Some, None, Result, Ok, Err, List, [], ◌++◌, length, map, take, drop, refl, inl, inr, IfSome}
 use Rattle.std.specs.Prelude.{slice_get}
 use Rattle.std.specs.List.{AllByRecursion}
 use Rattle.record_values.specs.Bytes.{AreBytes}

@@ -1,13 +1,10 @@
 -- Files that are asked their sizes, and whose records are then gathered and put into one.
-use Rattle.std.proofs.Common.{◌≡◌, ◌≢◌, ◌∙◌, ℕ, ◌+◌, ◌≤◌, ◌⊎◌, false, true, Option, Some, None, Result, Err, List, [], length, map, drop, refl, sym, ap, subst, inl, inr, IfSome}
-use Rattle.std.specs.Prelude.{nat_lt, slice_get}
+use Rattle.std.proofs.Common.{◌≡◌, ◌≢◌, ◌∙◌, ℕ, false, true, Option, Result, Err, List, [], refl, sym, ap, subst, inl, inr}
+use Rattle.std.specs.Prelude.{nat_lt}
 use Rattle.std.specs.List.{list_any}
 use Rattle.std.proofs.lemmas.Bool.{lt-ltb, ltb-true}
 use Rattle.std.proofs.lemmas.List.Folds.{Any-from_list_any, list_any-from_Any}
-use Rattle.std.proofs.lemmas.Simd.{map-map}
-use Rattle.record_io.specs.ManyStores.{AreOnlyAsked}
-use Rattle.record_io.specs.Outside.{Rose, Takes, TakesFront}
-use Rattle.record_io.proofs.ManyStores.{none_falls, same_bytes}
+use Rattle.record_io.specs.Outside.{Takes, TakesFront}
 use Rattle.chunk_reader.specs.ManyFiles.{IsFirstFault}
 use Rattle.chunk_reader.specs.declared.reasons.Fault.{Fault}
 use Rattle.record_collect.specs.GatheredFiles.{IsTooMuch}
@@ -16,13 +13,10 @@ use Rattle.record_collect.specs.Gatherings.{GatheredValue}
 use Rattle.word_options.specs.Writing.{default_chunk_size}
 use Rattle.record_collect.specs.declared.gathering.GatherEnd.{GatherEnd}
 use Rattle.run_answers.specs.declared.ending.Ending.{Ending}
-use Rattle.run_answers.specs.declared.status.Status.{Status}
-use Rattle.run_answers.specs.Endings.{HaveTold, IsAllowedEndOfMany, SaysEnd}
+use Rattle.run_answers.specs.Endings.{HaveTold, IsAllowedEndOfMany}
 use Rattle.run_answers.specs.FileAnswers.{most_file_bytes}
-use Rattle.run_answers.specs.Runs.{SeenStream, SeenFile, seen, seen_file, Runs}
-use Rattle.run_answers.proofs.ManyFiles.{bytes_of, exact_shown, keeps-files, one_rose, told_by}
 use Rattle.collect_files.specs.CollectCommand.{AreInReach, IsOneTooLong, collect_meaning, collected_file, collected_lines, files_lines}
-use Rattle.collect_files.specs.CollectingEnds.{TakeCollected, collecting_ends, end_of_gather}
+use Rattle.collect_files.specs.CollectingEnds.{TakeCollected, end_of_gather}
 use Rattle.collect_files.specs.declared.stops.Uncollected.{Uncollected}
 use Rattle.collect_files.proofs.CollectAnswers.{sizes_judged}
 use Rattle.record_collect.specs.declared.gathering.GatherEnd.TheVariants as gather

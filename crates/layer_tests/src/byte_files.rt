@@ -1,5 +1,5 @@
 //! Files of records of one byte each.
-ghost use Rattle.std.specs.Prelude.{◌≡◌, ◌^◌, ◌≤◌};
+ghost use Rattle.std.specs.Prelude.{◌^◌, ◌≤◌};
 ghost use Rattle.record_writer.specs.Written.{AreInLimits};
 
 use record_group::Pad;

@@ -1,4 +1,5 @@
-//! Reading one file in parts, by threads that each have a store of their own, and the command `ranges`, which prints its records. Positions, places and sizes are in bytes. Own.
+//! Reading one file in parts, by threads that each have a store of their own, and the command `ranges`, which prints the
+//! records of such a file. Positions, places and sizes are in bytes. Own.
 #![tactic(auto)]
 
 mod alone;

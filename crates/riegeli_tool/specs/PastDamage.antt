@@ -1,4 +1,4 @@
--- What `show` and `repair` answer past damage, told by the numbers of the undamaged file's chunks, and to the front of a file. Own.
+-- How a run of a command goes, and what `show` and `repair` answer past damage and to the front of a file. Own.
 use Rattle.std.specs.Prelude.{◌≡◌, ℕ, ◌^◌, ◌≤◌, ⊤, Bool, true, false, Option, Some, MatchOption, List, [], ◌∷◌, ◌++◌, length, take}
 use Rattle.std.specs.List.{AllByRecursion, flat_map}
 use Rattle.record_io.specs.Puts.{Notes, puts_to}
@@ -85,7 +85,8 @@ meaning_past_damage command = record (meaning_of command) {
       × ((bytes : List ℕ) → r.files ≡ bytes ∷ [] → length bytes ≤ 2 ^ 60 → IsToldPastDamage command bytes answer);
 }
 
--- how a run of a command goes, and the same past damage
+-- how a run of a command goes, and the same with its answers told past damage. The second says the first too, which is the one
+-- to read
 pub record RunsCommand (command : Option Command) (before after : Seen) (ended : Status) : Type 0 where
   pub runs : Runs (meaning_of command) before after ended
   pub damaged : Runs (meaning_past_damage command) before after ended

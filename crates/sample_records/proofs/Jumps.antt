@@ -35,7 +35,7 @@ jumped-jumps_from (suc i) (suc count) state jump within =
     jumped-jumps_from i count state (next_jump jump) (omega (arith, within))
     ∙ ap (λ (s : ℕ). state_after i s) (jumped-next_jump state jump)
 
--- a draw of a step, of which the first one is behind so many
+-- the state that a draw of a step leaves, where so many draws came before the step
 pub state_after-jump : (count letter first state : ℕ) → letter < 8 → state ≡ state_after count first
     → jumped state (slice_index_or (jumps_from one_draw 8) letter (0, 0)) ≡ state_after (count + (letter + 1)) first
 unfolding state_after

@@ -1,5 +1,5 @@
 -- How a run of `write` ends, by the answer of the write engine.
-use Rattle.std.proofs.Common.{◌≡◌, ◌≢◌, ℕ, ◌^◌, false, Option, Some, None, Result, Ok, Err, List, [], ◌++◌, length, take, arith, refl, sym, ap, subst, ◌∙◌, decimal, codes}
+use Rattle.std.proofs.Common.{◌≡◌, ◌≢◌, ℕ, ◌^◌, Option, Some, None, Result, Ok, Err, List, [], ◌++◌, length, take, arith, refl, sym, ap, subst, ◌∙◌, decimal, codes}
 use Rattle.std.specs.Option.{IfSome}
 use Rattle.std.proofs.lemmas.Option.{MatchOption-at_some}
 use Rattle.record_io.specs.Outside.{Rose, Takes, TakesFront}
