@@ -17,6 +17,8 @@ mod files;
 #[cfg(test)]
 mod gathering;
 #[cfg(test)]
+mod hashes;
+#[cfg(test)]
 mod meetings;
 #[cfg(test)]
 mod overlaps;
