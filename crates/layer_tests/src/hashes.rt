@@ -37,7 +37,7 @@ fn by_all_forms(key: Key, bytes: &[u8]) -> [u64; 5] {
 /// Lengths with and without a remainder, and with whole packets before it. The first three values are published, the others are
 /// from an independent program.
 #[test]
-fn all_forms_of_the_hash_give_the_published_values(rt: HostRuntime) {
+fn all_forms_of_the_hash_give_the_values_of_others(rt: HostRuntime) {
     let mut bytes = [0; 64];
     for i in 0..64 {
         bytes[i] = i as u8;
