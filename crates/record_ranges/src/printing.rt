@@ -1,6 +1,7 @@
-ghost use Rattle.std.specs.Prelude.{◌≡◌, ◌+◌, ◌^◌, ◌≤◌, ◌<◌, ◌⊎◌, ℕ, All, None, Some, Ok, Err, drop, length, map, slice_get};
+ghost use Rattle.std.specs.Prelude.{◌≡◌, ◌+◌, ◌^◌, ◌≤◌, ◌<◌, ◌⊎◌, ℕ, All, None, Some, IfOk, Ok, Err, drop, length, map, slice_get};
 ghost use Rattle.record_io.specs.Calls.{OnlyCounts};
 ghost use Rattle.record_io.specs.ManyStores.{AreOnlyAsked};
+ghost use Rattle.record_ranges.specs.Ranges.{AreRangesOf, even_cuts};
 ghost use Rattle.record_ranges.specs.Reads.{IfAllTellSame};
 ghost use Rattle.run_answers.specs.Endings.{HaveTold, IsAllowedEndOfMany};
 ghost use Rattle.run_answers.specs.Runs.{Runs, Seen, seen_stream, seen_file};
@@ -124,6 +125,7 @@ fn read_parts<R: Threads + Sync, S: Store + Send>(
     requires exact { IfAllTellSame S.bytes files.old (λ file. size ≡ length file) }
     requires small { size ≤ 2 ^ 28 }
     ensures read { IfAllTellSame S.bytes files.old (IsReadIn result) }
+    ensures even { IfOk result (λ read. IfAllTellSame S.bytes files.old (λ file. AreRangesOf file (even_cuts size parts) read)) }
     ensures files { AreOnlyAsked S.bytes S.told S.name S.faults (result ≡ Err ReadEnd.Store) files.old files.new }
 {
     let Ok(cuts) = Cuts::even(alloc, size, parts) else {

@@ -25,3 +25,6 @@ returns-clause-read g c = λ file one.
     (subst (λ (n : ℕ). RiseUpTo n 0 c.in-Ok.cuts) size
     (subst (RiseUpTo c.args.size 0) (sym c.in-Ok.ensures) (even-rise c.args.size c.args.parts c.requires.some))))
     (λ fault is. c.read_ranges.ensures.refused fault is file one)
+
+pub returns-clause-even : goal.returns-clause-even
+returns-clause-even g c = rw c.in-Ok.ensures at c.read_ranges.ensures.ranges
