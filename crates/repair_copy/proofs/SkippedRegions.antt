@@ -5,7 +5,7 @@ use Rattle.std.specs.Fn.{Shared, FnReturnsAt}
 use denote.Ref.{Bor}
 use Rattle.record_io.specs.Outside.{Takes, TakesFront}
 use Rattle.record_io.proofs.Calls.{Takes-append, TakesFront-append}
-use Rattle.damage_skip.specs.Policies.{IsAllowedRegion, IsRefusedRegion}
+use Rattle.damage_skip.specs.Policies.{IsAllowedRegion}
 use Rattle.damage_skip.specs.Regions.{regions_in, skipped_text}
 use Rattle.damage_skip.specs.Walks.{piece_of, event_text, IsEventIn}
 use Rattle.damage_skip.specs.declared.events.Event.{Event}
@@ -17,7 +17,6 @@ use Rattle.repair_copy.specs.declared.copying.FailedSink.{FailedSink}
 use Rattle.repair_copy.specs.declared.copying.FailedSink.TheVariants.{Made, Notes}
 use Rattle.repair_copy.specs.declared.repairs.Repaired.{Repaired}
 use Rattle.repair_copy.specs.declared.repairs.RepairEnd.{RepairEnd}
-use Rattle.repair_copy.specs.declared.repairs.RepairEnd.TheVariants as end
 use Rattle.damage_skip.proofs.RegionsIn.{each_append, skipped_text-event}
 
 -- the region that an event is, if it is one
@@ -56,15 +55,15 @@ module _ {F : Type 0} (test : Shared F (Bor Region × Unit {0}) Bool) (f : F) wh
   }
 
   -- or that was cut off
-  skips_cut_off : (cut : FailedSink) (count : ℕ) (n m o : Option (List ℕ)) (e : Event) → HasSkipped test f count n m
+  pub skips_cut : (cut : FailedSink) (count : ℕ) (n m o : Option (List ℕ)) (e : Event) → HasSkipped test f count n m
       → TakesLine cut m o (event_text e) → AllByRecursion (IsAllowedRegion test f) (regions_of e) → Skips test f (Err (end_of_failed cut)) n o
-  skips_cut_off Made count n m o e h line pass = record {
+  skips_cut Made count n m o e h line pass = record {
     regions = h.regions;
     allowed = h.allowed;
     answer = tt;
     lines = subst (λ (xs : List ℕ). Takes n o xs) (append-nil (skipped_text h.regions)) (Takes-append n m o (skipped_text h.regions) [] h.lines line);
   }
-  skips_cut_off Notes count n m o e h line pass = record {
+  skips_cut Notes count n m o e h line pass = record {
     regions = h.regions ++ regions_of e;
     allowed = each_append (IsAllowedRegion test f) h.regions (regions_of e) h.allowed pass;
     answer = tt;
@@ -74,13 +73,6 @@ module _ {F : Type 0} (test : Shared F (Bor Region × Unit {0}) Bool) (f : F) wh
     );
   }
 
-  pub skips_cut : (result : Result Repaired RepairEnd) (cut : FailedSink) (count : ℕ) (n m o : Option (List ℕ)) (e : Event)
-      → result ≡ Err (end_of_failed cut) → HasSkipped test f count n m → TakesLine cut m o (event_text e)
-      → AllByRecursion (IsAllowedRegion test f) (regions_of e) → Skips test f result n o
-  skips_cut result cut count n m o e is h line pass =
-      subst (λ (x : Result Repaired RepairEnd). Skips test f x n o) (sym is) (skips_cut_off cut count n m o e h line pass)
-
-  -- also up to one that was refused
-  pub skips_stopped : (count : ℕ) (region : Region) (n m : Option (List ℕ)) → HasSkipped test f count n m
-      → IsRefusedRegion test f region → Skips test f (Err (end.Stopped region)) n m
-  skips_stopped count region n m h refused = record { regions = h.regions; allowed = h.allowed; answer = refused; lines = h.lines }
+  pub skips_failed : (result : Result Repaired RepairEnd) (cut : FailedSink) (n m : Option (List ℕ)) → result ≡ Err (end_of_failed cut)
+      → Skips test f (Err (end_of_failed cut)) n m → Skips test f result n m
+  skips_failed result cut n m is h = subst (λ (x : Result Repaired RepairEnd). Skips test f x n m) (sym is) h

@@ -3,6 +3,7 @@ pub mod RepairPuts
 pub mod Walked
 pub mod Copies
 pub mod Repairs
+pub mod CopyEnds
 pub mod DamagedRepairs
 pub mod ShortRepairs
 pub mod FrontRepairs

@@ -1,16 +1,21 @@
-ghost use Rattle.std.specs.Prelude.{◌≡◌, ◌-◌, ◌^◌, ◌≤◌, ◌⊎◌, ℕ, true, Some, None, Err, IfOk, IfSome, List, length, take};
-ghost use Rattle.record_io.specs.Puts.{taken_by};
+ghost use Rattle.std.specs.Prelude.{◌≡◌, ◌+◌, ◌-◌, ◌*◌, ◌^◌, ◌≤◌, ◌⊎◌, ℕ, true, false, Option, Some, None, Ok, Err, IfOk, OnOk, IfSome, List, length, take};
+ghost use Rattle.record_io.specs.Puts.{Taken, taken_by};
 ghost use Rattle.record_io.specs.Calls.{OnlyAsks, OnlyCounts};
 ghost use Rattle.chunk_header.specs.Chunks.{ChunkValue};
 ghost use Rattle.meta_chunk.specs.Files.{IsFrame};
+ghost use Rattle.record_writer.specs.MadeFiles.{nothing_made};
 ghost use Rattle.damage_skip.specs.Damage.{Intact, IsDamaged};
-ghost use Rattle.damage_skip.specs.Policies.{IsTest, IsAllowedRegion};
+ghost use Rattle.damage_skip.specs.Pieces.{Piece};
+ghost use Rattle.damage_skip.specs.Policies.{IsTest, IsAllowedRegion, IsRefusedRegion};
 ghost use Rattle.damage_skip.specs.Steps.{IsOnward};
 ghost use Rattle.damage_skip.specs.Takings.{IsTakenByWalk};
+ghost use Rattle.damage_skip.specs.Walkers.{progress_of, test_of};
 ghost use Rattle.damage_skip.specs.declared.regions.Region.{Region};
+ghost use Rattle.repair_copy.specs.Copies.{HasCopied, HasSkipped};
+ghost use Rattle.repair_copy.specs.CopyEnds.{AnswersWalk, CopiesWalk, HasPutOut};
 ghost use Rattle.repair_copy.specs.DamagedRepairs.{RepairsDamage};
 ghost use Rattle.repair_copy.specs.FrontRepairs.{RepairsFront};
-ghost use Rattle.repair_copy.specs.Repairs.{IsRepairWithin, Skips, Repairs};
+ghost use Rattle.repair_copy.specs.Repairs.{IsRepairWithin, Skips, Repairs, end_of_failed};
 ghost use Rattle.repair_copy.specs.ShortRepairs.{RepairsShort};
 
 use crate::copying::{Copied, FailedSink};
@@ -112,34 +117,90 @@ pub fn repair<S: Store, F: Fn(&Region) -> bool + Drop, M: Sink, E: Sink>(
     ensures made { OnlyCounts M.lent M.faults (result ≡ Err RepairEnd.Made) made.old made.new }
     ensures notes { OnlyCounts E.lent E.faults (result ≡ Err RepairEnd.Notes) notes.old notes.new }
 {
-    let mut walker = Walker::new(size, true, policy);
+    let walker = Walker::new(size, true, policy);
     let mut copied = Copied::new();
+    let ended = copy_walk(alloc, store, walker, &mut copied, made, notes)?;
+    end_repair(copied, ended, made)
+}
+
+/// Copies the events of a walk that begins. How it ended: `None` at the file's end.
+fn copy_walk<S: Store, F: Fn(&Region) -> bool + Drop, M: Sink, E: Sink>(
+    alloc: Global,
+    store: &mut S,
+    mut walker: Walker<F>,
+    copied: &mut Copied,
+    made: &mut M,
+    notes: &mut E,
+) -> Result<Option<WalkEnd>, FailedSink>
+    requires told { S.told store.old ≡ Some (progress_of walker).size }
+    requires in_reach { (progress_of walker).size ≤ 2 ^ 60 }
+    requires test { IsTest F.Fn (test_of walker) }
+    requires at_front { ((progress_of walker).place ≡ 0) × ((progress_of walker).stopped ≡ None) }
+    requires keeps_unread { (progress_of walker).keep ≡ true }
+    requires none_copied { (copied.old.file ≡ nothing_made) × (copied.old.begun ≡ false) × (copied.old.regions ≡ 0) }
+    ensures copies { IfSome (S.bytes store.old) (CopiesWalk F.Fn (test_of walker) result copied.new
+        (taken_by (M.taken made.old) None (E.taken notes.old)) (taken_by (M.taken made.new) None (E.taken notes.new))
+        (S.handed store.new - S.handed store.old)) }
+    ensures skipped { OnOk result (HasSkipped F.Fn (test_of walker) copied.new.regions (E.taken notes.old) (E.taken notes.new)) }
+    ensures skips { (cut : FailedSink) → result ≡ Err cut
+        → Skips F.Fn (test_of walker) (Err (end_of_failed cut)) (E.taken notes.old) (E.taken notes.new) }
+    ensures stop { (region : Region) → result ≡ Ok (Some (WalkEnd.Stopped region))
+        → IsOnward (progress_of walker).size region.begin region.end × IsRefusedRegion F.Fn (test_of walker) region }
+    ensures quiet { OnOk result (copied.new.regions ≡ 0 → notes.new ≡ notes.old) }
+    ensures unbegun { OnOk result (copied.new.begun ≡ false → copied.new.file ≡ nothing_made) }
+    ensures small { OnOk result (copied.new.file.place ≤ 64 + 2 * (progress_of walker).size) }
+    ensures few { OnOk result (copied.new.regions ≤ (progress_of walker).size) }
+    ensures store { OnlyAsks S.bytes S.told S.name S.faults (result ≡ Ok (Some WalkEnd.Store)) store.old store.new }
+    ensures made { OnlyCounts M.lent M.faults (result ≡ Err FailedSink.Made) made.old made.new }
+    ensures notes { OnlyCounts E.lent E.faults (result ≡ Err FailedSink.Notes) notes.old notes.new }
+{
     loop {
         match walker.next(alloc, store) {
             Ok(Some(event)) => copied.put(&event, made, notes)?,
-            Ok(None) => {
-                if copied.finish(made).is_err() {
-                    return Err(RepairEnd::Made);
-                }
-                return Ok(Repaired {
-                    totals: copied.file.totals(),
-                    regions: copied.regions,
-                });
+            Ok(None) => return Ok(None),
+            Err(end) => return Ok(Some(end)),
+        }
+    }
+}
+
+/// Puts out what is held where a walk ended, and answers how the repair did.
+fn end_repair<M: Sink>(
+    mut copied: Copied,
+    ended: Option<WalkEnd>,
+    made: &mut M,
+) -> Result<Repaired, RepairEnd>
+    requires unbegun { copied.begun ≡ false → copied.file ≡ nothing_made }
+    ensures answer { AnswersWalk ended result }
+    ensures put { (before : Taken) (notes : Option (List ℕ)) (events : List Piece)
+        → HasCopied before (taken_by (M.taken made.old) None notes) copied events
+        → HasPutOut result (M.faults made.old) (M.faults made.new) before (taken_by (M.taken made.new) None notes) events }
+    ensures regions { IfOk result (λ repaired. repaired.regions ≡ copied.regions) }
+    ensures bounds { (size : ℕ) → copied.file.place ≤ 64 + 2 * size → copied.regions ≤ size → IfOk result (IsRepairWithin size) }
+    ensures made { OnlyCounts M.lent M.faults (result ≡ Err RepairEnd.Made) made.old made.new }
+{
+    match ended {
+        None => {
+            if copied.finish(made).is_err() {
+                return Err(RepairEnd::Made);
             }
-            Err(WalkEnd::Stopped(region)) => {
-                if copied.finish(made).is_err() {
-                    return Err(RepairEnd::Made);
-                }
-                return Err(RepairEnd::Stopped(region));
+            Ok(Repaired {
+                totals: copied.file.totals(),
+                regions: copied.regions,
+            })
+        }
+        Some(WalkEnd::Stopped(region)) => {
+            if copied.finish(made).is_err() {
+                return Err(RepairEnd::Made);
             }
-            Err(WalkEnd::Store) => {
-                copied.break_off(made);
-                return Err(RepairEnd::Store);
-            }
-            Err(WalkEnd::Memory) => {
-                copied.break_off(made);
-                return Err(RepairEnd::Memory);
-            }
+            Err(RepairEnd::Stopped(region))
+        }
+        Some(WalkEnd::Store) => {
+            copied.break_off(made);
+            Err(RepairEnd::Store)
+        }
+        Some(WalkEnd::Memory) => {
+            copied.break_off(made);
+            Err(RepairEnd::Memory)
         }
     }
 }

@@ -5,18 +5,18 @@ use Rattle.record_writer.specs.MadeFiles.{nothing_made}
 use Rattle.damage_skip.specs.Takings.{IsTakenFrom}
 use Rattle.damage_skip.specs.Walks.{StandsIn}
 use Rattle.repair_copy.specs.Copies.{HasSkipped, HasWalked}
-use Rattle.repair_copy.proofs.repairs.repair.Given as goal
+use Rattle.repair_copy.proofs.repairs.copy_walk.Given as goal
 
 abbrev pub invariant-loop-event : goal.invariant-loop-event
 invariant-loop-event g l = record {
-  same_size : l.walker.progress.size ≡ l.fn.size;
+  same_size : l.walker.progress.size ≡ l.fn.walker.progress.size;
   keeps : l.walker.progress.keep ≡ true;
   going_on : l.walker.progress.stopped ≡ None;
-  same_test : l.walker.policy.test ≡ l.fn.policy.test;
+  same_test : l.walker.policy.test ≡ l.fn.walker.policy.test;
   stands : StandsIn (g.S.Store.bytes l.store) (g.S.Store.told l.store) l.walker.progress;
-  copied : IfSome (g.S.Store.bytes l.fn.store) (HasWalked g.F.Fn l.fn.policy.test l.walker.progress.place l.copied
+  copied : IfSome (g.S.Store.bytes l.fn.store) (HasWalked g.F.Fn l.fn.walker.policy.test l.walker.progress.place l.copied
       (taken_by (g.M.Sink.taken l.fn.made) None (g.E.Sink.taken l.fn.notes)) (taken_by (g.M.Sink.taken l.made) None (g.E.Sink.taken l.notes)));
-  skipped : HasSkipped g.F.Fn l.fn.policy.test l.copied.regions (g.E.Sink.taken l.fn.notes) (g.E.Sink.taken l.notes);
+  skipped : HasSkipped g.F.Fn l.fn.walker.policy.test l.copied.regions (g.E.Sink.taken l.fn.notes) (g.E.Sink.taken l.notes);
   quiet : l.copied.regions ≡ 0 → l.notes ≡ l.fn.notes;
   unbegun : l.copied.begun ≡ false → l.copied.file ≡ nothing_made;
   going : l.copied.file.spent ≡ false;
