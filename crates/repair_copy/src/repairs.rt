@@ -123,7 +123,7 @@ pub fn repair<S: Store, F: Fn(&Region) -> bool + Drop, M: Sink, E: Sink>(
     end_repair(copied, ended, made)
 }
 
-/// Copies the events of a walk that begins. How it ended: `None` at the file's end.
+/// Copies the events of a walk from its front on, and tells how it ended: `None` at the file's end.
 fn copy_walk<S: Store, F: Fn(&Region) -> bool + Drop, M: Sink, E: Sink>(
     alloc: Global,
     store: &mut S,
@@ -163,7 +163,7 @@ fn copy_walk<S: Store, F: Fn(&Region) -> bool + Drop, M: Sink, E: Sink>(
     }
 }
 
-/// Puts out what is held where a walk ended, and answers how the repair did.
+/// Puts out what is held where a walk ended, and tells how the repair does.
 fn end_repair<M: Sink>(
     mut copied: Copied,
     ended: Option<WalkEnd>,

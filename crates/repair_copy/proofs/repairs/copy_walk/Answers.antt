@@ -53,7 +53,7 @@ returns-in_err-put-in-Ok-Some-clause-copies g c =
     cut_within g.F.Fn c.args.walker.policy.test _ _ c.loop-event.walker.progress.keep c.loop-event.walker.progress.place c.next.new.self.progress.place kept.store.same_bytes kept.keeps
     c.loop-event.copied _ _ _ _ (piece_of c.in-Ok-Some.event) c.in_err-put-in-Ok-Some.field-0.0 c.from_residual.result _ (p.1 ∙ ap Err p.2) kept.copied (on g at).past
     (allowed g at)
-    (c.in_err-put-in-Ok-Some.ensures.front c.in_err-put-in-Ok-Some.field-0.0 refl)
+    (c.in_err-put-in-Ok-Some.ensures.front c.in_err-put-in-Ok-Some.field-0.0 (cc))
     (called-on _ _ c.loop-event.walker.progress.keep true 0 c.loop-event.walker.progress.place c.next.new.self.progress.place _
     (Some c.in-Ok-Some.event) _ _ _ kept.store.same_bytes kept.keeps (ap Ok c.in-Ok-Some.field-0-is) kept.taken c.in-Ok-Some.ensures.takes)
 

@@ -11,6 +11,9 @@ use Rattle.repair_copy.proofs.WalkEnds.{quiet_ended, failed-not_short, repairs_e
 use Rattle.repair_copy.proofs.repairs.repair.Goals as goal
 use Rattle.repair_copy.proofs.repairs.repair.Goals.{In_ok-ended}
 
+pub copy_walk-requires-clause-keeps_unread : goal.copy_walk-requires-clause-keeps_unread
+copy_walk-requires-clause-keeps_unread g c = c.new-walker.ensures.keep
+
 pub returns-in_err-ended-clause-repairs : goal.returns-in_err-ended-clause-repairs
 returns-in_err-ended-clause-repairs g c =
     let p = err_from_is_err_and c.from_residual.result c.from_residual.ensures.1 in
