@@ -1,17 +1,16 @@
 -- What the words of an accepted command say is within its limits.
-use Rattle.std.proofs.Common.{if◌then◌else◌, ◌≡◌, ℕ, ◌≤◌, Bool, true, false, Option, Some, None, List, [], ◌∷◌, option_map, codes, refl, sym, subst}
+use Rattle.std.proofs.Common.{if◌then◌else◌, ◌≡◌, ℕ, Bool, true, false, Option, Some, None, List, [], ◌∷◌, option_map, codes, refl, sym, subst}
 use Rattle.std.specs.Option.{IfSome}
 use Rattle.std.specs.Str.{bytes_eq}
-use Rattle.record_writer.specs.Written.{AreInLimits}
 use Rattle.riegeli_tool.specs.declared.command.Command.{Command}
 use Rattle.riegeli_tool.specs.declared.command.Command.TheVariants.{Write, Show, Recover, Verify, Seek, Repair, Sample, Join, Ranges, Append, Collect}
 use Rattle.show_found.specs.SeekWords.{seek_words_of}
 use Rattle.show_files.specs.ShowWords.{show_words_of}
 use Rattle.show_damaged.specs.RecoverWords.{goes_past_damage, recover_words_of}
 use Rattle.show_files.specs.VerifyWords.{verify_words_of}
-use Rattle.record_ranges.specs.RangesWords.{most_parts, ranges_words_of}
+use Rattle.record_ranges.specs.RangesWords.{ranges_words_of}
 use Rattle.riegeli_tool.specs.RepairWords.{repair_words_of}
-use Rattle.sample_records.specs.SampleWords.{most_records, sample_words_of}
+use Rattle.sample_records.specs.SampleWords.{sample_words_of}
 use Rattle.sample_records.proofs.SampleLimits.{sample_words_of-within}
 use Rattle.join_files.specs.JoinWords.{join_words_of}
 use Rattle.collect_files.specs.CollectWords.{collect_words_of}
@@ -21,30 +20,20 @@ use Rattle.write_lines.proofs.WriteLimits.{line_words_of-within}
 use Rattle.record_ranges.proofs.RangesLimits.{ranges_words_of-within}
 use Rattle.riegeli_tool.specs.AppendWords.{append_words_of}
 use Rattle.riegeli_tool.proofs.AppendLimits.{append_words_of-within}
-use Rattle.riegeli_tool.specs.Commands.{command_of, takes, accepted_of, accepted}
-
--- what the words of a command say is within its limits
-abbrev pub IsWithin : Command → Type 0
-IsWithin (Write words) = AreInLimits words.options
-IsWithin (Sample words) = AreInLimits words.options × (words.count ≤ most_records)
-IsWithin (Join words) = (1 ≤ words.count) × (words.count ≤ 64)
-IsWithin (Ranges words) = (1 ≤ words.parts) × (words.parts ≤ most_parts)
-IsWithin (Append words) = AreInLimits words.write.options
-IsWithin (Collect words) = (1 ≤ words.count) × (words.count ≤ 16)
-IsWithin other = Unit {0}
+use Rattle.riegeli_tool.specs.Commands.{command_of, takes, accepted_of, accepted, IsWithinLimits}
 
 -- so it is of either of two commands
-either : (b : Bool) (first second : Option Command) → IfSome first IsWithin → IfSome second IsWithin → IfSome (if b then first else second) IsWithin
+either : (b : Bool) (first second : Option Command) → IfSome first IsWithinLimits → IfSome second IsWithinLimits → IfSome (if b then first else second) IsWithinLimits
 either true first second h g = h
 either false first second h g = g
 
 -- and of one that words say
-of_words : {W : Type 0} (command : W → Command) (words : Option W) → ((w : W) → words ≡ Some w → IsWithin (command w))
-    → IfSome (option_map command words) IsWithin
+of_words : {W : Type 0} (command : W → Command) (words : Option W) → ((w : W) → words ≡ Some w → IsWithinLimits (command w))
+    → IfSome (option_map command words) IsWithinLimits
 of_words command None h = tt
 of_words command (Some w) h = h w refl
 
-command_of-within : (words : List (List ℕ)) → IfSome (command_of words) IsWithin
+command_of-within : (words : List (List ℕ)) → IfSome (command_of words) IsWithinLimits
 command_of-within [] = tt
 command_of-within (name ∷ words) =
     let all : List (List ℕ) = name ∷ words in
@@ -60,10 +49,10 @@ command_of-within (name ∷ words) =
     (either (bytes_eq name (codes "append")) _ _ (of_words Append (append_words_of all) (append_words_of-within all))
     (either (bytes_eq name (codes "collect")) _ None (of_words Collect (collect_words_of all) (files_words_of-within 16 all)) tt)))))))))
 
-accepted_of-within : (command : Option Command) (count : ℕ) → IfSome command IsWithin → IfSome (accepted_of command count) IsWithin
+accepted_of-within : (command : Option Command) (count : ℕ) → IfSome command IsWithinLimits → IfSome (accepted_of command count) IsWithinLimits
 accepted_of-within None count h = tt
 accepted_of-within (Some command) count h = either (takes command count) (Some command) None h tt
 
-pub accepted-within : (words : List (List ℕ)) (count : ℕ) (command : Command) → Some command ≡ accepted words count → IsWithin command
+pub accepted-within : (words : List (List ℕ)) (count : ℕ) (command : Command) → Some command ≡ accepted words count → IsWithinLimits command
 accepted-within words count command is =
-    subst (λ (c : Option Command). IfSome c IsWithin) (sym is) (accepted_of-within (command_of words) count (command_of-within words))
+    subst (λ (c : Option Command). IfSome c IsWithinLimits) (sym is) (accepted_of-within (command_of words) count (command_of-within words))

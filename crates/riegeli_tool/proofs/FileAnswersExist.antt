@@ -20,7 +20,7 @@ use Rattle.show_damaged.specs.RecoverCommand.{IsRecovered}
 use Rattle.show_files.specs.VerifyCommand.{IsVerified}
 use Rattle.riegeli_tool.specs.RepairCommand.{end_puts, IsRepaired}
 use Rattle.sample_records.specs.SampleCommand.{sample_answer}
-use Rattle.riegeli_tool.specs.Commands.{stores_of, takes, command_of, accepted_of, accepted}
+use Rattle.riegeli_tool.specs.Commands.{stores_of, takes, command_of, accepted_of, accepted, IsWithinLimits}
 use Rattle.riegeli_tool.specs.CommandAnswers.{IsAnswerTo, meaning_of}
 use Rattle.run_answers.specs.Meanings.{Read}
 use Rattle.run_answers.proofs.OneAnswer.{of_file_exists}
@@ -31,7 +31,7 @@ use Rattle.show_found.proofs.OneSought.{sought_exists}
 use Rattle.join_files.proofs.JoinAnswers.{join_exists}
 use Rattle.collect_files.proofs.CollectAnswers.{collect_exists}
 use Rattle.riegeli_tool.specs.AppendCommand.{lines_taken}
-use Rattle.riegeli_tool.proofs.AcceptedLimits.{IsWithin, accepted-within}
+use Rattle.riegeli_tool.proofs.AcceptedLimits.{accepted-within}
 use Rattle.record_ranges.proofs.RangesAnswers.{ranges_exists}
 use Rattle.riegeli_tool.proofs.AppendAnswers.{grown_exists}
 
@@ -61,7 +61,7 @@ accepted-takes (Some command) count known is = kept command count known (takes c
 
 -- and has an answer
 command_answered : (command : Option Command) (r : Read)
-    → ((known : Command) → command ≡ Some known → (stores_of known ≡ length r.files) × IsWithin known) → AllByRecursion AreBytes r.files
+    → ((known : Command) → command ≡ Some known → (stores_of known ≡ length r.files) × IsWithinLimits known) → AllByRecursion AreBytes r.files
     → AreBytes r.grown → (meaning_of command).supposes r → (answer : Answer) × IsAnswerTo command r answer
 command_answered None r many bytes grown supposed = (usage, refl)
 command_answered (Some (Write words)) r many bytes grown supposed = (write_answer words r.input, refl)

@@ -8,3 +8,4 @@ pub mod PastDamage
 pub mod AppendWords
 pub mod AppendCommand
 pub mod AppendingEnds
+pub mod Unused

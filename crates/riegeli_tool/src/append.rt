@@ -26,7 +26,7 @@ use std::thread::Threads;
 use write_lines::{LineFeed, MOST_INPUT, end_with_stop};
 
 /// What the lines of an input are not appended past.
-#[derive(Clone, Copy, Debug, PartialEq, Eq)]
+#[derive(Clone, Copy)]
 pub(crate) enum Unappended {
     /// The old file is refused.
     Refused(Fault),

@@ -6,7 +6,7 @@ use word_options::value_given;
 use write_lines::write_words::{WriteWords, line_words};
 
 /// What the words of `append` say.
-#[derive(Clone, Copy, Debug, PartialEq, Eq)]
+#[derive(Clone, Copy)]
 pub(crate) struct AppendWords {
     /// How records are written, with the place of the grown file among the words.
     pub write: WriteWords,

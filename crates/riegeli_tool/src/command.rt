@@ -13,7 +13,7 @@ use word_options::FilesWords;
 use write_lines::write_words::WriteWords;
 
 /// A command, with what its words say.
-#[derive(Debug, Drop)]
+#[derive(Drop)]
 pub(crate) enum Command<'a> {
     Write(WriteWords),
     Show(ShowWords),

@@ -6,7 +6,7 @@ use show_damaged::recover_words::most;
 use word_options::{are_words_of, is_same_at, two_files};
 
 /// What the words of `repair` say.
-#[derive(Clone, Copy, Debug, PartialEq, Eq)]
+#[derive(Clone, Copy)]
 pub(crate) struct RepairWords {
     /// The most bytes of a region that is skipped, where they are bounded.
     pub most: Option<u64>,

@@ -66,8 +66,5 @@ fn show_command<'a>(words: &'a [String]) -> Option<Command<'a>>
 pub(crate) fn accept<'a>(words: &'a [String], count: usize) -> Option<Command<'a>>
     ensures { result ≡ accepted (map string_bytes words.now) count }
 {
-    match parse(words) {
-        Some(command) if command.takes(count) => Some(command),
-        _ => None,
-    }
+    parse(words).filter(|command| command.takes(count))
 }
