@@ -1,5 +1,5 @@
 -- Values counted by hand, computed from the definitions. The hashes are those of an independent program.
-use Rattle.std.proofs.Common.{◌≡◌, ◌∙◌, ℕ, ◌+◌, ◌-◌, ◌^◌, ◌<◌, ◌≤◌, Some, None, Bool, false, true, List, [], ◌∷◌, ◌++◌, length, take, set, replicate, slice_index, lit<, lit≤, refl, sym, ap, subst, inl, inr, arith}
+use Rattle.std.proofs.Common.{◌≡◌, ◌∙◌, ℕ, ◌+◌, ◌-◌, ◌^◌, ◌<◌, ◌≤◌, Some, None, Err, Bool, false, true, List, [], ◌∷◌, ◌++◌, length, take, set, replicate, slice_index, lit<, lit≤, refl, sym, ap, subst, inl, inr, arith}
 use Rattle.std.specs.Prelude.{slice_range}
 use Rattle.std.proofs.lemmas.Option.{same_Some}
 use Rattle.highway_hash.specs.HighwayHash.{hash_of, finished, after_remainder, after_packets, finishing_round, updated, mixed, multiplied, zipped, reset, lanes_of, remainder_packet}
@@ -18,6 +18,7 @@ use Rattle.meta_chunk.specs.Laid.{IsLaid, laid_bytes}
 use Rattle.chunk_reader.specs.Places.{header_bytes_at, header_at, end_by, end_at, chunk_at}
 use Rattle.chunk_reader.specs.Reasons.{HasBadContents, ContentApplies, IsWrongBlock, Applies, NoneOf, IsFirstOf, content_reasons, unpassed_reasons}
 use Rattle.chunk_reader.specs.Blocks.{TellsBegin}
+use Rattle.chunk_reader.specs.Pieces.{TellsUnread}
 use Rattle.chunk_reader.specs.Holders.{ArePlacesBetween, IsOnWay, IsHolder, IsHolderFault}
 use Rattle.chunk_reader.specs.Searches.{MayAnswerAt, AnswersAt, HasRecordsAt, SearchGives, IsSearchFault}
 use Rattle.chunk_reader.specs.SearchBounds.{length_of_chunk, chunks_without_records, greatest_length_from, digit_count_of_blocks, position_bound, key_bound}
@@ -195,6 +196,14 @@ hash_before_contents : (keep : Bool) → IsFirstOf (ContentApplies 0 empty) (con
 unfolding empty hash_of finished after_remainder after_packets finishing_round updated mixed multiplied zipped reset lanes_of remainder_packet
 hash_before_contents false = inl (λ same. omega (arith, same), refl)
 hash_before_contents true = inl (λ same. omega (arith, same), refl)
+
+-- so wrong contents aren't told there where a file is verified
+contents_behind_hash : ¬ TellsUnread 0 empty (Err why.Contents)
+unfolding empty hash_of finished after_remainder after_packets finishing_round updated mixed multiplied zipped reset lanes_of remainder_packet
+contents_behind_hash (inl told) =
+    let same : why.Contents ≡ why.DataHash = told.1 in
+    absurd (cc)
+contents_behind_hash (inr behind) = behind.0 (λ same. omega (arith, same))
 
 -- so the file with a changed header has that fault behind its first chunk
 changed_begins : BeginsWithSignature (set three 70 0)
