@@ -1,8 +1,7 @@
 -- What holds of the machine after any run.
-use Rattle.std.proofs.Common.{◌≡◌, ℕ, zero, suc, ◌+◌, ◌-◌, ◌<◌, ◌≤◌, Some, List, [], ◌∷◌, ◌++◌, length, set, replicate, ltb, refl, sym, subst, inl, inr, arith}
-use Rattle.std.specs.List.{AllByRecursion, flat_map, sum_by, slice_get}
-use Rattle.std.proofs.lemmas.Bool.{cond_both, cond-true, cond-false, cases_lt, lt-ltb, le-ltb, ltb-true, ltb-false}
-use Rattle.std.proofs.lemmas.List.Sums.{sum_by-cons}
+use Rattle.std.proofs.Common.{◌≡◌, ℕ, zero, suc, ◌+◌, ◌<◌, ◌≤◌, List, [], ◌∷◌, ◌++◌, set, replicate, ltb, refl, sym, subst, arith}
+use Rattle.std.specs.List.{AllByRecursion, flat_map}
+use Rattle.std.proofs.lemmas.Bool.{cond_both, cond-true, cond-false, lt-ltb, le-ltb, ltb-true, ltb-false}
 use Rattle.number_shares.specs.Once.{HasEachBelow, times}
 use Rattle.chunk_workers.specs.DrawMachine.{Hand, Machine, IsDraw, IsHand, IsCounted, empty_hand, start_of, with_mine, with_past, drawn, numbers_in}
 use Rattle.number_shares.proofs.Lists.{all_at, all_set, all_push, sum_by-set_at}

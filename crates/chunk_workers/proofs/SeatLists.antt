@@ -1,7 +1,5 @@
 -- Lists of seats, one seat after another.
-use Rattle.std.proofs.Common.{◌≡◌, ◌≢◌, ◌∙◌, ℕ, ◌≤◌, List, [], ◌∷◌, ◌++◌, length, get_or, refl, sym, ap, subst, All, arith}
-use Rattle.std.specs.List.{flat_map}
-use Rattle.std.proofs.lemmas.List.{append_assoc, length-append, get_or_append_left}
+use Rattle.std.proofs.Common.{◌≡◌, ◌≢◌, ◌≤◌, List, [], ◌∷◌, length, All, arith}
 use Rattle.chunk_workers.proofs.Runs.{front_nil}
 use Rattle.chunk_workers.specs.Seats.{BelongsTo, DrawsValue, SeatValue, past_by}
 

@@ -8,7 +8,6 @@ use Rattle.chunk_reader.specs.declared.reasons.ReadEnd.{ReadEnd}
 use Rattle.chunk_reader.specs.declared.reasons.ReadEnd.TheVariants as read
 use Rattle.record_collect.specs.declared.feeding.Fed.{Fed}
 use Rattle.record_collect.specs.declared.feeding.Fed.TheVariants.{Whole, Front}
-use Rattle.record_collect.specs.declared.gathering.GatherEnd.{GatherEnd}
 use Rattle.record_collect.specs.declared.gathering.GatherEnd.TheVariants as gather
 use Rattle.record_collect.specs.Ends.{gather_end_of}
 use Rattle.record_collect.specs.Takings.{AreRead, IsFirstStopped, IsRead, both_taken}

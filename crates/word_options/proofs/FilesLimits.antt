@@ -1,5 +1,5 @@
 -- What words say that name several files is within its limits.
-use Rattle.std.proofs.Common.{if◌then◌else◌, ◌≡◌, ◌+◌, ◌-◌, ◌&&◌, ℕ, ◌≤◌, Bool, true, false, Option, Some, None, List, [], length, refl, ap, arith}
+use Rattle.std.proofs.Common.{if◌then◌else◌, ◌≡◌, ◌+◌, ◌-◌, ◌&&◌, ℕ, ◌≤◌, Bool, true, false, Some, None, List, [], length, refl, ap, arith}
 use Rattle.std.proofs.lemmas.Bool.{and_parts, leb-true}
 use Rattle.word_options.specs.declared.many_files.FilesWords.{FilesWords}
 use Rattle.word_options.specs.FilesWords.{files_words_of, is_read_too, may_be_files}

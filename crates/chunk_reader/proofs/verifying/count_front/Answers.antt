@@ -4,7 +4,7 @@ use Rattle.record_values.specs.declared.file_totals.Totals.{Totals}
 use Rattle.chunk_reader.specs.Faults.{IsVerdict}
 use Rattle.chunk_reader.specs.Progress.{AreInBounds, AreReadFrom}
 use Rattle.chunk_reader.proofs.FirstChunks.{AreInBounds-signature, signature_read}
-use Rattle.chunk_reader.proofs.FrontsRead.{AreInBounds-none, front_unsigned, front_refused, front_whole}
+use Rattle.chunk_reader.proofs.FrontsRead.{front_unsigned, front_refused}
 use Rattle.chunk_reader.proofs.VerifySteps.{verified_totals, verified_on}
 use Rattle.chunk_reader.proofs.verifying.count_front.Goals as goal
 

@@ -1,4 +1,4 @@
-use Rattle.std.proofs.Common.{◌++◌, ◌∷◌, List, ℕ, codes, decimal, rules}
+use Rattle.std.proofs.Common.{◌++◌, ◌∷◌, codes, decimal, rules}
 use Rattle.std.proofs.lemmas.Result.{on_ok_weaker, on_err_weaker}
 use Rattle.record_io.proofs.Calls.{OnErr-any, TakesFront-longer}
 use Rattle.chunk_reader.specs.Names.{name_of}
