@@ -1,9 +1,9 @@
 -- How a repair ends where its walk did, whether the file's bytes are told or not.
-use Rattle.std.proofs.Common.{◌≡◌, ◌∙◌, ℕ, ◌≤◌, Bool, true, ◌⊎◌, inl, inr, Option, Some, None, Result, Ok, Err, IfOk, IfSome, List, [], ◌∷◌, length, refl, sym, subst, arith}
+use Rattle.std.proofs.Common.{◌≡◌, ◌∙◌, ℕ, ◌≤◌, Bool, true, ◌⊎◌, inl, inr, Option, Some, None, Result, Ok, Err, IfOk, IfSome, List, [], ◌∷◌, length, refl, sym, subst}
 use Rattle.std.specs.Fn.{Shared}
 use denote.Ref.{Bor}
-use Rattle.record_io.specs.Outside.{Rose}
 use Rattle.record_io.specs.Puts.{Put, Taken}
+use Rattle.record_io.proofs.ManyStores.{Rose-after}
 use Rattle.meta_chunk.specs.Counts.{totals_of}
 use Rattle.meta_chunk.specs.Files.{signature}
 use Rattle.record_writer.specs.MadeFiles.{totals_made}
@@ -48,17 +48,13 @@ put_store f g x b events h = record { part = h.part; went = h.went; took = h.too
 pub put_memory : (f g : ℕ) (x b : Taken) (events : List Piece) → HasPutAtFault f g x b events → HasPutOut (Err end.Memory) f g x b events
 put_memory f g x b events h = record { part = h.part; went = h.went; took = h.took; counted = tt }
 
--- faults that rose since a count that was no smaller, and what went out then
-rose_since : (faults between faults_then : ℕ) → faults ≤ between → Rose between faults_then → Rose faults faults_then
-rose_since faults between faults_then rises (inl more) = inl (omega arith)
-rose_since faults between faults_then rises (inr most) = inr most
-
+-- and what went out of them where a count of faults rose since it was no greater
 at_fault_since : (faults between faults_then : ℕ) (events : List Piece) (part : List Put) → faults ≤ between
     → WentOutAtFault between faults_then events part → WentOutAtFault faults faults_then events part
 at_fault_since faults between faults_then [] part rises none = none
 at_fault_since faults between faults_then (e ∷ events) part rises (inl all) = inl all
 at_fault_since faults between faults_then (e ∷ events) part rises (inr (rose, rest, is)) =
-    inr (rose_since faults between faults_then rises rose, rest, is)
+    inr (Rose-after faults between faults_then rises rose, rest, is)
 
 went_since : (result : Result Repaired RepairEnd) (faults between faults_then : ℕ) (events : List Piece) (part : List Put) → faults ≤ between
     → WentOut result between faults_then events part → WentOut result faults faults_then events part

@@ -9,7 +9,6 @@ ghost use Rattle.damage_skip.specs.Pieces.{Piece};
 ghost use Rattle.damage_skip.specs.Policies.{IsTest, IsAllowedRegion, IsRefusedRegion};
 ghost use Rattle.damage_skip.specs.Steps.{IsOnward};
 ghost use Rattle.damage_skip.specs.Takings.{IsTakenByWalk};
-ghost use Rattle.damage_skip.specs.Walkers.{progress_of, test_of};
 ghost use Rattle.damage_skip.specs.declared.regions.Region.{Region};
 ghost use Rattle.repair_copy.specs.Copies.{HasCopied, HasSkipped};
 ghost use Rattle.repair_copy.specs.CopyEnds.{AnswersWalk, CopiesWalk, HasPutOut};
@@ -117,43 +116,42 @@ pub fn repair<S: Store, F: Fn(&Region) -> bool + Drop, M: Sink, E: Sink>(
     ensures made { OnlyCounts M.lent M.faults (result ≡ Err RepairEnd.Made) made.old made.new }
     ensures notes { OnlyCounts E.lent E.faults (result ≡ Err RepairEnd.Notes) notes.old notes.new }
 {
-    let walker = Walker::new(size, true, policy);
     let mut copied = Copied::new();
-    let ended = copy_walk(alloc, store, walker, &mut copied, made, notes)?;
+    let ended = copy_walk(alloc, store, size, policy, &mut copied, made, notes)?;
     end_repair(copied, ended, made)
 }
 
-/// Copies the events of a walk from its front on, and tells how it ended: `None` at the file's end.
+/// Copies the events of a file of so many bytes, and tells how their walk ended: `None` at the file's end.
 fn copy_walk<S: Store, F: Fn(&Region) -> bool + Drop, M: Sink, E: Sink>(
     alloc: Global,
     store: &mut S,
-    mut walker: Walker<F>,
+    size: u64,
+    policy: Policy<F>,
     copied: &mut Copied,
     made: &mut M,
     notes: &mut E,
 ) -> Result<Option<WalkEnd>, FailedSink>
-    requires told { S.told store.old ≡ Some (progress_of walker).size }
-    requires in_reach { (progress_of walker).size ≤ 2 ^ 60 }
-    requires test { IsTest F.Fn (test_of walker) }
-    requires at_front { ((progress_of walker).place ≡ 0) × ((progress_of walker).stopped ≡ None) }
-    requires keeps_unread { (progress_of walker).keep ≡ true }
+    requires told { S.told store.old ≡ Some size }
+    requires in_reach { size ≤ 2 ^ 60 }
+    requires test { IsTest F.Fn policy.test }
     requires none_copied { (copied.old.file ≡ nothing_made) × (copied.old.begun ≡ false) × (copied.old.regions ≡ 0) }
-    ensures copies { IfSome (S.bytes store.old) (CopiesWalk F.Fn (test_of walker) result copied.new
+    ensures copies { IfSome (S.bytes store.old) (CopiesWalk F.Fn policy.test result copied.new
         (taken_by (M.taken made.old) None (E.taken notes.old)) (taken_by (M.taken made.new) None (E.taken notes.new))
         (S.handed store.new - S.handed store.old)) }
-    ensures skipped { OnOk result (HasSkipped F.Fn (test_of walker) copied.new.regions (E.taken notes.old) (E.taken notes.new)) }
+    ensures skipped { OnOk result (HasSkipped F.Fn policy.test copied.new.regions (E.taken notes.old) (E.taken notes.new)) }
     ensures skips { (cut : FailedSink) → result ≡ Err cut
-        → Skips F.Fn (test_of walker) (Err (end_of_failed cut)) (E.taken notes.old) (E.taken notes.new) }
+        → Skips F.Fn policy.test (Err (end_of_failed cut)) (E.taken notes.old) (E.taken notes.new) }
     ensures stop { (region : Region) → result ≡ Ok (Some (WalkEnd.Stopped region))
-        → IsOnward (progress_of walker).size region.begin region.end × IsRefusedRegion F.Fn (test_of walker) region }
+        → IsOnward size region.begin region.end × IsRefusedRegion F.Fn policy.test region }
     ensures quiet { OnOk result (copied.new.regions ≡ 0 → notes.new ≡ notes.old) }
     ensures unbegun { OnOk result (copied.new.begun ≡ false → copied.new.file ≡ nothing_made) }
-    ensures small { OnOk result (copied.new.file.place ≤ 64 + 2 * (progress_of walker).size) }
-    ensures few { OnOk result (copied.new.regions ≤ (progress_of walker).size) }
+    ensures small { OnOk result (copied.new.file.place ≤ 64 + 2 * size) }
+    ensures few { OnOk result (copied.new.regions ≤ size) }
     ensures store { OnlyAsks S.bytes S.told S.name S.faults (result ≡ Ok (Some WalkEnd.Store)) store.old store.new }
     ensures made { OnlyCounts M.lent M.faults (result ≡ Err FailedSink.Made) made.old made.new }
     ensures notes { OnlyCounts E.lent E.faults (result ≡ Err FailedSink.Notes) notes.old notes.new }
 {
+    let mut walker = Walker::new(size, true, policy);
     loop {
         match walker.next(alloc, store) {
             Ok(Some(event)) => copied.put(&event, made, notes)?,

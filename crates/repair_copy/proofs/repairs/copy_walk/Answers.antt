@@ -32,11 +32,33 @@ on : (g : _) (c : In-Ok-Some g)
 on g c = rw c.in-Ok-Some.field-0-is at c.in-Ok-Some.ensures.goes_on
 
 -- and was allowed where it is a region
-allowed : (g : _) (c : In-Ok-Some g) → AllByRecursion (IsAllowedRegion g.F.Fn c.args.walker.policy.test) (regions_of c.in-Ok-Some.event)
+allowed : (g : _) (c : In-Ok-Some g) → AllByRecursion (IsAllowedRegion g.F.Fn c.args.policy.test) (regions_of c.in-Ok-Some.event)
 allowed g c =
     let e = given g c in
     event_allowed _ _ c.loop-event.walker.policy.test _ _ c.in-Ok-Some.event c.loop-event.invariant.same_test e.bounds
     (omega (arith, c.next.new.self.progress.within, c.in-Ok-Some.ensures.stands.in_reach)) e.allowed
+
+pub loop-event-init : goal.loop-event-init
+loop-event-init g c =
+    let new = c.new-walker.ensures in
+    record {
+      same_size = new.size;
+      keeps = new.keep;
+      going_on = new.going;
+      same_test = new.test;
+      stands = search rules;
+      copied = search rules;
+      skipped = search rules;
+      quiet = search rules;
+      unbegun = search rules;
+      going = search rules;
+      small = search rules;
+      few = search rules;
+      store = search rules;
+      taken = search rules;
+      made = search rules;
+      notes = search rules;
+    }
 
 pub put-requires-clause-fits : goal.put-requires-clause-fits
 put-requires-clause-fits g c =
@@ -50,7 +72,7 @@ returns-in_err-put-in-Ok-Some-clause-copies g c =
     let at = (goal.at.returns-in_err-put-in-Ok-Some-clause-copies g c).In-Ok-Some in
     let kept = c.loop-event.invariant in
     let p = err_from_is_err_and c.from_residual.result c.from_residual.ensures.1 in
-    cut_within g.F.Fn c.args.walker.policy.test _ _ c.loop-event.walker.progress.keep c.loop-event.walker.progress.place c.next.new.self.progress.place kept.store.same_bytes kept.keeps
+    cut_within g.F.Fn c.args.policy.test _ _ c.loop-event.walker.progress.keep c.loop-event.walker.progress.place c.next.new.self.progress.place kept.store.same_bytes kept.keeps
     c.loop-event.copied _ _ _ _ (piece_of c.in-Ok-Some.event) c.in_err-put-in-Ok-Some.field-0.0 c.from_residual.result _ (p.1 ∙ ap Err p.2) kept.copied (on g at).past
     (allowed g at)
     (c.in_err-put-in-Ok-Some.ensures.front c.in_err-put-in-Ok-Some.field-0.0 (cc))
@@ -62,14 +84,14 @@ returns-in_err-put-in-Ok-Some-clause-skips g c =
     let at = (goal.at.returns-in_err-put-in-Ok-Some-clause-skips g c).In-Ok-Some in
     let p = err_from_is_err_and c.from_residual.result c.from_residual.ensures.1 in
     λ cut is.
-    skips_cut g.F.Fn c.args.walker.policy.test cut _ _ _ _ c.in-Ok-Some.event c.loop-event.invariant.skipped
+    skips_cut g.F.Fn c.args.policy.test cut _ _ _ _ c.in-Ok-Some.event c.loop-event.invariant.skipped
     (c.in_err-put-in-Ok-Some.ensures.line_front cut (cc (p.1 ∙ ap Err p.2, is))) (allowed g at)
 
 -- what was copied with the event
 copied : (g : _) (c : In_ok-put-in-Ok-Some g)
     → WalksOn (g.S.Store.bytes c.loop-event.store) c.loop-event.walker.progress c.next.new.self.progress (Ok (Some c.in-Ok-Some.event))
-    → AllByRecursion (IsAllowedRegion g.F.Fn c.args.walker.policy.test) (regions_of c.in-Ok-Some.event)
-    → IfSome (g.S.Store.bytes c.args.store.now) (HasWalked g.F.Fn c.args.walker.policy.test
+    → AllByRecursion (IsAllowedRegion g.F.Fn c.args.policy.test) (regions_of c.in-Ok-Some.event)
+    → IfSome (g.S.Store.bytes c.args.store.now) (HasWalked g.F.Fn c.args.policy.test
     c.next.new.self.progress.place c.put.new.self (taken_by (g.M.Sink.taken c.args.made.now) None (g.E.Sink.taken c.args.notes.now))
     (taken_by (g.M.Sink.taken c.put.new.made) None (g.E.Sink.taken c.put.new.notes)))
 copied g c on allowed =
@@ -113,17 +135,17 @@ few g c there =
 preserved : (g : _) (c : In_ok-put-in-Ok-Some g)
     → IsAllowedEvent g.F.Fn c.loop-event.walker.policy.test c.loop-event.walker.progress.place c.next.new.self.progress.place c.in-Ok-Some.event
     → WalksOn (g.S.Store.bytes c.loop-event.store) c.loop-event.walker.progress c.next.new.self.progress (Ok (Some c.in-Ok-Some.event))
-    → AllByRecursion (IsAllowedRegion g.F.Fn c.args.walker.policy.test) (regions_of c.in-Ok-Some.event)
+    → AllByRecursion (IsAllowedRegion g.F.Fn c.args.policy.test) (regions_of c.in-Ok-Some.event)
     → record {
-      same_size : c.next.new.self.progress.size ≡ c.args.walker.progress.size;
+      same_size : c.next.new.self.progress.size ≡ c.args.size;
       keeps : c.next.new.self.progress.keep ≡ true;
       going_on : c.next.new.self.progress.stopped ≡ None;
-      same_test : c.next.new.self.policy.test ≡ c.args.walker.policy.test;
+      same_test : c.next.new.self.policy.test ≡ c.args.policy.test;
       stands : StandsIn (g.S.Store.bytes c.next.new.store) (g.S.Store.told c.next.new.store) c.next.new.self.progress;
-      copied : IfSome (g.S.Store.bytes c.args.store.now) (HasWalked g.F.Fn c.args.walker.policy.test
+      copied : IfSome (g.S.Store.bytes c.args.store.now) (HasWalked g.F.Fn c.args.policy.test
           c.next.new.self.progress.place c.put.new.self (taken_by (g.M.Sink.taken c.args.made.now) None (g.E.Sink.taken c.args.notes.now))
           (taken_by (g.M.Sink.taken c.put.new.made) None (g.E.Sink.taken c.put.new.notes)));
-      skipped : HasSkipped g.F.Fn c.args.walker.policy.test c.put.new.self.regions (g.E.Sink.taken c.args.notes.now) (g.E.Sink.taken c.put.new.notes);
+      skipped : HasSkipped g.F.Fn c.args.policy.test c.put.new.self.regions (g.E.Sink.taken c.args.notes.now) (g.E.Sink.taken c.put.new.notes);
       quiet : c.put.new.self.regions ≡ 0 → c.put.new.notes ≡ c.args.notes.now;
       unbegun : c.put.new.self.begun ≡ false → c.put.new.self.file ≡ nothing_made;
       going : c.put.new.self.file.spent ≡ false;
@@ -178,7 +200,7 @@ loop-event-preserved g c =
 ended : (g : _) (c : After-next g)
     → IfSome (g.S.Store.bytes c.loop-event.store) (λ file. GoesOn c.loop-event.walker.progress.keep file c.loop-event.walker.progress.place
     c.next.new.self.progress.place [])
-    → IfSome (g.S.Store.bytes c.args.store.now) (HasWalked g.F.Fn c.args.walker.policy.test c.next.new.self.progress.place c.loop-event.copied
+    → IfSome (g.S.Store.bytes c.args.store.now) (HasWalked g.F.Fn c.args.policy.test c.next.new.self.progress.place c.loop-event.copied
     (taken_by (g.M.Sink.taken c.args.made.now) None (g.E.Sink.taken c.args.notes.now))
     (taken_by (g.M.Sink.taken c.loop-event.made) None (g.E.Sink.taken c.loop-event.notes)))
 ended g c none =
@@ -195,9 +217,9 @@ pub returns-in-Ok-None-clause-copies : goal.returns-in-Ok-None-clause-copies
 returns-in-Ok-None-clause-copies g c =
     let at = (goal.at.returns-in-Ok-None-clause-copies g c).After-next in
     let kept = c.loop-event.invariant in
-    walk_ended g.F.Fn c.args.walker.policy.test _ c.next.new.self.progress.place c.loop-event.copied _ _ None _
+    walk_ended g.F.Fn c.args.policy.test _ c.next.new.self.progress.place c.loop-event.copied _ _ None _
     (ended g at (rw c.in-Ok-None.field-0-is at c.in-Ok-None.ensures.goes_on).past)
-    (ends_at_end g.F.Fn c.args.walker.policy.test _ _ c.loop-event.walker.progress.keep c.loop-event.walker.progress.place c.next.new.self.progress.place kept.store.same_bytes kept.keeps
+    (ends_at_end g.F.Fn c.args.policy.test _ _ c.loop-event.walker.progress.keep c.loop-event.walker.progress.place c.next.new.self.progress.place kept.store.same_bytes kept.keeps
     c.loop-event.walker.progress.size (sized g at) (c.in-Ok-None.ensures.ended (ap Ok c.in-Ok-None.field-0-is)))
     (taken-passed _ c.next.new.self.progress.place _
     (called-on _ _ c.loop-event.walker.progress.keep true 0 c.loop-event.walker.progress.place c.next.new.self.progress.place _ None _ _ _
@@ -205,18 +227,18 @@ returns-in-Ok-None-clause-copies g c =
 
 -- where the walk stops, at a region that the test can refuse
 refused : (g : _) (c : In-Err g) (region : Region) → c.in-Err.end ≡ walk.Stopped region
-    → IsRefusedStop g.F.Fn c.args.walker.policy.test c.next.new.self.progress.size c.next.new.self.progress.place region
+    → IsRefusedStop g.F.Fn c.args.policy.test c.next.new.self.progress.size c.next.new.self.progress.place region
 refused g c region is =
     rw (← c.loop-event.invariant.same_test)
     (c.in-Err.ensures.refused region (ap Err is) c.loop-event.invariant.going_on)
 
 there : (g : _) (c : In-Err g) → IsSized (g.S.Store.bytes c.loop-event.store) (Some c.loop-event.walker.progress.size) → (region : Region) → c.in-Err.end ≡ walk.Stopped region
-    → IfSome (g.S.Store.bytes c.args.store.now) (λ file. EndsAt g.F.Fn c.args.walker.policy.test file c.next.new.self.progress.place (Some region))
+    → IfSome (g.S.Store.bytes c.args.store.now) (λ file. EndsAt g.F.Fn c.args.policy.test file c.next.new.self.progress.place (Some region))
 there g c sized region is =
     let kept = c.loop-event.invariant in
     let e = c.in-Err.ensures in
     let stop = refused g c region is in
-    ends_at_region g.F.Fn c.args.walker.policy.test _ _ c.next.new.self.progress.keep c.loop-event.walker.progress.place c.next.new.self.progress.place kept.store.same_bytes
+    ends_at_region g.F.Fn c.args.policy.test _ _ c.next.new.self.progress.keep c.loop-event.walker.progress.place c.next.new.self.progress.place kept.store.same_bytes
     (e.goes_on.same_keep ∙ kept.keeps) c.loop-event.walker.progress.size region sized
     (subst (λ (size : ℕ). IsStop size c.next.new.self.progress.place region) e.goes_on.same_size stop.stop)
     (subst (λ (stopped : Option Region). IfSome (g.S.Store.bytes c.loop-event.store) (λ file.
@@ -228,9 +250,9 @@ pub returns-in-Err-clause-copies : goal.returns-in-Err-clause-copies
 returns-in-Err-clause-copies g c =
     let at = goal.at.returns-in-Err-clause-copies g c in
     let kept = c.loop-event.invariant in
-    walk_ended g.F.Fn c.args.walker.policy.test _ c.next.new.self.progress.place c.loop-event.copied _ _ (Some c.in-Err.end) _
+    walk_ended g.F.Fn c.args.policy.test _ c.next.new.self.progress.place c.loop-event.copied _ _ (Some c.in-Err.end) _
     (ended g at.After-next c.in-Err.ensures.goes_on.past)
-    (ends_with g.F.Fn c.args.walker.policy.test _ _ c.loop-event.walker.progress.keep c.loop-event.walker.progress.place c.next.new.self.progress.place kept.store.same_bytes kept.keeps
+    (ends_with g.F.Fn c.args.policy.test _ _ c.loop-event.walker.progress.keep c.loop-event.walker.progress.place c.next.new.self.progress.place kept.store.same_bytes kept.keeps
     c.in-Err.end (λ is. c.in-Err.ensures.memory (ap Err is)) (there g at.In-Err (sized g at.After-next)))
     (called-to _ _ c.loop-event.walker.progress.keep true 0 c.loop-event.walker.progress.place c.next.new.self.progress.place _ c.in-Err.end _ _ _
     kept.store.same_bytes kept.keeps refl kept.taken c.in-Err.ensures.takes)
@@ -240,7 +262,7 @@ returns-in-Err-clause-stop g c =
     λ region is.
     let at = (goal.at.returns-in-Err-clause-stop g c).In-Err in
     let there = refused g at region (cc is) in
-    let onward : IsOnward c.args.walker.progress.size region.begin region.end =
+    let onward : IsOnward c.args.size region.begin region.end =
     subst (λ (size : ℕ). IsOnward size region.begin region.end) (c.in-Err.ensures.goes_on.same_size ∙ c.loop-event.invariant.same_size)
     (subst (λ (place : ℕ). IsOnward c.next.new.self.progress.size place region.end) (sym there.stop.begin) there.stop.onward) in (
       onward,

@@ -9,14 +9,14 @@ use Rattle.repair_copy.proofs.repairs.copy_walk.Given as goal
 
 abbrev pub invariant-loop-event : goal.invariant-loop-event
 invariant-loop-event g l = record {
-  same_size : l.walker.progress.size ≡ l.fn.walker.progress.size;
+  same_size : l.walker.progress.size ≡ l.fn.size;
   keeps : l.walker.progress.keep ≡ true;
   going_on : l.walker.progress.stopped ≡ None;
-  same_test : l.walker.policy.test ≡ l.fn.walker.policy.test;
+  same_test : l.walker.policy.test ≡ l.fn.policy.test;
   stands : StandsIn (g.S.Store.bytes l.store) (g.S.Store.told l.store) l.walker.progress;
-  copied : IfSome (g.S.Store.bytes l.fn.store) (HasWalked g.F.Fn l.fn.walker.policy.test l.walker.progress.place l.copied
+  copied : IfSome (g.S.Store.bytes l.fn.store) (HasWalked g.F.Fn l.fn.policy.test l.walker.progress.place l.copied
       (taken_by (g.M.Sink.taken l.fn.made) None (g.E.Sink.taken l.fn.notes)) (taken_by (g.M.Sink.taken l.made) None (g.E.Sink.taken l.notes)));
-  skipped : HasSkipped g.F.Fn l.fn.walker.policy.test l.copied.regions (g.E.Sink.taken l.fn.notes) (g.E.Sink.taken l.notes);
+  skipped : HasSkipped g.F.Fn l.fn.policy.test l.copied.regions (g.E.Sink.taken l.fn.notes) (g.E.Sink.taken l.notes);
   quiet : l.copied.regions ≡ 0 → l.notes ≡ l.fn.notes;
   unbegun : l.copied.begun ≡ false → l.copied.file ≡ nothing_made;
   going : l.copied.file.spent ≡ false;

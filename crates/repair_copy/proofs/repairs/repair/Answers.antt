@@ -1,4 +1,4 @@
-use Rattle.std.proofs.Common.{◌≡◌, ◌∙◌, Some, Ok, Err, refl, ap, arith}
+use Rattle.std.proofs.Common.{◌≡◌, ◌∙◌, Some, Ok, Err, refl, ap}
 use Rattle.std.proofs.lemmas.Result.{err_from_is_err_and}
 use Rattle.damage_skip.specs.declared.events.WalkEnd.TheVariants as walk
 use Rattle.damage_skip.specs.Policies.{IsRefusedRegion}
@@ -11,14 +11,11 @@ use Rattle.repair_copy.proofs.WalkEnds.{quiet_ended, failed-not_short, repairs_e
 use Rattle.repair_copy.proofs.repairs.repair.Goals as goal
 use Rattle.repair_copy.proofs.repairs.repair.Goals.{In_ok-ended}
 
-pub copy_walk-requires-clause-keeps_unread : goal.copy_walk-requires-clause-keeps_unread
-copy_walk-requires-clause-keeps_unread g c = c.new-walker.ensures.keep
-
 pub returns-in_err-ended-clause-repairs : goal.returns-in_err-ended-clause-repairs
 returns-in_err-ended-clause-repairs g c =
     let p = err_from_is_err_and c.from_residual.result c.from_residual.ensures.1 in
     repairs_cut g.F.Fn c.args.policy.test _ c.from_residual.result c.in_err-ended.field-0.0 c.copy_walk.new.copied _ _ _ _ _ (p.1 ∙ ap Err p.2)
-    (rw c.new-walker.ensures.test at c.in_err-ended.ensures.copies)
+    c.in_err-ended.ensures.copies
 
 pub returns-in_err-ended-clause-damaged : goal.returns-in_err-ended-clause-damaged
 returns-in_err-ended-clause-damaged g c = repairs_damage g.F.Fn c.args.policy.test _ _ _ _ _ _ (returns-in_err-ended-clause-repairs g c)
@@ -34,20 +31,20 @@ returns-in_err-ended-clause-cut_short g c =
 pub returns-in_err-ended-clause-takes : goal.returns-in_err-ended-clause-takes
 returns-in_err-ended-clause-takes g c =
     taken_of g.F.Fn c.args.policy.test _ (Err c.in_err-ended.field-0.0) c.copy_walk.new.copied _ _ _
-    (rw c.new-walker.ensures.test at c.in_err-ended.ensures.copies)
+    c.in_err-ended.ensures.copies
 
 pub returns-in_err-ended-clause-skips : goal.returns-in_err-ended-clause-skips
 returns-in_err-ended-clause-skips g c =
     let p = err_from_is_err_and c.from_residual.result c.from_residual.ensures.1 in
     skips_failed g.F.Fn c.args.policy.test c.from_residual.result c.in_err-ended.field-0.0 _ _ (p.1 ∙ ap Err p.2)
-    (rw c.new-walker.ensures.test at c.in_err-ended.ensures.skips c.in_err-ended.field-0.0 refl)
+    (c.in_err-ended.ensures.skips c.in_err-ended.field-0.0 refl)
 
 pub returns-clause-repairs : goal.returns-clause-repairs
 returns-clause-repairs g c =
     repairs_ended g.F.Fn c.args.policy.test _ c.end_repair.result c.in_ok-ended.ended c.copy_walk.new.copied _ _ _ _ _ _ _ c.end_repair.ensures.answer
     c.in_ok-ended.ensures.made.never_falls
     (λ before events. c.end_repair.ensures.put before (g.E.Sink.taken c.copy_walk.new.notes) events)
-    (rw c.new-walker.ensures.test at c.in_ok-ended.ensures.copies)
+    c.in_ok-ended.ensures.copies
 
 pub returns-clause-damaged : goal.returns-clause-damaged
 returns-clause-damaged g c = repairs_damage g.F.Fn c.args.policy.test _ _ _ _ _ _ (returns-clause-repairs g c)
@@ -60,25 +57,25 @@ returns-clause-cut_short g c = λ short.
     short_ended g.F.Fn c.args.policy.test _ c.end_repair.result c.in_ok-ended.ended c.copy_walk.new.copied _ _ _ _ _ _ _
     c.in_ok-ended.ensures.made.never_falls
     (λ before events. c.end_repair.ensures.put before (g.E.Sink.taken c.copy_walk.new.notes) events)
-    short (rw c.new-walker.ensures.test at c.in_ok-ended.ensures.copies)
+    short c.in_ok-ended.ensures.copies
 
 pub returns-clause-takes : goal.returns-clause-takes
 returns-clause-takes g c =
     taken_of g.F.Fn c.args.policy.test _ (Ok c.in_ok-ended.ended) c.copy_walk.new.copied _ _ _
-    (rw c.new-walker.ensures.test at c.in_ok-ended.ensures.copies)
+    c.in_ok-ended.ensures.copies
 
 -- the region at which the walk stopped
 stopped : (g : _) (c : In_ok-ended g) (region : Region) → c.in_ok-ended.ended ≡ Some (walk.Stopped region)
     → IsOnward c.args.size region.begin region.end × IsRefusedRegion g.F.Fn c.args.policy.test region
 stopped g c region is =
-    rw c.new-walker.ensures.size at (rw c.new-walker.ensures.test at c.in_ok-ended.ensures.stop region (ap Ok is))
+    c.in_ok-ended.ensures.stop region (ap Ok is)
 
 pub returns-clause-skips : goal.returns-clause-skips
 returns-clause-skips g c =
     let at = (goal.at.returns-clause-skips g c).In_ok-ended in
     skips_ended g.F.Fn c.args.policy.test c.end_repair.result c.in_ok-ended.ended c.copy_walk.new.copied.regions _ _ c.end_repair.ensures.answer
     c.end_repair.ensures.regions (λ region is. (stopped g at region is).1)
-    (rw c.new-walker.ensures.test at c.in_ok-ended.ensures.skipped)
+    c.in_ok-ended.ensures.skipped
 
 pub returns-clause-quiet : goal.returns-clause-quiet
 returns-clause-quiet g c =
@@ -92,5 +89,5 @@ returns-clause-stop g c =
 
 pub returns-clause-bounds : goal.returns-clause-bounds
 returns-clause-bounds g c =
-    c.end_repair.ensures.bounds c.args.size (omega (arith, c.in_ok-ended.ensures.small, c.new-walker.ensures.size))
-    (omega (arith, c.in_ok-ended.ensures.few, c.new-walker.ensures.size))
+    c.end_repair.ensures.bounds c.args.size c.in_ok-ended.ensures.small
+    c.in_ok-ended.ensures.few
