@@ -1,6 +1,6 @@
-//! Tests of the crates below the program, one by one: of what no contract says and no case shows, and of the hash as it is
-//! compiled. Each expected value is published, counted by hand, or of an independent program; but files by several workers
-//! are compared with that by one worker.
+//! Tests of the crates below the program, one by one: of what no contract says and no case shows, as that memory is found and
+//! that threads meet, and of the hash as it is compiled. Each expected value is published, counted by hand, or of an
+//! independent program; but files by several workers are compared with that by one worker.
 #![tactic(auto)]
 
 #[cfg(test)]

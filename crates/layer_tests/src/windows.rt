@@ -3,7 +3,7 @@ ghost use Rattle.std.specs.Prelude.{◌≡◌, ◌^◌, ◌≤◌, ◌∷◌, []
 ghost use Rattle.simple_chunk.specs.Costs.{cost_of};
 
 use crate::meetings::{FIRST_EIGHT, Meeting, MeetingCoder};
-use chunk_workers::{Coder, Draws, Numbered, SimpleCoder, encode_window};
+use chunk_workers::{Coder, Draws, Numbered, encode_window};
 use simple_chunk::Records;
 use std::alloc::{AllocError, Global};
 use std::process::Abort;
@@ -31,18 +31,15 @@ fn numbered_groups(alloc: Global, count: u8) -> Result<Vec<Records>, AllocError>
     Ok(groups)
 }
 
-/// Codes so many groups by so many workers.
+/// Codes so many groups by two workers.
 fn coded_by<R: Threads + Sync, C: Coder + Sync>(
     rt: &R,
     alloc: Global,
-    workers: u32,
     coder: &C,
     count: u8,
-) -> Result<Vec<Numbered>, AllocError>
-    requires workers { (1 ≤ workers) × (workers ≤ 16) }
-{
+) -> Result<Vec<Numbered>, AllocError> {
     let groups = numbered_groups(alloc, count)?;
-    let (draws, seats) = Draws::new(alloc, count as u64, workers)?;
+    let (draws, seats) = Draws::new(alloc, count as u64, 2)?;
     let (chunks, ended) = encode_window(rt, alloc, &draws, seats, coder, &groups)?;
     draws.finish(ended);
     Ok(chunks)
@@ -55,28 +52,17 @@ fn is_coded(chunks: &[Numbered], byte: u8) -> bool {
     chunks.iter().any(|c| c.number == byte as u64 && c.chunk.bytes.as_slice() == data.as_slice())
 }
 
-/// Codes so many groups by so many workers, and asserts that there is one chunk for each number, and the right one.
+/// Codes so many groups by two workers, and asserts that there is one chunk for each number, and the right one.
 fn code_each_once<R: Threads + Abort + Sync, C: Coder + Sync>(
     rt: &R,
     alloc: Global,
-    workers: u32,
     coder: &C,
     count: u8,
-) -> Result<(), AllocError>
-    requires workers { (1 ≤ workers) × (workers ≤ 16) }
-{
-    let chunks = coded_by(rt, alloc, workers, coder, count)?;
+) -> Result<(), AllocError> {
+    let chunks = coded_by(rt, alloc, coder, count)?;
     assert_eq!(rt; chunks.len(), count as usize);
     for byte in 0..count {
         assert!(rt; is_coded(&chunks, byte), "number {byte}");
-    }
-    Ok(())
-}
-
-#[test]
-fn two_groups_have_numbers_0_and_1(rt: HostRuntime) -> Result<(), Fail> {
-    for workers in [1, 2, 3, 16] {
-        code_each_once(&rt, rt.alloc(), workers, &SimpleCoder, 2)?;
     }
     Ok(())
 }
@@ -90,7 +76,7 @@ fn groups_are_coded_while_any_other_is(rt: HostRuntime) -> Result<(), Fail> {
             meeting: &meeting,
             byte,
         };
-        code_each_once(&rt, rt.alloc(), 2, &coder, 8)?;
+        code_each_once(&rt, rt.alloc(), &coder, 8)?;
         assert!(rt; !meeting.gave_up(), "given up on group {byte}");
     }
     Ok(())
