@@ -12,7 +12,7 @@ use Rattle.chunk_reader.specs.declared.reasons.Fault.{Fault}
 use Rattle.record_writer.specs.Feeds.{Rest}
 use Rattle.record_writer.specs.declared.feed.Stop.{Stop}
 use Rattle.record_writer.specs.declared.options.WriteOptions.{WriteOptions}
-use Rattle.record_append.specs.Appends.{GrowsBy, GrowsFrom, HoldsGrownInPart, KeepsFront}
+use Rattle.record_append.specs.Appends.{GrowsBy, GrowsFrom, HoldsGrownInPart}
 use Rattle.record_append.specs.Grown.{IsRefusedToGrow, RefusesFor, bytes_at}
 use Rattle.run_answers.specs.declared.ending.Ending.{Ending}
 use Rattle.run_answers.specs.declared.status.Status.{Status}
@@ -128,11 +128,12 @@ module _ (words : AppendWords) (input input_then : SeenStream) (files : List See
       keeps-whole (append_meaning words) (grows words) input input_then files made made grown grown_then out out_then notes notes_then
       ended is i (omega arith) g o n taken leaves keeps handed
 
-  short : (ended : Status) → IsCutOff ended ⊎ (ended ≡ status.Notes) → IfGrown (append_meaning words) Before After (append_meaning words).may_leave
-      → Keeps (KeepsOld words.cut ended) → KeepsAtEnd (append_meaning words) Before After ended
-  short ended is may_leave keeps =
+  short : (ended : Status) → IsCutOff ended ⊎ (ended ≡ status.Notes) → (ended ≡ status.Out → IfGrown (append_meaning words) Before After (append_meaning words).leaves)
+      → IfGrown (append_meaning words) Before After (append_meaning words).may_leave → Keeps (KeepsOld words.cut ended)
+      → KeepsAtEnd (append_meaning words) Before After ended
+  short ended is leaves may_leave keeps =
       keeps-cut_off (append_meaning words) (grows words) input input_then files made made grown grown_then out out_then notes notes_then
-      ended is i (omega arith) g o n taken may_leave keeps handed
+      ended is i (omega arith) g o n taken leaves may_leave keeps handed
 
   -- nothing was printed
   none_went : out_then.bytes ≡ out.bytes → GoOut Start Worked []
@@ -177,7 +178,7 @@ module _ (words : AppendWords) (input input_then : SeenStream) (files : List See
       → Keeps (KeepsOld words.cut wanted) → Keeps (KeepsOld words.cut status.Notes) → Ended ended
   said ended wanted text says some is other cause may gave leaves may_leave keeps keeps_untold =
       ends-said (append_meaning words) Before After notes ended wanted [] text (Takes-nothing notes.bytes) (omega arith) says some is other may gave
-      (λ none. absurd (cc none)) cause (whole wanted is leaves keeps) (short status.Notes (inr refl) may_leave keeps_untold)
+      (λ none. absurd (cc none)) cause (whole wanted is leaves keeps) (short status.Notes (inr refl) (λ e. absurd (cc e)) may_leave keeps_untold)
 
   -- the file was not grown, and that was said
   ungrown : (ended wanted : Status) (text : List ℕ) → SaysAtEnd ended wanted notes notes_then text → text ≢ [] → IsWhole wanted → wanted ≢ status.Ok
@@ -286,10 +287,12 @@ module _ (words : AppendWords) (input input_then : SeenStream) (files : List See
       → (ended ≢ status.File → ended ≢ status.Grown → OfSizes (append_meaning words) Before After IsInReach)
       → ((r : Read) → IsReadBy (append_meaning words) Before r → (answer : Answer) × (append_meaning words).answers r answer
       × (part : List Put) × Breaks ended part answer.puts × (bytes_to Notes part ≡ []) × GoOut Start Worked part × (IsCutShort ended → part ≡ []))
+      → (ended ≡ status.Out → (r : Read) → IsReadBy (append_meaning words) Before r
+      → (bytes : List ℕ) × (grown_then.bytes ≡ Some bytes) × IsLeft words (Lines r) r.grown bytes)
       → ((r : Read) → IsReadBy (append_meaning words) Before r → (bytes : List ℕ) × (grown_then.bytes ≡ Some bytes) × MayBeLeft words (Lines r) r.grown bytes)
       → HasCause ended (append_meaning words) Before After → Keeps (KeepsOld words.cut ended)
       → TakesThen notes notes_then [] (fault_text ended) → Ended ended
-  cut_off ended cuts within put left cause keeps says =
+  cut_off ended cuts within put whole_left left cause keeps says =
       ends-cut_off (append_meaning words) Before After ended [] cuts within refl says
       (λ r is.
       let (answer, right, part, breaks, none, went, so_far) = put r is in
@@ -297,10 +300,10 @@ module _ (words : AppendWords) (input input_then : SeenStream) (files : List See
       (λ cut_short sound r is.
       let (answer, right, part, breaks, none, went, so_far) = put r is in
       went-so_far (append_meaning words) ended Before After notes r part (so_far cut_short) went (omega arith) says)
-      refl cause (short ended (inl cuts) (λ _. left) keeps)
+      refl cause (short ended (inl cuts) (λ e _. whole_left e) (λ _. left) keeps)
 
   -- before anything was printed
-  unprinted_cut : (ended : Status) → IsCutOff ended → ((puts : List Put) → Breaks ended [] puts)
+  unprinted_cut : (ended : Status) → IsCutOff ended → ended ≢ status.Out → ((puts : List Put) → Breaks ended [] puts)
       → (ended ≢ status.File → ended ≢ status.Grown → OfSizes (append_meaning words) Before After IsInReach)
       → ((r : Read) → IsReadBy (append_meaning words) Before r
       → ((grown_then.bytes ≡ Some r.grown)
@@ -308,18 +311,20 @@ module _ (words : AppendWords) (input input_then : SeenStream) (files : List See
       × (out_then.bytes ≡ out.bytes))
       → HasCause ended (append_meaning words) Before After → Keeps (KeepsOld words.cut ended)
       → TakesThen notes notes_then [] (fault_text ended) → Ended ended
-  unprinted_cut ended cuts breaks within known cause keeps says =
+  unprinted_cut ended cuts other breaks within known cause keeps says =
       cut_off ended cuts within
       (λ r is.
       let found = grown_exists words (Lines r) r.grown (is.grown refl).1 in
       (found.0, found.1, [], breaks found.0.puts, refl, none_went (known r is).1, (λ _. refl)))
+      (λ e. absurd (other e))
       (λ r is. left-in_part words (Lines r) r.grown grown_then.bytes (known r is).0)
       cause keeps says
 
   -- standard output failed
   out_failed : HasTold grown.bytes (λ size. IsInReach (size ∷ []))
       → ((r : Read) → IsReadBy (append_meaning words) Before r → IsTold TakesFront words (Lines r) r.grown grown_then.bytes out.bytes out_then.bytes)
-      → Rose out.faults out_then.faults → Keeps (KeepsFront words.cut) → TakesThen notes notes_then [] (fault_text status.Out) → Ended status.Out
+      → Rose out.faults out_then.faults → Keeps (λ file held. (place : ℕ) × GrowsFrom words.cut file place held)
+      → TakesThen notes notes_then [] (fault_text status.Out) → Ended status.Out
   out_failed (size, within, exact) told rose keeps says =
       cut_off status.Out tt (λ _ _. of_size IsInReach size (inr within) exact within)
       (λ r is.
@@ -336,6 +341,9 @@ module _ (words : AppendWords) (input input_then : SeenStream) (files : List See
         GoOut-out made.bytes out.bytes out_then.bytes notes.bytes last count.1,
         (λ short. absurd short),
       ))
+      (λ _ r is.
+      let (none, place, holds, printed) = told r is in
+      left-grown words (Lines r) r.grown grown_then.bytes (read_size (λ bytes. bytes ≤ most_file_bytes) size within exact r is) (place, holds))
       (λ r is.
       let (none, place, holds, printed) = told r is in
       left-in_part words (Lines r) r.grown grown_then.bytes
@@ -369,14 +377,14 @@ module _ (words : AppendWords) (input input_then : SeenStream) (files : List See
   by_end (Err (end.At (Stopped s count))) ended sized has keeps input_rose grown_rose out_rose read says = by_stop ended s count sized has keeps says
   by_end (Err (end.Cut cut.Input)) ended (used, (size, within, exact)) has keeps input_rose grown_rose out_rose read says =
       subst Ended (sym says.0)
-      (unprinted_cut status.Input tt (λ puts. (puts, refl)) (λ _ _. of_size IsInReach size (inr within) exact within) has
+      (unprinted_cut status.Input tt (λ e. cc e) (λ puts. (puts, refl)) (λ _ _. of_size IsInReach size (inr within) exact within) has
       (refl, input_rose refl) keeps says.1)
   by_end (Err (end.Cut cut.Grown)) ended sized has keeps input_rose grown_rose out_rose read says =
       subst Ended (sym says.0)
-      (unprinted_cut status.Grown tt (λ puts. (puts, refl)) (λ _ other. absurd (other refl)) has (refl, grown_rose refl) keeps says.1)
+      (unprinted_cut status.Grown tt (λ e. cc e) (λ puts. (puts, refl)) (λ _ other. absurd (other refl)) has (refl, grown_rose refl) keeps says.1)
   by_end (Err (end.Cut cut.Memory)) ended (used, (size, within, exact)) has keeps input_rose grown_rose out_rose read says =
       subst Ended (sym says.0)
-      (unprinted_cut status.Memory tt (λ puts. (puts, refl)) (λ _ _. of_size IsInReach size (inr within) exact within) has refl keeps says.1)
+      (unprinted_cut status.Memory tt (λ e. cc e) (λ puts. (puts, refl)) (λ _ _. of_size IsInReach size (inr within) exact within) has refl keeps says.1)
   by_end (Err (end.Cut cut.Out)) ended (used, sized) has keeps input_rose grown_rose out_rose read says =
       subst Ended (sym says.0) (out_failed sized has (out_rose refl) keeps says.1)
   by_end (Err (end.Cut cut.File)) ended (used, sized) has keeps input_rose grown_rose out_rose read says = absurd (cc used)

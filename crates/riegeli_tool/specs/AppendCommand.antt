@@ -74,10 +74,11 @@ MayBeLeft words rest file held =
     (held ≡ file) ⊎ ((length file ≤ most_file_bytes) × HoldsGrownInPart words.write.options words.cut file rest.records (Some held))
 
 -- what the file keeps, by the status, whatever the input: all where it is too long or refused; up to the place to which it is kept
--- where records were put behind that; and one of these where the work was cut off
+-- where records were put behind that, also where standard output failed then; and one of these where the work was cut off before
 abbrev pub KeepsOld : Bool → Status → (file held : List ℕ) → Type 0
 KeepsOld cut status.Ok file held = (place : ℕ) × GrowsFrom cut file place held
 KeepsOld cut status.BadLine file held = (place : ℕ) × GrowsFrom cut file place held
+KeepsOld cut status.Out file held = (place : ℕ) × GrowsFrom cut file place held
 KeepsOld cut status.Refused file held = held ≡ file
 KeepsOld cut status.Limit file held =
     ((most_file_bytes < length file) × (held ≡ file))

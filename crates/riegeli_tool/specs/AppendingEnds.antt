@@ -92,4 +92,5 @@ KeepsOldAtEnd (Ok x) may_cut file held = (place : ℕ) × GrowsFrom may_cut file
 KeepsOldAtEnd (Err end.Limit) may_cut file held = held ≡ file
 KeepsOldAtEnd (Err (end.At (Refused fault))) may_cut file held = held ≡ file
 KeepsOldAtEnd (Err (end.At (Stopped stop count))) may_cut file held = (place : ℕ) × GrowsFrom may_cut file place held
-KeepsOldAtEnd (Err (end.Cut cut)) may_cut file held = KeepsFront may_cut file held
+KeepsOldAtEnd (Err (end.Cut cut.Out)) may_cut file held = (place : ℕ) × GrowsFrom may_cut file place held
+KeepsOldAtEnd (Err (end.Cut other)) may_cut file held = KeepsFront may_cut file held

@@ -90,11 +90,15 @@ module _ (m : Meaning) (grows : GrowsFile m) (input input_then : SeenStream) (fi
   -- where it was cut off, or notes failed
   pub keeps-cut_off : (ended : Status) → IsCutOff ended ⊎ (ended ≡ status.Notes) → input.faults ≤ input_then.faults
       → made.faults ≤ made_then.faults → grown.faults ≤ grown_then.faults → out.faults ≤ out_then.faults → notes.faults ≤ notes_then.faults
-      → TakesAtMost m.most_taken input.bytes input_then.bytes → IfGrown m Before After m.may_leave → GrownKeeps ended → GrownHandsOut → KeepsAtEnd m Before After ended
-  keeps-cut_off ended cut i k g o n taken may_leave keeps handed = keeps-grown ended i k g o n taken (record {
-    leaves = λ whole. elim cut [
-      | inl off ↦ absurd (whole-cut_off ended whole off)
-      | inr e ↦ absurd (subst IsWhole e whole)
+      → TakesAtMost m.most_taken input.bytes input_then.bytes → (ended ≡ status.Out → IfGrown m Before After m.leaves) → IfGrown m Before After m.may_leave
+      → GrownKeeps ended → GrownHandsOut → KeepsAtEnd m Before After ended
+  keeps-cut_off ended cut i k g o n taken leaves may_leave keeps handed = keeps-grown ended i k g o n taken (record {
+    leaves = λ how. elim how [
+      | inl whole ↦ elim cut [
+        | inl off ↦ absurd (whole-cut_off ended whole off)
+        | inr e ↦ absurd (subst IsWhole e whole)
+      ]
+      | inr e ↦ leaves e
     ];
     may_leave = λ _. may_leave;
     keeps = λ _. keeps;

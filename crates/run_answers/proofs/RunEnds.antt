@@ -27,7 +27,7 @@ pub record Keeps (m : Meaning) (before after : Seen) : Type 0 where
 
 -- what a run that ended so keeps of the file that it grows
 pub record KeepsGrown (m : Meaning) (before after : Seen) (ended : Status) : Type 0 where
-  pub leaves : IsWhole ended → IfGrown m before after m.leaves
+  pub leaves : IsWhole ended ⊎ (ended ≡ status.Out) → IfGrown m before after m.leaves
   pub may_leave : IsCutOff ended ⊎ (ended ≡ status.Notes) → IfGrown m before after m.may_leave
   pub keeps : m.uses.grown ≡ true → IfSome before.grown.bytes (λ held. IsSomeAnd after.grown.bytes (λ holds. m.keeps ended held holds))
   pub handed : (after.grown.handed ≡ before.grown.handed) ⊎ ((m.uses.grown ≡ true) × OfSizes m before after m.may_work)

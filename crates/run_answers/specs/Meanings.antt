@@ -43,7 +43,7 @@ pub record Meaning : Type 1 where
   -- what it may have put where it can't read on or has no memory, as of a file that is shown that of some whole chunks, by how
   -- many bytes its files had handed out before and after the work
   pub may_have_put : Read → (before after : List ℕ) → List Put → Type 0
-  -- what the file that it grows holds then, and may hold where it was cut off
+  -- what the file that it grows holds then, also where standard output failed, and may hold where it was cut off
   pub leaves : Read → List ℕ → Type 0
   pub may_leave : Read → List ℕ → Type 0
   -- and how that comes from what it held before, by the status, whatever else is read

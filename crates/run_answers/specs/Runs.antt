@@ -223,7 +223,8 @@ TakesAtMost most before after = IfSome before (λ left. IsSomeAnd after (λ rest
 pub record Runs (m : Meaning) (before after : Seen) (ended : Status) : Type 0 where
   -- unless a fault or want of memory ended the work, the status and all that went out are an answer's
   pub whole : IsWhole ended → IfTold m before (Gave ended before after)
-  pub grown : IsWhole ended → IfGrown m before after m.leaves
+  -- and a file that is grown is what it is to be, also where standard output failed: nothing is printed before
+  pub grown : IsWhole ended ⊎ (ended ≡ status.Out) → IfGrown m before after m.leaves
   pub read_to_end : ended ≡ status.Ok → m.uses.input ≡ true → IfSome before.input.bytes (λ _. after.input.bytes ≡ Some [])
   -- where nothing that is used had a fault, the status is an answer's, or tells want of memory
   pub complete : HadNoFault m.uses before after → IfTold m before (λ answer. (ended ≡ answer.status) ⊎ (ended ≡ status.Memory))

@@ -60,8 +60,7 @@ returns-in-Err-put_appended-clause-appended g c =
 
 pub returns-in-Err-put_appended-clause-kept : goal.returns-in-Err-put_appended-clause-kept
 returns-in-Err-put_appended-clause-kept g c =
-    told-kept c.args.words.now c.in-Ok-grow.appended (KeepsFront c.args.words.now.cut) _ _ _ c.size_in_reach.ensures.same_bytes
-    (λ file now grows. inr grows) c.in-Ok-grow.ensures.kept
+    told-kept c.args.words.now c.in-Ok-grow.appended _ _ _ _ c.size_in_reach.ensures.same_bytes (λ file now grows. grows) c.in-Ok-grow.ensures.kept
 
 pub returns-in-Err-put_appended-clause-sized : goal.returns-in-Err-put_appended-clause-sized
 returns-in-Err-put_appended-clause-sized g c = (refl, (c.in-Ok.size, c.in-Ok.ensures.in_reach, c.in-Ok.ensures.exact))
