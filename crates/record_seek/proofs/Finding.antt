@@ -1,21 +1,17 @@
--- What a search by key comes to, and what it may answer.
-use Rattle.std.proofs.Common.{◌≡◌, ◌∙◌, ◌⊎◌, ℕ, ◌*◌, ◌<◌, Option, Some, None, IfSome, List, [], ◌∷◌, length, refl, sym, ap, subst, inl, inr, arith}
-use Rattle.std.proofs.lemmas.Option.{slice_get_within}
+-- What a search by key comes to, and with which fault it may end.
+use Rattle.std.proofs.Common.{◌≡◌, ◌⊎◌, ℕ, ◌*◌, ◌<◌, Option, Some, None, IfSome, List, [], ◌∷◌, refl, sym, subst, inl, inr, arith}
 use Rattle.chunk_reader.specs.Blocks.{TellsBegin, IsBlockFault}
 use Rattle.chunk_reader.specs.Holders.{ArePlacesBetween}
-use Rattle.chunk_reader.specs.Places.{header_at, end_at}
-use Rattle.chunk_reader.specs.Reasons.{Applies, NoneOf, unpassed_reasons}
+use Rattle.chunk_reader.specs.Places.{end_at}
 use Rattle.chunk_reader.specs.declared.reasons.Fault.{Fault}
 use Rattle.chunk_reader.proofs.Blocks.{stands_one}
-use Rattle.chunk_reader.proofs.HeadersTell.{passed_below}
 use Rattle.record_seek.specs.Met as met
-use Rattle.record_seek.specs.Met.{IsMetBySearch, IsMetFault, LoadsMetChunk, IsMetRecord, HaveNoRecords, LeadsWithoutRecords, LeadsPastAll}
-use Rattle.record_seek.specs.Steps.{AreReadTo, IsReadRecord, IsFaultOn, LoadsOn, IsFirstFrom, FirstStandsBefore}
-use Rattle.record_seek.specs.declared.chunk_records.Found.{Found}
+use Rattle.record_seek.specs.Met.{IsMetBySearch, IsMetFault, LoadsMetChunk}
+use Rattle.record_seek.specs.Steps.{IsFaultOn, LoadsOn, FirstStandsBefore}
 use Rattle.record_seek.proofs.Ways.{same_told}
 
 -- from a place that is met, each further one is
-met-on : (file places : List ℕ) (from place : ℕ) → IsMetBySearch file from → ArePlacesBetween file from place places → IsMetBySearch file place
+pub met-on : (file places : List ℕ) (from place : ℕ) → IsMetBySearch file from → ArePlacesBetween file from place places → IsMetBySearch file place
 met-on file [] from place here same = subst (IsMetBySearch file) same here
 met-on file (p ∷ places) from place here (same, none, rest) = met-on file places (end_at file from) place (met.behind here none) rest
 
@@ -29,7 +25,7 @@ block-met (Some file) now block fault same refused = inl (block, same_told (λ f
 abbrev pub IsBeginFrom : (low begin : ℕ) → List ℕ → Type 0
 IsBeginFrom low begin file = ((low ≡ 0) × (begin ≡ 0)) ⊎ ((0 < low) × TellsBegin file (low * 65536) begin)
 
-begin_met : (file : List ℕ) (low begin : ℕ) → IsBeginFrom low begin file → IsMetBySearch file begin
+pub begin_met : (file : List ℕ) (low begin : ℕ) → IsBeginFrom low begin file → IsMetBySearch file begin
 begin_met file low begin (inl (first, front)) = subst (IsMetBySearch file) (sym front) met.front
 begin_met file low begin (inr told) = met.told told.1
 
@@ -65,24 +61,6 @@ loads-met (Some file) now then low begin same also from loads =
     let (place, places, between, none) = same_told (λ f. LoadsOn f begin) (Some file) then also loads in
     (place, met-on file places begin place (begin_met file low begin start) between, none)
 
--- so is a record
-pub record-met : (Before : List ℕ → Type 0) (bytes now then : Option (List ℕ)) (low begin : ℕ) (found : Found) → now ≡ bytes → then ≡ bytes
-    → IfSome now (IsBeginFrom low begin) → IfSome then (λ file. IsReadRecord Before file begin found)
-    → IfSome bytes (λ file. IsMetRecord file (found.position, found.bytes))
-record-met Before None now then low begin found same also from read = tt
-record-met Before (Some file) now then low begin found same also from read =
-    let start : IsBeginFrom low begin file = same_told (IsBeginFrom low begin) (Some file) now same from in
-    let on : IsReadRecord Before file begin found = same_told (λ f. IsReadRecord Before f begin found) (Some file) then also read in
-    record {
-      place = on.place;
-      records = on.records;
-      number = on.number;
-      met = met-on file on.read.places begin on.place (begin_met file low begin start) on.read.between;
-      holds = on.holds;
-      stands = on.stands;
-      position = on.position;
-    }
-
 -- where the first record stands before
 abbrev pub BeginsBefore : (Before : List ℕ → Type 0) → (low : ℕ) → List ℕ → Type 0
 BeginsBefore Before low file =
@@ -99,71 +77,11 @@ begins-at Before None now low same looked = tt
 begins-at Before (Some file) now low same looked =
     inr (same_told (λ f. (begin : ℕ) × TellsBegin f (low * 65536) begin × FirstStandsBefore Before f begin) (Some file) now same looked)
 
--- from one place there aren't both a record and no record up to the file's end
-one_way : (file ps qs : List ℕ) (from place : ℕ) → ArePlacesBetween file from (length file) ps → HaveNoRecords file ps
-    → ArePlacesBetween file from place qs → NoneOf (Applies file place) unpassed_reasons → 0 < (header_at file place).num_records → ⊥
-one_way file [] [] from place end none same whole some = omega (arith, end, same, passed_below file place whole)
-one_way file (p ∷ ps) [] from place (is, passed, rest) none same whole some =
-    let there : p ≡ place = is ∙ same in
-    omega (arith, some, none.0, ap (λ (q : ℕ). (header_at file q).num_records) there)
-one_way file [] (q ∷ qs) from place end none (same, passed, rest) whole some = omega (arith, end, passed_below file from passed)
-one_way file (p ∷ ps) (q ∷ qs) from place (is, passed, rest) none (same, also, further) whole some =
-    one_way file ps qs (end_at file from) place rest none.1 further whole some
-
-first_some : (file : List ℕ) (from : ℕ) (bytes : List ℕ) (first : IsFirstFrom file from bytes) → 0 < (header_at file first.place).num_records
-first_some file from bytes first =
-    omega (arith, first.holds.holds.num_records, slice_get_within first.records 0 bytes first.stands)
-
 -- one begin is told
 pub told_one : (file : List ℕ) (block begin other : ℕ) → TellsBegin file block begin → TellsBegin file block other → begin ≡ other
 told_one file block begin other (p, n, stands, is) (q, m, also, there) =
     let same = stands_one file block p n q m stands also in
     omega (arith, is, there, same.0)
-
--- nothing is answered where no record is read that doesn't stand before
-nothing_left : (Before : List ℕ → Type 0) (file : List ℕ) (low begin : ℕ) → BeginsBefore Before low file → IsBeginFrom low begin file
-    → AreReadTo Before file begin (length file) → LeadsWithoutRecords file ⊎ LeadsPastAll file Before
-nothing_left Before file low begin before start read =
-    elim read.last [
-      | inr end ↦ inr (record {
-        begin = begin;
-        front = end.front;
-        place = end.place;
-        rest = end.rest;
-        records = end.records;
-        last = end.last;
-        from = elim start [
-          | inl first ↦ inl first.1
-          | inr told ↦ inr (low * 65536, told.1)
-        ];
-        between = subst (ArePlacesBetween file begin (length file)) end.parts read.between;
-        none_behind = end.none_behind;
-        holds = end.holds;
-        last_there = end.last_there;
-        before = end.before;
-      })
-      | inl none ↦ elim start [
-        | inl first ↦
-            inl (read.places, subst (λ (b : ℕ). ArePlacesBetween file b (length file) read.places) first.1 read.between, none)
-        | inr told ↦ elim before [
-          | inl zero ↦ absurd (omega (arith, zero, told.0))
-          | inr (other, there, (bytes, first, stands)) ↦
-              let same : begin ≡ other = told_one file (low * 65536) begin other told.1 there in
-              absurd (one_way file read.places first.places other first.place
-              (subst (λ (b : ℕ). ArePlacesBetween file b (length file) read.places) same read.between) none first.between first.whole
-              (first_some file other bytes first))
-        ]
-      ]
-    ]
-
-pub nothing-left : (Before : List ℕ → Type 0) (bytes now then : Option (List ℕ)) (low begin : ℕ) → now ≡ bytes → then ≡ bytes
-    → IfSome bytes (BeginsBefore Before low) → IfSome now (IsBeginFrom low begin)
-    → IfSome then (λ file. AreReadTo Before file begin (length file))
-    → IfSome bytes (λ file. LeadsWithoutRecords file ⊎ LeadsPastAll file Before)
-nothing-left Before None now then low begin same also before from read = tt
-nothing-left Before (Some file) now then low begin same also before from read =
-    nothing_left Before file low begin before (same_told (IsBeginFrom low begin) (Some file) now same from)
-    (same_told (λ f. AreReadTo Before f begin (length f)) (Some file) then also read)
 
 -- what holds from the begin that a block tells
 pub from-told : (P : List ℕ → ℕ → Type 0) (bytes now : Option (List ℕ)) (block begin : ℕ) → now ≡ bytes

@@ -18,5 +18,6 @@ pub mod OneFound
 pub mod FoundByKey
 pub mod OneHolder
 pub mod OneSearch
+pub mod RightBehind
 pub mod JudgedSearch
 pub mod AnsweringChunks

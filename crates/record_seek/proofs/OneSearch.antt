@@ -80,7 +80,7 @@ fault_below file position fault (inr (inl (searched, below, first))) = searched.
 fault_below file position fault (inr (inr (place, answers, verdict))) = answers.searched.holds.on_way.below
 
 -- at one number of one list stands one record
-same_record : (rs ss : List (List ℕ)) (m n : ℕ) (r s : List ℕ) → rs ≡ ss → m ≡ n → slice_get rs m ≡ Some r → slice_get ss n ≡ Some s → r ≡ s
+pub same_record : (rs ss : List (List ℕ)) (m n : ℕ) (r s : List ℕ) → rs ≡ ss → m ≡ n → slice_get rs m ≡ Some r → slice_get ss n ≡ Some s → r ≡ s
 same_record rs ss m n r s same also here there =
     same_Some r s (sym here ∙ ap (λ (list : List (List ℕ)). slice_get list m) same ∙ ap (slice_get ss) also ∙ there)
 

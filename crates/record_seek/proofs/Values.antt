@@ -16,7 +16,7 @@ use Rattle.chunk_reader.specs.Searches.{HasRecordsAt}
 use Rattle.chunk_reader.proofs.SignedFiles.{chunk_at-signature, no_reason-signature, end_at-signature}
 use Rattle.record_seek.specs.Found.{MayAnswer, IsAnswering, IsFirstAt, IsKeyFound, BytesStandBefore, OnlyFrontStandsBefore}
 use Rattle.record_seek.specs.Met as met
-use Rattle.record_seek.specs.Met.{IsMetBySearch, LeadsWithoutRecords, LeadsPastAll}
+use Rattle.record_seek.specs.Met.{IsMetBySearch, IsMetRecord, LeadsWithoutRecords, LeadsPastAll}
 
 -- a file of four chunks of one record each, as large as those of 30000 bytes
 large : ChunkValue
@@ -306,7 +306,7 @@ met_before_a_block : (file : List ℕ) → StandsAt file 65536 5382 24687 → Is
 met_before_a_block file stands = met.told (5382, 24687, stands, refl)
 
 -- a file of the signature alone leads to its end without records
-signature_leads : (file : List ℕ) → BeginsWithSignature file → length file ≡ 64 → LeadsWithoutRecords file
+signature_leads : (file : List ℕ) → BeginsWithSignature file → length file ≡ 64 → LeadsWithoutRecords file (length file)
 signature_leads file begins size =
     let none = no_reason-signature false file begins in (
       0 ∷ [],
@@ -316,7 +316,7 @@ signature_leads file begins size =
 
 -- and with a chunk behind it, of `a` and `b`, it leads past all that stand before `c`
 records_lead : (file : List ℕ) → BeginsWithSignature file → NoneOf (Applies file 64) unpassed_reasons → end_at file 64 ≡ length file
-    → HasRecordsAt file 64 (a ∷ b ∷ []) → LeadsPastAll file (Before (0x63 ∷ []))
+    → HasRecordsAt file 64 (a ∷ b ∷ []) → LeadsPastAll file (length file) (Before (0x63 ∷ []))
 unfolding Before a b
 records_lead file begins whole end holds =
     let none = no_reason-signature false file begins in
@@ -338,3 +338,49 @@ records_lead file begins whole end holds =
       last_there = refl;
       before = refl;
     }
+
+-- there `a` may be found as the first record, and `b` behind `a`
+first_met : (file : List ℕ) → BeginsWithSignature file → HasRecordsAt file 64 (a ∷ b ∷ []) → IsMetRecord file (Before []) (64, a)
+first_met file begins holds =
+    let none = no_reason-signature false file begins in
+    record {
+      place = 64;
+      records = a ∷ b ∷ [];
+      number = 0;
+      met = met_behind_the_signature file begins;
+      holds = holds;
+      stands = refl;
+      position = refl;
+      before = λ i bytes less stands. absurd (omega (arith, less));
+      behind = inr (inl (
+        0 ∷ [],
+        (refl, (none.0, (none.1.0, (none.1.1.0, tt))), end_at-signature file begins),
+        (ap (λ (k : ChunkValue). k.num_records) (chunk_at-signature file begins), tt),
+      ));
+    }
+
+before_b : (i : ℕ) (bytes : List ℕ) → i < 1 → slice_get (a ∷ b ∷ []) i ≡ Some bytes → Before (0x62 ∷ []) bytes
+unfolding Before a b
+before_b zero bytes less stands = subst (Before (0x62 ∷ [])) (same_Some a bytes stands) refl
+before_b (suc i) bytes less stands = absurd (omega (arith, less))
+
+behind_met : (file : List ℕ) → BeginsWithSignature file → HasRecordsAt file 64 (a ∷ b ∷ []) → IsMetRecord file (Before (0x62 ∷ [])) (65, b)
+behind_met file begins holds = record {
+  place = 64;
+  records = a ∷ b ∷ [];
+  number = 1;
+  met = met_behind_the_signature file begins;
+  holds = holds;
+  stands = refl;
+  position = refl;
+  before = before_b;
+  behind = inl (lit< tt);
+}
+
+-- but of a chunk of `b` and `c` not `c` for `b`, in whatever file
+second_unmet : (file : List ℕ) (is : IsMetRecord file (Before (0x62 ∷ [])) (65, c)) → is.place ≡ 64 → is.records ≡ b ∷ c ∷ [] → ⊥
+unfolding Before b c
+second_unmet file is at same =
+    let stands : Before (0x62 ∷ []) b =
+    is.before 0 b (omega (arith, is.position, at)) (ap (λ (records : List (List ℕ)). slice_get records 0) same) in
+    cc

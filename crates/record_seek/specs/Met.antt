@@ -27,28 +27,18 @@ IsMetFault file fault =
 abbrev pub LoadsMetChunk : List ℕ → Type 0
 LoadsMetChunk file = (place : ℕ) × IsMetBySearch file place × NoneOf (Applies file place) loading_reasons
 
--- a record, with its position, of a chunk without fault at a place that is met
-pub record IsMetRecord (file : List ℕ) (found : ℕ × List ℕ) : Type 0 where
-  pub place : ℕ
-  pub records : List (List ℕ)
-  pub number : ℕ
-  pub met : IsMetBySearch file place
-  pub holds : HasRecordsAt file place records
-  pub stands : slice_get records number ≡ Some found.1
-  pub position : found.0 ≡ place + number
-
 -- the chunks at these places have no records
 abbrev pub HaveNoRecords : List ℕ → List ℕ → Type 0
 HaveNoRecords file places = AllByRecursion (λ place. (header_at file place).num_records ≡ 0) places
 
--- chunks lead from the file's front to its end, and none has records
-abbrev pub LeadsWithoutRecords : List ℕ → Type 0
-LeadsWithoutRecords file =
-    (places : List ℕ) × ArePlacesBetween file 0 (length file) places × HaveNoRecords file places
+-- chunks lead from the file's front to a place, and none has records
+abbrev pub LeadsWithoutRecords : List ℕ → (to : ℕ) → Type 0
+LeadsWithoutRecords file to =
+    (places : List ℕ) × ArePlacesBetween file 0 to places × HaveNoRecords file places
 
--- chunks lead to the file's end from its front, or from a begin that a block tells, and of the last of them that has records,
+-- chunks lead to a place from the file's front, or from a begin that a block tells, and of the last of them that has records,
 -- which has no fault, the last record stands before
-pub record LeadsPastAll (file : List ℕ) (Before : List ℕ → Type 0) : Type 0 where
+pub record LeadsPastAll (file : List ℕ) (to : ℕ) (Before : List ℕ → Type 0) : Type 0 where
   pub begin : ℕ
   pub front : List ℕ
   pub place : ℕ
@@ -56,8 +46,21 @@ pub record LeadsPastAll (file : List ℕ) (Before : List ℕ → Type 0) : Type 
   pub records : List (List ℕ)
   pub last : List ℕ
   pub from : (begin ≡ 0) ⊎ ((block : ℕ) × TellsBegin file block begin)
-  pub between : ArePlacesBetween file begin (length file) (front ++ place ∷ rest)
+  pub between : ArePlacesBetween file begin to (front ++ place ∷ rest)
   pub none_behind : HaveNoRecords file rest
   pub holds : HasRecordsAt file place records
   pub last_there : slice_get records (length records - 1) ≡ Some last
   pub before : Before last
+
+-- a record, with its position, of a chunk without fault at a place that is met. Those before it in the chunk stand before, and
+-- where it is the chunk's first, chunks lead there from the file's front without records, or past a last one that stands before
+pub record IsMetRecord (file : List ℕ) (Before : List ℕ → Type 0) (found : ℕ × List ℕ) : Type 0 where
+  pub place : ℕ
+  pub records : List (List ℕ)
+  pub number : ℕ
+  pub met : IsMetBySearch file place
+  pub holds : HasRecordsAt file place records
+  pub stands : slice_get records number ≡ Some found.1
+  pub position : found.0 ≡ place + number
+  pub before : (i : ℕ) (bytes : List ℕ) → i < number → slice_get records i ≡ Some bytes → Before bytes
+  pub behind : (0 < number) ⊎ LeadsWithoutRecords file place ⊎ LeadsPastAll file place Before

@@ -21,8 +21,9 @@ use record_io::Store;
 use std::alloc::Global;
 
 /// A record that doesn't stand before what is looked for, as a test tells, of a file of `size` bytes, which were told, at most
-/// 2^60, and of a chunk without fault to which the search comes; `None` only where chunks lead to the file's end without
-/// records, or past a last one that stands before. In a file without fault what is found is the first record, or stands right
+/// 2^60, and of a chunk without fault to which the search comes. Those before it in the chunk stand before; where it is the
+/// chunk's first, chunks lead to the chunk from the file's front without records, or past a last one that stands before. `None`
+/// only where they lead so to the file's end. So in a file without fault what is found is the first record, or stands right
 /// behind one that stands before; it is the first that doesn't stand before where only a front of the records does.
 ///
 /// Own: how records are looked for, by blocks.
@@ -49,9 +50,10 @@ pub fn find<S: Store, F: Fn(&[u8]) -> bool + Drop>(
         → IfSome (S.bytes store.old) (λ file. (ks : List ChunkValue) → ¬ IsFile ks file) }
     ensures apart { IfOk result (λ found. IfSome found (λ f. ¬ StandsBefore F.Fn test.now.test f.bytes)) }
     ensures met { (found : Found) → result ≡ Ok (Some found)
-        → IfSome (S.bytes store.old) (λ file. IsMetRecord file (found.position, found.bytes)) }
+        → IfSome (S.bytes store.old) (λ file. IsMetRecord file (StandsBefore F.Fn test.now.test) (found.position, found.bytes)) }
     ensures none { result ≡ Ok None
-        → IfSome (S.bytes store.old) (λ file. LeadsWithoutRecords file ⊎ LeadsPastAll file (StandsBefore F.Fn test.now.test)) }
+        → IfSome (S.bytes store.old) (λ file. LeadsWithoutRecords file (length file)
+        ⊎ LeadsPastAll file (length file) (StandsBefore F.Fn test.now.test)) }
     ensures refused { (fault : Fault) → result ≡ Err (ReadEnd.Refused fault)
         → IfSome (S.bytes store.old) (λ file. IsMetFault file fault) }
     ensures handed { IfSome (S.bytes store.old) (λ file. (ks : List ChunkValue)

@@ -1,5 +1,5 @@
 -- What a search finds whose test compares bytes with those of a key.
-use Rattle.std.proofs.Common.{◌≡◌, ◌∙◌, ◌↔◌, ◌⊎◌, ℕ, Bool, true, Bor, Option, Some, None, Result, Ok, Err, IfOk, IfSome, List, refl, sym, ap, inl, inr}
+use Rattle.std.proofs.Common.{◌≡◌, ◌∙◌, ◌↔◌, ◌⊎◌, ℕ, Bool, true, Bor, Option, Some, None, Result, Ok, Err, IfOk, IfSome, List, length, refl, sym, ap, inl, inr}
 use Rattle.std.specs.Prelude.{slice_get}
 use Rattle.std.specs.Fn.{Shared}
 use Rattle.chunk_header.specs.Chunks.{ChunkValue}
@@ -54,8 +54,8 @@ module _ {F : Type 0} (g : Shared F (Bor (List ℕ) × Unit {0}) Bool) (f : F) (
     others = λ i r there past before. front.others i r there past (below r.1 before);
   }
 
-  past_below : (file : List ℕ) → LeadsPastAll file (StandsBefore g f) → LeadsPastAll file (IsBelow key)
-  past_below file past = record {
+  past_below : (file : List ℕ) (to : ℕ) → LeadsPastAll file to (StandsBefore g f) → LeadsPastAll file to (IsBelow key)
+  past_below file to past = record {
     begin = past.begin;
     front = past.front;
     place = past.place;
@@ -70,16 +70,33 @@ module _ {F : Type 0} (g : Shared F (Bor (List ℕ) × Unit {0}) Bool) (f : F) (
     before = below past.last past.before;
   }
 
-  none_below : (file : List ℕ) → LeadsWithoutRecords file ⊎ LeadsPastAll file (StandsBefore g f) → LeadsWithoutRecords file ⊎ LeadsPastAll file (IsBelow key)
-  none_below file (inl none) = inl none
-  none_below file (inr past) = inr (past_below file past)
+  led_below : (file : List ℕ) (to : ℕ) → LeadsWithoutRecords file to ⊎ LeadsPastAll file to (StandsBefore g f)
+      → LeadsWithoutRecords file to ⊎ LeadsPastAll file to (IsBelow key)
+  led_below file to (inl none) = inl none
+  led_below file to (inr past) = inr (past_below file to past)
+
+  met_below : (file : List ℕ) (found : ℕ × List ℕ) → IsMetRecord file (StandsBefore g f) found → IsMetRecord file (IsBelow key) found
+  met_below file found is = record {
+    place = is.place;
+    records = is.records;
+    number = is.number;
+    met = is.met;
+    holds = is.holds;
+    stands = is.stands;
+    position = is.position;
+    before = λ i bytes less there. below bytes (is.before i bytes less there);
+    behind = elim is.behind [
+      | inl later ↦ inl later
+      | inr led ↦ inr (led_below file is.place led)
+    ];
+  }
 
 -- so is what it finds
 pub finds : {F : Type 0} (g : Shared F (Bor (List ℕ) × Unit {0}) Bool) (f : F) (key : List ℕ) (result : Result (Option Found) ReadEnd) (bytes : Option (List ℕ))
     → IfOk result (λ found. IfSome bytes (IsFoundBy g f found)) → IfOk result (λ found. IfSome bytes (IsFirstBy g f found))
     → IfOk result (λ found. IfSome found (λ x. ¬ StandsBefore g f x.bytes))
-    → ((found : Found) → result ≡ Ok (Some found) → IfSome bytes (λ file. IsMetRecord file (found.position, found.bytes)))
-    → (result ≡ Ok None → IfSome bytes (λ file. LeadsWithoutRecords file ⊎ LeadsPastAll file (StandsBefore g f)))
+    → ((found : Found) → result ≡ Ok (Some found) → IfSome bytes (λ file. IsMetRecord file (StandsBefore g f) (found.position, found.bytes)))
+    → (result ≡ Ok None → IfSome bytes (λ file. LeadsWithoutRecords file (length file) ⊎ LeadsPastAll file (length file) (StandsBefore g f)))
     → Compares g f key → IfOk result (λ found. IfSome bytes (λ file. MayFind key file (placed_of found)))
 finds g f key (Err end) bytes found first apart met none compares = tt
 finds g f key (Ok found) None is first apart met none compares = tt
@@ -88,13 +105,13 @@ finds g f key (Ok None) (Some file) found first apart met none compares = record
   in_order = λ ks placed count whole are front. first ks placed count whole are (front_stands g f key compares placed count front);
   apart = tt;
   met = tt;
-  none = λ is. none_below g f key compares file (none refl);
+  none = λ is. led_below g f key compares file (length file) (none refl);
 }
 finds g f key (Ok (Some x)) (Some file) found first apart met none compares = record {
   among = λ ks placed whole are. found_below g f key compares placed (Some (x.position, x.bytes)) (found ks placed whole are);
   in_order = λ ks placed count whole are front. first ks placed count whole are (front_stands g f key compares placed count front);
   apart = λ is. apart (stands g f key compares x.bytes is);
-  met = met x refl;
+  met = met_below g f key compares file (x.position, x.bytes) (met x refl);
   none = λ is. absurd (cc is);
 }
 

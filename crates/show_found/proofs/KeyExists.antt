@@ -19,12 +19,13 @@ use Rattle.chunk_reader.proofs.PassedChunks.{end_at_after}
 use Rattle.record_seek.specs.Found.{IsKeyFound, BytesStandBefore}
 use Rattle.record_seek.specs.Steps.{AreReadTo, IsReadOn, IsFaultOn, placed_of}
 use Rattle.record_seek.specs.declared.chunk_records.Found.{Found}
-use Rattle.record_seek.proofs.Finding.{fault-met, nothing-left, record-met}
+use Rattle.record_seek.proofs.Finding.{fault-met}
 use Rattle.record_seek.proofs.FoundByKey.{record_found, none_found}
 use Rattle.record_seek.proofs.JudgedSearch.{holds_counted}
 use Rattle.record_seek.proofs.OneFound.{found_in_order}
 use Rattle.record_seek.proofs.PlacedRecords.{none_before_first}
 use Rattle.record_seek.proofs.ReadingOn.{read_empty, read_records, read_record}
+use Rattle.record_seek.proofs.RightBehind.{nothing-left, record-met}
 use Rattle.show_found.specs.ByteOrder.{is_below, IsBelow}
 use Rattle.show_found.specs.Searches.{MayFind, IsKeyFault}
 
@@ -159,7 +160,7 @@ module _ (key file : List ℕ) where
     in_order = λ ks placed count whole are front.
         (found_in_order (BytesStandBefore (IsBelow key)) placed count front (Some (found.position, found.bytes))).0 (among (Some found) read ks placed whole are);
     apart = read.apart;
-    met = record-met (IsBelow key) (Some file) (Some file) (Some file) 0 0 found refl refl (inl (refl, refl)) read;
+    met = record-met (IsBelow key) (Some file) (Some file) (Some file) 0 0 found refl refl (inl refl) (inl (refl, refl)) read;
     none = λ is. absurd (cc is);
   }
 

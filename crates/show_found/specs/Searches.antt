@@ -1,5 +1,5 @@
 -- What a search that `seek` makes may give. Own.
-use Rattle.std.specs.Prelude.{◌≡◌, ℕ, ◌+◌, ◌≤◌, ◌⊎◌, Option, None, IfSome, List, slice_get}
+use Rattle.std.specs.Prelude.{◌≡◌, ℕ, ◌+◌, ◌≤◌, ◌⊎◌, Option, None, IfSome, List, length, slice_get}
 use Rattle.chunk_header.specs.Chunks.{ChunkValue}
 use Rattle.meta_chunk.specs.Files.{IsFile, IsFrame, ArePlaced, LiesIn}
 use Rattle.chunk_reader.specs.SearchBounds.{position_bound, key_bound}
@@ -21,11 +21,13 @@ pub record MayFind (key file : List ℕ) (found : Option (ℕ × List ℕ)) : Ty
   pub in_order : (ks : List ChunkValue) (placed : List (ℕ × List ℕ)) (count : ℕ)
       → IsFile ks file → ArePlaced ks placed → OnlyFrontStandsBefore (BytesStandBefore (IsBelow key)) placed count
       → found ≡ slice_get placed count
-  -- in any file a record that isn't less, of a chunk without fault to which the search may come
+  -- in any file a record that isn't less, of a chunk without fault to which the search may come. Those before it in the chunk
+  -- are less, and where it is the chunk's first, chunks lead there from the file's front without records, or past a last one
+  -- that is less
   pub apart : IfSome found (λ f. ¬ IsBelow key f.1)
-  pub met : IfSome found (IsMetRecord file)
+  pub met : IfSome found (IsMetRecord file (IsBelow key))
   -- or nothing, where chunks lead to the file's end without records, or past a last one that is less
-  pub none : found ≡ None → LeadsWithoutRecords file ⊎ LeadsPastAll file (IsBelow key)
+  pub none : found ≡ None → LeadsWithoutRecords file (length file) ⊎ LeadsPastAll file (length file) (IsBelow key)
 
 -- with which fault it may be refused: one that it may meet, and of no file without fault
 pub record IsKeyFault (file : List ℕ) (fault : Fault) : Type 0 where

@@ -4,10 +4,11 @@ use Rattle.chunk_reader.proofs.Rooms.{IsSized}
 use Rattle.record_seek.specs.KeyTests.{StandsBefore}
 use Rattle.record_seek.specs.Met.{IsMetFault}
 use Rattle.record_seek.specs.Steps.{IsReadOn}
-use Rattle.record_seek.proofs.Finding.{begins-front, begins-at, block-met, fault-met, loads-met, record-met, nothing-left}
+use Rattle.record_seek.proofs.Finding.{begins-front, begins-at, block-met, fault-met, loads-met}
 use Rattle.record_seek.proofs.FoundByKey.{found-in, in-order, met-not_whole}
 use Rattle.record_seek.proofs.Halves.{halved-begun, halved-up, halved-down, takes-look, takes-begin, takes-reading}
 use Rattle.record_seek.proofs.ReadingOn.{ok_at}
+use Rattle.record_seek.proofs.RightBehind.{nothing-left, record-met}
 use Rattle.record_seek.proofs.Ways.{same_told}
 use Rattle.record_seek.proofs.finds.find.Goals as goal
 use Rattle.record_seek.proofs.finds.find.Goals.{Start}
@@ -39,7 +40,8 @@ returns-clause-met g c =
     let kept = c.loop-high.invariant in
     let given = c.in_ok-begin.ensures in
     let Before = StandsBefore g.F.Fn c.args.test.now.test in
-    record-met Before _ _ _ c.loop-high.low c.in_ok-begin.begin found kept.asks.same_bytes (given.store.same_bytes ∙ kept.asks.same_bytes) given.begin
+    record-met Before _ _ _ c.loop-high.low c.in_ok-begin.begin found kept.asks.same_bytes (given.store.same_bytes ∙ kept.asks.same_bytes) kept.begins
+    given.begin
     (ok_at (λ f. IfSome (g.S.Store.bytes c.reading_begin.new.store) (λ file. IsReadOn Before file c.in_ok-begin.begin f)) c.read_on.result (Some found)
     c.read_on.ensures.read is)
 
