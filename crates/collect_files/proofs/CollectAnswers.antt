@@ -18,16 +18,16 @@ use Rattle.run_answers.specs.Answers.{Answer, noted}
 use Rattle.run_answers.specs.FileAnswers.{limit_text, most_file_bytes}
 use Rattle.run_answers.specs.declared.status.Status.TheVariants as status
 use Rattle.show_files.specs.Readings.{refused_file_text}
-use Rattle.collect_files.specs.CollectCommand.{AreInReach, IsCollectAnswer, IsOneTooLong, collected_answer, too_much_text}
+use Rattle.collect_files.specs.CollectCommand.{AreEachInReach, IsCollectAnswer, IsOneTooLong, collected_answer, too_much_text}
 use Rattle.collect_files.proofs.Weaves.{in_turn, in_turn-bounds, in_turn-woven, numbers_from, too_long_or_short}
 
 -- the answer to files whose records are gathered so
-pub is_whole : (files : List (List ℕ)) (made : GatheredValue) → AreInReach (map length files) → AreGatheredOf files made
+pub is_whole : (files : List (List ℕ)) (made : GatheredValue) → AreEachInReach (map length files) → AreGatheredOf files made
     → IsCollectAnswer files (collected_answer made)
 is_whole files made reach gathered = inr (reach, inl (record { made = made; gathered = gathered; is = refl }))
 
 -- one of the sizes passes the limit, or none does
-pub sizes_judged : (sizes : List ℕ) → IsOneTooLong sizes ⊎ AreInReach sizes
+pub sizes_judged : (sizes : List ℕ) → IsOneTooLong sizes ⊎ AreEachInReach sizes
 sizes_judged [] = inr tt
 sizes_judged (size ∷ sizes) = elim (cases_lt most_file_bytes size) [
   | inl long ↦ inl (0, size, omega arith, refl, long)
@@ -65,7 +65,7 @@ gathered_or_too_much files lists are = elim (too_long_or_short lists) [
 ]
 
 -- so there is an answer
-pub answer_in_reach : (files : List (List ℕ)) → AllByRecursion AreBytes files → AreInReach (map length files)
+pub answer_in_reach : (files : List (List ℕ)) → AllByRecursion AreBytes files → AreEachInReach (map length files)
     → (answer : Answer) × IsCollectAnswer files answer
 answer_in_reach files bytes reach = elim (files_judged false files bytes) [
   | inl none ↦ let each = records_of_files files none in elim (gathered_or_too_much files each.0 each.1) [

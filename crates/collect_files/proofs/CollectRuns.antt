@@ -19,7 +19,7 @@ use Rattle.run_answers.proofs.FileEnds.{EndsWhole}
 use Rattle.run_answers.proofs.ManyFilesEnds.{MayEndBy, EndsBySizes, ReadsFiles, WentAtEnd, WentButNotes, WentToCut, reads_files, runs-files, went_none, went_noted, went_whole}
 use Rattle.run_answers.proofs.TwoStreams.{GoOut-both, GoOut-first, GoOut-neither, bytes_to-neither}
 use Rattle.show_files.specs.Readings.{refused_file_text}
-use Rattle.collect_files.specs.CollectCommand.{AreInReach, IsOneTooLong, IsCollectAnswer, IsCollectedSoFar, MayEndCollecting, collect_meaning, collected_answer, collected_file, collected_lines, too_much_text}
+use Rattle.collect_files.specs.CollectCommand.{AreEachInReach, IsOneTooLong, IsCollectAnswer, IsCollectedSoFar, MayEndCollecting, collect_meaning, collected_answer, collected_file, collected_lines, too_much_text}
 use Rattle.collect_files.specs.CollectingEnds.{TakeCollected, collecting_ends, uncollected_status, uncollected_text}
 use Rattle.collect_files.specs.declared.stops.Uncollected.{Uncollected}
 use Rattle.collect_files.proofs.CollectAnswers.{answer_in_reach, collect_exists, is_whole}
@@ -32,10 +32,10 @@ use Rattle.collect_files.specs.declared.stops.Uncollected.TheVariants as uncolle
 -- so `collect` reads its files, and so it may end by their sizes
 reads-collect : ReadsFiles collect_meaning (λ all. Unit {0}) IsCollectAnswer IsCollectedSoFar
 reads-collect =
-    reads_files collect_meaning.uses false (λ all. Unit {0}) IsCollectAnswer IsCollectedSoFar AreInReach (λ sizes before after. Unit {0}) MayEndCollecting
+    reads_files collect_meaning.uses false (λ all. Unit {0}) IsCollectAnswer IsCollectedSoFar AreEachInReach (λ sizes before after. Unit {0}) MayEndCollecting
     refl refl refl
 
-stop_collect : (w : Uncollected) (sizes : List ℕ) → AreInReach sizes → collect_meaning.may_end sizes (uncollected_status w) (uncollected_text w)
+stop_collect : (w : Uncollected) (sizes : List ℕ) → AreEachInReach sizes → collect_meaning.may_end sizes (uncollected_status w) (uncollected_text w)
 stop_collect (uncollected.Refused index fault) sizes within = inr (inl (within, index, fault, refl, refl))
 stop_collect uncollected.TooMuch sizes within = inr (inr (inl (within, refl, refl)))
 
@@ -51,7 +51,7 @@ stop_some : (w : Uncollected) → uncollected_text w ≢ []
 stop_some (uncollected.Refused index fault) is = cc is
 stop_some uncollected.TooMuch is = cc is
 
-ends-collect : {X : Type 0} → EndsBySizes {X = X} collect_meaning collecting_ends IsOneTooLong (λ _. AreInReach)
+ends-collect : {X : Type 0} → EndsBySizes {X = X} collect_meaning collecting_ends IsOneTooLong (λ _. AreEachInReach)
 ends-collect = record {
   done = λ x. refl;
   may_work = λ sizes within. inl (within, refl, refl);
@@ -78,7 +78,7 @@ module _ (all : List (List ℕ)) (made made_then out out_then notes : Option (Li
       (GoOut-neither made made_then out out_then notes same unprinted)
 
   -- a front of the file was made
-  front_went : (ended : Status) (value : GatheredValue) → AreInReach (map length all) → AreGatheredOf all value
+  front_went : (ended : Status) (value : GatheredValue) → AreEachInReach (map length all) → AreGatheredOf all value
       → ((count : ℕ) → BreaksOff Made (puts_to Made (take count (collected_file value.records))) (collected_answer value).puts
       → Breaks ended (puts_to Made (take count (collected_file value.records))) (collected_answer value).puts)
       → TakesFront made made_then (collected_file value.records) → out_then ≡ out
@@ -99,7 +99,7 @@ module _ (all : List (List ℕ)) (made made_then out out_then notes : Option (Li
       }
 
   went-collect : {X : Type 0} (result : Result X (Ending Uncollected)) → AllByRecursion AreBytes all
-      → MayEndBy collect_meaning IsOneTooLong (λ _. AreInReach) result (map length all) → TakeCollected result all made made_then out out_then
+      → MayEndBy collect_meaning IsOneTooLong (λ _. AreEachInReach) result (map length all) → TakeCollected result all made made_then out out_then
       → WentAtEnd collecting_ends (IsCollectAnswer all) (IsCollectedSoFar all) result (taken_by made out notes) (taken_by made_then out_then notes)
   went-collect (Ok x) bytes reach (value, gathered, (whole, printed)) =
       went_whole (IsCollectAnswer all) (collected_answer value) (taken_by made out notes) (taken_by made_then out_then notes)
@@ -145,8 +145,8 @@ pub runs-collected : {S L X : Type 0} (bytes : S → Option (List ℕ)) (told : 
     → AreOnlyAsked bytes (λ s. None) name faults (result ≡ Err (end.Cut cut.File)) files files_then
     → made.faults ≤ made_then.faults → out.faults ≤ out_then.faults → notes.faults ≤ notes_then.faults
     → ((place : ℕ) (file : S) → slice_get files_then place ≡ Some file → told file ≡ None → drop (place + 1) files_then ≡ drop (place + 1) files)
-    → (map handed files_then ≡ map handed files) ⊎ ((sizes : List ℕ) × (map told files_then ≡ map Some sizes) × AreInReach sizes)
-    → IsAllowedEndOfMany collect_meaning IsOneTooLong (λ _. AreInReach) result (map told files_then)
+    → (map handed files_then ≡ map handed files) ⊎ ((sizes : List ℕ) × (map told files_then ≡ map Some sizes) × AreEachInReach sizes)
+    → IsAllowedEndOfMany collect_meaning IsOneTooLong (λ _. AreEachInReach) result (map told files_then)
     → ((all : List (List ℕ)) → map bytes files ≡ map Some all → TakeCollected result all made.bytes made_then.bytes out.bytes out_then.bytes)
     → SaysEnd collecting_ends result ended notes notes_then
     → (result ≡ Err (end.Cut cut.Made) → Rose made.faults made_then.faults)
@@ -156,7 +156,7 @@ pub runs-collected : {S L X : Type 0} (bytes : S → Option (List ℕ)) (told : 
     (seen input (map (seen_file bytes told handed faults) files_then) made_then grown out_then notes_then) ended
 runs-collected bytes told handed name faults files files_then input made made_then grown out out_then notes notes_then result ended sized asked m o n in_order handed_out sizes took says made_rose out_rose =
     runs-files bytes told handed name faults files files_then collect_meaning (λ all. Unit {0}) IsCollectAnswer IsCollectedSoFar reads-collect
-    collecting_ends IsOneTooLong (λ _. AreInReach) ends-collect input made made_then grown out out_then notes notes_then result ended
+    collecting_ends IsOneTooLong (λ _. AreEachInReach) ends-collect input made made_then grown out out_then notes notes_then result ended
     sized asked m o n in_order (elim handed_out [ inl unread ↦ inl unread | inr (some, tells, reach) ↦ inr (some, tells, reach, tt) ]) sizes
     (λ all is are supposed within.
     went-collect all made.bytes made_then.bytes out.bytes out_then.bytes notes.bytes result are within (took all is))

@@ -15,7 +15,7 @@ use Rattle.record_collect.specs.declared.gathering.GatherEnd.{GatherEnd}
 use Rattle.run_answers.specs.declared.ending.Ending.{Ending}
 use Rattle.run_answers.specs.Endings.{HaveTold, IsAllowedEndOfMany}
 use Rattle.run_answers.specs.FileAnswers.{most_file_bytes}
-use Rattle.collect_files.specs.CollectCommand.{AreInReach, IsOneTooLong, collect_meaning, collected_file, collected_lines, files_lines}
+use Rattle.collect_files.specs.CollectCommand.{AreEachInReach, IsOneTooLong, collect_meaning, collected_file, collected_lines, files_lines}
 use Rattle.collect_files.specs.CollectingEnds.{TakeCollected, end_of_gather}
 use Rattle.collect_files.specs.declared.stops.Uncollected.{Uncollected}
 use Rattle.collect_files.proofs.CollectAnswers.{sizes_judged}
@@ -29,7 +29,7 @@ one_too_long sizes is =
     let (place, size, below, there, long) = Any-from_list_any (λ size. nat_lt most_file_bytes size) sizes is in
     (place, size, below, there, ltb-true most_file_bytes size long)
 
-pub none_too_long : (sizes : List ℕ) → list_any (λ size. nat_lt most_file_bytes size) sizes ≡ false → AreInReach sizes
+pub none_too_long : (sizes : List ℕ) → list_any (λ size. nat_lt most_file_bytes size) sizes ≡ false → AreEachInReach sizes
 none_too_long sizes is = elim (sizes_judged sizes) [
   | inl (place, size, below, there, long) ↦ absurd (cc (
     is,
@@ -52,10 +52,10 @@ took-ended X e why made out all is refused much =
       by_end gather.Memory refused much = inl (refl, refl)
 
 pub sized-ended : (X : Type 0) (e : GatherEnd) (why : Ending Uncollected) (told : List (Option ℕ)) → why ≡ end_of_gather e
-    → HaveTold told AreInReach → IsAllowedEndOfMany {X = X} collect_meaning IsOneTooLong (λ _. AreInReach) (Err why) told
+    → HaveTold told AreEachInReach → IsAllowedEndOfMany {X = X} collect_meaning IsOneTooLong (λ _. AreEachInReach) (Err why) told
 sized-ended X e why told is sized =
-    subst (λ (w : Ending Uncollected). IsAllowedEndOfMany {X = X} collect_meaning IsOneTooLong (λ _. AreInReach) (Err w) told) (sym is) (by_end e) where
-      by_end : (e : GatherEnd) → IsAllowedEndOfMany {X = X} collect_meaning IsOneTooLong (λ _. AreInReach) (Err (end_of_gather e)) told
+    subst (λ (w : Ending Uncollected). IsAllowedEndOfMany {X = X} collect_meaning IsOneTooLong (λ _. AreEachInReach) (Err w) told) (sym is) (by_end e) where
+      by_end : (e : GatherEnd) → IsAllowedEndOfMany {X = X} collect_meaning IsOneTooLong (λ _. AreEachInReach) (Err (end_of_gather e)) told
       by_end (gather.Refused index fault) = sized
       by_end gather.TooMuch = sized
       by_end gather.Store = refl

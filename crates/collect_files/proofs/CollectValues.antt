@@ -7,7 +7,7 @@ use Rattle.meta_chunk.specs.Files.{laid_each}
 use Rattle.meta_chunk.specs.Laid.{laid_bytes}
 use Rattle.record_group.specs.Groups.{groups, file_of}
 use Rattle.word_options.specs.FilesWords.{files_words_of}
-use Rattle.collect_files.specs.CollectCommand.{AreInReach, IsOneTooLong, collected_file, collected_lines, files_lines, too_much_text}
+use Rattle.collect_files.specs.CollectCommand.{AreEachInReach, IsOneTooLong, collected_file, collected_lines, files_lines, too_much_text}
 use Rattle.collect_files.specs.CollectWords.{collect_words_of}
 
 -- two files, the second of which has the first and the last of four records, and a file without records
@@ -53,7 +53,7 @@ unfolding files_words_of
 made_and_read = refl
 
 -- a file may have 2 ^ 60 bytes, and no more
-in_reach : AreInReach (0 ∷ 1152921504606846976 ∷ [])
+in_reach : AreEachInReach (0 ∷ 1152921504606846976 ∷ [])
 in_reach = (lit≤ tt, (lit≤ tt, tt))
 
 too_long : IsOneTooLong (0 ∷ 1152921504606846977 ∷ [])

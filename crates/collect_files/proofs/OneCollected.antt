@@ -14,7 +14,7 @@ use Rattle.run_answers.specs.FileAnswers.{most_file_bytes}
 use Rattle.run_answers.specs.declared.status.Status.TheVariants as status
 use Rattle.run_answers.proofs.TwoStreams.{bytes_to-neither}
 use Rattle.show_files.specs.Readings.{refused_file_text}
-use Rattle.collect_files.specs.CollectCommand.{AreCollectedIn, AreInReach, AreRefusedIn, AreTooMuchIn, IsCollectAnswer, IsOneTooLong, collected_answer, collected_file, collected_lines}
+use Rattle.collect_files.specs.CollectCommand.{AreCollectedIn, AreEachInReach, AreOnlyRefusedIn, AreTooMuchIn, IsCollectAnswer, IsOneTooLong, collected_answer, collected_file, collected_lines}
 use Rattle.collect_files.proofs.AllWeaves.{each_gathered}
 use Rattle.collect_files.proofs.CollectAnswers.{is_whole}
 
@@ -42,13 +42,13 @@ both_collected files a b h g = (
 )
 
 -- records that are gathered leave no file refused, and are not too much; nor are those of a refused file
-collected_or_refused : (files : List (List ℕ)) (a b : Answer) → AreCollectedIn files a → AreRefusedIn files b → ⊥
+collected_or_refused : (files : List (List ℕ)) (a b : Answer) → AreCollectedIn files a → AreOnlyRefusedIn files b → ⊥
 collected_or_refused files a b h g = first_or_none false files g.index g.fault g.first (none_of_each files h.gathered.lists h.gathered.are)
 
-refused_or_too_much : (files : List (List ℕ)) (a : Answer) → AreRefusedIn files a → IsTooMuch files → ⊥
+refused_or_too_much : (files : List (List ℕ)) (a : Answer) → AreOnlyRefusedIn files a → IsTooMuch files → ⊥
 refused_or_too_much files a h much = first_or_none false files h.index h.fault h.first (none_of_each files much.lists much.are)
 
-both_refused : (files : List (List ℕ)) (a b : Answer) → AreRefusedIn files a → AreRefusedIn files b → a ≡ b
+both_refused : (files : List (List ℕ)) (a b : Answer) → AreOnlyRefusedIn files a → AreOnlyRefusedIn files b → a ≡ b
 both_refused files a b h g =
     let one = first_is_one false files h.index g.index h.fault g.fault h.first g.first in
     h.is
@@ -57,7 +57,7 @@ both_refused files a b h g =
     ∙ sym g.is
 
 abbrev AreJudgedIn : List (List ℕ) → Answer → Type 0
-AreJudgedIn files a = AreCollectedIn files a ⊎ AreRefusedIn files a ⊎ AreTooMuchIn files a
+AreJudgedIn files a = AreCollectedIn files a ⊎ AreOnlyRefusedIn files a ⊎ AreTooMuchIn files a
 
 judged_alike : (files : List (List ℕ)) (a b : Answer) → AreJudgedIn files a → AreJudgedIn files b → AreAlike a b
 judged_alike files a b (inl h) (inl g) = both_collected files a b h g
@@ -70,7 +70,7 @@ judged_alike files a b (inr (inr h)) (inl g) = absurd (fits files g.made g.gathe
 judged_alike files a b (inr (inr h)) (inr (inl g)) = absurd (refused_or_too_much files b g h.0)
 judged_alike files a b (inr (inr h)) (inr (inr g)) = same a b (h.1 ∙ sym g.1)
 
-long_or_in_reach : (sizes : List ℕ) → IsOneTooLong sizes → AreInReach sizes → ⊥
+long_or_in_reach : (sizes : List ℕ) → IsOneTooLong sizes → AreEachInReach sizes → ⊥
 long_or_in_reach sizes (place, size, below, there, long) reach =
     let at : slice_get sizes place ≡ Some size = slice_get-get_or sizes place size below ∙ ap Some there in
     omega (arith, long, all_at (λ (n : ℕ). n ≤ most_file_bytes) sizes place size at reach)
@@ -83,7 +83,7 @@ answers_alike files a b (inr (reach, h)) (inr (also, g)) = judged_alike files a 
 
 -- an answer of a whole run is one of gathered records
 pub whole_collected : (files : List (List ℕ)) (a : Answer) → IsCollectAnswer files a → a.status ≡ status.Ok
-    → AreInReach (map length files) × AreCollectedIn files a
+    → AreEachInReach (map length files) × AreCollectedIn files a
 whole_collected files a (inl (long, is)) well = absurd (let no : status.Limit ≡ status.Ok = sym (ap (λ (x : Answer). x.status) is) ∙ well in cc)
 whole_collected files a (inr (reach, inl h)) well = (reach, h)
 whole_collected files a (inr (reach, inr (inl h))) well = absurd (let no : status.Refused ≡ status.Ok = sym (ap (λ (x : Answer). x.status) h.is) ∙ well in cc)

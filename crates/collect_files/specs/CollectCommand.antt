@@ -19,8 +19,8 @@ use Rattle.run_answers.specs.declared.status.Status.TheVariants as status
 use Rattle.show_files.specs.Readings.{refused_file_text}
 
 -- each of the files has so few bytes that it is read
-abbrev pub AreInReach : List ℕ → Type 0
-AreInReach sizes = AllByRecursion (λ size. size ≤ most_file_bytes) sizes
+abbrev pub AreEachInReach : List ℕ → Type 0
+AreEachInReach sizes = AllByRecursion (λ size. size ≤ most_file_bytes) sizes
 
 -- one of them has more
 abbrev pub IsOneTooLong : List ℕ → Type 0
@@ -62,7 +62,7 @@ pub record AreCollectedIn (files : List (List ℕ)) (answer : Answer) : Type 0 w
   pub is : answer ≡ collected_answer made
 
 -- one is the first with a fault: the line of that
-pub record AreRefusedIn (files : List (List ℕ)) (answer : Answer) : Type 0 where
+pub record AreOnlyRefusedIn (files : List (List ℕ)) (answer : Answer) : Type 0 where
   pub index : ℕ
   pub fault : Fault
   pub first : IsFirstFault false files index fault
@@ -76,7 +76,7 @@ AreTooMuchIn files answer = IsTooMuch files × (answer ≡ noted status.Limit to
 abbrev pub IsCollectAnswer : List (List ℕ) → Answer → Type 0
 IsCollectAnswer files answer =
     (IsOneTooLong (map length files) × (answer ≡ noted status.Limit limit_text))
-    ⊎ (AreInReach (map length files) × (AreCollectedIn files answer ⊎ AreRefusedIn files answer ⊎ AreTooMuchIn files answer))
+    ⊎ (AreEachInReach (map length files) × (AreCollectedIn files answer ⊎ AreOnlyRefusedIn files answer ⊎ AreTooMuchIn files answer))
 
 -- what was put so far: nothing, or so many bytes of the file of their records
 abbrev pub IsCollectedSoFar : List (List ℕ) → List Put → Type 0
@@ -87,9 +87,9 @@ IsCollectedSoFar files part =
 -- the records are too many, or as one file is too long
 abbrev pub MayEndCollecting : List ℕ → Status → List ℕ → Type 0
 MayEndCollecting sizes ended text =
-    (AreInReach sizes × (ended ≡ status.Ok) × (text ≡ []))
-    ⊎ (AreInReach sizes × (index : ℕ) × (fault : Fault) × (ended ≡ status.Refused) × (text ≡ refused_file_text index fault))
-    ⊎ (AreInReach sizes × (ended ≡ status.Limit) × (text ≡ too_much_text))
+    (AreEachInReach sizes × (ended ≡ status.Ok) × (text ≡ []))
+    ⊎ (AreEachInReach sizes × (index : ℕ) × (fault : Fault) × (ended ≡ status.Refused) × (text ≡ refused_file_text index fault))
+    ⊎ (AreEachInReach sizes × (ended ≡ status.Limit) × (text ≡ too_much_text))
     ⊎ (IsOneTooLong sizes × (ended ≡ status.Limit) × (text ≡ limit_text))
 
 -- what `collect` means: the order of the records is left open, and so it may have several answers
@@ -98,7 +98,7 @@ collect_meaning =
     record (meaning (record none_used { files = true; made = true; out = true; memory = true }) (λ r answer. IsCollectAnswer r.files answer)) {
       one = false;
       may_have_put = λ r before after part. IsCollectedSoFar r.files part;
-      may_work = AreInReach;
+      may_work = AreEachInReach;
       may_take = λ sizes before after. Unit {0};
       may_end = MayEndCollecting;
     }

@@ -3,7 +3,7 @@ ghost use Rattle.record_io.specs.Calls.{OnlyCounts};
 ghost use Rattle.record_io.specs.ManyStores.{AreOnlyAsked, AreTold, IfAllTell};
 ghost use Rattle.run_answers.specs.Endings.{IsAllowedEndOfMany};
 ghost use Rattle.run_answers.specs.Runs.{Runs, Seen, seen_file, seen_stream};
-ghost use Rattle.collect_files.specs.CollectCommand.{AreInReach, IsOneTooLong, collect_meaning};
+ghost use Rattle.collect_files.specs.CollectCommand.{AreEachInReach, IsOneTooLong, collect_meaning};
 ghost use Rattle.collect_files.specs.CollectingEnds.{TakeCollected, end_of_gather};
 
 use crate::collect_words::MOST_FILES;
@@ -51,11 +51,11 @@ fn make_collected<R: Threads + Sync, S: Store + Send, M: Sink + Send, O: Sink>(
     requires some { 0 < length files.old }
     requires few { length files.old ≤ 16 }
     ensures collected { IfAllTell S.bytes files.old (λ all. TakeCollected result all (M.taken made.old) (M.taken made.new) (O.taken out.old) (O.taken out.new)) }
-    ensures sized { IsAllowedEndOfMany collect_meaning IsOneTooLong (λ _. AreInReach) result (map (λ file. S.told file) files.new) }
+    ensures sized { IsAllowedEndOfMany collect_meaning IsOneTooLong (λ _. AreEachInReach) result (map (λ file. S.told file) files.new) }
     ensures in_order { (place : ℕ) (file : S) → slice_get files.new place ≡ Some file → S.told file ≡ None
         → drop (place + 1) files.new ≡ drop (place + 1) files.old }
     ensures handed { (map (λ file. S.handed file) files.new ≡ map (λ file. S.handed file) files.old)
-        ⊎ ((sizes : List ℕ) × AreTold S.told files.new sizes × AreInReach sizes) }
+        ⊎ ((sizes : List ℕ) × AreTold S.told files.new sizes × AreEachInReach sizes) }
     // Whatever sizes they tell then.
     ensures files { AreOnlyAsked S.bytes (λ file. None) S.name S.faults (result ≡ Err (Ending.Cut Cut.File)) files.old files.new }
     ensures made { OnlyCounts M.lent M.faults (result ≡ Err (Ending.Cut Cut.Made)) made.old made.new }
@@ -84,9 +84,9 @@ fn collect_sized<R: Threads + Sync, S: Store + Send, M: Sink + Send, O: Sink>(
     requires some { 0 < length files.old }
     requires few { length files.old ≤ 16 }
     requires told { AreTold S.told files.old sizes.now }
-    requires in_reach { AreInReach sizes.now }
+    requires in_reach { AreEachInReach sizes.now }
     ensures collected { IfAllTell S.bytes files.old (λ all. TakeCollected result all (M.taken made.old) (M.taken made.new) (O.taken out.old) (O.taken out.new)) }
-    ensures sized { IsAllowedEndOfMany collect_meaning IsOneTooLong (λ _. AreInReach) result (map (λ file. S.told file) files.new) }
+    ensures sized { IsAllowedEndOfMany collect_meaning IsOneTooLong (λ _. AreEachInReach) result (map (λ file. S.told file) files.new) }
     ensures files { AreOnlyAsked S.bytes S.told S.name S.faults (result ≡ Err (Ending.Cut Cut.File)) files.old files.new }
     ensures made { OnlyCounts M.lent M.faults (result ≡ Err (Ending.Cut Cut.Made)) made.old made.new }
     ensures out { OnlyCounts O.lent O.faults (result ≡ Err (Ending.Cut Cut.Out)) out.old out.new }

@@ -22,12 +22,12 @@ pub(crate) fn next_block(place: u64) -> u64
 
 /// The begin of a chunk and its end by its header, which may lie past 2^63 (`None`).
 #[derive(Clone, Copy, Debug)]
-pub(crate) struct Span {
+pub(crate) struct ChunkSpan {
     pub begin: u64,
     pub end: Option<u64>,
 }
 
-impl Span {
+impl ChunkSpan {
     /// Where reading goes on where the header at a block within the chunk is right and sane and tells of another chunk.
     pub(crate) fn contradicted_at<S: Store>(
         self,

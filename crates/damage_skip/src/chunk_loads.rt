@@ -8,7 +8,7 @@ ghost use Rattle.chunk_reader.specs.Places.{end_by};
 ghost use Rattle.damage_skip.specs.Steps.{IsOnward, IsEndOf, LeadsTo, IsLoadOf, IsLoadIn};
 ghost use Rattle.damage_skip.specs.Takings.{StopsInChunk};
 
-use crate::block_checks::Span;
+use crate::block_checks::ChunkSpan;
 use block_layout::BLOCK_SIZE;
 use chunk_header::{Chunk, Header};
 use chunk_reader::{HashedData, LoadEnd, OwnBytes, PIECE_SIZE, TakesData};
@@ -94,7 +94,7 @@ fn read_data<S: Store>(
         StopsInChunk file at end (at + chunk_header_size + (S.handed store.new - S.handed store.old)))) }
     ensures store { OnlyAsks S.bytes S.told S.name S.faults (result ≡ Err LoadEnd.Store) store.old store.new }
 {
-    let span = Span {
+    let span = ChunkSpan {
         begin: at,
         end: Some(end),
     };
@@ -135,7 +135,7 @@ enum NextBytes {
 fn take_next<S: Store>(
     store: &mut S,
     size: u64,
-    span: Span,
+    span: ChunkSpan,
     own: &mut OwnBytes,
     buf: &mut [u8],
 ) -> Result<NextBytes, Failed>

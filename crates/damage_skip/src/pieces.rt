@@ -9,7 +9,7 @@ ghost use Rattle.damage_skip.specs.Pieces.{IsPieceOf};
 ghost use Rattle.damage_skip.specs.Takings.{LooksAtBlocks, MayTakeAt, StopsWhereContradicted};
 ghost use Rattle.damage_skip.specs.Steps.{ContradictsIn, IsEndOf, IsReadAs, IsUnloaded, IsPieceFrom, value_of_piece_kind};
 
-use crate::block_checks::Span;
+use crate::block_checks::ChunkSpan;
 use crate::chunk_loads::{Loaded, load};
 use crate::resyncs::resync;
 use chunk_header::{Chunk, Header};
@@ -94,7 +94,7 @@ fn headed_piece<S: Store>(
         StopsWhereContradicted file at (chunk_header_size + (S.handed store.new - S.handed store.old)))) }
     ensures store { OnlyAsks S.bytes S.told S.name S.faults (result ≡ Err LoadEnd.Store) store.old store.new }
 {
-    let span = Span { begin: at, end };
+    let span = ChunkSpan { begin: at, end };
     match end {
         Some(end) if end <= size => held_piece(alloc, store, size, at, keep, header, end),
         _ => Ok(unloaded_piece(store, size, span, size, Why::Truncated)?),
@@ -127,7 +127,7 @@ fn held_piece<S: Store>(
     ensures store { OnlyAsks S.bytes S.told S.name S.faults (result ≡ Err LoadEnd.Store) store.old store.new }
 {
     if header.data_size > MAX_DATA_SIZE {
-        let span = Span {
+        let span = ChunkSpan {
             begin: at,
             end: Some(end),
         };
@@ -144,7 +144,7 @@ fn held_piece<S: Store>(
 fn unloaded_piece<S: Store>(
     store: &mut S,
     size: u64,
-    span: Span,
+    span: ChunkSpan,
     to: u64,
     why: Why,
 ) -> Result<Piece, Failed>

@@ -21,7 +21,7 @@ use Rattle.record_join.proofs.JoinedFiles.{joined-no_fault}
 use Rattle.run_answers.specs.Answers.{Answer, noted}
 use Rattle.run_answers.specs.FileAnswers.{limit_text, most_file_bytes, report}
 use Rattle.show_files.specs.Readings.{refused_file_text}
-use Rattle.join_files.specs.JoinCommand.{AreJoinedIn, AreRefusedIn, IsJoinAnswer}
+use Rattle.join_files.specs.JoinCommand.{AreJoinedIn, AreJoinedToFaultIn, IsJoinAnswer}
 use Rattle.run_answers.specs.declared.status.Status.TheVariants as status
 
 -- the answer to files without fault
@@ -71,7 +71,7 @@ join_exists files some bytes = elim (cases_lt most_file_bytes (joined_at_most (m
   ]
 ]
 
-judged-one : (files : List (List ℕ)) (a b : Answer) → AreJoinedIn files a ⊎ AreRefusedIn files a → AreJoinedIn files b ⊎ AreRefusedIn files b → a ≡ b
+judged-one : (files : List (List ℕ)) (a b : Answer) → AreJoinedIn files a ⊎ AreJoinedToFaultIn files a → AreJoinedIn files b ⊎ AreJoinedToFaultIn files b → a ≡ b
 judged-one files a b (inl h) (inl g) =
     h.is ∙ ap (λ (ks : List ChunkValue). whole_answer files ks) (frame_is_one h.chunks g.chunks (joined files) h.frame g.frame) ∙ sym g.is
 judged-one files a b (inl h) (inr g) = absurd (first_or_none true files g.index g.fault g.first h.without_fault)

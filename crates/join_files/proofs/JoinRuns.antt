@@ -24,7 +24,7 @@ use Rattle.run_answers.proofs.ManyFilesEnds.{MayEndBy, EndsBySizes, ReadsFiles, 
 use Rattle.run_answers.proofs.ReportLines.{report-some}
 use Rattle.run_answers.proofs.TwoStreams.{GoOut-both, GoOut-first, GoOut-neither, bytes_to-neither}
 use Rattle.show_files.specs.Readings.{refused_file_text}
-use Rattle.join_files.specs.JoinCommand.{AreInReach, AreTooLong, IsJoinAnswer, AreToJoin, IsJoinedSoFar, MayEndJoining, MayJoin, join_meaning}
+use Rattle.join_files.specs.JoinCommand.{AreTogetherInReach, AreTooLong, IsJoinAnswer, AreToJoin, IsJoinedSoFar, MayEndJoining, MayJoin, join_meaning}
 use Rattle.join_files.specs.JoiningEnds.{TakeJoined, joining_ends}
 use Rattle.join_files.specs.declared.refusals.Refusal.{Refusal}
 use Rattle.join_files.proofs.JoinAnswers.{whole_answer, refused_answer, join_exists, joined-some, joined-some_before}
@@ -65,7 +65,7 @@ pub record PutFront (made made_then : Option (List ℕ)) (all : List (List ℕ))
   pub count : ℕ
   pub took : Takes made made_then (take count (joined front))
 
-front_put : (made made_then : Option (List ℕ)) (all : List (List ℕ)) → AllByRecursion AreBytes all → all ≢ [] → AreInReach (map length all)
+front_put : (made made_then : Option (List ℕ)) (all : List (List ℕ)) → AllByRecursion AreBytes all → all ≢ [] → AreTogetherInReach (map length all)
     → IsFrontJoined all made made_then → PutFront made made_then all
 front_put made made_then all bytes some reach front = elim (files_judged true all bytes) [
   | inl none ↦
@@ -104,9 +104,9 @@ front_some all front some first (inr (index, fault, at, is)) =
 -- so `join` reads its files, and so it may end by their sizes
 reads-join : ReadsFiles join_meaning (λ all. Unit {0}) IsJoinAnswer IsJoinedSoFar
 reads-join =
-    reads_files join_meaning.uses true (λ all. Unit {0}) IsJoinAnswer IsJoinedSoFar AreInReach MayJoin MayEndJoining refl refl refl
+    reads_files join_meaning.uses true (λ all. Unit {0}) IsJoinAnswer IsJoinedSoFar AreTogetherInReach MayJoin MayEndJoining refl refl refl
 
-ends-join : {X : Type 0} → EndsBySizes {X = X} join_meaning joining_ends AreTooLong (λ _. AreInReach)
+ends-join : {X : Type 0} → EndsBySizes {X = X} join_meaning joining_ends AreTooLong (λ _. AreTogetherInReach)
 ends-join = record {
   done = λ x. refl;
   may_work = λ sizes within. inl (within, refl, refl);
@@ -132,7 +132,7 @@ module _ (all : List (List ℕ)) (made made_then out out_then notes : Option (Li
   }
 
   went-join : {X : Type 0} (result : Result X (Ending Refusal)) → AllByRecursion AreBytes all → all ≢ []
-      → MayEndBy join_meaning AreTooLong (λ _. AreInReach) result (map length all) → TakeJoined result all made made_then out out_then
+      → MayEndBy join_meaning AreTooLong (λ _. AreTogetherInReach) result (map length all) → TakeJoined result all made made_then out out_then
       → WentAtEnd joining_ends (IsJoinAnswer all) (IsJoinedSoFar all) result (taken_by made out notes) (taken_by made_then out_then notes)
   went-join (Ok x) bytes some reach (none, chunks, frame, whole, printed) =
       went_whole (IsJoinAnswer all) (whole_answer all chunks) (taken_by made out notes) (taken_by made_then out_then notes)
@@ -189,8 +189,8 @@ pub runs-joined : {S L X : Type 0} (bytes : S → Option (List ℕ)) (told : S �
     → made.faults ≤ made_then.faults → out.faults ≤ out_then.faults → notes.faults ≤ notes_then.faults
     → ((place : ℕ) (file : S) → slice_get files_then place ≡ Some file → told file ≡ None → drop (place + 1) files_then ≡ drop (place + 1) files)
     → (map handed files_then ≡ map handed files)
-    ⊎ ((sizes : List ℕ) × (map told files_then ≡ map Some sizes) × AreInReach sizes × MayJoin sizes (map handed files) (map handed files_then))
-    → IsAllowedEndOfMany join_meaning AreTooLong (λ _. AreInReach) result (map told files_then)
+    ⊎ ((sizes : List ℕ) × (map told files_then ≡ map Some sizes) × AreTogetherInReach sizes × MayJoin sizes (map handed files) (map handed files_then))
+    → IsAllowedEndOfMany join_meaning AreTooLong (λ _. AreTogetherInReach) result (map told files_then)
     → ((all : List (List ℕ)) → map bytes files ≡ map Some all → TakeJoined result all made.bytes made_then.bytes out.bytes out_then.bytes)
     → SaysEnd joining_ends result ended notes notes_then
     → (result ≡ Err (end.Cut cut.Made) → Rose made.faults made_then.faults)
@@ -200,7 +200,7 @@ pub runs-joined : {S L X : Type 0} (bytes : S → Option (List ℕ)) (told : S �
     (seen input (map (seen_file bytes told handed faults) files_then) made_then grown out_then notes_then) ended
 runs-joined bytes told handed name faults files files_then input made made_then grown out out_then notes notes_then result ended some sized asked m o n in_order handed_out sizes took says made_rose out_rose =
     runs-files bytes told handed name faults files files_then join_meaning (λ all. Unit {0}) IsJoinAnswer IsJoinedSoFar reads-join
-    joining_ends AreTooLong (λ _. AreInReach) ends-join input made made_then grown out out_then notes notes_then result ended
+    joining_ends AreTooLong (λ _. AreTogetherInReach) ends-join input made made_then grown out out_then notes notes_then result ended
     sized asked m o n in_order handed_out sizes
     (λ all is are supposed within.
     went-join all made.bytes made_then.bytes out.bytes out_then.bytes notes.bytes result are (some_told bytes files all some is) within (took all is))

@@ -9,7 +9,7 @@ use Rattle.record_join.specs.declared.joins.JoinEnd.{JoinEnd}
 use Rattle.run_answers.specs.declared.ending.Ending.{Ending}
 use Rattle.run_answers.specs.Endings.{HaveTold, IsAllowedEndOfMany}
 use Rattle.run_answers.proofs.ManyFiles.{shown_at}
-use Rattle.join_files.specs.JoinCommand.{AreInReach, AreTooLong, MayJoin, join_meaning}
+use Rattle.join_files.specs.JoinCommand.{AreTogetherInReach, AreTooLong, MayJoin, join_meaning}
 use Rattle.join_files.specs.JoiningEnds.{TakeJoined, end_of_join}
 use Rattle.join_files.specs.declared.refusals.Refusal.{Refusal}
 use Rattle.record_join.specs.declared.joins.JoinEnd.TheVariants as join
@@ -28,7 +28,7 @@ may_join handed sizes before after each = λ place x y size was is sized.
 
 -- how joining ended, where it ended before it was done
 pub took-ended : (X : Type 0) (result : Result Totals JoinEnd) (e : JoinEnd) (why : Ending Refusal) (made made_then out : Option (List ℕ)) (all : List (List ℕ))
-    → result ≡ Err e → why ≡ end_of_join e → AreInReach (map length all)
+    → result ≡ Err e → why ≡ end_of_join e → AreTogetherInReach (map length all)
     → ((index : ℕ) (fault : Fault) → result ≡ Err (join.Refused index fault) → AreJoinedUpTo all index fault made made_then)
     → ((result ≡ Err join.Store) ⊎ (result ≡ Err join.Made) → IsFrontJoined all made made_then)
     → (result ≡ Err join.Made → HaveNoFault true (take 1 all))
@@ -42,10 +42,10 @@ took-ended X result e why made made_then out all ended is reach refused front fi
 
 -- and what the files told then
 pub sized-ended : (X : Type 0) (e : JoinEnd) (why : Ending Refusal) (told : List (Option ℕ)) → why ≡ end_of_join e
-    → HaveTold told AreInReach → IsAllowedEndOfMany {X = X} join_meaning AreTooLong (λ _. AreInReach) (Err why) told
+    → HaveTold told AreTogetherInReach → IsAllowedEndOfMany {X = X} join_meaning AreTooLong (λ _. AreTogetherInReach) (Err why) told
 sized-ended X e why told is sized =
-    subst (λ (w : Ending Refusal). IsAllowedEndOfMany {X = X} join_meaning AreTooLong (λ _. AreInReach) (Err w) told) (sym is) (by_end e) where
-      by_end : (e : JoinEnd) → IsAllowedEndOfMany {X = X} join_meaning AreTooLong (λ _. AreInReach) (Err (end_of_join e)) told
+    subst (λ (w : Ending Refusal). IsAllowedEndOfMany {X = X} join_meaning AreTooLong (λ _. AreTogetherInReach) (Err w) told) (sym is) (by_end e) where
+      by_end : (e : JoinEnd) → IsAllowedEndOfMany {X = X} join_meaning AreTooLong (λ _. AreTogetherInReach) (Err (end_of_join e)) told
       by_end (join.Refused index fault) = sized
       by_end join.Store = refl
       by_end join.Made = (refl, sized)

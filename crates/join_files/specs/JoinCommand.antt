@@ -15,8 +15,8 @@ use Rattle.show_files.specs.Readings.{refused_file_text}
 use Rattle.run_answers.specs.declared.status.Status.TheVariants as status
 
 -- files of these sizes have so few bytes one after another that they are joined
-abbrev pub AreInReach : List ℕ → Type 0
-AreInReach sizes = joined_at_most sizes ≤ most_file_bytes
+abbrev pub AreTogetherInReach : List ℕ → Type 0
+AreTogetherInReach sizes = joined_at_most sizes ≤ most_file_bytes
 
 -- they have more
 abbrev pub AreTooLong : List ℕ → Type 0
@@ -30,7 +30,7 @@ pub record AreJoinedIn (files : List (List ℕ)) (answer : Answer) : Type 0 wher
   pub is : answer ≡ record { puts = puts_to Made (joined files) ++ puts_to Out (report (totals_of chunks)); status = status.Ok }
 
 -- one is the first with a fault: what those before it make, and the line of that
-pub record AreRefusedIn (files : List (List ℕ)) (answer : Answer) : Type 0 where
+pub record AreJoinedToFaultIn (files : List (List ℕ)) (answer : Answer) : Type 0 where
   pub index : ℕ
   pub fault : Fault
   pub first : IsFirstFault true files index fault
@@ -40,7 +40,7 @@ pub record AreRefusedIn (files : List (List ℕ)) (answer : Answer) : Type 0 whe
 abbrev pub IsJoinAnswer : List (List ℕ) → Answer → Type 0
 IsJoinAnswer files answer =
     (AreTooLong (map length files) × (answer ≡ noted status.Limit limit_text))
-    ⊎ (AreInReach (map length files) × (AreJoinedIn files answer ⊎ AreRefusedIn files answer))
+    ⊎ (AreTogetherInReach (map length files) × (AreJoinedIn files answer ⊎ AreJoinedToFaultIn files answer))
 
 -- of files these are joined: all where none has a fault, or those before the first that has one
 abbrev pub AreToJoin : List (List ℕ) → List (List ℕ) → Type 0
@@ -64,15 +64,15 @@ MayJoin sizes before after =
 -- how joining files of these sizes may end, whatever they hold: with its work done or with a fault of one, or as they are too long
 abbrev pub MayEndJoining : List ℕ → Status → List ℕ → Type 0
 MayEndJoining sizes ended text =
-    (AreInReach sizes × (ended ≡ status.Ok) × (text ≡ []))
-    ⊎ (AreInReach sizes × (index : ℕ) × (fault : Fault) × (ended ≡ status.Refused) × (text ≡ refused_file_text index fault))
+    (AreTogetherInReach sizes × (ended ≡ status.Ok) × (text ≡ []))
+    ⊎ (AreTogetherInReach sizes × (index : ℕ) × (fault : Fault) × (ended ≡ status.Refused) × (text ≡ refused_file_text index fault))
     ⊎ (AreTooLong sizes × (ended ≡ status.Limit) × (text ≡ limit_text))
 
 -- what `join` means
 abbrev pub join_meaning : Meaning
 join_meaning = record (meaning (record none_used { files = true; made = true; out = true }) (λ r answer. IsJoinAnswer r.files answer)) {
   may_have_put = λ r before after part. IsJoinedSoFar r.files part;
-  may_work = AreInReach;
+  may_work = AreTogetherInReach;
   may_take = MayJoin;
   may_end = MayEndJoining;
 }

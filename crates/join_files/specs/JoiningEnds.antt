@@ -12,7 +12,7 @@ use Rattle.run_answers.specs.Endings.{Endings}
 use Rattle.run_answers.specs.FileAnswers.{report}
 use Rattle.run_answers.specs.declared.ending.Ending.{Ending}
 use Rattle.show_files.specs.Readings.{refused_file_text}
-use Rattle.join_files.specs.JoinCommand.{AreInReach}
+use Rattle.join_files.specs.JoinCommand.{AreTogetherInReach}
 use Rattle.join_files.specs.declared.refusals.Refusal.{Refusal}
 use Rattle.record_join.specs.declared.joins.JoinEnd.TheVariants as join
 use Rattle.run_answers.specs.declared.ending.Cut.TheVariants as cut
@@ -44,7 +44,7 @@ abbrev pub TakeJoined : {X : Type 0} → Result X (Ending Refusal) → List (Lis
 TakeJoined (Ok x) files made made_then out out_then = AreReported Takes files made made_then out out_then
 TakeJoined (Err (end.At refusal)) files made made_then out out_then = AreJoinedUpTo files refusal.index refusal.fault made made_then × (out_then ≡ out)
 TakeJoined (Err (end.Cut cut.File)) files made made_then out out_then =
-    ((made_then ≡ made) ⊎ (AreInReach (map length files) × IsFrontJoined files made made_then)) × (out_then ≡ out)
+    ((made_then ≡ made) ⊎ (AreTogetherInReach (map length files) × IsFrontJoined files made made_then)) × (out_then ≡ out)
 TakeJoined (Err (end.Cut cut.Made)) files made made_then out out_then =
     HaveNoFault true (take 1 files) × IsFrontJoined files made made_then × (out_then ≡ out)
 TakeJoined (Err (end.Cut cut.Out)) files made made_then out out_then = AreReported TakesFront files made made_then out out_then

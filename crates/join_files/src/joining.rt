@@ -3,7 +3,7 @@ ghost use Rattle.record_io.specs.Calls.{OnlyCounts};
 ghost use Rattle.record_io.specs.ManyStores.{AreOnlyAsked, AreTold, IfAllTell};
 ghost use Rattle.run_answers.specs.Endings.{IsAllowedEndOfMany};
 ghost use Rattle.run_answers.specs.Runs.{Runs, Seen, seen_stream, seen_file};
-ghost use Rattle.join_files.specs.JoinCommand.{AreInReach, AreTooLong, MayJoin, join_meaning};
+ghost use Rattle.join_files.specs.JoinCommand.{AreTogetherInReach, AreTooLong, MayJoin, join_meaning};
 ghost use Rattle.join_files.specs.JoiningEnds.{TakeJoined, end_of_join};
 
 use crate::join_words::MOST_FILES;
@@ -44,11 +44,11 @@ fn make_joined<S: Store, M: Sink, O: Sink>(
     requires some { 0 < length files.old }
     requires few { length files.old ≤ 64 }
     ensures joined { IfAllTell S.bytes files.old (λ all. TakeJoined result all (M.taken made.old) (M.taken made.new) (O.taken out.old) (O.taken out.new)) }
-    ensures sized { IsAllowedEndOfMany join_meaning AreTooLong (λ _. AreInReach) result (map (λ file. S.told file) files.new) }
+    ensures sized { IsAllowedEndOfMany join_meaning AreTooLong (λ _. AreTogetherInReach) result (map (λ file. S.told file) files.new) }
     ensures in_order { (place : ℕ) (file : S) → slice_get files.new place ≡ Some file → S.told file ≡ None
         → drop (place + 1) files.new ≡ drop (place + 1) files.old }
     ensures handed { (map (λ file. S.handed file) files.new ≡ map (λ file. S.handed file) files.old)
-        ⊎ ((sizes : List ℕ) × AreTold S.told files.new sizes × AreInReach sizes
+        ⊎ ((sizes : List ℕ) × AreTold S.told files.new sizes × AreTogetherInReach sizes
         × MayJoin sizes (map (λ file. S.handed file) files.old) (map (λ file. S.handed file) files.new)) }
     // Whatever sizes they tell then.
     ensures files { AreOnlyAsked S.bytes (λ file. None) S.name S.faults (result ≡ Err (Ending.Cut Cut.File)) files.old files.new }
@@ -75,9 +75,9 @@ fn join_sized<S: Store, M: Sink, O: Sink>(
 ) -> Result<(), Ending<Refusal>>
     requires some { 0 < length files.old }
     requires told { AreTold S.told files.old sizes.now }
-    requires in_reach { AreInReach sizes.now }
+    requires in_reach { AreTogetherInReach sizes.now }
     ensures joined { IfAllTell S.bytes files.old (λ all. TakeJoined result all (M.taken made.old) (M.taken made.new) (O.taken out.old) (O.taken out.new)) }
-    ensures sized { IsAllowedEndOfMany join_meaning AreTooLong (λ _. AreInReach) result (map (λ file. S.told file) files.new) }
+    ensures sized { IsAllowedEndOfMany join_meaning AreTooLong (λ _. AreTogetherInReach) result (map (λ file. S.told file) files.new) }
     ensures handed { MayJoin sizes.now (map (λ file. S.handed file) files.old) (map (λ file. S.handed file) files.new) }
     ensures files { AreOnlyAsked S.bytes S.told S.name S.faults (result ≡ Err (Ending.Cut Cut.File)) files.old files.new }
     ensures made { OnlyCounts M.lent M.faults (result ≡ Err (Ending.Cut Cut.Made)) made.old made.new }

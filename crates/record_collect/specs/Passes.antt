@@ -6,8 +6,8 @@ use Rattle.atomic_table.specs.Seated.{TableId}
 use Rattle.simple_chunk.specs.Costs.{cost}
 use Rattle.record_collect.specs.declared.table.Piece.{Piece}
 use Rattle.record_collect.specs.declared.collector.Accepted.{Accepted}
-use Rattle.record_collect.specs.declared.collector.PutEnd.{PutEnd}
-use Rattle.record_collect.specs.declared.collector.PutEnd.TheVariants.{TooLong, Full, Memory}
+use Rattle.record_collect.specs.declared.collector.CollectEnd.{CollectEnd}
+use Rattle.record_collect.specs.declared.collector.CollectEnd.TheVariants.{TooLong, Full, Memory}
 use Rattle.record_collect.specs.PutMachine.{limit}
 
 -- which table receipts are taken from, and for how many passes
@@ -56,7 +56,7 @@ pub record EndsHere (old : PassValue) (record_bytes : List ℕ) (held : ℕ) (ne
 
 -- why the record was refused, and what became of the pass: too long exactly where it has more than 2 ^ 24 bytes; full where
 -- the pass had ended, or ends here
-abbrev pub IsRefused : PassValue → List ℕ → PutEnd → PassValue → Type 0
+abbrev pub IsRefused : PassValue → List ℕ → CollectEnd → PassValue → Type 0
 IsRefused old record_bytes TooLong new = (2 ^ 24 < length record_bytes) × (new ≡ old)
 IsRefused old record_bytes (Full held) new =
     (length record_bytes ≤ 2 ^ 24) × (((old.ended ≡ Some held) × (new ≡ old)) ⊎ EndsHere old record_bytes held new)

@@ -24,7 +24,7 @@ pub struct Receipt {
 
 /// Why a record was not collected. Own.
 #[derive(Clone, Copy, Debug, PartialEq, Eq)]
-pub enum PutEnd {
+pub enum CollectEnd {
     /// It has more than 2^24 bytes.
     TooLong,
     /// With it the records would cost more than 2^26, or a record before it was refused for that.
@@ -116,23 +116,23 @@ impl Collector {
     ///
     /// `TooLong` exactly where the record has more than 2^24 bytes. `Full` where the pass has ended, or ends here, since with
     /// the record all would cost more than 2^26: no more is taken of this pass then. `Memory`, before the step.
-    pub fn put(&self, pass: &mut Pass, rec: &[u8]) -> Result<Receipt, PutEnd>
+    pub fn put(&self, pass: &mut Pass, rec: &[u8]) -> Result<Receipt, CollectEnd>
         requires { BelongsTo self.now pass.old }
         ensures belongs { BelongsTo self.now pass.new }
         ensures ok { IfOk result (λ receipt. IsPut pass.old rec.now receipt.at pass.new) }
         ensures err { IfErr result (λ end. IsRefused pass.old rec.now end pass.new) }
     {
         if rec.len() > RECORD_SIZE {
-            return Err(PutEnd::TooLong);
+            return Err(CollectEnd::TooLong);
         }
         if let Some(held) = pass.ended {
-            return Err(PutEnd::Full { held });
+            return Err(CollectEnd::Full { held });
         }
         if pass.records.try_reserve(1).is_err() {
-            return Err(PutEnd::Memory);
+            return Err(CollectEnd::Memory);
         }
         let Ok(bytes) = Vec::from_slice(self.alloc, rec) else {
-            return Err(PutEnd::Memory);
+            return Err(CollectEnd::Memory);
         };
         let cost = rec.len() as u64 + RECORD_COST;
         let held = self
@@ -141,7 +141,7 @@ impl Collector {
             .fetch_add::<OnePut>(&mut pass.seat, 0, cost);
         if held + cost > LIMIT {
             pass.ended = Some(held);
-            return Err(PutEnd::Full { held });
+            return Err(CollectEnd::Full { held });
         }
         let bytes = Bytes::from(bytes);
         pass.records.push_reserved(Accepted { at: held, bytes });

@@ -10,7 +10,7 @@ ghost use Rattle.chunk_reader.specs.declared.reasons.Fault.{Fault};
 ghost use Rattle.record_collect.specs.Passes.{BelongsTo, IsFresh};
 ghost use Rattle.record_collect.specs.Takings.{IsTakenOf, IsTakenSoFar, TakesOn};
 
-use crate::collector::{Collector, Pass, PutEnd};
+use crate::collector::{CollectEnd, Collector, Pass};
 use chunk_reader::{Judged, ReadEnd, Reader, What};
 use record_io::Store;
 use simple_chunk::Records;
@@ -145,8 +145,8 @@ fn put_record(collector: &Collector, rec: &[u8], pass: &mut Pass) -> Result<Fed,
 {
     match collector.put(pass, rec) {
         Ok(_) => Ok(Fed::Whole),
-        Err(PutEnd::TooLong) => Ok(Fed::Front),
-        Err(PutEnd::Full { .. }) => Ok(Fed::Front),
-        Err(PutEnd::Memory) => Err(AllocError),
+        Err(CollectEnd::TooLong) => Ok(Fed::Front),
+        Err(CollectEnd::Full { .. }) => Ok(Fed::Front),
+        Err(CollectEnd::Memory) => Err(AllocError),
     }
 }

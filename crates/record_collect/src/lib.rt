@@ -12,7 +12,7 @@ mod placed;
 mod slots;
 mod table;
 
-pub use collector::{Collector, Pass, PutEnd, Receipt};
+pub use collector::{CollectEnd, Collector, Pass, Receipt};
 pub use file_places::places;
 pub use gathered::{Gathered, Numbers};
 pub use gathering::{GatherEnd, gather};

@@ -28,7 +28,7 @@ use Rattle.damage_skip.specs.Regions.{regions_in, skipped_text, stopped_text, wa
 use Rattle.riegeli_tool.specs.RepairCommand.{end_puts, IsRepaired}
 use Rattle.record_join.specs.Joined.{joined}
 use Rattle.show_files.specs.Readings.{refused_file_text}
-use Rattle.join_files.specs.JoinCommand.{AreJoinedIn, AreRefusedIn}
+use Rattle.join_files.specs.JoinCommand.{AreJoinedIn, AreJoinedToFaultIn}
 use Rattle.collect_files.specs.CollectCommand.{AreCollectedIn, collected_file, collected_lines}
 use Rattle.run_answers.proofs.TwoStreams.{bytes_to-first, bytes_to-second, bytes_to-neither}
 
@@ -111,7 +111,7 @@ joined-streams files answer is =
     )
 
 -- or one has
-pub refused-streams : (files : List (List ℕ)) (answer : Answer) (is : AreRefusedIn files answer)
+pub refused-streams : (files : List (List ℕ)) (answer : Answer) (is : AreJoinedToFaultIn files answer)
     → (bytes_to Made answer.puts ≡ joined (take is.index files))
     × (bytes_to Out answer.puts ≡ [])
     × (bytes_to Notes answer.puts ≡ refused_file_text is.index is.fault)

@@ -10,7 +10,7 @@ ghost use Rattle.meta_chunk.specs.Files.{IsFile, IsFrame, IsFrameChain, AreRecor
 ghost use Rattle.record_join.specs.Joined.{joined};
 ghost use Rattle.show_files.specs.Readings.{refused_file_text};
 ghost use Rattle.collect_files.specs.CollectCommand.{AreCollectedIn, IsCollectAnswer, collected_file, collected_lines};
-ghost use Rattle.join_files.specs.JoinCommand.{AreJoinedIn, AreRefusedIn, IsJoinAnswer};
+ghost use Rattle.join_files.specs.JoinCommand.{AreJoinedIn, AreJoinedToFaultIn, IsJoinAnswer};
 ghost use Rattle.record_group.specs.Records.{AreRecords};
 ghost use Rattle.record_values.specs.Bytes.{AreBytes};
 ghost use Rattle.record_io.specs.Puts.{Made, Out, Notes, puts_to, bytes_to};
@@ -131,7 +131,7 @@ pub fn streams_take_their_parts()
         → (bytes_to Made answer.puts ≡ joined files)
         × (bytes_to Out answer.puts ≡ report (totals_of is.chunks))
         × (bytes_to Notes answer.puts ≡ []) }
-    ensures refused_join { (files : List (List ℕ)) (answer : Answer) (is : AreRefusedIn files answer)
+    ensures refused_join { (files : List (List ℕ)) (answer : Answer) (is : AreJoinedToFaultIn files answer)
         → (bytes_to Made answer.puts ≡ joined (take is.index files))
         × (bytes_to Out answer.puts ≡ [])
         × (bytes_to Notes answer.puts ≡ refused_file_text is.index is.fault) }

@@ -1,7 +1,7 @@
 use Rattle.std.proofs.Common.{◌∙◌, Err, map, refl, ap}
 use Rattle.record_io.proofs.ManyStores.{same_told}
 use Rattle.run_answers.specs.Endings.{HaveTold}
-use Rattle.collect_files.specs.CollectCommand.{AreInReach}
+use Rattle.collect_files.specs.CollectCommand.{AreEachInReach}
 use Rattle.collect_files.proofs.CollectSteps.{file-failed, sized-ended, took-ended}
 use Rattle.collect_files.proofs.collecting.collect_sized.Goals as goal
 use Rattle.collect_files.proofs.collecting.collect_sized.Goals.{After-put_gathered-put}
@@ -26,7 +26,7 @@ returns-in-Err-clause-files g c = record {
 }
 
 -- the files told the same sizes once their records were gathered and put
-sized : (g : _) (c : After-put_gathered-put g) → HaveTold (map g.S.Store.told c.gather.new.stores) AreInReach
+sized : (g : _) (c : After-put_gathered-put g) → HaveTold (map g.S.Store.told c.gather.new.stores) AreEachInReach
 sized g c = (
   c.args.sizes.now,
   same_told g.S.Store.bytes g.S.Store.told g.S.Store.name g.S.Store.faults c.args.files.now c.gather.new.stores c.in-Ok.ensures.stores.each ∙ c.requires.told,

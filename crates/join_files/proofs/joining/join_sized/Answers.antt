@@ -1,7 +1,7 @@
 use Rattle.std.proofs.Common.{◌≡◌, ◌∙◌, Err, length, map, refl, subst}
 use Rattle.record_io.proofs.ManyStores.{same_told}
 use Rattle.run_answers.proofs.AskedSizes.{exact_sizes}
-use Rattle.join_files.specs.JoinCommand.{AreInReach}
+use Rattle.join_files.specs.JoinCommand.{AreTogetherInReach}
 use Rattle.join_files.proofs.JoinSteps.{file-failed, may_join, sized-ended, took-ended}
 use Rattle.join_files.proofs.joining.join_sized.Goals as goal
 
@@ -10,7 +10,7 @@ returns-in-Err-clause-joined g c = λ all its.
     let sizes : c.args.sizes.now ≡ map length all =
     exact_sizes g.S.Store.bytes g.S.Store.told (λ file. g.met.S.Store.sized file) c.args.files.now all c.args.sizes.now its c.requires.told in
     took-ended (Unit {0}) (Err c.in-Err.end) c.in-Err.end c.end_of_join.result (g.M.Sink.taken c.args.made.now) (g.M.Sink.taken c.join.new.made)
-    (g.O.Sink.taken c.args.out.now) all refl c.end_of_join.ensures (subst AreInReach sizes c.requires.in_reach)
+    (g.O.Sink.taken c.args.out.now) all refl c.end_of_join.ensures (subst AreTogetherInReach sizes c.requires.in_reach)
     (λ index fault ended. c.in-Err.ensures.refused index fault ended all its) (λ ended. c.in-Err.ensures.front ended all its)
     (λ ended. c.in-Err.ensures.sound_first ended all its)
 

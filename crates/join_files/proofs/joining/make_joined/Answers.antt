@@ -1,7 +1,7 @@
 use Rattle.std.proofs.Common.{◌∙◌, List, ℕ, map, Some, refl, subst, inl, inr, rules, tests}
 use Rattle.record_io.proofs.ManyStores.{asked_twice, same_bytes, same_told, untold}
 use Rattle.run_answers.proofs.AskedSizes.{none_untold, same_handed}
-use Rattle.join_files.specs.JoinCommand.{AreInReach, MayJoin}
+use Rattle.join_files.specs.JoinCommand.{AreTogetherInReach, MayJoin}
 use Rattle.join_files.proofs.joining.make_joined.Goals as goal
 
 pub returns-in_default-clause-handed : goal.returns-in_default-clause-handed
@@ -38,7 +38,7 @@ returns-clause-in_order g c = λ place file there none.
 
 pub returns-clause-handed : goal.returns-clause-handed
 returns-clause-handed g c =
-    let reach : AreInReach c.ask_sizes.new.sizes = search (rules, tests) in
+    let reach : AreTogetherInReach c.ask_sizes.new.sizes = search (rules, tests) in
     let after : List ℕ = map g.S.Store.handed c.join_sized.new.files in
     inr (
       c.ask_sizes.new.sizes,

@@ -1,7 +1,7 @@
 use Rattle.std.proofs.Common.{◌+◌, Some, None, arith, rules}
 use Rattle.damage_skip.proofs.Leads.{leads-at, leads-past, leads-joined, leads-wider, leads-narrower}
 use Rattle.damage_skip.proofs.Takings.{leads-looks, leads-looked}
-use Rattle.damage_skip.proofs.block_checks.Span.contradicted_between.Goals as goal
+use Rattle.damage_skip.proofs.block_checks.ChunkSpan.contradicted_between.Goals as goal
 
 pub returns-in-Some-clause-leads : goal.returns-in-Some-clause-leads
 returns-in-Some-clause-leads g c =

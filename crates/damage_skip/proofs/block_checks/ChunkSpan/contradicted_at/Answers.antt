@@ -1,6 +1,6 @@
 use Rattle.std.proofs.Common.{refl}
 use Rattle.damage_skip.proofs.Leads.{leads-unread, leads-agreed}
-use Rattle.damage_skip.proofs.block_checks.Span.contradicted_at.Goals as goal
+use Rattle.damage_skip.proofs.block_checks.ChunkSpan.contradicted_at.Goals as goal
 
 pub returns-in_default-clause-leads : goal.returns-in_default-clause-leads
 returns-in_default-clause-leads g c =

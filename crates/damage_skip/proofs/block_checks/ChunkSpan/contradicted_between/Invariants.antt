@@ -2,7 +2,7 @@ use Rattle.std.proofs.Common.{ℕ, ◌+◌, ◌-◌, ◌*◌, ◌<◌, ◌≤◌
 use Rattle.record_io.specs.Calls.{OnlyAsks}
 use Rattle.block_layout.specs.Layout.{IsBlock, blocks_below}
 use Rattle.damage_skip.specs.Steps.{IsEndOf, LeadsTo}
-use Rattle.damage_skip.proofs.block_checks.Span.contradicted_between.Given as goal
+use Rattle.damage_skip.proofs.block_checks.ChunkSpan.contradicted_between.Given as goal
 
 abbrev pub invariant-loop-block : goal.invariant-loop-block
 invariant-loop-block g l = record {
