@@ -176,5 +176,5 @@ module _ {F : Type 0} (test : Shared F (Bor Region × Unit {0}) Bool) (f : F) wh
       record { regions = h.regions; allowed = h.allowed; answer = refused region is; lines = h.lines }
   skips_ended (Err end.Store) ended count n m is same refused h = record { regions = h.regions; allowed = h.allowed; answer = tt; lines = h.lines }
   skips_ended (Err end.Made) ended count n m is same refused h = record { regions = h.regions; allowed = h.allowed; answer = tt; lines = h.lines }
-  skips_ended (Err end.Notes) ended count n m is same refused h = absurd is
+  skips_ended (Err end.Notes) ended count n m is same refused h = absurd (cc is)
   skips_ended (Err end.Memory) ended count n m is same refused h = record { regions = h.regions; allowed = h.allowed; answer = tt; lines = h.lines }

@@ -46,14 +46,13 @@ pub record CopiesWalk {F : Type 0} (test : Shared F (Bor Region × Unit {0}) Boo
   pub copies : CopiesUpTo test f result copied before after file place events
   pub account : IsTakenUpTo true file 0 place taken
 
--- what is answered where a walk ended so, if the made file doesn't fail
+-- what is answered where a walk ended so: how it did, or else that the made file failed
 abbrev pub AnswersWalk : Option WalkEnd → Result Repaired RepairEnd → Type 0
 AnswersWalk ended (Ok repaired) = ended ≡ None
 AnswersWalk ended (Err (end.Stopped region)) = ended ≡ Some (walk.Stopped region)
 AnswersWalk ended (Err end.Store) = ended ≡ Some walk.Store
-AnswersWalk ended (Err end.Made) = ⊤
-AnswersWalk ended (Err end.Notes) = ⊥
 AnswersWalk ended (Err end.Memory) = ended ≡ Some walk.Memory
+AnswersWalk ended (Err other) = other ≡ end.Made
 
 -- what is put of these events went out with that answer, and is counted
 pub record HasPutOut (result : Result Repaired RepairEnd) (faults faults_then : ℕ) (before after : Taken) (events : List Piece) : Type 0 where
