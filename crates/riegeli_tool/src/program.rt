@@ -1,6 +1,6 @@
-ghost use Rattle.std.specs.Prelude.{◌≡◌, Some, map, length};
+ghost use Rattle.std.specs.Prelude.{◌≡◌, map, length};
 ghost use Rattle.std.specs.String.{string_bytes};
-ghost use Rattle.riegeli_tool.specs.Commands.{accepted, stores_of, IsWithinLimits};
+ghost use Rattle.riegeli_tool.specs.Commands.{accepted};
 ghost use Rattle.riegeli_tool.specs.CommandAnswers.{meaning_of};
 ghost use Rattle.riegeli_tool.specs.PastDamage.{RunsCommand};
 ghost use Rattle.riegeli_tool.specs.Unused.{LeavesUnused};
@@ -105,57 +105,18 @@ pub fn run<
         input.old input.new files.old files.new made.old made.new grown.old grown.new out.old out.new }
     ensures notes_kept { result ≡ Status.Ok → notes.new ≡ notes.old }
 {
-    match accept(words, files.len()) {
-        Some(command) => act(rt, alloc, &command, input, files, made, grown, out, notes),
+    match &accept(words, files.len()) {
+        Some(Command::Write(words)) => write(rt, alloc, words, input, made, notes),
+        Some(Command::Show(words)) => show(alloc, words, &mut files[0], out, notes),
+        Some(Command::Recover(words)) => recover(alloc, words, &mut files[0], out, notes),
+        Some(Command::Verify(_)) => verify(&mut files[0], out, notes),
+        Some(Command::Seek(words)) => show_found(alloc, words, &mut files[0], out, notes),
+        Some(Command::Repair(words)) => repair(alloc, words, &mut files[0], made, out, notes),
+        Some(Command::Sample(words)) => sample(rt, alloc, words, made, out, notes),
+        Some(Command::Join(_)) => join_files(files, made, out, notes),
+        Some(Command::Ranges(words)) => ranges(rt, alloc, words, files, out, notes),
+        Some(Command::Append(words)) => append(rt, alloc, words, input, grown, out, notes),
+        Some(Command::Collect(_)) => collect_files(rt, alloc, files, made, out, notes),
         None => end(notes, USAGE, Status::Usage),
-    }
-}
-
-/// Does what a command says, with as many stores as it reads.
-fn act<
-    R: Threads + Sync,
-    I: Source,
-    S: Store + Send,
-    M: Sink + Send,
-    G: Device + Send,
-    O: Sink,
-    E: Sink,
->(
-    rt: &R,
-    alloc: Global,
-    command: &Command,
-    input: &mut I,
-    files: &mut [S],
-    made: &mut M,
-    grown: &mut G,
-    out: &mut O,
-    notes: &mut E,
-) -> Status
-    requires taken { stores_of command.now ≡ length files.old }
-    requires within { IsWithinLimits command.now }
-    ensures runs { RunsCommand (Some command.now)
-        (seen (seen_stream I.left I.faults input.old) (map (seen_file S.bytes S.told S.handed S.faults) files.old) (seen_stream M.taken M.faults made.old)
-        (seen_file G.bytes G.told G.handed G.faults grown.old) (seen_stream O.taken O.faults out.old) (seen_stream E.taken E.faults notes.old))
-        (seen (seen_stream I.left I.faults input.new) (map (seen_file S.bytes S.told S.handed S.faults) files.new) (seen_stream M.taken M.faults made.new)
-        (seen_file G.bytes G.told G.handed G.faults grown.new) (seen_stream O.taken O.faults out.new) (seen_stream E.taken E.faults notes.new))
-        result }
-    ensures same_bytes { map (λ file. S.bytes file) files.new ≡ map (λ file. S.bytes file) files.old }
-    ensures same_names { map (λ file. S.name file) files.new ≡ map (λ file. S.name file) files.old }
-    ensures unused { LeavesUnused (meaning_of (Some command.now)).uses
-        input.old input.new files.old files.new made.old made.new grown.old grown.new out.old out.new }
-    ensures notes_kept { result ≡ Status.Ok → notes.new ≡ notes.old }
-{
-    match command {
-        Command::Write(words) => write(rt, alloc, words, input, made, notes),
-        Command::Show(words) => show(alloc, words, &mut files[0], out, notes),
-        Command::Recover(words) => recover(alloc, words, &mut files[0], out, notes),
-        Command::Verify(_) => verify(&mut files[0], out, notes),
-        Command::Seek(words) => show_found(alloc, words, &mut files[0], out, notes),
-        Command::Repair(words) => repair(alloc, words, &mut files[0], made, out, notes),
-        Command::Sample(words) => sample(rt, alloc, words, made, out, notes),
-        Command::Join(_) => join_files(files, made, out, notes),
-        Command::Ranges(words) => ranges(rt, alloc, words, files, out, notes),
-        Command::Append(words) => append(rt, alloc, words, input, grown, out, notes),
-        Command::Collect(_) => collect_files(rt, alloc, files, made, out, notes),
     }
 }

@@ -1,6 +1,6 @@
-ghost use Rattle.std.specs.Prelude.{◌≡◌, map};
+ghost use Rattle.std.specs.Prelude.{◌≡◌, IfSome, map};
 ghost use Rattle.std.specs.String.{string_bytes};
-ghost use Rattle.riegeli_tool.specs.Commands.{accepted, command_named, command_of, names_of, show_command_of};
+ghost use Rattle.riegeli_tool.specs.Commands.{IsWithinLimits, accepted, command_named, command_of, names_of, show_command_of, stores_of};
 
 use crate::append_words::append_words;
 use crate::command::{Command, Names};
@@ -64,7 +64,9 @@ fn show_command<'a>(words: &'a [String]) -> Option<Command<'a>>
 
 /// The command that the words are, where so many stores are handed in.
 pub(crate) fn accept<'a>(words: &'a [String], count: usize) -> Option<Command<'a>>
-    ensures { result ≡ accepted (map string_bytes words.now) count }
+    ensures command { result ≡ accepted (map string_bytes words.now) count }
+    ensures taken { IfSome result (λ command. stores_of command ≡ count) }
+    ensures within { IfSome result IsWithinLimits }
 {
     parse(words).filter(|command| command.takes(count))
 }

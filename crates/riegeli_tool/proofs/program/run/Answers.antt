@@ -1,22 +1,101 @@
-use Rattle.std.proofs.Common.{map, length, sym, ◌∙◌}
-use Rattle.std.specs.String.{string_bytes}
-use Rattle.riegeli_tool.specs.Commands.{command_of}
-use Rattle.run_answers.specs.Runs.{seen, unseen}
-use Rattle.riegeli_tool.proofs.AcceptedLimits.{accepted-within}
-use Rattle.riegeli_tool.proofs.FileAnswersExist.{accepted-takes}
+use Rattle.std.proofs.Common.{◌∙◌, None, Some, [], sym, rules}
+use Rattle.std.proofs.Math.Seq.{map-set_same}
+use Rattle.riegeli_tool.specs.declared.command.Command.TheVariants.{Write, Show, Recover, Verify, Seek, Repair, Sample, Join, Ranges, Append, Collect}
+use Rattle.run_answers.specs.Runs.{seen, unseen, seen_file}
+use Rattle.run_answers.proofs.RunEnds.{runs-one_file}
 use Rattle.riegeli_tool.proofs.PastDamage.{runs-as}
 use Rattle.riegeli_tool.proofs.UsageRuns.{runs-usage}
 use Rattle.riegeli_tool.proofs.program.run.Goals as goal
 
-pub act-requires-clause-taken : goal.act-requires-clause-taken
-act-requires-clause-taken g c κs within =
-    accepted-takes (command_of (map string_bytes c.args.words.now)) (length c.args.files.now) c.in-Some.command
-    (sym c.accept.ensures ∙ c.in-Some.is)
+pub returns-in-Some-Write-clause-runs : goal.returns-in-Some-Write-clause-runs
+returns-in-Some-Write-clause-runs g c = runs-as (Some (Write c.in-Some-Write.words)) _ _ _ _ (search rules) (c.write.ensures.runs (seen unseen _ unseen _ _ unseen))
 
-pub act-requires-clause-within : goal.act-requires-clause-within
-act-requires-clause-within g c κs within =
-    accepted-within (map string_bytes c.args.words.now) (length c.args.files.now) c.in-Some.command (sym c.in-Some.is ∙ c.accept.ensures)
+pub returns-in-Some-Sample-clause-runs : goal.returns-in-Some-Sample-clause-runs
+returns-in-Some-Sample-clause-runs g c = runs-as (Some (Sample c.in-Some-Sample.words)) _ _ _ _ (search rules) (c.sample.ensures.runs (seen _ _ unseen _ unseen unseen))
+
+pub returns-in-Some-Join-clause-runs : goal.returns-in-Some-Join-clause-runs
+returns-in-Some-Join-clause-runs g c = runs-as (Some (Join c.in-Some-Join.field-0-0)) _ _ _ _ (search rules) (c.join_files.ensures.runs (seen _ [] unseen _ unseen unseen))
+
+pub returns-in-Some-Ranges-clause-runs : goal.returns-in-Some-Ranges-clause-runs
+returns-in-Some-Ranges-clause-runs g c = runs-as (Some (Ranges c.in-Some-Ranges.words)) _ _ _ _ (search rules) (c.ranges-in-Some-Ranges.ensures.runs (seen _ [] _ _ unseen unseen))
+
+pub returns-in-Some-Append-clause-runs : goal.returns-in-Some-Append-clause-runs
+returns-in-Some-Append-clause-runs g c = runs-as (Some (Append c.in-Some-Append.words)) _ _ _ _ (search rules) (c.append.ensures.runs (seen unseen _ _ (record { bytes = None; told = None; handed = 0; faults = 0 }) unseen unseen))
+
+pub returns-in-Some-Collect-clause-runs : goal.returns-in-Some-Collect-clause-runs
+returns-in-Some-Collect-clause-runs g c = runs-as (Some (Collect c.in-Some-Collect.field-0-0)) _ _ _ _ (search rules) (c.collect_files.ensures.runs (seen _ [] unseen _ unseen unseen))
+
+pub returns-in-Some-Show-clause-runs : goal.returns-in-Some-Show-clause-runs
+returns-in-Some-Show-clause-runs g c =
+    runs-as (Some (Show c.in-Some-Show.words)) _ _ _ _ (search rules)
+    (runs-one_file (seen_file g.S.Store.bytes g.S.Store.told g.S.Store.handed g.S.Store.faults) c.args.files.now _ c.show.new.file _ (seen _ [] _ _ _ _) (seen _ [] _ _ _ _) _
+    (search rules) (c.show.ensures.runs (seen _ [] _ _ unseen unseen)))
+
+pub returns-in-Some-Recover-clause-runs : goal.returns-in-Some-Recover-clause-runs
+returns-in-Some-Recover-clause-runs g c =
+    runs-as (Some (Recover c.in-Some-Recover.words)) _ _ _ _ (search rules)
+    (runs-one_file (seen_file g.S.Store.bytes g.S.Store.told g.S.Store.handed g.S.Store.faults) c.args.files.now _ c.recover.new.file _ (seen _ [] _ _ _ _) (seen _ [] _ _ _ _) _
+    (search rules) (c.recover.ensures.runs (seen _ [] _ _ unseen unseen)))
+
+pub returns-in-Some-Verify-clause-runs : goal.returns-in-Some-Verify-clause-runs
+returns-in-Some-Verify-clause-runs g c =
+    runs-as (Some (Verify c.in-Some-Verify.field-0-0)) _ _ _ _ (search rules)
+    (runs-one_file (seen_file g.S.Store.bytes g.S.Store.told g.S.Store.handed g.S.Store.faults) c.args.files.now _ c.verify.new.file _ (seen _ [] _ _ _ _) (seen _ [] _ _ _ _) _
+    (search rules) (c.verify.ensures.runs (seen _ [] _ _ unseen unseen)))
+
+pub returns-in-Some-Seek-clause-runs : goal.returns-in-Some-Seek-clause-runs
+returns-in-Some-Seek-clause-runs g c =
+    runs-as (Some (Seek c.in-Some-Seek.words)) _ _ _ _ (search rules)
+    (runs-one_file (seen_file g.S.Store.bytes g.S.Store.told g.S.Store.handed g.S.Store.faults) c.args.files.now _ c.show_found.new.file _ (seen _ [] _ _ _ _) (seen _ [] _ _ _ _) _
+    (search rules) (c.show_found.ensures.runs (seen _ [] _ _ unseen unseen)))
+
+pub returns-in-Some-Repair-clause-runs : goal.returns-in-Some-Repair-clause-runs
+returns-in-Some-Repair-clause-runs g c =
+    runs-as (Some (Repair c.in-Some-Repair.words)) _ _ _ _ (search rules)
+    (runs-one_file (seen_file g.S.Store.bytes g.S.Store.told g.S.Store.handed g.S.Store.faults) c.args.files.now _ c.repair.new.file _ (seen _ [] _ _ _ _) (seen _ [] _ _ _ _) _
+    (search rules) (c.repair.ensures.runs (seen _ [] unseen _ unseen unseen)))
+
+pub returns-in-Some-Show-clause-same_bytes : goal.returns-in-Some-Show-clause-same_bytes
+returns-in-Some-Show-clause-same_bytes g c =
+    map-set_same g.S.Store.bytes c.args.files.now 0 c.show.new.file c.index-files-0.result c.show.ensures.same_bytes
+
+pub returns-in-Some-Show-clause-same_names : goal.returns-in-Some-Show-clause-same_names
+returns-in-Some-Show-clause-same_names g c =
+    map-set_same g.S.Store.name c.args.files.now 0 c.show.new.file c.index-files-0.result c.show.ensures.same_name
+
+pub returns-in-Some-Recover-clause-same_bytes : goal.returns-in-Some-Recover-clause-same_bytes
+returns-in-Some-Recover-clause-same_bytes g c =
+    map-set_same g.S.Store.bytes c.args.files.now 0 c.recover.new.file c.index-files-0-in-Some-Recover.result c.recover.ensures.same_bytes
+
+pub returns-in-Some-Recover-clause-same_names : goal.returns-in-Some-Recover-clause-same_names
+returns-in-Some-Recover-clause-same_names g c =
+    map-set_same g.S.Store.name c.args.files.now 0 c.recover.new.file c.index-files-0-in-Some-Recover.result c.recover.ensures.same_name
+
+pub returns-in-Some-Verify-clause-same_bytes : goal.returns-in-Some-Verify-clause-same_bytes
+returns-in-Some-Verify-clause-same_bytes g c =
+    map-set_same g.S.Store.bytes c.args.files.now 0 c.verify.new.file c.index-files-0-in-Some-Verify.result c.verify.ensures.same_bytes
+
+pub returns-in-Some-Verify-clause-same_names : goal.returns-in-Some-Verify-clause-same_names
+returns-in-Some-Verify-clause-same_names g c =
+    map-set_same g.S.Store.name c.args.files.now 0 c.verify.new.file c.index-files-0-in-Some-Verify.result c.verify.ensures.same_name
+
+pub returns-in-Some-Seek-clause-same_bytes : goal.returns-in-Some-Seek-clause-same_bytes
+returns-in-Some-Seek-clause-same_bytes g c =
+    map-set_same g.S.Store.bytes c.args.files.now 0 c.show_found.new.file c.index-files-0-in-Some-Seek.result c.show_found.ensures.same_bytes
+
+pub returns-in-Some-Seek-clause-same_names : goal.returns-in-Some-Seek-clause-same_names
+returns-in-Some-Seek-clause-same_names g c =
+    map-set_same g.S.Store.name c.args.files.now 0 c.show_found.new.file c.index-files-0-in-Some-Seek.result c.show_found.ensures.same_name
+
+pub returns-in-Some-Repair-clause-same_bytes : goal.returns-in-Some-Repair-clause-same_bytes
+returns-in-Some-Repair-clause-same_bytes g c =
+    map-set_same g.S.Store.bytes c.args.files.now 0 c.repair.new.file c.index-files-0-in-Some-Repair.result c.repair.ensures.same_bytes
+
+pub returns-in-Some-Repair-clause-same_names : goal.returns-in-Some-Repair-clause-same_names
+returns-in-Some-Repair-clause-same_names g c =
+    map-set_same g.S.Store.name c.args.files.now 0 c.repair.new.file c.index-files-0-in-Some-Repair.result c.repair.ensures.same_name
 
 pub returns-in-None-clause-runs : goal.returns-in-None-clause-runs
 returns-in-None-clause-runs g c =
-    runs-as _ _ _ _ _ c.in-None.ensures (runs-usage (seen _ _ _ _ _ unseen) _ _ _ c.end.ensures.told c.end.ensures.notes.never_falls)
+    runs-as _ _ _ _ _ (sym c.in-None.is ∙ c.accept.ensures.command)
+    (runs-usage (seen _ _ _ _ _ unseen) _ _ _ c.end.ensures.told c.end.ensures.notes.never_falls)
