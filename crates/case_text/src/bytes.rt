@@ -141,9 +141,12 @@ fn header(alloc: Global, arguments: &str) -> Result<Vec<u8>> {
     Ok(header.to_bytes().to_vec(alloc)?)
 }
 
-/// A line for each number from one on below another one.
+/// A line for each number from one on below another one, of which there are some.
 fn lines(alloc: Global, arguments: &str) -> Result<Vec<u8>> {
     let [from, to] = numbers::<2>(arguments)?;
+    if from >= to {
+        return Err(refused("an empty range", arguments));
+    }
     let mut lines = String::new(alloc);
     for number in from..to {
         writeln!(lines, "{number}")?;

@@ -1,7 +1,8 @@
 //! Hostile files through each command that reads or grows one.
 
 use crate::hostile_growth::try_growth;
-use crate::hostile_parts::{try_collected, try_parts};
+use crate::hostile_joined::{try_collected, try_joined};
+use crate::hostile_parts::{try_first, try_parts};
 use crate::running::{alone, run_line};
 use crate::tries::Tries;
 use anyhow::{Result, bail};
@@ -11,6 +12,7 @@ use case_text::left::Left;
 use case_text::words::number_of;
 use plain_reading::walk::walked;
 use std::alloc::Global;
+use std::ops::Range;
 use std::thread::Threads;
 
 /// Makes hostile files of the last file, one for each seed from one on, so many, and tries the commands on each.
@@ -21,10 +23,10 @@ pub(crate) fn try_hostile<R: Threads + Sync>(
     given: &Given,
     words: &[String],
 ) -> Result<()> {
-    let (first, count) = seeds_of(words)?;
+    let seeds = seeds_of(words)?;
     let file = given.last_file()?.bytes.as_slice();
     let begins = begins_of(alloc, file)?;
-    for seed in first..first.saturating_add(count) {
+    for seed in seeds {
         let made = alone(alloc, hostile(alloc, file, &begins, seed as u64)?)?;
         if let Err(why) = try_file(rt, alloc, tries, &made) {
             bail!("the file of seed {seed}: {why}");
@@ -33,8 +35,8 @@ pub(crate) fn try_hostile<R: Threads + Sync>(
     Ok(())
 }
 
-/// The first seed, and how many there are.
-fn seeds_of(words: &[String]) -> Result<(usize, usize)> {
+/// The seeds from the first one on, so many, of which there are some.
+fn seeds_of(words: &[String]) -> Result<Range<usize>> {
     let [first, count] = words else {
         bail!("not a seed and a count");
     };
@@ -42,7 +44,10 @@ fn seeds_of(words: &[String]) -> Result<(usize, usize)> {
     if count == 0 {
         bail!("no hostile file");
     }
-    Ok((first, count))
+    match first.checked_add(count) {
+        Some(end) => Ok(first..end),
+        None => bail!("seeds past all numbers"),
+    }
 }
 
 /// Tries the commands on a file.
@@ -56,8 +61,9 @@ fn try_file<R: Threads + Sync>(
     let verified = run_line(rt, alloc, tries, given, "verify F")?;
     let shown = run_line(rt, alloc, tries, given, "show F")?;
     check_refusal(&verified, &shown)?;
-    try_recovered(rt, alloc, tries, given, &shown)?;
+    try_recovered(rt, alloc, tries, given, &verified, &shown)?;
     try_growth(rt, alloc, tries, file, &verified)?;
+    try_first(rt, alloc, tries, given)?;
     try_parts(rt, alloc, tries, file, &shown)?;
     try_collected(rt, alloc, tries, given, &shown)
 }
@@ -77,7 +83,7 @@ fn check_refusal(verified: &Left, shown: &Left) -> Result<()> {
 }
 
 /// The text that bytes are, or none.
-fn text_of(bytes: &[u8]) -> &str {
+pub(crate) fn text_of(bytes: &[u8]) -> &str {
     str::from_utf8(bytes).unwrap_or("")
 }
 
@@ -86,19 +92,21 @@ fn is_unread(line: &str) -> bool {
     line.ends_with(" Compressed\n") || line.ends_with(" Transposed\n")
 }
 
-/// Tries `show --recover` and `repair`, where this is what `show` left.
+/// Tries `show --recover`, `repair` and `join`, where this is what `verify` and `show` left.
 fn try_recovered<R: Threads + Sync>(
     rt: &R,
     alloc: Global,
     tries: &mut Tries,
     given: &Given,
+    verified: &Left,
     shown: &Left,
 ) -> Result<()> {
     let recovered = run_line(rt, alloc, tries, given, "show --recover F")?;
     check_front(shown, &recovered)?;
     let placed = run_line(rt, alloc, tries, given, "show --recover --positions F")?;
     check_walk(alloc, given, &recovered, &placed)?;
-    try_repair(rt, alloc, tries, given, &recovered)
+    try_repair(rt, alloc, tries, given, &recovered)?;
+    try_joined(rt, alloc, tries, given, verified, &recovered)
 }
 
 /// Checks that `show` left the front of what is recovered.

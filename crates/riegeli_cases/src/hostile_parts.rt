@@ -1,14 +1,63 @@
-//! Hostile files through `ranges` and `collect`.
+//! Hostile files through `seek` and `ranges`.
 
+use crate::hostile_files::text_of;
 use crate::running::{alone, run_line};
 use crate::tries::Tries;
 use anyhow::{Result, bail};
 use case_text::files::copy;
 use case_text::given::Given;
 use case_text::left::Left;
-use plain_reading::search::lines_of;
 use std::alloc::Global;
 use std::thread::Threads;
+
+/// Seeks the first record of a file.
+pub(crate) fn try_first<R: Threads + Sync>(
+    rt: &R,
+    alloc: Global,
+    tries: &mut Tries,
+    given: &Given,
+) -> Result<()> {
+    let shown = run_line(rt, alloc, tries, given, "show --hex --positions F")?;
+    let found = run_line(rt, alloc, tries, given, "seek --hex --at=0 F")?;
+    check_first(&found, &shown)
+}
+
+/// Checks that `seek` finds the first record that is shown. Where none is, it finds none in a whole file, and of another one
+/// tells the same fault or goes on past it.
+fn check_first(found: &Left, shown: &Left) -> Result<()> {
+    let line = first_line(text_of(&shown.out));
+    let is_right = if !line.is_empty() {
+        has_ended(found, 0, line.as_bytes(), b"")
+    } else if shown.status == 0 {
+        has_ended(found, 11, b"", b"not found\n")
+    } else {
+        has_ended(found, 1, b"", &shown.notes) || goes_past(found, text_of(&shown.notes))
+    };
+    if !is_right {
+        bail!("seek finds another record than the first that is shown, or ends otherwise");
+    }
+    Ok(())
+}
+
+/// The first line of a text, with its newline.
+fn first_line(text: &str) -> &str {
+    let mut lines = text.split_inclusive('\n');
+    lines.next().unwrap_or("")
+}
+
+/// Whether a run ended with this status, printed this and told this.
+fn has_ended(left: &Left, status: u8, out: &[u8], notes: &[u8]) -> bool {
+    left.status == status && left.out.as_slice() == out && left.notes.as_slice() == notes
+}
+
+/// Whether `seek` went on past the fault that a line tells, to a record, to another fault or to the file's end: it isn't one by
+/// which no chunk is passed.
+fn goes_past(found: &Left, line: &str) -> bool {
+    let stops = line.ends_with(" Short\n")
+        || line.ends_with(" HeaderHash\n")
+        || line.ends_with(" Truncated\n");
+    !stops && matches!(found.status, 0 | 1 | 11)
+}
 
 /// Reads a file in three parts.
 pub(crate) fn try_parts<R: Threads + Sync>(
@@ -35,64 +84,4 @@ fn check_parts(left: &Left, shown: &Left) -> Result<()> {
         bail!("ranges answers otherwise than show");
     }
     Ok(())
-}
-
-/// Collects the records of one file.
-pub(crate) fn try_collected<R: Threads + Sync>(
-    rt: &R,
-    alloc: Global,
-    tries: &mut Tries,
-    given: &Given,
-    shown: &Left,
-) -> Result<()> {
-    let left = run_line(rt, alloc, tries, given, "collect F G")?;
-    if left.status != shown.status || left.notes != refused_first(alloc, shown)? {
-        bail!("collect ends otherwise than show");
-    }
-    if left.status == 0 {
-        return try_made(rt, alloc, tries, &left, shown);
-    }
-    if !left.made.is_empty() || !left.out.is_empty() {
-        bail!("collect makes something of a refused file");
-    }
-    Ok(())
-}
-
-/// Checks that the file that `collect` made has the records that were shown, at the positions that it told.
-fn try_made<R: Threads + Sync>(
-    rt: &R,
-    alloc: Global,
-    tries: &mut Tries,
-    left: &Left,
-    shown: &Left,
-) -> Result<()> {
-    let made = alone(alloc, left.made.to_vec(alloc)?)?;
-    let again = run_line(rt, alloc, tries, &made, "show G")?;
-    if again.status != 0 || again.out != shown.out {
-        bail!("the collected file has other records");
-    }
-    let placed = run_line(rt, alloc, tries, &made, "show --hex --positions G")?;
-    if left.out != places(alloc, &placed.out)? {
-        bail!("collect tells of other places");
-    }
-    Ok(())
-}
-
-/// The line of the first file's fault, where another one tells of the only file's.
-fn refused_first(alloc: Global, shown: &Left) -> Result<Vec<u8>> {
-    let notes = str::from_utf8(&shown.notes).unwrap_or("");
-    let told = match notes.strip_prefix("refused ") {
-        Some(fault) => format!(in alloc; "refused 0 {fault}")?,
-        None => String::from_str(alloc, notes)?,
-    };
-    Ok(told.into_bytes())
-}
-
-/// A line for each record that is shown with its position, as one of the first file.
-fn places(alloc: Global, shown: &[u8]) -> Result<Vec<u8>> {
-    let mut places = String::new(alloc);
-    for line in lines_of(alloc, shown)? {
-        writeln!(places, "0 {}", line.position)?;
-    }
-    Ok(places.into_bytes())
 }

@@ -6,6 +6,7 @@ mod cases;
 mod faults;
 mod hostile_files;
 mod hostile_growth;
+mod hostile_joined;
 mod hostile_parts;
 mod running;
 mod sought;
