@@ -10,6 +10,7 @@ use case_text::given::Given;
 use case_text::hostile::{begins_of, hostile};
 use case_text::left::Left;
 use case_text::words::number_of;
+use plain_reading::agreement::{check_front, check_refusal, has_notes, told_by_repair};
 use plain_reading::walk::walked;
 use std::alloc::Global;
 use std::ops::Range;
@@ -68,30 +69,6 @@ fn try_file<R: Threads + Sync>(
     try_collected(rt, alloc, tries, given, &shown)
 }
 
-/// Checks how `verify` and `show` refused a file, or didn't.
-fn check_refusal(verified: &Left, shown: &Left) -> Result<()> {
-    if verified.status > 1 || shown.status > 1 {
-        bail!("verify or show has another status");
-    }
-    if verified.status > shown.status {
-        bail!("verify refuses what show doesn't");
-    }
-    if verified.notes != shown.notes && !is_unread(text_of(&shown.notes)) {
-        bail!("verify and show refuse for other reasons");
-    }
-    Ok(())
-}
-
-/// The text that bytes are, or none.
-pub(crate) fn text_of(bytes: &[u8]) -> &str {
-    str::from_utf8(bytes).unwrap_or("")
-}
-
-/// Whether a line tells of a chunk that `verify` leaves unread, `show --recover` skips and `repair` copies unread.
-fn is_unread(line: &str) -> bool {
-    line.ends_with(" Compressed\n") || line.ends_with(" Transposed\n")
-}
-
 /// Tries `show --recover`, `repair` and `join`, where this is what `verify` and `show` left.
 fn try_recovered<R: Threads + Sync>(
     rt: &R,
@@ -109,17 +86,6 @@ fn try_recovered<R: Threads + Sync>(
     try_joined(rt, alloc, tries, given, verified, &recovered)
 }
 
-/// Checks that `show` left the front of what is recovered.
-fn check_front(shown: &Left, recovered: &Left) -> Result<()> {
-    if shown.status == 0 && shown.out != recovered.out {
-        bail!("show has not all records of a whole file");
-    }
-    if !recovered.out.starts_with(&shown.out) {
-        bail!("show has other records than show --recover");
-    }
-    Ok(())
-}
-
 /// Checks that `show --recover` left what a plain walk over the file gives, without positions and with them.
 fn check_walk(alloc: Global, given: &Given, recovered: &Left, placed: &Left) -> Result<()> {
     let (out, notes) = walked(alloc, &given.last_file()?.bytes)?;
@@ -128,12 +94,6 @@ fn check_walk(alloc: Global, given: &Given, recovered: &Left, placed: &Left) -> 
         bail!("show --recover differs from the plain walk");
     }
     Ok(())
-}
-
-/// Whether a run told of these ranges, and its status says whether there are some.
-fn has_notes(left: &Left, notes: &[u8]) -> bool {
-    let status = if notes.is_empty() { 0 } else { 9 };
-    left.status == status && left.notes.as_slice() == notes
 }
 
 /// Tries `repair`, and the commands on the file that it makes, where this is what `show --recover` left.
@@ -145,7 +105,7 @@ fn try_repair<R: Threads + Sync>(
     recovered: &Left,
 ) -> Result<()> {
     let repaired = run_line(rt, alloc, tries, given, "repair F G")?;
-    let told = told_by_repair(alloc, text_of(&recovered.notes))?;
+    let told = told_by_repair(alloc, recovered)?;
     if !has_notes(&repaired, told.as_str().as_bytes()) {
         bail!("repair tells of other ranges");
     }
@@ -170,15 +130,4 @@ fn try_repaired<R: Threads + Sync>(
         bail!("the repaired file has other records");
     }
     Ok(())
-}
-
-/// The lines of these but those of chunks that `repair` copies unread.
-fn told_by_repair(alloc: Global, skipped: &str) -> Result<String> {
-    let mut told = String::new(alloc);
-    for line in skipped.split_inclusive('\n') {
-        if !is_unread(line) {
-            told.push_str(line)?;
-        }
-    }
-    Ok(told)
 }

@@ -6,7 +6,7 @@ use anyhow::{Result, bail};
 use case_text::files::copy;
 use case_text::given::Given;
 use case_text::left::Left;
-use plain_reading::search::lines_of;
+use plain_reading::agreement::{check_unmade, places, refused_first};
 use std::alloc::Global;
 use std::thread::Threads;
 
@@ -52,14 +52,6 @@ fn try_twice<R: Threads + Sync>(
     Ok(())
 }
 
-/// Checks that the command makes nothing of a refused file, and prints nothing.
-fn check_unmade(left: &Left, command: &str) -> Result<()> {
-    if !left.made.is_empty() || !left.out.is_empty() {
-        bail!("{command} makes or prints something of a refused file");
-    }
-    Ok(())
-}
-
 /// Collects the records of one file.
 pub(crate) fn try_collected<R: Threads + Sync>(
     rt: &R,
@@ -96,23 +88,4 @@ fn try_made<R: Threads + Sync>(
         bail!("collect tells of other places");
     }
     Ok(())
-}
-
-/// The line of the first file's fault, where another one tells of the only file's.
-fn refused_first(alloc: Global, shown: &Left) -> Result<Vec<u8>> {
-    let notes = str::from_utf8(&shown.notes).unwrap_or("");
-    let told = match notes.strip_prefix("refused ") {
-        Some(fault) => format!(in alloc; "refused 0 {fault}")?,
-        None => String::from_str(alloc, notes)?,
-    };
-    Ok(told.into_bytes())
-}
-
-/// A line for each record that is shown with its position, as one of the first file.
-fn places(alloc: Global, shown: &[u8]) -> Result<Vec<u8>> {
-    let mut places = String::new(alloc);
-    for line in lines_of(alloc, shown)? {
-        writeln!(places, "0 {}", line.position)?;
-    }
-    Ok(places.into_bytes())
 }
