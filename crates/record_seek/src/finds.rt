@@ -21,7 +21,7 @@ use record_io::Store;
 use std::alloc::Global;
 
 /// A record that doesn't stand before what is looked for, as a test tells, of a file of `size` bytes, which were told, at most
-/// 2^60, and of a chunk without fault to which the search comes. Those before it in the chunk stand before; where it is the
+/// 2^60, and of a chunk without fault to which a search may come. Those before it in the chunk stand before; where it is the
 /// chunk's first, chunks lead to the chunk from the file's front without records, or past a last one that stands before. `None`
 /// only where they lead so to the file's end. So in a file without fault what is found is the first record, or stands right
 /// behind one that stands before; it is the first that doesn't stand before where only a front of the records does.
@@ -30,8 +30,8 @@ use std::alloc::Global;
 ///
 /// # Errors
 ///
-/// `Refused` only with a fault that the search meets, and so never of a file without fault. `Store` only where the store failed.
-/// `Memory` only for a chunk to which the search comes, and to which none of the first four reasons applies.
+/// `Refused` only with a fault that a search may meet, and never of a file without fault. `Store` only where the store failed.
+/// `Memory` only where there is a chunk to which a search may come, and to which none of the first four reasons applies.
 pub fn find<S: Store, F: Fn(&[u8]) -> bool + Drop>(
     alloc: Global,
     store: &mut S,
