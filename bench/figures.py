@@ -23,7 +23,7 @@ def amount(size):
     for power, unit in ((9, "GB"), (6, "MB"), (3, "kB")):
         if size >= 10**power:
             return f"{size / 10**power:.4g} {unit}"
-    return f"{size} bytes"
+    return f"{size} bytes" if size > 1 else "1 byte"
 
 
 def milliseconds(seconds):
@@ -38,8 +38,10 @@ def rate(job):
     return job.size / job.best / 1e9
 
 
-def first_line(command):
-    """What a command prints first, or nothing where it fails."""
+def first_line(*command):
+    """What a command prints first, or nothing where it is missing or fails."""
+    if not shutil.which(command[0]):
+        return ""
     done = subprocess.run(command, stdout=subprocess.PIPE, stderr=subprocess.STDOUT, universal_newlines=True, check=False)
     return done.stdout.strip("* \n").split("\n")[0].strip() if done.returncode == 0 else ""
 
@@ -50,8 +52,10 @@ def processor():
 
 
 def file_system(place):
-    done = subprocess.run(["df", "--output=fstype", place], stdout=subprocess.PIPE, universal_newlines=True, check=False)
-    return (done.stdout.split() or ["unknown"])[-1]
+    """The type of the file system that a folder lies on."""
+    place = os.path.realpath(place)
+    mounts = [line.split() for line in Path("/proc/self/mounts").read_text().splitlines()]
+    return max((len(top), kind) for _, top, kind, *_ in mounts if os.path.commonpath([place, top]) == top)[1]
 
 
 def memory(name):
@@ -68,8 +72,8 @@ def machine(tools, place):
         "Kernel": f"{platform.system()} {platform.release()}",
         "File system": file_system(place),
         "Load before": f"{os.getloadavg()[0]:.2f}",
-        "Sources": first_line(["git", "-C", str(TOP), "rev-parse", "--short", "HEAD"]) or "not known",
-        "Tools": "; ".join(first_line([tool, "--version"]) or tool for tool in tools if shutil.which(tool)),
+        "Sources": first_line("git", "-C", str(TOP), "rev-parse", "--short", "HEAD") or "not known",
+        "Tools": "; ".join(first_line(tool, "--version") or tool for tool in tools if shutil.which(tool)),
         "Missing tools": ", ".join(tool for tool in tools if not shutil.which(tool)) or "none",
     }
 
