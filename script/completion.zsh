@@ -4,7 +4,7 @@
 local commands='write show verify seek repair sample join ranges append collect'
 local own_words='--help --version --install --uninstall --explain --progress'
 local options='' added=1
-local -a names given left
+local -a given left
 
 if (( CURRENT > 2 )); then
     case $words[2] in
@@ -43,14 +43,11 @@ case $PREFIX in
         compset -P '--pad='
         compadd -- start end both
         ;;
-    --*=*) return 1 ;;
     -*)
-        names=(${=options})
-        given=("${(@)words[3,CURRENT-1]}" "${(@)words[CURRENT+1,-1]}")
-        given=(${given%%=*})
-        left=(${names:|given})
-        given+=(${^given}=)
-        left=(${names:|given})
+        given=("${(@)words[3,CURRENT-1]%%=*}" "${(@)words[CURRENT+1,-1]%%=*}")
+        given+=("${(@)^given}=")
+        left=(${=options})
+        left=(${left:|given})
         compadd -S '' -- ${(M)left:#*=} && added=0
         compadd -- ${left:#*=} && added=0
         return added
