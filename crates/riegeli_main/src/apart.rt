@@ -2,32 +2,31 @@
 ghost use Rattle.std.specs.Prelude.{◌≡◌, None, Some, true, false, is_some, IfSome, OnOk, OnErr};
 ghost use Rattle.record_io.specs.Outside.{faults_after};
 
+use crate::streams::{Behind, file_at};
 use record_io::{Failed, fault};
-use std::fs::{self, Metadata};
-use std::os::unix::fs::MetadataExt;
 use std::rt::Files;
 
-/// Whether a path leads to a file that none of the paths of files and of streams leads to.
+/// Whether a path leads to a file that none of the paths of files leads to, and that stands behind none of the streams.
 ///
-/// That is looked at once. Where the path leads to a regular file that one of the others leads to as well, the same inode of
-/// the same device, it isn't apart. A path that leads nowhere yet, or of which nothing can be learned, is taken for that of no
-/// other file.
+/// That is looked at once. Where the path leads to a regular file that one of the others leads to as well, or that may stand
+/// behind one of the streams, it isn't apart. A path that leads nowhere yet, or of which nothing can be learned, is taken for
+/// that of no other file.
 #[derive(Drop)]
 pub(crate) struct Apart<'a, R: Files> {
     rt: &'a R,
     path: &'a str,
     files: &'a [String],
-    streams: &'a [&'a str],
+    streams: &'a [Behind],
     pub(crate) seen: Option<bool>,
 }
 
 impl<'a, R: Files> Apart<'a, R> {
-    /// The file of this path, beside those of the paths of files and of streams.
+    /// The file of this path, beside those of the paths of files and those behind streams.
     pub(crate) fn new(
         rt: &'a R,
         path: &'a str,
         files: &'a [String],
-        streams: &'a [&'a str],
+        streams: &'a [Behind],
     ) -> Apart<'a, R>
         ensures { result.seen ≡ None }
     {
@@ -56,21 +55,21 @@ impl<'a, R: Files> Apart<'a, R> {
     }
 }
 
-/// Whether this path leads to a regular file that one of the other paths leads to as well.
-fn is_one_of<R: Files>(rt: &R, path: &str, files: &[String], streams: &[&str]) -> bool {
-    match fs::metadata(rt, path) {
-        Ok(about) if about.is_file() => {
-            files.iter().any(|file| leads_to(rt, file.as_str(), &about))
-                || streams.iter().any(|stream| leads_to(rt, stream, &about))
+/// Whether this path leads to a regular file that one of the other paths leads to as well, or that may stand behind one of the
+/// streams.
+pub(crate) fn is_one_of<R: Files>(
+    rt: &R,
+    path: &str,
+    files: &[String],
+    streams: &[Behind],
+) -> bool {
+    match file_at(rt, path) {
+        Some(file) => {
+            streams.iter().any(|stream| stream.may_be(file))
+                || files
+                    .iter()
+                    .any(|other| file_at(rt, other.as_str()) == Some(file))
         }
-        _ => false,
-    }
-}
-
-/// Whether this path leads to the file that this is told of.
-fn leads_to<R: Files>(rt: &R, path: &str, file: &Metadata) -> bool {
-    match fs::metadata(rt, path) {
-        Ok(about) => about.dev() == file.dev() && about.ino() == file.ino(),
-        Err(_) => false,
+        None => false,
     }
 }

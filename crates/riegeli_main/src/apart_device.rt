@@ -6,6 +6,7 @@ ghost use Rattle.record_io.specs.Edge.{AppendsFront, ReadsAt};
 ghost use Rattle.record_append.specs.Devices.{EndsBehind};
 
 use crate::apart::Apart;
+use crate::streams::Behind;
 use record_append::{Device, FileDevice};
 use record_io::{Failed, counted};
 use std::marker::Model;
@@ -35,8 +36,8 @@ impl<'a, R: Files> Model for ApartDevice<'a, R> {
 }
 
 impl<'a, R: Files> ApartDevice<'a, R> {
-    /// The file of this name, which is not opened yet, apart from those of the paths of streams.
-    pub fn named(rt: &'a R, path: &'a str, streams: &'a [&'a str]) -> ApartDevice<'a, R>
+    /// The file of this name, which is not opened yet, apart from those behind streams.
+    pub fn named(rt: &'a R, path: &'a str, streams: &'a [Behind]) -> ApartDevice<'a, R>
         ensures path { result.grown.path ≡ path.now }
         ensures unlooked { result.apart ≡ None }
         ensures unopened { result.grown.opened ≡ None }

@@ -5,6 +5,7 @@ ghost use Rattle.record_io.specs.Outside.{Rose, faults_after};
 ghost use Rattle.record_io.specs.Edge.{AppendsFront};
 
 use crate::apart::Apart;
+use crate::streams::Behind;
 use record_io::{Failed, FileSink, Sink, counted};
 use std::marker::Model;
 use std::rt::Files;
@@ -32,12 +33,12 @@ impl<'a, R: Files> Model for ApartSink<'a, R> {
 }
 
 impl<'a, R: Files> ApartSink<'a, R> {
-    /// The file of this name, which is not made yet, apart from those of the paths of files and of streams.
+    /// The file of this name, which is not made yet, apart from those of the paths of files and from those behind streams.
     pub fn named(
         rt: &'a R,
         path: &'a str,
         files: &'a [String],
-        streams: &'a [&'a str],
+        streams: &'a [Behind],
     ) -> ApartSink<'a, R>
         ensures path { result.made.path ≡ path.now }
         ensures unlooked { result.apart ≡ None }

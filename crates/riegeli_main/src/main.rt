@@ -3,8 +3,11 @@
 
 mod apart;
 mod apart_device;
+mod apart_notes;
 mod apart_sink;
+mod apart_store;
 mod real_files;
+mod streams;
 #[cfg(test)]
 mod tests;
 
@@ -13,19 +16,15 @@ use record_io::{StdErr, StdInput, StdOut};
 use riegeli_tool::Status;
 use std::alloc::{AllocError, Global};
 use std::env;
-use std::fs::{self, File, OpenOptions};
 use std::io::{self, ErrorKind};
-use std::os::fd::{AsRawFd, IntoRawFd};
 use std::process::ExitCode;
-
-/// The paths of the files behind standard input, output and error.
-const STREAMS: [&str; 3] = ["/dev/stdin", "/dev/stdout", "/dev/stderr"];
+use streams::{occupy_closed, standard_streams};
 
 /// The greatest block of memory that is kept once it is freed, in bytes: above those of most chunks.
 const KEPT_MEMORY: usize = 16 << 20;
 
 fn main(rt: HostRuntime) -> ExitCode {
-    if occupy_closed_streams(&rt).is_err() {
+    if occupy_closed(&rt).is_err() {
         return exit_code(Status::Notes);
     }
     keep_freed_memory(rt.alloc());
@@ -37,38 +36,12 @@ fn main(rt: HostRuntime) -> ExitCode {
         &rt,
         &rt,
         &words,
-        &STREAMS,
+        &standard_streams(&rt),
         &mut StdInput::new(rt.reader()),
         &mut StdOut::new(io::writer(&rt)),
         &mut StdErr::new(rt.stderr()),
     );
     exit_code(status)
-}
-
-/// Puts a device in the place of each standard stream that the caller closed, so that no file comes to stand there: one that
-/// can't be read in place of the input, and one that can't be written in place of the others. Where there are no devices a
-/// folder serves for each.
-fn occupy_closed_streams(rt: &HostRuntime) -> io::Result<()> {
-    for _ in 0..3 {
-        let file = fs::open(rt, "/dev/null").or_else(|_| fs::open(rt, "/"))?;
-        match file.as_raw_fd() {
-            0 => {
-                drop(file);
-                unreadable(rt)?.into_raw_fd();
-            }
-            1 | 2 => {
-                file.into_raw_fd();
-            }
-            _ => break,
-        }
-    }
-    Ok(())
-}
-
-/// A file that can't be read.
-fn unreadable(rt: &HostRuntime) -> io::Result<File> {
-    let full = OpenOptions::new().write(true).open(rt, "/dev/full");
-    full.or_else(|_| fs::open(rt, "/"))
 }
 
 /// Takes a block of memory and gives it back untouched. The C library's allocator then keeps freed blocks up to this size for

@@ -3,45 +3,65 @@ ghost use Rattle.std.specs.Prelude.{◌≡◌, map, take, drop};
 ghost use Rattle.std.specs.String.{string_bytes};
 ghost use Rattle.riegeli_main.specs.Paths.{path_at};
 
+use crate::apart::is_one_of;
 use crate::apart_device::ApartDevice;
+use crate::apart_notes::ApartNotes;
 use crate::apart_sink::ApartSink;
+use crate::apart_store::ApartStore;
+use crate::streams::Behind;
 use read_ahead::ReadAhead;
 use record_append::AheadDevice;
-use record_io::{FileStore, Sink, Source};
+use record_io::{Sink, Source};
 use riegeli_tool::{Names, Status, names, run};
 use std::alloc::AllocError;
+use std::rt::Files;
 use std::thread::Threads;
 
 /// Does what the words say over the input, the output and the notes and the files whose paths they name, by threads of
-/// `threads`. No file is made or grown that a path of `streams` leads to.
-pub(crate) fn run_on_files<R: Threads + Sync, I: Source, O: Sink, E: Sink>(
+/// `threads`.
+///
+/// The streams are what stands behind the input, the output and the notes. A file that may be one of them is neither made nor
+/// grown, and one that is known to be the output or the notes isn't read. Nothing is told where that is known to go to a file
+/// that is named.
+pub(crate) fn run_on_files<R: Threads + Sync, I: Source, O: Sink, N: Sink>(
     threads: &R,
     rt: &HostRuntime,
     words: &[String],
-    streams: &[&str],
+    streams: &[Behind; 3],
     input: &mut I,
     out: &mut O,
-    notes: &mut E,
+    notes: &mut N,
 ) -> Status {
     let names = names(words);
     let read = paths(words, &names);
-    let Ok(mut files) = files(rt, read, names.times) else {
+    let (made, grown) = (made_path(words, &names), grown_path(words, &names));
+    let [_, printed, told] = streams;
+    let written = [printed.known(), told.known()];
+    let Ok(mut files) = files(rt, read, names.times, &written) else {
         return Status::Memory;
     };
-    let mut made = ApartSink::named(rt, made_path(words, &names), read, streams);
-    let apart = ApartDevice::named(rt, grown_path(words, &names), streams);
-    let mut grown = AheadDevice::new(apart);
+    let told = &written[1..];
+    let tells_file = is_any_of(rt, read, told)
+        || is_one_of(rt, made, &[], told)
+        || is_one_of(rt, grown, &[], told);
     run(
         threads,
         rt.alloc(),
         words,
         input,
         &mut files,
-        &mut made,
-        &mut grown,
+        &mut ApartSink::named(rt, made, read, streams),
+        &mut AheadDevice::new(ApartDevice::named(rt, grown, streams)),
         out,
-        notes,
+        &mut ApartNotes::new(notes, !tells_file),
     )
+}
+
+/// Whether one of these paths leads to a regular file that may stand behind one of the streams.
+fn is_any_of<R: Files>(rt: &R, paths: &[String], streams: &[Behind]) -> bool {
+    paths
+        .iter()
+        .any(|path| is_one_of(rt, path.as_str(), &[], streams))
 }
 
 /// The words that are the paths of the files to be read.
@@ -52,17 +72,19 @@ fn paths<'a>(words: &'a [String], names: &Names) -> &'a [String]
     behind.get(..names.count).unwrap_or(behind)
 }
 
-/// So many stores of each of the files of these paths, which are read in pieces of up to 64 KiB.
+/// So many stores of each of the files of these paths, which are read in pieces of up to 64 KiB, apart from those behind
+/// streams.
 fn files<'a>(
     rt: &'a HostRuntime,
     paths: &'a [String],
     times: usize,
-) -> Result<Vec<ReadAhead<FileStore<'a, HostRuntime>>>, AllocError> {
+    streams: &'a [Behind],
+) -> Result<Vec<ReadAhead<ApartStore<'a, HostRuntime>>>, AllocError> {
     let count = paths.len().saturating_mul(times);
     let mut files = Vec::with_capacity(rt.alloc(), count)?;
     for path in paths {
         for _ in 0..times {
-            files.push(ReadAhead::new(FileStore::named(rt, path.as_str())))?;
+            files.push(ReadAhead::new(ApartStore::named(rt, path.as_str(), streams)))?;
         }
     }
     Ok(files)

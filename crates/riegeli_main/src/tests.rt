@@ -1,18 +1,33 @@
 //! Runs of each command over real files.
 use crate::real_files::run_on_files;
+use crate::streams::{Behind, file_at};
 use record_io::{MemInput, MemSink};
 use riegeli_tool::Status;
 use std::alloc::{AllocError, Global};
 use std::fs;
+use std::os::unix::fs::symlink;
 use std::process::Abort;
 use std::test::Fail;
 use std::thread::Threads;
 
-/// The files that are made: one that is written, one that is made of it, one that grows, and one that stands behind a stream
-/// once it is made.
-const MADE: [&str; 4] = ["f1", "f2", "f3", "f4"];
+/// The files that are made: one that is written, one that is made of it, one that grows, and one that stands behind standard
+/// input once it is made.
+const FILES: [&str; 4] = ["f1", "f2", "f3", "f4"];
 
-const STREAMS: [&str; 1] = ["./f4"];
+const BEHIND_INPUT: &str = "./f4";
+
+/// What a file stands behind: one of the standard streams, or none, or nothing can be learned of any of them.
+const INPUT: usize = 0;
+
+const OUTPUT: usize = 1;
+
+const NOTES: usize = 2;
+
+const NONE: usize = 3;
+
+const UNKNOWN: usize = 4;
+
+const NO_FILES: [Behind; 3] = [Behind::NoFile; 3];
 
 /// The lines that are written, and the report of their file.
 const LINES: &str = "a\nbc\n\n";
@@ -27,14 +42,20 @@ const PLACES: &str = "0 64\n0 65\n0 66\n";
 
 const FIRST_GROWN: &str = "kept 0\ndropped 0\nrecords 3\nbytes 112\n";
 
-const GROWN: &str = "kept 112\ndropped 0\nrecords 3\nbytes 160\n";
+const GROWN_AGAIN: &str = "kept 112\ndropped 0\nrecords 3\nbytes 160\n";
 
 const TWICE: &str = "a\nbc\n\na\nbc\n\n";
 
 /// The report of a file without records.
 const NO_RECORDS: &str = "chunks 1\nrecords 0\nbytes 64\nunread 0\n";
 
-/// What is told where the words are no command.
+/// What is told where a file could not be made, grown or read, and where the words are no command.
+const MADE: &str = "made fault\n";
+
+const GROWN: &str = "grown fault\n";
+
+const FILE: &str = "file fault\n";
+
 const USAGE: &str = "usage:
 write [--chunk=N] [--every=N] [--workers=N] [--pad=start|end|both] [--hex] FILE
 show [--recover] [--most=N] [--hex] [--positions] FILE
@@ -76,24 +97,24 @@ const RUNS: [Run; 37] = [
     ("show f2", Status::Ok, SAMPLE, ""),
     ("ranges --parts=3 f1", Status::Ok, LINES, ""),
     ("append f3", Status::Ok, FIRST_GROWN, ""),
-    ("append f3", Status::Ok, GROWN, ""),
+    ("append f3", Status::Ok, GROWN_AGAIN, ""),
     ("show f3", Status::Ok, TWICE, ""),
     ("collect f1 f2", Status::Ok, PLACES, ""),
     ("show f2", Status::Ok, LINES, ""),
     ("write f4", Status::Ok, "", ""),
-    ("write f4", Status::Made, "", "made fault\n"),
-    ("append f4", Status::Grown, "", "grown fault\n"),
+    ("write f4", Status::Made, "", MADE),
+    ("append f4", Status::Grown, "", GROWN),
     ("show f4", Status::Ok, LINES, ""),
-    ("repair f1 ./f1", Status::Made, "", "made fault\n"),
-    ("join f2 f1 ./f1", Status::Made, "", "made fault\n"),
-    ("collect f2 f1 ./f1", Status::Made, "", "made fault\n"),
-    ("repair no/f f1", Status::File, "", "file fault\n"),
-    ("join f1 no/f f2", Status::File, "", "file fault\n"),
-    ("ranges --parts=2 no/f", Status::File, "", "file fault\n"),
-    ("collect f1 no/f f2", Status::File, "", "file fault\n"),
-    ("write no/f", Status::Made, "", "made fault\n"),
-    ("append no/f", Status::Grown, "", "grown fault\n"),
-    ("show no/f", Status::File, "", "file fault\n"),
+    ("repair f1 ./f1", Status::Made, "", MADE),
+    ("join f2 f1 ./f1", Status::Made, "", MADE),
+    ("collect f2 f1 ./f1", Status::Made, "", MADE),
+    ("repair no/f f1", Status::File, "", FILE),
+    ("join f1 no/f f2", Status::File, "", FILE),
+    ("ranges --parts=2 no/f", Status::File, "", FILE),
+    ("collect f1 no/f f2", Status::File, "", FILE),
+    ("write no/f", Status::Made, "", MADE),
+    ("append no/f", Status::Grown, "", GROWN),
+    ("show no/f", Status::File, "", FILE),
     ("write f1 more", Status::Usage, "", USAGE),
     ("verify f1", Status::Ok, REPORT, ""),
     ("write --hex f1", Status::BadLine, "", "bad line 0\n"),
@@ -103,9 +124,78 @@ const RUNS: [Run; 37] = [
 #[test]
 fn each_command_uses_the_files_that_its_words_name(rt: HostRuntime) -> Result<(), Fail> {
     for row in &RUNS {
-        ends(&rt, &rt, row)?;
+        ends(&rt, &rt, &streams(&rt, INPUT, BEHIND_INPUT), row)?;
     }
-    for path in MADE {
+    for path in FILES {
+        fs::remove_file(&rt, path)?;
+    }
+    Ok(())
+}
+
+/// A file of the lines, a hard and a symbolic link to it, and one that is made last.
+const SHARED: [&str; 4] = ["f6", "hard", "soft", "f7"];
+
+/// Runs that name f6 by its links. Where it stands behind a stream that they write to, or another word leads to it, it is refused
+/// and stays as it was, and f7 isn't made of it. What is told doesn't go to it either.
+const APART: [(usize, Run); 37] = [
+    (NONE, ("repair f6 hard", Status::Made, "", MADE)),
+    (NONE, ("repair hard soft", Status::Made, "", MADE)),
+    (NONE, ("join f6 hard soft", Status::Made, "", MADE)),
+    (NONE, ("collect f6 soft hard", Status::Made, "", MADE)),
+    (INPUT, ("write hard", Status::Made, "", MADE)),
+    (
+        INPUT,
+        ("sample --seed=0 --records=1 soft", Status::Made, "", MADE),
+    ),
+    (INPUT, ("append hard", Status::Grown, "", GROWN)),
+    (INPUT, ("append soft", Status::Grown, "", GROWN)),
+    (INPUT, ("show hard", Status::Ok, LINES, "")),
+    (OUTPUT, ("write soft", Status::Made, "", MADE)),
+    (
+        OUTPUT,
+        ("sample --seed=0 --records=1 hard", Status::Made, "", MADE),
+    ),
+    (OUTPUT, ("append hard", Status::Grown, "", GROWN)),
+    (OUTPUT, ("show soft", Status::File, "", FILE)),
+    (OUTPUT, ("show --recover hard", Status::File, "", FILE)),
+    (OUTPUT, ("verify hard", Status::File, "", FILE)),
+    (OUTPUT, ("seek --at=0 soft", Status::File, "", FILE)),
+    (OUTPUT, ("repair hard f7", Status::File, "", FILE)),
+    (OUTPUT, ("join soft f7", Status::File, "", FILE)),
+    (OUTPUT, ("ranges --parts=2 hard", Status::File, "", FILE)),
+    (OUTPUT, ("collect hard f7", Status::File, "", FILE)),
+    (NOTES, ("write hard", Status::Made, "", "")),
+    (
+        NOTES,
+        ("sample --seed=0 --records=1 soft", Status::Made, "", ""),
+    ),
+    (NOTES, ("append soft", Status::Grown, "", "")),
+    (NOTES, ("show hard", Status::File, "", "")),
+    (NOTES, ("show --recover soft", Status::File, "", "")),
+    (NOTES, ("verify soft", Status::File, "", "")),
+    (NOTES, ("seek --key=a hard", Status::File, "", "")),
+    (NOTES, ("repair soft f7", Status::File, "", "")),
+    (NOTES, ("join hard f7", Status::File, "", "")),
+    (NOTES, ("ranges --parts=2 soft", Status::File, "", "")),
+    (NOTES, ("collect soft f7", Status::File, "", "")),
+    (NOTES, ("verify f7", Status::File, "", FILE)),
+    (UNKNOWN, ("write hard", Status::Made, "", MADE)),
+    (UNKNOWN, ("append soft", Status::Grown, "", GROWN)),
+    (UNKNOWN, ("show hard", Status::Ok, LINES, "")),
+    (UNKNOWN, ("write f7", Status::Ok, "", "")),
+    (NONE, ("verify f6", Status::Ok, REPORT, "")),
+];
+
+#[test]
+fn a_file_behind_a_stream_or_another_word_is_left_alone(rt: HostRuntime) -> Result<(), Fail> {
+    let [file, hard, soft, _] = SHARED;
+    ends(&rt, &rt, &NO_FILES, &("write f6", Status::Ok, "", ""))?;
+    fs::hard_link(&rt, file, hard)?;
+    symlink(&rt, file, soft)?;
+    for (number, row) in &APART {
+        ends(&rt, &rt, &streams(&rt, *number, file), row)?;
+    }
+    for path in SHARED {
         fs::remove_file(&rt, path)?;
     }
     Ok(())
@@ -143,7 +233,7 @@ fn grows<R: Threads + Abort + Sync>(
     row: &Run,
     left: usize,
 ) -> Result<(), Fail> {
-    ends(threads, rt, &("write f5", Status::Ok, "", ""))?;
+    ends(threads, rt, &NO_FILES, &("write f5", Status::Ok, "", ""))?;
     let file = fs::read(rt, "f5")?;
     grows_to(
         threads,
@@ -163,22 +253,35 @@ fn grows_to<R: Threads + Abort + Sync>(
     left: &[u8],
 ) -> Result<(), Fail> {
     fs::write(rt, "f5", file)?;
-    ends(threads, rt, row)?;
+    ends(threads, rt, &NO_FILES, row)?;
     let grown = fs::read(rt, "f5")?;
     assert_eq!(threads; grown.as_slice(), left);
     Ok(())
+}
+
+/// Streams of which the one of this number is the file of this path, once it is there.
+fn streams(rt: &HostRuntime, number: usize, path: &str) -> [Behind; 3] {
+    let mut streams = NO_FILES;
+    if number == UNKNOWN {
+        streams = [Behind::Unknown; 3];
+    }
+    if let (Some(stream), Some(file)) = (streams.get_mut(number), file_at(rt, path)) {
+        *stream = Behind::File(file);
+    }
+    streams
 }
 
 /// Runs the words with the lines as input, and asserts how that ends.
 fn ends<R: Threads + Abort + Sync>(
     threads: &R,
     rt: &HostRuntime,
+    streams: &[Behind; 3],
     row: &Run,
 ) -> Result<(), AllocError> {
     let (words, status, printed, told) = *row;
     let mut out = sink(rt.alloc())?;
     let mut notes = sink(rt.alloc())?;
-    let ended = run_words(threads, rt, words, &mut out, &mut notes)?;
+    let ended = run_words(threads, rt, words, streams, &mut out, &mut notes)?;
     assert_eq!(threads; notes.taken(), told.as_bytes(), "{words}");
     assert_eq!(threads; out.taken(), printed.as_bytes(), "{words}");
     assert_eq!(threads; ended, status, "{words}");
@@ -190,12 +293,13 @@ fn run_words<R: Threads + Sync>(
     threads: &R,
     rt: &HostRuntime,
     words: &str,
+    streams: &[Behind; 3],
     out: &mut MemSink,
     notes: &mut MemSink,
 ) -> Result<Status, AllocError> {
     let words = split(rt.alloc(), words)?;
     let mut input = input(rt.alloc())?;
-    Ok(run_on_files(threads, rt, &words, &STREAMS, &mut input, out, notes))
+    Ok(run_on_files(threads, rt, &words, streams, &mut input, out, notes))
 }
 
 /// The words of a line, as the program gets them.
