@@ -1,6 +1,6 @@
-//! Tests of the crates below the program, one by one: of what no contract says and no case shows, as that memory is found and
-//! that threads meet, and of the hash as it is compiled. Each expected value is published, counted by hand, or of an
-//! independent program; but files by several workers are compared with that by one worker.
+//! Tests of the crates below the program, one by one, and of commands: of what no contract says and no case shows, as that
+//! memory is found and that threads meet, and of the hash as it is compiled. Each expected value is published, counted by hand,
+//! or of an independent program; but files by several workers are compared with that by one worker.
 #![tactic(auto)]
 
 #[cfg(test)]
@@ -9,6 +9,8 @@ mod byte_files;
 mod chunks;
 #[cfg(test)]
 mod collecting;
+#[cfg(test)]
+mod commands;
 #[cfg(test)]
 mod devices;
 #[cfg(test)]
@@ -19,6 +21,8 @@ mod files;
 mod gathering;
 #[cfg(test)]
 mod hashes;
+#[cfg(test)]
+mod meeting_stores;
 #[cfg(test)]
 mod meetings;
 #[cfg(test)]

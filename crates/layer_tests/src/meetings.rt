@@ -1,62 +1,90 @@
-//! Meetings of threads, and a coder that comes to them.
+//! Meetings of threads, and who comes to them.
+use crate::byte_files::sink;
 use chunk_header::Chunk;
 use chunk_workers::Coder;
+use record_io::{Failed, MemSink, Sink};
 use simple_chunk::{Records, encode};
 use std::alloc::{AllocError, Global};
 use std::hint;
-use std::sync::atomic::{AtomicBool, AtomicU32, Ordering};
+use std::sync::atomic::{AtomicU64, Ordering};
 
 /// Where those who have these flags wait for each other, or give up.
 #[derive(Drop)]
 pub(crate) struct Meeting {
-    all: u32,
-    raised: AtomicU32,
-    gave_up: AtomicBool,
+    all: u64,
+    raised: AtomicU64,
+    gave_up: AtomicU64,
 }
 
 impl Meeting {
-    pub fn of(all: u32) -> Meeting {
+    pub fn of(all: u64) -> Meeting {
         Meeting {
             all,
-            raised: AtomicU32::new(0),
-            gave_up: AtomicBool::new(false),
+            raised: AtomicU64::new(0),
+            gave_up: AtomicU64::new(0),
         }
     }
 
-    fn raise(&self, own: u32) {
+    fn raise(&self, own: u64) {
         self.raised.fetch_or(own, Ordering::SeqCst);
     }
 
-    /// Raises one's own flag, and looks for the others.
-    pub fn meet(&self, own: u32) {
+    /// Raises one's own flag, and looks for the others, unless somebody gave up.
+    pub fn meet(&self, own: u64) {
         self.raise(own);
         for _ in 0..100_000_000 {
-            if self.raised.load(Ordering::SeqCst) & self.all == self.all {
+            if self.raised.load(Ordering::SeqCst) & self.all == self.all || self.gave_up() != 0 {
                 return;
             }
             hint::spin_loop();
         }
-        self.gave_up.store(true, Ordering::SeqCst);
+        self.gave_up.fetch_or(own, Ordering::SeqCst);
     }
 
-    pub fn gave_up(&self) -> bool {
+    /// The flags of those who gave up.
+    pub fn gave_up(&self) -> u64 {
         self.gave_up.load(Ordering::SeqCst)
     }
 }
 
-/// The flag of the group of the record that begins with this byte, which is below 16.
-pub(crate) fn flag_of(byte: u8) -> u32 {
-    1 << u32::from(byte % 16)
+/// Somebody who comes to a meeting once.
+#[derive(Drop)]
+pub(crate) struct Guest<'a> {
+    meeting: &'a Meeting,
+    flag: u64,
+    came: bool,
+}
+
+impl<'a> Guest<'a> {
+    pub fn new(meeting: &'a Meeting, flag: u64) -> Guest<'a> {
+        Guest {
+            meeting,
+            flag,
+            came: false,
+        }
+    }
+
+    pub fn come(&mut self) {
+        if !self.came {
+            self.came = true;
+            self.meeting.meet(self.flag);
+        }
+    }
+}
+
+/// The flag of the group of the record that begins with this byte, which is below 32.
+pub(crate) fn flag_of(byte: u8) -> u64 {
+    1 << u32::from(byte % 32)
 }
 
 /// The flags of the groups of the bytes below 8.
-pub(crate) const FIRST_EIGHT: u32 = 0xff;
+pub(crate) const FIRST_EIGHT: u64 = 0xff;
 
-/// Comes to the meeting on the group of this byte, and raises the flag of each other one once it is coded.
+/// Comes to the meeting on the groups with these flags, and raises the flag of each other one once it is coded.
 #[derive(Drop)]
 pub(crate) struct MeetingCoder<'a> {
     pub meeting: &'a Meeting,
-    pub byte: u8,
+    pub coming: u64,
 }
 
 impl<'a> Coder for MeetingCoder<'a> {
@@ -65,12 +93,54 @@ impl<'a> Coder for MeetingCoder<'a> {
     ghost chunk_of = { λ _ records. simple_chunk records };
 
     fn code(&self, alloc: Global, records: &Records) -> Result<Chunk, AllocError> {
-        let byte = records.values().first().copied().unwrap_or(0);
-        if byte == self.byte {
-            self.meeting.meet(flag_of(byte));
+        let flag = flag_of(records.values().first().copied().unwrap_or(0));
+        if self.coming & flag != 0 {
+            self.meeting.meet(flag);
         }
         let chunk = encode(alloc, records)?;
-        self.meeting.raise(flag_of(byte));
+        self.meeting.raise(flag);
         Ok(chunk)
+    }
+}
+
+/// The flags of the others who come to a meeting, beside those of groups.
+pub(crate) const SINK: u64 = 1 << 32;
+
+pub(crate) const FEED: u64 = 1 << 33;
+
+/// Comes to a meeting with the put that begins behind so many bytes.
+#[derive(Drop)]
+pub(crate) struct MeetingSink<'a> {
+    pub sink: MemSink,
+    behind: usize,
+    guest: Guest<'a>,
+}
+
+impl<'a> Sink for MeetingSink<'a> {
+    ghost use Rattle.std.specs.Prelude.{Some};
+
+    ghost taken = { λ s. Some s.sink.taken };
+
+    ghost faults = { λ s. s.sink.faults };
+
+    fn put(&mut self, piece: &[u8]) -> Result<usize, Failed> {
+        if self.sink.taken().len() == self.behind {
+            self.guest.come();
+        }
+        self.sink.put(piece)
+    }
+}
+
+impl<'a> MeetingSink<'a> {
+    pub fn new(
+        alloc: Global,
+        meeting: &'a Meeting,
+        behind: usize,
+    ) -> Result<MeetingSink<'a>, AllocError> {
+        Ok(MeetingSink {
+            sink: sink(alloc)?,
+            behind,
+            guest: Guest::new(meeting, SINK),
+        })
     }
 }

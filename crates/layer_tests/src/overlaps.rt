@@ -2,43 +2,52 @@
 ghost use Rattle.std.specs.Prelude.{◌≡◌, ◌^◌, ◌≤◌, true, length};
 
 use crate::byte_files::{ByteFeed, file_between, options, sink};
-use crate::meetings::{FIRST_EIGHT, Meeting, MeetingCoder, flag_of};
-use record_io::{Bytes, Failed, MemSink, Sink};
+use crate::meetings::{
+    FEED, FIRST_EIGHT, Guest, Meeting, MeetingCoder, MeetingSink, SINK, flag_of,
+};
+use record_io::{Bytes, Sink};
 use record_writer::{FeedEnd, RecordFeed, write_coded};
 use std::alloc::{AllocError, Global};
 use std::process::Abort;
 use std::test::Fail;
 use std::thread::Threads;
 
-/// Writes the file of the records of a feed by two workers, whose coder meets others on the group of this byte.
-fn write_by_two<R: Threads + Abort + Sync, L: RecordFeed, M: Sink + Send>(
+/// Writes the file of the records of a feed by so many workers, whose coder meets others.
+fn write_by<R: Threads + Abort + Sync, L: RecordFeed, M: Sink + Send>(
     rt: &R,
     alloc: Global,
-    meeting: &Meeting,
-    byte: u8,
+    workers: u32,
+    coder: &MeetingCoder,
     feed: &mut L,
     made: &mut M,
 )
+    requires workers { (1 ≤ workers) × (workers ≤ 16) }
     requires going { L.going feed.old ≡ true }
     requires in_reach { L.bound feed.old ≤ 2 ^ 41 }
 {
-    let coder = MeetingCoder { meeting, byte };
-    let end = write_coded(rt, alloc, &options(1, 2), &coder, feed, made);
+    let end = write_coded(rt, alloc, &options(1, workers), coder, feed, made);
     assert!(rt; end.is_ok());
-    assert!(rt; !meeting.gave_up(), "given up on group {byte}");
+    assert_eq!(rt; coder.meeting.gave_up(), 0, "{workers} workers");
 }
 
-/// Writes the file of eight records, of which the group of this one waits for the others, and compares it with these bytes.
+/// Writes the file of eight records by so many workers, of which the group of this one waits for the others, and compares it
+/// with these bytes.
 fn write_last_of_eight<R: Threads + Abort + Sync>(
     rt: &R,
     alloc: Global,
+    workers: u32,
     last: u8,
     file: &[u8],
-) -> Result<(), AllocError> {
-    let meeting = Meeting::of(FIRST_EIGHT);
+) -> Result<(), AllocError>
+    requires { (1 ≤ workers) × (workers ≤ 16) }
+{
+    let coder = MeetingCoder {
+        meeting: &Meeting::of(FIRST_EIGHT),
+        coming: flag_of(last),
+    };
     let mut feed = ByteFeed { next: 0, end: 8 };
     let mut made = sink(alloc)?;
-    write_by_two(rt, alloc, &meeting, last, &mut feed, &mut made);
+    write_by(rt, alloc, workers, &coder, &mut feed, &mut made);
     assert!(rt; made.taken() == file);
     Ok(())
 }
@@ -47,65 +56,30 @@ fn write_last_of_eight<R: Threads + Abort + Sync>(
 fn the_groups_of_a_window_are_coded_side_by_side(rt: HostRuntime) -> Result<(), Fail> {
     let file = file_between(&rt, rt.alloc(), 1, 0, 8)?;
     for last in 0..8 {
-        write_last_of_eight(&rt, rt.alloc(), last, file.taken())?;
+        write_last_of_eight(&rt, rt.alloc(), 2, last, file.taken())?;
+        write_last_of_eight(&rt, rt.alloc(), 4, last, file.taken())?;
     }
     Ok(())
-}
-
-/// The flags of the others who come to a meeting, beside those of groups.
-const SINK: u32 = 1 << 16;
-
-const FEED: u32 = 1 << 17;
-
-/// Comes to the meeting with its first put once it holds 64 bytes.
-#[derive(Drop)]
-struct MeetingSink<'a> {
-    sink: MemSink,
-    meeting: &'a Meeting,
-    came: bool,
-}
-
-impl<'a> Sink for MeetingSink<'a> {
-    ghost use Rattle.std.specs.Prelude.{Some};
-
-    ghost taken = { λ s. Some s.sink.taken };
-
-    ghost faults = { λ s. s.sink.faults };
-
-    fn put(&mut self, piece: &[u8]) -> Result<usize, Failed> {
-        if !self.came && self.sink.taken().len() >= 64 {
-            self.came = true;
-            self.meeting.meet(SINK);
-        }
-        self.sink.put(piece)
-    }
-}
-
-impl<'a> MeetingSink<'a> {
-    fn new(alloc: Global, meeting: &'a Meeting) -> Result<MeetingSink<'a>, AllocError> {
-        Ok(MeetingSink {
-            sink: sink(alloc)?,
-            meeting,
-            came: false,
-        })
-    }
 }
 
 #[test]
 fn a_window_is_put_while_the_next_is_coded(rt: HostRuntime) -> Result<(), Fail> {
-    let meeting = Meeting::of(flag_of(8) | SINK);
+    let coder = MeetingCoder {
+        meeting: &Meeting::of(flag_of(8) | SINK),
+        coming: flag_of(8),
+    };
     let mut feed = ByteFeed { next: 0, end: 16 };
-    let mut made = MeetingSink::new(rt.alloc(), &meeting)?;
-    write_by_two(&rt, rt.alloc(), &meeting, 8, &mut feed, &mut made);
+    let mut made = MeetingSink::new(rt.alloc(), coder.meeting, 64)?;
+    write_by(&rt, rt.alloc(), 2, &coder, &mut feed, &mut made);
     assert!(rt; made.sink.taken() == file_between(&rt, rt.alloc(), 1, 0, 16)?.taken());
     Ok(())
 }
 
-/// Comes to the meeting when it is asked for the record of a byte. The longer records go on with zeros.
+/// Comes to a meeting when it is asked for the record of a byte. The longer records go on with zeros.
 #[derive(Drop)]
 struct MeetingFeed<'a> {
     bytes: ByteFeed,
-    meeting: &'a Meeting,
+    guest: Guest<'a>,
     asked: u8,
     longer_from: u8,
     zeros: &'a [u8],
@@ -124,7 +98,7 @@ impl<'a> RecordFeed for MeetingFeed<'a> {
     fn pull(&mut self, alloc: Global, into: &mut Bytes) -> Result<bool, FeedEnd> {
         let byte = self.bytes.next;
         if byte == self.asked {
-            self.meeting.meet(FEED);
+            self.guest.come();
         }
         let gives = self.bytes.pull(alloc, into)?;
         if gives && byte >= self.longer_from {
@@ -136,33 +110,59 @@ impl<'a> RecordFeed for MeetingFeed<'a> {
 
 #[test]
 fn a_window_is_coded_while_the_next_is_taken(rt: HostRuntime) -> Result<(), Fail> {
-    let meeting = Meeting::of(flag_of(0) | FEED);
+    let coder = MeetingCoder {
+        meeting: &Meeting::of(flag_of(0) | FEED),
+        coming: flag_of(0),
+    };
     let mut feed = MeetingFeed {
         bytes: ByteFeed { next: 0, end: 16 },
-        meeting: &meeting,
+        guest: Guest::new(coder.meeting, FEED),
         asked: 12,
         longer_from: 16,
         zeros: &[],
     };
     let mut made = sink(rt.alloc())?;
-    write_by_two(&rt, rt.alloc(), &meeting, 0, &mut feed, &mut made);
+    write_by(&rt, rt.alloc(), 2, &coder, &mut feed, &mut made);
     assert!(rt; made.taken() == file_between(&rt, rt.alloc(), 1, 0, 16)?.taken());
     Ok(())
 }
 
-/// The second window is full with the records 8 to 11.
-#[test]
-fn three_windows_are_put_coded_and_taken(rt: HostRuntime) -> Result<(), Fail> {
-    let zeros = vec![in rt.alloc(); 0; 400_000]?;
-    let meeting = Meeting::of(flag_of(8) | SINK | FEED);
+/// Writes three windows by so many workers, the second of large groups, from a byte on. The coder on the groups of these flags,
+/// the sink with the first window and the feed when it is asked for a byte, which the third window takes, meet.
+fn write_three_windows<R: Threads + Abort + Sync>(
+    rt: &R,
+    alloc: Global,
+    workers: u32,
+    second: u8,
+    coming: u64,
+    asked: u8,
+) -> Result<(), AllocError>
+    requires workers { (1 ≤ workers) × (workers ≤ 16) }
+    requires asked { asked ≤ 100 }
+{
+    let zeros = vec![in alloc; 0; 400_000]?;
+    let coder = MeetingCoder {
+        meeting: &Meeting::of(coming | SINK | FEED),
+        coming,
+    };
     let mut feed = MeetingFeed {
-        bytes: ByteFeed { next: 0, end: 14 },
-        meeting: &meeting,
-        asked: 13,
-        longer_from: 8,
+        bytes: ByteFeed {
+            next: 0,
+            end: asked + 1,
+        },
+        guest: Guest::new(coder.meeting, FEED),
+        asked,
+        longer_from: second,
         zeros: zeros.as_slice(),
     };
-    let mut made = MeetingSink::new(rt.alloc(), &meeting)?;
-    write_by_two(&rt, rt.alloc(), &meeting, 8, &mut feed, &mut made);
+    let mut made = MeetingSink::new(alloc, coder.meeting, 64)?;
+    write_by(rt, alloc, workers, &coder, &mut feed, &mut made);
+    Ok(())
+}
+
+#[test]
+fn three_windows_are_put_coded_and_taken(rt: HostRuntime) -> Result<(), Fail> {
+    write_three_windows(&rt, rt.alloc(), 2, 8, 0b11 << 8, 13)?;
+    write_three_windows(&rt, rt.alloc(), 4, 16, 0b1111 << 16, 25)?;
     Ok(())
 }
