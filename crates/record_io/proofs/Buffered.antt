@@ -4,9 +4,9 @@ use Rattle.std.specs.List.{concat}
 use Rattle.std.proofs.Math.Seq.{take-suc}
 use Rattle.std.proofs.lemmas.List.{append-nil, nil_from_length, take-append-drop}
 use Rattle.std.proofs.lemmas.List.Folds.{concat-append}
-use Rattle.record_io.specs.Outside.{Takes, TakesFront}
+use Rattle.record_io.specs.Outside.{Takes, TakesShort}
 use Rattle.record_io.specs.Buffers.{TakesAndHolds}
-use Rattle.record_io.proofs.Calls.{Takes-nothing, Takes-append, TakesFront-append, TakesFront-longer}
+use Rattle.record_io.proofs.Calls.{Takes-nothing, Takes-append, TakesShort-append, TakesShort-longer}
 
 -- what is held goes out, and a piece behind it
 pub TakesAndHolds-through : (a b c : Option (List ℕ)) (held piece now : List ℕ)
@@ -33,18 +33,18 @@ TakesAndHolds-append a b c before between after x y first then = record {
   taken = Takes-append a b c first.passed then.passed first.taken then.taken;
 }
 
--- bytes x behind those that are held, and then a front of what is held and y
-pub TakesFront-behind : (a b c : Option (List ℕ)) (before between x y : List ℕ)
-    → TakesAndHolds a b (before ++ x) between → TakesFront b c (between ++ y) → TakesFront a c (before ++ (x ++ y))
-TakesFront-behind a b c before between x y first then =
-    subst (λ (xs : List ℕ). TakesFront a c xs)
+-- bytes x behind those that are held, and then not all of what is held and y
+pub TakesShort-behind : (a b c : Option (List ℕ)) (before between x y : List ℕ)
+    → TakesAndHolds a b (before ++ x) between → TakesShort b c (between ++ y) → TakesShort a c (before ++ (x ++ y))
+TakesShort-behind a b c before between x y first then =
+    subst (λ (xs : List ℕ). TakesShort a c xs)
     (sym (parts-append before between x y first.passed first.parts))
-    (TakesFront-append a b c first.passed (between ++ y) first.taken then)
+    (TakesShort-append a b c first.passed (between ++ y) first.taken then)
 
--- a front of what is held and x is one of what is held, x and y
-pub TakesFront-held_longer : (a b : Option (List ℕ)) (before x y : List ℕ) → TakesFront a b (before ++ x) → TakesFront a b (before ++ (x ++ y))
-TakesFront-held_longer a b before x y front =
-    subst (λ (xs : List ℕ). TakesFront a b xs) (append_assoc before x y) (TakesFront-longer a b (before ++ x) y front)
+-- not all of what is held and x is not all of what is held, x and y
+pub TakesShort-held_longer : (a b : Option (List ℕ)) (before x y : List ℕ) → TakesShort a b (before ++ x) → TakesShort a b (before ++ (x ++ y))
+TakesShort-held_longer a b before x y front =
+    subst (λ (xs : List ℕ). TakesShort a b xs) (append_assoc before x y) (TakesShort-longer a b (before ++ x) y front)
 
 -- no bytes change nothing
 pub TakesAndHolds-none : (a : Option (List ℕ)) (held : List ℕ) → TakesAndHolds a a (held ++ []) held
@@ -79,31 +79,11 @@ pieces-next a b c before held then xs i piece within is first next =
 -- a piece more failed
 pub pieces-failed : (a b c : Option (List ℕ)) (before held : List ℕ) (xs : List (List ℕ)) (i : ℕ) (piece : List ℕ) → i < length xs
     → get_or xs i [] ≡ piece
-    → TakesAndHolds a b (before ++ concat (take i xs)) held → TakesFront b c (held ++ piece)
-    → TakesFront a c (before ++ concat xs)
+    → TakesAndHolds a b (before ++ concat (take i xs)) held → TakesShort b c (held ++ piece)
+    → TakesShort a c (before ++ concat xs)
 pieces-failed a b c before held xs i piece within is first next =
-    subst (λ (ys : List ℕ). TakesFront a c (before ++ ys)) (sym (concat-front xs (i + 1)))
-    (TakesFront-held_longer a c before (concat (take (i + 1) xs)) (concat (drop (i + 1) xs))
-    (subst (λ (ys : List ℕ). TakesFront a c (before ++ ys))
+    subst (λ (ys : List ℕ). TakesShort a c (before ++ ys)) (sym (concat-front xs (i + 1)))
+    (TakesShort-held_longer a c before (concat (take (i + 1) xs)) (concat (drop (i + 1) xs))
+    (subst (λ (ys : List ℕ). TakesShort a c (before ++ ys))
     (ap (λ (p : List ℕ). concat (take i xs) ++ p) (sym is) ∙ sym (concat-next xs i [] within))
-    (TakesFront-behind a b c before held (concat (take i xs)) piece first next)))
-
--- and was none of no bytes
-pub pieces-some : (a b : Option (List ℕ)) (before held : List ℕ) (xs : List (List ℕ)) (i : ℕ) (piece : List ℕ) → i < length xs
-    → get_or xs i [] ≡ piece
-    → TakesAndHolds a b (before ++ concat (take i xs)) held → held ++ piece ≢ [] → before ++ concat xs ≢ []
-pieces-some a b before held xs i piece within is first some = λ none.
-    some (nil_from_length (held ++ piece) (omega (
-      arith,
-      ap length none,
-      length-append before (concat xs),
-      ap length (concat-front xs (i + 1)),
-      length-append (concat (take (i + 1) xs)) (concat (drop (i + 1) xs)),
-      ap length (concat-next xs i [] within),
-      length-append (concat (take i xs)) (get_or xs i []),
-      ap length is,
-      ap length first.parts,
-      length-append before (concat (take i xs)),
-      length-append first.passed held,
-      length-append held piece,
-    )))
+    (TakesShort-behind a b c before held (concat (take i xs)) piece first next)))

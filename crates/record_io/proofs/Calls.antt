@@ -1,10 +1,10 @@
 -- One call after another: what a source gives and a sink takes in two.
-use Rattle.std.proofs.Common.{◌≡◌, ℕ, ◌+◌, Option, Some, None, Result, Ok, Err, List, [], ◌++◌, length, take, drop, sym, ap, ◌∙◌, subst, arith, append-nil, append_assoc, length-append}
+use Rattle.std.proofs.Common.{◌≡◌, ◌≢◌, ℕ, ◌+◌, ◌<◌, Option, Some, None, Result, Ok, Err, List, [], ◌++◌, length, take, drop, sym, ap, ◌∙◌, subst, arith, append-nil, append_assoc, length-append}
 use Rattle.std.specs.Result.{OnErr}
 use Rattle.std.proofs.lemmas.List.{drop-drop}
 use Rattle.std.proofs.lemmas.Grind.{common_steps}
 use Rattle.std.proofs.Math.Seq.{take-append-add}
-use Rattle.record_io.specs.Outside.{Gives, Takes, TakesFront}
+use Rattle.record_io.specs.Outside.{Gives, Takes, TakesFront, TakesShort}
 
 -- a source that gave x and then y gave x ++ y
 pub Gives-append : (a b c : Option (List ℕ)) (x y : List ℕ) → Gives a b x → Gives b c y → Gives a c (x ++ y)
@@ -54,6 +54,31 @@ TakesFront-whole (Some taken) b x h = (length x, omega arith, h ∙ ap (λ r. So
 pub TakesFront-none : (a : Option (List ℕ)) (x : List ℕ) → TakesFront a a x
 TakesFront-none None x = tt
 TakesFront-none (Some taken) x = (0, omega arith, ap Some (grind (arith, common_steps)))
+
+-- a front that is not the whole is a front
+pub TakesShort-front : (a b : Option (List ℕ)) (x : List ℕ) → TakesShort a b x → TakesFront a b x
+TakesShort-front None b x h = tt
+TakesShort-front (Some taken) b x h = (h.0, omega (arith, h.1), h.2)
+
+-- a sink that took x and then not all of y took not all of x ++ y
+pub TakesShort-append : (a b c : Option (List ℕ)) (x y : List ℕ) → Takes a b x → TakesShort b c y → TakesShort a c (x ++ y)
+TakesShort-append a b c x y first then = (
+  length x + then.0,
+  omega (arith, length-append x y, then.1),
+  subst (λ (xs : List ℕ). Takes a c xs) (sym (take-append-add x y then.0)) (Takes-append a b c x (take then.0 y) first then.2),
+)
+
+-- not all of x is not all of x ++ y
+pub TakesShort-longer : (a b : Option (List ℕ)) (x y : List ℕ) → TakesShort a b x → TakesShort a b (x ++ y)
+TakesShort-longer a b x y h = (
+  h.0,
+  omega (arith, length-append x y, h.1),
+  subst (λ (xs : List ℕ). Takes a b xs) (grind (arith, common_steps, h.1)) h.2,
+)
+
+-- there is some of which not all was taken
+pub TakesShort-some : (a b : Option (List ℕ)) (x : List ℕ) → TakesShort a b x → x ≢ []
+TakesShort-some a b x h none = omega (arith, h.1, ap length none)
 
 -- what holds anyway holds where a call failed
 pub OnErr-any : {X E : Type 0} {P : Type 0} (result : Result X E) → P → OnErr result P

@@ -1,8 +1,7 @@
 -- Bytes that go to several sinks, in their order.
-use Rattle.std.proofs.Common.{◌≡◌, ◌≢◌, ◌∙◌, ℕ, true, false, Option, Some, None, List, [], ◌∷◌, ◌++◌, take, drop, refl, sym, ap, subst, inl, inr, append-nil, append_assoc}
-use Rattle.std.proofs.lemmas.List.{take-append-drop}
+use Rattle.std.proofs.Common.{◌≡◌, ◌∙◌, ℕ, zero, suc, ◌<◌, true, false, Option, Some, None, List, [], ◌∷◌, ◌++◌, length, take, refl, sym, ap, subst, inl, inr, arith, append-nil, append_assoc}
 use Rattle.std.proofs.lemmas.Bool.{cases_Bool, cond-true, cond-false}
-use Rattle.record_io.specs.Outside.{Takes, TakesFront}
+use Rattle.record_io.specs.Outside.{Takes, TakesFront, TakesShort}
 use Rattle.record_io.specs.Buffers.{TakesAndHolds}
 use Rattle.record_io.specs.Puts.{Stream, Made, Out, Notes, Put, Taken, taken_by, GoOut, GoOutOrAreHeld, BreaksOff, is_stream, puts_to, bytes_to}
 use Rattle.record_io.proofs.Calls.{Takes-nothing, Takes-append}
@@ -80,59 +79,39 @@ pub TakesFront-count : (a b : Option (List ℕ)) (bytes : List ℕ) → TakesFro
 TakesFront-count None b bytes h = (0, tt)
 TakesFront-count (Some taken) b bytes h = (h.0, h.2)
 
--- a front that breaks off at the last bytes
-pub BreaksOff-last : (s : Stream) (before : List Put) (bytes : List ℕ) (count : ℕ) → bytes ≢ []
-    → BreaksOff s (before ++ puts_to s (take count bytes)) (before ++ puts_to s bytes)
-BreaksOff-last s before bytes count some = record {
-  before = before;
-  bytes = bytes;
-  rest = [];
-  parts = ap (λ (ps : List Put). before ++ ps) (sym (append-nil (puts_to s bytes)));
-  some = some;
-  count = count;
-  broken = refl;
+-- what is put breaks off within bytes that go to a stream
+BreaksOff-bytes : (s : Stream) (bytes : List ℕ) (count : ℕ) → count < length bytes → BreaksOff s (puts_to s (take count bytes)) (puts_to s bytes)
+BreaksOff-bytes s [] count less = absurd (omega (arith, less))
+BreaksOff-bytes s (b ∷ bytes) zero less = record { byte = b; rest = puts_to s bytes; parts = refl }
+BreaksOff-bytes s (b ∷ bytes) (suc count) less =
+    let more = BreaksOff-bytes s bytes count (omega (arith, less)) in
+    record { byte = more.byte; rest = more.rest; parts = ap (λ (ps : List Put). record { to = s; byte = b } ∷ ps) more.parts }
+
+-- one of what is put is one behind what went before
+pub BreaksOff-behind : (s : Stream) (first part puts : List Put) → BreaksOff s part puts → BreaksOff s (first ++ part) (first ++ puts)
+BreaksOff-behind s first part puts h = record {
+  byte = h.byte;
+  rest = h.rest;
+  parts = ap (λ (ps : List Put). first ++ ps) h.parts ∙ sym (append_assoc first part (record { to = s; byte = h.byte } ∷ h.rest));
 }
 
--- one of what is put is one of more
+-- within the last of what is put
+pub BreaksOff-last : (s : Stream) (before : List Put) (bytes : List ℕ) (count : ℕ) → count < length bytes
+    → BreaksOff s (before ++ puts_to s (take count bytes)) (before ++ puts_to s bytes)
+BreaksOff-last s before bytes count less =
+    BreaksOff-behind s before (puts_to s (take count bytes)) (puts_to s bytes) (BreaksOff-bytes s bytes count less)
+
+-- and one of more
 pub BreaksOff-longer : (s : Stream) (part puts more : List Put) → BreaksOff s part puts → BreaksOff s part (puts ++ more)
 BreaksOff-longer s part puts more h = record {
-  before = h.before;
-  bytes = h.bytes;
+  byte = h.byte;
   rest = h.rest ++ more;
-  parts = ap (λ (ps : List Put). ps ++ more) h.parts
-      ∙ append_assoc h.before (puts_to s h.bytes ++ h.rest) more
-      ∙ ap (λ (ps : List Put). h.before ++ ps) (append_assoc (puts_to s h.bytes) h.rest more);
-  some = h.some;
-  count = h.count;
-  broken = h.broken;
+  parts = ap (λ (ps : List Put). ps ++ more) h.parts ∙ append_assoc part (record { to = s; byte = h.byte } ∷ h.rest) more;
 }
 
 -- it is a front
 pub BreaksOff-front : (s : Stream) (part puts : List Put) → BreaksOff s part puts → (rest : List Put) × (puts ≡ part ++ rest)
-BreaksOff-front s part puts h =
-    let first : List Put = puts_to s (take h.count h.bytes) in
-    let then : List Put = puts_to s (drop h.count h.bytes) in
-    let all : puts_to s h.bytes ≡ first ++ then =
-    ap (puts_to s) (sym (take-append-drop h.count h.bytes)) ∙ puts_to-append s (take h.count h.bytes) (drop h.count h.bytes) in (
-      then ++ h.rest,
-      h.parts
-          ∙ ap (λ (ps : List Put). h.before ++ (ps ++ h.rest)) all
-          ∙ ap (λ (ps : List Put). h.before ++ ps) (append_assoc first then h.rest)
-          ∙ sym (append_assoc h.before first (then ++ h.rest))
-          ∙ sym (ap (λ (ps : List Put). ps ++ (then ++ h.rest)) h.broken),
-    )
-
--- and one behind what went before
-pub BreaksOff-behind : (s : Stream) (first part puts : List Put) → BreaksOff s part puts → BreaksOff s (first ++ part) (first ++ puts)
-BreaksOff-behind s first part puts h = record {
-  before = first ++ h.before;
-  bytes = h.bytes;
-  rest = h.rest;
-  parts = ap (λ (ps : List Put). first ++ ps) h.parts ∙ sym (append_assoc first h.before (puts_to s h.bytes ++ h.rest));
-  some = h.some;
-  count = h.count;
-  broken = ap (λ (ps : List Put). first ++ ps) h.broken ∙ sym (append_assoc first h.before (puts_to s (take h.count h.bytes)));
-}
+BreaksOff-front s part puts h = (record { to = s; byte = h.byte } ∷ h.rest, h.parts)
 
 -- nothing is held
 pub GoOutOrAreHeld-none : (a b : Taken) (s : Stream) (puts : List Put) → GoOut a b puts → GoOutOrAreHeld a b s puts []
@@ -152,14 +131,13 @@ GoOut-flushed a made b c notes puts held h took =
 
 -- or standard output fails: a front went out, which puts the same in notes
 pub GoOut-unflushed : (a : Taken) (made b c notes : Option (List ℕ)) (puts : List Put) (held : List ℕ)
-    → GoOutOrAreHeld a (taken_by made b notes) Out puts held → TakesFront b c held → held ≢ []
+    → GoOutOrAreHeld a (taken_by made b notes) Out puts held → TakesShort b c held
     → (part : List Put) × BreaksOff Out part puts × GoOut a (taken_by made c notes) part × (bytes_to Notes part ≡ bytes_to Notes puts)
-GoOut-unflushed a made b c notes puts held h front some =
-    let count = TakesFront-count b c held front in
-    let last : List ℕ = take count.0 held in (
+GoOut-unflushed a made b c notes puts held h short =
+    let last : List ℕ = take short.0 held in (
       h.passed ++ puts_to Out last,
-      subst (λ (ps : List Put). BreaksOff Out (h.passed ++ puts_to Out last) ps) (sym h.parts) (BreaksOff-last Out h.passed held count.0 some),
-      GoOut-append a (taken_by made b notes) (taken_by made c notes) h.passed (puts_to Out last) h.went (GoOut-out made b c notes last count.1),
+      subst (λ (ps : List Put). BreaksOff Out (h.passed ++ puts_to Out last) ps) (sym h.parts) (BreaksOff-last Out h.passed held short.0 short.1),
+      GoOut-append a (taken_by made b notes) (taken_by made c notes) h.passed (puts_to Out last) h.went (GoOut-out made b c notes last short.2),
       bytes_to-append Notes h.passed (puts_to Out last)
           ∙ ap (λ (xs : List ℕ). bytes_to Notes h.passed ++ xs) (bytes_to-other Notes Out last refl ∙ sym (bytes_to-other Notes Out held refl))
           ∙ sym (ap (bytes_to Notes) h.parts ∙ bytes_to-append Notes h.passed (puts_to Out held)),
@@ -189,9 +167,9 @@ GoOutOrAreHeld-more a made b c notes puts held more then h put = record {
 
 -- or standard output fails at that
 pub GoOut-broken : (a : Taken) (made b c notes : Option (List ℕ)) (puts : List Put) (held more : List ℕ)
-    → GoOutOrAreHeld a (taken_by made b notes) Out puts held → TakesFront b c (held ++ more) → held ++ more ≢ []
+    → GoOutOrAreHeld a (taken_by made b notes) Out puts held → TakesShort b c (held ++ more)
     → (part : List Put) × BreaksOff Out part (puts ++ puts_to Out more) × GoOut a (taken_by made c notes) part
     × (bytes_to Notes part ≡ bytes_to Notes (puts ++ puts_to Out more))
-GoOut-broken a made b c notes puts held more h front some =
+GoOut-broken a made b c notes puts held more h short =
     GoOut-unflushed a made b c notes (puts ++ puts_to Out more) (held ++ more)
-    (record { passed = h.passed; parts = held_more puts h.passed Out held more h.parts; went = h.went }) front some
+    (record { passed = h.passed; parts = held_more puts h.passed Out held more h.parts; went = h.went }) short

@@ -1,6 +1,6 @@
 -- What a call leaves of the store that it asks, and what it gives to a sink. Own.
 use Rattle.std.specs.Prelude.{◌≡◌, ℕ, ◌^◌, ◌<◌, ◌≤◌, Option, Result, List, ◌++◌, [], OnOk, OnErr, IsErr}
-use Rattle.record_io.specs.Outside.{Rose, Takes, TakesFront}
+use Rattle.record_io.specs.Outside.{Rose, Takes, TakesShort}
 use Rattle.record_io.specs.Buffers.{TakesAndHolds}
 
 -- a store is only asked: its bytes, the size that it told and what it borrows stay, and its count of faults never falls, and
@@ -22,17 +22,17 @@ pub record OnlyCounts {M L : Type 0} (lent : M → L) (faults : M → ℕ) (Fail
   pub never_falls : faults before ≤ faults after
   pub small : faults before < 2 ^ 64 → faults after < 2 ^ 64
 
--- bytes go to a sink: all of them, or where that fails a front of them, and then the sink is the cause
+-- bytes go to a sink: all of them, or where that fails a front of them and not all, and then the sink is the cause
 pub record PutsTo {M L X E : Type 0} (taken : M → Option (List ℕ)) (lent : M → L) (faults : M → ℕ)
     (result : Result X E) (bytes : List ℕ) (before after : M) : Type 0 where
   pub whole : OnOk result (Takes (taken before) (taken after) bytes)
-  pub front : OnErr result (TakesFront (taken before) (taken after) bytes)
+  pub front : OnErr result (TakesShort (taken before) (taken after) bytes)
   pub counts : OnlyCounts lent faults (IsErr result) before after
 
 -- the same by way of what is held beside the sink: these bytes before, and those after
 pub record PutsThrough {M L X E : Type 0} (taken : M → Option (List ℕ)) (lent : M → L) (faults : M → ℕ)
     (result : Result X E) (held held_then bytes : List ℕ) (before after : M) : Type 0 where
   pub whole : OnOk result (TakesAndHolds (taken before) (taken after) (held ++ bytes) held_then)
-  pub front : OnErr result (TakesFront (taken before) (taken after) (held ++ bytes))
+  pub front : OnErr result (TakesShort (taken before) (taken after) (held ++ bytes))
   pub emptied : OnErr result (held_then ≡ [])
   pub counts : OnlyCounts lent faults (IsErr result) before after

@@ -1,5 +1,5 @@
 -- Bytes that go to several sinks, in their order. Own.
-use Rattle.std.specs.Prelude.{◌≡◌, ◌≢◌, ℕ, Bool, true, false, Option, List, [], ◌∷◌, ◌++◌, map, take, if◌then◌else◌}
+use Rattle.std.specs.Prelude.{◌≡◌, ℕ, Bool, true, false, Option, List, [], ◌∷◌, ◌++◌, map, if◌then◌else◌}
 use Rattle.record_io.specs.Outside.{Takes}
 
 -- where a byte goes: to the file that is made, to standard output, or to standard error
@@ -50,12 +50,8 @@ pub record GoOutOrAreHeld (before after : Taken) (stream : Stream) (puts : List 
   pub parts : puts ≡ passed ++ puts_to stream held
   pub went : GoOut before after passed
 
--- a front of what is put, which breaks off within or behind bytes that go to a stream
+-- a front of what is put, which breaks off before a byte that goes to a stream
 pub record BreaksOff (stream : Stream) (part puts : List Put) : Type 0 where
-  pub before : List Put
-  pub bytes : List ℕ
+  pub byte : ℕ
   pub rest : List Put
-  pub parts : puts ≡ before ++ (puts_to stream bytes ++ rest)
-  pub some : bytes ≢ []
-  pub count : ℕ
-  pub broken : part ≡ before ++ puts_to stream (take count bytes)
+  pub parts : puts ≡ part ++ (record { to = stream; byte = byte } ∷ rest)

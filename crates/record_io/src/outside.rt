@@ -1,4 +1,4 @@
-ghost use Rattle.std.specs.Prelude.{◌≡◌, ◌≢◌, ℕ, ◌+◌, ◌-◌, ◌^◌, ◌<◌, ◌≤◌, ◌↔◌, ◌⊎◌, Option, Some, is_some, List, [], length, take, min, slice_range, IsErr, IfOk, IfSome, IsSomeAnd, OnOk, OnErr};
+ghost use Rattle.std.specs.Prelude.{◌≡◌, ℕ, ◌+◌, ◌-◌, ◌^◌, ◌<◌, ◌≤◌, ◌↔◌, ◌⊎◌, Option, Some, is_some, List, [], length, take, min, slice_range, IsErr, IfOk, IfSome, IsSomeAnd, OnOk, OnErr};
 ghost use Rattle.record_io.specs.Outside.{one_more, faults_after, Rose, Gives, Takes, Lent, none_lent};
 ghost use Rattle.record_io.specs.Calls.{OnlyAsks, PutsTo};
 
@@ -128,10 +128,9 @@ pub trait Sink {
         ensures small { faults self.new < 2 ^ 64 };
 }
 
-/// Puts the whole piece. After a failure the sink took a front of it.
+/// Puts the whole piece. After a failure the sink took a front of it and not all.
 pub fn put_all<M: Sink>(sink: &mut M, piece: &[u8]) -> Result<(), Failed>
     ensures sink { PutsTo M.taken M.lent M.faults result piece.now sink.old sink.new }
-    ensures some { OnErr result (piece.now ≢ []) }
 {
     let mut at = 0;
     while at < piece.len() {

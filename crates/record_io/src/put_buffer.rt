@@ -1,4 +1,4 @@
-ghost use Rattle.std.specs.Prelude.{◌≡◌, ◌≢◌, ◌+◌, ◌≤◌, [], ◌++◌, length, map, OnErr};
+ghost use Rattle.std.specs.Prelude.{◌≡◌, ◌+◌, ◌≤◌, [], ◌++◌, length, map};
 ghost use Rattle.std.specs.List.{concat};
 ghost use Rattle.record_io.specs.Calls.{PutsTo, PutsThrough};
 
@@ -43,10 +43,9 @@ impl<const N: usize> PutBuffer<N> {
     ///
     /// # Errors
     ///
-    /// `Failed` only where the sink failed. It took a front of what was held and the piece, and nothing is held.
+    /// `Failed` only where the sink failed. It took a front of what was held and the piece and not all, and nothing is held.
     pub fn put<M: Sink>(&mut self, sink: &mut M, piece: &[u8]) -> Result<(), Failed>
         ensures sink { PutsThrough M.taken M.lent M.faults result self.old self.new piece.now sink.old sink.new }
-        ensures some { OnErr result (self.old ++ piece.now ≢ []) }
         ensures fits { length self.new ≤ N }
     {
         let large = piece.len() > N / 4;
@@ -64,10 +63,9 @@ impl<const N: usize> PutBuffer<N> {
     ///
     /// # Errors
     ///
-    /// `Failed` only where the sink failed. It took a front of what was held and the pieces, and nothing is held.
+    /// `Failed` only where the sink failed. It took a front of what was held and the pieces and not all, and nothing is held.
     pub fn put_each<M: Sink>(&mut self, sink: &mut M, pieces: &[&[u8]]) -> Result<(), Failed>
         ensures sink { PutsThrough M.taken M.lent M.faults result self.old self.new (concat (map (λ piece. piece.now) pieces.now)) sink.old sink.new }
-        ensures some { OnErr result (self.old ++ concat (map (λ piece. piece.now) pieces.now) ≢ []) }
     {
         for piece in pieces {
             self.put(sink, piece)?;
@@ -79,10 +77,9 @@ impl<const N: usize> PutBuffer<N> {
     ///
     /// # Errors
     ///
-    /// `Failed` only where the sink failed. It took a front of what was held.
+    /// `Failed` only where the sink failed. It took a front of what was held and not all.
     pub fn flush<M: Sink>(&mut self, sink: &mut M) -> Result<(), Failed>
         ensures sink { PutsTo M.taken M.lent M.faults result self.old sink.old sink.new }
-        ensures some { OnErr result (self.old ≢ []) }
         ensures emptied { self.new ≡ [] }
     {
         let count = self.count;

@@ -9,3 +9,10 @@ loop-at-preserved g c = record {
   taken = Takes-more _ _ _ c.args.piece.now c.loop-at.at c.in_ok-at.field-0 c.loop-at.invariant.taken c.in_ok-at.ensures.takes;
   counts = search rules;
 }
+
+pub returns-in_err-put-clause-sink : goal.returns-in_err-put-clause-sink
+returns-in_err-put-clause-sink g c = record {
+  whole = search rules;
+  front = OnErr-any _ (c.loop-at.at, omega arith, rw c.in_err-put.ensures.kept c.loop-at.invariant.taken);
+  counts = search rules;
+}
