@@ -8,7 +8,7 @@ use Rattle.varint_wire.specs.Varint.{spelled_value, Spells, SpellsEach}
 use Rattle.varint_wire.proofs.Spellings.{spelling_is_one}
 use Rattle.varint_wire.proofs.InARow.{spellings_are_one}
 use Rattle.chunk_header.specs.Chunks.{ChunkValue}
-use Rattle.chunk_header.specs.SimpleChunks.{simple_kind, IsSimple, HasRecords}
+use Rattle.chunk_header.specs.SimpleChunks.{simple_kind, IsSimple, IsSimpleChunk}
 use Rattle.chunk_header.proofs.Decided.{IsDecided, both, same_decided, less_decided, at_most_decided, equal_decided, each_below_decided, some_below_decided}
 use Rattle.chunk_header.proofs.SimpleChunks.{sum-map-length}
 
@@ -168,7 +168,7 @@ content_decided n d size rest =
 -- data that begins with a compression type of 0 and a spelling, by what stands behind it
 records_from : (k : ChunkValue) (tail : List ℕ) (size : ℕ) (front rest : List ℕ)
     → k.kind ≡ simple_kind → k.«data» ≡ 0 ∷ tail → tail ≡ front ++ rest → Spells size front
-    → Content k.num_records k.decoded_size size rest → HasRecords k
+    → Content k.num_records k.decoded_size size rest → IsSimpleChunk k
 records_from k tail size front rest kind begins same spells (within, (values, each, (whole, (count, decoded)))) =
     let body : List ℕ = drop size rest in
     let records : List (List ℕ) = cut values body in
@@ -214,7 +214,7 @@ content_from k tail size front rest records begins same spells simple =
     )
 
 -- whether a chunk holds records
-data_decided : (k : ChunkValue) (bytes : List ℕ) → k.«data» ≡ bytes → k.kind ≡ simple_kind → IsDecided (HasRecords k)
+data_decided : (k : ChunkValue) (bytes : List ℕ) → k.«data» ≡ bytes → k.kind ≡ simple_kind → IsDecided (IsSimpleChunk k)
 data_decided k [] is kind = inr (λ has. omega (arith, ap length (sym has.1.«data» ∙ is)))
 data_decided k (b ∷ tail) is kind =
     elim (equal_decided b 0) [
@@ -230,14 +230,14 @@ data_decided k (b ∷ tail) is kind =
               has.1.spells_size,
             ))
             | inl (size, front, rest, same, spells) ↦
-                same_decided (Content k.num_records k.decoded_size size rest) (HasRecords k)
+                same_decided (Content k.num_records k.decoded_size size rest) (IsSimpleChunk k)
                 (records_from k tail size front rest kind begins same spells)
                 (λ has. content_from k tail size front rest has.0 begins same spells has.1)
                 (content_decided k.num_records k.decoded_size size rest)
           ]
     ]
 
-pub records_decided : (k : ChunkValue) → IsDecided (HasRecords k)
+pub records_decided : (k : ChunkValue) → IsDecided (IsSimpleChunk k)
 records_decided k =
     elim (equal_decided k.kind simple_kind) [
       | inl simple ↦ data_decided k k.«data» refl simple

@@ -22,8 +22,8 @@ pub record IsSimple (k : ChunkValue) (records : List (List ℕ)) : Type 0 where
   pub «data» : k.«data» ≡ 0 ∷ spelled_size ++ sizes ++ concat records
 
 -- a simple chunk of some records, without compression
-abbrev pub HasRecords : ChunkValue → Type 0
-HasRecords k = (records : List (List ℕ)) × IsSimple k records
+abbrev pub IsSimpleChunk : ChunkValue → Type 0
+IsSimpleChunk k = (records : List (List ℕ)) × IsSimple k records
 
 -- a simple chunk whose first byte of data says that it is compressed
 abbrev pub IsCompressed : ChunkValue → Type 0

@@ -4,7 +4,7 @@ ghost use Rattle.std.specs.Prelude.{◌≡◌, ◌≤◌, ◌⊎◌, ℕ, List, 
 ghost use Rattle.highway_hash.specs.Riegeli.{riegeli_hash};
 ghost use Rattle.record_values.specs.Bytes.{AreBytes};
 ghost use Rattle.chunk_header.specs.Chunks.{ChunkValue, IsChunk, IsRightChunkHeader, header_bytes, header_in};
-ghost use Rattle.chunk_header.specs.SimpleChunks.{IsSimple, HasRecords};
+ghost use Rattle.chunk_header.specs.SimpleChunks.{IsSimple, IsSimpleChunk};
 ghost use Rattle.chunk_header.specs.Views.{IsHeader, bytes_of_header, value_of_header};
 ghost use Rattle.chunk_header.specs.declared.Header.{Header};
 
@@ -12,7 +12,7 @@ ghost use Rattle.chunk_header.specs.declared.Header.{Header};
 /// decided. Own.
 pub fn records_are_one()
     ensures one { (k : ChunkValue) (a b : List (List ℕ)) → IsSimple k a → IsSimple k b → a ≡ b }
-    ensures decided { (k : ChunkValue) → HasRecords k ⊎ (¬ HasRecords k) }
+    ensures decided { (k : ChunkValue) → IsSimpleChunk k ⊎ (¬ IsSimpleChunk k) }
 {}
 
 /// The records of a chunk are at most as many as its data has bytes, and have at most as many bytes together. Own.

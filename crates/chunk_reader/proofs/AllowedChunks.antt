@@ -2,7 +2,7 @@
 use Rattle.std.proofs.Common.{◌≡◌, ◌≢◌, ◌∙◌, ◌⊎◌, ℕ, ◌≤◌, Bool, true, false, length, sym, ap, subst, inl, inr, arith}
 use Rattle.std.proofs.lemmas.Option.{get_or_from_slice_get}
 use Rattle.chunk_header.specs.Chunks.{ChunkValue}
-use Rattle.chunk_header.specs.SimpleChunks.{simple_kind, HasRecords, IsCompressed}
+use Rattle.chunk_header.specs.SimpleChunks.{simple_kind, IsSimpleChunk, IsCompressed}
 use Rattle.meta_chunk.specs.Kinds.{signature_kind, metadata_kind, padding_kind, transposed_kind, KeepsRule, IsOfKind, IsOfNoName, IsSignature, IsMetadata, IsPadding}
 use Rattle.meta_chunk.specs.Files.{max_data_size, IsPlain, IsTransposed}
 use Rattle.meta_chunk.proofs.Held.{plain_or_unread}
@@ -11,8 +11,8 @@ use Rattle.chunk_reader.specs.Faults.{IsAllowed}
 
 -- what reading passes, by its content
 abbrev pub IsPassed : Bool → ChunkValue → Type 0
-IsPassed false k = HasRecords k ⊎ IsSignature k ⊎ IsMetadata k ⊎ IsPadding k
-IsPassed true k = (HasRecords k ⊎ IsSignature k ⊎ IsMetadata k ⊎ IsPadding k) ⊎ (IsTransposed k ⊎ IsCompressed k)
+IsPassed false k = IsSimpleChunk k ⊎ IsSignature k ⊎ IsMetadata k ⊎ IsPadding k
+IsPassed true k = (IsSimpleChunk k ⊎ IsSignature k ⊎ IsMetadata k ⊎ IsPadding k) ⊎ (IsTransposed k ⊎ IsCompressed k)
 
 -- with little enough data it is allowed
 pub IsAllowed-passed : (keep : Bool) (k : ChunkValue) → length k.«data» ≤ max_data_size → IsPassed keep k → IsAllowed keep k
@@ -60,7 +60,7 @@ good_kind k kind (is, rule) other =
     (other_kind k.kind kind simple_kind is other)
 
 -- nor has a simple one that holds records
-good_records : (k : ChunkValue) → HasRecords k → ¬ HasBadContents k
+good_records : (k : ChunkValue) → IsSimpleChunk k → ¬ HasBadContents k
 good_records k (records, simple) (inl broken) =
     broken (KeepsRule-of k simple_kind simple.kind (λ same. omega arith) (λ same. omega arith) (λ same. omega arith))
 good_records k (records, simple) (inr (kind, inl none)) = omega (arith, ap length (sym simple.«data» ∙ none))

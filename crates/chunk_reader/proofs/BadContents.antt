@@ -3,7 +3,7 @@ use Rattle.std.proofs.Common.{◌≡◌, ◌≢◌, ℕ, ◌<◌, ◌⊎◌, inl
 use Rattle.std.specs.Prelude.{slice_get, slice_index}
 use Rattle.std.proofs.lemmas.Bool.{cases_eq}
 use Rattle.chunk_header.specs.Chunks.{ChunkValue}
-use Rattle.chunk_header.specs.SimpleChunks.{simple_kind, HasRecords, IsCompressed}
+use Rattle.chunk_header.specs.SimpleChunks.{simple_kind, IsSimpleChunk, IsCompressed}
 use Rattle.chunk_reader.specs.Reasons.{HasBadContents}
 
 -- data that isn't compressed is none, or begins with 0
@@ -14,7 +14,7 @@ begins_plain (b ∷ bs) plain =
     elim (cases_eq b 0) [ inl zero ↦ inr (ap Some zero) | inr more ↦ absurd (plain (omega arith) more) ]
 
 -- a simple chunk that isn't compressed and holds no records has bad contents
-pub bad_simple : (k : ChunkValue) → k.kind ≡ simple_kind → ¬ IsCompressed k → ¬ HasRecords k → HasBadContents k
+pub bad_simple : (k : ChunkValue) → k.kind ≡ simple_kind → ¬ IsCompressed k → ¬ IsSimpleChunk k → HasBadContents k
 bad_simple k kind plain none =
     elim (begins_plain k.«data» (λ some other. plain (kind, some, other))) [
       | inl empty ↦ inr (kind, inl empty)

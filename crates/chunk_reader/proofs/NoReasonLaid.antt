@@ -8,7 +8,7 @@ use Rattle.highway_hash.specs.Riegeli.{riegeli_hash, with_hash}
 use Rattle.record_values.specs.Bytes.{AreBytes}
 use Rattle.block_layout.specs.BlockHeaders.{block_header}
 use Rattle.chunk_header.specs.Chunks.{ChunkValue, IsRightChunkHeader}
-use Rattle.chunk_header.specs.SimpleChunks.{simple_kind, HasRecords, IsCompressed}
+use Rattle.chunk_header.specs.SimpleChunks.{simple_kind, IsSimpleChunk, IsCompressed}
 use Rattle.chunk_header.proofs.RightHeaders.{header_of_right}
 use Rattle.chunk_header.proofs.Decided.{lists_decided, equal_decided, true_where_not_false}
 use Rattle.chunk_header.proofs.DecidedRecords.{records_decided}
@@ -117,7 +117,7 @@ rule_of k kind good is =
     (rule_kept k.kind (length k.«data») k.num_records k.decoded_size (λ broken. good (inl broken)))
 
 -- a simple chunk without bad contents holds records or is compressed
-simple_content : (k : ChunkValue) → ¬ HasBadContents k → k.kind ≡ simple_kind → HasRecords k ⊎ IsCompressed k
+simple_content : (k : ChunkValue) → ¬ HasBadContents k → k.kind ≡ simple_kind → IsSimpleChunk k ⊎ IsCompressed k
 simple_content k good is =
     elim (records_decided k) [
       | inl has ↦ inl has

@@ -1,5 +1,5 @@
 -- What strict reading makes of chunks that are well formed. Own.
-use Rattle.std.specs.Prelude.{◌≡◌, ℕ, ◌<◌, ◌≤◌, ◌⊎◌, Bool, true, List, length, slice_range}
+use Rattle.std.specs.Prelude.{◌≡◌, ℕ, ◌<◌, ◌≤◌, ◌⊎◌, Bool, true, List, [], length, slice_range}
 use Rattle.block_layout.specs.Layout.{IsBoundary}
 use Rattle.chunk_header.specs.Chunks.{ChunkValue, IsChunk}
 use Rattle.chunk_header.specs.SimpleChunks.{IsSimple, IsCompressed}
@@ -27,6 +27,11 @@ abbrev pub IsWhat : Bool → ChunkValue → What → Type 0
 IsWhat keep k (Records records) = IsSimple k records
 IsWhat keep k Passive = IsSignature k ⊎ IsMetadata k ⊎ IsPadding k
 IsWhat keep k Unread = (keep ≡ true) × (IsCompressed k ⊎ IsTransposed k)
+
+-- the records that are given of it: none where it isn't a chunk of records
+abbrev pub records_given : What → List (List ℕ)
+records_given (Records records) = records
+records_given other = []
 
 -- a chunk given from a place of a file of so many bytes
 pub record IsJudged (keep : Bool) (size place : ℕ) (j : Judged) : Type 0 where

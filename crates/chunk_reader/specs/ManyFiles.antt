@@ -4,8 +4,7 @@ use Rattle.std.specs.List.{AllByRecursion}
 use Rattle.chunk_reader.specs.Faults.{HasNoFault, IsFault}
 use Rattle.chunk_reader.specs.declared.reasons.Fault.{Fault}
 
--- none of the files has a fault, strictly or with compressed and transposed chunks left unread
--- none of the files has a fault, strictly or as a keep, of which compressed and transposed chunks are left unread
+-- none of the files has a fault, with compressed and transposed chunks refused or, to keep, left unread
 abbrev pub HaveNoFault : Bool → List (List ℕ) → Type 0
 HaveNoFault keep files = AllByRecursion (HasNoFault keep) files
 

@@ -4,7 +4,7 @@ use Rattle.std.specs.List.{AllByRecursion}
 use Rattle.highway_hash.specs.Riegeli.{riegeli_hash}
 use Rattle.block_layout.specs.Layout.{chunk_header_size, IsBlock, end_of}
 use Rattle.chunk_header.specs.Chunks.{ChunkValue, IsRightChunkHeader}
-use Rattle.chunk_header.specs.SimpleChunks.{simple_kind, HasRecords, IsCompressed}
+use Rattle.chunk_header.specs.SimpleChunks.{simple_kind, IsSimpleChunk, IsCompressed}
 use Rattle.meta_chunk.specs.Kinds.{KeepsRule, IsOfNoName}
 use Rattle.meta_chunk.specs.Files.{max_data_size, IsTransposed}
 use Rattle.chunk_reader.specs.Places.{header_bytes_at, header_at, end_at, chunk_at, HasHeaderOf}
@@ -15,7 +15,7 @@ use Rattle.chunk_reader.specs.declared.reasons.Why.TheVariants as why
 abbrev pub HasBadContents : ChunkValue → Type 0
 HasBadContents k =
     (¬ KeepsRule k.kind (length k.«data») k.num_records k.decoded_size)
-    ⊎ ((k.kind ≡ simple_kind) × ((k.«data» ≡ []) ⊎ ((slice_get k.«data» 0 ≡ Some 0) × (¬ HasRecords k))))
+    ⊎ ((k.kind ≡ simple_kind) × ((k.«data» ≡ []) ⊎ ((slice_get k.«data» 0 ≡ Some 0) × (¬ IsSimpleChunk k))))
 
 -- a reason to refuse the content of a chunk, under the hash that its header has for the data
 abbrev pub ContentApplies : ℕ → ChunkValue → Why → Type 0

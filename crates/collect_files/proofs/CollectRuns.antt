@@ -1,5 +1,5 @@
 -- How a run of `collect` ends, by how its work ended.
-use Rattle.std.proofs.Common.{◌≡◌, ◌≢◌, ℕ, ◌+◌, ◌≤◌, ◌⊎◌, false, Option, Some, None, Result, Ok, Err, List, [], ◌++◌, length, map, take, drop, refl, inl, inr, IfSome}
+use Rattle.std.proofs.Common.{◌≡◌, ◌≢◌, ℕ, ◌+◌, ◌≤◌, ◌⊎◌, Option, Some, None, Result, Ok, Err, List, [], ◌++◌, length, map, take, drop, refl, inl, inr, IfSome}
 use Rattle.std.specs.Prelude.{slice_get}
 use Rattle.std.specs.List.{AllByRecursion}
 use Rattle.record_values.specs.Bytes.{AreBytes}
@@ -32,7 +32,7 @@ use Rattle.collect_files.specs.declared.stops.Uncollected.TheVariants as uncolle
 -- so `collect` reads its files, and so it may end by their sizes
 reads-collect : ReadsFiles collect_meaning (λ all. Unit {0}) IsCollectAnswer IsCollectedSoFar
 reads-collect =
-    reads_files collect_meaning.uses false (λ all. Unit {0}) IsCollectAnswer IsCollectedSoFar AreEachInReach (λ sizes before after. Unit {0}) MayEndCollecting
+    reads_files collect_meaning.uses (λ all. Unit {0}) IsCollectAnswer IsCollectedSoFar AreEachInReach (λ sizes before after. Unit {0}) MayEndCollecting
     refl refl refl
 
 stop_collect : (w : Uncollected) (sizes : List ℕ) → AreEachInReach sizes → collect_meaning.may_end sizes (uncollected_status w) (uncollected_text w)

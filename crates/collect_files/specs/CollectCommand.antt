@@ -1,5 +1,5 @@
 -- What `collect` makes, prints, says and ends with. Own.
-use Rattle.std.specs.Prelude.{◌≡◌, ℕ, ◌<◌, ◌≤◌, ◌⊎◌, false, true, None, List, [], ◌∷◌, ◌++◌, decimal, length, map, slice_index, take}
+use Rattle.std.specs.Prelude.{◌≡◌, ℕ, ◌<◌, ◌≤◌, ◌⊎◌, true, None, List, [], ◌∷◌, ◌++◌, decimal, length, map, slice_index, take}
 use Rattle.std.specs.List.{AllByRecursion, Any, enumerate_from, flat_map}
 use lib.Chars.{codes}
 use Rattle.record_io.specs.Puts.{Put, Made, Out, puts_to}
@@ -96,7 +96,6 @@ MayEndCollecting sizes ended text =
 abbrev pub collect_meaning : Meaning
 collect_meaning =
     record (meaning (record none_used { files = true; made = true; out = true; memory = true }) (λ r answer. IsCollectAnswer r.files answer)) {
-      one = false;
       may_have_put = λ r before after part. IsCollectedSoFar r.files part;
       may_work = AreEachInReach;
       may_take = λ sizes before after. Unit {0};

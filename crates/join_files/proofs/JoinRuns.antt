@@ -104,7 +104,7 @@ front_some all front some first (inr (index, fault, at, is)) =
 -- so `join` reads its files, and so it may end by their sizes
 reads-join : ReadsFiles join_meaning (λ all. Unit {0}) IsJoinAnswer IsJoinedSoFar
 reads-join =
-    reads_files join_meaning.uses true (λ all. Unit {0}) IsJoinAnswer IsJoinedSoFar AreTogetherInReach MayJoin MayEndJoining refl refl refl
+    reads_files join_meaning.uses (λ all. Unit {0}) IsJoinAnswer IsJoinedSoFar AreTogetherInReach MayJoin MayEndJoining refl refl refl
 
 ends-join : {X : Type 0} → EndsBySizes {X = X} join_meaning joining_ends AreTooLong (λ _. AreTogetherInReach)
 ends-join = record {

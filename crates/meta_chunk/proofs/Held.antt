@@ -4,7 +4,7 @@ use Rattle.std.specs.List.{AllByRecursion, flat_map}
 use Rattle.std.proofs.lemmas.List.{nil_from_length}
 use Rattle.std.proofs.lemmas.Grind.{flat_map-append}
 use Rattle.chunk_header.specs.Chunks.{ChunkValue}
-use Rattle.chunk_header.specs.SimpleChunks.{simple_kind, HasRecords}
+use Rattle.chunk_header.specs.SimpleChunks.{simple_kind, IsSimpleChunk}
 use Rattle.chunk_header.proofs.OneList.{records_are_one}
 use Rattle.meta_chunk.specs.Kinds.{IsSignature}
 use Rattle.meta_chunk.specs.Files.{signature, IsPlain, IsUnread, IsFramed, Holds, HoldEach, AreRecordsOf}
@@ -52,11 +52,11 @@ AreRecordsOf-one ks a b (lists, h, joined) (others, g, also) =
     joined ∙ ap (flat_map (λ (held : List (List ℕ)). held)) (HoldEach-one ks lists others h g) ∙ sym also
 
 -- a chunk of another kind than simple ones has no records
-no_records : (k : ChunkValue) (kind : ℕ) → k.kind ≡ kind → kind ≢ simple_kind → ¬ HasRecords k
+no_records : (k : ChunkValue) (kind : ℕ) → k.kind ≡ kind → kind ≢ simple_kind → ¬ IsSimpleChunk k
 no_records k kind is other (records, simple) = other (sym is ∙ simple.kind)
 
 -- nor has a compressed one
-compressed : (k : ChunkValue) → get_or k.«data» 0 0 ≢ 0 → ¬ HasRecords k
+compressed : (k : ChunkValue) → get_or k.«data» 0 0 ≢ 0 → ¬ IsSimpleChunk k
 compressed k some (records, simple) = some (ap (λ (xs : List ℕ). get_or xs 0 0) simple.«data»)
 
 -- a chunk that is read or left unread holds a list of records
@@ -77,7 +77,7 @@ HoldEach-framed (k ∷ ks) h =
     (here.0 ∷ rest.0, (here.1, rest.1))
 
 -- an unread chunk has no records
-pub unread_records : (k : ChunkValue) → IsUnread k → ¬ HasRecords k
+pub unread_records : (k : ChunkValue) → IsUnread k → ¬ IsSimpleChunk k
 unread_records k (small, inl is) = no_records k 0x74 is (λ same. omega arith)
 unread_records k (small, inr (is, some, other)) = compressed k other
 

@@ -6,7 +6,7 @@ use Rattle.highway_hash.specs.HighwayHash.{hash_of, finished, after_remainder, a
 use Rattle.varint_wire.specs.Varint.{shortest}
 use Rattle.block_layout.specs.Layout.{room, end_of, chunk_end_of}
 use Rattle.chunk_header.specs.Chunks.{ChunkValue, own_bytes}
-use Rattle.chunk_header.specs.SimpleChunks.{simple_chunk, IsSimple, HasRecords}
+use Rattle.chunk_header.specs.SimpleChunks.{simple_chunk, IsSimple, IsSimpleChunk}
 use Rattle.chunk_header.proofs.SimpleChunks.{IsSimple-simple_chunk}
 use Rattle.meta_chunk.specs.Kinds.{KeepsRule}
 use Rattle.meta_chunk.specs.Laid.{end_of_chunk, byte_at, laid_bytes, laid}
@@ -191,7 +191,7 @@ none_is_not_held b (inl simple) = not_same 1 0 (lit< tt) simple.num_records
 none_is_not_held b (inr (none, nothing)) = none ((b ∷ []) ∷ [], of_byte_is_simple b)
 
 -- an unread chunk holds none, though it has a record, and not that one
-compressed_has_none : HasRecords compressed → ⊥
+compressed_has_none : IsSimpleChunk compressed → ⊥
 unfolding compressed
 compressed_has_none (records, simple) = not_same 0x62 0 (lit< tt) (ap (λ (bytes : List ℕ). slice_index bytes 0) simple.«data»)
 

@@ -3,7 +3,7 @@
 use Rattle.std.specs.Prelude.{◌≡◌, ◌≢◌, ℕ, ◌+◌, ◌^◌, ◌<◌, ◌≤◌, ◌⊎◌, List, [], ◌∷◌, ◌++◌, length, take}
 use Rattle.std.specs.List.{AllByRecursion, flat_map, enumerate_from}
 use Rattle.chunk_header.specs.Chunks.{ChunkValue}
-use Rattle.chunk_header.specs.SimpleChunks.{IsSimple, HasRecords, IsCompressed}
+use Rattle.chunk_header.specs.SimpleChunks.{IsSimple, IsSimpleChunk, IsCompressed}
 use Rattle.meta_chunk.specs.Kinds.{signature_kind, transposed_kind, IsSignature, IsMetadata, IsPadding}
 use Rattle.meta_chunk.specs.Laid.{IsLaid, laid, end_of_chunk}
 
@@ -21,7 +21,7 @@ max_data_size = 2 ^ 26
 
 -- a chunk that is read: a simple chunk of records, or a signature, metadata or padding chunk that keeps its rule
 abbrev pub IsPlain : ChunkValue → Type 0
-IsPlain k = (length k.«data» ≤ max_data_size) × (HasRecords k ⊎ IsSignature k ⊎ IsMetadata k ⊎ IsPadding k)
+IsPlain k = (length k.«data» ≤ max_data_size) × (IsSimpleChunk k ⊎ IsSignature k ⊎ IsMetadata k ⊎ IsPadding k)
 
 -- a transposed chunk
 abbrev pub IsTransposed : ChunkValue → Type 0
@@ -75,7 +75,7 @@ IsFrame = IsFileOf IsFramed
 
 -- the records that a chunk holds: a simple chunk its own, and every other chunk none
 abbrev pub Holds : ChunkValue → List (List ℕ) → Type 0
-Holds k records = IsSimple k records ⊎ ((¬ HasRecords k) × (records ≡ []))
+Holds k records = IsSimple k records ⊎ ((¬ IsSimpleChunk k) × (records ≡ []))
 
 -- the lists of records that chunks hold, chunk by chunk
 abbrev pub HoldEach : List ChunkValue → List (List (List ℕ)) → Type 0

@@ -9,7 +9,7 @@ use Rattle.std.proofs.lemmas.List.Sums.{sum_by-append, sum_by-cons}
 use Rattle.block_layout.specs.Layout.{IsBlock, IsBoundary}
 use Rattle.record_values.specs.declared.file_totals.Totals.{Totals}
 use Rattle.chunk_header.specs.Chunks.{ChunkValue}
-use Rattle.chunk_header.specs.SimpleChunks.{HasRecords}
+use Rattle.chunk_header.specs.SimpleChunks.{IsSimpleChunk}
 use Rattle.meta_chunk.specs.Counts.{is_unread, totals_of}
 use Rattle.meta_chunk.specs.Kinds.{IsPadding}
 use Rattle.meta_chunk.specs.Files.{AreLaid, AreRecordsOf, BeginsSigned, IsFileOf, IsFrame, IsPlain, end_of_chunks}
@@ -99,7 +99,7 @@ padding_holds : (ks : List ChunkValue) → AllByRecursion IsPadding ks → AreRe
 padding_holds [] each = ([], refl, refl)
 padding_holds (k ∷ ks) each =
     let rest = padding_holds ks each.1 in
-    let none : ¬ HasRecords k = λ has. absurd (omega (arith, has.1.kind, each.0.0)) in
+    let none : ¬ IsSimpleChunk k = λ has. absurd (omega (arith, has.1.kind, each.0.0)) in
     ([] ∷ rest.0, (inr (none, refl), rest.1), rest.2)
 
 -- so the records are those of both files

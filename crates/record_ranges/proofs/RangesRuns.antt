@@ -1,5 +1,5 @@
 -- How a run of `ranges` ends, by how its work ended.
-use Rattle.std.proofs.Common.{◌≡◌, ◌≢◌, ℕ, ◌+◌, ◌<◌, ◌≤◌, ◌⊎◌, true, Option, Some, None, Result, Ok, Err, List, [], length, map, take, drop, refl, subst, inl, inr, arith, IfSome}
+use Rattle.std.proofs.Common.{◌≡◌, ◌≢◌, ℕ, ◌+◌, ◌<◌, ◌≤◌, ◌⊎◌, Option, Some, None, Result, Ok, Err, List, [], length, map, take, drop, refl, subst, inl, inr, arith, IfSome}
 use Rattle.std.specs.Prelude.{slice_get}
 use Rattle.std.specs.List.{AllByRecursion}
 use Rattle.record_values.specs.Bytes.{AreBytes}
@@ -34,7 +34,7 @@ TellOne all = MayBeRead (map length all) → AreOneFile all
 -- so `ranges` reads its file, and so it may end by the sizes that its stores told
 reads-ranges : ReadsFiles ranges_meaning TellOne IsRangesAnswer (λ all part. part ≡ [])
 reads-ranges =
-    reads_files ranges_meaning.uses true TellOne IsRangesAnswer (λ all part. part ≡ []) MayBeRead (λ sizes before after. Unit {0}) MayEndRanges refl refl refl
+    reads_files ranges_meaning.uses TellOne IsRangesAnswer (λ all part. part ≡ []) MayBeRead (λ sizes before after. Unit {0}) MayEndRanges refl refl refl
 
 stop_ranges : (w : Unread) (sizes : List ℕ) → StopsBy w sizes → ranges_meaning.may_end sizes (unread_status w) (unread_text w)
 stop_ranges (unread.Refused fault) sizes may = inr (inl (may, fault, refl, refl))

@@ -9,13 +9,13 @@ use Rattle.chunk_header.specs.Chunks.{ChunkValue}
 use Rattle.chunk_header.specs.SimpleChunks.{IsSimple}
 use Rattle.chunk_header.specs.Views.{value_of_chunk}
 use Rattle.meta_chunk.specs.Kinds.{IsSignature, IsMetadata, IsPadding}
-use Rattle.chunk_reader.specs.Contents.{IsWhat, IsJudged, IsJudgedIn}
+use Rattle.chunk_reader.specs.Contents.{IsWhat, records_given, IsJudged, IsJudgedIn}
 use Rattle.chunk_reader.specs.Places.{end_at, chunk_at}
 use Rattle.chunk_reader.specs.Reasons.{Applies, NoneOf, loading_reasons, strict_reasons}
 use Rattle.chunk_reader.specs.declared.judging.Judged.{Judged}
 use Rattle.chunk_reader.specs.declared.judging.What.{What}
 use Rattle.chunk_reader.specs.declared.judging.What.TheVariants as what
-use Rattle.record_seek.specs.Steps.{records_found, IsHeld, IsHeldAt}
+use Rattle.record_seek.specs.Steps.{IsHeld, IsHeldAt}
 use Rattle.record_seek.specs.declared.chunk_records.Held.{Held}
 
 -- no reason keeps a chunk without fault from being read
@@ -49,7 +49,7 @@ none_in_passive k (inr (inr padding)) = (padding.1.padding refl).0
 abbrev HoldsThem : ChunkValue → List (List ℕ) → Type 0
 HoldsThem k records = IsSimple k records ⊎ ((k.num_records ≡ 0) × (records ≡ []))
 
-records_held : (k : ChunkValue) (w : What) → IsWhat false k w → HoldsThem k (records_found w)
+records_held : (k : ChunkValue) (w : What) → IsWhat false k w → HoldsThem k (records_given w)
 records_held k (what.Records records) simple = inl simple
 records_held k what.Passive kind = inr (none_in_passive k kind, refl)
 records_held k what.Unread unread =
@@ -69,7 +69,7 @@ count_of k records (inr (none, empty)) = omega (arith, ap length empty)
 
 -- and may be asked for them
 pub held-of : (size place : ℕ) (j : Judged) (held : Held) → size ≤ 2 ^ 60 → IsJudged false size place j → held.begin ≡ j.begin → held.end ≡ j.end
-    → held.records ≡ records_found j.what → IsHeld held
+    → held.records ≡ records_given j.what → IsHeld held
 held-of size place j held reach judged begin end records =
     let k : ChunkValue = value_of_chunk j.chunk in
     let holds : HoldsThem k held.records = subst (HoldsThem k) (sym records) (records_held k j.what judged.what) in
@@ -91,7 +91,7 @@ held-of size place j held reach judged begin end records =
 
 -- it is the chunk of the file
 pub held-there : (bytes : Option (List ℕ)) (size place : ℕ) (j : Judged) (held : Held) → IsJudged false size place j
-    → IfSome bytes (λ file. IsJudgedIn false file place j) → held.begin ≡ j.begin → held.end ≡ j.end → held.records ≡ records_found j.what
+    → IfSome bytes (λ file. IsJudgedIn false file place j) → held.begin ≡ j.begin → held.end ≡ j.end → held.records ≡ records_given j.what
     → IfSome bytes (λ file. IsHeldAt file held)
 held-there None size place j held judged sound begin end records = tt
 held-there (Some file) size place j held judged sound begin end records =

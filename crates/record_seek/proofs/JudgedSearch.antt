@@ -4,7 +4,7 @@ use Rattle.std.proofs.lemmas.Bool.{cases_lt}
 use Rattle.std.proofs.lemmas.Option.{slice_get_cases}
 use Rattle.block_layout.specs.Layout.{block_of}
 use Rattle.chunk_header.specs.Chunks.{ChunkValue}
-use Rattle.chunk_header.specs.SimpleChunks.{HasRecords}
+use Rattle.chunk_header.specs.SimpleChunks.{IsSimpleChunk}
 use Rattle.chunk_header.proofs.Decided.{IsDecided, both, less_decided}
 use Rattle.meta_chunk.specs.Files.{IsPlain}
 use Rattle.chunk_reader.specs.Holders.{IsOnWay, IsHolder, IsHolderFault}
@@ -81,7 +81,7 @@ IsGivenOrNot file position =
     ((given : Option (ℕ × List ℕ)) × SearchGives file position given) ⊎ ((fault : Fault) × IsSearchFault file position fault)
 
 -- a chunk that is read and whose header counts records holds some
-pub holds_counted : (k : ChunkValue) → IsPlain k → 0 < k.num_records → HasRecords k
+pub holds_counted : (k : ChunkValue) → IsPlain k → 0 < k.num_records → IsSimpleChunk k
 holds_counted k (small, inl holds) some = holds
 holds_counted k (small, inr (inl (kind, rule))) some = absurd (omega (arith, some, (rule.signature refl).1))
 holds_counted k (small, inr (inr (inl (kind, rule)))) some = absurd (omega (arith, some, rule.metadata refl))

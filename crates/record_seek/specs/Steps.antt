@@ -10,8 +10,6 @@ use Rattle.chunk_reader.specs.Places.{header_at, end_at, chunk_at}
 use Rattle.chunk_reader.specs.Reasons.{Applies, NoneOf, unpassed_reasons, loading_reasons, strict_reasons}
 use Rattle.chunk_reader.specs.SearchBounds.{length_of_chunk, chunks_without_records, greatest_length_from}
 use Rattle.chunk_reader.specs.Searches.{HasRecordsAt, SearchComesTo, AnswersAt}
-use Rattle.chunk_reader.specs.declared.judging.What.{What}
-use Rattle.chunk_reader.specs.declared.judging.What.TheVariants as what
 use Rattle.chunk_reader.specs.declared.reasons.Fault.{Fault}
 use Rattle.record_seek.specs.Met.{HaveNoRecords}
 use Rattle.record_seek.specs.declared.chunk_records.Found.{Found}
@@ -28,12 +26,6 @@ pub record IsPassedAt (file : List ℕ) (place : ℕ) (chunk : Passed) : Type 0 
 abbrev pub IsAnswer : List ℕ → ℕ → Option ℕ → Type 0
 IsAnswer file position (Some place) = AnswersAt file position place
 IsAnswer file position None = SearchComesTo file position (length file)
-
--- the records that a chunk was found to hold: none where it isn't a chunk of records
-abbrev pub records_found : What → List (List ℕ)
-records_found (what.Records records) = records
-records_found what.Passive = []
-records_found what.Unread = []
 
 -- a chunk between boundaries, the positions of whose records are numbers of 64 bits, and each of whose records is no longer than
 -- a chunk's data may be
@@ -56,8 +48,8 @@ IsNumbered records begin number (Some found) = (slice_get records number ≡ Som
 IsNumbered records begin number None = length records ≤ number
 
 -- whether the first of records stands before: no where there is none
-abbrev pub IsFirstAsked : (Before : List ℕ → Type 0) → List (List ℕ) → Bool → Type 0
-IsFirstAsked Before records before =
+abbrev pub FirstStandsBefore : (Before : List ℕ → Type 0) → List (List ℕ) → Bool → Type 0
+FirstStandsBefore Before records before =
     ((bytes : List ℕ) × (slice_get records 0 ≡ Some bytes) × (IsTrue before ↔ Before bytes))
     ⊎ ((records ≡ []) × (before ≡ false))
 

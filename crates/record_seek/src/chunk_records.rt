@@ -1,12 +1,13 @@
 ghost use Rattle.std.specs.Prelude.{◌≡◌, ℕ, ◌+◌, ◌^◌, ◌<◌, ◌≤◌, false, Some, IfOk, IfSome, Err};
 ghost use Rattle.record_io.specs.Calls.{OnlyAsks};
 ghost use Rattle.block_layout.specs.Layout.{IsBoundary};
+ghost use Rattle.chunk_reader.specs.Contents.{records_given};
 ghost use Rattle.chunk_reader.specs.Faults.{IsVerdict};
 ghost use Rattle.chunk_reader.specs.Places.{end_at};
 ghost use Rattle.chunk_reader.specs.Reasons.{Applies, NoneOf, unpassed_reasons, loading_reasons};
 ghost use Rattle.chunk_reader.specs.declared.reasons.Fault.{Fault};
 ghost use Rattle.record_seek.specs.KeyTests.{IsKeyTest, StandsBefore};
-ghost use Rattle.record_seek.specs.Steps.{records_found, IsHeld, IsHeldAt, IsNumbered, IsFirstAsked, IsFirstNot};
+ghost use Rattle.record_seek.specs.Steps.{IsHeld, IsHeldAt, IsNumbered, FirstStandsBefore, IsFirstNot};
 
 use crate::key_tests::KeyTest;
 use chunk_reader::{ReadEnd, What, strict_at};
@@ -66,7 +67,7 @@ pub(crate) fn held_at<S: Store>(
 
 /// The records that a chunk was found to hold.
 fn records_found(alloc: Global, what: What) -> Records
-    ensures { result ≡ records_found what }
+    ensures { result ≡ records_given what }
 {
     match what {
         What::Records(records) => records,
@@ -98,7 +99,7 @@ pub(crate) fn record_of(
 pub(crate) fn first_before<F: Fn(&[u8]) -> bool + Drop>(held: &Held, test: &KeyTest<F>) -> bool
     requires held { IsHeld held.now }
     requires test { IsKeyTest F.Fn test.now.test }
-    ensures { IsFirstAsked (StandsBefore F.Fn test.now.test) held.now.records result }
+    ensures { FirstStandsBefore (StandsBefore F.Fn test.now.test) held.now.records result }
 {
     held.records.len() > 0 && test.before(held.records.get(0))
 }

@@ -15,7 +15,7 @@ use Rattle.show_damaged.specs.WalkAnswers.{walk_status}
 use Rattle.show_damaged.specs.RecoverCommand.{IsRecovered}
 use Rattle.show_files.specs.VerifyCommand.{IsVerified}
 use Rattle.riegeli_tool.specs.RepairCommand.{end_puts, IsRepaired}
-use Rattle.riegeli_tool.specs.CommandAnswers.{IsAnswerTo, meaning_of}
+use Rattle.riegeli_tool.specs.CommandAnswers.{IsAnswerTo, answers_once, meaning_of}
 use Rattle.run_answers.specs.Meanings.{Read}
 use Rattle.run_answers.proofs.OneAnswer.{one_of_file, same_answer}
 use Rattle.show_damaged.proofs.OneRecovery.{one_recovered}
@@ -38,7 +38,7 @@ one_repaired words file a b h g =
     (h.status ∙ ap (λ (es : List Piece). walk_status (regions_in (walked words.most es)) (refused_in words.most es)) same ∙ sym g.status)
 
 -- there is one answer at most, unless the command may have several
-pub one_answer : (command : Option Command) (r : Read) (a b : Answer) → (meaning_of command).one ≡ true → IsAnswerTo command r a → IsAnswerTo command r b → a ≡ b
+pub one_answer : (command : Option Command) (r : Read) (a b : Answer) → answers_once command ≡ true → IsAnswerTo command r a → IsAnswerTo command r b → a ≡ b
 one_answer None r a b one first second = first ∙ sym second
 one_answer (Some (Write words)) r a b one first second = first ∙ sym second
 one_answer (Some (Show words)) r a b one first second = one_of_file (IsShown words) (one_shown words) r.files a b first second

@@ -37,7 +37,7 @@ use Rattle.run_answers.specs.declared.ending.Ending.TheVariants as end
 
 pub repair_walks : (words : RepairWords) → IsWalking (repair_meaning words) (IsRepaired words) (IsRepairedSoFar words) words.most
 repair_walks words = record {
-  one = reads_file (IsRepaired words) (IsRepairedSoFar words) _ _ _ _ _ _ refl refl refl refl;
+  one = reads_file (IsRepaired words) (IsRepairedSoFar words) _ _ _ _ _ refl refl refl refl;
   may_end = λ sizes ended text may. may;
   may_say = λ text may. may;
 }

@@ -1,5 +1,5 @@
 -- What each command means: one line a command, and one for words that are none. Own.
-use Rattle.std.specs.Prelude.{◌≡◌, false, Option, Some, None}
+use Rattle.std.specs.Prelude.{◌≡◌, Bool, true, false, Option, Some, None}
 use Rattle.riegeli_tool.specs.declared.command.Command.{Command}
 use Rattle.riegeli_tool.specs.declared.command.Command.TheVariants.{Write, Show, Recover, Verify, Seek, Repair, Sample, Join, Ranges, Append, Collect}
 use Rattle.run_answers.specs.Answers.{Answer}
@@ -9,7 +9,7 @@ use Rattle.write_lines.specs.WriteCommand.{write_meaning}
 use Rattle.show_files.specs.ShowCommand.{show_meaning}
 use Rattle.show_damaged.specs.RecoverCommand.{recover_meaning}
 use Rattle.show_files.specs.VerifyCommand.{verify_meaning}
-use Rattle.show_found.specs.SeekCommand.{seek_meaning}
+use Rattle.show_found.specs.SeekCommand.{has_one_answer, seek_meaning}
 use Rattle.record_ranges.specs.RangesCommand.{ranges_meaning}
 use Rattle.riegeli_tool.specs.RepairCommand.{repair_meaning}
 use Rattle.sample_records.specs.SampleCommand.{sample_meaning}
@@ -38,6 +38,12 @@ meaning_of (Some (Join words)) = join_meaning
 meaning_of (Some (Ranges words)) = ranges_meaning
 meaning_of (Some (Append words)) = append_meaning words
 meaning_of (Some (Collect words)) = collect_meaning
+
+-- whether a command has one answer at most to what it reads: a search by key and a collection may have several
+abbrev pub answers_once : Option Command → Bool
+answers_once (Some (Seek words)) = has_one_answer words.by
+answers_once (Some (Collect words)) = false
+answers_once other = true
 
 -- an answer to a command, of what it reads
 abbrev pub IsAnswerTo : Option Command → Read → Answer → Type 0

@@ -22,7 +22,7 @@ ghost use Rattle.repair_copy.specs.Relaid.{chunks_in, relaid};
 ghost use Rattle.run_answers.specs.Answers.{Answer, line};
 ghost use Rattle.riegeli_tool.specs.Commands.{accepted};
 ghost use Rattle.run_answers.specs.Meanings.{Read};
-ghost use Rattle.riegeli_tool.specs.CommandAnswers.{IsAnswerTo, meaning_of};
+ghost use Rattle.riegeli_tool.specs.CommandAnswers.{IsAnswerTo, answers_once, meaning_of};
 ghost use Rattle.record_append.specs.Grown.{IsKeptTo, IsUnrefused};
 ghost use Rattle.run_answers.specs.FileAnswers.{OfFile, most_file_bytes, report};
 ghost use Rattle.show_files.specs.Readings.{bare, digits_alone, record_line};
@@ -55,10 +55,10 @@ ghost use Rattle.write_lines.specs.declared.write_words.WriteWords.{WriteWords};
 use record_writer::WriteOptions;
 use simple_chunk::Records;
 
-/// Words have one answer at most, of what is read, unless their command may have several. Own.
+/// Words have one answer at most, of what is read, unless they search by key or collect. Own.
 pub fn answers_are_one()
     ensures one { (words : List (List ℕ)) (r : Read) (a b : Answer)
-        → (meaning_of (accepted words (length r.files))).one ≡ true
+        → answers_once (accepted words (length r.files)) ≡ true
         → IsAnswerTo (accepted words (length r.files)) r a → IsAnswerTo (accepted words (length r.files)) r b → a ≡ b }
 {}
 

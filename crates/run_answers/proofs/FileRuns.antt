@@ -1,5 +1,5 @@
 -- What a run of a command that reads one file follows from, and what it keeps.
-use Rattle.std.proofs.Common.{◌≡◌, ◌∙◌, ◌+◌, ℕ, zero, suc, ◌≤◌, Bool, true, false, Option, Some, None, List, [], ◌∷◌, length, slice_get, drop, map, refl, sym, ap, subst, inl, inr, arith, IfSome, IsSomeAnd}
+use Rattle.std.proofs.Common.{◌≡◌, ◌∙◌, ◌+◌, ℕ, zero, suc, ◌≤◌, true, false, Option, Some, None, List, [], ◌∷◌, length, slice_get, drop, map, refl, sym, ap, subst, inl, inr, arith, IfSome, IsSomeAnd}
 use Rattle.std.specs.List.{AllByRecursion}
 use Rattle.std.proofs.lemmas.Option.{MatchOption-at_some}
 use Rattle.record_values.specs.Bytes.{AreBytes}
@@ -26,19 +26,18 @@ pub record ReadsFile (m : Meaning) (P : List ℕ → Answer → Type 0) (Q : (be
   pub may_work : (sizes : List ℕ) → IsInReach sizes → m.may_work sizes
 
 -- so of one whose meaning is that, whatever else it means
-pub reads_file : (P : List ℕ → Answer → Type 0) (Q : (before after : ℕ) → List ℕ → List Put → Type 0) (uses : Uses) (one : Bool)
+pub reads_file : (P : List ℕ → Answer → Type 0) (Q : (before after : ℕ) → List ℕ → List Put → Type 0) (uses : Uses)
     (may_take : List ℕ → List ℕ → List ℕ → Type 0) (may_take_of : Read → List ℕ → List ℕ → Type 0)
     (may_end : List ℕ → Status → List ℕ → Type 0) (may_say : List ℕ → Type 0)
     → uses.input ≡ false → uses.files ≡ true → uses.grown ≡ false → uses.out ≡ true
     → ReadsFile (record (file_meaning P Q) {
       uses = uses;
-      one = one;
       may_take = may_take;
       may_take_of = may_take_of;
       may_end = may_end;
       may_say = may_say;
     }) P Q
-reads_file P Q uses one may_take may_take_of may_end may_say input files grown out = record {
+reads_file P Q uses may_take may_take_of may_end may_say input files grown out = record {
   command = refl;
   input = input;
   files = files;

@@ -1,5 +1,5 @@
 -- How a run of a command ends that reads several files, by how its work ended.
-use Rattle.std.proofs.Common.{◌≡◌, ◌≢◌, ◌∙◌, ℕ, ◌+◌, ◌<◌, ◌≤◌, ◌⊎◌, Bool, true, false, Option, Some, None, Result, Ok, Err, List, [], ◌∷◌, length, map, drop, refl, sym, ap, subst, append-nil, arith, IfSome}
+use Rattle.std.proofs.Common.{◌≡◌, ◌≢◌, ◌∙◌, ℕ, ◌+◌, ◌<◌, ◌≤◌, ◌⊎◌, true, false, Option, Some, None, Result, Ok, Err, List, [], ◌∷◌, length, map, drop, refl, sym, ap, subst, append-nil, arith, IfSome}
 use Rattle.std.specs.Prelude.{slice_get}
 use Rattle.std.specs.List.{AllByRecursion}
 use Rattle.std.proofs.lemmas.Simd.{map-map}
@@ -40,18 +40,17 @@ pub record ReadsFiles (m : Meaning) (S : List (List ℕ) → Type 0) (P : List (
   pub says_nothing : (text : List ℕ) → m.may_say text → text ≡ []
 
 -- so of one whose meaning is that
-pub reads_files : (uses : Uses) (one : Bool) (S : List (List ℕ) → Type 0) (P : List (List ℕ) → Answer → Type 0) (Q : List (List ℕ) → List Put → Type 0)
+pub reads_files : (uses : Uses) (S : List (List ℕ) → Type 0) (P : List (List ℕ) → Answer → Type 0) (Q : List (List ℕ) → List Put → Type 0)
     (may_work : List ℕ → Type 0) (may_take : List ℕ → List ℕ → List ℕ → Type 0) (may_end : List ℕ → Status → List ℕ → Type 0)
     → uses.input ≡ false → uses.files ≡ true → uses.grown ≡ false
     → ReadsFiles (record (meaning uses (λ r answer. P r.files answer)) {
-      one = one;
       supposes = λ r. S r.files;
       may_have_put = λ r before after part. Q r.files part;
       may_work = may_work;
       may_take = may_take;
       may_end = may_end;
     }) S P Q
-reads_files uses one S P Q may_work may_take may_end input files grown = record {
+reads_files uses S P Q may_work may_take may_end input files grown = record {
   command = refl;
   input = input;
   files = files;

@@ -1,5 +1,5 @@
 -- What a command means: what it uses, answers, and may put and say. Own.
-use Rattle.std.specs.Prelude.{◌≡◌, ℕ, Bool, true, false, List, []}
+use Rattle.std.specs.Prelude.{◌≡◌, ℕ, Bool, true, List, []}
 use Rattle.record_io.specs.Puts.{Put}
 use Rattle.run_answers.specs.declared.status.Status.{Status}
 use Rattle.run_answers.specs.Answers.{Answer}
@@ -33,8 +33,6 @@ pub record Meaning : Type 1 where
   pub is_command : Bool
   -- what it uses
   pub uses : Uses
-  -- whether it has one answer at most to what it reads
-  pub one : Bool
   -- what is supposed of what it reads, as that all stores of one file tell the same bytes, once their sizes let it go on to its
   -- work
   pub supposes : Read → Type 0
@@ -60,13 +58,12 @@ pub record Meaning : Type 1 where
   -- the most bytes that it takes of the input
   pub most_taken : ℕ
 
--- a command that uses these and has one answer: it supposes nothing, reads and grows no file, says nothing before its end, and takes
--- nothing of the input
+-- a command that uses these: it supposes nothing, reads and grows no file, says nothing before its end, and takes nothing of the
+-- input
 abbrev pub meaning : Uses → (Read → Answer → Type 0) → Meaning
 meaning uses answers = record {
   is_command = true;
   uses = uses;
-  one = true;
   supposes = λ r. Unit {0};
   answers = answers;
   may_have_put = λ r before after part. part ≡ [];

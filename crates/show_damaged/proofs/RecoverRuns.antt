@@ -24,7 +24,7 @@ use Rattle.damage_skip.specs.declared.events.WalkEnd.TheVariants as walk
 
 pub recover_walks : (words : RecoverWords) → IsWalking (recover_meaning words) (IsRecovered words) (IsRecoveredSoFar words) words.most
 recover_walks words = record {
-  one = reads_file (IsRecovered words) (IsRecoveredSoFar words) _ _ _ _ _ _ refl refl refl refl;
+  one = reads_file (IsRecovered words) (IsRecoveredSoFar words) _ _ _ _ _ refl refl refl refl;
   may_end = λ sizes ended text may. may;
   may_say = λ text may. may;
 }

@@ -56,12 +56,12 @@ strict_reads m P Q one may_end unmade says_nothing may_say = record {
 pub show_reads : (words : ShowWords) → IsReading {X = Unit {0}} (show_meaning words) reading_ends (IsShown words) (IsShownSoFar words)
 show_reads words =
     strict_reads (show_meaning words) (IsShown words) (IsShownSoFar words)
-    (reads_file (IsShown words) (IsShownSoFar words) _ _ _ _ _ _ refl refl refl refl) (λ sizes ended text may. may) refl (λ text is. is) refl
+    (reads_file (IsShown words) (IsShownSoFar words) _ _ _ _ _ refl refl refl refl) (λ sizes ended text may. may) refl (λ text is. is) refl
 
 pub verify_reads : IsReading {X = Unit {0}} verify_meaning reading_ends IsVerified IsVerifiedSoFar
 verify_reads =
     strict_reads verify_meaning IsVerified IsVerifiedSoFar
-    (reads_file IsVerified IsVerifiedSoFar _ _ _ _ _ _ refl refl refl refl) (λ sizes ended text may. may) refl (λ text is. is) refl
+    (reads_file IsVerified IsVerifiedSoFar _ _ _ _ _ refl refl refl refl) (λ sizes ended text may. may) refl (λ text is. is) refl
 
 module _ {X W : Type 0} {ends : Endings X W} (m : Meaning) (P : List ℕ → Answer → Type 0) (Q : (before after : ℕ) → List ℕ → List Put → Type 0) (reads : IsReading m ends P Q)
     (input made : SeenStream) (file file_then grown : SeenFile) (out out_then notes notes_then : SeenStream)

@@ -22,7 +22,7 @@ use Rattle.chunk_reader.specs.Progress.{AreReadFrom, ReaderValue}
 use Rattle.chunk_reader.specs.Readers.{ReadsIn, ReadsOn}
 use Rattle.chunk_reader.specs.ReadBounds.{MayBeReadTo}
 use Rattle.chunk_reader.proofs.Rooms.{IsSized}
-use Rattle.chunk_reader.specs.Contents.{IsWhat, IsJudged}
+use Rattle.chunk_reader.specs.Contents.{IsWhat, records_given, IsJudged}
 use Rattle.chunk_reader.specs.declared.judging.What.{What}
 use Rattle.chunk_reader.specs.declared.judging.What.TheVariants.{Records, Passive, Unread}
 use Rattle.chunk_reader.specs.Faults.{IsAllowed, IsFault}
@@ -38,7 +38,7 @@ use Rattle.run_answers.specs.FileAnswers.{most_file_bytes, OfFile}
 use Rattle.show_files.specs.ShowCommand.{IsShown, IsShownSoFar}
 use Rattle.run_answers.specs.Endings.{HasPutEarly, HasPutAtEnd}
 use Rattle.run_answers.specs.PutSoFar.{HasPut, HasPutSoFar, HasPutFront, HasBrokenOff}
-use Rattle.show_files.specs.ShowProgress.{record_lines, records_given, IsTextOf, IsPrinted, PrintsOn}
+use Rattle.show_files.specs.ShowProgress.{record_lines, IsTextOf, IsPrinted, PrintsOn}
 use Rattle.run_answers.proofs.RunEnds.{PutsLines-none}
 use Rattle.run_answers.proofs.FileEnds.{some-answer}
 use Rattle.show_files.proofs.ReadingsExist.{shown_exists}

@@ -6,8 +6,6 @@ use Rattle.record_values.specs.declared.file_totals.Totals.{Totals}
 use Rattle.chunk_header.specs.Chunks.{ChunkValue}
 use Rattle.meta_chunk.specs.Counts.{totals_of}
 use Rattle.meta_chunk.specs.Files.{IsPlain, IsChainOf, ArePlaced}
-use Rattle.chunk_reader.specs.declared.judging.What.{What}
-use Rattle.chunk_reader.specs.declared.judging.What.TheVariants.{Records}
 use Rattle.chunk_reader.specs.declared.reasons.Fault.{Fault}
 use Rattle.run_answers.specs.declared.ending.Ending.{Ending}
 use Rattle.run_answers.specs.Endings.{HasPutAtEnd}
@@ -20,11 +18,6 @@ use Rattle.show_files.specs.ShowCommand.{IsShown}
 -- the lines of records with their positions
 abbrev pub record_lines : RecordForm → List (ℕ × List ℕ) → List ℕ
 record_lines form placed = flat_map (record_line form) placed
-
--- the records of a chunk that was read, of which there are none where it is none of records
-abbrev pub records_given : What → List (List ℕ)
-records_given (Records records) = records
-records_given other = []
 
 -- the text is the lines of the records of the chunks at a file's front, of which these are the totals
 pub record IsTextOf (words : ShowWords) (file : List ℕ) (totals : Totals) (text : List ℕ) : Type 0 where

@@ -11,7 +11,7 @@ use Rattle.show_found.specs.declared.seek_words.SeekWords.{SeekWords}
 use Rattle.run_answers.specs.declared.status.Status.TheVariants as status
 
 seek_reads_file : (words : SeekWords) → ReadsFile (seek_meaning words) (IsSeekAnswer words) IsSeekSoFar
-seek_reads_file words = reads_file (IsSeekAnswer words) IsSeekSoFar _ _ _ _ _ _ refl refl refl refl
+seek_reads_file words = reads_file (IsSeekAnswer words) IsSeekSoFar _ _ _ _ _ refl refl refl refl
 
 -- how it ends where no record was found
 unfound_whole : (words : SeekWords) (why : Unfound) → EndsWhole (seek_meaning words) (unfound_status why)

@@ -64,7 +64,6 @@ MayEndSeek sizes ended text =
 -- what `seek` means
 abbrev pub seek_meaning : SeekWords → Meaning
 seek_meaning words = record (file_meaning (IsSeekAnswer words) IsSeekSoFar) {
-  one = has_one_answer words.by;
   may_take = MayTakeBySize words.by;
   may_take_of = λ r before after. MayTakeOf words.by r.files before after;
   may_end = MayEndSeek;

@@ -6,7 +6,7 @@ use Rattle.std.proofs.Math.Seq.{take-append-add, take-nil}
 use Rattle.varint_wire.specs.Varint.{Spells}
 use Rattle.varint_wire.specs.Reading.{IsCut, IsLong}
 use Rattle.varint_wire.proofs.Faults.{cut_has_no_spelling, long_begins_none}
-use Rattle.chunk_header.specs.SimpleChunks.{HasRecords, IsCompressed}
+use Rattle.chunk_header.specs.SimpleChunks.{IsSimpleChunk, IsCompressed}
 use Rattle.chunk_header.specs.Views.{value_of}
 use Rattle.chunk_header.specs.declared.Header.{Header}
 use Rattle.simple_chunk.specs.Sizes.{AreParts, IsSplit}
@@ -14,7 +14,7 @@ use Rattle.simple_chunk.specs.SizesLeft.{AreLeft}
 use Rattle.simple_chunk.specs.Checkers.{CheckerValue, chunk_of, CompletesAt, Completes, CompressesAt, Compresses, HasChecked, Follows, IsBehindFront, IsBehindSizes}
 use Rattle.simple_chunk.specs.declared.checker.Stage.{Stage}
 use Rattle.simple_chunk.specs.declared.checker.Stage.TheVariants.{Front, SizesLen, Sizes, Compressed, Wrong}
-use Rattle.simple_chunk.proofs.PartLemmas.{Parts-split, Holding-HasRecords, HasRecords-parts, HasRecords-long, none-unparted, parts_at}
+use Rattle.simple_chunk.proofs.PartLemmas.{Parts-split, Holding-IsSimpleChunk, IsSimpleChunk-parts, IsSimpleChunk-long, none-unparted, parts_at}
 
 -- what holds of a stage's rule holds of the checker that is there
 at_stage : (c : CheckerValue) (stage : Stage) (rest : List ℕ) → c.stage ≡ stage
@@ -75,7 +75,7 @@ HasChecked-more a b h bytes more checked f = record {
 
 -- a varint that is too long has no sizes behind it
 len_none : (c : CheckerValue) (bytes : List ℕ) → ((v : ℕ) (front rest : List ℕ) → Spells v front → bytes ≡ front ++ rest → ⊥)
-    → ¬ HasRecords (chunk_of c (0 ∷ bytes))
+    → ¬ IsSimpleChunk (chunk_of c (0 ∷ bytes))
 len_none c bytes refuses =
     none-unparted (chunk_of c (0 ∷ bytes)) (λ sizes values p.
     let split = Parts-split 0 bytes (0 ∷ bytes) sizes values refl p in refuses _ split.front _ split.spells split.joined)
@@ -108,8 +108,8 @@ taken_len a b byte len from to left s fits size is sizes =
     let p = behind_len a byte len rest s (omega arith) in
     let whole : length (drop len rest) ≡ a.decoded_size = omega (arith, length-drop len rest) in
     rw (sizes, is) (
-      λ h. (Holding-HasRecords k (take len rest) (drop len rest) p h).sizes_are,
-      λ h. HasRecords-parts k (take len rest) (drop len rest) refl p whole h,
+      λ h. (Holding-IsSimpleChunk k (take len rest) (drop len rest) p h).sizes_are,
+      λ h. IsSimpleChunk-parts k (take len rest) (drop len rest) refl p whole h,
     ))
     (λ rest _. (λ h. h, λ h. h))
 
@@ -123,9 +123,9 @@ taken_other a b byte len from to left s other =
     let split : IsSplit len rest (a.held ++ (byte ∷ rest)) =
     record { front = a.held ++ byte ∷ []; spells = s; joined = sym (append_assoc a.held (byte ∷ []) rest) } in (
       λ h.
-          let long : len ≤ length rest = HasRecords-long k len rest (a.held ++ (byte ∷ rest)) refl split h in
+          let long : len ≤ length rest = IsSimpleChunk-long k len rest (a.held ++ (byte ∷ rest)) refl split h in
           let p = behind_len a byte len rest s long in
-          let size = (Holding-HasRecords k (take len rest) (drop len rest) p h).size in
+          let size = (Holding-IsSimpleChunk k (take len rest) (drop len rest) p h).size in
           other (omega arith, omega (arith, length-drop len rest)),
       λ h. absurd h,
     ))
@@ -198,7 +198,7 @@ fed a b c h bytes piece behind values n m left front behind_is sizes values_are 
 
 -- at the end nothing follows
 pub record Ended (c : CheckerValue) (h : Header) (bytes : List ℕ) (s : Stage) : Type 0 where
-  pub holds : HasRecords (value_of h bytes) ↔ CompletesAt s c []
+  pub holds : IsSimpleChunk (value_of h bytes) ↔ CompletesAt s c []
   pub compressed : IsCompressed (value_of h bytes) ↔ CompressesAt s c []
 
 pub Ended-at : (c : CheckerValue) (h : Header) (bytes : List ℕ) (s : Stage) → c.left ≡ 0 → c.stage ≡ s → HasChecked c h bytes → Ended c h bytes s
@@ -208,7 +208,7 @@ Ended-at c h bytes s none is checked =
     let compressed = checked.compressed [] (sym none) in
     let at = at_stage c s [] is in
     record {
-      holds = subst (λ (xs : List ℕ). HasRecords (value_of h xs) ↔ CompletesAt s c []) whole
+      holds = subst (λ (xs : List ℕ). IsSimpleChunk (value_of h xs) ↔ CompletesAt s c []) whole
           (λ x. at.0.0 (holds.0 x), λ x. holds.1 (at.0.1 x));
       compressed = subst (λ (xs : List ℕ). IsCompressed (value_of h xs) ↔ CompressesAt s c []) whole
           (λ x. at.1.0 (compressed.0 x), λ x. compressed.1 (at.1.1 x));
@@ -216,14 +216,14 @@ Ended-at c h bytes s none is checked =
 
 -- where the sizes were reached, records stand in the data exactly where none is still to come
 pub Ended-sizes : (c : CheckerValue) (h : Header) (bytes : List ℕ) → c.left ≡ 0 → c.stage ≡ Sizes → HasChecked c h bytes
-    → (HasRecords (value_of h bytes) ↔ AreLeft c.sizes []) × (¬ IsCompressed (value_of h bytes))
+    → (IsSimpleChunk (value_of h bytes) ↔ AreLeft c.sizes []) × (¬ IsCompressed (value_of h bytes))
 Ended-sizes c h bytes none is checked =
     let end = Ended-at c h bytes Sizes none is checked in
     let nothing : take {A = ℕ} c.size_bytes [] ≡ [] = take-nil c.size_bytes in
     (rw nothing at end.holds, end.compressed.0)
 
 pub Ended-compressed : (c : CheckerValue) (h : Header) (bytes : List ℕ) → c.left ≡ 0 → c.stage ≡ Compressed → HasChecked c h bytes
-    → (¬ HasRecords (value_of h bytes)) × IsCompressed (value_of h bytes)
+    → (¬ IsSimpleChunk (value_of h bytes)) × IsCompressed (value_of h bytes)
 Ended-compressed c h bytes none is checked =
     let end = Ended-at c h bytes Compressed none is checked in
     (end.holds.0, end.compressed.1 tt)
@@ -243,7 +243,7 @@ unread_at c Compressed other compressed cut = absurd (compressed refl)
 unread_at c Wrong other compressed cut = (λ h. h, λ h. h)
 
 pub Ended-unread : (c : CheckerValue) (h : Header) (bytes : List ℕ) → c.left ≡ 0 → c.stage ≢ Sizes → c.stage ≢ Compressed → IsCut c.held
-    → HasChecked c h bytes → (¬ HasRecords (value_of h bytes)) × (¬ IsCompressed (value_of h bytes))
+    → HasChecked c h bytes → (¬ IsSimpleChunk (value_of h bytes)) × (¬ IsCompressed (value_of h bytes))
 Ended-unread c h bytes none other compressed cut checked =
     let end = Ended-at c h bytes c.stage none refl checked in
     let unread = unread_at c c.stage other compressed cut in

@@ -7,7 +7,7 @@ use Rattle.std.proofs.lemmas.List.Sums.{sum_by-cons}
 use Rattle.varint_wire.specs.Varint.{Spells, SpellsEach}
 use Rattle.varint_wire.proofs.Spellings.{spelling_is_one}
 use Rattle.chunk_header.specs.Chunks.{ChunkValue}
-use Rattle.chunk_header.specs.SimpleChunks.{simple_kind, IsSimple, HasRecords}
+use Rattle.chunk_header.specs.SimpleChunks.{simple_kind, IsSimple, IsSimpleChunk}
 use Rattle.chunk_header.proofs.SimpleChunks.{sum-map-length}
 use Rattle.simple_chunk.proofs.RecordLists.{AreEnds-le, length-records_from, concat-records_from}
 use Rattle.simple_chunk.specs.Records.{records_from, AreEnds, sizes_between}
@@ -66,8 +66,8 @@ pub record Holding (k : ChunkValue) (sizes values : List ℕ) : Type 0 where
   pub size : k.decoded_size ≡ length values
   pub sizes_are : AreSizes k.num_records k.decoded_size sizes
 
-pub Holding-HasRecords : (k : ChunkValue) (sizes values : List ℕ) → AreParts k.«data» sizes values → HasRecords k → Holding k sizes values
-Holding-HasRecords k sizes values p (records, is) =
+pub Holding-IsSimpleChunk : (k : ChunkValue) (sizes values : List ℕ) → AreParts k.«data» sizes values → IsSimpleChunk k → Holding k sizes values
+Holding-IsSimpleChunk k sizes values p (records, is) =
     let one = parts_are_one k.«data» is.sizes (concat records) sizes values (simple_parts k records is) p in
     record {
       size = is.decoded_size ∙ sum-map-length records ∙ ap length one.1;
@@ -80,7 +80,7 @@ Holding-HasRecords k sizes values p (records, is) =
     }
 
 -- data without such parts has no records
-pub none-unparted : (k : ChunkValue) → ((sizes values : List ℕ) → ¬ AreParts k.«data» sizes values) → ¬ HasRecords k
+pub none-unparted : (k : ChunkValue) → ((sizes values : List ℕ) → ¬ AreParts k.«data» sizes values) → ¬ IsSimpleChunk k
 none-unparted k unparted = λ (records, is). unparted is.sizes (concat records) (simple_parts k records is)
 
 -- the values stand behind all else
@@ -92,12 +92,12 @@ values-behind bytes sizes values p =
     ap (drop begin) joined ∙ drop_at front values begin (omega (arith, ap length joined, length-append front values))
 
 -- data of such parts has no records where the values are not as many as the header says, or the sizes are not
-pub none-sized : (k : ChunkValue) (sizes values : List ℕ) → AreParts k.«data» sizes values → length values ≢ k.decoded_size → ¬ HasRecords k
-none-sized k sizes values p other = λ h. other (sym (Holding-HasRecords k sizes values p h).size)
+pub none-sized : (k : ChunkValue) (sizes values : List ℕ) → AreParts k.«data» sizes values → length values ≢ k.decoded_size → ¬ IsSimpleChunk k
+none-sized k sizes values p other = λ h. other (sym (Holding-IsSimpleChunk k sizes values p h).size)
 
 pub none-spelled : (k : ChunkValue) (sizes values : List ℕ) → AreParts k.«data» sizes values → length values ≡ k.decoded_size
-    → ¬ AreSizes k.num_records (length values) sizes → ¬ HasRecords k
-none-spelled k sizes values p whole other = λ h. other (rw whole (Holding-HasRecords k sizes values p h).sizes_are)
+    → ¬ AreSizes k.num_records (length values) sizes → ¬ IsSimpleChunk k
+none-spelled k sizes values p whole other = λ h. other (rw whole (Holding-IsSimpleChunk k sizes values p h).sizes_are)
 
 -- so many bytes lie between the begin and the end of each record
 map-length-records_from : (begin : ℕ) (ends values : List ℕ) → AreEnds begin ends (length values)
@@ -150,9 +150,9 @@ sizes_between-ends_of begin (size ∷ sizes) =
     cc (first, sizes_between-ends_of (begin + size) sizes)
 
 -- so records stand in data of such parts exactly where they hold these sizes and values
-pub HasRecords-parts : (k : ChunkValue) (sizes values : List ℕ) → k.kind ≡ simple_kind → AreParts k.«data» sizes values
-    → length values ≡ k.decoded_size → AreSizes k.num_records k.decoded_size sizes → HasRecords k
-HasRecords-parts k sizes values kind p whole h =
+pub IsSimpleChunk-parts : (k : ChunkValue) (sizes values : List ℕ) → k.kind ≡ simple_kind → AreParts k.«data» sizes values
+    → length values ≡ k.decoded_size → AreSizes k.num_records k.decoded_size sizes → IsSimpleChunk k
+IsSimpleChunk-parts k sizes values kind p whole h =
     let ends : List ℕ = ends_of 0 h.sizes in (
       records_from 0 ends values,
       IsSimple-ends k sizes values ends kind p whole
@@ -162,6 +162,6 @@ HasRecords-parts k sizes values kind p whole h =
     )
 
 -- and behind a spelling of how many bytes the sizes take there are as many
-pub HasRecords-long : (k : ChunkValue) (len : ℕ) (behind rest : List ℕ) → k.«data» ≡ 0 ∷ rest → IsSplit len behind rest → HasRecords k → len ≤ length behind
-HasRecords-long k len behind rest is split (records, simple) =
+pub IsSimpleChunk-long : (k : ChunkValue) (len : ℕ) (behind rest : List ℕ) → k.«data» ≡ 0 ∷ rest → IsSplit len behind rest → IsSimpleChunk k → len ≤ length behind
+IsSimpleChunk-long k len behind rest is split (records, simple) =
     Parts-long 0 len behind rest k.«data» simple.sizes (concat records) is split (simple_parts k records simple)

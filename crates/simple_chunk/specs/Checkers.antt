@@ -1,7 +1,7 @@
 -- What a checker of a simple chunk has taken of the chunk's data. Own.
 use Rattle.std.specs.Prelude.{◌≡◌, ℕ, ◌+◌, ◌↔◌, List, ◌∷◌, ◌++◌, length, take}
 use Rattle.chunk_header.specs.Chunks.{ChunkValue}
-use Rattle.chunk_header.specs.SimpleChunks.{simple_kind, HasRecords, IsCompressed}
+use Rattle.chunk_header.specs.SimpleChunks.{simple_kind, IsSimpleChunk, IsCompressed}
 use Rattle.chunk_header.specs.Views.{value_of}
 use Rattle.chunk_header.specs.declared.Header.{Header}
 use Rattle.simple_chunk.specs.SizesLeft.{SizesValue, AreLeft}
@@ -30,8 +30,8 @@ chunk_of c bytes = record {
 
 -- with these bytes behind what the checker took, records stand in the data
 abbrev pub CompletesAt : Stage → CheckerValue → List ℕ → Type 0
-CompletesAt Front c rest = HasRecords (chunk_of c rest)
-CompletesAt SizesLen c rest = HasRecords (chunk_of c (0 ∷ c.held ++ rest))
+CompletesAt Front c rest = IsSimpleChunk (chunk_of c rest)
+CompletesAt SizesLen c rest = IsSimpleChunk (chunk_of c (0 ∷ c.held ++ rest))
 CompletesAt Sizes c rest = AreLeft c.sizes (take c.size_bytes rest)
 CompletesAt Compressed c rest = ⊥
 CompletesAt Wrong c rest = ⊥
@@ -54,7 +54,7 @@ Compresses c rest = CompressesAt c.stage c rest
 -- knows of them what makes the data one of records, or compressed
 pub record HasChecked (c : CheckerValue) (h : Header) (bytes : List ℕ) : Type 0 where
   pub left : length bytes + c.left ≡ h.data_size
-  pub holds : (rest : List ℕ) → length rest ≡ c.left → HasRecords (value_of h (bytes ++ rest)) ↔ Completes c rest
+  pub holds : (rest : List ℕ) → length rest ≡ c.left → IsSimpleChunk (value_of h (bytes ++ rest)) ↔ Completes c rest
   pub compressed : (rest : List ℕ) → length rest ≡ c.left → IsCompressed (value_of h (bytes ++ rest)) ↔ Compresses c rest
 
 -- a checker has taken these bytes since it was the old one

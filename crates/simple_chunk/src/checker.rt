@@ -1,5 +1,5 @@
 ghost use Rattle.std.specs.Prelude.{◌≡◌, ◌≢◌, ◌↔◌, ℕ, ◌-◌, ◌<◌, ◌≤◌, List, [], ◌∷◌, ◌++◌, length, take, IsOk};
-ghost use Rattle.chunk_header.specs.SimpleChunks.{simple_kind, HasRecords, IsCompressed};
+ghost use Rattle.chunk_header.specs.SimpleChunks.{simple_kind, IsSimpleChunk, IsCompressed};
 ghost use Rattle.chunk_header.specs.Views.{value_of};
 ghost use Rattle.chunk_header.specs.declared.Header.{Header};
 ghost use Rattle.simple_chunk.specs.Checkers.{HasChecked, Follows, IsBehindFront, IsBehindSizes};
@@ -103,12 +103,12 @@ impl Checker {
     pub fn finish(self) -> Result<(), SimpleFault>
         requires { self.left ≡ 0 }
         ensures holds { (header : Header) (bytes : List ℕ) → HasChecked self header bytes
-            → IsOk result ↔ HasRecords (value_of header bytes) }
+            → IsOk result ↔ IsSimpleChunk (value_of header bytes) }
         ensures compressed { (header : Header) (bytes : List ℕ) → HasChecked self header bytes
             → (result ≡ Err SimpleFault.Compressed) ↔ IsCompressed (value_of header bytes) }
         ensures contents { (header : Header) (bytes : List ℕ) → HasChecked self header bytes
             → (result ≡ Err SimpleFault.Contents)
-            ↔ ((¬ IsCompressed (value_of header bytes)) × (¬ HasRecords (value_of header bytes))) }
+            ↔ ((¬ IsCompressed (value_of header bytes)) × (¬ IsSimpleChunk (value_of header bytes))) }
         ensures no_memory { result ≢ Err SimpleFault.Memory }
     {
         match self.stage {

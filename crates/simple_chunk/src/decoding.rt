@@ -1,6 +1,6 @@
 ghost use Rattle.std.specs.Prelude.{◌≡◌, ◌≢◌, ◌↔◌, ℕ, ◌<◌, ◌≤◌, List, length, drop, slice_index, IfOk, IsNone, IfSome, IsTrue, IsOkUnless};
 ghost use Rattle.varint_wire.specs.Varint.{SpellsEach};
-ghost use Rattle.chunk_header.specs.SimpleChunks.{simple_kind, IsSimple, HasRecords, IsCompressed};
+ghost use Rattle.chunk_header.specs.SimpleChunks.{simple_kind, IsSimple, IsSimpleChunk, IsCompressed};
 ghost use Rattle.chunk_header.specs.Views.{value_of, value_of_chunk};
 ghost use Rattle.simple_chunk.specs.Records.{records_from, AreEnds, sizes_between};
 ghost use Rattle.simple_chunk.specs.Sizes.{AreParts, AreSizes, IsSplit};
@@ -46,8 +46,8 @@ pub fn decode(alloc: Global, header: &Header, bytes: &[u8]) -> Result<Records, S
     ensures holds { IfOk result (λ records. IsSimple (value_of header.now bytes.now) records) }
     ensures compressed { (result ≡ Err SimpleFault.Compressed) ↔ IsCompressed (value_of header.now bytes.now) }
     ensures contents { result ≡ Err SimpleFault.Contents
-        → (¬ IsCompressed (value_of header.now bytes.now)) × (¬ HasRecords (value_of header.now bytes.now)) }
-    ensures accepted { HasRecords (value_of header.now bytes.now) → IsOkUnless result SimpleFault.Memory }
+        → (¬ IsCompressed (value_of header.now bytes.now)) × (¬ IsSimpleChunk (value_of header.now bytes.now)) }
+    ensures accepted { IsSimpleChunk (value_of header.now bytes.now) → IsOkUnless result SimpleFault.Memory }
 {
     let (begin, ends) = find_records(alloc, header, bytes)?;
     let values = bytes[begin..].to_vec(alloc)?;
@@ -64,8 +64,8 @@ pub fn decode_chunk(alloc: Global, chunk: &Chunk) -> Result<Records, SimpleFault
     ensures holds { IfOk result (λ records. IsSimple (value_of_chunk chunk.now) records) }
     ensures compressed { (result ≡ Err SimpleFault.Compressed) ↔ IsCompressed (value_of_chunk chunk.now) }
     ensures contents { result ≡ Err SimpleFault.Contents
-        → (¬ IsCompressed (value_of_chunk chunk.now)) × (¬ HasRecords (value_of_chunk chunk.now)) }
-    ensures accepted { HasRecords (value_of_chunk chunk.now) → IsOkUnless result SimpleFault.Memory }
+        → (¬ IsCompressed (value_of_chunk chunk.now)) × (¬ IsSimpleChunk (value_of_chunk chunk.now)) }
+    ensures accepted { IsSimpleChunk (value_of_chunk chunk.now) → IsOkUnless result SimpleFault.Memory }
 {
     let (begin, ends) = find_records(alloc, &chunk.header, chunk.bytes.as_slice())?;
     let values = chunk.bytes.part(begin..chunk.bytes.len())?;
@@ -85,8 +85,8 @@ fn find_records(
         IsSimple (value_of header.now bytes.now) (records_from 0 found.1.items (drop found.0 bytes.now))) }
     ensures compressed { (result ≡ Err SimpleFault.Compressed) ↔ IsCompressed (value_of header.now bytes.now) }
     ensures contents { result ≡ Err SimpleFault.Contents
-        → (¬ IsCompressed (value_of header.now bytes.now)) × (¬ HasRecords (value_of header.now bytes.now)) }
-    ensures accepted { HasRecords (value_of header.now bytes.now) → IsOkUnless result SimpleFault.Memory }
+        → (¬ IsCompressed (value_of header.now bytes.now)) × (¬ IsSimpleChunk (value_of header.now bytes.now)) }
+    ensures accepted { IsSimpleChunk (value_of header.now bytes.now) → IsOkUnless result SimpleFault.Memory }
 {
     if is_compressed(bytes) {
         return Err(SimpleFault::Compressed);

@@ -1,5 +1,5 @@
 use Rattle.std.proofs.Common.{inl, inr, rules}
-use Rattle.chunk_header.specs.SimpleChunks.{HasRecords, IsCompressed}
+use Rattle.chunk_header.specs.SimpleChunks.{IsSimpleChunk, IsCompressed}
 use Rattle.chunk_header.specs.Views.{value_of}
 use Rattle.chunk_reader.proofs.BadContents.{bad_simple}
 use Rattle.chunk_reader.proofs.VerifySteps.{tells_plain, tells_unread, tells_contents}
@@ -8,7 +8,7 @@ use Rattle.chunk_reader.proofs.piece_judge.simple_unread.Goals as goal
 pub returns-in-Ok : goal.returns-in-Ok
 returns-in-Ok c =
     λ header bytes checked kind small right.
-    let has : HasRecords (value_of header bytes) = (c.finish.ensures.holds header bytes checked).0 (search rules) in
+    let has : IsSimpleChunk (value_of header bytes) = (c.finish.ensures.holds header bytes checked).0 (search rules) in
     tells_plain header.data_hash (value_of header bytes) right (small, inl has)
 
 pub returns-in-Err-Compressed : goal.returns-in-Err-Compressed

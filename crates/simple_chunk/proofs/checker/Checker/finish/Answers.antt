@@ -1,5 +1,5 @@
 use Rattle.std.proofs.Common.{List, ℕ, Result, Ok, Err, refl}
-use Rattle.chunk_header.specs.SimpleChunks.{HasRecords, IsCompressed}
+use Rattle.chunk_header.specs.SimpleChunks.{IsSimpleChunk, IsCompressed}
 use Rattle.chunk_header.specs.Views.{value_of}
 use Rattle.chunk_header.specs.declared.Header.{Header}
 use Rattle.simple_chunk.specs.Checkers.{CheckerValue, HasChecked}
@@ -12,7 +12,7 @@ use Rattle.simple_chunk.proofs.checker.Checker.finish.Goals as goal
 -- what is answered is the verdict on whichever bytes the checker has taken
 abbrev Answers : CheckerValue → Result (Unit {0}) SimpleFault → Type 0
 Answers k answer = (h : Header) (bytes : List ℕ) → HasChecked k h bytes
-    → Verdict (HasRecords (value_of h bytes)) (IsCompressed (value_of h bytes)) answer
+    → Verdict (IsSimpleChunk (value_of h bytes)) (IsCompressed (value_of h bytes)) answer
 
 pub returns-then-are_all : goal.returns-then-are_all
 returns-then-are_all c =
