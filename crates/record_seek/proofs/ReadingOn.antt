@@ -12,7 +12,7 @@ use Rattle.chunk_reader.specs.Searches.{HasRecordsAt}
 use Rattle.chunk_reader.specs.declared.reasons.Fault.{Fault}
 use Rattle.chunk_reader.proofs.Rooms.{IsSized}
 use Rattle.record_seek.specs.Met.{HaveNoRecords}
-use Rattle.record_seek.specs.Steps.{IsPassedAt, IsHeldAt, FirstStandsBefore, IsFirstNot, EndBefore, AreReadTo, IsReadRecord, IsFaultOn, LoadsOn, IsFirstFrom, IsFirstHeld, NoneFrom, IsNextHeld, IsPaidOn, FirstStandsBefore, FirstNotBefore}
+use Rattle.record_seek.specs.Steps.{IsPassedAt, IsHeldAt, IsFirstBefore, IsFirstNot, EndBefore, AreReadTo, IsReadRecord, IsFaultOn, LoadsOn, IsFirstFrom, IsFirstHeld, NoneFrom, IsNextHeld, IsPaidOn, FirstStandsBefore, FirstNotBefore}
 use Rattle.record_seek.specs.declared.chunk_records.Found.{Found}
 use Rattle.record_seek.specs.declared.chunk_records.Held.{Held}
 use Rattle.record_seek.specs.declared.passes.Passed.{Passed}
@@ -84,7 +84,7 @@ first-held (Some file) bytes_now bytes_then from place chunk spent now then last
 
 -- of whose first record it is asked whether it stands before
 first_there : (Before : List ℕ → Type 0) (file : List ℕ) (from spent now : ℕ) (held : Held) (before : Bool)
-    → IsFirstHeld file from spent now held → FirstStandsBefore Before held.records before
+    → IsFirstHeld file from spent now held → IsFirstBefore Before held.records before
     → (bytes : List ℕ) × IsFirstFrom file from bytes × (IsTrue before ↔ Before bytes)
 first_there Before file from spent now held before first (inr (empty, never)) = absurd (omega (arith, first.some, ap length empty))
 first_there Before file from spent now held before first (inl (bytes, stands, asked)) = (
@@ -112,7 +112,7 @@ some_at P None x holds is = cc
 
 -- it does
 pub first-before : (Before : List ℕ → Type 0) (bytes : Option (List ℕ)) (from spent now : ℕ) (next : Option Held) (held : Held) (before : Bool)
-    → next ≡ Some held → IfSome bytes (λ file. IsNextHeld file from spent now next) → FirstStandsBefore Before held.records before → before ≡ true
+    → next ≡ Some held → IfSome bytes (λ file. IsNextHeld file from spent now next) → IsFirstBefore Before held.records before → before ≡ true
     → IfSome bytes (λ file. FirstStandsBefore Before file from)
 first-before Before None from spent now next held before is first asked answer = tt
 first-before Before (Some file) from spent now next held before is first asked answer =
@@ -121,7 +121,7 @@ first-before Before (Some file) from spent now next held before is first asked a
 
 -- or it doesn't
 pub first-not : (Before : List ℕ → Type 0) (bytes : Option (List ℕ)) (from spent now : ℕ) (next : Option Held) (held : Held) (before : Bool)
-    → next ≡ Some held → IfSome bytes (λ file. IsNextHeld file from spent now next) → FirstStandsBefore Before held.records before → before ≡ false
+    → next ≡ Some held → IfSome bytes (λ file. IsNextHeld file from spent now next) → IsFirstBefore Before held.records before → before ≡ false
     → IfSome bytes (λ file. FirstNotBefore Before file from)
 first-not Before None from spent now next held before is first asked answer = tt
 first-not Before (Some file) from spent now next held before is first asked answer =

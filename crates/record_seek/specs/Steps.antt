@@ -48,8 +48,8 @@ IsNumbered records begin number (Some found) = (slice_get records number ≡ Som
 IsNumbered records begin number None = length records ≤ number
 
 -- whether the first of records stands before: no where there is none
-abbrev pub FirstStandsBefore : (Before : List ℕ → Type 0) → List (List ℕ) → Bool → Type 0
-FirstStandsBefore Before records before =
+abbrev pub IsFirstBefore : (Before : List ℕ → Type 0) → List (List ℕ) → Bool → Type 0
+IsFirstBefore Before records before =
     ((bytes : List ℕ) × (slice_get records 0 ≡ Some bytes) × (IsTrue before ↔ Before bytes))
     ⊎ ((records ≡ []) × (before ≡ false))
 

@@ -7,7 +7,7 @@ ghost use Rattle.chunk_reader.specs.Places.{end_at};
 ghost use Rattle.chunk_reader.specs.Reasons.{Applies, NoneOf, unpassed_reasons, loading_reasons};
 ghost use Rattle.chunk_reader.specs.declared.reasons.Fault.{Fault};
 ghost use Rattle.record_seek.specs.KeyTests.{IsKeyTest, StandsBefore};
-ghost use Rattle.record_seek.specs.Steps.{IsHeld, IsHeldAt, IsNumbered, FirstStandsBefore, IsFirstNot};
+ghost use Rattle.record_seek.specs.Steps.{IsHeld, IsHeldAt, IsNumbered, IsFirstBefore, IsFirstNot};
 
 use crate::key_tests::KeyTest;
 use chunk_reader::{ReadEnd, What, strict_at};
@@ -99,7 +99,7 @@ pub(crate) fn record_of(
 pub(crate) fn first_before<F: Fn(&[u8]) -> bool + Drop>(held: &Held, test: &KeyTest<F>) -> bool
     requires held { IsHeld held.now }
     requires test { IsKeyTest F.Fn test.now.test }
-    ensures { FirstStandsBefore (StandsBefore F.Fn test.now.test) held.now.records result }
+    ensures { IsFirstBefore (StandsBefore F.Fn test.now.test) held.now.records result }
 {
     held.records.len() > 0 && test.before(held.records.get(0))
 }
