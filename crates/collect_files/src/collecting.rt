@@ -18,6 +18,7 @@ use std::thread::Threads;
 
 /// Puts the records of files, 1 to 16, into one file, by a thread for each, and prints of each record the number of its file and
 /// its position in that one; or says in notes which file is refused and why, or that they have too much.
+#[inline(never)]
 pub fn collect_files<R: Threads + Sync, S: Store + Send, M: Sink + Send, O: Sink, E: Sink>(
     rt: &R,
     alloc: Global,

@@ -15,6 +15,7 @@ use run_answers::{Cut, Ending, Status, ask_sizes, put_report};
 
 /// Lays files one after another, 1 to 64, and prints the report of what they make, or says in notes which of them is refused
 /// and why. It takes no memory.
+#[inline(never)]
 pub fn join_files<S: Store, M: Sink, O: Sink, E: Sink>(
     files: &mut [S],
     made: &mut M,

@@ -23,6 +23,7 @@ use std::thread::Threads;
 
 /// Prints the records of a file that is read in parts by threads, each by a store of its own, or says in notes why it is
 /// refused.
+#[inline(never)]
 pub fn ranges<R: Threads + Sync, S: Store + Send, O: Sink, E: Sink>(
     rt: &R,
     alloc: Global,

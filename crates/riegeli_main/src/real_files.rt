@@ -10,10 +10,10 @@ use crate::apart_sink::ApartSink;
 use crate::apart_store::ApartStore;
 use crate::streams::Behind;
 use read_ahead::ReadAhead;
-use record_append::AheadDevice;
-use record_io::{Sink, Source};
+use record_append::{AheadDevice, Device};
+use record_io::{Sink, Source, Store};
 use riegeli_tool::{Names, Status, names, run};
-use std::alloc::AllocError;
+use std::alloc::{AllocError, Global};
 use std::rt::Files;
 use std::thread::Threads;
 
@@ -44,16 +44,55 @@ pub(crate) fn run_on_files<R: Threads + Sync, I: Source, O: Sink, N: Sink>(
     let tells_file = is_any_of(rt, read, told)
         || is_one_of(rt, made, &[], told)
         || is_one_of(rt, grown, &[], told);
-    run(
+    let mut made = ApartSink::named(rt, made, read, streams);
+    let grown = ApartDevice::named(rt, grown, streams);
+    let mut notes = ApartNotes::new(notes, !tells_file);
+    run_ahead(
         threads,
         rt.alloc(),
         words,
         input,
         &mut files,
-        &mut ApartSink::named(rt, made, read, streams),
-        &mut AheadDevice::new(ApartDevice::named(rt, grown, streams)),
+        &mut made,
+        grown,
         out,
-        &mut ApartNotes::new(notes, !tells_file),
+        &mut notes,
+    )
+}
+
+/// Does what the words say, and reads ahead of the file that is grown.
+///
+/// It isn't inlined, so that its buffer isn't on the stack while those of the files are made.
+#[inline(never)]
+fn run_ahead<
+    R: Threads + Sync,
+    I: Source,
+    S: Store + Send,
+    M: Sink + Send,
+    G: Device + Send + Drop,
+    O: Sink,
+    E: Sink,
+>(
+    threads: &R,
+    alloc: Global,
+    words: &[String],
+    input: &mut I,
+    files: &mut [S],
+    made: &mut M,
+    grown: G,
+    out: &mut O,
+    notes: &mut E,
+) -> Status {
+    run(
+        threads,
+        alloc,
+        words,
+        input,
+        files,
+        made,
+        &mut AheadDevice::new(grown),
+        out,
+        notes,
     )
 }
 
@@ -74,6 +113,7 @@ fn paths<'a>(words: &'a [String], names: &Names) -> &'a [String]
 
 /// So many stores of each of the files of these paths, which are read in pieces of up to 64 KiB, apart from those behind
 /// streams.
+#[inline(never)]
 fn files<'a>(
     rt: &'a HostRuntime,
     paths: &'a [String],

@@ -36,6 +36,7 @@ pub(crate) enum Unappended {
 
 /// Puts the records of the input's lines behind the last whole chunk of a file and prints what became of that, or says in notes
 /// why the file is refused, or why it ended before the input did.
+#[inline(never)]
 pub(crate) fn append<R: Threads + Sync, I: Source, G: Device + Send, O: Sink, E: Sink>(
     rt: &R,
     alloc: Global,

@@ -105,6 +105,7 @@ pub fn run<
         input.old input.new files.old files.new made.old made.new grown.old grown.new out.old out.new }
     ensures notes_kept { result ≡ Status.Ok → notes.new ≡ notes.old }
 {
+    // No command is inlined: each has buffers on the stack, and the frame here would hold those of all.
     match &accept(words, files.len()) {
         Some(Command::Write(words)) => write(rt, alloc, words, input, made, notes),
         Some(Command::Show(words)) => show(alloc, words, &mut files[0], out, notes),

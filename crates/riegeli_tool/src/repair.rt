@@ -24,6 +24,7 @@ use std::alloc::Global;
 
 /// Makes the file of what is intact of a file and prints the report of its totals, and says in notes what is skipped and why
 /// it ended before the file did.
+#[inline(never)]
 pub(crate) fn repair<S: Store, M: Sink, O: Sink, E: Sink>(
     alloc: Global,
     words: &RepairWords,

@@ -27,6 +27,7 @@ enum SampleCut {
 
 /// Writes the file of the records of a seed and then prints how many records and bytes it has, or says in notes why it ended
 /// before that: the made file or standard output failed, or memory was short.
+#[inline(never)]
 pub fn sample<R: Threads + Sync, M: Sink + Send, O: Sink, E: Sink>(
     rt: &R,
     alloc: Global,

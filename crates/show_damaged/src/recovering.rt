@@ -43,6 +43,7 @@ impl From<FailedSink> for Ending<Region> {
 }
 
 /// Prints the records of a file past its damage, and says in notes what is skipped and why it ended before the file did.
+#[inline(never)]
 pub fn recover<S: Store, O: Sink, E: Sink>(
     alloc: Global,
     words: &RecoverWords,

@@ -24,6 +24,7 @@ use simple_chunk::Records;
 use std::alloc::Global;
 
 /// Prints the records of a file, and says in notes why it ended before the file did.
+#[inline(never)]
 pub fn show<S: Store, O: Sink, E: Sink>(
     alloc: Global,
     words: &ShowWords,

@@ -13,6 +13,7 @@ use record_io::{Failed, Sink, Store};
 use run_answers::{Cut, Ending, Status, put_report, size_of};
 
 /// Judges a file and prints the report of its totals, or says in notes why it is refused. It takes no memory.
+#[inline(never)]
 pub fn verify<S: Store, O: Sink, E: Sink>(file: &mut S, out: &mut O, notes: &mut E) -> Status
     ensures runs { (others : Seen) → Runs verify_meaning
         (record others { files = seen_file S.bytes S.told S.handed S.faults file.old ∷ []; out = seen_stream O.taken O.faults out.old; notes = seen_stream E.taken E.faults notes.old })

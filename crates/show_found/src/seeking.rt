@@ -30,6 +30,7 @@ pub(crate) enum Unfound {
 
 /// Prints the record of a file that is looked for, with its position, or says in notes that there is none or why the search
 /// ended before it was done.
+#[inline(never)]
 pub fn show_found<S: Store, O: Sink, E: Sink>(
     alloc: Global,
     words: &SeekWords,

@@ -18,6 +18,7 @@ use std::thread::Threads;
 pub const MOST_INPUT: u64 = 1 << 40;
 
 /// Writes the file of the input's lines, and says in notes why it ended before the input did.
+#[inline(never)]
 pub fn write<R: Threads + Sync, I: Source, M: Sink + Send, E: Sink>(
     rt: &R,
     alloc: Global,
