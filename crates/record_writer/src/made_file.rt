@@ -16,13 +16,13 @@ use record_io::{Failed, PutBuffer, Sink, Totals};
 use simple_chunk::SimpleChunk;
 use std::marker::Model;
 
-/// A file that is being made, chunk by chunk. Its bytes gather, up to 196,608 of them, before they go to the sink, so `flush`
+/// A file that is being made, chunk by chunk. Its bytes gather, up to 65,536 of them, before they go to the sink, so `flush`
 /// comes last; but a run of more than a quarter of that, as between two block headers in a large chunk, goes straight there.
 /// After a `start` or `put` that failed there is no other, and nothing is held. Own.
 #[derive(Drop)]
 pub struct MadeFile {
     writer: OrderedWriter,
-    buffer: PutBuffer<196_608>,
+    buffer: PutBuffer<65_536>,
     chunks: u64,
     records: u64,
     unread: u64,

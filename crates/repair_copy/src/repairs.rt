@@ -63,7 +63,7 @@ impl From<FailedSink> for RepairEnd {
 /// Repairs a file of so many bytes: makes the file of its intact chunks, and tells each region of it that is passed over in
 /// a line `skipped`, where it begins and ends, and why. Compressed and transposed chunks are copied unread.
 ///
-/// The file's size was told, and is at most 2^60. Of the repaired file up to 196,608 bytes gather before they are put.
+/// The file's size was told, and is at most 2^60. Of the repaired file up to 65,536 bytes gather before they are put.
 /// What is held goes out before a line is put, and however the work ends.
 ///
 /// Of a damaged file, in which each change shows by a hash, what is made has, behind the signature, the simple, metadata and

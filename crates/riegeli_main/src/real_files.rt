@@ -11,7 +11,7 @@ use crate::apart_store::ApartStore;
 use crate::streams::Behind;
 use read_ahead::ReadAhead;
 use record_append::{AheadDevice, Device};
-use record_io::{Sink, Source, Store};
+use record_io::{Sink, Source};
 use riegeli_tool::{Names, Status, names, run};
 use std::alloc::{AllocError, Global};
 use std::rt::Files;
@@ -44,56 +44,30 @@ pub(crate) fn run_on_files<R: Threads + Sync, I: Source, O: Sink, N: Sink>(
     let tells_file = is_any_of(rt, read, told)
         || is_one_of(rt, made, &[], told)
         || is_one_of(rt, grown, &[], told);
-    let mut made = ApartSink::named(rt, made, read, streams);
     let grown = ApartDevice::named(rt, grown, streams);
-    let mut notes = ApartNotes::new(notes, !tells_file);
-    run_ahead(
+    let Ok(mut grown) = read_ahead(rt.alloc(), grown) else {
+        return Status::Memory;
+    };
+    run(
         threads,
         rt.alloc(),
         words,
         input,
         &mut files,
-        &mut made,
-        grown,
+        &mut ApartSink::named(rt, made, read, streams),
+        &mut *grown,
         out,
-        &mut notes,
+        &mut ApartNotes::new(notes, !tells_file),
     )
 }
 
-/// Does what the words say, and reads ahead of the file that is grown.
-///
-/// It isn't inlined, so that its buffer isn't on the stack while those of the files are made.
+/// A device that reads ahead of this one, by a buffer that isn't on the stack.
 #[inline(never)]
-fn run_ahead<
-    R: Threads + Sync,
-    I: Source,
-    S: Store + Send,
-    M: Sink + Send,
-    G: Device + Send + Drop,
-    O: Sink,
-    E: Sink,
->(
-    threads: &R,
+fn read_ahead<G: Device + Drop>(
     alloc: Global,
-    words: &[String],
-    input: &mut I,
-    files: &mut [S],
-    made: &mut M,
-    grown: G,
-    out: &mut O,
-    notes: &mut E,
-) -> Status {
-    run(
-        threads,
-        alloc,
-        words,
-        input,
-        files,
-        made,
-        &mut AheadDevice::new(grown),
-        out,
-        notes,
-    )
+    device: G,
+) -> Result<Box<AheadDevice<G>>, AllocError> {
+    Ok(Box::new(alloc, AheadDevice::new(device))?)
 }
 
 /// Whether one of these paths leads to a regular file that may stand behind one of the streams.
