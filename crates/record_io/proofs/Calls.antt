@@ -1,5 +1,5 @@
 -- One call after another: what a source gives and a sink takes in two.
-use Rattle.std.proofs.Common.{◌≡◌, ◌≢◌, ℕ, ◌+◌, ◌<◌, Option, Some, None, Result, Ok, Err, List, [], ◌++◌, length, take, drop, sym, ap, ◌∙◌, subst, arith, append-nil, append_assoc, length-append}
+use Rattle.std.proofs.Common.{◌≡◌, ◌≢◌, ℕ, ◌+◌, ◌<◌, Option, Some, None, Result, Ok, Err, List, [], ◌∷◌, ◌++◌, length, take, drop, refl, sym, ap, ◌∙◌, subst, arith, append-nil, append_assoc, length-append}
 use Rattle.std.specs.Result.{OnErr}
 use Rattle.std.proofs.lemmas.List.{drop-drop}
 use Rattle.std.proofs.lemmas.Grind.{common_steps}
@@ -55,6 +55,10 @@ pub TakesFront-none : (a : Option (List ℕ)) (x : List ℕ) → TakesFront a a 
 TakesFront-none None x = tt
 TakesFront-none (Some taken) x = (0, omega arith, ap Some (grind (arith, common_steps)))
 
+-- a sink that took so many bytes of x, and then nothing, took not all of x
+pub TakesShort-at : (a b c : Option (List ℕ)) (x : List ℕ) (at : ℕ) → at < length x → Takes a b (take at x) → c ≡ b → TakesShort a c x
+TakesShort-at a b c x at less took same = (at, less, subst (λ o. Takes a o (take at x)) (sym same) took)
+
 -- a front that is not the whole is a front
 pub TakesShort-front : (a b : Option (List ℕ)) (x : List ℕ) → TakesShort a b x → TakesFront a b x
 TakesShort-front None b x h = tt
@@ -74,6 +78,16 @@ TakesShort-longer a b x y h = (
   h.0,
   omega (arith, length-append x y, h.1),
   subst (λ (xs : List ℕ). Takes a b xs) (grind (arith, common_steps, h.1)) h.2,
+)
+
+-- a front of x is not all of x and more behind it
+pub TakesFront-before : (a b : Option (List ℕ)) (x y : List ℕ) → y ≢ [] → TakesFront a b x → TakesShort a b (x ++ y)
+TakesFront-before a b x [] some h = absurd (some refl)
+TakesFront-before None b x (e ∷ y) some h = (0, omega (arith, length-append x (e ∷ y)), tt)
+TakesFront-before (Some taken) b x (e ∷ y) some h = (
+  h.0,
+  omega (arith, length-append x (e ∷ y), h.1),
+  h.2 ∙ ap (λ r. Some (taken ++ r)) (grind (arith, common_steps, h.1)),
 )
 
 -- there is some of which not all was taken

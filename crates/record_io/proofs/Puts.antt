@@ -1,5 +1,6 @@
 -- Bytes that go to several sinks, in their order.
-use Rattle.std.proofs.Common.{◌≡◌, ◌∙◌, ℕ, zero, suc, ◌<◌, true, false, Option, Some, None, List, [], ◌∷◌, ◌++◌, length, take, refl, sym, ap, subst, inl, inr, arith, append-nil, append_assoc}
+use Rattle.std.proofs.Common.{◌≡◌, ◌∙◌, ℕ, zero, suc, ◌<◌, true, false, Option, Some, None, List, [], ◌∷◌, ◌++◌, length, take, drop, refl, sym, ap, subst, inl, inr, arith, append-nil, append_assoc}
+use Rattle.std.proofs.lemmas.List.{take-append-drop}
 use Rattle.std.proofs.lemmas.Bool.{cases_Bool, cond-true, cond-false}
 use Rattle.record_io.specs.Outside.{Takes, TakesFront, TakesShort}
 use Rattle.record_io.specs.Buffers.{TakesAndHolds}
@@ -36,6 +37,16 @@ bytes_to-other s t (b ∷ bytes) other = cond-false _ _ _ other ∙ bytes_to-oth
 pub puts_to-append : (s : Stream) (xs ys : List ℕ) → puts_to s (xs ++ ys) ≡ puts_to s xs ++ puts_to s ys
 puts_to-append s [] ys = refl
 puts_to-append s (x ∷ xs) ys = ap (λ (ps : List Put). record { to = s; byte = x } ∷ ps) (puts_to-append s xs ys)
+
+-- a front of them is one of these and more
+pub puts_to-front : (s : Stream) (bytes : List ℕ) (count : ℕ) (more : List Put)
+    → (rest : List Put) × (puts_to s bytes ++ more ≡ puts_to s (take count bytes) ++ rest)
+puts_to-front s bytes count more =
+    let parts : puts_to s bytes ≡ puts_to s (take count bytes) ++ puts_to s (drop count bytes) =
+    ap (puts_to s) (sym (take-append-drop count bytes)) ∙ puts_to-append s (take count bytes) (drop count bytes) in (
+      puts_to s (drop count bytes) ++ more,
+      ap (λ (ps : List Put). ps ++ more) parts ∙ append_assoc (puts_to s (take count bytes)) (puts_to s (drop count bytes)) more,
+    )
 
 -- what is put behind what went out
 pub GoOut-append : (a b c : Taken) (ps qs : List Put) → GoOut a b ps → GoOut b c qs → GoOut a c (ps ++ qs)
@@ -79,7 +90,7 @@ pub TakesFront-count : (a b : Option (List ℕ)) (bytes : List ℕ) → TakesFro
 TakesFront-count None b bytes h = (0, tt)
 TakesFront-count (Some taken) b bytes h = (h.0, h.2)
 
--- what is put breaks off within bytes that go to a stream
+-- what is put breaks off before a byte of those that go to a stream
 BreaksOff-bytes : (s : Stream) (bytes : List ℕ) (count : ℕ) → count < length bytes → BreaksOff s (puts_to s (take count bytes)) (puts_to s bytes)
 BreaksOff-bytes s [] count less = absurd (omega (arith, less))
 BreaksOff-bytes s (b ∷ bytes) zero less = record { byte = b; rest = puts_to s bytes; parts = refl }

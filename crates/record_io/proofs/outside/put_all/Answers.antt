@@ -1,5 +1,6 @@
 use Rattle.std.proofs.Common.{ℕ, arith, rules, length-drop}
 use Rattle.std.proofs.lemmas.List.{length-take}
+use Rattle.record_io.proofs.Calls.{OnErr-any, TakesShort-at}
 use Rattle.record_io.proofs.Pieces.{Takes-more}
 use Rattle.record_io.proofs.outside.put_all.Goals as goal
 
@@ -10,9 +11,11 @@ loop-at-preserved g c = record {
   counts = search rules;
 }
 
-pub returns-in_err-put-clause-sink : goal.returns-in_err-put-clause-sink
-returns-in_err-put-clause-sink g c = record {
-  whole = search rules;
-  front = OnErr-any _ (c.loop-at.at, omega arith, rw c.in_err-put.ensures.kept c.loop-at.invariant.taken);
-  counts = search rules;
+pub returns-in_err-at : goal.returns-in_err-at
+returns-in_err-at g c = record {
+  sink = record {
+    whole = search rules;
+    front = OnErr-any _ (TakesShort-at _ _ _ c.args.piece.now c.loop-at.at (omega arith) c.loop-at.invariant.taken c.in_err-at.ensures.kept);
+    counts = search rules;
+  };
 }
