@@ -3,9 +3,9 @@ use Rattle.std.proofs.Common.{◌≡◌, ◌≢◌, ◌∙◌, ℕ, ◌≤◌, t
 use Rattle.std.specs.Result.{IsErr, IsErrAnd}
 use Rattle.std.proofs.lemmas.Option.{MatchOption-at_some}
 use Rattle.record_values.specs.Bytes.{AreBytes}
-use Rattle.record_io.specs.Outside.{Rose, Takes, TakesFront}
+use Rattle.record_io.specs.Outside.{Rose, Takes, TakesShort}
 use Rattle.record_io.specs.Puts.{Put, Made, Out, Taken, taken_by, GoOut}
-use Rattle.record_io.proofs.Calls.{Takes-nothing}
+use Rattle.record_io.proofs.Calls.{Takes-nothing, TakesShort-some}
 use Rattle.record_io.proofs.Puts.{GoOut-none_held}
 use Rattle.run_answers.specs.declared.ending.Cut.{Cut}
 use Rattle.run_answers.specs.declared.ending.Ending.{Ending}
@@ -66,12 +66,12 @@ module _ {X W : Type 0} (ends : Endings X W) (P : List ℕ → Answer → Type 0
     cut-flushed cut.Notes answer h out = (refl, untold-flushed a made b c notes held answer h.0 h.1 out)
     cut-flushed other answer h out = front-flushed a made b c notes held answer h out
 
-    cut-unflushed : (why : Cut) (answer : Answer) → HasPutToCut why a (taken_by made b notes) held answer → TakesFront b c held → held ≢ []
+    cut-unflushed : (why : Cut) (answer : Answer) → HasPutToCut why a (taken_by made b notes) held answer → TakesShort b c held
         → HasPutToCut why a (taken_by made c notes) [] answer
-    cut-unflushed cut.Made answer h out some = absurd (some h.none_held)
-    cut-unflushed cut.Out answer h out some = absurd (some h.none_held)
-    cut-unflushed cut.Notes answer h out some = absurd (some h.0)
-    cut-unflushed other answer h out some = front-unflushed a made b c notes held answer h out some
+    cut-unflushed cut.Made answer h out = absurd (TakesShort-some b c held out h.none_held)
+    cut-unflushed cut.Out answer h out = absurd (TakesShort-some b c held out h.none_held)
+    cut-unflushed cut.Notes answer h out = absurd (TakesShort-some b c held out h.0)
+    cut-unflushed other answer h out = front-unflushed a made b c notes held answer h out
 
     at-flushed : (result : Result X (Ending W)) (f : List ℕ) → HasPutAtEnd ends P result f a (taken_by made b notes) held → Takes b c held
         → HasPutAtEnd ends P result f a (taken_by made c notes) []
@@ -81,12 +81,12 @@ module _ {X W : Type 0} (ends : Endings X W) (P : List ℕ → Answer → Type 0
     at-flushed (Err (end.Cut why)) f h out = λ bytes. let found = h bytes in (found.0, found.1, cut-flushed why found.0 found.2 out)
 
     at-unflushed : (result : Result X (Ending W)) (f : List ℕ) → HasPutAtEnd ends P result f a (taken_by made b notes) held
-        → TakesFront b c held → held ≢ []
+        → TakesShort b c held
         → HasPutEarly ends.text ends.status P (end.Cut (cut_unprinted result)) f a (taken_by made c notes) []
-    at-unflushed (Ok x) f h out some = λ bytes. whole-unflushed a made b c notes held P f [] (ends.done x) h out some
-    at-unflushed (Err end.Limit) f h out some = λ bytes. whole-unflushed a made b c notes held P f limit_text status.Limit h out some
-    at-unflushed (Err (end.At w)) f h out some = λ bytes. whole-unflushed a made b c notes held P f (ends.text w) (ends.status w) h out some
-    at-unflushed (Err (end.Cut why)) f h out some = λ bytes. let found = h bytes in (found.0, found.1, cut-unflushed why found.0 found.2 out some)
+    at-unflushed (Ok x) f h out = λ bytes. whole-unflushed a made b c notes held P f [] (ends.done x) h out
+    at-unflushed (Err end.Limit) f h out = λ bytes. whole-unflushed a made b c notes held P f limit_text status.Limit h out
+    at-unflushed (Err (end.At w)) f h out = λ bytes. whole-unflushed a made b c notes held P f (ends.text w) (ends.status w) h out
+    at-unflushed (Err (end.Cut why)) f h out = λ bytes. let found = h bytes in (found.0, found.1, cut-unflushed why found.0 found.2 out)
 
   pub end-flushed : (result : Result X (Ending W)) (told bytes : Option (List ℕ)) (a : Taken) (made b c notes : Option (List ℕ)) (held : List ℕ)
       → told ≡ bytes → IfSome told (λ f. HasPutAtEnd ends P result f a (taken_by made b notes) held) → Takes b c held
@@ -98,13 +98,13 @@ module _ {X W : Type 0} (ends : Endings X W) (P : List ℕ → Answer → Type 0
 
   pub end-unflushed : (result : Result X (Ending W)) (why : Cut) → why ≡ cut_unprinted result → (told bytes : Option (List ℕ))
       (a : Taken) (made b c notes : Option (List ℕ)) (held : List ℕ)
-      → told ≡ bytes → IfSome told (λ f. HasPutAtEnd ends P result f a (taken_by made b notes) held) → TakesFront b c held → held ≢ []
+      → told ≡ bytes → IfSome told (λ f. HasPutAtEnd ends P result f a (taken_by made b notes) held) → TakesShort b c held
       → IfSome bytes (λ f. HasPutAtEnd ends P (Err (end.Cut why)) f a (taken_by made c notes) [])
-  end-unflushed result why is told None a made b c notes held same h out some = tt
-  end-unflushed result why is told (Some f) a made b c notes held same h out some =
+  end-unflushed result why is told None a made b c notes held same h out = tt
+  end-unflushed result why is told (Some f) a made b c notes held same h out =
       subst (λ (x : Cut). HasPutEarly ends.text ends.status P (end.Cut x) f a (taken_by made c notes) []) (sym is)
       (at-unflushed a made b c notes held result f
-      (MatchOption-at_some _ (λ (x : List ℕ). HasPutAtEnd ends P result x a (taken_by made b notes) held) f same h) out some)
+      (MatchOption-at_some _ (λ (x : List ℕ). HasPutAtEnd ends P result x a (taken_by made b notes) held) f same h) out)
 
 -- no size was told by which it may end
 pub unsized-allowed : {X W : Type 0} (known : Meaning) → known.uses.files ≡ true → (told : Option ℕ) (bytes : Option (List ℕ)) (m n : ℕ) (e : SizeEnd)
@@ -133,13 +133,12 @@ pub record EndsBy {X W : Type 0} (m : Meaning) (ends : Endings X W) : Type 0 whe
   pub too_long : (sizes : List ℕ) → IsTooLong sizes → m.may_end sizes status.Limit limit_text
   pub whole : (w : W) → EndsWhole m (ends.status w)
   pub other : (w : W) → ends.status w ≢ status.Ok
-  pub some : (w : W) → ends.text w ≢ []
 
 -- with a text in notes the command may end so, by the size of its file
 abbrev pub MayEndInReach : Meaning → Status → List ℕ → Type 0
 MayEndInReach m ended text = (sizes : List ℕ) → IsInReach sizes → m.may_end sizes ended text
 
--- what notes took before the end: a text behind which the command may end so, or a front of one, where they failed
+-- what notes took before the end: a text behind which the command may end so, or not all of one, where they failed
 abbrev pub HasSaid : {X W : Type 0} → Meaning → Endings X W → Result X (Ending W) → (notes notes_then : Option (List ℕ)) → Type 0
 HasSaid m ends (Ok x) notes notes_then =
     (text : List ℕ) × Takes notes notes_then text × MayEndInReach m (ends.done x) text × EndsWhole m (ends.done x)
@@ -147,7 +146,7 @@ HasSaid m ends (Err end.Limit) notes notes_then = Takes notes notes_then []
 HasSaid m ends (Err (end.At w)) notes notes_then =
     (text : List ℕ) × Takes notes notes_then text × MayEndInReach m (ends.status w) (text ++ ends.text w)
 HasSaid m ends (Err (end.Cut cut.Notes)) notes notes_then =
-    (wanted : Status) × (text : List ℕ) × TakesFront notes notes_then text × MayEndInReach m wanted text
+    (wanted : Status) × (text : List ℕ) × TakesShort notes notes_then text × MayEndInReach m wanted text
 HasSaid m ends (Err (end.Cut why)) notes notes_then = (text : List ℕ) × Takes notes notes_then text × m.may_say text
 
 module _ (m : Meaning) (P : List ℕ → Answer → Type 0) (Q : (before after : ℕ) → List ℕ → List Put → Type 0) (reads : ReadsFile m P Q)
@@ -208,12 +207,12 @@ module _ (m : Meaning) (P : List ℕ → Answer → Type 0) (Q : (before after :
 
   -- it ended with a text to say
   said : (ended wanted : Status) (earlier last : List ℕ) → Takes notes.bytes mid.bytes earlier → notes.faults ≤ mid.faults
-      → SaysAtEnd ended wanted mid notes_then last → last ≢ [] → EndsWhole m wanted → wanted ≢ status.Ok
+      → SaysAtEnd ended wanted mid notes_then last → EndsWhole m wanted → wanted ≢ status.Ok
       → OfSizes m Before After (λ sizes. m.may_end sizes wanted (earlier ++ last))
       → IfSome file.bytes (λ bytes. HasPut P bytes Start Worked [] last wanted)
       → Ended ended
-  said ended wanted earlier last took less says some whole other may put =
-      runs-said m Before After mid ended wanted earlier last took less says some whole.0 other may (gave last wanted put)
+  said ended wanted earlier last took less says whole other may put =
+      runs-said m Before After mid ended wanted earlier last took less says whole.0 other may (gave last wanted put)
       (λ none. absurd (cc (sym reads.command ∙ none))) (whole.1 Before After) keeps
 
   -- of an answer so much was put when it was cut off
@@ -222,11 +221,11 @@ module _ (m : Meaning) (P : List ℕ → Answer → Type 0) (Q : (before after :
       IfSome file.bytes (λ bytes. AreBytes bytes → (answer : Answer) × OfFile P (bytes ∷ []) answer × HasPutToCut why Start Worked [] answer)
 
   -- notes failed to take what was said before the end
-  untold : (wanted : Status) (text : List ℕ) → TakesFront notes.bytes mid.bytes text → OfSizes m Before After (λ sizes. m.may_end sizes wanted text)
+  untold : (wanted : Status) (text : List ℕ) → TakesShort notes.bytes mid.bytes text → OfSizes m Before After (λ sizes. m.may_end sizes wanted text)
       → PutToCut cut.Notes → notes_then ≡ mid → Rose notes.faults mid.faults
       → Ended status.Notes
   untold wanted text front may put same rose =
-      runs-notes m Before After wanted text may (subst (λ (s : SeenStream). TakesFront notes.bytes s.bytes text) (sym same) front)
+      runs-notes m Before After wanted text may (subst (λ (s : SeenStream). TakesShort notes.bytes s.bytes text) (sym same) front)
       (subst (λ (s : SeenStream). IfTold m Before (FailedToSay Start (taken_by made_then.bytes out_then.bytes s.bytes))) (sym same)
       (if_told (FailedToSay Start Worked) (λ bytes are told.
       let h = MatchOption-at_some _
@@ -238,7 +237,7 @@ module _ (m : Meaning) (P : List ℕ → Answer → Type 0) (Q : (before after :
   abbrev PutSoFar : Type 0
   PutSoFar = HadNoSinkFault m.uses Before After → IfSome file.bytes (λ bytes. HasPutSoFar (Q file.handed file_then.handed bytes) Start Worked [])
 
-  -- a front of an answer, up to bytes that go to the sink that failed
+  -- a front of an answer, up to a byte that goes to the sink that failed
   broken : (why : Cut) → why ≢ cut.Notes → (answer : Answer) → HasPutToCut why Start Worked [] answer
       → (part : List Put) × Breaks (status_of why) part answer.puts × PutsLines part answer.puts × GoOut Start Worked part
   broken cut.Made other answer h = (h.part, h.broke, h.lines, h.went)
@@ -279,10 +278,10 @@ module _ (m : Meaning) (P : List ℕ → Answer → Type 0) (Q : (before after :
       subst Ended (sym says.0)
       (done (ends.done x) text took whole (of_size IsInReach (λ sizes. m.may_end sizes (ends.done x) text) may_end may exact) put says.1)
   runs-file ends by (Err end.Limit) ended may exact put so_far took says less file_rose made_rose out_rose notes_rose =
-      said ended status.Limit [] limit_text took less says (λ e. cc e) (tt, λ _ _. tt) (λ e. cc e)
+      said ended status.Limit [] limit_text took less says (tt, λ _ _. tt) (λ e. cc e)
       (of_size IsTooLong (λ sizes. m.may_end sizes status.Limit limit_text) by.too_long may exact) put
   runs-file ends by (Err (end.At w)) ended may exact put so_far (text, took, may_end) says less file_rose made_rose out_rose notes_rose =
-      said ended (ends.status w) text (ends.text w) took less says (by.some w) (by.whole w) (by.other w)
+      said ended (ends.status w) text (ends.text w) took less says (by.whole w) (by.other w)
       (of_size IsInReach (λ sizes. m.may_end sizes (ends.status w) (text ++ ends.text w)) may_end may exact) put
   runs-file ends by (Err (end.Cut cut.Input)) ended may exact put so_far before says less file_rose made_rose out_rose notes_rose =
       absurd (cc (sym reads.input ∙ may.0))

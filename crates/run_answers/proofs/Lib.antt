@@ -8,7 +8,6 @@ pub mod Lines
 pub mod NoteLines
 pub mod OneAnswer
 pub mod PutSoFar
-pub mod ReportLines
 pub mod TwoStreams
 pub mod AskedSizes
 pub mod ManyFiles

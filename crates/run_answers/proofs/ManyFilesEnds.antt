@@ -71,7 +71,6 @@ pub record EndsBySizes {X W : Type 0} (m : Meaning) (ends : Endings X W) (past :
   pub stop : (w : W) (sizes : List ℕ) → stops w sizes → m.may_end sizes (ends.status w) (ends.text w)
   pub whole : (w : W) → EndsWhole m (ends.status w)
   pub other : (w : W) → ends.status w ≢ status.Ok
-  pub some : (w : W) → ends.text w ≢ []
 
 -- by these sizes of its files the work may end so
 abbrev pub MayEndBy : {X W : Type 0} → Meaning → (past : List ℕ → Type 0) → (stops : W → List ℕ → Type 0) → Result X (Ending W) → List ℕ → Type 0
@@ -187,11 +186,11 @@ module _ (m : Meaning) (S : List (List ℕ) → Type 0) (P : List (List ℕ) →
       (λ _ uses. absurd (cc (sym uses ∙ reads.input))) (λ none. absurd (cc (sym reads.command ∙ none))) tt keeps
 
   -- it ended with a text to say
-  said : (ended wanted : Status) (text : List ℕ) → SaysAtEnd ended wanted notes notes_then text → text ≢ [] → EndsWhole m wanted → wanted ≢ status.Ok
+  said : (ended wanted : Status) (text : List ℕ) → SaysAtEnd ended wanted notes notes_then text → EndsWhole m wanted → wanted ≢ status.Ok
       → OfSizes m Before After (λ sizes. m.may_end sizes wanted text) → IfFiles (λ all. WentButNotes (P all) wanted Start Worked text)
       → Ended ended
-  said ended wanted text says some whole other may put =
-      runs-said m Before After notes ended wanted [] text (Takes-nothing notes.bytes) (omega arith) says some whole.0 other may
+  said ended wanted text says whole other may put =
+      runs-said m Before After notes ended wanted [] text (Takes-nothing notes.bytes) (omega arith) says whole.0 other may
       (if_told (GaveButNotes wanted Start Worked text) put) (λ none. absurd (cc (sym reads.command ∙ none))) (whole.1 Before After) keeps
 
   -- it was cut off
@@ -224,11 +223,11 @@ module _ (m : Meaning) (S : List (List ℕ) → Type 0) (P : List (List ℕ) →
       subst Ended (sym (says.0 ∙ by.done x))
       (done told by.may_work (λ all same bytes supposed. put all same bytes supposed (of_files m.may_work all same told)) says.1)
   by_end ends past stops by (Err end.Limit) ended told put says file_rose made_rose out_rose =
-      said ended status.Limit limit_text says (λ e. cc e) (tt, λ _ _. tt) (λ e. cc e)
+      said ended status.Limit limit_text says (tt, λ _ _. tt) (λ e. cc e)
       (of_sizes past (λ sizes. m.may_end sizes status.Limit limit_text) by.too_long told)
       (λ all same bytes supposed. put all same bytes supposed (of_files past all same told))
   by_end ends past stops by (Err (end.At w)) ended told put says file_rose made_rose out_rose =
-      said ended (ends.status w) (ends.text w) says (by.some w) (by.whole w) (by.other w)
+      said ended (ends.status w) (ends.text w) says (by.whole w) (by.other w)
       (of_sizes (stops w) (λ sizes. m.may_end sizes (ends.status w) (ends.text w)) (by.stop w) told)
       (λ all same bytes supposed. put all same bytes supposed (of_files (stops w) all same told))
   by_end ends past stops by (Err (end.Cut cut.Input)) ended (used, told) put says file_rose made_rose out_rose = absurd (cc (sym reads.input ∙ used))

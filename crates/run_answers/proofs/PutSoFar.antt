@@ -1,9 +1,9 @@
 -- What a command has put of one file, where what it holds goes out or fails to.
-use Rattle.std.proofs.Common.{◌≡◌, ◌≢◌, ◌∙◌, ℕ, Option, Some, None, Result, Ok, Err, List, [], ◌∷◌, ◌++◌, refl, sym, ap, subst, IfSome}
+use Rattle.std.proofs.Common.{◌≡◌, ◌∙◌, ℕ, Option, Some, None, Result, Ok, Err, List, [], ◌∷◌, ◌++◌, refl, sym, ap, subst, IfSome}
 use Rattle.std.specs.Result.{IsErrAnd}
 use Rattle.std.proofs.lemmas.List.{append_assoc}
 use Rattle.std.proofs.lemmas.Option.{MatchOption-at_some}
-use Rattle.record_io.specs.Outside.{Takes, TakesFront}
+use Rattle.record_io.specs.Outside.{Takes, TakesShort}
 use Rattle.record_io.specs.Puts.{Stream, Put, Out, Notes, Taken, taken_by, BreaksOff, puts_to, bytes_to}
 use Rattle.record_io.proofs.Puts.{GoOut-nothing, GoOutOrAreHeld-none, GoOut-none_held, GoOut-flushed, GoOut-unflushed, BreaksOff-longer, BreaksOff-front}
 use Rattle.run_answers.specs.declared.status.Status.{Status}
@@ -102,10 +102,10 @@ module _ (a : Taken) (made b c notes : Option (List ℕ)) (held : List ℕ) wher
 
   -- or standard output fails
   pub whole-unflushed : (P : List ℕ → Answer → Type 0) (f last : List ℕ) (ended : Status)
-      → HasPut P f a Unflushed held last ended → TakesFront b c held → held ≢ []
+      → HasPut P f a Unflushed held last ended → TakesShort b c held
       → (answer : Answer) × OfFile P (f ∷ []) answer × HasBrokenOff Out a Flushed [] answer
-  whole-unflushed P f last ended h out some =
-      let broken = GoOut-unflushed a made b c notes h.puts held h.went out some in (
+  whole-unflushed P f last ended h out =
+      let broken = GoOut-unflushed a made b c notes h.puts held h.went out in (
         h.answer,
         h.is,
         record {
@@ -118,9 +118,9 @@ module _ (a : Taken) (made b c notes : Option (List ℕ)) (held : List ℕ) wher
         },
       )
 
-  pub front-unflushed : (answer : Answer) → HasPutFront a Unflushed held answer → TakesFront b c held → held ≢ [] → HasPutFront a Flushed [] answer
-  front-unflushed answer h out some =
-      let broken = GoOut-unflushed a made b c notes h.part held h.went out some in
+  pub front-unflushed : (answer : Answer) → HasPutFront a Unflushed held answer → TakesShort b c held → HasPutFront a Flushed [] answer
+  front-unflushed answer h out =
+      let broken = GoOut-unflushed a made b c notes h.part held h.went out in
       let front = BreaksOff-front Out broken.0 h.part broken.1 in
       record {
         part = broken.0;

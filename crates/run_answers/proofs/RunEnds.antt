@@ -1,10 +1,10 @@
 -- How a run of any command ends: what all its clauses follow from.
 use Rattle.std.proofs.Common.{◌≡◌, ◌≢◌, ◌+◌, ℕ, ◌≤◌, ◌⊎◌, true, false, Option, Some, None, List, [], ◌∷◌, ◌++◌, length, get_or, set, take, drop, slice_get, map, refl, sym, ap, subst, ◌∙◌, inl, inr, arith}
 use Rattle.std.specs.Option.{IfSome, IsSomeAnd}
-use Rattle.record_io.specs.Outside.{Rose, Takes, TakesFront}
+use Rattle.record_io.specs.Outside.{Rose, Takes, TakesShort}
 use Rattle.record_io.specs.Puts.{Put, Notes, Taken, taken_by, GoOut, BreaksOff, puts_to, bytes_to}
-use Rattle.record_io.proofs.Calls.{Takes-append, TakesFront-append}
-use Rattle.record_io.proofs.Puts.{GoOut-append, GoOut-notes, TakesFront-count, BreaksOff-last}
+use Rattle.record_io.proofs.Calls.{Takes-append, TakesShort-append}
+use Rattle.record_io.proofs.Puts.{GoOut-append, GoOut-notes, BreaksOff-last}
 use Rattle.run_answers.specs.declared.status.Status.{Status}
 use Rattle.run_answers.specs.Statuses.{fault_text}
 use Rattle.run_answers.specs.Answers.{Answer}
@@ -175,7 +175,7 @@ ends-whole m before after ended text whole may_end said gave read usage cause ke
 
 -- notes failed to take what there was to say at the end
 pub ends-notes : (m : Meaning) (before after : Seen) (wanted : Status) (text : List ℕ)
-    → OfSizes m before after (λ sizes. m.may_end sizes wanted text) → TakesFront before.notes.bytes after.notes.bytes text
+    → OfSizes m before after (λ sizes. m.may_end sizes wanted text) → TakesShort before.notes.bytes after.notes.bytes text
     → IfTold m before (FailedToSay (taken_in before) (taken_in after))
     → Rose before.notes.faults after.notes.faults → KeepsAtEnd m before after status.Notes
     → Runs m before after status.Notes
@@ -199,7 +199,7 @@ ends-notes m before after wanted text may_end said failed rose keeps = record {
   end_said = λ whole. absurd whole;
   cut_off_said = λ cut. absurd cut;
   front_said = λ _. OfSizes-map m before after (λ sizes. m.may_end sizes wanted text)
-      (λ sizes. (s : Status) × (t : List ℕ) × m.may_end sizes s t × TakesFront before.notes.bytes after.notes.bytes t)
+      (λ sizes. (s : Status) × (t : List ℕ) × m.may_end sizes s t × TakesShort before.notes.bytes after.notes.bytes t)
       (λ sizes may. (wanted, text, may, said)) may_end;
   counts = keeps.counts;
   input_taken = keeps.input_taken;
@@ -248,7 +248,7 @@ runs-whole m before after ended text whole may_end said gave read usage cause ke
     ends-whole m before after ended text whole may_end said gave read usage cause (keeps-ungrown m before after ended keeps)
 
 pub runs-notes : (m : Meaning) (before after : Seen) (wanted : Status) (text : List ℕ)
-    → OfSizes m before after (λ sizes. m.may_end sizes wanted text) → TakesFront before.notes.bytes after.notes.bytes text
+    → OfSizes m before after (λ sizes. m.may_end sizes wanted text) → TakesShort before.notes.bytes after.notes.bytes text
     → IfTold m before (FailedToSay (taken_in before) (taken_in after))
     → Rose before.notes.faults after.notes.faults → Keeps m before after
     → Runs m before after status.Notes
@@ -303,17 +303,16 @@ gave-said ended before after mid text answer gave said = record {
 
 -- or notes failed to take it
 pub failed-said : (ended : Status) (before after : Seen) (mid : SeenStream) (text : List ℕ) (answer : Answer)
-    → GaveButNotes ended (taken_in before) (taken_but_end after mid) text answer → text ≢ [] → TakesFront mid.bytes after.notes.bytes text
+    → GaveButNotes ended (taken_in before) (taken_but_end after mid) text answer → TakesShort mid.bytes after.notes.bytes text
     → FailedToSay (taken_in before) (taken_in after) answer
-failed-said ended before after mid text answer gave some front =
-    let count = TakesFront-count mid.bytes after.notes.bytes text front in
-    let last : List ℕ = take count.0 text in
+failed-said ended before after mid text answer gave short =
+    let last : List ℕ = take short.0 text in
     record {
       part = gave.puts ++ puts_to Notes last;
       broke = subst (λ (ps : List Put). BreaksOff Notes (gave.puts ++ puts_to Notes last) ps) (sym gave.whole)
-          (BreaksOff-last Notes gave.puts text count.0 some);
+          (BreaksOff-last Notes gave.puts text short.0 short.1);
       went = GoOut-append (taken_in before) (taken_but_end after mid) (taken_in after) gave.puts (puts_to Notes last) gave.went
-          (GoOut-notes after.made.bytes after.out.bytes mid.bytes after.notes.bytes last count.1);
+          (GoOut-notes after.made.bytes after.out.bytes mid.bytes after.notes.bytes last short.2);
     }
 
 -- where nothing was put in notes, no line was
@@ -349,12 +348,12 @@ went-so_far m ended before after mid r part found went less said = record {
 pub ends-said : (m : Meaning) (before after : Seen) (mid : SeenStream) (ended wanted : Status) (earlier text : List ℕ)
     → Takes before.notes.bytes mid.bytes earlier → before.notes.faults ≤ mid.faults
     → SaysAtEnd ended wanted mid after.notes text
-    → text ≢ [] → IsWhole wanted → wanted ≢ status.Ok → OfSizes m before after (λ sizes. m.may_end sizes wanted (earlier ++ text))
+    → IsWhole wanted → wanted ≢ status.Ok → OfSizes m before after (λ sizes. m.may_end sizes wanted (earlier ++ text))
     → IfTold m before (GaveButNotes wanted (taken_in before) (taken_but_end after mid) text)
     → (m.is_command ≡ false → wanted ≡ status.Usage) → HasCause wanted m before after
     → KeepsAtEnd m before after wanted → KeepsAtEnd m before after status.Notes
     → Runs m before after ended
-ends-said m before after mid ended wanted earlier text took less says some whole not_ok may_end gave usage cause keeps keeps_untold = elim says [
+ends-said m before after mid ended wanted earlier text took less says whole not_ok may_end gave usage cause keeps keeps_untold = elim says [
   | inl said ↦ subst (λ (s : Status). Runs m before after s) (sym said.0)
       (ends-whole m before after wanted (earlier ++ text) whole may_end
       (Takes-append before.notes.bytes mid.bytes after.notes.bytes earlier text took said.1)
@@ -363,9 +362,9 @@ ends-said m before after mid ended wanted earlier text took less says some whole
       (λ e. absurd (not_ok e)) usage cause keeps)
   | inr failed ↦ subst (λ (s : Status). Runs m before after s) (sym failed.0)
       (ends-notes m before after wanted (earlier ++ text) may_end
-      (TakesFront-append before.notes.bytes mid.bytes after.notes.bytes earlier text took failed.2)
+      (TakesShort-append before.notes.bytes mid.bytes after.notes.bytes earlier text took failed.2)
       (λ r is. let a = gave r is in
-      (a.0, a.1, failed-said wanted before after mid text a.0 a.2 some failed.2))
+      (a.0, a.1, failed-said wanted before after mid text a.0 a.2 failed.2))
       (rose-behind before.notes.faults mid.faults after.notes.faults less failed.1) keeps_untold)
 ]
 
@@ -373,12 +372,12 @@ ends-said m before after mid ended wanted earlier text took less says some whole
 pub runs-said : (m : Meaning) (before after : Seen) (mid : SeenStream) (ended wanted : Status) (earlier text : List ℕ)
     → Takes before.notes.bytes mid.bytes earlier → before.notes.faults ≤ mid.faults
     → SaysAtEnd ended wanted mid after.notes text
-    → text ≢ [] → IsWhole wanted → wanted ≢ status.Ok → OfSizes m before after (λ sizes. m.may_end sizes wanted (earlier ++ text))
+    → IsWhole wanted → wanted ≢ status.Ok → OfSizes m before after (λ sizes. m.may_end sizes wanted (earlier ++ text))
     → IfTold m before (GaveButNotes wanted (taken_in before) (taken_but_end after mid) text)
     → (m.is_command ≡ false → wanted ≡ status.Usage) → HasCause wanted m before after → Keeps m before after
     → Runs m before after ended
-runs-said m before after mid ended wanted earlier text took less says some whole not_ok may_end gave usage cause keeps =
-    ends-said m before after mid ended wanted earlier text took less says some whole not_ok may_end gave usage cause
+runs-said m before after mid ended wanted earlier text took less says whole not_ok may_end gave usage cause keeps =
+    ends-said m before after mid ended wanted earlier text took less says whole not_ok may_end gave usage cause
     (keeps-ungrown m before after wanted keeps) (keeps-ungrown m before after status.Notes keeps)
 
 -- a run over the one file that was handed in

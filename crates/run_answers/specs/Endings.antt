@@ -82,7 +82,7 @@ abbrev pub IsShort : {W : Type 0} → Ending W → Type 0
 IsShort (end.Cut cut) = IsCutShort (status_of cut)
 IsShort other = ⊥
 
--- what went out of an answer when the work was cut off so: a front, up to bytes that go to the sink that failed
+-- what went out of an answer when the work was cut off so: a front, up to a byte that goes to the sink that failed
 abbrev pub HasPutToCut : Cut → (before after : Taken) → List ℕ → Answer → Type 0
 HasPutToCut cut.Made before after held answer = HasBrokenOff Made before after held answer
 HasPutToCut cut.Out before after held answer = HasBrokenOff Out before after held answer

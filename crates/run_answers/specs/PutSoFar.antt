@@ -30,7 +30,7 @@ pub record HasPutFront (before after : Taken) (held : List ℕ) (answer : Answer
   pub lines : PutsLines part answer.puts
   pub went : GoOutOrAreHeld before after Out part held
 
--- a front of what an answer puts went out, up to bytes that go to a sink that failed, and nothing is held
+-- a front of what an answer puts went out, up to a byte that goes to a sink that failed, and nothing is held
 pub record HasBrokenOff (stream : Stream) (before after : Taken) (held : List ℕ) (answer : Answer) : Type 0 where
   pub none_held : held ≡ []
   pub part : List Put

@@ -2,7 +2,7 @@
 use Rattle.std.specs.Prelude.{◌≡◌, ◌≢◌, ℕ, ◌≤◌, ◌⊎◌, true, Option, Some, None, List, [], ◌++◌, map, length, take, drop, slice_get, IfSome, IsSomeAnd, ◌+◌, ◌∷◌, false}
 use Rattle.std.specs.List.{AllByRecursion, flat_map}
 use Rattle.record_values.specs.Bytes.{AreBytes}
-use Rattle.record_io.specs.Outside.{Rose, Takes, TakesFront}
+use Rattle.record_io.specs.Outside.{Rose, Takes, TakesShort}
 use Rattle.record_io.specs.Puts.{Put, Made, Out, Notes, Taken, taken_by, GoOut, BreaksOff, bytes_to}
 use Rattle.run_answers.specs.declared.status.Status.{Status}
 use Rattle.run_answers.specs.Statuses.{fault_text}
@@ -147,13 +147,13 @@ TakesThen before after text last =
     (part : List ℕ) × Takes before.bytes after.bytes (text ++ part)
     × ((part ≡ last) ⊎ (Rose before.faults after.faults × (n : ℕ) × (part ≡ take n last)))
 
--- the work ended with a status and its text, or with that of a fault of notes, which took a front of the text
+-- the work ended with a status and its text, or with that of a fault of notes, which took a front of the text and not all
 abbrev pub SaysAtEnd : Status → Status → SeenStream → SeenStream → List ℕ → Type 0
 SaysAtEnd ended wanted before after text =
     ((ended ≡ wanted) × Takes before.bytes after.bytes text)
-    ⊎ ((ended ≡ status.Notes) × Rose before.faults after.faults × TakesFront before.bytes after.bytes text)
+    ⊎ ((ended ≡ status.Notes) × Rose before.faults after.faults × TakesShort before.bytes after.bytes text)
 
--- where a front of what is put broke off: at bytes that go to the sink that failed, or anywhere, where what is read failed or
+-- where a front of what is put broke off: before a byte that goes to the sink that failed, or anywhere, where what is read failed or
 -- memory was wanting
 abbrev pub Breaks : Status → (part puts : List Put) → Type 0
 Breaks status.Made part puts = BreaksOff Made part puts
@@ -255,7 +255,7 @@ pub record Runs (m : Meaning) (before after : Seen) (ended : Status) : Type 0 wh
   pub cut_off_said : IsCutOff ended → (text : List ℕ) × m.may_say text × TakesThen before.notes after.notes text (fault_text ended)
   pub front_said : ended ≡ status.Notes
       → OfSizes m before after (λ sizes.
-      (wanted : Status) × (text : List ℕ) × m.may_end sizes wanted text × TakesFront before.notes.bytes after.notes.bytes text)
+      (wanted : Status) × (text : List ℕ) × m.may_end sizes wanted text × TakesShort before.notes.bytes after.notes.bytes text)
   pub counts : NoneFell before after
   -- of the input no more is taken than the command may take, however it ended
   pub input_taken : TakesAtMost m.most_taken before.input.bytes after.input.bytes

@@ -26,7 +26,7 @@ pub fn put_report<O: Sink>(totals: &Totals, out: &mut O) -> Result<(), Failed>
 ///
 /// # Errors
 ///
-/// `Failed` only where the sink failed. It took a front of the lines.
+/// `Failed` only where the sink failed. It took a front of the lines and not all.
 pub fn put_counts<O: Sink>(counts: &[(&str, u64)], out: &mut O) -> Result<(), Failed>
     ensures out { PutsTo O.taken O.lent O.faults result
         (concat (map (λ count. count_line count.0.now count.1) counts.now)) out.old out.new }

@@ -1,6 +1,6 @@
 use Rattle.std.proofs.Common.{◌∙◌, [], ◌∷◌, ◌++◌, decimal, rules}
 use Rattle.std.proofs.lemmas.Result.{on_ok_weaker, on_err_weaker}
-use Rattle.record_io.proofs.Calls.{OnErr-any, TakesFront-longer}
+use Rattle.record_io.proofs.Calls.{OnErr-any, TakesShort-longer}
 use Rattle.run_answers.proofs.NoteLines.{held-more, front-more, front-flushed, whole-flushed}
 use Rattle.run_answers.proofs.notes.put_number.Goals as goal
 
@@ -8,7 +8,7 @@ pub returns-in_err-put-2 : goal.returns-in_err-put-2
 returns-in_err-put-2 g c = record {
   notes = record {
     whole = search rules;
-    front = OnErr-any _ (TakesFront-longer _ _ _ (10 ∷ []) (front-more _ _ _ c.args.text.now (decimal c.args.number) c.put.new.self
+    front = OnErr-any _ (TakesShort-longer _ _ _ (10 ∷ []) (front-more _ _ _ c.args.text.now (decimal c.args.number) c.put.new.self
         (rw (c.new-line.ensures, c.as_bytes.ensures.value) at c.in_ok-put.ensures.sink.whole)
         (rw (c.as_bytes-2.ensures.value ∙ c.format.ensures.text) at c.in_err-put-2.ensures.sink.front)));
     counts = search rules;
