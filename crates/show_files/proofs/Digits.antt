@@ -1,11 +1,11 @@
 -- The hexadecimal digits of bytes, piece by piece.
-use Rattle.std.proofs.Common.{◌≡◌, ◌≢◌, ◌∙◌, ℕ, ◌+◌, ◌-◌, ◌/◌, ◌%◌, Option, List, [], ◌∷◌, ◌++◌, length, take, drop, slice_index, slice_range, refl, sym, ap, subst, arith, length-append}
+use Rattle.std.proofs.Common.{◌≡◌, ◌∙◌, ℕ, ◌+◌, ◌-◌, ◌/◌, ◌%◌, Option, List, [], ◌∷◌, ◌++◌, take, drop, slice_index, slice_range, refl, sym, ap, subst, arith}
 use Rattle.std.proofs.Math.Seq.{take-add}
-use Rattle.std.proofs.lemmas.List.{nil_from_length, take-append-drop}
+use Rattle.std.proofs.lemmas.List.{take-append-drop}
 use Rattle.hex.specs.Hex.{encode_with, encode_lower, lower_digits}
-use Rattle.record_io.specs.Outside.{TakesFront}
+use Rattle.record_io.specs.Outside.{TakesShort}
 use Rattle.record_io.specs.Buffers.{TakesAndHolds}
-use Rattle.record_io.proofs.Buffered.{TakesAndHolds-append, TakesAndHolds-none, TakesFront-behind, TakesFront-held_longer}
+use Rattle.record_io.proofs.Buffered.{TakesAndHolds-append, TakesAndHolds-none, TakesShort-behind, TakesShort-held_longer}
 
 encode_with-append : (t xs ys : List ℕ) → encode_with t (xs ++ ys) ≡ encode_with t xs ++ encode_with t ys
 unfolding encode_with
@@ -39,26 +39,10 @@ module _ (a b c : Option (List ℕ)) (before held bytes : List ℕ) (at count : 
       subst (λ (xs : List ℕ). TakesAndHolds a c (before ++ xs) then) (sym (digits-next bytes at count))
       (TakesAndHolds-append a b c before held then (encode_lower (take at bytes)) Piece first next)
 
-  -- or it failed, and was none of no bytes
-  pub digits-failed : TakesFront b c (held ++ Piece) → TakesFront a c (before ++ encode_lower bytes)
+  -- or it failed
+  pub digits-failed : TakesShort b c (held ++ Piece) → TakesShort a c (before ++ encode_lower bytes)
   digits-failed next =
-      subst (λ (xs : List ℕ). TakesFront a c (before ++ xs)) (sym (digits-front bytes (at + count)))
-      (TakesFront-held_longer a c before (encode_lower (take (at + count) bytes)) (encode_lower (drop (at + count) bytes))
-      (subst (λ (xs : List ℕ). TakesFront a c (before ++ xs)) (sym (digits-next bytes at count))
-      (TakesFront-behind a b c before held (encode_lower (take at bytes)) Piece first next)))
-
-  pub digits-some : held ++ Piece ≢ [] → before ++ encode_lower bytes ≢ []
-  digits-some some = λ none.
-      some (nil_from_length (held ++ Piece) (omega (
-        arith,
-        ap length none,
-        length-append before (encode_lower bytes),
-        ap length (digits-front bytes (at + count)),
-        length-append (encode_lower (take (at + count) bytes)) (encode_lower (drop (at + count) bytes)),
-        ap length (digits-next bytes at count),
-        length-append (encode_lower (take at bytes)) Piece,
-        ap length first.parts,
-        length-append before (encode_lower (take at bytes)),
-        length-append first.passed held,
-        length-append held Piece,
-      )))
+      subst (λ (xs : List ℕ). TakesShort a c (before ++ xs)) (sym (digits-front bytes (at + count)))
+      (TakesShort-held_longer a c before (encode_lower (take (at + count) bytes)) (encode_lower (drop (at + count) bytes))
+      (subst (λ (xs : List ℕ). TakesShort a c (before ++ xs)) (sym (digits-next bytes at count))
+      (TakesShort-behind a b c before held (encode_lower (take at bytes)) Piece first next)))

@@ -1,14 +1,14 @@
 -- What a buffer beside a sink passed on and holds after the lists of some of the elements.
-use Rattle.std.proofs.Common.{◌≡◌, ◌≢◌, ◌∙◌, ℕ, ◌+◌, ◌<◌, Option, Result, List, [], ◌∷◌, ◌++◌, length, get_or, take, drop, sym, ap, subst, arith, add-one, length-append, rules}
+use Rattle.std.proofs.Common.{◌≡◌, ◌∙◌, ℕ, ◌+◌, ◌<◌, Option, Result, List, [], ◌∷◌, ◌++◌, length, get_or, take, drop, sym, ap, subst, add-one, rules}
 use Rattle.std.specs.List.{flat_map}
 use Rattle.std.proofs.Math.Seq.{take-suc}
 use Rattle.std.proofs.lemmas.Result.{on_ok_weaker, on_err_weaker}
-use Rattle.std.proofs.lemmas.List.{append-nil, nil_from_length, take-append-drop}
+use Rattle.std.proofs.lemmas.List.{append-nil, take-append-drop}
 use Rattle.std.proofs.lemmas.Grind.{flat_map-append}
-use Rattle.record_io.specs.Outside.{TakesFront}
+use Rattle.record_io.specs.Outside.{TakesShort}
 use Rattle.record_io.specs.Buffers.{TakesAndHolds}
 use Rattle.record_io.specs.Calls.{OnlyCounts, PutsThrough}
-use Rattle.record_io.proofs.Buffered.{TakesAndHolds-append, TakesFront-behind, TakesFront-held_longer}
+use Rattle.record_io.proofs.Buffered.{TakesAndHolds-append, TakesShort-behind, TakesShort-held_longer}
 
 -- the lists of one element more
 flat_map-next : {X : Type 0} (f : X → List ℕ) (xs : List X) (i : ℕ) (d : X) → i < length xs
@@ -35,35 +35,14 @@ lines-next f a b c before held then xs i x within is first next =
 
 pub lines-failed : {X : Type 0} (f : X → List ℕ) (a b c : Option (List ℕ)) (before held : List ℕ) (xs : List X) (i : ℕ) (x : X)
     → i < length xs → get_or xs i x ≡ x
-    → TakesAndHolds a b (before ++ flat_map f (take i xs)) held → TakesFront b c (held ++ f x)
-    → TakesFront a c (before ++ flat_map f xs)
+    → TakesAndHolds a b (before ++ flat_map f (take i xs)) held → TakesShort b c (held ++ f x)
+    → TakesShort a c (before ++ flat_map f xs)
 lines-failed f a b c before held xs i x within is first next =
-    subst (λ (ys : List ℕ). TakesFront a c (before ++ ys)) (sym (flat_map-front f xs (i + 1)))
-    (TakesFront-held_longer a c before (flat_map f (take (i + 1) xs)) (flat_map f (drop (i + 1) xs))
-    (subst (λ (ys : List ℕ). TakesFront a c (before ++ ys))
+    subst (λ (ys : List ℕ). TakesShort a c (before ++ ys)) (sym (flat_map-front f xs (i + 1)))
+    (TakesShort-held_longer a c before (flat_map f (take (i + 1) xs)) (flat_map f (drop (i + 1) xs))
+    (subst (λ (ys : List ℕ). TakesShort a c (before ++ ys))
     (ap (λ p. flat_map f (take i xs) ++ f p) (sym is) ∙ sym (flat_map-next f xs i x within))
-    (TakesFront-behind a b c before held (flat_map f (take i xs)) (f x) first next)))
-
--- and they were not none
-pub lines-some : {X : Type 0} (f : X → List ℕ) (a b : Option (List ℕ)) (before held : List ℕ) (xs : List X) (i : ℕ) (x : X)
-    → i < length xs → get_or xs i x ≡ x
-    → TakesAndHolds a b (before ++ flat_map f (take i xs)) held → held ++ f x ≢ []
-    → before ++ flat_map f xs ≢ []
-lines-some f a b before held xs i x within is first some = λ none.
-    some (nil_from_length (held ++ f x) (omega (
-      arith,
-      ap length none,
-      length-append before (flat_map f xs),
-      ap length (flat_map-front f xs (i + 1)),
-      length-append (flat_map f (take (i + 1) xs)) (flat_map f (drop (i + 1) xs)),
-      ap length (flat_map-next f xs i x within),
-      length-append (flat_map f (take i xs)) (f (get_or xs i x)),
-      ap (λ p. length (f p)) is,
-      ap length first.parts,
-      length-append before (flat_map f (take i xs)),
-      length-append first.passed held,
-      length-append held (f x),
-    )))
+    (TakesShort-behind a b c before held (flat_map f (take i xs)) (f x) first next)))
 
 -- bytes behind others that were put
 pub puts-then : {M L X E : Type 0} (taken : M → Option (List ℕ)) (lent : M → L) (faults : M → ℕ) (result : Result X E)
@@ -72,11 +51,7 @@ pub puts-then : {M L X E : Type 0} (taken : M → Option (List ℕ)) (lent : M �
     → PutsThrough taken lent faults result between then y mid after → PutsThrough taken lent faults result held then (x ++ y) before after
 puts-then taken lent faults result held between then x y before mid after first counts next = record {
   whole = on_ok_weaker result (TakesAndHolds-append (taken before) (taken mid) (taken after) held between then x y first) next.whole;
-  front = on_err_weaker result (TakesFront-behind (taken before) (taken mid) (taken after) held between x y first) next.front;
+  front = on_err_weaker result (TakesShort-behind (taken before) (taken mid) (taken after) held between x y first) next.front;
   emptied = next.emptied;
   counts = search rules;
 }
-
--- a line is never nothing
-pub line-some : (held text : List ℕ) → held ++ (text ++ 10 ∷ []) ≢ []
-line-some held text = λ none. absurd (omega (arith, ap length none, length-append held (text ++ 10 ∷ []), length-append text (10 ∷ [])))

@@ -44,7 +44,6 @@ strict_reads m P Q one may_end unmade says_nothing may_say = record {
     too_long = λ sizes long. may_end sizes status.Limit _ (inr (inr (long, refl, refl)));
     whole = λ fault. (tt, λ before after. tt);
     other = λ fault e. cc e;
-    some = λ fault e. cc e;
   };
   done = λ x. (λ sizes reach. may_end sizes status.Ok [] (inl (reach, refl, refl)), (tt, λ before after. tt));
   at = λ fault sizes reach. may_end sizes status.Refused (refused_text fault) (inr (inl (reach, fault, refl, refl)));

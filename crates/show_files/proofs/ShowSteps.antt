@@ -1,10 +1,10 @@
 -- How `show` gets on: the lines of the chunks that were read, one chunk more, and how they stand to the answer.
-use Rattle.std.proofs.Common.{◌≡◌, ◌≢◌, ◌∙◌, ℕ, ◌+◌, ◌-◌, ◌^◌, ◌≤◌, ◌⊎◌, Bool, true, false, Option, Some, None, Result, Ok, Err, IfSome, List, [], ◌∷◌, ◌++◌, length, take, drop, refl, sym, ap, subst, inl, inr, arith, append_assoc}
+use Rattle.std.proofs.Common.{◌≡◌, ◌∙◌, ℕ, ◌+◌, ◌-◌, ◌^◌, ◌≤◌, ◌⊎◌, Bool, true, false, Option, Some, None, Result, Ok, Err, IfSome, List, [], ◌∷◌, ◌++◌, length, take, drop, refl, sym, ap, subst, inl, inr, arith, append_assoc}
 use Rattle.std.specs.Result.{IsErr, IsErrAnd}
 use Rattle.std.specs.List.{enumerate_from}
 use Rattle.std.proofs.lemmas.List.{append-nil, take-append-drop}
 use Rattle.std.proofs.lemmas.Grind.{flat_map-append}
-use Rattle.record_io.specs.Outside.{TakesFront}
+use Rattle.record_io.specs.Outside.{TakesShort}
 use Rattle.record_io.specs.Buffers.{TakesAndHolds}
 use Rattle.record_io.specs.Puts.{Put, Out, Notes, Taken, taken_by, GoOutOrAreHeld, BreaksOff, puts_to, bytes_to}
 use Rattle.record_io.proofs.Puts.{GoOut-nothing, GoOutOrAreHeld-none, GoOutOrAreHeld-more, GoOut-broken, BreaksOff-longer, bytes_to-other, puts_to-append}
@@ -247,13 +247,13 @@ module _ (words : ShowWords) (file : List ℕ) (before after : Totals) (a : Take
 
   -- they failed to go out
   pub printed-failed : length file ≤ most_file_bytes → IsPrinted words file before a (taken_by made b notes) held → Given file before after k → Holds k records
-      → place ≡ before.bytes → TakesFront b c (held ++ More) → held ++ More ≢ [] → then ≡ []
+      → place ≡ before.bytes → TakesShort b c (held ++ More) → then ≡ []
       → (answer : Answer) → OfFile (IsShown words) (file ∷ []) answer → HasBrokenOff Out a (taken_by made c notes) then answer
-  printed-failed short (text, h, out) given holds here front some none answer is =
+  printed-failed short (text, h, out) given holds here front none answer is =
       let rest = puts-front words file after (text ++ More) answer (text-more words file before after text k records place h given holds here)
       (in_reach (IsShown words) file answer short is) in
       let puts : List Put = puts_to Out text ++ puts_to Out More in
-      let broken = GoOut-broken a made b c notes (puts_to Out text) held More out front some in
+      let broken = GoOut-broken a made b c notes (puts_to Out text) held More out front in
       record {
         none_held = none;
         part = broken.0;
@@ -399,16 +399,15 @@ next-printed words false (Some f) totals then size j before made out out_then no
 pub next-failed : (words : ShowWords) (keep : Bool) (bytes : Option (List ℕ)) (totals then : Totals) (size : ℕ) (j : Judged)
     (before : Taken) (made out out_then notes : Option (List ℕ)) (held held_then : List ℕ)
     → IsNext keep bytes totals then size j
-    → TakesFront out out_then (held ++ record_lines words.form (enumerate_from j.begin (records_given j.what)))
-    → held ++ record_lines words.form (enumerate_from j.begin (records_given j.what)) ≢ [] → held_then ≡ []
+    → TakesShort out out_then (held ++ record_lines words.form (enumerate_from j.begin (records_given j.what))) → held_then ≡ []
     → IfSome bytes (λ f. IsPrinted words f totals before (taken_by made out notes) held
     → AreBytes f → (answer : Answer) × OfFile (IsShown words) (f ∷ []) answer × HasBrokenOff Out before (taken_by made out_then notes) held_then answer)
-next-failed words true bytes totals then size j before made out out_then notes held held_then next front some none = absurd (cc next.strict)
-next-failed words false None totals then size j before made out out_then notes held held_then next front some none = tt
-next-failed words false (Some f) totals then size j before made out out_then notes held held_then next front some none = λ h.
+next-failed words true bytes totals then size j before made out out_then notes held held_then next front none = absurd (cc next.strict)
+next-failed words false None totals then size j before made out out_then notes held held_then next front none = tt
+next-failed words false (Some f) totals then size j before made out out_then notes held held_then next front none = λ h.
     some-answer (IsShown words) (shown_exists words) (HasBrokenOff Out before (taken_by made out_then notes) held_then) f
     (printed-failed words f totals then before made out out_then notes held held_then (value_of_chunk j.chunk) (records_given j.what) j.begin next.short h next.given
-    (what_holds (value_of_chunk j.chunk) j.what next.judged.what) next.judged.begin front some none)
+    (what_holds (value_of_chunk j.chunk) j.what next.judged.what) next.judged.begin front none)
 
 -- before the first chunk nothing was printed
 pub printed-none : (words : ShowWords) (bytes : Option (List ℕ)) (totals : Totals) (out : Taken) (held : List ℕ)

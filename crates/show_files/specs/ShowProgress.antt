@@ -1,5 +1,5 @@
 -- How far `show` has printed a file. Own.
-use Rattle.std.specs.Prelude.{◌≡◌, ℕ, Bool, true, Result, Ok, List, []}
+use Rattle.std.specs.Prelude.{◌≡◌, ℕ, Bool, true, Result, Ok, List}
 use Rattle.std.specs.List.{flat_map}
 use Rattle.record_io.specs.Puts.{Out, Taken, GoOutOrAreHeld, puts_to}
 use Rattle.record_values.specs.declared.file_totals.Totals.{Totals}

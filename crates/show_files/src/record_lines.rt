@@ -1,4 +1,4 @@
-ghost use Rattle.std.specs.Prelude.{◌≢◌, ◌+◌, ◌^◌, ◌<◌, ◌≤◌, ◌++◌, Ok, [], length, OnErr};
+ghost use Rattle.std.specs.Prelude.{◌+◌, ◌^◌, ◌<◌, ◌≤◌, Ok, length};
 ghost use Rattle.std.specs.List.{enumerate_from};
 ghost use Rattle.record_io.specs.Calls.{PutsThrough};
 ghost use Rattle.hex.specs.Hex.{encode_lower};
@@ -26,7 +26,6 @@ pub fn put_records<O: Sink>(
 ) -> Result<(), Failed>
     requires { begin + length records.now < 2 ^ 64 }
     ensures out { PutsThrough O.taken O.lent O.faults result lines.old lines.new (record_lines form.now (enumerate_from begin records.now)) out.old out.new }
-    ensures some { OnErr result (lines.old ++ record_lines form.now (enumerate_from begin records.now) ≢ []) }
 {
     for number in 0..records.len() {
         put_record(form, begin + number as u64, records.get(number), lines, out)?;
@@ -43,7 +42,6 @@ pub fn put_record<O: Sink>(
     out: &mut O,
 ) -> Result<(), Failed>
     ensures out { PutsThrough O.taken O.lent O.faults result lines.old lines.new (record_line form.now (position, bytes.now)) out.old out.new }
-    ensures some { OnErr result (lines.old ++ record_line form.now (position, bytes.now) ≢ []) }
 {
     put_position(form, position, lines, out)?;
     put_bytes(form, bytes, lines, out)?;
@@ -58,7 +56,6 @@ fn put_position<O: Sink>(
     out: &mut O,
 ) -> Result<(), Failed>
     ensures out { PutsThrough O.taken O.lent O.faults result lines.old lines.new (position_text form.now.positions position) out.old out.new }
-    ensures some { OnErr result (lines.old ++ position_text form.now.positions position ≢ []) }
 {
     if !form.positions {
         return Ok(());
@@ -76,7 +73,6 @@ fn put_bytes<O: Sink>(
     out: &mut O,
 ) -> Result<(), Failed>
     ensures out { PutsThrough O.taken O.lent O.faults result lines.old lines.new (bytes_text form.now.hex bytes.now) out.old out.new }
-    ensures some { OnErr result (lines.old ++ bytes_text form.now.hex bytes.now ≢ []) }
 {
     if form.hex {
         put_digits(bytes, lines, out)
@@ -92,7 +88,6 @@ fn put_digits<O: Sink>(
     out: &mut O,
 ) -> Result<(), Failed>
     ensures out { PutsThrough O.taken O.lent O.faults result lines.old lines.new (encode_lower bytes.now) out.old out.new }
-    ensures some { OnErr result (lines.old ++ encode_lower bytes.now ≢ []) }
 {
     let mut at = 0;
     while at < bytes.len() {
@@ -107,7 +102,6 @@ fn put_digits<O: Sink>(
 fn put_piece<O: Sink>(piece: &[u8], lines: &mut PutBuffer<LINES>, out: &mut O) -> Result<(), Failed>
     requires { length piece.now ≤ 512 }
     ensures out { PutsThrough O.taken O.lent O.faults result lines.old lines.new (encode_lower piece.now) out.old out.new }
-    ensures some { OnErr result (lines.old ++ encode_lower piece.now ≢ []) }
 {
     let mut room = [0; 2 * PIECE];
     let digits = &mut room[..2 * piece.len()];

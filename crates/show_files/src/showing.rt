@@ -1,4 +1,4 @@
-ghost use Rattle.std.specs.Prelude.{◌≡◌, ◌≢◌, ◌+◌, ◌-◌, ◌^◌, ◌<◌, ◌≤◌, ◌++◌, ℕ, Some, Option, Ok, Err, true, false, List, [], ◌∷◌, length, IfSome, OnErr, IsErrAnd};
+ghost use Rattle.std.specs.Prelude.{◌≡◌, ◌+◌, ◌-◌, ◌^◌, ◌<◌, ◌≤◌, ℕ, Some, Option, Ok, Err, true, false, List, [], ◌∷◌, length, IfSome, IsErrAnd};
 ghost use Rattle.std.specs.List.{enumerate_from};
 ghost use Rattle.record_io.specs.Outside.{Rose};
 ghost use Rattle.record_io.specs.Puts.{Taken, taken_by};
@@ -146,7 +146,6 @@ fn put_chunk<O: Sink>(
 ) -> Result<(), Failed>
     requires { judged.now.begin + length (records_given judged.now.what) < 2 ^ 64 }
     ensures out { PutsThrough O.taken O.lent O.faults result lines.old lines.new (record_lines words.now.form (enumerate_from judged.now.begin (records_given judged.now.what))) out.old out.new }
-    ensures some { OnErr result (lines.old ++ record_lines words.now.form (enumerate_from judged.now.begin (records_given judged.now.what)) ≢ []) }
 {
     match &judged.what {
         What::Records(records) => put_records(&words.form, judged.begin, records, lines, out),

@@ -1,6 +1,6 @@
 use Rattle.std.proofs.Common.{◌++◌, ◌∷◌, codes, decimal, rules}
 use Rattle.std.proofs.lemmas.Result.{on_ok_weaker, on_err_weaker}
-use Rattle.record_io.proofs.Calls.{OnErr-any, TakesFront-longer}
+use Rattle.record_io.proofs.Calls.{OnErr-any, TakesShort-longer}
 use Rattle.chunk_reader.specs.Names.{name_of}
 use Rattle.run_answers.specs.Answers.{line}
 use Rattle.run_answers.proofs.NoteLines.{front-flushed, front-more, held-more, whole-flushed}
@@ -11,7 +11,7 @@ pub returns-in_err-put_front : goal.returns-in_err-put_front
 returns-in_err-put_front g c = record {
   notes = record {
     whole = search rules;
-    front = OnErr-any _ (TakesFront-longer _ _ (codes "refused " ++ file_text c.args.index) (line (decimal c.args.fault.now.at ++ 32 ∷ name_of c.args.fault.now.why))
+    front = OnErr-any _ (TakesShort-longer _ _ (codes "refused " ++ file_text c.args.index) (line (decimal c.args.fault.now.at ++ 32 ∷ name_of c.args.fault.now.why))
         (rw c.new-held.ensures at c.in_err-put_front.ensures.notes.front));
     counts = search rules;
   };

@@ -23,7 +23,7 @@ pub returns-in-Err-clause-printed : goal.returns-in-Err-clause-printed
 returns-in-Err-clause-printed g c = λ made notes.
     end-unflushed reading_ends (IsShown c.args.words.now) c.print_chunks-printed.result _ c.unprinted.ensures _ _ (taken_by made (g.O.Sink.taken c.args.out.now) notes) made _ _ notes _
     c.in_ok-size.ensures.same_bytes (c.print_chunks-printed.ensures.printed made notes)
-    c.in-Err.ensures.sink.front c.in-Err.ensures.some
+    c.in-Err.ensures.sink.front
 
 pub returns-in_err-size-clause-allowed : goal.returns-in_err-size-clause-allowed
 returns-in_err-size-clause-allowed g c =

@@ -42,4 +42,4 @@ returns-clause-printed g c = λ before made notes.
       judged = (c.in-Ok-Some.ensures.chunk c.in-Ok-Some.judged (ap Ok c.in-Ok-Some.field-0-is)).judged;
       given = (c.in-Ok-Some.ensures.chunk c.in-Ok-Some.judged (ap Ok c.in-Ok-Some.field-0-is)).given;
     })
-    c.in-Err.ensures.out.front c.in-Err.ensures.some c.in-Err.ensures.out.emptied
+    c.in-Err.ensures.out.front c.in-Err.ensures.out.emptied

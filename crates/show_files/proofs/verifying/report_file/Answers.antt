@@ -8,7 +8,6 @@ use Rattle.show_files.proofs.ReadingsExist.{verified_exists}
 use Rattle.show_files.proofs.ShowSteps.{short_told}
 use Rattle.run_answers.proofs.FileRuns.{handed-work}
 use Rattle.show_files.proofs.VerifyEnds.{verify-refused, verified-held}
-use Rattle.run_answers.proofs.ReportLines.{report-some}
 use Rattle.show_files.proofs.verifying.report_file.Goals as goal
 
 pub returns-in_err-size-clause-printed : goal.returns-in_err-size-clause-printed
@@ -36,7 +35,7 @@ returns-in-Err-clause-printed g c = λ made notes.
     end-unflushed reading_ends IsVerified (Ok (tt {0})) Out refl _ _ (taken_by made (g.O.Sink.taken c.args.out.now) notes) made _ _ notes _ refl
     (verified-held _ _ _ c.in-Ok.totals c.in_ok-size.ensures.same_bytes
     (short_told _ c.in_ok-size.size c.in_ok-size.ensures.in_reach c.in_ok-size.ensures.exact) c.in-Ok.ensures.whole)
-    c.in-Err.ensures.out.front (report-some c.in-Ok.totals)
+    c.in-Err.ensures.out.front
 
 pub returns-in_err-size-clause-allowed : goal.returns-in_err-size-clause-allowed
 returns-in_err-size-clause-allowed g c =
