@@ -1,5 +1,5 @@
 -- What a run of a command that grows one file follows from, and what it keeps.
-use Rattle.std.proofs.Common.{◌≡◌, ◌∙◌, ℕ, ◌≤◌, ◌⊎◌, true, false, Some, List, [], ◌∷◌, length, refl, sym, ap, subst, inl, inr, arith}
+use Rattle.std.proofs.Common.{◌≡◌, ◌∙◌, ℕ, ◌≤◌, ◌⊎◌, true, false, Some, None, List, [], ◌∷◌, length, refl, sym, ap, subst, inl, inr, arith}
 use Rattle.std.specs.Option.{IfSome, IsSomeAnd}
 use Rattle.std.proofs.lemmas.Option.{MatchOption-at_some}
 use Rattle.run_answers.specs.declared.status.Status.{Status}
@@ -25,29 +25,38 @@ module _ (m : Meaning) (grows : GrowsFile m) (input input_then : SeenStream) (fi
   abbrev After : Seen
   After = seen input_then files made_then grown_then out_then notes_then
 
-  -- what follows from the size that the file told before the work, whether it tells it still or the work may have changed it
-  pub grown-size : (P : List ℕ → Type 0) (size : ℕ) → (grown_then.told ≡ Some size) ⊎ IsInReach (size ∷ [])
+  -- the file tells this size still, or none, where the work may have changed its size
+  abbrev pub StillTells : ℕ → Type 0
+  StillTells size = (grown_then.told ≡ Some size) ⊎ ((grown_then.told ≡ None) × IsInReach (size ∷ []))
+
+  -- what follows from the size that the file told before the work
+  pub grown-size : (P : List ℕ → Type 0) (size : ℕ) → StillTells size
       → IfSome grown.bytes (λ file. size ≡ length file) → P (size ∷ []) → OfSizes m Before After P
-  grown-size P size told exact holds = record {
+  grown-size P size tells exact holds = record {
     sizes = size ∷ [];
     told = λ uses. absurd (cc (sym uses ∙ grows.files));
     exact = λ uses. absurd (cc (sym uses ∙ grows.files));
-    grown_told = λ _. elim told [
-      | inl still ↦ inl (size, still, refl)
-      | inr within ↦ inr (grows.may_work (size ∷ []) within)
-    ];
+    grown_told = λ _. (
+      size,
+      refl,
+      elim tells [
+        | inl still ↦ inl still
+        | inr (none, within) ↦ inr (none, grows.may_work (size ∷ []) within)
+      ],
+    );
     grown_exact = λ _ file is. ap (λ (n : ℕ). n ∷ []) (MatchOption-at_some _ (λ (f : List ℕ). size ≡ length f) file is exact);
     holds = holds;
   }
 
   -- no more was handed out of the file, or the work was gone on to
   abbrev pub GrownHandsOut : Type 0
-  GrownHandsOut = (grown_then.handed ≡ grown.handed) ⊎ ((size : ℕ) × IsInReach (size ∷ []) × IfSome grown.bytes (λ file. size ≡ length file))
+  GrownHandsOut = (grown_then.handed ≡ grown.handed)
+      ⊎ ((size : ℕ) × IsInReach (size ∷ []) × IfSome grown.bytes (λ file. size ≡ length file) × StillTells size)
 
   grown-handed : GrownHandsOut → (grown_then.handed ≡ grown.handed) ⊎ ((m.uses.grown ≡ true) × OfSizes m Before After m.may_work)
   grown-handed (inl same) = inl same
-  grown-handed (inr (size, within, exact)) =
-      inr (grows.grown, grown-size m.may_work size (inr within) exact (grows.may_work (size ∷ []) within))
+  grown-handed (inr (size, within, exact, tells)) =
+      inr (grows.grown, grown-size m.may_work size tells exact (grows.may_work (size ∷ []) within))
 
   -- how the file comes from what it held
   abbrev GrownKeeps : Status → Type 0

@@ -118,9 +118,9 @@ pub record OfSizes (m : Meaning) (before after : Seen) (P : List ℕ → Type 0)
   pub told : m.uses.files ≡ true → map (λ file. file.told) after.files ≡ map Some sizes
   pub exact : m.uses.files ≡ true
       → (files : List (List ℕ)) → map (λ file. file.bytes) before.files ≡ map Some files → sizes ≡ map length files
-  -- what the file that is grown tells counts no more where the work may have changed its size
+  -- the file that is grown tells that size still, or none: its size may have changed, since it was cut or put to
   pub grown_told : m.uses.grown ≡ true
-      → ((size : ℕ) × (after.grown.told ≡ Some size) × (sizes ≡ size ∷ [])) ⊎ m.may_work sizes
+      → (size : ℕ) × (sizes ≡ size ∷ []) × ((after.grown.told ≡ Some size) ⊎ ((after.grown.told ≡ None) × m.may_work sizes))
   pub grown_exact : m.uses.grown ≡ true → (file : List ℕ) → before.grown.bytes ≡ Some file → sizes ≡ length file ∷ []
   pub holds : P sizes
 
