@@ -4,11 +4,11 @@ use Rattle.std.proofs.lemmas.List.{drop_at, length-append}
 use Rattle.block_layout.specs.Layout.{room, end_of}
 use Rattle.block_layout.proofs.Ends.{end_of_after, end_of_mono, end_of-more}
 use Rattle.block_layout.proofs.Runs.{room-end_of}
-use Rattle.record_io.specs.Outside.{TakesFront}
+use Rattle.record_io.specs.Outside.{TakesShort}
 use Rattle.record_io.specs.Buffers.{TakesAndHolds}
 use Rattle.ordered_writer.specs.Layings.{laid_between}
 use Rattle.ordered_writer.proofs.Runs.{laid_between-front}
-use Rattle.ordered_writer.proofs.RunCalls.{TakesFront-laid_longer, TakesAndHolds-more, TakesFront-more}
+use Rattle.ordered_writer.proofs.RunCalls.{TakesShort-laid_longer, TakesAndHolds-more, TakesShort-more}
 
 -- where bytes end, and those behind them
 abbrev pub first_end : ℕ → List ℕ → ℕ
@@ -49,22 +49,22 @@ TakesAndHolds-both a b c held between after begin end place until front rest end
     then
 
 -- the first failed
-pub TakesFront-first : (a b : Option (List ℕ)) (held : List ℕ) (begin end place until : ℕ) (front rest : List ℕ)
+pub TakesShort-first : (a b : Option (List ℕ)) (held : List ℕ) (begin end place until : ℕ) (front rest : List ℕ)
     → first_end place front ≤ until
-    → TakesFront a b (held ++ laid_between begin end place (first_end place front) front)
-    → TakesFront a b (held ++ laid_between begin end place until (front ++ rest))
-TakesFront-first a b held begin end place until front rest within first =
-    TakesFront-laid_longer a b held begin end place (first_end place front) until (front ++ rest) (end_of_after place (length front)) within
-    (subst (λ (xs : List ℕ). TakesFront a b (held ++ xs)) (first_laid begin end place front rest) first)
+    → TakesShort a b (held ++ laid_between begin end place (first_end place front) front)
+    → TakesShort a b (held ++ laid_between begin end place until (front ++ rest))
+TakesShort-first a b held begin end place until front rest within first =
+    TakesShort-laid_longer a b held begin end place (first_end place front) until (front ++ rest) (end_of_after place (length front)) within
+    (subst (λ (xs : List ℕ). TakesShort a b (held ++ xs)) (first_laid begin end place front rest) first)
 
 -- the others failed
-pub TakesFront-second : (a b c : Option (List ℕ)) (held between : List ℕ) (begin end place until : ℕ) (front rest : List ℕ)
+pub TakesShort-second : (a b c : Option (List ℕ)) (held between : List ℕ) (begin end place until : ℕ) (front rest : List ℕ)
     → until ≡ end_of (first_end place front) (length rest)
     → TakesAndHolds a b (held ++ laid_between begin end place (first_end place front) front) between
-    → TakesFront b c (between ++ laid_between begin end (first_end place front) until rest)
-    → TakesFront a c (held ++ laid_between begin end place until (front ++ rest))
-TakesFront-second a b c held between begin end place until front rest ends first then =
-    TakesFront-more a b c held between begin end place (first_end place front) until (front ++ rest) rest
+    → TakesShort b c (between ++ laid_between begin end (first_end place front) until rest)
+    → TakesShort a c (held ++ laid_between begin end place until (front ++ rest))
+TakesShort-second a b c held between begin end place until front rest ends first then =
+    TakesShort-more a b c held between begin end place (first_end place front) until (front ++ rest) rest
     (end_of_after place (length front)) (omega (arith, ends, end_of_after (first_end place front) (length rest)))
     (rest_laid begin end place until front rest)
     (subst (λ (xs : List ℕ). TakesAndHolds a b (held ++ xs) between) (first_laid begin end place front rest) first)

@@ -3,14 +3,14 @@ use Rattle.std.proofs.Common.{◌≡◌, ◌∙◌, ℕ, ◌+◌, ◌≤◌, Opt
 use Rattle.std.proofs.lemmas.List.{drop_all, length-append}
 use Rattle.block_layout.specs.Layout.{IsBoundary, room, end_of, chunk_end_of, IsOnBoundary}
 use Rattle.block_layout.proofs.Ends.{end_of_after, end_of-more}
-use Rattle.record_io.specs.Outside.{TakesFront}
+use Rattle.record_io.specs.Outside.{TakesShort}
 use Rattle.record_io.specs.Buffers.{TakesAndHolds}
 use Rattle.meta_chunk.specs.Laid.{end_of_chunk, laid_bytes}
 use Rattle.meta_chunk.specs.Files.{signature}
 use Rattle.ordered_writer.specs.Layings.{laid_between}
 use Rattle.block_layout.proofs.Runs.{room-end_of}
-use Rattle.ordered_writer.proofs.RunCalls.{TakesFront-laid_longer, TakesAndHolds-more, TakesFront-more}
-use Rattle.ordered_writer.proofs.Both.{TakesAndHolds-both, TakesFront-first, TakesFront-second}
+use Rattle.ordered_writer.proofs.RunCalls.{TakesShort-laid_longer, TakesAndHolds-more, TakesShort-more}
+use Rattle.ordered_writer.proofs.Both.{TakesAndHolds-both, TakesShort-first, TakesShort-second}
 
 -- the signature ends at 64
 pub end_of_chunk-signature : end_of_chunk 0 signature ≡ 64
@@ -45,12 +45,12 @@ rest_laid begin end header content =
     (sym (drop_all (room begin (data_end begin header content)) (header ++ content) (omega (arith, length-append header content))))
 
 -- where the header failed
-pub TakesFront-chunk_header : (a b : Option (List ℕ)) (held : List ℕ) (begin end : ℕ) (header content : List ℕ)
+pub TakesShort-chunk_header : (a b : Option (List ℕ)) (held : List ℕ) (begin end : ℕ) (header content : List ℕ)
     → header_end begin header ≤ end
-    → TakesFront a b (held ++ laid_between begin end begin (header_end begin header) header)
-    → TakesFront a b (held ++ laid_bytes begin end (header ++ content))
-TakesFront-chunk_header a b held begin end header content within front =
-    rw (laid_bytes-between begin end (header ++ content)) (TakesFront-first a b held begin end begin end header content within front)
+    → TakesShort a b (held ++ laid_between begin end begin (header_end begin header) header)
+    → TakesShort a b (held ++ laid_bytes begin end (header ++ content))
+TakesShort-chunk_header a b held begin end header content within front =
+    rw (laid_bytes-between begin end (header ++ content)) (TakesShort-first a b held begin end begin end header content within front)
 
 -- where header and data went well
 pub TakesAndHolds-data : (a b c : Option (List ℕ)) (held between after : List ℕ) (begin end : ℕ) (header content : List ℕ)
@@ -61,16 +61,16 @@ TakesAndHolds-data a b c held between after begin end header content =
     TakesAndHolds-both a b c held between after begin end begin (data_end begin header content) header content refl
 
 -- where the data failed
-pub TakesFront-data : (a b c : Option (List ℕ)) (held between : List ℕ) (begin end : ℕ) (header content : List ℕ)
+pub TakesShort-data : (a b c : Option (List ℕ)) (held between : List ℕ) (begin end : ℕ) (header content : List ℕ)
     → data_end begin header content ≤ end
     → TakesAndHolds a b (held ++ laid_between begin end begin (header_end begin header) header) between
-    → TakesFront b c (between ++ laid_between begin end (header_end begin header) (data_end begin header content) content)
-    → TakesFront a c (held ++ laid_bytes begin end (header ++ content))
-TakesFront-data a b c held between begin end header content within first then =
+    → TakesShort b c (between ++ laid_between begin end (header_end begin header) (data_end begin header content) content)
+    → TakesShort a c (held ++ laid_bytes begin end (header ++ content))
+TakesShort-data a b c held between begin end header content within first then =
     rw (laid_bytes-between begin end (header ++ content))
-    (TakesFront-laid_longer a c held begin end begin (data_end begin header content) end (header ++ content)
+    (TakesShort-laid_longer a c held begin end begin (data_end begin header content) end (header ++ content)
     (omega (arith, end_of_after begin (length header), end_of_after (header_end begin header) (length content))) within
-    (TakesFront-second a b c held between begin end begin (data_end begin header content) header content refl first then))
+    (TakesShort-second a b c held between begin end begin (data_end begin header content) header content refl first then))
 
 -- where the padding behind them went well
 pub TakesAndHolds-padding : (a b c : Option (List ℕ)) (held between after : List ℕ) (begin end : ℕ) (header content : List ℕ)
@@ -85,13 +85,13 @@ TakesAndHolds-padding a b c held between after begin end header content within f
     (rest_laid begin end header content) first then)
 
 -- and where it failed
-pub TakesFront-padding : (a b c : Option (List ℕ)) (held between : List ℕ) (begin end : ℕ) (header content : List ℕ)
+pub TakesShort-padding : (a b c : Option (List ℕ)) (held between : List ℕ) (begin end : ℕ) (header content : List ℕ)
     → data_end begin header content ≤ end
     → TakesAndHolds a b (held ++ laid_between begin end begin (data_end begin header content) (header ++ content)) between
-    → TakesFront b c (between ++ laid_between begin end (data_end begin header content) end [])
-    → TakesFront a c (held ++ laid_bytes begin end (header ++ content))
-TakesFront-padding a b c held between begin end header content within first then =
+    → TakesShort b c (between ++ laid_between begin end (data_end begin header content) end [])
+    → TakesShort a c (held ++ laid_bytes begin end (header ++ content))
+TakesShort-padding a b c held between begin end header content within first then =
     rw (laid_bytes-between begin end (header ++ content))
-    (TakesFront-more a b c held between begin end begin (data_end begin header content) end (header ++ content) []
+    (TakesShort-more a b c held between begin end begin (data_end begin header content) end (header ++ content) []
     (omega (arith, end_of_after begin (length header), end_of_after (header_end begin header) (length content))) within
     (rest_laid begin end header content) first then)

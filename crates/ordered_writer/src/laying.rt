@@ -2,7 +2,7 @@
 
 ghost use Rattle.std.specs.Prelude.{◌≡◌, ◌+◌, ◌^◌, ◌<◌, ◌≤◌, [], ◌++◌, min, length, IfOk, OnOk, OnErr, IsErr};
 ghost use Rattle.block_layout.specs.Layout.{end_of, IsNextPlace, IsOnBoundary, usable_from};
-ghost use Rattle.record_io.specs.Outside.{TakesFront};
+ghost use Rattle.record_io.specs.Outside.{TakesShort};
 ghost use Rattle.record_io.specs.Buffers.{TakesAndHolds};
 ghost use Rattle.record_io.specs.Calls.{OnlyCounts, PutsThrough};
 ghost use Rattle.meta_chunk.specs.Laid.{laid_bytes};
@@ -132,7 +132,7 @@ impl Laying {
         ensures same_end { self.new.end ≡ self.old.end }
         ensures whole { OnOk result (TakesAndHolds (M.taken sink.old) (M.taken sink.new)
             (buffer.old ++ laid_between self.old.begin self.old.end self.old.place self.new.place bytes.now) buffer.new) }
-        ensures front { OnErr result (TakesFront (M.taken sink.old) (M.taken sink.new)
+        ensures front { OnErr result (TakesShort (M.taken sink.old) (M.taken sink.new)
             (buffer.old ++ laid_between self.old.begin self.old.end self.old.place
             (min (end_of self.old.place (length bytes.now)) self.old.end) bytes.now)) }
         ensures emptied { OnErr result (buffer.new ≡ []) }

@@ -26,7 +26,7 @@ use std::marker::Model;
 /// `flush`, of whose failure the writer isn't told.
 ///
 /// After a call that failed the writer is spent, and must not be asked to write any more. Of that call's bytes the sink
-/// took a front. Own.
+/// took a front and not all. Own.
 #[derive(Debug, Drop)]
 pub struct OrderedWriter {
     position: u64,

@@ -3,7 +3,7 @@ use Rattle.std.proofs.lemmas.Result.{on_ok_weaker, on_err_weaker}
 use Rattle.record_io.proofs.Calls.{OnErr-any}
 use Rattle.block_layout.specs.Layout.{end_of}
 use Rattle.block_layout.proofs.Ends.{end_of_after, end_of_mono, end_of-more}
-use Rattle.ordered_writer.proofs.Chunks.{TakesFront-chunk_header, TakesAndHolds-data, TakesFront-data, TakesAndHolds-padding, TakesFront-padding}
+use Rattle.ordered_writer.proofs.Chunks.{TakesShort-chunk_header, TakesAndHolds-data, TakesShort-data, TakesAndHolds-padding, TakesShort-padding}
 use Rattle.ordered_writer.proofs.laying.lay_chunk.Goals as goal
 use Rattle.ordered_writer.proofs.laying.lay_chunk.Goals.{In_ok-put, In_ok-put_both}
 
@@ -36,7 +36,7 @@ put_both-requires g c = (
 pub returns-in_err-put-clause-sink : goal.returns-in_err-put-clause-sink
 returns-in_err-put-clause-sink g c = record {
   whole = search rules;
-  front = OnErr-any _ (TakesFront-chunk_header _ _ c.args.buffer.now c.args.begin c.args.end c.args.header.now (c.args.front.now ++ c.args.rest.now)
+  front = OnErr-any _ (TakesShort-chunk_header _ _ c.args.buffer.now c.args.begin c.args.end c.args.header.now (c.args.front.now ++ c.args.rest.now)
       (omega (arith, end_of_mono c.args.begin (length c.args.header.now) (length c.args.header.now + length (c.args.front.now ++ c.args.rest.now)) (omega arith)))
       c.in_err-put.ensures.sink.front);
   emptied = search rules;
@@ -48,7 +48,7 @@ returns-in_err-put_both-clause-sink g c =
     let e = c.in_ok-put.ensures in
     record {
       whole = search rules;
-      front = OnErr-any _ (TakesFront-data _ _ _ c.args.buffer.now c.put.new.buffer c.args.begin c.args.end c.args.header.now (c.args.front.now ++ c.args.rest.now)
+      front = OnErr-any _ (TakesShort-data _ _ _ c.args.buffer.now c.put.new.buffer c.args.begin c.args.end c.args.header.now (c.args.front.now ++ c.args.rest.now)
           (data_within c.args.begin c.args.end (length c.args.header.now) (length (c.args.front.now ++ c.args.rest.now)) c.requires.room)
           e.sink.whole
           (rw (e.same_begin, e.same_end, e.moved) at c.in_err-put_both.ensures.sink.front));
@@ -70,7 +70,7 @@ returns-clause-sink g c =
           (TakesAndHolds-padding _ _ _ c.args.buffer.now c.put_both.new.buffer c.finish.new.buffer c.args.begin c.args.end c.args.header.now content within first)
           then.whole;
       front = on_err_weaker c.finish.result
-          (TakesFront-padding _ _ _ c.args.buffer.now c.put_both.new.buffer c.args.begin c.args.end c.args.header.now content within first)
+          (TakesShort-padding _ _ _ c.args.buffer.now c.put_both.new.buffer c.args.begin c.args.end c.args.header.now content within first)
           then.front;
       emptied = search rules;
       counts = search rules;

@@ -2,7 +2,7 @@ use Rattle.std.proofs.Common.{ℕ, ◌<◌, min, [], refl, arith, rules}
 use Rattle.record_io.proofs.Calls.{OnErr-any}
 use Rattle.block_layout.specs.Layout.{end_of}
 use Rattle.block_layout.proofs.Ends.{end_of_above, end_of_after}
-use Rattle.ordered_writer.proofs.RunCalls.{TakesAndHolds-more_zeros, TakesFront-more_zeros, TakesAndHolds-nothing_laid}
+use Rattle.ordered_writer.proofs.RunCalls.{TakesAndHolds-more_zeros, TakesShort-more_zeros, TakesAndHolds-nothing_laid}
 use Rattle.ordered_writer.proofs.laying.Laying.finish.Goals as goal
 
 pub loop-self-init : goal.loop-self-init
@@ -47,7 +47,7 @@ returns-in_err-put_run-clause-sink g c =
     let until : ℕ = min (end_of place 4096) self.end in
     record {
       whole = search rules;
-      front = OnErr-any _ (TakesFront-more_zeros _ _ _ c.args.buffer.now c.loop-self.buffer self.begin self.end self.place place until
+      front = OnErr-any _ (TakesShort-more_zeros _ _ _ c.args.buffer.now c.loop-self.buffer self.begin self.end self.place place until
           4096 i.after (omega (arith, end_of_after place 4096)) (omega arith) i.taken (rw (i.begin, i.end) at front));
       emptied = search rules;
       counts = search rules;

@@ -5,7 +5,7 @@ use Rattle.block_layout.specs.Layout.{room, end_of}
 use Rattle.block_layout.proofs.Ends.{end_of-zero, end_of_after, end_of_mono, end_of-more}
 use Rattle.ordered_writer.specs.Layings.{laid_between}
 use Rattle.block_layout.proofs.Runs.{end_of_strict, room-end_of}
-use Rattle.ordered_writer.proofs.RunCalls.{run_end, run_end-rest, TakesAndHolds-more, TakesFront-more, TakesAndHolds-nothing_laid}
+use Rattle.ordered_writer.proofs.RunCalls.{run_end, run_end-rest, TakesAndHolds-more, TakesShort-more, TakesAndHolds-nothing_laid}
 use Rattle.ordered_writer.proofs.laying.Laying.put.Goals as goal
 
 pub loop-at-init : goal.loop-at-init
@@ -45,7 +45,7 @@ returns-in_err-at-clause-sink g c =
     let front = rw (i.place, i.begin, i.end, until) at c.in_err-at.ensures.front in
     record {
       whole = search rules;
-      front = OnErr-any _ (TakesFront-more _ _ _ c.args.buffer.now c.loop-at.buffer self.begin self.end self.place (end_of self.place c.loop-at.at) (end_of self.place (length bytes))
+      front = OnErr-any _ (TakesShort-more _ _ _ c.args.buffer.now c.loop-at.buffer self.begin self.end self.place (end_of self.place c.loop-at.at) (end_of self.place (length bytes))
           bytes rest (end_of_after self.place c.loop-at.at) (end_of_mono self.place c.loop-at.at (length bytes) i.within) (same_rest self.begin self.end self.place _ c.loop-at.at bytes) (rw i.place at i.taken) front);
       emptied = search rules;
       counts = search rules;

@@ -3,7 +3,7 @@ use Rattle.std.proofs.lemmas.Result.{on_ok_weaker, on_err_weaker}
 use Rattle.record_io.proofs.Calls.{OnErr-any}
 use Rattle.block_layout.specs.Layout.{end_of}
 use Rattle.block_layout.proofs.Ends.{end_of_after}
-use Rattle.ordered_writer.proofs.Both.{first_end, TakesAndHolds-both, TakesFront-first, TakesFront-second, both_end, first_within}
+use Rattle.ordered_writer.proofs.Both.{first_end, TakesAndHolds-both, TakesShort-first, TakesShort-second, both_end, first_within}
 use Rattle.ordered_writer.proofs.laying.Laying.put_both.Goals as goal
 use Rattle.ordered_writer.proofs.laying.Laying.put_both.Goals.{In_ok-put}
 
@@ -15,7 +15,7 @@ returns-in_err-put-clause-sink g c =
     let self = c.args.self.now in
     record {
       whole = search rules;
-      front = OnErr-any _ (TakesFront-first _ _ c.args.buffer.now self.begin self.end self.place (end_of self.place (length (c.args.front.now ++ c.args.rest.now)))
+      front = OnErr-any _ (TakesShort-first _ _ c.args.buffer.now self.begin self.end self.place (end_of self.place (length (c.args.front.now ++ c.args.rest.now)))
           c.args.front.now c.args.rest.now (omega (arith, both_end self.place c.args.front.now c.args.rest.now, end_of_after (first_end self.place c.args.front.now) (length c.args.rest.now)))
           c.in_err-put.ensures.sink.front);
       emptied = search rules;
@@ -50,7 +50,7 @@ returns-clause-sink g c =
           (TakesAndHolds-both _ _ _ c.args.buffer.now c.put.new.buffer c.put-2.new.buffer self.begin self.end self.place until c.args.front.now c.args.rest.now
           is_until e.sink.whole) then.whole;
       front = on_err_weaker c.put-2.result
-          (TakesFront-second _ _ _ c.args.buffer.now c.put.new.buffer self.begin self.end self.place until c.args.front.now c.args.rest.now
+          (TakesShort-second _ _ _ c.args.buffer.now c.put.new.buffer self.begin self.end self.place until c.args.front.now c.args.rest.now
           is_until e.sink.whole) then.front;
       emptied = search rules;
       counts = search rules;

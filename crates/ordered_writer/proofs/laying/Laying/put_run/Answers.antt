@@ -2,7 +2,7 @@ use Rattle.std.proofs.Common.{◌≡◌, ℕ, ◌+◌, ◌%◌, ◌<◌, ◌≤�
 use Rattle.block_layout.specs.Layout.{usable_from}
 use Rattle.record_io.proofs.Calls.{OnErr-any}
 use Rattle.block_layout.proofs.Runs.{end_of-run}
-use Rattle.ordered_writer.proofs.RunCalls.{TakesFront-header, TakesFront-run, TakesAndHolds-run}
+use Rattle.ordered_writer.proofs.RunCalls.{TakesShort-header, TakesShort-run, TakesAndHolds-run}
 use Rattle.ordered_writer.proofs.laying.Laying.put_run.Goals as goal
 use Rattle.ordered_writer.proofs.laying.Laying.put_run.Goals.{After-min-count}
 
@@ -22,14 +22,14 @@ run g c =
 pub returns-in_err-put_block_header-clause-front : goal.returns-in_err-put_block_header-clause-front
 returns-in_err-put_block_header-clause-front g c =
     let self = c.args.self.now in
-    OnErr-any _ (TakesFront-header _ _ c.args.buffer.now self.begin self.end self.place c.args.bytes.now
+    OnErr-any _ (TakesShort-header _ _ c.args.buffer.now self.begin self.end self.place c.args.bytes.now
     self.next_place self.to_boundary c.requires.before_end c.requires.some c.in_err-put_block_header.ensures.sink.front)
 
 pub returns-in_err-put-clause-front : goal.returns-in_err-put-clause-front
 returns-in_err-put-clause-front g c =
     let self = c.args.self.now in
     let r = run g (goal.at.returns-in_err-put-clause-front g c).After-min-count in
-    OnErr-any _ (TakesFront-run _ _ _ c.args.buffer.now c.put_block_header.new.buffer self.begin self.end self.place c.min-count.result c.args.bytes.now
+    OnErr-any _ (TakesShort-run _ _ _ c.args.buffer.now c.put_block_header.new.buffer self.begin self.end self.place c.min-count.result c.args.bytes.now
     self.next_place r.some r.enough r.fits r.within c.in_ok-put_block_header.ensures.sink.whole c.in_err-put.ensures.sink.front)
 
 pub returns-clause-moved : goal.returns-clause-moved
