@@ -5,8 +5,8 @@ use Rattle.std.specs.List.{AllByRecursion}
 use Rattle.std.specs.Result.{OnOk, OnErr}
 use Rattle.std.proofs.lemmas.List.{append-nil, length-replicate, map-append}
 use Rattle.std.proofs.lemmas.List.Sums.{count_by-le-length}
-use Rattle.record_io.specs.Outside.{Takes, TakesFront}
-use Rattle.record_io.proofs.Calls.{TakesFront-longer}
+use Rattle.record_io.specs.Outside.{Takes, TakesShort}
+use Rattle.record_io.proofs.Calls.{TakesShort-longer}
 use Rattle.chunk_header.specs.Chunks.{ChunkValue}
 use Rattle.chunk_header.specs.SimpleChunks.{simple_chunk}
 use Rattle.chunk_header.specs.Views.{value_of_chunk}
@@ -120,10 +120,10 @@ Lays-next x y z s t u given c first then =
     (Lays-append x y z s t u (map value_of_chunk given) (value_of_chunk c ∷ []) first then)
 
 -- or a front of them all, where it failed
-pub LaysFront-next : (x y z : Option (List ℕ)) (s t u : MadeFileValue) (all given rest : List Chunk) (c : Chunk) → given ++ c ∷ rest ≡ all
-    → Lays x y s t (map value_of_chunk given) → LaysFront y z t u (value_of_chunk c ∷ []) → LaysFront x z s u (map value_of_chunk all)
-LaysFront-next x y z s t u all given rest c is first then =
-    subst (λ (ks : List ChunkValue). LaysFront x z s u ks) (values-split all given rest c is)
+pub LaysFront-next : {F : Type 0} (x y z : Option (List ℕ)) (s t u : MadeFileValue) (all given rest : List Chunk) (c : Chunk) → given ++ c ∷ rest ≡ all
+    → Lays x y s t (map value_of_chunk given) → LaysFront F y z t u (value_of_chunk c ∷ []) → LaysFront F x z s u (map value_of_chunk all)
+LaysFront-next {F} x y z s t u all given rest c is first then =
+    subst (λ (ks : List ChunkValue). LaysFront F x z s u ks) (values-split all given rest c is)
     (LaysFront-longer x z s u (map value_of_chunk given ++ value_of_chunk c ∷ []) (map value_of_chunk rest)
     (LaysFront-behind x y z s t u (map value_of_chunk given) (value_of_chunk c ∷ []) first then))
 
@@ -142,9 +142,9 @@ Lays-flushed x y s t going is out =
     })
 
 -- or a front of it
-pub LaysFront-flushed : (x y : Option (List ℕ)) (s t : MadeFileValue) (ks : List ChunkValue) → t ≡ record s { held = [] } → TakesFront x y s.held → LaysFront x y s t ks
+pub LaysFront-flushed : {F : Type 0} (x y : Option (List ℕ)) (s t : MadeFileValue) (ks : List ChunkValue) → t ≡ record s { held = [] } → TakesShort x y s.held → LaysFront F x y s t ks
 LaysFront-flushed x y s t ks is front =
-    LaysFront-failed x y s t ks (ap (λ (t : MadeFileValue). t.held) is) (TakesFront-longer x y s.held (laid_each s.place ks) front)
+    LaysFront-failed x y s t ks (ap (λ (t : MadeFileValue). t.held) is) (TakesShort-longer x y s.held (laid_each s.place ks) front)
 
 -- chunks that were put between what went out before and what went out behind them
 pub Lays-out : {X E : Type 0} (result : Result X E) (w x y z : Option (List ℕ)) (s t u v : MadeFileValue) (ks : List ChunkValue)
@@ -154,9 +154,9 @@ Lays-out (Ok r) w x y z s t u v ks first then is out =
     (Lays-append w y z s u v ks [] (Lays-append w x y s t u [] ks first then) (Lays-flushed y z u v then.going is out))
 Lays-out (Err e) w x y z s t u v ks first then is out = tt
 
-pub LaysFront-out : {X E : Type 0} (result : Result X E) (w x y z : Option (List ℕ)) (s t u v : MadeFileValue) (ks : List ChunkValue)
-    → Lays w x s t [] → Lays x y t u ks → v ≡ record u { held = [] } → OnErr result (TakesFront y z u.held) → OnErr result (LaysFront w z s v ks)
-LaysFront-out (Ok r) w x y z s t u v ks first then is front = tt
-LaysFront-out (Err e) w x y z s t u v ks first then is front =
-    subst (λ (ks : List ChunkValue). LaysFront w z s v ks) (append-nil ks)
+pub LaysFront-out : {X E : Type 0} (F : Type 0) (result : Result X E) (w x y z : Option (List ℕ)) (s t u v : MadeFileValue) (ks : List ChunkValue)
+    → Lays w x s t [] → Lays x y t u ks → v ≡ record u { held = [] } → OnErr result (TakesShort y z u.held) → OnErr result (LaysFront F w z s v ks)
+LaysFront-out F (Ok r) w x y z s t u v ks first then is front = tt
+LaysFront-out F (Err e) w x y z s t u v ks first then is front =
+    subst (λ (ks : List ChunkValue). LaysFront F w z s v ks) (append-nil ks)
     (LaysFront-behind w y z s u v ks [] (Lays-append w x y s t u [] ks first then) (LaysFront-flushed y z u v [] is front))

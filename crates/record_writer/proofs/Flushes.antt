@@ -3,8 +3,8 @@ use Rattle.std.proofs.Common.{◌≡◌, ◌∙◌, ℕ, Option, Some, None, Res
 use Rattle.std.proofs.lemmas.List.{append-nil}
 use Rattle.std.specs.Option.{IfSome}
 use Rattle.std.specs.Result.{OnOk, OnErr}
-use Rattle.record_io.specs.Outside.{Takes, TakesFront}
-use Rattle.record_io.proofs.Calls.{Takes-append, TakesFront-append, TakesFront-longer, TakesFront-none}
+use Rattle.record_io.specs.Outside.{Takes, TakesFront, TakesShort}
+use Rattle.record_io.proofs.Calls.{Takes-append, TakesFront-append, TakesFront-none, TakesShort-append, TakesShort-longer}
 use Rattle.meta_chunk.specs.Files.{signature, signature_bytes, laid_each}
 use Rattle.meta_chunk.specs.Laid.{end_of_chunk}
 use Rattle.record_group.proofs.Signed.{file_of-signed}
@@ -21,7 +21,7 @@ use Rattle.record_writer.specs.Feeds.{Rest}
 use Rattle.record_writer.specs.Written.{TakesFile, file_under, tail_chunks, tail_under}
 use Rattle.record_writer.specs.MadeFiles.{MadeFileValue, Lays, LaysFront, nothing_made, totals_behind, totals_made}
 use Rattle.record_writer.proofs.Counted.{totals_made-behind}
-use Rattle.record_writer.proofs.Fronts.{Takes-flushed, TakesFront-flushed, TakesFront-front_flushed}
+use Rattle.record_writer.proofs.Fronts.{Takes-flushed, TakesShort-flushed, TakesShort-front_flushed, TakesFront-front_flushed, TakesShort-put_failed}
 
 -- the bytes of the chunks of records behind what is held
 abbrev bytes_behind : WriteOptions → MadeFileValue → List (List ℕ) → List ℕ
@@ -36,26 +36,32 @@ Takes-ended options s a b c t None (Ok x) whole flushed = tt
 Takes-ended options s a b c t (Some rest) (Ok x) whole flushed =
     Takes-flushed a b c (bytes_behind options s rest.records) t.held whole.bytes flushed
 
--- where that failed, or wasn't tried, it took a front, however the chunks were put
-pub TakesFront-ended : {T E : Type 0} (options : WriteOptions) (s : MadeFileValue) (a b c : Option (List ℕ)) (t : MadeFileValue) (ra : Option Rest) (r : Result T E)
+-- not all of them where that failed, however the chunks were put
+pub TakesShort-ended : {T E : Type 0} (F : Type 0) (options : WriteOptions) (s : MadeFileValue) (a b c : Option (List ℕ)) (t : MadeFileValue) (ra : Option Rest) (r : Result T E)
     → OnOk r (IfSome ra (λ rest. Lays a b s t (tail_chunks options s.place rest.records)))
-    → OnErr r (IfSome ra (λ rest. LaysFront a b s t (tail_chunks options s.place rest.records)))
-    → TakesFront b c t.held → IfSome ra (λ rest. TakesFront a c (bytes_behind options s rest.records))
-TakesFront-ended options s a b c t None r whole front flushed = tt
-TakesFront-ended options s a b c t (Some rest) (Ok x) whole front flushed =
-    TakesFront-flushed a b c (bytes_behind options s rest.records) t.held whole.bytes flushed
-TakesFront-ended options s a b c t (Some rest) (Err e) whole front flushed =
+    → OnErr r (IfSome ra (λ rest. LaysFront F a b s t (tail_chunks options s.place rest.records)))
+    → TakesShort b c t.held → IfSome ra (λ rest. TakesShort a c (bytes_behind options s rest.records))
+TakesShort-ended F options s a b c t None r whole front flushed = tt
+TakesShort-ended F options s a b c t (Some rest) (Ok x) whole front flushed =
+    TakesShort-flushed a b c (bytes_behind options s rest.records) t.held whole.bytes flushed
+TakesShort-ended F options s a b c t (Some rest) (Err e) whole front flushed =
+    TakesShort-front_flushed a b c (bytes_behind options s rest.records) t.held front.bytes flushed
+
+-- what is said of the sink where the work was cut off
+pub TakesFile-cut : {T : Type 0} (options : WriteOptions) (s : MadeFileValue) (a b c : Option (List ℕ)) (t : MadeFileValue) (ra : Option Rest) (r : Result T CutOff)
+    (cut : CutOff) → r ≡ Err cut
+    → OnErr r (IfSome ra (λ rest. LaysFront (r ≡ Err Made) a b s t (tail_chunks options s.place rest.records)))
+    → TakesFront b c t.held → IfSome ra (λ rest. TakesFile (Err (end_of_cut cut)) a c (bytes_behind options s rest.records))
+TakesFile-cut options s a b c t None r cut is front flushed = tt
+TakesFile-cut options s a b c t (Some rest) (Ok x) cut is front flushed = absurd cc
+TakesFile-cut options s a b c t (Some rest) (Err e) Input is front flushed =
+    TakesFront-front_flushed a b c (bytes_behind options s rest.records) t.held front.bytes flushed
+TakesFile-cut options s a b c t (Some rest) (Err e) Made is front flushed =
+    TakesShort-put_failed a b c (bytes_behind options s rest.records) t.held front.bytes is flushed
+TakesFile-cut options s a b c t (Some rest) (Err e) Memory is front flushed =
     TakesFront-front_flushed a b c (bytes_behind options s rest.records) t.held front.bytes flushed
 
--- which is what is said of the sink where the work was cut off
-pub TakesFile-cut : (bytes : List (List ℕ) → List ℕ) (a c : Option (List ℕ)) (ra : Option Rest) (cut : CutOff)
-    → IfSome ra (λ rest. TakesFront a c (bytes rest.records))
-    → IfSome ra (λ rest. TakesFile (Err (end_of_cut cut)) a c (bytes rest.records))
-TakesFile-cut bytes a c ra Input front = front
-TakesFile-cut bytes a c ra Made front = front
-TakesFile-cut bytes a c ra Memory front = front
-
--- and of all of them where it wasn't
+-- and of all of the file where it wasn't
 pub TakesFile-ended : (bytes : List (List ℕ) → List ℕ) (a c : Option (List ℕ)) (ra : Option Rest) (stop : Option Stop) (totals : Totals)
     → IfSome ra (λ rest. Takes a c (bytes rest.records))
     → IfSome ra (λ rest. TakesFile (answer_of stop totals) a c (bytes rest.records))
@@ -80,7 +86,7 @@ TakesFile-behind (Err (end.TooLong count)) a b c passed bytes first then = Takes
 TakesFile-behind (Err end.InputTooLong) a b c passed bytes first then = Takes-append a b c passed bytes first then
 TakesFile-behind (Err (end.BadLine count)) a b c passed bytes first then = Takes-append a b c passed bytes first then
 TakesFile-behind (Err end.Input) a b c passed bytes first then = TakesFront-append a b c passed bytes first then
-TakesFile-behind (Err end.Made) a b c passed bytes first then = TakesFront-append a b c passed bytes first then
+TakesFile-behind (Err end.Made) a b c passed bytes first then = TakesShort-append a b c passed bytes first then
 TakesFile-behind (Err end.Memory) a b c passed bytes first then = TakesFront-append a b c passed bytes first then
 
 -- the bytes of the signature alone
@@ -107,14 +113,14 @@ TakesFile-signed a b c s options (Some rest) result h took =
     subst (λ (bytes : List ℕ). TakesFile result a c bytes) (signed_bytes a b s options rest.records h)
     (TakesFile-behind result a b c h.bytes.passed (bytes_behind options s rest.records) h.bytes.taken took)
 
--- a front of the signature is one of the file
-pub TakesFile-unsigned : (a b : Option (List ℕ)) (s : MadeFileValue) (options : WriteOptions) (ra : Option Rest)
-    → LaysFront a b nothing_made s (signature ∷ [])
+-- where the signature failed, not all of it was taken, nor of the file
+pub TakesFile-unsigned : {F : Type 0} (a b : Option (List ℕ)) (s : MadeFileValue) (options : WriteOptions) (ra : Option Rest)
+    → LaysFront F a b nothing_made s (signature ∷ []) → F
     → IfSome ra (λ rest. TakesFile (Err end.Made) a b (file_under options rest.records))
-TakesFile-unsigned a b s options None h = tt
-TakesFile-unsigned a b s options (Some rest) h =
+TakesFile-unsigned a b s options None h fails = tt
+TakesFile-unsigned a b s options (Some rest) h fails =
     let tail : List ℕ = tail_under options (end_of_chunk 0 signature) rest.records in
-    subst (λ (bytes : List ℕ). TakesFront a b bytes) (sym (file_of-signed rest.records options.size options.every options.pad))
-    (TakesFront-longer a b signature_bytes tail
-    (subst (λ (bytes : List ℕ). TakesFront a b bytes) signature-alone
-    (TakesFront-front_flushed a b b (laid_each 0 (signature ∷ [])) s.held h.bytes (TakesFront-none b s.held))))
+    subst (λ (bytes : List ℕ). TakesShort a b bytes) (sym (file_of-signed rest.records options.size options.every options.pad))
+    (TakesShort-longer a b signature_bytes tail
+    (subst (λ (bytes : List ℕ). TakesShort a b bytes) signature-alone
+    (TakesShort-put_failed a b b (laid_each 0 (signature ∷ [])) s.held h.bytes fails (TakesFront-none b s.held))))

@@ -53,17 +53,17 @@ Lays-all a b c s t u all given more is first then =
     subst (λ (ks : List ChunkValue). Lays a c s u ks) (chunks_of_groups-all all given more is)
     (Lays-append a b c s t u (chunks_of_groups given) (chunks_of_groups more) first then)
 
-pub LaysFront-all : (a b c : Option (List ℕ)) (s t u : MadeFileValue) (all given more : List (List (List ℕ))) → all ≡ given ++ more
-    → Lays a b s t (chunks_of_groups given) → LaysFront b c t u (chunks_of_groups more) → LaysFront a c s u (chunks_of_groups all)
-LaysFront-all a b c s t u all given more is first then =
-    subst (λ (ks : List ChunkValue). LaysFront a c s u ks) (chunks_of_groups-all all given more is)
+pub LaysFront-all : {F : Type 0} (a b c : Option (List ℕ)) (s t u : MadeFileValue) (all given more : List (List (List ℕ))) → all ≡ given ++ more
+    → Lays a b s t (chunks_of_groups given) → LaysFront F b c t u (chunks_of_groups more) → LaysFront F a c s u (chunks_of_groups all)
+LaysFront-all {F} a b c s t u all given more is first then =
+    subst (λ (ks : List ChunkValue). LaysFront F a c s u ks) (chunks_of_groups-all all given more is)
     (LaysFront-behind a b c s t u (chunks_of_groups given) (chunks_of_groups more) first then)
 
 -- a front of the chunks of groups is one of theirs and of those of groups behind them
-pub LaysFront-more : (a b : Option (List ℕ)) (s t : MadeFileValue) (given more : List (List (List ℕ)))
-    → LaysFront a b s t (chunks_of_groups given) → LaysFront a b s t (chunks_of_groups (given ++ more))
-LaysFront-more a b s t given more front =
-    subst (λ (ks : List ChunkValue). LaysFront a b s t ks) (chunks_of_groups-all (given ++ more) given more refl)
+pub LaysFront-more : {F : Type 0} (a b : Option (List ℕ)) (s t : MadeFileValue) (given more : List (List (List ℕ)))
+    → LaysFront F a b s t (chunks_of_groups given) → LaysFront F a b s t (chunks_of_groups (given ++ more))
+LaysFront-more {F} a b s t given more front =
+    subst (λ (ks : List ChunkValue). LaysFront F a b s t ks) (chunks_of_groups-all (given ++ more) given more refl)
     (LaysFront-longer a b s t (chunks_of_groups given) (chunks_of_groups more) front)
 
 -- where the groups that a grouper gives at first are put, those of the records are
@@ -75,13 +75,13 @@ Lays-all_groups None old size every a b s t all laid = tt
 Lays-all_groups (Some rest) old size every a b s t all laid =
     subst (λ (gs : List (List (List ℕ))). Lays a b s t (chunks_of_groups gs)) (all rest.records) laid
 
-pub LaysFront-all_groups : (ra : Option Rest) (old : Grouping) (size : ℕ) (every : Option ℕ) (a b : Option (List ℕ)) (s t : MadeFileValue)
+pub LaysFront-all_groups : (F : Type 0) (ra : Option Rest) (old : Grouping) (size : ℕ) (every : Option ℕ) (a b : Option (List ℕ)) (s t : MadeFileValue)
     → ((records : List (List ℕ)) → groups_from old records ≡ groups records size every)
-    → IfSome ra (λ rest. LaysFront a b s t (chunks_of_groups (groups_from old rest.records)))
-    → IfSome ra (λ rest. LaysFront a b s t (chunks_of_groups (groups rest.records size every)))
-LaysFront-all_groups None old size every a b s t all front = tt
-LaysFront-all_groups (Some rest) old size every a b s t all front =
-    subst (λ (gs : List (List (List ℕ))). LaysFront a b s t (chunks_of_groups gs)) (all rest.records) front
+    → IfSome ra (λ rest. LaysFront F a b s t (chunks_of_groups (groups_from old rest.records)))
+    → IfSome ra (λ rest. LaysFront F a b s t (chunks_of_groups (groups rest.records size every)))
+LaysFront-all_groups F None old size every a b s t all front = tt
+LaysFront-all_groups F (Some rest) old size every a b s t all front =
+    subst (λ (gs : List (List (List ℕ))). LaysFront F a b s t (chunks_of_groups gs)) (all rest.records) front
 
 -- what holds of whatever a feed has left
 pub whatever_is_left : (ra : Option Rest) (P : Rest → Type 0) → ((rest : Rest) → P rest) → IfSome ra P

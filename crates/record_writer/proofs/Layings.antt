@@ -2,7 +2,7 @@
 use Rattle.std.proofs.Common.{◌≡◌, ◌∙◌, ℕ, ◌+◌, ◌<◌, ◌≤◌, ◌⊎◌, Bool, Option, List, [], ◌∷◌, ◌++◌, true, false, sym, ap, subst, length-append, cond, arith}
 use Rattle.std.proofs.lemmas.List.{append-nil}
 use Rattle.std.proofs.lemmas.List.Sums.{sum_by-cons, sum_by-append}
-use Rattle.record_io.specs.Outside.{TakesFront}
+use Rattle.record_io.specs.Outside.{TakesShort}
 use Rattle.record_io.specs.Buffers.{TakesAndHolds}
 use Rattle.record_io.proofs.Buffered.{TakesAndHolds-append}
 use Rattle.chunk_header.specs.Chunks.{ChunkValue}
@@ -44,34 +44,46 @@ Lays-append a b c s t u ks more first then = record {
 }
 
 -- chunks, and behind them a front of more
-pub LaysFront-behind : (a b c : Option (List ℕ)) (s t u : MadeFileValue) (ks more : List ChunkValue)
-    → Lays a b s t ks → LaysFront b c t u more → LaysFront a c s u (ks ++ more)
-LaysFront-behind a b c s t u ks more first then = record {
-  bytes = subst (λ (xs : List ℕ). TakesAndHoldsFront a c (s.held ++ xs) u.held)
+pub LaysFront-behind : {F : Type 0} (a b c : Option (List ℕ)) (s t u : MadeFileValue) (ks more : List ChunkValue)
+    → Lays a b s t ks → LaysFront F b c t u more → LaysFront F a c s u (ks ++ more)
+LaysFront-behind {F} a b c s t u ks more first then = record {
+  bytes = subst (λ (xs : List ℕ). TakesAndHoldsFront F a c (s.held ++ xs) u.held)
       (bytes-append s t ks more first.place)
       (TakesAndHoldsFront-behind a b c s.held t.held u.held (laid_each s.place ks) (laid_each t.place more) first.bytes then.bytes);
 }
 
 -- a front of chunks is a front of these and more
-pub LaysFront-longer : (a b : Option (List ℕ)) (s t : MadeFileValue) (ks more : List ChunkValue) → LaysFront a b s t ks → LaysFront a b s t (ks ++ more)
-LaysFront-longer a b s t ks more front = record {
-  bytes = subst (λ (xs : List ℕ). TakesAndHoldsFront a b (s.held ++ xs) t.held)
+pub LaysFront-longer : {F : Type 0} (a b : Option (List ℕ)) (s t : MadeFileValue) (ks more : List ChunkValue) → LaysFront F a b s t ks → LaysFront F a b s t (ks ++ more)
+LaysFront-longer {F} a b s t ks more front = record {
+  bytes = subst (λ (xs : List ℕ). TakesAndHoldsFront F a b (s.held ++ xs) t.held)
       (sym (laid_each-append s.place ks more))
       (TakesAndHoldsFront-longer a b s.held (laid_each s.place ks) (laid_each (end_of_chunks s.place ks) more) t.held front.bytes);
 }
 
 -- where nothing is done, it is a front of any chunks
-pub LaysFront-none : (a : Option (List ℕ)) (s : MadeFileValue) (ks : List ChunkValue) → LaysFront a a s s ks
-LaysFront-none a s ks = record { bytes = TakesAndHoldsFront-none a s.held (laid_each s.place ks) }
+pub LaysFront-none : {F : Type 0} (a : Option (List ℕ)) (s : MadeFileValue) (ks : List ChunkValue) → (F → ⊥) → LaysFront F a a s s ks
+LaysFront-none a s ks done = record { bytes = TakesAndHoldsFront-none a s.held (laid_each s.place ks) done }
 
 -- all of them are a front of them
-pub LaysFront-whole : (a b : Option (List ℕ)) (s t : MadeFileValue) (ks : List ChunkValue) → Lays a b s t ks → LaysFront a b s t ks
-LaysFront-whole a b s t ks laid =
-    subst (λ (ks : List ChunkValue). LaysFront a b s t ks) (append-nil ks) (LaysFront-behind a b b s t t ks [] laid (LaysFront-none b t []))
+pub LaysFront-whole : {F : Type 0} (a b : Option (List ℕ)) (s t : MadeFileValue) (ks : List ChunkValue) → (F → ⊥) → Lays a b s t ks → LaysFront F a b s t ks
+LaysFront-whole {F} a b s t ks done laid =
+    subst (λ (ks : List ChunkValue). LaysFront F a b s t ks) (append-nil ks) (LaysFront-behind a b b s t t ks [] laid (LaysFront-none b t [] done))
+
+-- in whichever way it is told that a put failed
+pub LaysFront-where : {F G : Type 0} (a b : Option (List ℕ)) (s t : MadeFileValue) (ks : List ChunkValue) → (G → F) → LaysFront F a b s t ks → LaysFront G a b s t ks
+LaysFront-where a b s t ks told front = record {
+  bytes = record {
+    passed = front.bytes.passed;
+    rest = front.bytes.rest;
+    parts = front.bytes.parts;
+    short = λ fails. front.bytes.short (told fails);
+    taken = front.bytes.taken;
+  };
+}
 
 -- where a put failed, the sink took a front of them and nothing is held
-pub LaysFront-failed : (a b : Option (List ℕ)) (s t : MadeFileValue) (ks : List ChunkValue) → t.held ≡ [] → TakesFront a b (s.held ++ laid_each s.place ks)
-    → LaysFront a b s t ks
+pub LaysFront-failed : {F : Type 0} (a b : Option (List ℕ)) (s t : MadeFileValue) (ks : List ChunkValue) → t.held ≡ [] → TakesShort a b (s.held ++ laid_each s.place ks)
+    → LaysFront F a b s t ks
 LaysFront-failed a b s t ks emptied front =
     record { bytes = TakesAndHoldsFront-failed a b (s.held ++ laid_each s.place ks) t.held emptied front }
 
@@ -113,11 +125,11 @@ Lays-read a b s t k bytes place going chunks is records unread =
     (omega (arith, unread, ap {B = ℕ} (λ (x : Bool). cond x 1 0) is))
 
 -- and one of which a front was put, where that failed
-pub LaysFront-one : (a b : Option (List ℕ)) (s t : MadeFileValue) (k : ChunkValue) → t.held ≡ [] → TakesFront a b (s.held ++ laid s.place k)
-    → LaysFront a b s t (k ∷ [])
+pub LaysFront-one : {F : Type 0} (a b : Option (List ℕ)) (s t : MadeFileValue) (k : ChunkValue) → t.held ≡ [] → TakesShort a b (s.held ++ laid s.place k)
+    → LaysFront F a b s t (k ∷ [])
 LaysFront-one a b s t k emptied front =
     LaysFront-failed a b s t (k ∷ []) emptied
-    (subst (λ (xs : List ℕ). TakesFront a b (s.held ++ xs)) (sym (laid_each-one s.place k)) front)
+    (subst (λ (xs : List ℕ). TakesShort a b (s.held ++ xs)) (sym (laid_each-one s.place k)) front)
 
 -- padding up to a block, which counts as a chunk where it ends further on
 pub Lays-padding : (a b : Option (List ℕ)) (s t : MadeFileValue) → TakesAndHolds a b (s.held ++ laid_each s.place (padding_at s.place)) t.held
@@ -137,5 +149,6 @@ Lays-padding a b s t bytes place going records unread counted = record {
 pub Lays-at_front : (a b : Option (List ℕ)) (s t : MadeFileValue) (ks : List ChunkValue) → s ≡ nothing_made → Lays a b s t ks → Lays a b nothing_made t ks
 Lays-at_front a b s t ks is laid = subst (λ (p : MadeFileValue). Lays a b p t ks) is laid
 
-pub LaysFront-at_front : (a b : Option (List ℕ)) (s t : MadeFileValue) (ks : List ChunkValue) → s ≡ nothing_made → LaysFront a b s t ks → LaysFront a b nothing_made t ks
-LaysFront-at_front a b s t ks is front = subst (λ (p : MadeFileValue). LaysFront a b p t ks) is front
+pub LaysFront-at_front : {F : Type 0} (a b : Option (List ℕ)) (s t : MadeFileValue) (ks : List ChunkValue) → s ≡ nothing_made → LaysFront F a b s t ks
+    → LaysFront F a b nothing_made t ks
+LaysFront-at_front {F} a b s t ks is front = subst (λ (p : MadeFileValue). LaysFront F a b p t ks) is front

@@ -52,16 +52,16 @@ WritesFile-signed rest origin feed_faults taken lent made_faults Fails options s
       made_counts = OnlyCounts-behind lent made_faults Fails (result ≡ Err Made) sink signed sink_then counts written.made_counts;
     }
 
--- and so does a front of it, where that failed
+-- and where that failed, not all of it was taken
 pub WritesFile-unsigned : {L N M K : Type 0} (rest : L → Option Rest) (origin : L → N) (feed_faults : L → ℕ)
     (taken : M → Option (List ℕ)) (lent : M → K) (made_faults : M → ℕ) (Fails : Type 0) (options : WriteOptions) (s : MadeFileValue)
     (feed : L) (sink sink_then : M)
-    → LaysFront (taken sink) (taken sink_then) nothing_made s (signature ∷ []) → OnlyCounts lent made_faults Fails sink sink_then → Fails
+    → LaysFront Fails (taken sink) (taken sink_then) nothing_made s (signature ∷ []) → OnlyCounts lent made_faults Fails sink sink_then → Fails
     → WritesFile rest origin feed_faults taken lent made_faults options (Err Made) feed feed sink sink_then
 WritesFile-unsigned rest origin feed_faults taken lent made_faults Fails options s feed sink sink_then front counts failed =
     record {
       answer = TellsTotals-cut (rest feed) cut.Made (λ records. totals_of (chunks_under options records));
-      made = TakesFile-unsigned (taken sink) (taken sink_then) s options (rest feed) front;
+      made = TakesFile-unsigned (taken sink) (taken sink_then) s options (rest feed) front failed;
       read_to_end = tt;
       feed = record { same_lent = refl; cause = λ fails. cc; never_falls = omega arith; small = λ below. below };
       made_counts = record { same_lent = counts.same_lent; cause = λ _. counts.cause failed; never_falls = counts.never_falls; small = counts.small };

@@ -50,24 +50,24 @@ module _ (options : WriteOptions) (s : MadeFileValue) (records : List (List ℕ)
       (subst (λ (place : ℕ). Lays b c t u (padding_if (pads_end options.pad) place)) first.place then)
 
   -- a front of a part behind those that were put whole is one of them all
-  pub LaysFront-padding : (a b : Option (List ℕ)) (t : MadeFileValue) → LaysFront a b s t (padding_if (pads_start options.pad) s.place)
-      → LaysFront a b s t (tail_chunks options s.place records)
+  pub LaysFront-padding : {F : Type 0} (a b : Option (List ℕ)) (t : MadeFileValue) → LaysFront F a b s t (padding_if (pads_start options.pad) s.place)
+      → LaysFront F a b s t (tail_chunks options s.place records)
   LaysFront-padding a b t front =
       LaysFront-longer a b s t (front_padding s.place options.pad ++ gs) end
       (LaysFront-longer a b s t (front_padding s.place options.pad) gs front)
 
-  pub LaysFront-groups : (a b c : Option (List ℕ)) (t u : MadeFileValue)
+  pub LaysFront-groups : {F : Type 0} (a b c : Option (List ℕ)) (t u : MadeFileValue)
       → Lays a b s t (padding_if (pads_start options.pad) s.place)
-      → LaysFront b c t u (chunks_of_groups (groups records options.size options.every))
-      → LaysFront a c s u (tail_chunks options s.place records)
+      → LaysFront F b c t u (chunks_of_groups (groups records options.size options.every))
+      → LaysFront F a c s u (tail_chunks options s.place records)
   LaysFront-groups a b c t u first then =
       LaysFront-longer a c s u (front_padding s.place options.pad ++ gs) end
       (LaysFront-behind a b c s t u (front_padding s.place options.pad) gs first then)
 
-  pub LaysFront-end : (a b c : Option (List ℕ)) (t u : MadeFileValue)
+  pub LaysFront-end : {F : Type 0} (a b c : Option (List ℕ)) (t u : MadeFileValue)
       → Lays a b s t (front_chunks s.place records options.size options.every options.pad)
-      → LaysFront b c t u (padding_if (pads_end options.pad) t.place)
-      → LaysFront a c s u (tail_chunks options s.place records)
-  LaysFront-end a b c t u first then =
+      → LaysFront F b c t u (padding_if (pads_end options.pad) t.place)
+      → LaysFront F a c s u (tail_chunks options s.place records)
+  LaysFront-end {F} a b c t u first then =
       LaysFront-behind a b c s t u (front_chunks s.place records options.size options.every options.pad) end first
-      (subst (λ (place : ℕ). LaysFront b c t u (padding_if (pads_end options.pad) place)) first.place then)
+      (subst (λ (place : ℕ). LaysFront F b c t u (padding_if (pads_end options.pad) place)) first.place then)

@@ -1,5 +1,5 @@
 -- Groups that are taken of a feed, and then put together.
-use Rattle.std.proofs.Common.{◌≡◌, ◌∙◌, ℕ, ◌+◌, ◌<◌, ◌≤◌, Bool, Option, Some, None, Result, Ok, Err, List, [], ◌∷◌, ◌++◌, length, take, drop, get_or, slice_set, IfSome, OnOk, refl, sym, ap, subst, inl, inr, append_assoc, add-one, arith, rules}
+use Rattle.std.proofs.Common.{◌≡◌, ◌≢◌, ◌∙◌, ℕ, ◌+◌, ◌<◌, ◌≤◌, Bool, Option, Some, None, Result, Ok, Err, List, [], ◌∷◌, ◌++◌, length, take, drop, get_or, slice_set, IfSome, OnOk, refl, sym, ap, subst, inl, inr, append_assoc, add-one, arith, rules}
 use Rattle.std.proofs.Math.Seq.{take-suc, map-set_same}
 use Rattle.std.proofs.lemmas.Option.{none-some}
 use Rattle.std.proofs.lemmas.Result.{IfOk-at_ok}
@@ -13,11 +13,17 @@ use Rattle.meta_chunk.specs.Files.{end_of_chunks}
 use Rattle.meta_chunk.proofs.Joins.{end_of_chunks-append, end_of_chunks_past}
 use Rattle.simple_chunk.specs.SimpleParts.{SimpleValue}
 use Rattle.record_group.specs.Groupings.{Grouping, groups_from}
+use Rattle.record_writer.specs.declared.cut_off.CutOff.{CutOff}
+use Rattle.record_writer.specs.declared.cut_off.CutOff.TheVariants as cut
+use Rattle.record_writer.specs.declared.cut_off.PutEnd.{PutEnd}
+use Rattle.record_writer.specs.declared.cut_off.PutEnd.TheVariants as put
 use Rattle.record_writer.specs.declared.cut_off.TakeEnd.{TakeEnd}
+use Rattle.record_writer.specs.declared.cut_off.TakeEnd.TheVariants as take
 use Rattle.record_writer.specs.declared.cut_off.TakeEnd.TheVariants.{Input}
 use Rattle.record_writer.specs.declared.feed.Stop.{Stop}
 use Rattle.record_writer.specs.declared.group_taker.FeedPart.{FeedPart}
 use Rattle.record_writer.specs.declared.group_taker.FeedPart.TheVariants.{Window, All}
+use Rattle.record_writer.specs.Ends.{cut_of_put, cut_of_take}
 use Rattle.record_writer.specs.Feeds.{Rest, nothing_left}
 use Rattle.record_writer.specs.MadeFiles.{MadeFileValue, AreGiven, Lays, LaysFront, chunks_of_groups, reach_of}
 use Rattle.record_writer.specs.Windows.{AreFront, AreTaken, TakesGroups, groups_of}
@@ -27,6 +33,16 @@ use Rattle.record_writer.proofs.Given.{AreGiven-ended, chunks_of_groups-all}
 -- what is said of a call that didn't fail
 pub where_done : {X E P : Type 0} (result : Result X E) (x : X) → result ≡ Ok x → OnOk result P → P
 where_done {X} {E} {P} result x is h = IfOk-at_ok (λ _. P) is h
+
+-- that the sink failed is told only where it did
+pub made_told : {X Y : Type 0} (end : PutEnd) → ◌≡◌ {A = Result X CutOff} (Err (cut_of_put end)) (Err cut.Made) → ◌≡◌ {A = Result Y PutEnd} (Err end) (Err put.Made)
+made_told put.Made told = refl
+made_told put.Memory told = absurd (cc told)
+
+-- and never where records were taken
+pub not_made : {X : Type 0} (end : TakeEnd) → ◌≢◌ {A = Result X CutOff} (Err (cut_of_take end)) (Err cut.Made)
+not_made take.Input = λ told. cc told
+not_made take.Memory = λ told. cc told
 
 -- what holds anyway holds where a call didn't fail
 pub OnOk-any : {X E P : Type 0} (result : Result X E) → P → OnOk result P
@@ -94,13 +110,13 @@ Lays-chunk a b c s t u groups i group within is first then =
     (Lays-append a b c s t u (chunks_of_groups (take i groups)) (simple_chunk group ∷ []) first then)
 
 -- or a front of them all, where it failed
-pub LaysFront-chunk : (a b c : Option (List ℕ)) (s t u : MadeFileValue) (groups : List (List (List ℕ))) (i : ℕ) (group : List (List ℕ))
+pub LaysFront-chunk : {F : Type 0} (a b c : Option (List ℕ)) (s t u : MadeFileValue) (groups : List (List (List ℕ))) (i : ℕ) (group : List (List ℕ))
     → i < length groups → group ≡ get_or groups i group
-    → Lays a b s t (chunks_of_groups (take i groups)) → LaysFront b c t u (simple_chunk group ∷ []) → LaysFront a c s u (chunks_of_groups groups)
-LaysFront-chunk a b c s t u groups i group within is first then =
-    subst (λ (ks : List ChunkValue). LaysFront a c s u ks) (chunks-split groups (i + 1))
+    → Lays a b s t (chunks_of_groups (take i groups)) → LaysFront F b c t u (simple_chunk group ∷ []) → LaysFront F a c s u (chunks_of_groups groups)
+LaysFront-chunk {F} a b c s t u groups i group within is first then =
+    subst (λ (ks : List ChunkValue). LaysFront F a c s u ks) (chunks-split groups (i + 1))
     (LaysFront-longer a c s u (chunks_of_groups (take (i + 1) groups)) (chunks_of_groups (drop (i + 1) groups))
-    (subst (λ (ks : List ChunkValue). LaysFront a c s u ks) (chunks-next groups i group within is)
+    (subst (λ (ks : List ChunkValue). LaysFront F a c s u ks) (chunks-next groups i group within is)
     (LaysFront-behind a b c s t u (chunks_of_groups (take i groups)) (simple_chunk group ∷ []) first then)))
 
 -- the groups that were given, and those given behind them
@@ -138,13 +154,13 @@ AreTaken-front (Ok (All stop)) (Some all) b old new given h = ([], h.1 ∙ sym (
 AreTaken-front (Err cut) a b old new given h = h
 
 -- so where a front of their chunks was put, that is one of all
-pub LaysFront-taken : (t : Result FeedPart TakeEnd) (ra rb : Option Rest) (old new : Grouping) (given : List (List (List ℕ))) (a b : Option (List ℕ)) (s u : MadeFileValue)
-    → AreTaken t ra rb old new given → LaysFront a b s u (chunks_of_groups given)
-    → IfSome ra (λ rest. LaysFront a b s u (chunks_of_groups (groups_from old rest.records)))
+pub LaysFront-taken : {F : Type 0} (t : Result FeedPart TakeEnd) (ra rb : Option Rest) (old new : Grouping) (given : List (List (List ℕ))) (a b : Option (List ℕ)) (s u : MadeFileValue)
+    → AreTaken t ra rb old new given → LaysFront F a b s u (chunks_of_groups given)
+    → IfSome ra (λ rest. LaysFront F a b s u (chunks_of_groups (groups_from old rest.records)))
 LaysFront-taken t None rb old new given a b s u taken front = tt
-LaysFront-taken t (Some all) rb old new given a b s u taken front =
+LaysFront-taken {F} t (Some all) rb old new given a b s u taken front =
     let rest = AreTaken-front t (Some all) rb old new given taken in
-    subst (λ (ks : List ChunkValue). LaysFront a b s u ks)
+    subst (λ (ks : List ChunkValue). LaysFront F a b s u ks)
     (chunks_of_groups-all (groups_from old all.records) given rest.0 rest.1)
     (LaysFront-longer a b s u (chunks_of_groups given) (chunks_of_groups rest.0) front)
 

@@ -1,5 +1,5 @@
 -- How far a file is that is being made. Own.
-use Rattle.std.specs.Prelude.{◌≡◌, ℕ, ◌+◌, ◌*◌, Bool, true, false, Option, Some, List, [], ◌++◌, length, map, IfSome, Result, OnOk, OnErr, IsErr}
+use Rattle.std.specs.Prelude.{◌≡◌, ◌≢◌, ℕ, ◌+◌, ◌*◌, Bool, true, false, Option, Some, List, [], ◌++◌, length, map, IfSome, Result, OnOk, OnErr, IsErr}
 use Rattle.record_io.specs.Calls.{OnlyCounts}
 use Rattle.record_io.specs.Outside.{Takes}
 use Rattle.record_io.specs.Buffers.{TakesAndHolds}
@@ -56,22 +56,24 @@ pub record Lays (before after : Option (List ℕ)) (old new : MadeFileValue) (ks
   pub records : new.records ≡ old.records + (totals_of ks).records
   pub unread : new.unread ≡ old.unread + (totals_of ks).unread
 
--- of these bytes a sink took a front, where it tells what it takes, and what is held follows it
-pub record TakesAndHoldsFront (before after : Option (List ℕ)) (bytes held : List ℕ) : Type 0 where
+-- of these bytes a sink took a front, where it tells what it takes, and what is held follows it; where a put failed, more
+-- follows that
+pub record TakesAndHoldsFront (Fails : Type 0) (before after : Option (List ℕ)) (bytes held : List ℕ) : Type 0 where
   pub passed : List ℕ
   pub rest : List ℕ
   pub parts : bytes ≡ passed ++ (held ++ rest)
+  pub short : Fails → rest ≢ []
   pub taken : Takes before after passed
 
--- a front of the bytes of chunks was laid behind those that were there
-pub record LaysFront (before after : Option (List ℕ)) (old new : MadeFileValue) (ks : List ChunkValue) : Type 0 where
-  pub bytes : TakesAndHoldsFront before after (old.held ++ laid_each old.place ks) new.held
+-- a front of the bytes of chunks was laid behind those that were there, and not all where a put failed
+pub record LaysFront (Fails : Type 0) (before after : Option (List ℕ)) (old new : MadeFileValue) (ks : List ChunkValue) : Type 0 where
+  pub bytes : TakesAndHoldsFront Fails before after (old.held ++ laid_each old.place ks) new.held
 
--- chunks were laid by way of a sink: all of them, or where that failed a front of them, and then the sink is the cause
+-- chunks were laid by way of a sink: all of them, or where that failed a front of them and not all, and then the sink is the cause
 pub record LaysTo {M K X E : Type 0} (taken : M → Option (List ℕ)) (lent : M → K) (faults : M → ℕ)
     (result : Result X E) (old new : MadeFileValue) (ks : List ChunkValue) (before after : M) : Type 0 where
   pub whole : OnOk result (Lays (taken before) (taken after) old new ks)
-  pub front : OnErr result (LaysFront (taken before) (taken after) old new ks)
+  pub front : OnErr result (LaysFront (IsErr result) (taken before) (taken after) old new ks)
   pub counts : OnlyCounts lent faults (IsErr result) before after
 
 -- the chunks of groups

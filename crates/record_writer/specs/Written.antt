@@ -2,7 +2,7 @@
 use Rattle.std.specs.Prelude.{◌≡◌, ℕ, ◌^◌, ◌≤◌, Option, Some, None, Result, Ok, Err, List, length, IfSome, OnOk}
 use Rattle.std.specs.Option.{ForSome}
 use Rattle.record_io.specs.Calls.{OnlyCounts}
-use Rattle.record_io.specs.Outside.{Takes, TakesFront}
+use Rattle.record_io.specs.Outside.{Takes, TakesFront, TakesShort}
 use Rattle.record_values.specs.declared.file_totals.Totals.{Totals}
 use Rattle.chunk_header.specs.Chunks.{ChunkValue}
 use Rattle.meta_chunk.specs.Counts.{totals_of}
@@ -61,14 +61,15 @@ TellsTotals (Err Memory) wanted rest = Unit {0}
 abbrev pub TellsWritten : Result Totals WriteEnd → WriteOptions → Rest → Type 0
 TellsWritten result options rest = TellsTotals result (totals_of (chunks_under options rest.records)) rest
 
--- what a sink took with that answer: a file, or a front of it where a fault or want of memory cut the work off
+-- what a sink took with that answer: a file, or a front of it where a fault or want of memory cut the work off, and not all of
+-- it where that was the sink's
 abbrev pub TakesFile : Result Totals WriteEnd → Option (List ℕ) → Option (List ℕ) → List ℕ → Type 0
 TakesFile (Ok totals) before after file = Takes before after file
 TakesFile (Err (TooLong count)) before after file = Takes before after file
 TakesFile (Err InputTooLong) before after file = Takes before after file
 TakesFile (Err (BadLine count)) before after file = Takes before after file
 TakesFile (Err Input) before after file = TakesFront before after file
-TakesFile (Err Made) before after file = TakesFront before after file
+TakesFile (Err Made) before after file = TakesShort before after file
 TakesFile (Err Memory) before after file = TakesFront before after file
 
 -- a call wrote a feed's records: it answers with these totals of them, and a sink took these bytes of them; a feed without a stop

@@ -166,7 +166,7 @@ impl Window for CodedWindow {
 ///
 /// # Errors
 ///
-/// `Failed` only where the sink failed. It took a front of what was held and the chunks.
+/// `Failed` only where the sink failed. It took a front of what was held and the chunks, and not all.
 fn put_out<M: Sink>(chunks: Reorder, file: &mut MadeFile, made: &mut M) -> Result<(), Failed>
     requires going { file.old.spent ≡ false }
     requires in_reach { end_of_chunks file.old.place (map value_of_chunk (coming chunks)) ≤ 2 ^ 62 }
@@ -183,7 +183,7 @@ fn put_out<M: Sink>(chunks: Reorder, file: &mut MadeFile, made: &mut M) -> Resul
 ///
 /// # Errors
 ///
-/// `Failed` only where the sink failed. It took a front of what was held and the chunks.
+/// `Failed` only where the sink failed. It took a front of what was held and the chunks, and not all.
 fn put_in_order<M: Sink>(
     mut chunks: Reorder,
     file: &mut MadeFile,

@@ -85,8 +85,8 @@ impl From<Failed> for WriteEnd {
 ///
 /// `TooLong`, `InputTooLong` and `BadLine` where that stop follows, the first and the last with the number of the
 /// records before it; `Input` where the feed failed, `Made` where the sink failed, also where a stop follows, and
-/// `Memory`. After the last three the sink took a front of the file. That it took nothing after `Input` and `Memory` where no
-/// chunk of records was whole is no clause. Own.
+/// `Memory`. After the last three the sink took a front of the file, and where it failed not all. That it took nothing after
+/// `Input` and `Memory` where no chunk of records was whole is no clause. Own.
 pub fn write_records<R: Threads + Sync, L: RecordFeed, M: Sink + Send>(
     rt: &R,
     alloc: Global,
@@ -258,7 +258,7 @@ fn put_chunks<R: Threads + Sync, C: Coder + Sync, W: Window + Send, L: RecordFee
     ensures whole { OnOk result (IfSome (L.rest feed.old) (λ rest.
         Lays (M.taken made.old) (M.taken made.new) file.old file.new (tail_chunks options.now file.old.place rest.records))) }
     ensures front { OnErr result (IfSome (L.rest feed.old) (λ rest.
-        LaysFront (M.taken made.old) (M.taken made.new) file.old file.new (tail_chunks options.now file.old.place rest.records))) }
+        LaysFront (result ≡ Err CutOff.Made) (M.taken made.old) (M.taken made.new) file.old file.new (tail_chunks options.now file.old.place rest.records))) }
     ensures behind { OnOk result (file.old.place ≤ file.new.place) }
     ensures drained { result ≡ Ok None → IfSome (L.rest feed.old) (λ _. L.rest feed.new ≡ Some nothing_left) }
     ensures feed { OnlyCounts L.origin L.faults (result ≡ Err CutOff.Input) feed.old feed.new }
@@ -307,7 +307,7 @@ fn put_groups<R: Threads + Sync, C: Coder + Sync, W: Window + Send, L: RecordFee
     ensures whole { OnOk result (IfSome (L.rest feed.old) (λ rest.
         Lays (M.taken made.old) (M.taken made.new) file.old file.new (chunks_of_groups (groups_from pipeline.old.coming.taker rest.records)))) }
     ensures front { OnErr result (IfSome (L.rest feed.old) (λ rest.
-        LaysFront (M.taken made.old) (M.taken made.new) file.old file.new (chunks_of_groups (groups_from pipeline.old.coming.taker rest.records)))) }
+        LaysFront (result ≡ Err CutOff.Made) (M.taken made.old) (M.taken made.new) file.old file.new (chunks_of_groups (groups_from pipeline.old.coming.taker rest.records)))) }
     ensures going { OnOk result (file.new.spent ≡ false) }
     ensures place { OnOk result ((file.old.place ≤ file.new.place) × (file.new.place ≤ 2 ^ 61)) }
     ensures drained { result ≡ Ok None → IfSome (L.rest feed.old) (λ _. L.rest feed.new ≡ Some nothing_left) }

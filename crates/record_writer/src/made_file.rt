@@ -1,4 +1,4 @@
-ghost use Rattle.std.specs.Prelude.{◌≡◌, ◌≢◌, ◌^◌, ◌≤◌, true, false, [], ◌∷◌, OnOk, OnErr, IsErr};
+ghost use Rattle.std.specs.Prelude.{◌≡◌, ◌^◌, ◌≤◌, true, false, [], ◌∷◌, OnOk, OnErr, IsErr};
 ghost use Rattle.block_layout.specs.Layout.{IsBoundary};
 ghost use Rattle.record_io.specs.Calls.{OnlyCounts, PutsTo};
 ghost use Rattle.chunk_header.specs.SimpleChunks.{simple_chunk};
@@ -66,12 +66,12 @@ impl MadeFile {
     ///
     /// # Errors
     ///
-    /// `Failed` only where the sink failed. It took a front of what was held and the signature. Nothing is held then, and the
-    /// counts are as before.
+    /// `Failed` only where the sink failed. It took a front of what was held and the signature, and not all. Nothing is held then,
+    /// and the counts are as before.
     pub fn start<M: Sink>(&mut self, made: &mut M) -> Result<(), Failed>
         requires at_front { self.old ≡ nothing_made }
         ensures whole { OnOk result (Lays (M.taken made.old) (M.taken made.new) self.old self.new (signature ∷ [])) }
-        ensures front { OnErr result (LaysFront (M.taken made.old) (M.taken made.new) self.old self.new (signature ∷ [])) }
+        ensures front { OnErr result (LaysFront (IsErr result) (M.taken made.old) (M.taken made.new) self.old self.new (signature ∷ [])) }
         ensures spent { OnErr result (self.new ≡ spent_in self.old) }
         ensures made { OnlyCounts M.lent M.faults (IsErr result) made.old made.new }
     {
@@ -84,15 +84,15 @@ impl MadeFile {
     ///
     /// # Errors
     ///
-    /// `Failed` only where the sink failed. It took a front of what was held and the chunk. Nothing is held then, and the counts
-    /// are as before.
+    /// `Failed` only where the sink failed. It took a front of what was held and the chunk, and not all. Nothing is held then, and
+    /// the counts are as before.
     pub fn put<M: Sink>(&mut self, made: &mut M, chunk: &Chunk, unread: bool) -> Result<(), Failed>
         requires going { self.old.spent ≡ false }
         requires in_reach { end_of_chunk self.old.place (value_of_chunk chunk.now) ≤ 2 ^ 62 }
         requires right { HasRightHash chunk.now }
         requires unread { unread ≡ is_unread (value_of_chunk chunk.now) }
         ensures whole { OnOk result (Lays (M.taken made.old) (M.taken made.new) self.old self.new (value_of_chunk chunk.now ∷ [])) }
-        ensures front { OnErr result (LaysFront (M.taken made.old) (M.taken made.new) self.old self.new (value_of_chunk chunk.now ∷ [])) }
+        ensures front { OnErr result (LaysFront (IsErr result) (M.taken made.old) (M.taken made.new) self.old self.new (value_of_chunk chunk.now ∷ [])) }
         ensures spent { OnErr result (self.new ≡ spent_in self.old) }
         ensures made { OnlyCounts M.lent M.faults (IsErr result) made.old made.new }
     {
@@ -110,8 +110,8 @@ impl MadeFile {
     ///
     /// # Errors
     ///
-    /// `Failed` only where the sink failed. It took a front of what was held and the chunk. Nothing is held then, and the counts
-    /// are as before.
+    /// `Failed` only where the sink failed. It took a front of what was held and the chunk, and not all. Nothing is held then, and
+    /// the counts are as before.
     pub(crate) fn put_simple<M: Sink>(
         &mut self,
         made: &mut M,
@@ -121,7 +121,7 @@ impl MadeFile {
         requires in_reach { end_of_chunk self.old.place (simple_chunk chunk.now.records) ≤ 2 ^ 62 }
         requires encoded { chunk.now.encoded ≡ true }
         ensures whole { OnOk result (Lays (M.taken made.old) (M.taken made.new) self.old self.new (simple_chunk chunk.now.records ∷ [])) }
-        ensures front { OnErr result (LaysFront (M.taken made.old) (M.taken made.new) self.old self.new (simple_chunk chunk.now.records ∷ [])) }
+        ensures front { OnErr result (LaysFront (IsErr result) (M.taken made.old) (M.taken made.new) self.old self.new (simple_chunk chunk.now.records ∷ [])) }
         ensures spent { OnErr result (self.new ≡ spent_in self.old) }
         ensures made { OnlyCounts M.lent M.faults (IsErr result) made.old made.new }
     {
@@ -139,7 +139,7 @@ impl MadeFile {
         requires going { self.old.spent ≡ false }
         requires in_reach { self.old.place ≤ 2 ^ 61 }
         ensures whole { OnOk result (Lays (M.taken made.old) (M.taken made.new) self.old self.new (padding_if wanted self.old.place)) }
-        ensures front { OnErr result (LaysFront (M.taken made.old) (M.taken made.new) self.old self.new (padding_if wanted self.old.place)) }
+        ensures front { OnErr result (LaysFront (IsErr result) (M.taken made.old) (M.taken made.new) self.old self.new (padding_if wanted self.old.place)) }
         ensures spent { OnErr result (self.new ≡ spent_in self.old) }
         ensures made { OnlyCounts M.lent M.faults (IsErr result) made.old made.new }
     {
@@ -151,7 +151,7 @@ impl MadeFile {
         requires going { self.old.spent ≡ false }
         requires in_reach { self.old.place ≤ 2 ^ 61 }
         ensures whole { OnOk result (Lays (M.taken made.old) (M.taken made.new) self.old self.new (padding_at self.old.place)) }
-        ensures front { OnErr result (LaysFront (M.taken made.old) (M.taken made.new) self.old self.new (padding_at self.old.place)) }
+        ensures front { OnErr result (LaysFront (IsErr result) (M.taken made.old) (M.taken made.new) self.old self.new (padding_at self.old.place)) }
         ensures spent { OnErr result (self.new ≡ spent_in self.old) }
         ensures made { OnlyCounts M.lent M.faults (IsErr result) made.old made.new }
     {
@@ -167,10 +167,9 @@ impl MadeFile {
     ///
     /// # Errors
     ///
-    /// `Failed` only where the sink failed. It took a front of what was held.
+    /// `Failed` only where the sink failed. It took a front of what was held, and not all.
     pub fn flush<M: Sink>(&mut self, made: &mut M) -> Result<(), Failed>
         ensures made { PutsTo M.taken M.lent M.faults result self.old.held made.old made.new }
-        ensures some { OnErr result (self.old.held ≢ []) }
         ensures same_totals { totals_made self.new ≡ totals_made self.old }
         ensures emptied { self.new ≡ record self.old { held = [] } }
     {

@@ -89,7 +89,7 @@ impl<W: Window + Send> Pipeline<W> {
     /// # Errors
     ///
     /// Only where the sink failed, or there was no memory to code. The sink took a front of what was held and the chunks, and
-    /// what was coded and taken is not to be put.
+    /// not all where it failed. What was coded and taken is not to be put.
     pub fn go_on<R: Threads + Sync, C: Coder + Sync, L: RecordFeed, M: Sink + Send>(
         &mut self,
         rt: &R,
@@ -105,7 +105,7 @@ impl<W: Window + Send> Pipeline<W> {
         requires feed_going { L.going feed.old ≡ true }
         requires in_reach { end_of_chunks file.old.place (chunks_of_groups (W.groups self.old.next)) ≤ 2 ^ 62 }
         ensures whole { OnOk result (Lays (M.taken made.old) (M.taken made.new) file.old file.new (chunks_of_groups (W.groups self.old.next))) }
-        ensures front { OnErr result (LaysFront (M.taken made.old) (M.taken made.new) file.old file.new (chunks_of_groups (W.groups self.old.next))) }
+        ensures front { OnErr result (LaysFront (result ≡ Err PutEnd.Made) (M.taken made.old) (M.taken made.new) file.old file.new (chunks_of_groups (W.groups self.old.next))) }
         ensures taken { IfOk result (λ part. (more : List (List (List ℕ)))
             × (W.groups self.new.next ++ W.groups self.new.coming.taken ≡ W.groups self.old.coming.taken ++ more)
             × TakesGroups L.rest L.bound L.going L.origin L.faults feed.old feed.new self.old.coming.taker self.new.coming.taker more part) }
@@ -176,7 +176,8 @@ impl<W: Window + Send> Pipeline<W> {
     ///
     /// # Errors
     ///
-    /// Only where the sink failed, or there was no memory to code. The sink took a front of what was held and the chunks.
+    /// Only where the sink failed, or there was no memory to code. The sink took a front of what was held and the chunks, and
+    /// not all where it failed.
     pub fn finish<R: Threads + Sync, C: Coder + Sync, M: Sink + Send>(
         &mut self,
         rt: &R,
@@ -190,7 +191,7 @@ impl<W: Window + Send> Pipeline<W> {
         requires in_reach { end_of_chunks file.old.place (chunks_of_groups (W.groups self.old.next ++ W.groups self.old.coming.taken)) ≤ 2 ^ 62 }
         ensures whole { OnOk result (Lays (M.taken made.old) (M.taken made.new) file.old file.new
             (chunks_of_groups (W.groups self.old.next ++ W.groups self.old.coming.taken))) }
-        ensures front { OnErr result (LaysFront (M.taken made.old) (M.taken made.new) file.old file.new
+        ensures front { OnErr result (LaysFront (result ≡ Err PutEnd.Made) (M.taken made.old) (M.taken made.new) file.old file.new
             (chunks_of_groups (W.groups self.old.next ++ W.groups self.old.coming.taken))) }
         ensures made { OnlyCounts M.lent M.faults (result ≡ Err PutEnd.Made) made.old made.new }
     {

@@ -64,7 +64,7 @@ pub(crate) trait Window: Drop {
     ///
     /// # Errors
     ///
-    /// `Failed` only where the sink failed. It took a front of what was held and the chunks.
+    /// `Failed` only where the sink failed. It took a front of what was held and the chunks, and not all.
     fn put<M: Sink>(&mut self, file: &mut MadeFile, made: &mut M) -> Result<(), Failed>
         requires ready { ready self.old }
         requires going { file.old.spent ≡ false }

@@ -1,4 +1,5 @@
 use Rattle.std.proofs.Common.{rules}
+use Rattle.std.specs.Result.{IsErr}
 use Rattle.std.proofs.lemmas.Result.{err_from_is_err_and}
 use Rattle.record_writer.proofs.CodedWindows.{Lays-flushed, LaysFront-flushed, Lays-out, LaysFront-out}
 use Rattle.record_writer.proofs.Layings.{LaysFront-behind}
@@ -32,7 +33,7 @@ returns g c =
     record {
       whole = Lays-out c.flush-2.result _ _ _ _ c.args.file.now c.flush.new.self c.put_in_order.new.file c.flush-2.new.self _ first
           c.in_ok-put_in_order.ensures.whole c.flush-2.ensures.emptied c.flush-2.ensures.made.whole;
-      front = LaysFront-out c.flush-2.result _ _ _ _ c.args.file.now c.flush.new.self c.put_in_order.new.file c.flush-2.new.self _ first
+      front = LaysFront-out (IsErr c.flush-2.result) c.flush-2.result _ _ _ _ c.args.file.now c.flush.new.self c.put_in_order.new.file c.flush-2.new.self _ first
           c.in_ok-put_in_order.ensures.whole c.flush-2.ensures.emptied c.flush-2.ensures.made.front;
       counts = search rules;
     }

@@ -1,18 +1,22 @@
-use Rattle.std.proofs.Common.{ℕ, List, ap, arith}
+use Rattle.std.proofs.Common.{◌≡◌, ℕ, Option, Result, Err, List, refl, ap, arith}
 use Rattle.std.proofs.lemmas.Option.{IfSome_then}
 use Rattle.std.proofs.lemmas.Result.{err_from_is_err_and}
 use Rattle.record_group.specs.Groups.{padding_if}
 use Rattle.meta_chunk.proofs.Joins.{end_of_chunks_past}
 use Rattle.simple_chunk.specs.Costs.{cost_of}
+use Rattle.record_writer.specs.declared.cut_off.CutOff.{CutOff}
+use Rattle.record_writer.specs.declared.cut_off.CutOff.TheVariants.{Made}
+use Rattle.record_writer.specs.declared.feed.Stop.{Stop}
 use Rattle.record_writer.specs.Feeds.{Rest}
 use Rattle.record_writer.proofs.Given.{whatever_is_left, Lays-all_groups, LaysFront-all_groups}
+use Rattle.record_writer.proofs.Layings.{LaysFront-where}
 use Rattle.record_writer.proofs.Wholes.{padded_near, Lays-grouped, Lays-records, LaysFront-padding, LaysFront-groups, LaysFront-end}
 use Rattle.record_writer.proofs.engine.put_chunks.Goals as goal
 
 pub returns-in_err-pad_if-clause-front : goal.returns-in_err-pad_if-clause-front
 returns-in_err-pad_if-clause-front g c =
     let p = err_from_is_err_and c.from_residual.result c.from_residual.ensures.1 in
-    let front = rw c.pads_start.ensures at c.in_err-pad_if.ensures.front in
+    let front = LaysFront-where _ _ _ c.pad_if.new.self _ (λ _. refl) (rw c.pads_start.ensures at c.in_err-pad_if.ensures.front) in
     rw p.1
     (whatever_is_left _ _ (λ rest. LaysFront-padding c.args.options.now c.args.file.now rest.records _ _ c.pad_if.new.self front))
 
@@ -28,11 +32,11 @@ pub returns-in_err-stop-clause-front : goal.returns-in_err-stop-clause-front
 returns-in_err-stop-clause-front g c =
     let p = err_from_is_err_and c.from_residual-in_err-stop.result c.from_residual-in_err-stop.ensures.1 in
     let padded = rw c.pads_start.ensures at c.in_ok-pad_if.ensures.whole in
-    let front = LaysFront-all_groups (g.L.RecordFeed.rest c.args.feed.now) c.args.pipeline.now.coming.taker c.args.options.now.size c.args.options.now.every
+    let front = LaysFront-all_groups (◌≡◌ {A = Result (Option Stop) CutOff} (Err c.in_err-stop.field-0.0) (Err Made)) (g.L.RecordFeed.rest c.args.feed.now) c.args.pipeline.now.coming.taker c.args.options.now.size c.args.options.now.every
     (g.M.Sink.taken c.pad_if.new.made) (g.M.Sink.taken c.put_groups.new.made) c.pad_if.new.self c.put_groups.new.file
     c.requires.all
     c.in_err-stop.ensures.front in
-    rw p.1
+    rw (p.1, p.2)
     (IfSome_then _ front (λ (rest : Rest) front.
     LaysFront-groups c.args.options.now c.args.file.now rest.records _ _ _ c.pad_if.new.self c.put_groups.new.file padded front))
 
@@ -40,7 +44,7 @@ pub returns-in_err-pad_if-2-clause-front : goal.returns-in_err-pad_if-2-clause-f
 returns-in_err-pad_if-2-clause-front g c =
     let p = err_from_is_err_and c.from_residual-in_err-pad_if-2.result c.from_residual-in_err-pad_if-2.ensures.1 in
     let padded = rw c.pads_start.ensures at c.in_ok-pad_if.ensures.whole in
-    let front = rw c.pads_end.ensures at c.in_err-pad_if-2.ensures.front in
+    let front = LaysFront-where _ _ _ c.pad_if-2.new.self _ (λ _. refl) (rw c.pads_end.ensures at c.in_err-pad_if-2.ensures.front) in
     let grouped = Lays-all_groups (g.L.RecordFeed.rest c.args.feed.now) c.args.pipeline.now.coming.taker c.args.options.now.size c.args.options.now.every
     (g.M.Sink.taken c.pad_if.new.made) (g.M.Sink.taken c.put_groups.new.made) c.pad_if.new.self c.put_groups.new.file
     c.requires.all

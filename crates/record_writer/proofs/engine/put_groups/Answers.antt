@@ -1,16 +1,18 @@
-use Rattle.std.proofs.Common.{◌≡◌, ◌^◌, ◌≤◌, ◌++◌, Ok, Result, [], refl, subst, arith, rules}
+use Rattle.std.proofs.Common.{◌≡◌, ◌^◌, ◌≤◌, ◌++◌, ◌≢◌, Ok, Err, Result, [], refl, subst, arith, rules}
+use Rattle.std.proofs.lemmas.Result.{err_from_is_err_and}
 use Rattle.record_io.proofs.Calls.{OnErr-any}
 use Rattle.meta_chunk.specs.Files.{end_of_chunks}
 use Rattle.meta_chunk.proofs.Joins.{end_of_chunks_past}
+use Rattle.record_writer.specs.declared.cut_off.CutOff.TheVariants.{Made}
 use Rattle.record_writer.specs.declared.cut_off.TakeEnd.{TakeEnd}
 use Rattle.record_writer.specs.declared.group_taker.FeedPart.{FeedPart}
 use Rattle.record_writer.specs.declared.group_taker.FeedPart.TheVariants.{Window, All}
 use Rattle.record_writer.specs.MadeFiles.{chunks_of_groups}
 use Rattle.record_writer.specs.Windows.{AreTaken, TakesGroups}
-use Rattle.record_writer.proofs.Layings.{Lays-none, LaysFront-whole}
+use Rattle.record_writer.proofs.Layings.{Lays-none, LaysFront-where, LaysFront-whole}
 use Rattle.record_writer.proofs.Given.{Lays-all, LaysFront-all, LaysFront-more}
 use Rattle.record_writer.proofs.Reaches.{reach_of-window, within-before}
-use Rattle.record_writer.proofs.Windows.{Lays-taken, LaysFront-taken, OnOk-any, TakesGroups-moved}
+use Rattle.record_writer.proofs.Windows.{Lays-taken, LaysFront-taken, made_told, not_made, OnOk-any, TakesGroups-moved}
 use Rattle.record_writer.proofs.engine.put_groups.Goals as goal
 
 pub loop-part-init : goal.loop-part-init
@@ -38,10 +40,12 @@ returns-in_err-part-in-Ok-Window-clause-front g c =
     let before = c.loop-part.invariant.laid in
     let first = g.W.Window.groups c.loop-part.pipeline.next in
     let taken = g.W.Window.groups c.loop-part.pipeline.coming.taken in
-    OnErr-any _
+    let p = err_from_is_err_and c.from_residual.result c.from_residual.ensures.1 in
+    rw (p.1, p.2)
     (LaysFront-taken c.loop-part.part _ (g.L.RecordFeed.rest c.loop-part.feed) _ c.loop-part.pipeline.coming.taker (before.0 ++ (first ++ taken)) _ _ _ _ before.2.given_of
     (LaysFront-all _ _ _ _ c.loop-part.file c.go_on.new.file (before.0 ++ (first ++ taken)) before.0 (first ++ taken) refl before.1
-    (LaysFront-more _ _ c.loop-part.file c.go_on.new.file first taken c.in_err-part-in-Ok-Window.ensures.front)))
+    (LaysFront-more _ _ c.loop-part.file c.go_on.new.file first taken
+    (LaysFront-where _ _ c.loop-part.file c.go_on.new.file _ (made_told c.in_err-part-in-Ok-Window.field-0.0) c.in_err-part-in-Ok-Window.ensures.front))))
 
 pub loop-part-preserved : goal.loop-part-preserved
 loop-part-preserved g c =
@@ -81,9 +85,11 @@ pub returns-in_err-finish-clause-front : goal.returns-in_err-finish-clause-front
 returns-in_err-finish-clause-front g c =
     let before = c.loop-part.invariant.laid in
     let held = g.W.Window.groups c.loop-part.pipeline.next ++ g.W.Window.groups c.loop-part.pipeline.coming.taken in
-    OnErr-any _
+    let p = err_from_is_err_and c.from_residual-in_err-finish.result c.from_residual-in_err-finish.ensures.1 in
+    rw (p.1, p.2)
     (LaysFront-taken c.loop-part.part _ (g.L.RecordFeed.rest c.loop-part.feed) _ c.loop-part.pipeline.coming.taker (before.0 ++ held) _ _ _ _ before.2.given_of
-    (LaysFront-all _ _ _ _ c.loop-part.file c.finish.new.file (before.0 ++ held) before.0 held refl before.1 c.in_err-finish.ensures.front))
+    (LaysFront-all _ _ _ _ c.loop-part.file c.finish.new.file (before.0 ++ held) before.0 held refl before.1
+    (LaysFront-where _ _ c.loop-part.file c.finish.new.file _ (made_told c.in_err-finish.field-0.0) c.in_err-finish.ensures.front)))
 
 pub returns-clause-whole : goal.returns-clause-whole
 returns-clause-whole g c =
@@ -106,10 +112,15 @@ pub returns-clause-front : goal.returns-clause-front
 returns-clause-front g c =
     let before = c.loop-part.invariant.laid in
     let held = g.W.Window.groups c.loop-part.pipeline.next ++ g.W.Window.groups c.loop-part.pipeline.coming.taken in
+    let done : c.match-part.end ≢ Err Made =
+    elim c.match-part.branch [
+      | goal.in-Ok-All w ↦ rw w.end-is (λ is. cc is)
+      | goal.in-Err w ↦ rw (w.end-is, w.from.ensures) (not_made w.in-Err.end)
+    ] in
     OnErr-any _
     (LaysFront-taken c.loop-part.part _ (g.L.RecordFeed.rest c.loop-part.feed) _ c.loop-part.pipeline.coming.taker (before.0 ++ held) _ _ _ _ before.2.given_of
     (LaysFront-all _ _ _ _ c.loop-part.file c.finish.new.file (before.0 ++ held) before.0 held refl before.1
-    (LaysFront-whole _ _ _ _ _ c.in_ok-finish.ensures.whole)))
+    (LaysFront-whole _ _ _ _ _ done c.in_ok-finish.ensures.whole)))
 
 pub returns-clause-place : goal.returns-clause-place
 returns-clause-place g c =

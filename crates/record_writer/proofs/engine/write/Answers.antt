@@ -1,4 +1,4 @@
-use Rattle.std.proofs.Common.{◌≡◌, ◌∙◌, ◌++◌, Option, IfSome, refl, ap, arith, rules}
+use Rattle.std.proofs.Common.{◌≡◌, ◌∙◌, ◌++◌, Option, Err, IfSome, refl, ap, arith, rules}
 use Rattle.std.proofs.lemmas.Result.{IfOk-at_ok, err_from_is_err_and}
 use Rattle.record_io.specs.Outside.{Takes, TakesFront}
 use Rattle.record_io.proofs.Calls.{TakesFront-whole, TakesFront-none}
@@ -8,7 +8,7 @@ use Rattle.record_writer.specs.declared.feed.Stop.{Stop}
 use Rattle.record_writer.specs.MadeFiles.{totals_behind, totals_made}
 use Rattle.record_writer.specs.Written.{tail_chunks, tail_under}
 use Rattle.record_writer.proofs.Counted.{TellsTotals-told, TellsTotals-cut, IfOk-ended}
-use Rattle.record_writer.proofs.Flushes.{Takes-ended, TakesFront-ended, totals_made-ended, TakesFile-cut, TakesFile-ended}
+use Rattle.record_writer.proofs.Flushes.{Takes-ended, TakesShort-ended, totals_made-ended, TakesFile-cut, TakesFile-ended}
 use Rattle.record_writer.proofs.Windows.{where_done}
 use Rattle.record_writer.proofs.engine.write.Goals as goal
 
@@ -20,7 +20,7 @@ returns-in_err-flush g c =
     (record {
       written = record {
         answer = TellsTotals-cut (g.L.RecordFeed.rest c.args.feed.now) Made (λ records. totals_behind c.args.file.now (tail_chunks c.args.options.now c.args.file.now.place records));
-        made = TakesFront-ended c.args.options.now c.args.file.now _ _ _ c.put_chunks-stop.new.file _ c.put_chunks-stop.result put.whole put.front
+        made = TakesShort-ended (c.put_chunks-stop.result ≡ Err Made) c.args.options.now c.args.file.now _ _ _ c.put_chunks-stop.new.file _ c.put_chunks-stop.result put.whole put.front
             c.in_err-flush.ensures.made.front;
         read_to_end = tt;
         feed = search rules;
@@ -42,8 +42,8 @@ returns-in_err-stop g c =
     (record {
       written = record {
         answer = TellsTotals-cut (g.L.RecordFeed.rest c.args.feed.now) c.in_err-stop.field-0.0 (λ records. totals_behind c.args.file.now (tail_chunks c.args.options.now c.args.file.now.place records));
-        made = TakesFile-cut (λ records. c.args.file.now.held ++ tail_under c.args.options.now c.args.file.now.place records) _ _ _ c.in_err-stop.field-0.0
-            (TakesFront-ended c.args.options.now c.args.file.now _ _ _ c.put_chunks-stop.new.file _ c.put_chunks-stop.result put.whole put.front front);
+        made = TakesFile-cut c.args.options.now c.args.file.now _ _ _ c.put_chunks-stop.new.file _ c.put_chunks-stop.result c.in_err-stop.field-0.0
+            c.in_err-stop.was put.front front;
         read_to_end = tt;
         feed = search rules;
         made_counts = search rules;

@@ -1,7 +1,10 @@
-use Rattle.std.proofs.Common.{◌≡◌, ◌^◌, ◌++◌, List, ℕ, refl, subst, rules}
+use Rattle.std.proofs.Common.{◌≡◌, ◌^◌, ◌++◌, Err, List, ℕ, refl, subst, rules}
+use Rattle.std.specs.Result.{IsErr}
+use Rattle.std.proofs.lemmas.Result.{err_from_is_err_and}
 use Rattle.record_io.proofs.Calls.{OnErr-any}
+use Rattle.record_writer.specs.declared.cut_off.PutEnd.TheVariants.{Made}
 use Rattle.record_writer.specs.MadeFiles.{Lays, LaysFront, chunks_of_groups}
-use Rattle.record_writer.proofs.Layings.{LaysFront-whole}
+use Rattle.record_writer.proofs.Layings.{LaysFront-where, LaysFront-whole}
 use Rattle.record_writer.proofs.Given.{Lays-all, LaysFront-all, LaysFront-more}
 use Rattle.record_writer.proofs.Reaches.{within-before, within-behind}
 use Rattle.record_writer.proofs.pipeline.Pipeline.finish.Goals as goal
@@ -13,17 +16,22 @@ put_and_code-put-requires-clause-in_reach g c κs within =
 pub returns-in_err-put-clause-front : goal.returns-in_err-put-clause-front
 returns-in_err-put-clause-front g c =
     let first = g.W.Window.groups c.args.self.now.next in
-    let front : LaysFront (g.M.Sink.taken c.args.made.now) (g.M.Sink.taken c.put_and_code-put.new.made) c.args.file.now c.put_and_code-put.new.file
-    (chunks_of_groups first) = search rules in
-    OnErr-any _ (LaysFront-more _ _ c.args.file.now c.put_and_code-put.new.file first (g.W.Window.groups c.args.self.now.coming.taken) front)
+    let failed : IsErr c.put_and_code-put.result.0 = search rules in
+    let front : LaysFront (IsErr c.put_and_code-put.result.0) (g.M.Sink.taken c.args.made.now) (g.M.Sink.taken c.put_and_code-put.new.made)
+    c.args.file.now c.put_and_code-put.new.file (chunks_of_groups first) = search rules in
+    OnErr-any _
+    (LaysFront-more _ _ c.args.file.now c.put_and_code-put.new.file first (g.W.Window.groups c.args.self.now.coming.taken)
+    (LaysFront-where _ _ c.args.file.now c.put_and_code-put.new.file _ (λ _. failed) front))
 
 pub returns-in_err-coded-clause-front : goal.returns-in_err-coded-clause-front
 returns-in_err-coded-clause-front g c =
     let first = g.W.Window.groups c.args.self.now.next in
     let laid : Lays (g.M.Sink.taken c.args.made.now) (g.M.Sink.taken c.put_and_code-put.new.made) c.args.file.now c.put_and_code-put.new.file
     (chunks_of_groups first) = search rules in
-    OnErr-any _
-    (LaysFront-more _ _ c.args.file.now c.put_and_code-put.new.file first (g.W.Window.groups c.args.self.now.coming.taken) (LaysFront-whole _ _ _ _ _ laid))
+    let p = err_from_is_err_and c.from_residual-in_err-coded.result c.from_residual-in_err-coded.ensures.1 in
+    rw (p.1, p.2)
+    (LaysFront-more _ _ c.args.file.now c.put_and_code-put.new.file first (g.W.Window.groups c.args.self.now.coming.taken)
+    (LaysFront-whole _ _ _ _ _ (λ is. cc is) laid))
 
 pub put-requires-clause-in_reach : goal.put-requires-clause-in_reach
 put-requires-clause-in_reach g c =
@@ -43,8 +51,9 @@ returns-in_err-put-2-clause-front g c =
     let same : g.W.Window.groups c.put_and_code-put.new.self.coming.taken ≡ taken = search rules in
     OnErr-any _
     (LaysFront-all _ _ _ c.args.file.now c.put_and_code-put.new.file c.put.new.file (first ++ taken) first taken refl laid
-    (subst (λ (gs : List (List (List ℕ))). LaysFront (g.M.Sink.taken c.put_and_code-put.new.made) (g.M.Sink.taken c.put.new.made) c.put_and_code-put.new.file
-    c.put.new.file (chunks_of_groups gs)) same c.in_err-put-2.ensures.laid.front))
+    (subst (λ (gs : List (List (List ℕ))). LaysFront (c.from_residual-in_err-put-2.result ≡ Err Made) (g.M.Sink.taken c.put_and_code-put.new.made)
+    (g.M.Sink.taken c.put.new.made) c.put_and_code-put.new.file c.put.new.file (chunks_of_groups gs)) same
+    (LaysFront-where _ _ c.put_and_code-put.new.file c.put.new.file _ (λ _. refl) c.in_err-put-2.ensures.laid.front)))
 
 pub returns-clause-whole : goal.returns-clause-whole
 returns-clause-whole g c =
