@@ -2,10 +2,10 @@
 use Rattle.std.proofs.Common.{◌≡◌, ℕ, Option, Result, Ok, Err, List, [], ◌∷◌, ◌++◌, sym, subst, decimal, append_assoc}
 use Rattle.std.specs.Result.{OnOk, OnErr}
 use Rattle.std.specs.List.{concat}
-use Rattle.record_io.specs.Outside.{Takes, TakesFront}
+use Rattle.record_io.specs.Outside.{Takes, TakesShort}
 use Rattle.record_io.specs.Buffers.{TakesAndHolds}
-use Rattle.record_io.proofs.Calls.{Takes-append, TakesFront-append, OnErr-any}
-use Rattle.record_io.proofs.Buffered.{TakesAndHolds-append, TakesFront-behind}
+use Rattle.record_io.proofs.Calls.{Takes-append, TakesShort-append, OnErr-any}
+use Rattle.record_io.proofs.Buffered.{TakesAndHolds-append, TakesShort-behind}
 use Rattle.chunk_reader.specs.Names.{name_of}
 use Rattle.damage_skip.specs.Regions.{region_text}
 use Rattle.damage_skip.specs.declared.regions.Region.{Region}
@@ -37,16 +37,16 @@ line-whole (Ok x) a b c d word held then region first next last =
     subst (λ (xs : List ℕ). Takes a d xs) (sym whole.parts) (Takes-append a c d whole.passed then whole.taken last)
 line-whole (Err e) a b c d word held then region first next last = tt
 
--- or a front of it
+-- or not all of it
 pub line-front : {X E : Type 0} (r : Result X E) (a b c d : Option (List ℕ)) (word held then : List ℕ) (region : Region) → TakesAndHolds a b word held
-    → TakesAndHolds b c (held ++ concat (pieces_of region)) then → OnErr r (TakesFront c d then) → OnErr r (TakesFront a d (region_text word region))
+    → TakesAndHolds b c (held ++ concat (pieces_of region)) then → OnErr r (TakesShort c d then) → OnErr r (TakesShort a d (region_text word region))
 line-front (Ok x) a b c d word held then region first next last = tt
 line-front (Err e) a b c d word held then region first next last =
     let whole = held_whole a b c word held then region first next in
-    subst (λ (xs : List ℕ). TakesFront a d xs) (sym whole.parts) (TakesFront-append a c d whole.passed then whole.taken last)
+    subst (λ (xs : List ℕ). TakesShort a d xs) (sym whole.parts) (TakesShort-append a c d whole.passed then whole.taken last)
 
 pub line-cut : {X E : Type 0} (r : Result X E) (a b c : Option (List ℕ)) (word held : List ℕ) (region : Region) → TakesAndHolds a b word held
-    → TakesFront b c (held ++ concat (pieces_of region)) → OnErr r (TakesFront a c (region_text word region))
+    → TakesShort b c (held ++ concat (pieces_of region)) → OnErr r (TakesShort a c (region_text word region))
 line-cut r a b c word held region first cut =
-    OnErr-any r (subst (λ (xs : List ℕ). TakesFront a c xs) (pieces-text word region)
-    (TakesFront-behind a b c [] held word (concat (pieces_of region)) first cut))
+    OnErr-any r (subst (λ (xs : List ℕ). TakesShort a c xs) (pieces-text word region)
+    (TakesShort-behind a b c [] held word (concat (pieces_of region)) first cut))

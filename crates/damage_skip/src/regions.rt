@@ -24,7 +24,7 @@ pub struct Region {
 ///
 /// # Errors
 ///
-/// `Failed` only where the sink failed. It took a front of the line.
+/// `Failed` only where the sink failed. It took a front of the line and not all.
 pub fn region_line<E: Sink>(sink: &mut E, word: &str, region: &Region) -> Result<(), Failed>
     ensures sink { PutsTo E.taken E.lent E.faults result (region_text word.now region.now) sink.old sink.new }
 {
