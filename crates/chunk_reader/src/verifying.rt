@@ -1,4 +1,4 @@
-ghost use Rattle.std.specs.Prelude.{◌≡◌, ◌+◌, ◌^◌, ◌<◌, ◌≤◌, List, [], Some, None, true, IfOk, IfSome, OnOk, IsErr, Err};
+ghost use Rattle.std.specs.Prelude.{◌≡◌, ◌+◌, ◌^◌, ◌<◌, ◌≤◌, ◌⊎◌, List, [], Some, None, true, IfOk, IfSome, OnOk, IsErr, Err};
 ghost use Rattle.record_io.specs.Calls.{OnlyAsks};
 ghost use Rattle.block_layout.specs.Layout.{chunk_header_size, IsBoundary, end_of};
 ghost use Rattle.chunk_header.specs.Chunks.{ChunkValue};
@@ -9,6 +9,7 @@ ghost use Rattle.chunk_reader.specs.Faults.{IsFault, IsVerdict};
 ghost use Rattle.chunk_reader.specs.Fronts.{IsFrontOf};
 ghost use Rattle.chunk_reader.specs.Progress.{AreInBounds};
 ghost use Rattle.chunk_reader.specs.declared.reasons.Fault.{Fault};
+ghost use Rattle.chunk_reader.specs.declared.reasons.Why.TheVariants.{NoSignature};
 
 use crate::feeding::feed_chunk;
 use crate::judging::{refused, whole_head_at};
@@ -64,6 +65,7 @@ pub fn verify_front<S: Store>(store: &mut S, size: u64) -> Result<Front, Failed>
     ensures front { IfOk result (λ front. IfSome (S.bytes store.old) (λ file. IsFrontOf file front)) }
     ensures totals { IfOk result (λ front. AreInBounds size front.totals) }
     ensures whole { IfOk result (λ front. front.fault ≡ None → (front.totals.bytes ≡ size) × (64 ≤ size)) }
+    ensures signed { IfOk result (λ front. IfSome front.fault (λ fault. (fault.why ≡ NoSignature) ⊎ (64 ≤ front.totals.bytes))) }
     ensures handed { S.handed store.new ≤ S.handed store.old + size }
     ensures store { OnlyAsks S.bytes S.told S.name S.faults (IsErr result) store.old store.new }
 {
@@ -85,6 +87,7 @@ fn count_front<S: Store>(store: &mut S, size: u64, totals: &mut Totals) -> Resul
     ensures at_end { OnOk result ((totals.new.bytes ≡ size) × (64 ≤ size)) }
     ensures refused { (fault : Fault) → result ≡ Err (VerifyEnd.Refused fault)
         → IfSome (S.bytes store.old) (λ file. IsFrontOf file (record { totals = totals.new; fault = Some fault })) }
+    ensures signed { (fault : Fault) → result ≡ Err (VerifyEnd.Refused fault) → (fault.why ≡ NoSignature) ⊎ (64 ≤ totals.new.bytes) }
     ensures totals { AreInBounds size totals.new }
     ensures handed { S.handed store.new ≤ S.handed store.old + size }
     ensures store { OnlyAsks S.bytes S.told S.name S.faults (result ≡ Err VerifyEnd.Store) store.old store.new }

@@ -1,4 +1,4 @@
-use Rattle.std.proofs.Common.{◌≡◌, Option, true, Err, IfSome, List, ℕ, ap, sym, subst, arith, rules}
+use Rattle.std.proofs.Common.{◌≡◌, Option, true, Err, IfSome, List, ℕ, ap, sym, subst, inl, inr, arith, rules, lit≤}
 use Rattle.block_layout.proofs.Ends.{end_of_room}
 use Rattle.record_values.specs.declared.file_totals.Totals.{Totals}
 use Rattle.chunk_reader.specs.Faults.{IsVerdict}
@@ -14,9 +14,14 @@ returns-in_err-check_signature-clause-refused g c =
     front_unsigned (g.S.Store.bytes c.args.store.now) c.args.totals.now fault c.requires.no_chunks
     (c.in_err-check_signature.ensures.refused fault (ap Err (sym (rw e at c.from_residual.ensures.1))))
 
+pub returns-in_err-check_signature-clause-signed : goal.returns-in_err-check_signature-clause-signed
+returns-in_err-check_signature-clause-signed g c =
+    λ fault e. inl (c.in_err-check_signature.ensures.refused fault (ap Err (sym (rw e at c.from_residual.ensures.1)))).1
+
 pub loop-totals-init : goal.loop-totals-init
 loop-totals-init g c = record {
   bounds = AreInBounds-signature c.args.size c.in_ok-check_signature.ensures.long;
+  signed = lit≤ tt;
   read = signature_read true _ c.in_ok-check_signature.ensures.signed;
   handed = omega (arith, c.check_signature.ensures.handed);
   asks = search rules;
@@ -32,6 +37,9 @@ returns-in_err-passed-clause-refused g c =
     (subst P kept.asks.same_bytes
     (c.in_err-passed.ensures.refused fault (ap Err (sym (rw e at c.from_residual-in_err-passed.ensures.1)))))
 
+pub returns-in_err-passed-clause-signed : goal.returns-in_err-passed-clause-signed
+returns-in_err-passed-clause-signed g c = λ fault e. inr c.loop-totals.invariant.signed
+
 pub loop-totals-smaller : goal.loop-totals-smaller
 loop-totals-smaller g c =
     let ends : c.totals_with_chunk.result.bytes ≡ c.in_ok-passed.passed.end = ap (λ (t : Totals). t.bytes) c.totals_with_chunk.ensures in
@@ -43,7 +51,9 @@ loop-totals-preserved g c =
     let totals = c.loop-totals.totals in
     let passed = c.in_ok-passed.passed in
     let counts = sym c.totals_with_chunk.ensures in
-    let P : Totals → Type 0 = λ t. IfSome (g.S.Store.bytes c.args.store.now) (λ file. AreReadFrom true file t) in record {
+    let P : Totals → Type 0 = λ t. IfSome (g.S.Store.bytes c.args.store.now) (λ file. AreReadFrom true file t) in
+    let ends : c.totals_with_chunk.result.bytes ≡ passed.end = ap (λ (t : Totals). t.bytes) c.totals_with_chunk.ensures in record {
+      signed = omega (arith, ends, c.in_ok-passed.ensures.end.1, end_of_room c.loop-totals.totals.bytes 40, kept.signed);
       bounds = subst (AreInBounds c.args.size) counts (verified_totals c.args.size totals passed kept.bounds c.in_ok-passed.ensures.end);
       read = subst P counts
           (verified_on _ _ totals passed kept.asks.same_bytes c.in_ok-check_signature.ensures.signed c.in_ok-passed.ensures.passed kept.read);
