@@ -18,7 +18,7 @@ use Rattle.damage_skip.specs.declared.regions.Region.{Region}
 use Rattle.damage_skip.proofs.PlacesFurtherOn.{resync_one}
 use Rattle.damage_skip.proofs.Damaged.{tiles_left, resync_next, number_of_end}
 use Rattle.damage_skip.proofs.Reached.{next_of, reached_on, left_numbers}
-use Rattle.damage_skip.proofs.Untouched.{lost_to_a_block}
+use Rattle.damage_skip.proofs.Untouched.{lost_up_to_a_block}
 
 module _ (keep : Bool) (ks : List ChunkValue) (file damaged : List ℕ) (intact : Intact) (d : IsDamaged ks file damaged intact)
     (reach : length file ≤ 2 ^ 60) where
@@ -66,7 +66,7 @@ module _ (keep : Bool) (ks : List ChunkValue) (file damaged : List ℕ) (intact 
         ended = λ end. number_of_end keep ks file damaged intact d reach left.0 left.1 (sym (ended end) ∙ left.2);
         stopped = subst (λ (k : Bool). IfSome (stop_of result) (IsLeftRegion k ks intact left.0)) (sym keeps)
             (left_region after.place left.0 (stop_of result) left.1 left.2 stopped);
-        lost = lost_to_a_block ks intact left.0 (number.2.numbers ++ numbers.0) reached;
+        lost = lost_up_to_a_block ks intact left.0 (number.2.numbers ++ numbers.0) reached;
       }
 
 -- of a file that tells its bytes

@@ -1,5 +1,5 @@
--- What is left of a file gives the records of the chunks that were reached and not touched, and with intact block headers no chunk
--- is lost past the block behind a broken header.
+-- What is left of a file gives the records of the chunks that were reached and not touched, and no chunk is lost past an intact
+-- block header behind a broken header.
 use Rattle.std.proofs.Common.{◌≡◌, ◌≢◌, ◌∙◌, ℕ, suc, ◌+◌, ◌^◌, ◌<◌, ◌≤◌, Bool, true, false, ◌&&◌, List, [], ◌∷◌, ◌++◌, Some, length, refl, sym, ap, subst, inl, inr, arith}
 use Rattle.std.specs.Prelude.{slice_get}
 use Rattle.std.proofs.lemmas.Bool.{cases_lt, cases_order, cases_Bool}
@@ -10,7 +10,7 @@ use Rattle.meta_chunk.specs.Files.{Holds, AreRecordsOf, begin_of}
 use Rattle.meta_chunk.proofs.Begins.{begin_of_rises}
 use Rattle.meta_chunk.proofs.Held.{AreRecordsOf-append}
 use Rattle.damage_skip.specs.Pieces.{PieceKind, Piece, AreEvents, records_of, records_in}
-use Rattle.damage_skip.specs.Damage.{Intact, IsDamaged, IsNext, AreReached, AreLostToABlock, DamageLeaves, DamageLeavesEach, untouched}
+use Rattle.damage_skip.specs.Damage.{Intact, IsDamaged, IsIntactFrom, IsNext, AreReached, AreLostUpToABlock, DamageLeaves, DamageLeavesEach, untouched}
 use Rattle.damage_skip.proofs.OnePiece.{given_or_kept}
 use Rattle.damage_skip.proofs.FoundRecords.{found_holds, records_in_events}
 use Rattle.damage_skip.proofs.Damaged.{pieces_left}
@@ -81,57 +81,59 @@ events_left keep ks file damaged intact is events reach d reached (pieces, h, ar
     subst (AreRecordsOf (untouched ks intact is)) (sym (records_in_events pieces) ∙ ap records_in are)
     (left_records keep ks intact 0 (length ks) pieces is (pieces_left keep ks file damaged intact d reach pieces h) reached)
 
--- the block headers of a file are all intact
-AreIntact : List ChunkValue → Intact → Type 0
-AreIntact ks intact = (b : ℕ) → IsBlock b → b < begin_of ks (length ks) → intact.block b ≡ true
-
--- a chunk that is passed over lies before each block from the begin of the one before it with a broken header on
+-- a chunk that is passed over lies before each intact block header from the begin of the one before it with a broken header on
 IsLost : List ChunkValue → Intact → ℕ → ℕ → Type 0
 IsLost ks intact j m =
-    (j < m) × (intact.header j ≡ false) × ((b : ℕ) → IsBlock b → begin_of ks j ≤ b → begin_of ks (m + 1) ≤ b)
+    (j < m) × (intact.header j ≡ false) × ((b : ℕ) → IsIntactFrom ks intact j b → begin_of ks (m + 1) ≤ b)
 
-passed_over : (ks : List ChunkValue) (intact : Intact) (j next m : ℕ) → AreIntact ks intact → IsNext ks intact j next → j < m → m < next
-    → m < length ks → IsLost ks intact j m
-unfolding AreIntact IsLost
-passed_over ks intact j next m whole (inl (fine, is)) after before inside = absurd (omega (arith, is))
-passed_over ks intact j next m whole (inr (broken, inl (b, i, at, lies, is))) after before inside = (
+passed_over : (ks : List ChunkValue) (intact : Intact) (j next m : ℕ) → IsNext ks intact j next → j < m → m < next → IsLost ks intact j m
+unfolding IsLost
+passed_over ks intact j next m (inl (fine, is)) after before = absurd (omega (arith, is))
+passed_over ks intact j next m (inr (broken, inl (b, i, at, lies, is))) after before = (
   after,
   broken,
-  λ c is_block from. elim (cases_lt c (begin_of ks (length ks))) [
-    | inl below ↦
-        let first : b ≤ c = at.first c (record { is_block = is_block; from = from; below = below; is_intact = whole c is_block below }) in
-        let behind : m + 1 ≤ i = omega arith in
-        omega (arith, lies.begins, begin_of_rises ks (m + 1) i behind)
-    | inr past ↦ omega (arith, begin_of_rises ks (m + 1) (length ks) (omega arith))
-  ],
+  λ c here.
+      let behind : m + 1 ≤ i = omega (arith, is) in
+      omega (arith, at.first c here, lies.begins, begin_of_rises ks (m + 1) i behind),
 )
-passed_over ks intact j next m whole (inr (broken, inr (none, is))) after before inside = (
-  after,
-  broken,
-  λ c is_block from. elim (cases_lt c (begin_of ks (length ks))) [
-    | inl below ↦ absurd (none c (record { is_block = is_block; from = from; below = below; is_intact = whole c is_block below }))
-    | inr past ↦ omega (arith, begin_of_rises ks (m + 1) (length ks) (omega arith))
-  ],
-)
+passed_over ks intact j next m (inr (broken, inr (none, is))) after before = (after, broken, λ c here. absurd (none c here))
 
 -- so each chunk from one on that is not reached is lost so
-not_reached : (ks : List ChunkValue) (intact : Intact) (j to m : ℕ) (is : List ℕ) → AreIntact ks intact → AreReached ks intact j to is
-    → j ≤ m → m < to → m < length ks → ((i : ℕ) → slice_get is i ≢ Some m) → (l : ℕ) × IsLost ks intact l m
-not_reached ks intact j to m [] whole h from before inside missed = absurd (omega (arith, h))
-not_reached ks intact j to m (i ∷ is) whole (at, below, (next, step, rest)) from before inside missed =
+not_reached : (ks : List ChunkValue) (intact : Intact) (j to m : ℕ) (is : List ℕ) → AreReached ks intact j to is
+    → j ≤ m → m < to → ((i : ℕ) → slice_get is i ≢ Some m) → (l : ℕ) × IsLost ks intact l m
+not_reached ks intact j to m [] h from before missed = absurd (omega (arith, h))
+not_reached ks intact j to m (i ∷ is) (at, below, (next, step, rest)) from before missed =
     elim (cases_order j m) [
       | inl same ↦ absurd (missed 0 (ap Some (at ∙ same)))
       | inr (inl less) ↦ elim (cases_lt m next) [
-        | inl short ↦ (j, passed_over ks intact j next m whole step less short inside)
-        | inr behind ↦ not_reached ks intact next to m is whole rest behind before inside (λ n there. missed (suc n) there)
+        | inl short ↦ (j, passed_over ks intact j next m step less short)
+        | inr behind ↦ not_reached ks intact next to m is rest behind before (λ n there. missed (suc n) there)
       ]
       | inr (inr more) ↦ absurd (omega arith)
     ]
 
-pub lost_to_a_block : (ks : List ChunkValue) (intact : Intact) (to : ℕ) (is : List ℕ) → AreReached ks intact 0 to is → AreLostToABlock ks intact to is
-unfolding AreIntact IsLost
-lost_to_a_block ks intact to is h =
-    λ whole m before missed.
-    let end : to ≤ length ks = (reached_to ks intact 0 to is (omega arith) h).1 in
-    let lost = not_reached ks intact 0 to m is whole h (omega arith) before (omega arith) missed in
+pub lost_up_to_a_block : (ks : List ChunkValue) (intact : Intact) (to : ℕ) (is : List ℕ) → AreReached ks intact 0 to is
+    → AreLostUpToABlock ks intact to is
+unfolding IsLost
+lost_up_to_a_block ks intact to is h =
+    λ m before missed.
+    let lost = not_reached ks intact 0 to m is h (omega arith) before missed in
     (lost.0, lost.1.0, lost.1.1, lost.1.2)
+
+-- where all block headers are intact, up to the first block
+pub lost_up_to_first : (ks : List ChunkValue) (intact : Intact) (to lost : ℕ) (is : List ℕ)
+    → ((b : ℕ) → IsBlock b → b < begin_of ks (length ks) → intact.block b ≡ true)
+    → AreReached ks intact 0 to is → lost < to → ((i : ℕ) → slice_get is i ≢ Some lost)
+    → (j : ℕ) × (j < lost) × (intact.header j ≡ false)
+    × ((b : ℕ) → IsBlock b → begin_of ks j ≤ b → begin_of ks (lost + 1) ≤ b)
+lost_up_to_first ks intact to lost is whole h before missed =
+    let end : to ≤ length ks = (reached_to ks intact 0 to is (omega arith) h).1 in
+    let there = lost_up_to_a_block ks intact to is h lost before missed in (
+      there.0,
+      there.1,
+      there.2,
+      λ b is_block from. elim (cases_lt b (begin_of ks (length ks))) [
+        | inl below ↦ there.3 b (record { is_block = is_block; from = from; below = below; is_intact = whole b is_block below })
+        | inr past ↦ omega (arith, begin_of_rises ks (lost + 1) (length ks) (omega arith))
+      ],
+    )

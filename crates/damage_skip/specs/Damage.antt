@@ -87,11 +87,10 @@ abbrev pub untouched : List ChunkValue → Intact → List ℕ → List ChunkVal
 untouched ks intact numbers =
     filter_map (λ j. if intact.header j && intact.«data» j then slice_get ks j else None) numbers
 
--- where all block headers are intact, a chunk that isn't among those reached before one is behind a broken header, and ends at or
--- before the first block from that one's begin on
-abbrev pub AreLostToABlock : List ChunkValue → Intact → (to : ℕ) → List ℕ → Type 0
-AreLostToABlock ks intact to numbers =
-    ((b : ℕ) → IsBlock b → b < begin_of ks (length ks) → intact.block b ≡ true)
-    → (lost : ℕ) → lost < to → ((i : ℕ) → slice_get numbers i ≢ Some lost)
+-- a chunk that isn't among those reached before one is behind a broken header, and ends at or before each block from that one's
+-- begin on whose header is intact
+abbrev pub AreLostUpToABlock : List ChunkValue → Intact → (to : ℕ) → List ℕ → Type 0
+AreLostUpToABlock ks intact to numbers =
+    (lost : ℕ) → lost < to → ((i : ℕ) → slice_get numbers i ≢ Some lost)
     → (j : ℕ) × (j < lost) × (intact.header j ≡ false)
-    × ((b : ℕ) → IsBlock b → begin_of ks j ≤ b → begin_of ks (lost + 1) ≤ b)
+    × ((b : ℕ) → IsIntactFrom ks intact j b → begin_of ks (lost + 1) ≤ b)

@@ -6,7 +6,7 @@ use Rattle.damage_skip.specs.declared.events.Event.{Event}
 use Rattle.damage_skip.specs.declared.events.WalkEnd.{WalkEnd}
 use Rattle.damage_skip.specs.declared.progress.Progress.{Progress}
 use Rattle.damage_skip.specs.declared.regions.Region.{Region}
-use Rattle.damage_skip.specs.Damage.{Intact, IsDamaged, IsNext, AreReached, AreLostToABlock, DamageLeavesEach}
+use Rattle.damage_skip.specs.Damage.{Intact, IsDamaged, IsNext, AreReached, AreLostUpToABlock, DamageLeavesEach}
 use Rattle.damage_skip.specs.Fronts.{AreFrontPieces}
 use Rattle.damage_skip.specs.Pieces.{Piece, Skipped, AreTiles, events_in}
 use Rattle.damage_skip.specs.Walks.{events_of, stop_of}
@@ -26,7 +26,7 @@ IsLeftRegion keep ks intact number region =
 
 -- a call of a walk goes on from a chunk that is reached to another one: it gives the events among what damage leaves of
 -- those reached between, none only at the file's end, and stops at what it leaves of the chunk that the walk came to. The chunks
--- before that one that were not reached are lost to a block
+-- before that one that were not reached are lost up to a block
 pub record WalksPastDamage (ks : List ChunkValue) (intact : Intact) (before after : Progress) (result : Result (Option Event) WalkEnd) : Type 0 where
   pub «from» : ℕ
   pub to : ℕ
@@ -37,7 +37,7 @@ pub record WalksPastDamage (ks : List ChunkValue) (intact : Intact) (before afte
   pub events : events_in pieces ≡ events_of result
   pub ended : result ≡ Ok None → to ≡ length ks
   pub stopped : IfSome (stop_of result) (IsLeftRegion before.keep ks intact to)
-  pub lost : AreLostToABlock ks intact to to_reached.numbers
+  pub lost : AreLostUpToABlock ks intact to to_reached.numbers
 
 -- where the chunk that begins at a place of a damaged file has a changed header, the chunk reached next begins here
 abbrev pub LeadsPastDamage : List ℕ → (place to : ℕ) → Type 0

@@ -2,13 +2,13 @@
 
 ghost use Rattle.std.specs.List.{AllByRecursion};
 ghost use Rattle.std.specs.List.Sorted.{IsStrictlyIncreasing};
-ghost use Rattle.std.specs.Prelude.{◌≡◌, ◌≢◌, ◌⊎◌, ◌↔◌, ℕ, ◌+◌, ◌^◌, ◌<◌, ◌≤◌, Bool, true, List, [], ◌∷◌, ◌++◌, Some, length, take, map, slice_get};
-ghost use Rattle.block_layout.specs.Layout.{IsBoundary};
+ghost use Rattle.std.specs.Prelude.{◌≡◌, ◌≢◌, ◌⊎◌, ◌↔◌, ℕ, ◌+◌, ◌^◌, ◌<◌, ◌≤◌, Bool, true, false, List, [], ◌∷◌, ◌++◌, Some, length, take, map, slice_get};
+ghost use Rattle.block_layout.specs.Layout.{IsBlock, IsBoundary};
 ghost use Rattle.chunk_header.specs.Chunks.{ChunkValue};
 ghost use Rattle.chunk_reader.specs.Faults.{IsAllowed};
 ghost use Rattle.chunk_reader.specs.declared.reasons.Why.{Why};
 ghost use Rattle.chunk_reader.specs.declared.reasons.Why.TheVariants as why;
-ghost use Rattle.damage_skip.specs.Damage.{Intact, IsDamaged, IsNext, AreReached, AreLostToABlock, DamageLeavesEach, untouched};
+ghost use Rattle.damage_skip.specs.Damage.{Intact, IsDamaged, IsNext, AreReached, AreLostUpToABlock, DamageLeavesEach, untouched};
 ghost use Rattle.damage_skip.specs.DamagedWalks.{IsReachedAt};
 ghost use Rattle.damage_skip.specs.Pieces.{PieceKind, Skipped, Piece, IsFoundAs, IsPieceOf, AreTiles, ArePieces, is_event, events_in, AreEvents, records_in, placed_in, AreFound};
 ghost use Rattle.damage_skip.specs.Resyncs.{IsResync};
@@ -185,11 +185,16 @@ pub fn damaged_files_come_apart_as_told()
         → AreEvents keep damaged events → AreRecordsOf (untouched ks intact is) (records_in events) }
 {}
 
-/// Where all block headers are intact, a chunk that isn't reached, before one that is or before the end, is behind one with a
-/// broken header, and ends at or before the first block from that one's begin on. Own.
+/// A chunk that isn't reached, before one that is or before the end, is behind one with a broken header, and ends at or before
+/// each intact block header from that one's begin on; so, where all block headers are intact, at or before the first block. Own.
 pub fn chunks_are_lost_up_to_a_block()
-    ensures { (ks : List ChunkValue) (intact : Intact) (to : ℕ) (is : List ℕ)
-        → AreReached ks intact 0 to is → AreLostToABlock ks intact to is }
+    ensures lost { (ks : List ChunkValue) (intact : Intact) (to : ℕ) (is : List ℕ)
+        → AreReached ks intact 0 to is → AreLostUpToABlock ks intact to is }
+    ensures first_block { (ks : List ChunkValue) (intact : Intact) (to lost : ℕ) (is : List ℕ)
+        → ((b : ℕ) → IsBlock b → b < begin_of ks (length ks) → intact.block b ≡ true)
+        → AreReached ks intact 0 to is → lost < to → ((i : ℕ) → slice_get is i ≢ Some lost)
+        → (j : ℕ) × (j < lost) × (intact.header j ≡ false)
+        × ((b : ℕ) → IsBlock b → begin_of ks j ≤ b → begin_of ks (lost + 1) ≤ b) }
 {}
 
 /// The front of a file of chunks comes apart as the file does up to the last chunk that it has whole. Where it ends within a

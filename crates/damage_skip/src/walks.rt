@@ -55,9 +55,9 @@ impl<F: Fn(&Region) -> bool + Drop> Walker<F> {
     ///
     /// In a damaged file, in which each change shows by a hash, the walk goes from chunk to chunk of the undamaged one: from one
     /// whose header is intact to the next, and from another one to that which holds the first intact block header from its
-    /// begin on. Where all block headers are intact, what is lost behind a changed header ends at or before the first block from
-    /// its chunk's begin on. The front of a file of chunks gives what the file gives up to the last chunk that the front has
-    /// whole, and one region for a chunk that is cut.
+    /// begin on. So what is lost behind a changed header ends at or before each intact block header from its chunk's begin on. The
+    /// front of a file of chunks gives what the file gives up to the last chunk that the front has whole, and one region for a
+    /// chunk that is cut.
     ///
     /// No more is handed out than the pieces account for that are passed: a chunk that can be loaded for no more than it has, and
     /// for none behind a block that contradicts it; another piece for a chunk header, or what the file has from there if that is

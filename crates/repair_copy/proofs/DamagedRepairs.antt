@@ -16,7 +16,7 @@ use Rattle.damage_skip.specs.declared.regions.Region.{Region}
 use Rattle.damage_skip.proofs.Damaged.{tiles_left, number_of_end}
 use Rattle.damage_skip.proofs.DamagedWalks.{left_region}
 use Rattle.damage_skip.proofs.Reached.{left_numbers}
-use Rattle.damage_skip.proofs.Untouched.{lost_to_a_block}
+use Rattle.damage_skip.proofs.Untouched.{lost_up_to_a_block}
 use Rattle.repair_copy.specs.Relaid.{chunks_in, relaid}
 use Rattle.repair_copy.specs.RepairPuts.{repair_puts}
 use Rattle.repair_copy.specs.Repairs.{AnswersRepair, WentOut, Repairs}
@@ -80,7 +80,7 @@ damage_repaired test f result faults faults_then before after damaged h ks file 
       to = left.0;
       numbers = numbers.0;
       reached = numbers.1;
-      lost = lost_to_a_block ks intact left.0 numbers.0 numbers.1;
+      lost = lost_up_to_a_block ks intact left.0 numbers.0 numbers.1;
       pieces = pieces;
       left = left.3;
       allowed = subst (λ (es : List Piece). AllByRecursion (IsAllowedRegion test f) (regions_in es)) (sym are) h.walked.each;

@@ -8,7 +8,7 @@ use Rattle.record_io.specs.Puts.{Put, Taken, GoOut}
 use Rattle.chunk_header.specs.Chunks.{ChunkValue}
 use Rattle.meta_chunk.specs.Counts.{totals_of}
 use Rattle.meta_chunk.specs.Files.{signature, IsFrame, laid_each}
-use Rattle.damage_skip.specs.Damage.{Intact, AreReached, AreLostToABlock, DamageLeavesEach, untouched}
+use Rattle.damage_skip.specs.Damage.{Intact, AreReached, AreLostUpToABlock, DamageLeavesEach, untouched}
 use Rattle.damage_skip.specs.DamagedWalks.{IsLeftRegion}
 use Rattle.damage_skip.specs.Pieces.{Piece, events_in}
 use Rattle.damage_skip.specs.Policies.{IsAllowedRegion}
@@ -41,14 +41,14 @@ MakesOf (Err (end.Stopped region)) before after ks = Takes before.made after.mad
 MakesOf (Err other) before after ks = ⊤
 
 -- of a damaged file the chunks before this number were passed, to its end or to a region that is refused: the untouched ones of
--- those reached are copied, which are a frame, the regions among what damage leaves of these are told, and the others are lost to a
--- block
+-- those reached are copied, which are a frame, the regions among what damage leaves of these are told, and the others are lost up
+-- to a block
 pub record RepairsDamage {F : Type 0} (test : Shared F (Bor Region × Unit {0}) Bool) (f : F) (result : Result Repaired RepairEnd)
     (faults faults_then : ℕ) (before after : Taken) (ks : List ChunkValue) (intact : Intact) : Type 0 where
   pub to : ℕ
   pub numbers : List ℕ
   pub reached : AreReached ks intact 0 to numbers
-  pub lost : AreLostToABlock ks intact to numbers
+  pub lost : AreLostUpToABlock ks intact to numbers
   pub pieces : List Piece
   pub left : DamageLeavesEach true ks intact 0 to pieces
   pub allowed : AllByRecursion (IsAllowedRegion test f) (regions_in (events_in pieces))

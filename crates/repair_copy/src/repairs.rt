@@ -67,9 +67,9 @@ impl From<FailedSink> for RepairEnd {
 /// What is held goes out before a line is put, and however the work ends.
 ///
 /// Of a damaged file, in which each change shows by a hash, what is made has, behind the signature, the simple, metadata and
-/// unread chunks of the undamaged file that are reached and untouched, in order. Where all block headers are intact, what is lost
-/// behind a changed header ends at or before the first block from its chunk's begin on. Of the front of a file of chunks, it has
-/// those that the front has whole, and one region is told for a chunk that is cut.
+/// unread chunks of the undamaged file that are reached and untouched, in order. What is lost behind a changed header ends at or
+/// before each intact block header from its chunk's begin on. Of the front of a file of chunks, it has those that the front has
+/// whole, and one region is told for a chunk that is cut.
 ///
 /// However the work ends, what was taken of the store is accounted for by the pieces up to some place and the one there, and no
 /// region before that place is one that the policy doesn't allow to pass over.

@@ -16,7 +16,7 @@ use Rattle.damage_skip.proofs.FoundRecords.{records_in_events}
 use Rattle.damage_skip.proofs.FrontWalks.{front_pieces}
 use Rattle.damage_skip.proofs.Reached.{left_numbers}
 use Rattle.damage_skip.proofs.Tiles.{same_piece, events-append, events_one}
-use Rattle.damage_skip.proofs.Untouched.{left_records, lost_to_a_block}
+use Rattle.damage_skip.proofs.Untouched.{left_records, lost_up_to_a_block}
 use Rattle.damage_skip.proofs.WalkedTo.{piece_at, each_region}
 use Rattle.repair_copy.proofs.EventChunks.{chunks_in_events}
 use Rattle.repair_copy.proofs.LeftChunks.{left_chunks}
@@ -115,7 +115,7 @@ module _ (keep : Bool) (most : Option ℕ) (ks : List ChunkValue) (intact : Inta
           records = subst (AreRecordsOf (untouched ks intact numbers.0)) (sym (records_in_events front))
               (left_records keep ks intact 0 to front numbers.0 left numbers.1);
           chunks = chunks_in_events front ∙ left_chunks keep ks intact d.frame.1.each 0 to front numbers.0 left numbers.1;
-          lost = lost_to_a_block ks intact to numbers.0 numbers.1;
+          lost = lost_up_to_a_block ks intact to numbers.0 numbers.1;
         }
 
     answer_past : AreEvents keep damaged events → IsAnswerPastDamage keep most answer_as ks intact answer

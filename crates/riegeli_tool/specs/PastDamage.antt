@@ -5,7 +5,7 @@ use Rattle.record_io.specs.Puts.{Notes, puts_to}
 use Rattle.chunk_header.specs.Chunks.{ChunkValue}
 use Rattle.meta_chunk.specs.Files.{IsFrame, AreRecordsOf}
 use Rattle.damage_skip.specs.Bounds.{may_skip, MaySkip, walked, refused_in}
-use Rattle.damage_skip.specs.Damage.{Intact, IsDamaged, AreReached, AreLostToABlock, DamageLeavesEach, untouched}
+use Rattle.damage_skip.specs.Damage.{Intact, IsDamaged, AreReached, AreLostUpToABlock, DamageLeavesEach, untouched}
 use Rattle.damage_skip.specs.Fronts.{AreFrontPieces}
 use Rattle.damage_skip.specs.Pieces.{Piece, Skipped, events_in, records_in}
 use Rattle.damage_skip.specs.Regions.{regions_in, stopped_text}
@@ -57,7 +57,7 @@ pub record IsAnswerPastDamage (keep : Bool) (most : Option ℕ) (answer_as : Lis
   pub answers : answer ≡ answer_as (events_in pieces) stopped
   pub records : AreRecordsOf (untouched ks intact numbers) (records_in (events_in pieces))
   pub chunks : chunks_in (events_in pieces) ≡ copied keep (untouched ks intact numbers)
-  pub lost : AreLostToABlock ks intact to numbers
+  pub lost : AreLostUpToABlock ks intact to numbers
 
 -- an answer to the front of a file of chunks is that of the pieces of the chunks that it has whole, and of the one that is cut
 pub record IsAnswerToFront (keep : Bool) (most : Option ℕ) (answer_as : List Piece → Option Region → Answer) (ks : List ChunkValue) (file : List ℕ) (m : ℕ) (answer : Answer) : Type 0 where
