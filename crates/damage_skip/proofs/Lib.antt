@@ -11,6 +11,8 @@ pub mod Untouched
 pub mod DamagedWalks
 pub mod Prefixes
 pub mod FrontWalks
+pub mod LaterBytes
+pub mod DamagedFronts
 pub mod RegionLines
 pub mod Leads
 pub mod Resyncing

@@ -60,7 +60,7 @@ end_past file place whole = record {
 }
 
 -- a reason behind the first four is the first only of a chunk that the file has whole
-whole_later : (keep : Bool) (file : List ℕ) (place : ℕ) (w : Why) → w ≢ why.Short → w ≢ why.HeaderHash → w ≢ why.Contradicted → w ≢ why.Truncated
+pub whole_later : (keep : Bool) (file : List ℕ) (place : ℕ) (w : Why) → w ≢ why.Short → w ≢ why.HeaderHash → w ≢ why.Contradicted → w ≢ why.Truncated
     → IsFirstOf (SkipsFor file place) (walk_reasons keep) w → end_at file place ≤ length file
 whole_later keep file place w short header against cut (inl (applies, is)) = absurd (short is)
 whole_later keep file place w short header against cut (inr (not, inl (applies, is))) = absurd (header is)

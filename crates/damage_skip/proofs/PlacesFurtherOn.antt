@@ -10,11 +10,11 @@ use Rattle.damage_skip.specs.Resyncs.{IsFirstBlock, StandsFrom, landing, IsResyn
 use Rattle.damage_skip.specs.Steps.{IsOnward}
 
 -- a block leads to the begin of the chunk where that is past the place, and else to the chunk's end
-landing-back : (size place block previous next : ℕ) → place < block - previous → landing size place block previous next ≡ block - previous
+pub landing-back : (size place block previous next : ℕ) → place < block - previous → landing size place block previous next ≡ block - previous
 landing-back size place block previous next past =
     cond-true (nat_lt place (block - previous)) (block - previous) (min (block + next) size) (lt-ltb place (block - previous) past)
 
-landing-on : (size place block previous next : ℕ) → block - previous ≤ place → landing size place block previous next ≡ min (block + next) size
+pub landing-on : (size place block previous next : ℕ) → block - previous ≤ place → landing size place block previous next ≡ min (block + next) size
 landing-on size place block previous next not =
     cond-false (nat_lt place (block - previous)) (block - previous) (min (block + next) size) (le-ltb place (block - previous) not)
 

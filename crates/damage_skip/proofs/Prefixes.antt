@@ -97,19 +97,19 @@ same_tiles keep ls file other to chain also j from (p ∷ pieces) inside begin (
     ]
 
 -- what stands at the front of a file
-slice_in_front : (file : List ℕ) (m begin end : ℕ) → begin ≤ end → end ≤ m → slice_range (take m file) begin end ≡ slice_range file begin end
+pub slice_in_front : (file : List ℕ) (m begin end : ℕ) → begin ≤ end → end ≤ m → slice_range (take m file) begin end ≡ slice_range file begin end
 slice_in_front file m begin end low high =
     let cut : begin + (m - begin) ≡ m = omega arith in
     ap (λ (n : ℕ). take (end - begin) (drop begin (take n file))) (sym cut)
     ∙ ap (take (end - begin)) (drop-take begin (m - begin) file)
     ∙ take-take (end - begin) (m - begin) (drop begin file) (omega arith)
 
-stands_in_front : (file : List ℕ) (m b previous next : ℕ) → StandsAt (take m file) b previous next → StandsAt file b previous next
+pub stands_in_front : (file : List ℕ) (m b previous next : ℕ) → StandsAt (take m file) b previous next → StandsAt file b previous next
 stands_in_front file m b previous next h =
     let within : b + 24 ≤ m = omega (arith, stands_within (take m file) b previous next h, length-take m file) in
     record { is_block = h.is_block; bytes = sym (slice_in_front file m b (b + 24) (omega arith) within) ∙ h.bytes; sane = h.sane }
 
-header_in_front : (file : List ℕ) (m place : ℕ) → m ≤ length file → end_of place 40 ≤ m
+pub header_in_front : (file : List ℕ) (m place : ℕ) → m ≤ length file → end_of place 40 ≤ m
     → header_bytes_at (take m file) place ≡ header_bytes_at file place
 header_in_front file m place within fits =
     own_bytes_at-to_end (take m file) place 40 (omega (arith, length-take-le m file within))
@@ -184,7 +184,7 @@ module _ (keep : Bool) (ks : List ChunkValue) (file : List ℕ) (frame : IsFrame
   front_chain : (n : ℕ) → IsChainOf IsFramed (take n ks) file (begin_of ks n)
   front_chain n = IsChainOf-take n ks file (length file) frame.1
 
-  cut_chain : (n m : ℕ) → begin_of ks n ≤ m → m ≤ length file → IsChainOf IsFramed (take n ks) (take m file) (begin_of ks n)
+  pub cut_chain : (n m : ℕ) → begin_of ks n ≤ m → m ≤ length file → IsChainOf IsFramed (take n ks) (take m file) (begin_of ks n)
   cut_chain n m few within =
       let chain = front_chain n in
       record {

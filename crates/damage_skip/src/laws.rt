@@ -3,13 +3,14 @@
 ghost use Rattle.std.specs.List.{AllByRecursion};
 ghost use Rattle.std.specs.List.Sorted.{IsStrictlyIncreasing};
 ghost use Rattle.std.specs.Prelude.{◌≡◌, ◌≢◌, ◌⊎◌, ◌↔◌, ℕ, ◌+◌, ◌^◌, ◌<◌, ◌≤◌, Bool, true, false, List, [], ◌∷◌, ◌++◌, Some, length, take, map, slice_get};
-ghost use Rattle.block_layout.specs.Layout.{IsBlock, IsBoundary};
+ghost use Rattle.block_layout.specs.Layout.{chunk_header_size, IsBlock, IsBoundary, end_of};
 ghost use Rattle.chunk_header.specs.Chunks.{ChunkValue};
 ghost use Rattle.chunk_reader.specs.Faults.{IsAllowed};
 ghost use Rattle.chunk_reader.specs.declared.reasons.Why.{Why};
 ghost use Rattle.chunk_reader.specs.declared.reasons.Why.TheVariants as why;
 ghost use Rattle.damage_skip.specs.Damage.{Intact, IsDamaged, IsNext, AreReached, AreLostUpToABlock, DamageLeavesEach, untouched};
 ghost use Rattle.damage_skip.specs.DamagedWalks.{IsReachedAt};
+ghost use Rattle.damage_skip.specs.Fronts.{IsSettled};
 ghost use Rattle.damage_skip.specs.Pieces.{PieceKind, Skipped, Piece, IsFoundAs, IsPieceOf, AreTiles, ArePieces, is_event, events_in, AreEvents, records_in, placed_in, AreFound};
 ghost use Rattle.damage_skip.specs.Resyncs.{IsResync};
 ghost use Rattle.damage_skip.specs.Walks.{GoesOn, IsMet};
@@ -210,4 +211,32 @@ pub fn fronts_of_files_lose_one_chunk()
         → AreTiles keep file 0 (begin_of ks n) front
         → (reason : Why) × ((reason ≡ why.Short) ⊎ (reason ≡ why.Truncated))
         × ArePieces keep (take m file) (front ++ record { begin = begin_of ks n; end = m; what = Skipped reason } ∷ []) }
+{}
+
+/// Bytes behind a file leave its settled pieces alone, and settled are all before a place behind which a chunk header fits. Own.
+pub fn later_bytes_leave_pieces_alone()
+    ensures kept { (keep : Bool) (file more : List ℕ) (from to : ℕ) (pieces : List Piece)
+        → AreTiles keep file from to pieces
+        → AllByRecursion (λ piece. IsSettled (length file) piece.end piece.what) pieces
+        → AreTiles keep (file ++ more) from to pieces }
+    ensures settled { (keep : Bool) (file : List ℕ) (from to : ℕ) (pieces : List Piece)
+        → AreTiles keep file from to pieces → end_of to chunk_header_size ≤ length file
+        → AllByRecursion (λ piece. IsSettled (length file) piece.end piece.what) pieces }
+{}
+
+/// The front of a damaged file up to a chunk is a damaged front, of which the same is intact; so a file that begins with it, cut off
+/// or with other bytes behind, has the pieces that damage leaves and that are settled there, as all before a chunk of it are. Own.
+pub fn fronts_of_damaged_files_are_damaged()
+    ensures front { (ks : List ChunkValue) (file damaged : List ℕ) (intact : Intact) (n : ℕ)
+        → IsDamaged ks file damaged intact → 0 < n → n ≤ length ks
+        → IsDamaged (take n ks) (take (begin_of ks n) file) (take (begin_of ks n) damaged) intact }
+    ensures pieces { (keep : Bool) (ks : List ChunkValue) (file damaged other : List ℕ) (intact : Intact) (n i : ℕ) (pieces : List Piece)
+        → length file ≤ 2 ^ 60 → IsDamaged ks file damaged intact → i ≤ n → n ≤ length ks
+        → take (begin_of ks n) other ≡ take (begin_of ks n) damaged
+        → DamageLeavesEach keep ks intact 0 i pieces
+        → AllByRecursion (λ piece. IsSettled (begin_of ks n) piece.end piece.what) pieces
+        → AreTiles keep other 0 (begin_of ks i) pieces }
+    ensures settled { (keep : Bool) (ks : List ChunkValue) (intact : Intact) (n i : ℕ) (pieces : List Piece)
+        → i < n → n ≤ length ks → DamageLeavesEach keep ks intact 0 i pieces
+        → AllByRecursion (λ piece. IsSettled (begin_of ks n) piece.end piece.what) pieces }
 {}
