@@ -1,9 +1,8 @@
 -- The lines of the records of parts are those of the file.
-use Rattle.std.proofs.Common.{◌≡◌, ◌≢◌, ◌∙◌, ℕ, ◌-◌, ◌*◌, ◌/◌, Option, List, [], ◌∷◌, ◌++◌, length, map, refl, sym, ap}
+use Rattle.std.proofs.Common.{◌≡◌, ◌∙◌, ℕ, ◌-◌, ◌*◌, ◌/◌, List, [], ◌∷◌, ◌++◌, length, map, refl, sym, ap}
 use Rattle.std.specs.List.{flat_map}
 use Rattle.std.proofs.lemmas.Grind.{flat_map-append}
 use Rattle.std.proofs.lemmas.List.FromFn.{length-map-range_with_len}
-use Rattle.record_io.specs.Buffers.{TakesAndHolds}
 use Rattle.record_ranges.specs.Ranges.{AreRangesOf, RiseUpTo, even_cuts}
 use Rattle.record_ranges.proofs.AllParts.{all_records}
 use Rattle.run_answers.specs.Answers.{line}
@@ -40,10 +39,3 @@ parts_text file cuts parts h rise = record {
 -- there is one cut fewer than parts
 pub length-even_cuts : (size parts : ℕ) → length (even_cuts size parts) ≡ parts - 1
 length-even_cuts size parts = length-map-range_with_len (λ i. i * size / parts) 1 (parts - 1)
-
--- what was held of bytes was not nothing, so neither were they
-pub held_some : (a b : Option (List ℕ)) (bytes held : List ℕ) → TakesAndHolds a b bytes held → held ≢ [] → bytes ≢ []
-held_some a b bytes held h some none = some (empty h.passed held (sym h.parts ∙ none)) where
-  empty : (xs ys : List ℕ) → xs ++ ys ≡ [] → ys ≡ []
-  empty [] ys is = is
-  empty (x ∷ xs) ys is = absurd (cc is)

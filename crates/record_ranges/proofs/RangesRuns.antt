@@ -6,7 +6,7 @@ use Rattle.record_values.specs.Bytes.{AreBytes}
 use Rattle.record_io.specs.ManyStores.{AreOnlyAsked}
 use Rattle.record_io.specs.Outside.{Rose}
 use Rattle.record_io.specs.Puts.{Put, Out, Notes, taken_by, puts_to}
-use Rattle.record_io.proofs.Puts.{GoOut-out, TakesFront-count, BreaksOff-last, bytes_to-other}
+use Rattle.record_io.proofs.Puts.{GoOut-out, BreaksOff-last, bytes_to-other}
 use Rattle.run_answers.specs.declared.ending.Ending.{Ending}
 use Rattle.run_answers.specs.declared.status.Status.{Status}
 use Rattle.run_answers.specs.Answers.{noted}
@@ -48,10 +48,6 @@ stop_other : (w : Unread) → unread_status w ≢ status.Ok
 stop_other (unread.Refused fault) is = cc is
 stop_other (unread.Differ first other) is = cc is
 
-stop_some : (w : Unread) → unread_text w ≢ []
-stop_some (unread.Refused fault) is = cc is
-stop_some (unread.Differ first other) is = cc is
-
 ends-ranges : {X : Type 0} → EndsBySizes {X = X} ranges_meaning range_ends IsOnePast StopsBy
 ends-ranges = record {
   done = λ x. refl;
@@ -60,7 +56,6 @@ ends-ranges = record {
   stop = stop_ranges;
   whole = stop_whole;
   other = stop_other;
-  some = stop_some;
 }
 
 module _ (all : List (List ℕ)) (made out out_then notes : Option (List ℕ)) where
@@ -106,16 +101,15 @@ module _ (all : List (List ℕ)) (made out out_then notes : Option (List ℕ)) w
       nothing_went status.Memory (λ puts. (puts, refl)) bytes some supposed none
   went-ranges (Err (end.Cut cut.Out)) bytes some supposed (used, may) took none =
       let one = supposed may in
-      let (text, is, some_text, front) = took one.0 one.1 in
-      let count = TakesFront-count out out_then text front in
-      let part : List ℕ = take count.0 text in
+      let (text, is, short) = took one.0 one.1 in
+      let part : List ℕ = take short.0 text in
       record {
         answer = printed text;
         is = inr (inr (may, one.0, first_of_all all one.0 some one.1, inl (text, is, refl)));
         part = puts_to Out part;
-        breaks = BreaksOff-last Out [] text count.0 some_text;
+        breaks = BreaksOff-last Out [] text short.0 short.1;
         quiet = bytes_to-other Notes Out part refl;
-        went = GoOut-out made out out_then notes part count.1;
+        went = GoOut-out made out out_then notes part short.2;
         so_far = λ short. absurd short;
       }
   went-ranges (Err (end.Cut cut.Input)) bytes some supposed (used, may) took none = absurd (cc used)

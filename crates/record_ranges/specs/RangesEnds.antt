@@ -1,7 +1,7 @@
 -- How the work of `ranges` ends. Own.
-use Rattle.std.specs.Prelude.{◌≡◌, ◌≢◌, ℕ, false, Option, Result, Ok, Err, List, []}
+use Rattle.std.specs.Prelude.{◌≡◌, ℕ, false, Option, Result, Ok, Err, List}
 use Rattle.std.specs.List.{flat_map}
-use Rattle.record_io.specs.Outside.{Takes, TakesFront}
+use Rattle.record_io.specs.Outside.{Takes, TakesShort}
 use Rattle.chunk_reader.specs.Faults.{IsFault}
 use Rattle.chunk_reader.specs.declared.reasons.ReadEnd.{ReadEnd}
 use Rattle.run_answers.specs.Answers.{line}
@@ -66,7 +66,7 @@ IsReadIn (Err other) file = Unit {0}
 abbrev pub PrintsFile : {X : Type 0} → Result X (Ending Unread) → List ℕ → (out out_then : Option (List ℕ)) → Type 0
 PrintsFile (Ok x) file out out_then = (text : List ℕ) × IsTextOfFile file text × Takes out out_then text
 PrintsFile (Err (end.At (unread.Refused fault))) file out out_then = IsFault false file fault
-PrintsFile (Err (end.Cut cut.Out)) file out out_then = (text : List ℕ) × IsTextOfFile file text × (text ≢ []) × TakesFront out out_then text
+PrintsFile (Err (end.Cut cut.Out)) file out out_then = (text : List ℕ) × IsTextOfFile file text × TakesShort out out_then text
 PrintsFile (Err other) file out out_then = Unit {0}
 
 -- nothing is printed of a file that isn't read to its end

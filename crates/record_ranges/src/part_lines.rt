@@ -1,4 +1,3 @@
-ghost use Rattle.std.specs.Prelude.{◌≢◌, ◌++◌, [], OnErr};
 ghost use Rattle.record_io.specs.Calls.{PutsThrough, PutsTo};
 ghost use Rattle.record_ranges.specs.RangesEnds.{all_lines, part_lines};
 
@@ -17,7 +16,6 @@ const BARE: RecordForm = RecordForm {
 /// Puts the records of parts one after another, each as a line.
 pub(crate) fn put_parts<O: Sink>(parts: &Parts, out: &mut O) -> Result<(), Failed>
     ensures out { PutsTo O.taken O.lent O.faults result (all_lines parts.now) out.old out.new }
-    ensures some { OnErr result (all_lines parts.now ≢ []) }
 {
     let mut lines = PutBuffer::<LINES>::new();
     put_each_part(parts, &mut lines, out)?;
@@ -31,7 +29,6 @@ fn put_each_part<O: Sink>(
     out: &mut O,
 ) -> Result<(), Failed>
     ensures out { PutsThrough O.taken O.lent O.faults result lines.old lines.new (all_lines parts.now) out.old out.new }
-    ensures some { OnErr result (lines.old ++ all_lines parts.now ≢ []) }
 {
     for number in 0..parts.len() {
         put_part(parts.part(number), lines, out)?;
@@ -46,7 +43,6 @@ fn put_part<O: Sink>(
     out: &mut O,
 ) -> Result<(), Failed>
     ensures out { PutsThrough O.taken O.lent O.faults result lines.old lines.new (part_lines records.now) out.old out.new }
-    ensures some { OnErr result (lines.old ++ part_lines records.now ≢ []) }
 {
     for number in 0..records.len() {
         // A bare record is put without its position.

@@ -3,27 +3,22 @@ use Rattle.std.specs.List.{flat_map}
 use Rattle.std.proofs.lemmas.Option.{get_or_from_slice_get}
 use Rattle.record_io.specs.Buffers.{TakesAndHolds}
 use Rattle.record_io.proofs.Calls.{OnErr-any}
-use Rattle.show_files.proofs.LinePuts.{lines-next, lines-failed, lines-some}
+use Rattle.show_files.proofs.LinePuts.{lines-next, lines-failed}
 use Rattle.run_answers.specs.Answers.{line}
 use Rattle.record_ranges.proofs.part_lines.put_part.Goals as goal
 
-pub returns-in_err-put_record-clause-out : goal.returns-in_err-put_record-clause-out
-returns-in_err-put_record-clause-out g c = record {
-  whole = search rules;
-  front = OnErr-any _ (lines-failed line _ _ _ c.args.lines.now _ c.args.records.now c.loop-number.number c.get.result.now
-      (omega (arith, c.loop-number-test.true, c.len-number-end.ensures))
-      (get_or_from_slice_get c.args.records.now c.loop-number.number c.get.result.now _ c.get.ensures)
-      c.loop-number.invariant.whole c.in_err-put_record.ensures.out.front);
-  emptied = search rules;
-  counts = search rules;
+pub returns-in_err-put_record : goal.returns-in_err-put_record
+returns-in_err-put_record g c = record {
+  out = record {
+    whole = search rules;
+    front = OnErr-any _ (lines-failed line _ _ _ c.args.lines.now _ c.args.records.now c.loop-number.number c.get.result.now
+        (omega (arith, c.loop-number-test.true, c.len-number-end.ensures))
+        (get_or_from_slice_get c.args.records.now c.loop-number.number c.get.result.now _ c.get.ensures)
+        c.loop-number.invariant.whole c.in_err-put_record.ensures.out.front);
+    emptied = search rules;
+    counts = search rules;
+  };
 }
-
-pub returns-in_err-put_record-clause-some : goal.returns-in_err-put_record-clause-some
-returns-in_err-put_record-clause-some g c =
-    OnErr-any _ (lines-some line _ _ c.args.lines.now _ c.args.records.now c.loop-number.number c.get.result.now
-    (omega (arith, c.loop-number-test.true, c.len-number-end.ensures))
-    (get_or_from_slice_get c.args.records.now c.loop-number.number c.get.result.now _ c.get.ensures)
-    c.loop-number.invariant.whole c.in_err-put_record.ensures.some)
 
 pub loop-number-preserved : goal.loop-number-preserved
 loop-number-preserved g c = record {
@@ -34,12 +29,14 @@ loop-number-preserved g c = record {
   counts = search rules;
 }
 
-pub returns-clause-out : goal.returns-clause-out
-returns-clause-out g c = record {
-  whole = subst (λ (ps : List (List ℕ)). TakesAndHolds (g.O.Sink.taken c.args.out.now) (g.O.Sink.taken c.loop-number.out) (c.args.lines.now ++ flat_map line ps) c.loop-number.lines)
-      (take_all c.loop-number.number c.args.records.now (omega (arith, c.loop-number-test.false, c.len-number-end.ensures)))
-      c.loop-number.invariant.whole;
-  front = tt;
-  emptied = tt;
-  counts = search rules;
+pub returns : goal.returns
+returns g c = record {
+  out = record {
+    whole = subst (λ (ps : List (List ℕ)). TakesAndHolds (g.O.Sink.taken c.args.out.now) (g.O.Sink.taken c.loop-number.out) (c.args.lines.now ++ flat_map line ps) c.loop-number.lines)
+        (take_all c.loop-number.number c.args.records.now (omega (arith, c.loop-number-test.false, c.len-number-end.ensures)))
+        c.loop-number.invariant.whole;
+    front = tt;
+    emptied = tt;
+    counts = search rules;
+  };
 }

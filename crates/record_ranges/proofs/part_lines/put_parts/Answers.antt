@@ -1,19 +1,16 @@
 use Rattle.std.proofs.Common.{rules}
 use Rattle.std.proofs.lemmas.Result.{on_ok_weaker, on_err_weaker}
-use Rattle.run_answers.proofs.NoteLines.{OnErr-map, front-flushed, whole-flushed}
+use Rattle.run_answers.proofs.NoteLines.{front-flushed, whole-flushed}
 use Rattle.record_ranges.specs.RangesEnds.{all_lines}
-use Rattle.record_ranges.proofs.RangesLines.{held_some}
 use Rattle.record_ranges.proofs.part_lines.put_parts.Goals as goal
 
-pub returns-clause-out : goal.returns-clause-out
-returns-clause-out g c =
-    let held = rw c.new-lines.ensures at c.in_ok-put_each_part.ensures.out.whole in record {
-      whole = on_ok_weaker c.flush.result (whole-flushed _ _ _ (all_lines c.args.parts.now) c.put_each_part.new.lines held) c.flush.ensures.sink.whole;
-      front = on_err_weaker c.flush.result (front-flushed _ _ _ (all_lines c.args.parts.now) c.put_each_part.new.lines held) c.flush.ensures.sink.front;
-      counts = search rules;
-    }
-
-pub returns-clause-some : goal.returns-clause-some
-returns-clause-some g c =
+pub returns : goal.returns
+returns g c =
     let held = rw c.new-lines.ensures at c.in_ok-put_each_part.ensures.out.whole in
-    OnErr-map c.flush.result (held_some _ _ (all_lines c.args.parts.now) c.put_each_part.new.lines held) c.flush.ensures.some
+    record {
+      out = record {
+        whole = on_ok_weaker c.flush.result (whole-flushed _ _ _ (all_lines c.args.parts.now) c.put_each_part.new.lines held) c.flush.ensures.sink.whole;
+        front = on_err_weaker c.flush.result (front-flushed _ _ _ (all_lines c.args.parts.now) c.put_each_part.new.lines held) c.flush.ensures.sink.front;
+        counts = search rules;
+      };
+    }
