@@ -1,9 +1,9 @@
 -- One more file behind others: its totals, and what a sink takes of it.
-use Rattle.std.proofs.Common.{◌≡◌, ◌∙◌, ℕ, ◌+◌, ◌%◌, ◌<◌, ◌≤◌, ◌⊎◌, true, Option, Some, None, List, [], ◌++◌, length, IfSome, ap, inl, inr, arith}
+use Rattle.std.proofs.Common.{◌≡◌, ◌∙◌, ℕ, ◌+◌, ◌%◌, ◌<◌, ◌≤◌, ◌⊎◌, Option, Some, None, List, [], ◌++◌, length, IfSome, ap, inl, inr, arith}
 use Rattle.std.proofs.lemmas.Bool.{cases_lt}
 use Rattle.record_values.specs.declared.file_totals.Totals.{Totals}
-use Rattle.record_io.specs.Outside.{Takes, TakesFront}
-use Rattle.record_io.proofs.Calls.{Takes-append, TakesFront-append, TakesFront-longer}
+use Rattle.record_io.specs.Outside.{Takes, TakesFront, TakesShort}
+use Rattle.record_io.proofs.Calls.{Takes-append, TakesFront-append, TakesShort-append, TakesShort-longer}
 use Rattle.block_layout.specs.Layout.{IsBlock, IsBoundary, IsOnBoundary}
 use Rattle.chunk_header.specs.Chunks.{ChunkValue}
 use Rattle.meta_chunk.specs.Counts.{totals_of}
@@ -12,10 +12,9 @@ use Rattle.meta_chunk.specs.PaddingSizes.{padding_at}
 use Rattle.meta_chunk.proofs.Joins.{end_of_chunks_past}
 use Rattle.meta_chunk.proofs.PaddingLemmas.{IsBlock-padding_at, padding_at-block, padding_at-inside}
 use Rattle.ordered_writer.specs.Writers.{padding_bytes}
-use Rattle.chunk_reader.specs.Faults.{HasNoFault}
 use Rattle.chunk_reader.specs.Progress.{AreInBounds}
 use Rattle.record_join.specs.Joined.{totals_joined}
-use Rattle.record_join.specs.Joins.{AreTotalsWith, IsFrontPut}
+use Rattle.record_join.specs.Joins.{AreTotalsWith, IsFrontPut, IsShortPut}
 
 pub on_boundary : (p : ℕ) → IsOnBoundary p → IsBoundary p
 on_boundary p h = elim (cases_lt 0 (p % 65536)) [ inl inside ↦ inr (h inside) | inr none ↦ inl (omega (arith, none)) ]
@@ -59,17 +58,23 @@ bounds_behind before file most begin count h g block past = record {
 abbrev pub HasTotals : Option (List ℕ) → Totals → Type 0
 HasTotals bytes totals = IfSome bytes (λ file. (ks : List ChunkValue) × IsFrame ks file × (totals ≡ totals_of ks))
 
--- of the padding before it a front was put
-pub front_of_padding : (bytes a b : Option (List ℕ)) (padding : List ℕ) (totals : Totals) → HasTotals bytes totals → TakesFront a b padding
-    → IfSome bytes (λ file. IsFrontPut padding file a b)
-front_of_padding None a b padding totals h front = tt
-front_of_padding (Some file) a b padding totals h front = inr ((h.0, h.1), TakesFront-longer a b padding file front)
+-- of the padding before it not all was put
+pub short_of_padding : (bytes a b : Option (List ℕ)) (padding : List ℕ) (totals : Totals) → HasTotals bytes totals → TakesShort a b padding
+    → IfSome bytes (λ file. IsShortPut padding file a b)
+short_of_padding None a b padding totals h short = tt
+short_of_padding (Some file) a b padding totals h short = ((h.0, h.1), TakesShort-longer a b padding file short)
 
 -- the padding was put, and a front of the file
 pub front_of_file : (bytes a b c : Option (List ℕ)) (padding : List ℕ) (totals : Totals) → HasTotals bytes totals → Takes a b padding
     → IfSome bytes (λ file. TakesFront b c file) → IfSome bytes (λ file. IsFrontPut padding file a c)
 front_of_file None a b c padding totals h whole front = tt
 front_of_file (Some file) a b c padding totals h whole front = inr ((h.0, h.1), TakesFront-append a b c padding file whole front)
+
+-- or not all of the file
+pub short_of_file : (bytes a b c : Option (List ℕ)) (padding : List ℕ) (totals : Totals) → HasTotals bytes totals → Takes a b padding
+    → IfSome bytes (λ file. TakesShort b c file) → IfSome bytes (λ file. IsShortPut padding file a c)
+short_of_file None a b c padding totals h whole short = tt
+short_of_file (Some file) a b c padding totals h whole short = ((h.0, h.1), TakesShort-append a b c padding file whole short)
 
 -- and the whole file
 pub whole_behind : (bytes a b c : Option (List ℕ)) (before file_totals totals : Totals) → HasTotals bytes file_totals → totals ≡ totals_joined before file_totals
@@ -80,9 +85,3 @@ whole_behind (Some file) a b c before file_totals totals h is padding whole = (
   (h.0, h.1, is ∙ ap (totals_joined before) h.2),
   Takes-append a b c (padding_bytes before.bytes) file padding whole,
 )
-
--- a file that is well-formed chunks has no fault
-pub without_fault : (file : Option (List ℕ)) (totals : Totals)
-    → IfSome file (λ bytes. (ks : List ChunkValue) × IsFrame ks bytes × (totals ≡ totals_of ks)) → IfSome file (λ bytes. HasNoFault true bytes)
-without_fault None totals h = tt
-without_fault (Some bytes) totals h = (h.0, h.1)

@@ -7,8 +7,8 @@ use Rattle.std.proofs.lemmas.Bool.{cases_lt}
 use Rattle.std.proofs.lemmas.List.Sums.{sum_by_more}
 use Rattle.std.proofs.lemmas.Option.{get_or_from_slice_get, slice_get_within}
 use Rattle.record_values.specs.declared.file_totals.Totals.{Totals}
-use Rattle.record_io.specs.Outside.{Takes, TakesFront}
-use Rattle.record_io.proofs.Calls.{Takes-append, Takes-nothing, TakesFront-append, TakesFront-whole}
+use Rattle.record_io.specs.Outside.{Takes, TakesFront, TakesShort}
+use Rattle.record_io.proofs.Calls.{Takes-append, Takes-nothing, TakesFront-append, TakesFront-longer, TakesFront-whole, TakesShort-append, TakesShort-longer}
 use Rattle.chunk_header.specs.Chunks.{ChunkValue}
 use Rattle.meta_chunk.specs.Counts.{totals_of}
 use Rattle.meta_chunk.specs.Files.{IsFrame, end_of_chunks}
@@ -21,7 +21,7 @@ use Rattle.chunk_reader.specs.declared.reasons.Fault.{Fault}
 use Rattle.block_layout.specs.Layout.{IsBoundary}
 use Rattle.chunk_reader.specs.ManyFiles.{HaveNoFault, IsFirstFault}
 use Rattle.record_join.specs.Joined.{joined, joined_at_most, totals_joined}
-use Rattle.record_join.specs.Joins.{AreJoined, AreJoinedUpTo, AreTotalsWith, IsFrontJoined, IsFrontPut}
+use Rattle.record_join.specs.Joins.{AreJoined, AreJoinedUpTo, AreTotalsWith, IsFrontJoined, IsFrontPut, IsPutOfJoined, IsShortJoined, IsShortPut}
 use Rattle.record_join.specs.declared.joins.JoinEnd.{JoinEnd}
 use Rattle.record_join.specs.declared.joins.JoinEnd.TheVariants as end
 use Rattle.chunk_reader.proofs.ManyFiles.{first_is_one}
@@ -159,22 +159,39 @@ pub AreJoinedUpTo-fault : (files : List (List ℕ)) (count : ℕ) (file : List �
 AreJoinedUpTo-fault files count file fault totals before after there is kept =
     record { first = record { before = kept.without_fault; file = file; there = there; is_fault = is }; took = kept.took }
 
+-- up to a file without fault of which P holds behind those before it
+IsPutOfJoined-failed : (P : (before after : Option (List ℕ)) → List ℕ → Type 0)
+    → ((a b : Option (List ℕ)) (x y : List ℕ) → P a b x → P a b (x ++ y))
+    → ((a b c : Option (List ℕ)) (x y : List ℕ) → Takes a b x → P b c y → P a c (x ++ y))
+    → (files : List (List ℕ)) (count : ℕ) (file : List ℕ) (totals : Totals) (before between after : Option (List ℕ))
+    → slice_get files count ≡ Some file → HasNoFault true file → P between after (padding_bytes totals.bytes ++ file)
+    → JoinedSoFar files count totals before between → IsPutOfJoined P files before after
+IsPutOfJoined-failed P longer append files count file totals before between after there none put kept =
+    let first : List (List ℕ) = take count files in
+    let is : first ++ file ∷ [] ≡ take (count + 1) files = sym (next_files files count file there) in
+    let of_all : P before after (joined (first ++ file ∷ [])) =
+    subst (P before after) (took_more first file totals.bytes kept.without_fault kept.bytes)
+    (append before between after (joined first) (padding_bytes totals.bytes ++ file) kept.took put) in
+    front_joined P longer files (count + 1) before after
+    (subst (HaveNoFault true) is (all_and (HasNoFault true) first file kept.without_fault none))
+    (subst (λ (fs : List (List ℕ)). P before after (joined fs)) is of_all)
+
 -- up to a file of which a front was put, or nothing
 pub IsFrontJoined-failed : (files : List (List ℕ)) (count : ℕ) (file : List ℕ) (totals : Totals) (before between after : Option (List ℕ))
     → slice_get files count ≡ Some file → IsFrontPut (padding_bytes totals.bytes) file between after
     → JoinedSoFar files count totals before between → IsFrontJoined files before after
 IsFrontJoined-failed files count file totals before between after there (inl same) kept =
-    front_joined files count before after kept.without_fault
+    front_joined TakesFront TakesFront-longer files count before after kept.without_fault
     (TakesFront-whole before after (joined (take count files)) (subst (λ (o : Option (List ℕ)). Takes before o (joined (take count files))) (sym same) kept.took))
 IsFrontJoined-failed files count file totals before between after there (inr (none, front)) kept =
-    let first : List (List ℕ) = take count files in
-    let is : first ++ file ∷ [] ≡ take (count + 1) files = sym (next_files files count file there) in
-    let of_all : TakesFront before after (joined (first ++ file ∷ [])) =
-    subst (TakesFront before after) (took_more first file totals.bytes kept.without_fault kept.bytes)
-    (TakesFront-append before between after (joined first) (padding_bytes totals.bytes ++ file) kept.took front) in
-    front_joined files (count + 1) before after
-    (subst (HaveNoFault true) is (all_and (HasNoFault true) first file kept.without_fault none))
-    (subst (λ (fs : List (List ℕ)). TakesFront before after (joined fs)) is of_all)
+    IsPutOfJoined-failed TakesFront TakesFront-longer TakesFront-append files count file totals before between after there none front kept
+
+-- up to a file of which a front was put and not all
+pub IsShortJoined-failed : (files : List (List ℕ)) (count : ℕ) (file : List ℕ) (totals : Totals) (before between after : Option (List ℕ))
+    → slice_get files count ≡ Some file → IsShortPut (padding_bytes totals.bytes) file between after
+    → JoinedSoFar files count totals before between → IsShortJoined files before after
+IsShortJoined-failed files count file totals before between after there (none, short) kept =
+    IsPutOfJoined-failed TakesShort TakesShort-longer TakesShort-append files count file totals before between after there none short kept
 
 -- a work that ended at a file ended at the first with a fault, unless a store or the sink failed
 pub ended_at_first : {X : Type 0} (result : Result X JoinEnd) (why : JoinEnd) (files : List (List ℕ)) (index : ℕ) (fault : Fault) → result ≡ Err why

@@ -1,7 +1,7 @@
 -- What is made of files that stores tell. Own.
 use Rattle.std.specs.Prelude.{◌≡◌, ℕ, ◌⊎◌, true, Option, List, ◌++◌, take}
 use Rattle.record_values.specs.declared.file_totals.Totals.{Totals}
-use Rattle.record_io.specs.Outside.{Takes, TakesFront}
+use Rattle.record_io.specs.Outside.{Takes, TakesFront, TakesShort}
 use Rattle.chunk_header.specs.Chunks.{ChunkValue}
 use Rattle.meta_chunk.specs.Counts.{totals_of}
 use Rattle.meta_chunk.specs.Files.{IsFrame}
@@ -28,12 +28,24 @@ pub record AreJoinedUpTo (files : List (List ℕ)) (index : ℕ) (fault : Fault)
   pub first : IsFirstFault true files index fault
   pub took : Takes before after (joined (take index files))
 
--- a front was put: of all files where none has a fault, or of those before the first that has one
-pub record IsFrontJoined (files : List (List ℕ)) (before after : Option (List ℕ)) : Type 0 where
-  pub of_all : HaveNoFault true files → TakesFront before after (joined files)
-  pub of_those_before : (index : ℕ) (fault : Fault) → IsFirstFault true files index fault → TakesFront before after (joined (take index files))
+-- P holds of what was put of all files where none has a fault, or of those before the first that has one
+pub record IsPutOfJoined (P : (before after : Option (List ℕ)) → List ℕ → Type 0) (files : List (List ℕ)) (before after : Option (List ℕ)) : Type 0 where
+  pub of_all : HaveNoFault true files → P before after (joined files)
+  pub of_those_before : (index : ℕ) (fault : Fault) → IsFirstFault true files index fault → P before after (joined (take index files))
+
+-- a front of these was put
+abbrev pub IsFrontJoined : List (List ℕ) → (before after : Option (List ℕ)) → Type 0
+IsFrontJoined files before after = IsPutOfJoined TakesFront files before after
+
+-- or a front and not all, so there was some
+abbrev pub IsShortJoined : List (List ℕ) → (before after : Option (List ℕ)) → Type 0
+IsShortJoined files before after = IsPutOfJoined TakesShort files before after
 
 -- of one more file nothing was put; or it has no fault, and a front of it behind some padding was put
 abbrev pub IsFrontPut : (padding file : List ℕ) → (before after : Option (List ℕ)) → Type 0
 IsFrontPut padding file before after =
     (after ≡ before) ⊎ (HasNoFault true file × TakesFront before after (padding ++ file))
+
+-- one more file has no fault, and a front of it behind some padding was put and not all
+abbrev pub IsShortPut : (padding file : List ℕ) → (before after : Option (List ℕ)) → Type 0
+IsShortPut padding file before after = HasNoFault true file × TakesShort before after (padding ++ file)

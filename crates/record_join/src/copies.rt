@@ -1,5 +1,5 @@
-ghost use Rattle.std.specs.Prelude.{◌≡◌, ◌+◌, ◌≤◌, Some, Err, IfSome, IsSomeAnd, OnOk, OnErr, length, slice_range};
-ghost use Rattle.record_io.specs.Outside.{Takes, TakesFront};
+ghost use Rattle.std.specs.Prelude.{◌≡◌, ◌+◌, ◌≤◌, Some, Err, IfSome, IsSomeAnd, OnOk, length, slice_range};
+ghost use Rattle.record_io.specs.Outside.{Takes, TakesFront, TakesShort};
 ghost use Rattle.record_io.specs.Calls.{OnlyAsks, OnlyCounts};
 
 use record_io::{Failed, Sink, Store, get_exact, put_all};
@@ -31,7 +31,8 @@ impl From<Failed> for CopyEnd {
 ///
 /// # Errors
 ///
-/// `Store` only where the store failed, and `Made` only where the sink did. The sink took a front of the file then.
+/// `Store` only where the store failed: the sink took a front of the file then. `Made` only where the sink failed, which took
+/// a front of it and not all.
 pub(crate) fn copy_file<S: Store, M: Sink>(
     store: &mut S,
     size: u64,
@@ -39,7 +40,10 @@ pub(crate) fn copy_file<S: Store, M: Sink>(
 ) -> Result<(), CopyEnd>
     requires told { S.told store.old ≡ Some size }
     ensures whole { OnOk result (IfSome (S.bytes store.old) (λ file. Takes (M.taken made.old) (M.taken made.new) file)) }
-    ensures front { OnErr result (IfSome (S.bytes store.old) (λ file. TakesFront (M.taken made.old) (M.taken made.new) file)) }
+    ensures front { result ≡ Err CopyEnd.Store
+        → IfSome (S.bytes store.old) (λ file. TakesFront (M.taken made.old) (M.taken made.new) file) }
+    ensures short { result ≡ Err CopyEnd.Made
+        → IfSome (S.bytes store.old) (λ file. TakesShort (M.taken made.old) (M.taken made.new) file) }
     ensures handed { S.handed store.new ≤ S.handed store.old + size }
     ensures store { OnlyAsks S.bytes S.told S.name S.faults (result ≡ Err CopyEnd.Store) store.old store.new }
     ensures made { OnlyCounts M.lent M.faults (result ≡ Err CopyEnd.Made) made.old made.new }
@@ -64,8 +68,9 @@ fn copy_piece<S: Store, M: Sink>(
     requires within { IsSomeAnd (S.told store.old) (λ size. at + length piece.old ≤ size) }
     ensures whole { OnOk result (IfSome (S.bytes store.old) (λ file.
         Takes (M.taken made.old) (M.taken made.new) (slice_range file at (at + length piece.old)))) }
-    ensures front { OnErr result (IfSome (S.bytes store.old) (λ file.
-        TakesFront (M.taken made.old) (M.taken made.new) (slice_range file at (at + length piece.old)))) }
+    ensures unput { result ≡ Err CopyEnd.Store → made.new ≡ made.old }
+    ensures short { result ≡ Err CopyEnd.Made → IfSome (S.bytes store.old) (λ file.
+        TakesShort (M.taken made.old) (M.taken made.new) (slice_range file at (at + length piece.old))) }
     ensures handed { S.handed store.new ≤ S.handed store.old + length piece.old }
     ensures store { OnlyAsks S.bytes S.told S.name S.faults (result ≡ Err CopyEnd.Store) store.old store.new }
     ensures made { OnlyCounts M.lent M.faults (result ≡ Err CopyEnd.Made) made.old made.new }

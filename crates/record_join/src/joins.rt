@@ -1,16 +1,16 @@
-ghost use Rattle.std.specs.Prelude.{◌≡◌, ℕ, ◌+◌, ◌*◌, ◌^◌, ◌<◌, ◌≤◌, ◌⊎◌, ◌++◌, true, Some, Err, IfOk, IfSome, List, length, slice_get, take};
+ghost use Rattle.std.specs.Prelude.{◌≡◌, ℕ, ◌+◌, ◌*◌, ◌^◌, ◌<◌, ◌≤◌, ◌⊎◌, ◌++◌, true, Some, Err, IfOk, IfSome, List, length, slice_get};
 ghost use Rattle.record_io.specs.Outside.{Takes};
 ghost use Rattle.record_io.specs.Calls.{OnlyAsks, OnlyCounts};
 ghost use Rattle.meta_chunk.specs.Files.{end_of_chunks};
 ghost use Rattle.meta_chunk.specs.PaddingSizes.{padding_at};
 ghost use Rattle.ordered_writer.specs.Writers.{padding_bytes};
-ghost use Rattle.chunk_reader.specs.Faults.{HasNoFault, IsFault};
+ghost use Rattle.chunk_reader.specs.Faults.{IsFault};
 ghost use Rattle.chunk_reader.specs.Progress.{AreInBounds};
 ghost use Rattle.chunk_reader.specs.declared.reasons.Fault.{Fault};
-ghost use Rattle.chunk_reader.specs.ManyFiles.{HaveNoFault, IsFirstFault};
+ghost use Rattle.chunk_reader.specs.ManyFiles.{IsFirstFault};
 ghost use Rattle.record_join.specs.Joined.{joined_at_most, totals_joined};
 ghost use Rattle.record_io.specs.ManyStores.{AreOnlyAsked, AreTold, IfAllTell};
-ghost use Rattle.record_join.specs.Joins.{AreJoined, AreJoinedUpTo, AreTotalsWith, IsFrontJoined, IsFrontPut};
+ghost use Rattle.record_join.specs.Joins.{AreJoined, AreJoinedUpTo, AreTotalsWith, IsFrontJoined, IsFrontPut, IsShortJoined, IsShortPut};
 
 use crate::copies::{CopyEnd, copy_file};
 use chunk_reader::{Fault, VerifyEnd, verify};
@@ -61,8 +61,8 @@ const NO_FILES: Totals = Totals {
 /// # Errors
 ///
 /// `Refused` exactly with the fault of the first file that has one, and those before it are joined then. `Store` only where a
-/// store failed, and `Made` only where the sink did, to which nothing is put where the first file has a fault: a front of the
-/// files was put then, or of those before the first with a fault.
+/// store failed: a front of the files was put then, or of those before the first with a fault. `Made` only where the sink
+/// failed, which took a front of these and not all: so it never comes where the first file has a fault.
 pub fn join<S: Store, M: Sink>(
     stores: &mut [S],
     sizes: &[u64],
@@ -77,9 +77,10 @@ pub fn join<S: Store, M: Sink>(
         → IfAllTell S.bytes stores.old (λ files. AreJoinedUpTo files index fault (M.taken made.old) (M.taken made.new)) }
     ensures complete { IfAllTell S.bytes stores.old (λ files. (index : ℕ) (fault : Fault) → IsFirstFault true files index fault
         → (result ≡ Err (JoinEnd.Refused index fault)) ⊎ (result ≡ Err JoinEnd.Store) ⊎ (result ≡ Err JoinEnd.Made)) }
-    ensures front { (result ≡ Err JoinEnd.Store) ⊎ (result ≡ Err JoinEnd.Made)
+    ensures front { result ≡ Err JoinEnd.Store
         → IfAllTell S.bytes stores.old (λ files. IsFrontJoined files (M.taken made.old) (M.taken made.new)) }
-    ensures sound_first { result ≡ Err JoinEnd.Made → IfAllTell S.bytes stores.old (λ files. HaveNoFault true (take 1 files)) }
+    ensures short { result ≡ Err JoinEnd.Made
+        → IfAllTell S.bytes stores.old (λ files. IsShortJoined files (M.taken made.old) (M.taken made.new)) }
     ensures totals { IfOk result (λ totals. AreInBounds (joined_at_most sizes.now) totals) }
     ensures handed { (place : ℕ) (a b : S) (size : ℕ)
         → slice_get stores.old place ≡ Some a → slice_get stores.new place ≡ Some b → slice_get sizes.now place ≡ Some size
@@ -110,9 +111,10 @@ fn join_file<S: Store, M: Sink>(
         × Takes (M.taken made.old) (M.taken made.new) (padding_bytes before.now.bytes ++ file))) }
     ensures refused { (number : ℕ) (fault : Fault) → result ≡ Err (JoinEnd.Refused number fault)
         → (number ≡ index) × (made.new ≡ made.old) × IfSome (S.bytes store.old) (λ file. IsFault true file fault) }
-    ensures front { (result ≡ Err JoinEnd.Store) ⊎ (result ≡ Err JoinEnd.Made) → IfSome (S.bytes store.old) (λ file.
+    ensures front { result ≡ Err JoinEnd.Store → IfSome (S.bytes store.old) (λ file.
         IsFrontPut (padding_bytes before.now.bytes) file (M.taken made.old) (M.taken made.new)) }
-    ensures sound { result ≡ Err JoinEnd.Made → IfSome (S.bytes store.old) (λ file. HasNoFault true file) }
+    ensures short { result ≡ Err JoinEnd.Made → IfSome (S.bytes store.old) (λ file.
+        IsShortPut (padding_bytes before.now.bytes) file (M.taken made.old) (M.taken made.new)) }
     ensures totals { IfOk result (λ totals. AreInBounds totals.bytes totals) }
     ensures end { IfOk result (λ totals. totals.bytes ≡ end_of_chunks before.now.bytes (padding_at before.now.bytes) + size) }
     ensures handed { S.handed store.new ≤ S.handed store.old + 2 * size }

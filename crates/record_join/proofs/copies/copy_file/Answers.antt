@@ -1,20 +1,31 @@
-use Rattle.std.proofs.Common.{◌≡◌, ◌+◌, Option, IfSome, List, ℕ, length, take, drop, subst, arith, rules, length-append, length-drop}
+use Rattle.std.proofs.Common.{◌≡◌, ◌∙◌, ◌+◌, Option, Err, IfSome, List, ℕ, length, take, drop, ap, sym, subst, arith, rules, length-append, length-drop}
 use Rattle.std.specs.Prelude.{slice_range}
 use Rattle.std.proofs.lemmas.List.{length-take-le}
-use Rattle.record_io.specs.Outside.{Takes, TakesFront}
-use Rattle.record_io.proofs.Calls.{OnErr-any}
-use Rattle.record_join.proofs.CopiedPieces.{copied_front, copied_more}
+use Rattle.std.proofs.lemmas.Result.{err_from_is_err_and}
+use Rattle.record_io.specs.Outside.{Takes, TakesFront, TakesShort}
+use Rattle.record_join.proofs.CopiedPieces.{copied_front, copied_more, copied_short}
 use Rattle.record_join.proofs.copies.copy_file.Goals as goal
 
 pub returns-in_err-copy_piece-clause-front : goal.returns-in_err-copy_piece-clause-front
 returns-in_err-copy_piece-clause-front g c =
+    λ failed.
+    let p = err_from_is_err_and c.from_residual.result c.from_residual.ensures.1 in
+    let bytes : Option (List ℕ) = g.S.Store.bytes c.args.store.now in
+    let P : Option (List ℕ) → Type 0 = λ o. IfSome bytes (λ file. TakesFront (g.M.Sink.taken c.args.made.now) o file) in
+    subst P (ap g.M.Sink.taken (sym (c.in_err-copy_piece.ensures.unput (sym (p.1 ∙ ap Err p.2) ∙ failed))))
+    (copied_front bytes (g.M.Sink.taken c.args.made.now) (g.M.Sink.taken c.loop-at.made) c.loop-at.at c.loop-at.invariant.taken)
+
+pub returns-in_err-copy_piece-clause-short : goal.returns-in_err-copy_piece-clause-short
+returns-in_err-copy_piece-clause-short g c =
+    λ failed.
+    let p = err_from_is_err_and c.from_residual.result c.from_residual.ensures.1 in
     let kept = c.loop-at.invariant in
     let at : ℕ = c.loop-at.at in
     let n : ℕ = length (take c.min-count.result c.loop-at.piece) in
     let P : Option (List ℕ) → Type 0 = λ o. IfSome o (λ file.
-    TakesFront (g.M.Sink.taken c.loop-at.made) (g.M.Sink.taken c.copy_piece.new.made) (slice_range file at (at + n))) in
-    OnErr-any _ (copied_front (g.S.Store.bytes c.args.store.now) (g.M.Sink.taken c.args.made.now) (g.M.Sink.taken c.loop-at.made) _ at n kept.taken
-    (subst P kept.asks.same_bytes c.in_err-copy_piece.ensures.front))
+    TakesShort (g.M.Sink.taken c.loop-at.made) (g.M.Sink.taken c.copy_piece.new.made) (slice_range file at (at + n))) in
+    copied_short (g.S.Store.bytes c.args.store.now) (g.M.Sink.taken c.args.made.now) (g.M.Sink.taken c.loop-at.made) _ at n kept.taken
+    (subst P kept.asks.same_bytes (c.in_err-copy_piece.ensures.short (sym (p.1 ∙ ap Err p.2) ∙ failed)))
 
 pub loop-at-preserved : goal.loop-at-preserved
 loop-at-preserved g c =

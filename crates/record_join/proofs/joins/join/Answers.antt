@@ -1,19 +1,19 @@
-use Rattle.std.proofs.Common.{◌≡◌, ◌∙◌, ◌<◌, Option, Err, IfSome, List, ℕ, ◌++◌, get_or, length, ap, sym, subst, inl, inr, arith, rules}
+use Rattle.std.proofs.Common.{◌≡◌, ◌∙◌, ◌<◌, Option, Err, IfSome, List, ℕ, ◌++◌, get_or, length, ap, sym, subst, arith, rules}
 use Rattle.std.specs.Prelude.{Some, slice_get, true}
 use Rattle.std.proofs.lemmas.Option.{get_or_from_slice_get, slice_get-get_or}
 use Rattle.std.proofs.lemmas.Result.{err_from_is_err_and}
 use Rattle.ordered_writer.specs.Writers.{padding_bytes}
 use Rattle.record_io.specs.Outside.{Takes}
-use Rattle.chunk_reader.specs.Faults.{HasNoFault, IsFault}
+use Rattle.chunk_reader.specs.Faults.{IsFault}
 use Rattle.chunk_reader.specs.declared.reasons.Fault.{Fault}
 use Rattle.record_io.specs.ManyStores.{AreTold}
-use Rattle.record_join.specs.Joins.{AreJoinedUpTo, AreTotalsWith, IsFrontPut}
+use Rattle.record_join.specs.Joins.{AreJoinedUpTo, AreTotalsWith, IsFrontPut, IsShortPut}
 use Rattle.record_join.specs.declared.joins.JoinEnd.TheVariants as end
 use Rattle.record_io.proofs.ManyStores.{as_many, none_asked, one_asked, same_bytes, same_told, tells_at}
 use Rattle.record_join.proofs.HandedOut.{HandOut-more}
 use Rattle.record_join.proofs.Behind.{on_boundary}
-use Rattle.chunk_reader.proofs.ManyFiles.{first_or_none, first_without}
-use Rattle.record_join.proofs.Steps.{AreJoined-all, AreJoinedUpTo-fault, IsFrontJoined-failed, JoinedSoFar-more, ended_at_first, fits_more}
+use Rattle.chunk_reader.proofs.ManyFiles.{first_or_none}
+use Rattle.record_join.proofs.Steps.{AreJoined-all, AreJoinedUpTo-fault, IsFrontJoined-failed, IsShortJoined-failed, JoinedSoFar-more, ended_at_first, fits_more}
 use Rattle.record_join.proofs.joins.join.Goals as goal
 use Rattle.record_join.proofs.joins.join.Goals.{After-index-stores-index, In_err-totals}
 
@@ -104,23 +104,24 @@ returns-in_err-totals-clause-front g c =
     λ failed files told.
     let at = (goal.at.returns-in_err-totals-clause-front g c).After-index-stores-index in
     let p = err_from_is_err_and c.from_residual.result c.from_residual.ensures.1 in
-    let same : c.from_residual.result ≡ Err c.in_err-totals.field-0.0 = p.1 ∙ ap Err p.2 in
     let its = file g at files told in
-    let front = c.in_err-totals.ensures.front (elim failed [ inl store ↦ inl (sym same ∙ store) | inr made ↦ inr (sym same ∙ made) ]) in
+    let front = c.in_err-totals.ensures.front (sym (p.1 ∙ ap Err p.2) ∙ failed) in
     let P : Option (List ℕ) → Type 0 = λ o. IfSome o (λ f.
     IsFrontPut (padding_bytes c.loop-index.totals.bytes) f (g.M.Sink.taken c.loop-index.made) (g.M.Sink.taken c.join_file.new.made)) in
     IsFrontJoined-failed files c.loop-index.index its.0 c.loop-index.totals (g.M.Sink.taken c.args.made.now) (g.M.Sink.taken c.loop-index.made) _
     its.1 (subst P its.2 front) (c.loop-index.invariant.joined files told)
 
-pub returns-in_err-totals-clause-sound_first : goal.returns-in_err-totals-clause-sound_first
-returns-in_err-totals-clause-sound_first g c =
+pub returns-in_err-totals-clause-short : goal.returns-in_err-totals-clause-short
+returns-in_err-totals-clause-short g c =
     λ failed files told.
-    let at = (goal.at.returns-in_err-totals-clause-sound_first g c).After-index-stores-index in
+    let at = (goal.at.returns-in_err-totals-clause-short g c).After-index-stores-index in
     let p = err_from_is_err_and c.from_residual.result c.from_residual.ensures.1 in
     let its = file g at files told in
-    let P : Option (List ℕ) → Type 0 = λ o. IfSome o (λ f. HasNoFault true f) in
-    first_without true files c.loop-index.index its.0 its.1 (subst P its.2 (c.in_err-totals.ensures.sound (sym (p.1 ∙ ap Err p.2) ∙ failed)))
-    (c.loop-index.invariant.joined files told).without_fault
+    let short = c.in_err-totals.ensures.short (sym (p.1 ∙ ap Err p.2) ∙ failed) in
+    let P : Option (List ℕ) → Type 0 = λ o. IfSome o (λ f.
+    IsShortPut (padding_bytes c.loop-index.totals.bytes) f (g.M.Sink.taken c.loop-index.made) (g.M.Sink.taken c.join_file.new.made)) in
+    IsShortJoined-failed files c.loop-index.index its.0 c.loop-index.totals (g.M.Sink.taken c.args.made.now) (g.M.Sink.taken c.loop-index.made) _
+    its.1 (subst P its.2 short) (c.loop-index.invariant.joined files told)
 
 pub returns-in_err-totals-clause-handed : goal.returns-in_err-totals-clause-handed
 returns-in_err-totals-clause-handed g c =
