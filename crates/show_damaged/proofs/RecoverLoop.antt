@@ -163,9 +163,9 @@ step-untold X words l b c held held_then ended e failed (Err result) err is (ski
     subst (λ (x : Ending Region). TellsOf words.most (Err x) l c.notes) (sym is)
     (by_sink X (λ x. TellsOf words.most (Err x) l c.notes) failed (event_lines words e) (event_text e) b c held held_then gives
     (λ gave.
-    (skipped, told-still words.most l b.notes c.notes skipped told (event-unsaid b c (take gave.1 (held ++ event_lines words e)) gave.2)))
+    (skipped, told-still words.most l b.notes c.notes skipped told (event-unsaid b c (take gave.0 (held ++ event_lines words e)) gave.2)))
     (λ gave.
-    told-front words.most l b.notes c.notes skipped e told passed gave.0 (event-front b c (held ++ event_lines words e) (event_text e) gave.1 gave.2)))
+    told-front words.most l b.notes c.notes skipped e told passed (event-front b c (held ++ event_lines words e) (event_text e) gave.0 gave.1 gave.2)))
 
 -- which is by a sink
 pub step-by : (failed : FailedSink) (result : Result Status (Ending Region)) → IsErr result → IsErrAnd result (λ end. end ≡ end_of_sink failed)

@@ -1,5 +1,5 @@
 -- `show` walks one file past its damage, and its ends are those that it may have.
-use Rattle.std.proofs.Common.{◌≡◌, ℕ, Option, Result, Ok, Err, List, [], ◌∷◌, refl, sym, subst, IsSomeAnd}
+use Rattle.std.proofs.Common.{◌≡◌, ℕ, Option, Result, Ok, Err, List, [], ◌∷◌, length, refl, sym, ap, subst, arith, IsSomeAnd}
 use Rattle.std.specs.Result.{IsErr, IsErrAnd}
 use Rattle.record_io.specs.Puts.{Taken}
 use Rattle.damage_skip.proofs.BoundedWalks.{MaySkipEach}
@@ -41,7 +41,7 @@ step-allowed X words b c held held_then e failed (Err made) told err is passed g
     (by_sink X (λ x. IsAllowedEnd {X = Status} (recover_meaning words) (Err x) told) failed (event_lines words e) (event_text e) b c held held_then gives
     (λ _. (refl, reach))
     (λ gave.
-    ((event_text e, (regions_in (piece_of e ∷ []), passed, sym (skipped_text-event [] e)), gave.0), reach)))
+    ((event_text e, (regions_in (piece_of e ∷ []), passed, sym (skipped_text-event [] e)), λ none. omega (arith, gave.1, ap length none)), reach)))
 
 -- or by the walk
 pub walk-allowed : (words : RecoverWords) (e : WalkEnd) (why : Ending Region) (told : Option ℕ) → why ≡ end_of_walk e

@@ -1,15 +1,13 @@
 -- How `show` gets on past damage: the events so far, one more, and how they stand to the answer.
-use Rattle.std.proofs.Common.{◌≡◌, ◌≢◌, ◌∙◌, ℕ, ◌-◌, ◌<◌, ◌≤◌, true, false, Option, Some, None, Ok, Err, List, [], ◌∷◌, ◌++◌, length, take, refl, sym, ap, subst, inl, inr, arith, length-append}
+use Rattle.std.proofs.Common.{◌≡◌, ◌∙◌, ℕ, ◌-◌, ◌<◌, ◌≤◌, true, false, Option, None, Ok, Err, List, [], ◌∷◌, ◌++◌, length, take, refl, sym, ap, subst, inr}
 use Rattle.std.specs.List.{AllByRecursion, flat_map}
-use Rattle.std.proofs.Math.Seq.{take-length}
-use Rattle.std.proofs.lemmas.Bool.{cases_lt}
-use Rattle.std.proofs.lemmas.List.{append-nil, append_assoc, nil_from_length, take_all}
+use Rattle.std.proofs.lemmas.List.{append-nil, append_assoc}
 use Rattle.std.proofs.lemmas.Grind.{flat_map-append}
-use Rattle.record_io.specs.Outside.{Takes, TakesFront}
+use Rattle.record_io.specs.Outside.{Takes, TakesShort}
 use Rattle.record_io.specs.Buffers.{TakesAndHolds}
-use Rattle.record_io.specs.Puts.{Put, Out, Notes, Taken, taken_by, GoOut, GoOutOrAreHeld, puts_to, bytes_to}
-use Rattle.record_io.proofs.Calls.{Takes-append, TakesFront-append}
-use Rattle.record_io.proofs.Puts.{GoOut-append, GoOut-notes, GoOut-out, GoOutOrAreHeld-none, TakesFront-count, bytes_to-append, bytes_to-other, puts_to-append}
+use Rattle.record_io.specs.Puts.{Put, Out, Notes, Taken, taken_by, GoOut, GoOutOrAreHeld, BreaksOff, puts_to, bytes_to}
+use Rattle.record_io.proofs.Calls.{Takes-append, TakesShort-append}
+use Rattle.record_io.proofs.Puts.{GoOut-append, GoOut-notes, GoOut-out, GoOutOrAreHeld-none, BreaksOff-last, BreaksOff-longer, BreaksOff-behind, bytes_to-append, bytes_to-other, puts_to-append}
 use Rattle.damage_skip.specs.Pieces.{Skipped, Piece, IsPieceOf, AreEvents}
 use Rattle.damage_skip.specs.Bounds.{may_skip, walked, refused_in, MaySkip}
 use Rattle.damage_skip.specs.Regions.{region_text, regions_in, IsWalkedTo, skipped_text, stopped_text}
@@ -213,11 +211,10 @@ gives-lines x words e made b c notes held held_then quiet h = record {
   went = GoOut-out made b c notes h.passed h.taken;
 }
 
-pub breaks-lines : (X : Type 0) (lines text : List ℕ) (made b c notes : Option (List ℕ)) (held held_then : List ℕ) → held ++ lines ≢ []
-    → TakesFront b c (held ++ lines) → GivesEvent {X = X} (Err sink.Out) lines text (taken_by made b notes) (taken_by made c notes) held held_then
-breaks-lines X lines text made b c notes held held_then some front =
-    let count = TakesFront-count b c (held ++ lines) front in
-    (some, count.0, GoOut-out made b c notes (take count.0 (held ++ lines)) count.1)
+pub breaks-lines : (X : Type 0) (lines text : List ℕ) (made b c notes : Option (List ℕ)) (held held_then : List ℕ)
+    → TakesShort b c (held ++ lines) → GivesEvent {X = X} (Err sink.Out) lines text (taken_by made b notes) (taken_by made c notes) held held_then
+breaks-lines X lines text made b c notes held held_then short =
+    (short.0, short.1, GoOut-out made b c notes (take short.0 (held ++ lines)) short.2)
 
 -- and a region by its line, behind what was held
 module _ (text : List ℕ) (made b c notes notes_then : Option (List ℕ)) (held : List ℕ) (out : Takes b c held) where
@@ -234,10 +231,9 @@ module _ (text : List ℕ) (made b c notes notes_then : Option (List ℕ)) (held
       subst (λ (hs : List ℕ). GoOutOrAreHeld (taken_by made b notes) (taken_by made c notes_then) Out (puts_to Out (held ++ []) ++ puts_to Notes text) hs) (sym none)
       (GoOutOrAreHeld-none (taken_by made b notes) (taken_by made c notes_then) Out (puts_to Out (held ++ []) ++ puts_to Notes text) (before-text text said))
 
-  pub breaks-text : (X : Type 0) (held_then : List ℕ) → text ≢ [] → TakesFront notes notes_then text
+  pub breaks-text : (X : Type 0) (held_then : List ℕ) → TakesShort notes notes_then text
       → GivesEvent {X = X} (Err sink.Notes) [] text (taken_by made b notes) (taken_by made c notes_then) held held_then
-  breaks-text X held_then some front =
-      let count = TakesFront-count notes notes_then text front in (some, count.0, before-text (take count.0 text) count.1)
+  breaks-text X held_then short = (short.0, short.1, before-text (take short.0 text) short.2)
 
 -- what holds of both sinks that may fail holds of the one by which an event did
 pub by_sink : (X : Type 0) (C : Ending Region → Type 0) (failed : FailedSink) (lines text : List ℕ) (before after : Taken) (held held_then : List ℕ)
@@ -283,27 +279,21 @@ pub event-unprinted : (X : Type 0) (words : RecoverWords) (file : List ℕ) (pla
     → MaySkipEach words.most (piece_of e ∷ [])
     → GivesEvent {X = X} (Err sink.Out) (event_lines words e) (event_text e) b c held held_then → held_then ≡ []
     → (answer : Answer) → OfFile (IsRecovered words) (file ∷ []) answer → HasBrokenOff Out a c held_then answer
-event-unprinted X words file place next a b c held held_then ended e short h on passed (some, count, gives) none answer is =
+event-unprinted X words file place next a b c held held_then ended e short h on passed (count, within, gives) none answer is =
     let more = puts-front words file next (h.events ++ piece_of e ∷ []) answer short
     (walked-on false (MaySkip words.most) file place next h.events (piece_of e ∷ []) h.walked on passed) is in
     let front = puts-front words file place h.events answer short h.walked is in
     let bytes : List ℕ = held ++ event_lines words e in
+    let text : List Put = puts_to Notes (event_text e) in
     let broken : List Put = puts_to Out (take count bytes) in
     record {
       none_held = none;
       part = h.went.passed ++ broken;
-      broke = record {
-        before = h.went.passed;
-        bytes = bytes;
-        rest = puts_to Notes (event_text e) ++ more.0;
-        parts = more.1
-            ∙ ap (λ (ps : List Put). ps ++ more.0) (puts-on words h.events e h.went.passed held h.went.parts)
-            ∙ append_assoc h.went.passed (puts_to Out bytes ++ puts_to Notes (event_text e)) more.0
-            ∙ ap (λ (ps : List Put). h.went.passed ++ ps) (append_assoc (puts_to Out bytes) (puts_to Notes (event_text e)) more.0);
-        some = some;
-        count = count;
-        broken = refl;
-      };
+      broke = subst (λ (ps : List Put). BreaksOff Out (h.went.passed ++ broken) ps)
+          (sym (more.1 ∙ ap (λ (ps : List Put). ps ++ more.0) (puts-on words h.events e h.went.passed held h.went.parts)))
+          (BreaksOff-longer Out (h.went.passed ++ broken) (h.went.passed ++ (puts_to Out bytes ++ text)) more.0
+          (BreaksOff-behind Out h.went.passed broken (puts_to Out bytes ++ text)
+          (BreaksOff-longer Out broken (puts_to Out bytes) text (BreaksOff-last Out [] bytes count within))));
       lines = PutsLines-same (h.went.passed ++ broken) (puts_of words h.events) answer.puts
           (sym (notes-passed (h.went.passed ++ broken) h.went.passed (take count bytes) refl)
           ∙ notes-passed (puts_of words h.events) h.went.passed held h.went.parts)
@@ -317,35 +307,20 @@ pub event-untold : (X : Type 0) (words : RecoverWords) (file : List ℕ) (place 
     → MaySkipEach words.most (piece_of e ∷ [])
     → GivesEvent {X = X} (Err sink.Notes) (event_lines words e) (event_text e) b c held held_then
     → (answer : Answer) → OfFile (IsRecovered words) (file ∷ []) answer → FailedToSay a c answer
-event-untold X words file place next a b c held held_then ended e short h on passed (some, count, gives) answer is =
+event-untold X words file place next a b c held held_then ended e short h on passed (count, within, gives) answer is =
     let more = puts-front words file next (h.events ++ piece_of e ∷ []) answer short
     (walked-on false (MaySkip words.most) file place next h.events (piece_of e ∷ []) h.walked on passed) is in
     let lines : List Put = puts_to Out (held ++ event_lines words e) in
     let broken : List Put = puts_to Notes (take count (event_text e)) in
     record {
       part = h.went.passed ++ (lines ++ broken);
-      broke = record {
-        before = h.went.passed ++ lines;
-        bytes = event_text e;
-        rest = more.0;
-        parts = more.1
-            ∙ ap (λ (ps : List Put). ps ++ more.0) (puts-on words h.events e h.went.passed held h.went.parts
-            ∙ sym (append_assoc h.went.passed lines (puts_to Notes (event_text e))))
-            ∙ append_assoc (h.went.passed ++ lines) (puts_to Notes (event_text e)) more.0;
-        some = some;
-        count = count;
-        broken = sym (append_assoc h.went.passed lines broken);
-      };
+      broke = subst (λ (ps : List Put). BreaksOff Notes (h.went.passed ++ (lines ++ broken)) ps)
+          (sym (more.1 ∙ ap (λ (ps : List Put). ps ++ more.0) (puts-on words h.events e h.went.passed held h.went.parts)))
+          (BreaksOff-longer Notes (h.went.passed ++ (lines ++ broken)) (h.went.passed ++ (lines ++ puts_to Notes (event_text e))) more.0
+          (BreaksOff-behind Notes h.went.passed (lines ++ broken) (lines ++ puts_to Notes (event_text e))
+          (BreaksOff-last Notes lines (event_text e) count within)));
       went = GoOut-append a b c h.went.passed (lines ++ broken) h.went.went gives;
     }
-
--- a sink that took the first bytes of a text took a front of it
-Takes-front : (before after : Option (List ℕ)) (text : List ℕ) (count : ℕ) → Takes before after (take count text) → TakesFront before after text
-Takes-front None after text count h = tt
-Takes-front (Some taken) after text count h = elim (cases_lt count (length text)) [
-  | inl within ↦ (count, omega (arith, within), h)
-  | inr past ↦ (length text, omega arith, h ∙ ap (λ (t : List ℕ). Some (taken ++ t)) (take_all count text past ∙ sym (take-length text)))
-]
 
 -- what notes took of an event
 pub event-said : (b c : Taken) (lines text held : List ℕ) → GoOutOrAreHeld b c Out (puts_to Out lines ++ puts_to Notes text) held → Takes b.notes c.notes text
@@ -356,10 +331,10 @@ event-said b c lines text held h =
 pub event-unsaid : (b c : Taken) (lines : List ℕ) → GoOut b c (puts_to Out lines) → Takes b.notes c.notes []
 event-unsaid b c lines h = subst (λ (t : List ℕ). Takes b.notes c.notes t) (bytes_to-other Notes Out lines refl) h.notes
 
-pub event-front : (b c : Taken) (lines text : List ℕ) (count : ℕ) → GoOut b c (puts_to Out lines ++ puts_to Notes (take count text))
-    → TakesFront b.notes c.notes text
-event-front b c lines text count h =
-    Takes-front b.notes c.notes text count (subst (λ (t : List ℕ). Takes b.notes c.notes t) (bytes_to-second Out Notes lines (take count text) refl) h.notes)
+pub event-front : (b c : Taken) (lines text : List ℕ) (count : ℕ) → count < length text
+    → GoOut b c (puts_to Out lines ++ puts_to Notes (take count text)) → TakesShort b.notes c.notes text
+event-front b c lines text count within h =
+    (count, within, subst (λ (t : List ℕ). Takes b.notes c.notes t) (bytes_to-second Out Notes lines (take count text) refl) h.notes)
 
 -- what was told of regions, and of one event more
 pub told-event : (most : Option ℕ) (l m n : Option (List ℕ)) (skipped : List Region) (e : Event) → HasToldOf most l m skipped → MaySkipEach most (piece_of e ∷ [])
@@ -378,14 +353,10 @@ told-still most l m n skipped h none = record {
 }
 
 pub told-front : (most : Option ℕ) (l m n : Option (List ℕ)) (skipped : List Region) (e : Event) → HasToldOf most l m skipped → MaySkipEach most (piece_of e ∷ [])
-    → event_text e ≢ [] → TakesFront m n (event_text e)
-    → (all : List Region) × AllByRecursion (MaySkip most) all × (all ≢ []) × TakesFront l n (skipped_text all)
-told-front most l m n skipped e h passed some more = (
+    → TakesShort m n (event_text e) → (all : List Region) × AllByRecursion (MaySkip most) all × TakesShort l n (skipped_text all)
+told-front most l m n skipped e h passed more = (
   skipped ++ regions_in (piece_of e ∷ []),
   each_append (MaySkip most) skipped (regions_in (piece_of e ∷ [])) h.may passed,
-  λ none.
-      let text : skipped_text skipped ++ event_text e ≡ [] = sym (skipped_text-event skipped e) ∙ ap skipped_text none in
-      some (nil_from_length (event_text e) (omega (arith, ap length text, length-append (skipped_text skipped) (event_text e)))),
-  subst (λ (t : List ℕ). TakesFront l n t) (sym (skipped_text-event skipped e))
-      (TakesFront-append l m n (skipped_text skipped) (event_text e) h.says more),
+  subst (λ (t : List ℕ). TakesShort l n t) (sym (skipped_text-event skipped e))
+      (TakesShort-append l m n (skipped_text skipped) (event_text e) h.says more),
 )

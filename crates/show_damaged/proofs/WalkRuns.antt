@@ -3,9 +3,9 @@ use Rattle.std.proofs.Common.{◌≡◌, ◌≢◌, ℕ, ◌≤◌, false, Optio
 use Rattle.std.specs.List.{AllByRecursion}
 use Rattle.std.specs.Result.{IsErr, IsErrAnd}
 use Rattle.std.proofs.lemmas.List.{append-nil}
-use Rattle.record_io.specs.Outside.{Rose, Takes, TakesFront}
+use Rattle.record_io.specs.Outside.{Rose, Takes, TakesShort}
 use Rattle.record_io.specs.Puts.{Put, Taken, taken_by}
-use Rattle.record_io.proofs.Calls.{Takes-nothing}
+use Rattle.record_io.proofs.Calls.{Takes-nothing, TakesShort-some}
 use Rattle.damage_skip.specs.declared.regions.Region.{Region}
 use Rattle.run_answers.specs.declared.ending.Ending.{Ending}
 use Rattle.run_answers.specs.declared.sizes.SizeEnd.{SizeEnd}
@@ -46,9 +46,8 @@ tells-unsized most told bytes m n notes size.File (Err ended) err is why =
 -- lines that notes failed to take may be said
 pub untold-may : (most : Option ℕ) (notes notes_then : Option (List ℕ)) → TellsOf most (Err (end.Cut cut.Notes)) notes notes_then
     → (text : List ℕ) × MaySayWalk most text × (text ≢ [])
-untold-may most notes notes_then ([], each, some, front) = absurd (some refl)
-untold-may most notes notes_then (region ∷ skipped, each, some, front) =
-    (skipped_text (region ∷ skipped), (region ∷ skipped, each, refl), λ e. cc e)
+untold-may most notes notes_then (skipped, each, short) =
+    (skipped_text skipped, (skipped, each, refl), TakesShort-some notes notes_then (skipped_text skipped) short)
 
 -- a walk that is done ends whole, whatever was skipped
 walk_whole : (m : Meaning) (skipped : List Region) → EndsWhole m (walk_status skipped None)
@@ -61,7 +60,6 @@ module _ (m : Meaning) (P : List ℕ → Answer → Type 0) (Q : (before after :
     too_long = λ sizes long. walks.may_end sizes status.Limit _ (inr (long, refl, refl));
     whole = λ region. (tt, λ before after. tt);
     other = λ region e. cc e;
-    some = λ region e. cc e;
   }
 
   -- it may end so, by the size
@@ -86,10 +84,10 @@ module _ (m : Meaning) (P : List ℕ → Answer → Type 0) (Q : (before after :
   said (Err (end.Cut cut.Made)) notes notes_then (skipped, told) = (skipped_text skipped, told.says, walks.may_say _ (skipped, told.may, refl))
   said (Err (end.Cut cut.Grown)) notes notes_then (skipped, told) = (skipped_text skipped, told.says, walks.may_say _ (skipped, told.may, refl))
   said (Err (end.Cut cut.Out)) notes notes_then (skipped, told) = (skipped_text skipped, told.says, walks.may_say _ (skipped, told.may, refl))
-  said (Err (end.Cut cut.Notes)) notes notes_then (skipped, each, some, front) = (
+  said (Err (end.Cut cut.Notes)) notes notes_then (skipped, each, short) = (
     walk_status skipped None,
     walk_text skipped None,
-    subst (λ (t : List ℕ). TakesFront notes notes_then t) (sym (append-nil (skipped_text skipped))) front,
+    subst (λ (t : List ℕ). TakesShort notes notes_then t) (sym (append-nil (skipped_text skipped))) short,
     may skipped None each tt,
   )
   said (Err (end.Cut cut.Memory)) notes notes_then (skipped, told) = (skipped_text skipped, told.says, walks.may_say _ (skipped, told.may, refl))

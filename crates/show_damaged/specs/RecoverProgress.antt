@@ -1,5 +1,5 @@
 -- How far `show` has gone on past damage. Own.
-use Rattle.std.specs.Prelude.{◌≡◌, ◌≢◌, ℕ, ◌+◌, ◌^◌, ◌<◌, false, None, Result, Ok, Err, List, [], ◌++◌, length, take}
+use Rattle.std.specs.Prelude.{◌≡◌, ℕ, ◌+◌, ◌^◌, ◌<◌, false, None, Result, Ok, Err, List, [], ◌++◌, length, take}
 use Rattle.std.specs.List.{enumerate_from, flat_map}
 use Rattle.record_io.specs.Puts.{Out, Notes, Taken, GoOut, GoOutOrAreHeld, puts_to}
 use Rattle.damage_skip.specs.Pieces.{Piece, records_of}
@@ -49,14 +49,14 @@ end_of_sink sink.Out = end.Cut cut.Out
 end_of_sink sink.Notes = end.Cut cut.Notes
 
 -- behind what is held an event puts its lines, and then its line, if it is a region: all of it went out, but for lines that are
--- held; or a front did, up to bytes to the sink that failed
+-- held; or a front did, up to a byte to the sink that failed
 abbrev pub GivesEvent : {X : Type 0} → Result X FailedSink → (lines text : List ℕ) → (before after : Taken) → (held held_then : List ℕ) → Type 0
 GivesEvent (Ok _) lines text before after held held_then =
     GoOutOrAreHeld before after Out (puts_to Out (held ++ lines) ++ puts_to Notes text) held_then
 GivesEvent (Err sink.Out) lines text before after held held_then =
-    (held ++ lines ≢ []) × (count : ℕ) × GoOut before after (puts_to Out (take count (held ++ lines)))
+    (count : ℕ) × (count < length (held ++ lines)) × GoOut before after (puts_to Out (take count (held ++ lines)))
 GivesEvent (Err sink.Notes) lines text before after held held_then =
-    (text ≢ []) × (count : ℕ) × GoOut before after (puts_to Out (held ++ lines) ++ puts_to Notes (take count text))
+    (count : ℕ) × (count < length text) × GoOut before after (puts_to Out (held ++ lines) ++ puts_to Notes (take count text))
 
 -- all that events up to a place put went out, but for lines that are held
 pub record IsGivenTo (words : RecoverWords) (file : List ℕ) (place : ℕ) (before after : Taken) (held : List ℕ) (ended : Status) : Type 0 where

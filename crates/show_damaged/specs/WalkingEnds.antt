@@ -1,10 +1,10 @@
 -- How the work of a command that walks a record file ends, and what it has said then. Own.
-use Rattle.std.specs.Prelude.{◌≡◌, ◌≢◌, ℕ, Bool, false, Option, None, Result, Ok, Err, List, []}
+use Rattle.std.specs.Prelude.{◌≡◌, ℕ, Bool, false, Option, None, Result, Ok, Err, List, []}
 use Rattle.std.specs.List.{AllByRecursion}
 use Rattle.std.specs.Fn.{Shared, FnReturnsAt}
 use denote.Ref.{Bor}
 use lib.Chars.{codes}
-use Rattle.record_io.specs.Outside.{Takes, TakesFront}
+use Rattle.record_io.specs.Outside.{Takes, TakesShort}
 use Rattle.damage_skip.specs.Bounds.{may_skip, MaySkip}
 use Rattle.damage_skip.specs.Regions.{IsRegion, region_text, skipped_text}
 use Rattle.show_damaged.specs.WalkAnswers.{walk_status}
@@ -35,5 +35,5 @@ TellsOf most (Err end.Limit) notes notes_then = Takes notes notes_then []
 TellsOf most (Err (end.At region)) notes notes_then =
     (skipped : List Region) × HasToldOf most notes notes_then skipped × (may_skip most region ≡ false)
 TellsOf most (Err (end.Cut cut.Notes)) notes notes_then =
-    (skipped : List Region) × AllByRecursion (MaySkip most) skipped × (skipped ≢ []) × TakesFront notes notes_then (skipped_text skipped)
+    (skipped : List Region) × AllByRecursion (MaySkip most) skipped × TakesShort notes notes_then (skipped_text skipped)
 TellsOf most (Err (end.Cut cut)) notes notes_then = (skipped : List Region) × HasToldOf most notes notes_then skipped

@@ -12,8 +12,7 @@ returns-in-Ok-clause-given g c = λ made.
 
 pub returns-in-Records-clause-given : goal.returns-in-Records-clause-given
 returns-in-Records-clause-given g c = λ made.
-    breaks-lines Status (event_lines c.args.words.now c.args.event) (event_text c.args.event) made _ _ _ c.args.lines.now c.put_records.new.lines
-    (search rules) (search rules)
+    breaks-lines Status (event_lines c.args.words.now c.args.event) (event_text c.args.event) made _ _ _ c.args.lines.now c.put_records.new.lines (search rules)
 
 pub returns-in-Kept-clause-given : goal.returns-in-Kept-clause-given
 returns-in-Kept-clause-given g c = λ made.

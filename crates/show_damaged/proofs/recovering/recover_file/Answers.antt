@@ -24,7 +24,7 @@ returns-in-Ok-clause-printed g c = λ made.
 pub returns-in-Err-clause-printed : goal.returns-in-Err-clause-printed
 returns-in-Err-clause-printed g c = λ made.
     end-unflushed walk_ends (IsRecovered c.args.words.now) c.print_events-walked.result _ c.unprinted.ensures _ _ _ made _ _ _ _
-    c.in_ok-size.ensures.same_bytes (c.print_events-walked.ensures.printed made) c.in-Err.ensures.sink.front c.in-Err.ensures.some
+    c.in_ok-size.ensures.same_bytes (c.print_events-walked.ensures.printed made) c.in-Err.ensures.sink.front
 
 pub returns-in_err-size-clause-allowed : goal.returns-in_err-size-clause-allowed
 returns-in_err-size-clause-allowed g c =

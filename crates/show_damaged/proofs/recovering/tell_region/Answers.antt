@@ -6,8 +6,7 @@ use Rattle.show_damaged.proofs.recovering.tell_region.Goals as goal
 
 pub returns-then-is_err-clause-given : goal.returns-then-is_err-clause-given
 returns-then-is_err-clause-given g c = λ made.
-    breaks-lines (Unit {0}) [] (event_text (Skipped c.args.region.now)) made _ _ _ c.args.lines.now c.flush.new.self
-    (search (rules, append-nil)) (search (rules, append-nil))
+    breaks-lines (Unit {0}) [] (event_text (Skipped c.args.region.now)) made _ _ _ c.args.lines.now c.flush.new.self (search (rules, append-nil))
 
 pub returns-in-Ok-clause-given : goal.returns-in-Ok-clause-given
 returns-in-Ok-clause-given g c = λ made.
@@ -15,4 +14,4 @@ returns-in-Ok-clause-given g c = λ made.
 
 pub returns-in-Err-clause-given : goal.returns-in-Err-clause-given
 returns-in-Err-clause-given g c = λ made.
-    breaks-text (event_text (Skipped c.args.region.now)) made _ _ _ _ c.args.lines.now (search rules) (Unit {0}) c.flush.new.self (λ e. cc e) c.in-Err.ensures.sink.front
+    breaks-text (event_text (Skipped c.args.region.now)) made _ _ _ _ c.args.lines.now (search rules) (Unit {0}) c.flush.new.self c.in-Err.ensures.sink.front
