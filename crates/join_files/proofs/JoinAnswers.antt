@@ -1,22 +1,15 @@
 -- Files have one answer of `join`.
-use Rattle.std.proofs.Common.{◌≡◌, ◌≢◌, ◌∙◌, ℕ, zero, suc, ◌<◌, ◌≤◌, ◌⊎◌, true, List, [], ◌∷◌, ◌++◌, length, map, take, refl, sym, ap, inl, inr, arith}
+use Rattle.std.proofs.Common.{◌≡◌, ◌≢◌, ◌∙◌, ℕ, ◌⊎◌, true, List, [], ◌++◌, length, map, take, refl, sym, ap, inl, inr, arith}
 use Rattle.std.specs.List.{AllByRecursion}
 use Rattle.std.proofs.lemmas.Bool.{cases_lt}
-use Rattle.std.proofs.lemmas.Option.{slice_get_within}
 use Rattle.record_values.specs.Bytes.{AreBytes}
 use Rattle.record_io.specs.Puts.{Made, Out, Notes, puts_to}
 use Rattle.chunk_header.specs.Chunks.{ChunkValue}
 use Rattle.meta_chunk.specs.Counts.{totals_of}
-use Rattle.meta_chunk.specs.Files.{IsFrame}
-use Rattle.meta_chunk.specs.Laid.{end_of_chunk}
-use Rattle.meta_chunk.proofs.Joins.{end_of_chunks_past}
-use Rattle.meta_chunk.proofs.LaidChunks.{end_of_chunk_after}
-use Rattle.ordered_writer.proofs.JoinedFiles.{length-file}
 use Rattle.chunk_reader.specs.declared.reasons.Fault.{Fault}
 use Rattle.chunk_reader.proofs.Frames.{frame_is_one}
-use Rattle.chunk_reader.specs.ManyFiles.{HaveNoFault, IsFirstFault}
 use Rattle.record_join.specs.Joined.{joined, joined_at_most}
-use Rattle.chunk_reader.proofs.ManyFiles.{files_judged, first_behind, first_is_one, first_or_none}
+use Rattle.chunk_reader.proofs.ManyFiles.{files_judged, first_is_one, first_or_none}
 use Rattle.record_join.proofs.JoinedFiles.{joined-no_fault}
 use Rattle.run_answers.specs.Answers.{Answer, noted}
 use Rattle.run_answers.specs.FileAnswers.{limit_text, most_file_bytes, report}
@@ -33,30 +26,6 @@ whole_answer files chunks =
 abbrev pub refused_answer : List (List ℕ) → ℕ → Fault → Answer
 refused_answer files index fault =
     record { puts = puts_to Made (joined (take index files)) ++ puts_to Notes (refused_file_text index fault); status = status.Refused }
-
--- files without fault make some bytes
-pub joined-some : (files : List (List ℕ)) → files ≢ [] → HaveNoFault true files → joined files ≢ []
-joined-some files some h = let whole = joined-no_fault files some h in of_chunks whole.0 whole.1 where
-  of_chunks : (ks : List ChunkValue) → IsFrame ks (joined files) → joined files ≢ []
-  of_chunks [] frame none = frame.0 refl
-  of_chunks (k ∷ ks) frame none =
-      omega (
-        arith,
-        end_of_chunk_after 0 k,
-        end_of_chunks_past (end_of_chunk 0 k) ks,
-        length-file (k ∷ ks) (joined files) frame,
-        ap length none,
-      )
-
--- so do those before the first with a fault, where that isn't the first of all
-pub joined-some_before : (files : List (List ℕ)) (index : ℕ) (fault : Fault) → HaveNoFault true (take 1 files) → IsFirstFault true files index fault
-    → joined (take index files) ≢ []
-joined-some_before files index fault none first =
-    joined-some (take index files) (taken files index (first_behind true files 1 index fault none first) (slice_get_within files index first.file first.there)) first.before where
-      taken : (files : List (List ℕ)) (index : ℕ) → 1 ≤ index → index < length files → take index files ≢ []
-      taken [] index behind below is = omega (arith, below)
-      taken (f ∷ files) zero behind below is = omega (arith, behind)
-      taken (f ∷ files) (suc index) behind below is = cc is
 
 -- files of bytes have an answer
 pub join_exists : (files : List (List ℕ)) → files ≢ [] → AllByRecursion AreBytes files → (answer : Answer) × IsJoinAnswer files answer

@@ -1,17 +1,15 @@
 -- How a run of `join` ends, by how its work ended.
-use Rattle.std.proofs.Common.{◌≡◌, ◌≢◌, ◌∙◌, ℕ, ◌+◌, ◌<◌, ◌≤◌, ◌⊎◌, true, Option, Some, None, Result, Ok, Err, List, [], ◌++◌, length, map, take, drop, refl, sym, ap, subst, inl, inr, append_assoc, IfSome}
+use Rattle.std.proofs.Common.{◌≡◌, ◌≢◌, ◌∙◌, ℕ, ◌+◌, ◌<◌, ◌≤◌, ◌⊎◌, true, Option, Some, None, Result, Ok, Err, List, [], ◌++◌, length, map, take, drop, refl, sym, subst, inl, inr, IfSome}
 use Rattle.std.specs.Prelude.{slice_get}
 use Rattle.std.specs.List.{AllByRecursion}
-use Rattle.std.proofs.lemmas.List.{take-append-drop}
 use Rattle.record_values.specs.Bytes.{AreBytes}
 use Rattle.record_io.specs.ManyStores.{AreOnlyAsked}
-use Rattle.record_io.specs.Outside.{Rose, Takes}
+use Rattle.record_io.specs.Outside.{Rose, Takes, TakesFront, TakesShort}
 use Rattle.record_io.specs.Puts.{Put, Made, Out, Notes, taken_by, BreaksOff, puts_to}
-use Rattle.record_io.proofs.Puts.{TakesFront-count, BreaksOff-last, bytes_to-other, puts_to-append}
+use Rattle.record_io.proofs.Puts.{TakesFront-count, BreaksOff-last, BreaksOff-longer, bytes_to-other, puts_to-front}
 use Rattle.meta_chunk.specs.Counts.{totals_of}
-use Rattle.chunk_reader.specs.ManyFiles.{HaveNoFault}
 use Rattle.record_join.specs.Joined.{joined}
-use Rattle.record_join.specs.Joins.{IsFrontJoined}
+use Rattle.record_join.specs.Joins.{IsPutOfJoined}
 use Rattle.chunk_reader.proofs.ManyFiles.{files_judged}
 use Rattle.record_join.proofs.JoinedFiles.{joined-no_fault}
 use Rattle.run_answers.specs.declared.ending.Ending.{Ending}
@@ -21,31 +19,15 @@ use Rattle.run_answers.specs.Endings.{IsAllowedEndOfMany, SaysEnd}
 use Rattle.run_answers.specs.FileAnswers.{limit_text, report}
 use Rattle.run_answers.specs.Runs.{SeenStream, SeenFile, seen, seen_file, Breaks, Runs}
 use Rattle.run_answers.proofs.ManyFilesEnds.{MayEndBy, EndsBySizes, ReadsFiles, WentAtEnd, WentToCut, reads_files, runs-files, some_told, went_none, went_noted, went_whole}
-use Rattle.run_answers.proofs.ReportLines.{report-some}
 use Rattle.run_answers.proofs.TwoStreams.{GoOut-both, GoOut-first, GoOut-neither, bytes_to-neither}
 use Rattle.show_files.specs.Readings.{refused_file_text}
 use Rattle.join_files.specs.JoinCommand.{AreTogetherInReach, AreTooLong, IsJoinAnswer, AreToJoin, IsJoinedSoFar, MayEndJoining, MayJoin, join_meaning}
 use Rattle.join_files.specs.JoiningEnds.{TakeJoined, joining_ends}
 use Rattle.join_files.specs.declared.refusals.Refusal.{Refusal}
-use Rattle.join_files.proofs.JoinAnswers.{whole_answer, refused_answer, join_exists, joined-some, joined-some_before}
+use Rattle.join_files.proofs.JoinAnswers.{whole_answer, refused_answer, join_exists}
 use Rattle.run_answers.specs.declared.ending.Cut.TheVariants as cut
 use Rattle.run_answers.specs.declared.ending.Ending.TheVariants as end
 use Rattle.run_answers.specs.declared.status.Status.TheVariants as status
-
--- so many bytes of what some files make, behind which others may come
-broken : (bytes : List ℕ) (rest : List Put) (count : ℕ) → bytes ≢ [] → BreaksOff Made (puts_to Made (take count bytes)) (puts_to Made bytes ++ rest)
-broken bytes rest count some = record { before = []; bytes = bytes; rest = rest; parts = refl; some = some; count = count; broken = refl }
-
--- it is a front
-front_of : (bytes : List ℕ) (rest puts : List Put) (count : ℕ) → puts ≡ puts_to Made bytes ++ rest
-    → (behind : List Put) × (puts ≡ puts_to Made (take count bytes) ++ behind)
-front_of bytes rest puts count parts = (
-  puts_to Made (drop count bytes) ++ rest,
-  parts
-      ∙ ap (λ (bs : List ℕ). puts_to Made bs ++ rest) (sym (take-append-drop count bytes))
-      ∙ ap (λ (ps : List Put). ps ++ rest) (puts_to-append Made (take count bytes) (drop count bytes))
-      ∙ append_assoc (puts_to Made (take count bytes)) (puts_to Made (drop count bytes)) rest,
-)
 
 -- nothing was put yet
 nothing_yet : (all : List (List ℕ)) → AllByRecursion AreBytes all → IsJoinedSoFar all []
@@ -54,8 +36,8 @@ nothing_yet all bytes = elim (files_judged true all bytes) [
   | inr (index, fault, first) ↦ record { front = take index all; are = inr (index, fault, first, refl); count = 0; puts = refl }
 ]
 
--- of the files that are joined so many bytes were put
-pub record PutFront (made made_then : Option (List ℕ)) (all : List (List ℕ)) : Type 0 where
+-- of the files that are joined so many bytes were put, of which Within holds
+pub record PutFront (Within : ℕ → List ℕ → Type 0) (made made_then : Option (List ℕ)) (all : List (List ℕ)) : Type 0 where
   pub front : List (List ℕ)
   pub are : AreToJoin all front
   pub answer : Answer
@@ -63,14 +45,17 @@ pub record PutFront (made made_then : Option (List ℕ)) (all : List (List ℕ))
   pub rest : List Put
   pub parts : answer.puts ≡ puts_to Made (joined front) ++ rest
   pub count : ℕ
+  pub within : Within count (joined front)
   pub took : Takes made made_then (take count (joined front))
 
-front_put : (made made_then : Option (List ℕ)) (all : List (List ℕ)) → AllByRecursion AreBytes all → all ≢ [] → AreTogetherInReach (map length all)
-    → IsFrontJoined all made made_then → PutFront made made_then all
-front_put made made_then all bytes some reach front = elim (files_judged true all bytes) [
+front_put : (P : (before after : Option (List ℕ)) → List ℕ → Type 0) (Within : ℕ → List ℕ → Type 0) (made made_then : Option (List ℕ))
+    → ((bytes : List ℕ) → P made made_then bytes → (count : ℕ) × Within count bytes × Takes made made_then (take count bytes))
+    → (all : List (List ℕ)) → AllByRecursion AreBytes all → all ≢ [] → AreTogetherInReach (map length all)
+    → IsPutOfJoined P all made made_then → PutFront Within made made_then all
+front_put P Within made made_then counted all bytes some reach front = elim (files_judged true all bytes) [
   | inl none ↦
       let whole = joined-no_fault all some none in
-      let count = TakesFront-count made made_then (joined all) (front.of_all none) in
+      let count = counted (joined all) (front.of_all none) in
       record {
         front = all;
         are = inl (none, refl);
@@ -79,10 +64,11 @@ front_put made made_then all bytes some reach front = elim (files_judged true al
         rest = puts_to Out (report (totals_of whole.0));
         parts = refl;
         count = count.0;
-        took = count.1;
+        within = count.1;
+        took = count.2;
       }
   | inr (index, fault, first) ↦
-      let count = TakesFront-count made made_then (joined (take index all)) (front.of_those_before index fault first) in
+      let count = counted (joined (take index all)) (front.of_those_before index fault first) in
       record {
         front = take index all;
         are = inr (index, fault, first, refl);
@@ -91,15 +77,10 @@ front_put made made_then all bytes some reach front = elim (files_judged true al
         rest = puts_to Notes (refused_file_text index fault);
         parts = refl;
         count = count.0;
-        took = count.1;
+        within = count.1;
+        took = count.2;
       }
 ]
-
--- where the first file has no fault, those that are joined make some bytes
-front_some : (all front : List (List ℕ)) → all ≢ [] → HaveNoFault true (take 1 all) → AreToJoin all front → joined front ≢ []
-front_some all front some first (inl (none, is)) = subst (λ (fs : List (List ℕ)). joined fs ≢ []) (sym is) (joined-some all some none)
-front_some all front some first (inr (index, fault, at, is)) =
-    subst (λ (fs : List (List ℕ)). joined fs ≢ []) (sym is) (joined-some_before all index fault first at)
 
 -- so `join` reads its files, and so it may end by their sizes
 reads-join : ReadsFiles join_meaning (λ all. Unit {0}) IsJoinAnswer IsJoinedSoFar
@@ -114,14 +95,14 @@ ends-join = record {
   stop = λ refusal sizes within. inr (inl (within, refusal.index, refusal.fault, refl, refl));
   whole = λ refusal. (tt, λ before after. tt);
   other = λ refusal is. cc is;
-  some = λ refusal is. cc is;
 }
 
 module _ (all : List (List ℕ)) (made made_then out out_then notes : Option (List ℕ)) where
   -- a front of the files went out
-  front_went : (ended : Status) (h : PutFront made made_then all) → Breaks ended (puts_to Made (take h.count (joined h.front))) h.answer.puts
+  front_went : (Within : ℕ → List ℕ → Type 0) (ended : Status) (h : PutFront Within made made_then all)
+      → Breaks ended (puts_to Made (take h.count (joined h.front))) h.answer.puts
       → out_then ≡ out → WentToCut (IsJoinAnswer all) (IsJoinedSoFar all) ended (taken_by made out notes) (taken_by made_then out_then notes)
-  front_went ended h breaks unprinted = record {
+  front_went Within ended h breaks unprinted = record {
     answer = h.answer;
     is = h.is;
     part = puts_to Made (take h.count (joined h.front));
@@ -156,24 +137,28 @@ module _ (all : List (List ℕ)) (made made_then out out_then notes : Option (Li
       went_none (IsJoinAnswer all) (IsJoinedSoFar all) status.File found.0 (taken_by made out notes) (taken_by made_then out_then notes) found.1
       (found.0.puts, refl) (nothing_yet all bytes) (GoOut-neither made made_then out out_then notes same unprinted)
   went-join (Err (end.Cut cut.File)) bytes some sizes (inr (reach, front), unprinted) =
-      let h = front_put made made_then all bytes some reach front in
-      front_went status.File h (front_of (joined h.front) h.rest h.answer.puts h.count h.parts) unprinted
-  went-join (Err (end.Cut cut.Made)) bytes some (used, reach) (first, front, unprinted) =
-      let h = front_put made made_then all bytes some reach front in
-      front_went status.Made h
-      (subst (λ (ps : List Put). BreaksOff Made (puts_to Made (take h.count (joined h.front))) ps) (sym h.parts)
-      (broken (joined h.front) h.rest h.count (front_some all h.front some first h.are)))
+      let Within : ℕ → List ℕ → Type 0 = λ count taken. Unit {0} in
+      let h = front_put TakesFront Within made made_then
+      (λ taken took. let count = TakesFront-count made made_then taken took in (count.0, tt, count.1)) all bytes some reach front in
+      let behind = puts_to-front Made (joined h.front) h.count h.rest in
+      front_went Within status.File h (behind.0, h.parts ∙ behind.1) unprinted
+  went-join (Err (end.Cut cut.Made)) bytes some (used, reach) (short, unprinted) =
+      let Within : ℕ → List ℕ → Type 0 = λ count taken. count < length taken in
+      let h = front_put TakesShort Within made made_then (λ taken took. took) all bytes some reach short in
+      let part : List Put = puts_to Made (take h.count (joined h.front)) in
+      front_went Within status.Made h
+      (subst (λ (ps : List Put). BreaksOff Made part ps) (sym h.parts)
+      (BreaksOff-longer Made part (puts_to Made (joined h.front)) h.rest (BreaksOff-last Made [] (joined h.front) h.count h.within)))
       unprinted
   went-join (Err (end.Cut cut.Out)) bytes some (used, reach) (none, chunks, frame, whole, printed) =
-      let count = TakesFront-count out out_then (report (totals_of chunks)) printed in
-      let last : List ℕ = take count.0 (report (totals_of chunks)) in
+      let last : List ℕ = take printed.0 (report (totals_of chunks)) in
       record {
         answer = whole_answer all chunks;
         is = inr (reach, inl (record { without_fault = none; chunks = chunks; frame = frame; is = refl }));
         part = puts_to Made (joined all) ++ puts_to Out last;
-        breaks = BreaksOff-last Out (puts_to Made (joined all)) (report (totals_of chunks)) count.0 (report-some (totals_of chunks));
+        breaks = BreaksOff-last Out (puts_to Made (joined all)) (report (totals_of chunks)) printed.0 printed.1;
         quiet = bytes_to-neither Notes Made Out (joined all) last refl refl;
-        went = GoOut-both made made_then out out_then notes (joined all) last whole count.1;
+        went = GoOut-both made made_then out out_then notes (joined all) last whole printed.2;
         so_far = λ short. absurd short;
       }
   went-join (Err (end.Cut cut.Input)) bytes some (used, reach) took = absurd (cc used)

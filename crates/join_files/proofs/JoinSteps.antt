@@ -1,10 +1,9 @@
 -- Files that are joined, by how that ended.
-use Rattle.std.proofs.Common.{◌≡◌, ◌∙◌, ℕ, ◌+◌, ◌*◌, ◌≤◌, ◌⊎◌, true, Option, Some, Result, Err, List, length, map, take, refl, sym, ap, subst, inl, inr, arith}
+use Rattle.std.proofs.Common.{◌≡◌, ◌∙◌, ℕ, ◌+◌, ◌*◌, ◌≤◌, Option, Some, Result, Err, List, length, map, refl, sym, ap, subst, inr, arith}
 use Rattle.std.specs.Prelude.{slice_get}
 use Rattle.record_values.specs.declared.file_totals.Totals.{Totals}
-use Rattle.chunk_reader.specs.ManyFiles.{HaveNoFault}
 use Rattle.chunk_reader.specs.declared.reasons.Fault.{Fault}
-use Rattle.record_join.specs.Joins.{AreJoinedUpTo, IsFrontJoined}
+use Rattle.record_join.specs.Joins.{AreJoinedUpTo, IsFrontJoined, IsShortJoined}
 use Rattle.record_join.specs.declared.joins.JoinEnd.{JoinEnd}
 use Rattle.run_answers.specs.declared.ending.Ending.{Ending}
 use Rattle.run_answers.specs.Endings.{HaveTold, IsAllowedEndOfMany}
@@ -30,15 +29,15 @@ may_join handed sizes before after each = λ place x y size was is sized.
 pub took-ended : (X : Type 0) (result : Result Totals JoinEnd) (e : JoinEnd) (why : Ending Refusal) (made made_then out : Option (List ℕ)) (all : List (List ℕ))
     → result ≡ Err e → why ≡ end_of_join e → AreTogetherInReach (map length all)
     → ((index : ℕ) (fault : Fault) → result ≡ Err (join.Refused index fault) → AreJoinedUpTo all index fault made made_then)
-    → ((result ≡ Err join.Store) ⊎ (result ≡ Err join.Made) → IsFrontJoined all made made_then)
-    → (result ≡ Err join.Made → HaveNoFault true (take 1 all))
+    → (result ≡ Err join.Store → IsFrontJoined all made made_then)
+    → (result ≡ Err join.Made → IsShortJoined all made made_then)
     → TakeJoined {X = X} (Err why) all made made_then out out
-took-ended X result e why made made_then out all ended is reach refused front first =
+took-ended X result e why made made_then out all ended is reach refused front short =
     subst (λ (w : Ending Refusal). TakeJoined {X = X} (Err w) all made made_then out out) (sym is) (by_end e ended) where
       by_end : (e : JoinEnd) → result ≡ Err e → TakeJoined {X = X} (Err (end_of_join e)) all made made_then out out
       by_end (join.Refused index fault) ended = (refused index fault ended, refl)
-      by_end join.Store ended = (inr (reach, front (inl ended)), refl)
-      by_end join.Made ended = (first ended, front (inr ended), refl)
+      by_end join.Store ended = (inr (reach, front ended), refl)
+      by_end join.Made ended = (short ended, refl)
 
 -- and what the files told then
 pub sized-ended : (X : Type 0) (e : JoinEnd) (why : Ending Refusal) (told : List (Option ℕ)) → why ≡ end_of_join e

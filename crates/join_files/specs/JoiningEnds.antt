@@ -1,12 +1,12 @@
 -- How the work of `join` ends. Own.
-use Rattle.std.specs.Prelude.{◌≡◌, ℕ, ◌⊎◌, true, Option, Result, Ok, Err, List, length, map, take}
-use Rattle.record_io.specs.Outside.{Takes, TakesFront}
+use Rattle.std.specs.Prelude.{◌≡◌, ℕ, ◌⊎◌, true, Option, Result, Ok, Err, List, length, map}
+use Rattle.record_io.specs.Outside.{Takes, TakesShort}
 use Rattle.chunk_header.specs.Chunks.{ChunkValue}
 use Rattle.meta_chunk.specs.Counts.{totals_of}
 use Rattle.meta_chunk.specs.Files.{IsFrame}
 use Rattle.chunk_reader.specs.ManyFiles.{HaveNoFault}
 use Rattle.record_join.specs.Joined.{joined}
-use Rattle.record_join.specs.Joins.{AreJoinedUpTo, IsFrontJoined}
+use Rattle.record_join.specs.Joins.{AreJoinedUpTo, IsFrontJoined, IsShortJoined}
 use Rattle.record_join.specs.declared.joins.JoinEnd.{JoinEnd}
 use Rattle.run_answers.specs.Endings.{Endings}
 use Rattle.run_answers.specs.FileAnswers.{report}
@@ -45,7 +45,6 @@ TakeJoined (Ok x) files made made_then out out_then = AreReported Takes files ma
 TakeJoined (Err (end.At refusal)) files made made_then out out_then = AreJoinedUpTo files refusal.index refusal.fault made made_then × (out_then ≡ out)
 TakeJoined (Err (end.Cut cut.File)) files made made_then out out_then =
     ((made_then ≡ made) ⊎ (AreTogetherInReach (map length files) × IsFrontJoined files made made_then)) × (out_then ≡ out)
-TakeJoined (Err (end.Cut cut.Made)) files made made_then out out_then =
-    HaveNoFault true (take 1 files) × IsFrontJoined files made made_then × (out_then ≡ out)
-TakeJoined (Err (end.Cut cut.Out)) files made made_then out out_then = AreReported TakesFront files made made_then out out_then
+TakeJoined (Err (end.Cut cut.Made)) files made made_then out out_then = IsShortJoined files made made_then × (out_then ≡ out)
+TakeJoined (Err (end.Cut cut.Out)) files made made_then out out_then = AreReported TakesShort files made made_then out out_then
 TakeJoined (Err other) files made made_then out out_then = (made_then ≡ made) × (out_then ≡ out)

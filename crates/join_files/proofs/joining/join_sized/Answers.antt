@@ -12,7 +12,7 @@ returns-in-Err-clause-joined g c = λ all its.
     took-ended (Unit {0}) (Err c.in-Err.end) c.in-Err.end c.end_of_join.result (g.M.Sink.taken c.args.made.now) (g.M.Sink.taken c.join.new.made)
     (g.O.Sink.taken c.args.out.now) all refl c.end_of_join.ensures (subst AreTogetherInReach sizes c.requires.in_reach)
     (λ index fault ended. c.in-Err.ensures.refused index fault ended all its) (λ ended. c.in-Err.ensures.front ended all its)
-    (λ ended. c.in-Err.ensures.sound_first ended all its)
+    (λ ended. c.in-Err.ensures.short ended all its)
 
 pub returns-in-Err-clause-sized : goal.returns-in-Err-clause-sized
 returns-in-Err-clause-sized g c =
