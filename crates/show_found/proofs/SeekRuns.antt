@@ -1,5 +1,5 @@
 -- How a run of `seek` ends, by how its work ended.
-use Rattle.std.proofs.Common.{◌≡◌, [], refl, inl, inr}
+use Rattle.std.proofs.Common.{◌≡◌, refl, inl, inr}
 use Rattle.run_answers.proofs.FileEnds.{EndsWhole, MayEndInReach}
 use Rattle.run_answers.proofs.FileRuns.{ReadsFile, reads_file}
 use Rattle.show_files.proofs.ReadingRuns.{IsReading}
@@ -22,10 +22,6 @@ unfound_other : (why : Unfound) → ¬ (unfound_status why ≡ status.Ok)
 unfound_other unfound.Nothing is = cc is
 unfound_other (unfound.Refused fault) is = cc is
 
-unfound_some : (why : Unfound) → ¬ (unfound_text why ≡ [])
-unfound_some unfound.Nothing is = cc is
-unfound_some (unfound.Refused fault) is = cc is
-
 unfound_may_end : (words : SeekWords) (why : Unfound) → MayEndInReach (seek_meaning words) (unfound_status why) (unfound_text why)
 unfound_may_end words unfound.Nothing = λ sizes reach. inr (reach, refl, refl)
 unfound_may_end words (unfound.Refused fault) = λ sizes reach. inl (inr (inl (reach, fault, refl, refl)))
@@ -37,7 +33,6 @@ seek_reads words = record {
     too_long = λ sizes long. inl (inr (inr (long, refl, refl)));
     whole = unfound_whole words;
     other = unfound_other;
-    some = unfound_some;
   };
   done = λ x. (λ sizes reach. inl (inl (reach, refl, refl)), (tt, λ before after. tt));
   at = unfound_may_end words;

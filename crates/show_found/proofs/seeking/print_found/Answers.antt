@@ -1,8 +1,7 @@
-use Rattle.std.proofs.Common.{Some, None, Ok, Err, [], ap, refl}
+use Rattle.std.proofs.Common.{Some, None, Ok, Err, ap, refl}
 use Rattle.record_io.specs.Puts.{taken_by}
 use Rattle.run_answers.specs.declared.ending.Cut.TheVariants.{Out}
 use Rattle.run_answers.proofs.FileEnds.{nothing-put, unsized-put, end-flushed, end-unflushed}
-use Rattle.show_files.proofs.LinePuts.{line-some}
 use Rattle.show_files.proofs.ShowSteps.{short_told}
 use Rattle.show_found.specs.SeekCommand.{IsSeekAnswer}
 use Rattle.show_found.specs.SeekEnds.{seek_ends}
@@ -45,4 +44,4 @@ returns-clause-printed g c = λ made notes.
     end-unflushed seek_ends (IsSeekAnswer c.args.words.now) (Ok (tt {0})) Out refl _ _ (taken_by made (g.O.Sink.taken c.args.out.now) notes) made _ _ notes _ refl
     (found-held c.args.words.now _ _ _ c.in_ok-size.ensures.same_bytes c.in-Ok-Some.found
     (short_told _ c.in_ok-size.size c.in_ok-size.ensures.in_reach c.in_ok-size.ensures.exact) (gives-is c.args.words.now.by _ _ (Some c.in-Ok-Some.found) c.in-Ok-Some.field-0-is c.in-Ok-Some.ensures.gives))
-    c.in-Err.ensures.front (line-some [] _)
+    c.in-Err.ensures.front
