@@ -1,4 +1,4 @@
-ghost use Rattle.std.specs.Prelude.{◌≡◌, ℕ, ◌+◌, ◌*◌, ◌^◌, ◌<◌, ◌≤◌, ◌⊎◌, ◌++◌, true, Some, Err, IfOk, IfSome, List, length, slice_get};
+ghost use Rattle.std.specs.Prelude.{◌≡◌, ℕ, ◌+◌, ◌*◌, ◌^◌, ◌<◌, ◌≤◌, ◌⊎◌, ◌++◌, true, Some, Err, IfOk, IfSome, List, length, slice_get, take};
 ghost use Rattle.record_io.specs.Outside.{Takes};
 ghost use Rattle.record_io.specs.Calls.{OnlyAsks, OnlyCounts};
 ghost use Rattle.meta_chunk.specs.Files.{end_of_chunks};
@@ -7,7 +7,7 @@ ghost use Rattle.ordered_writer.specs.Writers.{padding_bytes};
 ghost use Rattle.chunk_reader.specs.Faults.{IsFault};
 ghost use Rattle.chunk_reader.specs.Progress.{AreInBounds};
 ghost use Rattle.chunk_reader.specs.declared.reasons.Fault.{Fault};
-ghost use Rattle.chunk_reader.specs.ManyFiles.{IsFirstFault};
+ghost use Rattle.chunk_reader.specs.ManyFiles.{HaveNoFault, IsFirstFault};
 ghost use Rattle.record_join.specs.Joined.{joined_at_most, totals_joined};
 ghost use Rattle.record_io.specs.ManyStores.{AreOnlyAsked, AreTold, IfAllTell};
 ghost use Rattle.record_join.specs.Joins.{AreJoined, AreJoinedUpTo, AreTotalsWith, IsFrontJoined, IsFrontPut, IsShortJoined, IsShortPut};
@@ -81,6 +81,7 @@ pub fn join<S: Store, M: Sink>(
         → IfAllTell S.bytes stores.old (λ files. IsFrontJoined files (M.taken made.old) (M.taken made.new)) }
     ensures short { result ≡ Err JoinEnd.Made
         → IfAllTell S.bytes stores.old (λ files. IsShortJoined files (M.taken made.old) (M.taken made.new)) }
+    ensures sound_first { result ≡ Err JoinEnd.Made → IfAllTell S.bytes stores.old (λ files. HaveNoFault true (take 1 files)) }
     ensures totals { IfOk result (λ totals. AreInBounds (joined_at_most sizes.now) totals) }
     ensures handed { (place : ℕ) (a b : S) (size : ℕ)
         → slice_get stores.old place ≡ Some a → slice_get stores.new place ≡ Some b → slice_get sizes.now place ≡ Some size

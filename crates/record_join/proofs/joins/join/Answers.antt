@@ -12,7 +12,7 @@ use Rattle.record_join.specs.declared.joins.JoinEnd.TheVariants as end
 use Rattle.record_io.proofs.ManyStores.{as_many, none_asked, one_asked, same_bytes, same_told, tells_at}
 use Rattle.record_join.proofs.HandedOut.{HandOut-more}
 use Rattle.record_join.proofs.Behind.{on_boundary}
-use Rattle.chunk_reader.proofs.ManyFiles.{first_or_none}
+use Rattle.chunk_reader.proofs.ManyFiles.{first_or_none, first_without}
 use Rattle.record_join.proofs.Steps.{AreJoined-all, AreJoinedUpTo-fault, IsFrontJoined-failed, IsShortJoined-failed, JoinedSoFar-more, ended_at_first, fits_more}
 use Rattle.record_join.proofs.joins.join.Goals as goal
 use Rattle.record_join.proofs.joins.join.Goals.{After-index-stores-index, In_err-totals}
@@ -122,6 +122,18 @@ returns-in_err-totals-clause-short g c =
     IsShortPut (padding_bytes c.loop-index.totals.bytes) f (g.M.Sink.taken c.loop-index.made) (g.M.Sink.taken c.join_file.new.made)) in
     IsShortJoined-failed files c.loop-index.index its.0 c.loop-index.totals (g.M.Sink.taken c.args.made.now) (g.M.Sink.taken c.loop-index.made) _
     its.1 (subst P its.2 short) (c.loop-index.invariant.joined files told)
+
+pub returns-in_err-totals-clause-sound_first : goal.returns-in_err-totals-clause-sound_first
+returns-in_err-totals-clause-sound_first g c =
+    λ failed files told.
+    let at = (goal.at.returns-in_err-totals-clause-sound_first g c).After-index-stores-index in
+    let p = err_from_is_err_and c.from_residual.result c.from_residual.ensures.1 in
+    let its = file g at files told in
+    let short = c.in_err-totals.ensures.short (sym (p.1 ∙ ap Err p.2) ∙ failed) in
+    let P : Option (List ℕ) → Type 0 = λ o. IfSome o (λ f.
+    IsShortPut (padding_bytes c.loop-index.totals.bytes) f (g.M.Sink.taken c.loop-index.made) (g.M.Sink.taken c.join_file.new.made)) in
+    let placed : IsShortPut (padding_bytes c.loop-index.totals.bytes) its.0 (g.M.Sink.taken c.loop-index.made) (g.M.Sink.taken c.join_file.new.made) = subst P its.2 short in
+    first_without true files c.loop-index.index its.0 its.1 placed.0 (c.loop-index.invariant.joined files told).without_fault
 
 pub returns-in_err-totals-clause-handed : goal.returns-in_err-totals-clause-handed
 returns-in_err-totals-clause-handed g c =
