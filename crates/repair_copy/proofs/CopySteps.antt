@@ -1,20 +1,19 @@
 -- The steps of copying a file, whatever the file tells.
-use Rattle.std.proofs.Common.{◌≡◌, ◌≢◌, ◌∙◌, ℕ, ◌+◌, ◌*◌, ◌^◌, ◌<◌, ◌≤◌, true, false, Option, None, Result, Ok, Err, List, [], ◌∷◌, ◌++◌, length, take, drop, refl, sym, ap, subst, inl, inr, arith, append_assoc, length-append}
+use Rattle.std.proofs.Common.{◌≡◌, ◌≢◌, ◌∙◌, ℕ, ◌+◌, ◌*◌, ◌^◌, ◌≤◌, true, false, Option, None, Result, Ok, Err, List, [], ◌∷◌, ◌++◌, length, take, drop, refl, sym, ap, subst, inl, inr, arith, append_assoc, length-append}
 use Rattle.std.proofs.lemmas.Bool.{cases_Bool, cond-true, cond-false}
 use Rattle.std.specs.List.{cons_option}
 use Rattle.std.proofs.lemmas.List.{append-nil, take-append-drop}
-use Rattle.record_io.specs.Outside.{Rose, Takes, TakesFront}
+use Rattle.record_io.specs.Outside.{Rose, Takes, TakesShort}
 use Rattle.record_io.specs.declared.outside.Failed.{Failed}
 use Rattle.std.specs.Result.{OnOk, OnErr, IsErr, is_err}
 use Rattle.record_group.proofs.Signed.{end_of_chunk-signature}
 use Rattle.record_io.specs.Buffers.{TakesAndHolds}
 use Rattle.record_io.specs.Puts.{Made, Notes, Put, Taken, taken_by, puts_to, GoOut, GoOutOrAreHeld, BreaksOff}
-use Rattle.record_io.proofs.Puts.{puts_to-append, GoOut-append, GoOut-made, GoOut-notes, TakesFront-count, BreaksOff-last, BreaksOff-longer}
+use Rattle.record_io.proofs.Calls.{TakesShort-some}
+use Rattle.record_io.proofs.Puts.{puts_to-append, GoOut-append, GoOut-made, GoOut-notes, BreaksOff-last, BreaksOff-longer}
 use Rattle.chunk_header.specs.Chunks.{ChunkValue}
 use Rattle.chunk_header.specs.Views.{value_of_chunk}
 use Rattle.meta_chunk.specs.Files.{signature, end_of_chunks, laid_each}
-use Rattle.meta_chunk.proofs.Joins.{length-laid_each}
-use Rattle.meta_chunk.proofs.LaidChunks.{end_of_chunk_after}
 use Rattle.chunk_reader.proofs.Verdicts.{is_unread-plain}
 use Rattle.record_writer.specs.MadeFiles.{MadeFileValue, Lays, LaysFront, nothing_made, totals_made}
 use Rattle.record_writer.proofs.Layings.{Lays-append}
@@ -65,11 +64,6 @@ puts_of-line s p none =
     ap (λ (ks : List ChunkValue). puts_to Made s.held ++ (puts_to Made (laid_each s.place ks) ++ (puts_to Notes (told_text (region_of p)) ++ []))) none
     ∙ ap (λ (xs : List Put). puts_to Made s.held ++ xs) (append-nil (puts_to Notes (told_text (region_of p))))
 
--- bytes of chunks are some
-some_laid : (held : List ℕ) (place : ℕ) (ks : List ChunkValue) → place < end_of_chunks place ks → held ++ laid_each place ks ≢ []
-some_laid held place ks past = λ none.
-    omega (arith, ap length none, length-append held (laid_each place ks), length-laid_each place ks, past)
-
 -- a chunk was put
 pub chunk_put : (a b n : Option (List ℕ)) (s t : Copied) (p : Piece) (k : ChunkValue) → chunk_in p.what ≡ k ∷ [] → region_of p ≡ None
     → Lays a b s.file t.file (k ∷ []) → t.begun ≡ s.begun → t.regions ≡ s.regions
@@ -85,17 +79,17 @@ chunk_put a b n s t p k one none lays begun counted = record {
 }
 
 -- or not whole
-pub chunk_failed : (a b n : Option (List ℕ)) (s t : MadeFileValue) (p : Piece) (k : ChunkValue) → chunk_in p.what ≡ k ∷ [] → region_of p ≡ None
-    → LaysFront a b s t (k ∷ []) → (c : FailedSink) → cut.Made ≡ c
+pub chunk_failed : {Fails : Type 0} (a b n : Option (List ℕ)) (s t : MadeFileValue) (p : Piece) (k : ChunkValue) → chunk_in p.what ≡ k ∷ [] → region_of p ≡ None
+    → LaysFront Fails a b s t (k ∷ []) → Fails → (c : FailedSink) → cut.Made ≡ c
     → CopiesFront c (taken_by a None n) (taken_by b None n) s p
-chunk_failed a b n s t p k one none front c is =
+chunk_failed a b n s t p k one none front fails c is =
     subst (λ (x : FailedSink). CopiesFront x (taken_by a None n) (taken_by b None n) s p) is (record {
       part = puts_to Made front.bytes.passed;
       went = GoOut-made a b None n front.bytes.passed front.bytes.taken;
       broken = subst (λ (ps : List Put). BreaksOff Made (puts_to Made front.bytes.passed) ps) (sym (puts_of-chunk s p none))
           (subst (λ (ks : List ChunkValue). BreaksOff Made (puts_to Made front.bytes.passed) (puts_to Made (s.held ++ laid_each s.place ks))) (sym one)
-          (breaks_off-front Made (s.held ++ laid_each s.place (k ∷ [])) front.bytes.passed (t.held ++ front.bytes.rest) front.bytes.parts
-          (some_laid s.held s.place (k ∷ []) (omega (arith, end_of_chunk_after s.place k)))));
+          (breaks_off-front Made (s.held ++ laid_each s.place (k ∷ [])) front.bytes.passed t.held front.bytes.rest front.bytes.parts
+          (front.bytes.short fails)));
     })
 
 -- a line was put, behind what was held
@@ -119,31 +113,29 @@ line_put a b n m s t p none one going taken held line begun counted = record {
 }
 
 -- or what was held before it was not put whole
-pub flush_failed : (a b n : Option (List ℕ)) (s : MadeFileValue) (p : Piece) → chunk_in p.what ≡ [] → s.held ≢ [] → TakesFront a b s.held
+pub flush_failed : (a b n : Option (List ℕ)) (s : MadeFileValue) (p : Piece) → chunk_in p.what ≡ [] → TakesShort a b s.held
     → (c : FailedSink) → cut.Made ≡ c → CopiesFront c (taken_by a None n) (taken_by b None n) s p
-flush_failed a b n s p none some front c is =
-    let took = TakesFront-count a b s.held front in
+flush_failed a b n s p none short c is =
     subst (λ (x : FailedSink). CopiesFront x (taken_by a None n) (taken_by b None n) s p) is (record {
-      part = puts_to Made (take took.0 s.held);
-      went = GoOut-made a b None n (take took.0 s.held) took.1;
-      broken = subst (λ (ps : List Put). BreaksOff Made (puts_to Made (take took.0 s.held)) ps) (sym (puts_of-line s p none))
-          (BreaksOff-longer Made (puts_to Made (take took.0 s.held)) (puts_to Made s.held) (puts_to Notes (told_text (region_of p)))
-          (BreaksOff-last Made [] s.held took.0 some));
+      part = puts_to Made (take short.0 s.held);
+      went = GoOut-made a b None n (take short.0 s.held) short.2;
+      broken = subst (λ (ps : List Put). BreaksOff Made (puts_to Made (take short.0 s.held)) ps) (sym (puts_of-line s p none))
+          (BreaksOff-longer Made (puts_to Made (take short.0 s.held)) (puts_to Made s.held) (puts_to Notes (told_text (region_of p)))
+          (BreaksOff-last Made [] s.held short.0 short.1));
     })
 
 -- or the line itself
 pub line_failed : (a b n m : Option (List ℕ)) (s : MadeFileValue) (p : Piece) → chunk_in p.what ≡ [] → Takes a b s.held
-    → told_text (region_of p) ≢ [] → TakesFront n m (told_text (region_of p)) → (c : FailedSink) → cut.Notes ≡ c
+    → TakesShort n m (told_text (region_of p)) → (c : FailedSink) → cut.Notes ≡ c
     → CopiesFront c (taken_by a None n) (taken_by b None m) s p
-line_failed a b n m s p none taken some front c is =
+line_failed a b n m s p none taken short c is =
     let line : List ℕ = told_text (region_of p) in
-    let took = TakesFront-count n m line front in
     subst (λ (x : FailedSink). CopiesFront x (taken_by a None n) (taken_by b None m) s p) is (record {
-      part = puts_to Made s.held ++ puts_to Notes (take took.0 line);
-      went = GoOut-append (taken_by a None n) (taken_by b None n) (taken_by b None m) (puts_to Made s.held) (puts_to Notes (take took.0 line))
-          (GoOut-made a b None n s.held taken) (GoOut-notes b None n m (take took.0 line) took.1);
-      broken = subst (λ (ps : List Put). BreaksOff Notes (puts_to Made s.held ++ puts_to Notes (take took.0 line)) ps) (sym (puts_of-line s p none))
-          (BreaksOff-last Notes (puts_to Made s.held) line took.0 some);
+      part = puts_to Made s.held ++ puts_to Notes (take short.0 line);
+      went = GoOut-append (taken_by a None n) (taken_by b None n) (taken_by b None m) (puts_to Made s.held) (puts_to Notes (take short.0 line))
+          (GoOut-made a b None n s.held taken) (GoOut-notes b None n m (take short.0 line) short.2);
+      broken = subst (λ (ps : List Put). BreaksOff Notes (puts_to Made s.held ++ puts_to Notes (take short.0 line)) ps) (sym (puts_of-line s p none))
+          (BreaksOff-last Notes (puts_to Made s.held) line short.0 short.1);
     })
 
 -- once the signature was put, the file is begun
@@ -167,11 +159,11 @@ has_begun before a b n s t events (inr (h, some)) (inl (begun, same, made)) =
 has_begun before a b n s t events (inr (h, some)) (inr (unbegun, begun, counted, lays)) = cc (h.begun, unbegun)
 
 -- or that was cut off
-pub begin_failed : (before : Taken) (a b n : Option (List ℕ)) (s : Copied) (t : MadeFileValue) (events more : List Piece)
-    → HasCopied before (taken_by a None n) s events → s.begun ≡ false → LaysFront a b nothing_made t (signature ∷ [])
+pub begin_failed : {Fails : Type 0} (before : Taken) (a b n : Option (List ℕ)) (s : Copied) (t : MadeFileValue) (events more : List Piece)
+    → HasCopied before (taken_by a None n) s events → s.begun ≡ false → LaysFront Fails a b nothing_made t (signature ∷ []) → Fails
     → (c : FailedSink) → cut.Made ≡ c → HasCopiedFront c before (taken_by b None n) (events ++ more)
-begin_failed before a b n s t events more (inr (h, some)) unbegun front c is = cc (h.begun, unbegun)
-begin_failed before a b n s t events more (inl h) unbegun front c is =
+begin_failed before a b n s t events more (inr (h, some)) unbegun front fails c is = cc (h.begun, unbegun)
+begin_failed before a b n s t events more (inl h) unbegun front fails c is =
     let bytes : List ℕ = laid_each 0 (signature ∷ []) in
     subst (λ (x : FailedSink). HasCopiedFront x before (taken_by b None n) (events ++ more)) is
     (subst (λ (es : List Piece). HasCopiedFront cut.Made before (taken_by b None n) (es ++ more)) (sym h.none)
@@ -179,8 +171,7 @@ begin_failed before a b n s t events more (inl h) unbegun front c is =
       part = puts_to Made front.bytes.passed;
       went = GoOut-made a b None n front.bytes.passed front.bytes.taken;
       broken = BreaksOff-longer Made (puts_to Made front.bytes.passed) (puts_to Made bytes) (puts_from (end_of_chunks 0 (signature ∷ [])) more)
-          (breaks_off-front Made bytes front.bytes.passed (t.held ++ front.bytes.rest) front.bytes.parts
-          (some_laid [] 0 (signature ∷ []) (omega (arith, end_of_chunk-signature))));
+          (breaks_off-front Made bytes front.bytes.passed t.held front.bytes.rest front.bytes.parts (front.bytes.short fails));
     })))
 
 -- what is put of one event more
@@ -236,26 +227,23 @@ put_all before a b n s t events h taken totals counted = record {
 
 -- or a front did, and what is left is held
 flush_broke : (before : Taken) (a b n : Option (List ℕ)) (ps : List Put) (held : List ℕ) (h : GoOutOrAreHeld before (taken_by a None n) Made ps held)
-    → TakesFront a b held → held ≢ []
+    → TakesShort a b held
     → (part : List Put) × GoOut before (taken_by b None n) part × BreaksOff Made part ps × (rest : List ℕ) × (ps ≡ part ++ puts_to Made rest)
-flush_broke before a b n ps held h front some =
-    let took = TakesFront-count a b held front in
-    let all : ps ≡ h.passed ++ (puts_to Made held ++ []) = h.parts ∙ ap (λ (xs : List Put). h.passed ++ xs) (sym (append-nil (puts_to Made held))) in (
-      h.passed ++ puts_to Made (take took.0 held),
-      GoOut-append before (taken_by a None n) (taken_by b None n) h.passed (puts_to Made (take took.0 held)) h.went
-          (GoOut-made a b None n (take took.0 held) took.1),
-      record { before = h.passed; bytes = held; rest = []; parts = all; some = some; count = took.0; broken = refl },
-      drop took.0 held,
-      h.parts
-          ∙ ap (λ (xs : List ℕ). h.passed ++ puts_to Made xs) (sym (take-append-drop took.0 held))
-          ∙ ap (λ (xs : List Put). h.passed ++ xs) (puts_to-append Made (take took.0 held) (drop took.0 held))
-          ∙ sym (append_assoc h.passed (puts_to Made (take took.0 held)) (puts_to Made (drop took.0 held))),
-    )
+flush_broke before a b n ps held h (count, less, took) = (
+  h.passed ++ puts_to Made (take count held),
+  GoOut-append before (taken_by a None n) (taken_by b None n) h.passed (puts_to Made (take count held)) h.went (GoOut-made a b None n (take count held) took),
+  subst (λ (xs : List Put). BreaksOff Made (h.passed ++ puts_to Made (take count held)) xs) (sym h.parts) (BreaksOff-last Made h.passed held count less),
+  drop count held,
+  h.parts
+      ∙ ap (λ (xs : List ℕ). h.passed ++ puts_to Made xs) (sym (take-append-drop count held))
+      ∙ ap (λ (xs : List Put). h.passed ++ xs) (puts_to-append Made (take count held) (drop count held))
+      ∙ sym (append_assoc h.passed (puts_to Made (take count held)) (puts_to Made (drop count held))),
+)
 
 finish_failed : (before : Taken) (a b n : Option (List ℕ)) (s : Copied) (events : List Piece) → HasBegun before (taken_by a None n) s events
-    → s.file.held ≢ [] → TakesFront a b s.file.held → HasCopiedFront cut.Made before (taken_by b None n) events
-finish_failed before a b n s events h some front =
-    let broke = flush_broke before a b n (repair_puts events) s.file.held h.puts front some in
+    → TakesShort a b s.file.held → HasCopiedFront cut.Made before (taken_by b None n) events
+finish_failed before a b n s events h short =
+    let broke = flush_broke before a b n (repair_puts events) s.file.held h.puts short in
     record { part = broke.0; went = broke.1; broken = broke.2 }
 
 -- so it is behind the signature
@@ -267,13 +255,12 @@ finish_whole (Err failed) a b c s t u begins taken totals counted = tt
 finish_whole (Ok done) a b c s t u begins taken totals counted =
     λ before n events h. put_all before b c n t u events (has_begun before a b n s t events h begins) taken totals counted
 
-pub finish_front : (r : Result (Unit {0}) Failed) (a b c : Option (List ℕ)) (s t : Copied) → Begins a b s t → OnErr r (TakesFront b c t.file.held)
-    → OnErr r (t.file.held ≢ [])
+pub finish_front : (r : Result (Unit {0}) Failed) (a b c : Option (List ℕ)) (s t : Copied) → Begins a b s t → OnErr r (TakesShort b c t.file.held)
     → OnErr r ((before : Taken) (n : Option (List ℕ)) (events : List Piece) → HasCopied before (taken_by a None n) s events
     → HasCopiedFront cut.Made before (taken_by c None n) events)
-finish_front (Ok done) a b c s t begins front some = tt
-finish_front (Err failed) a b c s t begins front some =
-    λ before n events h. finish_failed before b c n t events (has_begun before a b n s t events h begins) some front
+finish_front (Ok done) a b c s t begins short = tt
+finish_front (Err failed) a b c s t begins short =
+    λ before n events h. finish_failed before b c n t events (has_begun before a b n s t events h begins) short
 
 -- what holds where a call failed, and where it didn't
 pub where_failed : {X E P : Type 0} (result : Result X E) → is_err result ≡ true → OnErr result P → P
@@ -295,23 +282,24 @@ front_at_fault f g [] part rest some rose is = absurd (some refl)
 front_at_fault f g (e ∷ events) part rest some rose is = inr (rose, rest, is)
 
 pub put_at_fault : (result : Result (Unit {0}) Failed) (before : Taken) (a b n : Option (List ℕ)) (s : Copied) (events : List Piece) (f g : ℕ)
-    → OnOk result (Takes a b s.file.held) → OnErr result (TakesFront a b s.file.held) → OnErr result (s.file.held ≢ []) → (IsErr result → Rose f g)
+    → OnOk result (Takes a b s.file.held) → OnErr result (TakesShort a b s.file.held) → (IsErr result → Rose f g)
     → HasCopied before (taken_by a None n) s events → HasPutAtFault f g before (taken_by b None n) events
-put_at_fault (Ok done) before a b n s events f g whole front some rose (inl h) =
+put_at_fault (Ok done) before a b n s events f g whole short rose (inl h) =
     subst (λ (es : List Piece). HasPutAtFault f g before (taken_by b None n) es) (sym h.none)
     (subst (λ (x : Taken). HasPutAtFault f g x (taken_by b None n) []) h.same (record {
       part = [];
       went = refl;
       took = GoOut-made a b None n [] (subst (λ (p : MadeFileValue). Takes a b p.held) h.file whole);
     }))
-put_at_fault (Ok done) before a b n s events f g whole front some rose (inr (h, more)) = record {
+put_at_fault (Ok done) before a b n s events f g whole short rose (inr (h, more)) = record {
   part = repair_puts events;
   went = all_at_fault f g events more;
   took = held_flushed before a b n (repair_puts events) s.file.held h.puts whole;
 }
-put_at_fault (Err failed) before a b n s events f g whole front some rose (inl h) = absurd (some (ap (λ (p : MadeFileValue). p.held) h.file))
-put_at_fault (Err failed) before a b n s events f g whole front some rose (inr (h, more)) =
-    let broke = flush_broke before a b n (repair_puts events) s.file.held h.puts front some in
+put_at_fault (Err failed) before a b n s events f g whole short rose (inl h) =
+    absurd (TakesShort-some a b s.file.held short (ap (λ (p : MadeFileValue). p.held) h.file))
+put_at_fault (Err failed) before a b n s events f g whole short rose (inr (h, more)) =
+    let broke = flush_broke before a b n (repair_puts events) s.file.held h.puts short in
     record { part = broke.0; went = front_at_fault f g events broke.0 broke.3 more (rose refl) broke.4; took = broke.1 }
 
 -- the next chunk is laid behind what was made

@@ -1,5 +1,5 @@
 -- What is put behind what a made file holds.
-use Rattle.std.proofs.Common.{◌≡◌, ◌≢◌, ◌∙◌, ℕ, Option, None, List, [], ◌++◌, length, take, sym, ap, subst, append_assoc}
+use Rattle.std.proofs.Common.{◌≡◌, ◌≢◌, ◌∙◌, ℕ, Option, None, List, [], ◌∷◌, ◌++◌, length, length-append, take, refl, sym, ap, subst, append_assoc, arith}
 use Rattle.std.proofs.Math.Seq.{take-append_seam}
 use Rattle.record_io.specs.Outside.{Takes}
 use Rattle.record_io.specs.Buffers.{TakesAndHolds}
@@ -26,12 +26,15 @@ held_broken s a b ps part qs held h broken =
     (sym (append_assoc h.passed (puts_to Made held) qs) ∙ ap (λ (xs : List Put). xs ++ qs) (sym h.parts))
     (BreaksOff-behind s h.passed part (puts_to Made held ++ qs) broken)
 
--- a front of bytes to one stream
-pub breaks_off-front : (s : Stream) (bytes front rest : List ℕ) → bytes ≡ front ++ rest → bytes ≢ [] → BreaksOff s (puts_to s front) (puts_to s bytes)
-breaks_off-front s bytes front rest is some =
+-- a front of bytes to one stream, behind which some are held and others follow
+pub breaks_off-front : (s : Stream) (bytes front held rest : List ℕ) → bytes ≡ front ++ (held ++ rest) → rest ≢ []
+    → BreaksOff s (puts_to s front) (puts_to s bytes)
+breaks_off-front s bytes front held [] is some = absurd (some refl)
+breaks_off-front s bytes front held (b ∷ rest) is some =
     subst (λ (xs : List ℕ). BreaksOff s (puts_to s xs) (puts_to s bytes))
-    (ap (λ (xs : List ℕ). take (length front) xs) is ∙ take-append_seam front rest)
-    (BreaksOff-last s [] bytes (length front) some)
+    (ap (λ (xs : List ℕ). take (length front) xs) is ∙ take-append_seam front (held ++ b ∷ rest))
+    (BreaksOff-last s [] bytes (length front)
+    (omega (arith, ap length is, length-append front (held ++ b ∷ rest), length-append held (b ∷ rest))))
 
 -- what the made file took and holds
 pub held_made : (a b notes : Option (List ℕ)) (bytes held : List ℕ) → TakesAndHolds a b bytes held

@@ -1,10 +1,10 @@
 -- The regions that are passed over, whatever the store tells.
-use Rattle.std.proofs.Common.{◌≡◌, ◌≢◌, ℕ, ◌+◌, ◌^◌, ◌≤◌, Bool, true, Option, Result, Err, List, [], ◌∷◌, ◌++◌, length, length-append, refl, sym, subst, append-nil, arith}
+use Rattle.std.proofs.Common.{◌≡◌, ℕ, ◌+◌, ◌^◌, ◌≤◌, Bool, true, Option, Result, Err, List, [], ◌∷◌, ◌++◌, length, length-append, refl, sym, subst, append-nil, arith}
 use Rattle.std.specs.List.{AllByRecursion}
 use Rattle.std.specs.Fn.{Shared, FnReturnsAt}
 use denote.Ref.{Bor}
-use Rattle.record_io.specs.Outside.{Takes, TakesFront}
-use Rattle.record_io.proofs.Calls.{Takes-append, TakesFront-append}
+use Rattle.record_io.specs.Outside.{Takes, TakesShort}
+use Rattle.record_io.proofs.Calls.{Takes-append, TakesShort-append}
 use Rattle.damage_skip.specs.Policies.{IsAllowedRegion}
 use Rattle.damage_skip.specs.Regions.{regions_in, skipped_text}
 use Rattle.damage_skip.specs.Walks.{piece_of, event_text, IsEventIn}
@@ -22,11 +22,6 @@ use Rattle.damage_skip.proofs.RegionsIn.{each_append, skipped_text-event}
 -- the region that an event is, if it is one
 abbrev pub regions_of : Event → List Region
 regions_of e = regions_in (piece_of e ∷ [])
-
--- lines behind lines
-some_behind : (x y : List ℕ) → y ≢ [] → x ++ y ≢ []
-some_behind [] y some = some
-some_behind (b ∷ x) y some = λ none. cc none
 
 module _ {F : Type 0} (test : Shared F (Bor Region × Unit {0}) Bool) (f : F) where
   -- it was allowed
@@ -67,10 +62,8 @@ module _ {F : Type 0} (test : Shared F (Bor Region × Unit {0}) Bool) (f : F) wh
     regions = h.regions ++ regions_of e;
     allowed = each_append (IsAllowedRegion test f) h.regions (regions_of e) h.allowed pass;
     answer = tt;
-    lines = subst (λ (xs : List ℕ). (xs ≢ []) × TakesFront n o xs) (sym (skipped_text-event h.regions e)) (
-      some_behind (skipped_text h.regions) (event_text e) line.0,
-      TakesFront-append n m o (skipped_text h.regions) (event_text e) h.lines line.1,
-    );
+    lines = subst (λ (xs : List ℕ). TakesShort n o xs) (sym (skipped_text-event h.regions e))
+        (TakesShort-append n m o (skipped_text h.regions) (event_text e) h.lines line);
   }
 
   pub skips_failed : (result : Result Repaired RepairEnd) (cut : FailedSink) (n m : Option (List ℕ)) → result ≡ Err (end_of_failed cut)

@@ -1,6 +1,5 @@
 -- Where a repair breaks off at the made file, notes have whole lines.
-use Rattle.std.proofs.Common.{◌≡◌, ◌≢◌, ◌∙◌, ◌⊎◌, ℕ, List, [], ◌∷◌, ◌++◌, take, refl, sym, ap, subst, inl, inr}
-use Rattle.std.proofs.lemmas.List.{append-nil}
+use Rattle.std.proofs.Common.{◌≡◌, ◌∙◌, ◌⊎◌, ℕ, List, [], ◌∷◌, ◌++◌, refl, sym, ap, subst, inl, inr}
 use Rattle.record_io.specs.Puts.{Made, Notes, Put, puts_to, bytes_to, BreaksOff}
 use Rattle.record_io.proofs.Puts.{bytes_to-append, bytes_to-own, bytes_to-other}
 use Rattle.meta_chunk.specs.Files.{signature, end_of_chunks, laid_each}
@@ -79,15 +78,14 @@ whole_before place (p ∷ ps) before more m is =
           )
     ]
 
-whole_in : (ps : List Piece) (before rest : List Put) (bytes : List ℕ) → repair_puts ps ≡ before ++ (puts_to Made bytes ++ rest) → bytes ≢ []
-    → (front behind : List Piece) × (ps ≡ front ++ behind) × (bytes_to Notes before ≡ skipped_text (regions_in front))
-whole_in ps before rest [] is some = absurd (some refl)
-whole_in ps before rest (m ∷ bytes) is some =
+pub whole_lines : (ps : List Piece) (part : List Put) → BreaksOff Made part (repair_puts ps)
+    → (front behind : List Piece) × (ps ≡ front ++ behind) × (bytes_to Notes part ≡ skipped_text (regions_in front))
+whole_lines ps part h =
     let first : List ℕ = laid_each 0 (signature ∷ []) in
-    elim (within_chunk first (puts_from (end_of_chunks 0 (signature ∷ [])) ps) before (puts_to Made bytes ++ rest) m is) [
+    elim (within_chunk first (puts_from (end_of_chunks 0 (signature ∷ [])) ps) part h.rest h.byte h.parts) [
       | inl none ↦ ([], ps, refl, none)
       | inr (behind, parts, then) ↦
-          let found = whole_before (end_of_chunks 0 (signature ∷ [])) ps behind (puts_to Made bytes ++ rest) m then in (
+          let found = whole_before (end_of_chunks 0 (signature ∷ [])) ps behind h.rest h.byte then in (
             found.0,
             found.1,
             found.2,
@@ -97,18 +95,3 @@ whole_in ps before rest (m ∷ bytes) is some =
                 ∙ found.3,
           )
     ]
-
-pub whole_lines : (ps : List Piece) (part : List Put) → BreaksOff Made part (repair_puts ps)
-    → (front behind : List Piece) × (ps ≡ front ++ behind) × (bytes_to Notes part ≡ skipped_text (regions_in front))
-whole_lines ps part h =
-    let found = whole_in ps h.before h.rest h.bytes h.parts h.some in
-    let last : List ℕ = take h.count h.bytes in (
-      found.0,
-      found.1,
-      found.2,
-      ap (bytes_to Notes) h.broken
-          ∙ bytes_to-append Notes h.before (puts_to Made last)
-          ∙ ap (λ (xs : List ℕ). bytes_to Notes h.before ++ xs) (bytes_to-other Notes Made last refl)
-          ∙ append-nil (bytes_to Notes h.before)
-          ∙ found.3,
-    )

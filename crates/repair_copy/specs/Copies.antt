@@ -3,7 +3,7 @@ use Rattle.std.specs.Prelude.{◌≡◌, ◌≢◌, ℕ, Bool, true, false, ◌+
 use Rattle.std.specs.List.{AllByRecursion}
 use Rattle.std.specs.Fn.{Shared}
 use denote.Ref.{Bor}
-use Rattle.record_io.specs.Outside.{Takes, TakesFront}
+use Rattle.record_io.specs.Outside.{Takes, TakesShort}
 use Rattle.record_io.specs.Puts.{Stream, Made, Notes, Put, Taken, puts_to, GoOut, GoOutOrAreHeld, BreaksOff}
 use Rattle.chunk_header.specs.Views.{HasRightHash, value_of_chunk}
 use Rattle.chunk_header.specs.declared.Chunk.{Chunk}
@@ -69,10 +69,10 @@ pub record CopiesFront (cut : FailedSink) (before after : Taken) (old : MadeFile
   pub went : GoOut before after part
   pub broken : BreaksOff (stream_of cut) part (puts_behind old event)
 
--- what notes took of a line where the work was cut off: a front of some where they failed, and else nothing
+-- what notes took of a line where the work was cut off: a front and not all where they failed, and else nothing
 abbrev pub TakesLine : FailedSink → Option (List ℕ) → Option (List ℕ) → List ℕ → Type 0
 TakesLine cut.Made before after line = Takes before after []
-TakesLine cut.Notes before after line = (line ≢ []) × TakesFront before after line
+TakesLine cut.Notes before after line = TakesShort before after line
 
 -- a file was begun, and events from the front of another were copied into it
 pub record HasBegun (before after : Taken) (copied : Copied) (events : List Piece) : Type 0 where

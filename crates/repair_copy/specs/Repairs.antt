@@ -1,9 +1,9 @@
 -- What a damaged file is repaired to under a test of regions, and how that ends. Own.
-use Rattle.std.specs.Prelude.{◌≡◌, ◌≢◌, ℕ, ◌+◌, ◌*◌, ◌≤◌, Bool, true, ⊤, Option, Some, None, Result, Ok, Err, List, [], ◌∷◌, length}
+use Rattle.std.specs.Prelude.{◌≡◌, ℕ, ◌+◌, ◌*◌, ◌≤◌, Bool, true, ⊤, Option, Some, None, Result, Ok, Err, List, ◌∷◌, length}
 use Rattle.std.specs.List.{AllByRecursion}
 use Rattle.std.specs.Fn.{Shared}
 use denote.Ref.{Bor}
-use Rattle.record_io.specs.Outside.{Takes, TakesFront}
+use Rattle.record_io.specs.Outside.{Takes, TakesShort}
 use Rattle.record_io.specs.Puts.{Put, Taken, Made, Notes, GoOut, BreaksOff}
 use Rattle.meta_chunk.specs.Counts.{totals_of}
 use Rattle.meta_chunk.specs.Files.{signature}
@@ -29,9 +29,9 @@ AnswersRepair test f (Err (end.Stopped region)) file place events = EndsAt test 
 AnswersRepair test f (Err end.Memory) file place events = NoneOf (Applies file place) loading_reasons
 AnswersRepair test f (Err other) file place events = ⊤
 
--- of what is put of these events a part went out with that answer: all, or a front where the made file or notes failed. Where
--- the store failed or memory was wanting all went out too, but nothing where no event was met, and a front where the made
--- file failed as well
+-- of what is put of these events a part went out with that answer: all, or a front and not all where the made file or notes
+-- failed. Where the store failed or memory was wanting all went out too, but nothing where no event was met, and a front where
+-- the made file failed as well
 abbrev pub WentOut : Result Repaired RepairEnd → (faults faults_then : ℕ) → List Piece → List Put → Type 0
 WentOut (Ok repaired) faults faults_then events part = part ≡ repair_puts events
 WentOut (Err (end.Stopped region)) faults faults_then events part = part ≡ repair_puts events
@@ -39,9 +39,9 @@ WentOut (Err end.Made) faults faults_then events part = BreaksOff Made part (rep
 WentOut (Err end.Notes) faults faults_then events part = BreaksOff Notes part (repair_puts events)
 WentOut (Err other) faults faults_then events part = WentOutAtFault faults faults_then events part
 
--- what notes took of lines: all, or a front of some where notes failed
+-- what notes took of lines: all, or a front and not all where notes failed
 abbrev pub TakesNotes : Result Repaired RepairEnd → Option (List ℕ) → Option (List ℕ) → List ℕ → Type 0
-TakesNotes (Err end.Notes) before after text = (text ≢ []) × TakesFront before after text
+TakesNotes (Err end.Notes) before after text = TakesShort before after text
 TakesNotes other before after text = Takes before after text
 
 -- of a file these events were copied: what was answered, and what made, of these counts of faults, and notes took

@@ -120,7 +120,7 @@ impl Copied {
     fn begin<M: Sink>(&mut self, made: &mut M) -> Result<(), Failed>
         requires unbegun { self.old.begun ≡ false → self.old.file ≡ nothing_made }
         ensures whole { OnOk result (Begins (M.taken made.old) (M.taken made.new) self.old self.new) }
-        ensures front { OnErr result (LaysFront (M.taken made.old) (M.taken made.new) nothing_made self.new.file (signature ∷ [])) }
+        ensures front { OnErr result (LaysFront (IsErr result) (M.taken made.old) (M.taken made.new) nothing_made self.new.file (signature ∷ [])) }
         ensures unbegun { OnErr result (self.old.begun ≡ false) }
         ensures made { OnlyCounts M.lent M.faults (IsErr result) made.old made.new }
     {

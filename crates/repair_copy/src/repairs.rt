@@ -81,7 +81,7 @@ impl From<FailedSink> for RepairEnd {
 /// a chunk is to be read: what was put is that of the events up to some place, nothing where there is none, not even the
 /// signature, and a front where `made` failed too. What was taken of the store is accounted for by the pieces up to that place
 /// and the one there. `Made` and `Notes` only where that failed: what comes before the bytes that failed was put, and a front of
-/// these. Own.
+/// these and not all. Own.
 pub fn repair<S: Store, F: Fn(&Region) -> bool + Drop, M: Sink, E: Sink>(
     alloc: Global,
     store: &mut S,

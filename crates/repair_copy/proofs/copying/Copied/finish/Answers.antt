@@ -12,7 +12,7 @@ returns-in_err-begin-clause-front g c =
     let p = err_from_is_err_and c.from_residual.result c.from_residual.ensures.1 in
     rw p.1 (λ before notes events copied.
     subst (λ (es : List Piece). HasCopiedFront cut.Made before (taken_by (g.M.Sink.taken c.begin.new.made) None notes) es) (append-nil events)
-    (begin_failed before _ _ notes c.args.self.now c.begin.new.self.file events [] copied c.in_err-begin.ensures.unbegun c.in_err-begin.ensures.front cut.Made
+    (begin_failed before _ _ notes c.args.self.now c.begin.new.self.file events [] copied c.in_err-begin.ensures.unbegun c.in_err-begin.ensures.front refl cut.Made
     refl))
 
 pub returns-clause-whole : goal.returns-clause-whole
@@ -22,4 +22,4 @@ returns-clause-whole g c =
 
 pub returns-clause-front : goal.returns-clause-front
 returns-clause-front g c =
-    finish_front c.flush.result _ _ _ c.args.self.now c.begin.new.self c.in_ok-begin.ensures.whole c.flush.ensures.made.front c.flush.ensures.some
+    finish_front c.flush.result _ _ _ c.args.self.now c.begin.new.self c.in_ok-begin.ensures.whole c.flush.ensures.made.front

@@ -1,4 +1,4 @@
-use Rattle.std.proofs.Common.{[], ◌∷◌}
+use Rattle.std.proofs.Common.{[], ◌∷◌, refl}
 use Rattle.std.proofs.lemmas.Result.{err_from_is_err_and}
 use Rattle.damage_skip.specs.Walks.{piece_of}
 use Rattle.repair_copy.proofs.CopySteps.{begin_failed, has_begun, event_copied, copies_cut}
@@ -9,7 +9,7 @@ returns-in_err-begin-clause-front g c =
     let p = err_from_is_err_and c.from_residual.result c.from_residual.ensures.1 in
     λ cut is before events copied.
     begin_failed before _ _ _ c.args.self.now c.begin.new.self.file events (piece_of c.args.event.now ∷ []) copied
-    c.in_err-begin.ensures.unbegun c.in_err-begin.ensures.front cut cc
+    c.in_err-begin.ensures.unbegun c.in_err-begin.ensures.front refl cut cc
 
 pub returns-clause-whole : goal.returns-clause-whole
 returns-clause-whole g c =

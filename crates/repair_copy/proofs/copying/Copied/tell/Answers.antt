@@ -8,7 +8,7 @@ use Rattle.repair_copy.proofs.copying.Copied.tell.Goals as goal
 pub returns-in_err-flush-clause-front : goal.returns-in_err-flush-clause-front
 returns-in_err-flush-clause-front g c =
     let p = err_from_is_err_and c.from_residual.result c.from_residual.ensures.1 in
-    λ cut is. flush_failed _ _ _ c.args.self.now.file (piece_of (Skipped c.args.region.now)) refl c.in_err-flush.ensures.some
+    λ cut is. flush_failed _ _ _ c.args.self.now.file (piece_of (Skipped c.args.region.now)) refl
     c.in_err-flush.ensures.made.front cut cc
 
 pub returns-in-Ok-clause-whole : goal.returns-in-Ok-clause-whole
@@ -19,4 +19,4 @@ returns-in-Ok-clause-whole g c =
 pub returns-in-Err-clause-front : goal.returns-in-Err-clause-front
 returns-in-Err-clause-front g c =
     λ cut is. line_failed _ _ _ _ c.args.self.now.file (piece_of (Skipped c.args.region.now)) refl c.in_ok-flush.ensures.made.whole
-    (λ none. cc none) c.in-Err.ensures.sink.front cut cc
+    c.in-Err.ensures.sink.front cut cc
