@@ -1,28 +1,33 @@
 -- Values counted by hand, computed from the definitions.
-use Rattle.std.proofs.Common.{◌↔◌, ◌≡◌, ℕ, zero, suc, ◌+◌, ◌<◌, ◌≤◌, Bool, true, false, Some, None, List, [], ◌∷◌, ◌++◌, length, set, replicate, slice_index, lit<, lit≤, refl, sym, ap, inl, inr, subst, arith}
+use Rattle.std.proofs.Common.{◌↔◌, ◌≡◌, ◌≢◌, ◌∙◌, ℕ, zero, suc, ◌+◌, ◌<◌, ◌≤◌, Bool, true, false, Some, None, List, [], ◌∷◌, ◌++◌, length, set, replicate, slice_index, lit<, lit≤, refl, sym, ap, inl, inr, subst, arith}
 use Rattle.std.specs.Prelude.{not, ◌||◌, ◌==◌, slice_get, slice_range}
 use Rattle.std.proofs.lemmas.Bool.{cases_lt}
 use Rattle.std.proofs.lemmas.Option.{same_Some}
+use Rattle.highway_hash.specs.Riegeli.{riegeli_hash}
 use Rattle.highway_hash.specs.HighwayHash.{hash_of, finished, after_remainder, after_packets, finishing_round, updated, mixed, multiplied, zipped, reset, lanes_of, remainder_packet}
 use Rattle.varint_wire.specs.Varint.{shortest}
 use Rattle.block_layout.specs.Layout.{IsBlock, room, usable_bytes, end_of, chunk_end_of}
 use Rattle.block_layout.specs.BlockHeaders.{block_header, IsRightBlockHeader, StandsAt}
-use Rattle.chunk_header.specs.Chunks.{ChunkValue}
+use Rattle.chunk_header.specs.Chunks.{ChunkValue, IsRightChunkHeader}
 use Rattle.chunk_header.specs.SimpleChunks.{simple_chunk, IsSimple}
 use Rattle.chunk_header.proofs.SimpleChunks.{IsSimple-simple_chunk}
 use Rattle.meta_chunk.specs.Kinds.{IsSignature}
-use Rattle.meta_chunk.specs.Files.{signature, IsFrame, begin_of, LiesIn}
-use Rattle.meta_chunk.specs.Laid.{laid_bytes}
+use Rattle.meta_chunk.specs.Files.{signature, IsFramed, IsChainOf, IsFrame, begin_of, LiesIn}
+use Rattle.meta_chunk.proofs.Chains.{IsChainOf-push}
+use Rattle.meta_chunk.proofs.LaidChunks.{IsLaid-laid}
+use Rattle.meta_chunk.specs.Laid.{IsLaid, laid_bytes}
 use Rattle.chunk_reader.specs.Faults.{BeginsWithSignature}
 use Rattle.chunk_reader.specs.Places.{header_bytes_at, data_at, end_at}
 use Rattle.chunk_reader.specs.Reasons.{Applies, NoneOf, IsFirstOf, loading_reasons}
 use Rattle.chunk_reader.proofs.Blocks.{stands_within}
-use Rattle.chunk_reader.proofs.SignedFiles.{IsPlain-signature, IsLaid-signature}
+use Rattle.chunk_reader.proofs.ChainSteps.{signature_chain}
+use Rattle.chunk_reader.specs.declared.reasons.Why.{Why}
 use Rattle.chunk_reader.specs.declared.reasons.Why.TheVariants as why
 use Rattle.damage_skip.specs.Resyncs.{landing, IsResync, Contradicts}
-use Rattle.damage_skip.specs.Damage.{Intact, IsNext, IsDamaged, IsIntactFrom, AreReached, DamageLeavesEach}
+use Rattle.damage_skip.specs.Damage.{Intact, IsNext, IsDamaged, IsIntactFrom, AreReached, DamageLeavesEach, AreLostUpToABlock}
+use Rattle.damage_skip.specs.Fronts.{IsCutAt}
 use Rattle.damage_skip.specs.Takings.{MayTakeAt, MayTakeFor}
-use Rattle.damage_skip.specs.Pieces.{Given, LeftOut, Skipped, Piece, SkipsFor, walk_reasons, ArePieces, events_in, records_in, placed_in}
+use Rattle.damage_skip.specs.Pieces.{PieceKind, Given, LeftOut, Skipped, Piece, SkipsFor, walk_reasons, ArePieces, events_in, records_in, placed_in}
 
 -- a block met before the chunk that it interrupts leads to that chunk's begin
 to_a_begin : landing 120268 64 65536 5382 24687 ≡ 60154
@@ -402,7 +407,90 @@ blocks_left = (
   ),
 )
 
--- a file of the signature alone, and the same with a changed byte of its block header: its chunk is intact
+-- of these the third to the fifth are lost behind the second, and end before the next intact block header
+first_lost : AreLostUpToABlock five first_hit 6 (0 ∷ 1 ∷ 5 ∷ [])
+unfolding first_hit five
+first_lost zero before missed = absurd (missed 0 refl)
+first_lost (suc zero) before missed = absurd (missed 1 refl)
+first_lost (suc (suc zero)) before missed = (1, lit< tt, refl, λ b here. omega (arith, no_other_block b here, begins.3))
+first_lost (suc (suc (suc zero))) before missed = (1, lit< tt, refl, λ b here. omega (arith, no_other_block b here, begins.4))
+first_lost (suc (suc (suc (suc zero)))) before missed = (1, lit< tt, refl, λ b here. omega (arith, no_other_block b here, begins.5))
+first_lost (suc (suc (suc (suc (suc zero))))) before missed = absurd (missed 2 refl)
+first_lost (suc (suc (suc (suc (suc (suc lost)))))) before missed = absurd (omega arith)
+
+-- a chunk that holds an intact block header is not lost so
+all_but_fourth : List ℕ
+all_but_fourth = 0 ∷ 1 ∷ 2 ∷ 4 ∷ 5 ∷ []
+
+none_or_some : (n : ℕ) → None ≢ Some n
+none_or_some n same = absurd (cc same)
+
+fourth_missed : (i : ℕ) → slice_get all_but_fourth i ≢ Some 3
+unfolding all_but_fourth
+fourth_missed zero same = omega (arith, same_Some 0 3 same)
+fourth_missed (suc zero) same = omega (arith, same_Some 1 3 same)
+fourth_missed (suc (suc zero)) same = omega (arith, same_Some 2 3 same)
+fourth_missed (suc (suc (suc zero))) same = omega (arith, same_Some 4 3 same)
+fourth_missed (suc (suc (suc (suc zero)))) same = omega (arith, same_Some 5 3 same)
+fourth_missed (suc (suc (suc (suc (suc i))))) same = none_or_some 3 same
+
+holds_a_block : (j : ℕ) → j < 3 → two_hit.header j ≡ false → ((b : ℕ) → IsIntactFrom five two_hit j b → begin_of five 4 ≤ b) → ⊥
+unfolding two_hit five
+holds_a_block zero below broken ends = absurd (cc)
+holds_a_block (suc zero) below broken ends = absurd (cc)
+holds_a_block (suc (suc zero)) below broken ends =
+    let there : begin_of five 4 ≤ 65536 =
+    ends 65536 (record { is_block = refl; from = omega (arith, begins.2); below = omega (arith, begins.6); is_intact = refl }) in
+    omega (arith, there, begins.4)
+holds_a_block (suc (suc (suc j))) below broken ends = omega arith
+
+fourth_not_lost : ¬ AreLostUpToABlock five two_hit 6 all_but_fourth
+fourth_not_lost h =
+    let there = h 3 (lit< tt) fourth_missed in
+    holds_a_block there.0 there.1 there.2 there.3
+
+-- cut within its second chunk of records, it has that region, and cut between two chunks none
+cut_region : (end : ℕ) → Why → Piece
+cut_region end reason = record { begin = 30109; end = end; what = Skipped reason }
+
+cut_within : IsCutAt five 2 40000 (cut_region 40000 why.Truncated ∷ [])
+unfolding cut_region five
+cut_within = inr (
+  lit< tt,
+  omega (arith, begins.2),
+  omega (arith, begins.3),
+  why.Truncated,
+  inr refl,
+  ap (λ (b : ℕ). record { begin = b; end = 40000; what = Skipped why.Truncated } ∷ []) (sym begins.2),
+)
+
+cut_between : IsCutAt five 2 30109 []
+cut_between = inl (sym begins.2, refl)
+
+first_kind : List Piece → PieceKind
+first_kind [] = LeftOut
+first_kind (piece ∷ pieces) = piece.what
+
+not_cut_as_damaged : ¬ IsCutAt five 2 40000 (cut_region 40000 why.HeaderHash ∷ [])
+unfolding cut_region first_kind
+not_cut_as_damaged (inl (at, none)) = cc
+not_cut_as_damaged (inr (inside, after, before, reason, inl short, is)) =
+    let kind : Skipped why.HeaderHash ≡ Skipped why.Short = ap first_kind is ∙ ap Skipped short in
+    absurd (cc)
+not_cut_as_damaged (inr (inside, after, before, reason, inr truncated, is)) =
+    let kind : Skipped why.HeaderHash ≡ Skipped why.Truncated = ap first_kind is ∙ ap Skipped truncated in
+    absurd (cc)
+
+first_end : List Piece → ℕ
+first_end [] = 0
+first_end (piece ∷ pieces) = piece.end
+
+not_cut_further_on : ¬ IsCutAt five 2 40000 (cut_region 60154 why.Truncated ∷ [])
+unfolding cut_region first_end
+not_cut_further_on (inl (at, none)) = cc
+not_cut_further_on (inr (inside, after, before, reason, which, is)) = omega (arith, ap first_end is)
+
+-- a file of the signature alone
 signed : List ℕ
 signed =
     0x83 ∷ 0xaf ∷ 0x70 ∷ 0xd1 ∷ 0x0d ∷ 0x88 ∷ 0x4a ∷ 0x3f ∷ replicate 8 0
@@ -413,70 +501,214 @@ signed =
     ∷ 0x73
     ∷ replicate 15 0
 
-changed : List ℕ
-changed = set signed 8 1
+-- and of a chunk of `a`, `bc` and an empty record behind it
+three : List ℕ
+three =
+    signed
+    ++ 0x18 ∷ 0x09 ∷ 0xa8 ∷ 0x0e ∷ 0x07 ∷ 0xa2 ∷ 0x61 ∷ 0x2f
+    ∷ 0x08 ∷ replicate 7 0
+    ++ 0xc5 ∷ 0x3d ∷ 0x74 ∷ 0x41 ∷ 0x6c ∷ 0xa3 ∷ 0x86 ∷ 0x87
+    ∷ 0x72 ∷ 0x03 ∷ replicate 6 0
+    ++ 0x03 ∷ replicate 7 0
+    ++ 0x00 ∷ 0x03 ∷ 0x01 ∷ 0x02 ∷ 0x00 ∷ 0x61 ∷ 0x62 ∷ 0x63 ∷ []
 
-block_hit : Intact
-block_hit = record { header = λ j. true; «data» = λ j. true; block = λ b. not (b == 0) }
+three_chunk : ChunkValue
+three_chunk = simple_chunk ((0x61 ∷ []) ∷ (0x62 ∷ 0x63 ∷ []) ∷ [] ∷ [])
 
-lengths : (length signed ≡ 64) × (length changed ≡ length signed)
-unfolding signed changed
-lengths = (refl, refl)
+two_chunks : List ChunkValue
+two_chunks = signature ∷ three_chunk ∷ []
 
-signed_begins : BeginsWithSignature signed
-unfolding signed laid_bytes room chunk_end_of end_of hash_of finished after_remainder after_packets finishing_round updated mixed multiplied zipped reset lanes_of remainder_packet
-signed_begins = refl
+length_of_three : length three ≡ 112
+unfolding three signed
+length_of_three = refl
 
-signed_is_a_frame : IsFrame (signature ∷ []) signed
-unfolding signed
-signed_is_a_frame = (
-  (λ same. cc),
-  record {
-    signed = refl;
-    each = (inl IsPlain-signature, tt);
-    within = lit≤ tt;
-    laid = (slice_range signed 0 64, [], refl, IsLaid-signature signed signed_begins, refl);
-  },
+begin_of_three : begin_of two_chunks 1 ≡ 64
+unfolding two_chunks three_chunk chunk_end_of end_of
+begin_of_three = refl
+
+three_begins : BeginsWithSignature three
+unfolding three signed laid_bytes room chunk_end_of end_of hash_of finished after_remainder after_packets finishing_round updated mixed multiplied zipped reset lanes_of remainder_packet
+three_begins = refl
+
+three_laid : IsLaid 64 three_chunk (slice_range three 64 112)
+unfolding three signed three_chunk laid_bytes room chunk_end_of end_of shortest hash_of finished after_remainder after_packets finishing_round updated mixed multiplied zipped reset lanes_of remainder_packet
+three_laid = IsLaid-laid 64 three_chunk (record {
+  kind = lit< tt;
+  num_records = lit< tt;
+  decoded_size = lit< tt;
+  size = lit< tt;
+  bytes = (lit< tt, (lit< tt, (lit< tt, (lit< tt, (lit< tt, (lit< tt, (lit< tt, (lit< tt, tt))))))));
+})
+
+three_is_framed : IsFramed three_chunk
+unfolding three_chunk shortest
+three_is_framed = inl (
+  lit≤ tt,
+  inl (
+    (0x61 ∷ []) ∷ (0x62 ∷ 0x63 ∷ []) ∷ [] ∷ [],
+    IsSimple-simple_chunk ((0x61 ∷ []) ∷ (0x62 ∷ 0x63 ∷ []) ∷ [] ∷ []) (lit< tt, (lit< tt, (lit< tt, tt))) (lit< tt),
+  ),
 )
 
-header_stays : (j : ℕ) → j < 1 → header_bytes_at changed (begin_of (signature ∷ []) j) ≡ header_bytes_at signed (begin_of (signature ∷ []) j)
-unfolding signed changed usable_bytes
-header_stays zero below = refl
-header_stays (suc j) below = absurd (omega (arith, below))
+three_is_a_frame : IsFrame two_chunks three
+unfolding two_chunks
+three_is_a_frame = (
+  (λ same. cc),
+  subst (λ (n : ℕ). IsChainOf IsFramed (signature ∷ three_chunk ∷ []) three n) (sym length_of_three)
+      (IsChainOf-push (signature ∷ []) three_chunk three 64 112
+      (signature_chain true three three_begins) refl three_is_framed
+      (omega (arith, length_of_three)) three_laid),
+)
 
-data_stays : (j : ℕ) (k : ChunkValue) → slice_get (signature ∷ []) j ≡ Some k
-    → data_at changed (begin_of (signature ∷ []) j) (length k.«data») ≡ k.«data»
-unfolding signed changed usable_bytes
-data_stays zero k stands = subst (λ (c : ChunkValue). data_at changed 0 (length c.«data») ≡ c.«data») (same_Some signature k stands) refl
-data_stays (suc j) k stands =
-    let nothing : None ≡ Some k = stands in
-    absurd (cc)
+-- what is intact is the same, and what isn't differs and shows that
+IsToldBy : Bool → (Same Right : Type 0) → Type 0
+IsToldBy true Same Right = Same
+IsToldBy false Same Right = (¬ Same) × (¬ Right)
 
-block_differs : ¬ (slice_range changed 0 24 ≡ slice_range signed 0 24)
-unfolding signed changed
-block_differs same = omega (arith, ap (λ (xs : List ℕ). slice_index xs 8) same)
+intact_same : (told : Bool) (Same Right : Type 0) → IsToldBy told Same Right → (told ≡ true) ↔ Same
+unfolding IsToldBy
+intact_same true Same Right h = ((λ is. h), (λ same. refl))
+intact_same false Same Right h = ((λ is. absurd (cc)), (λ same. absurd (h.0 same)))
 
-block_is_wrong : ¬ IsRightBlockHeader (slice_range changed 0 24)
-unfolding signed changed hash_of finished after_remainder after_packets finishing_round updated mixed multiplied zipped reset lanes_of remainder_packet
-block_is_wrong right = omega (arith, ap (λ (xs : List ℕ). slice_index xs 0) right.1)
+changed_shows : (told : Bool) (Same Right : Type 0) → IsToldBy told Same Right → told ≡ false → ¬ Right
+unfolding IsToldBy
+changed_shows true Same Right h changed = absurd (cc)
+changed_shows false Same Right h changed = h.1
 
-only_block : (b : ℕ) → IsBlock b → b < length signed → b ≡ 0
-only_block b is below = omega (arith, is, below, lengths.0)
+-- the same file with bytes changed
+record IsChanged (damaged : List ℕ) (intact : Intact) : Type 0 where
+  same_length : length damaged ≡ 112
+  first_header : IsToldBy (intact.header 0) (header_bytes_at damaged 0 ≡ header_bytes_at three 0) (IsRightChunkHeader (header_bytes_at damaged 0))
+  second_header : IsToldBy (intact.header 1) (header_bytes_at damaged 64 ≡ header_bytes_at three 64) (IsRightChunkHeader (header_bytes_at damaged 64))
+  first_data : IsToldBy (intact.«data» 0) (data_at damaged 0 0 ≡ []) (riegeli_hash (data_at damaged 0 0) ≡ riegeli_hash [])
+  second_data : IsToldBy (intact.«data» 1) (data_at damaged 64 8 ≡ three_chunk.«data») (riegeli_hash (data_at damaged 64 8) ≡ riegeli_hash three_chunk.«data»)
+  first_block : IsToldBy (intact.block 0) (slice_range damaged 0 24 ≡ slice_range three 0 24) (IsRightBlockHeader (slice_range damaged 0 24))
 
-signed_is_damaged : IsDamaged (signature ∷ []) signed changed block_hit
-unfolding block_hit
-signed_is_damaged = record {
-  frame = signed_is_a_frame;
-  same_length = lengths.1;
-  header = λ j below. (λ whole. header_stays j below, λ same. refl);
-  «data» = λ j k stands. (λ whole. data_stays j k stands, λ same. refl);
-  block = λ b is below. subst (λ (c : ℕ). (block_hit.block c ≡ true) ↔ (slice_range changed c (c + 24) ≡ slice_range signed c (c + 24)))
-      (sym (only_block b is below)) ((λ whole. absurd (cc)), λ same. absurd (block_differs same));
-  header_shows = λ j below broken. absurd (cc);
-  data_shows = λ j k stands whole broken. absurd (cc);
-  block_shows = λ b is below broken. subst (λ (c : ℕ). ¬ IsRightBlockHeader (slice_range changed c (c + 24)))
-      (sym (only_block b is below)) block_is_wrong;
-}
+-- is a damaged file
+module _ (damaged : List ℕ) (intact : Intact) (h : IsChanged damaged intact) where
+  header_told : (j : ℕ) → j < 2 → IsToldBy (intact.header j) (header_bytes_at damaged (begin_of two_chunks j) ≡ header_bytes_at three (begin_of two_chunks j))
+      (IsRightChunkHeader (header_bytes_at damaged (begin_of two_chunks j)))
+  header_told zero below = h.first_header
+  header_told (suc zero) below =
+      subst (λ (b : ℕ). IsToldBy (intact.header 1) (header_bytes_at damaged b ≡ header_bytes_at three b) (IsRightChunkHeader (header_bytes_at damaged b)))
+      (sym begin_of_three) h.second_header
+  header_told (suc (suc j)) below = absurd (omega (arith, below))
+
+  data_told : (j : ℕ) (k : ChunkValue) → slice_get two_chunks j ≡ Some k
+      → IsToldBy (intact.«data» j) (data_at damaged (begin_of two_chunks j) (length k.«data») ≡ k.«data»)
+      (riegeli_hash (data_at damaged (begin_of two_chunks j) (length k.«data»)) ≡ riegeli_hash k.«data»)
+  unfolding two_chunks three_chunk shortest
+  data_told zero k at =
+      subst (λ (c : ChunkValue). IsToldBy (intact.«data» 0) (data_at damaged 0 (length c.«data») ≡ c.«data») (riegeli_hash (data_at damaged 0 (length c.«data»)) ≡ riegeli_hash c.«data»))
+      (same_Some signature k at) h.first_data
+  data_told (suc zero) k at =
+      subst (λ (c : ChunkValue). IsToldBy (intact.«data» 1) (data_at damaged (begin_of two_chunks 1) (length c.«data») ≡ c.«data») (riegeli_hash (data_at damaged (begin_of two_chunks 1) (length c.«data»)) ≡ riegeli_hash c.«data»))
+      (same_Some three_chunk k at)
+      (subst (λ (b : ℕ). IsToldBy (intact.«data» 1) (data_at damaged b (length three_chunk.«data») ≡ three_chunk.«data») (riegeli_hash (data_at damaged b (length three_chunk.«data»)) ≡ riegeli_hash three_chunk.«data»))
+      (sym begin_of_three) h.second_data)
+  data_told (suc (suc j)) k at =
+      let nothing : None ≡ Some k = at in
+      absurd (cc)
+
+  block_told : (b : ℕ) → IsBlock b → b < length three
+      → IsToldBy (intact.block b) (slice_range damaged b (b + 24) ≡ slice_range three b (b + 24)) (IsRightBlockHeader (slice_range damaged b (b + 24)))
+  block_told b is below =
+      let front : 0 ≡ b = omega (arith, is, below, length_of_three) in
+      subst (λ (c : ℕ). IsToldBy (intact.block c) (slice_range damaged c (c + 24) ≡ slice_range three c (c + 24)) (IsRightBlockHeader (slice_range damaged c (c + 24))))
+      front h.first_block
+
+  changed_is_damaged : IsDamaged two_chunks three damaged intact
+  unfolding two_chunks
+  changed_is_damaged = record {
+    frame = three_is_a_frame;
+    same_length = h.same_length ∙ sym length_of_three;
+    header = λ j below. intact_same (intact.header j) _ _ (header_told j below);
+    «data» = λ j k at. intact_same (intact.«data» j) _ _ (data_told j k at);
+    block = λ b is below. intact_same (intact.block b) _ _ (block_told b is below);
+    header_shows = λ j below changed. changed_shows (intact.header j) _ _ (header_told j below) changed;
+    data_shows = λ j k at whole changed. changed_shows (intact.«data» j) _ _ (data_told j k at) changed;
+    block_shows = λ b is below changed. changed_shows (intact.block b) _ _ (block_told b is below) changed;
+  }
+
+-- all but the header of a chunk, its data, or a block header
+all_but : (header «data» block : ℕ) → Intact
+all_but header «data» block = record { header = λ j. not (j == header); «data» = λ j. not (j == «data»); block = λ b. not (b == block) }
+
+-- with a changed byte in the signature's header
+signature_changed : IsDamaged two_chunks three (set three 24 0) (all_but 0 9 9)
+unfolding IsToldBy all_but three signed three_chunk shortest usable_bytes hash_of finished after_remainder after_packets finishing_round updated mixed multiplied zipped reset lanes_of remainder_packet
+signature_changed = changed_is_damaged (set three 24 0) (all_but 0 9 9) its_bytes where
+  its_bytes : IsChanged (set three 24 0) (all_but 0 9 9)
+  its_bytes = record {
+    same_length = refl;
+    first_header = (
+      (λ same. omega (arith, ap (λ (xs : List ℕ). slice_index xs 0) same)),
+      λ right. omega (arith, ap (λ (xs : List ℕ). slice_index xs 0) right.1),
+    );
+    second_header = refl;
+    first_data = refl;
+    second_data = refl;
+    first_block = refl;
+  }
+
+-- in the header of the chunk of records
+header_changed : IsDamaged two_chunks three (set three 70 0) (all_but 1 9 9)
+unfolding IsToldBy all_but three signed three_chunk shortest usable_bytes hash_of finished after_remainder after_packets finishing_round updated mixed multiplied zipped reset lanes_of remainder_packet
+header_changed = changed_is_damaged (set three 70 0) (all_but 1 9 9) its_bytes where
+  its_bytes : IsChanged (set three 70 0) (all_but 1 9 9)
+  its_bytes = record {
+    same_length = refl;
+    first_header = refl;
+    second_header = (
+      (λ same. omega (arith, ap (λ (xs : List ℕ). slice_index xs 6) same)),
+      λ right. omega (arith, ap (λ (xs : List ℕ). slice_index xs 6) right.1),
+    );
+    first_data = refl;
+    second_data = refl;
+    first_block = refl;
+  }
+
+-- in its data
+data_changed : IsDamaged two_chunks three (set three 111 0) (all_but 9 1 9)
+unfolding IsToldBy all_but three signed three_chunk shortest usable_bytes hash_of finished after_remainder after_packets finishing_round updated mixed multiplied zipped reset lanes_of remainder_packet
+data_changed = changed_is_damaged (set three 111 0) (all_but 9 1 9) its_bytes where
+  its_bytes : IsChanged (set three 111 0) (all_but 9 1 9)
+  its_bytes = record {
+    same_length = refl;
+    first_header = refl;
+    second_header = refl;
+    first_data = refl;
+    second_data = (
+      (λ same. omega (arith, ap (λ (xs : List ℕ). slice_index xs 7) same)),
+      λ same. omega (arith, same),
+    );
+    first_block = refl;
+  }
+
+-- in the block header
+block_changed : IsDamaged two_chunks three (set three 8 1) (all_but 9 9 0)
+unfolding IsToldBy all_but three signed three_chunk shortest usable_bytes hash_of finished after_remainder after_packets finishing_round updated mixed multiplied zipped reset lanes_of remainder_packet
+block_changed = changed_is_damaged (set three 8 1) (all_but 9 9 0) its_bytes where
+  its_bytes : IsChanged (set three 8 1) (all_but 9 9 0)
+  its_bytes = record {
+    same_length = refl;
+    first_header = refl;
+    second_header = refl;
+    first_data = refl;
+    second_data = refl;
+    first_block = (
+      (λ same. omega (arith, ap (λ (xs : List ℕ). slice_index xs 8) same)),
+      λ right. omega (arith, ap (λ (xs : List ℕ). slice_index xs 0) right.1),
+    );
+  }
+
+-- and not with all intact
+header_not_intact : ¬ IsDamaged two_chunks three (set three 70 0) (all_but 9 9 9)
+unfolding two_chunks three signed all_but usable_bytes
+header_not_intact d =
+    let same : header_bytes_at (set three 70 0) 64 ≡ header_bytes_at three 64 =
+    subst (λ (b : ℕ). header_bytes_at (set three 70 0) b ≡ header_bytes_at three b) begin_of_three ((d.header 1 (lit< tt)).0 refl) in
+    omega (arith, ap (λ (xs : List ℕ). slice_index xs 6) same)
 
 -- no more is taken for its chunk than it has
 signed_end : end_at signed 0 ≡ 64
