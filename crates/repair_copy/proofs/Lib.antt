@@ -16,3 +16,4 @@ mod SkippedRegions
 pub mod OneWalk
 pub mod DamagedRepairs
 pub mod FrontRepairs
+mod DamageValues
