@@ -13,14 +13,14 @@ use std::alloc::Global;
 #[derive(Drop)]
 pub struct GivenFile {
     pub bytes: Vec<u8>,
-    /// The size of one that tells nothing of its bytes: zero bytes follow those above.
+    /// The size of one that shows nothing of its bytes: zero bytes follow those above.
     pub untold: Option<u64>,
     /// Whether none of its calls fails.
     pub sound: bool,
 }
 
 impl GivenFile {
-    /// One that tells its bytes.
+    /// One that shows its bytes.
     pub fn new(bytes: Vec<u8>) -> GivenFile {
         GivenFile {
             bytes,
@@ -67,7 +67,7 @@ fn change_bytes(
     }
 }
 
-/// Lets a file tell nothing of its bytes, and have the size that the words are.
+/// Lets a file show nothing of its bytes, and have the size that the words are.
 fn tell_nothing(file: &mut GivenFile, words: &[String]) -> Result<()> {
     let size = one_number(words)?;
     if size < file.bytes.len() {

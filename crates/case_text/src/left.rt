@@ -11,10 +11,10 @@ pub struct Left {
     pub made: Vec<u8>,
     pub out: Vec<u8>,
     pub notes: Vec<u8>,
-    /// The bytes that the grown file had and then has, which are none where it is an untold one.
+    /// The bytes that the grown file had and then has, which are none where it shows none.
     pub old: Vec<u8>,
     pub grown: Vec<u8>,
-    /// How many bytes the last file handed out, where it is an untold one.
+    /// How many bytes the last file handed out, where it shows none of its bytes.
     pub handed: u64,
 }
 

@@ -1,4 +1,4 @@
--- What reading a file chunk by chunk shows of it, over a store that may tell its bytes.
+-- What reading a file chunk by chunk shows of it, over a store that may show its bytes.
 use Rattle.std.proofs.Common.{◌≡◌, ◌≢◌, ◌∙◌, ℕ, zero, suc, refl, ◌+◌, ◌-◌, ◌<◌, ◌≤◌, ◌⊎◌, Bool, true, false, Option, Some, None, IfSome, List, [], ◌∷◌, ◌++◌, length, take, sym, ap, subst, inl, inr, arith}
 use Rattle.std.specs.Prelude.{slice_range, if◌then◌else◌}
 use Rattle.std.proofs.lemmas.Bool.{cases_Bool}

@@ -1,4 +1,4 @@
--- How far a file is well formed, as reading it chunk by chunk shows, over a store that may tell its bytes.
+-- How far a file is well formed, as reading it chunk by chunk shows, over a store that may show its bytes.
 use Rattle.std.proofs.Common.{◌≡◌, ◌∙◌, ℕ, ◌<◌, true, Option, Some, None, IfSome, List, [], length, sym, ap, subst, inl, arith}
 use Rattle.record_values.specs.declared.file_totals.Totals.{Totals}
 use Rattle.chunk_header.specs.Chunks.{ChunkValue}

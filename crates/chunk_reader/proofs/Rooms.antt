@@ -29,7 +29,7 @@ HasOwnBytes-run None place count n h less some next fits = elim h [ ]
 HasOwnBytes-run (Some size) place count n h less some next fits =
     omega (arith, h.1, end_of-le place n count less, end_of-run place n some next fits)
 
--- where bytes are told they are as many as was told
+-- where bytes are shown they are as many as was told
 abbrev pub IsSized : Option (List ℕ) → Option ℕ → Type 0
 IsSized bytes told = IfSome bytes (λ file. IfSome told (λ size. size ≡ length file))
 

@@ -1,4 +1,4 @@
--- The steps of judging a chunk at a place, where the bytes of the file may be told.
+-- The steps of judging a chunk at a place, where the bytes of the file may be shown.
 use Rattle.std.proofs.Common.{◌≡◌, ◌≢◌, ◌∙◌, ℕ, ◌+◌, ◌≤◌, Bool, true, false, inl, inr, Option, Some, None, IfSome, List, refl, sym, ap, subst, arith}
 use Rattle.std.proofs.lemmas.Bool.{cases_eq}
 use Rattle.highway_hash.specs.Riegeli.{riegeli_hash}

@@ -69,7 +69,7 @@ module _ (keep : Bool) (ks : List ChunkValue) (file damaged : List ℕ) (intact 
         lost = lost_up_to_a_block ks intact left.0 (number.2.numbers ++ numbers.0) reached;
       }
 
--- of a file that tells its bytes
+-- of a file that shows its bytes
 pub call_past : (bytes : Option (List ℕ)) (told told_then : Option ℕ) (before after : Progress) (result : Result (Option Event) WalkEnd)
     → IsSized bytes (Some before.size) → StandsIn bytes told before → StandsIn bytes told_then after → WalksOn bytes before after result
     → (result ≡ Ok None → after.place ≡ before.size)

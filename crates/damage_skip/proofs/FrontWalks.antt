@@ -121,7 +121,7 @@ walks_in_front keep ks file front m before after result keeps frame within is (p
       stopped = stop_first keep front after.place left.0 (stop_of result) left.1 stopped;
     }
 
--- of a file that tells its bytes
+-- of a file that shows its bytes
 pub call_in_front : (bytes : Option (List ℕ)) (told told_then : Option ℕ) (before after : Progress) (result : Result (Option Event) WalkEnd)
     → IsSized bytes (Some before.size) → StandsIn bytes told before → StandsIn bytes told_then after → WalksOn bytes before after result
     → (result ≡ Ok None → after.place ≡ before.size)

@@ -1,4 +1,4 @@
--- The steps by which the piece at a place of a file is found, where the bytes of the file may be told.
+-- The steps by which the piece at a place of a file is found, where the bytes of the file may be shown.
 use Rattle.std.proofs.Common.{◌≡◌, ◌∙◌, ℕ, ◌+◌, ◌^◌, ◌<◌, ◌≤◌, Bool, true, false, inl, inr, Option, Some, None, IfSome, List, [], ◌∷◌, length, refl, sym, ap, subst, arith}
 use Rattle.std.specs.List.{AllByRecursion}
 use Rattle.block_layout.proofs.ChunkEnds.{chunk_end_of_boundary, chunk_end_of_above}
@@ -251,7 +251,7 @@ read_piece (Some file) keep size at end h chunk piece sized fits right is within
     subst (λ (e : ℕ). IsPieceOf keep file at e (value_of_piece_kind piece.what)) (sym (ends ∙ end_is))
     (read_there keep file at chunk piece.what there read)
 
--- where it ends, whether or not the file is told
+-- where it ends, whether or not the file shows its bytes
 pub onward_end : (size at : ℕ) (h : Header) (end : ℕ) → end ≡ end_by at (value_of_header h) → end ≤ size → IsOnward size at end
 onward_end size at h end is within = record {
   past = omega (arith, is, chunk_end_of_above at (40 + h.data_size) h.num_records (omega arith));

@@ -1,4 +1,4 @@
--- How many bytes the steps of a walk take, where the bytes of the file may be told.
+-- How many bytes the steps of a walk take, where the bytes of the file may be shown.
 use Rattle.std.proofs.Common.{◌≡◌, ◌∙◌, ℕ, ◌+◌, ◌-◌, ◌*◌, ◌<◌, ◌≤◌, min, Bool, ◌⊎◌, inl, inr, Option, Some, None, Result, Ok, Err, IfOk, IfSome, List, [], ◌∷◌, ◌++◌, length, refl, sym, subst, arith}
 use Rattle.std.proofs.lemmas.Bool.{cases_lt}
 use Rattle.block_layout.specs.Layout.{IsBlock, blocks_below, end_of}

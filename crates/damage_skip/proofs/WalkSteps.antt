@@ -1,4 +1,4 @@
--- The steps of a walk, where the bytes of the file may be told.
+-- The steps of a walk, where the bytes of the file may be shown.
 use Rattle.std.proofs.Common.{◌≡◌, ◌∙◌, ℕ, ◌<◌, Bool, Option, Some, None, IfSome, List, [], ◌∷◌, ◌++◌, length, refl, sym, ap, subst, arith}
 use Rattle.std.proofs.lemmas.List.Elements.{filter-append}
 use Rattle.chunk_header.specs.Views.{value_of_chunk}

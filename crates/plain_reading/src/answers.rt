@@ -279,7 +279,7 @@ fn all_bytes(object: Object, fact: &Fact) -> Result<&[u8]> {
     }
 }
 
-/// What a plain walk shows of a file that is whole and tells its bytes.
+/// What a plain walk shows of a whole file that shows its bytes.
 fn shown_whole(alloc: Global, file: &GivenFile) -> Result<Vec<u8>> {
     let size = file.bytes.len() as u64;
     if file.untold.unwrap_or(size) != size {

@@ -45,7 +45,7 @@ file_behind (Err Input) front file place held before took = front_behind front f
 file_behind (Err Made) front file place held before took = front_behind front file place held before took
 file_behind (Err Memory) front file place held before took = front_behind front file place held before took
 
--- of a device that tells nothing nothing is said
+-- of a device that shows nothing nothing is said
 file_untold : (result : Result Totals WriteEnd) (held : Option (List ℕ)) (file : List ℕ) → TakesFile result None held file
 file_untold (Ok totals) held file = tt
 file_untold (Err (TooLong count)) held file = tt

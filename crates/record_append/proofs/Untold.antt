@@ -1,10 +1,10 @@
--- What holds of the answers of objects that tell no bytes.
+-- What holds of the answers of objects that show no bytes.
 use Rattle.std.proofs.Common.{◌≡◌, ℕ, Option, None, List, Result, Ok, Err, IfOk, OnOk, OnErr, refl}
 
 abbrev untold_bytes : Option (List ℕ)
 untold_bytes = None
 
--- whatever is answered, nothing is said of bytes, and none are told
+-- whatever is answered, nothing is said of bytes, and none are shown
 pub record LeavesUntold {X E : Type 0} (result : Result X E) : Type 0 where
   pub nothing : IfOk result (λ x. Unit {0})
   pub same : IfOk result (λ x. untold_bytes ≡ None)

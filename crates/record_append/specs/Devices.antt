@@ -2,11 +2,11 @@
 use Rattle.std.specs.Prelude.{◌≡◌, ℕ, ◌+◌, ◌-◌, ◌^◌, ◌<◌, ◌≤◌, min, Bool, Option, Some, IfSome, List, drop, take, option_map}
 use Rattle.record_io.specs.Outside.{Rose}
 
--- of the bytes of a file those from a place on, where they are told
+-- of the bytes of a file those from a place on, where they are shown
 abbrev pub bytes_from : ℕ → Option (List ℕ) → Option (List ℕ)
 bytes_from at file = option_map (drop at) file
 
--- of the bytes of a file those before a place, where they are told
+-- of the bytes of a file those before a place, where they are shown
 abbrev pub bytes_before : ℕ → Option (List ℕ) → Option (List ℕ)
 bytes_before at file = option_map (take at) file
 
@@ -54,7 +54,7 @@ pub record Growing : Type 0 where
 
 -- a device that reads ahead of another one
 pub record GrowingAhead : Type 0 where
-  -- the bytes of the file, where they are told
+  -- the bytes of the file, where they are shown
   pub bytes : Option (List ℕ)
   -- the size that was said last, if nothing was cut or put since
   pub said : Option ℕ

@@ -7,7 +7,7 @@ use record_io::Failed;
 ///
 /// Each call fails only where the count of faults rose. The bytes are then as they were.
 pub trait Device {
-    /// The bytes of the file, where the device tells them.
+    /// The bytes of the file, where the device shows them.
     ghost bytes: { Self → Option (List ℕ) };
 
     /// What `size` said the last time, if nothing was cut or put since.
@@ -76,6 +76,6 @@ pub trait Device {
         ensures never_falls { faults self.old ≤ faults self.new }
         ensures small { faults self.new < 2 ^ 64 };
 
-    /// Where the bytes and the size are told, the size is how many there are.
+    /// Where the bytes are shown and the size was told, the size is how many there are.
     ghost sized: { (d : Self) → IfSome (bytes d) (λ file. IfSome (told d) (λ size. size ≡ length file)) };
 }

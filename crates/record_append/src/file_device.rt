@@ -1,4 +1,4 @@
-//! Real files as devices, of whose bytes nothing is told.
+//! Real files as devices, which show none of their bytes to a proof.
 ghost use Rattle.std.specs.Prelude.{◌≡◌, ℕ, ◌+◌, ◌-◌, ◌^◌, ◌<◌, ◌≤◌, length, take, min, None, Some, true, IfOk, IfSome, IsSomeAnd, OnOk, OnErr};
 ghost use Rattle.std.specs.Io.KnownBytes.{Appends};
 ghost use Rattle.record_io.specs.Outside.{Rose, faults_after};

@@ -16,7 +16,7 @@ use Rattle.record_collect.specs.GatheredFiles.{AreRecordsOfEach}
 use Rattle.record_collect.specs.Passes.{CollectorValue, PassValue, BelongsTo}
 use Rattle.record_collect.specs.Takings.{AreFed, HasAccepted, IsFed, IsFirstStopped, IsRead, IsTakenOf}
 
--- what a front of the stores tells, and what the others do
+-- what a front of the stores shows, and what the others do
 pub told-front : {S X : Type 0} (tell : S → Option X) (stores a c : List S) (told x y : List X) → stores ≡ a ++ c → told ≡ x ++ y → length x ≡ length a
     → AreTold tell stores told → AreTold tell a x × AreTold tell c y
 told-front {S} {X} tell stores a c told x y is put same h = halves a x same (subst (λ (ss : List S). AreTold tell ss (x ++ y)) is (subst (AreTold tell stores) put h))

@@ -9,7 +9,7 @@ use Rattle.record_io.specs.Calls.{OnlyAsks}
 use Rattle.record_io.specs.ManyStores.{AnyRose, AreOnlyAsked}
 use Rattle.record_io.specs.Outside.{Rose}
 
--- what the store at a place tells
+-- what the store at a place shows
 pub tells_at : {S X : Type 0} (tell : S → Option X) (stores : List S) (xs : List X) (place : ℕ) (store : S)
     → map tell stores ≡ map Some xs → place < length stores → store ≡ get_or stores place store
     → (x : X) × (slice_get xs place ≡ Some x) × (tell store ≡ Some x)

@@ -1,4 +1,4 @@
--- What can be relied on of real files and streams, of whose bytes nothing is told to callers. Own.
+-- What can be relied on of real files and streams, of whose bytes nothing is shown to callers. Own.
 use Rattle.std.specs.Prelude.{◌≡◌, ℕ, ◌≤◌, Option, None, Some, Result, Ok, Err, Bool, List, length, take, IfSome}
 use Rattle.std.specs.Io.KnownBytes.{Appends, Consumes}
 

@@ -1,14 +1,14 @@
--- What several stores tell, and what a call leaves of them. Own.
+-- What several stores show, and what a call leaves of them. Own.
 use Rattle.std.specs.Prelude.{◌≡◌, ℕ, ◌⊎◌, Option, Some, List, [], ◌∷◌, map}
 use Rattle.std.specs.List.{AllZip}
 use Rattle.record_io.specs.Calls.{OnlyAsks}
 use Rattle.record_io.specs.Outside.{Rose}
 
--- the stores tell these, one after another, as their bytes or their sizes
+-- the stores show these, one after another, as their bytes or as the sizes that they told
 abbrev pub AreTold : {S X : Type 0} → (S → Option X) → List S → List X → Type 0
 AreTold tell stores told = map tell stores ≡ map Some told
 
--- P holds of the bytes that the stores tell, where they all do
+-- P holds of the bytes that the stores show, where they all do
 abbrev pub IfAllTell : {S : Type 0} → (S → Option (List ℕ)) → List S → (List (List ℕ) → Type 0) → Type 0
 IfAllTell bytes stores P = (files : List (List ℕ)) → AreTold bytes stores files → P files
 

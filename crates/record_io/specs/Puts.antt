@@ -29,7 +29,7 @@ abbrev pub bytes_to : Stream → List Put → List ℕ
 bytes_to stream [] = []
 bytes_to stream (put ∷ puts) = if is_stream stream put.to then put.byte ∷ bytes_to stream puts else bytes_to stream puts
 
--- what the sinks behind the streams have taken, where they tell it
+-- what the sinks behind the streams have taken, where they show it
 pub record Taken : Type 0 where
   pub made : Option (List ℕ)
   pub out : Option (List ℕ)

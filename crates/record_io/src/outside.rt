@@ -30,7 +30,7 @@ pub fn counted<X: Drop, E: Drop>(answer: Result<X, E>, faults: &mut u64) -> Resu
 
 /// A stream of bytes that come in.
 pub trait Source {
-    /// The bytes still to come, where the source tells them.
+    /// The bytes still to come, where the source shows them.
     ghost left: { Self → Option (List ℕ) };
 
     /// How many faults there were.
@@ -52,7 +52,7 @@ pub trait Source {
 
 /// A file that is read at any place. Its bytes never change.
 pub trait Store {
-    /// The bytes of the file, where the store tells them.
+    /// The bytes of the file, where the store shows them.
     ghost bytes: { Self → Option (List ℕ) };
 
     /// What `size` said the last time.
@@ -99,13 +99,13 @@ pub trait Store {
         ensures never_falls { faults self.old ≤ faults self.new }
         ensures small { faults self.new < 2 ^ 64 };
 
-    /// Where the bytes and the size are told, the size is how many there are.
+    /// Where the bytes are shown and the size was told, the size is how many there are.
     ghost sized: { (s : Self) → IfSome (bytes s) (λ file. IfSome (told s) (λ size. size ≡ length file)) };
 }
 
 /// A stream of bytes that go out.
 pub trait Sink {
-    /// All bytes taken so far, where the sink tells them.
+    /// All bytes taken so far, where the sink shows them.
     ghost taken: { Self → Option (List ℕ) };
 
     /// How many faults there were.

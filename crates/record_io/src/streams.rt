@@ -1,4 +1,4 @@
-//! Real streams, of whose bytes nothing is told.
+//! Real streams, which show none of their bytes to a proof.
 ghost use Rattle.std.specs.Prelude.{◌≡◌, ◌^◌, ◌<◌, ◌≤◌, length, take, None, IfOk, OnErr};
 ghost use Rattle.std.specs.Io.KnownBytes.{Appends, ReadConsumes};
 ghost use Rattle.record_io.specs.Outside.{Rose, faults_after};

@@ -1,4 +1,4 @@
--- What is made of files that stores tell. Own.
+-- What is made of files that stores show. Own.
 use Rattle.std.specs.Prelude.{◌≡◌, ℕ, ◌⊎◌, true, Option, List, ◌++◌, take}
 use Rattle.record_values.specs.declared.file_totals.Totals.{Totals}
 use Rattle.record_io.specs.Outside.{Takes, TakesFront, TakesShort}

@@ -115,6 +115,6 @@ fault-told bytes stores cuts (Err (read.Refused other)) ok refused file same fau
 fault-told bytes stores cuts (Err read.Store) ok refused file same fault is = inr (inl refl)
 fault-told bytes stores cuts (Err read.Memory) ok refused file same fault is = inr (inr refl)
 
--- what holds of the bytes that a store tells
+-- what holds of the bytes that a store shows
 pub of-told : (bytes : Option (List ℕ)) (file : List ℕ) (P : List ℕ → Type 0) → bytes ≡ Some file → IfSome bytes P → P file
 of-told bytes file P is h = subst (λ (b : Option (List ℕ)). IfSome b P) is h

@@ -65,7 +65,7 @@ first_bytes : (files : List (List ℕ)) (file : List ℕ) → AllByRecursion Are
 first_bytes [] file bytes there = absurd (cc there)
 first_bytes (first ∷ files) file bytes there = let is : first ≡ file = cc there in subst AreBytes is bytes.0
 
--- what the stores of a file tell has an answer
+-- what the stores of a file show has an answer
 pub ranges_exists : (files : List (List ℕ)) → files ≢ [] → AllByRecursion AreBytes files → (MayBeRead (map length files) → AreOneFile files)
     → (answer : Answer) × IsRangesAnswer files answer
 ranges_exists files some bytes supposed = elim (sizes_judged (map length files) (any files some)) [

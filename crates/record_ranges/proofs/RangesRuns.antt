@@ -74,7 +74,7 @@ module _ (all : List (List ℕ)) (made out out_then notes : Option (List ℕ)) w
       went_noted (IsRangesAnswer all) ended text (taken_by made out notes) (taken_by made out_then notes) is
       (GoOut-neither made made out out_then notes refl unprinted)
 
-  -- P holds of the one file that all stores tell
+  -- P holds of the one file that all stores show
   abbrev OfFile : (List ℕ → Type 0) → Type 0
   OfFile P = (file : List ℕ) → AllByRecursion (λ other. other ≡ file) all → P file
 

@@ -14,7 +14,7 @@ use Rattle.chunk_reader.specs.declared.reasons.ReadEnd.TheVariants as read
 use Rattle.run_answers.specs.declared.ending.Cut.TheVariants as cut
 use Rattle.run_answers.specs.declared.ending.Ending.TheVariants as end
 
--- stores of which the bytes stay tell the same file
+-- stores of which the bytes stay show the same file
 pub still_one : {S : Type 0} (bytes : S → Option (List ℕ)) (before after : List S) (file : List ℕ) → map bytes after ≡ map bytes before
     → AllByRecursion (λ s. bytes s ≡ Some file) before → AllByRecursion (λ s. bytes s ≡ Some file) after
 still_one bytes before [] file same one = tt

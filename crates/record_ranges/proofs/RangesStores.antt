@@ -1,9 +1,9 @@
--- What the stores of one file tell.
+-- What the stores of one file show.
 use Rattle.std.proofs.Common.{◌≡◌, ◌∙◌, ℕ, Option, Some, List, [], ◌∷◌, length, map, refl, sym, ap, arith}
 use Rattle.std.specs.List.{AllByRecursion}
 use Rattle.record_ranges.specs.RangesCommand.{AreAlike}
 
--- they tell one file, where what they tell is this file
+-- they show one file, where what they show is this file
 pub of_one : {S : Type 0} (bytes : S → Option (List ℕ)) (files : List S) (all : List (List ℕ)) (file : List ℕ) → map bytes files ≡ map Some all
     → AllByRecursion (λ other. other ≡ file) all → AllByRecursion (λ s. bytes s ≡ Some file) files
 of_one bytes [] all file told one = tt
@@ -23,7 +23,7 @@ all_told told (f ∷ files) (n ∷ sizes) size tells alike =
     let others : map told files ≡ map Some sizes = cc tells in
     (its ∙ ap Some alike.0, all_told told files sizes size others alike.1)
 
--- and tell it once for each of them
+-- and show it once for each of them
 pub told_alike : {S : Type 0} (bytes : S → Option (List ℕ)) (files : List S) (file : List ℕ) → AllByRecursion (λ s. bytes s ≡ Some file) files
     → map bytes files ≡ map Some (map (λ (s : S). file) files)
 told_alike bytes [] file one = refl

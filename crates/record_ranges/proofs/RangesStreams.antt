@@ -51,7 +51,7 @@ ranges-streams files answer (inr (inl (within, first, other, differ, is))) = apa
 ranges-streams files answer (inr (inr (may, file, there, inl (text, h, is)))) = apart_printed text answer is
 ranges-streams files answer (inr (inr (may, file, there, inr (fault, faulty, is)))) = apart_noted status.Refused (refused_text fault) answer (λ e. cc e) is
 
--- stores that tell one file told its size
+-- stores that show one file told its size
 sizes_of_one : (files : List (List ℕ)) (file : List ℕ) → files ≢ [] → AllByRecursion (λ other. other ≡ file) files → length file ≤ most_range_bytes
     → AreAlike (length file) (map length files)
 sizes_of_one files file some one small = record { some = any files some; same = each files one; within = small } where
@@ -63,7 +63,7 @@ sizes_of_one files file some one small = record { some = any files some; same = 
   each [] one = tt
   each (other ∷ files) one = (ap length one.0, each files one.1)
 
--- so what they tell is answered as the file is
+-- so what they show is answered as the file is
 pub ranges-read : (files : List (List ℕ)) (file : List ℕ) (answer : Answer) → files ≢ [] → AllByRecursion (λ other. other ≡ file) files
     → length file ≤ most_range_bytes → IsRangesAnswer files answer → IsReadAnswer file answer
 ranges-read files file answer some one small (inl (past, is)) =

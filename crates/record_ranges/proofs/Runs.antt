@@ -134,7 +134,7 @@ stretch-more file size span old new j held h g begin last end holds records s = 
       ∙ ap (λ (p : ℕ). records_between span.from span.to (placed_from p (s.chunks ++ value_of_chunk j.chunk ∷ []) (s.lists ++ held ∷ []))) (sym begin);
 }
 
--- the same of a file that may not be told
+-- the same of a file whose bytes need not be shown
 pub stretch-goes_on : (bytes : Option (List ℕ)) (size : ℕ) (span : Span) (old new : Stretch) (j : Judged) (held : List (List ℕ)) → IsJudged false size old.end j
     → IfSome bytes (λ file. IsJudgedIn false file old.end j) → new.begin ≡ old.begin → new.last ≡ j.begin → new.end ≡ j.end → Holds (value_of_chunk j.chunk) held
     → new.records ≡ old.records ++ records_between span.from span.to (enumerate_from j.begin held)

@@ -40,7 +40,7 @@ module _ {S L : Type 0} (bytes : S → Option (List ℕ)) (told : S → Option �
       (subst (Answered (p ++ q) (a ++ c) (b ++ d)) (sym put)
       (answered_append p q a b c d x y h k))))
 
-  -- where all stores tell the same bytes, each gave chunks of these
+  -- where all stores show the same bytes, each gave chunks of these
   pub all_in : (file : List ℕ) (spans : List Span) (before after : List S) (answers : List (Result Stretch ReadEnd))
       → AllByRecursion (λ s. bytes s ≡ Some file) before → AreAnswered bytes told name faults spans before after answers → AreReadIn file spans answers
   all_in file [] [] [] [] same h = tt

@@ -58,7 +58,7 @@ IsReadAnswer file answer =
     ((text : List ℕ) × IsTextOfFile file text × (answer ≡ record { puts = puts_to Out text; status = status.Ok }))
     ⊎ ((fault : Fault) × IsFault false file fault × (answer ≡ noted status.Refused (refused_text fault)))
 
--- the answer to what the stores of one file tell, by their sizes first
+-- the answer to what the stores of one file show, by their sizes first
 abbrev pub IsRangesAnswer : List (List ℕ) → Answer → Type 0
 IsRangesAnswer files answer =
     (IsOnePast (map length files) × (answer ≡ noted status.Limit limit_text))
@@ -66,7 +66,7 @@ IsRangesAnswer files answer =
     × (first : ℕ) × (other : ℕ) × Differ (map length files) first other × (answer ≡ noted status.Differ (differ_text first other)))
     ⊎ (MayBeRead (map length files) × (file : List ℕ) × (slice_get files 0 ≡ Some file) × IsReadAnswer file answer)
 
--- all stores tell the bytes of one file
+-- all stores show the bytes of one file
 abbrev pub AreOneFile : List (List ℕ) → Type 0
 AreOneFile files = (file : List ℕ) × AllByRecursion (λ other. other ≡ file) files
 
@@ -79,7 +79,7 @@ MayEndRanges sizes ended text =
     ⊎ (IsOnePast sizes × (ended ≡ status.Limit) × (text ≡ limit_text))
     ⊎ (AreWithin sizes × (first : ℕ) × (other : ℕ) × Differ sizes first other × (ended ≡ status.Differ) × (text ≡ differ_text first other))
 
--- what `ranges` means: once the sizes let the file be read, it is supposed that all stores tell the same bytes
+-- what `ranges` means: once the sizes let the file be read, it is supposed that all stores show the same bytes
 abbrev pub ranges_meaning : Meaning
 ranges_meaning = record (meaning (record none_used { files = true; out = true; memory = true }) (λ r answer. IsRangesAnswer r.files answer)) {
   supposes = λ r. MayBeRead (map length r.files) → AreOneFile r.files;

@@ -62,7 +62,7 @@ IsReadIn (Ok parts) file = IsTextOfFile file (all_lines parts)
 IsReadIn (Err (read.Refused fault)) file = IsFault false file fault
 IsReadIn (Err other) file = Unit {0}
 
--- what standard output took of a file by how the work ended, where it is the one that all stores tell
+-- what standard output took of a file by how the work ended, where it is the one that all stores show
 abbrev pub PrintsFile : {X : Type 0} → Result X (Ending Unread) → List ℕ → (out out_then : Option (List ℕ)) → Type 0
 PrintsFile (Ok x) file out out_then = (text : List ℕ) × IsTextOfFile file text × Takes out out_then text
 PrintsFile (Err (end.At (unread.Refused fault))) file out out_then = IsFault false file fault

@@ -8,7 +8,7 @@ use Rattle.record_ranges.specs.declared.stretches.Span.{Span}
 use Rattle.record_ranges.specs.declared.stretches.Stretch.{Stretch}
 use Rattle.record_ranges.specs.Stretches.{IsStretchOf}
 
--- P holds of a file, where all stores tell its bytes
+-- P holds of a file, where all stores show its bytes
 abbrev pub IfAllTellSame : {S : Type 0} → (S → Option (List ℕ)) → List S → (List ℕ → Type 0) → Type 0
 IfAllTellSame bytes stores P = (file : List ℕ) → AllByRecursion (λ s. bytes s ≡ Some file) stores → P file
 

@@ -22,7 +22,7 @@ use std::thread::Threads;
 /// Reads a file of `size` bytes, at most 2^28, in parts between cuts, by threads: one store for each part, 1 to 16, which all
 /// told that size. The cuts rise or stay equal, and none passes the size. The records of all parts are held.
 ///
-/// What is said of the answer holds where all stores tell the same bytes. Then `Ok` comes only of a file without fault, and
+/// What is said of the answer holds where all stores show the same bytes. Then `Ok` comes only of a file without fault, and
 /// gives its parts: each record is in the part between whose cuts its position lies. Where parts don't meet, or one is refused,
 /// the file is read anew from the first store, and that answer is given.
 ///

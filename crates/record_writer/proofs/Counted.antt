@@ -161,7 +161,7 @@ TellsTotals-ended options s rest (Some InputTooLong) totals none same counted = 
 TellsTotals-ended options s rest (Some BadLine) totals none same counted =
     (same, omega (arith, none, ap (λ (t : Totals). t.records) counted, (Count-tail options s.place rest.records).counted))
 
--- where a feed told what was to come
+-- where a feed showed what was to come
 pub TellsTotals-told : (options : WriteOptions) (s : MadeFileValue) (ra : Option Rest) (stop : Option Stop) (totals : Totals) → s.records ≡ 0
     → IfSome ra (λ rest. rest.stop ≡ stop)
     → IfSome ra (λ rest. totals ≡ totals_behind s (tail_chunks options s.place rest.records))

@@ -177,7 +177,7 @@ to_take (Ok Window) bound = bound + 1
 to_take (Ok (All stop)) bound = 0
 to_take (Err cut) bound = 0
 
--- what holds of whatever a feed has left behind a window, where it tells that
+-- what holds of whatever a feed has left behind a window, where it shows that
 IfSome-given : (a b : Option Rest) (old new : Grouping) (given : List (List (List ℕ))) (P : Type 0)
     → AreGiven a b old new given → IfSome b (λ _. P) → IfSome a (λ _. P)
 IfSome-given None b old new given P h p = tt

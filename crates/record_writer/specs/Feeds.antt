@@ -13,10 +13,10 @@ pub record Rest : Type 0 where
 pub record Origin : Type 0 where
   -- the name of what it borrows, if it borrows what it reads
   pub name : ℕ
-  -- how many bytes of that it leaves in any case, where that is told
+  -- how many bytes of that it leaves in any case, where that is shown
   pub spared : Option ℕ
 
--- a feed borrows nothing, and tells nothing of what it leaves
+-- a feed borrows nothing, and shows nothing of what it leaves
 abbrev pub no_origin : Origin
 no_origin = record { name = 0; spared = None }
 
@@ -32,7 +32,7 @@ stop_alone s = record { records = []; stop = Some s }
 abbrev pub feed_bound : List (List ℕ) → ℕ
 feed_bound records = sum_by length records + length records
 
--- where a feed told what was to come, this record was the first of it
+-- where a feed showed what was to come, this record was the first of it
 abbrev pub GivesRecord : Option Rest → Option Rest → List ℕ → Type 0
 GivesRecord before after record_bytes =
     IfSome before (λ r. (later : Rest) × (after ≡ Some later) × (r ≡ record later { records = record_bytes ∷ later.records }))

@@ -56,7 +56,7 @@ pub record Lays (before after : Option (List ℕ)) (old new : MadeFileValue) (ks
   pub records : new.records ≡ old.records + (totals_of ks).records
   pub unread : new.unread ≡ old.unread + (totals_of ks).unread
 
--- of these bytes a sink took a front, where it tells what it takes, and what is held follows it; where a put failed, more
+-- of these bytes a sink took a front, where it shows what it takes, and what is held follows it; where a put failed, more
 -- follows that
 pub record TakesAndHoldsFront (Fails : Type 0) (before after : Option (List ℕ)) (bytes held : List ℕ) : Type 0 where
   pub passed : List ℕ
@@ -80,7 +80,7 @@ pub record LaysTo {M K X E : Type 0} (taken : M → Option (List ℕ)) (lent : M
 abbrev pub chunks_of_groups : List (List (List ℕ)) → List ChunkValue
 chunks_of_groups = map simple_chunk
 
--- where a feed told what was to come: the groups of its records are those that were given and those still to come
+-- where a feed showed what was to come: the groups of its records are those that were given and those still to come
 pub record AreGivenOf (all rest : Rest) (old new : Grouping) (given : List (List (List ℕ))) : Type 0 where
   pub stop : all.stop ≡ rest.stop
   pub groups : groups_from old all.records ≡ given ++ groups_from new rest.records

@@ -15,7 +15,7 @@ use Rattle.record_writer.specs.MadeFiles.{AreGiven, chunks_of_groups, reach_of}
 abbrev pub groups_of : List SimpleValue → List (List (List ℕ))
 groups_of = map (λ (chunk : SimpleValue). chunk.records)
 
--- groups are a front of those of a feed's records behind an open group, where it tells the records
+-- groups are a front of those of a feed's records behind an open group, where it shows the records
 abbrev pub AreFront : Option Rest → Grouping → List (List (List ℕ)) → Type 0
 AreFront before old given =
     IfSome before (λ rest. (more : List (List (List ℕ))) × (groups_from old rest.records ≡ given ++ more))

@@ -50,7 +50,7 @@ impl From<Failed> for FeedEnd {
 
 /// Records that come one after another. Own.
 pub trait RecordFeed {
-    /// What the feed has not given yet: records, and a stop where one ends them. A feed need not tell it.
+    /// What the feed has not given yet: records, and a stop where one ends them. A feed need not show it.
     ghost rest: { Self → Option Rest };
 
     /// A number that each record lowers by more than its length, and that no call raises.

@@ -92,7 +92,7 @@ damage_repaired test f result faults faults_then before after damaged h ks file 
       frame = frame_kept true ks file intact numbers.0 d.frame;
     }
 
--- where the file tells its bytes
+-- where the file shows its bytes
 pub repairs_damage : {F : Type 0} (test : Shared F (Bor Region × Unit {0}) Bool) (f : F) (bytes : Option (List ℕ)) (result : Result Repaired RepairEnd)
     (faults faults_then : ℕ) (before after : Taken) → IfSome bytes (Repairs test f result faults faults_then before after)
     → IfSome bytes (λ damaged.

@@ -196,7 +196,7 @@ front_repaired test f result faults faults_then before after bytes h ks file m f
       made = makes_front test f ks file bytes m frame front.0 front.1 result faults faults_then before after h.events left.0 h.part left.1 answer h.went h.took;
     }
 
--- where the file tells its bytes
+-- where the file shows its bytes
 pub repairs_front : {F : Type 0} (test : Shared F (Bor Region × Unit {0}) Bool) (f : F) (bytes : Option (List ℕ)) (result : Result Repaired RepairEnd)
     (faults faults_then : ℕ) (before after : Taken) → IfSome bytes (Repairs test f result faults faults_then before after)
     → IfSome bytes (λ front.

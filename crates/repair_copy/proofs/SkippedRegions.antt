@@ -1,4 +1,4 @@
--- The regions that are passed over, whatever the store tells.
+-- The regions that are passed over, whatever the store shows.
 use Rattle.std.proofs.Common.{◌≡◌, ℕ, ◌+◌, ◌^◌, ◌≤◌, Bool, true, Option, Result, Err, List, [], ◌∷◌, ◌++◌, length, length-append, refl, sym, subst, append-nil, arith}
 use Rattle.std.specs.List.{AllByRecursion}
 use Rattle.std.specs.Fn.{Shared, FnReturnsAt}

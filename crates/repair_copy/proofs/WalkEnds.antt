@@ -1,4 +1,4 @@
--- How a repair ends where its walk did, whether the file's bytes are told or not.
+-- How a repair ends where its walk did, whether the file's bytes are shown or not.
 use Rattle.std.proofs.Common.{◌≡◌, ◌∙◌, ℕ, ◌≤◌, Bool, true, ◌⊎◌, inl, inr, Option, Some, None, Result, Ok, Err, IfOk, IfSome, List, [], ◌∷◌, length, refl, sym, subst}
 use Rattle.std.specs.Fn.{Shared}
 use denote.Ref.{Bor}

@@ -61,7 +61,7 @@ AnswersSkipped test f (Ok repaired) regions = repaired.regions ≡ length region
 AnswersSkipped test f (Err (end.Stopped region)) regions = IsRefusedRegion test f region
 AnswersSkipped test f (Err other) regions = ⊤
 
--- these regions were passed over, also where the store doesn't tell its bytes: what was answered, and what notes took
+-- these regions were passed over, also where the store doesn't show its bytes: what was answered, and what notes took
 pub record Skips {F : Type 0} (test : Shared F (Bor Region × Unit {0}) Bool) (f : F) (result : Result Repaired RepairEnd) (before after : Option (List ℕ)) : Type 0 where
   pub regions : List Region
   pub allowed : AllByRecursion (IsAllowedRegion test f) regions

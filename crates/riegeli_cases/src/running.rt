@@ -18,7 +18,7 @@ const ROOM: usize = 1 << 18;
 /// How many bytes a sink has room for, for each byte that a run is given.
 const ROOM_FOR_EACH: usize = 4;
 
-/// A file by itself, which tells no bytes, since then no run copies it.
+/// A file by itself, which shows no bytes, since then no run copies it.
 pub(crate) fn alone(alloc: Global, bytes: Vec<u8>) -> Result<Given> {
     let mut file = GivenFile::new(bytes);
     file.untold = Some(file.bytes.len() as u64);
@@ -58,7 +58,7 @@ pub(crate) fn run_in_memory<R: Threads + Sync>(
     }
 }
 
-/// Whether each of these files tells its bytes.
+/// Whether each of these files shows its bytes.
 fn are_told(files: &[GivenFile]) -> bool {
     for file in files {
         if file.untold.is_some() {
@@ -68,7 +68,7 @@ fn are_told(files: &[GivenFile]) -> bool {
     true
 }
 
-/// Runs the words where each file tells its bytes.
+/// Runs the words where each file shows its bytes.
 fn run_over_told<R: Threads + Sync>(
     rt: &R,
     alloc: Global,
@@ -93,7 +93,7 @@ fn store_of(alloc: Global, given: &Given, file: &GivenFile) -> Result<MemStore, 
     Ok(MemStore::new(file.bytes.to_vec(alloc)?, cuts, fails))
 }
 
-/// Runs the words where a file tells nothing: then none does.
+/// Runs the words where a file shows nothing: then none does.
 fn run_over_untold<R: Threads + Sync>(
     rt: &R,
     alloc: Global,
@@ -111,7 +111,7 @@ fn run_over_untold<R: Threads + Sync>(
     Ok(left)
 }
 
-/// These files, of which nothing is told.
+/// These files, which show no bytes.
 fn untold_files(alloc: Global, files: &[GivenFile]) -> Result<Vec<Untold<'_>>, AllocError> {
     let mut untold = Vec::new(alloc);
     for file in files {
@@ -138,7 +138,7 @@ fn run_over<R: Threads + Sync, S: Store + Send>(
     run_on_told(rt, alloc, words, given, files)
 }
 
-/// The same where the grown file tells its bytes.
+/// The same where the grown file shows its bytes.
 fn run_on_told<R: Threads + Sync, S: Store + Send>(
     rt: &R,
     alloc: Global,

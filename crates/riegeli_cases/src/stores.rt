@@ -1,10 +1,10 @@
-//! A file of which nothing is told.
+//! A file that shows no bytes.
 ghost use Rattle.std.specs.Prelude.{None};
 
 use record_append::Device;
 use record_io::{Failed, Store};
 
-/// A file of these bytes and of zero bytes behind them up to its size, of which nothing is told.
+/// A file of these bytes and of zero bytes behind them up to its size, which shows none of its bytes.
 #[derive(Drop)]
 pub(crate) struct Untold<'a> {
     bytes: &'a [u8],

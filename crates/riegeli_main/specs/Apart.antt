@@ -35,7 +35,7 @@ pub record GrowingApart : Type 0 where
 pub record TellingApart : Type 0 where
   -- whether it goes to none
   pub apart : Bool
-  -- all bytes that the sink took, where it tells them
+  -- all bytes that the sink took, where it shows them
   pub taken : Option (List ℕ)
   -- what the sink borrows
   pub lent : Lent

@@ -353,7 +353,7 @@ module _ (words : AppendWords) (input input_then : SeenStream) (files : List See
       )))
       (refl, rose) keeps says
 
-  -- P holds of what is read, where that is told
+  -- P holds of what is read, where that is shown
   if_read : (P : List ℕ → Rest → Type 0) → IfSome grown.bytes (λ file. IfSome input.bytes (λ bytes. P file (lines_taken words bytes)))
       → (r : Read) → IsReadBy (append_meaning words) Before r → P r.grown (Lines r)
   if_read P holds r is =
@@ -391,7 +391,7 @@ module _ (words : AppendWords) (input input_then : SeenStream) (files : List See
   by_end (Err (end.Cut cut.Made)) ended (used, sized) has keeps input_rose grown_rose out_rose read says = absurd (cc used)
   by_end (Err (end.Cut cut.Notes)) ended ((text, says_it, some), sized) has keeps input_rose grown_rose out_rose read says = absurd (some says_it)
 
-  -- of what the file and the input told
+  -- of what the file and the input showed
   pub runs-append : {X : Type 0} (result : Result X (Ending Unappended)) (ended : Status) → IsSizedBy result words grown.bytes grown_then.told
       → IfSome grown.bytes (λ file. IfSome input.bytes (λ bytes.
       HasAppended result words (lines_taken words bytes) file grown_then.bytes out.bytes out_then.bytes))

@@ -22,7 +22,7 @@ use Rattle.run_answers.specs.declared.ending.Cut.TheVariants as cut
 use Rattle.run_answers.specs.declared.ending.Ending.TheVariants as end
 use Rattle.run_answers.specs.declared.sizes.SizeEnd.TheVariants as size
 
--- P holds of an old file and of what an input gives, where these are told
+-- P holds of an old file and of what an input gives, where these are shown
 abbrev pub IfBoth : AppendWords → (bytes input : Option (List ℕ)) → (List ℕ → Rest → Type 0) → Type 0
 IfBoth words bytes input P = IfSome bytes (λ file. IfSome input (λ given. P file (lines_taken words given)))
 
@@ -107,7 +107,7 @@ module _ (words : AppendWords) where
   sized_by append.Device size bytes told within exact refused = refl
   sized_by append.Memory size bytes told within exact refused = (refl, (size, within, exact))
 
-  -- the same of what the device and the input told
+  -- the same of what the device and the input showed
   pub ended-appended : (e : AppendEnd) (why : Ending Unappended) (size : ℕ) (bytes mid held input out : Option (List ℕ))
       → why ≡ end_of_append e → mid ≡ bytes → size ≤ most_file_bytes → IfSome bytes (λ file. size ≡ length file)
       → ((fault : Fault) → e ≡ append.Refused fault → IfSome mid (λ file. IsRefusedToGrow words.cut file fault))

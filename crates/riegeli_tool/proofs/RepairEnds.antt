@@ -1,4 +1,4 @@
--- How the work of `repair` ends, by how the repair of its file did, where the file may tell its bytes.
+-- How the work of `repair` ends, by how the repair of its file did, where the file may show its bytes.
 use Rattle.std.proofs.Common.{◌≡◌, ℕ, ◌-◌, ◌≤◌, ◌⊎◌, inl, inr, arith, Bool, true, false, Option, Some, None, Result, Ok, Err, IfSome, IsSomeAnd, List, [], ◌∷◌, length, refl, sym, subst}
 use Rattle.std.specs.Fn.{Shared}
 use denote.Ref.{Bor}
@@ -153,7 +153,7 @@ module _ {F : Type 0} (g : Shared F (Bor Region × Unit {0}) Bool) (f : F) (word
           (unreported-walked g f words bound file few x y a b o n m repaired p
           (MatchOption-at_some _ (Repairs g f (Ok repaired) x y (taken_by a None n) (taken_by b None m)) file is h) printed)
 
-  -- what was told, whatever the file tells
+  -- what was told, whatever the file shows
   pub ended-tells : (e : RepairEnd) (why : Ending Region) (n m : Option (List ℕ)) → why ≡ end_of_repair e
       → Skips g f (Err e) n m → TellsOf words.most (Err why) n m
   ended-tells e why n m is h = subst (λ (y : Ending Region). TellsOf words.most (Err y) n m) (sym is) (tells e n m h)

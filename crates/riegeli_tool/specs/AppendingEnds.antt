@@ -45,7 +45,7 @@ unappended_status (Stopped stop count) = stop_status (Some stop)
 abbrev pub appending_ends : {X : Type 0} → Endings X Unappended
 appending_ends = record { done = λ _. status.Ok; text = unappended_text; status = unappended_status }
 
--- the file, whose bytes are these, where it tells them, told a size, of which P holds
+-- the file, whose bytes are these, where it shows them, told a size, of which P holds
 abbrev pub HasTold : (bytes : Option (List ℕ)) → (ℕ → Type 0) → Type 0
 HasTold bytes P = (size : ℕ) × P size × IfSome bytes (λ file. size ≡ length file)
 

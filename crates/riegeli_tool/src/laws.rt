@@ -149,8 +149,8 @@ pub fn streams_take_their_parts()
         × (bytes_to Notes answer.puts ≡ []) }
 {}
 
-/// Where all stores tell one file, of at most 2^28 bytes, `ranges` ends as `show` of that file does, and says the same in notes;
-/// and where the file has no fault it prints the same: the records as they are, with nothing before them. Own.
+/// Where all stores show one file, of at most 2^28 bytes, `ranges` ends as `show` of that file does, and says the same in
+/// notes; and where the file has no fault it prints the same: the records as they are, with nothing before them. Own.
 pub fn ranges_print_what_show_prints()
     ensures same { (words : ShowWords) (files : List (List ℕ)) (file : List ℕ) (shown answer : Answer)
         → files ≢ [] → AllByRecursion (λ other. other ≡ file) files → length file ≤ most_range_bytes → words.form ≡ bare

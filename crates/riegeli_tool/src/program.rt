@@ -87,8 +87,8 @@ pub fn run<
     out: &mut O,
     notes: &mut E,
 ) -> Status
-    // What the status and the objects tell: the answer, or which of them failed and what went out before. Past damage the answer
-    // is told by the numbers of the undamaged file's chunks too, and so is that to the front of a file.
+    // What the status tells and the objects show: the answer, or which of them failed and what went out before. Past damage the
+    // answer is told by the numbers of the undamaged file's chunks too, and so is that to the front of a file.
     ensures runs { RunsCommand (accepted (map string_bytes words.now) (length files.old))
         (seen (seen_stream I.left I.faults input.old) (map (seen_file S.bytes S.told S.handed S.faults) files.old) (seen_stream M.taken M.faults made.old)
         (seen_file G.bytes G.told G.handed G.faults grown.old) (seen_stream O.taken O.faults out.old) (seen_stream E.taken E.faults notes.old))

@@ -53,14 +53,14 @@ one_alone : {X : Type 0} (place : ℕ) (x only other : X) → slice_get (only �
 one_alone zero x only other is = refl
 one_alone (suc place) x only other is = absurd (cc is)
 
--- the one file that tells its bytes
+-- the one file that shows its bytes
 one_told : (told : Option (List ℕ)) (files : List (List ℕ)) → told ∷ [] ≡ map Some files
     → (file : List ℕ) × (files ≡ file ∷ []) × (told ≡ Some file)
 one_told told [] same = absurd (cc same)
 one_told told (file ∷ []) same = (file, refl, cc same)
 one_told told (file ∷ other ∷ files) same = absurd (cc same)
 
--- what holds of the bytes that the one file tells holds of the files that are read
+-- what holds of the bytes that the one file shows holds of the files that are read
 pub told-files : (m : Meaning) (input made : SeenStream) (file grown : SeenFile) (out notes : SeenStream) (R : List (List ℕ) → Type 0) → m.uses.files ≡ true
     → IfSome file.bytes (λ bytes. R (bytes ∷ [])) → IfRead m (seen input (file ∷ []) made grown out notes) (λ r. R r.files)
 told-files m input made file grown out notes R uses known = λ r is.

@@ -118,7 +118,7 @@ pub went_none : (P : Answer → Type 0) (Q : List Put → Type 0) (ended : Statu
 went_none P Q ended answer before after is breaks so_far went =
     record { answer = answer; is = is; part = []; breaks = breaks; quiet = refl; went = went; so_far = λ short. so_far }
 
--- files that are there tell the bytes of some
+-- files that are there show the bytes of some
 pub some_told : {S : Type 0} (tell : S → Option (List ℕ)) (files : List S) (all : List (List ℕ)) → 0 < length files → map tell files ≡ map Some all → all ≢ []
 some_told tell [] all some told none = omega (arith, some)
 some_told tell (f ∷ files) all some told none = cc (told ∙ ap (map Some) none)
@@ -143,7 +143,7 @@ module _ (m : Meaning) (S : List (List ℕ) → Type 0) (P : List (List ℕ) →
   abbrev Worked : Taken
   Worked = taken_by made_then.bytes out_then.bytes notes.bytes
 
-  -- R holds of the bytes that the files tell
+  -- R holds of the bytes that the files show
   abbrev IfFiles : (List (List ℕ) → Type 0) → Type 0
   IfFiles R = (all : List (List ℕ)) → bytes_of files ≡ map Some all → AllByRecursion AreBytes all → S all → R all
 

@@ -33,7 +33,7 @@ pub record Meaning : Type 1 where
   pub is_command : Bool
   -- what it uses
   pub uses : Uses
-  -- what is supposed of what it reads, as that all stores of one file tell the same bytes, once their sizes let it go on to its
+  -- what is supposed of what it reads, as that all stores of one file show the same bytes, once their sizes let it go on to its
   -- work
   pub supposes : Read → Type 0
   -- its answers to what it reads

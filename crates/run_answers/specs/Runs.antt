@@ -1,4 +1,4 @@
--- How a run goes: what its status and its objects tell, of every command. Own.
+-- How a run goes: what its status tells and its objects show, of every command. Own.
 use Rattle.std.specs.Prelude.{◌≡◌, ◌≢◌, ℕ, ◌≤◌, ◌⊎◌, true, Option, Some, None, List, [], ◌++◌, map, length, take, drop, slice_get, IfSome, IsSomeAnd, ◌+◌, ◌∷◌, false}
 use Rattle.std.specs.List.{AllByRecursion, flat_map}
 use Rattle.record_values.specs.Bytes.{AreBytes}
@@ -11,7 +11,7 @@ use Rattle.run_answers.specs.Answers.{Answer, line}
 use Rattle.run_answers.specs.Meanings.{Uses, Read, Meaning}
 use Rattle.run_answers.specs.declared.status.Status.TheVariants as status
 
--- what a stream shows: the bytes that an input has left or that a sink took, where it tells them, and its count of faults
+-- what a stream shows: the bytes that an input has left or that a sink took, where it shows them, and its count of faults
 pub record SeenStream : Type 0 where
   pub bytes : Option (List ℕ)
   pub faults : ℕ
@@ -23,7 +23,7 @@ seen_stream bytes faults x = record { bytes = bytes x; faults = faults x }
 abbrev pub unseen : SeenStream
 unseen = record { bytes = None; faults = 0 }
 
--- what a file shows: its bytes, where it tells them, the size that it told the last time, how many bytes it handed out, and its
+-- what a file shows: its bytes, where it shows them, the size that it told the last time, how many bytes it handed out, and its
 -- count of faults
 pub record SeenFile : Type 0 where
   pub bytes : Option (List ℕ)
@@ -96,22 +96,22 @@ pub record HadNoSinkFault (uses : Uses) (before after : Seen) : Type 0 where
   pub made : uses.made ≡ true → ¬ Rose before.made.faults after.made.faults
   pub out : uses.out ≡ true → ¬ Rose before.out.faults after.out.faults
 
--- this is what a command reads, where the objects that it uses tell their bytes, and what is supposed of it holds
+-- this is what a command reads, where the objects that it uses show their bytes, and what is supposed of it holds
 pub record IsReadBy (m : Meaning) (before : Seen) (r : Read) : Type 0 where
   pub input : m.uses.input ≡ true → before.input.bytes ≡ Some r.input
   pub files : m.uses.files ≡ true → (map (λ file. file.bytes) before.files ≡ map Some r.files) × AllByRecursion AreBytes r.files
   pub grown : m.uses.grown ≡ true → (before.grown.bytes ≡ Some r.grown) × AreBytes r.grown
   pub supposed : m.supposes r
 
--- P holds of what a command reads, where it tells its bytes
+-- P holds of what a command reads, where that shows its bytes
 abbrev pub IfRead : Meaning → Seen → (Read → Type 0) → Type 0
 IfRead m before P = (r : Read) → IsReadBy m before r → P r
 
--- P holds of an answer to the command, where what it reads tells its bytes
+-- P holds of an answer to the command, where what it reads shows its bytes
 abbrev pub IfTold : Meaning → Seen → (Answer → Type 0) → Type 0
 IfTold m before P = IfRead m before (λ r. (answer : Answer) × m.answers r answer × P answer)
 
--- P holds of the sizes of the files that a command reads or grows: they have told these, and their bytes, where they tell
+-- P holds of the sizes of the files that a command reads or grows: they have told these, and their bytes, where they show
 -- them, are so many
 pub record OfSizes (m : Meaning) (before after : Seen) (P : List ℕ → Type 0) : Type 0 where
   pub sizes : List ℕ
@@ -210,12 +210,12 @@ pub record NoneFell (before after : Seen) : Type 0 where
   pub out : before.out.faults ≤ after.out.faults
   pub notes : before.notes.faults ≤ after.notes.faults
 
--- P holds of what a command reads and of what the file that it grows holds then, where it grows one and these are told
+-- P holds of what a command reads and of what the file that it grows holds then, where it grows one and these are shown
 abbrev pub IfGrown : Meaning → Seen → Seen → (Read → List ℕ → Type 0) → Type 0
 IfGrown m before after P =
     m.uses.grown ≡ true → IfRead m before (λ r. (bytes : List ℕ) × (after.grown.bytes ≡ Some bytes) × P r bytes)
 
--- of an input that told its bytes at most so many were taken
+-- of an input that showed its bytes at most so many were taken
 abbrev pub TakesAtMost : ℕ → (before after : Option (List ℕ)) → Type 0
 TakesAtMost most before after = IfSome before (λ left. IsSomeAnd after (λ rest. length left ≤ length rest + most))
 
@@ -249,7 +249,7 @@ pub record Runs (m : Meaning) (before after : Seen) (ended : Status) : Type 0 wh
   -- in their order: behind a file that told no size none is asked
   pub in_order : (place : ℕ) (file : SeenFile) → slice_get after.files place ≡ Some file → file.told ≡ None
       → drop (place + 1) after.files ≡ drop (place + 1) before.files
-  -- what notes took, also where nobody tells what was read
+  -- what notes took, also where nothing shows what was read
   pub end_said : IsWhole ended
       → OfSizes m before after (λ sizes. (text : List ℕ) × m.may_end sizes ended text × Takes before.notes.bytes after.notes.bytes text)
   pub cut_off_said : IsCutOff ended → (text : List ℕ) × m.may_say text × TakesThen before.notes after.notes text (fault_text ended)

@@ -1,4 +1,4 @@
--- How the loop of `show` gets on past damage, where the file may tell its bytes.
+-- How the loop of `show` gets on past damage, where the file may show its bytes.
 use Rattle.std.proofs.Common.{◌≡◌, ◌∙◌, ℕ, ◌-◌, ◌^◌, ◌≤◌, ◌⊎◌, Bool, true, false, Option, Some, None, Result, Ok, Err, IfSome, List, [], ◌∷◌, ◌++◌, length, take, refl, sym, ap, subst, inl, inr, arith}
 use Rattle.std.specs.Fn.{Shared, FnReturnsAt}
 use denote.Ref.{Bor}

@@ -24,7 +24,7 @@ walk_ends = record { done = λ ended. ended; text = region_text (codes "stopped"
 abbrev pub IsBound : {F : Type 0} → Shared F (Bor Region × Unit {0}) Bool → F → Option ℕ → Type 0
 IsBound g f most = (region : Region) (allowed : Bool) → IsRegion region → FnReturnsAt g f region allowed → allowed ≡ may_skip most region
 
--- what was said of a walk, also where the file doesn't tell its bytes: the lines of regions that may be skipped
+-- what was said of a walk, also where the file doesn't show its bytes: the lines of regions that may be skipped
 pub record HasToldOf (most : Option ℕ) (notes notes_then : Option (List ℕ)) (skipped : List Region) : Type 0 where
   pub may : AllByRecursion (MaySkip most) skipped
   pub says : Takes notes notes_then (skipped_text skipped)

@@ -442,7 +442,7 @@ printed-ended words (Some f) then before after held why ended (Err made) same er
     subst (λ (w : Ending Fault). HasPutEarly refused_text (λ _. status.Refused) (IsShown words) w f before after held) (sym is)
     (subst (λ (r : Result Bool (Ending Fault)). PrintsOn words r f then before after held) same h)
 
--- what holds of each file holds of the one that is told
+-- what holds of each file holds of the one that is shown
 pub reads-none : (bytes : Option (List ℕ)) (told : Option ℕ) (size : ℕ) (at : ReaderValue) → told ≡ Some size → size ≤ 2 ^ 60 → at.size ≡ size
     → at.keep ≡ false → ((f : List ℕ) → AreReadFrom false f at.totals) → ReadsIn bytes told at
 reads-none bytes told size at is reach same strict each = record {

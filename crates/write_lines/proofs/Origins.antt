@@ -5,7 +5,7 @@ use Rattle.record_writer.specs.Feeds.{Origin}
 use Rattle.run_answers.specs.Runs.{TakesAtMost}
 use Rattle.write_lines.specs.LineFeeds.{origin_of}
 
--- origins of the same name that tell the same
+-- origins of the same name that show the same
 same-origin : (name name_then spared spared_then : ℕ) → name_then ≡ name → spared_then ≡ spared
     → ◌≡◌ {A = Origin} (record { name = name_then; spared = Some spared_then }) (record { name = name; spared = Some spared })
 same-origin name name_then spared spared_then same less =

@@ -33,7 +33,7 @@ made-some words bytes = λ none.
     let records : List (List ℕ) = (taken_from bytes words.hex (2 ^ 40)).records in
     omega (arith, ap length none, length-file_of-signed records words.options.size words.options.every words.options.pad, end_of_chunk-signature)
 
--- the write engine's answer to an input that tells its bytes, and what the made file took of that file
+-- the write engine's answer to an input that shows its bytes, and what the made file took of that file
 pub record Wrote (words : WriteWords) (input made made_then : SeenStream) (result : Result Totals WriteEnd) : Type 0 where
   pub told : (bytes : List ℕ) → input.bytes ≡ Some bytes
       → TellsWritten result words.options (taken_from bytes words.hex (2 ^ 40))

@@ -1,4 +1,4 @@
--- What a feed of lines tells of its input.
+-- What a feed of lines shows of its input.
 use Rattle.std.proofs.Common.{◌≡◌, ℕ, Option, Some, None, Result, Ok, Err, List, [], option_map}
 use Rattle.std.specs.Option.{IfSome}
 use Rattle.std.specs.Result.{OnOk}

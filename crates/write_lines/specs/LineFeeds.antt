@@ -4,7 +4,7 @@ use Rattle.record_writer.specs.Feeds.{Rest, Origin}
 use Rattle.run_answers.specs.Lines.{NoneEnds}
 use Rattle.write_lines.specs.Input.{record_of_line, taken_before, taken_from}
 
--- the bytes that are held, and then those that the input has left, where it tells them
+-- the bytes that are held, and then those that the input has left, where it shows them
 abbrev pub text_of : List ℕ → Option (List ℕ) → Option (List ℕ)
 text_of held left = option_map (λ bytes. held ++ bytes) left
 
@@ -16,7 +16,7 @@ rest_of hex bound text = option_map (λ bytes. taken_from bytes hex (bound - 1))
 abbrev pub origin_of : (name asked : ℕ) → Option (List ℕ) → Origin
 origin_of name asked left = record { name = name; spared = option_map (λ bytes. length bytes - asked) left }
 
--- where a feed told what was to come, the first of it was what this line stands for
+-- where a feed showed what was to come, the first of it was what this line stands for
 abbrev pub GivesLine : Bool → Option Rest → Option Rest → List ℕ → Type 0
 GivesLine hex before after line =
     IfSome before (λ r. (later : Rest) × (after ≡ Some later) × (r ≡ taken_before (record_of_line hex line) later))

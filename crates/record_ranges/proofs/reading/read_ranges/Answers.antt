@@ -32,7 +32,7 @@ judged_parts-requires-clause-told g c =
     first-told g.S.Store.bytes g.S.Store.told g.S.Store.name g.S.Store.faults c.args.size c.deref.result.now c.args.stores.now c.read_into.new.stores
     c.read_into.new.answers.items c.index-stores-0.result c.read_into.ensures c.requires.told (omega (arith, c.requires.one_more))
 
--- where all stores tell the same bytes, the first tells them after the threads too
+-- where all stores show the same bytes, the first shows them after the threads too
 tells : (g : _) (c : After-judged_parts g) (file : List ℕ) → AllByRecursion (λ s. g.S.Store.bytes s ≡ Some file) c.args.stores.now
     → g.S.Store.bytes (slice_index_or c.read_into.new.stores 0 c.index-stores-0.result) ≡ Some file
 tells g c file same =

@@ -208,7 +208,7 @@ ended g c none =
     walked_to_end _ _ _ _ c.loop-event.walker.progress.keep c.loop-event.walker.progress.place c.next.new.self.progress.place kept.store.same_bytes kept.keeps
     c.loop-event.copied _ _ kept.copied none
 
--- what the store tells has as many bytes as was told
+-- what the store shows has as many bytes as was told
 sized : (g : _) (c : After-next g) → IsSized (g.S.Store.bytes c.loop-event.store) (Some c.loop-event.walker.progress.size)
 sized g c =
     subst (IsSized (g.S.Store.bytes c.loop-event.store)) c.loop-event.invariant.stands.size (g.met.S.Store.sized c.loop-event.store)
