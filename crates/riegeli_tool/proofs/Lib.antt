@@ -22,3 +22,4 @@ pub mod RepairEnds
 mod RepairValues
 pub mod UsageRuns
 pub mod WrittenSizes
+mod DamageValues
