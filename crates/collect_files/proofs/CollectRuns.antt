@@ -4,9 +4,9 @@ use Rattle.std.specs.Prelude.{slice_get}
 use Rattle.std.specs.List.{AllByRecursion}
 use Rattle.record_values.specs.Bytes.{AreBytes}
 use Rattle.record_io.specs.ManyStores.{AreOnlyAsked}
-use Rattle.record_io.specs.Outside.{Rose, TakesFront}
-use Rattle.record_io.specs.Puts.{Put, Made, Out, Notes, taken_by, BreaksOff, puts_to}
-use Rattle.record_io.proofs.Puts.{TakesFront-count, BreaksOff-last, BreaksOff-longer, BreaksOff-front, bytes_to-other}
+use Rattle.record_io.specs.Outside.{Rose, Takes}
+use Rattle.record_io.specs.Puts.{Made, Out, Notes, taken_by, puts_to}
+use Rattle.record_io.proofs.Puts.{TakesFront-count, BreaksOff-last, BreaksOff-longer, bytes_to-other, puts_to-front}
 use Rattle.record_collect.specs.GatheredFiles.{AreGatheredOf}
 use Rattle.record_collect.specs.Gatherings.{GatheredValue}
 use Rattle.run_answers.specs.declared.ending.Ending.{Ending}
@@ -23,7 +23,6 @@ use Rattle.collect_files.specs.CollectCommand.{AreEachInReach, IsOneTooLong, IsC
 use Rattle.collect_files.specs.CollectingEnds.{TakeCollected, collecting_ends, uncollected_status, uncollected_text}
 use Rattle.collect_files.specs.declared.stops.Uncollected.{Uncollected}
 use Rattle.collect_files.proofs.CollectAnswers.{answer_in_reach, collect_exists, is_whole}
-use Rattle.collect_files.proofs.CollectedFiles.{collected-some}
 use Rattle.run_answers.specs.declared.ending.Cut.TheVariants as cut
 use Rattle.run_answers.specs.declared.ending.Ending.TheVariants as end
 use Rattle.run_answers.specs.declared.status.Status.TheVariants as status
@@ -47,10 +46,6 @@ stop_other : (w : Uncollected) → uncollected_status w ≢ status.Ok
 stop_other (uncollected.Refused index fault) is = cc is
 stop_other uncollected.TooMuch is = cc is
 
-stop_some : (w : Uncollected) → uncollected_text w ≢ []
-stop_some (uncollected.Refused index fault) is = cc is
-stop_some uncollected.TooMuch is = cc is
-
 ends-collect : {X : Type 0} → EndsBySizes {X = X} collect_meaning collecting_ends IsOneTooLong (λ _. AreEachInReach)
 ends-collect = record {
   done = λ x. refl;
@@ -59,7 +54,6 @@ ends-collect = record {
   stop = stop_collect;
   whole = stop_whole;
   other = stop_other;
-  some = stop_some;
 }
 
 module _ (all : List (List ℕ)) (made made_then out out_then notes : Option (List ℕ)) where
@@ -79,24 +73,18 @@ module _ (all : List (List ℕ)) (made made_then out out_then notes : Option (Li
 
   -- a front of the file was made
   front_went : (ended : Status) (value : GatheredValue) → AreEachInReach (map length all) → AreGatheredOf all value
-      → ((count : ℕ) → BreaksOff Made (puts_to Made (take count (collected_file value.records))) (collected_answer value).puts
-      → Breaks ended (puts_to Made (take count (collected_file value.records))) (collected_answer value).puts)
-      → TakesFront made made_then (collected_file value.records) → out_then ≡ out
+      → (count : ℕ) → Breaks ended (puts_to Made (take count (collected_file value.records))) (collected_answer value).puts
+      → Takes made made_then (take count (collected_file value.records)) → out_then ≡ out
       → WentToCut (IsCollectAnswer all) (IsCollectedSoFar all) ended (taken_by made out notes) (taken_by made_then out_then notes)
-  front_went ended value reach gathered breaks front unprinted =
-      let count = TakesFront-count made made_then (collected_file value.records) front in
-      let part : List Put = puts_to Made (take count.0 (collected_file value.records)) in
-      record {
-        answer = collected_answer value;
-        is = is_whole all value reach gathered;
-        part = part;
-        breaks = breaks count.0
-            (BreaksOff-longer Made part (puts_to Made (collected_file value.records)) (puts_to Out (collected_lines value))
-            (BreaksOff-last Made [] (collected_file value.records) count.0 (collected-some value.records)));
-        quiet = bytes_to-other Notes Made (take count.0 (collected_file value.records)) refl;
-        went = GoOut-first made made_then out out_then notes (take count.0 (collected_file value.records)) count.1 unprinted;
-        so_far = λ short. inr (value, gathered, count.0, refl);
-      }
+  front_went ended value reach gathered count breaks took unprinted = record {
+    answer = collected_answer value;
+    is = is_whole all value reach gathered;
+    part = puts_to Made (take count (collected_file value.records));
+    breaks = breaks;
+    quiet = bytes_to-other Notes Made (take count (collected_file value.records)) refl;
+    went = GoOut-first made made_then out out_then notes (take count (collected_file value.records)) took unprinted;
+    so_far = λ short. inr (value, gathered, count, refl);
+  }
 
   went-collect : {X : Type 0} (result : Result X (Ending Uncollected)) → AllByRecursion AreBytes all
       → MayEndBy collect_meaning IsOneTooLong (λ _. AreEachInReach) result (map length all) → TakeCollected result all made made_then out out_then
@@ -113,25 +101,27 @@ module _ (all : List (List ℕ)) (made made_then out out_then notes : Option (Li
       noted_went status.Limit too_much_text (inr (reach, inr (inr (much, refl)))) same unprinted
   went-collect (Err (end.Cut cut.File)) bytes sizes (same, unprinted) =
       let found = collect_exists all bytes in nothing_went status.File found.0 found.1 (found.0.puts, refl) same unprinted
-  went-collect (Err (end.Cut cut.Made)) bytes (used, reach) (value, gathered, (front, unprinted)) =
-      front_went status.Made value reach gathered (λ count broke. broke) front unprinted
+  went-collect (Err (end.Cut cut.Made)) bytes (used, reach) (value, gathered, ((count, less, took), unprinted)) =
+      let file : List ℕ = collected_file value.records in
+      front_went status.Made value reach gathered count
+      (BreaksOff-longer Made (puts_to Made (take count file)) (puts_to Made file) (puts_to Out (collected_lines value)) (BreaksOff-last Made [] file count less))
+      took unprinted
   went-collect (Err (end.Cut cut.Memory)) bytes (used, reach) (inl (same, unprinted)) =
       let found = answer_in_reach all bytes reach in nothing_went status.Memory found.0 found.1 (found.0.puts, refl) same unprinted
   went-collect (Err (end.Cut cut.Memory)) bytes (used, reach) (inr (value, gathered, (front, unprinted))) =
-      front_went status.Memory value reach gathered
-      (λ count broke. BreaksOff-front Made (puts_to Made (take count (collected_file value.records))) (collected_answer value).puts broke)
-      front unprinted
-  went-collect (Err (end.Cut cut.Out)) bytes (used, reach) (value, gathered, (whole, front, some)) =
       let file : List ℕ = collected_file value.records in
-      let count = TakesFront-count out out_then (collected_lines value) front in
-      let last : List ℕ = take count.0 (collected_lines value) in
+      let took = TakesFront-count made made_then file front in
+      front_went status.Memory value reach gathered took.0 (puts_to-front Made file took.0 (puts_to Out (collected_lines value))) took.1 unprinted
+  went-collect (Err (end.Cut cut.Out)) bytes (used, reach) (value, gathered, (whole, (count, less, printed))) =
+      let file : List ℕ = collected_file value.records in
+      let last : List ℕ = take count (collected_lines value) in
       record {
         answer = collected_answer value;
         is = is_whole all value reach gathered;
         part = puts_to Made file ++ puts_to Out last;
-        breaks = BreaksOff-last Out (puts_to Made file) (collected_lines value) count.0 some;
+        breaks = BreaksOff-last Out (puts_to Made file) (collected_lines value) count less;
         quiet = bytes_to-neither Notes Made Out file last refl refl;
-        went = GoOut-both made made_then out out_then notes file last whole count.1;
+        went = GoOut-both made made_then out out_then notes file last whole printed;
         so_far = λ short. absurd short;
       }
   went-collect (Err (end.Cut cut.Input)) bytes (used, reach) took = absurd (cc used)

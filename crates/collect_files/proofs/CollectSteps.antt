@@ -1,10 +1,10 @@
 -- Files that are asked their sizes, and whose records are then gathered and put into one.
-use Rattle.std.proofs.Common.{◌≡◌, ◌≢◌, ◌∙◌, ℕ, false, true, Option, Result, Err, List, [], refl, sym, ap, subst, inl, inr}
+use Rattle.std.proofs.Common.{◌≡◌, ◌∙◌, ℕ, false, true, Option, Result, Err, List, refl, sym, ap, subst, inl, inr}
 use Rattle.std.specs.Prelude.{nat_lt}
 use Rattle.std.specs.List.{list_any}
 use Rattle.std.proofs.lemmas.Bool.{lt-ltb, ltb-true}
 use Rattle.std.proofs.lemmas.List.Folds.{Any-from_list_any, list_any-from_Any}
-use Rattle.record_io.specs.Outside.{Takes, TakesFront}
+use Rattle.record_io.specs.Outside.{Takes, TakesShort}
 use Rattle.chunk_reader.specs.ManyFiles.{IsFirstFault}
 use Rattle.chunk_reader.specs.declared.reasons.Fault.{Fault}
 use Rattle.record_collect.specs.GatheredFiles.{IsTooMuch}
@@ -87,10 +87,9 @@ put-whole value records places made made_then out out_then same are took printed
 
 pub put-unprinted : (value : GatheredValue) (records : List (List ℕ)) (places : List ℕ) (made made_then out out_then : Option (List ℕ))
     → records ≡ value.records → places ≡ places_in_file records default_chunk_size
-    → Takes made made_then (collected_file records) → TakesFront out out_then (files_lines places value.numbers) → files_lines places value.numbers ≢ []
-    → Takes made made_then (collected_file value.records) × TakesFront out out_then (collected_lines value) × (collected_lines value ≢ [])
-put-unprinted value records places made made_then out out_then same are took printed some = (
+    → Takes made made_then (collected_file records) → TakesShort out out_then (files_lines places value.numbers)
+    → Takes made made_then (collected_file value.records) × TakesShort out out_then (collected_lines value)
+put-unprinted value records places made made_then out out_then same are took printed = (
   subst (λ (rs : List (List ℕ)). Takes made made_then (collected_file rs)) same took,
-  subst (λ (text : List ℕ). TakesFront out out_then text) (lines-of value records places same are) printed,
-  subst (λ (text : List ℕ). text ≢ []) (lines-of value records places same are) some,
+  subst (λ (text : List ℕ). TakesShort out out_then text) (lines-of value records places same are) printed,
 )

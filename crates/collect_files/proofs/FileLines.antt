@@ -1,13 +1,12 @@
 -- The lines of files, as they are put.
-use Rattle.std.proofs.Common.{◌≡◌, ◌≢◌, ◌∙◌, ℕ, ◌+◌, ◌<◌, Option, Some, List, [], ◌++◌, length, get_or, take, sym, ap, subst, arith}
+use Rattle.std.proofs.Common.{◌≡◌, ◌∙◌, ℕ, ◌+◌, ◌<◌, Option, Some, List, [], ◌++◌, length, get_or, take, sym, ap, subst, arith}
 use Rattle.std.specs.Prelude.{slice_get, slice_index}
 use Rattle.std.specs.List.{enumerate_from, flat_map}
-use Rattle.std.proofs.lemmas.List.{length-append, nil_from_length}
 use Rattle.std.proofs.lemmas.List.FromFn.{get_or-enumerate_from, length-enumerate_from}
 use Rattle.std.proofs.lemmas.Option.{get_or_from_slice_get, slice_get_within}
 use Rattle.record_io.specs.Buffers.{TakesAndHolds}
-use Rattle.record_io.specs.Outside.{TakesFront}
-use Rattle.show_files.proofs.LinePuts.{lines-failed, lines-next, lines-some}
+use Rattle.record_io.specs.Outside.{TakesShort}
+use Rattle.show_files.proofs.LinePuts.{lines-failed, lines-next}
 use Rattle.collect_files.specs.CollectCommand.{file_lines, files_lines, place_line}
 
 -- the line of a file's record, by its number among all
@@ -33,15 +32,10 @@ module _ (file : ℕ) (places numbers : List ℕ) (a b c : Option (List ℕ)) (b
       lines-next (line_of file places) a b c before held then numbers i number within here first
       (subst (λ (text : List ℕ). TakesAndHolds b c (held ++ text) then) its next)
 
-  pub place-failed : TakesFront b c (held ++ place_line file place) → TakesFront a c (before ++ file_lines places (file, numbers))
+  pub place-failed : TakesShort b c (held ++ place_line file place) → TakesShort a c (before ++ file_lines places (file, numbers))
   place-failed next =
       lines-failed (line_of file places) a b c before held numbers i number within here first
-      (subst (λ (text : List ℕ). TakesFront b c (held ++ text)) its next)
-
-  pub place-some : held ++ place_line file place ≢ [] → before ++ file_lines places (file, numbers) ≢ []
-  place-some some =
-      lines-some (line_of file places) a b before held numbers i number within here first
-      (subst (λ (text : List ℕ). held ++ text ≢ []) its some)
+      (subst (λ (text : List ℕ). TakesShort b c (held ++ text)) its next)
 
 -- one file more: the lines of its records
 module _ (places : List ℕ) (lists : List (List ℕ)) (a b c : Option (List ℕ)) (held : List ℕ) (i : ℕ) (numbers : List ℕ)
@@ -60,13 +54,5 @@ module _ (places : List ℕ) (lists : List (List ℕ)) (a b c : Option (List ℕ
       → TakesAndHolds a c (flat_map (file_lines places) (take (i + 1) (enumerate_from 0 lists))) then
   file-next then next = lines-next (file_lines places) a b c [] held then (enumerate_from 0 lists) i (i, numbers) among numbered first next
 
-  pub file-failed : TakesFront b c (held ++ file_lines places (i, numbers)) → TakesFront a c (files_lines places lists)
+  pub file-failed : TakesShort b c (held ++ file_lines places (i, numbers)) → TakesShort a c (files_lines places lists)
   file-failed next = lines-failed (file_lines places) a b c [] held (enumerate_from 0 lists) i (i, numbers) among numbered first next
-
-  pub file-some : held ++ file_lines places (i, numbers) ≢ [] → files_lines places lists ≢ []
-  file-some some = lines-some (file_lines places) a b [] held (enumerate_from 0 lists) i (i, numbers) among numbered first some
-
--- a text of which some is held isn't nothing
-pub held-some : (a b : Option (List ℕ)) (text held : List ℕ) → TakesAndHolds a b text held → held ≢ [] → text ≢ []
-held-some a b text held first some = λ none.
-    some (nil_from_length held (omega (arith, ap length none, ap length first.parts, length-append first.passed held)))

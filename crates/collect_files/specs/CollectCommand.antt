@@ -1,5 +1,5 @@
 -- What `collect` makes, prints, says and ends with. Own.
-use Rattle.std.specs.Prelude.{◌≡◌, ℕ, ◌<◌, ◌≤◌, ◌⊎◌, true, None, List, [], ◌∷◌, ◌++◌, decimal, length, map, slice_index, take}
+use Rattle.std.specs.Prelude.{◌≡◌, ℕ, ◌<◌, ◌≤◌, ◌⊎◌, false, true, None, List, [], ◌∷◌, ◌++◌, decimal, length, map, slice_index, take}
 use Rattle.std.specs.List.{AllByRecursion, Any, enumerate_from, flat_map}
 use lib.Chars.{codes}
 use Rattle.record_io.specs.Puts.{Put, Made, Out, puts_to}

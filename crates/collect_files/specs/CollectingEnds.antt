@@ -1,6 +1,6 @@
 -- How the work of `collect` ends. Own.
-use Rattle.std.specs.Prelude.{◌≡◌, ◌≢◌, ℕ, ◌⊎◌, false, Option, Result, Ok, Err, List, []}
-use Rattle.record_io.specs.Outside.{Takes, TakesFront}
+use Rattle.std.specs.Prelude.{◌≡◌, ℕ, ◌⊎◌, false, Option, Result, Ok, Err, List}
+use Rattle.record_io.specs.Outside.{Takes, TakesFront, TakesShort}
 use Rattle.chunk_reader.specs.ManyFiles.{IsFirstFault}
 use Rattle.record_collect.specs.GatheredFiles.{AreGatheredOf, IsTooMuch}
 use Rattle.record_collect.specs.Gatherings.{GatheredValue}
@@ -40,13 +40,16 @@ abbrev pub collecting_ends : {X : Type 0} → Endings X Uncollected
 collecting_ends = record { done = λ _. status.Ok; text = uncollected_text; status = uncollected_status }
 
 -- what the made file and standard output took of gathered records, by how it ended: the file, and the lines of where each record
--- stands; where standard output failed, a front of the lines; and where the file or memory failed, a front of the file
+-- stands; where standard output failed, a front of the lines and not all; where the file failed, a front of it and not all; and
+-- where memory was wanting, a front of it
 abbrev pub PutsGathered : {X : Type 0} → Result X PutCut → GatheredValue → (made made_then out out_then : Option (List ℕ)) → Type 0
 PutsGathered (Ok x) all made made_then out out_then =
     Takes made made_then (collected_file all.records) × Takes out out_then (collected_lines all)
 PutsGathered (Err put.Out) all made made_then out out_then =
-    Takes made made_then (collected_file all.records) × TakesFront out out_then (collected_lines all) × (collected_lines all ≢ [])
-PutsGathered (Err other) all made made_then out out_then =
+    Takes made made_then (collected_file all.records) × TakesShort out out_then (collected_lines all)
+PutsGathered (Err put.Made) all made made_then out out_then =
+    TakesShort made made_then (collected_file all.records) × (out_then ≡ out)
+PutsGathered (Err put.Memory) all made made_then out out_then =
     TakesFront made made_then (collected_file all.records) × (out_then ≡ out)
 
 -- the records of files were gathered, and this was put of them

@@ -1,4 +1,4 @@
-ghost use Rattle.std.specs.Prelude.{◌≡◌, ◌≢◌, ◌<◌, ◌++◌, ◌∷◌, [], length, OnErr};
+ghost use Rattle.std.specs.Prelude.{◌≡◌, ◌<◌, length};
 ghost use Rattle.std.specs.List.{AllByRecursion};
 ghost use Rattle.record_io.specs.Calls.{PutsThrough, PutsTo};
 ghost use Rattle.collect_files.specs.CollectCommand.{file_lines, files_lines, place_line};
@@ -18,7 +18,6 @@ pub(crate) fn put_places<O: Sink>(
     requires many { length gathered.now.numbers ≡ files }
     requires placed { AllByRecursion (AllByRecursion (λ n. n < length places.now)) gathered.now.numbers }
     ensures out { PutsTo O.taken O.lent O.faults result (files_lines places.now gathered.now.numbers) out.old out.new }
-    ensures some { OnErr result (files_lines places.now gathered.now.numbers ≢ []) }
 {
     let mut lines = PutBuffer::<LINES>::new();
     for file in 0..files {
@@ -37,7 +36,6 @@ fn put_file<O: Sink>(
 ) -> Result<(), Failed>
     requires { AllByRecursion (λ n. n < length places.now) numbers.now }
     ensures out { PutsThrough O.taken O.lent O.faults result lines.old lines.new (file_lines places.now (file, numbers.now)) out.old out.new }
-    ensures some { OnErr result (lines.old ++ file_lines places.now (file, numbers.now) ≢ []) }
 {
     for i in 0..numbers.len() {
         let number = numbers.get(i);
@@ -55,7 +53,6 @@ fn put_place<O: Sink>(
     out: &mut O,
 ) -> Result<(), Failed>
     ensures out { PutsThrough O.taken O.lent O.faults result lines.old lines.new (place_line file place) out.old out.new }
-    ensures some { OnErr result (lines.old ++ place_line file place ≢ []) }
 {
     let mut number = Buffer::new();
     let mut position = Buffer::new();

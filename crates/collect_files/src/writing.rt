@@ -1,7 +1,7 @@
-ghost use Rattle.std.specs.Prelude.{◌≡◌, ◌^◌, ◌≤◌, Err, OnErr, OnOk, length};
+ghost use Rattle.std.specs.Prelude.{◌≡◌, ◌^◌, ◌≤◌, Err, OnOk, length};
 ghost use Rattle.std.specs.List.{AllByRecursion};
 ghost use Rattle.record_io.specs.Calls.{OnlyCounts};
-ghost use Rattle.record_io.specs.Outside.{Takes, TakesFront};
+ghost use Rattle.record_io.specs.Outside.{Takes, TakesFront, TakesShort};
 ghost use Rattle.simple_chunk.specs.Costs.{cost_of};
 ghost use Rattle.record_collect.specs.PutMachine.{limit};
 ghost use Rattle.collect_files.specs.CollectCommand.{collected_file};
@@ -76,7 +76,8 @@ fn write_file<R: Threads + Sync, M: Sink + Send>(
     requires short { AllByRecursion (λ r. length r ≤ 2 ^ 24) records.now }
     requires most { cost_of records.now ≤ limit }
     ensures whole { OnOk result (Takes (M.taken made.old) (M.taken made.new) (collected_file records.now)) }
-    ensures front { OnErr result (TakesFront (M.taken made.old) (M.taken made.new) (collected_file records.now)) }
+    ensures short { result ≡ Err FileCut.Made → TakesShort (M.taken made.old) (M.taken made.new) (collected_file records.now) }
+    ensures front { result ≡ Err FileCut.Memory → TakesFront (M.taken made.old) (M.taken made.new) (collected_file records.now) }
     ensures made { OnlyCounts M.lent M.faults (result ≡ Err FileCut.Made) made.old made.new }
 {
     let options = WriteOptions {

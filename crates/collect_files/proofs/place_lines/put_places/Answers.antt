@@ -7,7 +7,7 @@ use Rattle.record_io.proofs.Calls.{OnErr-any}
 use Rattle.number_shares.proofs.Lists.{all_at}
 use Rattle.run_answers.proofs.NoteLines.{front-flushed, whole-flushed}
 use Rattle.collect_files.specs.CollectCommand.{file_lines, files_lines}
-use Rattle.collect_files.proofs.FileLines.{file-failed, file-next, file-some, held-some}
+use Rattle.collect_files.proofs.FileLines.{file-failed, file-next}
 use Rattle.collect_files.proofs.place_lines.put_places.Goals as goal
 
 pub put_file-requires : goal.put_file-requires
@@ -15,18 +15,15 @@ put_file-requires g c =
     all_at (AllByRecursion (λ n. n < length c.args.places.now)) c.args.gathered.now.numbers c.loop-file.file c.numbers.result.now c.numbers.ensures
     c.requires.placed
 
-pub returns-in_err-put_file-clause-out : goal.returns-in_err-put_file-clause-out
-returns-in_err-put_file-clause-out g c = record {
-  whole = search rules;
-  front = OnErr-any _ (file-failed c.args.places.now c.args.gathered.now.numbers _ _ _ _ c.loop-file.file c.numbers.result.now c.numbers.ensures
-      c.loop-file.invariant.whole c.in_err-put_file.ensures.out.front);
-  counts = search rules;
+pub returns-in_err-put_file : goal.returns-in_err-put_file
+returns-in_err-put_file g c = record {
+  out = record {
+    whole = search rules;
+    front = OnErr-any _ (file-failed c.args.places.now c.args.gathered.now.numbers _ _ _ _ c.loop-file.file c.numbers.result.now c.numbers.ensures
+        c.loop-file.invariant.whole c.in_err-put_file.ensures.out.front);
+    counts = search rules;
+  };
 }
-
-pub returns-in_err-put_file-clause-some : goal.returns-in_err-put_file-clause-some
-returns-in_err-put_file-clause-some g c =
-    OnErr-any _ (file-some c.args.places.now c.args.gathered.now.numbers _ _ (g.O.Sink.taken c.put_file.new.out) _ c.loop-file.file c.numbers.result.now c.numbers.ensures
-    c.loop-file.invariant.whole c.in_err-put_file.ensures.some)
 
 pub loop-file-preserved : goal.loop-file-preserved
 loop-file-preserved g c = record {
@@ -35,24 +32,17 @@ loop-file-preserved g c = record {
   counts = search rules;
 }
 
-pub returns-clause-out : goal.returns-clause-out
-returns-clause-out g c =
+pub returns : goal.returns
+returns g c =
     let lists : List (List ℕ) = c.args.gathered.now.numbers in
     let places : List ℕ = c.args.places.now in
     let held : TakesAndHolds (g.O.Sink.taken c.args.out.now) (g.O.Sink.taken c.loop-file.out) (files_lines places lists) c.loop-file.lines =
     subst (λ ps. TakesAndHolds (g.O.Sink.taken c.args.out.now) (g.O.Sink.taken c.loop-file.out) (flat_map (file_lines places) ps) c.loop-file.lines)
     (take_all c.loop-file.file (enumerate_from 0 lists) (omega (arith, length-enumerate_from 0 lists, c.loop-file-test.false, c.requires.many))) c.loop-file.invariant.whole in
     record {
-      whole = on_ok_weaker c.flush.result (whole-flushed _ _ _ (files_lines places lists) c.loop-file.lines held) c.flush.ensures.sink.whole;
-      front = on_err_weaker c.flush.result (front-flushed _ _ _ (files_lines places lists) c.loop-file.lines held) c.flush.ensures.sink.front;
-      counts = search rules;
+      out = record {
+        whole = on_ok_weaker c.flush.result (whole-flushed _ _ _ (files_lines places lists) c.loop-file.lines held) c.flush.ensures.sink.whole;
+        front = on_err_weaker c.flush.result (front-flushed _ _ _ (files_lines places lists) c.loop-file.lines held) c.flush.ensures.sink.front;
+        counts = search rules;
+      };
     }
-
-pub returns-clause-some : goal.returns-clause-some
-returns-clause-some g c =
-    let lists : List (List ℕ) = c.args.gathered.now.numbers in
-    let places : List ℕ = c.args.places.now in
-    let held : TakesAndHolds (g.O.Sink.taken c.args.out.now) (g.O.Sink.taken c.loop-file.out) (files_lines places lists) c.loop-file.lines =
-    subst (λ ps. TakesAndHolds (g.O.Sink.taken c.args.out.now) (g.O.Sink.taken c.loop-file.out) (flat_map (file_lines places) ps) c.loop-file.lines)
-    (take_all c.loop-file.file (enumerate_from 0 lists) (omega (arith, length-enumerate_from 0 lists, c.loop-file-test.false, c.requires.many))) c.loop-file.invariant.whole in
-    on_err_weaker c.flush.result (held-some _ _ (files_lines places lists) c.loop-file.lines held) c.flush.ensures.some

@@ -19,4 +19,4 @@ returns-in-Ok-put_places-clause-put g c =
 pub returns-clause-put : goal.returns-clause-put
 returns-clause-put g c =
     put-unprinted c.args.gathered.now c.records-records.result.now c.in-Ok.places _ _ _ _ c.records-records.ensures.value c.in-Ok.ensures
-    c.in-Ok-write_file.ensures.whole c.in-Err.ensures.out.front c.in-Err.ensures.some
+    c.in-Ok-write_file.ensures.whole c.in-Err.ensures.out.front
