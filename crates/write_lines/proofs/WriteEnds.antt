@@ -2,12 +2,11 @@
 use Rattle.std.proofs.Common.{◌≡◌, ◌≢◌, ℕ, ◌^◌, Option, Some, None, Result, Ok, Err, List, [], ◌++◌, length, take, arith, refl, sym, ap, subst, ◌∙◌, decimal, codes}
 use Rattle.std.specs.Option.{IfSome}
 use Rattle.std.proofs.lemmas.Option.{MatchOption-at_some}
-use Rattle.record_io.specs.Outside.{Rose, Takes, TakesFront}
+use Rattle.record_io.specs.Outside.{Rose, Takes, TakesFront, TakesShort}
 use Rattle.record_io.specs.Puts.{Put, Made, Notes, taken_by, BreaksOff, puts_to}
 use Rattle.record_io.proofs.Calls.{Takes-nothing}
-use Rattle.record_io.proofs.Puts.{GoOut-made, TakesFront-count, BreaksOff-front, bytes_to-other}
+use Rattle.record_io.proofs.Puts.{GoOut-made, TakesFront-count, BreaksOff-last, BreaksOff-longer, bytes_to-other, puts_to-front}
 use Rattle.record_values.specs.declared.file_totals.Totals.{Totals}
-use Rattle.record_group.proofs.Signed.{end_of_chunk-signature, length-file_of-signed}
 use Rattle.record_writer.specs.declared.engine.WriteEnd.{WriteEnd}
 use Rattle.record_writer.specs.declared.feed.Stop.{Stop}
 use Rattle.record_writer.specs.Written.{TellsWritten, TakesFile, file_under}
@@ -26,12 +25,6 @@ use Rattle.run_answers.specs.declared.status.Status.TheVariants as status
 -- the file of an input's records
 abbrev made_of : WriteWords → List ℕ → List ℕ
 made_of words bytes = file_under words.options (taken_from bytes words.hex (2 ^ 40)).records
-
--- which begins with the signature
-made-some : (words : WriteWords) (bytes : List ℕ) → made_of words bytes ≢ []
-made-some words bytes = λ none.
-    let records : List (List ℕ) = (taken_from bytes words.hex (2 ^ 40)).records in
-    omega (arith, ap length none, length-file_of-signed records words.options.size words.options.every words.options.pad, end_of_chunk-signature)
 
 -- the write engine's answer to an input that shows its bytes, and what the made file took of that file
 pub record Wrote (words : WriteWords) (input made made_then : SeenStream) (result : Result Totals WriteEnd) : Type 0 where
@@ -104,16 +97,16 @@ module _ (words : WriteWords) (input input_then : SeenStream) (files : List Seen
   -- a stop followed some records
   stopped : (count : ℕ) (s : Stop) (ended : Status)
       → SaysAtEnd ended (stop_status (Some s)) notes notes_then (stop_text count (Some s))
-      → stop_text count (Some s) ≢ [] → IsWhole (stop_status (Some s)) → stop_status (Some s) ≢ status.Ok
+      → IsWhole (stop_status (Some s)) → stop_status (Some s) ≢ status.Ok
       → HasCause (stop_status (Some s)) (write_meaning words) Before After
       → ((bytes : List ℕ) → input.bytes ≡ Some bytes
       → ((taken_from bytes words.hex (2 ^ 40)).stop ≡ Some s)
       × (stop_text (length (taken_from bytes words.hex (2 ^ 40)).records) (Some s) ≡ stop_text count (Some s))
       × Takes made.bytes made_then.bytes (made_of words bytes))
       → Ended ended
-  stopped count s ended says some whole not_ok cause known =
+  stopped count s ended says whole not_ok cause known =
       runs-said (write_meaning words) Before After notes ended (stop_status (Some s)) [] (stop_text count (Some s))
-      (Takes-nothing notes.bytes) (omega arith) says some whole not_ok
+      (Takes-nothing notes.bytes) (omega arith) says whole not_ok
       (OfSizes-unread (write_meaning words) Before After (λ sizes. (write_meaning words).may_end sizes (stop_status (Some s)) (stop_text count (Some s))) refl refl (count, Some s, refl, refl))
       (λ r is. let bytes : List ℕ = r.input in let k = known bytes (is.input refl) in (
         write_answer words bytes,
@@ -126,79 +119,95 @@ module _ (words : WriteWords) (input input_then : SeenStream) (files : List Seen
       → SaysAtEnd ended status.Limit notes notes_then (line (codes "limit record " ++ decimal count))
       → Ended ended
   write-too_long count ended wrote says =
-      stopped count stop.TooLong ended says (λ e. cc e) tt (λ e. cc e) tt
+      stopped count stop.TooLong ended says tt (λ e. cc e) tt
       (λ bytes told. let w = wrote.told bytes told in (w.0.0, ap (λ (n : ℕ). stop_text n (Some stop.TooLong)) (sym w.0.1), w.1))
 
   pub write-input_too_long : (ended : Status) → Wrote words input made made_then (Err end.InputTooLong)
       → SaysAtEnd ended status.Limit notes notes_then (codes "limit input\n")
       → Ended ended
   write-input_too_long ended wrote says =
-      stopped 0 stop.InputTooLong ended says (λ e. cc e) tt (λ e. cc e) tt
+      stopped 0 stop.InputTooLong ended says tt (λ e. cc e) tt
       (λ bytes told. let w = wrote.told bytes told in (w.0, refl, w.1))
 
   pub write-bad_line : (count : ℕ) (ended : Status) → Wrote words input made made_then (Err (end.BadLine count))
       → SaysAtEnd ended status.BadLine notes notes_then (line (codes "bad line " ++ decimal count))
       → Ended ended
   write-bad_line count ended wrote says =
-      stopped count stop.BadLine ended says (λ e. cc e) tt (λ e. cc e) tt
+      stopped count stop.BadLine ended says tt (λ e. cc e) tt
       (λ bytes told. let w = wrote.told bytes told in (w.0.0, ap (λ (n : ℕ). stop_text n (Some stop.BadLine)) (sym w.0.1), w.1))
 
-  -- a front of the file went out, which is one of what the answer puts
-  broken : (bytes : List ℕ) (count : ℕ) → BreaksOff Made (puts_to Made (take count (made_of words bytes))) (write_answer words bytes).puts
-  broken bytes count = record {
-    before = [];
-    bytes = made_of words bytes;
-    rest = puts_to Notes (stop_text (length (taken_from bytes words.hex (2 ^ 40)).records) (taken_from bytes words.hex (2 ^ 40)).stop);
-    parts = refl;
-    some = made-some words bytes;
-    count = count;
-    broken = refl;
-  }
+  -- so many bytes of the file
+  abbrev front : List ℕ → ℕ → List Put
+  front bytes count = puts_to Made (take count (made_of words bytes))
+
+  -- what the answer puts goes on behind them
+  abbrev note_behind : List ℕ → List Put
+  note_behind bytes = puts_to Notes (stop_text (length (taken_from bytes words.hex (2 ^ 40)).records) (taken_from bytes words.hex (2 ^ 40)).stop)
+
+  goes_on : (bytes : List ℕ) (count : ℕ) → (rest : List Put) × ((write_answer words bytes).puts ≡ front bytes count ++ rest)
+  goes_on bytes count = puts_to-front Made (made_of words bytes) count (note_behind bytes)
 
   -- a fault or want of memory cut the work off
-  cut_off : (ended : Status) → IsCutOff ended
-      → ((part puts : List Put) → BreaksOff Made part puts → Breaks ended part puts)
-      → HasCause ended (write_meaning words) Before After
-      → ((bytes : List ℕ) → input.bytes ≡ Some bytes → TakesFront made.bytes made_then.bytes (made_of words bytes))
+  cut_off : (ended : Status) → IsCutOff ended → HasCause ended (write_meaning words) Before After
+      → ((bytes : List ℕ) → input.bytes ≡ Some bytes
+      → (count : ℕ) × Breaks ended (front bytes count) (write_answer words bytes).puts
+      × Takes made.bytes made_then.bytes (take count (made_of words bytes)))
       → TakesThen notes notes_then [] (fault_text ended)
       → Ended ended
-  cut_off ended cut breaks cause front said =
+  cut_off ended cut cause took said =
       runs-cut_off (write_meaning words) Before After ended [] cut
       (λ _. OfSizes-unread (write_meaning words) Before After (write_meaning words).may_work refl refl refl) refl said
       (λ r is.
       let bytes : List ℕ = r.input in
       let answer : Answer = write_answer words bytes in
       let file : List ℕ = made_of words bytes in
-      let count = TakesFront-count made.bytes made_then.bytes file (front bytes (is.input refl)) in
-      let part : List Put = puts_to Made (take count.0 file) in (
+      let (count, breaks, put) = took bytes (is.input refl) in (
         answer,
         refl,
-        was-cut_off ended Before After notes answer part
-            (breaks part answer.puts (broken bytes count.0))
-            (PutsLines-none part answer.puts (bytes_to-other Notes Made (take count.0 file) refl))
-            (GoOut-made made.bytes made_then.bytes out.bytes notes.bytes (take count.0 file) count.1)
+        was-cut_off ended Before After notes answer (front bytes count) breaks
+            (PutsLines-none (front bytes count) answer.puts (bytes_to-other Notes Made (take count file) refl))
+            (GoOut-made made.bytes made_then.bytes out.bytes notes.bytes (take count file) put)
             (omega arith) said,
       ))
       (λ _ _ r is.
       let bytes : List ℕ = r.input in
-      let count = TakesFront-count made.bytes made_then.bytes (made_of words bytes) (front bytes (is.input refl)) in
-      let part : List Put = puts_to Made (take count.0 (made_of words bytes)) in
-      went-so_far (write_meaning words) ended Before After notes r part
-      (BreaksOff-front Made part (write_answer words bytes).puts (broken bytes count.0))
-      (GoOut-made made.bytes made_then.bytes out.bytes notes.bytes (take count.0 (made_of words bytes)) count.1) (omega arith) said)
+      let (count, breaks, put) = took bytes (is.input refl) in
+      went-so_far (write_meaning words) ended Before After notes r (front bytes count) (goes_on bytes count)
+      (GoOut-made made.bytes made_then.bytes out.bytes notes.bytes (take count (made_of words bytes)) put) (omega arith) said)
       refl cause keeps
+
+  -- a front of the file went out
+  some_front : (bytes : List ℕ) → TakesFront made.bytes made_then.bytes (made_of words bytes)
+      → (count : ℕ) × ((rest : List Put) × ((write_answer words bytes).puts ≡ front bytes count ++ rest))
+      × Takes made.bytes made_then.bytes (take count (made_of words bytes))
+  some_front bytes took =
+      let count = TakesFront-count made.bytes made_then.bytes (made_of words bytes) took in
+      (count.0, goes_on bytes count.0, count.1)
+
+  -- and not all
+  short_front : (bytes : List ℕ) → TakesShort made.bytes made_then.bytes (made_of words bytes)
+      → (count : ℕ) × BreaksOff Made (front bytes count) (write_answer words bytes).puts
+      × Takes made.bytes made_then.bytes (take count (made_of words bytes))
+  short_front bytes (count, less, took) = (
+    count,
+    BreaksOff-longer Made (front bytes count) (puts_to Made (made_of words bytes)) (note_behind bytes) (BreaksOff-last Made [] (made_of words bytes) count less),
+    took,
+  )
 
   pub write-input : (ended : Status) → ended ≡ status.Input → Wrote words input made made_then (Err end.Input) → Rose input.faults input_then.faults
       → TakesThen notes notes_then [] (fault_text status.Input)
       → Ended ended
-  write-input ended is wrote rose said = subst Ended (sym is) (cut_off status.Input tt (BreaksOff-front Made) (refl, rose) (λ bytes told. (wrote.told bytes told).1) said)
+  write-input ended is wrote rose said =
+      subst Ended (sym is) (cut_off status.Input tt (refl, rose) (λ bytes told. some_front bytes (wrote.told bytes told).1) said)
 
   pub write-made : (ended : Status) → ended ≡ status.Made → Wrote words input made made_then (Err end.Made) → Rose made.faults made_then.faults
       → TakesThen notes notes_then [] (fault_text status.Made)
       → Ended ended
-  write-made ended is wrote rose said = subst Ended (sym is) (cut_off status.Made tt (λ part puts broke. broke) (refl, rose) (λ bytes told. (wrote.told bytes told).1) said)
+  write-made ended is wrote rose said =
+      subst Ended (sym is) (cut_off status.Made tt (refl, rose) (λ bytes told. short_front bytes (wrote.told bytes told).1) said)
 
   pub write-memory : (ended : Status) → ended ≡ status.Memory → Wrote words input made made_then (Err end.Memory)
       → TakesThen notes notes_then [] (fault_text status.Memory)
       → Ended ended
-  write-memory ended is wrote said = subst Ended (sym is) (cut_off status.Memory tt (BreaksOff-front Made) refl (λ bytes told. (wrote.told bytes told).1) said)
+  write-memory ended is wrote said =
+      subst Ended (sym is) (cut_off status.Memory tt refl (λ bytes told. some_front bytes (wrote.told bytes told).1) said)
