@@ -3,7 +3,7 @@ use Rattle.std.proofs.Common.{◌≡◌, ℕ, ◌-◌, ◌≤◌, ◌⊎◌, inl
 use Rattle.std.specs.Fn.{Shared}
 use denote.Ref.{Bor}
 use Rattle.std.proofs.lemmas.Option.{MatchOption-at_some}
-use Rattle.record_io.specs.Outside.{Rose, Takes, TakesFront}
+use Rattle.record_io.specs.Outside.{Rose, Takes, TakesShort}
 use Rattle.record_io.specs.Puts.{taken_by}
 use Rattle.damage_skip.specs.declared.regions.Region.{Region}
 use Rattle.repair_copy.specs.Repairs.{Repairs, Skips}
@@ -96,7 +96,7 @@ module _ {F : Type 0} (g : Shared F (Bor Region × Unit {0}) Bool) (f : F) (word
   tells repair.Store n m h = (h.regions, told-of g f words bound n m h.regions h.allowed h.lines)
   tells repair.Made n m h = (h.regions, told-of g f words bound n m h.regions h.allowed h.lines)
   tells repair.Memory n m h = (h.regions, told-of g f words bound n m h.regions h.allowed h.lines)
-  tells repair.Notes n m h = told-front g f words bound n m h.regions h.allowed h.lines.0 h.lines.1
+  tells repair.Notes n m h = told-front g f words bound n m h.regions h.allowed h.lines
 
   module _ (told bytes : Option (List ℕ)) (same : told ≡ bytes) (short : IfSome bytes (λ file. length file ≤ most_file_bytes)) where
     pub ended-walks : (e : RepairEnd) (why : Ending Region) (x y : ℕ) (a b o n m : Option (List ℕ)) → why ≡ end_of_repair e
@@ -140,9 +140,9 @@ module _ {F : Type 0} (g : Shared F (Bor Region × Unit {0}) Bool) (f : F) (word
           repaired-walked g f words bound file few x y a b o n m repaired p ended
           (MatchOption-at_some _ (Repairs g f (Ok repaired) x y (taken_by a None n) (taken_by b None m)) file is h) printed status_is
 
-    -- or a front of it was
+    -- or not all of it was
     pub unreported-ends : (repaired : Repaired) (x y : ℕ) (a b o p n m : Option (List ℕ))
-        → IfSome told (Repairs g f (Ok repaired) x y (taken_by a None n) (taken_by b None m)) → TakesFront o p (report repaired.totals)
+        → IfSome told (Repairs g f (Ok repaired) x y (taken_by a None n) (taken_by b None m)) → TakesShort o p (report repaired.totals)
         → IfSome bytes (λ file. HasPutAtEnd walk_ends (IsRepaired words) (Err (end.Cut cut.Out)) file (taken_by a o n) (taken_by b p m) [])
     unreported-ends repaired x y a b o p n m h printed = both bytes same short where
       both : (bs : Option (List ℕ)) → told ≡ bs → IfSome bs (λ file. length file ≤ most_file_bytes)

@@ -4,11 +4,11 @@ use Rattle.std.specs.Fn.{Shared}
 use denote.Ref.{Bor}
 use Rattle.std.specs.List.{AllByRecursion}
 use Rattle.std.proofs.lemmas.List.{append-nil, nil_from_length}
-use Rattle.record_io.specs.Outside.{Rose, Takes, TakesFront}
+use Rattle.record_io.specs.Outside.{Rose, Takes, TakesShort}
 use Rattle.record_values.specs.declared.file_totals.Totals.{Totals}
 use Rattle.record_io.specs.Puts.{Put, Made, Out, Notes, Taken, taken_by, GoOut, BreaksOff, puts_to, bytes_to}
 use Rattle.record_io.proofs.Calls.{Takes-nothing}
-use Rattle.record_io.proofs.Puts.{bytes_to-append, bytes_to-other, GoOut-append, GoOut-out, GoOutOrAreHeld-none, TakesFront-count, BreaksOff-front, BreaksOff-last, BreaksOff-longer}
+use Rattle.record_io.proofs.Puts.{bytes_to-append, bytes_to-other, GoOut-append, GoOut-out, GoOutOrAreHeld-none, BreaksOff-front, BreaksOff-last, BreaksOff-longer}
 use Rattle.meta_chunk.specs.Counts.{totals_of}
 use Rattle.meta_chunk.specs.Files.{signature, end_of_chunks}
 use Rattle.damage_skip.specs.Pieces.{Skipped, Piece, AreEvents}
@@ -44,7 +44,6 @@ use Rattle.run_answers.proofs.OneAnswer.{same_answer}
 use Rattle.riegeli_tool.proofs.CommandLaws.{one_repaired}
 use Rattle.show_damaged.proofs.RegionTexts.{PutsLines-regions}
 use Rattle.show_files.proofs.ShowSteps.{in_reach}
-use Rattle.run_answers.proofs.ReportLines.{report-some}
 use Rattle.repair_copy.specs.declared.repairs.RepairEnd.TheVariants as repair
 use Rattle.run_answers.specs.declared.status.Status.TheVariants as status
 
@@ -160,9 +159,9 @@ module _ {F : Type 0} (g : Shared F (Bor Region × Unit {0}) Bool) (f : F) (word
   pub told-of : (n m : Option (List ℕ)) (regions : List Region) → AllByRecursion (IsAllowedRegion g f) regions → Takes n m (skipped_text regions) → HasToldOf words.most n m regions
   told-of n m regions passed says = record { may = regions-may regions passed; says = says }
 
-  pub told-front : (n m : Option (List ℕ)) (regions : List Region) → AllByRecursion (IsAllowedRegion g f) regions → skipped_text regions ≢ [] → TakesFront n m (skipped_text regions)
-      → (skipped : List Region) × AllByRecursion (MaySkip words.most) skipped × (skipped ≢ []) × TakesFront n m (skipped_text skipped)
-  told-front n m regions passed some says = (regions, regions-may regions passed, λ none. some (ap skipped_text none), says)
+  pub told-front : (n m : Option (List ℕ)) (regions : List Region) → AllByRecursion (IsAllowedRegion g f) regions → TakesShort n m (skipped_text regions)
+      → (skipped : List Region) × AllByRecursion (MaySkip words.most) skipped × TakesShort n m (skipped_text skipped)
+  told-front n m regions passed says = (regions, regions-may regions passed, says)
 
   module _ (file : List ℕ) (short : length file ≤ most_file_bytes) (faults faults_then : ℕ) (a b o n m : Option (List ℕ)) where
     -- what the sinks of the repair took, and what those of the command did when it ended
@@ -213,22 +212,22 @@ module _ {F : Type 0} (g : Shared F (Bor Region × Unit {0}) Bool) (f : F) (word
           status = status_is (regions_in h.events) h.answer.2;
         }
 
-    -- of its report a front was printed
-    pub unreported-walked : (repaired : Repaired) (p : Option (List ℕ)) → Repaired_by (Ok repaired) → TakesFront o p (report repaired.totals)
+    -- of its report not all was printed
+    pub unreported-walked : (repaired : Repaired) (p : Option (List ℕ)) → Repaired_by (Ok repaired) → TakesShort o p (report repaired.totals)
         → (answer : Answer) → OfFile (IsRepaired words) (file ∷ []) answer → HasBrokenOff Out Start (taken_by b p m) [] answer
     unreported-walked repaired p h printed answer is =
         let text : List ℕ = report (totals_of (signature ∷ chunks_in h.events)) in
         let same : answer.puts ≡ repair_puts h.events ++ puts_to Out text = ap (λ (x : Answer). x.puts) (repaired-answer repaired h answer is) in
-        let took = TakesFront-count o p text (subst (λ (t : Totals). TakesFront o p (report t)) h.answer.1 printed) in
-        let part : List Put = repair_puts h.events ++ puts_to Out (take took.0 text) in
+        let short = subst (λ (t : Totals). TakesShort o p (report t)) h.answer.1 printed in
+        let part : List Put = repair_puts h.events ++ puts_to Out (take short.0 text) in
         record {
           none_held = refl;
           part = part;
           broke = subst (λ (ps : List Put). BreaksOff Out part ps) (sym same)
-              (BreaksOff-last Out (repair_puts h.events) text took.0 (report-some (totals_of (signature ∷ chunks_in h.events))));
-          lines = lines_first h.events h.events [] part (puts_to Out text) answer.puts (sym (append-nil h.events)) (notes-behind h.events (take took.0 text)) same;
-          went = GoOut-append Start Then (taken_by b p m) (repair_puts h.events) (puts_to Out (take took.0 text)) (went-all h.events h.part h.went h.took)
-              (GoOut-out b o p m (take took.0 text) took.1);
+              (BreaksOff-last Out (repair_puts h.events) text short.0 short.1);
+          lines = lines_first h.events h.events [] part (puts_to Out text) answer.puts (sym (append-nil h.events)) (notes-behind h.events (take short.0 text)) same;
+          went = GoOut-append Start Then (taken_by b p m) (repair_puts h.events) (puts_to Out (take short.0 text)) (went-all h.events h.part h.went h.took)
+              (GoOut-out b o p m (take short.0 text) short.2);
         }
 
     -- the repair ended at a region that is refused

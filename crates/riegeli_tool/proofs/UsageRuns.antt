@@ -15,7 +15,7 @@ pub runs-usage : (others : Seen) (notes notes_then : SeenStream) (ended : Status
     → SaysAtEnd ended status.Usage notes notes_then usage_text → notes.faults ≤ notes_then.faults
     → Runs usage_meaning (record others { notes = notes }) (record others { notes = notes_then }) ended
 runs-usage others notes notes_then ended says counts =
-    runs-said usage_meaning _ _ notes ended status.Usage [] usage_text (Takes-nothing notes.bytes) (omega arith) says (λ e. cc e) tt (λ e. cc e)
+    runs-said usage_meaning _ _ notes ended status.Usage [] usage_text (Takes-nothing notes.bytes) (omega arith) says tt (λ e. cc e)
     (OfSizes-unread usage_meaning _ _ (λ sizes. usage_meaning.may_end sizes status.Usage usage_text) refl refl (refl, refl))
     (λ r is. (
       usage,
