@@ -16,7 +16,7 @@ fn regrow<G: Device>(device: &mut G, front: &mut [u8], piece: &[u8]) -> Result<(
     get_exact(&mut AsStore::new(device), 0, front)?;
     let at = front.len() as u64;
     device.cut(at)?;
-    put_all(&mut AsSink::new(device, at), piece)
+    put_all(&mut AsSink::new(device, at, at), piece)
 }
 
 /// What a device answers that is asked for its size, cut and put to.
@@ -99,6 +99,7 @@ fn assert_grown<G: Device>(
     Ok(())
 }
 
+/// Where a real file is cut no clause says, since std's `set_len` has none.
 #[test]
 fn a_file_is_made_cut_and_grown_at_its_end(rt: HostRuntime) -> Result<(), Fail> {
     let mut device = FileDevice::named(&rt, "grown");

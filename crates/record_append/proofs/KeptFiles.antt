@@ -1,5 +1,5 @@
 -- How far an old file is kept, and whether it is refused, by how far it is well formed.
-use Rattle.std.proofs.Common.{◌≡◌, ◌≢◌, ◌∙◌, ℕ, ◌<◌, Bool, true, Option, Some, None, IfSome, Result, Err, ◌⊎◌, List, [], ◌∷◌, length, refl, ap, subst, inl, inr, arith}
+use Rattle.std.proofs.Common.{◌≡◌, ◌≢◌, ◌∙◌, ℕ, ◌<◌, ◌≤◌, Bool, true, Option, Some, None, IfSome, Result, Err, ◌⊎◌, List, [], ◌∷◌, length, refl, ap, subst, inl, inr, arith}
 use Rattle.std.specs.Prelude.{MatchOption}
 use Rattle.chunk_header.specs.Chunks.{ChunkValue}
 use Rattle.meta_chunk.specs.Files.{IsFrame}
@@ -8,6 +8,7 @@ use Rattle.chunk_reader.specs.Fronts.{IsFrontOf}
 use Rattle.chunk_reader.specs.declared.reasons.Fault.{Fault}
 use Rattle.chunk_reader.specs.declared.reasons.VerifyEnd.{VerifyEnd}
 use Rattle.chunk_reader.specs.declared.reasons.VerifyEnd.TheVariants as verify
+use Rattle.chunk_reader.specs.declared.reasons.Why.TheVariants as why
 use Rattle.chunk_reader.specs.declared.verifying.Front.{Front}
 use Rattle.chunk_reader.proofs.FileFaults.{fault_is_one, fault_or_none}
 use Rattle.record_append.specs.Ends.{end_of_verify}
@@ -43,6 +44,19 @@ kept_front cut (Some file) size front sized is none = (
       (subst (λ (n : ℕ). IfSome front.fault (λ own. 0 < n → ¬ RefusesFor cut own.why)) sized none),
   (is.ks, is.longest),
 )
+
+-- of such a file, unless it is empty, its signature at least is kept
+signed_by : (cut : Bool) (size bytes : ℕ) (fault : Option Fault) → (fault ≡ None → (bytes ≡ size) × (64 ≤ size))
+    → IfSome fault (λ own. (own.why ≡ why.NoSignature) ⊎ (64 ≤ bytes))
+    → IfSome fault (λ own. 0 < size → ¬ RefusesFor cut own.why) → 0 < size → 64 ≤ bytes
+signed_by cut size bytes None whole signed none some = let (end, long) = whole refl in omega (arith, end, long)
+signed_by cut size bytes (Some own) whole (inl unsigned) none some = absurd (none some (inl unsigned))
+signed_by cut size bytes (Some own) whole (inr long) none some = long
+
+pub kept_signed : (cut : Bool) (size : ℕ) (front : Front) → (front.fault ≡ None → (front.totals.bytes ≡ size) × (64 ≤ size))
+    → IfSome front.fault (λ own. (own.why ≡ why.NoSignature) ⊎ (64 ≤ front.totals.bytes))
+    → IfSome front.fault (λ own. 0 < size → ¬ RefusesFor cut own.why) → 0 < size → 64 ≤ front.totals.bytes
+kept_signed cut size front = signed_by cut size front.totals.bytes front.fault
 
 -- and refused where it does
 pub refused_front : (cut : Bool) (bytes : Option (List ℕ)) (size : ℕ) (front : Front) (fault : Fault) → IsSized bytes size

@@ -1,8 +1,9 @@
 -- What a sink over a device takes, behind what the device held.
-use Rattle.std.proofs.Common.{◌≡◌, ◌≢◌, ◌∙◌, ℕ, zero, suc, Option, Some, None, IfSome, IsSomeAnd, Result, Ok, Err, List, [], ◌++◌, length, take, drop, refl, sym, ap, subst, arith}
+use Rattle.std.proofs.Common.{◌≡◌, ◌≢◌, ◌∙◌, ℕ, zero, suc, ◌^◌, ◌<◌, Option, Some, None, IfSome, IsSomeAnd, Result, Ok, Err, List, [], ◌++◌, length, take, drop, refl, sym, ap, subst, arith}
 use Rattle.std.specs.Prelude.{option_map}
+use Rattle.std.specs.Option.{ForSome}
 use Rattle.std.proofs.lemmas.List.{take-append-drop}
-use Rattle.record_io.specs.Outside.{Takes, TakesFront}
+use Rattle.record_io.specs.Outside.{Takes, TakesFront, TakesShort}
 use Rattle.record_values.specs.declared.file_totals.Totals.{Totals}
 use Rattle.chunk_header.specs.Chunks.{ChunkValue}
 use Rattle.meta_chunk.specs.Counts.{totals_of}
@@ -14,7 +15,7 @@ use Rattle.record_writer.specs.declared.engine.WriteEnd.{WriteEnd}
 use Rattle.record_writer.specs.declared.engine.WriteEnd.TheVariants.{TooLong, InputTooLong, BadLine, Input, Made, Memory}
 use Rattle.record_writer.specs.declared.options.WriteOptions.{WriteOptions}
 use Rattle.record_writer.specs.Written.{TellsWritten, TellsTotals, TakesFile, chunks_under, file_under, tail_under, totals_from}
-use Rattle.record_append.specs.Devices.{bytes_before, bytes_from}
+use Rattle.record_append.specs.Devices.{bytes_before, bytes_from, name_of_sized}
 use Rattle.record_append.specs.Grown.{bytes_at, totals_at}
 
 -- bytes that end at a place, and those from there on
@@ -35,6 +36,10 @@ front_behind : (front file : List ℕ) (place : ℕ) (held : Option (List ℕ)) 
     → TakesFront (Some []) (bytes_from place held) file → TakesFront (Some front) held file
 front_behind front file place held before (n, fits, took) = (n, fits, held_behind front (take n file) place held before took)
 
+short_behind : (front file : List ℕ) (place : ℕ) (held : Option (List ℕ)) → bytes_before place held ≡ Some front
+    → TakesShort (Some []) (bytes_from place held) file → TakesShort (Some front) held file
+short_behind front file place held before (n, less, took) = (n, less, held_behind front (take n file) place held before took)
+
 file_behind : (result : Result Totals WriteEnd) (front file : List ℕ) (place : ℕ) (held : Option (List ℕ)) → bytes_before place held ≡ Some front
     → TakesFile result (Some []) (bytes_from place held) file → TakesFile result (Some front) held file
 file_behind (Ok totals) front file place held before took = takes_behind front file place held before took
@@ -42,23 +47,24 @@ file_behind (Err (TooLong count)) front file place held before took = takes_behi
 file_behind (Err InputTooLong) front file place held before took = takes_behind front file place held before took
 file_behind (Err (BadLine count)) front file place held before took = takes_behind front file place held before took
 file_behind (Err Input) front file place held before took = front_behind front file place held before took
-file_behind (Err Made) front file place held before took = front_behind front file place held before took
+file_behind (Err Made) front file place held before took = short_behind front file place held before took
 file_behind (Err Memory) front file place held before took = front_behind front file place held before took
 
--- of a device that shows nothing nothing is said
-file_untold : (result : Result Totals WriteEnd) (held : Option (List ℕ)) (file : List ℕ) → TakesFile result None held file
-file_untold (Ok totals) held file = tt
-file_untold (Err (TooLong count)) held file = tt
-file_untold (Err InputTooLong) held file = tt
-file_untold (Err (BadLine count)) held file = tt
-file_untold (Err Input) held file = tt
-file_untold (Err Made) held file = tt
-file_untold (Err Memory) held file = tt
+-- of a device that shows nothing no more is said than that it failed before some byte
+file_untold : (result : Result Totals WriteEnd) (taken held : Option (List ℕ)) (file : List ℕ)
+    → TakesFile result None taken file → TakesFile result None held file
+file_untold (Ok totals) taken held file took = tt
+file_untold (Err (TooLong count)) taken held file took = tt
+file_untold (Err InputTooLong) taken held file took = tt
+file_untold (Err (BadLine count)) taken held file took = tt
+file_untold (Err Input) taken held file took = tt
+file_untold (Err Made) taken held file (n, less, took) = (n, less, tt)
+file_untold (Err Memory) taken held file took = tt
 
 device_takes : (result : Result Totals WriteEnd) (bytes held : Option (List ℕ)) (place : ℕ) (file : List ℕ)
     → bytes_before place held ≡ bytes
     → TakesFile result (option_map (λ _. []) bytes) (bytes_from place held) file → TakesFile result bytes held file
-device_takes result None held place file before took = file_untold result held file
+device_takes result None held place file before took = file_untold result (bytes_from place held) held file took
 device_takes result (Some front) held place file before took = file_behind result front file place held before took
 
 pub put_behind : (result : Result Totals WriteEnd) (rests : Option Rest) (bytes taken then held : Option (List ℕ)) (place : ℕ)
@@ -110,3 +116,15 @@ held_more (Some front) None place before = cc
 held_more (Some front) (Some file) place before =
     let first : take place file ≡ front = cc in
     (drop place file, sym (take-append-drop place file) ∙ ap (λ (xs : List ℕ). xs ++ drop place file) first)
+
+-- one name is of one loan and of one size
+pub named_loan : (a b m n : ℕ) → m < 2 ^ 64 → n < 2 ^ 64 → name_of_sized a m ≡ name_of_sized b n → a ≡ b
+named_loan a b m n below under same = omega (arith, below, under, same)
+
+pub named_size : (a b m n : ℕ) → m < 2 ^ 64 → n < 2 ^ 64 → name_of_sized a m ≡ name_of_sized b n → m ≡ n
+named_size a b m n below under same = omega (arith, below, under, same)
+
+-- a size that is told, if one is
+pub told_still : (said size : ℕ) (told held : Option ℕ) → said ≡ size → held ≡ told → ForSome told (λ n. n ≡ said) → IfSome held (λ n. n ≡ size)
+told_still said size told None same is still = tt
+told_still said size told (Some n) same is still = still n (sym is) ∙ same

@@ -116,7 +116,8 @@ tells_cut : Tells plain (replicate 180 7) (letter ∷ []) (record { kept = 152; 
 unfolding letter plain groups laid_each laid_bytes chunk_end_of end_of room shortest
 tells_cut = record { dropped = refl; records = refl; bytes = refl }
 
--- a file may be kept up to its end at 196 or at a block, and up to no place within a signature or a block header
+-- a file may be kept up to its end at 196 or at a block, and up to no place within a signature or a block header; up to its front
+-- where it is empty alone
 whole : MayBeKeptTo 196 196
 whole = record { within = lit≤ tt; boundary = λ some. lit< tt; signed = λ some. lit≤ tt }
 
@@ -125,6 +126,12 @@ up_to_a_block = record { within = lit≤ tt; boundary = λ some. absurd (omega (
 
 not_within_the_signature : ¬ MayBeKeptTo 196 63
 not_within_the_signature kept = omega (arith, kept.signed (lit< tt))
+
+not_to_the_front : ¬ MayBeKeptTo 196 0
+not_to_the_front kept = omega (arith, kept.signed (lit< tt))
+
+empty_to_the_front : MayBeKeptTo 0 0
+empty_to_the_front = record { within = lit≤ tt; boundary = λ some. absurd (omega (arith, some)); signed = λ some. absurd (omega (arith, some)) }
 
 not_within_a_block_header : ¬ MayBeKeptTo 65600 65560
 not_within_a_block_header kept = omega (arith, kept.boundary (lit< tt))

@@ -9,11 +9,12 @@ use Rattle.record_append.specs.declared.appends.Appended.{Appended}
 use Rattle.record_append.specs.declared.appends.AppendEnd.{AppendEnd}
 use Rattle.record_append.specs.declared.appends.AppendEnd.TheVariants.{Refused, TooLong, InputTooLong, BadLine, Input, Device, Memory}
 
--- a place of a file of so many bytes up to which it may be kept: its front, or a boundary behind the signature
+-- a place of a file of so many bytes up to which it may be kept: its front, where it is empty, and else a boundary behind the
+-- signature
 pub record MayBeKeptTo (size place : ℕ) : Type 0 where
   pub within : place ≤ size
   pub boundary : IsOnBoundary place
-  pub signed : 0 < place → 64 ≤ place
+  pub signed : 0 < size → 64 ≤ place
 
 -- the old file isn't refused, it is kept up to this place, and a device holds it grown by these records
 pub record HoldsGrown (options : WriteOptions) (cut : Bool) (file : List ℕ) (place : ℕ) (records : List (List ℕ)) (held : Option (List ℕ)) : Type 0 where

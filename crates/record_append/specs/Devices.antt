@@ -1,5 +1,5 @@
 -- What can be relied on of devices: files that are read, cut and grown. Own.
-use Rattle.std.specs.Prelude.{◌≡◌, ℕ, ◌+◌, ◌-◌, ◌^◌, ◌<◌, ◌≤◌, min, Bool, Option, Some, IfSome, List, drop, take, option_map}
+use Rattle.std.specs.Prelude.{◌≡◌, ℕ, ◌+◌, ◌-◌, ◌*◌, ◌^◌, ◌<◌, ◌≤◌, min, Bool, Option, Some, IfSome, List, drop, take, option_map}
 use Rattle.record_io.specs.Outside.{Rose}
 
 -- of the bytes of a file those from a place on, where they are shown
@@ -9,6 +9,10 @@ bytes_from at file = option_map (drop at) file
 -- of the bytes of a file those before a place, where they are shown
 abbrev pub bytes_before : ℕ → Option (List ℕ) → Option (List ℕ)
 bytes_before at file = option_map (take at) file
+
+-- one name for the loan of a device and a size below 2^64 that it told
+abbrev pub name_of_sized : (loan size : ℕ) → ℕ
+name_of_sized loan size = loan * 2 ^ 64 + size
 
 -- a device is used: its count of faults never falls, and rises where the call says that the device failed
 pub record CountsFaults {G : Type 0} (faults : G → ℕ) (Fails : Type 0) (before after : G) : Type 0 where

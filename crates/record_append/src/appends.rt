@@ -1,4 +1,5 @@
 ghost use Rattle.std.specs.Prelude.{◌≡◌, ◌+◌, ◌^◌, ◌<◌, ◌≤◌, ◌⊎◌, ◌++◌, ℕ, List, true, Some, Err, IfOk, IfSome, IsSomeAnd, OnOk, length};
+ghost use Rattle.block_layout.specs.Layout.{IsOnBoundary};
 ghost use Rattle.record_io.specs.Calls.{OnlyCounts};
 ghost use Rattle.chunk_reader.specs.declared.reasons.Fault.{Fault};
 ghost use Rattle.record_writer.specs.Feeds.{nothing_left};
@@ -93,7 +94,8 @@ impl From<WriteEnd> for AppendEnd {
 
 /// Puts the feed's records behind the last whole chunk of an old file, of `size` bytes, which were told, at most 2^60. Behind
 /// that chunk the front of another is dropped that the file ends within, and with `cut` whatever stands there. An empty file
-/// becomes the file of the records.
+/// becomes the file of the records; of any other at least the 64 bytes that it begins with are kept. That size is told still, or
+/// none, since the device was cut or put to.
 ///
 /// The old file is judged first, as `verify_front` does: compressed and transposed chunks are kept. Then it is cut, if anything
 /// is dropped, and the chunks of the records are put, as `write_after` does. No byte that is kept changes. Where a stop follows
@@ -131,6 +133,7 @@ pub fn append<R: Threads + Sync, L: RecordFeed, G: Device + Send>(
         → (G.bytes device.new ≡ G.bytes device.old) × (G.told device.new ≡ G.told device.old)
         × (G.handed device.new ≤ G.handed device.old + size) × (feed.new ≡ feed.old) }
     ensures kept { IfSome (G.bytes device.old) (λ file. IsSomeAnd (G.bytes device.new) (λ held. KeepsBy result cut file held)) }
+    ensures still_told { IfSome (G.told device.new) (λ told. told ≡ size) }
     ensures told { IfOk result (λ told. MayBeKeptTo size told.kept × (told.kept + told.dropped ≡ size) × (told.kept ≤ told.bytes)) }
     ensures read_to_end { OnOk result (IfSome (L.rest feed.old) (λ _. L.rest feed.new ≡ Some nothing_left)) }
 
@@ -139,7 +142,7 @@ pub fn append<R: Threads + Sync, L: RecordFeed, G: Device + Send>(
 {
     let kept = judge(device, size, cut)?;
     cut_to(device, size, kept)?;
-    let put = put_records(rt, alloc, options, kept, feed, device)?;
+    let put = put_records(rt, alloc, options, kept, feed, device, size)?;
     Ok(Appended {
         kept,
         dropped: size - kept,
@@ -148,7 +151,8 @@ pub fn append<R: Threads + Sync, L: RecordFeed, G: Device + Send>(
     })
 }
 
-/// Puts the chunks of the feed's records behind the bytes of a device, which end at a place. The totals are of these chunks.
+/// Puts the chunks of the feed's records behind the bytes of a device, which end at a place, and which told this size if it tells
+/// one. The totals are of these chunks.
 fn put_records<R: Threads + Sync, L: RecordFeed, G: Device + Send>(
     rt: &R,
     alloc: Global,
@@ -156,9 +160,13 @@ fn put_records<R: Threads + Sync, L: RecordFeed, G: Device + Send>(
     place: u64,
     feed: &mut L,
     device: &mut G,
+    size: u64,
 ) -> Result<Totals, WriteEnd>
     requires ends { IfSome (G.bytes device.old) (λ file. length file ≡ place) }
-    requires place { MayBeKeptTo (2 ^ 60) place }
+    requires told { IfSome (G.told device.old) (λ told. told ≡ size) }
+    requires within { place ≤ 2 ^ 60 }
+    requires boundary { IsOnBoundary place }
+    requires signed { 0 < place → 64 ≤ place }
     requires feed_going { L.going feed.old ≡ true }
     requires in_reach { L.bound feed.old ≤ 2 ^ 41 }
     requires in_limits { AreInLimits options.now }
@@ -166,12 +174,13 @@ fn put_records<R: Threads + Sync, L: RecordFeed, G: Device + Send>(
     ensures put { IfSome (L.rest feed.old) (λ rest.
         TakesFile result (G.bytes device.old) (G.bytes device.new) (bytes_at options.now place rest.records)) }
     ensures behind { IfSome (G.bytes device.old) (λ front. IsSomeAnd (G.bytes device.new) (λ held. (rest : List ℕ) × (held ≡ front ++ rest))) }
+    ensures still_told { IfSome (G.told device.new) (λ told. told ≡ size) }
     ensures in_reach { IfOk result (λ totals. place + totals.bytes < 2 ^ 64) }
     ensures read_to_end { OnOk result (IfSome (L.rest feed.old) (λ _. L.rest feed.new ≡ Some nothing_left)) }
     ensures feed { OnlyCounts L.origin L.faults (result ≡ Err WriteEnd.Input) feed.old feed.new }
     ensures device { CountsFaults G.faults (result ≡ Err WriteEnd.Made) device.old device.new }
 {
-    let mut sink = AsSink::new(device, place);
+    let mut sink = AsSink::new(device, place, size);
     if place == 0 {
         write_records(rt, alloc, options, feed, &mut sink)
     } else {

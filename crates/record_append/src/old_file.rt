@@ -63,6 +63,7 @@ pub(crate) fn cut_to<G: Device>(device: &mut G, size: u64, place: u64) -> Result
     ensures leaves { OnOk result (G.bytes device.new ≡ option_map (take place) (G.bytes device.old)) }
     ensures kept { OnErr result (G.bytes device.new ≡ G.bytes device.old) }
     ensures ends { OnOk result (IfSome (G.bytes device.new) (λ file. length file ≡ place)) }
+    ensures still_told { IfSome (G.told device.new) (λ told. told ≡ size) }
     ensures same_handed { G.handed device.new ≡ G.handed device.old }
     ensures counts { CountsFaults G.faults (IsErr result) device.old device.new }
 {

@@ -1,7 +1,7 @@
 use Rattle.std.proofs.Common.{◌≡◌, ◌<◌, IfSome, refl, subst}
 use Rattle.chunk_reader.specs.declared.reasons.Fault.{Fault}
 use Rattle.record_append.specs.Grown.{IsRefusedToGrow, RefusesFor}
-use Rattle.record_append.proofs.KeptFiles.{IsSized, kept_front, refused_front, sized_told, front_of}
+use Rattle.record_append.proofs.KeptFiles.{IsSized, kept_front, kept_signed, refused_front, sized_told, front_of}
 use Rattle.record_append.proofs.old_file.judge.Goals as goal
 
 pub returns-in-Some-clause-refused : goal.returns-in-Some-clause-refused
@@ -25,3 +25,13 @@ returns-in-None-clause-kept g c =
     kept_front c.args.cut bytes c.args.size c.in_ok-front.front sized
     (front_of bytes _ c.in_ok-front.front c.new.ensures.bytes c.in_ok-front.ensures.front)
     (c.in-None.ensures.taken refl)
+
+pub returns-in-None-clause-place : goal.returns-in-None-clause-place
+returns-in-None-clause-place g c =
+    let bounds = c.in_ok-front.ensures.totals in
+    record {
+      within = bounds.within;
+      boundary = bounds.boundary;
+      signed = kept_signed c.args.cut c.args.size c.in_ok-front.front c.in_ok-front.ensures.whole c.in_ok-front.ensures.signed
+          (c.in-None.ensures.taken refl);
+    }
