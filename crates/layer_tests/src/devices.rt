@@ -16,7 +16,7 @@ fn regrow<G: Device>(device: &mut G, front: &mut [u8], piece: &[u8]) -> Result<(
     get_exact(&mut AsStore::new(device), 0, front)?;
     let at = front.len() as u64;
     device.cut(at)?;
-    put_all(&mut AsSink::new(device, at, at), piece)
+    put_all(&mut AsSink::new(device, at), piece)
 }
 
 /// What a device answers that is asked for its size, cut and put to.

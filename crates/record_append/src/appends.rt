@@ -8,9 +8,9 @@ ghost use Rattle.record_append.specs.Appends.{AnswersGrown, AnswersRest, KeepsBy
 ghost use Rattle.record_append.specs.Devices.{CountsFaults};
 ghost use Rattle.record_append.specs.Grown.{IsRefusedToGrow, RefusesFor, bytes_at, totals_at};
 
-use crate::as_sink::AsSink;
 use crate::device::Device;
 use crate::old_file::{cut_to, judge};
+use crate::sized_sink::SizedSink;
 use chunk_reader::{Fault, VerifyEnd};
 use record_io::{Failed, Totals};
 use record_writer::{RecordFeed, WriteEnd, WriteOptions, write_after, write_records};
@@ -180,7 +180,7 @@ fn put_records<R: Threads + Sync, L: RecordFeed, G: Device + Send>(
     ensures feed { OnlyCounts L.origin L.faults (result ≡ Err WriteEnd.Input) feed.old feed.new }
     ensures device { CountsFaults G.faults (result ≡ Err WriteEnd.Made) device.old device.new }
 {
-    let mut sink = AsSink::new(device, place, size);
+    let mut sink = SizedSink::new(device, place, size);
     if place == 0 {
         write_records(rt, alloc, options, feed, &mut sink)
     } else {

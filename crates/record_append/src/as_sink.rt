@@ -1,31 +1,27 @@
-ghost use Rattle.std.specs.Prelude.{◌≡◌, ◌^◌, ◌<◌, ◌≤◌, [], length, option_map, IfSome};
+ghost use Rattle.std.specs.Prelude.{◌≡◌, ◌≤◌, [], length, option_map, IfSome};
 ghost use Rattle.std.specs.Option.{ForSome};
-ghost use Rattle.record_append.specs.Devices.{bytes_from, bytes_before, name_of_sized};
+ghost use Rattle.record_append.specs.Devices.{bytes_from, bytes_before};
 
 use crate::device::Device;
 use record_io::{Failed, Sink};
 
-/// A device that is lent, as a sink, which has taken the bytes from a place on. It tells the size that it told before, or none.
+/// A device that is lent, as a sink, which has taken the bytes from a place on.
 #[derive(Drop)]
 pub struct AsSink<'a, G: Device> {
     device: &'a mut G,
     at: u64,
-    size: u64,
-    ghost small: { size < 2 ^ 64 },
     ghost within: { ForSome (G.bytes device.now) (λ file. at ≤ length file) },
-    ghost told: { ForSome (G.told device.now) (λ told. told ≡ size) },
 }
 
 impl<'a, G: Device> AsSink<'a, G> {
-    /// This device, which ends at the place, told the size if it tells one, and is only put to. It takes no memory.
-    pub fn new(device: &'a mut G, at: u64, size: u64) -> AsSink<'a, G>
-        requires ends { IfSome (G.bytes device.old) (λ file. length file ≡ at) }
-        requires told { IfSome (G.told device.old) (λ told. told ≡ size) }
+    /// This device, which ends at the place, and is only put to. It takes no memory.
+    pub fn new(device: &'a mut G, at: u64) -> AsSink<'a, G>
+        requires { IfSome (G.bytes device.old) (λ file. length file ≡ at) }
         ensures taken { ⟦<AsSink<'a, G> as Sink>⟧.taken result ≡ option_map (λ _. []) (G.bytes device.old) }
         ensures faults { ⟦<AsSink<'a, G> as Sink>⟧.faults result ≡ G.faults device.old }
-        ensures lent { ⟦<AsSink<'a, G> as Sink>⟧.lent result ≡ record { name = name_of_sized device.entry.ghost_name size; front = G.bytes device.old } }
+        ensures lent { ⟦<AsSink<'a, G> as Sink>⟧.lent result ≡ record { name = device.entry.ghost_name; front = G.bytes device.old } }
     {
-        AsSink { device, at, size }
+        AsSink { device, at }
     }
 }
 
@@ -34,7 +30,7 @@ impl<'a, G: Device> Sink for AsSink<'a, G> {
 
     ghost faults = { λ s. G.faults s.device.now };
 
-    ghost lent = { λ s. record { name = name_of_sized s.device.ghost_name s.size; front = bytes_before s.at (G.bytes s.device.now) } };
+    ghost lent = { λ s. record { name = s.device.ghost_name; front = bytes_before s.at (G.bytes s.device.now) } };
 
     fn put(&mut self, piece: &[u8]) -> Result<usize, Failed> {
         self.device.put(piece)

@@ -11,6 +11,7 @@ mod file_device;
 pub mod laws;
 mod mem_device;
 mod old_file;
+mod sized_sink;
 
 pub use ahead_device::{AheadDevice, AheadDeviceBy};
 pub use appends::{AppendEnd, Appended, append};
