@@ -1,10 +1,9 @@
 -- How a run of `sample` ends, by how its work ended.
-use Rattle.std.proofs.Common.{◌≡◌, ◌≢◌, ℕ, Option, Err, List, [], ◌++◌, take, arith, refl, sym, ap, subst, length}
+use Rattle.std.proofs.Common.{◌≡◌, ℕ, ◌<◌, Option, Err, List, [], ◌++◌, take, arith, refl, sym, subst, length}
 use Rattle.record_io.specs.Outside.{Rose, Takes}
 use Rattle.record_io.specs.Puts.{Put, Made, Out, Notes, taken_by, GoOut, BreaksOff, puts_to, bytes_to}
 use Rattle.record_io.proofs.Calls.{Takes-nothing}
-use Rattle.record_io.proofs.Puts.{GoOut-append, GoOut-made, GoOut-out, TakesFront-count, BreaksOff-front, BreaksOff-last, bytes_to-other}
-use Rattle.record_group.proofs.Signed.{end_of_chunk-signature, length-file_of-signed}
+use Rattle.record_io.proofs.Puts.{GoOut-append, GoOut-made, GoOut-out, TakesFront-count, BreaksOff-last, BreaksOff-longer, bytes_to-other, puts_to-front}
 use Rattle.run_answers.specs.declared.status.Status.{Status}
 use Rattle.run_answers.specs.Endings.{status_of}
 use Rattle.run_answers.specs.Statuses.{fault_text}
@@ -12,10 +11,9 @@ use Rattle.run_answers.specs.Runs.{SeenStream, SeenFile, Seen, seen, IsCutOff, I
 use Rattle.run_answers.proofs.RunEnds.{Keeps, OfSizes-unread, PutsLines-none, was-cut_off, went-so_far, runs-whole, runs-cut_off}
 use Rattle.run_answers.proofs.TwoStreams.{bytes_to-neither}
 use Rattle.sample_records.specs.declared.sample_words.SampleWords.{SampleWords}
-use Rattle.sample_records.specs.SampleCommand.{sampled, sample_file, sample_summary, sample_answer, sample_meaning, IsSampledSoFar}
+use Rattle.sample_records.specs.SampleCommand.{sample_file, sample_summary, sample_answer, sample_meaning, IsSampledSoFar}
 use Rattle.sample_records.specs.declared.sampling.SampleCut.{SampleCut}
 use Rattle.sample_records.specs.SampleEnds.{TakeSample, cut_of}
-use Rattle.sample_records.proofs.SummaryLines.{summary-some}
 use Rattle.sample_records.specs.declared.sampling.SampleCut.TheVariants as cut
 use Rattle.run_answers.specs.declared.status.Status.TheVariants as status
 
@@ -71,25 +69,18 @@ module _ (words : SampleWords) (input : SeenStream) (files : List SeenFile) (mad
       (λ short _ r is. went-so_far (sample_meaning words) ended Before After notes r part (so_far short) went (omega arith) said)
       refl cause keeps
 
-  -- the file begins with the signature
-  file-some : sample_file words ≢ []
-  file-some = λ none.
-      omega (arith, ap length none, length-file_of-signed (sampled words) words.options.size words.options.every words.options.pad, end_of_chunk-signature)
-
   -- so many bytes of the file
   abbrev front : ℕ → List Put
   front count = puts_to Made (take count (sample_file words))
 
-  broken : (count : ℕ) → BreaksOff Made (front count) (sample_answer words).puts
-  broken count = record {
-    before = [];
-    bytes = sample_file words;
-    rest = puts_to Out (sample_summary words);
-    parts = refl;
-    some = file-some;
-    count = count;
-    broken = refl;
-  }
+  -- the summary goes on behind them
+  goes_on : (count : ℕ) → (rest : List Put) × ((sample_answer words).puts ≡ front count ++ rest)
+  goes_on count = puts_to-front Made (sample_file words) count (puts_to Out (sample_summary words))
+
+  broken : (count : ℕ) → count < length (sample_file words) → BreaksOff Made (front count) (sample_answer words).puts
+  broken count less =
+      BreaksOff-longer Made (front count) (puts_to Made (sample_file words)) (puts_to Out (sample_summary words))
+      (BreaksOff-last Made [] (sample_file words) count less)
 
   -- they went out, and nothing was printed
   front-went : (count : ℕ) → Takes made.bytes made_then.bytes (take count (sample_file words)) → out_then.bytes ≡ out.bytes → Went (front count)
@@ -101,22 +92,20 @@ module _ (words : SampleWords) (input : SeenStream) (files : List SeenFile) (mad
   pub sample-cut_off : (X : Type 0) (how : SampleCut) → TakeSample {X = X} (Err how) words made.bytes made_then.bytes out.bytes out_then.bytes
       → (how ≡ cut.Made → Rose made.faults made_then.faults) → (how ≡ cut.Out → Rose out.faults out_then.faults)
       → TakesThen notes notes_then [] (fault_text (status_of (cut_of how))) → Ended (status_of (cut_of how))
-  sample-cut_off X cut.Made took made_rose out_rose said =
-      let count = TakesFront-count made.bytes made_then.bytes (sample_file words) took.0 in
-      cut_off status.Made (front count.0) tt (broken count.0) (λ short. absurd short) (refl, made_rose refl)
-      (bytes_to-other Notes Made (take count.0 (sample_file words)) refl) (front-went count.0 count.1 took.1) said
+  sample-cut_off X cut.Made ((count, less, took), same) made_rose out_rose said =
+      cut_off status.Made (front count) tt (broken count less) (λ short. absurd short) (refl, made_rose refl)
+      (bytes_to-other Notes Made (take count (sample_file words)) refl) (front-went count took same) said
   sample-cut_off X cut.Memory took made_rose out_rose said =
       let count = TakesFront-count made.bytes made_then.bytes (sample_file words) took.0 in
-      cut_off status.Memory (front count.0) tt (BreaksOff-front Made (front count.0) (sample_answer words).puts (broken count.0)) (λ short. (count.0, refl)) refl
+      cut_off status.Memory (front count.0) tt (goes_on count.0) (λ short. (count.0, refl)) refl
       (bytes_to-other Notes Made (take count.0 (sample_file words)) refl) (front-went count.0 count.1 took.1) said
-  sample-cut_off X cut.Out took made_rose out_rose said =
-      let count = TakesFront-count out.bytes out_then.bytes (sample_summary words) took.1 in
-      let printed : List ℕ = take count.0 (sample_summary words) in
+  sample-cut_off X cut.Out (whole, (count, less, took)) made_rose out_rose said =
+      let printed : List ℕ = take count (sample_summary words) in
       cut_off status.Out (puts_to Made (sample_file words) ++ puts_to Out printed) tt
-      (BreaksOff-last Out (puts_to Made (sample_file words)) (sample_summary words) count.0 (summary-some (length (sampled words)) (length (sample_file words))))
+      (BreaksOff-last Out (puts_to Made (sample_file words)) (sample_summary words) count less)
       (λ short. absurd short) (refl, out_rose refl)
       (bytes_to-neither Notes Made Out (sample_file words) printed refl refl)
       (GoOut-append _ (taken_by made_then.bytes out.bytes notes.bytes) _ (puts_to Made (sample_file words)) (puts_to Out printed)
-      (GoOut-made made.bytes made_then.bytes out.bytes notes.bytes (sample_file words) took.0)
-      (GoOut-out made_then.bytes out.bytes out_then.bytes notes.bytes printed count.1))
+      (GoOut-made made.bytes made_then.bytes out.bytes notes.bytes (sample_file words) whole)
+      (GoOut-out made_then.bytes out.bytes out_then.bytes notes.bytes printed took))
       said

@@ -1,5 +1,5 @@
 use Rattle.std.proofs.Common.{List, ℕ, subst}
-use Rattle.record_io.specs.Outside.{Takes, TakesFront}
+use Rattle.record_io.specs.Outside.{Takes, TakesShort}
 use Rattle.sample_records.proofs.SampleCounts.{sample-written}
 use Rattle.sample_records.proofs.sampling.make_sample.Goals as goal
 
@@ -14,5 +14,5 @@ pub returns-in-Err-put_counts-clause-taken : goal.returns-in-Err-put_counts-clau
 returns-in-Err-put_counts-clause-taken g c =
     let written = sample-written c.args.words.now _ c.in-Ok.totals _ _ c.requires.in_limits.size c.new-records.ensures.rest c.in-Ok.ensures.answer c.in-Ok.ensures.made in (
       written.1,
-      subst (λ (text : List ℕ). TakesFront (g.O.Sink.taken c.args.out.now) (g.O.Sink.taken c.put_counts.new.out) text) written.0 c.in-Err-put_counts.ensures.out.front,
+      subst (λ (text : List ℕ). TakesShort (g.O.Sink.taken c.args.out.now) (g.O.Sink.taken c.put_counts.new.out) text) written.0 c.in-Err-put_counts.ensures.out.front,
     )
