@@ -1,5 +1,5 @@
 -- The answers of `append`: each old file of bytes has one, and what each stream takes of it.
-use Rattle.std.proofs.Common.{if◌then◌else◌, ◌≡◌, ◌≢◌, ◌∙◌, ℕ, Bool, true, false, Option, Some, None, ◌⊎◌, List, [], ◌∷◌, length, refl, sym, ap, subst, inl, inr}
+use Rattle.std.proofs.Common.{if◌then◌else◌, ◌≡◌, ◌∙◌, ℕ, Bool, true, false, Option, Some, None, ◌⊎◌, List, [], ◌∷◌, length, refl, sym, ap, subst, inl, inr}
 use Rattle.std.specs.Prelude.{is_some}
 use Rattle.record_values.specs.Bytes.{AreBytes}
 use Rattle.record_io.specs.Puts.{Made, Out, Notes, bytes_to}
@@ -13,14 +13,13 @@ use Rattle.chunk_reader.proofs.FileFaults.{fault_is_one}
 use Rattle.record_writer.specs.Feeds.{Rest}
 use Rattle.record_writer.specs.declared.feed.Stop.{Stop}
 use Rattle.record_append.specs.Grown.{IsRefusedToGrow, IsUnrefused, RefusesFor}
-use Rattle.record_append.specs.declared.appends.Appended.{Appended}
 use Rattle.record_append.proofs.GrownFiles.{empty_taken, kept_once, kept_somewhere, taken_whole}
 use Rattle.run_answers.specs.Answers.{Answer, noted}
 use Rattle.run_answers.specs.FileAnswers.{OfFile}
 use Rattle.run_answers.proofs.OneAnswer.{of_file_exists}
 use Rattle.show_files.specs.Readings.{refused_text}
 use Rattle.write_lines.specs.WriteCommand.{stop_text}
-use Rattle.riegeli_tool.specs.AppendCommand.{IsAppended, appended_text, grown_answer, grown_puts, grown_text}
+use Rattle.riegeli_tool.specs.AppendCommand.{IsAppended, grown_answer, grown_puts, grown_text}
 use Rattle.riegeli_tool.specs.declared.append_words.AppendWords.{AppendWords}
 use Rattle.run_answers.specs.declared.status.Status.TheVariants as status
 
@@ -66,10 +65,6 @@ appended_exists words rest file bytes = elim (refused_or_taken words.cut file by
 pub grown_exists : (words : AppendWords) (rest : Rest) (file : List ℕ) → AreBytes file
     → (answer : Answer) × OfFile (IsAppended words rest) (file ∷ []) answer
 grown_exists words rest file bytes = of_file_exists (IsAppended words rest) (appended_exists words rest) (file ∷ []) refl (bytes, tt)
-
--- what is printed of a file is not empty
-pub appended-some : (appended : Appended) → appended_text appended ≢ []
-appended-some appended = λ none. cc none
 
 -- of the puts at the end
 end_made : (stop : Option Stop) (told : List ℕ) (count : ℕ) → bytes_to Made (grown_puts stop told count) ≡ []

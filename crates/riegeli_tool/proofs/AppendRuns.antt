@@ -4,10 +4,10 @@ use Rattle.std.specs.Option.{IfSome, IsSomeAnd}
 use Rattle.std.specs.Result.{OnOk}
 use Rattle.std.proofs.lemmas.List.{take_all}
 use Rattle.std.proofs.lemmas.Option.{MatchOption-at_some}
-use Rattle.record_io.specs.Outside.{Rose, Takes, TakesFront}
+use Rattle.record_io.specs.Outside.{Rose, Takes, TakesShort}
 use Rattle.record_io.specs.Puts.{Put, Out, Notes, Taken, taken_by, GoOut, puts_to, bytes_to}
 use Rattle.record_io.proofs.Calls.{Takes-nothing}
-use Rattle.record_io.proofs.Puts.{GoOut-out, GoOut-nothing, TakesFront-count, BreaksOff-last, bytes_to-other}
+use Rattle.record_io.proofs.Puts.{GoOut-out, GoOut-nothing, BreaksOff-last, bytes_to-other}
 use Rattle.chunk_reader.specs.declared.reasons.Fault.{Fault}
 use Rattle.record_writer.specs.Feeds.{Rest}
 use Rattle.record_writer.specs.declared.feed.Stop.{Stop}
@@ -32,7 +32,7 @@ use Rattle.riegeli_tool.specs.AppendingEnds.{HasAppended, HasTold, IsSizedBy, Is
 use Rattle.riegeli_tool.specs.declared.append.Unappended.{Unappended}
 use Rattle.riegeli_tool.specs.declared.append.Unappended.TheVariants.{Refused, Stopped}
 use Rattle.riegeli_tool.specs.declared.append_words.AppendWords.{AppendWords}
-use Rattle.riegeli_tool.proofs.AppendAnswers.{appended-some, grown_exists}
+use Rattle.riegeli_tool.proofs.AppendAnswers.{grown_exists}
 use Rattle.record_writer.specs.declared.feed.Stop.TheVariants as stop
 use Rattle.run_answers.specs.declared.ending.Cut.TheVariants as cut
 use Rattle.run_answers.specs.declared.ending.Ending.TheVariants as end
@@ -87,7 +87,7 @@ module _ (words : AppendWords) (input input_then : SeenStream) (files : List See
     (out out_then notes notes_then : SeenStream)
     (i : input.faults ≤ input_then.faults) (g : grown.faults ≤ grown_then.faults) (o : out.faults ≤ out_then.faults) (n : notes.faults ≤ notes_then.faults)
     (taken : TakesAtMost most_input_taken input.bytes input_then.bytes)
-    (handed : (grown_then.handed ≡ grown.handed) ⊎ HasTold grown.bytes (λ size. IsInReach (size ∷ []))) where
+    (handed : (grown_then.handed ≡ grown.handed) ⊎ HasTold grown.bytes grown_then.told (λ size. IsInReach (size ∷ []))) where
   abbrev Before : Seen
   Before = seen input files made grown out notes
 
@@ -112,7 +112,7 @@ module _ (words : AppendWords) (input input_then : SeenStream) (files : List See
   abbrev Keeps : (List ℕ → List ℕ → Type 0) → Type 0
   Keeps P = IfSome grown.bytes (λ file. IsSomeAnd grown_then.bytes (P file))
 
-  of_size : (P : List ℕ → Type 0) (size : ℕ) → (grown_then.told ≡ Some size) ⊎ IsInReach (size ∷ [])
+  of_size : (P : List ℕ → Type 0) (size : ℕ) → (grown_then.told ≡ Some size) ⊎ ((grown_then.told ≡ None) × IsInReach (size ∷ []))
       → IfSome grown.bytes (λ file. size ≡ length file) → P (size ∷ []) → OfSizes (append_meaning words) Before After P
   of_size = grown-size (append_meaning words) (grows words) input input_then files made made grown grown_then out out_then notes notes_then
 
@@ -140,13 +140,13 @@ module _ (words : AppendWords) (input input_then : SeenStream) (files : List See
   none_went same = subst (λ (b : Option (List ℕ)). GoOut Start (taken_by made.bytes b notes.bytes) []) (sym same) (GoOut-nothing Start)
 
   -- all was put to the file, and what became of it was printed
-  done : HasTold grown.bytes (λ size. IsInReach (size ∷ []))
+  done : HasTold grown.bytes grown_then.told (λ size. IsInReach (size ∷ []))
       → ((r : Read) → IsReadBy (append_meaning words) Before r → IsTold Takes words (Lines r) r.grown grown_then.bytes out.bytes out_then.bytes)
       → IfSome input.bytes (λ _. input_then.bytes ≡ Some [])
       → Keeps (λ file held. (place : ℕ) × GrowsFrom words.cut file place held) → notes_then ≡ notes → Ended status.Ok
-  done (size, within, exact) told read keeps kept =
+  done (size, within, exact, tells) told read keeps kept =
       ends-whole (append_meaning words) Before After status.Ok [] tt
-      (of_size (λ sizes. (append_meaning words).may_end sizes status.Ok []) size (inr within) exact (inl (within, (0, None, refl, refl))))
+      (of_size (λ sizes. (append_meaning words).may_end sizes status.Ok []) size tells exact (inl (within, (0, None, refl, refl))))
       (subst (λ (s : SeenStream). Takes notes.bytes s.bytes []) (sym kept) (Takes-nothing notes.bytes))
       (λ r is.
       let (none, place, holds, printed) = told r is in
@@ -168,7 +168,7 @@ module _ (words : AppendWords) (input input_then : SeenStream) (files : List See
       keeps)
 
   -- something was said at the end
-  said : (ended wanted : Status) (text : List ℕ) → SaysAtEnd ended wanted notes notes_then text → text ≢ [] → IsWhole wanted → wanted ≢ status.Ok
+  said : (ended wanted : Status) (text : List ℕ) → SaysAtEnd ended wanted notes notes_then text → IsWhole wanted → wanted ≢ status.Ok
       → HasCause wanted (append_meaning words) Before After
       → OfSizes (append_meaning words) Before After (λ sizes. (append_meaning words).may_end sizes wanted text)
       → ((r : Read) → IsReadBy (append_meaning words) Before r
@@ -176,12 +176,12 @@ module _ (words : AppendWords) (input input_then : SeenStream) (files : List See
       → IfGrown (append_meaning words) Before After (append_meaning words).leaves
       → IfGrown (append_meaning words) Before After (append_meaning words).may_leave
       → Keeps (KeepsOld words.cut wanted) → Keeps (KeepsOld words.cut status.Notes) → Ended ended
-  said ended wanted text says some is other cause may gave leaves may_leave keeps keeps_untold =
-      ends-said (append_meaning words) Before After notes ended wanted [] text (Takes-nothing notes.bytes) (omega arith) says some is other may gave
+  said ended wanted text says is other cause may gave leaves may_leave keeps keeps_untold =
+      ends-said (append_meaning words) Before After notes ended wanted [] text (Takes-nothing notes.bytes) (omega arith) says is other may gave
       (λ none. absurd (cc none)) cause (whole wanted is leaves keeps) (short status.Notes (inr refl) (λ e. absurd (cc e)) may_leave keeps_untold)
 
   -- the file was not grown, and that was said
-  ungrown : (ended wanted : Status) (text : List ℕ) → SaysAtEnd ended wanted notes notes_then text → text ≢ [] → IsWhole wanted → wanted ≢ status.Ok
+  ungrown : (ended wanted : Status) (text : List ℕ) → SaysAtEnd ended wanted notes notes_then text → IsWhole wanted → wanted ≢ status.Ok
       → HasCause wanted (append_meaning words) Before After
       → OfSizes (append_meaning words) Before After (λ sizes. (append_meaning words).may_end sizes wanted text)
       → ((r : Read) → IsReadBy (append_meaning words) Before r
@@ -189,8 +189,8 @@ module _ (words : AppendWords) (input input_then : SeenStream) (files : List See
       × ((most_file_bytes < length r.grown) ⊎ ((fault : Fault) × IsRefusedToGrow words.cut r.grown fault))
       × (grown_then.bytes ≡ Some r.grown) × (out_then.bytes ≡ out.bytes))
       → Keeps (KeepsOld words.cut wanted) → Keeps (KeepsOld words.cut status.Notes) → Ended ended
-  ungrown ended wanted text says some is other cause may known keeps keeps_untold =
-      said ended wanted text says some is other cause may
+  ungrown ended wanted text says is other cause may known keeps keeps_untold =
+      said ended wanted text says is other cause may
       (λ r read.
       let (answers, why, same, unprinted) = known r read in
       (noted wanted text, answers, record { same_status = refl; puts = []; whole = refl; went = none_went unprinted }))
@@ -199,12 +199,12 @@ module _ (words : AppendWords) (input input_then : SeenStream) (files : List See
       keeps keeps_untold
 
   -- it is too long
-  too_long : (ended : Status) → HasTold grown.bytes (λ size. IsTooLong (size ∷ []) × (grown_then.told ≡ Some size))
+  too_long : (ended : Status) → HasTold grown.bytes grown_then.told (λ size. IsTooLong (size ∷ []) × (grown_then.told ≡ Some size))
       → ((r : Read) → IsReadBy (append_meaning words) Before r
       → (most_file_bytes < length r.grown) × (grown_then.bytes ≡ Some r.grown) × (out_then.bytes ≡ out.bytes))
       → Keeps (λ file held. held ≡ file) → SaysAtEnd ended status.Limit notes notes_then limit_text → Ended ended
-  too_long ended (size, (long, told), exact) known keeps says =
-      ungrown ended status.Limit limit_text says (λ e. cc e) tt (λ e. cc e) tt
+  too_long ended (size, (long, told), exact, tells) known keeps says =
+      ungrown ended status.Limit limit_text says tt (λ e. cc e) tt
       (of_size (λ sizes. (append_meaning words).may_end sizes status.Limit limit_text) size (inl told) exact (inr (inr (long, refl, refl))))
       (λ r is. let (past, same, unprinted) = known r is in (inl (past, refl), inl past, same, unprinted))
       (keeps-map (λ file held. held ≡ file) (KeepsOld words.cut status.Limit) size grown.bytes grown_then.bytes exact
@@ -213,12 +213,12 @@ module _ (words : AppendWords) (input input_then : SeenStream) (files : List See
 
   -- it is refused
   refused : (ended : Status) (fault : Fault)
-      → HasTold grown.bytes (λ size. IsInReach (size ∷ []) × (grown_then.told ≡ Some size) × (0 < size) × RefusesFor words.cut fault.why)
+      → HasTold grown.bytes grown_then.told (λ size. IsInReach (size ∷ []) × (grown_then.told ≡ Some size) × (0 < size) × RefusesFor words.cut fault.why)
       → ((r : Read) → IsReadBy (append_meaning words) Before r
       → IsRefusedToGrow words.cut r.grown fault × (grown_then.bytes ≡ Some r.grown) × (out_then.bytes ≡ out.bytes))
       → Keeps (λ file held. held ≡ file) → SaysAtEnd ended status.Refused notes notes_then (refused_text fault) → Ended ended
-  refused ended fault (size, (within, told, some, reason), exact) known keeps says =
-      ungrown ended status.Refused (refused_text fault) says (λ e. cc e) tt (λ e. cc e) tt
+  refused ended fault (size, (within, told, some, reason), exact, tells) known keeps says =
+      ungrown ended status.Refused (refused_text fault) says tt (λ e. cc e) tt
       (of_size (λ sizes. (append_meaning words).may_end sizes status.Refused (refused_text fault)) size (inl told) exact
       (inr (inl (within, (λ none. let empty : size ≡ 0 = cc none in omega (arith, empty, some)), fault, reason, refl, refl))))
       (λ r is.
@@ -228,17 +228,17 @@ module _ (words : AppendWords) (input input_then : SeenStream) (files : List See
       (keeps-map (λ file held. held ≡ file) (KeepsOld words.cut status.Notes) size grown.bytes grown_then.bytes exact (λ file held is same. inl same) keeps)
 
   -- a stop followed some records
-  stopped : (ended : Status) (s : Stop) (count : ℕ) → stop_text count (Some s) ≢ [] → IsWhole (stop_status (Some s)) → stop_status (Some s) ≢ status.Ok
+  stopped : (ended : Status) (s : Stop) (count : ℕ) → IsWhole (stop_status (Some s)) → stop_status (Some s) ≢ status.Ok
       → HasCause (stop_status (Some s)) (append_meaning words) Before After
       → ((file held : List ℕ) → length file ≤ most_file_bytes → ((place : ℕ) × GrowsFrom words.cut file place held) → KeepsOld words.cut (stop_status (Some s)) file held)
-      → HasTold grown.bytes (λ size. IsInReach (size ∷ []))
+      → HasTold grown.bytes grown_then.told (λ size. IsInReach (size ∷ []))
       → ((r : Read) → IsReadBy (append_meaning words) Before r
       → IsStopped words (Lines r) r.grown grown_then.bytes s count × (out_then.bytes ≡ out.bytes))
       → Keeps (λ file held. (place : ℕ) × GrowsFrom words.cut file place held)
       → SaysAtEnd ended (stop_status (Some s)) notes notes_then (stop_text count (Some s)) → Ended ended
-  stopped ended s count some is other cause then (size, within, exact) known keeps says =
-      said ended (stop_status (Some s)) (stop_text count (Some s)) says some is other cause
-      (of_size (λ sizes. (append_meaning words).may_end sizes (stop_status (Some s)) (stop_text count (Some s))) size (inr within) exact
+  stopped ended s count is other cause then (size, within, exact, tells) known keeps says =
+      said ended (stop_status (Some s)) (stop_text count (Some s)) says is other cause
+      (of_size (λ sizes. (append_meaning words).may_end sizes (stop_status (Some s)) (stop_text count (Some s))) size tells exact
       (inl (within, (count, Some s, refl, refl))))
       (λ r read.
       let ((stops, text, (place, holds)), unprinted) = known r read in
@@ -270,17 +270,17 @@ module _ (words : AppendWords) (input input_then : SeenStream) (files : List See
 
   -- by which it was
   by_stop : (ended : Status) (s : Stop) (count : ℕ)
-      → HasTold grown.bytes (λ size. IsInReach (size ∷ []))
+      → HasTold grown.bytes grown_then.told (λ size. IsInReach (size ∷ []))
       → ((r : Read) → IsReadBy (append_meaning words) Before r
       → IsStopped words (Lines r) r.grown grown_then.bytes s count × (out_then.bytes ≡ out.bytes))
       → Keeps (λ file held. (place : ℕ) × GrowsFrom words.cut file place held)
       → SaysAtEnd ended (stop_status (Some s)) notes notes_then (stop_text count (Some s)) → Ended ended
   by_stop ended stop.TooLong count =
-      stopped ended stop.TooLong count (λ e. cc e) tt (λ e. cc e) tt (λ file held reach grows_from. inr (reach, grows_from))
+      stopped ended stop.TooLong count tt (λ e. cc e) tt (λ file held reach grows_from. inr (reach, grows_from))
   by_stop ended stop.InputTooLong count =
-      stopped ended stop.InputTooLong count (λ e. cc e) tt (λ e. cc e) tt (λ file held reach grows_from. inr (reach, grows_from))
+      stopped ended stop.InputTooLong count tt (λ e. cc e) tt (λ file held reach grows_from. inr (reach, grows_from))
   by_stop ended stop.BadLine count =
-      stopped ended stop.BadLine count (λ e. cc e) tt (λ e. cc e) tt (λ file held reach grows_from. grows_from)
+      stopped ended stop.BadLine count tt (λ e. cc e) tt (λ file held reach grows_from. grows_from)
 
   -- a fault or want of memory cut the work off, when this of an answer had gone out
   cut_off : (ended : Status) → IsCutOff ended
@@ -321,24 +321,23 @@ module _ (words : AppendWords) (input input_then : SeenStream) (files : List See
       cause keeps says
 
   -- standard output failed
-  out_failed : HasTold grown.bytes (λ size. IsInReach (size ∷ []))
-      → ((r : Read) → IsReadBy (append_meaning words) Before r → IsTold TakesFront words (Lines r) r.grown grown_then.bytes out.bytes out_then.bytes)
+  out_failed : HasTold grown.bytes grown_then.told (λ size. IsInReach (size ∷ []))
+      → ((r : Read) → IsReadBy (append_meaning words) Before r → IsTold TakesShort words (Lines r) r.grown grown_then.bytes out.bytes out_then.bytes)
       → Rose out.faults out_then.faults → Keeps (λ file held. (place : ℕ) × GrowsFrom words.cut file place held)
       → TakesThen notes notes_then [] (fault_text status.Out) → Ended status.Out
-  out_failed (size, within, exact) told rose keeps says =
-      cut_off status.Out tt (λ _ _. of_size IsInReach size (inr within) exact within)
+  out_failed (size, within, exact, tells) told rose keeps says =
+      cut_off status.Out tt (λ _ _. of_size IsInReach size tells exact within)
       (λ r is.
-      let (none, place, holds, printed) = told r is in
+      let (none, place, holds, (count, less, printed)) = told r is in
       let text : List ℕ = grown_text words r.grown place (Lines r).records in
-      let count = TakesFront-count out.bytes out_then.bytes text printed in
-      let last : List ℕ = take count.0 text in (
+      let last : List ℕ = take count text in (
         grown_answer words r.grown place (Lines r),
         inr (read_size (λ bytes. bytes ≤ most_file_bytes) size within exact r is, inr (place, holds.taken, holds.kept, refl)),
         puts_to Out last,
         subst (λ (s : Option Stop). Breaks status.Out (puts_to Out last) (grown_puts s text (length (Lines r).records))) (sym none)
-            (BreaksOff-last Out [] text count.0 (appended-some _)),
+            (BreaksOff-last Out [] text count less),
         bytes_to-other Notes Out last refl,
-        GoOut-out made.bytes out.bytes out_then.bytes notes.bytes last count.1,
+        GoOut-out made.bytes out.bytes out_then.bytes notes.bytes last printed,
         (λ short. absurd short),
       ))
       (λ _ r is.
@@ -375,16 +374,16 @@ module _ (words : AppendWords) (input input_then : SeenStream) (files : List See
   by_end (Err end.Limit) ended sized has keeps input_rose grown_rose out_rose read says = too_long ended sized has keeps says
   by_end (Err (end.At (Refused fault))) ended sized has keeps input_rose grown_rose out_rose read says = refused ended fault sized has keeps says
   by_end (Err (end.At (Stopped s count))) ended sized has keeps input_rose grown_rose out_rose read says = by_stop ended s count sized has keeps says
-  by_end (Err (end.Cut cut.Input)) ended (used, (size, within, exact)) has keeps input_rose grown_rose out_rose read says =
+  by_end (Err (end.Cut cut.Input)) ended (used, (size, within, exact, tells)) has keeps input_rose grown_rose out_rose read says =
       subst Ended (sym says.0)
-      (unprinted_cut status.Input tt (λ e. cc e) (λ puts. (puts, refl)) (λ _ _. of_size IsInReach size (inr within) exact within) has
+      (unprinted_cut status.Input tt (λ e. cc e) (λ puts. (puts, refl)) (λ _ _. of_size IsInReach size tells exact within) has
       (refl, input_rose refl) keeps says.1)
   by_end (Err (end.Cut cut.Grown)) ended sized has keeps input_rose grown_rose out_rose read says =
       subst Ended (sym says.0)
       (unprinted_cut status.Grown tt (λ e. cc e) (λ puts. (puts, refl)) (λ _ other. absurd (other refl)) has (refl, grown_rose refl) keeps says.1)
-  by_end (Err (end.Cut cut.Memory)) ended (used, (size, within, exact)) has keeps input_rose grown_rose out_rose read says =
+  by_end (Err (end.Cut cut.Memory)) ended (used, (size, within, exact, tells)) has keeps input_rose grown_rose out_rose read says =
       subst Ended (sym says.0)
-      (unprinted_cut status.Memory tt (λ e. cc e) (λ puts. (puts, refl)) (λ _ _. of_size IsInReach size (inr within) exact within) has refl keeps says.1)
+      (unprinted_cut status.Memory tt (λ e. cc e) (λ puts. (puts, refl)) (λ _ _. of_size IsInReach size tells exact within) has refl keeps says.1)
   by_end (Err (end.Cut cut.Out)) ended (used, sized) has keeps input_rose grown_rose out_rose read says =
       subst Ended (sym says.0) (out_failed sized has (out_rose refl) keeps says.1)
   by_end (Err (end.Cut cut.File)) ended (used, sized) has keeps input_rose grown_rose out_rose read says = absurd (cc used)

@@ -1,5 +1,5 @@
 -- How the work of `append` ends, by the answers of its calls.
-use Rattle.std.proofs.Common.{◌≡◌, ◌∙◌, ℕ, ◌-◌, ◌<◌, ◌≤◌, ◌⊎◌, Option, Some, None, Ok, Err, List, length, option_map, refl, sym, ap, subst, inl, inr, arith}
+use Rattle.std.proofs.Common.{◌≡◌, ◌∙◌, ℕ, ◌-◌, ◌<◌, ◌≤◌, ◌⊎◌, Option, Some, None, Ok, Err, List, [], ◌∷◌, length, option_map, refl, sym, ap, subst, inl, inr, arith}
 use Rattle.std.specs.Option.{IfSome, IsSomeAnd}
 use Rattle.std.proofs.lemmas.Option.{MatchOption-at_some}
 use Rattle.chunk_reader.specs.declared.reasons.Fault.{Fault}
@@ -8,7 +8,7 @@ use Rattle.record_append.specs.Appends.{AnswersGrown, GrowsFrom, HoldsCutOff, Ho
 use Rattle.record_append.specs.Grown.{IsRefusedToGrow, RefusesFor, grown}
 use Rattle.record_append.specs.declared.appends.Appended.{Appended}
 use Rattle.record_append.specs.declared.appends.AppendEnd.{AppendEnd}
-use Rattle.run_answers.specs.FileAnswers.{most_file_bytes}
+use Rattle.run_answers.specs.FileAnswers.{IsInReach, most_file_bytes}
 use Rattle.run_answers.specs.FileSizes.{IsUnsized}
 use Rattle.run_answers.specs.declared.ending.Ending.{Ending}
 use Rattle.write_lines.specs.WriteCommand.{stop_text}
@@ -46,6 +46,12 @@ stays-kept None held P same then = tt
 stays-kept (Some file) None P same then = cc same
 stays-kept (Some file) (Some now) P same then = then file now (cc same)
 
+-- a file within the limit tells its size still, or none
+pub still-tells : (size : ℕ) (told : Option ℕ) → size ≤ most_file_bytes → IfSome told (λ n. n ≡ size)
+    → (told ≡ Some size) ⊎ ((told ≡ None) × IsInReach (size ∷ []))
+still-tells size None within still = inr (refl, within)
+still-tells size (Some n) within still = inl (ap Some still)
+
 module _ (words : AppendWords) where
   -- the file told too large a size
   pub long-appended : (told : Option ℕ) (bytes held input out : Option (List ℕ)) (m n : ℕ) → IsUnsized size.Limit told bytes m n → held ≡ bytes
@@ -57,7 +63,7 @@ module _ (words : AppendWords) where
   pub long-sized : (told : Option ℕ) (bytes : Option (List ℕ)) (m n : ℕ) → IsUnsized size.Limit told bytes m n
       → IfSome bytes (λ file. IfSome told (λ size. size ≡ length file)) → IsSizedBy {X = Unit {0}} (Err end.Limit) words bytes told
   long-sized None bytes m n is exact = absurd is.0
-  long-sized (Some size) bytes m n is exact = (size, (is.0, refl), exact)
+  long-sized (Some size) bytes m n is exact = (size, (is.0, refl), exact, inl refl)
 
   -- it failed before it told one
   pub failed-appended : (bytes held input out : Option (List ℕ)) → held ≡ bytes
@@ -96,16 +102,17 @@ module _ (words : AppendWords) where
   kept_by append.Memory file now keeps = keeps
 
   sized_by : (e : AppendEnd) (size : ℕ) (bytes : Option (List ℕ)) (told : Option ℕ) → size ≤ most_file_bytes → IfSome bytes (λ file. size ≡ length file)
+      → IfSome told (λ n. n ≡ size)
       → ((fault : Fault) → e ≡ append.Refused fault → (told ≡ Some size) × (0 < size) × RefusesFor words.cut fault.why)
       → IsSizedBy {X = Unit {0}} (Err (end_of_append e)) words bytes told
-  sized_by (append.Refused fault) size bytes told within exact refused =
-      let its = refused fault refl in (size, (within, its.0, its.1, its.2), exact)
-  sized_by (append.TooLong count) size bytes told within exact refused = (size, within, exact)
-  sized_by append.InputTooLong size bytes told within exact refused = (size, within, exact)
-  sized_by (append.BadLine count) size bytes told within exact refused = (size, within, exact)
-  sized_by append.Input size bytes told within exact refused = (refl, (size, within, exact))
-  sized_by append.Device size bytes told within exact refused = refl
-  sized_by append.Memory size bytes told within exact refused = (refl, (size, within, exact))
+  sized_by (append.Refused fault) size bytes told within exact still refused =
+      let its = refused fault refl in (size, (within, its.0, its.1, its.2), exact, inl its.0)
+  sized_by (append.TooLong count) size bytes told within exact still refused = (size, within, exact, still-tells size told within still)
+  sized_by append.InputTooLong size bytes told within exact still refused = (size, within, exact, still-tells size told within still)
+  sized_by (append.BadLine count) size bytes told within exact still refused = (size, within, exact, still-tells size told within still)
+  sized_by append.Input size bytes told within exact still refused = (refl, (size, within, exact, still-tells size told within still))
+  sized_by append.Device size bytes told within exact still refused = refl
+  sized_by append.Memory size bytes told within exact still refused = (refl, (size, within, exact, still-tells size told within still))
 
   -- the same of what the device and the input showed
   pub ended-appended : (e : AppendEnd) (why : Ending Unappended) (size : ℕ) (bytes mid held input out : Option (List ℕ))
@@ -131,11 +138,11 @@ module _ (words : AppendWords) where
       (if-kept mid held (KeepsBy (Err e) words.cut) (KeepsOldAtEnd {X = Unit {0}} (Err (end_of_append e)) words.cut) (kept_by e) keeps))
 
   pub ended-sized : (e : AppendEnd) (why : Ending Unappended) (size : ℕ) (bytes : Option (List ℕ)) (told : Option ℕ) → why ≡ end_of_append e
-      → size ≤ most_file_bytes → IfSome bytes (λ file. size ≡ length file)
+      → size ≤ most_file_bytes → IfSome bytes (λ file. size ≡ length file) → IfSome told (λ n. n ≡ size)
       → ((fault : Fault) → e ≡ append.Refused fault → (told ≡ Some size) × (0 < size) × RefusesFor words.cut fault.why)
       → IsSizedBy {X = Unit {0}} (Err why) words bytes told
-  ended-sized e why size bytes told is within exact refused =
-      subst (λ (w : Ending Unappended). IsSizedBy {X = Unit {0}} (Err w) words bytes told) (sym is) (sized_by e size bytes told within exact refused)
+  ended-sized e why size bytes told is within exact still refused =
+      subst (λ (w : Ending Unappended). IsSizedBy {X = Unit {0}} (Err w) words bytes told) (sym is) (sized_by e size bytes told within exact still refused)
 
 -- all that is told of a file that was grown
 told_all : (words : AppendWords) (file : List ℕ) (added : List (List ℕ)) (told : Appended) → Tells words.write.options file added told

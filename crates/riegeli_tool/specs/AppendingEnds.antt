@@ -1,6 +1,6 @@
 -- How the work of `append` ends. Own.
 use Rattle.std.specs.Prelude.{◌≡◌, ℕ, ◌<◌, ◌≤◌, ◌⊎◌, true, Bool, Option, Some, None, Result, Ok, Err, IfSome, List, [], ◌∷◌, length}
-use Rattle.record_io.specs.Outside.{Takes, TakesFront}
+use Rattle.record_io.specs.Outside.{Takes, TakesShort}
 use Rattle.record_writer.specs.Feeds.{Rest}
 use Rattle.record_writer.specs.declared.feed.Stop.{Stop}
 use Rattle.record_append.specs.Appends.{GrowsBy, GrowsFrom, HoldsGrown, HoldsGrownInPart, KeepsFront}
@@ -45,20 +45,23 @@ unappended_status (Stopped stop count) = stop_status (Some stop)
 abbrev pub appending_ends : {X : Type 0} → Endings X Unappended
 appending_ends = record { done = λ _. status.Ok; text = unappended_text; status = unappended_status }
 
--- the file, whose bytes are these, where it shows them, told a size, of which P holds
-abbrev pub HasTold : (bytes : Option (List ℕ)) → (ℕ → Type 0) → Type 0
-HasTold bytes P = (size : ℕ) × P size × IfSome bytes (λ file. size ≡ length file)
+-- the file, whose bytes are these, where it shows them, told a size, of which P holds. It tells that still, or none: its size, which
+-- was within the limit, may have changed, since it was cut or put to
+abbrev pub HasTold : (bytes : Option (List ℕ)) (told : Option ℕ) → (ℕ → Type 0) → Type 0
+HasTold bytes told P =
+    (size : ℕ) × P size × IfSome bytes (λ file. size ≡ length file)
+    × ((told ≡ Some size) ⊎ ((told ≡ None) × IsInReach (size ∷ [])))
 
 -- the work may end so, by the size that the file told: past the limit, or within it, unless the file failed; it tells that still
 -- where it is too long or refused
 abbrev pub IsSizedBy : {X : Type 0} → Result X (Ending Unappended) → AppendWords → (bytes : Option (List ℕ)) (told : Option ℕ) → Type 0
-IsSizedBy (Ok x) words bytes told = HasTold bytes (λ size. IsInReach (size ∷ []))
-IsSizedBy (Err end.Limit) words bytes told = HasTold bytes (λ size. IsTooLong (size ∷ []) × (told ≡ Some size))
+IsSizedBy (Ok x) words bytes told = HasTold bytes told (λ size. IsInReach (size ∷ []))
+IsSizedBy (Err end.Limit) words bytes told = HasTold bytes told (λ size. IsTooLong (size ∷ []) × (told ≡ Some size))
 IsSizedBy (Err (end.At (Refused fault))) words bytes told =
-    HasTold bytes (λ size. IsInReach (size ∷ []) × (told ≡ Some size) × (0 < size) × RefusesFor words.cut fault.why)
-IsSizedBy (Err (end.At (Stopped stop count))) words bytes told = HasTold bytes (λ size. IsInReach (size ∷ []))
+    HasTold bytes told (λ size. IsInReach (size ∷ []) × (told ≡ Some size) × (0 < size) × RefusesFor words.cut fault.why)
+IsSizedBy (Err (end.At (Stopped stop count))) words bytes told = HasTold bytes told (λ size. IsInReach (size ∷ []))
 IsSizedBy (Err (end.Cut cut.Grown)) words bytes told = (append_meaning words).uses.grown ≡ true
-IsSizedBy (Err (end.Cut cut)) words bytes told = MayBeCut (append_meaning words) cut × HasTold bytes (λ size. IsInReach (size ∷ []))
+IsSizedBy (Err (end.Cut cut)) words bytes told = MayBeCut (append_meaning words) cut × HasTold bytes told (λ size. IsInReach (size ∷ []))
 
 -- all records were put to the file, and this was printed of what became of it
 abbrev pub IsTold : ((before after : Option (List ℕ)) → List ℕ → Type 0) → AppendWords → Rest → (file : List ℕ) (held out out_then : Option (List ℕ)) → Type 0
@@ -80,7 +83,7 @@ HasAppended (Err (end.At (Refused fault))) words rest file held out out_then =
     IsRefusedToGrow words.cut file fault × (held ≡ Some file) × (out_then ≡ out)
 HasAppended (Err (end.At (Stopped stop count))) words rest file held out out_then =
     IsStopped words rest file held stop count × (out_then ≡ out)
-HasAppended (Err (end.Cut cut.Out)) words rest file held out out_then = IsTold TakesFront words rest file held out out_then
+HasAppended (Err (end.Cut cut.Out)) words rest file held out out_then = IsTold TakesShort words rest file held out out_then
 HasAppended (Err (end.Cut other)) words rest file held out out_then =
     ((held ≡ Some file)
     ⊎ ((length file ≤ most_file_bytes) × HoldsGrownInPart words.write.options words.cut file rest.records held))

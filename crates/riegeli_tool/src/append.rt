@@ -71,7 +71,7 @@ fn append_lines<R: Threads + Sync, I: Source, G: Device + Send, O: Sink>(
         HasAppended result words.now (lines_taken words.now bytes) file (G.bytes grown.new) (O.taken out.old) (O.taken out.new))) }
     ensures kept { IfSome (G.bytes grown.old) (λ file. IsSomeAnd (G.bytes grown.new) (λ held. KeepsOldAtEnd result words.now.cut file held)) }
     ensures sized { IsSizedBy result words.now (G.bytes grown.old) (G.told grown.new) }
-    ensures handed { (G.handed grown.new ≡ G.handed grown.old) ⊎ HasTold (G.bytes grown.old) (λ size. IsInReach (size ∷ [])) }
+    ensures handed { (G.handed grown.new ≡ G.handed grown.old) ⊎ HasTold (G.bytes grown.old) (G.told grown.new) (λ size. IsInReach (size ∷ [])) }
     ensures read_to_end { OnOk result (IfSome (I.left input.old) (λ _. I.left input.new ≡ Some [])) }
     ensures input_taken { TakesAtMost most_input_taken (I.left input.old) (I.left input.new) }
     ensures input_cause { result ≡ Err (Ending.Cut Cut.Input) → Rose (I.faults input.old) (I.faults input.new) }
@@ -125,6 +125,7 @@ fn grow<R: Threads + Sync, I: Source, G: Device + Send>(
     ensures refused { (fault : Fault) → result ≡ Err (AppendEnd.Refused fault)
         → (G.told grown.new ≡ Some size) × (0 < size) × RefusesFor words.now.cut fault.why
         × IfSome (G.bytes grown.old) (λ file. IsRefusedToGrow words.now.cut file fault) }
+    ensures still_told { IfSome (G.told grown.new) (λ told. told ≡ size) }
     ensures kept { IfSome (G.bytes grown.old) (λ file. IsSomeAnd (G.bytes grown.new) (λ held. KeepsBy result words.now.cut file held)) }
     ensures read_to_end { OnOk result (IfSome (I.left input.old) (λ _. I.left input.new ≡ Some [])) }
     ensures input_taken { TakesAtMost most_input_taken (I.left input.old) (I.left input.new) }

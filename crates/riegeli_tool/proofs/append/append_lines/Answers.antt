@@ -1,7 +1,7 @@
 use Rattle.std.proofs.Common.{◌≡◌, Err, ap, inl, inr, refl}
-use Rattle.record_io.specs.Outside.{Takes, TakesFront}
+use Rattle.record_io.specs.Outside.{Takes, TakesShort}
 use Rattle.record_append.specs.Appends.{KeepsFront}
-use Rattle.riegeli_tool.proofs.AppendSteps.{ended-appended, ended-kept, ended-sized, failed-appended, long-appended, long-sized, stays-kept, told-appended, told-kept}
+use Rattle.riegeli_tool.proofs.AppendSteps.{ended-appended, ended-kept, ended-sized, failed-appended, long-appended, long-sized, stays-kept, still-tells, told-appended, told-kept}
 use Rattle.riegeli_tool.proofs.append.append_lines.Goals as goal
 
 pub returns-in-Err-Limit-clause-appended : goal.returns-in-Err-Limit-clause-appended
@@ -36,10 +36,12 @@ returns-in-Err-clause-kept g c =
 pub returns-in-Err-clause-sized : goal.returns-in-Err-clause-sized
 returns-in-Err-clause-sized g c =
     ended-sized c.args.words.now c.in-Err.end _ c.in-Ok.size _ _ c.end_of_append.ensures c.in-Ok.ensures.in_reach c.in-Ok.ensures.exact
+    c.grow.ensures.still_told
     (λ fault is. let refused = c.in-Err.ensures.refused fault (ap Err is) in (refused.0, refused.1, refused.2))
 
 pub returns-in-Err-clause-handed : goal.returns-in-Err-clause-handed
-returns-in-Err-clause-handed g c = inr (c.in-Ok.size, c.in-Ok.ensures.in_reach, c.in-Ok.ensures.exact)
+returns-in-Err-clause-handed g c = inr
+    (c.in-Ok.size, c.in-Ok.ensures.in_reach, c.in-Ok.ensures.exact, still-tells c.in-Ok.size _ c.in-Ok.ensures.in_reach c.grow.ensures.still_told)
 
 pub returns-in-Ok-put_appended-clause-appended : goal.returns-in-Ok-put_appended-clause-appended
 returns-in-Ok-put_appended-clause-appended g c =
@@ -50,12 +52,17 @@ pub returns-in-Ok-put_appended-clause-kept : goal.returns-in-Ok-put_appended-cla
 returns-in-Ok-put_appended-clause-kept g c =
     told-kept c.args.words.now c.in-Ok-grow.appended _ _ _ _ c.size_in_reach.ensures.same_bytes (λ file now grows. grows) c.in-Ok-grow.ensures.kept
 
+pub returns-in-Ok-put_appended-clause-sized : goal.returns-in-Ok-put_appended-clause-sized
+returns-in-Ok-put_appended-clause-sized g c =
+    (c.in-Ok.size, c.in-Ok.ensures.in_reach, c.in-Ok.ensures.exact, still-tells c.in-Ok.size _ c.in-Ok.ensures.in_reach c.grow.ensures.still_told)
+
 pub returns-in-Ok-put_appended-clause-handed : goal.returns-in-Ok-put_appended-clause-handed
-returns-in-Ok-put_appended-clause-handed g c = inr (c.in-Ok.size, c.in-Ok.ensures.in_reach, c.in-Ok.ensures.exact)
+returns-in-Ok-put_appended-clause-handed g c = inr
+    (c.in-Ok.size, c.in-Ok.ensures.in_reach, c.in-Ok.ensures.exact, still-tells c.in-Ok.size _ c.in-Ok.ensures.in_reach c.grow.ensures.still_told)
 
 pub returns-in-Err-put_appended-clause-appended : goal.returns-in-Err-put_appended-clause-appended
 returns-in-Err-put_appended-clause-appended g c =
-    told-appended c.args.words.now TakesFront c.in-Ok-grow.appended _ _ _ _ _ _ c.size_in_reach.ensures.same_bytes c.in-Ok-grow.ensures.put
+    told-appended c.args.words.now TakesShort c.in-Ok-grow.appended _ _ _ _ _ _ c.size_in_reach.ensures.same_bytes c.in-Ok-grow.ensures.put
     c.in-Err-put_appended.ensures.out.front
 
 pub returns-in-Err-put_appended-clause-kept : goal.returns-in-Err-put_appended-clause-kept
@@ -63,7 +70,9 @@ returns-in-Err-put_appended-clause-kept g c =
     told-kept c.args.words.now c.in-Ok-grow.appended _ _ _ _ c.size_in_reach.ensures.same_bytes (λ file now grows. grows) c.in-Ok-grow.ensures.kept
 
 pub returns-in-Err-put_appended-clause-sized : goal.returns-in-Err-put_appended-clause-sized
-returns-in-Err-put_appended-clause-sized g c = (refl, (c.in-Ok.size, c.in-Ok.ensures.in_reach, c.in-Ok.ensures.exact))
+returns-in-Err-put_appended-clause-sized g c =
+    (refl, (c.in-Ok.size, c.in-Ok.ensures.in_reach, c.in-Ok.ensures.exact, still-tells c.in-Ok.size _ c.in-Ok.ensures.in_reach c.grow.ensures.still_told))
 
 pub returns-in-Err-put_appended-clause-handed : goal.returns-in-Err-put_appended-clause-handed
-returns-in-Err-put_appended-clause-handed g c = inr (c.in-Ok.size, c.in-Ok.ensures.in_reach, c.in-Ok.ensures.exact)
+returns-in-Err-put_appended-clause-handed g c = inr
+    (c.in-Ok.size, c.in-Ok.ensures.in_reach, c.in-Ok.ensures.exact, still-tells c.in-Ok.size _ c.in-Ok.ensures.in_reach c.grow.ensures.still_told)
