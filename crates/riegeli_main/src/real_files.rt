@@ -10,10 +10,10 @@ use crate::apart_sink::ApartSink;
 use crate::apart_store::ApartStore;
 use crate::streams::Behind;
 use read_ahead::ReadAhead;
-use record_append::{AheadDevice, Device};
+use record_append::AheadDevice;
 use record_io::{Sink, Source};
 use riegeli_tool::{Names, Status, names, run};
-use std::alloc::{AllocError, Global};
+use std::alloc::AllocError;
 use std::rt::Files;
 use std::thread::Threads;
 
@@ -44,8 +44,7 @@ pub(crate) fn run_on_files<R: Threads + Sync, I: Source, O: Sink, N: Sink>(
     let tells_file = is_any_of(rt, read, told)
         || is_one_of(rt, made, &[], told)
         || is_one_of(rt, grown, &[], told);
-    let grown = ApartDevice::named(rt, grown, streams);
-    let Ok(mut grown) = read_ahead(rt.alloc(), grown) else {
+    let Ok(mut grown) = grown_file(rt, grown, streams) else {
         return Status::Memory;
     };
     run(
@@ -61,13 +60,15 @@ pub(crate) fn run_on_files<R: Threads + Sync, I: Source, O: Sink, N: Sink>(
     )
 }
 
-/// A device that reads ahead of this one, by a buffer that isn't on the stack.
+/// The file that is grown, apart from those behind streams, which is read ahead by a buffer that isn't on the stack.
 #[inline(never)]
-fn read_ahead<G: Device + Drop>(
-    alloc: Global,
-    device: G,
-) -> Result<Box<AheadDevice<G>>, AllocError> {
-    Ok(Box::new(alloc, AheadDevice::new(device))?)
+fn grown_file<'a>(
+    rt: &'a HostRuntime,
+    path: &'a str,
+    streams: &'a [Behind; 3],
+) -> Result<Box<AheadDevice<ApartDevice<'a, HostRuntime>>>, AllocError> {
+    let device = ApartDevice::named(rt, path, streams);
+    Ok(Box::new(rt.alloc(), AheadDevice::new(device))?)
 }
 
 /// Whether one of these paths leads to a regular file that may stand behind one of the streams.
