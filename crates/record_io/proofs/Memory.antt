@@ -1,5 +1,5 @@
 -- Lemmas on what the outside in memory gives and takes.
-use Rattle.std.proofs.Common.{◌≡◌, ℕ, ◌+◌, ◌-◌, ◌<◌, ◌≤◌, Some, List, [], ◌∷◌, ◌++◌, length, take, drop, sym, ◌∙◌, refl, ap, arith, length-drop}
+use Rattle.std.proofs.Common.{◌≡◌, ◌↔◌, ℕ, ◌+◌, ◌-◌, ◌<◌, ◌≤◌, min, Some, List, [], ◌∷◌, ◌++◌, length, take, drop, sym, ◌∙◌, refl, ap, arith, length-drop}
 use Rattle.std.proofs.lemmas.List.{length-take-le, drop-drop, take-append-drop, take_rest}
 use Rattle.record_io.specs.Outside.{Gives}
 use Rattle.record_io.specs.Memory.{cut_to}
@@ -13,6 +13,15 @@ cut_to-le (cut ∷ cuts) number most = omega arith
 pub cut_to-some : (cuts : List ℕ) (number most : ℕ) → 0 < most → 0 < cut_to cuts number most
 cut_to-some [] number most some = some
 cut_to-some (cut ∷ cuts) number most some = omega arith
+
+-- a cut call on so many bytes handles none exactly where there are none
+pub cut_to-none : (cuts : List ℕ) (number room : ℕ) (left : List ℕ) (n : ℕ) → 0 < room → n ≡ cut_to cuts number (min room (length left))
+    → (n ≡ 0) ↔ (left ≡ [])
+cut_to-none cuts number room [] n some is = (λ none. refl, λ end. omega (arith, is, cut_to-le cuts number (min room 0)))
+cut_to-none cuts number room (x ∷ left) n some is = (
+  λ none. absurd (omega (arith, is, none, cut_to-some cuts number (min room (length (x ∷ left))) (omega (arith, some)))),
+  λ end. absurd (cc end),
+)
 
 -- a source gives a front of what is left, and the rest is left after it
 pub Gives-front : (left : List ℕ) (n : ℕ) (front : List ℕ) → front ≡ take n left → n ≤ length left

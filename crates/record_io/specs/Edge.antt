@@ -1,6 +1,7 @@
 -- What can be relied on of real files and streams, of whose bytes nothing is shown to callers. Own.
 use Rattle.std.specs.Prelude.{◌≡◌, ℕ, ◌≤◌, Option, None, Some, Result, Ok, Err, Bool, List, length, take, IfSome}
 use Rattle.std.specs.Io.KnownBytes.{Appends, Consumes}
+use Rattle.record_io.specs.Seen.{SeenStream, SeenFile}
 
 -- a file that is read at any place
 pub record Reading : Type 0 where
@@ -15,6 +16,10 @@ pub record Reading : Type 0 where
   -- how many faults there were
   pub faults : ℕ
 
+-- what it shows: none of its bytes
+abbrev pub reading_seen : Reading → SeenFile
+reading_seen file = record { bytes = None; told = file.told; handed = file.handed; faults = file.faults }
+
 -- a file that is written from its front
 pub record Writing : Type 0 where
   -- its name
@@ -26,6 +31,10 @@ pub record Writing : Type 0 where
   -- how many faults there were
   pub faults : ℕ
 
+-- what it shows
+abbrev pub writing_seen : Writing → SeenStream
+writing_seen file = record { bytes = None; faults = file.faults }
+
 -- a stream that is read
 pub record Incoming : Type 0 where
   -- what its reader is still to give, where that is known
@@ -33,12 +42,20 @@ pub record Incoming : Type 0 where
   -- how many faults there were
   pub faults : ℕ
 
+-- what it shows
+abbrev pub incoming_seen : Incoming → SeenStream
+incoming_seen stream = record { bytes = None; faults = stream.faults }
+
 -- a stream that is written
 pub record Outgoing : Type 0 where
   -- what its writer holds, where that is known
   pub contents : Option (List ℕ)
   -- how many faults there were
   pub faults : ℕ
+
+-- what it shows
+abbrev pub outgoing_seen : Outgoing → SeenStream
+outgoing_seen stream = record { bytes = None; faults = stream.faults }
 
 -- what a file holds that is opened once: nothing is known of it before, and where it could not be opened
 abbrev pub written : {F E : Type 0} → (F → Option (List ℕ)) → Option (Result F E) → Option (List ℕ)

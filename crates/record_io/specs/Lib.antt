@@ -1,4 +1,5 @@
 pub mod Outside
+pub mod Seen
 pub mod Buffers
 pub mod Calls
 pub mod Puts

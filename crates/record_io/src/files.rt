@@ -1,8 +1,9 @@
 //! Real files, which show none of their bytes to a proof.
-ghost use Rattle.std.specs.Prelude.{◌≡◌, ◌+◌, ◌-◌, ◌^◌, ◌<◌, ◌≤◌, length, take, min, None, Some, true, IfOk, IfSome, IsSomeAnd, OnOk, OnErr};
+ghost use Rattle.std.specs.Prelude.{◌≡◌, ◌<◌, length, take, None, Some, true, IfOk, IfSome, IsSomeAnd, OnOk, OnErr};
 ghost use Rattle.std.specs.Io.KnownBytes.{Appends};
-ghost use Rattle.record_io.specs.Outside.{Rose, faults_after};
-ghost use Rattle.record_io.specs.Edge.{AppendsFront, ReadsAt};
+ghost use Rattle.record_io.specs.Outside.{faults_after};
+ghost use Rattle.record_io.specs.Seen.{TakesPiece, TellsSize, ReadsPiece};
+ghost use Rattle.record_io.specs.Edge.{AppendsFront, ReadsAt, reading_seen, writing_seen};
 
 use crate::outside::{Failed, Sink, Store, fault};
 use crate::std_calls::{put_to, read_from, size_of};
@@ -66,16 +67,10 @@ impl<'a, R: Files> Store for FileStore<'a, R> {
     ghost sized = { λ _. tt };
 
     fn size(&mut self) -> Result<u64, Failed>
-        ensures tells { IfOk result (λ n. self.new.told ≡ Some n) }
-        ensures same_told { OnErr result (self.new.told ≡ self.old.told) }
-        ensures same_handed { self.new.handed ≡ self.old.handed }
+        ensures tells { TellsSize result (reading_seen self.old) (reading_seen self.new) }
         ensures opened_once { IfSome self.old.opened (λ could. self.new.opened ≡ Some could) }
         ensures opened { OnOk result (self.new.opened ≡ Some true) }
         ensures same_path { self.new.path ≡ self.old.path }
-
-        ensures cause { OnErr result (Rose self.old.faults self.new.faults) }
-        ensures never_falls { self.old.faults ≤ self.new.faults }
-        ensures small { self.new.faults < 2 ^ 64 }
         ensures counted { self.new.faults ≡ faults_after result self.old.faults }
     {
         let (rt, path) = (self.rt, self.path);
@@ -92,21 +87,11 @@ impl<'a, R: Files> Store for FileStore<'a, R> {
     fn read_at(&mut self, at: u64, buf: &mut [u8]) -> Result<usize, Failed>
         requires below { IsSomeAnd self.old.told (λ size. at < size) }
         requires room { 0 < length buf.old }
-        ensures some { IfOk result (λ n. 0 < n) }
-        ensures fits { IfOk result (λ n. n ≤ length buf.old) }
-        ensures within { IfOk result (λ n. IfSome self.old.told (λ size. at + n ≤ size)) }
-        ensures handed_out { IfOk result (λ n. self.new.handed ≡ min (self.old.handed + n) (2 ^ 64 - 1)) }
-        ensures same_handed { OnErr result (self.new.handed ≡ self.old.handed) }
-        ensures same_told { self.new.told ≡ self.old.told }
-        ensures told_small { IfSome self.old.told (λ size. size < 2 ^ 64) }
+        ensures reads { ReadsPiece result at (length buf.old) buf.new (reading_seen self.old) (reading_seen self.new) }
         ensures bytes { IfOk result (λ n. (before : R.File) × (after : R.File) × ReadsAt R.File.stream_position R.File.remaining before after at (take n buf.new)) }
         ensures same_opened { self.new.opened ≡ self.old.opened }
         ensures opened { OnOk result (self.old.opened ≡ Some true) }
         ensures same_path { self.new.path ≡ self.old.path }
-
-        ensures cause { OnErr result (Rose self.old.faults self.new.faults) }
-        ensures never_falls { self.old.faults ≤ self.new.faults }
-        ensures small { self.new.faults < 2 ^ 64 }
         ensures counted { self.new.faults ≡ faults_after result self.old.faults }
     {
         let Some(size) = self.told else {
@@ -176,17 +161,12 @@ impl<'a, R: Files> Sink for FileSink<'a, R> {
 
     fn put(&mut self, piece: &[u8]) -> Result<usize, Failed>
         requires { 0 < length piece.now }
-        ensures some { IfOk result (λ n. 0 < n) }
-        ensures fits { IfOk result (λ n. n ≤ length piece.now) }
+        ensures takes { TakesPiece result piece.now (writing_seen self.old) (writing_seen self.new) }
         ensures appends { IfOk result (λ n. Appends self.old.contents self.new.contents (take n piece.now)) }
         ensures front { OnErr result (AppendsFront self.old.contents self.new.contents piece.now) }
         ensures opened_once { IfSome self.old.opened (λ could. self.new.opened ≡ Some could) }
         ensures opened { OnOk result (self.new.opened ≡ Some true) }
         ensures same_path { self.new.path ≡ self.old.path }
-
-        ensures cause { OnErr result (Rose self.old.faults self.new.faults) }
-        ensures never_falls { self.old.faults ≤ self.new.faults }
-        ensures small { self.new.faults < 2 ^ 64 }
         ensures counted { self.new.faults ≡ faults_after result self.old.faults }
     {
         let (rt, path) = (self.rt, self.path);

@@ -1,5 +1,6 @@
-ghost use Rattle.std.specs.Prelude.{◌≡◌, ℕ, ◌+◌, ◌-◌, ◌^◌, ◌<◌, ◌≤◌, ◌↔◌, ◌⊎◌, Option, Some, is_some, List, [], length, take, min, slice_range, IsErr, IfOk, IfSome, IsSomeAnd, OnOk, OnErr};
-ghost use Rattle.record_io.specs.Outside.{one_more, faults_after, Rose, Gives, Takes, Lent, none_lent};
+ghost use Rattle.std.specs.Prelude.{◌≡◌, ℕ, ◌+◌, ◌-◌, ◌^◌, ◌<◌, ◌≤◌, ◌⊎◌, Option, List, length, slice_range, IsErr, IfOk, IfSome, IsSomeAnd, OnOk, OnErr};
+ghost use Rattle.record_io.specs.Outside.{one_more, faults_after, Lent, none_lent};
+ghost use Rattle.record_io.specs.Seen.{seen_stream, seen_file, GivesPiece, TakesPiece, TellsSize, ReadsPiece, CutsAt, GrowsBy};
 ghost use Rattle.record_io.specs.Calls.{OnlyAsks, PutsTo};
 
 /// A call on the outside failed.
@@ -39,23 +40,15 @@ pub trait Source {
     /// Puts the next bytes into the front of the buffer, and answers how many: 0 exactly at the end.
     fn take(&mut self, buf: &mut [u8]) -> Result<usize, Failed>
         requires { 0 < length buf.old }
-        ensures fits { IfOk result (λ n. n ≤ length buf.old) }
-        ensures given { IfOk result (λ n. Gives (left self.old) (left self.new) (take n buf.new)) }
-        ensures at_end { IfOk result (λ n. IfSome (left self.old) (λ bytes. (n ≡ 0) ↔ (bytes ≡ []))) }
-        ensures told { is_some (left self.new) ≡ is_some (left self.old) }
-        ensures kept { OnErr result (left self.new ≡ left self.old) }
-
-        ensures cause { OnErr result (Rose (faults self.old) (faults self.new)) }
-        ensures never_falls { faults self.old ≤ faults self.new }
-        ensures small { faults self.new < 2 ^ 64 };
+        ensures gives { GivesPiece result (length buf.old) buf.new (seen_stream left faults self.old) (seen_stream left faults self.new) };
 }
 
-/// A file that is read at any place. Its bytes never change.
+/// A file that is read at any place. Reading never changes its bytes.
 pub trait Store {
     /// The bytes of the file, where the store shows them.
     ghost bytes: { Self → Option (List ℕ) };
 
-    /// What `size` said the last time.
+    /// What `size` said the last time, if nothing was cut or put since.
     ghost told: { Self → Option ℕ };
 
     /// How many bytes were handed out; at 2^64 - 1 it stays.
@@ -69,38 +62,36 @@ pub trait Store {
 
     /// The number of bytes of the file.
     fn size(&mut self) -> Result<u64, Failed>
-        ensures tells { IfOk result (λ n. told self.new ≡ Some n) }
-        ensures exact { IfOk result (λ n. IfSome (bytes self.old) (λ file. n ≡ length file)) }
-        ensures same_told { OnErr result (told self.new ≡ told self.old) }
-        ensures same_bytes { bytes self.new ≡ bytes self.old }
-        ensures same_handed { handed self.new ≡ handed self.old }
-        ensures same_name { name self.new ≡ name self.old }
-
-        ensures cause { OnErr result (Rose (faults self.old) (faults self.new)) }
-        ensures never_falls { faults self.old ≤ faults self.new }
-        ensures small { faults self.new < 2 ^ 64 };
+        ensures tells { TellsSize result (seen_file bytes told handed faults self.old) (seen_file bytes told handed faults self.new) }
+        ensures same_name { name self.new ≡ name self.old };
 
     /// Puts bytes that begin at a place into the front of the buffer, and answers how many: at least 1.
     fn read_at(&mut self, at: u64, buf: &mut [u8]) -> Result<usize, Failed>
         requires below { IsSomeAnd (told self.old) (λ size. at < size) }
         requires room { 0 < length buf.old }
-        ensures some { IfOk result (λ n. 0 < n) }
-        ensures fits { IfOk result (λ n. n ≤ length buf.old) }
-        ensures within { IfOk result (λ n. IfSome (told self.old) (λ size. at + n ≤ size)) }
-        ensures given { IfOk result (λ n. IfSome (bytes self.old) (λ file. take n buf.new ≡ slice_range file at (at + n))) }
-        ensures handed_out { IfOk result (λ n. handed self.new ≡ min (handed self.old + n) (2 ^ 64 - 1)) }
-        ensures same_handed { OnErr result (handed self.new ≡ handed self.old) }
-        ensures same_bytes { bytes self.new ≡ bytes self.old }
-        ensures same_told { told self.new ≡ told self.old }
-        ensures told_small { IfSome (told self.old) (λ size. size < 2 ^ 64) }
-        ensures same_name { name self.new ≡ name self.old }
-
-        ensures cause { OnErr result (Rose (faults self.old) (faults self.new)) }
-        ensures never_falls { faults self.old ≤ faults self.new }
-        ensures small { faults self.new < 2 ^ 64 };
+        ensures reads { ReadsPiece result at (length buf.old) buf.new (seen_file bytes told handed faults self.old) (seen_file bytes told handed faults self.new) }
+        ensures same_name { name self.new ≡ name self.old };
 
     /// Where the bytes are shown and the size was told, the size is how many there are.
     ghost sized: { (s : Self) → IfSome (bytes s) (λ file. IfSome (told s) (λ size. size ≡ length file)) };
+}
+
+/// A file that is read at any place, cut, and grown at its end.
+///
+/// Each call fails only where the count of faults rose. The bytes are then as they were.
+pub trait Device: Store {
+    /// Leaves the bytes before a place, and none behind it. No size is told afterwards, whatever it answers.
+    fn cut(&mut self, at: u64) -> Result<(), Failed>
+        requires { IsSomeAnd (Self.told self.old) (λ size. at ≤ size) }
+        ensures cuts { CutsAt result at (seen_file Self.bytes Self.told Self.handed Self.faults self.old) (seen_file Self.bytes Self.told Self.handed Self.faults self.new) }
+        ensures same_name { Self.name self.new ≡ Self.name self.old };
+
+    /// Puts bytes from the front of the piece behind all others, and answers how many: at least 1. No size is told
+    /// afterwards, whatever it answers.
+    fn put(&mut self, piece: &[u8]) -> Result<usize, Failed>
+        requires { 0 < length piece.now }
+        ensures grows { GrowsBy result piece.now (seen_file Self.bytes Self.told Self.handed Self.faults self.old) (seen_file Self.bytes Self.told Self.handed Self.faults self.new) }
+        ensures same_name { Self.name self.new ≡ Self.name self.old };
 }
 
 /// A stream of bytes that go out.
@@ -117,15 +108,8 @@ pub trait Sink {
     /// Takes bytes from the front of the piece, and answers how many: at least 1.
     fn put(&mut self, piece: &[u8]) -> Result<usize, Failed>
         requires { 0 < length piece.now }
-        ensures some { IfOk result (λ n. 0 < n) }
-        ensures fits { IfOk result (λ n. n ≤ length piece.now) }
-        ensures takes { IfOk result (λ n. Takes (taken self.old) (taken self.new) (take n piece.now)) }
-        ensures kept { OnErr result (taken self.new ≡ taken self.old) }
-        ensures same_lent { lent self.new ≡ lent self.old }
-
-        ensures cause { OnErr result (Rose (faults self.old) (faults self.new)) }
-        ensures never_falls { faults self.old ≤ faults self.new }
-        ensures small { faults self.new < 2 ^ 64 };
+        ensures takes { TakesPiece result piece.now (seen_stream taken faults self.old) (seen_stream taken faults self.new) }
+        ensures same_lent { lent self.new ≡ lent self.old };
 }
 
 /// Puts the whole piece. After a failure the sink took a front of it and not all.

@@ -1,8 +1,9 @@
 //! Real streams, which show none of their bytes to a proof.
-ghost use Rattle.std.specs.Prelude.{◌≡◌, ◌^◌, ◌<◌, ◌≤◌, length, take, None, IfOk, OnErr};
+ghost use Rattle.std.specs.Prelude.{◌≡◌, ◌<◌, length, take, None, IfOk, OnErr};
 ghost use Rattle.std.specs.Io.KnownBytes.{Appends, ReadConsumes};
-ghost use Rattle.record_io.specs.Outside.{Rose, faults_after};
-ghost use Rattle.record_io.specs.Edge.{AppendsFront};
+ghost use Rattle.record_io.specs.Outside.{faults_after};
+ghost use Rattle.record_io.specs.Seen.{GivesPiece, TakesPiece};
+ghost use Rattle.record_io.specs.Edge.{AppendsFront, incoming_seen, outgoing_seen};
 
 use crate::outside::{Failed, Sink, Source};
 use crate::std_calls::{put_to, take_from};
@@ -44,12 +45,8 @@ impl<T: Read + Drop> Source for StdInput<T> {
 
     fn take(&mut self, buf: &mut [u8]) -> Result<usize, Failed>
         requires { 0 < length buf.old }
-        ensures fits { IfOk result (λ n. n ≤ length buf.old) }
+        ensures gives { GivesPiece result (length buf.old) buf.new (incoming_seen self.old) (incoming_seen self.new) }
         ensures bytes { ReadConsumes self.old.remaining self.new.remaining result buf.new }
-
-        ensures cause { OnErr result (Rose self.old.faults self.new.faults) }
-        ensures never_falls { self.old.faults ≤ self.new.faults }
-        ensures small { self.new.faults < 2 ^ 64 }
         ensures counted { self.new.faults ≡ faults_after result self.old.faults }
     {
         take_from(&mut self.from, buf, &mut self.faults)
@@ -94,14 +91,9 @@ impl<T: Write + Drop> Sink for StdOut<T> {
 
     fn put(&mut self, piece: &[u8]) -> Result<usize, Failed>
         requires { 0 < length piece.now }
-        ensures some { IfOk result (λ n. 0 < n) }
-        ensures fits { IfOk result (λ n. n ≤ length piece.now) }
+        ensures takes { TakesPiece result piece.now (outgoing_seen self.old) (outgoing_seen self.new) }
         ensures appends { IfOk result (λ n. Appends self.old.contents self.new.contents (take n piece.now)) }
         ensures front { OnErr result (AppendsFront self.old.contents self.new.contents piece.now) }
-
-        ensures cause { OnErr result (Rose self.old.faults self.new.faults) }
-        ensures never_falls { self.old.faults ≤ self.new.faults }
-        ensures small { self.new.faults < 2 ^ 64 }
         ensures counted { self.new.faults ≡ faults_after result self.old.faults }
     {
         put_to(&mut self.to, piece, &mut self.faults)

@@ -5,7 +5,7 @@ use Rattle.record_io.proofs.outside.get_exact.Goals as goal
 
 pub loop-got-preserved : goal.loop-got-preserved
 loop-got-preserved g c =
-    let more = c.in_ok-got.ensures in
+    let more = c.in_ok-got.ensures.reads in
     let kept = c.loop-got.invariant in
     let fits : c.in_ok-got.field-0 ≤ length c.read_at.new.buf = omega (arith, c.read_at.auto, more.fits, length-take {A = ℕ}, length-drop {A = ℕ}) in
     let some : 0 < length c.args.buf.now = omega arith in

@@ -6,8 +6,8 @@ use Rattle.record_io.proofs.outside.put_all.Goals as goal
 
 pub loop-at-preserved : goal.loop-at-preserved
 loop-at-preserved g c = record {
-  within = omega (arith, c.in_ok-at.ensures.fits, length-take {A = ℕ}, length-drop {A = ℕ});
-  taken = Takes-more _ _ _ c.args.piece.now c.loop-at.at c.in_ok-at.field-0 c.loop-at.invariant.taken c.in_ok-at.ensures.takes;
+  within = omega (arith, c.in_ok-at.ensures.takes.fits, length-take {A = ℕ}, length-drop {A = ℕ});
+  taken = Takes-more _ _ _ c.args.piece.now c.loop-at.at c.in_ok-at.field-0 c.loop-at.invariant.taken c.in_ok-at.ensures.takes.takes;
   counts = search rules;
 }
 
@@ -15,7 +15,7 @@ pub returns-in_err-at : goal.returns-in_err-at
 returns-in_err-at g c = record {
   sink = record {
     whole = search rules;
-    front = OnErr-any _ (TakesShort-at _ _ _ c.args.piece.now c.loop-at.at (omega arith) c.loop-at.invariant.taken c.in_err-at.ensures.kept);
+    front = OnErr-any _ (TakesShort-at _ _ _ c.args.piece.now c.loop-at.at (omega arith) c.loop-at.invariant.taken c.in_err-at.ensures.takes.kept);
     counts = search rules;
   };
 }

@@ -1,6 +1,6 @@
-ghost use Rattle.std.specs.Prelude.{◌≡◌, ◌^◌, ◌<◌, ◌≤◌, ◌↔◌, length, take, min, Contains, IsTrue, IsErr, IfOk};
-ghost use Rattle.record_io.specs.Outside.{one_more, faults_after};
-ghost use Rattle.record_io.specs.Memory.{cut_to};
+ghost use Rattle.std.specs.Prelude.{◌≡◌, ◌^◌, ◌<◌, ◌≤◌, ◌↔◌, length, take, min, Contains, IsTrue, IfOk};
+ghost use Rattle.record_io.specs.Outside.{one_more};
+ghost use Rattle.record_io.specs.Memory.{HasCalled, cut_to, new_script};
 
 use crate::outside::{Failed, fault};
 use std::marker::Model;
@@ -31,10 +31,7 @@ impl Model for Script {
 impl Script {
     /// No call was made yet. It takes no memory.
     pub fn new(cuts: Vec<u32>, fails: Vec<u32>) -> Script
-        ensures cuts { result.cuts ≡ cuts.items }
-        ensures fails { result.fails ≡ fails.items }
-        ensures number { result.number ≡ 0 }
-        ensures faults { result.faults ≡ 0 }
+        ensures { result ≡ new_script cuts.items fails.items }
     {
         Script {
             cuts,
@@ -46,14 +43,8 @@ impl Script {
 
     /// Begins the next call, which could handle so many bytes, and answers how many it handles.
     pub fn begin(&mut self, most: usize) -> Result<usize, Failed>
-        ensures fails { IsErr result ↔ Contains self.old.fails self.old.number }
+        ensures called { HasCalled result self.old self.new }
         ensures cut { IfOk result (λ n. n ≡ cut_to self.old.cuts self.old.number most) }
-        ensures numbered { self.new.number ≡ one_more self.old.number }
-        ensures counted { self.new.faults ≡ faults_after result self.old.faults }
-        ensures never_falls { self.old.faults ≤ self.new.faults }
-        ensures small { self.new.faults < 2 ^ 64 }
-        ensures same_cuts { self.new.cuts ≡ self.old.cuts }
-        ensures same_fails { self.new.fails ≡ self.old.fails }
     {
         let number = self.number;
         self.number = number.saturating_add(1);
@@ -66,14 +57,8 @@ impl Script {
     /// Begins the next call, which copies from the front of these bytes into that of the buffer, and answers how many.
     pub fn copy(&mut self, from: &[u8], buf: &mut [u8]) -> Result<usize, Failed>
         ensures given { IfOk result (λ n. take n buf.new ≡ take n from.now) }
-        ensures fails { IsErr result ↔ Contains self.old.fails self.old.number }
+        ensures called { HasCalled result self.old self.new }
         ensures cut { IfOk result (λ n. n ≡ cut_to self.old.cuts self.old.number (min (length buf.old) (length from.now))) }
-        ensures numbered { self.new.number ≡ one_more self.old.number }
-        ensures counted { self.new.faults ≡ faults_after result self.old.faults }
-        ensures never_falls { self.old.faults ≤ self.new.faults }
-        ensures small { self.new.faults < 2 ^ 64 }
-        ensures same_cuts { self.new.cuts ≡ self.old.cuts }
-        ensures same_fails { self.new.fails ≡ self.old.fails }
     {
         let given = self.begin(buf.len().min(from.len()))?;
         buf[..given].copy_from_slice(&from[..given]);
@@ -82,12 +67,9 @@ impl Script {
 
     /// Counts a fault, for the call that failed to answer.
     pub fn fault(&mut self) -> Failed
-        ensures counted { self.new.faults ≡ one_more self.old.faults }
+        ensures counted { self.new ≡ record self.old { faults = one_more self.old.faults } }
         ensures never_falls { self.old.faults ≤ self.new.faults }
         ensures small { self.new.faults < 2 ^ 64 }
-        ensures same_number { self.new.number ≡ self.old.number }
-        ensures same_cuts { self.new.cuts ≡ self.old.cuts }
-        ensures same_fails { self.new.fails ≡ self.old.fails }
     {
         fault(&mut self.faults)
     }
