@@ -1,7 +1,7 @@
 ghost use Rattle.std.specs.Prelude.{◌≡◌};
 ghost use Rattle.record_io.specs.Calls.{OnlyCounts};
+ghost use Rattle.record_io.specs.Seen.{seen_stream};
 ghost use Rattle.run_answers.specs.Endings.{SaysEnd};
-ghost use Rattle.run_answers.specs.Runs.{seen_stream};
 ghost use Rattle.join_files.specs.JoiningEnds.{joining_ends};
 
 use chunk_reader::Fault;

@@ -6,13 +6,14 @@ use Rattle.record_values.specs.Bytes.{AreBytes}
 use Rattle.record_io.specs.ManyStores.{AreOnlyAsked}
 use Rattle.record_io.specs.Outside.{Rose}
 use Rattle.record_io.specs.Puts.{Put, Out, Notes, taken_by, puts_to}
+use Rattle.record_io.specs.Seen.{SeenStream, SeenFile, seen_file}
 use Rattle.record_io.proofs.Puts.{GoOut-out, BreaksOff-last, bytes_to-other}
 use Rattle.run_answers.specs.declared.ending.Ending.{Ending}
 use Rattle.run_answers.specs.declared.status.Status.{Status}
 use Rattle.run_answers.specs.Answers.{noted}
 use Rattle.run_answers.specs.Endings.{HaveTold, IsAllowedEndOfMany, SaysEnd}
 use Rattle.run_answers.specs.FileAnswers.{limit_text}
-use Rattle.run_answers.specs.Runs.{SeenStream, SeenFile, seen, seen_file, Breaks, Runs}
+use Rattle.run_answers.specs.Runs.{seen, Breaks, Runs}
 use Rattle.run_answers.proofs.FileEnds.{EndsWhole}
 use Rattle.run_answers.proofs.ManyFilesEnds.{MayEndBy, EndsBySizes, ReadsFiles, WentAtEnd, WentButNotes, WentToCut, reads_files, runs-files, some_told, went_none, went_noted, went_whole}
 use Rattle.run_answers.proofs.TwoStreams.{GoOut-neither}

@@ -1,10 +1,11 @@
 ghost use Rattle.std.specs.Prelude.{◌≡◌, ◌+◌, ◌^◌, ◌≤◌, ◌<◌, ◌⊎◌, ℕ, All, None, Some, IfOk, Ok, Err, drop, length, map, slice_get};
 ghost use Rattle.record_io.specs.Calls.{OnlyCounts};
 ghost use Rattle.record_io.specs.ManyStores.{AreOnlyAsked};
+ghost use Rattle.record_io.specs.Seen.{seen_stream, seen_file};
 ghost use Rattle.record_ranges.specs.Ranges.{AreRangesOf, even_cuts};
 ghost use Rattle.record_ranges.specs.Reads.{IfAllTellSame};
 ghost use Rattle.run_answers.specs.Endings.{HaveTold, IsAllowedEndOfMany};
-ghost use Rattle.run_answers.specs.Runs.{Runs, Seen, seen_stream, seen_file};
+ghost use Rattle.run_answers.specs.Runs.{Runs, Seen};
 ghost use Rattle.record_ranges.specs.RangesCommand.{AreAlike, IsOnePast, MayBeRead, ranges_meaning};
 ghost use Rattle.record_ranges.specs.RangesEnds.{PrintsOnlyWhole, IsReadIn, PrintsFile, StopsBy, end_of_read};
 

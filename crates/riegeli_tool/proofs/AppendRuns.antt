@@ -6,6 +6,7 @@ use Rattle.std.proofs.lemmas.List.{take_all}
 use Rattle.std.proofs.lemmas.Option.{MatchOption-at_some}
 use Rattle.record_io.specs.Outside.{Rose, Takes, TakesShort}
 use Rattle.record_io.specs.Puts.{Put, Out, Notes, Taken, taken_by, GoOut, puts_to, bytes_to}
+use Rattle.record_io.specs.Seen.{SeenStream, SeenFile}
 use Rattle.record_io.proofs.Calls.{Takes-nothing}
 use Rattle.record_io.proofs.Puts.{GoOut-out, GoOut-nothing, BreaksOff-last, bytes_to-other}
 use Rattle.chunk_reader.specs.declared.reasons.Fault.{Fault}
@@ -21,7 +22,7 @@ use Rattle.run_answers.specs.Endings.{SaysEnd}
 use Rattle.run_answers.specs.FileAnswers.{OfFile, IsInReach, IsTooLong, limit_text, most_file_bytes}
 use Rattle.run_answers.specs.Meanings.{Read}
 use Rattle.run_answers.specs.Statuses.{fault_text}
-use Rattle.run_answers.specs.Runs.{SeenStream, SeenFile, Seen, seen, IsReadBy, IfGrown, IsWhole, IsCutOff, IsCutShort, OfSizes, SaysAtEnd, TakesThen, Breaks, HasCause, TakesAtMost, Runs}
+use Rattle.run_answers.specs.Runs.{Seen, seen, IsReadBy, IfGrown, IsWhole, IsCutOff, IsCutShort, OfSizes, SaysAtEnd, TakesThen, Breaks, HasCause, TakesAtMost, Runs}
 use Rattle.run_answers.proofs.GrownRuns.{GrowsFile, grown-size, keeps-cut_off, keeps-whole}
 use Rattle.run_answers.proofs.RunEnds.{GaveButNotes, KeepsAtEnd, PutsLines-none, was-cut_off, went-so_far, ends-whole, ends-said, ends-cut_off}
 use Rattle.show_files.specs.Readings.{refused_text}

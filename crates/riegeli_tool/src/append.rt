@@ -1,6 +1,7 @@
 ghost use Rattle.std.specs.Prelude.{◌≡◌, ◌<◌, ◌≤◌, ◌⊎◌, Some, Ok, Err, [], ◌∷◌, IfErr, IfOk, IfSome, IsSomeAnd, OnOk, length};
 ghost use Rattle.record_io.specs.Outside.{Rose};
 ghost use Rattle.record_io.specs.Calls.{OnlyCounts, PutsTo};
+ghost use Rattle.record_io.specs.Seen.{seen_file, seen_stream};
 ghost use Rattle.chunk_reader.specs.declared.reasons.Fault.{Fault};
 ghost use Rattle.record_append.specs.Appends.{AnswersGrown, KeepsBy};
 ghost use Rattle.record_append.specs.Devices.{CountsFaults};
@@ -9,7 +10,7 @@ ghost use Rattle.record_writer.specs.Written.{AreInLimits};
 ghost use Rattle.run_answers.specs.Endings.{SaysEnd};
 ghost use Rattle.run_answers.specs.FileAnswers.{IsInReach, most_file_bytes};
 ghost use Rattle.run_answers.specs.FileSizes.{IsUnsized};
-ghost use Rattle.run_answers.specs.Runs.{Runs, Seen, TakesAtMost, seen_file, seen_stream};
+ghost use Rattle.run_answers.specs.Runs.{Runs, Seen, TakesAtMost};
 ghost use Rattle.write_lines.specs.Input.{most_input_taken};
 ghost use Rattle.riegeli_tool.specs.AppendCommand.{append_meaning, appended_text, lines_taken};
 ghost use Rattle.riegeli_tool.specs.AppendingEnds.{HasAppended, HasTold, IsSizedBy, KeepsOldAtEnd, appending_ends, end_of_append};

@@ -4,7 +4,8 @@ ghost use Rattle.riegeli_tool.specs.Commands.{accepted};
 ghost use Rattle.riegeli_tool.specs.CommandAnswers.{meaning_of};
 ghost use Rattle.riegeli_tool.specs.PastDamage.{RunsCommand};
 ghost use Rattle.riegeli_tool.specs.Unused.{LeavesUnused};
-ghost use Rattle.run_answers.specs.Runs.{seen, seen_stream, seen_file};
+ghost use Rattle.record_io.specs.Seen.{seen_stream, seen_file};
+ghost use Rattle.run_answers.specs.Runs.{seen};
 
 use crate::append::append;
 use crate::command::Command;

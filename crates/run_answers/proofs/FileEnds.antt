@@ -5,6 +5,7 @@ use Rattle.std.proofs.lemmas.Option.{MatchOption-at_some}
 use Rattle.record_values.specs.Bytes.{AreBytes}
 use Rattle.record_io.specs.Outside.{Rose, Takes, TakesShort}
 use Rattle.record_io.specs.Puts.{Put, Made, Out, Taken, taken_by, GoOut}
+use Rattle.record_io.specs.Seen.{SeenStream, SeenFile}
 use Rattle.record_io.proofs.Calls.{Takes-nothing, TakesShort-some}
 use Rattle.record_io.proofs.Puts.{GoOut-none_held}
 use Rattle.run_answers.specs.declared.ending.Cut.{Cut}
@@ -17,7 +18,7 @@ use Rattle.run_answers.specs.FileAnswers.{OfFile, IsInReach, IsTooLong, limit_te
 use Rattle.run_answers.specs.FileSizes.{IsUnsized}
 use Rattle.run_answers.specs.Meanings.{Meaning}
 use Rattle.run_answers.specs.Statuses.{fault_text}
-use Rattle.run_answers.specs.Runs.{SeenStream, SeenFile, Seen, seen, IfTold, OfSizes, IsWhole, IsCutOff, IsCutShort, HadNoSinkFault, TakesThen, SaysAtEnd, Breaks, PutsLines, WasCutOff, FailedToSay, HasCause, Runs}
+use Rattle.run_answers.specs.Runs.{Seen, seen, IfTold, OfSizes, IsWhole, IsCutOff, IsCutShort, HadNoSinkFault, TakesThen, SaysAtEnd, Breaks, PutsLines, WasCutOff, FailedToSay, HasCause, Runs}
 use Rattle.run_answers.specs.PutSoFar.{HasPut, HasPutSoFar, HasPutFront}
 use Rattle.run_answers.proofs.OneAnswer.{of_file_exists}
 use Rattle.run_answers.proofs.PutSoFar.{front-nothing, noted-nothing, gave-put, whole-flushed, front-flushed, broken-flushed, untold-flushed, whole-unflushed, front-unflushed}

@@ -4,13 +4,14 @@ use Rattle.std.specs.List.{AllByRecursion}
 use Rattle.std.proofs.lemmas.Option.{MatchOption-at_some}
 use Rattle.record_values.specs.Bytes.{AreBytes}
 use Rattle.record_io.specs.Puts.{Put, Out, Taken, taken_by}
+use Rattle.record_io.specs.Seen.{SeenStream, SeenFile}
 use Rattle.record_io.proofs.Puts.{GoOut-none_held}
 use Rattle.run_answers.specs.declared.status.Status.{Status}
 use Rattle.run_answers.specs.Answers.{Answer}
 use Rattle.run_answers.specs.FileAnswers.{OfFile, OfFileSoFar, HandsOut, IsInReach, file_meaning, most_file_bytes}
 use Rattle.run_answers.specs.Meanings.{Uses, Meaning, Read}
 use Rattle.run_answers.specs.Statuses.{fault_text}
-use Rattle.run_answers.specs.Runs.{SeenStream, SeenFile, Seen, seen, IfRead, IfTold, OfSizes, TakesThen, WentOutSoFar}
+use Rattle.run_answers.specs.Runs.{Seen, seen, IfRead, IfTold, OfSizes, TakesThen, WentOutSoFar}
 use Rattle.run_answers.specs.PutSoFar.{HasPutSoFar}
 use Rattle.run_answers.proofs.RunEnds.{Keeps, none-taken, went-so_far}
 

@@ -2,10 +2,11 @@
 use Rattle.std.proofs.Common.{◌≡◌, ◌∙◌, ℕ, ◌≤◌, ◌⊎◌, true, false, Some, None, List, [], ◌∷◌, length, refl, sym, ap, subst, inl, inr, arith}
 use Rattle.std.specs.Option.{IfSome, IsSomeAnd}
 use Rattle.std.proofs.lemmas.Option.{MatchOption-at_some}
+use Rattle.record_io.specs.Seen.{SeenStream, SeenFile}
 use Rattle.run_answers.specs.declared.status.Status.{Status}
 use Rattle.run_answers.specs.FileAnswers.{IsInReach}
 use Rattle.run_answers.specs.Meanings.{Meaning, Read}
-use Rattle.run_answers.specs.Runs.{SeenStream, SeenFile, Seen, seen, handed_by, IfGrown, IsWhole, IsCutOff, OfSizes, TakesAtMost}
+use Rattle.run_answers.specs.Runs.{Seen, seen, handed_by, IfGrown, IsWhole, IsCutOff, OfSizes, TakesAtMost}
 use Rattle.run_answers.proofs.RunEnds.{KeepsGrown, KeepsAtEnd, whole-cut_off}
 use Rattle.run_answers.specs.declared.status.Status.TheVariants as status
 

@@ -4,9 +4,10 @@ use Rattle.std.specs.Prelude.{slice_get}
 use Rattle.std.proofs.lemmas.List.{drop-map}
 use Rattle.std.proofs.lemmas.Simd.{map-map}
 use Rattle.record_io.specs.ManyStores.{AnyRose}
+use Rattle.record_io.specs.Seen.{SeenStream, SeenFile, seen_file}
 use Rattle.record_io.proofs.ManyStores.{AnyRose-place}
 use Rattle.run_answers.specs.Meanings.{Meaning, Read}
-use Rattle.run_answers.specs.Runs.{SeenStream, SeenFile, OneRose, handed_by, seen, seen_file}
+use Rattle.run_answers.specs.Runs.{OneRose, handed_by, seen}
 use Rattle.run_answers.proofs.AskedSizes.{exact_sizes}
 use Rattle.run_answers.proofs.RunEnds.{Keeps, none-taken}
 

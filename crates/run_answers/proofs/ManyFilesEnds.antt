@@ -7,6 +7,7 @@ use Rattle.record_values.specs.Bytes.{AreBytes}
 use Rattle.record_io.specs.ManyStores.{AreOnlyAsked}
 use Rattle.record_io.specs.Outside.{Rose, Takes}
 use Rattle.record_io.specs.Puts.{Put, Notes, Taken, taken_by, GoOut, bytes_to}
+use Rattle.record_io.specs.Seen.{SeenStream, SeenFile, seen_file}
 use Rattle.record_io.proofs.Calls.{Takes-nothing}
 use Rattle.record_io.proofs.ManyStores.{none_falls, same_bytes}
 use Rattle.run_answers.specs.declared.ending.Cut.{Cut}
@@ -17,7 +18,7 @@ use Rattle.run_answers.specs.Endings.{Endings, HaveTold, IsAllowedEndOfMany, May
 use Rattle.run_answers.specs.FileAnswers.{limit_text}
 use Rattle.run_answers.specs.Meanings.{Uses, Meaning, Read, meaning}
 use Rattle.run_answers.specs.Statuses.{fault_text}
-use Rattle.run_answers.specs.Runs.{SeenStream, SeenFile, Seen, seen, seen_file, IfTold, IsCutOff, IsCutShort, OfSizes, OneRose, SaysAtEnd, TakesThen, Breaks, WasCutOff, HasCause, Runs}
+use Rattle.run_answers.specs.Runs.{Seen, seen, IfTold, IsCutOff, IsCutShort, OfSizes, OneRose, SaysAtEnd, TakesThen, Breaks, WasCutOff, HasCause, Runs}
 use Rattle.run_answers.proofs.FileEnds.{EndsWhole}
 use Rattle.run_answers.proofs.ManyFiles.{bytes_of, told_by, exact_shown, keeps-files, one_rose}
 use Rattle.run_answers.proofs.RunEnds.{GaveButNotes, Keeps, PutsLines-none, gave-said, was-cut_off, went-so_far, runs-whole, runs-said, runs-cut_off}

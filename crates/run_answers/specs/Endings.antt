@@ -2,6 +2,7 @@
 use Rattle.std.specs.Prelude.{◌≡◌, ◌≢◌, ℕ, true, Option, Some, Result, Ok, Err, List, [], ◌∷◌, map, IsSomeAnd}
 use Rattle.record_values.specs.Bytes.{AreBytes}
 use Rattle.record_io.specs.Puts.{Made, Out, Taken}
+use Rattle.record_io.specs.Seen.{SeenStream}
 use Rattle.run_answers.specs.declared.ending.Cut.{Cut}
 use Rattle.run_answers.specs.declared.ending.Ending.{Ending}
 use Rattle.run_answers.specs.declared.sizes.SizeEnd.{SizeEnd}
@@ -10,7 +11,7 @@ use Rattle.run_answers.specs.Answers.{Answer}
 use Rattle.run_answers.specs.FileAnswers.{OfFile, IsInReach, IsTooLong, limit_text}
 use Rattle.run_answers.specs.Meanings.{Meaning}
 use Rattle.run_answers.specs.Statuses.{fault_text}
-use Rattle.run_answers.specs.Runs.{SeenStream, IsCutShort, SaysAtEnd, TakesThen, FailedToSay}
+use Rattle.run_answers.specs.Runs.{IsCutShort, SaysAtEnd, TakesThen, FailedToSay}
 use Rattle.run_answers.specs.PutSoFar.{HasBrokenOff, HasPut, HasPutFront}
 use Rattle.run_answers.specs.declared.ending.Cut.TheVariants as cut
 use Rattle.run_answers.specs.declared.ending.Ending.TheVariants as end

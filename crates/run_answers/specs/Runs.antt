@@ -3,6 +3,7 @@ use Rattle.std.specs.Prelude.{◌≡◌, ◌≢◌, ℕ, ◌≤◌, ◌⊎◌, t
 use Rattle.std.specs.List.{AllByRecursion, flat_map}
 use Rattle.record_values.specs.Bytes.{AreBytes}
 use Rattle.record_io.specs.Outside.{Rose, Takes, TakesShort}
+use Rattle.record_io.specs.Seen.{SeenStream, SeenFile}
 use Rattle.record_io.specs.Puts.{Put, Made, Out, Notes, Taken, taken_by, GoOut, BreaksOff, bytes_to}
 use Rattle.run_answers.specs.declared.status.Status.{Status}
 use Rattle.run_answers.specs.Statuses.{fault_text}
@@ -11,28 +12,9 @@ use Rattle.run_answers.specs.Answers.{Answer, line}
 use Rattle.run_answers.specs.Meanings.{Uses, Read, Meaning}
 use Rattle.run_answers.specs.declared.status.Status.TheVariants as status
 
--- what a stream shows: the bytes that an input has left or that a sink took, where it shows them, and its count of faults
-pub record SeenStream : Type 0 where
-  pub bytes : Option (List ℕ)
-  pub faults : ℕ
-
-abbrev pub seen_stream : {X : Type 0} → (X → Option (List ℕ)) → (X → ℕ) → X → SeenStream
-seen_stream bytes faults x = record { bytes = bytes x; faults = faults x }
-
 -- what stands where a clause says what is shown
 abbrev pub unseen : SeenStream
 unseen = record { bytes = None; faults = 0 }
-
--- what a file shows: its bytes, where it shows them, the size that it told the last time, how many bytes it handed out, and its
--- count of faults
-pub record SeenFile : Type 0 where
-  pub bytes : Option (List ℕ)
-  pub told : Option ℕ
-  pub handed : ℕ
-  pub faults : ℕ
-
-abbrev pub seen_file : {X : Type 0} → (X → Option (List ℕ)) → (X → Option ℕ) → (X → ℕ) → (X → ℕ) → X → SeenFile
-seen_file bytes told handed faults x = record { bytes = bytes x; told = told x; handed = handed x; faults = faults x }
 
 -- what the objects of a run show
 pub record Seen : Type 0 where

@@ -2,12 +2,13 @@
 use Rattle.std.proofs.Common.{◌≡◌, ℕ, ◌<◌, Option, Err, List, [], ◌++◌, take, arith, refl, sym, subst, length}
 use Rattle.record_io.specs.Outside.{Rose, Takes}
 use Rattle.record_io.specs.Puts.{Put, Made, Out, Notes, taken_by, GoOut, BreaksOff, puts_to, bytes_to}
+use Rattle.record_io.specs.Seen.{SeenStream, SeenFile}
 use Rattle.record_io.proofs.Calls.{Takes-nothing}
 use Rattle.record_io.proofs.Puts.{GoOut-append, GoOut-made, GoOut-out, TakesFront-count, BreaksOff-last, BreaksOff-longer, bytes_to-other, puts_to-front}
 use Rattle.run_answers.specs.declared.status.Status.{Status}
 use Rattle.run_answers.specs.Endings.{status_of}
 use Rattle.run_answers.specs.Statuses.{fault_text}
-use Rattle.run_answers.specs.Runs.{SeenStream, SeenFile, Seen, seen, IsCutOff, IsCutShort, Breaks, TakesThen, HasCause, Runs}
+use Rattle.run_answers.specs.Runs.{Seen, seen, IsCutOff, IsCutShort, Breaks, TakesThen, HasCause, Runs}
 use Rattle.run_answers.proofs.RunEnds.{Keeps, OfSizes-unread, PutsLines-none, was-cut_off, went-so_far, runs-whole, runs-cut_off}
 use Rattle.run_answers.proofs.TwoStreams.{bytes_to-neither}
 use Rattle.sample_records.specs.declared.sample_words.SampleWords.{SampleWords}

@@ -5,6 +5,7 @@ use Rattle.std.specs.Result.{IsErr, IsErrAnd}
 use Rattle.std.proofs.lemmas.List.{append-nil}
 use Rattle.record_io.specs.Outside.{Rose, Takes, TakesShort}
 use Rattle.record_io.specs.Puts.{Put, Taken, taken_by}
+use Rattle.record_io.specs.Seen.{SeenStream, SeenFile}
 use Rattle.record_io.proofs.Calls.{Takes-nothing, TakesShort-some}
 use Rattle.damage_skip.specs.declared.regions.Region.{Region}
 use Rattle.run_answers.specs.declared.ending.Ending.{Ending}
@@ -17,7 +18,7 @@ use Rattle.damage_skip.specs.Bounds.{may_skip, MaySkip}
 use Rattle.damage_skip.specs.Regions.{skipped_text, walk_text}
 use Rattle.show_damaged.specs.WalkAnswers.{walk_status, MaySayWalk, MayEndWalk}
 use Rattle.run_answers.specs.Meanings.{Meaning}
-use Rattle.run_answers.specs.Runs.{SeenStream, SeenFile, Seen, seen, HadNoSinkFault, Runs}
+use Rattle.run_answers.specs.Runs.{Seen, seen, HadNoSinkFault, Runs}
 use Rattle.run_answers.specs.PutSoFar.{HasPutSoFar}
 use Rattle.show_damaged.specs.WalkingEnds.{walk_ends, TellsOf}
 use Rattle.run_answers.proofs.FileEnds.{EndsBy, EndsWhole, HasSaid, MayEndInReach, runs-file}

@@ -2,13 +2,14 @@ ghost use Rattle.std.specs.Prelude.{◌≡◌, ℕ, ◌-◌, ◌^◌, ◌≤◌,
 ghost use Rattle.record_io.specs.Outside.{Rose};
 ghost use Rattle.record_io.specs.Puts.{taken_by};
 ghost use Rattle.record_io.specs.Calls.{OnlyAsks, OnlyCounts};
+ghost use Rattle.record_io.specs.Seen.{seen_stream, seen_file};
 ghost use Rattle.run_answers.specs.FileAnswers.{HandsOut};
 ghost use Rattle.show_damaged.specs.RecoverCommand.{IsRecovered, IsRecoveredSoFar, recover_meaning};
 ghost use Rattle.damage_skip.specs.Bounds.{may_skip, MaySkip};
 ghost use Rattle.damage_skip.specs.Takings.{IsTakenByWalk};
 ghost use Rattle.damage_skip.specs.Walks.{event_text};
 ghost use Rattle.show_damaged.specs.RecoverProgress.{GivesEvent, HasPositions, end_of_walk, event_lines, status_after};
-ghost use Rattle.run_answers.specs.Runs.{Runs, Seen, seen_stream, seen_file};
+ghost use Rattle.run_answers.specs.Runs.{Runs, Seen};
 ghost use Rattle.run_answers.specs.PutSoFar.{HasPutSoFar};
 ghost use Rattle.run_answers.specs.Endings.{HasPutAtEnd, IsAllowedEnd, IsShort};
 ghost use Rattle.show_damaged.specs.WalkingEnds.{TellsOf, walk_ends};

@@ -1,8 +1,9 @@
 ghost use lib.Chars.{codes};
 ghost use Rattle.std.specs.Prelude.{◌≡◌, ◌-◌, ◌≤◌};
 ghost use Rattle.record_io.specs.Calls.{OnlyCounts};
+ghost use Rattle.record_io.specs.Seen.{seen_stream};
 ghost use Rattle.run_answers.specs.Endings.{SaysEnd};
-ghost use Rattle.run_answers.specs.Runs.{SaysAtEnd, seen_stream};
+ghost use Rattle.run_answers.specs.Runs.{SaysAtEnd};
 ghost use Rattle.show_damaged.specs.WalkingEnds.{walk_ends};
 ghost use Rattle.damage_skip.specs.Bounds.{may_skip};
 ghost use Rattle.damage_skip.specs.Regions.{region_text};

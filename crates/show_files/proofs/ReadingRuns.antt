@@ -3,6 +3,7 @@ use Rattle.std.proofs.Common.{◌≡◌, ◌∙◌, ℕ, false, Result, Ok, Err,
 use Rattle.std.specs.Result.{IsErrAnd}
 use Rattle.record_io.specs.Outside.{Rose}
 use Rattle.record_io.specs.Puts.{Put, Taken, taken_by}
+use Rattle.record_io.specs.Seen.{SeenStream, SeenFile}
 use Rattle.record_io.proofs.Calls.{Takes-nothing}
 use Rattle.show_files.specs.declared.show_words.ShowWords.{ShowWords}
 use Rattle.run_answers.specs.declared.ending.Ending.{Ending}
@@ -10,7 +11,7 @@ use Rattle.run_answers.specs.declared.status.Status.{Status}
 use Rattle.run_answers.specs.Answers.{Answer}
 use Rattle.run_answers.specs.Endings.{Endings, IsAllowedEnd, IsShort, HasPutAtEnd, SaysEnd}
 use Rattle.run_answers.specs.Meanings.{Meaning}
-use Rattle.run_answers.specs.Runs.{SeenStream, SeenFile, seen, Runs}
+use Rattle.run_answers.specs.Runs.{seen, Runs}
 use Rattle.run_answers.specs.PutSoFar.{HasPutSoFar}
 use Rattle.show_files.specs.ReadingEnds.{reading_ends}
 use Rattle.show_files.specs.Readings.{MayEndReading, refused_text}

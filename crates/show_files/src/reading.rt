@@ -1,7 +1,7 @@
 ghost use Rattle.std.specs.Prelude.{◌≡◌};
 ghost use Rattle.record_io.specs.Calls.{OnlyCounts};
+ghost use Rattle.record_io.specs.Seen.{seen_stream};
 ghost use Rattle.run_answers.specs.Endings.{SaysEnd};
-ghost use Rattle.run_answers.specs.Runs.{seen_stream};
 ghost use Rattle.show_files.specs.ReadingEnds.{reading_ends};
 
 use crate::fault_lines::end_with_fault;

@@ -3,6 +3,7 @@ ghost use Rattle.std.specs.List.{enumerate_from};
 ghost use Rattle.record_io.specs.Outside.{Rose};
 ghost use Rattle.record_io.specs.Puts.{Taken, taken_by};
 ghost use Rattle.record_io.specs.Calls.{OnlyAsks, OnlyCounts, PutsThrough};
+ghost use Rattle.record_io.specs.Seen.{seen_stream, seen_file};
 ghost use Rattle.chunk_reader.specs.Contents.{records_given};
 ghost use Rattle.chunk_reader.specs.Readers.{ReadsIn, ReadsOn};
 ghost use Rattle.chunk_reader.specs.ReadBounds.{MayBeReadTo};
@@ -12,7 +13,7 @@ ghost use Rattle.show_files.specs.ReadingEnds.{reading_ends};
 ghost use Rattle.show_files.specs.ShowCommand.{IsShown, IsShownSoFar, show_meaning};
 ghost use Rattle.run_answers.specs.PutSoFar.{HasPutSoFar};
 ghost use Rattle.show_files.specs.ShowProgress.{record_lines, IsPrinted, PrintsOn};
-ghost use Rattle.run_answers.specs.Runs.{Runs, Seen, seen_stream, seen_file};
+ghost use Rattle.run_answers.specs.Runs.{Runs, Seen};
 
 use crate::reading::end_reading;
 use crate::record_lines::{LINES, put_records};

@@ -1,9 +1,10 @@
 ghost use Rattle.std.specs.Prelude.{◌≡◌, ◌≢◌, ◌+◌, ◌≤◌, ℕ, Option, Ok, Err, List, [], ◌∷◌, IfSome, IsErrAnd, OnErr};
 ghost use Rattle.record_io.specs.Puts.{taken_by};
 ghost use Rattle.record_io.specs.Calls.{OnlyCounts, PutsTo};
+ghost use Rattle.record_io.specs.Seen.{seen_stream, seen_file};
 ghost use Rattle.run_answers.specs.Endings.{HasPutAtEnd, IsAllowedEnd, IsShort, SaysEnd};
 ghost use Rattle.run_answers.specs.FileAnswers.{HandsOut};
-ghost use Rattle.run_answers.specs.Runs.{Runs, Seen, seen_stream, seen_file};
+ghost use Rattle.run_answers.specs.Runs.{Runs, Seen};
 ghost use Rattle.show_files.specs.Readings.{record_line};
 ghost use Rattle.show_found.specs.Searches.{TakesOf};
 ghost use Rattle.show_found.specs.SeekCommand.{IsSeekAnswer, found_form, seek_meaning};

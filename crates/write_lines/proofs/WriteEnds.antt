@@ -4,6 +4,7 @@ use Rattle.std.specs.Option.{IfSome}
 use Rattle.std.proofs.lemmas.Option.{MatchOption-at_some}
 use Rattle.record_io.specs.Outside.{Rose, Takes, TakesFront, TakesShort}
 use Rattle.record_io.specs.Puts.{Put, Made, Notes, taken_by, BreaksOff, puts_to}
+use Rattle.record_io.specs.Seen.{SeenStream, SeenFile}
 use Rattle.record_io.proofs.Calls.{Takes-nothing}
 use Rattle.record_io.proofs.Puts.{GoOut-made, TakesFront-count, BreaksOff-last, BreaksOff-longer, bytes_to-other, puts_to-front}
 use Rattle.record_values.specs.declared.file_totals.Totals.{Totals}
@@ -16,7 +17,7 @@ use Rattle.run_answers.specs.Statuses.{fault_text}
 use Rattle.write_lines.specs.Input.{taken_from}
 use Rattle.run_answers.specs.Answers.{Answer, line}
 use Rattle.write_lines.specs.WriteCommand.{write_meaning, stop_text, stop_status, write_answer}
-use Rattle.run_answers.specs.Runs.{SeenStream, SeenFile, Seen, seen, IsWhole, IsCutOff, Breaks, TakesThen, SaysAtEnd, HasCause, Runs}
+use Rattle.run_answers.specs.Runs.{Seen, seen, IsWhole, IsCutOff, Breaks, TakesThen, SaysAtEnd, HasCause, Runs}
 use Rattle.run_answers.proofs.RunEnds.{GaveButNotes, Keeps, OfSizes-unread, PutsLines-none, gave-said, was-cut_off, went-so_far, runs-whole, runs-said, runs-cut_off}
 use Rattle.record_writer.specs.declared.engine.WriteEnd.TheVariants as end
 use Rattle.record_writer.specs.declared.feed.Stop.TheVariants as stop

@@ -1,10 +1,11 @@
 ghost use Rattle.std.specs.Prelude.{◌≡◌, ◌^◌, ◌≤◌, Some, [], IfSome, OnOk, Err};
 ghost use Rattle.record_io.specs.Outside.{Rose};
 ghost use Rattle.record_io.specs.Calls.{OnlyCounts};
+ghost use Rattle.record_io.specs.Seen.{seen_stream};
 ghost use Rattle.record_writer.specs.Written.{AreInLimits, TellsWritten, TakesFile, file_under};
 ghost use Rattle.write_lines.specs.Input.{most_input_taken, taken_from};
 ghost use Rattle.write_lines.specs.WriteCommand.{stop_status, stop_text, write_meaning};
-ghost use Rattle.run_answers.specs.Runs.{Runs, SaysAtEnd, Seen, TakesAtMost, seen_stream};
+ghost use Rattle.run_answers.specs.Runs.{Runs, SaysAtEnd, Seen, TakesAtMost};
 
 use crate::line_feed::LineFeed;
 use crate::write_words::WriteWords;
