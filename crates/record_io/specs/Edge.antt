@@ -1,24 +1,42 @@
 -- What can be relied on of real files and streams, of whose bytes nothing is shown to callers. Own.
-use Rattle.std.specs.Prelude.{◌≡◌, ℕ, ◌≤◌, Option, None, Some, Result, Ok, Err, Bool, List, length, take, IfSome}
+use Rattle.std.specs.Prelude.{◌≡◌, ℕ, ◌+◌, ◌-◌, ◌^◌, ◌≤◌, min, true, Option, None, Some, Result, Ok, Err, Bool, List, length, take, IfSome, OnOk, OnErr}
 use Rattle.std.specs.Io.KnownBytes.{Appends, Consumes}
+use Rattle.record_io.specs.Outside.{faults_after}
 use Rattle.record_io.specs.Seen.{SeenStream, SeenFile}
 
--- a file that is read at any place
-pub record Reading : Type 0 where
+-- a file that is read at any place, and may be cut and grown
+pub record Opened : Type 0 where
   -- its name
   pub path : List ℕ
   -- whether it could be opened, once that was tried
   pub opened : Option Bool
-  -- the size that was last told
+  -- the size that was last told, if nothing was cut or put since
   pub told : Option ℕ
+  -- where it should end by what was told, cut and put, once there was such a call
+  pub end : Option ℕ
+  -- what the open file holds, where that is known
+  pub contents : Option (List ℕ)
   -- how many bytes were handed out
   pub handed : ℕ
   -- how many faults there were
   pub faults : ℕ
 
 -- what it shows: none of its bytes
-abbrev pub reading_seen : Reading → SeenFile
-reading_seen file = record { bytes = None; told = file.told; handed = file.handed; faults = file.faults }
+abbrev pub opened_seen : Opened → SeenFile
+opened_seen file = record { bytes = None; told = file.told; handed = file.handed; faults = file.faults }
+
+-- a call counts its failure, and leaves the file's name, and whether it could be opened; where it fails, the file should end
+-- where it did
+pub record StaysOpen {X E : Type 0} (result : Result X E) (before after : Opened) : Type 0 where
+  pub opened : OnOk result (after.opened ≡ Some true)
+  pub opened_once : IfSome before.opened (λ could. after.opened ≡ Some could)
+  pub same_path : after.path ≡ before.path
+  pub same_end : OnErr result (after.end ≡ before.end)
+  pub counted : after.faults ≡ faults_after result before.faults
+
+-- so many bytes were put where a file should end, if that was known, and then it should end behind them
+abbrev pub EndsBehind : Option ℕ → Option ℕ → ℕ → Type 0
+EndsBehind before after n = (size : ℕ) × IfSome before (λ end. size ≡ end) × (after ≡ Some (min (size + n) (2 ^ 64 - 1)))
 
 -- a file that is written from its front
 pub record Writing : Type 0 where

@@ -2,14 +2,16 @@
 //! counts are in bytes or calls. Own, as a whole.
 #![tactic(auto)]
 
-mod files;
+mod file_sink;
+mod named_file;
 mod outside;
 mod put_buffer;
 mod stand_ins;
 pub mod std_calls;
 mod streams;
 
-pub use files::{FileSink, FileStore};
+pub use file_sink::FileSink;
+pub use named_file::{FileDevice, FileStore, NamedFile, Opening, ReadAppend, ReadOnly};
 pub use outside::{Device, Failed, Sink, Source, Store, counted, fault, get_exact, put_all};
 pub use put_buffer::PutBuffer;
 pub use record_values::{Bytes, Totals};

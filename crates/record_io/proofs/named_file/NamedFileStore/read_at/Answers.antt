@@ -1,6 +1,6 @@
 use Rattle.std.proofs.Common.{◌≤◌, length, arith}
 use Rattle.std.proofs.lemmas.List.{take-append-le}
-use Rattle.record_io.proofs.files.FileStoreStore.read_at.Goals as goal
+use Rattle.record_io.proofs.named_file.NamedFileStore.read_at.Goals as goal
 
 pub returns-clause-bytes : goal.returns-clause-bytes
 returns-clause-bytes g c =
