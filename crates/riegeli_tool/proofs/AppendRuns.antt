@@ -41,7 +41,7 @@ use Rattle.run_answers.specs.declared.status.Status.TheVariants as status
 
 -- a command that grows one file
 grows : (words : AppendWords) → GrowsFile (append_meaning words)
-grows words = record { command = refl; files = refl; grown = refl; may_work = λ sizes within. within; may_take_of = λ r handed. tt }
+grows words = record { files = refl; grown = refl; may_work = λ sizes within. within; may_take_of = λ r handed. tt }
 
 -- a file grown by records holds all of their bytes
 part-of-whole : (options : WriteOptions) (may_cut : Bool) (file : List ℕ) (records : List (List ℕ)) (held : Option (List ℕ))
@@ -161,7 +161,7 @@ module _ (words : AppendWords) (input input_then : SeenStream) (files : List See
               (GoOut-out made.bytes out.bytes out_then.bytes notes.bytes text printed));
         },
       ))
-      (λ _ _. read) (λ none. absurd (cc none)) tt
+      (λ _ _. read) tt
       (whole status.Ok tt
       (λ _ r is.
       let (none, place, holds, printed) = told r is in
@@ -179,7 +179,7 @@ module _ (words : AppendWords) (input input_then : SeenStream) (files : List See
       → Keeps (KeepsOld words.cut wanted) → Keeps (KeepsOld words.cut status.Notes) → Ended ended
   said ended wanted text says is other cause may gave leaves may_leave keeps keeps_untold =
       ends-said (append_meaning words) Before After notes ended wanted [] text (Takes-nothing notes.bytes) (omega arith) says is other may gave
-      (λ none. absurd (cc none)) cause (whole wanted is leaves keeps) (short status.Notes (inr refl) (λ e. absurd (cc e)) may_leave keeps_untold)
+      cause (whole wanted is leaves keeps) (short status.Notes (inr refl) (λ e. absurd (cc e)) may_leave keeps_untold)
 
   -- the file was not grown, and that was said
   ungrown : (ended wanted : Status) (text : List ℕ) → SaysAtEnd ended wanted notes notes_then text → IsWhole wanted → wanted ≢ status.Ok
@@ -301,7 +301,7 @@ module _ (words : AppendWords) (input input_then : SeenStream) (files : List See
       (λ cut_short sound r is.
       let (answer, right, part, breaks, none, went, so_far) = put r is in
       went-so_far (append_meaning words) ended Before After notes r part (so_far cut_short) went (omega arith) says)
-      refl cause (short ended (inl cuts) (λ e _. whole_left e) (λ _. left) keeps)
+      cause (short ended (inl cuts) (λ e _. whole_left e) (λ _. left) keeps)
 
   -- before anything was printed
   unprinted_cut : (ended : Status) → IsCutOff ended → ended ≢ status.Out → ((puts : List Put) → Breaks ended [] puts)

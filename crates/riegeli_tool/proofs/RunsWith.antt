@@ -36,31 +36,39 @@ module _ (m : Meaning) (answers : Read → Answer → Type 0) (so : (r : Read) (
 
   pub runs-with : (ended : Status) → Runs m before after ended → Runs with_answers before after ended
   runs-with ended ran = record {
-    whole = λ whole. told_so _ (ran.whole whole);
-    grown = λ whole uses r is. ran.grown whole uses r (read_by r is);
-    read_to_end = ran.read_to_end;
-    complete = λ sound. told_so _ (ran.complete sound);
-    usage = ran.usage;
-    cause = cause_so ended ran.cause;
-    cut_off = λ cut. told_so _ (ran.cut_off cut);
-    failed_to_say = λ failed. told_so _ (ran.failed_to_say failed);
-    grown_cut = λ cut uses r is. ran.grown_cut cut uses r (read_by r is);
-    grown_kept = ran.grown_kept;
-    so_far = λ cut sound r is. so_far_so ended r (ran.so_far cut sound r (read_by r is));
-    in_reach = λ cut file grown. sizes_so _ (ran.in_reach cut file grown);
-    handed = elim ran.handed [
-      | inl same ↦ inl same
-      | inr (uses, sizes) ↦ inr (uses, sizes_so _ sizes)
-    ];
-    handed_of = λ r is. ran.handed_of r (read_by r is);
-    grown_handed = elim ran.grown_handed [
-      | inl same ↦ inl same
-      | inr (uses, sizes) ↦ inr (uses, sizes_so _ sizes)
-    ];
-    in_order = ran.in_order;
-    end_said = λ whole. sizes_so _ (ran.end_said whole);
-    cut_off_said = ran.cut_off_said;
-    front_said = λ failed. sizes_so _ (ran.front_said failed);
-    counts = ran.counts;
-    input_taken = ran.input_taken;
+    answers = record {
+      whole = λ whole. told_so _ (ran.answers.whole whole);
+      grown = λ whole uses r is. ran.answers.grown whole uses r (read_by r is);
+      read_to_end = ran.answers.read_to_end;
+    };
+    has_cause = record {
+      cause = cause_so ended ran.has_cause.cause;
+      counts = ran.has_cause.counts;
+    };
+    cut_short = record {
+      cut_off = λ cut. told_so _ (ran.cut_short.cut_off cut);
+      failed_to_say = λ failed. told_so _ (ran.cut_short.failed_to_say failed);
+      grown_cut = λ cut uses r is. ran.cut_short.grown_cut cut uses r (read_by r is);
+      grown_kept = ran.cut_short.grown_kept;
+      so_far = λ cut sound r is. so_far_so ended r (ran.cut_short.so_far cut sound r (read_by r is));
+    };
+    takes = record {
+      in_reach = λ cut file grown. sizes_so _ (ran.takes.in_reach cut file grown);
+      handed = elim ran.takes.handed [
+        | inl same ↦ inl same
+        | inr (uses, sizes) ↦ inr (uses, sizes_so _ sizes)
+      ];
+      handed_of = λ r is. ran.takes.handed_of r (read_by r is);
+      grown_handed = elim ran.takes.grown_handed [
+        | inl same ↦ inl same
+        | inr (uses, sizes) ↦ inr (uses, sizes_so _ sizes)
+      ];
+      in_order = ran.takes.in_order;
+      input_taken = ran.takes.input_taken;
+    };
+    says = record {
+      end_said = λ whole. sizes_so _ (ran.says.end_said whole);
+      cut_off_said = ran.says.cut_off_said;
+      front_said = λ failed. sizes_so _ (ran.says.front_said failed);
+    };
   }

@@ -1,5 +1,5 @@
 -- How a run ends whose words are no command.
-use Rattle.std.proofs.Common.{◌≤◌, [], refl, arith}
+use Rattle.std.proofs.Common.{◌≡◌, ◌≤◌, ◌⊎◌, [], refl, inl, inr, arith}
 use Rattle.record_io.specs.Puts.{taken_by}
 use Rattle.record_io.specs.Seen.{SeenStream}
 use Rattle.record_io.proofs.Calls.{Takes-nothing}
@@ -23,6 +23,17 @@ runs-usage others notes notes_then ended says counts =
       refl,
       record { same_status = refl; puts = []; whole = refl; went = GoOut-nothing (taken_by others.made.bytes others.out.bytes notes.bytes) },
     ))
-    (λ _. refl) refl
-    (keeps-unread usage_meaning others.input others.input others.files others.made others.made others.grown others.out others.out notes notes_then refl (λ r. tt) (omega arith) (omega arith) (omega arith) counts
+    refl (keeps-unread usage_meaning others.input others.input others.files others.made others.made others.grown others.out others.out notes notes_then refl (λ r. tt) (omega arith) (omega arith) (omega arith) counts
     (none-taken 0 others.input.bytes))
+
+-- and no run of such words ends otherwise
+pub ends-usage : (before after : Seen) (ended : Status) → Runs usage_meaning before after ended
+    → (ended ≡ status.Usage) ⊎ (ended ≡ status.Notes)
+ends-usage before after status.Notes ran = inr refl
+ends-usage before after status.Input ran = absurd (cc ran.has_cause.cause.0)
+ends-usage before after status.File ran = absurd (cc ran.has_cause.cause.0)
+ends-usage before after status.Made ran = absurd (cc ran.has_cause.cause.0)
+ends-usage before after status.Grown ran = absurd (cc ran.has_cause.cause.0)
+ends-usage before after status.Out ran = absurd (cc ran.has_cause.cause.0)
+ends-usage before after status.Memory ran = absurd (cc ran.has_cause.cause)
+ends-usage before after ended ran = inl (ran.says.end_said tt).holds.1.0

@@ -31,7 +31,7 @@ ghost use Rattle.show_damaged.specs.RecoverCommand.{IsRecovered};
 ghost use Rattle.record_ranges.specs.RangesCommand.{AreOneFile, IsRangesAnswer, MayBeRead, most_range_bytes};
 ghost use Rattle.riegeli_tool.specs.AppendCommand.{IsAppended, IsLeft, grown_answer, grown_text, lines_taken};
 ghost use Rattle.riegeli_tool.specs.RepairCommand.{end_puts, IsRepaired};
-ghost use Rattle.run_answers.specs.Runs.{HadNoFault, IsWhole, Runs, Seen};
+ghost use Rattle.run_answers.specs.Runs.{HadNoFault, IfTold, IsWhole, Runs, Seen};
 ghost use Rattle.sample_records.specs.SampleCommand.{sampled, sample_answer, sample_file, sample_summary};
 ghost use Rattle.show_files.specs.ShowCommand.{IsShown};
 ghost use Rattle.show_files.specs.VerifyCommand.{IsVerified};
@@ -62,12 +62,21 @@ pub fn answers_are_one()
         → IsAnswerTo (accepted words (length r.files)) r a → IsAnswerTo (accepted words (length r.files)) r b → a ≡ b }
 {}
 
-/// Where no object that a command uses had a fault, a run of it gives its whole answer, or tells want of memory: the status of
-/// a fault never stands without one. Own.
+/// Where no object that a command uses had a fault, a run of it gives its whole answer, or tells want of memory: its status is
+/// an answer's, or that one, and the status of a fault never stands without one. Own.
 pub fn no_fault_without_a_cause()
     ensures whole { (command : Option Command) (before after : Seen) (ended : Status)
         → Runs (meaning_of command) before after ended → HadNoFault (meaning_of command).uses before after
         → IsWhole ended ⊎ (ended ≡ status.Memory) }
+    ensures answers { (command : Option Command) (before after : Seen) (ended : Status)
+        → Runs (meaning_of command) before after ended → HadNoFault (meaning_of command).uses before after
+        → IfTold (meaning_of command) before (λ answer. (ended ≡ answer.status) ⊎ (ended ≡ status.Memory)) }
+{}
+
+/// Words that are no command end with the usage text, or with a fault of notes. Own.
+pub fn no_command_is_usage()
+    ensures usage { (before after : Seen) (ended : Status)
+        → Runs (meaning_of None) before after ended → (ended ≡ status.Usage) ⊎ (ended ≡ status.Notes) }
 {}
 
 /// An answer doesn't depend on what its command doesn't use. Own.

@@ -204,7 +204,7 @@ module _ (m : Meaning) (P : List ℕ → Answer → Type 0) (Q : (before after :
         a.1,
         gave-said ended Before After mid [] a.0 a.2 (subst (λ (s : SeenStream). Takes mid.bytes s.bytes []) (sym same) (Takes-nothing mid.bytes)),
       ))
-      (λ _ uses. absurd (cc (sym uses ∙ reads.input))) (λ none. absurd (cc (sym reads.command ∙ none))) (whole.1 Before After) keeps
+      (λ _ uses. absurd (cc (sym uses ∙ reads.input))) (whole.1 Before After) keeps
 
   -- it ended with a text to say
   said : (ended wanted : Status) (earlier last : List ℕ) → Takes notes.bytes mid.bytes earlier → notes.faults ≤ mid.faults
@@ -214,7 +214,7 @@ module _ (m : Meaning) (P : List ℕ → Answer → Type 0) (Q : (before after :
       → Ended ended
   said ended wanted earlier last took less says whole other may put =
       runs-said m Before After mid ended wanted earlier last took less says whole.0 other may (gave last wanted put)
-      (λ none. absurd (cc (sym reads.command ∙ none))) (whole.1 Before After) keeps
+      (whole.1 Before After) keeps
 
   -- of an answer so much was put when it was cut off
   abbrev PutToCut : Cut → Type 0
@@ -262,7 +262,7 @@ module _ (m : Meaning) (P : List ℕ → Answer → Type 0) (Q : (before after :
       (h.0, h.1, was-cut_off (status_of why) Before After mid h.0 front.0 front.1 front.2 front.3 less says)))
       (λ short sound.
       told-so_far m P Q reads input made made_then file file_then grown out out_then notes notes_then (status_of why) mid (so_far short sound) less says)
-      reads.command cause keeps)
+      cause keeps)
 
   -- by how the work ended
   pub runs-file : {X W : Type 0} (ends : Endings X W) → EndsBy m ends → (result : Result X (Ending W)) (ended : Status)

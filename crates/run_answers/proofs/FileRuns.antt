@@ -17,7 +17,6 @@ use Rattle.run_answers.proofs.RunEnds.{Keeps, none-taken, went-so_far}
 
 -- what holds of a command that reads one file, of which P are the answers and Q what it may have put so far, and prints
 pub record ReadsFile (m : Meaning) (P : List ℕ → Answer → Type 0) (Q : (before after : ℕ) → List ℕ → List Put → Type 0) : Type 0 where
-  pub command : m.is_command ≡ true
   pub input : m.uses.input ≡ false
   pub files : m.uses.files ≡ true
   pub grown : m.uses.grown ≡ false
@@ -39,7 +38,6 @@ pub reads_file : (P : List ℕ → Answer → Type 0) (Q : (before after : ℕ) 
       may_say = may_say;
     }) P Q
 reads_file P Q uses may_take may_take_of may_end may_say input files grown out = record {
-  command = refl;
   input = input;
   files = files;
   grown = grown;

@@ -12,7 +12,6 @@ use Rattle.run_answers.specs.declared.status.Status.TheVariants as status
 
 -- what holds of a command that grows one file and reads no other
 pub record GrowsFile (m : Meaning) : Type 0 where
-  pub command : m.is_command ≡ true
   pub files : m.uses.files ≡ false
   pub grown : m.uses.grown ≡ true
   pub may_work : (sizes : List ℕ) → IsInReach sizes → m.may_work sizes

@@ -29,7 +29,6 @@ use Rattle.run_answers.specs.declared.status.Status.TheVariants as status
 -- what holds of a command that reads several files and says nothing before its end: S follows from what is supposed of them, P are
 -- its answers, and Q is what it may have put so far
 pub record ReadsFiles (m : Meaning) (S : List (List ℕ) → Type 0) (P : List (List ℕ) → Answer → Type 0) (Q : List (List ℕ) → List Put → Type 0) : Type 0 where
-  pub command : m.is_command ≡ true
   pub input : m.uses.input ≡ false
   pub files : m.uses.files ≡ true
   pub grown : m.uses.grown ≡ false
@@ -52,7 +51,6 @@ pub reads_files : (uses : Uses) (S : List (List ℕ) → Type 0) (P : List (List
       may_end = may_end;
     }) S P Q
 reads_files uses S P Q may_work may_take may_end input files grown = record {
-  command = refl;
   input = input;
   files = files;
   grown = grown;
@@ -184,7 +182,7 @@ module _ (m : Meaning) (S : List (List ℕ) → Type 0) (P : List (List ℕ) →
       runs-whole m Before After status.Ok [] tt (of_sizes m.may_work (λ sizes. m.may_end sizes status.Ok []) ends_well told) silent
       (λ r is. let a = if_told (GaveButNotes status.Ok Start Worked []) put r is in
       (a.0, a.1, gave-said status.Ok Before After notes [] a.0 a.2 silent))
-      (λ _ uses. absurd (cc (sym uses ∙ reads.input))) (λ none. absurd (cc (sym reads.command ∙ none))) tt keeps
+      (λ _ uses. absurd (cc (sym uses ∙ reads.input))) tt keeps
 
   -- it ended with a text to say
   said : (ended wanted : Status) (text : List ℕ) → SaysAtEnd ended wanted notes notes_then text → EndsWhole m wanted → wanted ≢ status.Ok
@@ -192,7 +190,7 @@ module _ (m : Meaning) (S : List (List ℕ) → Type 0) (P : List (List ℕ) →
       → Ended ended
   said ended wanted text says whole other may put =
       runs-said m Before After notes ended wanted [] text (Takes-nothing notes.bytes) (omega arith) says whole.0 other may
-      (if_told (GaveButNotes wanted Start Worked text) put) (λ none. absurd (cc (sym reads.command ∙ none))) (whole.1 Before After) keeps
+      (if_told (GaveButNotes wanted Start Worked text) put) (whole.1 Before After) keeps
 
   -- it was cut off
   cut_off : (why : Cut) (ended : Status) → IsCutOff (status_of why) → (status_of why ≢ status.File → OfSizes m Before After m.may_work)
@@ -209,7 +207,7 @@ module _ (m : Meaning) (S : List (List ℕ) → Type 0) (P : List (List ℕ) →
       let told = is.files reads.files in
       let h = put r.files told.0 told.1 (reads.supposed r is.supposed) in
       went-so_far m (status_of why) Before After notes r h.part (reads.so_far r _ _ h.part (h.so_far short)) h.went (omega arith) says)
-      reads.command cause keeps)
+      cause keeps)
 
   -- by how the work ended
   by_end : {X W : Type 0} (ends : Endings X W) (past : List ℕ → Type 0) (stops : W → List ℕ → Type 0) → EndsBySizes m ends past stops

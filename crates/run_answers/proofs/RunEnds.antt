@@ -10,7 +10,7 @@ use Rattle.run_answers.specs.declared.status.Status.{Status}
 use Rattle.run_answers.specs.Statuses.{fault_text}
 use Rattle.run_answers.specs.Answers.{Answer}
 use Rattle.run_answers.specs.Meanings.{Meaning, Read}
-use Rattle.run_answers.specs.Runs.{Seen, seen, IsWhole, IsCutOff, IsCutShort, HadNoFault, HadNoSinkFault, IfRead, IfTold, OfSizes, handed_by, taken_in, Gave, TakesThen, SaysAtEnd, Breaks, PutsLines, WasCutOff, WentOutSoFar, FailedToSay, HasCause, NoneFell, IfGrown, TakesAtMost, Runs}
+use Rattle.run_answers.specs.Runs.{Seen, seen, IsWhole, IsCutOff, IsCutShort, HadNoSinkFault, IfRead, IfTold, OfSizes, handed_by, taken_in, Gave, TakesThen, SaysAtEnd, Breaks, PutsLines, WasCutOff, WentOutSoFar, FailedToSay, HasCause, NoneFell, IfGrown, TakesAtMost, Runs}
 use Rattle.run_answers.specs.declared.status.Status.TheVariants as status
 
 -- what every end of a run keeps that grows no file
@@ -124,54 +124,45 @@ whole-cut_short status.Grown whole short = whole
 whole-cut_short status.Memory whole short = whole
 whole-cut_short other whole short = short
 
--- without a fault the status is an answer's, or tells want of memory
-complete : (m : Meaning) (before after : Seen) (ended : Status)
-    → (IsWhole ended → IfTold m before (Gave ended before after))
-    → (IsCutOff ended → IfTold m before (WasCutOff ended before after))
-    → HasCause ended m before after → HadNoFault m.uses before after
-    → IfTold m before (λ answer. (ended ≡ answer.status) ⊎ (ended ≡ status.Memory))
-complete m before after status.Input whole cut cause sound = absurd (sound.input cause.0 cause.1)
-complete m before after status.File whole cut cause sound = absurd (sound.files cause.0 cause.1)
-complete m before after status.Made whole cut cause sound = absurd (sound.made cause.0 cause.1)
-complete m before after status.Grown whole cut cause sound = absurd (sound.grown cause.0 cause.1)
-complete m before after status.Out whole cut cause sound = absurd (sound.out cause.0 cause.1)
-complete m before after status.Notes whole cut cause sound = absurd (sound.notes cause)
-complete m before after status.Memory whole cut cause sound = λ r is.
-    let a = cut tt r is in (a.0, a.1, inr refl)
-complete m before after ended whole cut cause sound = λ r is.
-    let a = whole tt r is in (a.0, a.1, inl a.2.same_status)
-
 -- the work was done, and notes took what there was to say
 pub ends-whole : (m : Meaning) (before after : Seen) (ended : Status) (text : List ℕ)
     → IsWhole ended → OfSizes m before after (λ sizes. m.may_end sizes ended text) → Takes before.notes.bytes after.notes.bytes text
     → IfTold m before (Gave ended before after)
     → (ended ≡ status.Ok → m.uses.input ≡ true → IfSome before.input.bytes (λ _. after.input.bytes ≡ Some []))
-    → (m.is_command ≡ false → ended ≡ status.Usage) → HasCause ended m before after → KeepsAtEnd m before after ended
+    → HasCause ended m before after → KeepsAtEnd m before after ended
     → Runs m before after ended
-ends-whole m before after ended text whole may_end said gave read usage cause keeps = record {
-  whole = λ _. gave;
-  read_to_end = read;
-  complete = complete m before after ended (λ _. gave) (λ cut. absurd (whole-cut_off ended whole cut)) cause;
-  grown = keeps.grown.leaves;
-  usage = λ none. inl (usage none);
-  cause = cause;
-  cut_off = λ cut. absurd (whole-cut_off ended whole cut);
-  failed_to_say = λ e. absurd (subst IsWhole e whole);
-  so_far = λ short. absurd (whole-cut_short ended whole short);
-  grown_cut = keeps.grown.may_leave;
-  grown_kept = keeps.grown.keeps;
-  in_reach = λ cut. absurd (whole-cut_off ended whole cut);
-  handed = keeps.handed;
-  handed_of = keeps.handed_of;
-  grown_handed = keeps.grown.handed;
-  in_order = keeps.in_order;
-  end_said = λ _. OfSizes-map m before after (λ sizes. m.may_end sizes ended text)
-      (λ sizes. (t : List ℕ) × m.may_end sizes ended t × Takes before.notes.bytes after.notes.bytes t)
-      (λ sizes may. (text, may, said)) may_end;
-  cut_off_said = λ cut. absurd (whole-cut_off ended whole cut);
-  front_said = λ e. absurd (subst IsWhole e whole);
-  counts = keeps.counts;
-  input_taken = keeps.input_taken;
+ends-whole m before after ended text whole may_end said gave read cause keeps = record {
+  answers = record {
+    whole = λ _. gave;
+    grown = keeps.grown.leaves;
+    read_to_end = read;
+  };
+  has_cause = record {
+    cause = cause;
+    counts = keeps.counts;
+  };
+  cut_short = record {
+    cut_off = λ cut. absurd (whole-cut_off ended whole cut);
+    failed_to_say = λ e. absurd (subst IsWhole e whole);
+    grown_cut = keeps.grown.may_leave;
+    grown_kept = keeps.grown.keeps;
+    so_far = λ short. absurd (whole-cut_short ended whole short);
+  };
+  takes = record {
+    in_reach = λ cut. absurd (whole-cut_off ended whole cut);
+    handed = keeps.handed;
+    handed_of = keeps.handed_of;
+    grown_handed = keeps.grown.handed;
+    in_order = keeps.in_order;
+    input_taken = keeps.input_taken;
+  };
+  says = record {
+    end_said = λ _. OfSizes-map m before after (λ sizes. m.may_end sizes ended text)
+        (λ sizes. (t : List ℕ) × m.may_end sizes ended t × Takes before.notes.bytes after.notes.bytes t)
+        (λ sizes may. (text, may, said)) may_end;
+    cut_off_said = λ cut. absurd (whole-cut_off ended whole cut);
+    front_said = λ e. absurd (subst IsWhole e whole);
+  };
 }
 
 -- notes failed to take what there was to say at the end
@@ -181,29 +172,37 @@ pub ends-notes : (m : Meaning) (before after : Seen) (wanted : Status) (text : L
     → Rose before.notes.faults after.notes.faults → KeepsAtEnd m before after status.Notes
     → Runs m before after status.Notes
 ends-notes m before after wanted text may_end said failed rose keeps = record {
-  whole = λ whole. absurd whole;
-  read_to_end = λ e. absurd (cc e);
-  complete = λ sound. absurd (sound.notes rose);
-  grown = keeps.grown.leaves;
-  usage = λ _. inr refl;
-  cause = rose;
-  cut_off = λ cut. absurd cut;
-  failed_to_say = λ _. failed;
-  so_far = λ short. absurd short;
-  grown_cut = keeps.grown.may_leave;
-  grown_kept = keeps.grown.keeps;
-  in_reach = λ cut. absurd cut;
-  handed = keeps.handed;
-  handed_of = keeps.handed_of;
-  grown_handed = keeps.grown.handed;
-  in_order = keeps.in_order;
-  end_said = λ whole. absurd whole;
-  cut_off_said = λ cut. absurd cut;
-  front_said = λ _. OfSizes-map m before after (λ sizes. m.may_end sizes wanted text)
-      (λ sizes. (s : Status) × (t : List ℕ) × m.may_end sizes s t × TakesShort before.notes.bytes after.notes.bytes t)
-      (λ sizes may. (wanted, text, may, said)) may_end;
-  counts = keeps.counts;
-  input_taken = keeps.input_taken;
+  answers = record {
+    whole = λ whole. absurd whole;
+    grown = keeps.grown.leaves;
+    read_to_end = λ e. absurd (cc e);
+  };
+  has_cause = record {
+    cause = rose;
+    counts = keeps.counts;
+  };
+  cut_short = record {
+    cut_off = λ cut. absurd cut;
+    failed_to_say = λ _. failed;
+    grown_cut = keeps.grown.may_leave;
+    grown_kept = keeps.grown.keeps;
+    so_far = λ short. absurd short;
+  };
+  takes = record {
+    in_reach = λ cut. absurd cut;
+    handed = keeps.handed;
+    handed_of = keeps.handed_of;
+    grown_handed = keeps.grown.handed;
+    in_order = keeps.in_order;
+    input_taken = keeps.input_taken;
+  };
+  says = record {
+    end_said = λ whole. absurd whole;
+    cut_off_said = λ cut. absurd cut;
+    front_said = λ _. OfSizes-map m before after (λ sizes. m.may_end sizes wanted text)
+        (λ sizes. (s : Status) × (t : List ℕ) × m.may_end sizes s t × TakesShort before.notes.bytes after.notes.bytes t)
+        (λ sizes may. (wanted, text, may, said)) may_end;
+  };
 }
 
 -- a fault or want of memory cut the work off
@@ -212,30 +211,38 @@ pub ends-cut_off : (m : Meaning) (before after : Seen) (ended : Status) (text : 
     → m.may_say text → TakesThen before.notes after.notes text (fault_text ended)
     → IfTold m before (WasCutOff ended before after)
     → (IsCutShort ended → HadNoSinkFault m.uses before after → IfRead m before (WentOutSoFar m ended before after))
-    → m.is_command ≡ true → HasCause ended m before after → KeepsAtEnd m before after ended
+    → HasCause ended m before after → KeepsAtEnd m before after ended
     → Runs m before after ended
-ends-cut_off m before after ended text cut within may_say said was so_far some cause keeps = record {
-  whole = λ whole. absurd (whole-cut_off ended whole cut);
-  read_to_end = λ e. absurd (subst IsCutOff e cut);
-  complete = complete m before after ended (λ whole. absurd (whole-cut_off ended whole cut)) (λ _. was) cause;
-  grown = keeps.grown.leaves;
-  usage = λ none. absurd (cc (sym some ∙ none));
-  cause = cause;
-  cut_off = λ _. was;
-  failed_to_say = λ e. absurd (subst IsCutOff e cut);
-  so_far = so_far;
-  grown_cut = keeps.grown.may_leave;
-  grown_kept = keeps.grown.keeps;
-  in_reach = λ _. within;
-  handed = keeps.handed;
-  handed_of = keeps.handed_of;
-  grown_handed = keeps.grown.handed;
-  in_order = keeps.in_order;
-  end_said = λ whole. absurd (whole-cut_off ended whole cut);
-  cut_off_said = λ _. (text, may_say, said);
-  front_said = λ e. absurd (subst IsCutOff e cut);
-  counts = keeps.counts;
-  input_taken = keeps.input_taken;
+ends-cut_off m before after ended text cut within may_say said was so_far cause keeps = record {
+  answers = record {
+    whole = λ whole. absurd (whole-cut_off ended whole cut);
+    grown = keeps.grown.leaves;
+    read_to_end = λ e. absurd (subst IsCutOff e cut);
+  };
+  has_cause = record {
+    cause = cause;
+    counts = keeps.counts;
+  };
+  cut_short = record {
+    cut_off = λ _. was;
+    failed_to_say = λ e. absurd (subst IsCutOff e cut);
+    grown_cut = keeps.grown.may_leave;
+    grown_kept = keeps.grown.keeps;
+    so_far = so_far;
+  };
+  takes = record {
+    in_reach = λ _. within;
+    handed = keeps.handed;
+    handed_of = keeps.handed_of;
+    grown_handed = keeps.grown.handed;
+    in_order = keeps.in_order;
+    input_taken = keeps.input_taken;
+  };
+  says = record {
+    end_said = λ whole. absurd (whole-cut_off ended whole cut);
+    cut_off_said = λ _. (text, may_say, said);
+    front_said = λ e. absurd (subst IsCutOff e cut);
+  };
 }
 
 -- where no file is grown, one record of what is kept serves every end
@@ -243,10 +250,10 @@ pub runs-whole : (m : Meaning) (before after : Seen) (ended : Status) (text : Li
     → IsWhole ended → OfSizes m before after (λ sizes. m.may_end sizes ended text) → Takes before.notes.bytes after.notes.bytes text
     → IfTold m before (Gave ended before after)
     → (ended ≡ status.Ok → m.uses.input ≡ true → IfSome before.input.bytes (λ _. after.input.bytes ≡ Some []))
-    → (m.is_command ≡ false → ended ≡ status.Usage) → HasCause ended m before after → Keeps m before after
+    → HasCause ended m before after → Keeps m before after
     → Runs m before after ended
-runs-whole m before after ended text whole may_end said gave read usage cause keeps =
-    ends-whole m before after ended text whole may_end said gave read usage cause (keeps-ungrown m before after ended keeps)
+runs-whole m before after ended text whole may_end said gave read cause keeps =
+    ends-whole m before after ended text whole may_end said gave read cause (keeps-ungrown m before after ended keeps)
 
 pub runs-notes : (m : Meaning) (before after : Seen) (wanted : Status) (text : List ℕ)
     → OfSizes m before after (λ sizes. m.may_end sizes wanted text) → TakesShort before.notes.bytes after.notes.bytes text
@@ -261,10 +268,10 @@ pub runs-cut_off : (m : Meaning) (before after : Seen) (ended : Status) (text : 
     → m.may_say text → TakesThen before.notes after.notes text (fault_text ended)
     → IfTold m before (WasCutOff ended before after)
     → (IsCutShort ended → HadNoSinkFault m.uses before after → IfRead m before (WentOutSoFar m ended before after))
-    → m.is_command ≡ true → HasCause ended m before after → Keeps m before after
+    → HasCause ended m before after → Keeps m before after
     → Runs m before after ended
-runs-cut_off m before after ended text cut within may_say said was so_far some cause keeps =
-    ends-cut_off m before after ended text cut (λ other _. within other) may_say said was so_far some cause (keeps-ungrown m before after ended keeps)
+runs-cut_off m before after ended text cut within may_say said was so_far cause keeps =
+    ends-cut_off m before after ended text cut (λ other _. within other) may_say said was so_far cause (keeps-ungrown m before after ended keeps)
 
 -- what the sinks had taken before an end was said, where notes showed this
 abbrev pub taken_but_end : Seen → SeenStream → Taken
@@ -351,16 +358,16 @@ pub ends-said : (m : Meaning) (before after : Seen) (mid : SeenStream) (ended wa
     → SaysAtEnd ended wanted mid after.notes text
     → IsWhole wanted → wanted ≢ status.Ok → OfSizes m before after (λ sizes. m.may_end sizes wanted (earlier ++ text))
     → IfTold m before (GaveButNotes wanted (taken_in before) (taken_but_end after mid) text)
-    → (m.is_command ≡ false → wanted ≡ status.Usage) → HasCause wanted m before after
+    → HasCause wanted m before after
     → KeepsAtEnd m before after wanted → KeepsAtEnd m before after status.Notes
     → Runs m before after ended
-ends-said m before after mid ended wanted earlier text took less says whole not_ok may_end gave usage cause keeps keeps_untold = elim says [
+ends-said m before after mid ended wanted earlier text took less says whole not_ok may_end gave cause keeps keeps_untold = elim says [
   | inl said ↦ subst (λ (s : Status). Runs m before after s) (sym said.0)
       (ends-whole m before after wanted (earlier ++ text) whole may_end
       (Takes-append before.notes.bytes mid.bytes after.notes.bytes earlier text took said.1)
       (λ r is. let a = gave r is in
       (a.0, a.1, gave-said wanted before after mid text a.0 a.2 said.1))
-      (λ e. absurd (not_ok e)) usage cause keeps)
+      (λ e. absurd (not_ok e)) cause keeps)
   | inr failed ↦ subst (λ (s : Status). Runs m before after s) (sym failed.0)
       (ends-notes m before after wanted (earlier ++ text) may_end
       (TakesShort-append before.notes.bytes mid.bytes after.notes.bytes earlier text took failed.2)
@@ -375,10 +382,10 @@ pub runs-said : (m : Meaning) (before after : Seen) (mid : SeenStream) (ended wa
     → SaysAtEnd ended wanted mid after.notes text
     → IsWhole wanted → wanted ≢ status.Ok → OfSizes m before after (λ sizes. m.may_end sizes wanted (earlier ++ text))
     → IfTold m before (GaveButNotes wanted (taken_in before) (taken_but_end after mid) text)
-    → (m.is_command ≡ false → wanted ≡ status.Usage) → HasCause wanted m before after → Keeps m before after
+    → HasCause wanted m before after → Keeps m before after
     → Runs m before after ended
-runs-said m before after mid ended wanted earlier text took less says whole not_ok may_end gave usage cause keeps =
-    ends-said m before after mid ended wanted earlier text took less says whole not_ok may_end gave usage cause
+runs-said m before after mid ended wanted earlier text took less says whole not_ok may_end gave cause keeps =
+    ends-said m before after mid ended wanted earlier text took less says whole not_ok may_end gave cause
     (keeps-ungrown m before after wanted keeps) (keeps-ungrown m before after status.Notes keeps)
 
 -- a run over the one file that was handed in

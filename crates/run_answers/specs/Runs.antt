@@ -201,17 +201,21 @@ IfGrown m before after P =
 abbrev pub TakesAtMost : ℕ → (before after : Option (List ℕ)) → Type 0
 TakesAtMost most before after = IfSome before (λ left. IsSomeAnd after (λ rest. length left ≤ length rest + most))
 
--- a run of a command ended with a status, of what its objects showed before and after
-pub record Runs (m : Meaning) (before after : Seen) (ended : Status) : Type 0 where
+-- what a run answers that nothing cut off
+pub record RunAnswers (m : Meaning) (before after : Seen) (ended : Status) : Type 0 where
   -- unless a fault or want of memory ended the work, the status and all that went out are an answer's
   pub whole : IsWhole ended → IfTold m before (Gave ended before after)
   -- and a file that is grown is what it is to be, also where standard output failed: nothing is printed before
   pub grown : IsWhole ended ⊎ (ended ≡ status.Out) → IfGrown m before after m.leaves
   pub read_to_end : ended ≡ status.Ok → m.uses.input ≡ true → IfSome before.input.bytes (λ _. after.input.bytes ≡ Some [])
-  -- where nothing that is used had a fault, the status is an answer's, or tells want of memory
-  pub complete : HadNoFault m.uses before after → IfTold m before (λ answer. (ended ≡ answer.status) ⊎ (ended ≡ status.Memory))
-  pub usage : m.is_command ≡ false → (ended ≡ status.Usage) ⊎ (ended ≡ status.Notes)
+
+-- what is behind the status of a run
+pub record RunHasCause (m : Meaning) (before after : Seen) (ended : Status) : Type 0 where
   pub cause : HasCause ended m before after
+  pub counts : NoneFell before after
+
+-- what a run leaves that was cut short
+pub record RunIsCutShort (m : Meaning) (before after : Seen) (ended : Status) : Type 0 where
   -- where the work was cut off, or notes failed, a front of what an answer puts went out
   pub cut_off : IsCutOff ended → IfTold m before (WasCutOff ended before after)
   pub failed_to_say : ended ≡ status.Notes → IfTold m before (FailedToSay (taken_in before) (taken_in after))
@@ -220,6 +224,9 @@ pub record Runs (m : Meaning) (before after : Seen) (ended : Status) : Type 0 wh
   -- where what is read failed or memory was wanting, and no sink of the work failed too, what went out ends where a command
   -- may be cut short, as behind a whole chunk of a file that is shown
   pub so_far : IsCutShort ended → HadNoSinkFault m.uses before after → IfRead m before (WentOutSoFar m ended before after)
+
+-- what a run takes of what it reads
+pub record RunTakes (m : Meaning) (before after : Seen) (ended : Status) : Type 0 where
   -- files are asked their sizes first: what cuts the work off, unless it is a fault of theirs, finds them within the limit
   pub in_reach : IsCutOff ended → ended ≢ status.File → ended ≢ status.Grown → OfSizes m before after m.may_work
   -- and only then are they read, and no more of them than the command may take
@@ -231,13 +238,22 @@ pub record Runs (m : Meaning) (before after : Seen) (ended : Status) : Type 0 wh
   -- in their order: behind a file that told no size none is asked
   pub in_order : (place : ℕ) (file : SeenFile) → slice_get after.files place ≡ Some file → file.told ≡ None
       → drop (place + 1) after.files ≡ drop (place + 1) before.files
-  -- what notes took, also where nothing shows what was read
+  -- of the input no more is taken than the command may take, however it ended
+  pub input_taken : TakesAtMost m.most_taken before.input.bytes after.input.bytes
+
+-- what a run says in notes, also where nothing shows what was read
+pub record RunSays (m : Meaning) (before after : Seen) (ended : Status) : Type 0 where
   pub end_said : IsWhole ended
       → OfSizes m before after (λ sizes. (text : List ℕ) × m.may_end sizes ended text × Takes before.notes.bytes after.notes.bytes text)
   pub cut_off_said : IsCutOff ended → (text : List ℕ) × m.may_say text × TakesThen before.notes after.notes text (fault_text ended)
   pub front_said : ended ≡ status.Notes
       → OfSizes m before after (λ sizes.
       (wanted : Status) × (text : List ℕ) × m.may_end sizes wanted text × TakesShort before.notes.bytes after.notes.bytes text)
-  pub counts : NoneFell before after
-  -- of the input no more is taken than the command may take, however it ended
-  pub input_taken : TakesAtMost m.most_taken before.input.bytes after.input.bytes
+
+-- a run of a command ended with a status, of what its objects showed before and after
+pub record Runs (m : Meaning) (before after : Seen) (ended : Status) : Type 0 where
+  pub answers : RunAnswers m before after ended
+  pub has_cause : RunHasCause m before after ended
+  pub cut_short : RunIsCutShort m before after ended
+  pub takes : RunTakes m before after ended
+  pub says : RunSays m before after ended

@@ -53,7 +53,7 @@ module _ (words : SampleWords) (input : SeenStream) (files : List SeenFile) (mad
           went = subst (λ (n : SeenStream). GoOut (taken_by made.bytes out.bytes notes.bytes) (taken_by made_then.bytes out_then.bytes n.bytes) (sample_answer words).puts) (sym kept) went;
         },
       ))
-      (λ _ none. absurd (cc none)) (λ none. absurd (cc none)) tt keeps
+      (λ _ none. absurd (cc none)) tt keeps
 
   -- a front of what is put went out, and then a fault or want of memory was told
   cut_off : (ended : Status) (part : List Put) → IsCutOff ended → Breaks ended part (sample_answer words).puts
@@ -68,7 +68,7 @@ module _ (words : SampleWords) (input : SeenStream) (files : List SeenFile) (mad
         was-cut_off ended Before After notes (sample_answer words) part breaks (PutsLines-none part (sample_answer words).puts none) went (omega arith) said,
       ))
       (λ short _ r is. went-so_far (sample_meaning words) ended Before After notes r part (so_far short) went (omega arith) said)
-      refl cause keeps
+      cause keeps
 
   -- so many bytes of the file
   abbrev front : ℕ → List Put

@@ -81,7 +81,7 @@ write-ok words input input_then files made made_then grown out notes totals wrot
       gave-said status.Ok before after notes [] (write_answer words bytes)
           (all-made words bytes made.bytes made_then.bytes out.bytes notes.bytes status.Ok [] None w.0.0 refl refl w.1) (Takes-nothing notes.bytes),
     ))
-    (λ _ _. read) (λ none. absurd (cc none)) tt keeps
+    (λ _ _. read) tt keeps
 
 module _ (words : WriteWords) (input input_then : SeenStream) (files : List SeenFile) (made made_then : SeenStream) (grown : SeenFile) (out notes notes_then : SeenStream)
     (keeps : Keeps (write_meaning words) (seen input files made grown out notes) (seen input_then files made_then grown out notes_then)) where
@@ -114,7 +114,7 @@ module _ (words : WriteWords) (input input_then : SeenStream) (files : List Seen
         refl,
         all-made words bytes made.bytes made_then.bytes out.bytes notes.bytes (stop_status (Some s)) (stop_text count (Some s)) (Some s) k.0 refl k.1 k.2,
       ))
-      (λ none. absurd (cc none)) cause keeps
+      cause keeps
 
   pub write-too_long : (count : ℕ) (ended : Status) → Wrote words input made made_then (Err (end.TooLong count))
       → SaysAtEnd ended status.Limit notes notes_then (line (codes "limit record " ++ decimal count))
@@ -175,7 +175,7 @@ module _ (words : WriteWords) (input input_then : SeenStream) (files : List Seen
       let (count, breaks, put) = took bytes (is.input refl) in
       went-so_far (write_meaning words) ended Before After notes r (front bytes count) (goes_on bytes count)
       (GoOut-made made.bytes made_then.bytes out.bytes notes.bytes (take count (made_of words bytes)) put) (omega arith) said)
-      refl cause keeps
+      cause keeps
 
   -- a front of the file went out
   some_front : (bytes : List ℕ) → TakesFront made.bytes made_then.bytes (made_of words bytes)
