@@ -1,0 +1,3 @@
+pub mod AheadStores
+pub mod Apart
+pub mod Streams
