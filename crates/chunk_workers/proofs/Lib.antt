@@ -1,7 +1,4 @@
-pub mod Machines
+pub mod Ones
 pub mod Rising
-pub mod Runs
-pub mod SeatLists
-pub mod Tables
 mod Values
 pub mod Windows

@@ -11,19 +11,19 @@ use Rattle.chunk_header.specs.Chunks.{ChunkValue}
 use Rattle.chunk_header.specs.Views.{HasRightHash, value_of_chunk}
 use Rattle.chunk_header.specs.declared.Chunk.{Chunk}
 use Rattle.number_shares.specs.Once.{HasEachBelow, times}
-use Rattle.chunk_workers.specs.Seats.{SeatValue, drawn_by}
+use Rattle.chunk_workers.specs.Seats.{SeatValue, drawn_by, numbers_at}
 use Rattle.chunk_workers.specs.declared.numbered.Numbered.{Numbered}
 use Rattle.chunk_workers.specs.Windows.{IsChunkOfGroup, IsWindow, by_number, chunk_of_number, numbers_of, paired}
 use Rattle.number_shares.proofs.Counting.{one_if-same, one_if-other, times-cons, times-each_below-le}
 
 -- the numbers of what seats left, and of what one more left
-pub numbers-more : (window coded : List Numbered) (seats : List SeatValue) (seat : SeatValue) → numbers_of window ≡ drawn_by seats → numbers_of coded ≡ seat.hand.mine
+pub numbers-more : (window coded : List Numbered) (seats : List SeatValue) (seat : SeatValue) → numbers_of window ≡ drawn_by seats → numbers_of coded ≡ numbers_at seat.hand.mine
     → numbers_of (window ++ coded) ≡ drawn_by (seats ++ seat ∷ [])
 numbers-more window coded seats seat before one =
     map-append (λ (c : Numbered). c.number) window coded
     ∙ ap (λ (ns : List ℕ). ns ++ numbers_of coded) before
     ∙ ap (λ (ns : List ℕ). drawn_by seats ++ ns) one
-    ∙ flat_map_more (λ (s : SeatValue). s.hand.mine) [] seats seat
+    ∙ flat_map_more (λ (s : SeatValue). numbers_at s.hand.mine) [] seats seat
 
 -- what was coded of the numbers that were drawn, each once
 pub window_of : (chunk_of : List (List ℕ) → ChunkValue) (groups : List (List (List ℕ))) (window : List Numbered) (drawn : List ℕ)

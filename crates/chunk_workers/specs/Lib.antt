@@ -1,4 +1,2 @@
-pub mod DrawMachine
-pub mod DrawRule
 pub mod Seats
 pub mod Windows

@@ -6,7 +6,7 @@ use Rattle.chunk_header.specs.Chunks.{ChunkValue}
 use Rattle.chunk_header.specs.Views.{HasRightHash, value_of_chunk}
 use Rattle.chunk_header.specs.declared.Chunk.{Chunk}
 use Rattle.number_shares.specs.Once.{HasEachBelow}
-use Rattle.chunk_workers.specs.Seats.{BelongsTo, DrawsValue, SeatValue}
+use Rattle.chunk_workers.specs.Seats.{BelongsTo, DrawsValue, SeatValue, numbers_at}
 use Rattle.chunk_workers.specs.declared.numbered.Numbered.{Numbered}
 
 -- the numbers of chunks, in their order
@@ -28,7 +28,7 @@ pub record IsChunkOfGroup (chunk_of : List (List ℕ) → ChunkValue) (groups : 
 pub record IsCoded (chunk_of : List (List ℕ) → ChunkValue) (draws : DrawsValue) (groups : List (List (List ℕ))) (coded : List Numbered) (seat : SeatValue) : Type 0 where
   pub belongs : BelongsTo draws seat
   pub ended : seat.hand.past ≢ []
-  pub numbers : numbers_of coded ≡ seat.hand.mine
+  pub numbers : numbers_of coded ≡ numbers_at seat.hand.mine
   pub chunks : All (IsChunkOfGroup chunk_of groups) coded
 
 -- the chunks of all groups, each once, in any order

@@ -1,13 +1,13 @@
 //! Numbers that threads draw, each once.
 ghost use Rattle.std.specs.Prelude.{◌≡◌, ◌≢◌, ℕ, ◌^◌, ◌<◌, ◌≤◌, [], ◌∷◌, All, IfOk, IfNone, IfSome, vec_len};
-ghost use Rattle.std.specs.List.{AllByRecursion};
+ghost use Rattle.std.specs.List.{AllByRecursion, flat_map};
 ghost use Rattle.std.specs.Option.{option_to_list};
 ghost use Rattle.number_shares.specs.Once.{HasEachBelow};
-ghost use Rattle.chunk_workers.specs.DrawMachine.{IsHand, empty_hand, with_mine};
-ghost use Rattle.chunk_workers.specs.Seats.{BelongsTo, IsSeatDraw, drawn_by, past_by};
+ghost use Rattle.number_shares.specs.Machine.{IsHand, empty_hand, with_mine};
+ghost use Rattle.chunk_workers.specs.Seats.{BelongsTo, IsSeatDraw, drawn_by, numbers_at, one, ones};
 
-use crate::table::{EachOnce, OneDraw, OneSeat, SeatView, Terms, Together};
 use atomic_table::{Seat, Table};
+use number_shares::{Before, Bounds, EachOnce, OneSeat, OneTake, SeatView, Terms};
 use std::alloc::{AllocError, Global};
 use std::marker::Model;
 
@@ -21,13 +21,13 @@ pub struct Draws {
 
 impl Model for Draws {
     ghost use Rattle.std.specs.Prelude.{◌≡◌, ◌≤◌};
-    ghost use Rattle.chunk_workers.specs.Seats.{DrawsValue};
+    ghost use Rattle.chunk_workers.specs.Seats.{DrawsValue, ones};
 
     ghost Value = { DrawsValue };
 
     ghost view = { λ d. record { table = d.table.shared.table_id; n = d.n; workers = d.workers } };
 
-    ghost invariant = { λ d. (d.table.shared.table_id.words ≡ 1) × (d.table.shared.table_id.slots ≡ 0) × (d.table.shared.key.n ≡ d.n) × (d.table.shared.key.workers ≡ d.workers) × (1 ≤ d.workers) };
+    ghost invariant = { λ d. (d.table.shared.table_id.words ≡ 1) × (d.table.shared.table_id.slots ≡ 0) × (d.table.shared.key.bounds ≡ ones d.n) × (d.table.shared.key.seats ≡ d.workers) × (1 ≤ d.workers) };
 }
 
 /// The seat of one worker, with the numbers that it drew. Own.
@@ -40,16 +40,15 @@ pub struct DrawSeat {
 impl Model for DrawSeat {
     ghost use Rattle.std.specs.Prelude.{◌≡◌, []};
     ghost use Rattle.std.specs.Option.{option_to_list};
-    ghost use Rattle.chunk_workers.specs.DrawMachine.{IsHand};
-    ghost use Rattle.chunk_workers.specs.Seats.{SeatValue};
+    ghost use Rattle.number_shares.specs.Machine.{IsHand};
+    ghost use Rattle.number_shares.specs.Rule.{hand_of};
+    ghost use Rattle.chunk_workers.specs.Seats.{SeatValue, numbers_at, ones};
 
     ghost Value = { SeatValue };
 
-    ghost use Rattle.chunk_workers.specs.DrawRule.{hand_of};
+    ghost view = { λ s. record { table = s.seat.table_id; n = s.seat.me.0.bounds.limit; hand = hand_of s.seat.me.0 } };
 
-    ghost view = { λ s. record { table = s.seat.table_id; n = s.seat.me.0.n; hand = hand_of s.seat.me.0 } };
-
-    ghost invariant = { λ s. (s.seat.me.0.past ≡ option_to_list s.ended) × (s.seat.me.0.weight ≡ 1) × (s.seat.me.1 ≡ []) × IsHand s.seat.me.0.n (hand_of s.seat.me.0) };
+    ghost invariant = { λ s. (numbers_at s.seat.me.0.past ≡ option_to_list s.ended) × (s.seat.me.0.weight ≡ 1) × (s.seat.me.1 ≡ []) × (s.seat.me.0.bounds ≡ ones s.seat.me.0.bounds.limit) × IsHand (ones s.seat.me.0.bounds.limit) (hand_of s.seat.me.0) };
 }
 
 impl Draws {
@@ -63,7 +62,15 @@ impl Draws {
         ensures each { IfOk result (λ d. All (λ seat. BelongsTo d.0 seat × (seat.hand ≡ empty_hand)) d.1.items) }
     {
         let mut seats = Vec::with_capacity(alloc, workers as usize)?;
-        let terms = Terms { n, workers };
+        let bounds = Bounds {
+            limit: n,
+            least: 1,
+            most: 1,
+        };
+        let terms = Terms {
+            bounds,
+            seats: workers,
+        };
         let (table, mut first) = Table::of_words(alloc, &[0], &terms)?;
         for _ in 1..workers {
             let seat = table.shared.split_seat::<OneSeat>(&mut first);
@@ -82,14 +89,14 @@ impl Draws {
         requires { BelongsTo self.now seat.old }
         ensures ended { seat.old.hand.past ≢ [] → (result ≡ None) × (seat.new ≡ seat.old) }
         ensures event { seat.old.hand.past ≡ [] → IsSeatDraw seat.old result seat.new }
-        ensures some { IfSome result (λ m. (m < self.now.n) × (seat.new ≡ record seat.old { hand = with_mine m seat.old.hand }) × AllByRecursion (λ p. p < m) seat.old.hand.mine) }
+        ensures some { IfSome result (λ m. (m < self.now.n) × (seat.new ≡ record seat.old { hand = with_mine (one m) seat.old.hand }) × AllByRecursion (λ p. p < m) (numbers_at seat.old.hand.mine)) }
         ensures none { IfNone result ((seat.new.hand.mine ≡ seat.old.hand.mine) × (seat.new.hand.past ≢ [])) }
         ensures belongs { BelongsTo self.now seat.new }
     {
         if seat.ended.is_some() {
             return None;
         }
-        let number = self.table.shared.fetch_add::<OneDraw>(&mut seat.seat, 0, 1);
+        let number = self.table.shared.fetch_add::<OneTake>(&mut seat.seat, 0, 1);
         if number < self.n {
             Some(number)
         } else {
@@ -119,7 +126,7 @@ impl Draws {
         requires seats { 0 < vec_len seats }
         requires each { All (BelongsTo self.now) seats.items }
         ensures table { result.table_id ≡ self.now.table }
-        ensures view { result.me.0 ≡ record { mine = drawn_by seats.items; past = past_by seats.items; weight = vec_len seats; n = self.now.n } }
+        ensures view { result.me.0 ≡ record { mine = flat_map (λ seat. seat.hand.mine) seats.items; past = flat_map (λ seat. seat.hand.past) seats.items; weight = vec_len seats; bounds = ones self.now.n } }
         ensures slots { result.me.1 ≡ [] }
     {
         let Some(last) = seats.pop() else {
@@ -129,7 +136,7 @@ impl Draws {
         while let Some(other) = seats.pop() {
             self.table
                 .shared
-                .join_seat::<Together>(&mut whole, other.seat);
+                .join_seat::<Before>(&mut whole, other.seat);
         }
         whole
     }
@@ -138,8 +145,8 @@ impl Draws {
 impl DrawSeat {
     /// The number of n or more that this seat drew last, or `None` where it hasn't drawn one. Own.
     pub fn ended(&self) -> Option<u64>
-        ensures past { self.now.hand.past ≡ option_to_list result }
-        ensures hand { IsHand self.now.n self.now.hand }
+        ensures past { numbers_at self.now.hand.past ≡ option_to_list result }
+        ensures hand { IsHand (ones self.now.n) self.now.hand }
     {
         self.ended
     }

@@ -5,7 +5,6 @@ mod coder;
 mod draws;
 pub mod laws;
 mod numbered;
-mod table;
 mod window;
 
 pub use coder::{Coder, SimpleCoder};

@@ -1,7 +1,7 @@
 //! A window of groups, coded by workers that draw their numbers.
 ghost use Rattle.std.specs.Prelude.{◌≡◌, ◌≢◌, ◌^◌, ◌≤◌, [], All, IfOk, length, vec_len};
 ghost use Rattle.simple_chunk.specs.Costs.{cost_of};
-ghost use Rattle.chunk_workers.specs.DrawMachine.{empty_hand};
+ghost use Rattle.number_shares.specs.Machine.{empty_hand};
 ghost use Rattle.chunk_workers.specs.Seats.{BelongsTo, drawn_by};
 ghost use Rattle.chunk_workers.specs.Windows.{IsChunkOfGroup, IsCoded, numbers_of};
 

@@ -88,9 +88,9 @@ pub of_others : {X : Type 0} (P : X → Type 0) (xs : List X) (x : X) → All P 
 of_others P xs x all = λ k d within. subst P (get_or_append_left xs (x ∷ []) d k within) (all k d (omega (arith, length-append xs (x ∷ []))))
 
 -- what the last gives stands behind what the others give
-pub flat_map-last : {X : Type 0} (f : X → List ℕ) (xs : List X) (x : X) (ys : List ℕ) → flat_map f (xs ++ x ∷ []) ++ ys ≡ flat_map f xs ++ (f x ++ ys)
+pub flat_map-last : {X Y : Type 0} (f : X → List Y) (xs : List X) (x : X) (ys : List Y) → flat_map f (xs ++ x ∷ []) ++ ys ≡ flat_map f xs ++ (f x ++ ys)
 flat_map-last f [] x ys = append_assoc (f x) [] ys
 flat_map-last f (z ∷ xs) x ys =
     append_assoc (f z) (flat_map f (xs ++ x ∷ [])) ys
-    ∙ ap (λ (rest : List ℕ). f z ++ rest) (flat_map-last f xs x ys)
+    ∙ ap (λ rest. f z ++ rest) (flat_map-last f xs x ys)
     ∙ sym (append_assoc (f z) (flat_map f xs) (f x ++ ys))

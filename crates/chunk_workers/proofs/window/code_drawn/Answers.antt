@@ -3,8 +3,9 @@ use Rattle.std.proofs.lemmas.List.Elements.{All-push}
 use Rattle.std.proofs.lemmas.List.{map-append}
 use Rattle.std.proofs.lemmas.Option.{slice_get_read}
 use Rattle.chunk_workers.specs.declared.numbered.Numbered.{Numbered}
-use Rattle.chunk_workers.specs.Seats.{SeatValue}
+use Rattle.chunk_workers.specs.Seats.{numbers_at}
 use Rattle.chunk_workers.specs.Windows.{IsChunkOfGroup, numbers_of}
+use Rattle.chunk_workers.proofs.Ones.{one_more}
 use Rattle.chunk_workers.proofs.Rising.{bound_of, bound_of-le, bound_of-push}
 use Rattle.chunk_workers.proofs.window.code_drawn.Goals as goal
 
@@ -12,8 +13,8 @@ pub loop-number-smaller : goal.loop-number-smaller
 loop-number-smaller g c =
     let some = c.in-Some.ensures.some in
     let m = c.in-Some.number in
-    let mine = c.loop-number.seat.hand.mine in
-    let more : bound_of c.draw.new.seat.hand.mine ≡ m + 1 = ap (λ (s : SeatValue). bound_of s.hand.mine) some.1 ∙ bound_of-push m mine some.2 in
+    let mine = numbers_at c.loop-number.seat.hand.mine in
+    let more : bound_of (numbers_at c.draw.new.seat.hand.mine) ≡ m + 1 = ap bound_of (one_more c.loop-number.seat m c.draw.new.seat some.1) ∙ bound_of-push m mine some.2 in
     omega (arith, some.0, bound_of-le m mine some.2, more)
 
 pub loop-number-preserved : goal.loop-number-preserved
@@ -31,6 +32,6 @@ loop-number-preserved g c =
           ap numbers_of pushed
           ∙ map-append (λ (c : Numbered). c.number) c.loop-number.coded.items (one ∷ [])
           ∙ ap (λ (ns : List ℕ). ns ++ c.in-Some.number ∷ []) h.numbers
-          ∙ ap (λ (s : SeatValue). s.hand.mine) (sym c.in-Some.ensures.some.1);
+          ∙ sym (one_more c.loop-number.seat c.in-Some.number c.draw.new.seat c.in-Some.ensures.some.1);
       chunks = subst (All P) (sym pushed) (All-push P c.loop-number.coded.items one h.chunks of_group);
     }

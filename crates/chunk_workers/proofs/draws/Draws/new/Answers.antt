@@ -1,7 +1,7 @@
 use Rattle.std.proofs.Common.{◌≡◌, ◌-◌, [], vec_len, ap, arith}
 use Rattle.atomic_table.specs.Table.{Me}
-use Rattle.chunk_workers.specs.declared.table.SeatView.{SeatView}
-use Rattle.chunk_workers.proofs.Tables.{splits}
+use Rattle.number_shares.specs.declared.table.SeatView.{SeatView}
+use Rattle.number_shares.proofs.Tables.{splits}
 use Rattle.chunk_workers.proofs.draws.Draws.new.Goals as goal
 
 pub split_seat-seat-requires : goal.split_seat-seat-requires

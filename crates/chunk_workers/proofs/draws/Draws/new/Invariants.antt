@@ -1,6 +1,7 @@
 use Rattle.std.proofs.Common.{◌≡◌, ◌+◌, ◌-◌, [], All, vec_len}
 use Rattle.std.specs.Vec.{vec_capacity}
-use Rattle.chunk_workers.specs.DrawMachine.{empty_hand}
+use Rattle.number_shares.specs.Machine.{empty_hand}
+use Rattle.chunk_workers.specs.Seats.{ones}
 use Rattle.chunk_workers.proofs.draws.Draws.new.Given as goal
 
 abbrev pub invariant-loop : goal.invariant-loop
@@ -9,5 +10,5 @@ invariant-loop l = record {
   room : vec_capacity l.seats ≡ l.workers;
   seats : All (λ seat. (seat.table ≡ l.table.shared.table_id) × (seat.n ≡ l.n) × (seat.hand ≡ empty_hand)) l.seats.items;
   table : l.first.table_id ≡ l.table.shared.table_id;
-  first : l.first.me ≡ (record { mine = []; past = []; weight = l.workers - vec_len l.seats; n = l.n }, []);
+  first : l.first.me ≡ (record { mine = []; past = []; weight = l.workers - vec_len l.seats; bounds = ones l.n }, []);
 }
