@@ -1,13 +1,23 @@
 //! Laws of the definitions that contracts cite. Nothing runs here.
 
-ghost use Rattle.std.specs.Prelude.{◌≡◌, ℕ, Some, List, All, length, map, slice_get};
+ghost use Rattle.std.specs.Prelude.{◌≡◌, ◌≢◌, ℕ, ◌≤◌, Some, List, [], All, length, map, slice_get};
+ghost use Rattle.std.specs.List.{AllByRecursion, flat_map};
+ghost use Rattle.number_shares.specs.Machine.{AreTakes, Machine, start_of};
 ghost use Rattle.number_shares.specs.Once.{HasEachBelow};
 ghost use Rattle.chunk_header.specs.Chunks.{ChunkValue};
 ghost use Rattle.chunk_header.specs.Views.{HasRightHash, value_of_chunk};
 ghost use Rattle.chunk_header.specs.declared.Chunk.{Chunk};
 ghost use Rattle.chunk_workers.specs.declared.numbered.Numbered.{Numbered};
-ghost use Rattle.chunk_workers.specs.Seats.{SeatValue, drawn_by};
+ghost use Rattle.chunk_workers.specs.Seats.{SeatValue, drawn_by, numbers_at, ones};
 ghost use Rattle.chunk_workers.specs.Windows.{IsChunkOfGroup, IsWindow, by_number, chunk_of_number, numbers_of};
+
+/// After a run of draws in which each seat has ended, and there is one, the lists `mine` together have each number below n
+/// once, and no other. Own.
+pub fn runs_draw_each_once()
+    ensures { (n seats : ℕ) (run : List (ℕ × ℕ)) (state : Machine)
+        → AreTakes (ones n) (start_of seats) run state → 1 ≤ seats → AllByRecursion (λ hand. hand.past ≢ []) state.hands
+        → HasEachBelow n (flat_map (λ hand. numbers_at hand.mine) state.hands) }
+{}
 
 /// Where each number below that of the groups was drawn once, and no other, the chunks of the groups of these numbers are
 /// a window. In it each group has one chunk, under its own number; and by rising number they are the chunks of the groups,

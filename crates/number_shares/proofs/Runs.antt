@@ -1,7 +1,7 @@
 -- Runs of the machine, and what all seats have after them.
 use Rattle.std.proofs.Common.{◌≡◌, ◌∙◌, ℕ, zero, suc, ◌+◌, ◌≤◌, List, [], ◌∷◌, length, map, replicate, refl, sym, ap, subst, arith}
 use Rattle.std.specs.List.{AllByRecursion, flat_map}
-use Rattle.std.proofs.lemmas.List.{length-append}
+use Rattle.std.proofs.lemmas.List.{length-append, length-replicate, length-set}
 use Rattle.number_shares.specs.Once.{HasEachBelow, times}
 use Rattle.number_shares.proofs.Counting.{once_below, times-append, times-each_below, each_below_from_times}
 use Rattle.number_shares.proofs.Lists.{all_append, all_set}
@@ -60,6 +60,14 @@ one_past_after_take b old seat cost new h take =
 pub one_past_after_run : (b : Bounds) (seats : ℕ) (run : List (ℕ × ℕ)) (state : Machine) → AreTakes b (start_of seats) run state → HaveOnePast state
 one_past_after_run b seats run state = after_run HaveOnePast b run (start_of seats) state (one_past_after_take b) (one_past_at_start seats)
 
+-- the seats stay
+pub seats_after_run : (b : Bounds) (seats : ℕ) (run : List (ℕ × ℕ)) (state : Machine) → AreTakes b (start_of seats) run state → length state.hands ≡ seats
+seats_after_run b seats run state takes =
+    after_run (λ x. length x.hands ≡ seats) b run (start_of seats) state
+    (λ x seat cost y same take. ap length take.hands ∙ length-set x.hands seat (taken b.limit (record { at = x.word; cost = cost }) take.hand) ∙ same)
+    (length-replicate seats empty_hand)
+    takes
+
 -- the pieces of all hands, apart
 held-hands : (p : ℕ) (hands : List Hand) → held p (all_mine hands) + held p (all_past hands) ≡ times p (flat_map numbers_taken hands)
 held-hands p [] = refl
@@ -73,7 +81,7 @@ held-hands p (hand ∷ hands) =
       held-hands p hands,
     )
 
-own_pieces : (b : Bounds) (hands : List Hand) → AllByRecursion (IsHand b) hands → AllByRecursion (IsMine b) (all_mine hands)
+pub own_pieces : (b : Bounds) (hands : List Hand) → AllByRecursion (IsHand b) hands → AllByRecursion (IsMine b) (all_mine hands)
 own_pieces b [] all = tt
 own_pieces b (hand ∷ hands) all = all_append (IsMine b) hand.mine (all_mine hands) all.0.mine (own_pieces b hands all.1)
 

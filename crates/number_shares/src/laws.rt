@@ -23,7 +23,7 @@ pub fn each_below_is_so_many()
 /// After any run the pieces that seats took hold each number below the one that comes next once, and no other; `mine` has those
 /// that end at or below the limit, `past` those that end above it, and at most one. Where no seat has ended, the pieces in
 /// `mine` together hold each number below the one that comes next once, and no other, and else each below the least number at
-/// which a seat ended. Where each piece has one number and some seat has ended, they hold each number below the limit. Own.
+/// which a seat ended. Own.
 pub fn runs_take_each_number_once()
     ensures counted { (b : Bounds) (seats : ℕ) (run : List (ℕ × ℕ)) (state : Machine)
         → AreTakes b (start_of seats) run state → IsCounted b state }
@@ -34,9 +34,6 @@ pub fn runs_take_each_number_once()
     ensures ended { (b : Bounds) (seats : ℕ) (run : List (ℕ × ℕ)) (state : Machine)
         → AreTakes b (start_of seats) run state → 1 ≤ b.least → (m : ℕ) → IsLeast m (map (λ x. x.at) (all_past state.hands))
         → HasEachBelow m (numbers_in (all_mine state.hands)) }
-    ensures by_ones { (b : Bounds) (seats : ℕ) (run : List (ℕ × ℕ)) (state : Machine)
-        → AreTakes b (start_of seats) run state → 1 ≤ b.least → b.most ≤ 1 → all_past state.hands ≢ []
-        → HasEachBelow b.limit (numbers_in (all_mine state.hands)) }
 {}
 
 /// The table that numbers are taken from is made under its rule, as the machine's start with one seat, and a seat split off

@@ -1,4 +1,4 @@
-use Rattle.number_shares.proofs.Runs.{counted_after_run, one_past_after_run, going_after_run, ended_after_run, ended_by_ones}
+use Rattle.number_shares.proofs.Runs.{counted_after_run, one_past_after_run, going_after_run, ended_after_run}
 use Rattle.number_shares.proofs.laws.runs_take_each_number_once.Goals as goal
 
 pub returns-clause-counted : goal.returns-clause-counted
@@ -12,6 +12,3 @@ returns-clause-going c = going_after_run
 
 pub returns-clause-ended : goal.returns-clause-ended
 returns-clause-ended c = ended_after_run
-
-pub returns-clause-by_ones : goal.returns-clause-by_ones
-returns-clause-by_ones c = ended_by_ones

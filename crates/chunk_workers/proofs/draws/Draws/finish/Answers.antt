@@ -5,8 +5,8 @@ use Rattle.number_shares.specs.Machine.{IsHand, numbers_in}
 use Rattle.number_shares.specs.Once.{HasEachBelow}
 use Rattle.number_shares.specs.Rule.{hand_of}
 use Rattle.number_shares.proofs.Tables.{closed, closed_by_ones}
-use Rattle.chunk_workers.specs.Seats.{drawn_by, numbers_at, ones}
-use Rattle.chunk_workers.proofs.Ones.{numbers_of_ones, numbers_of_seats, some_past}
+use Rattle.chunk_workers.specs.Seats.{SeatValue, drawn_by, numbers_at, ones}
+use Rattle.chunk_workers.proofs.Ones.{numbers_of_all, numbers_of_ones, some_past}
 use Rattle.chunk_workers.proofs.draws.Draws.finish.Goals as goal
 
 pub returns : goal.returns
@@ -24,5 +24,5 @@ returns c =
     let own : IsHand (ones n) (hand_of whole.me.0) = subst (λ (b : Bounds). IsHand b (hand_of whole.me.0)) bounds (closed key final.0 whole.id whole.me.0 final.1.0 final.1.1 weight).0 in
     let each : HasEachBelow key.bounds.limit (numbers_in whole.me.0.mine) = closed_by_ones key final.0 whole.id whole.me.0 final.1.0 final.1.1 weight (omega arith) ended in
     let drawn : numbers_in whole.me.0.mine ≡ drawn_by c.args.seats.items =
-    numbers_of_ones n whole.me.0.mine own.mine ∙ ap (λ (v : SeatView). numbers_at v.mine) view ∙ numbers_of_seats c.args.seats.items in
+    numbers_of_ones n whole.me.0.mine own.mine ∙ ap (λ (v : SeatView). numbers_at v.mine) view ∙ numbers_of_all (λ (s : SeatValue). s.hand.mine) c.args.seats.items in
     subst (λ (b : Bounds). HasEachBelow b.limit (drawn_by c.args.seats.items)) bounds (subst (HasEachBelow key.bounds.limit) drawn each)
