@@ -10,7 +10,7 @@ use Rattle.number_shares.proofs.Counting.{times-none}
 use Rattle.number_shares.proofs.Lists.{all_append, all_back, all_front}
 use Rattle.record_collect.specs.GatheredFiles.{AreGatheredOf, AreRecordsOfEach}
 use Rattle.record_collect.specs.Gatherings.{AreWoven, GatheredValue, IsInBounds, StandAt}
-use Rattle.record_collect.specs.PutMachine.{limit}
+use Rattle.record_collect.specs.Limits.{limit}
 use Rattle.record_collect.proofs.WholeGatherings.{fits}
 use Rattle.record_collect.proofs.WovenCosts.{woven-cost}
 use Rattle.collect_files.proofs.Weaves.{too_long_or_short}

@@ -13,7 +13,7 @@ use Rattle.chunk_reader.proofs.ManyFiles.{files_judged}
 use Rattle.simple_chunk.specs.Costs.{cost_of}
 use Rattle.record_collect.specs.GatheredFiles.{AreGatheredOf, AreRecordsOfEach, IsTooMuch}
 use Rattle.record_collect.specs.Gatherings.{GatheredValue}
-use Rattle.record_collect.specs.PutMachine.{limit}
+use Rattle.record_collect.specs.Limits.{limit}
 use Rattle.run_answers.specs.Answers.{Answer, noted}
 use Rattle.run_answers.specs.FileAnswers.{limit_text, most_file_bytes}
 use Rattle.run_answers.specs.declared.status.Status.TheVariants as status

@@ -13,7 +13,7 @@ use Rattle.number_shares.proofs.Counting.{each_below_from_times, once_below, onc
 use Rattle.number_shares.proofs.Lists.{all_append}
 use Rattle.record_collect.specs.GatheredFiles.{HasTooLong}
 use Rattle.record_collect.specs.Gatherings.{AreWoven, IsInBounds, StandAt}
-use Rattle.record_collect.specs.PutMachine.{limit}
+use Rattle.record_collect.specs.Limits.{limit}
 
 -- the records of lists, one list behind another, and the numbers of each from one on
 abbrev pub in_turn : List (List (List ℕ)) → List (List ℕ)

@@ -11,17 +11,19 @@ use Rattle.simple_chunk.specs.Costs.{cost}
 use Rattle.number_shares.specs.Once.{HasEachBelow}
 use Rattle.number_shares.proofs.Counting.{once_below, once_below-no, times-each_below}
 use Rattle.number_shares.proofs.Lists.{all_map}
-use Rattle.record_collect.specs.declared.table.SeatView.{SeatView}
-use Rattle.record_collect.specs.declared.table.Terms.{Terms}
+use Rattle.number_shares.specs.declared.table.SeatView.{SeatView}
+use Rattle.number_shares.specs.declared.table.Terms.{Terms}
 use Rattle.record_collect.specs.declared.collector.Accepted.{Accepted}
 use Rattle.record_collect.specs.declared.placed.Placed.{Placed}
-use Rattle.record_collect.specs.PutMachine.{IsHand, IsMine, numbers_taken}
-use Rattle.record_collect.specs.PutRule.{IsKept, hand_of}
+use Rattle.number_shares.specs.Machine.{IsHand, IsMine, numbers_taken}
+use Rattle.record_collect.specs.Puts.{puts}
+use Rattle.number_shares.specs.declared.table.Bounds.{Bounds}
+use Rattle.number_shares.specs.Rule.{IsKept, hand_of}
 use Rattle.record_collect.specs.Passes.{Rises}
 use Rattle.record_collect.specs.Orders.{ReceiptsAddUp, of_pass, piece_at, place_in}
-use Rattle.record_collect.proofs.Pieces.{covers, held, held-append, held-sum}
+use Rattle.number_shares.proofs.Pieces.{covers, held, held-append, held-sum}
 use Rattle.record_collect.proofs.PassLemmas.{all_of_map}
-use Rattle.record_collect.proofs.Tables.{closed}
+use Rattle.number_shares.proofs.Tables.{closed}
 use Rattle.record_collect.proofs.Laid.{IsOrdered, IsTiled, tiled}
 
 -- the two ways to say what holds of each element
@@ -47,17 +49,18 @@ ordered (e ∷ es) up = (
 -- what a sort of the records makes, where the table was closed
 pub record IsSortedOut (word : ℕ) (es : List Placed) (v : SeatView) : Type 0 where
   pub tiles : IsTiled 0 word es v.past
-  pub mine : AllByRecursion (λ e. IsMine (piece_at e)) es
-  pub hand : IsHand (hand_of v)
+  pub mine : AllByRecursion (λ e. IsMine puts (piece_at e)) es
+  pub hand : IsHand puts (hand_of v)
 
 pub sorted_out : (terms : Terms) (s : State (Unit {0}) SeatView) (id : ℕ) (v : SeatView) (all es : List Placed)
-    → IsKept terms s → get_elem? s.views id ≡ some v → v.weight ≡ terms.passes → v.mine ≡ map piece_at all → IsPermutation all es → IsNonDecreasingBy (λ e. e.at) es
+    → terms.bounds ≡ puts → IsKept terms s → get_elem? s.views id ≡ some v → v.weight ≡ terms.seats → v.mine ≡ map piece_at all → IsPermutation all es → IsNonDecreasingBy (λ e. e.at) es
     → IsSortedOut (slice_index s.words 0) es v
-sorted_out terms s id v all es h at whole pieces moved up =
+sorted_out terms s id v all es bounds h at whole pieces moved up =
     let word : ℕ = slice_index s.words 0 in
-    let end : IsHand (hand_of v) × HasEachBelow word (numbers_taken (hand_of v)) = closed terms s id v h at whole in
-    let mine : AllByRecursion (λ e. IsMine (piece_at e)) es =
-    all_permuted (λ (e : Placed). IsMine (piece_at e)) all es moved (all_of_map IsMine piece_at all (subst (AllByRecursion IsMine) pieces end.0.mine)) in
+    let end : IsHand puts (hand_of v) × HasEachBelow word (numbers_taken (hand_of v)) =
+    subst (λ (b : Bounds). IsHand b (hand_of v) × HasEachBelow word (numbers_taken (hand_of v))) bounds (closed terms s id v h at whole) in
+    let mine : AllByRecursion (λ e. IsMine puts (piece_at e)) es =
+    all_permuted (λ (e : Placed). IsMine puts (piece_at e)) all es moved (all_of_map (IsMine puts) piece_at all (subst (AllByRecursion (IsMine puts)) pieces end.0.mine)) in
     let each : (p : ℕ) → held p (map piece_at es) + held p v.past + once_below 0 p ≡ once_below word p =
     λ p. omega (
       arith,

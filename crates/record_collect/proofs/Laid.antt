@@ -4,13 +4,15 @@ use Rattle.std.specs.List.{AllByRecursion}
 use Rattle.std.proofs.lemmas.Bool.{cases_lt}
 use Rattle.std.proofs.lemmas.List.Sums.{sum_by-cons}
 use Rattle.number_shares.proofs.Counting.{once_below, once_below-yes, once_below-no}
-use Rattle.record_collect.specs.declared.table.Piece.{Piece}
+use Rattle.number_shares.specs.declared.table.Piece.{Piece}
 use Rattle.record_collect.specs.declared.placed.Placed.{Placed}
-use Rattle.record_collect.specs.PutMachine.{limit, IsMine, IsPast}
+use Rattle.number_shares.specs.Machine.{IsMine, IsPast}
+use Rattle.record_collect.specs.Limits.{limit}
+use Rattle.record_collect.specs.Puts.{puts}
 use Rattle.simple_chunk.specs.Costs.{cost}
 use Rattle.record_collect.specs.Orders.{ReceiptsAddUp, cost_of_placed, piece_at}
-use Rattle.record_collect.proofs.PastPieces.{once-le, once-below, once-past, held-grows}
-use Rattle.record_collect.proofs.Pieces.{covers, held, held-cons, times-range-below, times-range-inside, times-range-more}
+use Rattle.number_shares.proofs.PastPieces.{once-le, once-below, once-past, held-grows}
+use Rattle.number_shares.proofs.Pieces.{covers, held, held-cons, times-range-below, times-range-inside, times-range-more}
 
 -- records in the order of their receipts
 abbrev pub IsOrdered : List Placed → Type 0
@@ -31,7 +33,7 @@ pub record IsTiled (from to : ℕ) (es : List Placed) (past : List Piece) : Type
 
 -- the first record stands where the numbers begin
 first_at : (from to : ℕ) (e : Placed) (es : List Placed) (past : List Piece) → from ≤ to
-    → AllByRecursion (λ f. e.at ≤ f.at) es → IsMine (piece_at e) → AllByRecursion IsPast past
+    → AllByRecursion (λ f. e.at ≤ f.at) es → IsMine puts (piece_at e) → AllByRecursion (IsPast puts) past
     → ((p : ℕ) → held p (map piece_at (e ∷ es)) + held p past + once_below from p ≡ once_below to p)
     → e.at ≡ from
 first_at from to e es past up ordered mine over each =
@@ -47,11 +49,11 @@ first_at from to e es past up ordered mine over each =
           let none_here : covers from (piece_at e) ≡ 0 = times-range-below from e.at own later in
           let none_after : held from (map piece_at es) ≡ 0 = held-before from e.at es later ordered in
           let cut' : held from (map piece_at (e ∷ es)) ≡ covers from (piece_at e) + held from (map piece_at es) = held-cons from (piece_at e) (map piece_at es) in
-          absurd (omega (arith, each from, once_below-no from from (omega arith), once_below-yes to from (omega arith), held-grows from e.at past (omega arith) (omega (arith, mine.ends)) over, alone.2))
+          absurd (omega (arith, each from, once_below-no from from (omega arith), once_below-yes to from (omega arith), held-grows puts from e.at past (omega arith) (omega (arith, mine.ends)) over, alone.2))
       | inr same ↦ omega arith
     ]
 
-pub tiled : (from to : ℕ) (es : List Placed) (past : List Piece) → from ≤ to → IsOrdered es → AllByRecursion (λ e. IsMine (piece_at e)) es → AllByRecursion IsPast past
+pub tiled : (from to : ℕ) (es : List Placed) (past : List Piece) → from ≤ to → IsOrdered es → AllByRecursion (λ e. IsMine puts (piece_at e)) es → AllByRecursion (IsPast puts) past
     → ((p : ℕ) → held p (map piece_at es) + held p past + once_below from p ≡ once_below to p)
     → IsTiled from to es past
 tiled from to [] past up ordered mine over each =
@@ -75,7 +77,7 @@ tiled from to (e ∷ es) past up ordered mine over each =
     }
 
 -- they end at or below the limit
-pub laid_most : (at : ℕ) (es : List Placed) → at ≤ limit → ReceiptsAddUp at es → AllByRecursion (λ e. IsMine (piece_at e)) es → at + cost_of_placed es ≤ limit
+pub laid_most : (at : ℕ) (es : List Placed) → at ≤ limit → ReceiptsAddUp at es → AllByRecursion (λ e. IsMine puts (piece_at e)) es → at + cost_of_placed es ≤ limit
 laid_most at [] low laid mine = omega arith
 laid_most at (e ∷ es) low laid mine =
     omega (arith, sum_by-cons (λ (f : Placed). cost f.bytes) e es, laid_most (at + cost e.bytes) es (omega (arith, laid.0, mine.0.ends)) laid.1 mine.1)

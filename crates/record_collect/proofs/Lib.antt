@@ -1,14 +1,8 @@
-pub mod Events
 pub mod Finished
 pub mod Laid
-pub mod Machines
 pub mod PassLemmas
-pub mod PastPieces
-pub mod Pieces
 pub mod PlacedNumbers
 pub mod PlacedPasses
-pub mod Runs
-pub mod Tables
 pub mod Woven
 pub mod PlaceSteps
 pub mod TakenRecords

@@ -4,7 +4,7 @@ use Rattle.std.specs.List.{AllByRecursion}
 use Rattle.std.specs.Option.{option_to_list}
 use Rattle.atomic_table.specs.Seated.{TableId}
 use Rattle.number_shares.proofs.Lists.{all_push}
-use Rattle.record_collect.specs.declared.table.Piece.{Piece}
+use Rattle.number_shares.specs.declared.table.Piece.{Piece}
 use Rattle.record_collect.specs.declared.collector.Accepted.{Accepted}
 use Rattle.simple_chunk.specs.Costs.{cost}
 use Rattle.record_collect.specs.Passes.{PassValue, Rises}

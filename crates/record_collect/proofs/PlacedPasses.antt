@@ -8,8 +8,9 @@ use Rattle.std.proofs.lemmas.List.Elements.{filter-append}
 use Rattle.number_shares.proofs.Lists.{all_append}
 use Rattle.record_collect.specs.declared.collector.Accepted.{Accepted}
 use Rattle.record_collect.specs.declared.placed.Placed.{Placed}
-use Rattle.record_collect.specs.declared.table.Piece.{Piece}
-use Rattle.record_collect.specs.Passes.{PassValue, Rises, accepted_piece}
+use Rattle.number_shares.specs.declared.table.Piece.{Piece}
+use Rattle.record_collect.specs.Passes.{PassValue, Rises}
+use Rattle.record_collect.specs.Puts.{accepted_piece}
 use Rattle.record_collect.specs.Orders.{of_pass, piece_at, place_in}
 
 of_pass-same : (n : ℕ) (es : List Accepted) → of_pass n (map (place_in n) es) ≡ map (place_in n) es

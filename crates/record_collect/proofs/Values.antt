@@ -8,7 +8,10 @@ use Rattle.record_collect.specs.declared.placed.Placed.{Placed}
 use Rattle.record_collect.specs.FilePlaces.{places_in_file}
 use Rattle.record_collect.specs.Gatherings.{GatheredValue}
 use Rattle.record_collect.specs.Orders.{ReceiptsAddUp, cost_of_placed, gathered_of}
-use Rattle.record_collect.specs.PutMachine.{ArePutSteps, IsLeast, Machine, empty_hand, start_of, taken}
+use Rattle.number_shares.specs.Least.{IsLeast}
+use Rattle.number_shares.specs.Machine.{AreTakes, Machine, empty_hand, start_of, taken}
+use Rattle.record_collect.specs.Limits.{limit}
+use Rattle.record_collect.specs.Puts.{puts}
 use Rattle.record_collect.specs.Takings.{both_taken}
 
 -- the first pass puts `a`, the second `bc`, and the first an empty record: they cost 9, 10 and 8
@@ -58,7 +61,7 @@ third_put = record {
       ∷ [];
 }
 
-step_by_step : ArePutSteps (start_of 2) ((0, 9) ∷ (1, 10) ∷ (0, 8) ∷ []) third_put
+step_by_step : AreTakes puts (start_of 2) ((0, 9) ∷ (1, 10) ∷ (0, 8) ∷ []) third_put
 unfolding first_put second_put third_put
 step_by_step = (
   first_put,
@@ -83,16 +86,16 @@ step_by_step = (
 )
 
 -- three records of 2 ^ 24 bytes end below the limit, and the fourth above it; a piece may end at the limit exactly
-third : taken (record { at = 33554448; cost = 16777224 }) empty_hand ≡ record { mine = record { at = 33554448; cost = 16777224 } ∷ []; past = [] }
+third : taken limit (record { at = 33554448; cost = 16777224 }) empty_hand ≡ record { mine = record { at = 33554448; cost = 16777224 } ∷ []; past = [] }
 third = refl
 
-fourth : taken (record { at = 50331672; cost = 16777224 }) empty_hand ≡ record { mine = []; past = record { at = 50331672; cost = 16777224 } ∷ [] }
+fourth : taken limit (record { at = 50331672; cost = 16777224 }) empty_hand ≡ record { mine = []; past = record { at = 50331672; cost = 16777224 } ∷ [] }
 fourth = refl
 
-at_the_limit : taken (record { at = 67108856; cost = 8 }) empty_hand ≡ record { mine = record { at = 67108856; cost = 8 } ∷ []; past = [] }
+at_the_limit : taken limit (record { at = 67108856; cost = 8 }) empty_hand ≡ record { mine = record { at = 67108856; cost = 8 } ∷ []; past = [] }
 at_the_limit = refl
 
-past_the_limit : taken (record { at = 67108857; cost = 8 }) empty_hand ≡ record { mine = []; past = record { at = 67108857; cost = 8 } ∷ [] }
+past_the_limit : taken limit (record { at = 67108857; cost = 8 }) empty_hand ≡ record { mine = []; past = record { at = 67108857; cost = 8 } ∷ [] }
 past_the_limit = refl
 
 -- where two passes ended, the collected records cost the lesser of the numbers

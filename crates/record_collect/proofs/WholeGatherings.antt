@@ -22,7 +22,8 @@ use Rattle.record_collect.specs.declared.feeding.Fed.{Fed}
 use Rattle.record_collect.specs.declared.feeding.Fed.TheVariants.{Whole, Front}
 use Rattle.record_collect.specs.declared.gathering.GatherEnd.{GatherEnd}
 use Rattle.record_collect.specs.declared.gathering.GatherEnd.TheVariants as gather
-use Rattle.record_collect.specs.PutMachine.{limit, IsLeast}
+use Rattle.number_shares.specs.Least.{IsLeast}
+use Rattle.record_collect.specs.Limits.{limit}
 use Rattle.record_collect.specs.Passes.{CollectorValue, PassValue, ends_of, pass_records}
 use Rattle.record_collect.specs.Gatherings.{AreGathered, AreWoven, GatheredValue, HaveReceipts, IsInBounds}
 use Rattle.record_collect.specs.GatheredFiles.{AreGatheredOf, AreRecordsOfEach, HasTooLong, IsTooMuch}

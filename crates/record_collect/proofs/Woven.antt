@@ -9,7 +9,8 @@ use Rattle.simple_chunk.specs.Costs.{cost, cost_of}
 use Rattle.number_shares.specs.Once.{HasEachBelow}
 use Rattle.record_collect.specs.declared.collector.Accepted.{Accepted}
 use Rattle.record_collect.specs.declared.placed.Placed.{Placed}
-use Rattle.record_collect.specs.PutMachine.{limit, IsLeast}
+use Rattle.number_shares.specs.Least.{IsLeast}
+use Rattle.record_collect.specs.Limits.{limit}
 use Rattle.record_collect.specs.Passes.{PassValue, ends_of, pass_records}
 use Rattle.record_collect.specs.Gatherings.{AreGathered, GatheredValue, HaveReceipts, IsInBounds, StandAt}
 use Rattle.record_collect.specs.Orders.{ReceiptsAddUp, bytes_in, cost_of_placed, gathered_of, of_pass, place_in, places_of}

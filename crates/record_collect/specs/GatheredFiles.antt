@@ -4,7 +4,7 @@ use Rattle.std.specs.List.{AllZip, sum_by}
 use Rattle.chunk_header.specs.Chunks.{ChunkValue}
 use Rattle.meta_chunk.specs.Files.{IsFile, AreRecordsOf}
 use Rattle.simple_chunk.specs.Costs.{cost_of}
-use Rattle.record_collect.specs.PutMachine.{limit}
+use Rattle.record_collect.specs.Limits.{limit}
 use Rattle.record_collect.specs.Gatherings.{AreWoven, GatheredValue, IsInBounds}
 
 -- these are the records of each file, which has no fault

@@ -4,7 +4,8 @@ use Rattle.std.specs.List.{AllByRecursion, AllZip, flat_map}
 use Rattle.std.specs.List.Sorted.{IsStrictlyIncreasing}
 use Rattle.simple_chunk.specs.Costs.{cost_of}
 use Rattle.number_shares.specs.Once.{HasEachBelow}
-use Rattle.record_collect.specs.PutMachine.{limit, IsLeast}
+use Rattle.number_shares.specs.Least.{IsLeast}
+use Rattle.record_collect.specs.Limits.{limit}
 use Rattle.record_collect.specs.Passes.{PassValue, ends_of, receipts_of, pass_records}
 
 -- the records in one list, and for each pass the numbers at which its records stand there

@@ -1,5 +1,5 @@
-pub mod PutMachine
-pub mod PutRule
+pub mod Limits
+pub mod Puts
 pub mod Passes
 pub mod Gatherings
 pub mod Orders

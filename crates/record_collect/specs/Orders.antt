@@ -2,7 +2,7 @@
 use Rattle.std.specs.Prelude.{◌≡◌, ℕ, ◌+◌, ◌==◌, if◌then◌else◌, List, [], ◌∷◌, map}
 use Rattle.std.specs.List.{filter, range_with_len, sum_by}
 use Rattle.simple_chunk.specs.Costs.{cost}
-use Rattle.record_collect.specs.declared.table.Piece.{Piece}
+use Rattle.number_shares.specs.declared.table.Piece.{Piece}
 use Rattle.record_collect.specs.declared.collector.Accepted.{Accepted}
 use Rattle.record_collect.specs.declared.placed.Placed.{Placed}
 use Rattle.record_collect.specs.Gatherings.{GatheredValue}

@@ -4,11 +4,10 @@ use Rattle.std.specs.List.{AllByRecursion, flat_map}
 use Rattle.std.specs.Option.{option_to_list}
 use Rattle.atomic_table.specs.Seated.{TableId}
 use Rattle.simple_chunk.specs.Costs.{cost}
-use Rattle.record_collect.specs.declared.table.Piece.{Piece}
 use Rattle.record_collect.specs.declared.collector.Accepted.{Accepted}
 use Rattle.record_collect.specs.declared.collector.CollectEnd.{CollectEnd}
 use Rattle.record_collect.specs.declared.collector.CollectEnd.TheVariants.{TooLong, Full, Memory}
-use Rattle.record_collect.specs.PutMachine.{limit}
+use Rattle.record_collect.specs.Limits.{limit}
 
 -- which table receipts are taken from, and for how many passes
 pub record CollectorValue : Type 0 where
@@ -29,10 +28,6 @@ BelongsTo collector pass = pass.table ≡ collector.table
 -- nothing was put, and the pass hasn't ended
 abbrev pub IsFresh : PassValue → Type 0
 IsFresh pass = (pass.mine ≡ []) × (pass.ended ≡ None)
-
--- the piece of an accepted record
-abbrev pub accepted_piece : Accepted → Piece
-accepted_piece e = record { at = e.at; cost = cost e.bytes }
 
 -- each receipt is below the next
 abbrev pub Rises : List Accepted → Type 0

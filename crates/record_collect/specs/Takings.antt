@@ -13,7 +13,7 @@ use Rattle.chunk_reader.specs.declared.reasons.ReadEnd.{ReadEnd}
 use Rattle.chunk_reader.specs.declared.reasons.ReadEnd.TheVariants.{Refused, Store}
 use Rattle.record_collect.specs.declared.feeding.Fed.{Fed}
 use Rattle.record_collect.specs.declared.feeding.Fed.TheVariants.{Whole, Front}
-use Rattle.record_collect.specs.PutMachine.{limit}
+use Rattle.record_collect.specs.Limits.{limit}
 use Rattle.record_collect.specs.Passes.{CollectorValue, PassValue, BelongsTo, pass_records}
 
 -- the pass was refused this record: it is too long, or the pass ended there, since it would end above the limit

@@ -1,9 +1,10 @@
 //! A list that several threads put records into.
 ghost use Rattle.std.specs.Prelude.{◌≡◌, ◌≤◌, [], All, IfErr, IfOk, vec_len};
 ghost use Rattle.record_collect.specs.Passes.{BelongsTo, IsFresh, IsPut, IsRefused};
+ghost use Rattle.record_collect.specs.Puts.{puts};
 
-use crate::table::{EachOnce, OnePut, OneSeat, SeatView, Terms};
 use atomic_table::{Seat, Table};
+use number_shares::{Bounds, EachOnce, OneSeat, OneTake, SeatView, Terms};
 use record_values::Bytes;
 use simple_chunk::RECORD_COST;
 use std::alloc::{AllocError, Global};
@@ -55,12 +56,13 @@ pub struct Collector {
 impl Model for Collector {
     ghost use Rattle.std.specs.Prelude.{◌≡◌, ◌≤◌};
     ghost use Rattle.record_collect.specs.Passes.{CollectorValue};
+    ghost use Rattle.record_collect.specs.Puts.{puts};
 
     ghost Value = { CollectorValue };
 
     ghost view = { λ c. record { table = c.table.shared.table_id; passes = c.passes } };
 
-    ghost invariant = { λ c. (c.table.shared.table_id.words ≡ 1) × (c.table.shared.table_id.slots ≡ 0) × (c.table.shared.key.passes ≡ c.passes) × (1 ≤ c.passes) };
+    ghost invariant = { λ c. (c.table.shared.table_id.words ≡ 1) × (c.table.shared.table_id.slots ≡ 0) × (c.table.shared.key.bounds ≡ puts) × (c.table.shared.key.seats ≡ c.passes) × (1 ≤ c.passes) };
 }
 
 /// One thread's part of a collector, with the records that were accepted of it. Own.
@@ -74,13 +76,14 @@ pub struct Pass {
 impl Model for Pass {
     ghost use Rattle.std.specs.Prelude.{◌≡◌, [], map};
     ghost use Rattle.std.specs.Option.{option_to_list};
-    ghost use Rattle.record_collect.specs.Passes.{PassValue, Rises, accepted_piece};
+    ghost use Rattle.record_collect.specs.Passes.{PassValue, Rises};
+    ghost use Rattle.record_collect.specs.Puts.{accepted_piece, puts};
 
     ghost Value = { PassValue };
 
     ghost view = { λ p. record { table = p.seat.table_id; mine = p.records.items; ended = p.ended } };
 
-    ghost invariant = { λ p. (p.seat.me.0.mine ≡ map accepted_piece p.records.items) × (map (λ x. x.at) p.seat.me.0.past ≡ option_to_list p.ended) × (p.seat.me.0.weight ≡ 1) × (p.seat.me.1 ≡ []) × Rises p.records.items };
+    ghost invariant = { λ p. (p.seat.me.0.mine ≡ map accepted_piece p.records.items) × (map (λ x. x.at) p.seat.me.0.past ≡ option_to_list p.ended) × (p.seat.me.0.weight ≡ 1) × (p.seat.me.1 ≡ []) × Rises p.records.items × (p.seat.me.0.bounds ≡ puts) };
 }
 
 impl Collector {
@@ -92,7 +95,15 @@ impl Collector {
         ensures each { IfOk result (λ made. All (λ pass. BelongsTo made.0 pass × IsFresh pass) made.1.items) }
     {
         let mut made = Vec::with_capacity(alloc, passes as usize)?;
-        let terms = Terms { passes };
+        let bounds = Bounds {
+            limit: LIMIT,
+            least: RECORD_COST,
+            most: RECORD_SIZE as u64 + RECORD_COST,
+        };
+        let terms = Terms {
+            bounds,
+            seats: passes,
+        };
         let (table, mut first) = Table::of_words(alloc, &[0], &terms)?;
         for _ in 1..passes {
             let seat = table.shared.split_seat::<OneSeat>(&mut first);
@@ -138,7 +149,7 @@ impl Collector {
         let held = self
             .table
             .shared
-            .fetch_add::<OnePut>(&mut pass.seat, 0, cost);
+            .fetch_add::<OneTake>(&mut pass.seat, 0, cost);
         if held + cost > LIMIT {
             pass.ended = Some(held);
             return Err(CollectEnd::Full { held });
@@ -152,7 +163,7 @@ impl Collector {
 impl Pass {
     // A pass of which nothing was put.
     fn fresh(alloc: Global, seat: Seat<(), SeatView>) -> Pass
-        requires view { (seat.me.0.mine ≡ []) × (seat.me.0.past ≡ []) × (seat.me.0.weight ≡ 1) }
+        requires view { (seat.me.0.mine ≡ []) × (seat.me.0.past ≡ []) × (seat.me.0.weight ≡ 1) × (seat.me.0.bounds ≡ puts) }
         requires slots { seat.me.1 ≡ [] }
         ensures table { result.table ≡ seat.table_id }
         ensures fresh { IsFresh result }

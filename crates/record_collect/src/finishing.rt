@@ -1,16 +1,17 @@
 //! What is made of the passes of a collector.
 ghost use Rattle.std.specs.Prelude.{◌≡◌, ◌≢◌, ℕ, ◌<◌, ◌≤◌, ◌^◌, Some, [], All, IfOk, length, map, vec_len, slice_get};
 ghost use Rattle.std.specs.List.{AllByRecursion};
+ghost use Rattle.number_shares.specs.Least.{IsLeast};
 ghost use Rattle.record_collect.specs.Gatherings.{AreGathered, IsInBounds};
 ghost use Rattle.record_collect.specs.Orders.{ReceiptsAddUp, cost_of_placed, of_pass, piece_at, place_in};
 ghost use Rattle.record_collect.specs.Passes.{BelongsTo, PassValue, Rises, ends_of};
-ghost use Rattle.record_collect.specs.PutMachine.{IsLeast, limit};
+ghost use Rattle.record_collect.specs.Limits.{limit};
 
 use crate::collector::{Collector, Pass};
 use crate::gathered::Gathered;
 use crate::placed::{Placed, place_all};
-use crate::table::{SeatView, Together};
 use atomic_table::Seat;
+use number_shares::{Behind, SeatView};
 use std::alloc::{AllocError, Global};
 
 impl Collector {
@@ -72,7 +73,7 @@ impl Collector {
         while let Some(other) = passes.pop() {
             self.table
                 .shared
-                .join_seat::<Together>(&mut whole, other.seat);
+                .join_seat::<Behind>(&mut whole, other.seat);
             place_all(&mut all, passes.len(), other.records)?;
         }
         Ok((whole, all))

@@ -3,7 +3,7 @@ ghost use Rattle.std.specs.Prelude.{◌≡◌, ◌<◌, ◌≤◌, ◌^◌, Some
 ghost use Rattle.std.specs.List.{AllByRecursion, range_with_len};
 ghost use Rattle.record_collect.specs.Gatherings.{IsInBounds};
 ghost use Rattle.record_collect.specs.Orders.{cost_of_placed, gathered_of, places_of};
-ghost use Rattle.record_collect.specs.PutMachine.{limit};
+ghost use Rattle.record_collect.specs.Limits.{limit};
 
 use crate::placed::{Placed, numbers_of, records_alone};
 use simple_chunk::Records;

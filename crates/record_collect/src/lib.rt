@@ -10,7 +10,6 @@ mod gathering;
 pub mod laws;
 mod placed;
 mod slots;
-mod table;
 
 pub use collector::{CollectEnd, Collector, Pass, Receipt};
 pub use file_places::places;

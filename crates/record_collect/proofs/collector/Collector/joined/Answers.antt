@@ -3,17 +3,17 @@ use Rattle.std.specs.Option.{option_to_list}
 use Rattle.std.proofs.lemmas.List.{append-nil}
 use Rattle.number_shares.proofs.Lists.{of_last, of_others, flat_map-last}
 use Rattle.atomic_table.specs.Table.{Me}
-use Rattle.record_collect.specs.declared.table.Piece.{Piece}
-use Rattle.record_collect.specs.declared.table.SeatView.{SeatView}
+use Rattle.number_shares.specs.declared.table.Piece.{Piece}
+use Rattle.number_shares.specs.declared.table.SeatView.{SeatView}
 use Rattle.record_collect.specs.declared.collector.Accepted.{Accepted}
 use Rattle.record_collect.specs.declared.placed.Placed.{Placed}
-use Rattle.record_collect.specs.PutRule.{joined_view}
+use Rattle.number_shares.specs.Rule.{joined_behind}
 use Rattle.record_collect.specs.Passes.{PassValue, Rises, ends_of}
 use Rattle.record_collect.specs.Orders.{piece_at, place_in}
 use Rattle.record_collect.proofs.PlacedPasses.{IsGathered, gathered_none, gathered_more}
 use Rattle.record_collect.proofs.PlacedPasses.{pieces_placed}
 use Rattle.record_collect.proofs.PassLemmas.{map-append}
-use Rattle.record_collect.proofs.Tables.{joins}
+use Rattle.number_shares.proofs.Tables.{joins_behind}
 use Rattle.record_collect.proofs.collector.Collector.joined.Goals as goal
 
 pub loop-other-init : goal.loop-other-init
@@ -59,7 +59,7 @@ join_seat-requires c =
       ap (λ (v : PassValue). v.table) c.other.view_is ∙ one ∙ here,
       c.other.invariant.3,
       omega (arith, c.self.invariant.0),
-      joins table.shared.key whole.id whole.me.0 seat.id seat.me.0 h.some (omega (arith, c.other.invariant.2)),
+      joins_behind table.shared.key whole.id whole.me.0 seat.id seat.me.0 h.some (omega (arith, c.other.invariant.2)),
     )
 
 pub loop-other-preserved : goal.loop-other-preserved
@@ -72,7 +72,7 @@ loop-other-preserved c =
     let was : c.loop-other.passes.items ≡ rest ++ other ∷ [] = c.in-Some-pop.ensures.items in
     let each : All (λ (p : PassValue). p.table ≡ c.args.self.now.table) (rest ++ other ∷ []) = subst (All (λ (p : PassValue). p.table ≡ c.args.self.now.table)) was h.each in
     let mine : records ≡ other.mine = ap (λ (v : PassValue). v.mine) c.other.view_is in
-    let view : c.join_seat.new.seat.me.0 ≡ joined_view whole.me.0 c.other.inside.seat.me.0 = ap (λ (me : Me (Unit {0}) SeatView). me.0) c.join_seat.ensures.2 in
+    let view : c.join_seat.new.seat.me.0 ≡ joined_behind whole.me.0 c.other.inside.seat.me.0 = ap (λ (me : Me (Unit {0}) SeatView). me.0) c.join_seat.ensures.2 in
     let weight : c.join_seat.new.seat.me.0.weight ≡ whole.me.0.weight + 1 = ap (λ (v : SeatView). v.weight) view ∙ ap (λ (k : ℕ). whole.me.0.weight + k) c.other.invariant.2 in
     let placed : List Placed = map (place_in (length rest)) other.mine in
     let items : c.place_all-in-Some-pop.new.all.items ≡ c.loop-other.all.items ++ placed =

@@ -1,5 +1,5 @@
 use Rattle.std.proofs.Common.{◌≡◌, ◌+◌, ◌++◌, ◌≤◌, [], All, map, vec_len}
-use Rattle.record_collect.specs.declared.table.Piece.{Piece}
+use Rattle.number_shares.specs.declared.table.Piece.{Piece}
 use Rattle.record_collect.specs.Orders.{piece_at}
 use Rattle.record_collect.specs.Passes.{PassValue, ends_of}
 use Rattle.record_collect.proofs.PlacedPasses.{IsGathered}

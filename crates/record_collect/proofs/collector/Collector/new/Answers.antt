@@ -1,7 +1,7 @@
 use Rattle.std.proofs.Common.{◌≡◌, ◌-◌, [], vec_len, ap, arith}
 use Rattle.atomic_table.specs.Table.{Me}
-use Rattle.record_collect.specs.declared.table.SeatView.{SeatView}
-use Rattle.record_collect.proofs.Tables.{splits}
+use Rattle.number_shares.specs.declared.table.SeatView.{SeatView}
+use Rattle.number_shares.proofs.Tables.{splits}
 use Rattle.record_collect.proofs.collector.Collector.new.Goals as goal
 
 pub split_seat-seat-requires : goal.split_seat-seat-requires

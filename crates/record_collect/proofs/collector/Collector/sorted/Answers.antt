@@ -1,13 +1,16 @@
 use Rattle.std.proofs.Common.{rules, ◌≡◌, ◌∙◌, ℕ, ◌+◌, ◌<◌, ◌≤◌, ◌^◌, List, [], length, map, vec_len, ap, sym, subst, arith}
 use Rattle.std.specs.List.{slice_index}
 use Rattle.std.proofs.lemmas.List.Sorted.{IsNonDecreasingBy-from_sort_by_key}
-use Rattle.record_collect.specs.declared.table.Piece.{Piece}
+use Rattle.number_shares.specs.declared.table.Piece.{Piece}
 use Rattle.record_collect.specs.declared.placed.Placed.{Placed}
-use Rattle.record_collect.specs.PutMachine.{limit, IsLeast, IsMine}
+use Rattle.number_shares.specs.Least.{IsLeast}
+use Rattle.number_shares.specs.Machine.{IsMine}
+use Rattle.record_collect.specs.Limits.{limit}
+use Rattle.record_collect.specs.Puts.{puts}
 use Rattle.record_collect.specs.Passes.{ends_of}
 use Rattle.record_collect.specs.Orders.{cost_of_placed, piece_at}
 use Rattle.number_shares.proofs.Lists.{all_map}
-use Rattle.record_collect.proofs.PastPieces.{least_past}
+use Rattle.number_shares.proofs.PastPieces.{least_past}
 use Rattle.record_collect.proofs.Finished.{IsSortedOut, sorted_out, all_permuted, of_pass_sorted}
 use Rattle.record_collect.proofs.Laid.{laid_most}
 use Rattle.record_collect.proofs.collector.Collector.sorted.Goals as goal
@@ -18,10 +21,10 @@ out c =
     let key = c.self.inside.table.shared.key in
     let whole = c.in_ok-whole.whole in
     let final = c.close_with.ensures.values.2 in
-    let passes : key.passes ≡ c.args.self.passes = c.self.invariant.2 ∙ ap (λ v. v.passes) c.self.view_is in
-    let weight : whole.me.0.weight ≡ key.passes = c.in_ok-whole.ensures.weight ∙ c.requires.passes ∙ sym passes in
+    let passes : key.seats ≡ c.args.self.passes = c.self.invariant.3 ∙ ap (λ v. v.passes) c.self.view_is in
+    let weight : whole.me.0.weight ≡ key.seats = c.in_ok-whole.ensures.weight ∙ c.requires.passes ∙ sym passes in
     let up = IsNonDecreasingBy-from_sort_by_key (λ (e : Placed). e.at) _ c.in_ok-sort_by_key.ensures.sorted (λ a r q k. search rules) in
-    sorted_out key final.0 whole.id whole.me.0 c.in_ok-whole.all.items c.sort_by_key.new.self.items final.1.0 final.1.1 weight c.in_ok-whole.ensures.mine c.in_ok-sort_by_key.ensures.permutation up
+    sorted_out key final.0 whole.id whole.me.0 c.in_ok-whole.all.items c.sort_by_key.new.self.items c.self.invariant.2 final.1.0 final.1.1 weight c.in_ok-whole.ensures.mine c.in_ok-sort_by_key.ensures.permutation up
 
 pub returns-clause-each : goal.returns-clause-each
 returns-clause-each c =
@@ -35,7 +38,7 @@ returns-clause-receipts c = (out c).tiles.laid
 
 pub returns-clause-short : goal.returns-clause-short
 returns-clause-short c =
-    all_map (λ (e : Placed). IsMine (piece_at e)) (λ (e : Placed). length e.bytes ≤ 2 ^ 24) c.sort_by_key.new.self.items (λ e own. omega (arith, own.few)) (out c).mine
+    all_map (λ (e : Placed). IsMine puts (piece_at e)) (λ (e : Placed). length e.bytes ≤ 2 ^ 24) c.sort_by_key.new.self.items (λ e own. omega (arith, own.few)) (out c).mine
 
 pub returns-clause-most : goal.returns-clause-most
 returns-clause-most c =
@@ -51,4 +54,4 @@ returns-clause-ended c =
     let from_none : 0 + cost_of_placed c.sort_by_key.new.self.items ≡ cost_of_placed c.sort_by_key.new.self.items = omega arith in
     subst (λ (n : ℕ). IsLeast n (ends_of c.args.passes.items)) from_none
     (subst (IsLeast (0 + cost_of_placed c.sort_by_key.new.self.items)) ends
-    (least_past (0 + cost_of_placed c.sort_by_key.new.self.items) (slice_index c.close_with.ensures.values.2.0.words 0) past (out c).hand.past (out c).tiles.rest some))
+    (least_past puts (0 + cost_of_placed c.sort_by_key.new.self.items) (slice_index c.close_with.ensures.values.2.0.words 0) past (omega arith) (out c).hand.past (out c).tiles.rest some))
