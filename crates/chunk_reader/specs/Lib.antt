@@ -1,4 +1,5 @@
 pub mod Places
+pub mod Sizes
 pub mod Reasons
 pub mod Blocks
 pub mod Faults

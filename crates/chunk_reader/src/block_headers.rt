@@ -1,8 +1,9 @@
-ghost use Rattle.std.specs.Prelude.{◌≡◌, ◌+◌, ◌^◌, ◌<◌, ◌≤◌, Some, IfOk, IfSome, IsErr};
+ghost use Rattle.std.specs.Prelude.{◌+◌, ◌<◌, ◌≤◌, IfOk, IfSome, IsErr};
 ghost use Rattle.record_io.specs.Calls.{OnlyAsks};
 ghost use Rattle.block_layout.specs.Layout.{IsBlock, block_header_size};
 ghost use Rattle.block_layout.specs.BlockHeaders.{IsSane};
 ghost use Rattle.chunk_reader.specs.Blocks.{IsSaneHeaderAt};
+ghost use Rattle.chunk_reader.specs.Sizes.{HasSize};
 
 use block_layout::{BLOCK_HEADER_SIZE, BlockHeader};
 use record_io::{Failed, Store, get_exact};
@@ -20,8 +21,7 @@ pub fn sane_header_at<S: Store>(
     size: u64,
     block: u64,
 ) -> Result<Option<BlockHeader>, Failed>
-    requires told { S.told store.old ≡ Some size }
-    requires in_reach { size ≤ 2 ^ 60 }
+    requires sized { HasSize (S.told store.old) size }
     requires at_block { IsBlock block }
     requires below { block < size }
     ensures sane { IfOk result (λ found. IfSome found (λ header. IsSane block header.previous header.next)) }

@@ -1,9 +1,10 @@
-ghost use Rattle.std.specs.Prelude.{◌≡◌, ℕ, ◌+◌, ◌-◌, ◌^◌, ◌≤◌, List, [], ◌++◌, length, IfSome, IsSomeAnd, OnOk, Err};
+ghost use Rattle.std.specs.Prelude.{◌≡◌, ℕ, ◌+◌, ◌-◌, ◌≤◌, List, [], ◌++◌, length, IfSome, IsSomeAnd, OnOk, Err};
 ghost use Rattle.record_io.specs.Calls.{OnlyAsks};
-ghost use Rattle.block_layout.specs.Layout.{chunk_header_size, IsBoundary, end_of, own_bytes_at};
+ghost use Rattle.block_layout.specs.Layout.{chunk_header_size, end_of, own_bytes_at};
 ghost use Rattle.chunk_header.specs.Views.{value_of_header};
 ghost use Rattle.chunk_header.specs.declared.Header.{Header};
-ghost use Rattle.chunk_reader.specs.Places.{end_by, data_at, HaveHeadersOf, IsFirstWrong};
+ghost use Rattle.chunk_reader.specs.Places.{data_at, HaveHeadersOf, IsFirstWrong};
+ghost use Rattle.chunk_reader.specs.Sizes.{HasSpan};
 ghost use Rattle.chunk_reader.specs.declared.reasons.Fault.{Fault};
 ghost use Rattle.chunk_reader.specs.declared.reasons.Why.{Why};
 
@@ -39,10 +40,7 @@ pub(crate) fn feed_chunk<S: Store, T: TakesData>(
     header: &Header,
     taker: &mut T,
 ) -> Result<(), VerifyEnd>
-    requires told { IsSomeAnd (S.told store.old) (λ size. end ≤ size) }
-    requires in_reach { end ≤ 2 ^ 60 }
-    requires from_boundary { IsBoundary at }
-    requires end { end ≡ end_by at (value_of_header header.now) }
+    requires span { HasSpan (S.told store.old) at end (value_of_header header.now) }
     requires none { T.has_taken taker.old [] }
     requires all_left { T.has_left taker.old header.now.data_size }
     ensures same_header { OnOk result (T.header taker.new ≡ T.header taker.old) }

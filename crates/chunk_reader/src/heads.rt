@@ -1,9 +1,10 @@
-ghost use Rattle.std.specs.Prelude.{◌≡◌, ◌+◌, ◌^◌, ◌<◌, ◌≤◌, Option, ℕ, Some, IfOk, IfSome, MatchOption, IsErr};
+ghost use Rattle.std.specs.Prelude.{◌≡◌, ◌+◌, ◌^◌, ◌<◌, ◌≤◌, Option, ℕ, IfOk, IfSome, MatchOption, IsErr};
 ghost use Rattle.record_io.specs.Calls.{OnlyAsks};
-ghost use Rattle.block_layout.specs.Layout.{chunk_header_size, IsBoundary, end_of};
+ghost use Rattle.block_layout.specs.Layout.{chunk_header_size, end_of};
 ghost use Rattle.chunk_header.specs.Views.{IsHeader, value_of_header};
 ghost use Rattle.chunk_reader.specs.Places.{end_by};
 ghost use Rattle.chunk_reader.specs.Heads.{IsHead};
+ghost use Rattle.chunk_reader.specs.Sizes.{MayBeginAt};
 ghost use Rattle.chunk_header.specs.declared.Header.{Header};
 
 use crate::own_bytes::OwnBytes;
@@ -36,10 +37,7 @@ pub enum Head {
 ///
 /// `Failed` only where the store failed.
 pub fn head_at<S: Store>(store: &mut S, size: u64, at: u64) -> Result<Head, Failed>
-    requires told { S.told store.old ≡ Some size }
-    requires in_reach { size ≤ 2 ^ 60 }
-    requires from_boundary { IsBoundary at }
-    requires below { at < size }
+    requires place { MayBeginAt (S.told store.old) size at }
     ensures head { IfOk result (λ head. IfSome (S.bytes store.old) (λ file. IsHead file at head)) }
     ensures fits { (header : Header) (end : Option ℕ) → result ≡ Ok (Head.Right header end) → IsHeader header }
     ensures end { (header : Header) (end : Option ℕ) → result ≡ Ok (Head.Right header end)

@@ -1,4 +1,4 @@
-ghost use Rattle.std.specs.Prelude.{◌≡◌, ◌↔◌, ◌+◌, ◌^◌, ◌<◌, ◌≤◌, ◌⊎◌, Some, IsTrue, IfOk, IfSome, IsSomeAnd, Err};
+ghost use Rattle.std.specs.Prelude.{◌≡◌, ◌↔◌, ◌+◌, ◌^◌, ◌≤◌, ◌⊎◌, IsTrue, IfOk, IfSome, IsSomeAnd, Err};
 ghost use Rattle.record_io.specs.Calls.{OnlyAsks};
 ghost use Rattle.block_layout.specs.Layout.{chunk_header_size, IsBoundary};
 ghost use Rattle.chunk_header.specs.Chunks.{IsChunk};
@@ -8,6 +8,7 @@ ghost use Rattle.chunk_reader.specs.Contents.{IsWhat, IsJudged, IsJudgedIn};
 ghost use Rattle.chunk_reader.specs.Faults.{IsVerdict};
 ghost use Rattle.chunk_reader.specs.Places.{header_bytes_at, end_by, end_at, data_at, HaveHeadersOf, IsFirstWrong};
 ghost use Rattle.chunk_reader.specs.Reasons.{Applies, ContentApplies, NoneOf, IsFirstOf, IsOneOf, unpassed_reasons, loading_reasons, content_reasons};
+ghost use Rattle.chunk_reader.specs.Sizes.{MayBeginAt, HasSpan};
 ghost use Rattle.chunk_reader.specs.declared.reasons.Fault.{Fault};
 ghost use Rattle.chunk_reader.specs.declared.reasons.Why.{Why};
 
@@ -127,10 +128,7 @@ pub fn strict_at<S: Store>(
     at: u64,
     keep: bool,
 ) -> Result<Judged, ReadEnd>
-    requires told { S.told store.old ≡ Some size }
-    requires in_reach { size ≤ 2 ^ 60 }
-    requires from_boundary { IsBoundary at }
-    requires below { at < size }
+    requires place { MayBeginAt (S.told store.old) size at }
     ensures judged { IfOk result (λ judged. IsJudged keep size at judged) }
     ensures sound { IfOk result (λ judged. IfSome (S.bytes store.old) (λ file. IsJudgedIn keep file at judged)) }
     ensures refused { (fault : Fault) → result ≡ Err (ReadEnd.Refused fault)
@@ -183,10 +181,7 @@ pub(crate) fn whole_head_at<S: Store>(
     size: u64,
     at: u64,
 ) -> Result<(Header, u64), VerifyEnd>
-    requires told { S.told store.old ≡ Some size }
-    requires in_reach { size ≤ 2 ^ 60 }
-    requires from_boundary { IsBoundary at }
-    requires below { at < size }
+    requires place { MayBeginAt (S.told store.old) size at }
     ensures end { IfOk result (λ found. found.1 ≡ end_by at (value_of_header found.0)) }
     ensures within { IfOk result (λ found. found.1 ≤ size) }
     ensures small { IfOk result (λ found. found.0.data_size ≤ max_data_size) }
@@ -222,10 +217,7 @@ fn read_chunk<S: Store>(
     end: u64,
     header: Header,
 ) -> Result<(Chunk, bool), ReadEnd>
-    requires told { IsSomeAnd (S.told store.old) (λ size. end ≤ size) }
-    requires in_reach { end ≤ 2 ^ 60 }
-    requires from_boundary { IsBoundary at }
-    requires end { end ≡ end_by at (value_of_header header) }
+    requires span { HasSpan (S.told store.old) at end (value_of_header header) }
     requires small { header.data_size ≤ max_data_size }
     ensures header { IfOk result (λ loaded. loaded.0.header ≡ header) }
     ensures sound { IfOk result (λ loaded. IsChunk (value_of_chunk loaded.0)) }

@@ -1,9 +1,10 @@
-ghost use Rattle.std.specs.Prelude.{◌≡◌, ◌+◌, ◌^◌, ◌<◌, ◌≤◌, Some, IfOk, IfSome, Err};
+ghost use Rattle.std.specs.Prelude.{◌≡◌, ◌+◌, ◌≤◌, IfOk, IfSome, Err};
 ghost use Rattle.record_io.specs.Calls.{OnlyAsks};
-ghost use Rattle.block_layout.specs.Layout.{chunk_header_size, IsBoundary};
+ghost use Rattle.block_layout.specs.Layout.{chunk_header_size};
 ghost use Rattle.chunk_header.specs.Views.{IsHeader, bytes_of_header, value_of_header};
 ghost use Rattle.chunk_reader.specs.Places.{header_bytes_at, end_by};
 ghost use Rattle.chunk_reader.specs.Reasons.{Applies, NoneOf, IsFirstOf, unpassed_reasons};
+ghost use Rattle.chunk_reader.specs.Sizes.{MayBeginAt};
 ghost use Rattle.chunk_reader.specs.declared.reasons.Fault.{Fault};
 
 use crate::heads::{Head, head_at};
@@ -26,10 +27,7 @@ pub fn passed_head_at<S: Store>(
     size: u64,
     at: u64,
 ) -> Result<(Header, u64), VerifyEnd>
-    requires told { S.told store.old ≡ Some size }
-    requires in_reach { size ≤ 2 ^ 60 }
-    requires from_boundary { IsBoundary at }
-    requires below { at < size }
+    requires place { MayBeginAt (S.told store.old) size at }
     ensures end { IfOk result (λ found. found.1 ≡ end_by at (value_of_header found.0)) }
     ensures within { IfOk result (λ found. found.1 ≤ size) }
     ensures fits { IfOk result (λ found. IsHeader found.0) }

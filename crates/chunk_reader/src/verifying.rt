@@ -1,4 +1,4 @@
-ghost use Rattle.std.specs.Prelude.{◌≡◌, ◌+◌, ◌^◌, ◌<◌, ◌≤◌, ◌⊎◌, List, [], Some, None, true, IfOk, IfSome, OnOk, IsErr, Err};
+ghost use Rattle.std.specs.Prelude.{◌≡◌, ◌+◌, ◌≤◌, ◌⊎◌, List, [], Some, None, true, IfOk, IfSome, OnOk, IsErr, Err};
 ghost use Rattle.record_io.specs.Calls.{OnlyAsks};
 ghost use Rattle.block_layout.specs.Layout.{chunk_header_size, IsBoundary, end_of};
 ghost use Rattle.chunk_header.specs.Chunks.{ChunkValue};
@@ -8,6 +8,7 @@ ghost use Rattle.chunk_reader.specs.Pieces.{IsVerifiedIn};
 ghost use Rattle.chunk_reader.specs.Faults.{IsFault, IsVerdict};
 ghost use Rattle.chunk_reader.specs.Fronts.{IsFrontOf};
 ghost use Rattle.chunk_reader.specs.Progress.{AreInBounds};
+ghost use Rattle.chunk_reader.specs.Sizes.{HasSize, MayBeginAt};
 ghost use Rattle.chunk_reader.specs.declared.reasons.Fault.{Fault};
 ghost use Rattle.chunk_reader.specs.declared.reasons.Why.TheVariants.{NoSignature};
 
@@ -37,8 +38,7 @@ pub struct Front {
 ///
 /// `Refused` exactly with the fault of the file. `Store` only where the store failed.
 pub fn verify<S: Store>(store: &mut S, size: u64) -> Result<Totals, VerifyEnd>
-    requires told { S.told store.old ≡ Some size }
-    requires in_reach { size ≤ 2 ^ 60 }
+    requires sized { HasSize (S.told store.old) size }
     ensures whole { IfOk result (λ totals. IfSome (S.bytes store.old) (λ file.
         (ks : List ChunkValue) × IsFrame ks file × (totals ≡ totals_of ks))) }
     ensures totals { IfOk result (λ totals. AreInBounds size totals × (totals.bytes ≡ size) × (64 ≤ size)) }
@@ -60,8 +60,7 @@ pub fn verify<S: Store>(store: &mut S, size: u64) -> Result<Totals, VerifyEnd>
 ///
 /// `Failed` only where the store failed.
 pub fn verify_front<S: Store>(store: &mut S, size: u64) -> Result<Front, Failed>
-    requires told { S.told store.old ≡ Some size }
-    requires in_reach { size ≤ 2 ^ 60 }
+    requires sized { HasSize (S.told store.old) size }
     ensures front { IfOk result (λ front. IfSome (S.bytes store.old) (λ file. IsFrontOf file front)) }
     ensures totals { IfOk result (λ front. AreInBounds size front.totals) }
     ensures whole { IfOk result (λ front. front.fault ≡ None → (front.totals.bytes ≡ size) × (64 ≤ size)) }
@@ -80,8 +79,7 @@ pub fn verify_front<S: Store>(store: &mut S, size: u64) -> Result<Front, Failed>
 
 /// Judges a file, and counts in the totals of no chunks what its longest front of well-formed chunks holds.
 fn count_front<S: Store>(store: &mut S, size: u64, totals: &mut Totals) -> Result<(), VerifyEnd>
-    requires told { S.told store.old ≡ Some size }
-    requires in_reach { size ≤ 2 ^ 60 }
+    requires sized { HasSize (S.told store.old) size }
     requires no_chunks { totals.old ≡ totals_of [] }
     ensures whole { OnOk result (IfSome (S.bytes store.old) (λ file. IsFrontOf file (record { totals = totals.new; fault = None }))) }
     ensures at_end { OnOk result ((totals.new.bytes ≡ size) × (64 ≤ size)) }
@@ -111,10 +109,7 @@ struct Verified {
 
 /// Judges the chunk at a place. Compressed and transposed chunks are left unread.
 fn verify_at<S: Store>(store: &mut S, size: u64, at: u64) -> Result<Verified, VerifyEnd>
-    requires told { S.told store.old ≡ Some size }
-    requires in_reach { size ≤ 2 ^ 60 }
-    requires from_boundary { IsBoundary at }
-    requires below { at < size }
+    requires place { MayBeginAt (S.told store.old) size at }
     ensures end { IfOk result (λ v. IsBoundary v.end × (end_of at chunk_header_size ≤ v.end) × (v.end ≤ size)
         × (at + v.num_records ≤ v.end)) }
     ensures passed { IfOk result (λ v. IfSome (S.bytes store.old) (λ file. IsVerifiedIn file at v)) }

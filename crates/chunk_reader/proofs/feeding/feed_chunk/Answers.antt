@@ -11,17 +11,17 @@ use Rattle.chunk_reader.proofs.feeding.feed_chunk.Goals.{In_ok-feed_data}
 pub start-requires-clause-within : goal.start-requires-clause-within
 start-requires-clause-within g c =
     let header = c.args.header.now in
-    omega (arith, header_within c.args.at header.data_size header.num_records, c.requires.end)
+    omega (arith, header_within c.args.at header.data_size header.num_records, c.requires.span.is_end)
 
 pub start-requires-clause-to_boundary : goal.start-requires-clause-to_boundary
 start-requires-clause-to_boundary g c =
     let header = c.args.header.now in
-    rw c.requires.end (chunk_end-on_boundary c.args.at header.data_size header.num_records)
+    rw c.requires.span.is_end (chunk_end-on_boundary c.args.at header.data_size header.num_records)
 
 pub feed_data-requires-clause-within : goal.feed_data-requires-clause-within
 feed_data-requires-clause-within g c =
     let header = c.args.header.now in
-    rw (c.in_ok-scan.ensures.place, c.in_ok-scan.ensures.end, c.requires.end)
+    rw (c.in_ok-scan.ensures.place, c.in_ok-scan.ensures.end, c.requires.span.is_end)
     (data_within c.args.at header.data_size header.num_records)
 
 pub returns-in_err-feed_data-clause-wrong : goal.returns-in_err-feed_data-clause-wrong
@@ -73,8 +73,8 @@ returns-clause-taken g c =
     let header = c.args.header.now in
     on_ok_weaker c.finish.result
     (λ right. taken_data _ _ (g.S.Store.told c.args.store.now) (g.T.TakesData.has_taken c.feed_data.new.taker) c.args.at header.data_size c.args.end
-    scan.store.same_bytes (g.met.S.Store.sized c.args.store.now) c.requires.told
-    (omega (arith, c.requires.end, header_within c.args.at header.data_size header.num_records))
+    scan.store.same_bytes (g.met.S.Store.sized c.args.store.now) c.requires.span.within
+    (omega (arith, c.requires.span.is_end, header_within c.args.at header.data_size header.num_records))
     (rw (scan.place) at c.in_ok-feed_data.ensures.taken))
     c.finish.ensures.right
 
@@ -91,4 +91,4 @@ returns-clause-right g c =
 pub returns-in_err-scan-clause-handed : goal.returns-in_err-scan-clause-handed
 returns-in_err-scan-clause-handed g c =
     let header = c.args.header.now in
-    omega (arith, c.in_err-scan.ensures.handed, header_within c.args.at header.data_size header.num_records, c.requires.end)
+    omega (arith, c.in_err-scan.ensures.handed, header_within c.args.at header.data_size header.num_records, c.requires.span.is_end)

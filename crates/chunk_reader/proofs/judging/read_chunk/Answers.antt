@@ -5,7 +5,7 @@ use Rattle.chunk_reader.proofs.judging.read_chunk.Goals as goal
 
 pub returns-in_err-data-clause-handed : goal.returns-in_err-data-clause-handed
 returns-in_err-data-clause-handed g c =
-    omega (arith, end_of_room c.args.at 40, header_within c.args.at c.args.header.data_size c.args.header.num_records, c.requires.end)
+    omega (arith, end_of_room c.args.at 40, header_within c.args.at c.args.header.data_size c.args.header.num_records, c.requires.span.is_end)
 
 pub returns-in_err-feed_chunk-clause-wrong : goal.returns-in_err-feed_chunk-clause-wrong
 returns-in_err-feed_chunk-clause-wrong g c =

@@ -72,7 +72,7 @@ pub returns-in-Ok-clause-sound : goal.returns-in-Ok-clause-sound
 returns-in-Ok-clause-sound g c =
     let header = found g (goal.at.returns-in-Ok-clause-sound g c).In_ok-header in
     let sized : IsSized (g.S.Store.bytes c.args.store.now) (Some c.args.size) =
-    subst (IsSized (g.S.Store.bytes c.args.store.now)) c.requires.told (g.met.S.Store.sized c.args.store.now) in
+    subst (IsSized (g.S.Store.bytes c.args.store.now)) c.requires.place.sized.is_told (g.met.S.Store.sized c.args.store.now) in
     judged_in _ c.args.keep c.args.size c.args.at c.in_ok-header.end c.in_ok-chunk.chunk _ sized
     (loaded g (goal.at.returns-in-Ok-clause-sound g c).In_ok-chunk header) c.in_ok-header.ensures.within refl refl c.in-Ok.ensures.sound
 

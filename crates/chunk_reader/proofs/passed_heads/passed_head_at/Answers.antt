@@ -18,7 +18,7 @@ right g c =
 
 sized : (g : _) (c : In-Right g) → IsSized (g.S.Store.bytes c.args.store.now) (Some c.args.size)
 sized g c =
-    subst (IsSized (g.S.Store.bytes c.args.store.now)) c.requires.told (g.met.S.Store.sized c.args.store.now)
+    subst (IsSized (g.S.Store.bytes c.args.store.now)) c.requires.place.sized.is_told (g.met.S.Store.sized c.args.store.now)
 
 fits : (g : _) (c : In-Right g) → IsHeader c.in-Right.header
 fits g c = c.in_ok-head_at.ensures.fits c.in-Right.header c.in-Right.end (cc)
@@ -40,7 +40,7 @@ returns-in_default-clause-refused g c =
     let past : 2 ^ 63 < end_by c.args.at (value_of_header c.in-Right.header) =
     end_none c.in-Right.end (2 ^ 63) (end_by c.args.at (value_of_header c.in-Right.header)) c.in_default.is (end_is g at) in
     refused_for unpassed_reasons _ c.args.at why.Truncated fault (cc)
-    (first_truncated _ c.args.size c.args.at c.in-Right.header (sized g at) (fits g at) (right g at) (omega (arith, past, c.requires.in_reach)))
+    (first_truncated _ c.args.size c.args.at c.in-Right.header (sized g at) (fits g at) (right g at) (omega (arith, past, c.requires.place.sized.in_reach)))
 
 pub returns-then-end-size-clause-refused : goal.returns-then-end-size-clause-refused
 returns-then-end-size-clause-refused g c =

@@ -33,7 +33,7 @@ returns-in_err-passed-clause-refused g c =
     let kept = c.loop-totals.invariant in
     let P : Option (List ℕ) → Type 0 = λ o. IfSome o (λ file. IsVerdict true file c.loop-totals.totals.bytes fault) in
     front_refused (g.S.Store.bytes c.args.store.now) (g.S.Store.told c.args.store.now) c.loop-totals.totals c.args.size fault
-    (g.met.S.Store.sized c.args.store.now) c.requires.told c.loop-totals-test.true kept.read c.in_ok-check_signature.ensures.signed
+    (g.met.S.Store.sized c.args.store.now) c.requires.sized.is_told c.loop-totals-test.true kept.read c.in_ok-check_signature.ensures.signed
     (subst P kept.asks.same_bytes
     (c.in_err-passed.ensures.refused fault (ap Err (sym (rw e at c.from_residual-in_err-passed.ensures.1)))))
 

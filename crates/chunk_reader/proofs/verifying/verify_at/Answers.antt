@@ -19,7 +19,7 @@ returns-in_err-header-clause-refused g c =
 -- the header that was found
 found : (g : _) (c : In_ok-header g) → IsFound (g.S.Store.bytes c.args.store.now) c.args.size c.args.at c.in_ok-header.end c.in_ok-header.header
 found g c = record {
-  sized = subst (IsSized (g.S.Store.bytes c.args.store.now)) c.requires.told (g.met.S.Store.sized c.args.store.now);
+  sized = subst (IsSized (g.S.Store.bytes c.args.store.now)) c.requires.place.sized.is_told (g.met.S.Store.sized c.args.store.now);
   sound = c.in_ok-header.ensures.fits;
   ends = c.in_ok-header.ensures.end;
   within = c.in_ok-header.ensures.within;
