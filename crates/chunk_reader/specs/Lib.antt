@@ -1,5 +1,6 @@
 pub mod Places
 pub mod Sizes
+pub mod BlockJudges
 pub mod Reasons
 pub mod Blocks
 pub mod Faults

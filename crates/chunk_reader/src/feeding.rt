@@ -1,17 +1,24 @@
-ghost use Rattle.std.specs.Prelude.{◌≡◌, ℕ, ◌+◌, ◌-◌, ◌≤◌, List, [], ◌++◌, length, IfSome, IsSomeAnd, OnOk, Err};
+ghost use Rattle.std.specs.Prelude.{◌≡◌, ℕ, ◌+◌, ◌-◌, ◌<◌, ◌≤◌, List, ◌++◌, length, take, IfOk, IfSome, OnOk, Err};
 ghost use Rattle.record_io.specs.Calls.{OnlyAsks};
 ghost use Rattle.block_layout.specs.Layout.{chunk_header_size, end_of, own_bytes_at};
 ghost use Rattle.chunk_header.specs.Views.{value_of_header};
 ghost use Rattle.chunk_header.specs.declared.Header.{Header};
-ghost use Rattle.chunk_reader.specs.Places.{data_at, HaveHeadersOf, IsFirstWrong};
+ghost use Rattle.chunk_reader.specs.BlockJudges.{MayJudge, EachBlock, StopsAtBlock, StopsAtBlockInChunk, IsUnfed};
+ghost use Rattle.chunk_reader.specs.Places.{data_at, HasOwnBytes, HaveHeadersOf, IsFirstWrong};
 ghost use Rattle.chunk_reader.specs.Sizes.{HasSpan};
 ghost use Rattle.chunk_reader.specs.declared.reasons.Fault.{Fault};
 ghost use Rattle.chunk_reader.specs.declared.reasons.Why.{Why};
 
-use crate::chunk_scan::{ChunkScan, PIECE_SIZE};
-use crate::reasons::VerifyEnd;
+use crate::block_judges::{BlockEnd, ExactHeaders, JudgesBlocks, judge_blocks};
+use crate::judging::refused;
+use crate::own_bytes::OwnBytes;
+use crate::reasons::{VerifyEnd, Why};
+use block_layout::BLOCK_SIZE;
 use chunk_header::Header;
 use record_io::Store;
+
+/// How many bytes of data are taken at a time at most. Own.
+const PIECE_SIZE: usize = 4096;
 
 /// What takes the data of a chunk piece by piece. Own.
 pub trait TakesData {
@@ -32,7 +39,105 @@ pub trait TakesData {
         ensures left { (left : ℕ) → has_left self.old left → has_left self.new (left - length piece.now) };
 }
 
-/// Reads the data of a chunk, gives it to what takes it, and judges the block headers within the chunk.
+/// Reads the data of a chunk, gives it to what takes it, and judges the headers of the blocks within the chunk as they are passed,
+/// up to the first that isn't accepted. No byte is read twice, and none behind that block's header but in the chunk's.
+///
+/// # Errors
+///
+/// `Refused` exactly with what is told of that block. `Store` only where the store failed.
+pub fn read_data<S: Store, J: JudgesBlocks, T: TakesData>(
+    store: &mut S,
+    judge: &J,
+    at: u64,
+    end: u64,
+    header: &Header,
+    taker: &mut T,
+) -> Result<(), BlockEnd>
+    requires span { HasSpan (S.told store.old) at end (value_of_header header.now) }
+    requires judges { MayJudge (J.fits judge.now (S.told store.old)) (J.begin judge.now) (J.end judge.now) at end }
+    requires unfed { IsUnfed (T.has_taken taker.old) (T.has_left taker.old) header.now.data_size }
+    ensures same_header { OnOk result (T.header taker.new ≡ T.header taker.old) }
+    ensures taken { OnOk result (IfSome (S.bytes store.old) (λ file. T.has_taken taker.new (data_at file at header.now.data_size))) }
+    ensures none_left { OnOk result (T.has_left taker.new 0) }
+    ensures accepted { OnOk result (IfSome (S.bytes store.old) (λ file. EachBlock (J.accepts judge.now file) at end)) }
+    ensures refused { (told : ℕ) → result ≡ Err (BlockEnd.Refused told) → J.may_tell judge.now told
+        × IfSome (S.bytes store.old) (λ file. StopsAtBlockInChunk (J.accepts judge.now file) (J.tells judge.now file) at end told
+        (S.handed store.new - S.handed store.old)) }
+    ensures handed { S.handed store.new + (at + chunk_header_size) ≤ S.handed store.old + end }
+    ensures store { OnlyAsks S.bytes S.told S.name S.faults (result ≡ Err BlockEnd.Store) store.old store.new }
+{
+    let mut own = OwnBytes::behind_header(at);
+    judge_blocks(store, judge, at, own.place)?;
+    feed_data(store, judge, &mut own, header.data_size, taker)?;
+    judge_blocks(store, judge, own.place, end)
+}
+
+/// Reads so many bytes of data piece by piece, and gives them to what takes them.
+fn feed_data<S: Store, J: JudgesBlocks, T: TakesData>(
+    store: &mut S,
+    judge: &J,
+    own: &mut OwnBytes,
+    size: u64,
+    taker: &mut T,
+) -> Result<(), BlockEnd>
+    requires judges { MayJudge (J.fits judge.now (S.told store.old)) (J.begin judge.now) (J.end judge.now)
+        own.old.place (end_of own.old.place size) }
+    requires told { HasOwnBytes (S.told store.old) own.old.place size }
+    requires unfed { IsUnfed (T.has_taken taker.old) (T.has_left taker.old) size }
+    ensures same_header { OnOk result (T.header taker.new ≡ T.header taker.old) }
+    ensures taken { OnOk result (IfSome (S.bytes store.old) (λ file. T.has_taken taker.new (own_bytes_at file own.old.place size))) }
+    ensures none_left { OnOk result (T.has_left taker.new 0) }
+    ensures moved { OnOk result (own.new.place ≡ end_of own.old.place size) }
+    ensures accepted { OnOk result (IfSome (S.bytes store.old) (λ file. EachBlock (J.accepts judge.now file) own.old.place own.new.place)) }
+    ensures refused { (told : ℕ) → result ≡ Err (BlockEnd.Refused told) → J.may_tell judge.now told
+        × IfSome (S.bytes store.old) (λ file. StopsAtBlock (J.accepts judge.now file) (J.tells judge.now file) own.old.place
+        (end_of own.old.place size) told (S.handed store.new - S.handed store.old)) }
+    ensures handed { OnOk result (S.handed store.new + own.old.place ≤ S.handed store.old + own.new.place) }
+    ensures handed_at_most { S.handed store.new + own.old.place ≤ S.handed store.old + end_of own.old.place size }
+    ensures store { OnlyAsks S.bytes S.told S.name S.faults (result ≡ Err BlockEnd.Store) store.old store.new }
+{
+    let mut piece = [0; PIECE_SIZE];
+    let mut left = size;
+    while left > 0 {
+        let most = left.min(PIECE_SIZE as u64) as usize;
+        let count = take_next(store, judge, own, &mut piece[..most])?;
+        taker.feed(&piece[..count]);
+        left -= count as u64;
+    }
+    Ok(())
+}
+
+/// Puts the next bytes of data into the front of the buffer, at most those before the next block, and answers how many. Where the
+/// header of a block stands before them, it is judged.
+fn take_next<S: Store, J: JudgesBlocks>(
+    store: &mut S,
+    judge: &J,
+    own: &mut OwnBytes,
+    buf: &mut [u8],
+) -> Result<usize, BlockEnd>
+    requires judges { MayJudge (J.fits judge.now (S.told store.old)) (J.begin judge.now) (J.end judge.now)
+        own.old.place (end_of own.old.place (length buf.old)) }
+    requires room { 0 < length buf.old }
+    requires told { HasOwnBytes (S.told store.old) own.old.place (length buf.old) }
+    ensures some { IfOk result (λ n. 0 < n) }
+    ensures fits { IfOk result (λ n. n ≤ length buf.old) }
+    ensures moved { IfOk result (λ n. own.new.place ≡ end_of own.old.place n) }
+    ensures given { IfOk result (λ n. IfSome (S.bytes store.old) (λ file. take n buf.new ≡ own_bytes_at file own.old.place n)) }
+    ensures accepted { OnOk result (IfSome (S.bytes store.old) (λ file. EachBlock (J.accepts judge.now file) own.old.place own.new.place)) }
+    ensures refused { (told : ℕ) → result ≡ Err (BlockEnd.Refused told) → J.may_tell judge.now told
+        × IfSome (S.bytes store.old) (λ file. StopsAtBlock (J.accepts judge.now file) (J.tells judge.now file) own.old.place
+        (end_of own.old.place (length buf.old)) told (S.handed store.new - S.handed store.old)) }
+    ensures handed { OnOk result (S.handed store.new + own.old.place ≤ S.handed store.old + own.new.place) }
+    ensures handed_at_most { S.handed store.new + own.old.place ≤ S.handed store.old + end_of own.old.place (length buf.old) }
+    ensures store { OnlyAsks S.bytes S.told S.name S.faults (result ≡ Err BlockEnd.Store) store.old store.new }
+{
+    if own.place % BLOCK_SIZE == 0 {
+        judge.judge(store, own.place)?;
+    }
+    Ok(own.take(store, buf)?)
+}
+
+/// Reads the data of a chunk, and refuses the first block within the chunk that hasn't the header which the chunk gives it.
 pub(crate) fn feed_chunk<S: Store, T: TakesData>(
     store: &mut S,
     at: u64,
@@ -41,8 +146,7 @@ pub(crate) fn feed_chunk<S: Store, T: TakesData>(
     taker: &mut T,
 ) -> Result<(), VerifyEnd>
     requires span { HasSpan (S.told store.old) at end (value_of_header header.now) }
-    requires none { T.has_taken taker.old [] }
-    requires all_left { T.has_left taker.old header.now.data_size }
+    requires unfed { IsUnfed (T.has_taken taker.old) (T.has_left taker.old) header.now.data_size }
     ensures same_header { OnOk result (T.header taker.new ≡ T.header taker.old) }
     ensures taken { OnOk result (IfSome (S.bytes store.old) (λ file. T.has_taken taker.new (data_at file at header.now.data_size))) }
     ensures none_left { OnOk result (T.has_left taker.new 0) }
@@ -52,43 +156,10 @@ pub(crate) fn feed_chunk<S: Store, T: TakesData>(
     ensures handed { S.handed store.new + (at + chunk_header_size) ≤ S.handed store.old + end }
     ensures store { OnlyAsks S.bytes S.told S.name S.faults (result ≡ Err VerifyEnd.Store) store.old store.new }
 {
-    let mut scan = ChunkScan::start(store, at, end)?;
-    feed_data(store, &mut scan, header.data_size, taker)?;
-    scan.finish(store)
-}
-
-/// Reads so many bytes of data piece by piece, and gives them to what takes them.
-fn feed_data<S: Store, T: TakesData>(
-    store: &mut S,
-    scan: &mut ChunkScan,
-    size: u64,
-    taker: &mut T,
-) -> Result<(), VerifyEnd>
-    requires told { IsSomeAnd (S.told store.old) (λ size. scan.old.end ≤ size) }
-    requires within { end_of scan.old.own.place size ≤ scan.old.end }
-    requires none { T.has_taken taker.old [] }
-    requires all_left { T.has_left taker.old size }
-    ensures same_header { OnOk result (T.header taker.new ≡ T.header taker.old) }
-    ensures taken { OnOk result (IfSome (S.bytes store.old) (λ file. T.has_taken taker.new (own_bytes_at file scan.old.own.place size))) }
-    ensures none_left { OnOk result (T.has_left taker.new 0) }
-    ensures moved { OnOk result (scan.new.own.place ≡ end_of scan.old.own.place size) }
-    ensures same_begin { scan.new.begin ≡ scan.old.begin }
-    ensures same_end { scan.new.end ≡ scan.old.end }
-    ensures right { OnOk result (IfSome (S.bytes store.old) (λ file.
-        HaveHeadersOf file scan.old.begin scan.old.end scan.old.own.place scan.new.own.place)) }
-    ensures wrong { (fault : Fault) → result ≡ Err (VerifyEnd.Refused fault) → (fault.why ≡ Why.BlockHeader)
-        × IfSome (S.bytes store.old) (λ file. IsFirstWrong file scan.old.begin scan.old.end scan.old.own.place scan.old.end fault.at) }
-    ensures handed { OnOk result (S.handed store.new + scan.old.own.place ≤ S.handed store.old + scan.new.own.place) }
-    ensures handed_at_most { S.handed store.new + scan.old.own.place ≤ S.handed store.old + scan.old.end }
-    ensures store { OnlyAsks S.bytes S.told S.name S.faults (result ≡ Err VerifyEnd.Store) store.old store.new }
-{
-    let mut piece = [0; PIECE_SIZE];
-    let mut left = size;
-    while left > 0 {
-        let most = left.min(PIECE_SIZE as u64) as usize;
-        let count = scan.take(store, &mut piece[..most])?;
-        taker.feed(&piece[..count]);
-        left -= count as u64;
+    let judge = ExactHeaders { begin: at, end };
+    match read_data(store, &judge, at, end, header, taker) {
+        Ok(()) => Ok(()),
+        Err(BlockEnd::Refused(block)) => Err(refused(block, Why::BlockHeader)),
+        Err(BlockEnd::Store) => Err(VerifyEnd::Store),
     }
-    Ok(())
 }

@@ -2,8 +2,8 @@
 #![tactic(auto)]
 
 mod block_headers;
+mod block_judges;
 mod chunk_content;
-mod chunk_scan;
 mod content_judge;
 mod feeding;
 mod file_reader;
@@ -19,10 +19,10 @@ mod reasons;
 mod verifying;
 
 pub use block_headers::sane_header_at;
+pub use block_judges::{BlockEnd, JudgesBlocks, judge_blocks};
 pub use chunk_content::{Content, ContentEnd};
-pub use chunk_scan::PIECE_SIZE;
 pub use content_judge::{content, content_under};
-pub use feeding::TakesData;
+pub use feeding::{TakesData, read_data};
 pub use file_reader::Reader;
 pub use hashed_data::HashedData;
 pub use heads::{Head, head_at};

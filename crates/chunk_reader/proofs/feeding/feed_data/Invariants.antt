@@ -1,7 +1,7 @@
 use Rattle.std.proofs.Common.{◌≡◌, ◌+◌, ◌-◌, ◌≤◌, IfSome}
 use Rattle.record_io.specs.Calls.{OnlyAsks}
 use Rattle.block_layout.specs.Layout.{end_of, own_bytes_at}
-use Rattle.chunk_reader.specs.Places.{HaveHeadersOf}
+use Rattle.chunk_reader.specs.BlockJudges.{EachBlock}
 use Rattle.chunk_reader.proofs.feeding.feed_data.Given as goal
 
 abbrev pub invariant-loop-left : goal.invariant-loop-left
@@ -10,13 +10,10 @@ invariant-loop-left g l = record {
   header : g.T.TakesData.header l.taker ≡ g.T.TakesData.header l.fn.taker;
   left : g.T.TakesData.has_left l.taker l.left;
   taken : IfSome (g.S.Store.bytes l.fn.store)
-      (λ file. g.T.TakesData.has_taken l.taker (own_bytes_at file l.fn.scan.own.place (l.fn.size - l.left)));
-  moved : l.scan.own.place ≡ end_of l.fn.scan.own.place (l.fn.size - l.left);
-  same_begin : l.scan.begin ≡ l.fn.scan.begin;
-  same_end : l.scan.end ≡ l.fn.scan.end;
-  right : IfSome (g.S.Store.bytes l.fn.store)
-      (λ file. HaveHeadersOf file l.fn.scan.begin l.fn.scan.end l.fn.scan.own.place l.scan.own.place);
-  handed : g.S.Store.handed l.store + l.fn.scan.own.place ≤ g.S.Store.handed l.fn.store + l.scan.own.place;
+      (λ file. g.T.TakesData.has_taken l.taker (own_bytes_at file l.fn.own.place (l.fn.size - l.left)));
+  moved : l.own.place ≡ end_of l.fn.own.place (l.fn.size - l.left);
+  accepted : IfSome (g.S.Store.bytes l.fn.store) (λ file. EachBlock (g.J.JudgesBlocks.accepts l.judge file) l.fn.own.place l.own.place);
+  handed : g.S.Store.handed l.store + l.fn.own.place ≤ g.S.Store.handed l.fn.store + l.own.place;
   asks : OnlyAsks g.S.Store.bytes g.S.Store.told g.S.Store.name g.S.Store.faults ⊥ l.fn.store l.store;
 }
 
