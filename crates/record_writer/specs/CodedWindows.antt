@@ -1,5 +1,5 @@
 -- Windows of groups that a coder codes. Own.
-use Rattle.std.specs.Prelude.{◌≡◌, ℕ, ◌+◌, ◌^◌, ◌<◌, ◌≤◌, Bool, List, map}
+use Rattle.std.specs.Prelude.{◌≡◌, ℕ, ◌+◌, ◌^◌, ◌<◌, ◌≤◌, Bool, List, All, length, map}
 use Rattle.std.specs.List.{AllByRecursion}
 use Rattle.chunk_header.specs.Chunks.{ChunkValue}
 use Rattle.chunk_header.specs.SimpleChunks.{simple_chunk}
@@ -15,6 +15,17 @@ pub record CodedGroups : Type 0 where
 -- a coder makes the simple chunk of each list of records that costs at most 2^25
 abbrev pub CodesSimply : (List (List ℕ) → ChunkValue) → Type 0
 CodesSimply chunk_of = (records : List (List ℕ)) → cost_of records ≤ 2 ^ 25 → chunk_of records ≡ simple_chunk records
+
+-- groups whose chunks can be made: some, not too many, and none too large
+pub record CanBeCoded (groups : List (List (List ℕ))) : Type 0 where
+  pub some : 1 ≤ length groups
+  pub few : length groups ≤ 2 ^ 32
+  pub short : All (λ group. cost_of group ≤ 2 ^ 25) groups
+
+-- the chunks of a window's groups are made, which stay
+pub record IsCoded {W : Type 0} (groups_in : W → List (List (List ℕ))) (can_be_put : W → Type 0) (before after : W) : Type 0 where
+  pub ready : can_be_put after
+  pub same : groups_in after ≡ groups_in before
 
 -- these chunks come next, one after another, each with its data's right hash
 pub record AreInOrder (ks : List ChunkValue) (order : Reordering) : Type 0 where

@@ -1,5 +1,5 @@
 -- How far a file is that is being made. Own.
-use Rattle.std.specs.Prelude.{◌≡◌, ◌≢◌, ℕ, ◌+◌, ◌*◌, Bool, true, false, Option, Some, List, [], ◌++◌, length, map, IfSome, Result, OnOk, OnErr, IsErr}
+use Rattle.std.specs.Prelude.{◌≡◌, ◌≢◌, ℕ, ◌+◌, ◌*◌, ◌^◌, ◌≤◌, Bool, true, false, Option, Some, List, [], ◌++◌, length, map, IfSome, Result, OnOk, OnErr}
 use Rattle.record_io.specs.Calls.{OnlyCounts}
 use Rattle.record_io.specs.Outside.{Takes}
 use Rattle.record_io.specs.Buffers.{TakesAndHolds}
@@ -47,6 +47,11 @@ totals_behind p ks = record {
   unread = p.unread + (totals_of ks).unread;
 }
 
+-- chunks may be laid behind those that are there: no put failed, and they end at or below 2^62
+pub record MayLay (file : MadeFileValue) (ks : List ChunkValue) : Type 0 where
+  pub going : file.spent ≡ false
+  pub in_reach : end_of_chunks file.place ks ≤ 2 ^ 62
+
 -- chunks were laid behind those that were there
 pub record Lays (before after : Option (List ℕ)) (old new : MadeFileValue) (ks : List ChunkValue) : Type 0 where
   pub bytes : TakesAndHolds before after (old.held ++ laid_each old.place ks) new.held
@@ -69,12 +74,13 @@ pub record TakesAndHoldsFront (Fails : Type 0) (before after : Option (List ℕ)
 pub record LaysFront (Fails : Type 0) (before after : Option (List ℕ)) (old new : MadeFileValue) (ks : List ChunkValue) : Type 0 where
   pub bytes : TakesAndHoldsFront Fails before after (old.held ++ laid_each old.place ks) new.held
 
--- chunks were laid by way of a sink: all of them, or where that failed a front of them and not all, and then the sink is the cause
-pub record LaysTo {M K X E : Type 0} (taken : M → Option (List ℕ)) (lent : M → K) (faults : M → ℕ)
+-- chunks were laid by way of a sink: all of them, or where the work was cut off a front of them; where the sink failed that is
+-- not all, and the sink is the cause
+pub record LaysTo {M K X E : Type 0} (taken : M → Option (List ℕ)) (lent : M → K) (faults : M → ℕ) (Fails : Type 0)
     (result : Result X E) (old new : MadeFileValue) (ks : List ChunkValue) (before after : M) : Type 0 where
   pub whole : OnOk result (Lays (taken before) (taken after) old new ks)
-  pub front : OnErr result (LaysFront (IsErr result) (taken before) (taken after) old new ks)
-  pub counts : OnlyCounts lent faults (IsErr result) before after
+  pub front : OnErr result (LaysFront Fails (taken before) (taken after) old new ks)
+  pub counts : OnlyCounts lent faults Fails before after
 
 -- the chunks of groups
 abbrev pub chunks_of_groups : List (List (List ℕ)) → List ChunkValue

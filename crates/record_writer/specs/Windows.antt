@@ -1,13 +1,15 @@
 -- What is taken of a feed before it is put. Own.
-use Rattle.std.specs.Prelude.{◌≡◌, ℕ, ◌<◌, ◌≤◌, Bool, true, Option, Some, None, Result, Ok, Err, List, ◌++◌, map, IfSome}
+use Rattle.std.specs.Prelude.{◌≡◌, ℕ, ◌<◌, ◌≤◌, Bool, true, Option, Some, None, Result, Ok, Err, List, [], ◌++◌, map, IfSome}
 use Rattle.record_io.specs.Calls.{OnlyCounts}
 use Rattle.meta_chunk.specs.Files.{end_of_chunks}
 use Rattle.simple_chunk.specs.SimpleParts.{SimpleValue}
+use Rattle.record_group.specs.Groups.{groups}
 use Rattle.record_group.specs.Groupings.{Grouping, groups_from}
 use Rattle.record_writer.specs.declared.cut_off.TakeEnd.{TakeEnd}
 use Rattle.record_writer.specs.declared.cut_off.TakeEnd.TheVariants.{Input}
 use Rattle.record_writer.specs.declared.group_taker.FeedPart.{FeedPart}
 use Rattle.record_writer.specs.declared.group_taker.FeedPart.TheVariants.{Window, All}
+use Rattle.record_writer.specs.declared.options.WriteOptions.{WriteOptions}
 use Rattle.record_writer.specs.Feeds.{Rest, nothing_left}
 use Rattle.record_writer.specs.MadeFiles.{AreGiven, chunks_of_groups, reach_of}
 
@@ -39,3 +41,20 @@ pub record TakesGroups {L N : Type 0} (rest : L → Option Rest) (bound : L → 
   pub in_reach : (place : ℕ) → reach_of (end_of_chunks place (chunks_of_groups given)) new (bound after) ≤ reach_of place old (bound before)
   pub drained : taken ≡ Ok (All None) → IfSome (rest before) (λ _. rest after ≡ Some nothing_left)
   pub counts : OnlyCounts origin faults (taken ≡ Err Input) before after
+
+-- what takes groups has taken no record, and will give those of these options
+pub record HasTakenNone (taker : Grouping) (options : WriteOptions) : Type 0 where
+  pub no_record : taker.group ≡ []
+  pub all : (records : List (List ℕ)) → groups_from taker records ≡ groups records options.size options.every
+
+-- no window has a group, that to be put next, that to be coded and that to be filled, so the one to be coded can be put
+pub record HaveNoGroup {W : Type 0} (groups_in : W → List (List (List ℕ))) (can_be_put : W → Type 0) (first second third : W) : Type 0 where
+  pub next : groups_in first ≡ []
+  pub taken : groups_in second ≡ []
+  pub free : groups_in third ≡ []
+  pub ready : can_be_put second
+
+-- the window to be put next can be put, and the one to be filled next has no group
+pub record StandInOrder {W : Type 0} (groups_in : W → List (List (List ℕ))) (can_be_put : W → Type 0) (first last : W) : Type 0 where
+  pub ready : can_be_put first
+  pub free : groups_in last ≡ []

@@ -1,11 +1,10 @@
-ghost use Rattle.std.specs.Prelude.{◌≡◌, ◌^◌, ◌≤◌, false, [], map};
+ghost use Rattle.std.specs.Prelude.{◌≡◌, ◌≤◌, false, [], map, IsErr};
 ghost use Rattle.std.specs.List.{AllByRecursion};
 ghost use Rattle.chunk_header.specs.Views.{value_of_chunk};
 ghost use Rattle.meta_chunk.specs.Counts.{is_unread};
-ghost use Rattle.meta_chunk.specs.Files.{end_of_chunks};
 ghost use Rattle.ordered_writer.specs.Reorders.{coming};
 ghost use Rattle.record_writer.specs.CodedWindows.{AreInOrder};
-ghost use Rattle.record_writer.specs.MadeFiles.{LaysTo};
+ghost use Rattle.record_writer.specs.MadeFiles.{LaysTo, MayLay};
 
 use crate::made_file::MadeFile;
 use crate::pace::Pace;
@@ -168,11 +167,11 @@ impl Window for CodedWindow {
 ///
 /// `Failed` only where the sink failed. It took a front of what was held and the chunks, and not all.
 fn put_out<M: Sink>(chunks: Reorder, file: &mut MadeFile, made: &mut M) -> Result<(), Failed>
-    requires going { file.old.spent ≡ false }
-    requires in_reach { end_of_chunks file.old.place (map value_of_chunk (coming chunks)) ≤ 2 ^ 62 }
+    requires may_lay { MayLay file.old (map value_of_chunk (coming chunks)) }
     requires in_order { AreInOrder (map value_of_chunk (coming chunks)) chunks }
     requires read { AllByRecursion (λ chunk. is_unread (value_of_chunk chunk) ≡ false) (coming chunks) }
-    ensures { LaysTo M.taken M.lent M.faults result file.old file.new (map value_of_chunk (coming chunks)) made.old made.new }
+    ensures { LaysTo M.taken M.lent M.faults (IsErr result) result file.old file.new (map value_of_chunk (coming chunks))
+        made.old made.new }
 {
     file.flush(made)?;
     put_in_order(chunks, file, made)?;
@@ -189,11 +188,11 @@ fn put_in_order<M: Sink>(
     file: &mut MadeFile,
     made: &mut M,
 ) -> Result<(), Failed>
-    requires going { file.old.spent ≡ false }
-    requires in_reach { end_of_chunks file.old.place (map value_of_chunk (coming chunks)) ≤ 2 ^ 62 }
+    requires may_lay { MayLay file.old (map value_of_chunk (coming chunks)) }
     requires in_order { AreInOrder (map value_of_chunk (coming chunks)) chunks }
     requires read { AllByRecursion (λ chunk. is_unread (value_of_chunk chunk) ≡ false) (coming chunks) }
-    ensures { LaysTo M.taken M.lent M.faults result file.old file.new (map value_of_chunk (coming chunks)) made.old made.new }
+    ensures { LaysTo M.taken M.lent M.faults (IsErr result) result file.old file.new (map value_of_chunk (coming chunks))
+        made.old made.new }
 {
     while let Some(chunk) = chunks.next() {
         file.put(made, &chunk, false)?;

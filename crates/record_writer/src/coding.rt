@@ -1,9 +1,8 @@
 //! Chunks of groups, coded by workers.
-ghost use Rattle.std.specs.Prelude.{◌≡◌, ◌^◌, ◌≤◌, All, IfOk, length, map, OnOk};
-ghost use Rattle.simple_chunk.specs.Costs.{cost_of};
+ghost use Rattle.std.specs.Prelude.{◌≡◌, ◌^◌, ◌≤◌, IfOk, map, OnOk};
 ghost use Rattle.chunk_workers.specs.Windows.{paired};
 ghost use Rattle.ordered_writer.specs.Reorders.{HasEachFrom, reordering_from, with_each};
-ghost use Rattle.record_writer.specs.CodedWindows.{AreInOrder, CodesSimply};
+ghost use Rattle.record_writer.specs.CodedWindows.{AreInOrder, CanBeCoded, CodesSimply, IsCoded};
 
 use crate::window::Window;
 use chunk_workers::{Coder, Draws, Numbered, encode_window};
@@ -36,8 +35,7 @@ impl Workers {
         window: &mut W,
     ) -> Result<(), AllocError>
         requires { CodesSimply (C.chunk_of coder.now) }
-        ensures ready { OnOk result (W.ready window.new) }
-        ensures same { OnOk result (W.groups window.new ≡ W.groups window.old) }
+        ensures { OnOk result (IsCoded W.groups W.ready window.old window.new) }
     {
         if let Some(groups) = window.to_code() {
             let chunks = code_in_order(rt, self.alloc, self.count, coder, groups)?;
@@ -56,9 +54,7 @@ fn code_in_order<R: Threads + Sync, C: Coder + Sync>(
     groups: &[Records],
 ) -> Result<Reorder, AllocError>
     requires workers { (1 ≤ workers) × (workers ≤ 16) }
-    requires some { 1 ≤ length groups.now }
-    requires few { length groups.now ≤ 2 ^ 32 }
-    requires short { All (λ group. cost_of group ≤ 2 ^ 25) groups.now }
+    requires groups { CanBeCoded groups.now }
     ensures { IfOk result (AreInOrder (map (C.chunk_of coder.now) groups.now)) }
 {
     let (draws, seats) = Draws::new(alloc, groups.len() as u64, workers)?;

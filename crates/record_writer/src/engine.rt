@@ -1,14 +1,13 @@
-ghost use Rattle.std.specs.Prelude.{◌≡◌, ℕ, ◌+◌, ◌^◌, ◌<◌, ◌≤◌, true, false, Some, None, List, [], IfOk, IfSome, OnOk, OnErr};
+ghost use Rattle.std.specs.Prelude.{◌≡◌, ◌+◌, ◌^◌, ◌<◌, ◌≤◌, true, false, [], IfOk, OnOk};
 ghost use Rattle.block_layout.specs.Layout.{IsBoundary};
-ghost use Rattle.record_io.specs.Calls.{OnlyCounts};
 ghost use Rattle.meta_chunk.specs.Counts.{totals_of};
-ghost use Rattle.record_group.specs.Groups.{groups, pads_start, pads_end};
+ghost use Rattle.record_group.specs.Groups.{pads_start, pads_end};
 ghost use Rattle.record_group.specs.Groupings.{groups_from};
-ghost use Rattle.record_writer.specs.Behind.{MayFollow, WritesBehind};
+ghost use Rattle.record_writer.specs.Behind.{MayFollow, PutsRecords, WritesBehind};
 ghost use Rattle.record_writer.specs.CodedWindows.{CodesSimply};
 ghost use Rattle.record_writer.specs.Ends.{answer_of};
-ghost use Rattle.record_writer.specs.Feeds.{nothing_left};
-ghost use Rattle.record_writer.specs.MadeFiles.{Lays, LaysFront, chunks_of_groups, reach_of};
+ghost use Rattle.record_writer.specs.MadeFiles.{chunks_of_groups, reach_of};
+ghost use Rattle.record_writer.specs.Windows.{HasTakenNone, HaveNoGroup};
 ghost use Rattle.record_writer.specs.Written.{AreInLimits, WritesRecords, chunks_under, file_under, tail_chunks, tail_under, totals_from};
 
 use crate::coded_window::CodedWindow;
@@ -243,26 +242,13 @@ fn put_chunks<R: Threads + Sync, C: Coder + Sync, W: Window + Send, L: RecordFee
     made: &mut M,
 ) -> Result<Option<Stop>, CutOff>
     requires codes { CodesSimply (C.chunk_of coder.now) }
-    requires going { file.old.spent ≡ false }
-    requires from_boundary { IsBoundary file.old.place }
-    requires within { file.old.place ≤ 2 ^ 60 }
-    requires no_record { pipeline.old.coming.taker.group ≡ [] }
-    requires all { (records : List (List ℕ)) → groups_from pipeline.old.coming.taker records ≡ groups records options.now.size options.now.every }
-    requires next { W.groups pipeline.old.next ≡ [] }
-    requires taken { W.groups pipeline.old.coming.taken ≡ [] }
-    requires free { W.groups pipeline.old.coming.free ≡ [] }
-    requires ready { W.ready pipeline.old.coming.taken }
+    requires follows { MayFollow file.old options.now (L.bound feed.old) }
+    requires windows { HaveNoGroup W.groups W.ready pipeline.old.next pipeline.old.coming.taken pipeline.old.coming.free }
+    requires taker { HasTakenNone pipeline.old.coming.taker options.now }
     requires feed_going { L.going feed.old ≡ true }
-    requires in_reach { L.bound feed.old ≤ 2 ^ 41 }
-    ensures stop { IfOk result (λ stop. IfSome (L.rest feed.old) (λ rest. rest.stop ≡ stop)) }
-    ensures whole { OnOk result (IfSome (L.rest feed.old) (λ rest.
-        Lays (M.taken made.old) (M.taken made.new) file.old file.new (tail_chunks options.now file.old.place rest.records))) }
-    ensures front { OnErr result (IfSome (L.rest feed.old) (λ rest.
-        LaysFront (result ≡ Err CutOff.Made) (M.taken made.old) (M.taken made.new) file.old file.new (tail_chunks options.now file.old.place rest.records))) }
+    ensures put { PutsRecords L.rest L.origin L.faults M.taken M.lent M.faults (tail_chunks options.now file.old.place)
+        result file.old file.new feed.old feed.new made.old made.new }
     ensures behind { OnOk result (file.old.place ≤ file.new.place) }
-    ensures drained { result ≡ Ok None → IfSome (L.rest feed.old) (λ _. L.rest feed.new ≡ Some nothing_left) }
-    ensures feed { OnlyCounts L.origin L.faults (result ≡ Err CutOff.Input) feed.old feed.new }
-    ensures made { OnlyCounts M.lent M.faults (result ≡ Err CutOff.Made) made.old made.new }
 {
     file.pad_if(pads_start(options.pad), made)?;
     let stop = put_groups(rt, coder, file, pipeline, feed, made)?;
@@ -297,22 +283,14 @@ fn put_groups<R: Threads + Sync, C: Coder + Sync, W: Window + Send, L: RecordFee
 ) -> Result<Option<Stop>, CutOff>
     requires codes { CodesSimply (C.chunk_of coder.now) }
     requires going { file.old.spent ≡ false }
-    requires next { W.groups pipeline.old.next ≡ [] }
-    requires taken { W.groups pipeline.old.coming.taken ≡ [] }
-    requires free { W.groups pipeline.old.coming.free ≡ [] }
-    requires ready { W.ready pipeline.old.coming.taken }
+    requires windows { HaveNoGroup W.groups W.ready pipeline.old.next pipeline.old.coming.taken pipeline.old.coming.free }
     requires feed_going { L.going feed.old ≡ true }
     requires in_reach { reach_of file.old.place pipeline.old.coming.taker (L.bound feed.old) ≤ 2 ^ 61 }
-    ensures stop { IfOk result (λ stop. IfSome (L.rest feed.old) (λ rest. rest.stop ≡ stop)) }
-    ensures whole { OnOk result (IfSome (L.rest feed.old) (λ rest.
-        Lays (M.taken made.old) (M.taken made.new) file.old file.new (chunks_of_groups (groups_from pipeline.old.coming.taker rest.records)))) }
-    ensures front { OnErr result (IfSome (L.rest feed.old) (λ rest.
-        LaysFront (result ≡ Err CutOff.Made) (M.taken made.old) (M.taken made.new) file.old file.new (chunks_of_groups (groups_from pipeline.old.coming.taker rest.records)))) }
+    ensures put { PutsRecords L.rest L.origin L.faults M.taken M.lent M.faults
+        (λ records. chunks_of_groups (groups_from pipeline.old.coming.taker records))
+        result file.old file.new feed.old feed.new made.old made.new }
     ensures going { OnOk result (file.new.spent ≡ false) }
     ensures place { OnOk result ((file.old.place ≤ file.new.place) × (file.new.place ≤ 2 ^ 61)) }
-    ensures drained { result ≡ Ok None → IfSome (L.rest feed.old) (λ _. L.rest feed.new ≡ Some nothing_left) }
-    ensures feed { OnlyCounts L.origin L.faults (result ≡ Err CutOff.Input) feed.old feed.new }
-    ensures made { OnlyCounts M.lent M.faults (result ≡ Err CutOff.Made) made.old made.new }
 {
     let mut part = pipeline.begin(feed);
     let end = loop {

@@ -1,5 +1,5 @@
-ghost use Rattle.std.specs.Prelude.{◌≡◌, ◌≢◌, ℕ, ◌+◌, ◌^◌, ◌<◌, ◌≤◌, true, false, Bool, Option, length, IfSome, OnOk};
-ghost use Rattle.record_io.specs.Outside.{Rose};
+ghost use Rattle.std.specs.Prelude.{◌≡◌, ◌≢◌, ℕ, ◌+◌, ◌^◌, ◌≤◌, true, false, Bool, Option, length, IfSome, OnOk};
+ghost use Rattle.record_io.specs.Calls.{OnlyCounts};
 ghost use Rattle.record_writer.specs.Feeds.{Rest, Origin, GivesRecord, HandsOn, no_origin, nothing_left, stop_alone};
 
 use record_group::Grouper;
@@ -82,11 +82,7 @@ pub trait RecordFeed {
         ensures end_kept { result ≡ Ok false → rest self.new ≡ rest self.old }
         ensures stop { (s : Stop) → result ≡ Err (FeedEnd.Stop s) → IfSome (rest self.old) (λ r. r ≡ stop_alone s) }
         ensures never_rises { bound self.new ≤ bound self.old }
-        ensures same_origin { origin self.new ≡ origin self.old }
-
-        ensures cause { result ≡ Err FeedEnd.Failed → Rose (faults self.old) (faults self.new) }
-        ensures never_falls { faults self.old ≤ faults self.new }
-        ensures small { faults self.old < 2 ^ 64 → faults self.new < 2 ^ 64 };
+        ensures counts { OnlyCounts origin faults (result ≡ Err FeedEnd.Failed) self.old self.new };
 
     /// Hands the next record to the grouper, so that it is copied once, where the feed holds all of it and no group closes
     /// before it, and answers whether that is so. Else, and after want of memory, both are as before. A feed need not do so.

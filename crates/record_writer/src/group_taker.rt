@@ -1,10 +1,9 @@
 ghost use Rattle.std.specs.Option.{option_to_list};
 ghost use Rattle.std.specs.Prelude.{◌≡◌, ℕ, ◌+◌, ◌^◌, ◌<◌, ◌≤◌, true, Option, List, [], ◌++◌, length, OnOk, OnErr};
 ghost use Rattle.meta_chunk.specs.Files.{end_of_chunks};
-ghost use Rattle.record_group.specs.Groups.{groups};
 ghost use Rattle.record_group.specs.Groupings.{groups_from, IsPush};
 ghost use Rattle.record_writer.specs.MadeFiles.{AreGiven, chunks_of_groups, reach_of};
-ghost use Rattle.record_writer.specs.Windows.{TakesGroups};
+ghost use Rattle.record_writer.specs.Windows.{HasTakenNone, TakesGroups};
 ghost use Rattle.record_writer.specs.Written.{AreInLimits};
 
 use crate::cut_off::TakeEnd;
@@ -52,8 +51,7 @@ impl GroupTaker {
     /// One that has taken no record. It takes no memory.
     pub fn new(alloc: Global, options: &WriteOptions) -> GroupTaker
         requires in_limits { AreInLimits options.now }
-        ensures no_record { result.group ≡ [] }
-        ensures all { (records : List (List ℕ)) → groups_from result records ≡ groups records options.now.size options.now.every }
+        ensures { HasTakenNone result options.now }
     {
         GroupTaker {
             alloc,

@@ -8,7 +8,7 @@ ghost use Rattle.meta_chunk.specs.Files.{signature};
 ghost use Rattle.meta_chunk.specs.Laid.{end_of_chunk};
 ghost use Rattle.meta_chunk.specs.PaddingSizes.{padding_at};
 ghost use Rattle.record_group.specs.Groups.{padding_if};
-ghost use Rattle.record_writer.specs.MadeFiles.{Lays, LaysFront, nothing_made, resumed_at, spent_in, totals_made};
+ghost use Rattle.record_writer.specs.MadeFiles.{Lays, LaysFront, LaysTo, MayLay, nothing_made, resumed_at, spent_in, totals_made};
 
 use chunk_header::Chunk;
 use ordered_writer::OrderedWriter;
@@ -117,13 +117,11 @@ impl MadeFile {
         made: &mut M,
         chunk: &SimpleChunk,
     ) -> Result<(), Failed>
-        requires going { self.old.spent ≡ false }
-        requires in_reach { end_of_chunk self.old.place (simple_chunk chunk.now.records) ≤ 2 ^ 62 }
+        requires may_lay { MayLay self.old (simple_chunk chunk.now.records ∷ []) }
         requires encoded { chunk.now.encoded ≡ true }
-        ensures whole { OnOk result (Lays (M.taken made.old) (M.taken made.new) self.old self.new (simple_chunk chunk.now.records ∷ [])) }
-        ensures front { OnErr result (LaysFront (IsErr result) (M.taken made.old) (M.taken made.new) self.old self.new (simple_chunk chunk.now.records ∷ [])) }
+        ensures laid { LaysTo M.taken M.lent M.faults (IsErr result) result self.old self.new (simple_chunk chunk.now.records ∷ [])
+            made.old made.new }
         ensures spent { OnErr result (self.new ≡ spent_in self.old) }
-        ensures made { OnlyCounts M.lent M.faults (IsErr result) made.old made.new }
     {
         let header = chunk.header();
         let (front, records) = chunk.data();
@@ -138,10 +136,9 @@ impl MadeFile {
     pub(crate) fn pad_if<M: Sink>(&mut self, wanted: bool, made: &mut M) -> Result<(), Failed>
         requires going { self.old.spent ≡ false }
         requires in_reach { self.old.place ≤ 2 ^ 61 }
-        ensures whole { OnOk result (Lays (M.taken made.old) (M.taken made.new) self.old self.new (padding_if wanted self.old.place)) }
-        ensures front { OnErr result (LaysFront (IsErr result) (M.taken made.old) (M.taken made.new) self.old self.new (padding_if wanted self.old.place)) }
+        ensures laid { LaysTo M.taken M.lent M.faults (IsErr result) result self.old self.new (padding_if wanted self.old.place)
+            made.old made.new }
         ensures spent { OnErr result (self.new ≡ spent_in self.old) }
-        ensures made { OnlyCounts M.lent M.faults (IsErr result) made.old made.new }
     {
         if wanted { self.pad(made) } else { Ok(()) }
     }
@@ -150,10 +147,9 @@ impl MadeFile {
     fn pad<M: Sink>(&mut self, made: &mut M) -> Result<(), Failed>
         requires going { self.old.spent ≡ false }
         requires in_reach { self.old.place ≤ 2 ^ 61 }
-        ensures whole { OnOk result (Lays (M.taken made.old) (M.taken made.new) self.old self.new (padding_at self.old.place)) }
-        ensures front { OnErr result (LaysFront (IsErr result) (M.taken made.old) (M.taken made.new) self.old self.new (padding_at self.old.place)) }
+        ensures laid { LaysTo M.taken M.lent M.faults (IsErr result) result self.old self.new (padding_at self.old.place)
+            made.old made.new }
         ensures spent { OnErr result (self.new ≡ spent_in self.old) }
-        ensures made { OnlyCounts M.lent M.faults (IsErr result) made.old made.new }
     {
         let begin = self.writer.position();
         self.writer.pad_into(&mut self.buffer, made)?;

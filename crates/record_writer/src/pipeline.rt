@@ -1,11 +1,8 @@
-ghost use Rattle.std.specs.Prelude.{◌≡◌, ℕ, ◌^◌, ◌≤◌, true, false, List, [], ◌++◌, Ok, Err, IfOk, OnOk, OnErr};
+ghost use Rattle.std.specs.Prelude.{◌≡◌, ℕ, true, List, [], ◌++◌, Err, IfOk, IsErr, OnOk};
 ghost use Rattle.record_io.specs.Calls.{OnlyCounts};
-ghost use Rattle.meta_chunk.specs.Files.{end_of_chunks};
-ghost use Rattle.record_group.specs.Groups.{groups};
-ghost use Rattle.record_group.specs.Groupings.{groups_from};
-ghost use Rattle.record_writer.specs.CodedWindows.{CodesSimply};
-ghost use Rattle.record_writer.specs.MadeFiles.{Lays, LaysFront, LaysTo, chunks_of_groups};
-ghost use Rattle.record_writer.specs.Windows.{TakesGroups};
+ghost use Rattle.record_writer.specs.CodedWindows.{CodesSimply, IsCoded};
+ghost use Rattle.record_writer.specs.MadeFiles.{LaysTo, MayLay, chunks_of_groups};
+ghost use Rattle.record_writer.specs.Windows.{HasTakenNone, HaveNoGroup, StandInOrder, TakesGroups};
 ghost use Rattle.record_writer.specs.Written.{AreInLimits};
 
 use crate::coding::Workers;
@@ -45,12 +42,8 @@ impl<W: Window + Send> Pipeline<W> {
     pub fn new(alloc: Global, options: &WriteOptions, window: W) -> Pipeline<W>
         requires in_limits { AreInLimits options.now }
         requires empty { W.groups window ≡ [] }
-        ensures next { W.groups result.next ≡ [] }
-        ensures taken { W.groups result.coming.taken ≡ [] }
-        ensures free { W.groups result.coming.free ≡ [] }
-        ensures taken_ready { W.ready result.coming.taken }
-        ensures no_record { result.coming.taker.group ≡ [] }
-        ensures all { (records : List (List ℕ)) → groups_from result.coming.taker records ≡ groups records options.now.size options.now.every }
+        ensures windows { HaveNoGroup W.groups W.ready result.next result.coming.taken result.coming.free }
+        ensures taker { HasTakenNone result.coming.taker options.now }
     {
         let next = window.another(alloc);
         let taken = window.another(alloc);
@@ -68,15 +61,11 @@ impl<W: Window + Send> Pipeline<W> {
 
     /// Takes the first window. At the end of the feed, also where that is a stop, the last group is in it.
     pub fn begin<L: RecordFeed>(&mut self, feed: &mut L) -> Result<FeedPart, TakeEnd>
-        requires next { W.groups self.old.next ≡ [] }
-        requires taken { W.groups self.old.coming.taken ≡ [] }
-        requires free { W.groups self.old.coming.free ≡ [] }
-        requires ready { W.ready self.old.coming.taken }
+        requires windows { HaveNoGroup W.groups W.ready self.old.next self.old.coming.taken self.old.coming.free }
         requires feed_going { L.going feed.old ≡ true }
         ensures taken { TakesGroups L.rest L.bound L.going L.origin L.faults feed.old feed.new self.old.coming.taker self.new.coming.taker
             (W.groups self.new.next ++ W.groups self.new.coming.taken) result }
-        ensures ready { W.ready self.new.next }
-        ensures free { W.groups self.new.coming.free ≡ [] }
+        ensures windows { StandInOrder W.groups W.ready self.new.next self.new.coming.free }
     {
         let part = self.coming.take(feed, &self.pace);
         self.move_on();
@@ -99,20 +88,16 @@ impl<W: Window + Send> Pipeline<W> {
         made: &mut M,
     ) -> Result<Result<FeedPart, TakeEnd>, PutEnd>
         requires codes { CodesSimply (C.chunk_of coder.now) }
-        requires going { file.old.spent ≡ false }
-        requires ready { W.ready self.old.next }
-        requires free { W.groups self.old.coming.free ≡ [] }
+        requires may_lay { MayLay file.old (chunks_of_groups (W.groups self.old.next)) }
+        requires windows { StandInOrder W.groups W.ready self.old.next self.old.coming.free }
         requires feed_going { L.going feed.old ≡ true }
-        requires in_reach { end_of_chunks file.old.place (chunks_of_groups (W.groups self.old.next)) ≤ 2 ^ 62 }
-        ensures whole { OnOk result (Lays (M.taken made.old) (M.taken made.new) file.old file.new (chunks_of_groups (W.groups self.old.next))) }
-        ensures front { OnErr result (LaysFront (result ≡ Err PutEnd.Made) (M.taken made.old) (M.taken made.new) file.old file.new (chunks_of_groups (W.groups self.old.next))) }
+        ensures laid { LaysTo M.taken M.lent M.faults (result ≡ Err PutEnd.Made) result file.old file.new
+            (chunks_of_groups (W.groups self.old.next)) made.old made.new }
         ensures taken { IfOk result (λ part. (more : List (List (List ℕ)))
             × (W.groups self.new.next ++ W.groups self.new.coming.taken ≡ W.groups self.old.coming.taken ++ more)
             × TakesGroups L.rest L.bound L.going L.origin L.faults feed.old feed.new self.old.coming.taker self.new.coming.taker more part) }
-        ensures ready { OnOk result (W.ready self.new.next) }
-        ensures free { OnOk result (W.groups self.new.coming.free ≡ []) }
+        ensures windows { OnOk result (StandInOrder W.groups W.ready self.new.next self.new.coming.free) }
         ensures feed { OnlyCounts L.origin L.faults ⊥ feed.old feed.new }
-        ensures made { OnlyCounts M.lent M.faults (result ≡ Err PutEnd.Made) made.old made.new }
     {
         let (laid, (coded, part)) = if self.next.is_empty() || self.next.is_large() {
             let laid = self.next.put(file, made);
@@ -139,15 +124,13 @@ impl<W: Window + Send> Pipeline<W> {
         (Result<(), AllocError>, Result<FeedPart, TakeEnd>),
     )
         requires codes { CodesSimply (C.chunk_of coder.now) }
-        requires going { file.old.spent ≡ false }
-        requires ready { W.ready self.old.next }
-        requires free { W.groups self.old.coming.free ≡ [] }
+        requires may_lay { MayLay file.old (chunks_of_groups (W.groups self.old.next)) }
+        requires windows { StandInOrder W.groups W.ready self.old.next self.old.coming.free }
         requires feed_going { L.going feed.old ≡ true }
-        requires in_reach { end_of_chunks file.old.place (chunks_of_groups (W.groups self.old.next)) ≤ 2 ^ 62 }
-        ensures laid { LaysTo M.taken M.lent M.faults result.0 file.old file.new (chunks_of_groups (W.groups self.old.next)) made.old made.new }
+        ensures laid { LaysTo M.taken M.lent M.faults (IsErr result.0) result.0 file.old file.new
+            (chunks_of_groups (W.groups self.old.next)) made.old made.new }
         ensures emptied { OnOk result.0 (W.groups self.new.next ≡ []) }
-        ensures ready { OnOk result.1.0 (W.ready self.new.coming.taken) }
-        ensures same { OnOk result.1.0 (W.groups self.new.coming.taken ≡ W.groups self.old.coming.taken) }
+        ensures coded { OnOk result.1.0 (IsCoded W.groups W.ready self.old.coming.taken self.new.coming.taken) }
         ensures taken { TakesGroups L.rest L.bound L.going L.origin L.faults feed.old feed.new self.old.coming.taker self.new.coming.taker
             (W.groups self.new.coming.free) result.1.1 }
     {
@@ -186,14 +169,10 @@ impl<W: Window + Send> Pipeline<W> {
         made: &mut M,
     ) -> Result<(), PutEnd>
         requires codes { CodesSimply (C.chunk_of coder.now) }
-        requires going { file.old.spent ≡ false }
+        requires may_lay { MayLay file.old (chunks_of_groups (W.groups self.old.next ++ W.groups self.old.coming.taken)) }
         requires ready { W.ready self.old.next }
-        requires in_reach { end_of_chunks file.old.place (chunks_of_groups (W.groups self.old.next ++ W.groups self.old.coming.taken)) ≤ 2 ^ 62 }
-        ensures whole { OnOk result (Lays (M.taken made.old) (M.taken made.new) file.old file.new
-            (chunks_of_groups (W.groups self.old.next ++ W.groups self.old.coming.taken))) }
-        ensures front { OnErr result (LaysFront (result ≡ Err PutEnd.Made) (M.taken made.old) (M.taken made.new) file.old file.new
-            (chunks_of_groups (W.groups self.old.next ++ W.groups self.old.coming.taken))) }
-        ensures made { OnlyCounts M.lent M.faults (result ≡ Err PutEnd.Made) made.old made.new }
+        ensures { LaysTo M.taken M.lent M.faults (result ≡ Err PutEnd.Made) result file.old file.new
+            (chunks_of_groups (W.groups self.old.next ++ W.groups self.old.coming.taken)) made.old made.new }
     {
         let (put, coded) = self.put_and_code(rt, coder, file, made);
         put?;
@@ -211,12 +190,11 @@ impl<W: Window + Send> Pipeline<W> {
         made: &mut M,
     ) -> (Result<(), Failed>, Result<(), AllocError>)
         requires codes { CodesSimply (C.chunk_of coder.now) }
-        requires going { file.old.spent ≡ false }
+        requires may_lay { MayLay file.old (chunks_of_groups (W.groups self.old.next)) }
         requires ready { W.ready self.old.next }
-        requires in_reach { end_of_chunks file.old.place (chunks_of_groups (W.groups self.old.next)) ≤ 2 ^ 62 }
-        ensures laid { LaysTo M.taken M.lent M.faults result.0 file.old file.new (chunks_of_groups (W.groups self.old.next)) made.old made.new }
-        ensures ready { OnOk result.1 (W.ready self.new.coming.taken) }
-        ensures same { OnOk result.1 (W.groups self.new.coming.taken ≡ W.groups self.old.coming.taken) }
+        ensures laid { LaysTo M.taken M.lent M.faults (IsErr result.0) result.0 file.old file.new
+            (chunks_of_groups (W.groups self.old.next)) made.old made.new }
+        ensures coded { OnOk result.1 (IsCoded W.groups W.ready self.old.coming.taken self.new.coming.taken) }
     {
         let Pipeline {
             next: window,
@@ -242,8 +220,7 @@ impl<W: Window + Send> Pipeline<W> {
         requires put { W.groups self.old.next ≡ [] }
         requires coded { W.ready self.old.coming.taken }
         ensures same { W.groups self.new.next ++ W.groups self.new.coming.taken ≡ W.groups self.old.coming.taken ++ W.groups self.old.coming.free }
-        ensures ready { W.ready self.new.next }
-        ensures free { W.groups self.new.coming.free ≡ [] }
+        ensures windows { StandInOrder W.groups W.ready self.new.next self.new.coming.free }
         ensures same_taker { self.new.coming.taker ≡ self.old.coming.taker }
     {
         mem::swap(&mut self.next, &mut self.coming.taken);
@@ -266,8 +243,7 @@ impl<W: Window + Send> Coming<W> {
         requires codes { CodesSimply (C.chunk_of coder.now) }
         requires feed_going { L.going feed.old ≡ true }
         requires free { W.groups self.old.free ≡ [] }
-        ensures ready { OnOk result.0 (W.ready self.new.taken) }
-        ensures same { OnOk result.0 (W.groups self.new.taken ≡ W.groups self.old.taken) }
+        ensures coded { OnOk result.0 (IsCoded W.groups W.ready self.old.taken self.new.taken) }
         ensures taken { TakesGroups L.rest L.bound L.going L.origin L.faults feed.old feed.new self.old.taker self.new.taker (W.groups self.new.free) result.1 }
     {
         if self.taken.to_code().is_none() {
@@ -298,8 +274,7 @@ impl<W: Window + Send> Coming<W> {
         coder: &C,
     ) -> Result<(), AllocError>
         requires { CodesSimply (C.chunk_of coder.now) }
-        ensures ready { OnOk result (W.ready self.new.taken) }
-        ensures same { OnOk result (W.groups self.new.taken ≡ W.groups self.old.taken) }
+        ensures coded { OnOk result (IsCoded W.groups W.ready self.old.taken self.new.taken) }
     {
         self.workers.code(rt, coder, &mut self.taken)
     }

@@ -1,8 +1,7 @@
-ghost use Rattle.std.specs.Prelude.{◌≡◌, ℕ, ◌^◌, ◌<◌, ◌≤◌, true, false, List, [], ◌∷◌, ◌++◌, All, length, IfNone, IfSome, OnOk, OnErr};
-ghost use Rattle.meta_chunk.specs.Files.{end_of_chunks};
+ghost use Rattle.std.specs.Prelude.{◌≡◌, ℕ, ◌^◌, ◌<◌, ◌≤◌, true, false, List, [], ◌∷◌, ◌++◌, length, IfNone, IfSome, IsErr, OnOk, OnErr};
 ghost use Rattle.simple_chunk.specs.Costs.{cost_of};
-ghost use Rattle.record_writer.specs.CodedWindows.{AreInOrder};
-ghost use Rattle.record_writer.specs.MadeFiles.{LaysTo, chunks_of_groups};
+ghost use Rattle.record_writer.specs.CodedWindows.{AreInOrder, CanBeCoded};
+ghost use Rattle.record_writer.specs.MadeFiles.{LaysTo, MayLay, chunks_of_groups};
 
 use crate::made_file::MadeFile;
 use crate::pace::Pace;
@@ -49,9 +48,7 @@ pub(crate) trait Window: Drop {
     /// The groups, where there are some whose chunks are to be made before they are put. Else `put` needs none.
     fn to_code(&self) -> Option<&[Records]>
         ensures groups { IfSome result (λ to_code. to_code.now ≡ groups self.now) }
-        ensures some { IfSome result (λ to_code. 1 ≤ length to_code.now) }
-        ensures few { IfSome result (λ to_code. length to_code.now ≤ 2 ^ 32) }
-        ensures short { IfSome result (λ to_code. All (λ group. cost_of group ≤ 2 ^ 25) to_code.now) }
+        ensures coded { IfSome result (λ to_code. CanBeCoded to_code.now) }
         ensures ready { IfNone result (ready self.now) };
 
     /// Keeps the chunks of the groups.
@@ -67,8 +64,8 @@ pub(crate) trait Window: Drop {
     /// `Failed` only where the sink failed. It took a front of what was held and the chunks, and not all.
     fn put<M: Sink>(&mut self, file: &mut MadeFile, made: &mut M) -> Result<(), Failed>
         requires ready { ready self.old }
-        requires going { file.old.spent ≡ false }
-        requires in_reach { end_of_chunks file.old.place (chunks_of_groups (groups self.old)) ≤ 2 ^ 62 }
+        requires may_lay { MayLay file.old (chunks_of_groups (groups self.old)) }
         ensures emptied { OnOk result (groups self.new ≡ []) }
-        ensures laid { LaysTo M.taken M.lent M.faults result file.old file.new (chunks_of_groups (groups self.old)) made.old made.new };
+        ensures laid { LaysTo M.taken M.lent M.faults (IsErr result) result file.old file.new (chunks_of_groups (groups self.old))
+            made.old made.new };
 }

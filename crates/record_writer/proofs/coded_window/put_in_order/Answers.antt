@@ -13,7 +13,7 @@ use Rattle.record_writer.proofs.coded_window.put_in_order.Goals as goal
 
 pub loop-chunk-init : goal.loop-chunk-init
 loop-chunk-init g c = record {
-  laid = ([], refl, Lays-none _ c.args.file.now c.requires.going);
+  laid = ([], refl, Lays-none _ c.args.file.now c.requires.may_lay.going);
   right = c.requires.in_order.right;
   read = c.requires.read;
   some_room = c.requires.in_order.some_room;
@@ -26,7 +26,7 @@ put-requires-clause-in_reach g c =
     let before = c.loop-chunk.invariant.laid in
     let is = ap (λ (cs : List Chunk). before.0 ++ cs) (sym c.in-Some.ensures.coming) ∙ before.1 in
     next-within c.args.file.now.place c.loop-chunk.file.place (2 ^ 62) (coming c.args.chunks) before.0 (coming c.next.new.self) c.in-Some.chunk is before.2.place
-    c.requires.in_reach
+    c.requires.may_lay.in_reach
 
 pub returns-in_err-put : goal.returns-in_err-put
 returns-in_err-put g c =

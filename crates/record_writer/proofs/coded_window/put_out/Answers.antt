@@ -22,14 +22,14 @@ returns-in_err-put_in_order g c =
     (record {
       whole = tt;
       front = LaysFront-behind _ _ _ c.args.file.now c.flush.new.self c.put_in_order.new.file _ _
-          (Lays-flushed _ _ c.args.file.now c.flush.new.self c.requires.going c.flush.ensures.emptied c.in_ok-flush.ensures.made.whole)
+          (Lays-flushed _ _ c.args.file.now c.flush.new.self c.requires.may_lay.going c.flush.ensures.emptied c.in_ok-flush.ensures.made.whole)
           c.in_err-put_in_order.ensures.front;
       counts = search rules;
     })
 
 pub returns : goal.returns
 returns g c =
-    let first = Lays-flushed _ _ c.args.file.now c.flush.new.self c.requires.going c.flush.ensures.emptied c.in_ok-flush.ensures.made.whole in
+    let first = Lays-flushed _ _ c.args.file.now c.flush.new.self c.requires.may_lay.going c.flush.ensures.emptied c.in_ok-flush.ensures.made.whole in
     record {
       whole = Lays-out c.flush-2.result _ _ _ _ c.args.file.now c.flush.new.self c.put_in_order.new.file c.flush-2.new.self _ first
           c.in_ok-put_in_order.ensures.whole c.flush-2.ensures.emptied c.flush-2.ensures.made.whole;

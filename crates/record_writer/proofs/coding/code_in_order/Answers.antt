@@ -29,5 +29,5 @@ returns g c =
     let groups = c.args.groups.now in
     let chunks = c.in_ok-chunks.chunks.items in
     IfOk-weaker c.in_order.result (λ (order : Reordering). order ≡ with_each (reordering_from 0 (length groups)) (paired chunks)) (AreInOrder (map chunk_of groups))
-    (λ order is. in_order-held chunk_of groups chunks order (window g (goal.at.returns g c).After-finish) c.requires.some c.requires.few is)
+    (λ order is. in_order-held chunk_of groups chunks order (window g (goal.at.returns g c).After-finish) c.requires.groups.some c.requires.groups.few is)
     c.in_order.ensures

@@ -18,34 +18,43 @@ use Rattle.record_writer.proofs.engine.put_groups.Goals as goal
 pub loop-part-init : goal.loop-part-init
 loop-part-init g c = record {
   laid = ([], Lays-none _ c.args.file.now c.requires.going, c.begin-part.ensures.taken);
-  ready = c.begin-part.ensures.ready;
-  free = c.begin-part.ensures.free;
+  windows = c.begin-part.ensures.windows;
   made = search rules;
 }
 
-pub go_on-requires-clause-in_reach : goal.go_on-requires-clause-in_reach
-go_on-requires-clause-in_reach g c =
+pub go_on-requires-clause-may_lay : goal.go_on-requires-clause-may_lay
+go_on-requires-clause-may_lay g c κs within =
     let before = c.loop-part.invariant.laid in
     let held = g.W.Window.groups c.loop-part.pipeline.next ++ g.W.Window.groups c.loop-part.pipeline.coming.taken in
     let near : end_of_chunks c.loop-part.file.place (chunks_of_groups held) ≤ 2 ^ 61 =
     reach_of-window c.args.file.now.place c.loop-part.file.place before.0 held c.loop-part.pipeline.coming.taker (g.L.RecordFeed.bound c.loop-part.feed) (2 ^ 61)
     before.1.place (omega (arith, before.2.in_reach c.args.file.now.place, c.requires.in_reach)) in
-    omega (
-      arith,
-      within-before c.loop-part.file.place (2 ^ 61) (g.W.Window.groups c.loop-part.pipeline.next) (g.W.Window.groups c.loop-part.pipeline.coming.taken) near,
-    )
+    record {
+      going = before.1.going;
+      in_reach = omega (
+        arith,
+        within-before c.loop-part.file.place (2 ^ 61) (g.W.Window.groups c.loop-part.pipeline.next) (g.W.Window.groups c.loop-part.pipeline.coming.taken) near,
+      );
+    }
 
-pub returns-in_err-part-in-Ok-Window-clause-front : goal.returns-in_err-part-in-Ok-Window-clause-front
-returns-in_err-part-in-Ok-Window-clause-front g c =
+pub returns-in_err-part-in-Ok-Window-clause-put : goal.returns-in_err-part-in-Ok-Window-clause-put
+returns-in_err-part-in-Ok-Window-clause-put g c =
     let before = c.loop-part.invariant.laid in
     let first = g.W.Window.groups c.loop-part.pipeline.next in
     let taken = g.W.Window.groups c.loop-part.pipeline.coming.taken in
     let p = err_from_is_err_and c.from_residual.result c.from_residual.ensures.1 in
     rw (p.1, p.2)
-    (LaysFront-taken c.loop-part.part _ (g.L.RecordFeed.rest c.loop-part.feed) _ c.loop-part.pipeline.coming.taker (before.0 ++ (first ++ taken)) _ _ _ _ before.2.given_of
-    (LaysFront-all _ _ _ _ c.loop-part.file c.go_on.new.file (before.0 ++ (first ++ taken)) before.0 (first ++ taken) refl before.1
-    (LaysFront-more _ _ c.loop-part.file c.go_on.new.file first taken
-    (LaysFront-where _ _ c.loop-part.file c.go_on.new.file _ (made_told c.in_err-part-in-Ok-Window.field-0.0) c.in_err-part-in-Ok-Window.ensures.front))))
+    (record {
+      stop = tt;
+      whole = tt;
+      front = LaysFront-taken c.loop-part.part _ (g.L.RecordFeed.rest c.loop-part.feed) _ c.loop-part.pipeline.coming.taker (before.0 ++ (first ++ taken)) _ _ _ _ before.2.given_of
+          (LaysFront-all _ _ _ _ c.loop-part.file c.go_on.new.file (before.0 ++ (first ++ taken)) before.0 (first ++ taken) refl before.1
+          (LaysFront-more _ _ c.loop-part.file c.go_on.new.file first taken
+          (LaysFront-where _ _ c.loop-part.file c.go_on.new.file _ (made_told c.in_err-part-in-Ok-Window.field-0.0) c.in_err-part-in-Ok-Window.ensures.laid.front)));
+      drained = search rules;
+      feed = search rules;
+      made = search rules;
+    })
 
 pub loop-part-preserved : goal.loop-part-preserved
 loop-part-preserved g c =
@@ -57,7 +66,7 @@ loop-part-preserved g c =
     record {
       laid = (
         before.0 ++ first,
-        Lays-all _ _ _ _ c.loop-part.file c.go_on.new.file (before.0 ++ first) before.0 first refl before.1 c.in_ok-part-in-Ok-Window.ensures.whole,
+        Lays-all _ _ _ _ c.loop-part.file c.go_on.new.file (before.0 ++ first) before.0 first refl before.1 c.in_ok-part-in-Ok-Window.ensures.laid.whole,
         TakesGroups-moved _ _ g.L.RecordFeed.rest g.L.RecordFeed.bound g.L.RecordFeed.going g.L.RecordFeed.origin g.L.RecordFeed.faults
             c.args.feed.now c.loop-part.feed c.go_on.new.feed c.args.pipeline.now.coming.taker c.loop-part.pipeline.coming.taker c.go_on.new.self.coming.taker
             before.0 first taken next.0 (g.W.Window.groups c.go_on.new.self.next ++ g.W.Window.groups c.go_on.new.self.coming.taken)
@@ -67,60 +76,67 @@ loop-part-preserved g c =
             (before.0 ++ (first ++ taken)) t) more before.2)
             next.2,
       );
-      ready = c.in_ok-part-in-Ok-Window.ensures.ready;
-      free = c.in_ok-part-in-Ok-Window.ensures.free;
+      windows = c.in_ok-part-in-Ok-Window.ensures.windows;
       made = search rules;
     }
 
-pub finish-requires-clause-in_reach : goal.finish-requires-clause-in_reach
-finish-requires-clause-in_reach g c =
+pub finish-requires-clause-may_lay : goal.finish-requires-clause-may_lay
+finish-requires-clause-may_lay g c κs within =
     let before = c.loop-part.invariant.laid in
     let held = g.W.Window.groups c.loop-part.pipeline.next ++ g.W.Window.groups c.loop-part.pipeline.coming.taken in
     let near : end_of_chunks c.loop-part.file.place (chunks_of_groups held) ≤ 2 ^ 61 =
     reach_of-window c.args.file.now.place c.loop-part.file.place before.0 held c.loop-part.pipeline.coming.taker (g.L.RecordFeed.bound c.loop-part.feed) (2 ^ 61)
     before.1.place (omega (arith, before.2.in_reach c.args.file.now.place, c.requires.in_reach)) in
-    omega (arith, near)
+    record { going = before.1.going; in_reach = omega (arith, near) }
 
-pub returns-in_err-finish-clause-front : goal.returns-in_err-finish-clause-front
-returns-in_err-finish-clause-front g c =
+pub returns-in_err-finish-clause-put : goal.returns-in_err-finish-clause-put
+returns-in_err-finish-clause-put g c =
     let before = c.loop-part.invariant.laid in
     let held = g.W.Window.groups c.loop-part.pipeline.next ++ g.W.Window.groups c.loop-part.pipeline.coming.taken in
     let p = err_from_is_err_and c.from_residual-in_err-finish.result c.from_residual-in_err-finish.ensures.1 in
     rw (p.1, p.2)
-    (LaysFront-taken c.loop-part.part _ (g.L.RecordFeed.rest c.loop-part.feed) _ c.loop-part.pipeline.coming.taker (before.0 ++ held) _ _ _ _ before.2.given_of
-    (LaysFront-all _ _ _ _ c.loop-part.file c.finish.new.file (before.0 ++ held) before.0 held refl before.1
-    (LaysFront-where _ _ c.loop-part.file c.finish.new.file _ (made_told c.in_err-finish.field-0.0) c.in_err-finish.ensures.front)))
+    (record {
+      stop = tt;
+      whole = tt;
+      front = LaysFront-taken c.loop-part.part _ (g.L.RecordFeed.rest c.loop-part.feed) _ c.loop-part.pipeline.coming.taker (before.0 ++ held) _ _ _ _ before.2.given_of
+          (LaysFront-all _ _ _ _ c.loop-part.file c.finish.new.file (before.0 ++ held) before.0 held refl before.1
+          (LaysFront-where _ _ c.loop-part.file c.finish.new.file _ (made_told c.in_err-finish.field-0.0) c.in_err-finish.ensures.front));
+      drained = search rules;
+      feed = search rules;
+      made = search rules;
+    })
 
-pub returns-clause-whole : goal.returns-clause-whole
-returns-clause-whole g c =
+pub returns-clause-put : goal.returns-clause-put
+returns-clause-put g c =
     let before = c.loop-part.invariant.laid in
     let held = g.W.Window.groups c.loop-part.pipeline.next ++ g.W.Window.groups c.loop-part.pipeline.coming.taken in
     let laid = Lays-all _ _ _ c.args.file.now c.loop-part.file c.finish.new.file (before.0 ++ held) before.0 held refl before.1 c.in_ok-finish.ensures.whole in
-    elim c.match-part.branch [
-      | goal.in-Ok-All w ↦
-          let ended : c.loop-part.part ≡ Ok (All w.in-Ok-All.stop) = search rules in
-          rw w.end-is
-          (Lays-taken w.in-Ok-All.stop (g.L.RecordFeed.rest c.args.feed.now) (g.L.RecordFeed.rest c.loop-part.feed) c.args.pipeline.now.coming.taker
-          c.loop-part.pipeline.coming.taker (before.0 ++ held) _ _ _ _
-          (subst (λ (t : Result FeedPart TakeEnd). AreTaken t (g.L.RecordFeed.rest c.args.feed.now) (g.L.RecordFeed.rest c.loop-part.feed) c.args.pipeline.now.coming.taker
-          c.loop-part.pipeline.coming.taker (before.0 ++ held)) ended before.2.given_of)
-          laid)
-      | goal.in-Err w ↦ rw w.end-is tt
-    ]
-
-pub returns-clause-front : goal.returns-clause-front
-returns-clause-front g c =
-    let before = c.loop-part.invariant.laid in
-    let held = g.W.Window.groups c.loop-part.pipeline.next ++ g.W.Window.groups c.loop-part.pipeline.coming.taken in
     let done : c.match-part.end ≢ Err Made =
     elim c.match-part.branch [
       | goal.in-Ok-All w ↦ rw w.end-is (λ is. cc is)
       | goal.in-Err w ↦ rw (w.end-is, w.from.ensures) (not_made w.in-Err.end)
     ] in
-    OnErr-any _
-    (LaysFront-taken c.loop-part.part _ (g.L.RecordFeed.rest c.loop-part.feed) _ c.loop-part.pipeline.coming.taker (before.0 ++ held) _ _ _ _ before.2.given_of
-    (LaysFront-all _ _ _ _ c.loop-part.file c.finish.new.file (before.0 ++ held) before.0 held refl before.1
-    (LaysFront-whole _ _ _ _ _ done c.in_ok-finish.ensures.whole)))
+    record {
+      stop = search rules;
+      whole = elim c.match-part.branch [
+        | goal.in-Ok-All w ↦
+            let ended : c.loop-part.part ≡ Ok (All w.in-Ok-All.stop) = search rules in
+            rw w.end-is
+            (Lays-taken w.in-Ok-All.stop (g.L.RecordFeed.rest c.args.feed.now) (g.L.RecordFeed.rest c.loop-part.feed) c.args.pipeline.now.coming.taker
+            c.loop-part.pipeline.coming.taker (before.0 ++ held) _ _ _ _
+            (subst (λ (t : Result FeedPart TakeEnd). AreTaken t (g.L.RecordFeed.rest c.args.feed.now) (g.L.RecordFeed.rest c.loop-part.feed) c.args.pipeline.now.coming.taker
+            c.loop-part.pipeline.coming.taker (before.0 ++ held)) ended before.2.given_of)
+            laid)
+        | goal.in-Err w ↦ rw w.end-is tt
+      ];
+      front = OnErr-any _
+          (LaysFront-taken c.loop-part.part _ (g.L.RecordFeed.rest c.loop-part.feed) _ c.loop-part.pipeline.coming.taker (before.0 ++ held) _ _ _ _ before.2.given_of
+          (LaysFront-all _ _ _ _ c.loop-part.file c.finish.new.file (before.0 ++ held) before.0 held refl before.1
+          (LaysFront-whole _ _ _ _ _ done c.in_ok-finish.ensures.whole)));
+      drained = search rules;
+      feed = search rules;
+      made = search rules;
+    }
 
 pub returns-clause-place : goal.returns-clause-place
 returns-clause-place g c =

@@ -1,7 +1,7 @@
-use Rattle.std.proofs.Common.{◌≡◌, ℕ, ◌++◌, List, []}
+use Rattle.std.proofs.Common.{ℕ, ◌++◌, List}
 use Rattle.record_io.specs.Calls.{OnlyCounts}
 use Rattle.record_writer.specs.MadeFiles.{Lays, chunks_of_groups}
-use Rattle.record_writer.specs.Windows.{TakesGroups}
+use Rattle.record_writer.specs.Windows.{StandInOrder, TakesGroups}
 use Rattle.record_writer.proofs.Windows.{to_take}
 use Rattle.record_writer.proofs.engine.put_groups.Given as goal
 
@@ -12,8 +12,7 @@ invariant-loop-part g l = record {
       × TakesGroups g.L.RecordFeed.rest g.L.RecordFeed.bound g.L.RecordFeed.going g.L.RecordFeed.origin g.L.RecordFeed.faults
       l.fn.feed l.feed l.fn.pipeline.coming.taker l.pipeline.coming.taker
       (given ++ (g.W.Window.groups l.pipeline.next ++ g.W.Window.groups l.pipeline.coming.taken)) l.part;
-  ready : g.W.Window.ready l.pipeline.next;
-  free : g.W.Window.groups l.pipeline.coming.free ≡ [];
+  windows : StandInOrder g.W.Window.groups g.W.Window.ready l.pipeline.next l.pipeline.coming.free;
   made : OnlyCounts g.M.Sink.lent g.M.Sink.faults ⊥ l.fn.made l.made;
 }
 

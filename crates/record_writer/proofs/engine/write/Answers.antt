@@ -15,7 +15,7 @@ use Rattle.record_writer.proofs.engine.write.Goals as goal
 pub returns-in_err-flush : goal.returns-in_err-flush
 returns-in_err-flush g c =
     let p = err_from_is_err_and c.from_residual.result c.from_residual.ensures.1 in
-    let put = c.put_chunks-stop.ensures in
+    let put = c.put_chunks-stop.ensures.put in
     rw (p.1, p.2)
     (record {
       written = record {
@@ -32,7 +32,7 @@ returns-in_err-flush g c =
 pub returns-in_err-stop : goal.returns-in_err-stop
 returns-in_err-stop g c =
     let p = err_from_is_err_and c.from_residual-in_err-stop.result c.from_residual-in_err-stop.ensures.1 in
-    let put = c.put_chunks-stop.ensures in
+    let put = c.put_chunks-stop.ensures.put in
     let front : TakesFront (g.M.Sink.taken c.put_chunks-stop.new.made) (g.M.Sink.taken c.if-is_ok.made) c.put_chunks-stop.new.file.held =
     elim c.if-is_ok.branch [
       | goal.then-is_ok+in_ok-flush w ↦ rw w.made-is (TakesFront-whole _ _ _ w.in_ok-flush.ensures.made.whole)
@@ -53,7 +53,7 @@ returns-in_err-stop g c =
 
 pub returns : goal.returns
 returns g c =
-    let put = c.put_chunks-stop.ensures in
+    let put = c.put_chunks-stop.ensures.put in
     let same : totals_made c.if-is_ok.file ≡ totals_made c.put_chunks-stop.new.file =
     elim c.if-is_ok.branch [
       | goal.then-is_ok+in_ok-flush w ↦ rw w.file-is w.flush.ensures.same_totals
@@ -78,5 +78,5 @@ returns g c =
         feed = search rules;
         made_counts = search rules;
       };
-      behind = IfOk-ended _ c.in_ok-stop.field-0 c.totals-2.result (omega (arith, where_done _ _ c.in_ok-stop.was put.behind, ap (λ (t : Totals). t.bytes) (c.totals-2.ensures.counted ∙ same)));
+      behind = IfOk-ended _ c.in_ok-stop.field-0 c.totals-2.result (omega (arith, where_done _ _ c.in_ok-stop.was c.put_chunks-stop.ensures.behind, ap (λ (t : Totals). t.bytes) (c.totals-2.ensures.counted ∙ same)));
     })

@@ -26,6 +26,6 @@ returns-clause-laid g c =
           let none : c.args.self.now.groups ≡ [] = c.requires.ready (search rules) in
           rw (w.file-is, w.made-is)
           (subst (λ (gs : List (List (List ℕ))). Lays (g.M.Sink.taken c.args.made.now) (g.M.Sink.taken c.args.made.now) c.args.file.now c.args.file.now
-          (chunks_of_groups gs)) (sym none) (Lays-none _ c.args.file.now c.requires.going))
+          (chunks_of_groups gs)) (sym none) (Lays-none _ c.args.file.now c.requires.may_lay.going))
     ] in
     record { whole = whole; front = tt; counts = search rules }

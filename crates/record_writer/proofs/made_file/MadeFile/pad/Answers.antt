@@ -1,4 +1,4 @@
-use Rattle.std.proofs.Common.{refl, ap, inl, inr, arith}
+use Rattle.std.proofs.Common.{refl, ap, inl, inr, arith, rules}
 use Rattle.std.proofs.lemmas.Result.{err_from_is_err_and}
 use Rattle.meta_chunk.specs.PaddingSizes.{padding_at}
 use Rattle.meta_chunk.proofs.Joins.{end_of_chunks_past}
@@ -6,11 +6,15 @@ use Rattle.ordered_writer.specs.Writers.{Writer}
 use Rattle.record_writer.proofs.Layings.{LaysFront-failed, Lays-padding}
 use Rattle.record_writer.proofs.made_file.MadeFile.pad.Goals as goal
 
-pub returns-in_err-pad_into-clause-front : goal.returns-in_err-pad_into-clause-front
-returns-in_err-pad_into-clause-front g c =
+pub returns-in_err-pad_into-clause-laid : goal.returns-in_err-pad_into-clause-laid
+returns-in_err-pad_into-clause-laid g c =
     let p = err_from_is_err_and c.from_residual.result c.from_residual.ensures.1 in
     rw (p.1, ← c.self.view_is)
-    (LaysFront-failed _ _ _ _ _ c.in_err-pad_into.ensures.sink.emptied c.in_err-pad_into.ensures.sink.front)
+    (record {
+      whole = tt;
+      front = LaysFront-failed _ _ _ _ _ c.in_err-pad_into.ensures.sink.emptied c.in_err-pad_into.ensures.sink.front;
+      counts = search rules;
+    })
 
 pub invariant_of-self-else-begin-position : goal.invariant_of-self-else-begin-position
 invariant_of-self-else-begin-position g c =
@@ -20,22 +24,30 @@ invariant_of-self-else-begin-position g c =
       end_of_chunks_past c.self.inside.writer.position (padding_at c.self.inside.writer.position),
     )
 
-pub returns-then-begin-position-clause-whole : goal.returns-then-begin-position-clause-whole
-returns-then-begin-position-clause-whole g c =
+pub returns-then-begin-position-clause-laid : goal.returns-then-begin-position-clause-laid
+returns-then-begin-position-clause-laid g c =
     rw (← c.self.view_is)
-    (Lays-padding _ _ _ _ c.in_ok-pad_into.ensures.sink.whole
-    (ap (λ (w : Writer). w.position) c.in_ok-pad_into.ensures.moved)
-    (ap (λ (w : Writer). w.spent) c.in_ok-pad_into.ensures.moved)
-    refl
-    refl
-    (inl (omega arith, refl)))
+    (record {
+      whole = Lays-padding _ _ _ _ c.in_ok-pad_into.ensures.sink.whole
+          (ap (λ (w : Writer). w.position) c.in_ok-pad_into.ensures.moved)
+          (ap (λ (w : Writer). w.spent) c.in_ok-pad_into.ensures.moved)
+          refl
+          refl
+          (inl (omega arith, refl));
+      front = tt;
+      counts = search rules;
+    })
 
-pub returns-else-begin-position-clause-whole : goal.returns-else-begin-position-clause-whole
-returns-else-begin-position-clause-whole g c =
+pub returns-else-begin-position-clause-laid : goal.returns-else-begin-position-clause-laid
+returns-else-begin-position-clause-laid g c =
     rw (← c.self.view_is)
-    (Lays-padding _ _ _ _ c.in_ok-pad_into.ensures.sink.whole
-    (ap (λ (w : Writer). w.position) c.in_ok-pad_into.ensures.moved)
-    (ap (λ (w : Writer). w.spent) c.in_ok-pad_into.ensures.moved)
-    refl
-    refl
-    (inr (omega arith, refl)))
+    (record {
+      whole = Lays-padding _ _ _ _ c.in_ok-pad_into.ensures.sink.whole
+          (ap (λ (w : Writer). w.position) c.in_ok-pad_into.ensures.moved)
+          (ap (λ (w : Writer). w.spent) c.in_ok-pad_into.ensures.moved)
+          refl
+          refl
+          (inr (omega arith, refl));
+      front = tt;
+      counts = search rules;
+    })

@@ -27,7 +27,7 @@ end_is g c begin = ap (end_of_chunk begin) (value_is g c)
 
 pub put_parts_into-requires : goal.put_parts_into-requires
 put_parts_into-requires g c =
-    let reach = rw (← c.self.view_is) at c.requires.in_reach in (
+    let reach = rw (← c.self.view_is) at c.requires.may_lay.in_reach in (
       search rules,
       (
         search rules,
@@ -38,13 +38,17 @@ put_parts_into-requires g c =
       ),
     )
 
-pub returns-in_err-put_parts_into-clause-front : goal.returns-in_err-put_parts_into-clause-front
-returns-in_err-put_parts_into-clause-front g c =
+pub returns-in_err-put_parts_into-clause-laid : goal.returns-in_err-put_parts_into-clause-laid
+returns-in_err-put_parts_into-clause-laid g c =
     let p = err_from_is_err_and c.from_residual.result c.from_residual.ensures.1 in
-    let is = laid_is g (goal.at.returns-in_err-put_parts_into-clause-front g c).After-data c.self.inside.writer.position in
+    let is = laid_is g (goal.at.returns-in_err-put_parts_into-clause-laid g c).After-data c.self.inside.writer.position in
     rw (p.1, ← c.self.view_is)
-    (LaysFront-one _ _ _ _ (simple_chunk c.args.chunk.now.records) c.in_err-put_parts_into.ensures.sink.emptied
-    (rw is at c.in_err-put_parts_into.ensures.sink.front))
+    (record {
+      whole = tt;
+      front = LaysFront-one _ _ _ _ (simple_chunk c.args.chunk.now.records) c.in_err-put_parts_into.ensures.sink.emptied
+          (rw is at c.in_err-put_parts_into.ensures.sink.front);
+      counts = search rules;
+    })
 
 -- the counts stay below where the chunk ends
 counts : (g : _) (c : After-put_parts_into g)
@@ -56,12 +60,12 @@ counts g c =
 
 pub overflow_add-self : goal.overflow_add-self
 overflow_add-self g c =
-    let reach = rw (← c.self.view_is) at c.requires.in_reach in
+    let reach = rw (← c.self.view_is) at c.requires.may_lay.in_reach in
     omega (arith, reach, c.self.invariant, counts g (goal.at.overflow_add-self g c).After-put_parts_into)
 
 pub overflow_add-self-2 : goal.overflow_add-self-2
 overflow_add-self-2 g c =
-    let reach = rw (← c.self.view_is) at c.requires.in_reach in
+    let reach = rw (← c.self.view_is) at c.requires.may_lay.in_reach in
     omega (arith, reach, counts g (goal.at.overflow_add-self-2 g c).After-put_parts_into)
 
 pub invariant_of-self-2 : goal.invariant_of-self-2
@@ -74,16 +78,20 @@ invariant_of-self-2 g c =
       counts g (goal.at.invariant_of-self-2 g c).After-put_parts_into,
     )
 
-pub returns-clause-whole : goal.returns-clause-whole
-returns-clause-whole g c =
-    let at = (goal.at.returns-clause-whole g c).After-data in
+pub returns-clause-laid : goal.returns-clause-laid
+returns-clause-laid g c =
+    let at = (goal.at.returns-clause-laid g c).After-data in
     let is = laid_is g at c.self.inside.writer.position in
     rw (← c.self.view_is)
-    (Lays-read _ _ _ _ (simple_chunk c.args.chunk.now.records)
-    (rw is at c.in_ok-put_parts_into.ensures.sink.whole)
-    (ap (λ (w : Writer). w.position) c.in_ok-put_parts_into.ensures.moved ∙ end_is g at c.self.inside.writer.position)
-    (ap (λ (w : Writer). w.spent) c.in_ok-put_parts_into.ensures.moved)
-    (omega arith)
-    refl
-    (omega (arith, c.header-header.ensures.num_records))
-    (omega arith))
+    (record {
+      whole = Lays-read _ _ _ _ (simple_chunk c.args.chunk.now.records)
+          (rw is at c.in_ok-put_parts_into.ensures.sink.whole)
+          (ap (λ (w : Writer). w.position) c.in_ok-put_parts_into.ensures.moved ∙ end_is g at c.self.inside.writer.position)
+          (ap (λ (w : Writer). w.spent) c.in_ok-put_parts_into.ensures.moved)
+          (omega arith)
+          refl
+          (omega (arith, c.header-header.ensures.num_records))
+          (omega arith);
+      front = tt;
+      counts = search rules;
+    })

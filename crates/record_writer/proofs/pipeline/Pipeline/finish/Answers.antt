@@ -9,59 +9,81 @@ use Rattle.record_writer.proofs.Given.{Lays-all, LaysFront-all, LaysFront-more}
 use Rattle.record_writer.proofs.Reaches.{within-before, within-behind}
 use Rattle.record_writer.proofs.pipeline.Pipeline.finish.Goals as goal
 
-pub put_and_code-put-requires-clause-in_reach : goal.put_and_code-put-requires-clause-in_reach
-put_and_code-put-requires-clause-in_reach g c κs within =
-    within-before c.args.file.now.place (2 ^ 62) (g.W.Window.groups c.args.self.now.next) (g.W.Window.groups c.args.self.now.coming.taken) c.requires.in_reach
+pub put_and_code-put-requires-clause-may_lay : goal.put_and_code-put-requires-clause-may_lay
+put_and_code-put-requires-clause-may_lay g c κs within = record {
+  going = c.requires.may_lay.going;
+  in_reach = within-before c.args.file.now.place (2 ^ 62) (g.W.Window.groups c.args.self.now.next) (g.W.Window.groups c.args.self.now.coming.taken)
+      c.requires.may_lay.in_reach;
+}
 
-pub returns-in_err-put-clause-front : goal.returns-in_err-put-clause-front
-returns-in_err-put-clause-front g c =
+pub returns-in_err-put : goal.returns-in_err-put
+returns-in_err-put g c =
     let first = g.W.Window.groups c.args.self.now.next in
     let failed : IsErr c.put_and_code-put.result.0 = search rules in
     let front : LaysFront (IsErr c.put_and_code-put.result.0) (g.M.Sink.taken c.args.made.now) (g.M.Sink.taken c.put_and_code-put.new.made)
     c.args.file.now c.put_and_code-put.new.file (chunks_of_groups first) = search rules in
-    OnErr-any _
-    (LaysFront-more _ _ c.args.file.now c.put_and_code-put.new.file first (g.W.Window.groups c.args.self.now.coming.taken)
-    (LaysFront-where _ _ c.args.file.now c.put_and_code-put.new.file _ (λ _. failed) front))
+    record {
+      whole = search rules;
+      front = OnErr-any _
+          (LaysFront-more _ _ c.args.file.now c.put_and_code-put.new.file first (g.W.Window.groups c.args.self.now.coming.taken)
+          (LaysFront-where _ _ c.args.file.now c.put_and_code-put.new.file _ (λ _. failed) front));
+      counts = search rules;
+    }
 
-pub returns-in_err-coded-clause-front : goal.returns-in_err-coded-clause-front
-returns-in_err-coded-clause-front g c =
+pub returns-in_err-coded : goal.returns-in_err-coded
+returns-in_err-coded g c =
     let first = g.W.Window.groups c.args.self.now.next in
     let laid : Lays (g.M.Sink.taken c.args.made.now) (g.M.Sink.taken c.put_and_code-put.new.made) c.args.file.now c.put_and_code-put.new.file
     (chunks_of_groups first) = search rules in
     let p = err_from_is_err_and c.from_residual-in_err-coded.result c.from_residual-in_err-coded.ensures.1 in
     rw (p.1, p.2)
-    (LaysFront-more _ _ c.args.file.now c.put_and_code-put.new.file first (g.W.Window.groups c.args.self.now.coming.taken)
-    (LaysFront-whole _ _ _ _ _ (λ is. cc is) laid))
+    (record {
+      whole = tt;
+      front = LaysFront-more _ _ c.args.file.now c.put_and_code-put.new.file first (g.W.Window.groups c.args.self.now.coming.taken)
+          (LaysFront-whole _ _ _ _ _ (λ is. cc is) laid);
+      counts = search rules;
+    })
 
-pub put-requires-clause-in_reach : goal.put-requires-clause-in_reach
-put-requires-clause-in_reach g c =
+pub put-requires-clause-may_lay : goal.put-requires-clause-may_lay
+put-requires-clause-may_lay g c =
     let first = g.W.Window.groups c.args.self.now.next in
     let taken = g.W.Window.groups c.args.self.now.coming.taken in
     let laid : Lays (g.M.Sink.taken c.args.made.now) (g.M.Sink.taken c.put_and_code-put.new.made) c.args.file.now c.put_and_code-put.new.file
     (chunks_of_groups first) = search rules in
     let same : g.W.Window.groups c.put_and_code-put.new.self.coming.taken ≡ taken = search rules in
-    rw same (within-behind c.args.file.now.place c.put_and_code-put.new.file.place (2 ^ 62) first taken laid.place c.requires.in_reach)
+    record {
+      going = laid.going;
+      in_reach = rw same (within-behind c.args.file.now.place c.put_and_code-put.new.file.place (2 ^ 62) first taken laid.place c.requires.may_lay.in_reach);
+    }
 
-pub returns-in_err-put-2-clause-front : goal.returns-in_err-put-2-clause-front
-returns-in_err-put-2-clause-front g c =
+pub returns-in_err-put-2 : goal.returns-in_err-put-2
+returns-in_err-put-2 g c =
     let first = g.W.Window.groups c.args.self.now.next in
     let taken = g.W.Window.groups c.args.self.now.coming.taken in
     let laid : Lays (g.M.Sink.taken c.args.made.now) (g.M.Sink.taken c.put_and_code-put.new.made) c.args.file.now c.put_and_code-put.new.file
     (chunks_of_groups first) = search rules in
     let same : g.W.Window.groups c.put_and_code-put.new.self.coming.taken ≡ taken = search rules in
-    OnErr-any _
-    (LaysFront-all _ _ _ c.args.file.now c.put_and_code-put.new.file c.put.new.file (first ++ taken) first taken refl laid
-    (subst (λ (gs : List (List (List ℕ))). LaysFront (c.from_residual-in_err-put-2.result ≡ Err Made) (g.M.Sink.taken c.put_and_code-put.new.made)
-    (g.M.Sink.taken c.put.new.made) c.put_and_code-put.new.file c.put.new.file (chunks_of_groups gs)) same
-    (LaysFront-where _ _ c.put_and_code-put.new.file c.put.new.file _ (λ _. refl) c.in_err-put-2.ensures.laid.front)))
+    record {
+      whole = search rules;
+      front = OnErr-any _
+          (LaysFront-all _ _ _ c.args.file.now c.put_and_code-put.new.file c.put.new.file (first ++ taken) first taken refl laid
+          (subst (λ (gs : List (List (List ℕ))). LaysFront (c.from_residual-in_err-put-2.result ≡ Err Made) (g.M.Sink.taken c.put_and_code-put.new.made)
+          (g.M.Sink.taken c.put.new.made) c.put_and_code-put.new.file c.put.new.file (chunks_of_groups gs)) same
+          (LaysFront-where _ _ c.put_and_code-put.new.file c.put.new.file _ (λ _. refl) c.in_err-put-2.ensures.laid.front)));
+      counts = search rules;
+    }
 
-pub returns-clause-whole : goal.returns-clause-whole
-returns-clause-whole g c =
+pub returns : goal.returns
+returns g c =
     let first = g.W.Window.groups c.args.self.now.next in
     let taken = g.W.Window.groups c.args.self.now.coming.taken in
     let laid : Lays (g.M.Sink.taken c.args.made.now) (g.M.Sink.taken c.put_and_code-put.new.made) c.args.file.now c.put_and_code-put.new.file
     (chunks_of_groups first) = search rules in
     let same : g.W.Window.groups c.put_and_code-put.new.self.coming.taken ≡ taken = search rules in
-    Lays-all _ _ _ c.args.file.now c.put_and_code-put.new.file c.put.new.file (first ++ taken) first taken refl laid
-    (subst (λ (gs : List (List (List ℕ))). Lays (g.M.Sink.taken c.put_and_code-put.new.made) (g.M.Sink.taken c.put.new.made) c.put_and_code-put.new.file
-    c.put.new.file (chunks_of_groups gs)) same c.in_ok-put-2.ensures.laid.whole)
+    record {
+      whole = Lays-all _ _ _ c.args.file.now c.put_and_code-put.new.file c.put.new.file (first ++ taken) first taken refl laid
+          (subst (λ (gs : List (List (List ℕ))). Lays (g.M.Sink.taken c.put_and_code-put.new.made) (g.M.Sink.taken c.put.new.made) c.put_and_code-put.new.file
+          c.put.new.file (chunks_of_groups gs)) same c.in_ok-put-2.ensures.laid.whole);
+      front = tt;
+      counts = search rules;
+    }

@@ -12,7 +12,7 @@ loop-i-init g c = record {
   count = refl;
   held = omega (arith, c.self.invariant);
   groups = c.self.view_is;
-  laid = Lays-none _ c.args.file.now c.requires.going;
+  laid = Lays-none _ c.args.file.now c.requires.may_lay.going;
   counts = search rules;
 }
 
@@ -23,12 +23,15 @@ there g c =
     group-at c.loop-i.self-inside.chunks.items c.loop-i.self-inside.count c.args.self.now c.loop-i.i c.index_mut-chunk.result.now c.loop-i.invariant.groups
     (omega (arith, c.loop-i-test.true, c.loop-i.invariant.count)) c.loop-i.invariant.held c.index_mut-chunk.ensures.value
 
-pub put_simple-requires-clause-in_reach : goal.put_simple-requires-clause-in_reach
-put_simple-requires-clause-in_reach g c =
-    let there = there g (goal.at.put_simple-requires-clause-in_reach g c).After-encode in
+pub put_simple-requires-clause-may_lay : goal.put_simple-requires-clause-may_lay
+put_simple-requires-clause-may_lay g c =
+    let there = there g (goal.at.put_simple-requires-clause-may_lay g c).After-encode in
     rw c.encode.ensures
-    (chunk-within c.args.file.now.place c.loop-i.file.place (2 ^ 62) c.args.self.now c.loop-i.i c.index_mut-chunk.result.now.records
-    there.0 there.1 c.loop-i.invariant.laid.place c.requires.in_reach)
+    (record {
+      going = c.loop-i.invariant.laid.going;
+      in_reach = chunk-within c.args.file.now.place c.loop-i.file.place (2 ^ 62) c.args.self.now c.loop-i.i c.index_mut-chunk.result.now.records
+          there.0 there.1 c.loop-i.invariant.laid.place c.requires.may_lay.in_reach;
+    })
 
 pub returns-in_err-put_simple-clause-laid : goal.returns-in_err-put_simple-clause-laid
 returns-in_err-put_simple-clause-laid g c =
@@ -38,7 +41,7 @@ returns-in_err-put_simple-clause-laid g c =
     (record {
       whole = tt;
       front = LaysFront-chunk _ _ _ c.args.file.now c.loop-i.file _ c.args.self.now c.loop-i.i c.index_mut-chunk.result.now.records
-          there.0 there.1 c.loop-i.invariant.laid (rw c.encode.ensures at c.in_err-put_simple.ensures.front);
+          there.0 there.1 c.loop-i.invariant.laid (rw c.encode.ensures at c.in_err-put_simple.ensures.laid.front);
       counts = search rules;
     })
 
@@ -51,6 +54,6 @@ loop-i-preserved g c =
       groups = groups-kept c.loop-i.self-inside.chunks.items c.loop-i.self-inside.count c.args.self.now c.loop-i.i c.index_mut-chunk.result.now c.encode.new.self
           c.loop-i.invariant.groups c.index_mut-chunk.ensures.value (ap (λ (chunk : SimpleValue). chunk.records) c.encode.ensures);
       laid = Lays-chunk _ _ _ c.args.file.now c.loop-i.file _ c.args.self.now c.loop-i.i c.index_mut-chunk.result.now.records
-          there.0 there.1 c.loop-i.invariant.laid (rw c.encode.ensures at c.in_ok-put_simple.ensures.whole);
+          there.0 there.1 c.loop-i.invariant.laid (rw c.encode.ensures at c.in_ok-put_simple.ensures.laid.whole);
       counts = search rules;
     }
