@@ -91,16 +91,6 @@ cut_on bytes before after load.Store on =
 cut_on bytes before after load.Memory on =
     record { same_size = on.same_size; same_keep = on.same_keep; rises = on.rises; past = on.past; stopped = on.stopped }
 
-pub call_cut : (bytes : Option (List ℕ)) (told told_then : Option ℕ) (before after : Progress) (end : LoadEnd) (result : Result (Option Event) WalkEnd)
-    → result ≡ Err (walk_end_of end) → IsSized bytes (Some before.size) → StandsIn bytes told before → StandsIn bytes told_then after
-    → WalksOn bytes before after (Ok None)
-    → IfSome bytes (λ damaged.
-    (ks : List ChunkValue) (file : List ℕ) (intact : Intact) → length file ≤ 2 ^ 60 → IsDamaged ks file damaged intact
-    → WalksPastDamage ks intact before after result)
-call_cut bytes told told_then before after end result is sized stands stands_then on =
-    call_past bytes told told_then before after result sized stands stands_then
-    (subst (WalksOn bytes before after) (sym is) (cut_on bytes before after end on)) (λ none. absurd (cc (sym is ∙ none)))
-
 -- one that stays
 pub stays_told : (bytes : Option (List ℕ)) (keep : Bool) (place : ℕ) → IfSome bytes (λ file. GoesOn keep file place place [])
 stays_told None keep place = tt

@@ -9,7 +9,7 @@ use Rattle.meta_chunk.proofs.Begins.{begin_of-place, holder_of}
 use Rattle.chunk_reader.proofs.Rooms.{IsSized}
 use Rattle.chunk_reader.specs.declared.judging.LoadEnd.{LoadEnd}
 use Rattle.damage_skip.specs.Ends.{walk_end_of}
-use Rattle.damage_skip.specs.DamagedWalks.{WalksInFront}
+use Rattle.damage_skip.specs.DamagedWalks.{WalksInFront, WalksInRemains}
 use Rattle.damage_skip.specs.Fronts.{AreFrontPieces}
 use Rattle.damage_skip.specs.Pieces.{Piece, Skipped, AreTiles, ArePieces, GoesOn}
 use Rattle.damage_skip.specs.Walks.{IsMet, IsStoppedAt, StandsIn, events_of, stop_of, WalksOn}
@@ -17,7 +17,7 @@ use Rattle.damage_skip.specs.declared.events.Event.{Event}
 use Rattle.damage_skip.specs.declared.events.WalkEnd.{WalkEnd}
 use Rattle.damage_skip.specs.declared.progress.Progress.{Progress}
 use Rattle.damage_skip.specs.declared.regions.Region.{Region}
-use Rattle.damage_skip.proofs.DamagedWalks.{cut_on}
+use Rattle.damage_skip.proofs.DamagedWalks.{call_past, cut_on}
 use Rattle.damage_skip.proofs.OnePiece.{piece_one}
 use Rattle.damage_skip.proofs.Prefixes.{front_tiles, cut_between, cut_within}
 use Rattle.damage_skip.proofs.Tiles.{same_piece, tiles_within, tiles_one, tiles_to_end, tiles_append}
@@ -122,7 +122,7 @@ walks_in_front keep ks file front m before after result keeps frame within is (p
     }
 
 -- of a file that shows its bytes
-pub call_in_front : (bytes : Option (List ℕ)) (told told_then : Option ℕ) (before after : Progress) (result : Result (Option Event) WalkEnd)
+call_in_front : (bytes : Option (List ℕ)) (told told_then : Option ℕ) (before after : Progress) (result : Result (Option Event) WalkEnd)
     → IsSized bytes (Some before.size) → StandsIn bytes told before → StandsIn bytes told_then after → WalksOn bytes before after result
     → (result ≡ Ok None → after.place ≡ before.size)
     → IfSome bytes (λ front.
@@ -135,12 +135,18 @@ call_in_front (Some front) told told_then before after result sized stands stand
     (subst (λ (k : Bool). IsStoppedAt k front after.place (stop_of result)) on.same_keep
     (subst (IsStoppedAt after.keep front after.place) on.stopped stands_then.stopped_there))
 
-pub call_cut_in_front : (bytes : Option (List ℕ)) (told told_then : Option ℕ) (before after : Progress) (end : LoadEnd) (result : Result (Option Event) WalkEnd)
+-- and of one that may be a damaged one too
+pub in_remains : (bytes : Option (List ℕ)) (told told_then : Option ℕ) (before after : Progress) (result : Result (Option Event) WalkEnd)
+    → IsSized bytes (Some before.size) → StandsIn bytes told before → StandsIn bytes told_then after → WalksOn bytes before after result
+    → (result ≡ Ok None → after.place ≡ before.size) → WalksInRemains bytes before after result
+in_remains bytes told told_then before after result sized stands stands_then on ended = record {
+  damaged = call_past bytes told told_then before after result sized stands stands_then on ended;
+  cut = call_in_front bytes told told_then before after result sized stands stands_then on ended;
+}
+
+pub in_remains-cut_off : (bytes : Option (List ℕ)) (told told_then : Option ℕ) (before after : Progress) (end : LoadEnd) (result : Result (Option Event) WalkEnd)
     → result ≡ Err (walk_end_of end) → IsSized bytes (Some before.size) → StandsIn bytes told before → StandsIn bytes told_then after
-    → WalksOn bytes before after (Ok None)
-    → IfSome bytes (λ front.
-    (ks : List ChunkValue) (file : List ℕ) (m : ℕ) → IsFrame ks file → m ≤ length file → front ≡ take m file
-    → WalksInFront ks file m before after result)
-call_cut_in_front bytes told told_then before after end result is sized stands stands_then on =
-    call_in_front bytes told told_then before after result sized stands stands_then
+    → WalksOn bytes before after (Ok None) → WalksInRemains bytes before after result
+in_remains-cut_off bytes told told_then before after end result is sized stands stands_then on =
+    in_remains bytes told told_then before after result sized stands stands_then
     (subst (WalksOn bytes before after) (sym is) (cut_on bytes before after end on)) (λ none. absurd (cc (sym is ∙ none)))

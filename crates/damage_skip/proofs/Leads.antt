@@ -1,21 +1,14 @@
 -- Which headers at blocks contradict a chunk.
-use Rattle.std.proofs.Common.{◌≡◌, ℕ, ◌+◌, ◌-◌, ◌<◌, ◌≤◌, Option, Some, None, IfSome, List, inl, inr, subst, arith}
+use Rattle.std.proofs.Common.{◌≡◌, ℕ, ◌+◌, ◌-◌, ◌<◌, ◌≤◌, Option, Some, None, IfSome, List, inl, inr, refl, subst, arith}
 use Rattle.std.proofs.lemmas.Bool.{cases_lt}
-use Rattle.block_layout.specs.Layout.{IsBlock, blocks_below}
 use Rattle.block_layout.specs.BlockHeaders.{StandsAt}
 use Rattle.block_layout.specs.declared.block_header.BlockHeader.{BlockHeader}
+use Rattle.chunk_reader.specs.BlockJudges.{EachBlock, IsFirstRefused, StopsAtBlock, StopsAtBlockInChunk}
 use Rattle.chunk_reader.specs.Blocks.{IsSaneHeaderAt}
 use Rattle.chunk_reader.proofs.Blocks.{stands_one}
-use Rattle.damage_skip.specs.Steps.{LeadsTo}
+use Rattle.damage_skip.specs.Steps.{IsEndOf, LeadsTo, AgreesAt, DisagreesAt, limit_of}
 
--- where no block lies none contradicts
-pub leads-none : (bytes : Option (List ℕ)) (begin end from to : ℕ) → blocks_below to ≤ blocks_below from
-    → IfSome bytes (λ file. LeadsTo file begin end from to None)
-leads-none None begin end from to none = tt
-leads-none (Some file) begin end from to none =
-    λ block p n h. absurd (omega (arith, none, h.contradicts.stands.is_block, h.from_place, h.below))
-
--- nor where no header stands at the only block
+-- no header contradicts a chunk where none stands at the only block
 pub leads-unread : (bytes : Option (List ℕ)) (begin end block : ℕ) (found : Option BlockHeader) → found ≡ None
     → IfSome bytes (λ file. IsSaneHeaderAt file block found) → IfSome bytes (λ file. LeadsTo file begin end block (block + 1) None)
 leads-unread None begin end block found none at = tt
@@ -37,17 +30,6 @@ leads-agreed (Some file) begin end block found h is at agrees =
     elim other.contradicts.differs [
       | inl begins ↦ begins (omega (arith, place, same.0, agrees.0))
       | inr ends ↦ ends (omega (arith, place, same.1, agrees.1))
-    ]
-
--- nor behind the only block, up to the next one
-pub leads-past : (bytes : Option (List ℕ)) (begin end block to : ℕ) → IsBlock block → to ≤ block + 65536
-    → IfSome bytes (λ file. LeadsTo file begin end block (block + 1) None) → IfSome bytes (λ file. LeadsTo file begin end block to None)
-leads-past None begin end block to at near none = tt
-leads-past (Some file) begin end block to at near none =
-    λ b p n h.
-    elim (cases_lt b (block + 1)) [
-      | inl here ↦ none b p n (record { contradicts = h.contradicts; from_place = h.from_place; below = here })
-      | inr past ↦ absurd (omega (arith, at, h.contradicts.stands.is_block, past, h.below))
     ]
 
 -- equal answers lead to one place
@@ -114,14 +96,54 @@ leads-wider (Some file) begin end from to further place more (block, previous, n
   leads,
 )
 
--- and none contradicts up to a place before
-pub leads-narrower : (bytes : Option (List ℕ)) (begin end from to before : ℕ) → before ≤ to
-    → IfSome bytes (λ file. LeadsTo file begin end from to None) → IfSome bytes (λ file. LeadsTo file begin end from before None)
-leads-narrower None begin end from to before less none = tt
-leads-narrower (Some file) begin end from to before less none =
-    λ b p n h. none b p n (record { contradicts = h.contradicts; from_place = h.from_place; below = omega (arith, h.below) })
+-- a block within a chunk, and the places up to which its blocks may lie
+pub limit-file : (told : Option ℕ) (size block : ℕ) → block + 1 ≤ limit_of size told → block < size
+limit-file None size block within = omega (arith, within)
+limit-file (Some end) size block within = omega (arith, within)
 
--- a place before one that no end lies before
-pub ends-past : (end : Option ℕ) (place further : ℕ) → place < further → IfSome end (λ e. further ≤ e) → IfSome end (λ e. place < e)
-ends-past None place further before past = tt
-ends-past (Some e) place further before past = omega (arith, before, past)
+pub limit-chunk : (told : Option ℕ) (size block : ℕ) → block + 1 ≤ limit_of size told → IfSome told (λ e. block < e)
+limit-chunk None size block within = tt
+limit-chunk (Some end) size block within = omega (arith, within)
+
+pub limit-within : (told : Option ℕ) (size to : ℕ) → to ≤ size → IfSome told (λ e. to ≤ e) → to ≤ limit_of size told
+limit-within None size to in_file in_chunk = in_file
+limit-within (Some end) size to in_file in_chunk = omega (arith, in_file, in_chunk)
+
+-- what holds for each end holds of the file for each
+pub each_end : (bytes : Option (List ℕ)) (F : List ℕ → ℕ → Type 0) (told : Option ℕ)
+    → ((end : ℕ) → IsEndOf told end → IfSome bytes (λ file. F file end)) → IfSome bytes (λ file. (end : ℕ) → IsEndOf told end → F file end)
+each_end None F told each = tt
+each_end (Some file) F told each = each
+
+-- where each block agrees none contradicts
+none_of : (file : List ℕ) (begin end : ℕ) (told : Option ℕ) (from to : ℕ) → IsEndOf told end → EachBlock (AgreesAt begin told file) from to
+    → LeadsTo file begin end from to None
+none_of file begin end told from to is each =
+    λ b p n h.
+    each b h.contradicts.stands.is_block h.from_place h.below end is b p n
+    (record { contradicts = h.contradicts; from_place = omega arith; below = omega arith })
+
+pub agreed-none : (bytes : Option (List ℕ)) (begin end : ℕ) (told : Option ℕ) (from to : ℕ) → IsEndOf told end
+    → IfSome bytes (λ file. EachBlock (AgreesAt begin told file) from to) → IfSome bytes (λ file. LeadsTo file begin end from to None)
+agreed-none None begin end told from to is each = tt
+agreed-none (Some file) begin end told from to is each = none_of file begin end told from to is each
+
+-- and the first that doesn't agree leads
+first_of : (file : List ℕ) (begin end : ℕ) (told : Option ℕ) (from to block place : ℕ) → IsEndOf told end
+    → IsFirstRefused (AgreesAt begin told file) (DisagreesAt begin told file) from to block place → LeadsTo file begin end from to (Some place)
+first_of file begin end told from to block place is first =
+    leads-wider (Some file) begin end from (block + 1) to place (omega (arith, first.below))
+    (leads-joined (Some file) (Some file) begin end from block (block + 1) (Some place) refl first.from_place (omega arith)
+    (none_of file begin end told from block is first.before) (first.tells end is))
+
+pub stopped-leads : (bytes : Option (List ℕ)) (begin end : ℕ) (told : Option ℕ) (from to place taken : ℕ) → IsEndOf told end
+    → IfSome bytes (λ file. StopsAtBlock (AgreesAt begin told file) (DisagreesAt begin told file) from to place taken)
+    → IfSome bytes (λ file. LeadsTo file begin end from to (Some place))
+stopped-leads None begin end told from to place taken is stops = tt
+stopped-leads (Some file) begin end told from to place taken is (block, first, few) = first_of file begin end told from to block place is first
+
+pub stopped_in_chunk-leads : (bytes : Option (List ℕ)) (begin end : ℕ) (told : Option ℕ) (place taken : ℕ) → IsEndOf told end
+    → IfSome bytes (λ file. StopsAtBlockInChunk (AgreesAt begin told file) (DisagreesAt begin told file) begin end place taken)
+    → IfSome bytes (λ file. LeadsTo file begin end begin end (Some place))
+stopped_in_chunk-leads None begin end told place taken is stops = tt
+stopped_in_chunk-leads (Some file) begin end told place taken is (block, first, few) = first_of file begin end told begin end block place is first

@@ -103,13 +103,20 @@ unloaded_there keep file at to w piece right below otherwise (inr (is, ends, non
     subst (λ (x : PieceKind). IsPieceOf keep file at piece.end (value_of_piece_kind x)) (sym is)
     (subst (λ (e : ℕ). IsPieceOf keep file at e (pieces.Skipped w)) (sym ends) (otherwise (none_contradicts file at to below none)))
 
-pub unloaded_landing : (bytes : Option (List ℕ)) (begin end to place : ℕ) (w : Why) (piece : Piece) (leads : Option ℕ) → leads ≡ Some place
-    → IsSkipped piece place why.Contradicted → IfSome bytes (λ file. LeadsTo file begin end begin to leads)
-    → IfSome bytes (λ file. IsUnloaded file begin end to w piece)
-unloaded_landing None begin end to place w piece leads some is first = tt
-unloaded_landing (Some file) begin end to place w piece leads some is first =
-    let here : LeadsTo file begin end begin to (Some place) = subst (LeadsTo file begin end begin to) some first in
-    subst (λ (p : Piece). IsUnloaded file begin end to w p) (sym is) (inl (refl, here))
+pub unloaded_landing : (bytes : Option (List ℕ)) (begin end to place : ℕ) (w : Why) (piece : Piece) → IsSkipped piece place why.Contradicted
+    → IfSome bytes (λ file. LeadsTo file begin end begin to (Some place)) → IfSome bytes (λ file. IsUnloaded file begin end to w piece)
+unloaded_landing None begin end to place w piece is first = tt
+unloaded_landing (Some file) begin end to place w piece is first =
+    subst (λ (p : Piece). IsUnloaded file begin end to w p) (sym is) (inl (refl, first))
+
+pub unloaded_none : (bytes : Option (List ℕ)) (begin end to : ℕ) (w : Why) (piece : Piece) → IsSkipped piece to w
+    → IfSome bytes (λ file. LeadsTo file begin end begin to None) → IfSome bytes (λ file. IsUnloaded file begin end to w piece)
+unloaded_none None begin end to w piece is none = tt
+unloaded_none (Some file) begin end to w piece is none = subst (λ (p : Piece). IsUnloaded file begin end to w p) (sym is) (inr (refl, refl, none))
+
+-- such a piece ends further on
+pub skipped_onward : (size begin to : ℕ) (w : Why) (piece : Piece) → IsSkipped piece to w → IsOnward size begin to → IsPieceFrom size begin piece
+skipped_onward size begin to w piece is onward = subst (IsPieceFrom size begin) (sym is) (record { onward = onward; intact = tt })
 
 -- a chunk that the file doesn't have to its end
 pub truncated_piece : (bytes : Option (List ℕ)) (keep : Bool) (size at : ℕ) (h : Header) (piece : Piece) → IsSized bytes (Some size) → IsHeader h

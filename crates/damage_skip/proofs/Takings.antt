@@ -1,12 +1,12 @@
 -- How many bytes the steps of a walk take, where the bytes of the file may be shown.
 use Rattle.std.proofs.Common.{◌≡◌, ◌∙◌, ℕ, ◌+◌, ◌-◌, ◌*◌, ◌<◌, ◌≤◌, min, Bool, ◌⊎◌, inl, inr, Option, Some, None, Result, Ok, Err, IfOk, IfSome, List, [], ◌∷◌, ◌++◌, length, refl, sym, subst, arith}
 use Rattle.std.proofs.lemmas.Bool.{cases_lt}
-use Rattle.block_layout.specs.Layout.{IsBlock, blocks_below, end_of}
-use Rattle.block_layout.proofs.Ends.{end_of_room}
+use Rattle.block_layout.specs.Layout.{IsBlock, blocks_below}
 use Rattle.chunk_header.proofs.Decided.{IsDecided, both, not_decided}
 use Rattle.chunk_header.specs.declared.Header.{Header}
 use Rattle.chunk_header.specs.Views.{IsHeader, value_of_header}
 use Rattle.meta_chunk.specs.Files.{max_data_size}
+use Rattle.chunk_reader.specs.BlockJudges.{StopsAtBlockInChunk, JudgesUpTo}
 use Rattle.chunk_reader.specs.Heads.{IsHead}
 use Rattle.chunk_reader.specs.Places.{end_by, end_at}
 use Rattle.chunk_reader.specs.Reasons.{Applies, NoneOf, header_reasons, loading_reasons}
@@ -20,7 +20,7 @@ use Rattle.chunk_reader.proofs.Verdicts.{end_by-at}
 use Rattle.chunk_reader.proofs.WholeHeads.{HasRightHead, none_loading, none_unpassed}
 use Rattle.damage_skip.specs.Pieces.{Piece}
 use Rattle.damage_skip.specs.Resyncs.{StandsFrom, Contradicts}
-use Rattle.damage_skip.specs.Steps.{ContradictsIn, LeadsTo}
+use Rattle.damage_skip.specs.Steps.{IsEndOf, ContradictsIn, LeadsTo, AgreesAt, DisagreesAt}
 use Rattle.damage_skip.specs.Takings.{LooksAtBlocks, MayTakeAt, StopsInChunk, StopsWhereContradicted, MayTakeFor, AccountFor, IsTakenFrom, IsTakenUpTo, TakesByCall}
 use Rattle.damage_skip.specs.declared.events.Event.{Event}
 use Rattle.damage_skip.specs.declared.events.WalkEnd.{WalkEnd}
@@ -80,31 +80,6 @@ pub stand-looked : (bytes : Option (List ℕ)) (size place block before after : 
 stand-looked None size place block before after at past near none few = tt
 stand-looked (Some file) size place block before after at past near none few =
     looks_past (StandsFrom file place) place size block before after at past near none few
-
--- and of those that contradict a chunk
-behind_none : (file : List ℕ) (begin end from to block : ℕ) → LeadsTo file begin end from block None
-    → (b p n : ℕ) → ContradictsIn file begin end from to b p n → block ≤ b
-behind_none file begin end from to block none b p n h = elim (cases_lt b block) [
-  | inl before ↦ absurd (none b p n (record { contradicts = h.contradicts; from_place = h.from_place; below = before }))
-  | inr past ↦ past
-]
-
-pub leads-looks : (bytes : Option (List ℕ)) (begin end from to block before middle after : ℕ) → IsBlock block → from ≤ block → block < to
-    → IfSome bytes (λ file. LeadsTo file begin end from block None)
-    → middle ≤ before + 24 * (blocks_below block - blocks_below from) → after ≤ middle + 24
-    → IfSome bytes (λ file. LooksAtBlocks (ContradictsIn file begin end from to) from to (after - before))
-leads-looks None begin end from to block before middle after at begun below none few more = tt
-leads-looks (Some file) begin end from to block before middle after at begun below none few more =
-    looks_at (ContradictsIn file begin end from to) from to block before middle after at begun below
-    (behind_none file begin end from to block none) few more
-
-pub leads-looked : (bytes : Option (List ℕ)) (begin end from to block before after : ℕ) → IsBlock block → to ≤ block → block < to + 65536
-    → IfSome bytes (λ file. LeadsTo file begin end from block None) → after ≤ before + 24 * (blocks_below block - blocks_below from)
-    → IfSome bytes (λ file. LooksAtBlocks (ContradictsIn file begin end from to) from to (after - before))
-leads-looked None begin end from to block before after at past near none few = tt
-leads-looked (Some file) begin end from to block before after at past near none few =
-    looks_past (ContradictsIn file begin end from to) from to block before after at past near
-    (behind_none file begin end from to block none) few
 
 -- whether none of some reasons applies
 none_decided : (file : List ℕ) (place : ℕ) (reasons : List Why) → IsDecided (NoneOf (Applies file place) reasons)
@@ -251,40 +226,40 @@ stops_loaded (Some file) place end h before after fits right is stops =
     let ends : end ≡ end_at file place = is ∙ end_by-at file place h fits right.1 in
     λ loaded b p n c. omega (arith, stops b p n (subst (λ (e : ℕ). Contradicts file place e b p n) (sym ends) c))
 
--- reading stops in the chunk's header
-pub stops_in_header : (bytes : Option (List ℕ)) (begin end before after : ℕ) → after + (begin + 40) ≤ before + end_of begin 40
-    → IfSome bytes (λ file. StopsInChunk file begin end (begin + 40 + (after - before)))
-stops_in_header None begin end before after few = tt
-stops_in_header (Some file) begin end before after few = λ b p n c. omega (arith, few, end_of_room begin 40)
-
--- or at the first block that contradicts the chunk
-stops_at : (file : List ℕ) (begin end place before middle after : ℕ) → LeadsTo file begin end begin place None
-    → middle + (begin + 40) ≤ before + place → ((b p n : ℕ) → ContradictsIn file begin end place end b p n → after + place ≤ middle + (b + 24))
-    → StopsInChunk file begin end (begin + 40 + (after - before))
-stops_at file begin end place before middle after none few first =
-    λ b p n c. elim (cases_lt b place) [
-      | inl below ↦ absurd (none b p n (record { contradicts = c; from_place = c.from; below = below }))
-      | inr past ↦ omega (arith, few, first b p n (record { contradicts = c; from_place = past; below = c.below }), end_of_room begin 40)
+-- reading stops at the first block that contradicts the chunk
+pub stops_at_block : (bytes : Option (List ℕ)) (begin end : ℕ) (told : Option ℕ) (place taken : ℕ) → IsEndOf told end
+    → IfSome bytes (λ file. StopsAtBlockInChunk (AgreesAt begin told file) (DisagreesAt begin told file) begin end place taken)
+    → IfSome bytes (λ file. StopsInChunk file begin end (begin + 40 + taken))
+stops_at_block None begin end told place taken is stops = tt
+stops_at_block (Some file) begin end told place taken is (block, first, few) =
+    λ b p n c. elim (cases_lt b block) [
+      | inl before ↦ absurd (first.before b c.stands.is_block c.from before end is b p n
+          (record { contradicts = c; from_place = omega arith; below = omega arith }))
+      | inr past ↦ omega (arith, few, past)
     ]
 
-pub stops_before_data : (bytes : Option (List ℕ)) (begin end place before middle after : ℕ)
-    → IfSome bytes (λ file. LeadsTo file begin end begin place None) → middle + (begin + 40) ≤ before + place → after ≤ middle + 24
-    → IfSome bytes (λ file. StopsInChunk file begin end (begin + 40 + (after - before)))
-stops_before_data None begin end place before middle after none few more = tt
-stops_before_data (Some file) begin end place before middle after none few more =
-    stops_at file begin end place before middle after none few (λ b p n h. omega (arith, more, h.from_place))
+-- which no block does where each agrees
+pub stops_nowhere : (bytes : Option (List ℕ)) (begin end to : ℕ) → IfSome bytes (λ file. LeadsTo file begin end begin end None)
+    → IfSome bytes (λ file. StopsInChunk file begin end to)
+stops_nowhere None begin end to none = tt
+stops_nowhere (Some file) begin end to none =
+    λ b p n c. absurd (none b p n (record { contradicts = c; from_place = c.from; below = c.below }))
 
-pub stops_behind_data : (bytes now : Option (List ℕ)) (begin end place before middle after : ℕ) → now ≡ bytes
-    → IfSome bytes (λ file. LeadsTo file begin end begin place None) → middle + (begin + 40) ≤ before + place
-    → IfSome now (λ file. LooksAtBlocks (ContradictsIn file begin end place end) place end (after - middle))
-    → IfSome bytes (λ file. StopsInChunk file begin end (begin + 40 + (after - before)))
-stops_behind_data None now begin end place before middle after same none few looks = tt
-stops_behind_data (Some file) None begin end place before middle after same none few looks = absurd (cc same)
-stops_behind_data (Some file) (Some other) begin end place before middle after same none few looks =
-    let h : LooksAtBlocks (ContradictsIn file begin end place end) place end (after - middle) =
-    subst (λ (f : List ℕ). LooksAtBlocks (ContradictsIn f begin end place end) place end (after - middle)) (cc same) looks in
-    stops_at file begin end place before middle after none few
-    (λ b p n c. omega (arith, h.first b p n c, h.few, c.contradicts.stands.is_block, c.from_place))
+-- no more block headers are looked at than up to that block
+pub judged-looks : (bytes : Option (List ℕ)) (begin end : ℕ) (told : Option ℕ) (from to taken : ℕ) → IsEndOf told end
+    → IfSome bytes (λ file. JudgesUpTo (AgreesAt begin told file) from to taken)
+    → IfSome bytes (λ file. LooksAtBlocks (ContradictsIn file begin end from to) from to taken)
+judged-looks None begin end told from to taken is h = tt
+judged-looks (Some file) begin end told from to taken is h = record {
+  up_to = h.up_to;
+  within = h.within;
+  first = λ b p n c. elim (cases_lt (b + 1) h.up_to) [
+    | inl before ↦ absurd (h.accepted b c.contradicts.stands.is_block c.from_place (omega (arith, before)) end is b p n
+        (record { contradicts = c.contradicts; from_place = omega arith; below = omega arith }))
+    | inr past ↦ past
+  ];
+  few = h.few;
+}
 
 -- with the chunk header before it
 pub takes_headed : (bytes now : Option (List ℕ)) (place before middle after : ℕ) → now ≡ bytes → middle ≤ before + 40

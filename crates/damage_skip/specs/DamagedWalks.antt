@@ -1,7 +1,7 @@
 -- How a walk goes on in a damaged file, told by the numbers of its chunks, and in the front of a file. Own.
 use Rattle.std.specs.Prelude.{◌≡◌, ℕ, ◌^◌, ◌<◌, ◌≤◌, Bool, false, Option, None, Result, Ok, IfSome, List, [], ◌∷◌, ◌++◌, length, take}
 use Rattle.chunk_header.specs.Chunks.{ChunkValue}
-use Rattle.meta_chunk.specs.Files.{begin_of}
+use Rattle.meta_chunk.specs.Files.{IsFrame, begin_of}
 use Rattle.damage_skip.specs.declared.events.Event.{Event}
 use Rattle.damage_skip.specs.declared.events.WalkEnd.{WalkEnd}
 use Rattle.damage_skip.specs.declared.progress.Progress.{Progress}
@@ -62,3 +62,10 @@ pub record WalksInFront (ks : List ChunkValue) (file : List ℕ) (m : ℕ) (befo
   pub ended : result ≡ Ok None → left ≡ []
   pub stopped : IfSome (stop_of result)
       (λ region. (rest : List Piece) × (left ≡ record { begin = region.begin; end = region.end; what = Skipped region.why } ∷ rest))
+
+-- a call of a walk in a file that may be what damage leaves of one of chunks, or the front of one
+pub record WalksInRemains (file : Option (List ℕ)) (before after : Progress) (result : Result (Option Event) WalkEnd) : Type 0 where
+  pub damaged : IfSome file (λ damaged. (ks : List ChunkValue) (whole : List ℕ) (intact : Intact)
+      → length whole ≤ 2 ^ 60 → IsDamaged ks whole damaged intact → WalksPastDamage ks intact before after result)
+  pub cut : IfSome file (λ front. (ks : List ChunkValue) (whole : List ℕ) (m : ℕ)
+      → IsFrame ks whole → m ≤ length whole → front ≡ take m whole → WalksInFront ks whole m before after result)

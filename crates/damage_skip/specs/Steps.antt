@@ -1,5 +1,5 @@
 -- What the steps of a walk find. Own.
-use Rattle.std.specs.Prelude.{◌≡◌, ◌↔◌, ℕ, ◌^◌, ◌<◌, ◌≤◌, ◌⊎◌, Option, Some, None, MatchOption, ⊤, Bool, true, false, IsTrue, List, length}
+use Rattle.std.specs.Prelude.{◌≡◌, ◌↔◌, ℕ, ◌+◌, ◌^◌, ◌<◌, ◌≤◌, ◌⊎◌, Option, Some, None, MatchOption, ⊤, Bool, true, false, IsTrue, min, List, length}
 use Rattle.block_layout.specs.Layout.{IsBoundary}
 use Rattle.chunk_header.specs.Chunks.{ChunkValue, IsChunk}
 use Rattle.chunk_header.specs.SimpleChunks.{IsSimple, IsCompressed}
@@ -32,6 +32,11 @@ pub record IsOnward (size from to : ℕ) : Type 0 where
 abbrev pub IsEndOf : Option ℕ → ℕ → Type 0
 IsEndOf told end = MatchOption told (2 ^ 63 < end) (λ e. e ≡ end)
 
+-- the blocks within a chunk that a file of so many bytes has lie below this place
+abbrev pub limit_of : (size : ℕ) → Option ℕ → ℕ
+limit_of size None = size
+limit_of size (Some end) = min end size
+
 -- at a block from a place up to another a header contradicts a chunk from a begin to an end
 pub record ContradictsIn (file : List ℕ) (begin end from to block previous next : ℕ) : Type 0 where
   pub contradicts : Contradicts file begin end block previous next
@@ -44,6 +49,14 @@ LeadsTo file begin end from to None = (block previous next : ℕ) → ¬ Contrad
 LeadsTo file begin end from to (Some place) =
     (block previous next : ℕ) × IsFirstBlock (ContradictsIn file begin end from to) block previous next
     × (place ≡ landing (length file) begin block previous next)
+
+-- the header at a block doesn't contradict the chunk from a begin to its end, whatever that is, and what the header leads to
+-- that does
+abbrev pub AgreesAt : (begin : ℕ) → Option ℕ → List ℕ → ℕ → Type 0
+AgreesAt begin told file block = (end : ℕ) → IsEndOf told end → LeadsTo file begin end block (block + 1) None
+
+abbrev pub DisagreesAt : (begin : ℕ) → Option ℕ → List ℕ → (block place : ℕ) → Type 0
+DisagreesAt begin told file block place = (end : ℕ) → IsEndOf told end → LeadsTo file begin end block (block + 1) (Some place)
 
 -- a chunk that can be read, whose data has its hash
 pub record IsIntact (chunk : Chunk) : Type 0 where

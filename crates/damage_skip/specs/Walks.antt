@@ -17,6 +17,7 @@ use Rattle.damage_skip.specs.declared.pieces.PieceKind.TheVariants as what
 use Rattle.damage_skip.specs.declared.progress.Progress.{Progress}
 use Rattle.damage_skip.specs.declared.regions.Region.{Region}
 use Rattle.damage_skip.specs.Pieces.{Piece, Given, Kept, Skipped, IsPieceOf, AreTiles}
+use Rattle.damage_skip.specs.Policies.{IsTest}
 use Rattle.damage_skip.specs.Regions.{region_of, told_text}
 pub use Rattle.damage_skip.specs.Pieces.{GoesOn}
 use Rattle.damage_skip.specs.Steps.{IsIntact, IsOnward}
@@ -55,6 +56,11 @@ pub record StandsIn (file : Option (List ℕ)) (told : Option ℕ) (at : Progres
   pub in_reach : at.size ≤ 2 ^ 60
   pub met : IfSome file (λ bytes. IsMet at.keep bytes at.place)
   pub stopped_there : IfSome file (λ bytes. IsStoppedAt at.keep bytes at.place at.stopped)
+
+-- and may go on there, past regions that a test allows
+pub record MayGoOn {F : Type 0} (test : Shared F (Bor Region × Unit {0}) Bool) (f : F) (file : Option (List ℕ)) (told : Option ℕ) (at : Progress) : Type 0 where
+  pub stands : StandsIn file told at
+  pub is_test : IsTest test f
 
 -- the chunk of an event is intact, and holds the records that are given or is known to be left unread
 abbrev pub IsIntactIn : Event → Type 0

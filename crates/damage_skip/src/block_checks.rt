@@ -1,13 +1,13 @@
-ghost use Rattle.std.specs.Prelude.{◌≡◌, ℕ, ◌+◌, ◌-◌, ◌*◌, ◌^◌, ◌<◌, ◌≤◌, ◌↔◌, Some, IsTrue, IfOk, IfSome, IsErr};
+ghost use Rattle.std.specs.Prelude.{◌≡◌, ℕ, ◌+◌, ◌-◌, ◌^◌, ◌<◌, ◌≤◌, ◌↔◌, IsTrue, IfOk, IfSome, IsErr};
 ghost use Rattle.record_io.specs.Calls.{OnlyAsks};
-ghost use Rattle.block_layout.specs.Layout.{IsBlock, block_size, block_header_size, blocks_below};
+ghost use Rattle.block_layout.specs.Layout.{IsBlock, block_size, block_header_size};
 ghost use Rattle.block_layout.specs.BlockHeaders.{IsSane};
-ghost use Rattle.damage_skip.specs.Steps.{IsOnward, IsEndOf, ContradictsIn, LeadsTo};
-ghost use Rattle.damage_skip.specs.Takings.{LooksAtBlocks};
+ghost use Rattle.chunk_reader.specs.Sizes.{HasSize};
+ghost use Rattle.damage_skip.specs.Steps.{IsOnward, IsEndOf, LeadsTo};
 
 use crate::resyncs::landing;
 use block_layout::{BLOCK_SIZE, BlockHeader};
-use chunk_reader::sane_header_at;
+use chunk_reader::{BlockEnd, JudgesBlocks, sane_header_at};
 use record_io::{Failed, Store};
 
 /// The first block at or past a place.
@@ -20,72 +20,35 @@ pub(crate) fn next_block(place: u64) -> u64
     place.div_ceil(BLOCK_SIZE) * BLOCK_SIZE
 }
 
-/// The begin of a chunk and its end by its header, which may lie past 2^63 (`None`).
+/// The size of a file, the begin of a chunk and its end by its header, which may lie past 2^63 (`None`).
 #[derive(Clone, Copy, Debug)]
 pub(crate) struct ChunkSpan {
+    pub size: u64,
     pub begin: u64,
     pub end: Option<u64>,
 }
 
 impl ChunkSpan {
     /// Where reading goes on where the header at a block within the chunk is right and sane and tells of another chunk.
-    pub(crate) fn contradicted_at<S: Store>(
-        self,
-        store: &mut S,
-        size: u64,
-        block: u64,
-    ) -> Result<Option<u64>, Failed>
-        requires told { S.told store.old ≡ Some size }
-        requires in_reach { size ≤ 2 ^ 60 }
+    fn contradicted_at<S: Store>(self, store: &mut S, block: u64) -> Result<Option<u64>, Failed>
+        requires sized { HasSize (S.told store.old) self.size }
         requires at_block { IsBlock block }
-        requires below { block < size }
+        requires below { block < self.size }
         requires begun { self.begin ≤ block }
         requires within { IfSome self.end (λ e. block < e) }
-        ensures onward { IfOk result (λ landing. IfSome landing (λ to. IsOnward size self.begin to)) }
+        ensures onward { IfOk result (λ landing. IfSome landing (λ to. IsOnward self.size self.begin to)) }
         ensures leads { (end : ℕ) → IsEndOf self.end end
             → IfOk result (λ landing. IfSome (S.bytes store.old) (λ file. LeadsTo file self.begin end block (block + 1) landing)) }
         ensures handed { S.handed store.new ≤ S.handed store.old + block_header_size }
         ensures store { OnlyAsks S.bytes S.told S.name S.faults (IsErr result) store.old store.new }
     {
-        let Some(header) = sane_header_at(store, size, block)? else {
+        let Some(header) = sane_header_at(store, self.size, block)? else {
             return Ok(None);
         };
         if self.agrees(block, &header) {
             return Ok(None);
         }
-        Ok(Some(landing(size, self.begin, block, &header)))
-    }
-
-    /// The same of the first such block from a place up to another.
-    pub(crate) fn contradicted_between<S: Store>(
-        self,
-        store: &mut S,
-        size: u64,
-        from: u64,
-        to: u64,
-    ) -> Result<Option<u64>, Failed>
-        requires told { S.told store.old ≡ Some size }
-        requires in_reach { size ≤ 2 ^ 60 }
-        requires begun { self.begin ≤ from }
-        requires ordered { from ≤ to }
-        requires within_file { to ≤ size }
-        requires within { IfSome self.end (λ e. to ≤ e) }
-        ensures onward { IfOk result (λ landing. IfSome landing (λ place. IsOnward size self.begin place)) }
-        ensures leads { (end : ℕ) → IsEndOf self.end end
-            → IfOk result (λ landing. IfSome (S.bytes store.old) (λ file. LeadsTo file self.begin end from to landing)) }
-        ensures handed { S.handed store.new ≤ S.handed store.old + block_header_size * (blocks_below to - blocks_below from) }
-        ensures looks { (end : ℕ) → IsEndOf self.end end → IfSome (S.bytes store.old) (λ file.
-            LooksAtBlocks (ContradictsIn file self.begin end from to) from to (S.handed store.new - S.handed store.old)) }
-        ensures store { OnlyAsks S.bytes S.told S.name S.faults (IsErr result) store.old store.new }
-    {
-        let mut block = next_block(from);
-        while block < to {
-            if let Some(landing) = self.contradicted_at(store, size, block)? {
-                return Ok(Some(landing));
-            }
-            block += BLOCK_SIZE;
-        }
-        Ok(None)
+        Ok(Some(landing(self.size, self.begin, block, &header)))
     }
 
     /// Whether a sane header at a block tells of this chunk.
@@ -95,5 +58,30 @@ impl ChunkSpan {
             → IsTrue result ↔ ((block - header.now.previous ≡ self.begin) × (block + header.now.next ≡ end)) }
     {
         block - header.previous == self.begin && self.end == Some(block + header.next)
+    }
+}
+
+impl JudgesBlocks for ChunkSpan {
+    ghost use Rattle.chunk_reader.specs.Sizes.{HasSize};
+    ghost use Rattle.damage_skip.specs.Steps.{IsOnward, AgreesAt, DisagreesAt, limit_of};
+
+    ghost fits = { λ span told. HasSize told span.size };
+
+    ghost begin = { λ span. span.begin };
+
+    ghost end = { λ span. limit_of span.size span.end };
+
+    ghost accepts = { λ span file block. AgreesAt span.begin span.end file block };
+
+    ghost tells = { λ span file block told. DisagreesAt span.begin span.end file block told };
+
+    ghost may_tell = { λ span told. IsOnward span.size span.begin told };
+
+    /// Accepts each header but one that is right and sane and tells of another chunk, and tells where that one leads.
+    fn judge<S: Store>(&self, store: &mut S, block: u64) -> Result<(), BlockEnd> {
+        match self.contradicted_at(store, block)? {
+            Some(landing) => Err(BlockEnd::Refused(landing)),
+            None => Ok(()),
+        }
     }
 }

@@ -1,10 +1,11 @@
-ghost use Rattle.std.specs.Prelude.{◌≡◌, ◌↔◌, ℕ, ◌+◌, ◌-◌, ◌^◌, ◌<◌, ◌≤◌, ◌⊎◌, Some, IsTrue, IfOk, IfSome, IsErr, Err};
+ghost use Rattle.std.specs.Prelude.{◌≡◌, ◌↔◌, ℕ, ◌+◌, ◌-◌, ◌<◌, ◌≤◌, ◌⊎◌, Some, IsTrue, IfOk, IfSome, IsErr, Err};
 ghost use Rattle.record_io.specs.Calls.{OnlyAsks};
 ghost use Rattle.block_layout.specs.Layout.{IsBoundary, chunk_header_size};
 ghost use Rattle.chunk_header.specs.Views.{IsHeader, HasRightHash, value_of_header};
 ghost use Rattle.chunk_reader.specs.Heads.{IsHead};
 ghost use Rattle.chunk_reader.specs.Places.{end_by};
 ghost use Rattle.chunk_reader.specs.Reasons.{Applies, NoneOf, loading_reasons};
+ghost use Rattle.chunk_reader.specs.Sizes.{HasSize, MayBeginAt};
 ghost use Rattle.damage_skip.specs.Pieces.{IsPieceOf};
 ghost use Rattle.damage_skip.specs.Takings.{LooksAtBlocks, MayTakeAt, StopsWhereContradicted};
 ghost use Rattle.damage_skip.specs.Steps.{ContradictsIn, IsEndOf, IsReadAs, IsUnloaded, IsPieceFrom, value_of_piece_kind};
@@ -14,7 +15,8 @@ use crate::chunk_loads::{Loaded, load};
 use crate::resyncs::resync;
 use chunk_header::{Chunk, Header};
 use chunk_reader::{
-    Content, ContentEnd, Head, LoadEnd, MAX_DATA_SIZE, Why, content_under, head_at,
+    BlockEnd, Content, ContentEnd, Head, LoadEnd, MAX_DATA_SIZE, Why, content_under, head_at,
+    judge_blocks,
 };
 use record_io::{Failed, Store};
 use simple_chunk::Records;
@@ -50,10 +52,7 @@ pub(crate) fn piece_at<S: Store>(
     at: u64,
     keep: bool,
 ) -> Result<Piece, LoadEnd>
-    requires told { S.told store.old ≡ Some size }
-    requires in_reach { size ≤ 2 ^ 60 }
-    requires from_boundary { IsBoundary at }
-    requires below { at < size }
+    requires place { MayBeginAt (S.told store.old) size at }
     ensures piece { IfOk result (λ piece. IsPieceFrom size at piece) }
     ensures sound { IfOk result (λ piece. IfSome (S.bytes store.old) (λ file. IsPieceOf keep file at piece.end (value_of_piece_kind piece.what))) }
     ensures memory { result ≡ Err LoadEnd.Memory → IfSome (S.bytes store.old) (λ file. NoneOf (Applies file at) loading_reasons) }
@@ -79,10 +78,7 @@ fn headed_piece<S: Store>(
     header: Header,
     end: Option<u64>,
 ) -> Result<Piece, LoadEnd>
-    requires told { S.told store.old ≡ Some size }
-    requires in_reach { size ≤ 2 ^ 60 }
-    requires from_boundary { IsBoundary at }
-    requires below { at < size }
+    requires place { MayBeginAt (S.told store.old) size at }
     requires fits { IsHeader header }
     requires end { IsEndOf end (end_by at (value_of_header header)) }
     requires head { IfSome (S.bytes store.old) (λ file. IsHead file at (Head.Right header end)) }
@@ -94,10 +90,14 @@ fn headed_piece<S: Store>(
         StopsWhereContradicted file at (chunk_header_size + (S.handed store.new - S.handed store.old)))) }
     ensures store { OnlyAsks S.bytes S.told S.name S.faults (result ≡ Err LoadEnd.Store) store.old store.new }
 {
-    let span = ChunkSpan { begin: at, end };
+    let span = ChunkSpan {
+        size,
+        begin: at,
+        end,
+    };
     match end {
         Some(end) if end <= size => held_piece(alloc, store, size, at, keep, header, end),
-        _ => Ok(unloaded_piece(store, size, span, size, Why::Truncated)?),
+        _ => Ok(unloaded_piece(store, span, size, Why::Truncated)?),
     }
 }
 
@@ -111,8 +111,7 @@ fn held_piece<S: Store>(
     header: Header,
     end: u64,
 ) -> Result<Piece, LoadEnd>
-    requires told { S.told store.old ≡ Some size }
-    requires in_reach { size ≤ 2 ^ 60 }
+    requires sized { HasSize (S.told store.old) size }
     requires from_boundary { IsBoundary at }
     requires fits { IsHeader header }
     requires end { end ≡ end_by at (value_of_header header) }
@@ -128,10 +127,11 @@ fn held_piece<S: Store>(
 {
     if header.data_size > MAX_DATA_SIZE {
         let span = ChunkSpan {
+            size,
             begin: at,
             end: Some(end),
         };
-        return Ok(unloaded_piece(store, size, span, end, Why::TooLarge)?);
+        return Ok(unloaded_piece(store, span, end, Why::TooLarge)?);
     }
     match load(alloc, store, size, at, end, header)? {
         Loaded::Whole(chunk, right) => Ok(whole_piece(alloc, chunk, right, end, keep)?),
@@ -143,27 +143,26 @@ fn held_piece<S: Store>(
 /// tells of another chunk.
 fn unloaded_piece<S: Store>(
     store: &mut S,
-    size: u64,
     span: ChunkSpan,
     to: u64,
     why: Why,
 ) -> Result<Piece, Failed>
-    requires told { S.told store.old ≡ Some size }
-    requires in_reach { size ≤ 2 ^ 60 }
+    requires sized { HasSize (S.told store.old) span.size }
     requires after { span.begin < to }
-    requires within_file { to ≤ size }
-    requires boundary { IsBoundary to ⊎ (to ≡ size) }
+    requires within_file { to ≤ span.size }
+    requires boundary { IsBoundary to ⊎ (to ≡ span.size) }
     requires within { IfSome span.end (λ e. to ≤ e) }
-    ensures piece { IfOk result (λ piece. IsPieceFrom size span.begin piece) }
+    ensures piece { IfOk result (λ piece. IsPieceFrom span.size span.begin piece) }
     ensures unloaded { (end : ℕ) → IsEndOf span.end end
         → IfOk result (λ piece. IfSome (S.bytes store.old) (λ file. IsUnloaded file span.begin end to why piece)) }
     ensures looks { (end : ℕ) → IsEndOf span.end end → IfSome (S.bytes store.old) (λ file.
         LooksAtBlocks (ContradictsIn file span.begin end span.begin to) span.begin to (S.handed store.new - S.handed store.old)) }
     ensures store { OnlyAsks S.bytes S.told S.name S.faults (IsErr result) store.old store.new }
 {
-    match span.contradicted_between(store, size, span.begin, to)? {
-        Some(landing) => Ok(skipped(landing, Why::Contradicted)),
-        None => Ok(skipped(to, why)),
+    match judge_blocks(store, &span, span.begin, to) {
+        Ok(()) => Ok(skipped(to, why)),
+        Err(BlockEnd::Refused(landing)) => Ok(skipped(landing, Why::Contradicted)),
+        Err(BlockEnd::Store) => Err(Failed),
     }
 }
 

@@ -1,7 +1,8 @@
-ghost use Rattle.std.specs.Prelude.{◌≡◌, ◌-◌, ◌^◌, ◌<◌, ◌≤◌, ◌⊎◌, Some, IfOk, IfSome, IsErr};
+ghost use Rattle.std.specs.Prelude.{◌≡◌, ◌-◌, ◌<◌, ◌≤◌, ◌⊎◌, IfOk, IfSome, IsErr};
 ghost use Rattle.record_io.specs.Calls.{OnlyAsks};
 ghost use Rattle.block_layout.specs.Layout.{IsBoundary};
 ghost use Rattle.block_layout.specs.BlockHeaders.{IsSane};
+ghost use Rattle.chunk_reader.specs.Sizes.{MayBeginAt};
 ghost use Rattle.damage_skip.specs.DamagedWalks.{LeadsPastDamage};
 ghost use Rattle.damage_skip.specs.Resyncs.{IsResync, StandsFrom, landing};
 ghost use Rattle.damage_skip.specs.Takings.{LooksAtBlocks};
@@ -24,10 +25,7 @@ use record_io::{Failed, Store};
 ///
 /// `Failed` only where the store failed.
 pub fn resync<S: Store>(store: &mut S, size: u64, from: u64) -> Result<u64, Failed>
-    requires told { S.told store.old ≡ Some size }
-    requires in_reach { size ≤ 2 ^ 60 }
-    requires from_boundary { IsBoundary from }
-    requires below { from < size }
+    requires place { MayBeginAt (S.told store.old) size from }
     ensures resync { IfOk result (λ to. IfSome (S.bytes store.old) (λ file. IsResync file from to)) }
     ensures damaged { IfOk result (λ to. IfSome (S.bytes store.old) (λ file. LeadsPastDamage file from to)) }
     ensures past { IfOk result (λ to. from < to) }

@@ -1,14 +1,11 @@
-ghost use Rattle.std.specs.Prelude.{◌≡◌, ◌-◌, ◌^◌, ◌<◌, ◌≤◌, ℕ, Ok, Err, Some, None, List, IfSome, length, take};
+ghost use Rattle.std.specs.Prelude.{◌≡◌, ◌-◌, ◌^◌, ◌≤◌, ℕ, Ok, Err, Some, None, List, IfSome};
 ghost use Rattle.record_io.specs.Calls.{OnlyAsks};
 ghost use Rattle.chunk_reader.specs.Reasons.{Applies, NoneOf, loading_reasons};
-ghost use Rattle.chunk_header.specs.Chunks.{ChunkValue};
-ghost use Rattle.meta_chunk.specs.Files.{IsFrame};
-ghost use Rattle.damage_skip.specs.Damage.{Intact, IsDamaged};
-ghost use Rattle.damage_skip.specs.DamagedWalks.{WalksPastDamage, WalksInFront};
+ghost use Rattle.damage_skip.specs.DamagedWalks.{WalksInRemains};
 ghost use Rattle.damage_skip.specs.Policies.{IsTest};
 ghost use Rattle.damage_skip.specs.Steps.{IsPieceFrom};
 ghost use Rattle.damage_skip.specs.Takings.{TakesByCall};
-ghost use Rattle.damage_skip.specs.Walks.{IsMet, IsStoppedAt, StandsIn, WalksOn, IsAllowedEvent, IsRefusedStop, Refuses, event_of};
+ghost use Rattle.damage_skip.specs.Walks.{IsMet, IsStoppedAt, StandsIn, MayGoOn, WalksOn, IsAllowedEvent, IsRefusedStop, Refuses, event_of};
 ghost use Rattle.damage_skip.specs.Walkers.{progress_of, test_of};
 ghost use Rattle.damage_skip.specs.declared.events.Event.{Event};
 ghost use Rattle.damage_skip.specs.declared.regions.Region.{Region};
@@ -71,16 +68,10 @@ impl<F: Fn(&Region) -> bool + Drop> Walker<F> {
     /// call. `Store` only where the store failed. `Memory` only where a chunk is at hand whose header is right, which lies
     /// in the file and whose data isn't too large. After these two no event is lost, and the call may be made again.
     pub fn next<S: Store>(&mut self, alloc: Global, store: &mut S) -> Result<Option<Event>, WalkEnd>
-        requires stands { StandsIn (S.bytes store.old) (S.told store.old) (progress_of self.old) }
-        requires test { IsTest F.Fn (test_of self.old) }
+        requires may { MayGoOn F.Fn (test_of self.old) (S.bytes store.old) (S.told store.old) (progress_of self.old) }
         ensures stands { StandsIn (S.bytes store.old) (S.told store.old) (progress_of self.new) }
         ensures goes_on { WalksOn (S.bytes store.old) (progress_of self.old) (progress_of self.new) result }
-        ensures damaged { IfSome (S.bytes store.old) (λ damaged.
-            (ks : List ChunkValue) (file : List ℕ) (intact : Intact) → length file ≤ 2 ^ 60 → IsDamaged ks file damaged intact
-            → WalksPastDamage ks intact (progress_of self.old) (progress_of self.new) result) }
-        ensures cut { IfSome (S.bytes store.old) (λ front.
-            (ks : List ChunkValue) (file : List ℕ) (m : ℕ) → IsFrame ks file → m ≤ length file → front ≡ take m file
-            → WalksInFront ks file m (progress_of self.old) (progress_of self.new) result) }
+        ensures remains { WalksInRemains (S.bytes store.old) (progress_of self.old) (progress_of self.new) result }
         ensures same_test { test_of self.new ≡ test_of self.old }
         ensures event { (event : Event) → result ≡ Ok (Some event)
             → IsAllowedEvent F.Fn (test_of self.old) (progress_of self.old).place (progress_of self.new).place event }

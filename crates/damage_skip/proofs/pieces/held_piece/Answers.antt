@@ -18,7 +18,7 @@ unloaded_piece-requires-clause-boundary g c =
 pub returns-then-header-gt-MAX_DATA_SIZE-clause-sound : goal.returns-then-header-gt-MAX_DATA_SIZE-clause-sound
 returns-then-header-gt-MAX_DATA_SIZE-clause-sound g c =
     let sized : IsSized (g.S.Store.bytes c.args.store.now) (Some c.args.size) =
-    subst (IsSized (g.S.Store.bytes c.args.store.now)) c.requires.told (g.met.S.Store.sized c.args.store.now) in
+    subst (IsSized (g.S.Store.bytes c.args.store.now)) c.requires.sized.is_told (g.met.S.Store.sized c.args.store.now) in
     too_large_piece _ c.args.keep c.args.size c.args.at c.args.end c.args.header c.in_ok-unloaded_piece.field-0 sized c.requires.fits
     c.requires.head c.requires.end c.requires.within c.if-header-gt-MAX_DATA_SIZE.true
     (c.in_ok-unloaded_piece.ensures.unloaded c.args.end refl)
@@ -33,7 +33,7 @@ returns-in_ok-whole_piece-in-Whole-clause-piece g c =
 pub returns-in_ok-whole_piece-in-Whole-clause-sound : goal.returns-in_ok-whole_piece-in-Whole-clause-sound
 returns-in_ok-whole_piece-in-Whole-clause-sound g c =
     let sized : IsSized (g.S.Store.bytes c.args.store.now) (Some c.args.size) =
-    subst (IsSized (g.S.Store.bytes c.args.store.now)) c.requires.told (g.met.S.Store.sized c.args.store.now) in
+    subst (IsSized (g.S.Store.bytes c.args.store.now)) c.requires.sized.is_told (g.met.S.Store.sized c.args.store.now) in
     let begin = c.args.at in
     let whole = subst (IsLoadOf c.args.size begin c.args.header) c.in-Whole.is c.in_ok-chunk.ensures.loaded in
     let there =
@@ -55,7 +55,7 @@ returns-in-Contradicted-clause-sound g c =
 pub returns-in_err-unloaded_piece-clause-takes : goal.returns-in_err-unloaded_piece-clause-takes
 returns-in_err-unloaded_piece-clause-takes g c =
     let sized : IsSized (g.S.Store.bytes c.args.store.now) (Some c.args.size) =
-    subst (IsSized (g.S.Store.bytes c.args.store.now)) c.requires.told (g.met.S.Store.sized c.args.store.now) in
+    subst (IsSized (g.S.Store.bytes c.args.store.now)) c.requires.sized.is_told (g.met.S.Store.sized c.args.store.now) in
     takes_unloaded _ c.args.size c.args.at c.args.end c.args.end c.args.header _ _ sized c.requires.fits c.requires.head
     (inr c.if-header-gt-MAX_DATA_SIZE.true) c.requires.end (omega arith) c.requires.within
     (c.in_err-unloaded_piece.ensures.looks c.args.end refl)
@@ -63,7 +63,7 @@ returns-in_err-unloaded_piece-clause-takes g c =
 pub returns-then-header-gt-MAX_DATA_SIZE-clause-takes : goal.returns-then-header-gt-MAX_DATA_SIZE-clause-takes
 returns-then-header-gt-MAX_DATA_SIZE-clause-takes g c =
     let sized : IsSized (g.S.Store.bytes c.args.store.now) (Some c.args.size) =
-    subst (IsSized (g.S.Store.bytes c.args.store.now)) c.requires.told (g.met.S.Store.sized c.args.store.now) in
+    subst (IsSized (g.S.Store.bytes c.args.store.now)) c.requires.sized.is_told (g.met.S.Store.sized c.args.store.now) in
     takes_unloaded _ c.args.size c.args.at c.args.end c.args.end c.args.header _ _ sized c.requires.fits c.requires.head
     (inr c.if-header-gt-MAX_DATA_SIZE.true) c.requires.end (omega arith) c.requires.within
     (c.in_ok-unloaded_piece.ensures.looks c.args.end refl)
@@ -71,35 +71,35 @@ returns-then-header-gt-MAX_DATA_SIZE-clause-takes g c =
 pub returns-in_err-chunk-clause-takes : goal.returns-in_err-chunk-clause-takes
 returns-in_err-chunk-clause-takes g c =
     let sized : IsSized (g.S.Store.bytes c.args.store.now) (Some c.args.size) =
-    subst (IsSized (g.S.Store.bytes c.args.store.now)) c.requires.told (g.met.S.Store.sized c.args.store.now) in
+    subst (IsSized (g.S.Store.bytes c.args.store.now)) c.requires.sized.is_told (g.met.S.Store.sized c.args.store.now) in
     takes_loaded _ c.args.size c.args.at c.args.end c.args.header _ _ sized c.requires.fits c.requires.head c.requires.end c.requires.within
     c.if-header-gt-MAX_DATA_SIZE.false c.in_err-chunk.ensures.handed
 
 pub returns-in_err-whole_piece-in-Whole-clause-takes : goal.returns-in_err-whole_piece-in-Whole-clause-takes
 returns-in_err-whole_piece-in-Whole-clause-takes g c =
     let sized : IsSized (g.S.Store.bytes c.args.store.now) (Some c.args.size) =
-    subst (IsSized (g.S.Store.bytes c.args.store.now)) c.requires.told (g.met.S.Store.sized c.args.store.now) in
+    subst (IsSized (g.S.Store.bytes c.args.store.now)) c.requires.sized.is_told (g.met.S.Store.sized c.args.store.now) in
     takes_loaded _ c.args.size c.args.at c.args.end c.args.header _ _ sized c.requires.fits c.requires.head c.requires.end c.requires.within
     c.if-header-gt-MAX_DATA_SIZE.false c.in_ok-chunk.ensures.handed
 
 pub returns-in_ok-whole_piece-in-Whole-clause-takes : goal.returns-in_ok-whole_piece-in-Whole-clause-takes
 returns-in_ok-whole_piece-in-Whole-clause-takes g c =
     let sized : IsSized (g.S.Store.bytes c.args.store.now) (Some c.args.size) =
-    subst (IsSized (g.S.Store.bytes c.args.store.now)) c.requires.told (g.met.S.Store.sized c.args.store.now) in
+    subst (IsSized (g.S.Store.bytes c.args.store.now)) c.requires.sized.is_told (g.met.S.Store.sized c.args.store.now) in
     takes_loaded _ c.args.size c.args.at c.args.end c.args.header _ _ sized c.requires.fits c.requires.head c.requires.end c.requires.within
     c.if-header-gt-MAX_DATA_SIZE.false c.in_ok-chunk.ensures.handed
 
 pub returns-in-Contradicted-clause-takes : goal.returns-in-Contradicted-clause-takes
 returns-in-Contradicted-clause-takes g c =
     let sized : IsSized (g.S.Store.bytes c.args.store.now) (Some c.args.size) =
-    subst (IsSized (g.S.Store.bytes c.args.store.now)) c.requires.told (g.met.S.Store.sized c.args.store.now) in
+    subst (IsSized (g.S.Store.bytes c.args.store.now)) c.requires.sized.is_told (g.met.S.Store.sized c.args.store.now) in
     takes_loaded _ c.args.size c.args.at c.args.end c.args.header _ _ sized c.requires.fits c.requires.head c.requires.end c.requires.within
     c.if-header-gt-MAX_DATA_SIZE.false c.in_ok-chunk.ensures.handed
 
 pub returns-then-header-gt-MAX_DATA_SIZE-clause-stops : goal.returns-then-header-gt-MAX_DATA_SIZE-clause-stops
 returns-then-header-gt-MAX_DATA_SIZE-clause-stops g c =
     let sized : IsSized (g.S.Store.bytes c.args.store.now) (Some c.args.size) =
-    subst (IsSized (g.S.Store.bytes c.args.store.now)) c.requires.told (g.met.S.Store.sized c.args.store.now) in
+    subst (IsSized (g.S.Store.bytes c.args.store.now)) c.requires.sized.is_told (g.met.S.Store.sized c.args.store.now) in
     stops_unloaded _ c.args.size c.args.at _ c.args.header sized c.requires.fits c.requires.head (inr c.if-header-gt-MAX_DATA_SIZE.true)
 
 pub returns-in_ok-whole_piece-in-Whole-clause-stops : goal.returns-in_ok-whole_piece-in-Whole-clause-stops

@@ -17,13 +17,13 @@ returns-in_ok-resync-in-BadHash-clause-sound g c =
 pub returns-in_err-head_at-clause-takes : goal.returns-in_err-head_at-clause-takes
 returns-in_err-head_at-clause-takes g c =
     let sized : IsSized (g.S.Store.bytes c.args.store.now) (Some c.args.size) =
-    subst (IsSized (g.S.Store.bytes c.args.store.now)) c.requires.told (g.met.S.Store.sized c.args.store.now) in
-    takes_head _ c.args.size c.args.at _ _ sized c.requires.below c.in_err-head_at.ensures.handed c.in_err-head_at.ensures.handed_at_most
+    subst (IsSized (g.S.Store.bytes c.args.store.now)) c.requires.place.sized.is_told (g.met.S.Store.sized c.args.store.now) in
+    takes_head _ c.args.size c.args.at _ _ sized c.requires.place.below c.in_err-head_at.ensures.handed c.in_err-head_at.ensures.handed_at_most
 
 pub returns-in_err-resync-in-Short-clause-takes : goal.returns-in_err-resync-in-Short-clause-takes
 returns-in_err-resync-in-Short-clause-takes g c =
     let sized : IsSized (g.S.Store.bytes c.args.store.now) (Some c.args.size) =
-    subst (IsSized (g.S.Store.bytes c.args.store.now)) c.requires.told (g.met.S.Store.sized c.args.store.now) in
+    subst (IsSized (g.S.Store.bytes c.args.store.now)) c.requires.place.sized.is_told (g.met.S.Store.sized c.args.store.now) in
     takes_resync _ _ c.args.size c.args.at _ _ _ c.in_ok-head_at.ensures.store.same_bytes sized
     (unread_short _ c.args.at c.in_ok-head_at.field-0 c.in-Short.is c.in_ok-head_at.ensures.head) c.in_ok-head_at.ensures.handed
     c.in_ok-head_at.ensures.handed_at_most c.in_err-resync-in-Short.ensures.looks
@@ -31,7 +31,7 @@ returns-in_err-resync-in-Short-clause-takes g c =
 pub returns-in_ok-resync-in-Short-clause-takes : goal.returns-in_ok-resync-in-Short-clause-takes
 returns-in_ok-resync-in-Short-clause-takes g c =
     let sized : IsSized (g.S.Store.bytes c.args.store.now) (Some c.args.size) =
-    subst (IsSized (g.S.Store.bytes c.args.store.now)) c.requires.told (g.met.S.Store.sized c.args.store.now) in
+    subst (IsSized (g.S.Store.bytes c.args.store.now)) c.requires.place.sized.is_told (g.met.S.Store.sized c.args.store.now) in
     takes_resync _ _ c.args.size c.args.at _ _ _ c.in_ok-head_at.ensures.store.same_bytes sized
     (unread_short _ c.args.at c.in_ok-head_at.field-0 c.in-Short.is c.in_ok-head_at.ensures.head) c.in_ok-head_at.ensures.handed
     c.in_ok-head_at.ensures.handed_at_most c.in_ok-resync-in-Short.ensures.looks
@@ -39,7 +39,7 @@ returns-in_ok-resync-in-Short-clause-takes g c =
 pub returns-in_err-resync-in-BadHash-clause-takes : goal.returns-in_err-resync-in-BadHash-clause-takes
 returns-in_err-resync-in-BadHash-clause-takes g c =
     let sized : IsSized (g.S.Store.bytes c.args.store.now) (Some c.args.size) =
-    subst (IsSized (g.S.Store.bytes c.args.store.now)) c.requires.told (g.met.S.Store.sized c.args.store.now) in
+    subst (IsSized (g.S.Store.bytes c.args.store.now)) c.requires.place.sized.is_told (g.met.S.Store.sized c.args.store.now) in
     takes_resync _ _ c.args.size c.args.at _ _ _ c.in_ok-head_at.ensures.store.same_bytes sized
     (unread_hash _ c.args.at c.in_ok-head_at.field-0 c.in-BadHash.is c.in_ok-head_at.ensures.head) c.in_ok-head_at.ensures.handed
     c.in_ok-head_at.ensures.handed_at_most c.in_err-resync-in-BadHash.ensures.looks
@@ -47,7 +47,7 @@ returns-in_err-resync-in-BadHash-clause-takes g c =
 pub returns-in_ok-resync-in-BadHash-clause-takes : goal.returns-in_ok-resync-in-BadHash-clause-takes
 returns-in_ok-resync-in-BadHash-clause-takes g c =
     let sized : IsSized (g.S.Store.bytes c.args.store.now) (Some c.args.size) =
-    subst (IsSized (g.S.Store.bytes c.args.store.now)) c.requires.told (g.met.S.Store.sized c.args.store.now) in
+    subst (IsSized (g.S.Store.bytes c.args.store.now)) c.requires.place.sized.is_told (g.met.S.Store.sized c.args.store.now) in
     takes_resync _ _ c.args.size c.args.at _ _ _ c.in_ok-head_at.ensures.store.same_bytes sized
     (unread_hash _ c.args.at c.in_ok-head_at.field-0 c.in-BadHash.is c.in_ok-head_at.ensures.head) c.in_ok-head_at.ensures.handed
     c.in_ok-head_at.ensures.handed_at_most c.in_ok-resync-in-BadHash.ensures.looks

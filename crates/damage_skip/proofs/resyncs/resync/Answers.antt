@@ -8,7 +8,7 @@ use Rattle.damage_skip.proofs.resyncs.resync.Goals.{After-next_block-block}
 
 -- the told size is that of the file
 sized : (g : _) (c : After-next_block-block g) → IsSized (g.S.Store.bytes c.args.store.now) (Some c.args.size)
-sized g c = subst (IsSized (g.S.Store.bytes c.args.store.now)) c.requires.told (g.met.S.Store.sized c.args.store.now)
+sized g c = subst (IsSized (g.S.Store.bytes c.args.store.now)) c.requires.place.sized.is_told (g.met.S.Store.sized c.args.store.now)
 
 pub returns-in-Some-clause-resync : goal.returns-in-Some-clause-resync
 returns-in-Some-clause-resync g c =

@@ -6,8 +6,8 @@ use Rattle.chunk_reader.proofs.Rooms.{IsSized}
 use Rattle.damage_skip.specs.Walks.{event_of, GoesOn, StandsIn, piece_of}
 use Rattle.damage_skip.specs.declared.events.Event.{Event}
 use Rattle.damage_skip.specs.declared.events.WalkEnd.{WalkEnd}
-use Rattle.damage_skip.proofs.DamagedWalks.{call_past, call_cut, stays_told}
-use Rattle.damage_skip.proofs.FrontWalks.{call_in_front, call_cut_in_front}
+use Rattle.damage_skip.proofs.DamagedWalks.{stays_told}
+use Rattle.damage_skip.proofs.FrontWalks.{in_remains, in_remains-cut_off}
 use Rattle.damage_skip.proofs.WalkSteps.{events_told, met_on, passes, memory_before, stops_there}
 use Rattle.damage_skip.specs.Takings.{IsTakenFrom, TakesByCall}
 use Rattle.damage_skip.proofs.Takings.{taken-start, taken-still, taken-past, taken-to}
@@ -22,13 +22,13 @@ stands g c =
     record {
       size = search rules;
       in_reach = search rules;
-      met = met_on _ from.keep c.loop-self.self.progress.keep from.place c.loop-self.self.progress.place [] kept.on.same_keep c.requires.stands.met kept.on.past;
+      met = met_on _ from.keep c.loop-self.self.progress.keep from.place c.loop-self.self.progress.place [] kept.on.same_keep c.requires.may.stands.met kept.on.past;
       stopped_there = search rules;
     }
 
 -- the told size is that of the file
 sized_before : (g : _) (c : At-loop-self g) → IsSized (g.S.Store.bytes c.args.store.now) (Some c.args.self.now.progress.size)
-sized_before g c = subst (IsSized (g.S.Store.bytes c.args.store.now)) c.requires.stands.size (g.met.S.Store.sized c.args.store.now)
+sized_before g c = subst (IsSized (g.S.Store.bytes c.args.store.now)) c.requires.may.stands.size (g.met.S.Store.sized c.args.store.now)
 
 sized : (g : _) (c : At-loop-self g) → IsSized (g.S.Store.bytes c.args.store.now) (Some c.loop-self.self.progress.size)
 sized g c =
@@ -44,7 +44,7 @@ past g c told is =
     let at = c.loop-self.self.progress in
     let kept = c.loop-self.invariant in
     let sized : IsSized (g.S.Store.bytes c.args.store.now) (Some from.size) =
-    subst (IsSized (g.S.Store.bytes c.args.store.now)) c.requires.stands.size (g.met.S.Store.sized c.args.store.now) in
+    subst (IsSized (g.S.Store.bytes c.args.store.now)) c.requires.may.stands.size (g.met.S.Store.sized c.args.store.now) in
     subst (λ (o : Option Event). IfSome (g.S.Store.bytes c.args.store.now) (λ file. GoesOn from.keep file from.place c.in_ok-piece.piece.end (events_told o))) is
     (passes _ _ from.keep at.keep from.size from.place at.place c.in_ok-piece.piece c.event.result kept.asks.same_bytes kept.on.same_keep sized
     (omega (arith, c.loop-self-test.true, kept.on.same_size)) kept.on.past c.in_ok-piece.ensures.sound c.in_ok-piece.ensures.piece.intact
@@ -59,7 +59,7 @@ taken g c =
     let at = c.loop-self.self.progress in
     let kept = c.loop-self.invariant in
     let sized : IsSized (g.S.Store.bytes c.args.store.now) (Some from.size) =
-    subst (IsSized (g.S.Store.bytes c.args.store.now)) c.requires.stands.size (g.met.S.Store.sized c.args.store.now) in
+    subst (IsSized (g.S.Store.bytes c.args.store.now)) c.requires.may.stands.size (g.met.S.Store.sized c.args.store.now) in
     taken-past _ _ from.keep at.keep from.size from.place at.place c.in_ok-piece.piece _ _ _ kept.asks.same_bytes kept.on.same_keep sized
     (omega (arith, c.loop-self-test.true, kept.on.same_size)) kept.taken c.in_ok-piece.ensures.sound c.in_ok-piece.ensures.takes
     c.in_ok-piece.ensures.stops
@@ -107,7 +107,7 @@ returns-in-Some-event-clause-stands g c =
       size = before.size;
       in_reach = before.in_reach;
       met = met_on _ from.keep c.loop-self.self.progress.keep from.place c.in_ok-piece.piece.end (piece_of c.in-Some-event.event ∷ [])
-          c.loop-self.invariant.on.same_keep c.requires.stands.met (past g at.After-event (Some c.in-Some-event.event) c.in-Some-event.is);
+          c.loop-self.invariant.on.same_keep c.requires.may.stands.met (past g at.After-event (Some c.in-Some-event.event) c.in-Some-event.is);
       stopped_there = search rules;
     }
 
@@ -131,12 +131,12 @@ loop-self-preserved g c =
 pub returns-clause-stands : goal.returns-clause-stands
 returns-clause-stands g c = stands g (goal.at.returns-clause-stands g c).At-loop-self
 
-pub returns-in-Some-clause-damaged : goal.returns-in-Some-clause-damaged
-returns-in-Some-clause-damaged g c =
+pub returns-in-Some-clause-remains : goal.returns-in-Some-clause-remains
+returns-in-Some-clause-remains g c =
     let at = c.args.self.now.progress in
     let sized : IsSized (g.S.Store.bytes c.args.store.now) (Some at.size) =
-    subst (IsSized (g.S.Store.bytes c.args.store.now)) c.requires.stands.size (g.met.S.Store.sized c.args.store.now) in
-    call_past _ _ _ at at _ sized c.requires.stands c.requires.stands (record {
+    subst (IsSized (g.S.Store.bytes c.args.store.now)) c.requires.may.stands.size (g.met.S.Store.sized c.args.store.now) in
+    in_remains _ _ _ at at _ sized c.requires.may.stands c.requires.may.stands (record {
       same_size = refl;
       same_keep = refl;
       rises = omega arith;
@@ -145,29 +145,29 @@ returns-in-Some-clause-damaged g c =
     })
     (λ none. cc)
 
-pub returns-in_err-piece-clause-damaged : goal.returns-in_err-piece-clause-damaged
-returns-in_err-piece-clause-damaged g c =
+pub returns-in_err-piece-clause-remains : goal.returns-in_err-piece-clause-remains
+returns-in_err-piece-clause-remains g c =
     let p = err_from_is_err_and c.from_residual.result c.from_residual.ensures.1 in
-    call_cut _ _ _ c.args.self.now.progress c.loop-self.self.progress c.in_err-piece.field-0.0 c.from_residual.result (p.1 ∙ ap Err p.2)
-    (sized_before g (goal.at.returns-in_err-piece-clause-damaged g c).At-loop-self) c.requires.stands (returns-in_err-piece-clause-stands g c)
+    in_remains-cut_off _ _ _ c.args.self.now.progress c.loop-self.self.progress c.in_err-piece.field-0.0 c.from_residual.result (p.1 ∙ ap Err p.2)
+    (sized_before g (goal.at.returns-in_err-piece-clause-remains g c).At-loop-self) c.requires.may.stands (returns-in_err-piece-clause-stands g c)
     c.loop-self.invariant.on
 
-pub returns-in-Some-refused-clause-damaged : goal.returns-in-Some-refused-clause-damaged
-returns-in-Some-refused-clause-damaged g c =
+pub returns-in-Some-refused-clause-remains : goal.returns-in-Some-refused-clause-remains
+returns-in-Some-refused-clause-remains g c =
     let on = c.loop-self.invariant.on in
-    call_past _ _ _ c.args.self.now.progress _ _ (sized_before g (goal.at.returns-in-Some-refused-clause-damaged g c).At-loop-self)
-    c.requires.stands (returns-in-Some-refused-clause-stands g c)
+    in_remains _ _ _ c.args.self.now.progress _ _ (sized_before g (goal.at.returns-in-Some-refused-clause-remains g c).At-loop-self)
+    c.requires.may.stands (returns-in-Some-refused-clause-stands g c)
     (record { same_size = on.same_size; same_keep = on.same_keep; rises = on.rises; past = on.past; stopped = refl }) (λ none. cc)
 
-pub returns-in-Some-event-clause-damaged : goal.returns-in-Some-event-clause-damaged
-returns-in-Some-event-clause-damaged g c =
-    call_past _ _ _ c.args.self.now.progress _ _ (sized_before g (goal.at.returns-in-Some-event-clause-damaged g c).At-loop-self) c.requires.stands
+pub returns-in-Some-event-clause-remains : goal.returns-in-Some-event-clause-remains
+returns-in-Some-event-clause-remains g c =
+    in_remains _ _ _ c.args.self.now.progress _ _ (sized_before g (goal.at.returns-in-Some-event-clause-remains g c).At-loop-self) c.requires.may.stands
     (returns-in-Some-event-clause-stands g c) (returns-in-Some-event-clause-goes_on g c) (λ none. cc)
 
-pub returns-clause-damaged : goal.returns-clause-damaged
-returns-clause-damaged g c =
+pub returns-clause-remains : goal.returns-clause-remains
+returns-clause-remains g c =
     let on = c.loop-self.invariant.on in
-    call_past _ _ _ c.args.self.now.progress _ _ (sized_before g (goal.at.returns-clause-damaged g c).At-loop-self) c.requires.stands
+    in_remains _ _ _ c.args.self.now.progress _ _ (sized_before g (goal.at.returns-clause-remains g c).At-loop-self) c.requires.may.stands
     (returns-clause-stands g c) on (λ none. omega (arith, c.loop-self-test.false, c.loop-self.self.progress.within, on.same_size))
 
 pub loop-self-init : goal.loop-self-init
@@ -184,7 +184,7 @@ pub returns-in-Some-clause-takes : goal.returns-in-Some-clause-takes
 returns-in-Some-clause-takes g c =
     let at = c.args.self.now.progress in
     let sized : IsSized (g.S.Store.bytes c.args.store.now) (Some at.size) =
-    subst (IsSized (g.S.Store.bytes c.args.store.now)) c.requires.stands.size (g.met.S.Store.sized c.args.store.now) in
+    subst (IsSized (g.S.Store.bytes c.args.store.now)) c.requires.may.stands.size (g.met.S.Store.sized c.args.store.now) in
     taken-still _ at.keep at.size at.place _ sized at.within (omega arith)
 
 pub returns-in_err-piece-clause-takes : goal.returns-in_err-piece-clause-takes
@@ -208,42 +208,3 @@ returns-in-Some-event-clause-takes g c = taken g (goal.at.returns-in-Some-event-
 
 pub returns-clause-takes : goal.returns-clause-takes
 returns-clause-takes g c = c.loop-self.invariant.taken
-
-pub returns-in-Some-clause-cut : goal.returns-in-Some-clause-cut
-returns-in-Some-clause-cut g c =
-    let at = c.args.self.now.progress in
-    let sized : IsSized (g.S.Store.bytes c.args.store.now) (Some at.size) =
-    subst (IsSized (g.S.Store.bytes c.args.store.now)) c.requires.stands.size (g.met.S.Store.sized c.args.store.now) in
-    call_in_front _ _ _ at at _ sized c.requires.stands c.requires.stands (record {
-      same_size = refl;
-      same_keep = refl;
-      rises = omega arith;
-      past = stays_told _ at.keep at.place;
-      stopped = search rules;
-    })
-    (λ none. cc)
-
-pub returns-in_err-piece-clause-cut : goal.returns-in_err-piece-clause-cut
-returns-in_err-piece-clause-cut g c =
-    let p = err_from_is_err_and c.from_residual.result c.from_residual.ensures.1 in
-    call_cut_in_front _ _ _ c.args.self.now.progress c.loop-self.self.progress c.in_err-piece.field-0.0 c.from_residual.result (p.1 ∙ ap Err p.2)
-    (sized_before g (goal.at.returns-in_err-piece-clause-cut g c).At-loop-self) c.requires.stands (returns-in_err-piece-clause-stands g c)
-    c.loop-self.invariant.on
-
-pub returns-in-Some-refused-clause-cut : goal.returns-in-Some-refused-clause-cut
-returns-in-Some-refused-clause-cut g c =
-    let on = c.loop-self.invariant.on in
-    call_in_front _ _ _ c.args.self.now.progress _ _ (sized_before g (goal.at.returns-in-Some-refused-clause-cut g c).At-loop-self)
-    c.requires.stands (returns-in-Some-refused-clause-stands g c)
-    (record { same_size = on.same_size; same_keep = on.same_keep; rises = on.rises; past = on.past; stopped = refl }) (λ none. cc)
-
-pub returns-in-Some-event-clause-cut : goal.returns-in-Some-event-clause-cut
-returns-in-Some-event-clause-cut g c =
-    call_in_front _ _ _ c.args.self.now.progress _ _ (sized_before g (goal.at.returns-in-Some-event-clause-cut g c).At-loop-self) c.requires.stands
-    (returns-in-Some-event-clause-stands g c) (returns-in-Some-event-clause-goes_on g c) (λ none. cc)
-
-pub returns-clause-cut : goal.returns-clause-cut
-returns-clause-cut g c =
-    let on = c.loop-self.invariant.on in
-    call_in_front _ _ _ c.args.self.now.progress _ _ (sized_before g (goal.at.returns-clause-cut g c).At-loop-self) c.requires.stands
-    (returns-clause-stands g c) on (λ none. omega (arith, c.loop-self-test.false, c.loop-self.self.progress.within, on.same_size))
