@@ -1,10 +1,10 @@
-ghost use Rattle.std.specs.Prelude.{◌≡◌, ℕ, ◌+◌, ◌^◌, ◌<◌, ◌≤◌, false, Some, IfOk, IfSome, Err};
+ghost use Rattle.std.specs.Prelude.{◌≡◌, ◌+◌, ◌≤◌, false, IfOk, IfSome, Err};
 ghost use Rattle.record_io.specs.Calls.{OnlyAsks};
-ghost use Rattle.block_layout.specs.Layout.{IsBoundary};
 ghost use Rattle.chunk_reader.specs.Contents.{records_given};
 ghost use Rattle.chunk_reader.specs.Faults.{IsVerdict};
 ghost use Rattle.chunk_reader.specs.Places.{end_at};
 ghost use Rattle.chunk_reader.specs.Reasons.{Applies, NoneOf, unpassed_reasons, loading_reasons};
+ghost use Rattle.chunk_reader.specs.Sizes.{MayBeginAt};
 ghost use Rattle.chunk_reader.specs.declared.reasons.Fault.{Fault};
 ghost use Rattle.record_seek.specs.KeyTests.{IsKeyTest, StandsBefore};
 ghost use Rattle.record_seek.specs.Steps.{IsHeld, IsHeldAt, IsNumbered, IsFirstBefore, IsFirstNot};
@@ -42,10 +42,7 @@ pub(crate) fn held_at<S: Store>(
     size: u64,
     place: u64,
 ) -> Result<Held, ReadEnd>
-    requires told { S.told store.old ≡ Some size }
-    requires in_reach { size ≤ 2 ^ 60 }
-    requires from_boundary { IsBoundary place }
-    requires below { place < size }
+    requires place { MayBeginAt (S.told store.old) size place }
     ensures begin { IfOk result (λ held. held.begin ≡ place) }
     ensures within { IfOk result (λ held. held.end ≤ size) }
     ensures held { IfOk result IsHeld }

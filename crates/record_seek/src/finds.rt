@@ -1,4 +1,4 @@
-ghost use Rattle.std.specs.Prelude.{◌≡◌, ℕ, ◌+◌, ◌*◌, ◌/◌, ◌^◌, ◌<◌, ◌≤◌, ◌⊎◌, true, false, List, Some, None, Ok, IfOk, IfSome, Err, length, slice_get};
+ghost use Rattle.std.specs.Prelude.{◌≡◌, ℕ, ◌+◌, ◌*◌, ◌/◌, ◌<◌, ◌≤◌, ◌⊎◌, true, false, List, Some, None, Ok, IfOk, IfSome, Err, length, slice_get};
 ghost use Rattle.chunk_header.specs.Chunks.{ChunkValue};
 ghost use Rattle.meta_chunk.specs.Files.{IsFile, IsFrame, ArePlaced, begin_of};
 ghost use Rattle.record_io.specs.Calls.{OnlyAsks};
@@ -6,6 +6,7 @@ ghost use Rattle.block_layout.specs.Layout.{block_size, block_header_size, IsBlo
 ghost use Rattle.chunk_reader.specs.Blocks.{TellsBegin, IsBlockFault};
 ghost use Rattle.chunk_reader.specs.Reasons.{Applies, NoneOf, loading_reasons};
 ghost use Rattle.chunk_reader.specs.SearchBounds.{key_bound};
+ghost use Rattle.chunk_reader.specs.Sizes.{HasSize};
 ghost use Rattle.chunk_reader.specs.declared.reasons.Fault.{Fault};
 ghost use Rattle.record_seek.specs.Found.{IsKeyFound, BytesStandBefore, OnlyFrontStandsBefore};
 ghost use Rattle.record_seek.specs.KeyTests.{IsKeyTest, StandsBefore};
@@ -38,8 +39,7 @@ pub fn find<S: Store, F: Fn(&[u8]) -> bool + Drop>(
     size: u64,
     test: &KeyTest<F>,
 ) -> Result<Option<Found>, ReadEnd>
-    requires told { S.told store.old ≡ Some size }
-    requires in_reach { size ≤ 2 ^ 60 }
+    requires sized { HasSize (S.told store.old) size }
     requires test { IsKeyTest F.Fn test.now.test }
     ensures found { IfOk result (λ found. IfSome (S.bytes store.old) (λ file. (ks : List ChunkValue) (placed : List (ℕ × List ℕ))
         → IsFile ks file → ArePlaced ks placed → IsKeyFound (BytesStandBefore (StandsBefore F.Fn test.now.test)) placed (placed_of found))) }
@@ -78,8 +78,7 @@ pub fn find<S: Store, F: Fn(&[u8]) -> bool + Drop>(
 /// Where reading begins from the block of a number: at the file's front from block 0, and from another one where its header
 /// tells.
 fn reading_begin<S: Store>(store: &mut S, size: u64, low: u64) -> Result<u64, VerifyEnd>
-    requires told { S.told store.old ≡ Some size }
-    requires in_reach { size ≤ 2 ^ 60 }
+    requires sized { HasSize (S.told store.old) size }
     requires below { 0 < low → low * block_size < size }
     ensures begin { IfOk result (λ begin. IfSome (S.bytes store.old) (λ file.
         ((low ≡ 0) × (begin ≡ 0)) ⊎ ((0 < low) × TellsBegin file (low * block_size) begin))) }
@@ -104,8 +103,7 @@ fn stands_before<S: Store, F: Fn(&[u8]) -> bool + Drop>(
     test: &KeyTest<F>,
     block: u64,
 ) -> Result<bool, ReadEnd>
-    requires told { S.told store.old ≡ Some size }
-    requires in_reach { size ≤ 2 ^ 60 }
+    requires sized { HasSize (S.told store.old) size }
     requires at_block { IsBlock block }
     requires below { block < size }
     requires test { IsKeyTest F.Fn test.now.test }
@@ -135,8 +133,7 @@ fn next_held<S: Store>(
     size: u64,
     from: u64,
 ) -> Result<Option<Held>, ReadEnd>
-    requires told { S.told store.old ≡ Some size }
-    requires in_reach { size ≤ 2 ^ 60 }
+    requires sized { HasSize (S.told store.old) size }
     requires from_boundary { IsBoundary from }
     requires within { from ≤ size }
     ensures held { IfOk result (λ next. IfSome next IsHeld) }
@@ -169,8 +166,7 @@ fn read_on<S: Store, F: Fn(&[u8]) -> bool + Drop>(
     test: &KeyTest<F>,
     begin: u64,
 ) -> Result<Option<Found>, ReadEnd>
-    requires told { S.told store.old ≡ Some size }
-    requires in_reach { size ≤ 2 ^ 60 }
+    requires sized { HasSize (S.told store.old) size }
     requires from_boundary { IsBoundary begin }
     requires within { begin ≤ size }
     requires test { IsKeyTest F.Fn test.now.test }

@@ -1,4 +1,4 @@
-ghost use Rattle.std.specs.Prelude.{◌≡◌, ℕ, ◌+◌, ◌*◌, ◌^◌, ◌<◌, ◌≤◌, ◌↔◌, List, Some, None, IfOk, IfSome, Ok, Err};
+ghost use Rattle.std.specs.Prelude.{◌≡◌, ℕ, ◌+◌, ◌*◌, ◌<◌, ◌≤◌, ◌↔◌, List, Some, None, IfOk, IfSome, Ok, Err};
 ghost use Rattle.record_io.specs.Calls.{OnlyAsks};
 ghost use Rattle.block_layout.specs.Layout.{block_size, chunk_header_size, block_of, IsBoundary};
 ghost use Rattle.chunk_header.specs.Chunks.{ChunkValue};
@@ -7,6 +7,7 @@ ghost use Rattle.chunk_reader.specs.Blocks.{TellsBegin};
 ghost use Rattle.chunk_reader.specs.Holders.{IsOnWay, IsHolder, IsHolderFault};
 ghost use Rattle.chunk_reader.specs.Reasons.{Applies, IsFirstOf, unpassed_reasons};
 ghost use Rattle.chunk_reader.specs.SearchBounds.{holder_bound};
+ghost use Rattle.chunk_reader.specs.Sizes.{HasSize};
 ghost use Rattle.chunk_reader.specs.declared.reasons.Fault.{Fault};
 
 use crate::passes::{passed_at, told_begin};
@@ -62,8 +63,7 @@ impl From<HolderEnd> for ReadEnd {
 /// `Refused` exactly where that block header isn't right and sane, by `BlockHeader` at the block, or at the first chunk header
 /// on the way that can't be passed, by the first of `Short`, `HeaderHash` and `Truncated`. `Store` only where the store failed.
 pub fn holder<S: Store>(store: &mut S, size: u64, at: u64) -> Result<Option<u64>, HolderEnd>
-    requires told { S.told store.old ≡ Some size }
-    requires in_reach { size ≤ 2 ^ 60 }
+    requires sized { HasSize (S.told store.old) size }
     ensures holder { (begin : ℕ) → result ≡ Ok (Some begin) → IfSome (S.bytes store.old) (λ file. IsHolder file at begin) }
     ensures begin { (begin : ℕ) → result ≡ Ok (Some begin) → IsBoundary begin × (begin ≤ at) × (at < size) }
     ensures none { (result ≡ Ok None) ↔ (size ≤ at) }
@@ -90,8 +90,7 @@ fn block_before(at: u64) -> u64
 
 /// Where the chunk begins that holds a position, from a begin on that the block at or before the position tells.
 fn holder_from<S: Store>(store: &mut S, size: u64, at: u64, begin: u64) -> Result<u64, VerifyEnd>
-    requires told { S.told store.old ≡ Some size }
-    requires in_reach { size ≤ 2 ^ 60 }
+    requires sized { HasSize (S.told store.old) size }
     requires below { at < size }
     requires before { begin ≤ at }
     requires from_boundary { IsBoundary begin }

@@ -1,8 +1,9 @@
-ghost use Rattle.std.specs.Prelude.{◌≡◌, ◌+◌, ◌^◌, ◌<◌, ◌≤◌, Some, IfOk, IfSome, Err};
+ghost use Rattle.std.specs.Prelude.{◌≡◌, ◌+◌, ◌<◌, ◌≤◌, IfOk, IfSome, Err};
 ghost use Rattle.record_io.specs.Calls.{OnlyAsks};
 ghost use Rattle.block_layout.specs.Layout.{block_header_size, chunk_header_size, IsBlock, IsBoundary};
 ghost use Rattle.chunk_reader.specs.Blocks.{TellsBegin, IsBlockFault};
 ghost use Rattle.chunk_reader.specs.Reasons.{Applies, IsFirstOf, unpassed_reasons};
+ghost use Rattle.chunk_reader.specs.Sizes.{HasSize, MayBeginAt};
 ghost use Rattle.chunk_reader.specs.declared.reasons.Fault.{Fault};
 ghost use Rattle.record_seek.specs.Steps.{IsPassedAt};
 
@@ -11,8 +12,7 @@ use record_io::Store;
 
 /// The begin that the header of a block tells.
 pub(crate) fn told_begin<S: Store>(store: &mut S, size: u64, block: u64) -> Result<u64, VerifyEnd>
-    requires told { S.told store.old ≡ Some size }
-    requires in_reach { size ≤ 2 ^ 60 }
+    requires sized { HasSize (S.told store.old) size }
     requires at_block { IsBlock block }
     requires below { block < size }
     ensures told { IfOk result (λ begin. IfSome (S.bytes store.old) (λ file. TellsBegin file block begin)) }
@@ -43,10 +43,7 @@ pub(crate) struct Passed {
 
 /// The chunk at a place of a file, which is passed.
 pub(crate) fn passed_at<S: Store>(store: &mut S, size: u64, at: u64) -> Result<Passed, VerifyEnd>
-    requires told { S.told store.old ≡ Some size }
-    requires in_reach { size ≤ 2 ^ 60 }
-    requires from_boundary { IsBoundary at }
-    requires below { at < size }
+    requires place { MayBeginAt (S.told store.old) size at }
     ensures passed { IfOk result (λ chunk. IfSome (S.bytes store.old) (λ file. IsPassedAt file at chunk)) }
     ensures boundary { IfOk result (λ chunk. IsBoundary chunk.end) }
     ensures past { IfOk result (λ chunk. at + chunk_header_size ≤ chunk.end) }

@@ -1,4 +1,4 @@
-ghost use Rattle.std.specs.Prelude.{◌≡◌, ℕ, ◌+◌, ◌-◌, ◌*◌, ◌^◌, ◌<◌, ◌≤◌, ◌↔◌, List, IsTrue, Some, IfOk, IfSome, Err};
+ghost use Rattle.std.specs.Prelude.{◌≡◌, ℕ, ◌+◌, ◌-◌, ◌*◌, ◌^◌, ◌<◌, ◌≤◌, ◌↔◌, List, IsTrue, IfOk, IfSome, Err};
 ghost use Rattle.record_io.specs.Calls.{OnlyAsks};
 ghost use Rattle.block_layout.specs.Layout.{chunk_header_size, IsBoundary};
 ghost use Rattle.chunk_header.specs.Chunks.{ChunkValue};
@@ -7,6 +7,7 @@ ghost use Rattle.chunk_reader.specs.Holders.{IsHolder};
 ghost use Rattle.chunk_reader.specs.Reasons.{Applies, NoneOf, IsFirstOf, unpassed_reasons, loading_reasons};
 ghost use Rattle.chunk_reader.specs.Searches.{HasRecordFrom, SearchComesTo, AnswersAt, SearchGives, IsSearchFault};
 ghost use Rattle.chunk_reader.specs.SearchBounds.{position_bound};
+ghost use Rattle.chunk_reader.specs.Sizes.{HasSize, MayBeginAt};
 ghost use Rattle.chunk_reader.specs.declared.reasons.Fault.{Fault};
 ghost use Rattle.record_seek.specs.Found.{IsAnsweringNumber};
 ghost use Rattle.record_seek.specs.Steps.{IsAnswer, placed_of};
@@ -34,8 +35,7 @@ pub fn seek<S: Store>(
     size: u64,
     at: u64,
 ) -> Result<Option<Found>, ReadEnd>
-    requires told { S.told store.old ≡ Some size }
-    requires in_reach { size ≤ 2 ^ 60 }
+    requires sized { HasSize (S.told store.old) size }
     ensures found { IfOk result (λ found. IfSome (S.bytes store.old) (λ file. SearchGives file at (placed_of found))) }
     ensures refused { (fault : Fault) → result ≡ Err (ReadEnd.Refused fault)
         → IfSome (S.bytes store.old) (λ file. IsSearchFault file at fault) }
@@ -64,10 +64,7 @@ fn answering_from<S: Store>(
     at: u64,
     begin: u64,
 ) -> Result<Option<u64>, VerifyEnd>
-    requires told { S.told store.old ≡ Some size }
-    requires in_reach { size ≤ 2 ^ 60 }
-    requires from_boundary { IsBoundary begin }
-    requires below { begin < size }
+    requires place { MayBeginAt (S.told store.old) size begin }
     ensures boundary { IfOk result (λ found. IfSome found IsBoundary) }
     ensures within { IfOk result (λ found. IfSome found (λ place. place < size)) }
     ensures answer { IfOk result (λ found. IfSome (S.bytes store.old) (λ file. IsHolder file at begin → IsAnswer file at found)) }

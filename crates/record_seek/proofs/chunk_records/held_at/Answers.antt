@@ -4,7 +4,7 @@ use Rattle.record_seek.proofs.chunk_records.held_at.Goals as goal
 
 pub returns-clause-held : goal.returns-clause-held
 returns-clause-held g c =
-    held-of c.args.size c.args.place c.in_ok-judged.judged _ c.requires.in_reach c.in_ok-judged.ensures.judged refl refl c.records_found.ensures
+    held-of c.args.size c.args.place c.in_ok-judged.judged _ c.requires.place.sized.in_reach c.in_ok-judged.ensures.judged refl refl c.records_found.ensures
 
 pub returns-clause-there : goal.returns-clause-there
 returns-clause-there g c =

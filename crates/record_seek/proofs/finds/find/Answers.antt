@@ -15,14 +15,14 @@ use Rattle.record_seek.proofs.finds.find.Goals.{Start}
 
 -- the told size is that of the file
 sized : (g : _) (c : Start g) → IsSized (g.S.Store.bytes c.args.store.now) (Some c.args.size)
-sized g c = subst (IsSized (g.S.Store.bytes c.args.store.now)) c.requires.told (g.met.S.Store.sized c.args.store.now)
+sized g c = subst (IsSized (g.S.Store.bytes c.args.store.now)) c.requires.sized.is_told (g.met.S.Store.sized c.args.store.now)
 
 pub returns-clause-found : goal.returns-clause-found
 returns-clause-found g c =
     let kept = c.loop-high.invariant in
     let given = c.in_ok-begin.ensures in
     found-in (StandsBefore g.F.Fn c.args.test.now.test) _ _ _ c.args.size c.loop-high.low c.in_ok-begin.begin c.read_on.result kept.asks.same_bytes
-    (given.store.same_bytes ∙ kept.asks.same_bytes) (sized g (goal.at.returns-clause-found g c).Start) c.requires.in_reach kept.begins given.begin
+    (given.store.same_bytes ∙ kept.asks.same_bytes) (sized g (goal.at.returns-clause-found g c).Start) c.requires.sized.in_reach kept.begins given.begin
     c.read_on.ensures.read
 
 pub returns-clause-in_order : goal.returns-clause-in_order
@@ -67,20 +67,20 @@ returns-clause-refused g c =
 pub returns-in_err-stands_before-clause-whole : goal.returns-in_err-stands_before-clause-whole
 returns-in_err-stands_before-clause-whole g c =
     λ fault e.
-    met-not_whole _ c.args.size fault (sized g (goal.at.returns-in_err-stands_before-clause-whole g c).Start) c.requires.in_reach
+    met-not_whole _ c.args.size fault (sized g (goal.at.returns-in_err-stands_before-clause-whole g c).Start) c.requires.sized.in_reach
     (same_told (λ file. IsMetFault file fault) _ _ c.loop-high.invariant.asks.same_bytes
     (c.in_err-stands_before.ensures.refused fault (ap Err (sym (rw e at c.from_residual.ensures.1)))))
 
 pub returns-in_err-begin-clause-whole : goal.returns-in_err-begin-clause-whole
 returns-in_err-begin-clause-whole g c =
     λ fault e.
-    met-not_whole _ c.args.size fault (sized g (goal.at.returns-in_err-begin-clause-whole g c).Start) c.requires.in_reach
+    met-not_whole _ c.args.size fault (sized g (goal.at.returns-in_err-begin-clause-whole g c).Start) c.requires.sized.in_reach
     (returns-in_err-begin-clause-refused g c fault e)
 
 pub returns-clause-whole : goal.returns-clause-whole
 returns-clause-whole g c =
     λ fault e.
-    met-not_whole _ c.args.size fault (sized g (goal.at.returns-clause-whole g c).Start) c.requires.in_reach
+    met-not_whole _ c.args.size fault (sized g (goal.at.returns-clause-whole g c).Start) c.requires.sized.in_reach
     (returns-clause-refused g c fault e)
 
 pub returns-in_err-stands_before-clause-handed : goal.returns-in_err-stands_before-clause-handed
@@ -100,7 +100,7 @@ returns-clause-handed g c =
     let given = c.in_ok-begin.ensures in
     takes-reading (StandsBefore g.F.Fn c.args.test.now.test) _ _ _ c.args.size c.loop-high.low c.loop-high.high c.in_ok-begin.begin _ _ _ _
     kept.asks.same_bytes (given.store.same_bytes ∙ kept.asks.same_bytes) (sized g (goal.at.returns-clause-handed g c).Start)
-    c.requires.in_reach kept.halved kept.ordered (omega (arith, c.loop-high-test.false)) given.begin given.handed c.read_on.ensures.handed
+    c.requires.sized.in_reach kept.halved kept.ordered (omega (arith, c.loop-high-test.false)) given.begin given.handed c.read_on.ensures.handed
 
 pub loop-high-init : goal.loop-high-init
 loop-high-init g c = record {
@@ -138,7 +138,7 @@ loop-high-preserved g c =
       below = kept.below;
       begins = kept.begins;
       halved = halved-down (StandsBefore g.F.Fn c.args.test.now.test) _ _ c.args.size c.loop-high.low c.loop-high.high _ _ _
-          kept.asks.same_bytes (sized g (goal.at.loop-high-preserved g c).Start) c.requires.in_reach kept.halved c.loop-high-test.true
+          kept.asks.same_bytes (sized g (goal.at.loop-high-preserved g c).Start) c.requires.sized.in_reach kept.halved c.loop-high-test.true
           given.handed (given.not_before (ap Ok c.if-branch.false));
       asks = search rules;
     }

@@ -11,7 +11,7 @@ use Rattle.record_seek.proofs.finds.stands_before.Goals.{Start}
 
 -- the told size is that of the file
 sized : (g : _) (c : Start g) → IsSized (g.S.Store.bytes c.args.store.now) (Some c.args.size)
-sized g c = subst (IsSized (g.S.Store.bytes c.args.store.now)) c.requires.told (g.met.S.Store.sized c.args.store.now)
+sized g c = subst (IsSized (g.S.Store.bytes c.args.store.now)) c.requires.sized.is_told (g.met.S.Store.sized c.args.store.now)
 
 pub returns-in_err-begin-clause-refused : goal.returns-in_err-begin-clause-refused
 returns-in_err-begin-clause-refused g c =
@@ -32,7 +32,7 @@ pub returns-in_err-held-clause-handed : goal.returns-in_err-held-clause-handed
 returns-in_err-held-clause-handed g c =
     let given = c.in_ok-begin.ensures in
     told-takes _ _ c.args.size c.args.block c.in_ok-begin.begin _ _ _ given.store.same_bytes
-    (sized g (goal.at.returns-in_err-held-clause-handed g c).Start) c.requires.in_reach given.told given.handed
+    (sized g (goal.at.returns-in_err-held-clause-handed g c).Start) c.requires.sized.in_reach given.told given.handed
     c.next_held.ensures.handed
 
 pub returns-in_err-held-clause-memory : goal.returns-in_err-held-clause-memory
@@ -53,7 +53,7 @@ pub returns-in_default-clause-handed : goal.returns-in_default-clause-handed
 returns-in_default-clause-handed g c =
     let given = c.in_ok-begin.ensures in
     told-takes _ _ c.args.size c.args.block c.in_ok-begin.begin _ _ _ given.store.same_bytes
-    (sized g (goal.at.returns-in_default-clause-handed g c).Start) c.requires.in_reach given.told given.handed
+    (sized g (goal.at.returns-in_default-clause-handed g c).Start) c.requires.sized.in_reach given.told given.handed
     c.next_held.ensures.handed
 
 pub first_before-requires-clause-held : goal.first_before-requires-clause-held
@@ -79,4 +79,4 @@ pub returns-clause-handed : goal.returns-clause-handed
 returns-clause-handed g c =
     let given = c.in_ok-begin.ensures in
     told-takes _ _ c.args.size c.args.block c.in_ok-begin.begin _ _ _ given.store.same_bytes (sized g (goal.at.returns-clause-handed g c).Start)
-    c.requires.in_reach given.told given.handed c.next_held.ensures.handed
+    c.requires.sized.in_reach given.told given.handed c.next_held.ensures.handed

@@ -7,7 +7,7 @@ pub returns-in_err-begin-clause-refused : goal.returns-in_err-begin-clause-refus
 returns-in_err-begin-clause-refused g c =
     λ fault e.
     refused-block _ c.args.size c.args.at _ fault
-    (subst (IsSized (g.S.Store.bytes c.args.store.now)) c.requires.told (g.met.S.Store.sized c.args.store.now))
+    (subst (IsSized (g.S.Store.bytes c.args.store.now)) c.requires.sized.is_told (g.met.S.Store.sized c.args.store.now))
     (omega arith) (omega arith)
     (c.in_err-begin.ensures.refused fault (ap Err (refused_before c.in_err-begin.field-0.0 fault (rw e at c.from_residual.ensures.1))))
 

@@ -6,7 +6,7 @@ use Rattle.record_seek.proofs.holders.holder_from.Goals.{Start}
 
 -- the told size is that of the file
 sized : (g : _) (c : Start g) → IsSized (g.S.Store.bytes c.args.store.now) (Some c.args.size)
-sized g c = subst (IsSized (g.S.Store.bytes c.args.store.now)) c.requires.told (g.met.S.Store.sized c.args.store.now)
+sized g c = subst (IsSized (g.S.Store.bytes c.args.store.now)) c.requires.sized.is_told (g.met.S.Store.sized c.args.store.now)
 
 pub loop-passed-init : goal.loop-passed-init
 loop-passed-init g c = record {
@@ -50,7 +50,7 @@ loop-passed-preserved g c =
       before = c.if-at-passed.false;
       way = way-on _ _ c.args.at c.args.begin c.loop-passed.place chunk kept.asks.same_bytes kept.way given.passed c.if-at-passed.false;
       paid = paid-on _ _ c.args.size c.args.at c.args.begin c.loop-passed.place chunk _ _ _ kept.asks.same_bytes
-          (sized g (goal.at.loop-passed-preserved g c).Start) c.requires.in_reach c.requires.below given.passed given.past
+          (sized g (goal.at.loop-passed-preserved g c).Start) c.requires.sized.in_reach c.requires.below given.passed given.past
           c.passed_at.ensures.handed kept.paid;
       asks = search rules;
     }

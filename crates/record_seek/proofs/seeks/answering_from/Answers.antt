@@ -6,7 +6,7 @@ use Rattle.record_seek.proofs.seeks.answering_from.Goals.{Start}
 
 -- the told size is that of the file
 sized : (g : _) (c : Start g) → IsSized (g.S.Store.bytes c.args.store.now) (Some c.args.size)
-sized g c = subst (IsSized (g.S.Store.bytes c.args.store.now)) c.requires.told (g.met.S.Store.sized c.args.store.now)
+sized g c = subst (IsSized (g.S.Store.bytes c.args.store.now)) c.requires.place.sized.is_told (g.met.S.Store.sized c.args.store.now)
 
 pub returns-in_err-passed-clause-refused : goal.returns-in_err-passed-clause-refused
 returns-in_err-passed-clause-refused g c =

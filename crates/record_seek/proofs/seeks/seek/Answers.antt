@@ -11,7 +11,7 @@ use Rattle.record_seek.proofs.seeks.seek.Goals.{Start, In-Some, In-Some-2}
 
 -- the told size is that of the file
 sized : (g : _) (c : Start g) → IsSized (g.S.Store.bytes c.args.store.now) (Some c.args.size)
-sized g c = subst (IsSized (g.S.Store.bytes c.args.store.now)) c.requires.told (g.met.S.Store.sized c.args.store.now)
+sized g c = subst (IsSized (g.S.Store.bytes c.args.store.now)) c.requires.sized.is_told (g.met.S.Store.sized c.args.store.now)
 
 -- the chunk at the begin holds the position
 holds : (g : _) (c : In-Some g) → IfSome (g.S.Store.bytes c.args.store.now) (λ file. IsHolder file c.args.at c.in-Some.begin)
@@ -35,7 +35,7 @@ takes :
 takes g c last read =
     takes-record _ _ _ c.args.size c.args.at c.in-Some.begin c.in-Some-2.place _ _ _ _ c.in_ok-begin.ensures.store.same_bytes
     (c.in_ok-place.ensures.store.same_bytes ∙ c.in_ok-begin.ensures.store.same_bytes)
-    (subst (IsSized (g.S.Store.bytes c.args.store.now)) c.requires.told (g.met.S.Store.sized c.args.store.now)) c.requires.in_reach
+    (subst (IsSized (g.S.Store.bytes c.args.store.now)) c.requires.sized.is_told (g.met.S.Store.sized c.args.store.now)) c.requires.sized.in_reach
     (c.in_ok-begin.ensures.holder c.in-Some.begin (ap Ok c.in-Some.is)) c.holder.ensures.handed c.answering_from.ensures.handed (answering g c) read
 
 pub returns-in_err-begin-clause-refused : goal.returns-in_err-begin-clause-refused
@@ -44,10 +44,19 @@ returns-in_err-begin-clause-refused g c =
     refused-holder _ c.args.at fault
     (c.in_err-begin.ensures.refused fault (ap Err (refused_before c.in_err-begin.field-0.0 fault (rw e at c.from_residual.ensures.1))))
 
-pub answering_from-requires-clause-below : goal.answering_from-requires-clause-below
-answering_from-requires-clause-below g c =
+pub answering_from-requires : goal.answering_from-requires
+answering_from-requires g c =
     let begin = c.in_ok-begin.ensures.begin c.in-Some.begin (ap Ok c.in-Some.is) in
-    omega (arith, begin.1, begin.2)
+    record {
+      place = record {
+        sized = record {
+          is_told = c.in_ok-begin.ensures.store.same_told ∙ c.requires.sized.is_told;
+          in_reach = c.requires.sized.in_reach;
+        };
+        from_boundary = begin.0;
+        below = omega (arith, begin.1, begin.2);
+      };
+    }
 
 pub returns-in_err-place-clause-refused : goal.returns-in_err-place-clause-refused
 returns-in_err-place-clause-refused g c =
@@ -60,7 +69,7 @@ returns-in_err-place-clause-refused g c =
 pub returns-in_err-place-clause-handed : goal.returns-in_err-place-clause-handed
 returns-in_err-place-clause-handed g c =
     let at = goal.at.returns-in_err-place-clause-handed g c in
-    takes-headers _ _ c.args.size c.args.at c.in-Some.begin _ _ _ c.in_ok-begin.ensures.store.same_bytes (sized g at.Start) c.requires.in_reach
+    takes-headers _ _ c.args.size c.args.at c.in-Some.begin _ _ _ c.in_ok-begin.ensures.store.same_bytes (sized g at.Start) c.requires.sized.in_reach
     (holds g at.In-Some) c.holder.ensures.handed c.answering_from.ensures.handed
 
 pub returns-in_err-place-clause-handed_past : goal.returns-in_err-place-clause-handed_past
@@ -77,7 +86,7 @@ returns-in_default-2-clause-found g c =
 pub returns-in_default-2-clause-handed : goal.returns-in_default-2-clause-handed
 returns-in_default-2-clause-handed g c =
     let at = goal.at.returns-in_default-2-clause-handed g c in
-    takes-headers _ _ c.args.size c.args.at c.in-Some.begin _ _ _ c.in_ok-begin.ensures.store.same_bytes (sized g at.Start) c.requires.in_reach
+    takes-headers _ _ c.args.size c.args.at c.in-Some.begin _ _ _ c.in_ok-begin.ensures.store.same_bytes (sized g at.Start) c.requires.sized.in_reach
     (holds g at.In-Some) c.holder.ensures.handed c.answering_from.ensures.handed
 
 pub returns-in_default-2-clause-handed_past : goal.returns-in_default-2-clause-handed_past
