@@ -16,6 +16,13 @@ rest_of hex bound text = option_map (λ bytes. taken_from bytes hex (bound - 1))
 abbrev pub origin_of : (name asked : ℕ) → Option (List ℕ) → Origin
 origin_of name asked left = record { name = name; spared = option_map (λ bytes. length bytes - asked) left }
 
+-- a call asks nothing of a feed's input: that is as before, as is what is still asked of it, and in what form its lines are
+pub record AsksNothing {F I : Type 0} (before after : F) (hex : F → Bool) (asked : F → ℕ) (input : F → I) (name : F → ℕ) : Type 0 where
+  pub same_form : hex after ≡ hex before
+  pub same_asked : asked after ≡ asked before
+  pub same_input : input after ≡ input before
+  pub same_name : name after ≡ name before
+
 -- where a feed showed what was to come, the first of it was what this line stands for
 abbrev pub GivesLine : Bool → Option Rest → Option Rest → List ℕ → Type 0
 GivesLine hex before after line =

@@ -1,8 +1,8 @@
-ghost use Rattle.std.specs.Prelude.{◌≡◌, ◌+◌, ◌^◌, ◌<◌, ◌≤◌, ℕ, [], ◌∷◌, ◌++◌, Option, Some, ◌⊎◌, true, false, length, take, option_map, unwrap_or, None, Ok, Err, IfOk, IfSome, OnErr, OnOk, IsErr};
-ghost use Rattle.record_io.specs.Outside.{Rose};
+ghost use Rattle.std.specs.Prelude.{◌≡◌, ◌+◌, ◌^◌, ◌<◌, ◌≤◌, ℕ, [], ◌∷◌, ◌++◌, Option, Some, ◌⊎◌, true, false, length, take, option_map, unwrap_or, None, Ok, Err, IfOk, IfSome, OnOk, IsErr};
+ghost use Rattle.record_io.specs.Calls.{OnlyCounts};
 ghost use Rattle.run_answers.specs.Lines.{NoneEnds};
 ghost use Rattle.write_lines.specs.Input.{line_limit, taken_from};
-ghost use Rattle.write_lines.specs.LineFeeds.{GivesLine, LineEndsAt, origin_of, text_of, rest_of};
+ghost use Rattle.write_lines.specs.LineFeeds.{AsksNothing, GivesLine, LineEndsAt, origin_of, text_of, rest_of};
 ghost use Rattle.record_writer.specs.Feeds.{nothing_left, stop_alone};
 ghost use Rattle.hex.specs.Hex.{decode_of};
 ghost use Rattle.hex.specs.declared.error.FromHexError.{FromHexError};
@@ -65,10 +65,7 @@ impl<'a, I: Source> LineFeed<'a, I> {
         ensures found { IfSome result (LineEndsAt self.old.held) }
         ensures none { result ≡ None → NoneEnds self.old.held }
         ensures same_held { self.new.held ≡ self.old.held }
-        ensures same_asked { self.new.asked ≡ self.old.asked }
-        ensures same_form { self.new.hex ≡ self.old.hex }
-        ensures same_input { self.new.input.now ≡ self.old.input.now }
-        ensures same_name { self.new.input.ghost_name ≡ self.old.input.ghost_name }
+        ensures asks { AsksNothing self.old self.new (λ f. f.hex) (λ f. f.asked) (λ f. f.input.now) (λ f. f.input.ghost_name) }
     {
         let held = self.held.as_slice();
         let end = end_behind(held, self.seen);
@@ -90,10 +87,8 @@ impl<'a, I: Source> LineFeed<'a, I> {
             × IfSome (text_of self.old.held (I.left self.old.input.now)) (λ bytes. 0 < length bytes) }
         ensures never_rises { length self.new.held + self.new.asked ≤ length self.old.held + self.old.asked }
         ensures same_form { self.new.hex ≡ self.old.hex }
-        ensures same_origin { ⟦<LineFeed<'a, I> as RecordFeed>⟧.origin self.new ≡ ⟦<LineFeed<'a, I> as RecordFeed>⟧.origin self.old }
-        ensures cause { result ≡ Err FeedEnd.Failed → Rose (I.faults self.old.input.now) (I.faults self.new.input.now) }
-        ensures never_falls { I.faults self.old.input.now ≤ I.faults self.new.input.now }
-        ensures small { I.faults self.old.input.now < 2 ^ 64 → I.faults self.new.input.now < 2 ^ 64 }
+        ensures counts { OnlyCounts ⟦<LineFeed<'a, I> as RecordFeed>⟧.origin ⟦<LineFeed<'a, I> as RecordFeed>⟧.faults
+            (result ≡ Err FeedEnd.Failed) self.old self.new }
     {
         self.fill()?;
         if self.held.is_empty() {
@@ -113,10 +108,8 @@ impl<'a, I: Source> LineFeed<'a, I> {
             → length self.new.held + self.new.asked ≡ length self.old.held + self.old.asked }
         ensures never_rises { length self.new.held + self.new.asked ≤ length self.old.held + self.old.asked }
         ensures same_form { self.new.hex ≡ self.old.hex }
-        ensures same_origin { ⟦<LineFeed<'a, I> as RecordFeed>⟧.origin self.new ≡ ⟦<LineFeed<'a, I> as RecordFeed>⟧.origin self.old }
-        ensures cause { OnErr result (Rose (I.faults self.old.input.now) (I.faults self.new.input.now)) }
-        ensures never_falls { I.faults self.old.input.now ≤ I.faults self.new.input.now }
-        ensures small { I.faults self.old.input.now < 2 ^ 64 → I.faults self.new.input.now < 2 ^ 64 }
+        ensures counts { OnlyCounts ⟦<LineFeed<'a, I> as RecordFeed>⟧.origin ⟦<LineFeed<'a, I> as RecordFeed>⟧.faults
+            (IsErr result) self.old self.new }
     {
         if self.asked == 0 || !self.held.is_empty() {
             return Ok(());
@@ -143,10 +136,8 @@ impl<'a, I: Source> LineFeed<'a, I> {
         ensures stop { (s : Stop) → result ≡ Err (FeedEnd.Stop s) → IfSome (⟦<LineFeed<'a, I> as RecordFeed>⟧.rest self.old) (λ r. r ≡ stop_alone s) }
         ensures never_rises { length self.new.held + self.new.asked ≤ length self.old.held + self.old.asked }
         ensures same_form { self.new.hex ≡ self.old.hex }
-        ensures same_origin { ⟦<LineFeed<'a, I> as RecordFeed>⟧.origin self.new ≡ ⟦<LineFeed<'a, I> as RecordFeed>⟧.origin self.old }
-        ensures cause { result ≡ Err FeedEnd.Failed → Rose (I.faults self.old.input.now) (I.faults self.new.input.now) }
-        ensures never_falls { I.faults self.old.input.now ≤ I.faults self.new.input.now }
-        ensures small { I.faults self.old.input.now < 2 ^ 64 → I.faults self.new.input.now < 2 ^ 64 }
+        ensures counts { OnlyCounts ⟦<LineFeed<'a, I> as RecordFeed>⟧.origin ⟦<LineFeed<'a, I> as RecordFeed>⟧.faults
+            (result ≡ Err FeedEnd.Failed) self.old self.new }
     {
         line.clear();
         while self.refill()? {
@@ -176,10 +167,7 @@ impl<'a, I: Source> LineFeed<'a, I> {
         ensures short { IfOk result (λ _. length line.new ≤ line_limit self.old.hex) }
         ensures kept { (result ≡ Ok Grown.TooLong) ⊎ IsErr result → self.new.held ≡ self.old.held }
         ensures asking { 0 < self.new.asked }
-        ensures same_asked { self.new.asked ≡ self.old.asked }
-        ensures same_form { self.new.hex ≡ self.old.hex }
-        ensures same_input { self.new.input.now ≡ self.old.input.now }
-        ensures same_name { self.new.input.ghost_name ≡ self.old.input.ghost_name }
+        ensures asks { AsksNothing self.old self.new (λ f. f.hex) (λ f. f.asked) (λ f. f.input.now) (λ f. f.input.ghost_name) }
     {
         let end = self.line_end();
         let held = self.held.as_slice();

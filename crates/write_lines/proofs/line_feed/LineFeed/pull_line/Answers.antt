@@ -12,16 +12,16 @@ returns-in_err-refill-clause-stop g c = λ s failed.
 pub returns-in-TooLong-clause-stop : goal.returns-in-TooLong-clause-stop
 returns-in-TooLong-clause-stop g c = λ s failed.
     stop-long c.args.self.now.hex _ _ c.refill.new.self.asked _ _ _ _ s (c.in_ok-refill.ensures.same_form ∙ c.loop-self.invariant.form) c.loop-self.invariant.none
-    (omega (arith, c.in_ok-refill.ensures.bound (ap Ok c.if-branch.true))) (omega (arith, c.in_ok-grow.ensures.asking, c.in_ok-grow.ensures.same_asked))
+    (omega (arith, c.in_ok-refill.ensures.bound (ap Ok c.if-branch.true))) (omega (arith, c.in_ok-grow.ensures.asking, c.in_ok-grow.ensures.asks.same_asked))
     (text_of-kept _ _ _ _ _ _ c.loop-self.invariant.text c.in_ok-refill.ensures.text) (cc failed, c.in_ok-grow.ensures.long (ap Ok c.in-TooLong.is))
 
 pub returns-in-Ended-clause-next : goal.returns-in-Ended-clause-next
 returns-in-Ended-clause-next g c = λ _.
     let e = c.in_ok-grow.ensures.ended (ap Ok c.in-Ended.is) in
     next-line c.args.self.now.hex _ _ c.refill.new.self.asked _ e.0 _ _ _ _ _ _ _
-    (c.in_ok-grow.ensures.same_form ∙ c.in_ok-refill.ensures.same_form ∙ c.loop-self.invariant.form) c.loop-self.invariant.none e.1.2 e.1.0 e.1.1
-    (omega (arith, c.in_ok-refill.ensures.bound (ap Ok c.if-branch.true))) c.in_ok-grow.ensures.asking c.in_ok-grow.ensures.same_asked
-    (ap g.I.Source.left c.in_ok-grow.ensures.same_input) (text_of-kept _ _ _ _ _ _ c.loop-self.invariant.text c.in_ok-refill.ensures.text)
+    (c.in_ok-grow.ensures.asks.same_form ∙ c.in_ok-refill.ensures.same_form ∙ c.loop-self.invariant.form) c.loop-self.invariant.none e.1.2 e.1.0 e.1.1
+    (omega (arith, c.in_ok-refill.ensures.bound (ap Ok c.if-branch.true))) c.in_ok-grow.ensures.asking c.in_ok-grow.ensures.asks.same_asked
+    (ap g.I.Source.left c.in_ok-grow.ensures.asks.same_input) (text_of-kept _ _ _ _ _ _ c.loop-self.invariant.text c.in_ok-refill.ensures.text)
 
 pub returns-clause-next : goal.returns-clause-next
 returns-clause-next g c = λ some.

@@ -22,8 +22,8 @@ returns-clause-pushed g c = λ _.
       record_bytes = line;
       gives = line-record self.hex _ _ line c.if-self.false short
           (next-line self.hex c.line_end.new.self.hex (length self.held + self.asked) self.asked c.line_end.new.self.asked c.in-Some.len [] self.held c.skip.new.self line _ _ _
-          c.in-Some.ensures.same_form NoneEnds-none ends.1 refl parts (omega arith) (omega (arith, asking, c.in-Some.ensures.same_asked)) c.in-Some.ensures.same_asked
-          (ap g.I.Source.left c.in-Some.ensures.same_input) refl);
+          c.in-Some.ensures.asks.same_form NoneEnds-none ends.1 refl parts (omega arith) (omega (arith, asking, c.in-Some.ensures.asks.same_asked)) c.in-Some.ensures.asks.same_asked
+          (ap g.I.Source.left c.in-Some.ensures.asks.same_input) refl);
       takes = rw slice at c.push_open.ensures.push (search rules);
-      lowers = omega (arith, c.in-Some.ensures.same_asked, ap length parts, length-append line (10 ∷ c.skip.new.self));
+      lowers = omega (arith, c.in-Some.ensures.asks.same_asked, ap length parts, length-append line (10 ∷ c.skip.new.self));
     }
