@@ -90,11 +90,6 @@ pub sized_told : (bytes : Option (List ℕ)) (told : Option ℕ) (size : ℕ)
 sized_told None told size sized is = tt
 sized_told (Some file) told size sized is = subst (λ (o : Option ℕ). IfSome o (λ n. n ≡ length file)) is sized
 
--- what a store over it shows is shown of it
-pub front_of : (bytes held : Option (List ℕ)) (front : Front) → held ≡ bytes
-    → IfSome held (λ file. IsFrontOf file front) → IfSome bytes (λ file. IsFrontOf file front)
-front_of bytes held front same is = subst (λ (o : Option (List ℕ)). IfSome o (λ file. IsFrontOf file front)) same is
-
 -- where judging ended early, that is so too
 pub complete_early : (cut : Bool) (bytes : Option (List ℕ)) (result : Result Appended AppendEnd) (end : VerifyEnd) → result ≡ Err (end_of_verify end)
     → ((fault : Fault) → end ≡ verify.Refused fault → IfSome bytes (λ file. IsRefusedToGrow cut file fault))

@@ -1,4 +1,3 @@
-pub mod Untold
 pub mod KeptFiles
 pub mod PutRecords
 pub mod Grows

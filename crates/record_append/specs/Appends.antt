@@ -1,10 +1,13 @@
 -- What is answered where records are put behind those of an old file, and what a device then holds. Own.
-use Rattle.std.specs.Prelude.{◌≡◌, ℕ, ◌+◌, ◌≤◌, ◌<◌, Bool, ◌⊎◌, Option, Some, None, Result, Ok, Err, List, ◌++◌, length, take}
+use Rattle.std.specs.Prelude.{◌≡◌, ℕ, ◌+◌, ◌^◌, ◌≤◌, ◌<◌, Bool, true, ◌⊎◌, Option, Some, None, IfSome, IsSomeAnd, Result, Ok, Err, List, ◌++◌, length, take}
 use Rattle.block_layout.specs.Layout.{IsOnBoundary}
+use Rattle.record_io.specs.Seen.{SeenFile}
+use Rattle.chunk_reader.specs.declared.reasons.Fault.{Fault}
 use Rattle.record_writer.specs.Feeds.{Rest}
 use Rattle.record_writer.specs.declared.feed.Stop.TheVariants.{TooLong as too_long, InputTooLong as input_too_long, BadLine as bad_line}
 use Rattle.record_writer.specs.declared.options.WriteOptions.{WriteOptions}
-use Rattle.record_append.specs.Grown.{IsKeptTo, IsUnrefused, bytes_at, grown}
+use Rattle.record_writer.specs.Written.{AreInLimits}
+use Rattle.record_append.specs.Grown.{IsKeptTo, IsRefusedToGrow, IsUnrefused, RefusesFor, bytes_at, grown}
 use Rattle.record_append.specs.declared.appends.Appended.{Appended}
 use Rattle.record_append.specs.declared.appends.AppendEnd.{AppendEnd}
 use Rattle.record_append.specs.declared.appends.AppendEnd.TheVariants.{Refused, TooLong, InputTooLong, BadLine, Input, Device, Memory}
@@ -92,3 +95,25 @@ AnswersGrown (Err (BadLine count)) options cut file rest held =
 AnswersGrown (Err Input) options cut file rest held = HoldsCutOff options cut file rest.records held
 AnswersGrown (Err Device) options cut file rest held = HoldsCutOff options cut file rest.records held
 AnswersGrown (Err Memory) options cut file rest held = HoldsCutOff options cut file rest.records held
+
+-- records of a feed can be put: it may be asked, what it reads is within reach, and the options are within their limits
+pub record MayPut (options : WriteOptions) (is_going : Bool) (bound : ℕ) : Type 0 where
+  pub going : is_going ≡ true
+  pub in_reach : bound ≤ 2 ^ 41
+  pub in_limits : AreInLimits options
+
+-- which old files, of so many bytes, are refused, and with which fault; device and feed are then as they were, and of the file at
+-- most its bytes were handed out
+pub record RefusesOld {L : Type 0} (result : Result Appended AppendEnd) (cut : Bool) (size : ℕ) (before after : SeenFile)
+    (feed feed_then : L) : Type 0 where
+  pub refused : (fault : Fault) → result ≡ Err (Refused fault)
+      → (0 < size) × RefusesFor cut fault.why × IfSome before.bytes (λ file. IsRefusedToGrow cut file fault)
+  pub complete : IfSome before.bytes (λ file. (fault : Fault) → IsRefusedToGrow cut file fault
+      → (result ≡ Err (Refused fault)) ⊎ (result ≡ Err Device))
+  pub untouched : (fault : Fault) → result ≡ Err (Refused fault)
+      → (after.bytes ≡ before.bytes) × (after.told ≡ before.told) × (after.handed ≤ before.handed + size) × (feed_then ≡ feed)
+
+-- what is kept of an old file of so many bytes, and that the device tells this size, or none
+pub record KeepsOld (result : Result Appended AppendEnd) (cut : Bool) (size : ℕ) (before after : Option (List ℕ)) (told : Option ℕ) : Type 0 where
+  pub kept : IfSome before (λ file. IsSomeAnd after (λ held. KeepsBy result cut file held))
+  pub still_told : IfSome told (λ own. own ≡ size)

@@ -1,18 +1,16 @@
-ghost use Rattle.std.specs.Prelude.{◌≡◌, ◌+◌, ◌^◌, ◌<◌, ◌≤◌, ◌⊎◌, ◌++◌, ℕ, List, true, Some, Err, IfOk, IfSome, IsSomeAnd, OnOk, length};
-ghost use Rattle.block_layout.specs.Layout.{IsOnBoundary};
+ghost use Rattle.std.specs.Prelude.{◌≡◌, ◌+◌, ◌^◌, ◌<◌, ◌≤◌, ◌++◌, ℕ, List, Some, Err, IfOk, IfSome, IsSomeAnd, OnOk};
 ghost use Rattle.record_io.specs.Calls.{OnlyCounts};
-ghost use Rattle.chunk_reader.specs.declared.reasons.Fault.{Fault};
+ghost use Rattle.record_io.specs.Seen.{seen_file};
 ghost use Rattle.record_writer.specs.Feeds.{nothing_left};
-ghost use Rattle.record_writer.specs.Written.{TellsTotals, AreInLimits, TakesFile};
-ghost use Rattle.record_append.specs.Appends.{AnswersGrown, AnswersRest, KeepsBy, MayBeKeptTo};
-ghost use Rattle.record_append.specs.Devices.{CountsFaults};
-ghost use Rattle.record_append.specs.Grown.{IsRefusedToGrow, RefusesFor, bytes_at, totals_at};
+ghost use Rattle.record_writer.specs.Written.{TellsTotals, TakesFile};
+ghost use Rattle.record_append.specs.Appends.{AnswersGrown, AnswersRest, KeepsOld, MayBeKeptTo, MayPut, RefusesOld};
+ghost use Rattle.record_append.specs.Devices.{CountsFaults, EndsAt};
+ghost use Rattle.record_append.specs.Grown.{bytes_at, totals_at};
 
-use crate::device::Device;
 use crate::old_file::{cut_to, judge};
 use crate::sized_sink::SizedSink;
 use chunk_reader::{Fault, VerifyEnd};
-use record_io::{Failed, Totals};
+use record_io::{Device, Failed, Totals};
 use record_writer::{RecordFeed, WriteEnd, WriteOptions, write_after, write_records};
 use std::alloc::Global;
 use std::thread::Threads;
@@ -119,21 +117,13 @@ pub fn append<R: Threads + Sync, L: RecordFeed, G: Device + Send>(
 ) -> Result<Appended, AppendEnd>
     requires told { G.told device.old ≡ Some size }
     requires in_reach { size ≤ 2 ^ 60 }
-    requires feed_going { L.going feed.old ≡ true }
-    requires feed_in_reach { L.bound feed.old ≤ 2 ^ 41 }
-    requires in_limits { AreInLimits options.now }
+    requires feed { MayPut options.now (L.going feed.old) (L.bound feed.old) }
     ensures grown { IfSome (G.bytes device.old) (λ file. IfSome (L.rest feed.old) (λ rest.
         AnswersGrown result options.now cut file rest (G.bytes device.new))) }
     ensures answer { IfSome (L.rest feed.old) (AnswersRest result) }
-    ensures refused { (fault : Fault) → result ≡ Err (AppendEnd.Refused fault)
-        → (0 < size) × RefusesFor cut fault.why × IfSome (G.bytes device.old) (λ file. IsRefusedToGrow cut file fault) }
-    ensures complete { IfSome (G.bytes device.old) (λ file. (fault : Fault) → IsRefusedToGrow cut file fault
-        → (result ≡ Err (AppendEnd.Refused fault)) ⊎ (result ≡ Err AppendEnd.Device)) }
-    ensures untouched { (fault : Fault) → result ≡ Err (AppendEnd.Refused fault)
-        → (G.bytes device.new ≡ G.bytes device.old) × (G.told device.new ≡ G.told device.old)
-        × (G.handed device.new ≤ G.handed device.old + size) × (feed.new ≡ feed.old) }
-    ensures kept { IfSome (G.bytes device.old) (λ file. IsSomeAnd (G.bytes device.new) (λ held. KeepsBy result cut file held)) }
-    ensures still_told { IfSome (G.told device.new) (λ told. told ≡ size) }
+    ensures refuses { RefusesOld result cut size (seen_file G.bytes G.told G.handed G.faults device.old)
+        (seen_file G.bytes G.told G.handed G.faults device.new) feed.old feed.new }
+    ensures keeps { KeepsOld result cut size (G.bytes device.old) (G.bytes device.new) (G.told device.new) }
     ensures told { IfOk result (λ told. MayBeKeptTo size told.kept × (told.kept + told.dropped ≡ size) × (told.kept ≤ told.bytes)) }
     ensures read_to_end { OnOk result (IfSome (L.rest feed.old) (λ _. L.rest feed.new ≡ Some nothing_left)) }
 
@@ -162,14 +152,10 @@ fn put_records<R: Threads + Sync, L: RecordFeed, G: Device + Send>(
     device: &mut G,
     size: u64,
 ) -> Result<Totals, WriteEnd>
-    requires ends { IfSome (G.bytes device.old) (λ file. length file ≡ place) }
-    requires told { IfSome (G.told device.old) (λ told. told ≡ size) }
-    requires within { place ≤ 2 ^ 60 }
-    requires boundary { IsOnBoundary place }
-    requires signed { 0 < place → 64 ≤ place }
-    requires feed_going { L.going feed.old ≡ true }
-    requires in_reach { L.bound feed.old ≤ 2 ^ 41 }
-    requires in_limits { AreInLimits options.now }
+    requires ends { EndsAt place size (G.bytes device.old) (G.told device.old) }
+    requires in_reach { size ≤ 2 ^ 60 }
+    requires place { MayBeKeptTo size place }
+    requires feed { MayPut options.now (L.going feed.old) (L.bound feed.old) }
     ensures answer { IfSome (L.rest feed.old) (λ rest. TellsTotals result (totals_at options.now place rest.records) rest) }
     ensures put { IfSome (L.rest feed.old) (λ rest.
         TakesFile result (G.bytes device.old) (G.bytes device.new) (bytes_at options.now place rest.records)) }

@@ -2,8 +2,7 @@ ghost use Rattle.std.specs.Prelude.{◌≡◌, ◌≤◌, [], length, option_map
 ghost use Rattle.std.specs.Option.{ForSome};
 ghost use Rattle.record_append.specs.Devices.{bytes_from, bytes_before};
 
-use crate::device::Device;
-use record_io::{Failed, Sink};
+use record_io::{Device, Failed, Sink};
 
 /// A device that is lent, as a sink, which has taken the bytes from a place on.
 #[derive(Drop)]

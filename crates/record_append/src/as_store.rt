@@ -1,7 +1,6 @@
 ghost use Rattle.std.specs.Prelude.{◌≡◌};
 
-use crate::device::Device;
-use record_io::{Failed, Store};
+use record_io::{Device, Failed, Store};
 
 /// A device that is lent, as a store.
 #[derive(Drop)]

@@ -1,13 +1,12 @@
 ghost use Rattle.std.specs.Prelude.{◌≡◌, ◌+◌, ◌^◌, ◌<◌, ◌≤◌, ◌↔◌, IsTrue, None, Some, Err, IfOk, IfSome, IsErr, OnErr, OnOk, length, option_map, take};
+ghost use Rattle.record_io.specs.Calls.{OnlyAsks, OnlyCounts};
 ghost use Rattle.chunk_reader.specs.declared.reasons.Fault.{Fault};
 ghost use Rattle.record_append.specs.Appends.{MayBeKeptTo};
-ghost use Rattle.record_append.specs.Devices.{CountsFaults};
+ghost use Rattle.record_append.specs.Devices.{EndsAt};
 ghost use Rattle.record_append.specs.Grown.{IsKeptTo, IsRefusedToGrow, IsUnrefused, RefusesFor};
 
-use crate::as_store::AsStore;
-use crate::device::Device;
 use chunk_reader::{Fault, Front, VerifyEnd, Why, verify_front};
-use record_io::Failed;
+use record_io::{Device, Failed};
 
 /// Judges the old file of a device, of `size` bytes, which were told, and answers up to which place it is kept.
 ///
@@ -22,12 +21,10 @@ pub(crate) fn judge<G: Device>(device: &mut G, size: u64, cut: bool) -> Result<u
     ensures sized { IfSome (G.bytes device.old) (λ file. size ≡ length file) }
     ensures refused { (fault : Fault) → result ≡ Err (VerifyEnd.Refused fault)
         → (0 < size) × RefusesFor cut fault.why × IfSome (G.bytes device.old) (λ file. IsRefusedToGrow cut file fault) }
-    ensures same_bytes { G.bytes device.new ≡ G.bytes device.old }
-    ensures same_told { G.told device.new ≡ G.told device.old }
     ensures handed { G.handed device.new ≤ G.handed device.old + size }
-    ensures counts { CountsFaults G.faults (result ≡ Err VerifyEnd.Store) device.old device.new }
+    ensures device { OnlyAsks G.bytes G.told G.name G.faults (result ≡ Err VerifyEnd.Store) device.old device.new }
 {
-    let front = verify_front(&mut AsStore::new(device), size)?;
+    let front = verify_front(device, size)?;
     match refusal(&front, size, cut) {
         Some(fault) => Err(VerifyEnd::Refused(fault)),
         None => Ok(front.totals.bytes),
@@ -62,10 +59,10 @@ pub(crate) fn cut_to<G: Device>(device: &mut G, size: u64, place: u64) -> Result
     requires within { place ≤ size }
     ensures leaves { OnOk result (G.bytes device.new ≡ option_map (take place) (G.bytes device.old)) }
     ensures kept { OnErr result (G.bytes device.new ≡ G.bytes device.old) }
-    ensures ends { OnOk result (IfSome (G.bytes device.new) (λ file. length file ≡ place)) }
+    ensures ends { OnOk result (EndsAt place size (G.bytes device.new) (G.told device.new)) }
     ensures still_told { IfSome (G.told device.new) (λ told. told ≡ size) }
     ensures same_handed { G.handed device.new ≡ G.handed device.old }
-    ensures counts { CountsFaults G.faults (IsErr result) device.old device.new }
+    ensures counts { OnlyCounts G.name G.faults (IsErr result) device.old device.new }
 {
     if place < size {
         device.cut(place)?;

@@ -1,9 +1,8 @@
-ghost use Rattle.std.specs.Prelude.{◌≡◌, ◌^◌, ◌<◌, ◌≤◌, [], length, option_map, IfSome};
+ghost use Rattle.std.specs.Prelude.{◌≡◌, ◌^◌, ◌<◌, ◌≤◌, [], length, option_map};
 ghost use Rattle.std.specs.Option.{ForSome};
-ghost use Rattle.record_append.specs.Devices.{bytes_from, bytes_before, name_of_sized};
+ghost use Rattle.record_append.specs.Devices.{EndsAt, bytes_from, bytes_before, name_of_sized};
 
-use crate::device::Device;
-use record_io::{Failed, Sink};
+use record_io::{Device, Failed, Sink};
 
 /// A device that is lent, as `AsSink`, and tells the size that it told before, or none.
 #[derive(Drop)]
@@ -19,8 +18,7 @@ pub(crate) struct SizedSink<'a, G: Device> {
 impl<'a, G: Device> SizedSink<'a, G> {
     /// This device, which ends at the place, told the size if it tells one, and is only put to. It takes no memory.
     pub(crate) fn new(device: &'a mut G, at: u64, size: u64) -> SizedSink<'a, G>
-        requires ends { IfSome (G.bytes device.old) (λ file. length file ≡ at) }
-        requires told { IfSome (G.told device.old) (λ told. told ≡ size) }
+        requires { EndsAt at size (G.bytes device.old) (G.told device.old) }
         ensures taken { ⟦<SizedSink<'a, G> as Sink>⟧.taken result ≡ option_map (λ _. []) (G.bytes device.old) }
         ensures faults { ⟦<SizedSink<'a, G> as Sink>⟧.faults result ≡ G.faults device.old }
         ensures lent { ⟦<SizedSink<'a, G> as Sink>⟧.lent result ≡ record { name = name_of_sized device.entry.ghost_name size; front = G.bytes device.old } }

@@ -13,7 +13,7 @@ returns-then-place-eq0-clause-answer g c =
 pub returns-then-place-eq0-clause-put : goal.returns-then-place-eq0-clause-put
 returns-then-place-eq0-clause-put g c =
     let sink = c.write_records.new.made in
-    let bytes = g.G.Device.bytes in
+    let bytes = g.G.Store.bytes in
     let below : c.args.size < 2 ^ 64 = search rules in
     let loan = named_loan _ _ sink.size c.args.size sink.small below (ap (λ (l : Lent). l.name) (c.write_records.ensures.made_counts.same_lent ∙ c.new-sink.ensures.lent)) in
     let rests = g.L.RecordFeed.rest c.args.feed.now in
@@ -31,7 +31,7 @@ returns-then-place-eq0-clause-put g c =
 pub returns-else-place-eq0-clause-put : goal.returns-else-place-eq0-clause-put
 returns-else-place-eq0-clause-put g c =
     let sink = c.write_after.new.made in
-    let bytes = g.G.Device.bytes in
+    let bytes = g.G.Store.bytes in
     let below : c.args.size < 2 ^ 64 = search rules in
     let loan = named_loan _ _ sink.size c.args.size sink.small below (ap (λ (l : Lent). l.name) (c.write_after.ensures.written.made_counts.same_lent ∙ c.new-sink.ensures.lent)) in
     let rests = g.L.RecordFeed.rest c.args.feed.now in
@@ -49,7 +49,7 @@ returns-else-place-eq0-clause-put g c =
 pub returns-then-place-eq0-clause-behind : goal.returns-then-place-eq0-clause-behind
 returns-then-place-eq0-clause-behind g c =
     let sink = c.write_records.new.made in
-    let bytes = g.G.Device.bytes in
+    let bytes = g.G.Store.bytes in
     let below : c.args.size < 2 ^ 64 = search rules in
     let loan = named_loan _ _ sink.size c.args.size sink.small below (ap (λ (l : Lent). l.name) (c.write_records.ensures.made_counts.same_lent ∙ c.new-sink.ensures.lent)) in
     let held = c.device-1.given.0 in
@@ -61,7 +61,7 @@ returns-then-place-eq0-clause-behind g c =
 pub returns-else-place-eq0-clause-behind : goal.returns-else-place-eq0-clause-behind
 returns-else-place-eq0-clause-behind g c =
     let sink = c.write_after.new.made in
-    let bytes = g.G.Device.bytes in
+    let bytes = g.G.Store.bytes in
     let below : c.args.size < 2 ^ 64 = search rules in
     let loan = named_loan _ _ sink.size c.args.size sink.small below (ap (λ (l : Lent). l.name) (c.write_after.ensures.written.made_counts.same_lent ∙ c.new-sink.ensures.lent)) in
     let held = c.device-else-place-eq0-1.given.0 in
@@ -73,7 +73,7 @@ returns-else-place-eq0-clause-behind g c =
 pub returns-then-place-eq0-clause-still_told : goal.returns-then-place-eq0-clause-still_told
 returns-then-place-eq0-clause-still_told g c =
     let sink = c.write_records.new.made in
-    let told = g.G.Device.told in
+    let told = g.G.Store.told in
     let held = c.device-1.given.0 in
     let below : c.args.size < 2 ^ 64 = search rules in
     let names = ap (λ (l : Lent). l.name) (c.write_records.ensures.made_counts.same_lent ∙ c.new-sink.ensures.lent) in
@@ -84,7 +84,7 @@ returns-then-place-eq0-clause-still_told g c =
 pub returns-else-place-eq0-clause-still_told : goal.returns-else-place-eq0-clause-still_told
 returns-else-place-eq0-clause-still_told g c =
     let sink = c.write_after.new.made in
-    let told = g.G.Device.told in
+    let told = g.G.Store.told in
     let held = c.device-else-place-eq0-1.given.0 in
     let below : c.args.size < 2 ^ 64 = search rules in
     let names = ap (λ (l : Lent). l.name) (c.write_after.ensures.written.made_counts.same_lent ∙ c.new-sink.ensures.lent) in

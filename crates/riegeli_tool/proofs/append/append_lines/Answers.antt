@@ -6,7 +6,7 @@ use Rattle.riegeli_tool.proofs.append.append_lines.Goals as goal
 
 pub returns-in-Err-Limit-clause-appended : goal.returns-in-Err-Limit-clause-appended
 returns-in-Err-Limit-clause-appended g c =
-    long-appended c.args.words.now _ _ _ _ _ (g.G.Device.faults c.args.grown.now) (g.G.Device.faults c.size_in_reach.new.grown)
+    long-appended c.args.words.now _ _ _ _ _ (g.G.Store.faults c.args.grown.now) (g.G.Store.faults c.size_in_reach.new.grown)
     (rw c.in-Err-Limit.field-0-is at c.in-Err-Limit.ensures.unread) c.size_in_reach.ensures.same_bytes
 
 pub returns-in-Err-Limit-clause-kept : goal.returns-in-Err-Limit-clause-kept
@@ -14,7 +14,7 @@ returns-in-Err-Limit-clause-kept g c = stays-kept _ _ (λ file now. now ≡ file
 
 pub returns-in-Err-Limit-clause-sized : goal.returns-in-Err-Limit-clause-sized
 returns-in-Err-Limit-clause-sized g c =
-    long-sized c.args.words.now _ _ (g.G.Device.faults c.args.grown.now) (g.G.Device.faults c.size_in_reach.new.grown)
+    long-sized c.args.words.now _ _ (g.G.Store.faults c.args.grown.now) (g.G.Store.faults c.size_in_reach.new.grown)
     (rw c.in-Err-Limit.field-0-is at c.in-Err-Limit.ensures.unread) c.size_in_reach.ensures.sized
 
 pub returns-in-Err-File-clause-appended : goal.returns-in-Err-File-clause-appended

@@ -12,14 +12,14 @@ use Rattle.riegeli_tool.proofs.append.grow.Goals as goal
 pub returns-clause-put : goal.returns-clause-put
 returns-clause-put g c =
     let words = c.args.words.now in
-    taken-given words (g.G.Device.bytes c.args.grown.now) _ _
-    (λ file rest. AnswersGrown c.append.result words.write.options words.cut file rest (g.G.Device.bytes c.append.new.device))
+    taken-given words (g.G.Store.bytes c.args.grown.now) _ _
+    (λ file rest. AnswersGrown c.append.result words.write.options words.cut file rest (g.G.Store.bytes c.append.new.device))
     c.new-lines.ensures.rest c.append.ensures.grown
 
 pub returns-clause-refused : goal.returns-clause-refused
 returns-clause-refused g c = λ fault is.
-    let refused = c.append.ensures.refused fault is in
-    ((c.append.ensures.untouched fault is).1 ∙ c.requires.told, refused.0, refused.1, refused.2)
+    let refused = c.append.ensures.refuses.refused fault is in
+    ((c.append.ensures.refuses.untouched fault is).1 ∙ c.requires.told, refused.0, refused.1, refused.2)
 
 pub returns-clause-read_to_end : goal.returns-clause-read_to_end
 returns-clause-read_to_end g c =
