@@ -1,3 +1,2 @@
-pub mod Apart
+pub mod FileRuns
 pub mod Paths
-pub mod Streams

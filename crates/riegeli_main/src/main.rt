@@ -1,17 +1,12 @@
 //! The program: makes the real files and streams of its words, and hands them to `run`.
 #![tactic(auto)]
 
-mod apart;
-mod apart_device;
-mod apart_notes;
-mod apart_sink;
-mod apart_store;
-mod real_files;
+mod named_files;
 mod streams;
 #[cfg(test)]
 mod tests;
 
-use real_files::run_on_files;
+use named_files::run_on_files;
 use record_io::{StdErr, StdInput, StdOut};
 use riegeli_tool::Status;
 use std::alloc::{AllocError, Global};

@@ -1,6 +1,6 @@
 //! Runs of each command over real files.
-use crate::real_files::run_on_files;
-use crate::streams::{Behind, file_at};
+use crate::named_files::run_on_files;
+use real_files::{Behind, file_at};
 use record_io::{MemInput, MemSink};
 use riegeli_tool::Status;
 use std::alloc::{AllocError, Global};

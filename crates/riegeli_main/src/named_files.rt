@@ -1,16 +1,11 @@
 //! The real files that words name.
-ghost use Rattle.std.specs.Prelude.{◌≡◌, map, take, drop};
+ghost use Rattle.std.specs.Prelude.{◌≡◌, ◌⊎◌, map, take, drop};
 ghost use Rattle.std.specs.String.{string_bytes};
+ghost use Rattle.record_io.specs.Seen.{seen_stream};
+ghost use Rattle.riegeli_main.specs.FileRuns.{RunsOnFiles};
 ghost use Rattle.riegeli_main.specs.Paths.{path_at};
 
-use crate::apart::is_one_of;
-use crate::apart_device::ApartDevice;
-use crate::apart_notes::ApartNotes;
-use crate::apart_sink::ApartSink;
-use crate::apart_store::ApartStore;
-use crate::streams::Behind;
-use read_ahead::ReadAhead;
-use record_append::AheadDevice;
+use real_files::{ApartDevice, ApartNotes, ApartSink, ApartStore, Behind, ReadAhead, is_one_of};
 use record_io::{Sink, Source};
 use riegeli_tool::{Names, Status, names, run};
 use std::alloc::AllocError;
@@ -31,7 +26,10 @@ pub(crate) fn run_on_files<R: Threads + Sync, I: Source, O: Sink, N: Sink>(
     input: &mut I,
     out: &mut O,
     notes: &mut N,
-) -> Status {
+) -> Status
+    ensures runs { (result ≡ Status.Memory) ⊎ RunsOnFiles (map string_bytes words.now) (seen_stream I.left I.faults input.old) (seen_stream I.left I.faults input.new)
+        (seen_stream O.taken O.faults out.old) (seen_stream O.taken O.faults out.new) result }
+{
     let names = names(words);
     let read = paths(words, &names);
     let (made, grown) = (made_path(words, &names), grown_path(words, &names));
@@ -66,9 +64,9 @@ fn grown_file<'a>(
     rt: &'a HostRuntime,
     path: &'a str,
     streams: &'a [Behind; 3],
-) -> Result<Box<AheadDevice<ApartDevice<'a, HostRuntime>>>, AllocError> {
+) -> Result<Box<ReadAhead<ApartDevice<'a, HostRuntime>>>, AllocError> {
     let device = ApartDevice::named(rt, path, streams);
-    Ok(Box::new(rt.alloc(), AheadDevice::new(device))?)
+    Ok(Box::new(rt.alloc(), ReadAhead::new(device))?)
 }
 
 /// Whether one of these paths leads to a regular file that may stand behind one of the streams.
