@@ -1,6 +1,6 @@
 //! Calls that are saved: of a sink by a buffer before it, and of a store and a device by reading ahead.
-use read_ahead::ReadAheadBy;
-use record_append::{AheadDeviceBy, AsStore, MemDevice};
+use real_files::ReadAheadBy;
+use record_append::MemDevice;
 use record_io::{Failed, MemSink, MemStore, PutBuffer, Sink, Store, get_exact};
 use std::alloc::{AllocError, Global};
 use std::process::Abort;
@@ -87,8 +87,8 @@ fn failing_device(alloc: Global, number: u32) -> Result<MemDevice, AllocError> {
 #[test]
 fn small_reads_cost_few_calls_of_the_device(rt: HostRuntime) -> Result<(), Fail> {
     for (piece, calls) in CALLS {
-        let mut ahead = AheadDeviceBy::<_, 6>::new(failing_device(rt.alloc(), calls)?);
-        assert_last_call(&rt, &mut AsStore::new(&mut ahead), piece);
+        let mut ahead = ReadAheadBy::<_, 6>::new(failing_device(rt.alloc(), calls)?);
+        assert_last_call(&rt, &mut ahead, piece);
     }
     Ok(())
 }

@@ -121,7 +121,7 @@ impl<'a> Sink for MeetingSink<'a> {
 
     ghost taken = { λ s. Some s.sink.taken };
 
-    ghost faults = { λ s. s.sink.faults };
+    ghost faults = { λ s. s.sink.script.faults };
 
     fn put(&mut self, piece: &[u8]) -> Result<usize, Failed> {
         if self.sink.taken().len() == self.behind {

@@ -1,8 +1,7 @@
 //! A file that shows no bytes.
 ghost use Rattle.std.specs.Prelude.{None};
 
-use record_append::Device;
-use record_io::{Failed, Store};
+use record_io::{Device, Failed, Store};
 
 /// A file of these bytes and of zero bytes behind them up to its size, which shows none of its bytes.
 #[derive(Drop)]
@@ -64,26 +63,6 @@ impl Store for Untold<'_> {
 
 /// What is put behind its bytes is forgotten.
 impl Device for Untold<'_> {
-    ghost use Rattle.record_io.specs.Memory.{told_if};
-
-    ghost bytes = { λ _. None };
-
-    ghost told = { λ s. told_if s.asked s.size };
-
-    ghost handed = { λ s. s.handed };
-
-    ghost faults = { λ _. 0 };
-
-    ghost sized = { λ _. tt };
-
-    fn size(&mut self) -> Result<u64, Failed> {
-        Store::size(self)
-    }
-
-    fn read_at(&mut self, at: u64, buf: &mut [u8]) -> Result<usize, Failed> {
-        Store::read_at(self, at, buf)
-    }
-
     fn cut(&mut self, at: u64) -> Result<(), Failed> {
         self.asked = false;
         self.size = at;

@@ -30,11 +30,11 @@ pub returns-in_err-size-clause-files : goal.returns-in_err-size-clause-files
 returns-in_err-size-clause-files g c =
     let at = (goal.at.returns-in_err-size-clause-files g c).After-index-files-index in
     let i : ℕ = c.loop-index.index in
+    let told = c.in_err-size.ensures.tells in
     one_asked g.S.Store.bytes (λ file. Some (g.S.Store.handed file)) g.S.Store.name g.S.Store.faults c.args.files.now c.loop-index.files i
     (get_or c.loop-index.files i c.index-files-index.result) c.size.new.self (below g at) (there g at) c.loop-index.invariant.asked
     (asks g.S.Store.bytes g.S.Store.handed g.S.Store.name g.S.Store.faults (Unit {0}) (get_or c.loop-index.files i c.index-files-index.result) c.size.new.self
-    c.in_err-size.ensures.same_bytes c.in_err-size.ensures.same_handed c.in_err-size.ensures.same_name (λ _. c.in_err-size.ensures.cause)
-    c.in_err-size.ensures.never_falls c.in_err-size.ensures.small)
+    told.same_bytes told.same_handed c.in_err-size.ensures.same_name (λ _. told.counts.cause) told.counts.never_falls told.counts.small)
     (λ _. tt)
 
 pub loop-index-preserved : goal.loop-index-preserved
@@ -42,15 +42,15 @@ loop-index-preserved g c =
     let at = (goal.at.loop-index-preserved g c).After-index-files-index in
     let i : ℕ = c.loop-index.index in
     let kept = c.loop-index.invariant in
-    let given = c.in_ok-size.ensures in
+    let told = c.in_ok-size.ensures.tells in
     record {
       asked = one_asked g.S.Store.bytes (λ file. Some (g.S.Store.handed file)) g.S.Store.name g.S.Store.faults c.args.files.now c.loop-index.files i
           (get_or c.loop-index.files i c.index-files-index.result) c.size.new.self (below g at) (there g at) kept.asked
           (asks g.S.Store.bytes g.S.Store.handed g.S.Store.name g.S.Store.faults ⊥ (get_or c.loop-index.files i c.index-files-index.result) c.size.new.self
-          given.same_bytes given.same_handed given.same_name (λ never. absurd never) given.never_falls given.small)
+          told.same_bytes told.same_handed c.in_ok-size.ensures.same_name (λ never. absurd never) told.counts.never_falls told.counts.small)
           (λ never. never);
       sized = AreAsked-more g.S.Store.told i c.in_ok-size.size c.loop-index.sizes c.args.files.now c.loop-index.files c.size.new.self (below g at)
-          (omega (arith, below g at, kept.many, c.requires.as_many, same_length g.S.Store.bytes (λ file. Some (g.S.Store.handed file)) g.S.Store.name g.S.Store.faults c.args.files.now c.loop-index.files kept.asked.each)) given.tells kept.sized;
+          (omega (arith, below g at, kept.many, c.requires.as_many, same_length g.S.Store.bytes (λ file. Some (g.S.Store.handed file)) g.S.Store.name g.S.Store.faults c.args.files.now c.loop-index.files kept.asked.each)) told.tells kept.sized;
       many = omega (arith, kept.many, length-set c.loop-index.sizes i c.in_ok-size.size);
     }
 
