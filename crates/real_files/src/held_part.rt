@@ -44,7 +44,7 @@ impl<const N: usize> HeldPart<N> {
     }
 
     /// Puts bytes that begin at a place of the store into the front of the buffer, and answers how many: at least 1. Where
-    /// the store is asked it is for at most so many, or for as many as the buffer has room for.
+    /// the store is asked it is for at most so many and `N`, or for as many as the buffer has room for.
     pub(crate) fn serve<S: Store>(
         &mut self,
         store: &mut S,
@@ -62,7 +62,7 @@ impl<const N: usize> HeldPart<N> {
         ensures fits { IfOk result (λ n. n ≤ length buf.old) }
         ensures given { IfOk result (λ n. IfSome (S.bytes store.old) (λ file. take n buf.new ≡ slice_range file at (at + n))) }
         ensures part { IsPartOf (S.bytes store.new) self.new }
-        ensures handed { S.handed store.new ≤ S.handed store.old + max most (length buf.old) }
+        ensures handed { S.handed store.new ≤ S.handed store.old + max (min most N) (length buf.old) }
         ensures store { OnlyAsks S.bytes S.told S.name S.faults (IsErr result) store.old store.new }
     {
         if !self.holds(at) {
@@ -114,7 +114,7 @@ impl<const N: usize> HeldPart<N> {
         ensures some { OnOk result (0 < length self.new.bytes) }
         ensures part { IsPartOf (S.bytes store.new) self.new }
         ensures emptied { OnErr result (self.new.bytes ≡ []) }
-        ensures handed { S.handed store.new ≤ S.handed store.old + most }
+        ensures handed { S.handed store.new ≤ S.handed store.old + min most N }
         ensures store { OnlyAsks S.bytes S.told S.name S.faults (IsErr result) store.old store.new }
     {
         self.clear();
