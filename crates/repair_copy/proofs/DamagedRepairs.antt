@@ -1,5 +1,5 @@
 -- The repair of a damaged file, told by the numbers of its chunks.
-use Rattle.std.proofs.Common.{◌≡◌, ◌∙◌, ℕ, ◌^◌, ◌≤◌, Bool, true, Option, Some, None, Result, Ok, Err, IfSome, List, ◌∷◌, length, refl, sym, ap, subst, arith}
+use Rattle.std.proofs.Common.{◌≡◌, ◌∙◌, ℕ, ◌^◌, ◌≤◌, Bool, true, Some, Result, Ok, Err, List, ◌∷◌, length, refl, sym, ap, subst, arith}
 use Rattle.std.specs.List.{AllByRecursion}
 use Rattle.std.specs.Fn.{Shared}
 use denote.Ref.{Bor}
@@ -63,7 +63,7 @@ makes_of (Err end.Made) faults faults_then before after events part xs same all 
 makes_of (Err end.Notes) faults faults_then before after events part xs same all went = tt
 makes_of (Err end.Memory) faults faults_then before after events part xs same all went = tt
 
-damage_repaired : {F : Type 0} (test : Shared F (Bor Region × Unit {0}) Bool) (f : F) (result : Result Repaired RepairEnd) (faults faults_then : ℕ)
+pub damage_repaired : {F : Type 0} (test : Shared F (Bor Region × Unit {0}) Bool) (f : F) (result : Result Repaired RepairEnd) (faults faults_then : ℕ)
     (before after : Taken) (damaged : List ℕ) → Repairs test f result faults faults_then before after damaged
     → (ks : List ChunkValue) (file : List ℕ) (intact : Intact) → length file ≤ 2 ^ 60 → IsDamaged ks file damaged intact
     → RepairsDamage test f result faults faults_then before after ks intact
@@ -91,13 +91,3 @@ damage_repaired test f result faults faults_then before after damaged h ks file 
       made = makes_of result faults faults_then before after h.events h.part kept (sym (ap relaid are) ∙ relaid_events pieces ∙ laid) h.went h.took;
       frame = frame_kept true ks file intact numbers.0 d.frame;
     }
-
--- where the file shows its bytes
-pub repairs_damage : {F : Type 0} (test : Shared F (Bor Region × Unit {0}) Bool) (f : F) (bytes : Option (List ℕ)) (result : Result Repaired RepairEnd)
-    (faults faults_then : ℕ) (before after : Taken) → IfSome bytes (Repairs test f result faults faults_then before after)
-    → IfSome bytes (λ damaged.
-    (ks : List ChunkValue) (file : List ℕ) (intact : Intact) → length file ≤ 2 ^ 60 → IsDamaged ks file damaged intact
-    → RepairsDamage test f result faults faults_then before after ks intact)
-repairs_damage test f None result faults faults_then before after h = tt
-repairs_damage test f (Some damaged) result faults faults_then before after h =
-    damage_repaired test f result faults faults_then before after damaged h

@@ -25,11 +25,12 @@ use Rattle.repair_copy.specs.Relaid.{chunks_in, copied}
 use Rattle.repair_copy.specs.Repairs.{AnswersRepair, WentOut, Repairs}
 use Rattle.repair_copy.specs.DamagedRepairs.{MakesOf}
 use Rattle.repair_copy.specs.FrontRepairs.{AnswersFront, RepairsFront}
+use Rattle.repair_copy.specs.KnownRepairs.{RepairsKnown}
 use Rattle.repair_copy.specs.declared.repairs.Repaired.{Repaired}
 use Rattle.repair_copy.specs.declared.repairs.RepairEnd.{RepairEnd}
 use Rattle.repair_copy.specs.declared.repairs.RepairEnd.TheVariants as end
 use Rattle.repair_copy.proofs.Copied.{found_chunks}
-use Rattle.repair_copy.proofs.DamagedRepairs.{made_of}
+use Rattle.repair_copy.proofs.DamagedRepairs.{damage_repaired, made_of}
 use Rattle.repair_copy.proofs.EventChunks.{chunks_in-append, chunks_in_events}
 
 -- a piece that is not skipped
@@ -196,12 +197,12 @@ front_repaired test f result faults faults_then before after bytes h ks file m f
       made = makes_front test f ks file bytes m frame front.0 front.1 result faults faults_then before after h.events left.0 h.part left.1 answer h.went h.took;
     }
 
--- where the file shows its bytes
-pub repairs_front : {F : Type 0} (test : Shared F (Bor Region × Unit {0}) Bool) (f : F) (bytes : Option (List ℕ)) (result : Result Repaired RepairEnd)
+-- where the file shows its bytes, also where that is a damaged one
+pub repairs_known : {F : Type 0} (test : Shared F (Bor Region × Unit {0}) Bool) (f : F) (bytes : Option (List ℕ)) (result : Result Repaired RepairEnd)
     (faults faults_then : ℕ) (before after : Taken) → IfSome bytes (Repairs test f result faults faults_then before after)
-    → IfSome bytes (λ front.
-    (ks : List ChunkValue) (file : List ℕ) (m : ℕ) → IsFrame ks file → m ≤ length file → front ≡ take m file
-    → RepairsFront test f result faults faults_then before after ks file m)
-repairs_front test f None result faults faults_then before after h = tt
-repairs_front test f (Some front) result faults faults_then before after h =
-    front_repaired test f result faults faults_then before after front h
+    → IfSome bytes (RepairsKnown test f result faults faults_then before after)
+repairs_known test f None result faults faults_then before after h = tt
+repairs_known test f (Some shown) result faults faults_then before after h = record {
+  damaged = damage_repaired test f result faults faults_then before after shown h;
+  cut = front_repaired test f result faults faults_then before after shown h;
+}

@@ -1,8 +1,9 @@
 -- How far a damaged file is copied. Own.
-use Rattle.std.specs.Prelude.{◌≡◌, ◌≢◌, ℕ, Bool, true, false, ◌+◌, ◌^◌, ◌≤◌, ◌⊎◌, ⊤, Option, List, [], ◌∷◌, ◌++◌, length, if◌then◌else◌}
+use Rattle.std.specs.Prelude.{◌≡◌, ◌≢◌, ℕ, Bool, true, false, ◌+◌, ◌^◌, ◌≤◌, ◌⊎◌, ⊤, Option, Result, Err, List, [], ◌∷◌, ◌++◌, length, if◌then◌else◌, OnOk}
 use Rattle.std.specs.List.{AllByRecursion}
 use Rattle.std.specs.Fn.{Shared}
 use denote.Ref.{Bor}
+use Rattle.record_io.specs.Calls.{OnlyCounts}
 use Rattle.record_io.specs.Outside.{Takes, TakesShort}
 use Rattle.record_io.specs.Puts.{Stream, Made, Notes, Put, Taken, puts_to, GoOut, GoOutOrAreHeld, BreaksOff}
 use Rattle.chunk_header.specs.Views.{HasRightHash, value_of_chunk}
@@ -73,6 +74,15 @@ pub record CopiesFront (cut : FailedSink) (before after : Taken) (old : MadeFile
 abbrev pub TakesLine : FailedSink → Option (List ℕ) → Option (List ℕ) → List ℕ → Type 0
 TakesLine cut.Made before after line = Takes before after []
 TakesLine cut.Notes before after line = TakesShort before after line
+
+-- the line of an event went to notes, all of it, or where the work was cut off what they took of it; the made file and notes only
+-- count their faults
+pub record TellsLine {M N K L X : Type 0} (made_lent : M → K) (made_faults : M → ℕ) (notes_taken : N → Option (List ℕ)) (notes_lent : N → L)
+    (notes_faults : N → ℕ) (result : Result X FailedSink) (line : List ℕ) (made made_then : M) (notes notes_then : N) : Type 0 where
+  pub whole : OnOk result (Takes (notes_taken notes) (notes_taken notes_then) line)
+  pub front : (failed : FailedSink) → result ≡ Err failed → TakesLine failed (notes_taken notes) (notes_taken notes_then) line
+  pub made_counts : OnlyCounts made_lent made_faults (result ≡ Err cut.Made) made made_then
+  pub notes_counts : OnlyCounts notes_lent notes_faults (result ≡ Err cut.Notes) notes notes_then
 
 -- a file was begun, and events from the front of another were copied into it
 pub record HasBegun (before after : Taken) (copied : Copied) (events : List Piece) : Type 0 where

@@ -1,10 +1,11 @@
 -- How the copying of a damaged file ends. Own.
-use Rattle.std.specs.Prelude.{◌≡◌, ℕ, Bool, true, ⊤, Option, Some, None, Result, Ok, Err, IfOk, List, ◌∷◌, length}
+use Rattle.std.specs.Prelude.{◌≡◌, ℕ, ◌+◌, ◌*◌, ◌^◌, ◌≤◌, Bool, true, false, ⊤, Option, Some, None, Result, Ok, Err, IfOk, List, ◌∷◌, length}
 use Rattle.std.specs.Fn.{Shared}
 use denote.Ref.{Bor}
 use Rattle.record_io.specs.Puts.{Put, Taken, GoOut}
 use Rattle.meta_chunk.specs.Counts.{totals_of}
 use Rattle.meta_chunk.specs.Files.{signature}
+use Rattle.record_writer.specs.MadeFiles.{nothing_made}
 use Rattle.chunk_reader.specs.Reasons.{Applies, NoneOf, loading_reasons}
 use Rattle.damage_skip.specs.Pieces.{Piece}
 use Rattle.damage_skip.specs.Policies.{IsAllowedRegion}
@@ -45,6 +46,19 @@ pub record CopiesWalk {F : Type 0} (test : Shared F (Bor Region × Unit {0}) Boo
   pub walked : IsWalkedTo true (IsAllowedRegion test f) file place events
   pub copies : CopiesUpTo test f result copied before after file place events
   pub account : IsTakenUpTo true file 0 place taken
+
+-- a file told so many bytes, no more than are read
+pub record TellsWithin (telling : Option ℕ) (size : ℕ) : Type 0 where
+  pub told : telling ≡ Some size
+  pub in_reach : size ≤ 2 ^ 60
+
+-- what was copied of a file of so many bytes is nothing before the first event and has no more than twice as many behind the
+-- signature, no more regions than bytes, and told of none where there are none
+pub record IsCopyWithin {N : Type 0} (size : ℕ) (copied : Copied) (notes notes_then : N) : Type 0 where
+  pub unbegun : copied.begun ≡ false → copied.file ≡ nothing_made
+  pub small : copied.file.place ≤ 64 + 2 * size
+  pub few : copied.regions ≤ size
+  pub quiet : copied.regions ≡ 0 → notes_then ≡ notes
 
 -- what is answered where a walk ended so: how it did, or else that the made file failed
 abbrev pub AnswersWalk : Option WalkEnd → Result Repaired RepairEnd → Type 0

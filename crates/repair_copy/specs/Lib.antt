@@ -7,3 +7,4 @@ pub mod CopyEnds
 pub mod DamagedRepairs
 pub mod ShortRepairs
 pub mod FrontRepairs
+pub mod KnownRepairs

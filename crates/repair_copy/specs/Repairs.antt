@@ -1,5 +1,5 @@
 -- What a damaged file is repaired to under a test of regions, and how that ends. Own.
-use Rattle.std.specs.Prelude.{◌≡◌, ℕ, ◌+◌, ◌*◌, ◌≤◌, Bool, true, ⊤, Option, Some, None, Result, Ok, Err, List, ◌∷◌, length}
+use Rattle.std.specs.Prelude.{◌≡◌, ℕ, ◌+◌, ◌*◌, ◌≤◌, Bool, true, ⊤, Option, Some, None, Result, Ok, Err, IfOk, List, ◌∷◌, length}
 use Rattle.std.specs.List.{AllByRecursion}
 use Rattle.std.specs.Fn.{Shared}
 use denote.Ref.{Bor}
@@ -11,6 +11,7 @@ use Rattle.chunk_reader.specs.Reasons.{Applies, NoneOf, loading_reasons}
 use Rattle.damage_skip.specs.Pieces.{Piece}
 use Rattle.damage_skip.specs.Policies.{IsAllowedRegion, IsRefusedRegion}
 use Rattle.damage_skip.specs.Regions.{regions_in, skipped_text, IsWalkedTo}
+use Rattle.damage_skip.specs.Steps.{IsOnward}
 use Rattle.damage_skip.specs.declared.regions.Region.{Region}
 use Rattle.repair_copy.specs.Relaid.{chunks_in}
 use Rattle.repair_copy.specs.RepairPuts.{repair_puts, WentOutAtFault}
@@ -76,6 +77,11 @@ pub record IsRepairWithin (size : ℕ) (repaired : Repaired) : Type 0 where
   pub records : repaired.totals.records ≤ repaired.totals.bytes
   pub unread : repaired.totals.unread ≤ repaired.totals.chunks
   pub regions : repaired.regions ≤ size
+
+-- so is that with this answer, and a region that stopped it is one of the file
+pub record AnswersWithin (size : ℕ) (result : Result Repaired RepairEnd) : Type 0 where
+  pub done : IfOk result (IsRepairWithin size)
+  pub stopped : (region : Region) → result ≡ Err (end.Stopped region) → IsOnward size region.begin region.end
 
 -- why a repair ended that was cut off
 abbrev pub end_of_failed : FailedSink → RepairEnd

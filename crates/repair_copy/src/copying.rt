@@ -1,5 +1,4 @@
 ghost use Rattle.std.specs.Prelude.{◌≡◌, ℕ, ◌+◌, ◌^◌, ◌<◌, true, false, Err, Option, List, [], ◌∷◌, ◌++◌, length, OnOk, OnErr, IsErr};
-ghost use Rattle.record_io.specs.Outside.{Takes};
 ghost use Rattle.record_io.specs.Puts.{Taken, taken_by};
 ghost use Rattle.record_io.specs.Calls.{OnlyCounts};
 ghost use Rattle.meta_chunk.specs.Files.{signature, end_of_chunks};
@@ -8,7 +7,7 @@ ghost use Rattle.damage_skip.specs.Pieces.{Piece};
 ghost use Rattle.damage_skip.specs.Regions.{regions_in};
 ghost use Rattle.damage_skip.specs.Walks.{piece_of, event_text};
 ghost use Rattle.repair_copy.specs.Relaid.{chunks_in};
-ghost use Rattle.repair_copy.specs.Copies.{FitsAt, next_chunk_place, Begins, Copies, CopiesFront, TakesLine, HasCopied, HasBegun, HasPutAll, HasCopiedFront, HasPutAtFault};
+ghost use Rattle.repair_copy.specs.Copies.{FitsAt, next_chunk_place, Begins, Copies, CopiesFront, TellsLine, HasCopied, HasBegun, HasPutAll, HasCopiedFront, HasPutAtFault};
 
 use damage_skip::{Event, Region, region_line};
 use record_io::{Failed, Sink};
@@ -73,16 +72,13 @@ impl Copied {
         ensures front { (cut : FailedSink) → result ≡ Err cut → (before : Taken) (events : List Piece)
             → HasCopied before (taken_by (M.taken made.old) None (E.taken notes.old)) self.old events
             → HasCopiedFront cut before (taken_by (M.taken made.new) None (E.taken notes.new)) (events ++ piece_of event.now ∷ []) }
-        ensures line { OnOk result (Takes (E.taken notes.old) (E.taken notes.new) (event_text event.now)) }
-        ensures line_front { (cut : FailedSink) → result ≡ Err cut
-            → TakesLine cut (E.taken notes.old) (E.taken notes.new) (event_text event.now) }
+        ensures tells { TellsLine M.lent M.faults E.taken E.lent E.faults result (event_text event.now)
+            made.old made.new notes.old notes.new }
         ensures begun { OnOk result (self.new.begun ≡ true) }
         ensures going { OnOk result (self.new.file.spent ≡ false) }
         ensures place { OnOk result (self.new.file.place ≡ end_of_chunks (next_chunk_place self.old) (chunks_in (piece_of event.now ∷ []))) }
         ensures regions { OnOk result (self.new.regions ≡ self.old.regions + length (regions_in (piece_of event.now ∷ []))) }
         ensures quiet { OnOk result (self.new.regions ≡ self.old.regions → notes.new ≡ notes.old) }
-        ensures made { OnlyCounts M.lent M.faults (result ≡ Err FailedSink.Made) made.old made.new }
-        ensures notes { OnlyCounts E.lent E.faults (result ≡ Err FailedSink.Notes) notes.old notes.new }
     {
         self.begin(made)?;
         self.put_event(event, made, notes)
@@ -145,12 +141,9 @@ impl Copied {
             (taken_by (M.taken made.new) None (E.taken notes.new)) self.old self.new (piece_of event.now)) }
         ensures front { (cut : FailedSink) → result ≡ Err cut → CopiesFront cut (taken_by (M.taken made.old) None (E.taken notes.old))
             (taken_by (M.taken made.new) None (E.taken notes.new)) self.old.file (piece_of event.now) }
-        ensures line { OnOk result (Takes (E.taken notes.old) (E.taken notes.new) (event_text event.now)) }
-        ensures line_front { (cut : FailedSink) → result ≡ Err cut
-            → TakesLine cut (E.taken notes.old) (E.taken notes.new) (event_text event.now) }
+        ensures tells { TellsLine M.lent M.faults E.taken E.lent E.faults result (event_text event.now)
+            made.old made.new notes.old notes.new }
         ensures quiet { OnOk result (self.new.regions ≡ self.old.regions → notes.new ≡ notes.old) }
-        ensures made { OnlyCounts M.lent M.faults (result ≡ Err FailedSink.Made) made.old made.new }
-        ensures notes { OnlyCounts E.lent E.faults (result ≡ Err FailedSink.Notes) notes.old notes.new }
     {
         match event {
             Event::Records { chunk, .. } => self.file.put(made, chunk, false)?,
@@ -173,11 +166,8 @@ impl Copied {
             (taken_by (M.taken made.new) None (E.taken notes.new)) self.old self.new (piece_of (Event.Skipped region.now))) }
         ensures front { (cut : FailedSink) → result ≡ Err cut → CopiesFront cut (taken_by (M.taken made.old) None (E.taken notes.old))
             (taken_by (M.taken made.new) None (E.taken notes.new)) self.old.file (piece_of (Event.Skipped region.now)) }
-        ensures line { OnOk result (Takes (E.taken notes.old) (E.taken notes.new) (event_text (Event.Skipped region.now))) }
-        ensures line_front { (cut : FailedSink) → result ≡ Err cut
-            → TakesLine cut (E.taken notes.old) (E.taken notes.new) (event_text (Event.Skipped region.now)) }
-        ensures made { OnlyCounts M.lent M.faults (result ≡ Err FailedSink.Made) made.old made.new }
-        ensures notes { OnlyCounts E.lent E.faults (result ≡ Err FailedSink.Notes) notes.old notes.new }
+        ensures tells { TellsLine M.lent M.faults E.taken E.lent E.faults result (event_text (Event.Skipped region.now))
+            made.old made.new notes.old notes.new }
     {
         self.file.flush(made)?;
         match region_line(notes, "skipped", region) {

@@ -1,20 +1,16 @@
-ghost use Rattle.std.specs.Prelude.{◌≡◌, ◌+◌, ◌-◌, ◌*◌, ◌^◌, ◌≤◌, ◌⊎◌, ℕ, true, false, Option, Some, None, Ok, Err, IfOk, OnOk, IfSome, List, length, take};
+ghost use Rattle.std.specs.Prelude.{◌≡◌, ◌+◌, ◌-◌, ◌*◌, ◌≤◌, ◌⊎◌, ℕ, true, false, Option, Some, None, Ok, Err, IfOk, OnOk, IfSome, List};
 ghost use Rattle.record_io.specs.Puts.{Taken, taken_by};
 ghost use Rattle.record_io.specs.Calls.{OnlyAsks, OnlyCounts};
-ghost use Rattle.chunk_header.specs.Chunks.{ChunkValue};
-ghost use Rattle.meta_chunk.specs.Files.{IsFrame};
 ghost use Rattle.record_writer.specs.MadeFiles.{nothing_made};
-ghost use Rattle.damage_skip.specs.Damage.{Intact, IsDamaged};
 ghost use Rattle.damage_skip.specs.Pieces.{Piece};
 ghost use Rattle.damage_skip.specs.Policies.{IsTest, IsAllowedRegion, IsRefusedRegion};
 ghost use Rattle.damage_skip.specs.Steps.{IsOnward};
 ghost use Rattle.damage_skip.specs.Takings.{IsTakenByWalk};
 ghost use Rattle.damage_skip.specs.declared.regions.Region.{Region};
 ghost use Rattle.repair_copy.specs.Copies.{HasCopied, HasSkipped};
-ghost use Rattle.repair_copy.specs.CopyEnds.{AnswersWalk, CopiesWalk, HasPutOut};
-ghost use Rattle.repair_copy.specs.DamagedRepairs.{RepairsDamage};
-ghost use Rattle.repair_copy.specs.FrontRepairs.{RepairsFront};
-ghost use Rattle.repair_copy.specs.Repairs.{IsRepairWithin, Skips, Repairs, end_of_failed};
+ghost use Rattle.repair_copy.specs.CopyEnds.{AnswersWalk, CopiesWalk, HasPutOut, IsCopyWithin, TellsWithin};
+ghost use Rattle.repair_copy.specs.KnownRepairs.{RepairsKnown};
+ghost use Rattle.repair_copy.specs.Repairs.{AnswersWithin, IsRepairWithin, Skips, Repairs, end_of_failed};
 ghost use Rattle.repair_copy.specs.ShortRepairs.{RepairsShort};
 
 use crate::copying::{Copied, FailedSink};
@@ -90,19 +86,12 @@ pub fn repair<S: Store, F: Fn(&Region) -> bool + Drop, M: Sink, E: Sink>(
     made: &mut M,
     notes: &mut E,
 ) -> Result<Repaired, RepairEnd>
-    requires told { S.told store.old ≡ Some size }
-    requires in_reach { size ≤ 2 ^ 60 }
+    requires file { TellsWithin (S.told store.old) size }
     requires test { IsTest F.Fn policy.test }
     ensures repairs { IfSome (S.bytes store.old) (Repairs F.Fn policy.test result (M.faults made.old) (M.faults made.new)
         (taken_by (M.taken made.old) None (E.taken notes.old)) (taken_by (M.taken made.new) None (E.taken notes.new))) }
-    ensures damaged { IfSome (S.bytes store.old) (λ damaged.
-        (ks : List ChunkValue) (file : List ℕ) (intact : Intact) → length file ≤ 2 ^ 60 → IsDamaged ks file damaged intact
-        → RepairsDamage F.Fn policy.test result (M.faults made.old) (M.faults made.new)
-        (taken_by (M.taken made.old) None (E.taken notes.old)) (taken_by (M.taken made.new) None (E.taken notes.new)) ks intact) }
-    ensures cut { IfSome (S.bytes store.old) (λ front.
-        (ks : List ChunkValue) (file : List ℕ) (m : ℕ) → IsFrame ks file → m ≤ length file → front ≡ take m file
-        → RepairsFront F.Fn policy.test result (M.faults made.old) (M.faults made.new)
-        (taken_by (M.taken made.old) None (E.taken notes.old)) (taken_by (M.taken made.new) None (E.taken notes.new)) ks file m) }
+    ensures known { IfSome (S.bytes store.old) (RepairsKnown F.Fn policy.test result (M.faults made.old) (M.faults made.new)
+        (taken_by (M.taken made.old) None (E.taken notes.old)) (taken_by (M.taken made.new) None (E.taken notes.new))) }
     ensures cut_short { (result ≡ Err RepairEnd.Store) ⊎ (result ≡ Err RepairEnd.Memory) → IfSome (S.bytes store.old)
         (RepairsShort F.Fn policy.test (M.faults made.old) (M.faults made.new) (taken_by (M.taken made.old) None (E.taken notes.old))
         (taken_by (M.taken made.new) None (E.taken notes.new)) (S.handed store.new - S.handed store.old)) }
@@ -110,8 +99,7 @@ pub fn repair<S: Store, F: Fn(&Region) -> bool + Drop, M: Sink, E: Sink>(
         IsTakenByWalk true (IsAllowedRegion F.Fn policy.test) file (S.handed store.new - S.handed store.old)) }
     ensures skips { Skips F.Fn policy.test result (E.taken notes.old) (E.taken notes.new) }
     ensures quiet { IfOk result (λ repaired. repaired.regions ≡ 0 → notes.new ≡ notes.old) }
-    ensures stop { (region : Region) → result ≡ Err (RepairEnd.Stopped region) → IsOnward size region.begin region.end }
-    ensures bounds { IfOk result (IsRepairWithin size) }
+    ensures bounds { AnswersWithin size result }
     ensures store { OnlyAsks S.bytes S.told S.name S.faults (result ≡ Err RepairEnd.Store) store.old store.new }
     ensures made { OnlyCounts M.lent M.faults (result ≡ Err RepairEnd.Made) made.old made.new }
     ensures notes { OnlyCounts E.lent E.faults (result ≡ Err RepairEnd.Notes) notes.old notes.new }
@@ -131,8 +119,7 @@ fn copy_walk<S: Store, F: Fn(&Region) -> bool + Drop, M: Sink, E: Sink>(
     made: &mut M,
     notes: &mut E,
 ) -> Result<Option<WalkEnd>, FailedSink>
-    requires told { S.told store.old ≡ Some size }
-    requires in_reach { size ≤ 2 ^ 60 }
+    requires file { TellsWithin (S.told store.old) size }
     requires test { IsTest F.Fn policy.test }
     requires none_copied { (copied.old.file ≡ nothing_made) × (copied.old.begun ≡ false) × (copied.old.regions ≡ 0) }
     ensures copies { IfSome (S.bytes store.old) (CopiesWalk F.Fn policy.test result copied.new
@@ -143,10 +130,7 @@ fn copy_walk<S: Store, F: Fn(&Region) -> bool + Drop, M: Sink, E: Sink>(
         → Skips F.Fn policy.test (Err (end_of_failed cut)) (E.taken notes.old) (E.taken notes.new) }
     ensures stop { (region : Region) → result ≡ Ok (Some (WalkEnd.Stopped region))
         → IsOnward size region.begin region.end × IsRefusedRegion F.Fn policy.test region }
-    ensures quiet { OnOk result (copied.new.regions ≡ 0 → notes.new ≡ notes.old) }
-    ensures unbegun { OnOk result (copied.new.begun ≡ false → copied.new.file ≡ nothing_made) }
-    ensures small { OnOk result (copied.new.file.place ≤ 64 + 2 * size) }
-    ensures few { OnOk result (copied.new.regions ≤ size) }
+    ensures within { OnOk result (IsCopyWithin size copied.new notes.old notes.new) }
     ensures store { OnlyAsks S.bytes S.told S.name S.faults (result ≡ Ok (Some WalkEnd.Store)) store.old store.new }
     ensures made { OnlyCounts M.lent M.faults (result ≡ Err FailedSink.Made) made.old made.new }
     ensures notes { OnlyCounts E.lent E.faults (result ≡ Err FailedSink.Notes) notes.old notes.new }

@@ -85,7 +85,7 @@ returns-in_err-put-in-Ok-Some-clause-skips g c =
     let p = err_from_is_err_and c.from_residual.result c.from_residual.ensures.1 in
     λ cut is.
     skips_cut g.F.Fn c.args.policy.test cut _ _ _ _ c.in-Ok-Some.event c.loop-event.invariant.skipped
-    (c.in_err-put-in-Ok-Some.ensures.line_front cut (cc (p.1 ∙ ap Err p.2, is))) (allowed g at)
+    (c.in_err-put-in-Ok-Some.ensures.tells.front cut (cc (p.1 ∙ ap Err p.2, is))) (allowed g at)
 
 -- what was copied with the event
 copied : (g : _) (c : In_ok-put-in-Ok-Some g)
@@ -168,7 +168,7 @@ preserved g c given on passed =
       stands = subst (λ (told : Option ℕ). StandsIn (g.S.Store.bytes c.next.new.store) told c.next.new.self.progress) (sym e.store.same_told)
           (subst (λ (b : Option (List ℕ)). StandsIn b (g.S.Store.told c.loop-event.store) c.next.new.self.progress) (sym e.store.same_bytes) e.stands);
       copied = copied g c on passed;
-      skipped = skipped_next _ _ _ _ _ _ _ c.in-Ok-Some.event kept.skipped c.in_ok-put-in-Ok-Some.ensures.line c.in_ok-put-in-Ok-Some.ensures.regions passed;
+      skipped = skipped_next _ _ _ _ _ _ _ c.in-Ok-Some.event kept.skipped c.in_ok-put-in-Ok-Some.ensures.tells.whole c.in_ok-put-in-Ok-Some.ensures.regions passed;
       quiet = quiet g c;
       unbegun = λ unbegun. cc (unbegun, c.in_ok-put-in-Ok-Some.ensures.begun);
       going = c.in_ok-put-in-Ok-Some.ensures.going;

@@ -4,8 +4,7 @@ use Rattle.damage_skip.specs.declared.events.WalkEnd.TheVariants as walk
 use Rattle.damage_skip.specs.Policies.{IsRefusedRegion}
 use Rattle.damage_skip.specs.Steps.{IsOnward}
 use Rattle.damage_skip.specs.declared.regions.Region.{Region}
-use Rattle.repair_copy.proofs.DamagedRepairs.{repairs_damage}
-use Rattle.repair_copy.proofs.FrontRepairs.{repairs_front}
+use Rattle.repair_copy.proofs.FrontRepairs.{repairs_known}
 use Rattle.repair_copy.proofs.SkippedRegions.{skips_failed}
 use Rattle.repair_copy.proofs.WalkEnds.{quiet_ended, failed-not_short, repairs_ended, short_ended, repairs_cut, taken_of, skips_ended}
 use Rattle.repair_copy.proofs.repairs.repair.Goals as goal
@@ -17,11 +16,8 @@ returns-in_err-ended-clause-repairs g c =
     repairs_cut g.F.Fn c.args.policy.test _ c.from_residual.result c.in_err-ended.field-0.0 c.copy_walk.new.copied _ _ _ _ _ (p.1 ∙ ap Err p.2)
     c.in_err-ended.ensures.copies
 
-pub returns-in_err-ended-clause-damaged : goal.returns-in_err-ended-clause-damaged
-returns-in_err-ended-clause-damaged g c = repairs_damage g.F.Fn c.args.policy.test _ _ _ _ _ _ (returns-in_err-ended-clause-repairs g c)
-
-pub returns-in_err-ended-clause-cut : goal.returns-in_err-ended-clause-cut
-returns-in_err-ended-clause-cut g c = repairs_front g.F.Fn c.args.policy.test _ _ _ _ _ _ (returns-in_err-ended-clause-repairs g c)
+pub returns-in_err-ended-clause-known : goal.returns-in_err-ended-clause-known
+returns-in_err-ended-clause-known g c = repairs_known g.F.Fn c.args.policy.test _ _ _ _ _ _ (returns-in_err-ended-clause-repairs g c)
 
 pub returns-in_err-ended-clause-cut_short : goal.returns-in_err-ended-clause-cut_short
 returns-in_err-ended-clause-cut_short g c =
@@ -46,11 +42,8 @@ returns-clause-repairs g c =
     (λ before events. c.end_repair.ensures.put before (g.E.Sink.taken c.copy_walk.new.notes) events)
     c.in_ok-ended.ensures.copies
 
-pub returns-clause-damaged : goal.returns-clause-damaged
-returns-clause-damaged g c = repairs_damage g.F.Fn c.args.policy.test _ _ _ _ _ _ (returns-clause-repairs g c)
-
-pub returns-clause-cut : goal.returns-clause-cut
-returns-clause-cut g c = repairs_front g.F.Fn c.args.policy.test _ _ _ _ _ _ (returns-clause-repairs g c)
+pub returns-clause-known : goal.returns-clause-known
+returns-clause-known g c = repairs_known g.F.Fn c.args.policy.test _ _ _ _ _ _ (returns-clause-repairs g c)
 
 pub returns-clause-cut_short : goal.returns-clause-cut_short
 returns-clause-cut_short g c = λ short.
@@ -80,14 +73,13 @@ returns-clause-skips g c =
 pub returns-clause-quiet : goal.returns-clause-quiet
 returns-clause-quiet g c =
     quiet_ended c.end_repair.result c.copy_walk.new.copied.regions c.args.notes.now c.copy_walk.new.notes c.end_repair.ensures.regions
-    c.in_ok-ended.ensures.quiet
-
-pub returns-clause-stop : goal.returns-clause-stop
-returns-clause-stop g c =
-    let at = (goal.at.returns-clause-stop g c).In_ok-ended in
-    λ region is. (stopped g at region (rw is at c.end_repair.ensures.answer)).0
+    c.in_ok-ended.ensures.within.quiet
 
 pub returns-clause-bounds : goal.returns-clause-bounds
 returns-clause-bounds g c =
-    c.end_repair.ensures.bounds c.args.size c.in_ok-ended.ensures.small
-    c.in_ok-ended.ensures.few
+    let at = (goal.at.returns-clause-bounds g c).In_ok-ended in
+    let within = c.in_ok-ended.ensures.within in
+    record {
+      done = c.end_repair.ensures.bounds c.args.size within.small within.few;
+      stopped = λ region is. (stopped g at region (rw is at c.end_repair.ensures.answer)).0;
+    }
