@@ -85,7 +85,7 @@ judge_blocks-requires-2-clause-judges g c =
       fits = rw (c.in_ok-feed_data.ensures.store.same_told, c.in_ok-judge_blocks.ensures.store.same_told) may.fits;
       begun = omega (arith, may.begun, c.behind_header-own.ensures, end_of_after c.args.at 40, moved, end_of_after place c.args.header.now.data_size);
       ordered = omega (arith, moved, ends);
-      within = may.within;
+      within = omega (arith, may.within, moved, ends);
     }
 
 pub returns-in_err-judge_blocks-clause-refused : goal.returns-in_err-judge_blocks-clause-refused
