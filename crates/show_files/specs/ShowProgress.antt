@@ -1,5 +1,5 @@
 -- How far `show` has printed a file. Own.
-use Rattle.std.specs.Prelude.{◌≡◌, ℕ, Bool, true, Result, Ok, List}
+use Rattle.std.specs.Prelude.{◌≡◌, ℕ, ◌+◌, ◌<◌, ◌≤◌, Bool, true, Result, Ok, List}
 use Rattle.std.specs.List.{flat_map}
 use Rattle.record_io.specs.Puts.{Out, Taken, GoOutOrAreHeld, puts_to}
 use Rattle.record_values.specs.declared.file_totals.Totals.{Totals}
@@ -37,3 +37,13 @@ IsPrinted words file totals before after held =
 abbrev pub PrintsOn : ShowWords → Result Bool (Ending Fault) → List ℕ → Totals → (before after : Taken) → List ℕ → Type 0
 PrintsOn words (Ok true) file totals before after held = IsPrinted words file totals before after held
 PrintsOn words result file totals before after held = HasPutAtEnd reading_ends (IsShown words) result file before after held
+
+-- a file was read on from a place to another, and no more of it was handed out than lies between
+pub record MovesOn (place place_then handed handed_then : ℕ) : Type 0 where
+  pub further : place < place_then
+  pub handed_between : handed_then + place ≤ handed + place_then
+
+-- no line was put, neither to what is held nor to the sink
+pub record PutsNothing {O : Type 0} (lines lines_then : List ℕ) (out out_then : O) : Type 0 where
+  pub same_lines : lines_then ≡ lines
+  pub same_out : out_then ≡ out

@@ -12,7 +12,7 @@ ghost use Rattle.run_answers.specs.FileAnswers.{HandsOut};
 ghost use Rattle.show_files.specs.ReadingEnds.{reading_ends};
 ghost use Rattle.show_files.specs.ShowCommand.{IsShown, IsShownSoFar, show_meaning};
 ghost use Rattle.run_answers.specs.PutSoFar.{HasPutSoFar};
-ghost use Rattle.show_files.specs.ShowProgress.{record_lines, IsPrinted, PrintsOn};
+ghost use Rattle.show_files.specs.ShowProgress.{record_lines, IsPrinted, MovesOn, PrintsOn, PutsNothing};
 ghost use Rattle.run_answers.specs.Runs.{Runs, Seen};
 
 use crate::reading::end_reading;
@@ -111,16 +111,14 @@ fn print_next<S: Store, O: Sink>(
     requires strict { reader.old.keep ≡ false }
     requires reads { ReadsIn (S.bytes file.old) (S.told file.old) reader.old }
     ensures goes_on { ReadsOn (S.bytes file.old) reader.old reader.new }
-    ensures moved { result ≡ Ok true → reader.old.totals.bytes < reader.new.totals.bytes }
+    ensures moved { result ≡ Ok true → MovesOn reader.old.totals.bytes reader.new.totals.bytes (S.handed file.old) (S.handed file.new) }
     ensures printed { (before : Taken) (made notes : Option (List ℕ)) → IfSome (S.bytes file.old) (λ bytes.
         IsPrinted words.now bytes reader.old.totals before (taken_by made (O.taken out.old) notes) lines.old
         → PrintsOn words.now result bytes reader.new.totals before (taken_by made (O.taken out.new) notes) lines.new) }
-    ensures handed { result ≡ Ok true → S.handed file.new + reader.old.totals.bytes ≤ S.handed file.old + reader.new.totals.bytes }
     ensures handed_at_most { S.handed file.new + reader.old.totals.bytes ≤ S.handed file.old + reader.old.size }
     ensures read_to { IfSome (S.bytes file.old) (λ bytes.
         MayBeReadTo bytes reader.old.totals.bytes (reader.old.totals.bytes + (S.handed file.new - S.handed file.old))) }
-    ensures same_lines { IsErrAnd result IsShort → lines.new ≡ lines.old }
-    ensures same_out { IsErrAnd result IsShort → out.new ≡ out.old }
+    ensures unput { IsErrAnd result IsShort → PutsNothing lines.old lines.new out.old out.new }
     ensures allowed { IsAllowedEnd (show_meaning words.now) result (S.told file.new) }
     ensures file { OnlyAsks S.bytes S.told S.name S.faults (result ≡ Err (Ending.Cut Cut.File)) file.old file.new }
     ensures out { OnlyCounts O.lent O.faults (result ≡ Err (Ending.Cut Cut.Out)) out.old out.new }

@@ -49,7 +49,7 @@ loop-preserved g c = record {
       c.in_ok-print_next.ensures.goes_on;
   printed = λ made notes. of_answer g (goal.at.loop-preserved g c).After-print_next (Ok true)
       (c.in_ok-print_next.was ∙ ap (λ (more : Bool). Ok more) c.if-branch.true) made notes;
-  handed = omega (arith, c.loop.invariant.handed, c.print_next.ensures.handed (c.in_ok-print_next.was ∙ ap (λ (more : Bool). Ok more) c.if-branch.true));
+  handed = omega (arith, c.loop.invariant.handed, (c.print_next.ensures.moved (c.in_ok-print_next.was ∙ ap (λ (more : Bool). Ok more) c.if-branch.true)).handed_between);
   out = search rules;
 }
 
@@ -68,5 +68,5 @@ pub returns-in_err-print_next-clause-so_far : goal.returns-in_err-print_next-cla
 returns-in_err-print_next-clause-so_far g c = λ short made notes.
     let passed = IsErrAnd-same IsShort _ c.from_residual.result c.from_residual.ensures.1 short in
     printed-so_far c.args.words.now _ _ c.loop.reader.totals _ made _ _ notes _ _ _ _ _ c.loop.invariant.file.same_bytes
-    (ap g.O.Sink.taken (c.in_err-print_next.ensures.same_out passed)) (c.in_err-print_next.ensures.same_lines passed) c.loop.invariant.handed
+    (ap g.O.Sink.taken (c.in_err-print_next.ensures.unput passed).same_out) (c.in_err-print_next.ensures.unput passed).same_lines c.loop.invariant.handed
     c.in_err-print_next.ensures.read_to (c.loop.invariant.printed made notes)
