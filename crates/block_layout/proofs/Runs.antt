@@ -1,7 +1,8 @@
 -- Where bytes that stand behind one another go on, run by run between block headers.
 use Rattle.std.proofs.Common.{◌≡◌, ◌≢◌, ◌∙◌, ℕ, ◌+◌, ◌-◌, ◌%◌, ◌<◌, ◌≤◌, sym, ap, subst, inl, inr, arith}
 use Rattle.std.proofs.lemmas.Bool.{cases_eq}
-use Rattle.block_layout.specs.Layout.{IsOnBoundary, IsNextPlace, usable_from, room, end_of}
+use Rattle.block_layout.specs.Layout.{room, end_of}
+use Rattle.block_layout.specs.NextPlaces.{IsOnBoundary, IsNextPlace, usable_from}
 use Rattle.block_layout.proofs.Room.{room-closed}
 use Rattle.block_layout.proofs.Ends.{end_of-zero, end_of-some, end_of-more, end_of_above, end_of_is_end}
 

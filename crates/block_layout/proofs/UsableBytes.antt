@@ -5,7 +5,8 @@ use Rattle.std.proofs.lemmas.Bool.{cases_lt}
 use Rattle.std.proofs.lemmas.List.{nil_from_length, take-append-drop, take_at, drop_more, get_or_at, get_or-take, get_or-drop, length-take, length-take-le, length-drop, drop-drop}
 use Rattle.std.proofs.Math.Seq.{take-append-add}
 use Rattle.std.proofs.lemmas.Option.{slice_get-get_or, slice_get_past}
-use Rattle.block_layout.specs.Layout.{IsBlock, IsUsable, IsNextPlace, usable_from, room, usable_below, usable_at, end_of, usable_bytes, own_bytes_at}
+use Rattle.block_layout.specs.Layout.{IsBlock, IsUsable, room, usable_below, usable_at, end_of, usable_bytes, own_bytes_at}
+use Rattle.block_layout.specs.NextPlaces.{IsNextPlace, usable_from}
 use Rattle.block_layout.proofs.Room.{room-closed, room_mono, room_below}
 use Rattle.block_layout.proofs.Ends.{end_of_after, end_of_least, end_of_is_end}
 use Rattle.block_layout.proofs.Runs.{room-usable_from, end_of-run}

@@ -1,6 +1,6 @@
--- Positions of a file, and where bytes stand between block headers. Source: the Riegeli/records file format
--- specification, "File format", blocks of 65536 bytes, each of which begins with a header of 24 bytes; "Chunk",
--- where chunks end.
+-- Promise. Positions of a file, and where bytes stand between block headers. Source: the Riegeli/records file format
+-- specification, "File format", blocks of 65536 bytes, each of which begins with a header of 24 bytes; "Chunk", where
+-- chunks end.
 use Rattle.std.specs.Prelude.{◌≡◌, ℕ, zero, suc, ◌+◌, ◌-◌, ◌*◌, ◌/◌, ◌%◌, ◌<◌, ◌≤◌, Bool, ◌&&◌, ◌⊎◌, nat_le, ◌==◌, if◌then◌else◌, max, List, [], ◌∷◌, take, drop}
 
 -- how many bytes a block has, a block header, and a chunk header
@@ -35,18 +35,6 @@ is_usable p = nat_le block_header_size (p % block_size)
 -- where chunks may begin and end: at a block, or past the first usable position behind it
 abbrev pub IsBoundary : ℕ → Type 0
 IsBoundary p = IsBlock p ⊎ (block_header_size < p % block_size)
-
--- the same, said so that a field can keep it
-abbrev pub IsOnBoundary : ℕ → Type 0
-IsOnBoundary p = 0 < p % block_size → block_header_size < p % block_size
-
--- where the next byte of a chunk can stand: a block, behind whose header it comes, or a usable position
-abbrev pub IsNextPlace : ℕ → Type 0
-IsNextPlace p = 0 < p % block_size → block_header_size ≤ p % block_size
-
--- the least usable position at or past a position
-abbrev pub usable_from : ℕ → ℕ
-usable_from p = max p (block_of p + block_header_size)
 
 -- how many usable positions p have a ≤ p < b
 unfoldable pub room : ℕ → ℕ → ℕ

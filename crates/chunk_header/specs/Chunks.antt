@@ -1,4 +1,4 @@
--- Chunks and their headers. Source: the Riegeli/records file format specification, "Chunk" and "Chunk header".
+-- Promise. Chunks and their headers. Source: the Riegeli/records file format specification, "Chunk" and "Chunk header".
 use Rattle.std.specs.Prelude.{◌≡◌, ℕ, ◌^◌, ◌<◌, List, ◌∷◌, ◌++◌, length, take, slice_index, slice_range}
 use Rattle.std.specs.Int.{w64, to_le_bytes, from_le_bytes}
 use Rattle.highway_hash.specs.Riegeli.{riegeli_hash, with_hash, BeginsWithHash}

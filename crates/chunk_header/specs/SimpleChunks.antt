@@ -1,5 +1,5 @@
--- Simple chunks without compression. Source: the Riegeli/records file format specification, "Simple chunk
--- with records".
+-- Promise. Simple chunks without compression. Source: the Riegeli/records file format specification, "Simple chunk with
+-- records".
 use Rattle.std.specs.Prelude.{◌≡◌, ◌≢◌, ℕ, ◌<◌, List, ◌∷◌, ◌++◌, length, map, sum, slice_index}
 use Rattle.std.specs.List.{concat, flat_map}
 use Rattle.varint_wire.specs.Varint.{Spells, SpellsEach, shortest}

@@ -1,5 +1,5 @@
--- What headers and chunks of the program stand for. Source: the Riegeli/records file format specification, "Chunk
--- header".
+-- Inside. What headers and chunks of the program stand for. Source: the Riegeli/records file format specification,
+-- "Chunk header".
 use Rattle.std.specs.Prelude.{◌≡◌, ℕ, ◌<◌, ◌^◌, List, length}
 use Rattle.highway_hash.specs.Riegeli.{riegeli_hash, with_hash}
 use Rattle.chunk_header.specs.Chunks.{ChunkValue, HeaderValue, header_fields}

@@ -3,14 +3,14 @@ use Rattle.std.proofs.Common.{◌≡◌, ◌≢◌, ◌∙◌, ℕ, zero, suc, r
 use Rattle.std.specs.Prelude.{slice_range, if◌then◌else◌}
 use Rattle.std.proofs.lemmas.Bool.{cases_Bool}
 use Rattle.record_values.specs.declared.file_totals.Totals.{Totals}
-use Rattle.block_layout.specs.Layout.{IsBoundary, IsOnBoundary, end_of}
+use Rattle.block_layout.specs.Layout.{IsBoundary, end_of}
+use Rattle.block_layout.specs.NextPlaces.{IsOnBoundary}
 use Rattle.block_layout.proofs.Ends.{end_of_mono}
 use Rattle.block_layout.proofs.ChunkEnds.{chunk_end_of_past_bytes, chunk_end_of_past_records}
 use Rattle.chunk_header.specs.Chunks.{ChunkValue}
 use Rattle.chunk_header.specs.Views.{value_of_chunk}
 use Rattle.meta_chunk.specs.Laid.{end_of_chunk}
-use Rattle.meta_chunk.specs.Files.{max_data_size, signature_bytes, IsPlain, IsUnread, IsChainOf}
-use Rattle.meta_chunk.specs.Counts.{is_unread, totals_of}
+use Rattle.meta_chunk.specs.Files.{max_data_size, signature_bytes, IsPlain, IsUnread, IsChainOf, is_unread, totals_of}
 use Rattle.meta_chunk.proofs.Held.{plain_or_unread}
 use Rattle.meta_chunk.proofs.Totals.{is_unread-iff}
 use Rattle.chunk_reader.specs.Ends.{read_end_of}
@@ -19,7 +19,7 @@ use Rattle.chunk_reader.specs.Faults.{IsAllowed, IsVerdict, IsFault, BeginsWithS
 use Rattle.chunk_reader.specs.Progress.{totals_with_chunk, AreInBounds, AreReadFrom}
 use Rattle.chunk_reader.specs.Places.{end_at, chunk_at}
 use Rattle.chunk_reader.specs.Reasons.{Applies, NoneOf, unpassed_reasons, loading_reasons}
-use Rattle.chunk_reader.specs.ReadBounds.{MayBeReadTo}
+use Rattle.chunk_reader.specs.SearchBounds.{MayBeReadTo}
 use Rattle.chunk_reader.specs.declared.judging.Judged.{Judged}
 use Rattle.chunk_reader.specs.declared.judging.What.{What}
 use Rattle.chunk_reader.specs.declared.judging.What.TheVariants.{Records, Passive, Unread}

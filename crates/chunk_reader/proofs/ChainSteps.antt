@@ -10,8 +10,7 @@ use Rattle.block_layout.specs.Layout.{IsBoundary}
 use Rattle.record_values.specs.declared.file_totals.Totals.{Totals}
 use Rattle.chunk_header.specs.Chunks.{ChunkValue}
 use Rattle.meta_chunk.specs.Laid.{IsLaid, end_of_chunk}
-use Rattle.meta_chunk.specs.Files.{signature, BeginsSigned, AreLaid, IsChainOf, begin_of, end_of_chunks}
-use Rattle.meta_chunk.specs.Counts.{is_unread, totals_of}
+use Rattle.meta_chunk.specs.Files.{signature, BeginsSigned, AreLaid, IsChainOf, begin_of, end_of_chunks, is_unread, totals_of}
 use Rattle.meta_chunk.proofs.Joins.{end_of_chunks-append, end-AreLaid}
 use Rattle.meta_chunk.proofs.Begins.{begin_of_boundary, begin_of-place, IsLaid-in_file}
 use Rattle.meta_chunk.proofs.Chains.{IsChainOf-push, AreLaid-front_of}

@@ -4,8 +4,7 @@ use Rattle.block_layout.specs.Layout.{IsBoundary}
 use Rattle.record_values.specs.declared.file_totals.Totals.{Totals}
 use Rattle.chunk_header.specs.Chunks.{ChunkValue, IsChunk}
 use Rattle.chunk_header.specs.Views.{HasRightHash, value_of_chunk}
-use Rattle.meta_chunk.specs.Counts.{totals_of}
-use Rattle.meta_chunk.specs.Files.{signature}
+use Rattle.meta_chunk.specs.Files.{totals_of, signature}
 use Rattle.meta_chunk.specs.Laid.{end_of_chunk}
 use Rattle.meta_chunk.proofs.Held.{IsSignature-one}
 use Rattle.chunk_reader.specs.Contents.{IsWhat, IsJudged, IsJudgedIn}

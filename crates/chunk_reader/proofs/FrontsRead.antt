@@ -2,8 +2,7 @@
 use Rattle.std.proofs.Common.{◌≡◌, ◌∙◌, ℕ, ◌<◌, true, Option, Some, None, IfSome, List, [], length, sym, ap, subst, inl, arith}
 use Rattle.record_values.specs.declared.file_totals.Totals.{Totals}
 use Rattle.chunk_header.specs.Chunks.{ChunkValue}
-use Rattle.meta_chunk.specs.Counts.{totals_of}
-use Rattle.meta_chunk.specs.Files.{IsFramed, IsChainOf}
+use Rattle.meta_chunk.specs.Files.{totals_of, IsFramed, IsChainOf}
 use Rattle.chunk_reader.specs.Faults.{IsFault, IsLongest, IsVerdict, BeginsWithSignature}
 use Rattle.chunk_reader.specs.Fronts.{IsFrontOf}
 use Rattle.chunk_reader.specs.Progress.{AreInBounds, AreReadFrom}

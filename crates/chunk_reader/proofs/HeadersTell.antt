@@ -11,8 +11,7 @@ use Rattle.chunk_header.specs.Chunks.{ChunkValue, HeaderValue}
 use Rattle.meta_chunk.specs.Files.{IsFrame, begin_of, LiesIn}
 use Rattle.meta_chunk.specs.Laid.{IsLaid}
 use Rattle.meta_chunk.proofs.Begins.{begin_of-next, begin_of-past, begin_of-place, begin_of_rises, begin_of_boundary, holder_of, holder_one, IsLaid-in_file}
-use Rattle.chunk_reader.specs.Blocks.{TellsBegin}
-use Rattle.chunk_reader.specs.Holders.{ArePlacesBetween, IsHolder}
+use Rattle.chunk_reader.specs.Holders.{TellsBegin, ArePlacesBetween, IsHolder}
 use Rattle.chunk_reader.specs.Places.{header_at, end_at}
 use Rattle.chunk_reader.specs.Reasons.{Applies, NoneOf, unpassed_reasons}
 use Rattle.chunk_reader.proofs.Blocks.{stands_one}

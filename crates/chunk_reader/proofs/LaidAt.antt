@@ -9,7 +9,8 @@ use Rattle.chunk_header.proofs.HeaderValues.{header_in-chunk}
 use Rattle.meta_chunk.specs.Laid.{IsLaid, end_of_chunk}
 use Rattle.meta_chunk.proofs.OneChunk.{same_chunk}
 use Rattle.meta_chunk.proofs.OwnBytes.{own_bytes_at-IsLaid, header_at-IsLaid, headers-IsLaid}
-use Rattle.chunk_reader.specs.Places.{header_bytes_at, header_at, end_by, end_at, data_at, chunk_at, HaveHeadersOf}
+use Rattle.chunk_reader.specs.Places.{header_bytes_at, header_at, end_by, end_at, data_at, chunk_at}
+use Rattle.chunk_reader.specs.PlaceChecks.{HaveHeadersOf}
 use Rattle.chunk_header.specs.Chunks.{header_in}
 
 -- what a chunk's header says

@@ -1,12 +1,14 @@
 -- The data of a chunk, which stands behind its header.
 use Rattle.std.proofs.Common.{◌≡◌, ◌∙◌, ℕ, ◌+◌, ◌^◌, ◌≤◌, Option, Some, None, IfSome, IsSomeAnd, List, length, drop, refl, sym, ap, subst, arith}
 use Rattle.std.proofs.lemmas.List.{drop_at}
-use Rattle.block_layout.specs.Layout.{IsBoundary, IsOnBoundary, IsNextPlace, end_of, chunk_end_of, own_bytes_at}
+use Rattle.block_layout.specs.Layout.{IsBoundary, end_of, chunk_end_of, own_bytes_at}
+use Rattle.block_layout.specs.NextPlaces.{IsOnBoundary, IsNextPlace}
 use Rattle.block_layout.proofs.Ends.{end_of_after, end_of-more}
 use Rattle.block_layout.proofs.ChunkEnds.{chunk_end_of_boundary, chunk_end_of_past_bytes}
 use Rattle.block_layout.proofs.Runs.{end_of-next_place}
 use Rattle.block_layout.proofs.UsableBytes.{own_bytes_at_whole, own_bytes_at-more}
-use Rattle.chunk_reader.specs.Places.{HasOwnBytes, data_at}
+use Rattle.chunk_reader.specs.Places.{data_at}
+use Rattle.chunk_reader.specs.PlaceChecks.{HasOwnBytes}
 use Rattle.chunk_reader.specs.Ends.{read_end_of}
 use Rattle.chunk_reader.specs.declared.reasons.Fault.{Fault}
 use Rattle.chunk_reader.specs.declared.reasons.VerifyEnd.{VerifyEnd}

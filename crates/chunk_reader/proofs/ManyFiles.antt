@@ -4,8 +4,7 @@ use Rattle.std.specs.Prelude.{slice_get}
 use Rattle.std.specs.List.{AllByRecursion}
 use Rattle.std.proofs.lemmas.Bool.{cases_lt}
 use Rattle.record_values.specs.Bytes.{AreBytes}
-use Rattle.chunk_reader.specs.Faults.{HasNoFault, IsFault}
-use Rattle.chunk_reader.specs.ManyFiles.{HaveNoFault, IsFirstFault}
+use Rattle.chunk_reader.specs.Faults.{HasNoFault, IsFault, HaveNoFault, IsFirstFault}
 use Rattle.chunk_reader.specs.declared.reasons.Fault.{Fault}
 use Rattle.chunk_reader.proofs.FaultsDecided.{file_judged}
 use Rattle.chunk_reader.proofs.FileFaults.{fault_is_one, fault_or_none}

@@ -15,7 +15,8 @@ use Rattle.chunk_header.proofs.DecidedRecords.{records_decided}
 use Rattle.meta_chunk.specs.Kinds.{signature_kind, metadata_kind, padding_kind, transposed_kind, KeepsRule, IsOfNoName}
 use Rattle.meta_chunk.specs.Laid.{IsLaid}
 use Rattle.meta_chunk.specs.Files.{max_data_size}
-use Rattle.chunk_reader.specs.Places.{header_bytes_at, header_at, end_at, chunk_at, HaveHeadersOf}
+use Rattle.chunk_reader.specs.Places.{header_bytes_at, header_at, end_at, chunk_at}
+use Rattle.chunk_reader.specs.PlaceChecks.{HaveHeadersOf}
 use Rattle.chunk_reader.specs.Reasons.{HasBadContents, Applies, NoneOf, content_reasons, strict_reasons}
 use Rattle.chunk_reader.specs.Faults.{IsAllowed}
 use Rattle.chunk_reader.specs.declared.reasons.Why.TheVariants as why

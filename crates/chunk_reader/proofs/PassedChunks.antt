@@ -16,7 +16,8 @@ use Rattle.chunk_header.specs.Views.{IsHeader, bytes_of_header, value_of_header}
 use Rattle.chunk_header.proofs.HeaderValues.{header_in-header}
 use Rattle.meta_chunk.specs.Laid.{IsLaid, end_of_chunk}
 use Rattle.meta_chunk.proofs.OwnBytes.{IsLaid-from_own_bytes}
-use Rattle.chunk_reader.specs.Places.{header_bytes_at, header_at, end_at, data_at, chunk_at, HaveHeadersOf}
+use Rattle.chunk_reader.specs.Places.{header_bytes_at, header_at, end_at, data_at, chunk_at}
+use Rattle.chunk_reader.specs.PlaceChecks.{HaveHeadersOf}
 use Rattle.chunk_reader.proofs.LaidAt.{header_of}
 
 -- the header at a place, of which the bytes are told

@@ -6,12 +6,12 @@ use Rattle.std.proofs.lemmas.Bool.{cases_eq, cases_Bool, cond-true, cond-false}
 use Rattle.std.proofs.lemmas.List.Sums.{sum_by-cons, count_by-le-length}
 use Rattle.block_layout.proofs.ChunkEnds.{chunk_end_of_boundary, chunk_end_of_past_bytes, chunk_end_of_past_records}
 use Rattle.block_layout.proofs.Ends.{end_of_mono}
-use Rattle.block_layout.specs.Layout.{IsOnBoundary, end_of}
+use Rattle.block_layout.specs.Layout.{end_of}
+use Rattle.block_layout.specs.NextPlaces.{IsOnBoundary}
 use Rattle.chunk_header.specs.Chunks.{ChunkValue}
 use Rattle.record_values.specs.declared.file_totals.Totals.{Totals}
 use Rattle.meta_chunk.specs.Laid.{IsLaid, end_of_chunk}
-use Rattle.meta_chunk.specs.Files.{IsChainOf, end_of_chunks}
-use Rattle.meta_chunk.specs.Counts.{is_unread, totals_of}
+use Rattle.meta_chunk.specs.Files.{IsChainOf, end_of_chunks, is_unread, totals_of}
 use Rattle.meta_chunk.proofs.LaidChunks.{end_of_chunk_after}
 use Rattle.chunk_reader.specs.Reasons.{Applies, NoneOf, strict_reasons}
 use Rattle.chunk_reader.specs.Faults.{IsAllowed, IsVerdict, IsLongest, BeginsWithSignature, HasNoFault, IsFault}

@@ -4,8 +4,9 @@ use Rattle.std.specs.Prelude.{slice_range}
 use Rattle.std.proofs.lemmas.List.{take_at}
 use borrow.Rule.Slice.PartMut.{put_mid}
 use Rattle.record_io.proofs.Readings.{take-put_behind}
-use Rattle.chunk_reader.specs.Places.{HasOwnBytes}
-use Rattle.block_layout.specs.Layout.{IsNextPlace, usable_from, end_of, own_bytes_at}
+use Rattle.chunk_reader.specs.PlaceChecks.{HasOwnBytes}
+use Rattle.block_layout.specs.Layout.{end_of, own_bytes_at}
+use Rattle.block_layout.specs.NextPlaces.{IsNextPlace, usable_from}
 use Rattle.block_layout.proofs.Ends.{end_of_after, end_of-more}
 use Rattle.block_layout.proofs.Runs.{end_of-run, end_of-rest}
 use Rattle.block_layout.proofs.UsableBytes.{own_bytes_at-run, own_bytes_at-more}

@@ -1,11 +1,13 @@
 -- Passes over the blocks of a file that lie within a chunk.
 use Rattle.std.proofs.Common.{◌≡◌, ◌∙◌, ℕ, ◌+◌, ◌-◌, ◌*◌, ◌%◌, ◌^◌, ◌<◌, ◌≤◌, Option, Some, None, IfSome, IsSomeAnd, List, inl, inr, sym, ap, subst, arith}
 use Rattle.std.proofs.lemmas.Bool.{cases_lt}
-use Rattle.block_layout.specs.Layout.{IsBlock, IsOnBoundary, blocks_below, usable_from, end_of}
+use Rattle.block_layout.specs.Layout.{IsBlock, blocks_below, end_of}
+use Rattle.block_layout.specs.NextPlaces.{IsOnBoundary, usable_from}
 use Rattle.block_layout.proofs.Ends.{end_of-some, end_of-more, end_of_room}
 use Rattle.chunk_reader.proofs.Rooms.{end_of-le}
 use Rattle.chunk_reader.specs.BlockJudges.{EachBlock, StopsAtBlock, StopsAtBlockInChunk, JudgesUpTo}
-use Rattle.chunk_reader.specs.Places.{HasOwnBytes, HasHeaderOf, IsFirstWrong}
+use Rattle.chunk_reader.specs.Places.{HasHeaderOf}
+use Rattle.chunk_reader.specs.PlaceChecks.{HasOwnBytes, IsFirstWrong}
 
 -- where no block lies each is accepted
 pub accepted-none : (bytes : Option (List ℕ)) (A : List ℕ → ℕ → Type 0) (from to : ℕ) → blocks_below to ≤ blocks_below from

@@ -8,8 +8,10 @@ use Rattle.chunk_header.specs.declared.Chunk.{Chunk}
 use Rattle.chunk_header.specs.Views.{IsHeader, HasRightHash, bytes_of_header, value_of_header, value_of_chunk}
 use Rattle.chunk_reader.specs.Contents.{IsJudgedIn}
 use Rattle.chunk_reader.specs.Faults.{IsVerdict}
-use Rattle.chunk_reader.specs.Places.{header_bytes_at, end_by, end_at, data_at, HaveHeadersOf, IsFirstWrong}
-use Rattle.chunk_reader.specs.Reasons.{Applies, ContentApplies, NoneOf, IsFirstOf, IsOneOf, unpassed_reasons, loading_reasons, content_reasons}
+use Rattle.chunk_reader.specs.Places.{header_bytes_at, end_by, end_at, data_at}
+use Rattle.chunk_reader.specs.PlaceChecks.{HaveHeadersOf, IsFirstWrong}
+use Rattle.chunk_reader.specs.Reasons.{Applies, ContentApplies, NoneOf, IsFirstOf, unpassed_reasons, loading_reasons, content_reasons}
+use Rattle.chunk_reader.specs.Ends.{IsOneOf}
 use Rattle.chunk_reader.specs.declared.judging.Judged.{Judged}
 use Rattle.chunk_reader.specs.declared.reasons.Fault.{Fault}
 use Rattle.chunk_reader.specs.declared.reasons.Why.{Why}

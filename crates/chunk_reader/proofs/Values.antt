@@ -17,9 +17,8 @@ use Rattle.meta_chunk.proofs.Chains.{IsChainOf-push}
 use Rattle.meta_chunk.specs.Laid.{IsLaid, laid_bytes}
 use Rattle.chunk_reader.specs.Places.{header_bytes_at, header_at, end_by, end_at, chunk_at}
 use Rattle.chunk_reader.specs.Reasons.{HasBadContents, ContentApplies, IsWrongBlock, Applies, NoneOf, IsFirstOf, content_reasons, unpassed_reasons}
-use Rattle.chunk_reader.specs.Blocks.{TellsBegin}
+use Rattle.chunk_reader.specs.Holders.{TellsBegin, ArePlacesBetween, IsOnWay, IsHolder, IsHolderFault}
 use Rattle.chunk_reader.specs.Pieces.{TellsUnread}
-use Rattle.chunk_reader.specs.Holders.{ArePlacesBetween, IsOnWay, IsHolder, IsHolderFault}
 use Rattle.chunk_reader.specs.Searches.{MayAnswerAt, AnswersAt, HasRecordsAt, SearchGives, IsSearchFault}
 use Rattle.chunk_reader.specs.SearchBounds.{length_of_chunk, chunks_without_records, greatest_length_from, digit_count_of_blocks, position_bound, key_bound}
 use Rattle.chunk_reader.specs.Faults.{BeginsWithSignature, HasNoFault, IsFault}

@@ -9,13 +9,13 @@ use Rattle.chunk_header.specs.Chunks.{ChunkValue, HeaderValue, IsChunk}
 use Rattle.chunk_header.specs.SimpleChunks.{IsCompressed}
 use Rattle.chunk_header.specs.declared.Header.{Header}
 use Rattle.chunk_header.specs.Views.{IsHeader, bytes_of_header, value_of_header, value_of}
-use Rattle.meta_chunk.specs.Files.{IsPlain, IsUnread, IsTransposed}
+use Rattle.meta_chunk.specs.Files.{IsPlain, IsUnread, IsTransposed, is_unread}
 use Rattle.meta_chunk.specs.Laid.{IsLaid}
-use Rattle.meta_chunk.specs.Counts.{is_unread}
 use Rattle.meta_chunk.proofs.OneChunk.{same_chunk}
 use Rattle.meta_chunk.proofs.Held.{plain_or_unread}
 use Rattle.meta_chunk.proofs.Totals.{is_unread-iff}
-use Rattle.chunk_reader.specs.Places.{header_bytes_at, header_at, end_by, end_at, data_at, chunk_at, HaveHeadersOf, IsFirstWrong}
+use Rattle.chunk_reader.specs.Places.{header_bytes_at, header_at, end_by, end_at, data_at, chunk_at}
+use Rattle.chunk_reader.specs.PlaceChecks.{HaveHeadersOf, IsFirstWrong}
 use Rattle.chunk_reader.specs.Reasons.{ContentApplies, IsWrongBlock, Applies, NoneOf, IsFirstOf, loading_reasons, content_reasons, strict_reasons}
 use Rattle.chunk_reader.specs.Faults.{IsVerdict, IsPlaceOf}
 use Rattle.chunk_reader.specs.declared.reasons.Why.{Why}

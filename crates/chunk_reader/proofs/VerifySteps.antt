@@ -9,7 +9,7 @@ use Rattle.block_layout.proofs.Ends.{end_of_after, end_of_room}
 use Rattle.chunk_header.specs.Chunks.{ChunkValue}
 use Rattle.chunk_header.specs.declared.Header.{Header}
 use Rattle.chunk_header.specs.Views.{IsHeader, bytes_of_header, value_of_header, value_of}
-use Rattle.meta_chunk.specs.Files.{IsPlain, IsUnread}
+use Rattle.meta_chunk.specs.Files.{IsPlain, IsUnread, is_unread, totals_of}
 use Rattle.chunk_reader.specs.Reasons.{HasBadContents, Applies, NoneOf, IsFirstOf, loading_reasons}
 use Rattle.chunk_reader.specs.Faults.{IsVerdict, BeginsWithSignature}
 use Rattle.chunk_reader.specs.Pieces.{HasTaken, TellsUnread, IsVerifiedIn}
@@ -19,9 +19,9 @@ use Rattle.chunk_reader.proofs.AllowedChunks.{allowed_good, allowed_named}
 use Rattle.chunk_reader.specs.declared.verifying.Verified.{Verified}
 use Rattle.chunk_reader.specs.declared.reasons.Why.{Why}
 use Rattle.chunk_reader.specs.declared.reasons.Fault.{Fault}
-use Rattle.meta_chunk.specs.Counts.{is_unread, totals_of}
 use Rattle.record_values.specs.declared.file_totals.Totals.{Totals}
-use Rattle.chunk_reader.specs.Places.{header_bytes_at, end_by, end_at, data_at, chunk_at, HaveHeadersOf, IsFirstWrong}
+use Rattle.chunk_reader.specs.Places.{header_bytes_at, end_by, end_at, data_at, chunk_at}
+use Rattle.chunk_reader.specs.PlaceChecks.{HaveHeadersOf, IsFirstWrong}
 use Rattle.chunk_reader.proofs.PassedChunks.{length-data_at, IsLaid-right}
 use Rattle.chunk_reader.proofs.Loads.{header_within, IsOnBoundary-of}
 use Rattle.chunk_reader.proofs.ReadingSteps.{next_read, next-le, unread-le}

@@ -1,4 +1,4 @@
--- What is made of the headers of the blocks within a chunk while its data is read. Own.
+-- Inside. What is made of the headers of the blocks within a chunk while its data is read. Own.
 use Rattle.std.specs.Prelude.{ℕ, ◌+◌, ◌-◌, ◌*◌, ◌<◌, ◌≤◌, List, [], max}
 use Rattle.block_layout.specs.Layout.{block_header_size, chunk_header_size, IsBlock, blocks_below, end_of}
 

@@ -1,4 +1,4 @@
--- What strict reading makes of chunks that are well formed. Own.
+-- Inside. What strict reading makes of chunks that are well formed. Own.
 use Rattle.std.specs.Prelude.{◌≡◌, ℕ, ◌<◌, ◌≤◌, ◌⊎◌, Bool, true, List, [], length, slice_range}
 use Rattle.block_layout.specs.Layout.{IsBoundary}
 use Rattle.chunk_header.specs.Chunks.{ChunkValue, IsChunk}

@@ -1,5 +1,7 @@
--- The fault of a file: the longest front of well-formed chunks, and why no further chunk follows. Own.
-use Rattle.std.specs.Prelude.{◌≡◌, ℕ, ◌<◌, ◌≤◌, Bool, true, false, ◌⊎◌, List, length, take}
+-- Promise. The fault of a file: the longest front of well-formed chunks, and why no further chunk follows; and which of
+-- several files is the first with one. Own.
+use Rattle.std.specs.Prelude.{◌≡◌, ℕ, ◌<◌, ◌≤◌, Bool, true, false, ◌⊎◌, Some, List, length, slice_get, take}
+use Rattle.std.specs.List.{AllByRecursion}
 use Rattle.chunk_header.specs.Chunks.{ChunkValue}
 use Rattle.meta_chunk.specs.Files.{signature_bytes, IsPlain, IsFramed, IsChainOf, IsFileOf}
 use Rattle.chunk_reader.specs.Reasons.{IsWrongBlock, Applies, IsFirstOf, strict_reasons}
@@ -43,3 +45,14 @@ IsFault keep file fault =
     ((¬ BeginsWithSignature file) × (fault ≡ record { at = 0; why = why.NoSignature }))
     ⊎ (BeginsWithSignature file × ((ks : List ChunkValue) × (place : ℕ) × IsLongest (IsAllowed keep) ks file place
     × (place < length file) × IsVerdict keep file place fault))
+
+-- none of the files has a fault, with compressed and transposed chunks refused or, to keep, left unread
+abbrev pub HaveNoFault : Bool → List (List ℕ) → Type 0
+HaveNoFault keep files = AllByRecursion (HasNoFault keep) files
+
+-- of the files that have a fault this is the first, by its number from 0, and this is its fault
+pub record IsFirstFault (keep : Bool) (files : List (List ℕ)) (index : ℕ) (fault : Fault) : Type 0 where
+  pub before : HaveNoFault keep (take index files)
+  pub file : List ℕ
+  pub there : slice_get files index ≡ Some file
+  pub is_fault : IsFault keep file fault

@@ -1,8 +1,7 @@
--- How far a file is well formed. Own.
+-- Inside. How far a file is well formed. Own.
 use Rattle.std.specs.Prelude.{◌≡◌, ℕ, true, MatchOption, List}
 use Rattle.chunk_header.specs.Chunks.{ChunkValue}
-use Rattle.meta_chunk.specs.Counts.{totals_of}
-use Rattle.meta_chunk.specs.Files.{IsFrame}
+use Rattle.meta_chunk.specs.Files.{totals_of, IsFrame}
 use Rattle.chunk_reader.specs.Faults.{IsAllowed, IsFault, IsLongest}
 use Rattle.chunk_reader.specs.declared.verifying.Front.{Front}
 

@@ -1,4 +1,4 @@
--- What stands at a place of a file where a chunk may begin. Own.
+-- Inside. What stands at a place of a file where a chunk may begin. Own.
 use Rattle.std.specs.Prelude.{◌≡◌, ℕ, List}
 use Rattle.chunk_header.specs.Views.{bytes_of_header}
 use Rattle.chunk_reader.specs.Places.{header_bytes_at}

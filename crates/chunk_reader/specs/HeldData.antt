@@ -1,4 +1,4 @@
--- The data of a chunk that is held while it comes. Own.
+-- Inside. The data of a chunk that is held while it comes. Own.
 use Rattle.std.specs.Prelude.{ℕ, List}
 use Rattle.chunk_header.specs.declared.Header.{Header}
 

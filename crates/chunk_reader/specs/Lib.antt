@@ -1,8 +1,8 @@
 pub mod Places
+pub mod PlaceChecks
 pub mod Sizes
 pub mod BlockJudges
 pub mod Reasons
-pub mod Blocks
 pub mod Faults
 pub mod Fronts
 pub mod Heads
@@ -10,11 +10,10 @@ pub mod HeldData
 pub mod Contents
 pub mod Progress
 pub mod Readers
-pub mod ReadBounds
 pub mod Ends
 pub mod Pieces
 pub mod Names
 pub mod Holders
 pub mod Searches
 pub mod SearchBounds
-pub mod ManyFiles
+pub mod HolderBounds

@@ -1,4 +1,4 @@
--- What the reasons are called. Own.
+-- Promise. What the reasons are called. Own.
 use Rattle.std.specs.Prelude.{ℕ, List}
 use lib.Chars.{codes}
 use Rattle.chunk_reader.specs.declared.reasons.Why.{Why}

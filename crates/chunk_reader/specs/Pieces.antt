@@ -1,4 +1,4 @@
--- What is judged of the data of a chunk that comes in pieces. Own.
+-- Inside. What is judged of the data of a chunk that comes in pieces. Own.
 use Rattle.std.specs.Prelude.{◌≡◌, ◌≢◌, ℕ, Bool, true, Result, Ok, Err, List, MatchOption, IfSome, slice_range}
 use Rattle.highway_hash.specs.Riegeli.{riegeli_key}
 use Rattle.highway_hash.specs.Hashers.{hasher_of}
@@ -6,7 +6,7 @@ use Rattle.record_values.specs.Bytes.{AreBytes}
 use Rattle.chunk_header.specs.Chunks.{ChunkValue}
 use Rattle.chunk_header.specs.SimpleChunks.{simple_kind}
 use Rattle.simple_chunk.specs.Checkers.{HasChecked}
-use Rattle.meta_chunk.specs.Counts.{is_unread}
+use Rattle.meta_chunk.specs.Files.{is_unread}
 use Rattle.meta_chunk.specs.Laid.{IsLaid}
 use Rattle.chunk_reader.specs.Places.{end_at, chunk_at}
 use Rattle.chunk_reader.specs.Reasons.{ContentApplies, Applies, NoneOf, IsFirstOf, content_reasons, strict_reasons}

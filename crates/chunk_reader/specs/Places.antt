@@ -1,6 +1,7 @@
--- What stands at a place of a file. Source: the Riegeli/records file format specification, "Chunk" and "Chunk header".
-use Rattle.std.specs.Prelude.{◌≡◌, ℕ, ◌+◌, ◌-◌, ◌^◌, ◌<◌, ◌≤◌, Option, IsSomeAnd, List, drop, slice_range}
-use Rattle.block_layout.specs.Layout.{block_header_size, chunk_header_size, IsBlock, own_bytes_at, end_of, chunk_end_of}
+-- Promise. What stands at a place of a file. Source: the Riegeli/records file format specification, "Chunk" and "Chunk
+-- header".
+use Rattle.std.specs.Prelude.{◌≡◌, ℕ, ◌+◌, ◌-◌, List, drop, slice_range}
+use Rattle.block_layout.specs.Layout.{block_header_size, chunk_header_size, own_bytes_at, chunk_end_of}
 use Rattle.block_layout.specs.BlockHeaders.{block_header}
 use Rattle.chunk_header.specs.Chunks.{ChunkValue, HeaderValue, header_in}
 
@@ -33,24 +34,7 @@ chunk_at file place = record {
   «data» = data_at file place (header_at file place).data_size;
 }
 
--- a size was told up to which so many own bytes from a place have room, within the limit of files
-abbrev pub HasOwnBytes : Option ℕ → ℕ → ℕ → Type 0
-HasOwnBytes told place count = IsSomeAnd told (λ size. (end_of place count ≤ 2 ^ 60) × (end_of place count ≤ size))
-
 -- a block's header is the one that it has in a chunk from a begin to an end
 abbrev pub HasHeaderOf : List ℕ → ℕ → ℕ → ℕ → Type 0
 HasHeaderOf file begin end block =
     slice_range file block (block + block_header_size) ≡ block_header (block - begin) (end - block)
-
--- so has each block from a place up to another
-abbrev pub HaveHeadersOf : List ℕ → ℕ → ℕ → ℕ → ℕ → Type 0
-HaveHeadersOf file begin end from to =
-    (block : ℕ) → IsBlock block → from ≤ block → block < to → HasHeaderOf file begin end block
-
--- of the blocks from a place up to another, this is the first that has another header
-pub record IsFirstWrong (file : List ℕ) (begin end from to block : ℕ) : Type 0 where
-  pub is_block : IsBlock block
-  pub from_place : from ≤ block
-  pub below : block < to
-  pub differs : ¬ HasHeaderOf file begin end block
-  pub first : HaveHeadersOf file begin end from block

@@ -1,10 +1,9 @@
--- How far a file was read. Own.
+-- Inside. How far a file was read. Own.
 use Rattle.std.specs.Prelude.{◌≡◌, ℕ, ◌+◌, ◌<◌, ◌≤◌, Bool, List, if◌then◌else◌}
 use Rattle.record_values.specs.declared.file_totals.Totals.{Totals}
-use Rattle.block_layout.specs.Layout.{IsOnBoundary}
+use Rattle.block_layout.specs.NextPlaces.{IsOnBoundary}
 use Rattle.chunk_header.specs.Chunks.{ChunkValue}
-use Rattle.meta_chunk.specs.Counts.{totals_of}
-use Rattle.meta_chunk.specs.Files.{IsChainOf}
+use Rattle.meta_chunk.specs.Files.{totals_of, IsChainOf}
 use Rattle.chunk_reader.specs.Faults.{IsAllowed}
 
 -- a reader of a file of so many bytes, and the totals of the chunks that it gave

@@ -1,10 +1,9 @@
--- What a call of a reader finds in a file. Own.
+-- Inside. What a call of a reader finds in a file. Own.
 use Rattle.std.specs.Prelude.{◌≡◌, ℕ, ◌+◌, ◌^◌, ◌≤◌, Option, Some, Result, Ok, IfSome, List, [], ◌∷◌, ◌++◌}
 use Rattle.block_layout.specs.Layout.{IsBoundary}
 use Rattle.chunk_header.specs.Chunks.{ChunkValue}
 use Rattle.chunk_header.specs.Views.{value_of_chunk}
-use Rattle.meta_chunk.specs.Counts.{totals_of}
-use Rattle.meta_chunk.specs.Files.{IsChainOf, IsFileOf}
+use Rattle.meta_chunk.specs.Files.{totals_of, IsChainOf, IsFileOf}
 use Rattle.chunk_reader.specs.Contents.{IsJudged}
 use Rattle.chunk_reader.specs.Faults.{BeginsWithSignature, IsAllowed, IsFault}
 use Rattle.chunk_reader.specs.Progress.{ReaderValue, AreInBounds, AreReadFrom}

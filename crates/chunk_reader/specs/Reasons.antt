@@ -1,4 +1,4 @@
--- Why a chunk at a place of a file is refused. Own: the reasons and their order.
+-- Promise. Why a chunk at a place of a file is refused. Own: the reasons and their order.
 use Rattle.std.specs.Prelude.{◌≡◌, ◌≢◌, ℕ, ◌<◌, ◌≤◌, Bool, true, false, ◌⊎◌, Some, List, [], ◌∷◌, length, slice_get}
 use Rattle.std.specs.List.{AllByRecursion}
 use Rattle.highway_hash.specs.Riegeli.{riegeli_hash}
@@ -50,11 +50,6 @@ NoneOf P reasons = AllByRecursion (λ w. ¬ P w) reasons
 abbrev pub IsFirstOf : (Why → Type 0) → List Why → Why → Type 0
 IsFirstOf P [] first = ⊥
 IsFirstOf P (w ∷ reasons) first = (P w × (first ≡ w)) ⊎ ((¬ P w) × IsFirstOf P reasons first)
-
--- it is one of the reasons
-abbrev pub IsOneOf : List Why → Why → Type 0
-IsOneOf [] w = ⊥
-IsOneOf (known ∷ reasons) w = (w ≡ known) ⊎ IsOneOf reasons w
 
 -- the reasons by which a chunk's header can't be read
 abbrev pub header_reasons : List Why

@@ -1,10 +1,12 @@
--- What a search takes of a file of chunks at most. Own.
-use Rattle.std.specs.Prelude.{ℕ, ◌+◌, ◌-◌, ◌*◌, ◌==◌, max, List, [], ◌∷◌, length, count_by}
+-- Promise. What a search takes of a file of chunks at most, and how far a file may have been read. Own.
+use Rattle.std.specs.Prelude.{ℕ, ◌+◌, ◌-◌, ◌*◌, ◌≤◌, ◌⊎◌, ◌==◌, max, List, [], ◌∷◌, length, count_by}
 use Rattle.std.specs.Int.Digits.{digits_of}
-use Rattle.block_layout.specs.Layout.{block_size, block_header_size, chunk_header_size, blocks_below}
+use Rattle.block_layout.specs.Layout.{blocks_below}
 use Rattle.chunk_header.specs.Chunks.{ChunkValue}
 use Rattle.meta_chunk.specs.Files.{begin_of}
 use Rattle.meta_chunk.specs.Laid.{end_of_chunk}
+use Rattle.chunk_reader.specs.Places.{end_at}
+use Rattle.chunk_reader.specs.Reasons.{Applies, NoneOf, unpassed_reasons}
 
 -- how many bytes the chunk of this number takes, and none past the last one
 abbrev pub length_of_chunk : List ChunkValue → ℕ → ℕ
@@ -27,10 +29,6 @@ greatest_length_from place (k ∷ ks) = max (end_of_chunk place k - place) (grea
 abbrev pub digit_count_of_blocks : ℕ → ℕ
 digit_count_of_blocks size = length (digits_of 2 (blocks_below size))
 
--- to find the chunk that holds a position: the header of a block, and those of the chunks that begin up to the next block
-abbrev pub holder_bound : ℕ
-holder_bound = block_header_size + 2 * chunk_header_size + block_size
-
 -- for a position: by the number of the chunk that holds it, and of the one that answers, or of all chunks where none does
 abbrev pub position_bound : List ChunkValue → (holder answering : ℕ) → ℕ
 position_bound ks holder answering = 104984 + 64 * chunks_between holder answering + length_of_chunk ks answering
@@ -39,3 +37,8 @@ position_bound ks holder answering = 104984 + 64 * chunks_between holder answeri
 abbrev pub key_bound : List ChunkValue → ℕ
 key_bound ks =
     (digit_count_of_blocks (begin_of ks (length ks)) + 2) * (200000 + 64 * chunks_without_records ks + 2 * greatest_length_from 0 ks)
+
+-- where all before a place was read, it may be read up to here: past a chunk header there and the header of a block within it, or
+-- where the file has a whole chunk there, to its end
+abbrev pub MayBeReadTo : List ℕ → (place to : ℕ) → Type 0
+MayBeReadTo file place to = (to ≤ place + 64) ⊎ (NoneOf (Applies file place) unpassed_reasons × (to ≤ end_at file place))

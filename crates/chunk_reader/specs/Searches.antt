@@ -1,4 +1,4 @@
--- What a search by position finds in a file. Own.
+-- Promise. What a search by position finds in a file. Own.
 use Rattle.std.specs.Prelude.{◌≡◌, ℕ, ◌+◌, ◌-◌, ◌<◌, ◌≤◌, ◌⊎◌, false, Option, Some, None, List, length, slice_get}
 use Rattle.std.specs.List.{AllByRecursion}
 use Rattle.chunk_header.specs.SimpleChunks.{IsSimple}

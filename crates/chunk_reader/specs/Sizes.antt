@@ -1,4 +1,4 @@
--- What is known of a file's size, and of a chunk's place in it, before it is read. Own.
+-- Inside. What is known of a file's size, and of a chunk's place in it, before it is read. Own.
 use Rattle.std.specs.Prelude.{◌≡◌, ℕ, ◌^◌, ◌<◌, ◌≤◌, Option, Some, IsSomeAnd}
 use Rattle.block_layout.specs.Layout.{IsBoundary}
 use Rattle.chunk_header.specs.Chunks.{HeaderValue}

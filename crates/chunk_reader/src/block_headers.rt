@@ -2,7 +2,7 @@ ghost use Rattle.std.specs.Prelude.{◌+◌, ◌<◌, ◌≤◌, IfOk, IfSome, I
 ghost use Rattle.record_io.specs.Calls.{OnlyAsks};
 ghost use Rattle.block_layout.specs.Layout.{IsBlock, block_header_size};
 ghost use Rattle.block_layout.specs.BlockHeaders.{IsSane};
-ghost use Rattle.chunk_reader.specs.Blocks.{IsSaneHeaderAt};
+ghost use Rattle.chunk_reader.specs.Holders.{IsSaneHeaderAt};
 ghost use Rattle.chunk_reader.specs.Sizes.{HasSize};
 
 use block_layout::{BLOCK_HEADER_SIZE, BlockHeader};

@@ -92,7 +92,7 @@ pub(crate) struct ExactHeaders {
 
 impl JudgesBlocks for ExactHeaders {
     ghost use Rattle.std.specs.Prelude.{◌≡◌, ◌≤◌, ⊤, IsSomeAnd};
-    ghost use Rattle.block_layout.specs.Layout.{IsOnBoundary};
+    ghost use Rattle.block_layout.specs.NextPlaces.{IsOnBoundary};
     ghost use Rattle.chunk_reader.specs.Places.{HasHeaderOf};
 
     ghost fits = { λ j told. IsSomeAnd told (λ size. j.end ≤ size) × IsOnBoundary j.end };

@@ -1,5 +1,5 @@
 ghost use Rattle.std.specs.Prelude.{◌≡◌, ◌↔◌, false, IsTrue, IfOk, OnOk, OnErr};
-ghost use Rattle.meta_chunk.specs.Kinds.{HeaderKeepsRule};
+ghost use Rattle.meta_chunk.specs.KindViews.{HeaderKeepsRule};
 ghost use Rattle.chunk_header.specs.Views.{HasRightHash, value_of_chunk};
 ghost use Rattle.chunk_reader.specs.Contents.{IsContent};
 ghost use Rattle.chunk_reader.specs.Reasons.{ContentApplies, NoneOf, IsFirstOf, content_reasons};

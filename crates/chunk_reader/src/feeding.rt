@@ -4,7 +4,8 @@ ghost use Rattle.block_layout.specs.Layout.{chunk_header_size, end_of, own_bytes
 ghost use Rattle.chunk_header.specs.Views.{value_of_header};
 ghost use Rattle.chunk_header.specs.declared.Header.{Header};
 ghost use Rattle.chunk_reader.specs.BlockJudges.{MayJudge, EachBlock, StopsAtBlock, StopsAtBlockInChunk, IsUnfed};
-ghost use Rattle.chunk_reader.specs.Places.{data_at, HasOwnBytes, HaveHeadersOf, IsFirstWrong};
+ghost use Rattle.chunk_reader.specs.Places.{data_at};
+ghost use Rattle.chunk_reader.specs.PlaceChecks.{HasOwnBytes, HaveHeadersOf, IsFirstWrong};
 ghost use Rattle.chunk_reader.specs.Sizes.{HasSpan};
 ghost use Rattle.chunk_reader.specs.declared.reasons.Fault.{Fault};
 ghost use Rattle.chunk_reader.specs.declared.reasons.Why.{Why};

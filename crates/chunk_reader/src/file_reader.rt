@@ -4,7 +4,7 @@ ghost use Rattle.chunk_reader.specs.Contents.{IsJudged, IsJudgedIn};
 ghost use Rattle.chunk_reader.specs.Faults.{BeginsWithSignature};
 ghost use Rattle.chunk_reader.specs.Progress.{AreReadFrom};
 ghost use Rattle.chunk_reader.specs.Readers.{ReadsIn, ReadsOn, IsNextChunk, IsReadWhole, IsFaultBehind, IsChunkAtHand, ReadsAtMost};
-ghost use Rattle.chunk_reader.specs.ReadBounds.{MayBeReadTo};
+ghost use Rattle.chunk_reader.specs.SearchBounds.{MayBeReadTo};
 ghost use Rattle.chunk_reader.specs.declared.reasons.Fault.{Fault};
 ghost use Rattle.chunk_reader.specs.declared.reasons.Why.{Why};
 ghost use Rattle.chunk_reader.specs.declared.judging.Judged.{Judged};

@@ -6,8 +6,10 @@ ghost use Rattle.chunk_header.specs.Views.{IsHeader, HasRightHash, bytes_of_head
 ghost use Rattle.meta_chunk.specs.Files.{max_data_size};
 ghost use Rattle.chunk_reader.specs.Contents.{IsWhat, IsJudged, IsJudgedIn};
 ghost use Rattle.chunk_reader.specs.Faults.{IsVerdict};
-ghost use Rattle.chunk_reader.specs.Places.{header_bytes_at, end_by, end_at, data_at, HaveHeadersOf, IsFirstWrong};
-ghost use Rattle.chunk_reader.specs.Reasons.{Applies, ContentApplies, NoneOf, IsFirstOf, IsOneOf, unpassed_reasons, loading_reasons, content_reasons};
+ghost use Rattle.chunk_reader.specs.Places.{header_bytes_at, end_by, end_at, data_at};
+ghost use Rattle.chunk_reader.specs.PlaceChecks.{HaveHeadersOf, IsFirstWrong};
+ghost use Rattle.chunk_reader.specs.Reasons.{Applies, ContentApplies, NoneOf, IsFirstOf, unpassed_reasons, loading_reasons, content_reasons};
+ghost use Rattle.chunk_reader.specs.Ends.{IsOneOf};
 ghost use Rattle.chunk_reader.specs.Sizes.{MayBeginAt, HasSpan};
 ghost use Rattle.chunk_reader.specs.declared.reasons.Fault.{Fault};
 ghost use Rattle.chunk_reader.specs.declared.reasons.Why.{Why};

@@ -1,7 +1,8 @@
 ghost use Rattle.std.specs.Prelude.{◌≡◌, ◌+◌, ◌^◌, ◌<◌, ◌≤◌, length, take, IfOk, IfSome, OnOk, OnErr, IsErr};
 ghost use Rattle.record_io.specs.Calls.{OnlyAsks};
-ghost use Rattle.chunk_reader.specs.Places.{HasOwnBytes};
-ghost use Rattle.block_layout.specs.Layout.{chunk_header_size, IsBoundary, IsNextPlace, block_of, block_size, usable_from, end_of, own_bytes_at};
+ghost use Rattle.chunk_reader.specs.PlaceChecks.{HasOwnBytes};
+ghost use Rattle.block_layout.specs.Layout.{chunk_header_size, IsBoundary, block_of, block_size, end_of, own_bytes_at};
+ghost use Rattle.block_layout.specs.NextPlaces.{IsNextPlace, usable_from};
 
 use block_layout::{BLOCK_HEADER_SIZE, BLOCK_SIZE, CHUNK_HEADER_SIZE, end_of};
 use record_io::{Failed, Store, get_exact};

@@ -2,8 +2,7 @@ ghost use Rattle.std.specs.Prelude.{◌≡◌, ◌+◌, ◌≤◌, ◌⊎◌, Li
 ghost use Rattle.record_io.specs.Calls.{OnlyAsks};
 ghost use Rattle.block_layout.specs.Layout.{chunk_header_size, IsBoundary, end_of};
 ghost use Rattle.chunk_header.specs.Chunks.{ChunkValue};
-ghost use Rattle.meta_chunk.specs.Counts.{totals_of};
-ghost use Rattle.meta_chunk.specs.Files.{IsFrame};
+ghost use Rattle.meta_chunk.specs.Files.{totals_of, IsFrame};
 ghost use Rattle.chunk_reader.specs.Pieces.{IsVerifiedIn};
 ghost use Rattle.chunk_reader.specs.Faults.{IsFault, IsVerdict};
 ghost use Rattle.chunk_reader.specs.Fronts.{IsFrontOf};

@@ -1,4 +1,4 @@
--- What contracts see of draws and of their seats. Own.
+-- Inside. What contracts see of draws and of their seats. Own.
 use Rattle.std.specs.Prelude.{◌≡◌, ℕ, ◌<◌, nat_lt, if◌then◌else◌, Option, Some, None, List, map}
 use Rattle.std.specs.List.{AllByRecursion, flat_map}
 use Rattle.atomic_table.specs.Seated.{TableId}

@@ -1,4 +1,4 @@
--- Windows of groups whose chunks are coded in any order, each with the number of its group. Own.
+-- Inside. Windows of groups whose chunks are coded in any order, each with the number of its group. Own.
 use Rattle.std.specs.Prelude.{◌≡◌, ◌≢◌, ℕ, ◌==◌, if◌then◌else◌, Option, Some, None, List, [], ◌∷◌, All, length, map, slice_get}
 use Rattle.std.specs.List.{flat_map, range_with_len}
 use Rattle.std.specs.Option.{option_to_list}

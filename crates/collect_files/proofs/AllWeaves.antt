@@ -8,8 +8,7 @@ use Rattle.simple_chunk.specs.Costs.{cost_of}
 use Rattle.number_shares.specs.Once.{times}
 use Rattle.number_shares.proofs.Counting.{times-none}
 use Rattle.number_shares.proofs.Lists.{all_append, all_back, all_front}
-use Rattle.record_collect.specs.GatheredFiles.{AreGatheredOf, AreRecordsOfEach}
-use Rattle.record_collect.specs.Gatherings.{AreWoven, GatheredValue, IsInBounds, StandAt}
+use Rattle.record_collect.specs.Gatherings.{AreGatheredOf, AreRecordsOfEach, AreWoven, GatheredValue, IsInBounds, StandAt}
 use Rattle.record_collect.specs.Limits.{limit}
 use Rattle.record_collect.proofs.WholeGatherings.{fits}
 use Rattle.record_collect.proofs.WovenCosts.{woven-cost}

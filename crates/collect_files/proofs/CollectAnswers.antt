@@ -6,13 +6,11 @@ use Rattle.record_values.specs.Bytes.{AreBytes}
 use Rattle.chunk_header.specs.Chunks.{ChunkValue}
 use Rattle.meta_chunk.specs.Files.{AreRecordsOf, IsFile}
 use Rattle.meta_chunk.proofs.Held.{HoldEach-framed}
-use Rattle.chunk_reader.specs.Faults.{HasNoFault}
-use Rattle.chunk_reader.specs.ManyFiles.{HaveNoFault}
+use Rattle.chunk_reader.specs.Faults.{HasNoFault, HaveNoFault}
 use Rattle.chunk_reader.proofs.Frames.{frame_of_plain}
 use Rattle.chunk_reader.proofs.ManyFiles.{files_judged}
 use Rattle.simple_chunk.specs.Costs.{cost_of}
-use Rattle.record_collect.specs.GatheredFiles.{AreGatheredOf, AreRecordsOfEach, IsTooMuch}
-use Rattle.record_collect.specs.Gatherings.{GatheredValue}
+use Rattle.record_collect.specs.Gatherings.{AreGatheredOf, AreRecordsOfEach, IsTooMuch, GatheredValue}
 use Rattle.record_collect.specs.Limits.{limit}
 use Rattle.run_answers.specs.Answers.{Answer, noted}
 use Rattle.run_answers.specs.FileAnswers.{limit_text, most_file_bytes}

@@ -8,14 +8,15 @@ use Rattle.record_io.specs.Outside.{Rose, Takes}
 use Rattle.record_io.specs.Puts.{Made, Out, Notes, taken_by, puts_to}
 use Rattle.record_io.specs.Seen.{SeenStream, SeenFile, seen_file}
 use Rattle.record_io.proofs.Puts.{TakesFront-count, BreaksOff-last, BreaksOff-longer, bytes_to-other, puts_to-front}
-use Rattle.record_collect.specs.GatheredFiles.{AreGatheredOf}
-use Rattle.record_collect.specs.Gatherings.{GatheredValue}
+use Rattle.record_collect.specs.Gatherings.{AreGatheredOf, GatheredValue}
 use Rattle.run_answers.specs.declared.ending.Ending.{Ending}
 use Rattle.run_answers.specs.declared.status.Status.{Status}
 use Rattle.run_answers.specs.Answers.{Answer, noted}
 use Rattle.run_answers.specs.Endings.{IsAllowedEndOfMany, SaysEnd}
 use Rattle.run_answers.specs.FileAnswers.{limit_text}
-use Rattle.run_answers.specs.Runs.{seen, Breaks, Runs}
+use Rattle.run_answers.specs.Runs.{Runs}
+use Rattle.run_answers.specs.RunObjects.{seen}
+use Rattle.run_answers.specs.CutShortRuns.{Breaks}
 use Rattle.run_answers.proofs.FileEnds.{EndsWhole}
 use Rattle.run_answers.proofs.ManyFilesEnds.{MayEndBy, EndsBySizes, ReadsFiles, WentAtEnd, WentButNotes, WentToCut, reads_files, runs-files, went_none, went_noted, went_whole}
 use Rattle.run_answers.proofs.TwoStreams.{GoOut-both, GoOut-first, GoOut-neither, bytes_to-neither}

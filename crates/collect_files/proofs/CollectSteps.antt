@@ -5,11 +5,10 @@ use Rattle.std.specs.List.{list_any}
 use Rattle.std.proofs.lemmas.Bool.{lt-ltb, ltb-true}
 use Rattle.std.proofs.lemmas.List.Folds.{Any-from_list_any, list_any-from_Any}
 use Rattle.record_io.specs.Outside.{Takes, TakesShort}
-use Rattle.chunk_reader.specs.ManyFiles.{IsFirstFault}
+use Rattle.chunk_reader.specs.Faults.{IsFirstFault}
 use Rattle.chunk_reader.specs.declared.reasons.Fault.{Fault}
-use Rattle.record_collect.specs.GatheredFiles.{IsTooMuch}
+use Rattle.record_collect.specs.Gatherings.{IsTooMuch, GatheredValue}
 use Rattle.record_collect.specs.FilePlaces.{places_in_file}
-use Rattle.record_collect.specs.Gatherings.{GatheredValue}
 use Rattle.word_options.specs.Writing.{default_chunk_size}
 use Rattle.record_collect.specs.declared.gathering.GatherEnd.{GatherEnd}
 use Rattle.run_answers.specs.declared.ending.Ending.{Ending}

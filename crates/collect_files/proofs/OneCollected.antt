@@ -6,8 +6,7 @@ use Rattle.number_shares.proofs.Lists.{all_at}
 use Rattle.record_io.specs.Puts.{Made, Out, Notes, bytes_to}
 use Rattle.chunk_reader.specs.declared.reasons.Fault.{Fault}
 use Rattle.chunk_reader.proofs.ManyFiles.{first_is_one, first_or_none}
-use Rattle.record_collect.specs.GatheredFiles.{AreRecordsOfEach, IsTooMuch}
-use Rattle.record_collect.specs.Gatherings.{AreWoven, GatheredValue}
+use Rattle.record_collect.specs.Gatherings.{AreRecordsOfEach, IsTooMuch, AreWoven, GatheredValue}
 use Rattle.record_collect.proofs.WholeGatherings.{fits, none_of_each}
 use Rattle.run_answers.specs.Answers.{Answer, noted}
 use Rattle.run_answers.specs.FileAnswers.{most_file_bytes}

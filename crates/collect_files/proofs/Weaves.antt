@@ -11,8 +11,7 @@ use Rattle.simple_chunk.specs.Costs.{cost, cost_of}
 use Rattle.number_shares.specs.Once.{HasEachBelow, times}
 use Rattle.number_shares.proofs.Counting.{each_below_from_times, once_below, once_below-more, once_below-no, times-append, times-cons}
 use Rattle.number_shares.proofs.Lists.{all_append}
-use Rattle.record_collect.specs.GatheredFiles.{HasTooLong}
-use Rattle.record_collect.specs.Gatherings.{AreWoven, IsInBounds, StandAt}
+use Rattle.record_collect.specs.Gatherings.{HasTooLong, AreWoven, IsInBounds, StandAt}
 use Rattle.record_collect.specs.Limits.{limit}
 
 -- the records of lists, one list behind another, and the numbers of each from one on

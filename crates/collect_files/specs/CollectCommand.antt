@@ -1,15 +1,14 @@
--- What `collect` makes, prints, says and ends with. Own.
+-- Promise. What `collect` makes, prints, says and ends with. Own.
 use Rattle.std.specs.Prelude.{◌≡◌, ℕ, ◌<◌, ◌≤◌, ◌⊎◌, false, true, None, List, [], ◌∷◌, ◌++◌, decimal, length, map, slice_index, take}
 use Rattle.std.specs.List.{AllByRecursion, Any, enumerate_from, flat_map}
 use lib.Chars.{codes}
 use Rattle.record_io.specs.Puts.{Put, Made, Out, puts_to}
-use Rattle.chunk_reader.specs.ManyFiles.{IsFirstFault}
+use Rattle.chunk_reader.specs.Faults.{IsFirstFault}
 use Rattle.chunk_reader.specs.declared.reasons.Fault.{Fault}
 use Rattle.record_group.specs.Groups.{file_of}
 use Rattle.record_group.specs.declared.pad.Pad.TheVariants.{No}
 use Rattle.record_collect.specs.FilePlaces.{places_in_file}
-use Rattle.record_collect.specs.GatheredFiles.{AreGatheredOf, IsTooMuch}
-use Rattle.record_collect.specs.Gatherings.{GatheredValue}
+use Rattle.record_collect.specs.Gatherings.{AreGatheredOf, IsTooMuch, GatheredValue}
 use Rattle.word_options.specs.Writing.{default_chunk_size}
 use Rattle.run_answers.specs.Answers.{Answer, line, noted}
 use Rattle.run_answers.specs.FileAnswers.{limit_text, most_file_bytes}

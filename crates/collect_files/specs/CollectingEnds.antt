@@ -1,9 +1,9 @@
--- How the work of `collect` ends. Own.
+-- Inside. How the work of `collect` ends. Own.
 use Rattle.std.specs.Prelude.{◌≡◌, ℕ, ◌⊎◌, false, Option, Result, Ok, Err, List}
-use Rattle.record_io.specs.Outside.{Takes, TakesFront, TakesShort}
-use Rattle.chunk_reader.specs.ManyFiles.{IsFirstFault}
-use Rattle.record_collect.specs.GatheredFiles.{AreGatheredOf, IsTooMuch}
-use Rattle.record_collect.specs.Gatherings.{GatheredValue}
+use Rattle.record_io.specs.Outside.{Takes, TakesShort}
+use Rattle.record_io.specs.Calls.{TakesFront}
+use Rattle.chunk_reader.specs.Faults.{IsFirstFault}
+use Rattle.record_collect.specs.Gatherings.{AreGatheredOf, IsTooMuch, GatheredValue}
 use Rattle.record_collect.specs.declared.gathering.GatherEnd.{GatherEnd}
 use Rattle.record_collect.specs.declared.gathering.GatherEnd.TheVariants as gather
 use Rattle.run_answers.specs.Endings.{Endings}

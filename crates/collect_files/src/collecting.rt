@@ -3,7 +3,8 @@ ghost use Rattle.record_io.specs.Calls.{OnlyCounts};
 ghost use Rattle.record_io.specs.ManyStores.{AreOnlyAsked, AreTold, IfAllTell};
 ghost use Rattle.record_io.specs.Seen.{seen_file, seen_stream};
 ghost use Rattle.run_answers.specs.Endings.{IsAllowedEndOfMany};
-ghost use Rattle.run_answers.specs.Runs.{Runs, Seen};
+ghost use Rattle.run_answers.specs.Runs.{Runs};
+ghost use Rattle.run_answers.specs.RunObjects.{Seen};
 ghost use Rattle.collect_files.specs.CollectCommand.{AreEachInReach, IsOneTooLong, collect_meaning};
 ghost use Rattle.collect_files.specs.CollectingEnds.{TakeCollected, end_of_gather};
 

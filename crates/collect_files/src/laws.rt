@@ -2,8 +2,7 @@
 
 ghost use Rattle.std.specs.Prelude.{◌≡◌, ◌≢◌, List, ℕ};
 ghost use Rattle.record_io.specs.Puts.{Notes, bytes_to};
-ghost use Rattle.record_collect.specs.GatheredFiles.{AreRecordsOfEach};
-ghost use Rattle.record_collect.specs.Gatherings.{AreWoven, GatheredValue};
+ghost use Rattle.record_collect.specs.Gatherings.{AreRecordsOfEach, AreWoven, GatheredValue};
 ghost use Rattle.run_answers.specs.Answers.{Answer};
 ghost use Rattle.run_answers.specs.declared.status.Status.TheVariants as status;
 ghost use Rattle.collect_files.specs.CollectCommand.{AreCollectedIn, IsCollectAnswer, collected_answer};

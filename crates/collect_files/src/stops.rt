@@ -1,8 +1,7 @@
 ghost use Rattle.std.specs.Prelude.{◌≡◌};
 ghost use Rattle.record_io.specs.Calls.{OnlyCounts};
 ghost use Rattle.record_io.specs.Seen.{seen_stream};
-ghost use Rattle.run_answers.specs.Endings.{SaysEnd};
-ghost use Rattle.run_answers.specs.Runs.{SaysAtEnd};
+ghost use Rattle.run_answers.specs.Endings.{SaysEnd, SaysAtEnd};
 ghost use Rattle.collect_files.specs.CollectingEnds.{collecting_ends, uncollected_status, uncollected_text};
 
 use chunk_reader::Fault;

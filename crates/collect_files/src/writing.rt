@@ -1,7 +1,7 @@
 ghost use Rattle.std.specs.Prelude.{◌≡◌, ◌^◌, ◌≤◌, Err, OnOk, length};
 ghost use Rattle.std.specs.List.{AllByRecursion};
-ghost use Rattle.record_io.specs.Calls.{OnlyCounts};
-ghost use Rattle.record_io.specs.Outside.{Takes, TakesFront, TakesShort};
+ghost use Rattle.record_io.specs.Calls.{OnlyCounts, TakesFront};
+ghost use Rattle.record_io.specs.Outside.{Takes, TakesShort};
 ghost use Rattle.simple_chunk.specs.Costs.{cost_of};
 ghost use Rattle.record_collect.specs.Limits.{limit};
 ghost use Rattle.collect_files.specs.CollectCommand.{collected_file};

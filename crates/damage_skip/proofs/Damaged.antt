@@ -23,7 +23,8 @@ use Rattle.chunk_reader.proofs.ChainSteps.{each_at}
 use Rattle.chunk_reader.proofs.LaidAt.{header_of, header_at-laid, right_header-laid, end_at-laid, headers-laid}
 use Rattle.chunk_reader.proofs.NoReason.{not_short}
 use Rattle.damage_skip.specs.Resyncs.{StandsFrom, landing, IsResync, Contradicts}
-use Rattle.damage_skip.specs.Pieces.{PieceKind, Skipped, Piece, SkipsFor, walk_reasons, IsPieceOf, AreTiles, ArePieces}
+use Rattle.damage_skip.specs.Pieces.{PieceKind, Skipped, Piece, SkipsFor, walk_reasons, IsPieceOf, AreTiles}
+use Rattle.damage_skip.specs.FilePieces.{ArePieces}
 use Rattle.damage_skip.specs.Damage.{Intact, IsDamaged, IsIntactFrom, IsNext, DamageLeaves, DamageLeavesEach}
 use Rattle.damage_skip.proofs.OnePiece.{piece_one}
 use Rattle.damage_skip.proofs.Found.{agrees, end_in_reach}

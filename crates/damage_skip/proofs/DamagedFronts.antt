@@ -17,7 +17,7 @@ use Rattle.meta_chunk.proofs.Begins.{begin_of-next, begin_of-within, begin_of_ri
 use Rattle.chunk_reader.specs.Places.{header_bytes_at, data_at}
 use Rattle.chunk_reader.specs.declared.reasons.Why.TheVariants as why
 use Rattle.damage_skip.specs.Damage.{Intact, IsDamaged, IsIntactFrom, IsNext, DamageLeaves, DamageLeavesEach}
-use Rattle.damage_skip.specs.Fronts.{IsSettled}
+use Rattle.damage_skip.specs.FilePieces.{IsSettled}
 use Rattle.damage_skip.specs.Pieces.{PieceKind, Given, Kept, LeftOut, Skipped, Piece, IsFoundAs, AreTiles}
 use Rattle.damage_skip.proofs.Damaged.{left_front}
 use Rattle.damage_skip.proofs.LaterBytes.{own_in_front, tiles_kept}

@@ -23,7 +23,8 @@ use Rattle.chunk_reader.proofs.AllowedChunks.{allowed_small, IsAllowed-frame}
 use Rattle.chunk_reader.proofs.LaidAt.{chunk_at-laid, end_at-laid, headers-laid}
 use Rattle.chunk_reader.proofs.NoReason.{no_reason, none_is_first}
 use Rattle.damage_skip.specs.Resyncs.{Contradicts}
-use Rattle.damage_skip.specs.Pieces.{PieceKind, Piece, SkipsFor, walk_reasons, IsFoundAs, IsPieceOf, AreTiles, ArePieces, AreFound}
+use Rattle.damage_skip.specs.Pieces.{PieceKind, Piece, SkipsFor, walk_reasons, IsFoundAs, IsPieceOf, AreTiles}
+use Rattle.damage_skip.specs.FilePieces.{ArePieces, AreFound}
 use Rattle.damage_skip.proofs.OnePiece.{piece_cases}
 
 -- an end isn't far from the bytes before it

@@ -9,7 +9,8 @@ use Rattle.meta_chunk.specs.Laid.{end_of_chunk}
 use Rattle.meta_chunk.specs.Files.{IsFileOf, Holds, HoldEach, AreRecordsOf, end_of_chunks, begin_of, placed_from, ArePlaced}
 use Rattle.chunk_reader.specs.Faults.{IsAllowed}
 use Rattle.chunk_reader.specs.declared.reasons.Why.{Why}
-use Rattle.damage_skip.specs.Pieces.{PieceKind, Given, Kept, LeftOut, Skipped, Piece, IsFoundAs, is_event, events_in, AreEvents, records_of, records_in, placed_in, AreFound}
+use Rattle.damage_skip.specs.Pieces.{PieceKind, Given, Kept, LeftOut, Skipped, Piece, IsFoundAs, is_event, events_in, AreEvents, records_of, records_in}
+use Rattle.damage_skip.specs.FilePieces.{placed_in, AreFound}
 use Rattle.damage_skip.proofs.OnePiece.{given_or_kept, given_or_left_out}
 use Rattle.damage_skip.proofs.Found.{pieces_found}
 

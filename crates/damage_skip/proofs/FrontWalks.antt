@@ -11,7 +11,8 @@ use Rattle.chunk_reader.specs.declared.judging.LoadEnd.{LoadEnd}
 use Rattle.damage_skip.specs.Ends.{walk_end_of}
 use Rattle.damage_skip.specs.DamagedWalks.{WalksInFront, WalksInRemains}
 use Rattle.damage_skip.specs.Fronts.{AreFrontPieces}
-use Rattle.damage_skip.specs.Pieces.{Piece, Skipped, AreTiles, ArePieces, GoesOn}
+use Rattle.damage_skip.specs.Pieces.{Piece, Skipped, AreTiles, GoesOn}
+use Rattle.damage_skip.specs.FilePieces.{ArePieces}
 use Rattle.damage_skip.specs.Walks.{IsMet, IsStoppedAt, StandsIn, events_of, stop_of, WalksOn}
 use Rattle.damage_skip.specs.declared.events.Event.{Event}
 use Rattle.damage_skip.specs.declared.events.WalkEnd.{WalkEnd}

@@ -16,7 +16,7 @@ use Rattle.chunk_reader.specs.declared.reasons.Why.{Why}
 use Rattle.chunk_reader.specs.declared.reasons.Why.TheVariants as why
 use Rattle.chunk_reader.proofs.Blocks.{stands_within}
 use Rattle.chunk_reader.proofs.FileFaults.{first_applies}
-use Rattle.damage_skip.specs.Fronts.{IsSettled}
+use Rattle.damage_skip.specs.FilePieces.{IsSettled}
 use Rattle.damage_skip.specs.Pieces.{PieceKind, Given, Kept, LeftOut, Skipped, Piece, SkipsFor, walk_reasons, SkipsTo, IsFoundAs, IsPieceOf, AreTiles}
 use Rattle.damage_skip.specs.Resyncs.{IsFirstBlock, StandsFrom, landing, IsResync, Contradicts}
 use Rattle.damage_skip.proofs.PlacesFurtherOn.{landing-back, landing-on}

@@ -4,7 +4,7 @@ use Rattle.std.proofs.lemmas.Bool.{cases_lt}
 use Rattle.block_layout.specs.BlockHeaders.{StandsAt}
 use Rattle.block_layout.specs.declared.block_header.BlockHeader.{BlockHeader}
 use Rattle.chunk_reader.specs.BlockJudges.{EachBlock, IsFirstRefused, StopsAtBlock, StopsAtBlockInChunk}
-use Rattle.chunk_reader.specs.Blocks.{IsSaneHeaderAt}
+use Rattle.chunk_reader.specs.Holders.{IsSaneHeaderAt}
 use Rattle.chunk_reader.proofs.Blocks.{stands_one}
 use Rattle.damage_skip.specs.Steps.{IsEndOf, LeadsTo, AgreesAt, DisagreesAt, limit_of}
 

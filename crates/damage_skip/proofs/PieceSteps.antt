@@ -7,8 +7,7 @@ use Rattle.chunk_header.specs.Chunks.{ChunkValue, HeaderValue, IsChunk}
 use Rattle.chunk_header.specs.declared.Header.{Header}
 use Rattle.chunk_header.specs.declared.Chunk.{Chunk}
 use Rattle.chunk_header.specs.Views.{IsHeader, value_of_header, value_of, value_of_chunk}
-use Rattle.meta_chunk.specs.Counts.{is_unread}
-use Rattle.meta_chunk.specs.Files.{max_data_size}
+use Rattle.meta_chunk.specs.Files.{is_unread, max_data_size}
 use Rattle.meta_chunk.specs.Laid.{end_of_chunk}
 use Rattle.chunk_reader.specs.Heads.{IsHead}
 use Rattle.chunk_reader.specs.Places.{header_at, end_by, end_at, chunk_at, data_at}

@@ -20,7 +20,8 @@ use Rattle.chunk_reader.proofs.Blocks.{stands_within}
 use Rattle.chunk_reader.proofs.ChainSteps.{each_at}
 use Rattle.chunk_reader.proofs.LaidAt.{right_header-laid, end_at-laid, headers-laid}
 use Rattle.damage_skip.specs.Resyncs.{IsResync, Contradicts}
-use Rattle.damage_skip.specs.Pieces.{PieceKind, Skipped, Piece, IsPieceOf, AreTiles, ArePieces}
+use Rattle.damage_skip.specs.Pieces.{PieceKind, Skipped, Piece, IsPieceOf, AreTiles}
+use Rattle.damage_skip.specs.FilePieces.{ArePieces}
 use Rattle.damage_skip.specs.Damage.{DamageLeaves}
 use Rattle.damage_skip.proofs.PlacesFurtherOn.{resync_of}
 use Rattle.damage_skip.proofs.OnePiece.{piece_one}

@@ -4,7 +4,7 @@ use Rattle.std.proofs.lemmas.Bool.{cases_lt}
 use Rattle.block_layout.specs.Layout.{IsBlock}
 use Rattle.block_layout.specs.BlockHeaders.{StandsAt}
 use Rattle.block_layout.specs.declared.block_header.BlockHeader.{BlockHeader}
-use Rattle.chunk_reader.specs.Blocks.{IsSaneHeaderAt}
+use Rattle.chunk_reader.specs.Holders.{IsSaneHeaderAt}
 use Rattle.chunk_reader.proofs.Blocks.{stands_within}
 use Rattle.chunk_reader.proofs.Rooms.{IsSized}
 use Rattle.damage_skip.specs.Resyncs.{StandsFrom, IsResync, landing}

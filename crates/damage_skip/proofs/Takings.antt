@@ -21,7 +21,8 @@ use Rattle.chunk_reader.proofs.WholeHeads.{HasRightHead, none_loading, none_unpa
 use Rattle.damage_skip.specs.Pieces.{Piece}
 use Rattle.damage_skip.specs.Resyncs.{StandsFrom, Contradicts}
 use Rattle.damage_skip.specs.Steps.{IsEndOf, ContradictsIn, LeadsTo, AgreesAt, DisagreesAt}
-use Rattle.damage_skip.specs.Takings.{LooksAtBlocks, MayTakeAt, StopsInChunk, StopsWhereContradicted, MayTakeFor, AccountFor, IsTakenFrom, IsTakenUpTo, TakesByCall}
+use Rattle.damage_skip.specs.Takings.{LooksAtBlocks, MayTakeAt, StopsInChunk, StopsWhereContradicted, MayTakeFor, AccountFor, IsTakenFrom, IsTakenUpTo}
+use Rattle.damage_skip.specs.Walks.{TakesByCall}
 use Rattle.damage_skip.specs.declared.events.Event.{Event}
 use Rattle.damage_skip.specs.declared.events.WalkEnd.{WalkEnd}
 use Rattle.damage_skip.specs.declared.pieces.Piece as code

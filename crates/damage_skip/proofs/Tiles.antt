@@ -6,7 +6,8 @@ use Rattle.std.specs.List.Sorted.{IsStrictlyIncreasing}
 use Rattle.std.proofs.lemmas.Bool.{cases_lt}
 use Rattle.std.proofs.lemmas.List.Elements.{filter-append}
 use Rattle.block_layout.specs.Layout.{IsBoundary}
-use Rattle.damage_skip.specs.Pieces.{PieceKind, Piece, IsPieceOf, AreTiles, ArePieces, is_event, events_in, AreEvents}
+use Rattle.damage_skip.specs.Pieces.{PieceKind, Piece, IsPieceOf, AreTiles, is_event, events_in, AreEvents}
+use Rattle.damage_skip.specs.FilePieces.{ArePieces}
 use Rattle.damage_skip.specs.Walks.{GoesOn, IsMet}
 use Rattle.damage_skip.proofs.OnePiece.{piece_one, piece_past, piece_of_place}
 

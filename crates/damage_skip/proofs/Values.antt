@@ -27,7 +27,8 @@ use Rattle.damage_skip.specs.Resyncs.{landing, IsResync, Contradicts}
 use Rattle.damage_skip.specs.Damage.{Intact, IsNext, IsDamaged, IsIntactFrom, AreReached, DamageLeavesEach, AreLostUpToABlock}
 use Rattle.damage_skip.specs.Fronts.{IsCutAt}
 use Rattle.damage_skip.specs.Takings.{MayTakeAt, MayTakeFor}
-use Rattle.damage_skip.specs.Pieces.{PieceKind, Given, LeftOut, Skipped, Piece, SkipsFor, walk_reasons, ArePieces, events_in, records_in, placed_in}
+use Rattle.damage_skip.specs.Pieces.{PieceKind, Given, LeftOut, Skipped, Piece, SkipsFor, walk_reasons, events_in, records_in}
+use Rattle.damage_skip.specs.FilePieces.{ArePieces, placed_in}
 
 -- a block met before the chunk that it interrupts leads to that chunk's begin
 to_a_begin : landing 120268 64 65536 5382 24687 ≡ 60154

@@ -1,4 +1,4 @@
--- Which regions are skipped where their bytes are bounded, and which events come before one that isn't. Own.
+-- Promise. Which regions are skipped where their bytes are bounded, and which events come before one that isn't. Own.
 use Rattle.std.specs.Prelude.{◌≡◌, ℕ, ◌-◌, Bool, true, false, not, Option, Some, None, List, nat_le}
 use Rattle.std.specs.List.{before_first, find}
 use Rattle.damage_skip.specs.Pieces.{Piece}

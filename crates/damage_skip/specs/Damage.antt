@@ -1,4 +1,4 @@
--- What damage leaves of a file, told from the undamaged file alone. Own.
+-- Promise. What damage leaves of a file, told from the undamaged file alone. Own.
 use Rattle.std.specs.Prelude.{◌≡◌, ◌≢◌, ℕ, ◌+◌, ◌<◌, ◌≤◌, ◌⊎◌, ◌↔◌, Bool, true, false, ◌&&◌, if◌then◌else◌, max, Some, None, List, [], ◌∷◌, length, slice_get, slice_range}
 use Rattle.std.specs.List.{filter_map}
 use Rattle.highway_hash.specs.Riegeli.{riegeli_hash}

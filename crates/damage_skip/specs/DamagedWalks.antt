@@ -1,4 +1,4 @@
--- How a walk goes on in a damaged file, told by the numbers of its chunks, and in the front of a file. Own.
+-- Inside. How a walk goes on in a damaged file, told by the numbers of its chunks, and in the front of a file. Own.
 use Rattle.std.specs.Prelude.{◌≡◌, ℕ, ◌^◌, ◌<◌, ◌≤◌, Bool, false, Option, None, Result, Ok, IfSome, List, [], ◌∷◌, ◌++◌, length, take}
 use Rattle.chunk_header.specs.Chunks.{ChunkValue}
 use Rattle.meta_chunk.specs.Files.{IsFrame, begin_of}

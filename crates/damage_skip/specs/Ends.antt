@@ -1,4 +1,4 @@
--- How a walk ends before it is done. Own.
+-- Inside. How a walk ends before it is done. Own.
 use Rattle.chunk_reader.specs.declared.judging.LoadEnd.{LoadEnd}
 use Rattle.chunk_reader.specs.declared.judging.LoadEnd.TheVariants as load
 use Rattle.damage_skip.specs.declared.events.WalkEnd.{WalkEnd}

@@ -1,10 +1,10 @@
--- The pieces that the front of a file of chunks comes apart in, and those of a front that are pieces of the file. Own.
-use Rattle.std.specs.Prelude.{◌≡◌, ℕ, ◌+◌, ◌<◌, ◌⊎◌, ⊤, Bool, List, [], ◌∷◌, ◌++◌, length}
+-- Promise. The pieces that the front of a file of chunks comes apart in. Own.
+use Rattle.std.specs.Prelude.{◌≡◌, ℕ, ◌+◌, ◌<◌, ◌⊎◌, Bool, List, [], ◌∷◌, ◌++◌, length}
 use Rattle.chunk_header.specs.Chunks.{ChunkValue}
 use Rattle.meta_chunk.specs.Files.{begin_of}
 use Rattle.chunk_reader.specs.declared.reasons.Why.{Why}
 use Rattle.chunk_reader.specs.declared.reasons.Why.TheVariants as why
-use Rattle.damage_skip.specs.Pieces.{PieceKind, Piece, Skipped, AreTiles}
+use Rattle.damage_skip.specs.Pieces.{Piece, Skipped, AreTiles}
 
 -- what is left of a chunk that is cut at a place: nothing where it begins there, and else a region up to there
 abbrev pub IsCutAt : List ChunkValue → (count m : ℕ) → List Piece → Type 0
@@ -22,12 +22,3 @@ pub record AreFrontPieces (keep : Bool) (ks : List ChunkValue) (file : List ℕ)
   pub cut : List Piece
   pub cut_there : IsCutAt ks count m cut
   pub are : pieces ≡ front ++ cut
-
--- a piece that ends here stays one whatever stands behind so many bytes of the file: it isn't cut off, and where a block header
--- leads to its end, that lies before theirs
-abbrev pub IsSettled : (size end : ℕ) → PieceKind → Type 0
-IsSettled size end (Skipped why.Short) = ⊥
-IsSettled size end (Skipped why.Truncated) = ⊥
-IsSettled size end (Skipped why.HeaderHash) = end < size
-IsSettled size end (Skipped why.Contradicted) = end < size
-IsSettled size end other = ⊤

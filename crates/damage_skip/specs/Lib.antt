@@ -9,5 +9,6 @@ pub mod Walkers
 pub mod Steps
 pub mod Damage
 pub mod Fronts
+pub mod FilePieces
 pub mod DamagedWalks
 pub mod Takings

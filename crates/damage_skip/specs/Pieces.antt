@@ -1,11 +1,10 @@
--- The pieces that a file comes apart in where damage is passed over. Own.
+-- Promise. The pieces that a file comes apart in where damage is passed over. Own.
 use Rattle.std.specs.Prelude.{◌≡◌, ℕ, ◌<◌, ◌⊎◌, Bool, true, false, List, [], ◌∷◌, length, filter}
-use Rattle.std.specs.List.{flat_map, enumerate_from}
+use Rattle.std.specs.List.{flat_map}
 use Rattle.chunk_header.specs.Chunks.{ChunkValue}
 use Rattle.chunk_header.specs.SimpleChunks.{IsSimple, IsCompressed}
 use Rattle.meta_chunk.specs.Files.{IsTransposed}
 use Rattle.meta_chunk.specs.Kinds.{IsSignature, IsMetadata, IsPadding}
-use Rattle.meta_chunk.specs.Laid.{end_of_chunk}
 use Rattle.chunk_reader.specs.Places.{end_at, chunk_at}
 use Rattle.chunk_reader.specs.Reasons.{Applies, NoneOf, IsFirstOf, content_reasons}
 use Rattle.chunk_reader.specs.declared.reasons.Why.{Why}
@@ -71,10 +70,6 @@ AreTiles keep file from to (piece ∷ pieces) =
     (piece.begin ≡ from) × (from < length file) × IsPieceOf keep file from piece.end piece.what
     × AreTiles keep file piece.end to pieces
 
--- the pieces of a file
-abbrev pub ArePieces : Bool → List ℕ → List Piece → Type 0
-ArePieces keep file pieces = AreTiles keep file 0 (length file) pieces
-
 -- whether a piece is an event: given, kept or skipped
 abbrev pub is_event : PieceKind → Bool
 is_event LeftOut = false
@@ -101,15 +96,3 @@ records_of other = []
 -- the records that pieces give, joined
 abbrev pub records_in : List Piece → List (List ℕ)
 records_in pieces = flat_map (λ piece. records_of piece.what) pieces
-
--- the same, each with its position: its chunk's begin, and its number in the chunk
-abbrev pub placed_in : List Piece → List (ℕ × List ℕ)
-placed_in pieces = flat_map (λ piece. enumerate_from piece.begin (records_of piece.what)) pieces
-
--- the pieces are these chunks, laid one after another from a place on, and each was found intact
-abbrev pub AreFound : Bool → ℕ → List ChunkValue → List Piece → Type 0
-AreFound keep place [] pieces = pieces ≡ []
-AreFound keep place (k ∷ ks) [] = ⊥
-AreFound keep place (k ∷ ks) (piece ∷ pieces) =
-    (piece.begin ≡ place) × (piece.end ≡ end_of_chunk place k) × IsFoundAs keep k piece.what
-    × AreFound keep (end_of_chunk place k) ks pieces

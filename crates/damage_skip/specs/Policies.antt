@@ -1,9 +1,13 @@
--- Tests of regions. Own.
-use Rattle.std.specs.Prelude.{Bool, true, false}
+-- Inside. Tests of regions. Own.
+use Rattle.std.specs.Prelude.{◌^◌, ◌≤◌, Bool, true, false}
 use Rattle.std.specs.Fn.{Shared, FnReturnsAt}
 use denote.Ref.{Bor}
 use Rattle.damage_skip.specs.declared.regions.Region.{Region}
-use Rattle.damage_skip.specs.Regions.{IsRegion}
+
+-- a region that a policy may be asked of
+pub record IsRegion (region : Region) : Type 0 where
+  pub ordered : region.begin ≤ region.end
+  pub in_reach : region.end ≤ 2 ^ 60
 
 -- a function that may be called on each region, and can't answer both ways on one
 pub record IsTest {F : Type 0} (g : Shared F (Bor Region × Unit {0}) Bool) (f : F) : Type 0 where

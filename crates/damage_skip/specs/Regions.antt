@@ -1,5 +1,5 @@
--- Regions of a file that are passed over, and the lines that tell of them. Own.
-use Rattle.std.specs.Prelude.{ℕ, ◌≤◌, ◌^◌, Bool, Option, Some, None, List, [], ◌∷◌, ◌++◌, decimal}
+-- Promise. Regions of a file that are passed over, and the lines that tell of them. Own.
+use Rattle.std.specs.Prelude.{ℕ, Bool, Option, Some, None, List, [], ◌∷◌, ◌++◌, decimal}
 use Rattle.std.specs.List.{AllByRecursion, filter_map, flat_map}
 use lib.Chars.{codes}
 use Rattle.chunk_reader.specs.Names.{name_of}
@@ -10,11 +10,6 @@ use Rattle.damage_skip.specs.declared.regions.Region.{Region}
 abbrev pub region_text : List ℕ → Region → List ℕ
 region_text word region =
     word ++ 32 ∷ decimal region.begin ++ 32 ∷ decimal region.end ++ 32 ∷ name_of region.why ++ 10 ∷ []
-
--- a region that a policy may be asked of
-pub record IsRegion (region : Region) : Type 0 where
-  pub ordered : region.begin ≤ region.end
-  pub in_reach : region.end ≤ 2 ^ 60
 
 -- the region that a piece is, if it is one
 abbrev pub region_as : (begin end : ℕ) → PieceKind → Option Region

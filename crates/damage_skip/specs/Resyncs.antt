@@ -1,5 +1,5 @@
--- Where reading goes on past damage: where block headers lead that are right and sane. Source: the Riegeli/records
--- file format specification, "Block header". Own: which of them leads, and where to.
+-- Promise. Where reading goes on past damage: where block headers lead that are right and sane. Source: the
+-- Riegeli/records file format specification, "Block header". Own: which of them leads, and where to.
 use Rattle.std.specs.Prelude.{◌≡◌, ◌≢◌, ℕ, ◌+◌, ◌-◌, ◌<◌, ◌≤◌, ◌⊎◌, min, nat_lt, if◌then◌else◌, List, length}
 use Rattle.block_layout.specs.BlockHeaders.{StandsAt}
 

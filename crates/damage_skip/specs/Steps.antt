@@ -1,4 +1,4 @@
--- What the steps of a walk find. Own.
+-- Inside. What the steps of a walk find. Own.
 use Rattle.std.specs.Prelude.{◌≡◌, ◌↔◌, ℕ, ◌+◌, ◌^◌, ◌<◌, ◌≤◌, ◌⊎◌, Option, Some, None, MatchOption, ⊤, Bool, true, false, IsTrue, min, List, length}
 use Rattle.block_layout.specs.Layout.{IsBoundary}
 use Rattle.chunk_header.specs.Chunks.{ChunkValue, IsChunk}
@@ -6,10 +6,9 @@ use Rattle.chunk_header.specs.SimpleChunks.{IsSimple, IsCompressed}
 use Rattle.chunk_header.specs.Views.{HasRightHash, value_of_chunk}
 use Rattle.chunk_header.specs.declared.Header.{Header}
 use Rattle.chunk_header.specs.declared.Chunk.{Chunk}
-use Rattle.meta_chunk.specs.Counts.{is_unread}
+use Rattle.meta_chunk.specs.Files.{is_unread, max_data_size, IsTransposed}
 use Rattle.meta_chunk.specs.Kinds.{IsMetadata}
 use Rattle.meta_chunk.specs.Laid.{end_of_chunk}
-use Rattle.meta_chunk.specs.Files.{max_data_size, IsTransposed}
 use Rattle.chunk_reader.specs.Places.{data_at}
 use Rattle.chunk_reader.specs.Reasons.{ContentApplies, NoneOf, IsFirstOf, content_reasons}
 use Rattle.chunk_reader.specs.declared.reasons.Why.{Why}

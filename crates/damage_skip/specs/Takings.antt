@@ -1,13 +1,12 @@
--- How many bytes of a file a walk takes: what the pieces account for that it passes, and the one that it stands at. Own.
-use Rattle.std.specs.Prelude.{ℕ, ◌+◌, ◌-◌, ◌*◌, ◌≤◌, ◌⊎◌, min, max, Bool, Option, Result, Ok, Err, List, [], ◌∷◌, length}
+-- Promise. How many bytes of a file a walk takes: what the pieces account for that it passes, and the one that it
+-- stands at. Own.
+use Rattle.std.specs.Prelude.{ℕ, ◌+◌, ◌-◌, ◌*◌, ◌≤◌, ◌⊎◌, min, max, Bool, List, [], ◌∷◌, length}
 use Rattle.block_layout.specs.Layout.{block_header_size, chunk_header_size, blocks_below, end_of}
 use Rattle.chunk_reader.specs.Places.{end_at}
 use Rattle.chunk_reader.specs.Reasons.{Applies, NoneOf, header_reasons, loading_reasons}
 use Rattle.damage_skip.specs.Pieces.{Piece, AreTiles}
 use Rattle.damage_skip.specs.Regions.{IsWalkedTo}
 use Rattle.damage_skip.specs.Resyncs.{StandsFrom, Contradicts}
-use Rattle.damage_skip.specs.declared.events.Event.{Event}
-use Rattle.damage_skip.specs.declared.events.WalkEnd.{WalkEnd}
 use Rattle.damage_skip.specs.declared.regions.Region.{Region}
 
 -- so many bytes are taken of the headers of the blocks from a place up to another, and of none behind a block of which P holds
@@ -66,12 +65,6 @@ IsTakenFrom keep file from to taken = (pieces : List Piece) × AreTiles keep fil
 abbrev pub IsTakenUpTo : Bool → List ℕ → (from to taken : ℕ) → Type 0
 IsTakenUpTo keep file from to taken =
     (passed : ℕ) × IsTakenFrom keep file from to passed × MayTakeAt file to (taken - passed)
-
--- what a call of a walk takes from a place up to another: with an event or the file's end what it passed, and else also at the
--- place where it stands
-abbrev pub TakesByCall : Bool → List ℕ → (from to : ℕ) → Result (Option Event) WalkEnd → (taken : ℕ) → Type 0
-TakesByCall keep file from to (Ok _) taken = IsTakenFrom keep file from to taken
-TakesByCall keep file from to (Err _) taken = IsTakenUpTo keep file from to taken
 
 -- so many bytes are taken by a walk up to some place, past regions of which P holds: the pieces up to there account for them, and
 -- the one there

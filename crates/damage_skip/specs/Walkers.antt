@@ -1,4 +1,4 @@
--- What a walker is seen as. Own.
+-- Inside. What a walker is seen as. Own.
 use Rattle.damage_skip.specs.declared.progress.Progress.{Progress}
 use Rattle.damage_skip.specs.declared.walks.Walker.{Walker}
 

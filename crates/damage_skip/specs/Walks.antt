@@ -1,13 +1,14 @@
--- How far a file was walked, and what was given of it. Own.
+-- Inside. How far a file was walked, and what was given of it. Own.
 use Rattle.std.specs.Prelude.{◌≡◌, ℕ, ◌≤◌, ◌<◌, ◌^◌, Bool, true, false, Option, Some, None, Result, Ok, Err, IfSome, ⊤, List, [], ◌∷◌, length}
 use Rattle.std.specs.Fn.{Shared, FnReturnsAt}
 use denote.Ref.{Bor}
 use Rattle.chunk_header.specs.SimpleChunks.{IsSimple}
 use Rattle.chunk_header.specs.Views.{value_of_chunk}
-use Rattle.meta_chunk.specs.Counts.{is_unread}
+use Rattle.meta_chunk.specs.Files.{is_unread}
 use Rattle.meta_chunk.specs.Laid.{end_of_chunk}
 use Rattle.chunk_reader.specs.declared.reasons.Why.{Why}
 use Rattle.damage_skip.specs.declared.events.Event.{Event}
+use Rattle.damage_skip.specs.Takings.{IsTakenFrom, IsTakenUpTo}
 use Rattle.damage_skip.specs.declared.events.Event.TheVariants as event
 use Rattle.damage_skip.specs.declared.events.WalkEnd.{WalkEnd}
 use Rattle.damage_skip.specs.declared.events.WalkEnd.TheVariants as walk
@@ -125,3 +126,9 @@ Refuses test f place piece None =
     (why : Why) → piece.what ≡ what.Skipped why → FnReturnsAt test f (record { begin = place; end = piece.end; why = why }) true
 Refuses test f place piece (Some region) =
     (region.begin ≡ place) × (region.end ≡ piece.end) × (piece.what ≡ what.Skipped region.why) × FnReturnsAt test f region false
+
+-- what a call of a walk takes from a place up to another: with an event or the file's end what it passed, and else also at the
+-- place where it stands
+abbrev pub TakesByCall : Bool → List ℕ → (from to : ℕ) → Result (Option Event) WalkEnd → (taken : ℕ) → Type 0
+TakesByCall keep file from to (Ok _) taken = IsTakenFrom keep file from to taken
+TakesByCall keep file from to (Err _) taken = IsTakenUpTo keep file from to taken

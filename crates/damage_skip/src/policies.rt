@@ -1,7 +1,6 @@
 ghost use Rattle.std.specs.Fn.{FnReturnsAt};
 ghost use Rattle.std.specs.Prelude.{◌≡◌};
-ghost use Rattle.damage_skip.specs.Regions.{IsRegion};
-ghost use Rattle.damage_skip.specs.Policies.{IsTest};
+ghost use Rattle.damage_skip.specs.Policies.{IsRegion, IsTest};
 
 use crate::regions::Region;
 

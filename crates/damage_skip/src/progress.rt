@@ -1,5 +1,5 @@
 ghost use Rattle.std.specs.Prelude.{◌<◌, ◌≤◌};
-ghost use Rattle.block_layout.specs.Layout.{IsOnBoundary};
+ghost use Rattle.block_layout.specs.NextPlaces.{IsOnBoundary};
 
 use crate::regions::Region;
 

@@ -1,4 +1,4 @@
--- What a hasher of pieces has taken so far. Own.
+-- Inside. What a hasher of pieces has taken so far. Own.
 use Rattle.std.specs.Prelude.{ℕ, ◌*◌, ◌/◌, List, drop, length}
 use Rattle.highway_hash.specs.HighwayHash.{HashState, after_packets}
 

@@ -1,5 +1,5 @@
--- HighwayHash-64 of a whole list of bytes, by the paper "Fast keyed hash/pseudo-random function using
--- SIMD multiply and permute" and its 64-bit reference. Lanes are numbers below 2 ^ 64; sums wrap.
+-- Promise. HighwayHash-64 of a whole list of bytes, by the paper "Fast keyed hash/pseudo-random function using SIMD
+-- multiply and permute" and its 64-bit reference. Lanes are numbers below 2 ^ 64; sums wrap.
 use Rattle.std.specs.Prelude.{ℕ, zero, suc, ◌+◌, ◌-◌, ◌*◌, ◌/◌, ◌%◌, ◌^◌, List, [], ◌∷◌, ◌++◌, length, map, take, drop, bit_xor, nat_le, nat_lt, ◌==◌, if◌then◌else◌, slice_index, slice_range}
 use Rattle.std.specs.List.{range_with_len}
 use Rattle.std.specs.Int.{w32, w64, to_le_bytes, from_le_bytes, rotate_left}

@@ -1,4 +1,4 @@
--- The hash as Riegeli/records files use it. Source: the Riegeli/records file format specification, "Block
+-- Promise. The hash as Riegeli/records files use it. Source: the Riegeli/records file format specification, "Block
 -- header" and "Chunk header", which name the hash and its key.
 use Rattle.std.specs.Prelude.{◌≡◌, ℕ, List, [], ◌∷◌, ◌++◌, drop}
 use Rattle.std.specs.Int.{w64, to_le_bytes}

@@ -1,4 +1,4 @@
--- What holds of the lanes of every vector of the hash. Own.
+-- Inside. What holds of the lanes of every vector of the hash. Own.
 use Rattle.std.specs.Prelude.{◌≡◌, ℕ, ◌^◌, ◌<◌, List, length, slice_index}
 
 -- four lanes, each of 64 bits

@@ -4,11 +4,12 @@ use Rattle.std.specs.Prelude.{slice_get}
 use Rattle.std.specs.List.{AllByRecursion}
 use Rattle.record_values.specs.Bytes.{AreBytes}
 use Rattle.record_io.specs.ManyStores.{AreOnlyAsked}
-use Rattle.record_io.specs.Outside.{Rose, Takes, TakesFront, TakesShort}
+use Rattle.record_io.specs.Outside.{Rose, Takes, TakesShort}
+use Rattle.record_io.specs.Calls.{TakesFront}
 use Rattle.record_io.specs.Puts.{Put, Made, Out, Notes, taken_by, BreaksOff, puts_to}
 use Rattle.record_io.specs.Seen.{SeenStream, SeenFile, seen_file}
 use Rattle.record_io.proofs.Puts.{TakesFront-count, BreaksOff-last, BreaksOff-longer, bytes_to-other, puts_to-front}
-use Rattle.meta_chunk.specs.Counts.{totals_of}
+use Rattle.meta_chunk.specs.Files.{totals_of}
 use Rattle.record_join.specs.Joined.{joined}
 use Rattle.record_join.specs.Joins.{IsPutOfJoined}
 use Rattle.chunk_reader.proofs.ManyFiles.{files_judged}
@@ -18,7 +19,9 @@ use Rattle.run_answers.specs.declared.status.Status.{Status}
 use Rattle.run_answers.specs.Answers.{Answer}
 use Rattle.run_answers.specs.Endings.{IsAllowedEndOfMany, SaysEnd}
 use Rattle.run_answers.specs.FileAnswers.{limit_text, report}
-use Rattle.run_answers.specs.Runs.{seen, Breaks, Runs}
+use Rattle.run_answers.specs.Runs.{Runs}
+use Rattle.run_answers.specs.RunObjects.{seen}
+use Rattle.run_answers.specs.CutShortRuns.{Breaks}
 use Rattle.run_answers.proofs.ManyFilesEnds.{MayEndBy, EndsBySizes, ReadsFiles, WentAtEnd, WentToCut, reads_files, runs-files, some_told, went_none, went_noted, went_whole}
 use Rattle.run_answers.proofs.TwoStreams.{GoOut-both, GoOut-first, GoOut-neither, bytes_to-neither}
 use Rattle.show_files.specs.Readings.{refused_file_text}

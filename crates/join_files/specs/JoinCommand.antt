@@ -1,10 +1,9 @@
--- What `join` makes, prints, says and ends with. Own.
+-- Promise. What `join` makes, prints, says and ends with. Own.
 use Rattle.std.specs.Prelude.{◌≡◌, ℕ, ◌+◌, ◌*◌, ◌<◌, ◌≤◌, ◌⊎◌, true, Some, List, [], ◌++◌, length, map, slice_get, take}
 use Rattle.record_io.specs.Puts.{Put, Made, Out, Notes, puts_to}
 use Rattle.chunk_header.specs.Chunks.{ChunkValue}
-use Rattle.meta_chunk.specs.Counts.{totals_of}
-use Rattle.meta_chunk.specs.Files.{IsFrame}
-use Rattle.chunk_reader.specs.ManyFiles.{HaveNoFault, IsFirstFault}
+use Rattle.meta_chunk.specs.Files.{totals_of, IsFrame}
+use Rattle.chunk_reader.specs.Faults.{HaveNoFault, IsFirstFault}
 use Rattle.chunk_reader.specs.declared.reasons.Fault.{Fault}
 use Rattle.record_join.specs.Joined.{joined, joined_at_most}
 use Rattle.run_answers.specs.Answers.{Answer, noted}

@@ -1,4 +1,4 @@
--- The words of `join`: the files that it reads and the one that it makes. Own.
+-- Promise. The words of `join`: the files that it reads and the one that it makes. Own.
 use Rattle.std.specs.Prelude.{ℕ, Option, List}
 use Rattle.word_options.specs.declared.many_files.FilesWords.{FilesWords}
 use Rattle.word_options.specs.FilesWords.{files_words_of}

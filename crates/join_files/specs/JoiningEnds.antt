@@ -1,10 +1,9 @@
--- How the work of `join` ends. Own.
+-- Inside. How the work of `join` ends. Own.
 use Rattle.std.specs.Prelude.{◌≡◌, ℕ, ◌⊎◌, true, Option, Result, Ok, Err, List, length, map}
 use Rattle.record_io.specs.Outside.{Takes, TakesShort}
 use Rattle.chunk_header.specs.Chunks.{ChunkValue}
-use Rattle.meta_chunk.specs.Counts.{totals_of}
-use Rattle.meta_chunk.specs.Files.{IsFrame}
-use Rattle.chunk_reader.specs.ManyFiles.{HaveNoFault}
+use Rattle.meta_chunk.specs.Files.{totals_of, IsFrame}
+use Rattle.chunk_reader.specs.Faults.{HaveNoFault}
 use Rattle.record_join.specs.Joined.{joined}
 use Rattle.record_join.specs.Joins.{AreJoinedUpTo, IsFrontJoined, IsShortJoined}
 use Rattle.record_join.specs.declared.joins.JoinEnd.{JoinEnd}

@@ -3,7 +3,8 @@ ghost use Rattle.record_io.specs.Calls.{OnlyCounts};
 ghost use Rattle.record_io.specs.ManyStores.{AreOnlyAsked, AreTold, IfAllTell};
 ghost use Rattle.record_io.specs.Seen.{seen_stream, seen_file};
 ghost use Rattle.run_answers.specs.Endings.{IsAllowedEndOfMany};
-ghost use Rattle.run_answers.specs.Runs.{Runs, Seen};
+ghost use Rattle.run_answers.specs.Runs.{Runs};
+ghost use Rattle.run_answers.specs.RunObjects.{Seen};
 ghost use Rattle.join_files.specs.JoinCommand.{AreTogetherInReach, AreTooLong, MayJoin, join_meaning};
 ghost use Rattle.join_files.specs.JoiningEnds.{TakeJoined, end_of_join};
 

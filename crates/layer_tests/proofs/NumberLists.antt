@@ -2,8 +2,8 @@
 use Rattle.std.proofs.Common.{◌≡◌, ◌∙◌, List, length, map}
 use Rattle.std.proofs.lemmas.List.{length-map}
 use Rattle.std.proofs.lemmas.Slice.Zip.{AllZip-long}
-use Rattle.record_collect.specs.Gatherings.{AreGathered, GatheredValue, StandAt}
-use Rattle.record_collect.specs.Passes.{PassValue, pass_records}
+use Rattle.record_collect.specs.Gatherings.{GatheredValue, StandAt}
+use Rattle.record_collect.specs.Passes.{AreGathered, PassValue, pass_records}
 
 -- each pass has one
 pub one_each : (passes : List PassValue) (made : GatheredValue) → AreGathered passes made → length made.numbers ≡ length passes

@@ -1,6 +1,6 @@
 //! Files of records of one byte each.
 ghost use Rattle.std.specs.Prelude.{◌^◌, ◌≤◌};
-ghost use Rattle.record_writer.specs.Written.{AreInLimits};
+ghost use Rattle.record_writer.specs.OptionLimits.{AreInLimits};
 
 use record_group::Pad;
 use record_io::{Bytes, MemSink};

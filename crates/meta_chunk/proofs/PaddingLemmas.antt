@@ -12,7 +12,8 @@ use Rattle.chunk_header.specs.Chunks.{ChunkValue, IsChunk}
 use Rattle.meta_chunk.specs.Kinds.{IsPadding}
 use Rattle.meta_chunk.specs.Laid.{end_of_chunk}
 use Rattle.meta_chunk.specs.Files.{IsPlain, end_of_chunks}
-use Rattle.meta_chunk.specs.PaddingSizes.{padding, to_block, IsPaddingSize, padding_size_of, padding_at}
+use Rattle.meta_chunk.specs.PaddingSizes.{padding, to_block, padding_size_of, padding_at}
+use Rattle.meta_chunk.specs.LeastPadding.{IsPaddingSize}
 
 -- where a padding chunk ends
 end_of_chunk-padding : (at size : ℕ)

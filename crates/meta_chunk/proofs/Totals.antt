@@ -7,8 +7,7 @@ use Rattle.std.proofs.lemmas.List.{length-append, get_or_past}
 use Rattle.std.proofs.lemmas.List.Sums.{sum_by-cons}
 use Rattle.chunk_header.specs.Chunks.{ChunkValue}
 use Rattle.chunk_header.specs.SimpleChunks.{IsCompressed}
-use Rattle.meta_chunk.specs.Files.{IsPlain, IsTransposed, IsUnread, IsFramed, Holds, HoldEach, AreRecordsOf}
-use Rattle.meta_chunk.specs.Counts.{is_unread, totals_of}
+use Rattle.meta_chunk.specs.Files.{IsPlain, IsTransposed, IsUnread, IsFramed, Holds, HoldEach, AreRecordsOf, is_unread, totals_of}
 use Rattle.meta_chunk.proofs.Held.{plain_or_unread, Holds-counted, unread_records}
 
 -- what the test says of a chunk

@@ -10,8 +10,7 @@ use Rattle.chunk_header.specs.SimpleChunks.{simple_chunk, IsSimple, IsSimpleChun
 use Rattle.chunk_header.proofs.SimpleChunks.{IsSimple-simple_chunk}
 use Rattle.meta_chunk.specs.Kinds.{KeepsRule}
 use Rattle.meta_chunk.specs.Laid.{end_of_chunk, byte_at, laid_bytes, laid}
-use Rattle.meta_chunk.specs.Files.{signature, signature_bytes, IsPlain, IsUnread, Holds, HoldEach, AreRecordsOf, end_of_chunks, begin_of, placed_from}
-use Rattle.meta_chunk.specs.Counts.{totals_of}
+use Rattle.meta_chunk.specs.Files.{signature, signature_bytes, IsPlain, IsUnread, Holds, HoldEach, AreRecordsOf, end_of_chunks, begin_of, placed_from, totals_of}
 use Rattle.meta_chunk.specs.PaddingSizes.{padding, padding_size_of, padding_at}
 
 -- the bytes that a file begins with: a block header and the signature chunk

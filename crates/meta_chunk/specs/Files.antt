@@ -1,9 +1,11 @@
--- Files of chunks. Source: the Riegeli/records file format specification, "File format", "File signature" and "Chunk types". Own:
--- which chunks are plain and which are unread, and the limit on their data.
-use Rattle.std.specs.Prelude.{◌≡◌, ◌≢◌, ℕ, ◌+◌, ◌^◌, ◌<◌, ◌≤◌, ◌⊎◌, List, [], ◌∷◌, ◌++◌, length, take}
-use Rattle.std.specs.List.{AllByRecursion, flat_map, enumerate_from}
+-- Promise. Files of chunks, and what is counted over them. Source: the Riegeli/records file format specification, "File
+-- format", "File signature" and "Chunk types". Own: which chunks are plain and which are unread, the limit on their
+-- data, and the counts.
+use Rattle.std.specs.Prelude.{◌≡◌, ◌≢◌, ℕ, ◌+◌, ◌^◌, ◌<◌, ◌≤◌, ◌⊎◌, Bool, not, ◌&&◌, ◌||◌, List, [], ◌∷◌, ◌++◌, length, take, slice_index, ◌==◌, count_by, if◌then◌else◌}
+use Rattle.std.specs.List.{AllByRecursion, flat_map, enumerate_from, sum_by}
+use Rattle.record_values.specs.declared.file_totals.Totals.{Totals}
 use Rattle.chunk_header.specs.Chunks.{ChunkValue}
-use Rattle.chunk_header.specs.SimpleChunks.{IsSimple, IsSimpleChunk, IsCompressed}
+use Rattle.chunk_header.specs.SimpleChunks.{IsSimple, simple_kind, IsSimpleChunk, IsCompressed}
 use Rattle.meta_chunk.specs.Kinds.{signature_kind, transposed_kind, IsSignature, IsMetadata, IsPadding}
 use Rattle.meta_chunk.specs.Laid.{IsLaid, laid, end_of_chunk}
 
@@ -52,14 +54,6 @@ pub record IsChainOf (P : ChunkValue → Type 0) (ks : List ChunkValue) (file : 
   pub each : AllByRecursion P ks
   pub within : place ≤ length file
   pub laid : AreLaid 0 ks (take place file)
-
--- plain chunks alone
-abbrev pub IsChain : List ChunkValue → List ℕ → ℕ → Type 0
-IsChain = IsChainOf IsPlain
-
--- plain and unread chunks
-abbrev pub IsFrameChain : List ChunkValue → List ℕ → ℕ → Type 0
-IsFrameChain = IsChainOf IsFramed
 
 -- the whole file is those chunks, each of which meets P
 abbrev pub IsFileOf : (ChunkValue → Type 0) → List ChunkValue → List ℕ → Type 0
@@ -116,3 +110,17 @@ ArePlaced ks placed = (lists : List (List (List ℕ))) × HoldEach ks lists × (
 unfoldable pub laid_each : ℕ → List ChunkValue → List ℕ
 laid_each place [] = []
 laid_each place (k ∷ ks) = laid place k ++ laid_each (end_of_chunk place k) ks
+
+-- whether a chunk that is read or left unread is left unread
+abbrev pub is_unread : ChunkValue → Bool
+is_unread k = (k.kind == transposed_kind) || ((k.kind == simple_kind) && not (slice_index k.«data» 0 == 0))
+
+-- the totals of such chunks from the front of a file: the chunks, the records that can be read, the bytes, and the
+-- chunks that are left unread
+abbrev pub totals_of : List ChunkValue → Totals
+totals_of ks = record {
+  chunks = length ks;
+  records = sum_by (λ k. if is_unread k then 0 else k.num_records) ks;
+  bytes = end_of_chunks 0 ks;
+  unread = count_by is_unread ks;
+}

@@ -1,11 +1,8 @@
--- The kinds of chunks. Source: the Riegeli/records file format specification, "Chunk types". Own: the rules on
+-- Promise. The kinds of chunks. Source: the Riegeli/records file format specification, "Chunk types". Own: the rules on
 -- fields in their details.
 use Rattle.std.specs.Prelude.{◌≡◌, ◌≢◌, ℕ, length}
-use Rattle.chunk_header.specs.declared.Header.{Header}
 use Rattle.chunk_header.specs.Chunks.{ChunkValue}
 use Rattle.chunk_header.specs.SimpleChunks.{simple_kind}
-use Rattle.meta_chunk.specs.declared.chunk_kind.Kind.{Kind}
-use Rattle.meta_chunk.specs.declared.chunk_kind.Kind.TheVariants.{Signature, Metadata, Padding, Simple, Transposed, Unknown}
 
 -- the kinds with a name, beside that of simple chunks
 abbrev pub signature_kind : ℕ
@@ -19,15 +16,6 @@ padding_kind = 0x70
 
 abbrev pub transposed_kind : ℕ
 transposed_kind = 0x74
-
--- the byte of a kind
-abbrev pub byte_of_kind : Kind → ℕ
-byte_of_kind Signature = signature_kind
-byte_of_kind Metadata = metadata_kind
-byte_of_kind Padding = padding_kind
-byte_of_kind Simple = simple_kind
-byte_of_kind Transposed = transposed_kind
-byte_of_kind (Unknown byte) = byte
 
 -- the byte is of none of the kinds with a name
 pub record IsOfNoName (byte : ℕ) : Type 0 where
@@ -43,10 +31,6 @@ pub record KeepsRule (kind data_size num_records decoded_size : ℕ) : Type 0 wh
   pub signature : kind ≡ signature_kind → (data_size ≡ 0) × (num_records ≡ 0) × (decoded_size ≡ 0)
   pub metadata : kind ≡ metadata_kind → num_records ≡ 0
   pub padding : kind ≡ padding_kind → (num_records ≡ 0) × (decoded_size ≡ 0)
-
--- the rule of a header
-abbrev pub HeaderKeepsRule : Header → Type 0
-HeaderKeepsRule h = KeepsRule h.kind h.data_size h.num_records h.decoded_size
 
 -- a chunk of a kind that keeps the kind's rule
 abbrev pub IsOfKind : ℕ → ChunkValue → Type 0

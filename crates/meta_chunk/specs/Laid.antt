@@ -1,4 +1,4 @@
--- A chunk laid at a place, with the block headers that interrupt it. Source: the Riegeli/records file format
+-- Promise. A chunk laid at a place, with the block headers that interrupt it. Source: the Riegeli/records file format
 -- specification, "File format", "Block header" and "Chunk".
 use Rattle.std.specs.Prelude.{◌≡◌, ℕ, ◌+◌, ◌-◌, ◌%◌, ◌<◌, ◌≤◌, List, length, map, nat_lt, if◌then◌else◌, slice_get, slice_index, slice_range}
 use Rattle.std.specs.List.{range_with_len}

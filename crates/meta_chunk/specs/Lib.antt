@@ -1,5 +1,7 @@
 pub mod Laid
 pub mod Kinds
+pub mod KindViews
 pub mod Files
-pub mod Counts
+pub mod Chains
 pub mod PaddingSizes
+pub mod LeastPadding

@@ -1,10 +1,9 @@
--- Padding up to a block. Source: the Riegeli/records file format specification, "Padding chunk". Own: how much
+-- Promise. Padding up to a block. Source: the Riegeli/records file format specification, "Padding chunk". Own: how much
 -- is written.
-use Rattle.std.specs.Prelude.{ℕ, ◌+◌, ◌-◌, ◌%◌, ◌≤◌, List, [], ◌∷◌, replicate, nat_le, ◌==◌, if◌then◌else◌}
-use Rattle.block_layout.specs.Layout.{block_size, chunk_header_size, usable_size, IsBlock}
+use Rattle.std.specs.Prelude.{ℕ, ◌+◌, ◌-◌, ◌%◌, List, [], ◌∷◌, replicate, nat_le, ◌==◌, if◌then◌else◌}
+use Rattle.block_layout.specs.Layout.{block_size, chunk_header_size, usable_size}
 use Rattle.chunk_header.specs.Chunks.{ChunkValue}
 use Rattle.meta_chunk.specs.Kinds.{padding_kind}
-use Rattle.meta_chunk.specs.Laid.{end_of_chunk}
 
 -- the padding chunk of so many zero bytes
 abbrev pub padding : ℕ → ChunkValue
@@ -13,11 +12,6 @@ padding size = record { kind = padding_kind; num_records = 0; decoded_size = 0; 
 -- how far the next block is from a position
 abbrev pub to_block : ℕ → ℕ
 to_block place = block_size - place % block_size
-
--- of the sizes at which a padding chunk from a position ends at a block, the least
-pub record IsPaddingSize (place size : ℕ) : Type 0 where
-  pub ends : IsBlock (end_of_chunk place (padding size))
-  pub least : (n : ℕ) → IsBlock (end_of_chunk place (padding n)) → size ≤ n
 
 -- that size as a number: the padding ends at the next block, or at the one after it where a chunk's header does
 -- not fit before the next

@@ -1,5 +1,6 @@
 ghost use Rattle.std.specs.Prelude.{◌≡◌, OnOk, OnErr};
-ghost use Rattle.meta_chunk.specs.Kinds.{byte_of_kind, IsOfNoName, HeaderKeepsRule};
+ghost use Rattle.meta_chunk.specs.Kinds.{IsOfNoName};
+ghost use Rattle.meta_chunk.specs.KindViews.{byte_of_kind, HeaderKeepsRule};
 
 use chunk_header::Header;
 

@@ -6,11 +6,12 @@ ghost use Rattle.std.specs.Prelude.{◌≡◌, IsTrue, ℕ, ◌+◌, ◌-◌, �
 ghost use Rattle.block_layout.specs.BlockHeaders.{block_header};
 ghost use Rattle.block_layout.specs.Layout.{block_size, block_header_size, chunk_header_size, IsBlock, IsBoundary, usable_bytes, own_bytes_at};
 ghost use Rattle.chunk_header.specs.Chunks.{ChunkValue, IsChunk, header_size, header_bytes, own_bytes};
-ghost use Rattle.meta_chunk.specs.Counts.{is_unread, totals_of};
-ghost use Rattle.meta_chunk.specs.Files.{signature, signature_bytes, IsPlain, IsUnread, IsFramed, Holds, HoldEach, AreRecordsOf, ArePlaced, AreLaid, IsChain, IsFrameChain, IsFile, begin_of, end_of_chunks, laid_each};
+ghost use Rattle.meta_chunk.specs.Files.{is_unread, totals_of, signature, signature_bytes, IsPlain, IsUnread, IsFramed, Holds, HoldEach, AreRecordsOf, ArePlaced, AreLaid, IsFile, begin_of, end_of_chunks, laid_each};
+ghost use Rattle.meta_chunk.specs.Chains.{IsChain, IsFrameChain};
 ghost use Rattle.meta_chunk.specs.Kinds.{IsSignature, IsPadding};
 ghost use Rattle.meta_chunk.specs.Laid.{IsLaid, end_of_chunk, laid};
-ghost use Rattle.meta_chunk.specs.PaddingSizes.{padding, IsPaddingSize, padding_size_of, padding_at};
+ghost use Rattle.meta_chunk.specs.PaddingSizes.{padding, padding_size_of, padding_at};
+ghost use Rattle.meta_chunk.specs.LeastPadding.{IsPaddingSize};
 ghost use Rattle.meta_chunk.specs.declared.file_signature.TheConstants.{SIGNATURE};
 
 /// A chunk's header has one size, whether the chunk is looked at alone or where it lies in a file. Own.

@@ -1,6 +1,7 @@
 ghost use Rattle.std.specs.Prelude.{◌≡◌, ◌↔◌, IsNone, IfSome};
 ghost use Rattle.block_layout.specs.Layout.{IsBlock, IsBoundary};
-ghost use Rattle.meta_chunk.specs.PaddingSizes.{IsPaddingSize, padding_size_of};
+ghost use Rattle.meta_chunk.specs.PaddingSizes.{padding_size_of};
+ghost use Rattle.meta_chunk.specs.LeastPadding.{IsPaddingSize};
 
 use block_layout::{BLOCK_SIZE, CHUNK_HEADER_SIZE, USABLE_SIZE};
 

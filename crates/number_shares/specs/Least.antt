@@ -1,4 +1,4 @@
--- The least of some numbers. Own.
+-- Inside. The least of some numbers. Own.
 use Rattle.std.specs.Prelude.{◌≡◌, ℕ, ◌≤◌, Some, List, slice_get}
 use Rattle.std.specs.List.{AllByRecursion}
 

@@ -1,4 +1,4 @@
--- The machine that seats take numbers from. Own.
+-- Inside. The machine that seats take numbers from. Own.
 use Rattle.std.specs.Prelude.{◌≡◌, ℕ, ◌+◌, ◌<◌, ◌≤◌, nat_le, if◌then◌else◌, Some, List, [], ◌∷◌, ◌++◌, replicate, slice_get, slice_set}
 use Rattle.std.specs.List.{AllByRecursion, flat_map, range_with_len}
 use Rattle.number_shares.specs.Once.{HasEachBelow}

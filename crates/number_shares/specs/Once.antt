@@ -1,4 +1,4 @@
--- Numbers that stand in a list once. Own.
+-- Promise. Numbers that stand in a list once. Own.
 use Rattle.std.specs.Prelude.{◌≡◌, ℕ, ◌<◌, ◌==◌, List, count_by}
 use Rattle.std.specs.List.{AllByRecursion}
 

@@ -1,4 +1,4 @@
--- What holds of the table that numbers are taken from, between any two steps. Own.
+-- Inside. What holds of the table that numbers are taken from, between any two steps. Own.
 use Rattle.std.specs.Prelude.{◌≡◌, ℕ, ◌+◌, ◌*◌, ◌-◌, ◌^◌, ◌≤◌, List, [], ◌++◌, length, map, slice_index}
 use Rattle.std.specs.List.{AllByRecursion}
 use Rattle.atomic_table.specs.Table.{State, Me, Step}

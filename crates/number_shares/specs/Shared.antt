@@ -1,4 +1,4 @@
--- Views that share out the numbers below a word, each once. Own.
+-- Inside. Views that share out the numbers below a word, each once. Own.
 use Rattle.std.specs.Prelude.{◌≡◌, ℕ, ◌⊎◌, List, sum_by}
 use Rattle.std.specs.List.{AllByRecursion, flat_map}
 use Rattle.number_shares.specs.Once.{HasEachBelow}

@@ -1,7 +1,8 @@
 -- Whole chunks: their header, their data and the padding behind it.
 use Rattle.std.proofs.Common.{◌≡◌, ◌∙◌, ℕ, ◌+◌, ◌≤◌, Option, List, [], ◌++◌, length, drop, inl, inr, refl, sym, ap, arith}
 use Rattle.std.proofs.lemmas.List.{drop_all, length-append}
-use Rattle.block_layout.specs.Layout.{IsBoundary, room, end_of, chunk_end_of, IsOnBoundary}
+use Rattle.block_layout.specs.Layout.{IsBoundary, room, end_of, chunk_end_of}
+use Rattle.block_layout.specs.NextPlaces.{IsOnBoundary}
 use Rattle.block_layout.proofs.Ends.{end_of_after, end_of-more}
 use Rattle.record_io.specs.Outside.{TakesShort}
 use Rattle.record_io.specs.Buffers.{TakesAndHolds}

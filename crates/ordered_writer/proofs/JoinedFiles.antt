@@ -10,16 +10,15 @@ use Rattle.block_layout.specs.Layout.{IsBlock, IsBoundary}
 use Rattle.record_values.specs.declared.file_totals.Totals.{Totals}
 use Rattle.chunk_header.specs.Chunks.{ChunkValue}
 use Rattle.chunk_header.specs.SimpleChunks.{IsSimpleChunk}
-use Rattle.meta_chunk.specs.Counts.{is_unread, totals_of}
+use Rattle.meta_chunk.specs.Files.{is_unread, totals_of, AreLaid, AreRecordsOf, BeginsSigned, IsFileOf, IsFrame, IsPlain, end_of_chunks}
 use Rattle.meta_chunk.specs.Kinds.{IsPadding}
-use Rattle.meta_chunk.specs.Files.{AreLaid, AreRecordsOf, BeginsSigned, IsFileOf, IsFrame, IsPlain, end_of_chunks}
 use Rattle.meta_chunk.specs.PaddingSizes.{padding_at}
 use Rattle.meta_chunk.proofs.Begins.{end_of_chunks_boundary}
 use Rattle.meta_chunk.proofs.Held.{AreRecordsOf-append}
 use Rattle.meta_chunk.proofs.Joins.{AreLaid-append, end-AreLaid, end-laid_each, end_of_chunks-append}
 use Rattle.meta_chunk.proofs.LaidChunks.{AreLaid-laid_each}
 use Rattle.meta_chunk.proofs.PaddingLemmas.{IsBlock-padding_at, padding_at_are_chunks, padding_at_are_padding, padding_at_are_plain}
-use Rattle.ordered_writer.specs.Writers.{padding_bytes}
+use Rattle.ordered_writer.specs.Padding.{padding_bytes}
 use Rattle.ordered_writer.proofs.Moves.{AreLaid-alike, end_of_chunks-further}
 
 -- the chunks of a file are laid from its front, and it ends where they do

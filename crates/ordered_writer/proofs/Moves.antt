@@ -12,7 +12,7 @@ use Rattle.meta_chunk.specs.Laid.{IsLaid, byte_at, end_of_chunk, laid, laid_byte
 use Rattle.meta_chunk.specs.Files.{AreLaid, end_of_chunks, laid_each}
 use Rattle.meta_chunk.specs.PaddingSizes.{padding, padding_at}
 use Rattle.meta_chunk.proofs.LaidChunks.{end-IsLaid}
-use Rattle.ordered_writer.specs.Writers.{padding_bytes}
+use Rattle.ordered_writer.specs.Padding.{padding_bytes}
 
 -- two places lie alike in their blocks
 abbrev pub AreAlike : ℕ → ℕ → Type 0

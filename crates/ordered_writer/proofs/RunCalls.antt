@@ -1,7 +1,8 @@
 -- What the steps in which a chunk is laid hand to a buffer and a sink.
 use Rattle.std.proofs.Common.{◌≡◌, ◌∙◌, ℕ, ◌+◌, ◌-◌, ◌%◌, ◌<◌, ◌≤◌, min, Option, List, [], ◌++◌, length, take, drop, replicate, sym, ap, subst, arith}
 use Rattle.std.proofs.lemmas.List.{take_rest, drop_all, length-drop}
-use Rattle.block_layout.specs.Layout.{room, end_of, IsNextPlace, IsOnBoundary, usable_from}
+use Rattle.block_layout.specs.Layout.{room, end_of}
+use Rattle.block_layout.specs.NextPlaces.{IsNextPlace, IsOnBoundary, usable_from}
 use Rattle.block_layout.proofs.Ends.{end_of_mono}
 use Rattle.record_io.specs.Outside.{TakesShort}
 use Rattle.record_io.specs.Buffers.{TakesAndHolds}

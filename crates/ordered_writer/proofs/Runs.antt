@@ -1,7 +1,8 @@
 -- The steps in which a chunk is laid: a block header, a run of bytes, and the end.
 use Rattle.std.proofs.Common.{◌≡◌, ◌≢◌, ◌∙◌, ℕ, ◌+◌, ◌-◌, ◌%◌, ◌≤◌, List, [], ◌++◌, length, take, drop, replicate, ap, arith}
 use Rattle.std.proofs.lemmas.List.{get_or_append_left}
-use Rattle.block_layout.specs.Layout.{IsUsable, room, IsNextPlace, usable_from}
+use Rattle.block_layout.specs.Layout.{IsUsable, room}
+use Rattle.block_layout.specs.NextPlaces.{IsNextPlace, usable_from}
 use Rattle.block_layout.specs.BlockHeaders.{block_header}
 use Rattle.block_layout.proofs.Runs.{room-usable_from, usable_from-block, usable_from-is}
 use Rattle.ordered_writer.specs.Layings.{laid_between}

@@ -1,4 +1,4 @@
--- Parts of a chunk that is laid piece by piece. Own.
+-- Inside. Parts of a chunk that is laid piece by piece. Own.
 use Rattle.std.specs.Prelude.{ℕ, ◌-◌, ◌%◌, List, map, nat_lt, if◌then◌else◌, slice_index}
 use Rattle.std.specs.List.{range_with_len}
 use Rattle.block_layout.specs.Layout.{block_size, block_header_size, room}

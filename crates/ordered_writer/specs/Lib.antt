@@ -1,3 +1,4 @@
 pub mod Writers
+pub mod Padding
 pub mod Layings
 pub mod Reorders

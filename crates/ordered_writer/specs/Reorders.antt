@@ -1,4 +1,4 @@
--- Chunks that come in any order and are given by rising numbers. Own.
+-- Inside. Chunks that come in any order and are given by rising numbers. Own.
 use Rattle.std.specs.Prelude.{◌≡◌, ℕ, ◌+◌, ◌-◌, ◌%◌, ◌<◌, ◌≤◌, ◌==◌, Option, Some, None, List, [], ◌∷◌, ◌++◌, count_by, drop, get_or, is_some, length, map, replicate}
 use Rattle.std.specs.List.{AllByRecursion, range_with_len, slice_set}
 use Rattle.chunk_header.specs.declared.Chunk.{Chunk}

@@ -1,11 +1,9 @@
--- Chunks that are written one after another, with zero padding. Own.
+-- Inside. Chunks that are written one after another, with zero padding. Own.
 use Rattle.std.specs.Prelude.{ℕ, Bool, true, false, List, ◌++◌}
 use Rattle.chunk_header.specs.declared.Chunk.{Chunk}
 use Rattle.chunk_header.specs.declared.Header.{Header}
 use Rattle.chunk_header.specs.Views.{bytes_of_header, value_of}
 use Rattle.meta_chunk.specs.Laid.{laid_bytes, end_of_chunk}
-use Rattle.meta_chunk.specs.Files.{laid_each}
-use Rattle.meta_chunk.specs.PaddingSizes.{padding_at}
 
 -- a writer: where its next chunk begins, and whether a call of it failed
 pub record Writer : Type 0 where
@@ -27,7 +25,3 @@ laid_with begin h bytes = laid_bytes begin (end_of_chunk begin (value_of h bytes
 -- those of a chunk of the program
 abbrev pub laid_as : ℕ → Chunk → List ℕ
 laid_as begin c = laid_with begin c.header c.bytes
-
--- the bytes of the padding from a position to a block
-abbrev pub padding_bytes : ℕ → List ℕ
-padding_bytes place = laid_each place (padding_at place)

@@ -8,11 +8,11 @@ ghost use Rattle.chunk_header.specs.Views.{HasRightHash, IsHeaderOf, value_of_ch
 ghost use Rattle.chunk_header.specs.declared.Chunk.{Chunk};
 ghost use Rattle.chunk_header.specs.declared.Header.{Header};
 ghost use Rattle.meta_chunk.specs.Laid.{IsLaid, end_of_chunk, laid};
-ghost use Rattle.meta_chunk.specs.Counts.{totals_of};
-ghost use Rattle.meta_chunk.specs.Files.{AreLaid, AreRecordsOf, IsFile, IsFrame, end_of_chunks, laid_each};
+ghost use Rattle.meta_chunk.specs.Files.{totals_of, AreLaid, AreRecordsOf, IsFile, IsFrame, end_of_chunks, laid_each};
 ghost use Rattle.meta_chunk.specs.PaddingSizes.{padding_at};
 ghost use Rattle.ordered_writer.specs.Reorders.{CanHold, CanHoldEach, HasEachFrom, Reordering, coming, count_held, held_at, moved_on, room_of, with_each, with_held};
-ghost use Rattle.ordered_writer.specs.Writers.{laid_as, laid_with, padding_bytes};
+ghost use Rattle.ordered_writer.specs.Writers.{laid_as, laid_with};
+ghost use Rattle.ordered_writer.specs.Padding.{padding_bytes};
 
 /// Where a header says of a chunk all that it says, that chunk is laid with it. Own.
 pub fn chunks_are_laid_with_their_header()

@@ -1,7 +1,8 @@
 // A chunk laid piece by piece.
 
 ghost use Rattle.std.specs.Prelude.{◌≡◌, ◌+◌, ◌^◌, ◌<◌, ◌≤◌, [], ◌++◌, min, length, IfOk, OnOk, OnErr, IsErr};
-ghost use Rattle.block_layout.specs.Layout.{end_of, IsNextPlace, IsOnBoundary, usable_from};
+ghost use Rattle.block_layout.specs.Layout.{end_of};
+ghost use Rattle.block_layout.specs.NextPlaces.{IsNextPlace, IsOnBoundary, usable_from};
 ghost use Rattle.record_io.specs.Outside.{TakesShort};
 ghost use Rattle.record_io.specs.Buffers.{TakesAndHolds};
 ghost use Rattle.record_io.specs.Calls.{OnlyCounts, PutsThrough};

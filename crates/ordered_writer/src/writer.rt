@@ -35,7 +35,7 @@ pub struct OrderedWriter {
 
 impl Model for OrderedWriter {
     ghost use Rattle.std.specs.Prelude.{◌≤◌, ◌^◌};
-    ghost use Rattle.block_layout.specs.Layout.{IsOnBoundary};
+    ghost use Rattle.block_layout.specs.NextPlaces.{IsOnBoundary};
     ghost use Rattle.ordered_writer.specs.Writers.{Writer};
 
     ghost Value = { Writer };

@@ -1,7 +1,8 @@
--- What a store holds that reads ahead. Own.
+-- Inside. What a store holds that reads ahead. Own.
 use Rattle.std.specs.Prelude.{◌≡◌, ℕ, ◌+◌, ◌^◌, ◌<◌, ◌==◌, max, Bool, false, Option, Some, None, Result, IfSome, OnErr, List, length, slice_range, refl, if◌then◌else◌}
 use Rattle.std.specs.Int.{next_multiple_of}
-use Rattle.record_io.specs.Outside.{Rose, faults_after}
+use Rattle.record_io.specs.Outside.{Rose}
+use Rattle.record_io.specs.FaultCounts.{faults_after}
 use Rattle.record_io.specs.Seen.{SeenFile}
 
 -- bytes and the place where they begin

@@ -1,6 +1,7 @@
--- What can be relied on of files that are used apart from others, and of what is told apart from them. Own.
+-- Inside. What can be relied on of files that are used apart from others, and of what is told apart from them. Own.
 use Rattle.std.specs.Prelude.{◌≡◌, ℕ, Option, None, Some, Bool, true, false, is_some, Result, List, IfSome, IsErr, OnErr, OnOk}
-use Rattle.record_io.specs.Outside.{Lent, Rose, faults_after}
+use Rattle.record_io.specs.Outside.{Lent, Rose}
+use Rattle.record_io.specs.FaultCounts.{faults_after}
 use Rattle.record_io.specs.Seen.{SeenFile, SeenStream}
 use Rattle.record_io.specs.Edge.{Opened, Writing}
 

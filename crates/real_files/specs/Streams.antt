@@ -1,4 +1,4 @@
--- What stands behind the standard streams. Own.
+-- Inside. What stands behind the standard streams. Own.
 use Rattle.std.specs.Prelude.{◌≡◌}
 use Rattle.real_files.specs.declared.streams.FileId.{FileId}
 use Rattle.real_files.specs.declared.streams.Behind.{Behind}

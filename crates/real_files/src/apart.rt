@@ -1,6 +1,6 @@
 //! Real files that are none of those that the other words and the standard streams lead to.
 ghost use Rattle.std.specs.Prelude.{◌≡◌, None, Some, true, false, is_some, IfSome, OnOk, OnErr};
-ghost use Rattle.record_io.specs.Outside.{faults_after};
+ghost use Rattle.record_io.specs.FaultCounts.{faults_after};
 
 use crate::streams::{Behind, file_at};
 use record_io::{Failed, fault};

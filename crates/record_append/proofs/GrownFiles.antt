@@ -19,7 +19,8 @@ use Rattle.chunk_reader.proofs.ChainReads.{no_further_unsigned}
 use Rattle.chunk_reader.proofs.ChainSteps.{IsChainOf-nil, chain_boundary, longest_where_whole, no_chunks, signature_chain}
 use Rattle.chunk_reader.proofs.FaultsDecided.{file_judged}
 use Rattle.chunk_reader.proofs.FileFaults.{fault_or_none, longest_is_one}
-use Rattle.record_writer.specs.Written.{tail_chunks, tail_under}
+use Rattle.record_writer.specs.Written.{tail_chunks}
+use Rattle.record_writer.specs.WriteAnswers.{tail_under}
 use Rattle.record_writer.specs.declared.options.WriteOptions.{WriteOptions}
 use Rattle.record_append.specs.Grown.{IsKeptTo, IsUnrefused, bytes_at, chunks_at, grown}
 

@@ -5,14 +5,14 @@ use Rattle.std.proofs.lemmas.List.{length-append, length-take-le}
 use Rattle.std.proofs.lemmas.List.Sums.{sum_by-cons}
 use Rattle.record_values.specs.declared.file_totals.Totals.{Totals}
 use Rattle.chunk_header.specs.Chunks.{ChunkValue}
-use Rattle.meta_chunk.specs.Counts.{is_unread}
-use Rattle.meta_chunk.specs.Files.{signature}
+use Rattle.meta_chunk.specs.Files.{is_unread, signature}
 use Rattle.meta_chunk.specs.Laid.{end_of_chunk}
 use Rattle.record_writer.specs.Feeds.{Rest}
 use Rattle.record_writer.specs.declared.options.WriteOptions.{WriteOptions}
-use Rattle.record_writer.specs.Written.{TellsTotals, TakesFile, tail_chunks}
-use Rattle.record_append.specs.Appends.{AnswersGrown, AnswersRest}
-use Rattle.record_append.specs.Grown.{IsKeptTo, IsUnrefused, bytes_at, totals_at}
+use Rattle.record_writer.specs.Written.{tail_chunks}
+use Rattle.record_writer.specs.WriteAnswers.{TellsTotals, TakesFile}
+use Rattle.record_append.specs.AppendAnswers.{AnswersGrown, AnswersRest, totals_at}
+use Rattle.record_append.specs.Grown.{IsKeptTo, IsUnrefused, bytes_at}
 use Rattle.record_writer.proofs.Counted.{counted-tail}
 use Rattle.record_append.proofs.KeptFiles.{IsSized}
 

@@ -3,20 +3,22 @@ use Rattle.std.proofs.Common.{◌≡◌, ◌≢◌, ◌∙◌, ℕ, zero, suc, �
 use Rattle.std.specs.Prelude.{option_map}
 use Rattle.std.specs.Option.{ForSome}
 use Rattle.std.proofs.lemmas.List.{take-append-drop}
-use Rattle.record_io.specs.Outside.{Takes, TakesFront, TakesShort}
+use Rattle.record_io.specs.Outside.{Takes, TakesShort}
+use Rattle.record_io.specs.Calls.{TakesFront}
 use Rattle.record_values.specs.declared.file_totals.Totals.{Totals}
 use Rattle.chunk_header.specs.Chunks.{ChunkValue}
-use Rattle.meta_chunk.specs.Counts.{totals_of}
-use Rattle.meta_chunk.specs.Files.{end_of_chunks, laid_each}
+use Rattle.meta_chunk.specs.Files.{totals_of, end_of_chunks, laid_each}
 use Rattle.meta_chunk.proofs.Joins.{end-laid_each}
 use Rattle.record_group.specs.Groups.{file_of}
 use Rattle.record_writer.specs.Feeds.{Rest}
 use Rattle.record_writer.specs.declared.engine.WriteEnd.{WriteEnd}
 use Rattle.record_writer.specs.declared.engine.WriteEnd.TheVariants.{TooLong, InputTooLong, BadLine, Input, Made, Memory}
 use Rattle.record_writer.specs.declared.options.WriteOptions.{WriteOptions}
-use Rattle.record_writer.specs.Written.{TellsWritten, TellsTotals, TakesFile, chunks_under, file_under, tail_under, totals_from}
+use Rattle.record_writer.specs.Written.{chunks_under, file_under}
+use Rattle.record_writer.specs.WriteAnswers.{TellsWritten, TellsTotals, TakesFile, tail_under, totals_from}
 use Rattle.record_append.specs.Devices.{bytes_before, bytes_from, name_of_sized}
-use Rattle.record_append.specs.Grown.{bytes_at, totals_at}
+use Rattle.record_append.specs.Grown.{bytes_at}
+use Rattle.record_append.specs.AppendAnswers.{totals_at}
 
 -- bytes that end at a place, and those from there on
 held_behind : (front taken : List ℕ) (place : ℕ) (held : Option (List ℕ))

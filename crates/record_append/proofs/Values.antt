@@ -12,8 +12,8 @@ use Rattle.chunk_reader.proofs.SignedFiles.{IsPlain-signature, IsLaid-signature}
 use Rattle.record_group.specs.Groups.{groups, file_of}
 use Rattle.record_group.specs.declared.pad.Pad.TheVariants.{No, Both}
 use Rattle.record_writer.specs.declared.options.WriteOptions.{WriteOptions}
-use Rattle.record_append.specs.Appends.{MayBeKeptTo, Tells}
-use Rattle.record_append.specs.Grown.{IsKeptTo, RefusesFor, grown, totals_at}
+use Rattle.record_append.specs.AppendAnswers.{MayBeKeptTo, Tells, totals_at}
+use Rattle.record_append.specs.Grown.{IsKeptTo, RefusesFor, grown}
 
 -- a chunk for each record, and padding on both sides
 plain : WriteOptions

@@ -1,4 +1,4 @@
--- What is shown of a file that is cut and grown, and what a call leaves of it. Own.
+-- Inside. What is shown of a file that is cut and grown, and what a call leaves of it. Own.
 use Rattle.std.specs.Prelude.{◌≡◌, ℕ, ◌+◌, ◌*◌, ◌^◌, ◌<◌, ◌≤◌, Option, IfSome, List, drop, length, take, option_map}
 use Rattle.record_io.specs.Outside.{Rose}
 

@@ -1,4 +1,4 @@
--- Why an append ended, by how what it calls ended. Own.
+-- Inside. Why an append ended, by how what it calls ended. Own.
 use Rattle.chunk_reader.specs.declared.reasons.VerifyEnd.{VerifyEnd}
 use Rattle.chunk_reader.specs.declared.reasons.VerifyEnd.TheVariants as verify
 use Rattle.record_writer.specs.declared.engine.WriteEnd.{WriteEnd}

@@ -1,13 +1,12 @@
--- The file that new records make of an old one. Own.
+-- Promise. The file that new records make of an old one. Own.
 use Rattle.std.specs.Prelude.{◌≡◌, ◌≢◌, ℕ, zero, suc, Bool, true, false, ◌⊎◌, List, [], ◌++◌, take}
-use Rattle.record_values.specs.declared.file_totals.Totals.{Totals}
 use Rattle.chunk_header.specs.Chunks.{ChunkValue}
 use Rattle.meta_chunk.specs.Files.{laid_each}
 use Rattle.chunk_reader.specs.Faults.{IsAllowed, IsFault, IsLongest}
 use Rattle.chunk_reader.specs.declared.reasons.Fault.{Fault}
 use Rattle.chunk_reader.specs.declared.reasons.Why.{Why}
 use Rattle.chunk_reader.specs.declared.reasons.Why.TheVariants as why
-use Rattle.record_writer.specs.Written.{chunks_under, tail_chunks, totals_from}
+use Rattle.record_writer.specs.Written.{chunks_under, tail_chunks}
 use Rattle.record_writer.specs.declared.options.WriteOptions.{WriteOptions}
 
 -- an old file is kept up to this place, the greatest up to which it is well-formed chunks, unread ones too
@@ -22,10 +21,6 @@ chunks_at options (suc n) records = tail_chunks options (suc n) records
 -- their bytes
 abbrev pub bytes_at : WriteOptions → ℕ → List (List ℕ) → List ℕ
 bytes_at options place records = laid_each place (chunks_at options place records)
-
--- their totals
-abbrev pub totals_at : WriteOptions → ℕ → List (List ℕ) → Totals
-totals_at options place records = totals_from place (chunks_at options place records)
 
 -- the grown file, of an old one that is kept up to a place: its bytes before that, and those of the records from there on. So an
 -- empty file, of which nothing is kept, grows to the file of the records

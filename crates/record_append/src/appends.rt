@@ -1,11 +1,11 @@
 ghost use Rattle.std.specs.Prelude.{◌≡◌, ◌+◌, ◌^◌, ◌<◌, ◌≤◌, ◌++◌, ℕ, List, Some, Err, IfOk, IfSome, IsSomeAnd, OnOk};
 ghost use Rattle.record_io.specs.Calls.{OnlyCounts};
 ghost use Rattle.record_io.specs.Seen.{seen_file};
-ghost use Rattle.record_writer.specs.Feeds.{nothing_left};
-ghost use Rattle.record_writer.specs.Written.{TellsTotals, TakesFile};
-ghost use Rattle.record_append.specs.Appends.{AnswersGrown, AnswersRest, KeepsOld, MayBeKeptTo, MayPut, RefusesOld};
+ghost use Rattle.record_writer.specs.FeedSteps.{nothing_left};
+ghost use Rattle.record_writer.specs.WriteAnswers.{TellsTotals, TakesFile};
+ghost use Rattle.record_append.specs.AppendAnswers.{AnswersGrown, AnswersRest, KeepsOld, MayBeKeptTo, MayPut, RefusesOld, totals_at};
 ghost use Rattle.record_append.specs.Devices.{CountsFaults, EndsAt};
-ghost use Rattle.record_append.specs.Grown.{bytes_at, totals_at};
+ghost use Rattle.record_append.specs.Grown.{bytes_at};
 
 use crate::old_file::{cut_to, judge};
 use crate::sized_sink::SizedSink;

@@ -3,7 +3,8 @@
 ghost use Rattle.std.specs.Prelude.{◌≡◌, ℕ, ◌^◌, ◌≤◌, Bool, List, [], ◌++◌, length};
 ghost use Rattle.record_values.specs.Bytes.{AreBytes};
 ghost use Rattle.chunk_header.specs.Chunks.{ChunkValue};
-ghost use Rattle.meta_chunk.specs.Files.{AreRecordsOf, IsFrame, IsFrameChain};
+ghost use Rattle.meta_chunk.specs.Files.{AreRecordsOf, IsFrame};
+ghost use Rattle.meta_chunk.specs.Chains.{IsFrameChain};
 ghost use Rattle.record_group.specs.Records.{AreRecords};
 ghost use Rattle.record_writer.specs.declared.options.WriteOptions.{WriteOptions};
 ghost use Rattle.record_append.specs.Grown.{IsKeptTo, IsUnrefused, chunks_at, grown};

@@ -1,7 +1,7 @@
 ghost use Rattle.std.specs.Prelude.{◌≡◌, ◌+◌, ◌^◌, ◌<◌, ◌≤◌, ◌↔◌, IsTrue, None, Some, Err, IfOk, IfSome, IsErr, OnErr, OnOk, length, option_map, take};
 ghost use Rattle.record_io.specs.Calls.{OnlyAsks, OnlyCounts};
 ghost use Rattle.chunk_reader.specs.declared.reasons.Fault.{Fault};
-ghost use Rattle.record_append.specs.Appends.{MayBeKeptTo};
+ghost use Rattle.record_append.specs.AppendAnswers.{MayBeKeptTo};
 ghost use Rattle.record_append.specs.Devices.{EndsAt};
 ghost use Rattle.record_append.specs.Grown.{IsKeptTo, IsRefusedToGrow, IsUnrefused, RefusesFor};
 

@@ -6,13 +6,12 @@ use Rattle.std.proofs.lemmas.List.Elements.{All-from_recursion, recursion_from_A
 use Rattle.record_io.specs.Calls.{OnlyAsks}
 use Rattle.record_io.specs.ManyStores.{AnyRose, AreOnlyAsked, AreTold}
 use Rattle.record_io.proofs.ManyStores.{asks_whatever}
-use Rattle.chunk_reader.specs.Faults.{IsFault}
-use Rattle.chunk_reader.specs.ManyFiles.{IsFirstFault}
+use Rattle.chunk_reader.specs.Faults.{IsFault, IsFirstFault}
 use Rattle.chunk_reader.specs.declared.reasons.Fault.{Fault}
 use Rattle.chunk_reader.specs.declared.reasons.ReadEnd.{ReadEnd}
 use Rattle.chunk_reader.specs.declared.reasons.ReadEnd.TheVariants.{Refused, Store}
 use Rattle.record_collect.specs.declared.feeding.Fed.{Fed}
-use Rattle.record_collect.specs.GatheredFiles.{AreRecordsOfEach}
+use Rattle.record_collect.specs.Gatherings.{AreRecordsOfEach}
 use Rattle.record_collect.specs.Passes.{CollectorValue, PassValue, BelongsTo}
 use Rattle.record_collect.specs.Takings.{AreFed, HasAccepted, IsFed, IsFirstStopped, IsRead, IsTakenOf}
 

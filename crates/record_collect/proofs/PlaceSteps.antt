@@ -16,17 +16,18 @@ use Rattle.chunk_header.specs.SimpleChunks.{simple_chunk, sizes_of}
 use Rattle.chunk_header.proofs.SimpleChunks.{length-simple_data}
 use Rattle.simple_chunk.specs.Costs.{cost, cost_of}
 use Rattle.simple_chunk.proofs.CostLemmas.{cost_of-is}
-use Rattle.meta_chunk.specs.Files.{placed_from}
+use Rattle.meta_chunk.specs.Files.{placed_from, ArePlaced, signature}
 use Rattle.meta_chunk.specs.Laid.{end_of_chunk}
-use Rattle.meta_chunk.specs.Files.{ArePlaced, signature}
 use Rattle.record_group.specs.declared.pad.Pad.TheVariants.{No}
-use Rattle.record_group.specs.Groups.{chunks_of, closes_before, groups, groups_after, lists_held}
+use Rattle.record_group.specs.Groups.{chunks_of, closes_before, groups, groups_after}
+use Rattle.record_group.specs.HeldLists.{lists_held}
 use Rattle.record_group.specs.Records.{AreRecords}
 use Rattle.record_group.proofs.Grouping.{joined-groups}
 use Rattle.record_group.proofs.RecordFiles.{HoldEach-chunks_of}
 use Rattle.record_group.proofs.Signed.{end_of_chunk-signature}
 use Rattle.record_collect.specs.declared.file_places.OpenChunk.{OpenChunk}
-use Rattle.record_collect.specs.FilePlaces.{IsSound, closes, end_of_open, next_place, opened_at, placed_in_file, places_in_file, reach, ready_for, with_record}
+use Rattle.record_collect.specs.FilePlaces.{placed_in_file, places_in_file}
+use Rattle.record_collect.specs.OpenChunks.{IsSound, closes, end_of_open, next_place, opened_at, reach, ready_for, with_record}
 
 -- bytes end near their begin: less than two block headers, and one more for each block's bytes, lie between
 end_of-near : (begin size : ℕ) → 1 ≤ size → end_of begin size ≤ begin + 2 * size + 48

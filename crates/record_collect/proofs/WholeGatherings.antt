@@ -13,7 +13,7 @@ use Rattle.meta_chunk.proofs.Held.{AreRecordsOf-one}
 use Rattle.simple_chunk.specs.Costs.{cost, cost_of}
 use Rattle.number_shares.proofs.Lists.{all_at}
 use Rattle.record_io.specs.ManyStores.{AreOnlyAsked, IfAllTell}
-use Rattle.chunk_reader.specs.ManyFiles.{HaveNoFault, IsFirstFault}
+use Rattle.chunk_reader.specs.Faults.{HaveNoFault, IsFirstFault}
 use Rattle.chunk_reader.specs.declared.reasons.Fault.{Fault}
 use Rattle.chunk_reader.specs.declared.reasons.ReadEnd.{ReadEnd}
 use Rattle.chunk_reader.specs.declared.reasons.ReadEnd.TheVariants as read
@@ -24,9 +24,8 @@ use Rattle.record_collect.specs.declared.gathering.GatherEnd.{GatherEnd}
 use Rattle.record_collect.specs.declared.gathering.GatherEnd.TheVariants as gather
 use Rattle.number_shares.specs.Least.{IsLeast}
 use Rattle.record_collect.specs.Limits.{limit}
-use Rattle.record_collect.specs.Passes.{CollectorValue, PassValue, ends_of, pass_records}
-use Rattle.record_collect.specs.Gatherings.{AreGathered, AreWoven, GatheredValue, HaveReceipts, IsInBounds}
-use Rattle.record_collect.specs.GatheredFiles.{AreGatheredOf, AreRecordsOfEach, HasTooLong, IsTooMuch}
+use Rattle.record_collect.specs.Passes.{CollectorValue, PassValue, ends_of, pass_records, AreGathered, HaveReceipts}
+use Rattle.record_collect.specs.Gatherings.{AreWoven, GatheredValue, IsInBounds, AreGatheredOf, AreRecordsOfEach, HasTooLong, IsTooMuch}
 use Rattle.record_collect.specs.Takings.{AreFed, AreRead, HasAccepted, IsFirstStopped, WasRefused}
 use Rattle.record_collect.proofs.WovenCosts.{woven-cost, woven-stands}
 use Rattle.record_collect.proofs.AllRead.{stands-behind}

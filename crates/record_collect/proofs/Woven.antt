@@ -11,8 +11,8 @@ use Rattle.record_collect.specs.declared.collector.Accepted.{Accepted}
 use Rattle.record_collect.specs.declared.placed.Placed.{Placed}
 use Rattle.number_shares.specs.Least.{IsLeast}
 use Rattle.record_collect.specs.Limits.{limit}
-use Rattle.record_collect.specs.Passes.{PassValue, ends_of, pass_records}
-use Rattle.record_collect.specs.Gatherings.{AreGathered, GatheredValue, HaveReceipts, IsInBounds, StandAt}
+use Rattle.record_collect.specs.Passes.{PassValue, ends_of, pass_records, AreGathered, HaveReceipts}
+use Rattle.record_collect.specs.Gatherings.{GatheredValue, IsInBounds, StandAt}
 use Rattle.record_collect.specs.Orders.{ReceiptsAddUp, bytes_in, cost_of_placed, gathered_of, of_pass, place_in, places_of}
 use Rattle.record_collect.proofs.PlacedNumbers.{places_once, places_rise, places_below, records_stand}
 

@@ -1,4 +1,4 @@
--- How gathering ends where a file was not read to its end. Own.
+-- Inside. How gathering ends where a file was not read to its end. Own.
 use Rattle.std.specs.Prelude.{ℕ}
 use Rattle.chunk_reader.specs.declared.reasons.ReadEnd.{ReadEnd}
 use Rattle.chunk_reader.specs.declared.reasons.ReadEnd.TheVariants as read

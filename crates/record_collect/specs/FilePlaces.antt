@@ -1,12 +1,9 @@
--- Where records stand in the file of them. Own.
-use Rattle.std.specs.Prelude.{ℕ, ◌+◌, ◌*◌, ◌≤◌, Bool, not, ◌&&◌, ◌==◌, nat_lt, if◌then◌else◌, None, List, length, map}
-use Rattle.varint_wire.specs.Varint.{shortest}
-use Rattle.block_layout.specs.Layout.{IsBoundary, chunk_end_of, chunk_header_size}
+-- Promise. Where records stand in the file of them. Own.
+use Rattle.std.specs.Prelude.{ℕ, None, List, map}
 use Rattle.chunk_header.specs.SimpleChunks.{simple_chunk}
 use Rattle.meta_chunk.specs.Files.{placed_from, signature}
 use Rattle.meta_chunk.specs.Laid.{end_of_chunk}
 use Rattle.record_group.specs.Groups.{groups}
-use Rattle.record_collect.specs.declared.file_places.OpenChunk.{OpenChunk}
 
 -- the records of the file of records, each with its position: behind the signature each group stands in a chunk of its own, and
 -- a record at its chunk's begin and its number there
@@ -16,37 +13,3 @@ placed_in_file records size = placed_from (end_of_chunk 0 signature) (map simple
 -- the positions alone
 abbrev pub places_in_file : List (List ℕ) → ℕ → List ℕ
 places_in_file records size = map (λ (placed : ℕ × List ℕ). placed.0) (placed_in_file records size)
-
--- a chunk of no records yet
-abbrev pub opened_at : ℕ → OpenChunk
-opened_at begin = record { begin = begin; records = 0; sizes = 0; values = 0 }
-
--- it, with one more record of so many bytes
-abbrev pub with_record : ℕ → OpenChunk → OpenChunk
-with_record len chunk = record chunk { records = chunk.records + 1; sizes = chunk.sizes + length (shortest len); values = chunk.values + len }
-
--- where it ends
-abbrev pub end_of_open : OpenChunk → ℕ
-end_of_open chunk = chunk_end_of chunk.begin (chunk_header_size + (1 + length (shortest chunk.sizes) + chunk.sizes + chunk.values)) chunk.records
-
--- whether it closes before a record of so many bytes
-abbrev pub closes : ℕ → ℕ → OpenChunk → Bool
-closes size len chunk = not (chunk.records == 0) && nat_lt size (chunk.values + 8 * chunk.records + (len + 8))
-
--- the chunk that such a record goes into
-abbrev pub ready_for : ℕ → ℕ → OpenChunk → OpenChunk
-ready_for size len chunk = if closes size len chunk then opened_at (end_of_open chunk) else chunk
-
--- the position of the next record of a chunk
-abbrev pub next_place : OpenChunk → ℕ
-next_place chunk = chunk.begin + chunk.records
-
--- the chunk begins at a boundary, and each size takes from 1 to 10 bytes
-pub record IsSound (chunk : OpenChunk) : Type 0 where
-  pub boundary : IsBoundary chunk.begin
-  pub some : chunk.records ≤ chunk.sizes
-  pub few : chunk.sizes ≤ 10 * chunk.records
-
--- how far it reaches, at most, if it has a record
-abbrev pub reach : OpenChunk → ℕ
-reach chunk = chunk.begin + 23 * (chunk.values + 8 * chunk.records)

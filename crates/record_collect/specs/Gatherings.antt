@@ -1,12 +1,12 @@
--- Lists of records woven into one. Own.
-use Rattle.std.specs.Prelude.{◌≡◌, ◌≢◌, ℕ, ◌^◌, ◌<◌, ◌≤◌, Some, List, [], length, map, slice_get, take}
-use Rattle.std.specs.List.{AllByRecursion, AllZip, flat_map}
+-- Promise. Lists of records that are woven into one, and files whose records are. Own.
+use Rattle.std.specs.Prelude.{◌≡◌, ℕ, ◌^◌, ◌<◌, ◌≤◌, ◌⊎◌, Some, List, length, map, slice_get}
+use Rattle.std.specs.List.{AllByRecursion, AllZip, flat_map, sum_by}
 use Rattle.std.specs.List.Sorted.{IsStrictlyIncreasing}
+use Rattle.chunk_header.specs.Chunks.{ChunkValue}
 use Rattle.simple_chunk.specs.Costs.{cost_of}
 use Rattle.number_shares.specs.Once.{HasEachBelow}
-use Rattle.number_shares.specs.Least.{IsLeast}
+use Rattle.meta_chunk.specs.Files.{IsFile, AreRecordsOf}
 use Rattle.record_collect.specs.Limits.{limit}
-use Rattle.record_collect.specs.Passes.{PassValue, ends_of, receipts_of, pass_records}
 
 -- the records in one list, and for each pass the numbers at which its records stand there
 pub record GatheredValue : Type 0 where
@@ -29,14 +29,29 @@ pub record AreWoven (lists : List (List (List ℕ))) (records : List (List ℕ))
   pub each : AllZip (StandAt records) lists numbers
   pub once : HasEachBelow (length records) (flat_map (λ ns. ns) numbers)
 
--- what the records before each of these numbers cost is the receipt of the pass's record there
-abbrev pub HaveReceipts : List (List ℕ) → PassValue → List ℕ → Type 0
-HaveReceipts records pass numbers = map (λ n. cost_of (take n records)) numbers ≡ receipts_of pass
+-- these are the records of each file, which has no fault
+abbrev pub AreRecordsOfEach : List (List ℕ) → List (List (List ℕ)) → Type 0
+AreRecordsOfEach files lists = AllZip (λ file list. (ks : List ChunkValue) × IsFile ks file × AreRecordsOf ks list) files lists
 
--- what a collector makes of its passes: their records woven into one list, in which the receipt of each is what all before it
--- cost; together they cost no more than the limit, and where a pass ended, the least number at which one did
-pub record AreGathered (passes : List PassValue) (made : GatheredValue) : Type 0 where
-  pub woven : AreWoven (map pass_records passes) made.records made.numbers
-  pub receipts : AllZip (HaveReceipts made.records) passes made.numbers
-  pub most : cost_of made.records ≤ limit
-  pub ended : ends_of passes ≢ [] → IsLeast (cost_of made.records) (ends_of passes)
+-- the files have no fault, and their records are woven into one list, of bounded records and cost
+pub record AreGatheredOf (files : List (List ℕ)) (made : GatheredValue) : Type 0 where
+  pub lists : List (List (List ℕ))
+  pub are : AreRecordsOfEach files lists
+  pub woven : AreWoven lists made.records made.numbers
+  pub bounds : IsInBounds made
+
+-- one of the lists has a record of more than 2 ^ 24 bytes
+pub record HasTooLong (lists : List (List (List ℕ))) : Type 0 where
+  pub list_number : ℕ
+  pub number : ℕ
+  pub list : List (List ℕ)
+  pub long : List ℕ
+  pub one_list : slice_get lists list_number ≡ Some list
+  pub one_record : slice_get list number ≡ Some long
+  pub more : 2 ^ 24 < length long
+
+-- the files have no fault, and they have a record of more than 2 ^ 24 bytes, or records that cost more than the limit together
+pub record IsTooMuch (files : List (List ℕ)) : Type 0 where
+  pub lists : List (List (List ℕ))
+  pub are : AreRecordsOfEach files lists
+  pub over : HasTooLong lists ⊎ (limit < sum_by cost_of lists)

@@ -4,6 +4,6 @@ pub mod Passes
 pub mod Gatherings
 pub mod Orders
 pub mod FilePlaces
+pub mod OpenChunks
 pub mod Takings
-pub mod GatheredFiles
 pub mod Ends

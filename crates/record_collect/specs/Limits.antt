@@ -1,4 +1,4 @@
--- What a collector takes at most. Own.
+-- Promise. What a collector takes at most. Own.
 use Rattle.std.specs.Prelude.{ℕ, ◌^◌}
 
 -- how much the collected records may cost together

@@ -1,4 +1,4 @@
--- The records of all passes in one list, each with its receipt and the number of its pass. Own.
+-- Inside. The records of all passes in one list, each with its receipt and the number of its pass. Own.
 use Rattle.std.specs.Prelude.{◌≡◌, ℕ, ◌+◌, ◌==◌, if◌then◌else◌, List, [], ◌∷◌, map}
 use Rattle.std.specs.List.{filter, range_with_len, sum_by}
 use Rattle.simple_chunk.specs.Costs.{cost}

@@ -1,13 +1,15 @@
--- What contracts see of a collector and of its passes. Own.
-use Rattle.std.specs.Prelude.{◌≡◌, ℕ, ◌+◌, ◌^◌, ◌<◌, ◌≤◌, ◌⊎◌, Option, Some, None, List, [], ◌∷◌, ◌++◌, length, map}
-use Rattle.std.specs.List.{AllByRecursion, flat_map}
+-- Inside. What contracts see of a collector and of its passes. Own.
+use Rattle.std.specs.Prelude.{◌≡◌, ◌≢◌, ℕ, ◌+◌, ◌^◌, ◌<◌, ◌≤◌, ◌⊎◌, Option, Some, None, List, [], ◌∷◌, ◌++◌, length, map, take}
+use Rattle.std.specs.List.{AllByRecursion, AllZip, flat_map}
 use Rattle.std.specs.Option.{option_to_list}
 use Rattle.atomic_table.specs.Seated.{TableId}
-use Rattle.simple_chunk.specs.Costs.{cost}
+use Rattle.number_shares.specs.Least.{IsLeast}
+use Rattle.simple_chunk.specs.Costs.{cost, cost_of}
 use Rattle.record_collect.specs.declared.collector.Accepted.{Accepted}
 use Rattle.record_collect.specs.declared.collector.CollectEnd.{CollectEnd}
 use Rattle.record_collect.specs.declared.collector.CollectEnd.TheVariants.{TooLong, Full, Memory}
 use Rattle.record_collect.specs.Limits.{limit}
+use Rattle.record_collect.specs.Gatherings.{AreWoven, GatheredValue}
 
 -- which table receipts are taken from, and for how many passes
 pub record CollectorValue : Type 0 where
@@ -68,3 +70,15 @@ receipts_of pass = map (λ e. e.at) pass.mine
 -- the numbers at which passes ended
 abbrev pub ends_of : List PassValue → List ℕ
 ends_of passes = flat_map (λ p. option_to_list p.ended) passes
+
+-- what the records before each of these numbers cost is the receipt of the pass's record there
+abbrev pub HaveReceipts : List (List ℕ) → PassValue → List ℕ → Type 0
+HaveReceipts records pass numbers = map (λ n. cost_of (take n records)) numbers ≡ receipts_of pass
+
+-- what a collector makes of its passes: their records woven into one list, in which the receipt of each is what all before it
+-- cost; together they cost no more than the limit, and where a pass ended, the least number at which one did
+pub record AreGathered (passes : List PassValue) (made : GatheredValue) : Type 0 where
+  pub woven : AreWoven (map pass_records passes) made.records made.numbers
+  pub receipts : AllZip (HaveReceipts made.records) passes made.numbers
+  pub most : cost_of made.records ≤ limit
+  pub ended : ends_of passes ≢ [] → IsLeast (cost_of made.records) (ends_of passes)

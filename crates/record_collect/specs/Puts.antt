@@ -1,4 +1,4 @@
--- The pieces that puts of records take. Own.
+-- Inside. The pieces that puts of records take. Own.
 use Rattle.std.specs.Prelude.{◌+◌, ◌^◌}
 use Rattle.simple_chunk.specs.Costs.{cost}
 use Rattle.number_shares.specs.declared.table.Bounds.{Bounds}

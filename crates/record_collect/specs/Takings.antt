@@ -1,11 +1,11 @@
--- What passes take of the records of files, and what becomes of the stores that threads read. Own.
+-- Inside. What passes take of the records of files, and what becomes of the stores that threads read. Own.
 use Rattle.std.specs.Prelude.{◌≡◌, ℕ, ◌+◌, ◌^◌, ◌<◌, ◌⊎◌, false, Option, Some, None, Result, Ok, Err, IfOk, IfSome, List, [], ◌∷◌, ◌++◌, length, slice_get, take}
 use Rattle.std.specs.List.{AllByRecursion}
 use Rattle.record_values.specs.declared.file_totals.Totals.{Totals}
 use Rattle.record_io.specs.Calls.{OnlyAsks}
 use Rattle.chunk_header.specs.Chunks.{ChunkValue}
-use Rattle.meta_chunk.specs.Counts.{totals_of}
-use Rattle.meta_chunk.specs.Files.{IsChain, IsFile, AreRecordsOf}
+use Rattle.meta_chunk.specs.Files.{totals_of, IsFile, AreRecordsOf}
+use Rattle.meta_chunk.specs.Chains.{IsChain}
 use Rattle.simple_chunk.specs.Costs.{cost}
 use Rattle.chunk_reader.specs.Faults.{IsFault}
 use Rattle.chunk_reader.specs.declared.reasons.Fault.{Fault}

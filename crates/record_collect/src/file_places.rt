@@ -2,7 +2,8 @@
 ghost use Rattle.std.specs.Prelude.{◌≡◌, ◌+◌, ◌*◌, ◌^◌, ◌≤◌, IfOk, length};
 ghost use Rattle.block_layout.specs.Layout.{IsBoundary};
 ghost use Rattle.simple_chunk.specs.Costs.{cost, cost_of};
-ghost use Rattle.record_collect.specs.FilePlaces.{IsSound, closes, end_of_open, next_place, opened_at, places_in_file, reach, ready_for, with_record};
+ghost use Rattle.record_collect.specs.FilePlaces.{places_in_file};
+ghost use Rattle.record_collect.specs.OpenChunks.{IsSound, closes, end_of_open, next_place, opened_at, reach, ready_for, with_record};
 ghost use Rattle.record_collect.specs.Limits.{limit};
 
 use crate::gathered::Numbers;

@@ -2,9 +2,9 @@
 ghost use Rattle.std.specs.Prelude.{◌≡◌, ◌≢◌, ℕ, ◌<◌, ◌≤◌, ◌^◌, Some, [], All, IfOk, length, map, vec_len, slice_get};
 ghost use Rattle.std.specs.List.{AllByRecursion};
 ghost use Rattle.number_shares.specs.Least.{IsLeast};
-ghost use Rattle.record_collect.specs.Gatherings.{AreGathered, IsInBounds};
+ghost use Rattle.record_collect.specs.Gatherings.{IsInBounds};
+ghost use Rattle.record_collect.specs.Passes.{AreGathered, BelongsTo, PassValue, Rises, ends_of};
 ghost use Rattle.record_collect.specs.Orders.{ReceiptsAddUp, cost_of_placed, of_pass, piece_at, place_in};
-ghost use Rattle.record_collect.specs.Passes.{BelongsTo, PassValue, Rises, ends_of};
 ghost use Rattle.record_collect.specs.Limits.{limit};
 
 use crate::collector::{Collector, Pass};

@@ -2,13 +2,12 @@
 ghost use Rattle.std.specs.Prelude.{◌≡◌, ℕ, All, ◌+◌, ◌^◌, ◌<◌, ◌≤◌, ◌⊎◌, Some, IfOk, Ok, Err, false, length, slice_get, vec_len};
 ghost use Rattle.std.specs.List.{AllByRecursion};
 ghost use Rattle.record_io.specs.ManyStores.{AreOnlyAsked, AreTold, IfAllTell};
-ghost use Rattle.chunk_reader.specs.ManyFiles.{IsFirstFault};
+ghost use Rattle.chunk_reader.specs.Faults.{IsFirstFault};
 ghost use Rattle.chunk_reader.specs.declared.reasons.Fault.{Fault};
 ghost use Rattle.record_collect.specs.declared.feeding.Fed.{Fed};
 ghost use Rattle.record_collect.specs.declared.gathering.Stopped.{Stopped};
-ghost use Rattle.record_collect.specs.Gatherings.{AreGathered, GatheredValue, IsInBounds};
-ghost use Rattle.record_collect.specs.GatheredFiles.{AreGatheredOf, IsTooMuch};
-ghost use Rattle.record_collect.specs.Passes.{BelongsTo};
+ghost use Rattle.record_collect.specs.Gatherings.{GatheredValue, IsInBounds, AreGatheredOf, IsTooMuch};
+ghost use Rattle.record_collect.specs.Passes.{AreGathered, BelongsTo};
 ghost use Rattle.record_collect.specs.Takings.{AreRead, IsFirstStopped, both_taken};
 
 use crate::collector::{Collector, Pass};

@@ -7,7 +7,8 @@ use Rattle.std.proofs.lemmas.Bool.{cond_both, and_cases, and_parts, or_parts, no
 use Rattle.std.proofs.lemmas.List.{append_assoc, append-nil, nil_from_length, length-append}
 use Rattle.std.proofs.lemmas.List.Sums.{sum_by_push}
 use Rattle.simple_chunk.specs.Costs.{cost, cost_of}
-use Rattle.record_group.specs.Groups.{is_full, closes_before, groups_after, groups, KeepsLimits}
+use Rattle.record_group.specs.Groups.{is_full, closes_before, groups_after, groups}
+use Rattle.record_group.specs.Groupings.{KeepsLimits}
 use Rattle.record_group.specs.Records.{IsRecord, AreRecords}
 
 -- the records of groups, joined again

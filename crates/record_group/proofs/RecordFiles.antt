@@ -23,7 +23,8 @@ use Rattle.meta_chunk.proofs.Begins.{end_of_chunks_boundary}
 use Rattle.meta_chunk.proofs.Held.{IsSignature-one, HoldEach-append}
 use Rattle.meta_chunk.proofs.PaddingLemmas.{padding_at_are_padding, padding_at_are_plain, padding_at_are_chunks}
 use Rattle.record_group.specs.declared.pad.Pad.{Pad}
-use Rattle.record_group.specs.Groups.{groups, pads_start, pads_end, front_padding, front_chunks, end_padding, record_chunks, no_records, lists_held, chunks_of, file_of}
+use Rattle.record_group.specs.Groups.{groups, pads_start, pads_end, front_padding, front_chunks, end_padding, record_chunks, chunks_of, file_of}
+use Rattle.record_group.specs.HeldLists.{no_records, lists_held}
 use Rattle.record_group.specs.Records.{AreRecords}
 use Rattle.record_group.proofs.Grouping.{IsGroup, joined, joined-groups, groups-are}
 use Rattle.record_group.proofs.Paddings.{each_if}

@@ -1,14 +1,21 @@
--- What a grouper keeps between records, and what it gives for them. Own.
-use Rattle.std.specs.Prelude.{◌≡◌, ◌≢◌, ℕ, ◌+◌, ◌^◌, ◌≤◌, true, false, Option, Some, None, List, [], ◌∷◌, ◌++◌}
+-- Inside. What a grouper keeps between records, and what it gives for them. Own.
+use Rattle.std.specs.Prelude.{◌≡◌, ◌≢◌, ℕ, ◌+◌, ◌^◌, ◌≤◌, true, false, Option, Some, None, IfSome, List, [], ◌∷◌, ◌++◌, length}
 use Rattle.std.specs.Option.{option_to_list}
 use Rattle.simple_chunk.specs.Costs.{cost_of}
-use Rattle.record_group.specs.Groups.{closes_before, groups_after, KeepsLimits}
+use Rattle.record_group.specs.Groups.{closes_before, groups_after}
 
 -- the chunk size, how many records are wanted in each group, where a number is wanted, and the open group
 pub record Grouping : Type 0 where
   pub size : ℕ
   pub every : Option ℕ
   pub group : List (List ℕ)
+
+-- what each group keeps: it has a record, no more of them than are wanted in each, and costs at most the size,
+-- unless it is one record alone
+pub record KeepsLimits (size : ℕ) (every : Option ℕ) (group : List (List ℕ)) : Type 0 where
+  pub some : group ≢ []
+  pub count : IfSome every (λ most. 1 ≤ most → length group ≤ most)
+  pub costs : 2 ≤ length group → cost_of group ≤ size
 
 -- what a grouper keeps: a size of at most 2 ^ 24, and an open group that is empty or keeps the limits, and so costs
 -- at most that size, or what one record does

@@ -1,5 +1,5 @@
--- How records are grouped into chunks, and the file of records. Own.
-use Rattle.std.specs.Prelude.{◌≢◌, ℕ, ◌+◌, ◌≤◌, Bool, true, false, not, ◌&&◌, ◌||◌, Option, Some, None, IfSome, List, [], ◌∷◌, ◌++◌, length, map, nat_lt, ◌==◌, if◌then◌else◌}
+-- Promise. How records are grouped into chunks, and the file of records. Own.
+use Rattle.std.specs.Prelude.{ℕ, ◌+◌, Bool, true, false, not, ◌&&◌, ◌||◌, Option, Some, None, List, [], ◌∷◌, ◌++◌, length, map, nat_lt, ◌==◌, if◌then◌else◌}
 use Rattle.chunk_header.specs.SimpleChunks.{simple_chunk}
 use Rattle.chunk_header.specs.Chunks.{ChunkValue}
 use Rattle.simple_chunk.specs.Costs.{cost, cost_of}
@@ -30,13 +30,6 @@ groups_after size every group (record_bytes ∷ records) =
 -- the groups of records, for a chunk size and maybe a number of records in each
 unfoldable pub groups : List (List ℕ) → ℕ → Option ℕ → List (List (List ℕ))
 groups records size every = groups_after size every [] records
-
--- what each group keeps: it has a record, no more of them than are wanted in each, and costs at most the size,
--- unless it is one record alone
-pub record KeepsLimits (size : ℕ) (every : Option ℕ) (group : List (List ℕ)) : Type 0 where
-  pub some : group ≢ []
-  pub count : IfSome every (λ most. 1 ≤ most → length group ≤ most)
-  pub costs : 2 ≤ length group → cost_of group ≤ size
 
 -- where padding is wanted: before the first chunk of records, and behind the last
 abbrev pub pads_start : Pad → Bool
@@ -72,17 +65,6 @@ end_padding place records size every pad = padding_if (pads_end pad) (end_of_chu
 abbrev pub record_chunks : ℕ → List (List ℕ) → ℕ → Option ℕ → Pad → List ChunkValue
 record_chunks place records size every pad =
     front_chunks place records size every pad ++ end_padding place records size every pad
-
--- for each of some chunks no records
-abbrev pub no_records : List ChunkValue → List (List (List ℕ))
-no_records = map (λ k. [])
-
--- the lists of records that the chunks of records hold: none for padding, and each group for its own chunk
-abbrev pub lists_held : ℕ → List (List ℕ) → ℕ → Option ℕ → Pad → List (List (List ℕ))
-lists_held place records size every pad =
-    no_records (front_padding place pad)
-    ++ groups records size every
-    ++ no_records (end_padding place records size every pad)
 
 -- the chunks of the file of records: the signature, and those of the records behind it
 abbrev pub chunks_of : List (List ℕ) → ℕ → Option ℕ → Pad → List ChunkValue

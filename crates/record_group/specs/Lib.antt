@@ -1,3 +1,4 @@
 pub mod Groups
+pub mod HeldLists
 pub mod Groupings
 pub mod Records

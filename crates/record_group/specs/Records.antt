@@ -1,4 +1,4 @@
--- Records that can be written. Own.
+-- Inside. Records that can be written. Own.
 use Rattle.std.specs.Prelude.{ℕ, ◌^◌, ◌≤◌, List, length}
 use Rattle.std.specs.List.{AllByRecursion}
 use Rattle.record_values.specs.Bytes.{AreBytes}

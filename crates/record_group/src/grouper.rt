@@ -1,8 +1,8 @@
 ghost use Rattle.std.specs.Prelude.{◌≡◌, ◌≢◌, ℕ, ◌+◌, ◌^◌, ◌≤◌, ◌↔◌, true, false, None, Ok, List, [], ◌∷◌, ◌++◌, length, IsNone, IfOk, IfSome, OnErr};
 ghost use Rattle.std.specs.Option.{ForSome, option_to_list};
 ghost use Rattle.simple_chunk.specs.Costs.{cost_of};
-ghost use Rattle.record_group.specs.Groups.{closes_before, groups, KeepsLimits};
-ghost use Rattle.record_group.specs.Groupings.{new_grouping, groups_from, IsPush};
+ghost use Rattle.record_group.specs.Groups.{closes_before, groups};
+ghost use Rattle.record_group.specs.Groupings.{KeepsLimits, new_grouping, groups_from, IsPush};
 
 use record_values::Bytes;
 use simple_chunk::{RECORD_COST, Records};

@@ -6,8 +6,9 @@ ghost use Rattle.block_layout.specs.Layout.{IsBlock, IsBoundary};
 ghost use Rattle.meta_chunk.specs.Files.{AreLaid, AreRecordsOf, HoldEach, IsFile, IsPlain, end_of_chunks, laid_each, signature, signature_bytes};
 ghost use Rattle.meta_chunk.specs.Laid.{end_of_chunk};
 ghost use Rattle.record_group.specs.declared.pad.Pad.{Pad};
-ghost use Rattle.record_group.specs.Groups.{KeepsLimits, chunks_of, file_of, front_padding, groups, lists_held, pads_end, pads_start, record_chunks};
-ghost use Rattle.record_group.specs.Groupings.{Grouping, new_grouping, groups_from, ArePushes};
+ghost use Rattle.record_group.specs.Groups.{chunks_of, file_of, front_padding, groups, pads_end, pads_start, record_chunks};
+ghost use Rattle.record_group.specs.Groupings.{KeepsLimits, Grouping, new_grouping, groups_from, ArePushes};
+ghost use Rattle.record_group.specs.HeldLists.{lists_held};
 ghost use Rattle.record_group.specs.Records.{AreRecords};
 
 /// The groups, one after another, are the records: none is lost, added or moved. Own.

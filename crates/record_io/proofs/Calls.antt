@@ -4,7 +4,8 @@ use Rattle.std.specs.Result.{OnErr}
 use Rattle.std.proofs.lemmas.List.{drop-drop}
 use Rattle.std.proofs.lemmas.Grind.{common_steps}
 use Rattle.std.proofs.Math.Seq.{take-append-add}
-use Rattle.record_io.specs.Outside.{Gives, Takes, TakesFront, TakesShort}
+use Rattle.record_io.specs.Outside.{Gives, Takes, TakesShort}
+use Rattle.record_io.specs.Calls.{TakesFront}
 
 -- a source that gave x and then y gave x ++ y
 pub Gives-append : (a b c : Option (List ℕ)) (x y : List ℕ) → Gives a b x → Gives b c y → Gives a c (x ++ y)

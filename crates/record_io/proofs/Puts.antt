@@ -2,9 +2,10 @@
 use Rattle.std.proofs.Common.{◌≡◌, ◌∙◌, ℕ, zero, suc, ◌<◌, true, false, Option, Some, None, List, [], ◌∷◌, ◌++◌, length, take, drop, refl, sym, ap, subst, inl, inr, arith, append-nil, append_assoc}
 use Rattle.std.proofs.lemmas.List.{take-append-drop}
 use Rattle.std.proofs.lemmas.Bool.{cases_Bool, cond-true, cond-false}
-use Rattle.record_io.specs.Outside.{Takes, TakesFront, TakesShort}
-use Rattle.record_io.specs.Buffers.{TakesAndHolds}
-use Rattle.record_io.specs.Puts.{Stream, Made, Out, Notes, Put, Taken, taken_by, GoOut, GoOutOrAreHeld, BreaksOff, is_stream, puts_to, bytes_to}
+use Rattle.record_io.specs.Outside.{Takes, TakesShort}
+use Rattle.record_io.specs.Calls.{TakesFront}
+use Rattle.record_io.specs.Buffers.{TakesAndHolds, GoOutOrAreHeld}
+use Rattle.record_io.specs.Puts.{Stream, Made, Out, Notes, Put, Taken, taken_by, GoOut, BreaksOff, is_stream, puts_to, bytes_to}
 use Rattle.record_io.proofs.Calls.{Takes-nothing, Takes-append}
 
 -- bytes that are put behind others

@@ -1,5 +1,5 @@
--- What a call leaves of the store that it asks, and what it gives to a sink. Own.
-use Rattle.std.specs.Prelude.{◌≡◌, ℕ, ◌^◌, ◌<◌, ◌≤◌, Option, Result, List, ◌++◌, [], OnOk, OnErr, IsErr}
+-- Inside. What a call leaves of the store that it asks, and what it gives to a sink. Own.
+use Rattle.std.specs.Prelude.{◌≡◌, ℕ, ◌^◌, ◌<◌, ◌≤◌, Option, Some, Result, IfSome, List, ◌++◌, [], OnOk, OnErr, IsErr, length, take}
 use Rattle.record_io.specs.Outside.{Rose, Takes, TakesShort}
 use Rattle.record_io.specs.Buffers.{TakesAndHolds}
 
@@ -36,3 +36,8 @@ pub record PutsThrough {M L X E : Type 0} (taken : M → Option (List ℕ)) (len
   pub front : OnErr result (TakesShort (taken before) (taken after) (held ++ bytes))
   pub emptied : OnErr result (held_then ≡ [])
   pub counts : OnlyCounts lent faults (IsErr result) before after
+
+-- where a sink showed what it had taken, it took a front of these bytes more
+abbrev pub TakesFront : Option (List ℕ) → Option (List ℕ) → List ℕ → Type 0
+TakesFront before after bytes =
+    IfSome before (λ taken. (n : ℕ) × (n ≤ length bytes) × (after ≡ Some (taken ++ take n bytes)))

@@ -1,7 +1,7 @@
--- What can be relied on of real files and streams, of whose bytes nothing is shown to callers. Own.
+-- Inside. What can be relied on of real files and streams, of whose bytes nothing is shown to callers. Own.
 use Rattle.std.specs.Prelude.{◌≡◌, ℕ, ◌+◌, ◌-◌, ◌^◌, ◌≤◌, min, true, Option, None, Some, Result, Ok, Err, Bool, List, length, take, IfSome, OnOk, OnErr}
 use Rattle.std.specs.Io.KnownBytes.{Appends, Consumes}
-use Rattle.record_io.specs.Outside.{faults_after}
+use Rattle.record_io.specs.FaultCounts.{faults_after}
 use Rattle.record_io.specs.Seen.{SeenStream, SeenFile}
 
 -- a file that is read at any place, and may be cut and grown

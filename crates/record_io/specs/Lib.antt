@@ -1,4 +1,5 @@
 pub mod Outside
+pub mod FaultCounts
 pub mod Seen
 pub mod Buffers
 pub mod Calls

@@ -1,4 +1,4 @@
--- What several stores show, and what a call leaves of them. Own.
+-- Inside. What several stores show, and what a call leaves of them. Own.
 use Rattle.std.specs.Prelude.{◌≡◌, ℕ, ◌⊎◌, Option, Some, List, [], ◌∷◌, map}
 use Rattle.std.specs.List.{AllZip}
 use Rattle.record_io.specs.Calls.{OnlyAsks}

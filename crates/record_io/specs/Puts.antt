@@ -1,4 +1,4 @@
--- Bytes that go to several sinks, in their order. Own.
+-- Promise. Bytes that go to several sinks, in their order. Own.
 use Rattle.std.specs.Prelude.{◌≡◌, ℕ, Bool, true, false, Option, List, [], ◌∷◌, ◌++◌, map, if◌then◌else◌}
 use Rattle.record_io.specs.Outside.{Takes}
 
@@ -43,12 +43,6 @@ pub record GoOut (before after : Taken) (puts : List Put) : Type 0 where
   pub made : Takes before.made after.made (bytes_to Made puts)
   pub out : Takes before.out after.out (bytes_to Out puts)
   pub notes : Takes before.notes after.notes (bytes_to Notes puts)
-
--- what is put went out, but for the last bytes, which go to a stream and are held
-pub record GoOutOrAreHeld (before after : Taken) (stream : Stream) (puts : List Put) (held : List ℕ) : Type 0 where
-  pub passed : List Put
-  pub parts : puts ≡ passed ++ puts_to stream held
-  pub went : GoOut before after passed
 
 -- a front of what is put, which breaks off before a byte that goes to a stream
 pub record BreaksOff (stream : Stream) (part puts : List Put) : Type 0 where

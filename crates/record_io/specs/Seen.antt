@@ -1,4 +1,4 @@
--- What an object of the outside shows, and what a call says of it, each in one record. Own.
+-- Promise. What an object of the outside shows, and what a call says of it, each in one record. Own.
 use Rattle.std.specs.Prelude.{◌≡◌, ℕ, ◌+◌, ◌-◌, ◌^◌, ◌<◌, ◌≤◌, ◌↔◌, min, Option, None, Some, is_some, Result, List, [], ◌++◌, length, take, slice_range, option_map, IfOk, IfSome, OnOk, OnErr}
 use Rattle.record_io.specs.Outside.{Rose, Gives, Takes}
 

@@ -1,7 +1,7 @@
 //! Real files as sinks, which show none of their bytes to a proof.
 ghost use Rattle.std.specs.Prelude.{◌≡◌, ◌<◌, length, take, None, Some, true, IfOk, IfSome, OnOk, OnErr};
 ghost use Rattle.std.specs.Io.KnownBytes.{Appends};
-ghost use Rattle.record_io.specs.Outside.{faults_after};
+ghost use Rattle.record_io.specs.FaultCounts.{faults_after};
 ghost use Rattle.record_io.specs.Seen.{TakesPiece};
 ghost use Rattle.record_io.specs.Edge.{AppendsFront, writing_seen};
 

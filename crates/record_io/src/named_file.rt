@@ -1,7 +1,7 @@
 //! Real files as stores and as devices, which show none of their bytes to a proof.
 ghost use Rattle.std.specs.Prelude.{◌≡◌, ◌<◌, ◌≤◌, length, take, None, Some, IfOk, IfSome, IsSomeAnd, OnOk, OnErr};
 ghost use Rattle.std.specs.Io.KnownBytes.{Appends};
-ghost use Rattle.record_io.specs.Outside.{faults_after};
+ghost use Rattle.record_io.specs.FaultCounts.{faults_after};
 ghost use Rattle.record_io.specs.Seen.{TellsSize, ReadsPiece, CutsAt, GrowsBy};
 ghost use Rattle.record_io.specs.Edge.{AppendsFront, EndsBehind, ReadsAt, StaysOpen, opened_seen};
 

@@ -1,5 +1,6 @@
 ghost use Rattle.std.specs.Prelude.{◌≡◌, ℕ, ◌+◌, ◌-◌, ◌^◌, ◌<◌, ◌≤◌, ◌⊎◌, Option, List, length, slice_range, IsErr, IfOk, IfSome, IsSomeAnd, OnOk, OnErr};
-ghost use Rattle.record_io.specs.Outside.{one_more, faults_after, Lent, none_lent};
+ghost use Rattle.record_io.specs.Outside.{Lent, none_lent};
+ghost use Rattle.record_io.specs.FaultCounts.{one_more, faults_after};
 ghost use Rattle.record_io.specs.Seen.{seen_stream, seen_file, GivesPiece, TakesPiece, TellsSize, ReadsPiece, CutsAt, GrowsBy};
 ghost use Rattle.record_io.specs.Calls.{OnlyAsks, PutsTo};
 

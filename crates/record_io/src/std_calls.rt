@@ -2,7 +2,7 @@
 //! and streams, also those of other crates.
 ghost use Rattle.std.specs.Prelude.{◌≡◌, ◌<◌, ◌≤◌, length, take, IfOk, OnErr};
 ghost use Rattle.std.specs.Io.KnownBytes.{Appends, Keeps, ReadConsumes};
-ghost use Rattle.record_io.specs.Outside.{faults_after};
+ghost use Rattle.record_io.specs.FaultCounts.{faults_after};
 ghost use Rattle.record_io.specs.Edge.{AppendsFront, ReadsAt};
 
 use crate::outside::{Failed, counted, fault};

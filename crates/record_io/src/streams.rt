@@ -1,7 +1,7 @@
 //! Real streams, which show none of their bytes to a proof.
 ghost use Rattle.std.specs.Prelude.{◌≡◌, ◌<◌, length, take, None, IfOk, OnErr};
 ghost use Rattle.std.specs.Io.KnownBytes.{Appends, ReadConsumes};
-ghost use Rattle.record_io.specs.Outside.{faults_after};
+ghost use Rattle.record_io.specs.FaultCounts.{faults_after};
 ghost use Rattle.record_io.specs.Seen.{GivesPiece, TakesPiece};
 ghost use Rattle.record_io.specs.Edge.{AppendsFront, incoming_seen, outgoing_seen};
 

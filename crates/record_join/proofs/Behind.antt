@@ -2,19 +2,19 @@
 use Rattle.std.proofs.Common.{◌≡◌, ◌∙◌, ℕ, ◌+◌, ◌%◌, ◌<◌, ◌≤◌, ◌⊎◌, Option, Some, None, List, [], ◌++◌, length, IfSome, ap, inl, inr, arith}
 use Rattle.std.proofs.lemmas.Bool.{cases_lt}
 use Rattle.record_values.specs.declared.file_totals.Totals.{Totals}
-use Rattle.record_io.specs.Outside.{Takes, TakesFront, TakesShort}
+use Rattle.record_io.specs.Outside.{Takes, TakesShort}
+use Rattle.record_io.specs.Calls.{TakesFront}
 use Rattle.record_io.proofs.Calls.{Takes-append, TakesFront-append, TakesShort-append, TakesShort-longer}
-use Rattle.block_layout.specs.Layout.{IsBlock, IsBoundary, IsOnBoundary}
+use Rattle.block_layout.specs.Layout.{IsBlock, IsBoundary}
+use Rattle.block_layout.specs.NextPlaces.{IsOnBoundary}
 use Rattle.chunk_header.specs.Chunks.{ChunkValue}
-use Rattle.meta_chunk.specs.Counts.{totals_of}
-use Rattle.meta_chunk.specs.Files.{IsFrame, end_of_chunks}
+use Rattle.meta_chunk.specs.Files.{totals_of, IsFrame, end_of_chunks}
 use Rattle.meta_chunk.specs.PaddingSizes.{padding_at}
 use Rattle.meta_chunk.proofs.Joins.{end_of_chunks_past}
 use Rattle.meta_chunk.proofs.PaddingLemmas.{IsBlock-padding_at, padding_at-block, padding_at-inside}
-use Rattle.ordered_writer.specs.Writers.{padding_bytes}
+use Rattle.ordered_writer.specs.Padding.{padding_bytes}
 use Rattle.chunk_reader.specs.Progress.{AreInBounds}
-use Rattle.record_join.specs.Joined.{totals_joined}
-use Rattle.record_join.specs.Joins.{AreTotalsWith, IsFrontPut, IsShortPut}
+use Rattle.record_join.specs.Joins.{totals_joined, AreTotalsWith, IsFrontPut, IsShortPut}
 
 pub on_boundary : (p : ℕ) → IsOnBoundary p → IsBoundary p
 on_boundary p h = elim (cases_lt 0 (p % 65536)) [ inl inside ↦ inr (h inside) | inr none ↦ inl (omega (arith, none)) ]

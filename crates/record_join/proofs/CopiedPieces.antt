@@ -3,7 +3,8 @@ use Rattle.std.proofs.Common.{◌≡◌, ◌∙◌, ℕ, ◌+◌, ◌-◌, ◌�
 use Rattle.std.specs.Prelude.{slice_range}
 use Rattle.std.proofs.Math.Seq.{take-add}
 use Rattle.std.proofs.lemmas.List.{take-append-drop, take_all}
-use Rattle.record_io.specs.Outside.{Takes, TakesFront, TakesShort}
+use Rattle.record_io.specs.Outside.{Takes, TakesShort}
+use Rattle.record_io.specs.Calls.{TakesFront}
 use Rattle.record_io.proofs.Calls.{Takes-append, TakesFront-longer, TakesFront-whole, TakesShort-append, TakesShort-longer}
 
 -- a front and a piece behind it

@@ -2,7 +2,7 @@
 use Rattle.std.proofs.Common.{◌≡◌, ◌∙◌, ℕ, ◌+◌, ◌-◌, ◌≤◌, true, Option, List, ◌++◌, take, drop, sym, ap, subst, arith}
 use Rattle.std.proofs.lemmas.List.{take-append-drop}
 use Rattle.std.proofs.Math.Seq.{take-add}
-use Rattle.chunk_reader.specs.ManyFiles.{HaveNoFault}
+use Rattle.chunk_reader.specs.Faults.{HaveNoFault}
 use Rattle.chunk_reader.proofs.ManyFiles.{first_behind}
 use Rattle.record_join.specs.Joined.{joined}
 use Rattle.record_join.specs.Joins.{IsPutOfJoined}

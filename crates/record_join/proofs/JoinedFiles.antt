@@ -10,12 +10,12 @@ use Rattle.meta_chunk.specs.Files.{AreRecordsOf, IsFileOf, IsFramed, IsPlain, en
 use Rattle.meta_chunk.specs.PaddingSizes.{padding_at}
 use Rattle.meta_chunk.proofs.Begins.{end_of_chunks_boundary}
 use Rattle.meta_chunk.proofs.PaddingLemmas.{IsBlock-padding_at, padding_at_near}
-use Rattle.ordered_writer.specs.Writers.{padding_bytes}
+use Rattle.ordered_writer.specs.Padding.{padding_bytes}
 use Rattle.ordered_writer.proofs.JoinedFiles.{IsBoundary-file, IsFileOf-joined, length-file, length-joined, records-joined}
 use Rattle.ordered_writer.proofs.Moves.{AreAlike, padding_bytes-alike}
-use Rattle.chunk_reader.specs.Faults.{HasNoFault}
-use Rattle.chunk_reader.specs.ManyFiles.{HaveNoFault}
-use Rattle.record_join.specs.Joined.{joined, joined_chunks, joined_at_most}
+use Rattle.chunk_reader.specs.Faults.{HasNoFault, HaveNoFault}
+use Rattle.record_join.specs.Joined.{joined, joined_at_most}
+use Rattle.record_join.specs.Joins.{joined_chunks}
 
 -- files of chunks end at boundaries
 pub boundaries : (files : List (List ℕ)) → HaveNoFault true files → AllByRecursion (λ file. IsBoundary (length file)) files

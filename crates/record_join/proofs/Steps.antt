@@ -7,21 +7,20 @@ use Rattle.std.proofs.lemmas.Bool.{cases_lt}
 use Rattle.std.proofs.lemmas.List.Sums.{sum_by_more}
 use Rattle.std.proofs.lemmas.Option.{get_or_from_slice_get, slice_get_within}
 use Rattle.record_values.specs.declared.file_totals.Totals.{Totals}
-use Rattle.record_io.specs.Outside.{Takes, TakesFront, TakesShort}
+use Rattle.record_io.specs.Outside.{Takes, TakesShort}
+use Rattle.record_io.specs.Calls.{TakesFront}
 use Rattle.record_io.proofs.Calls.{Takes-append, Takes-nothing, TakesFront-append, TakesFront-longer, TakesFront-whole, TakesShort-append, TakesShort-longer}
 use Rattle.chunk_header.specs.Chunks.{ChunkValue}
-use Rattle.meta_chunk.specs.Counts.{totals_of}
-use Rattle.meta_chunk.specs.Files.{IsFrame, end_of_chunks}
+use Rattle.meta_chunk.specs.Files.{totals_of, IsFrame, end_of_chunks}
 use Rattle.meta_chunk.specs.PaddingSizes.{padding_at}
 use Rattle.meta_chunk.proofs.PaddingLemmas.{padding_at-block, padding_at_near}
-use Rattle.ordered_writer.specs.Writers.{padding_bytes}
+use Rattle.ordered_writer.specs.Padding.{padding_bytes}
 use Rattle.ordered_writer.proofs.JoinedFiles.{IsFileOf-joined, length-file, length-joined, totals-joined}
-use Rattle.chunk_reader.specs.Faults.{HasNoFault, IsFault}
+use Rattle.chunk_reader.specs.Faults.{HasNoFault, IsFault, HaveNoFault, IsFirstFault}
 use Rattle.chunk_reader.specs.declared.reasons.Fault.{Fault}
 use Rattle.block_layout.specs.Layout.{IsBoundary}
-use Rattle.chunk_reader.specs.ManyFiles.{HaveNoFault, IsFirstFault}
-use Rattle.record_join.specs.Joined.{joined, joined_at_most, totals_joined}
-use Rattle.record_join.specs.Joins.{AreJoined, AreJoinedUpTo, AreTotalsWith, IsFrontJoined, IsFrontPut, IsPutOfJoined, IsShortJoined, IsShortPut}
+use Rattle.record_join.specs.Joined.{joined, joined_at_most}
+use Rattle.record_join.specs.Joins.{totals_joined, AreJoined, AreJoinedUpTo, AreTotalsWith, IsFrontJoined, IsFrontPut, IsPutOfJoined, IsShortJoined, IsShortPut}
 use Rattle.record_join.specs.declared.joins.JoinEnd.{JoinEnd}
 use Rattle.record_join.specs.declared.joins.JoinEnd.TheVariants as end
 use Rattle.chunk_reader.proofs.ManyFiles.{first_is_one}

@@ -3,7 +3,8 @@ use Rattle.std.proofs.Common.{◌≡◌, [], ◌∷◌, refl}
 use Rattle.block_layout.specs.Layout.{chunk_end_of, end_of}
 use Rattle.meta_chunk.specs.Files.{laid_each}
 use Rattle.meta_chunk.specs.PaddingSizes.{padding_at}
-use Rattle.record_join.specs.Joined.{joined, joined_at_most, totals_joined}
+use Rattle.record_join.specs.Joined.{joined, joined_at_most}
+use Rattle.record_join.specs.Joins.{totals_joined}
 
 -- one file is as it is, and behind one that ends at a block, as at 0, there is no padding
 one_file : joined ((7 ∷ 8 ∷ []) ∷ []) ≡ 7 ∷ 8 ∷ []

@@ -1,14 +1,23 @@
--- What is made of files that stores show. Own.
-use Rattle.std.specs.Prelude.{◌≡◌, ℕ, ◌⊎◌, true, Option, List, ◌++◌, take}
+-- Inside. What is made of files that stores show. Own.
+use Rattle.std.specs.Prelude.{◌≡◌, ℕ, ◌+◌, ◌⊎◌, true, Option, List, [], ◌∷◌, ◌++◌, length, take}
 use Rattle.record_values.specs.declared.file_totals.Totals.{Totals}
-use Rattle.record_io.specs.Outside.{Takes, TakesFront, TakesShort}
+use Rattle.record_io.specs.Outside.{Takes, TakesShort}
+use Rattle.record_io.specs.Calls.{TakesFront}
 use Rattle.chunk_header.specs.Chunks.{ChunkValue}
-use Rattle.meta_chunk.specs.Counts.{totals_of}
-use Rattle.meta_chunk.specs.Files.{IsFrame}
-use Rattle.chunk_reader.specs.Faults.{HasNoFault}
+use Rattle.meta_chunk.specs.Files.{totals_of, IsFrame, end_of_chunks}
+use Rattle.meta_chunk.specs.PaddingSizes.{padding_at}
+use Rattle.chunk_reader.specs.Faults.{HasNoFault, HaveNoFault, IsFirstFault}
 use Rattle.chunk_reader.specs.declared.reasons.Fault.{Fault}
-use Rattle.chunk_reader.specs.ManyFiles.{HaveNoFault, IsFirstFault}
-use Rattle.record_join.specs.Joined.{joined, totals_joined}
+use Rattle.record_join.specs.Joined.{joined}
+
+-- the totals of files and of one more behind them, with the padding between
+abbrev pub totals_joined : Totals → Totals → Totals
+totals_joined before file = record {
+  chunks = before.chunks + length (padding_at before.bytes) + file.chunks;
+  records = before.records + file.records;
+  bytes = end_of_chunks before.bytes (padding_at before.bytes) + file.bytes;
+  unread = before.unread + file.unread;
+}
 
 -- one more file is well-formed chunks, and these are the totals with it behind those before
 abbrev pub AreTotalsWith : Totals → List ℕ → Totals → Type 0
@@ -49,3 +58,9 @@ IsFrontPut padding file before after =
 -- one more file has no fault, and a front of it behind some padding was put and not all
 abbrev pub IsShortPut : (padding file : List ℕ) → (before after : Option (List ℕ)) → Type 0
 IsShortPut padding file before after = HasNoFault true file × TakesShort before after (padding ++ file)
+
+-- the chunks of files one after another: those of each but the last and the padding at its end, and those of the last
+abbrev pub joined_chunks : List (List ChunkValue) → List ChunkValue
+joined_chunks [] = []
+joined_chunks (ks ∷ []) = ks
+joined_chunks (ks ∷ next ∷ lists) = ks ++ padding_at (end_of_chunks 0 ks) ++ joined_chunks (next ∷ lists)

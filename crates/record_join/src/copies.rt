@@ -1,6 +1,6 @@
 ghost use Rattle.std.specs.Prelude.{◌≡◌, ◌+◌, ◌≤◌, Some, Err, IfSome, IsSomeAnd, OnOk, length, slice_range};
-ghost use Rattle.record_io.specs.Outside.{Takes, TakesFront, TakesShort};
-ghost use Rattle.record_io.specs.Calls.{OnlyAsks, OnlyCounts};
+ghost use Rattle.record_io.specs.Outside.{Takes, TakesShort};
+ghost use Rattle.record_io.specs.Calls.{TakesFront, OnlyAsks, OnlyCounts};
 
 use record_io::{Failed, Sink, Store, get_exact, put_all};
 

@@ -3,14 +3,13 @@ ghost use Rattle.record_io.specs.Outside.{Takes};
 ghost use Rattle.record_io.specs.Calls.{OnlyAsks, OnlyCounts};
 ghost use Rattle.meta_chunk.specs.Files.{end_of_chunks};
 ghost use Rattle.meta_chunk.specs.PaddingSizes.{padding_at};
-ghost use Rattle.ordered_writer.specs.Writers.{padding_bytes};
-ghost use Rattle.chunk_reader.specs.Faults.{IsFault};
+ghost use Rattle.ordered_writer.specs.Padding.{padding_bytes};
+ghost use Rattle.chunk_reader.specs.Faults.{IsFault, HaveNoFault, IsFirstFault};
 ghost use Rattle.chunk_reader.specs.Progress.{AreInBounds};
 ghost use Rattle.chunk_reader.specs.declared.reasons.Fault.{Fault};
-ghost use Rattle.chunk_reader.specs.ManyFiles.{HaveNoFault, IsFirstFault};
-ghost use Rattle.record_join.specs.Joined.{joined_at_most, totals_joined};
+ghost use Rattle.record_join.specs.Joined.{joined_at_most};
+ghost use Rattle.record_join.specs.Joins.{totals_joined, AreJoined, AreJoinedUpTo, AreTotalsWith, IsFrontJoined, IsFrontPut, IsShortJoined, IsShortPut};
 ghost use Rattle.record_io.specs.ManyStores.{AreOnlyAsked, AreTold, IfAllTell};
-ghost use Rattle.record_join.specs.Joins.{AreJoined, AreJoinedUpTo, AreTotalsWith, IsFrontJoined, IsFrontPut, IsShortJoined, IsShortPut};
 
 use crate::copies::{CopyEnd, copy_file};
 use chunk_reader::{Fault, VerifyEnd, verify};

@@ -5,11 +5,11 @@ ghost use Rattle.std.specs.Prelude.{◌≡◌, ◌≢◌, ◌⊎◌, ℕ, ◌≤
 ghost use Rattle.record_values.specs.Bytes.{AreBytes};
 ghost use Rattle.chunk_header.specs.Chunks.{ChunkValue};
 ghost use Rattle.meta_chunk.specs.Files.{AreRecordsOf, IsFile, IsFrame};
-ghost use Rattle.ordered_writer.specs.Writers.{padding_bytes};
-ghost use Rattle.chunk_reader.specs.Faults.{HasNoFault};
+ghost use Rattle.ordered_writer.specs.Padding.{padding_bytes};
+ghost use Rattle.chunk_reader.specs.Faults.{HasNoFault, HaveNoFault, IsFirstFault};
 ghost use Rattle.chunk_reader.specs.declared.reasons.Fault.{Fault};
-ghost use Rattle.chunk_reader.specs.ManyFiles.{HaveNoFault, IsFirstFault};
-ghost use Rattle.record_join.specs.Joined.{joined, joined_at_most, joined_chunks};
+ghost use Rattle.record_join.specs.Joined.{joined, joined_at_most};
+ghost use Rattle.record_join.specs.Joins.{joined_chunks};
 
 /// Files of chunks one after another are one file of the chunks of all and the padding between them, and its records are those
 /// of all, in order. Where no file has a fault the one that they make has none, and so many bytes at most. Own.

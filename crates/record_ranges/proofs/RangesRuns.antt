@@ -13,7 +13,9 @@ use Rattle.run_answers.specs.declared.status.Status.{Status}
 use Rattle.run_answers.specs.Answers.{noted}
 use Rattle.run_answers.specs.Endings.{HaveTold, IsAllowedEndOfMany, SaysEnd}
 use Rattle.run_answers.specs.FileAnswers.{limit_text}
-use Rattle.run_answers.specs.Runs.{seen, Breaks, Runs}
+use Rattle.run_answers.specs.Runs.{Runs}
+use Rattle.run_answers.specs.RunObjects.{seen}
+use Rattle.run_answers.specs.CutShortRuns.{Breaks}
 use Rattle.run_answers.proofs.FileEnds.{EndsWhole}
 use Rattle.run_answers.proofs.ManyFilesEnds.{MayEndBy, EndsBySizes, ReadsFiles, WentAtEnd, WentButNotes, WentToCut, reads_files, runs-files, some_told, went_none, went_noted, went_whole}
 use Rattle.run_answers.proofs.TwoStreams.{GoOut-neither}

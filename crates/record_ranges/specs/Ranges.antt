@@ -1,4 +1,4 @@
--- The parts of a file between cuts, and which records each has. Own.
+-- Inside. The parts of a file between cuts, and which records each has. Own.
 use Rattle.std.specs.Prelude.{◌≡◌, ℕ, zero, suc, ◌-◌, ◌*◌, ◌/◌, ◌<◌, ◌≤◌, ◌&&◌, nat_lt, nat_le, filter, map, List, [], ◌∷◌, length}
 use Rattle.std.specs.List.{range_with_len}
 use Rattle.chunk_header.specs.Chunks.{ChunkValue}

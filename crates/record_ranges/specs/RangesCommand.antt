@@ -1,4 +1,4 @@
--- What `ranges` prints, says and ends with. Own.
+-- Promise. What `ranges` prints, says and ends with. Own.
 use Rattle.std.specs.Prelude.{◌≡◌, ℕ, ◌^◌, ◌<◌, ◌≤◌, ◌⊎◌, not, ◌==◌, true, false, Some, List, [], ◌∷◌, ◌++◌, decimal, length, map, slice_get}
 use Rattle.std.specs.List.{AllByRecursion, Any, find, flat_map}
 use lib.Chars.{codes}

@@ -1,4 +1,4 @@
--- How the work of `ranges` ends. Own.
+-- Inside. How the work of `ranges` ends. Own.
 use Rattle.std.specs.Prelude.{◌≡◌, ℕ, false, Option, Result, Ok, Err, List}
 use Rattle.std.specs.List.{flat_map}
 use Rattle.record_io.specs.Outside.{Takes, TakesShort}

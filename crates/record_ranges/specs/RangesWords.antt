@@ -1,4 +1,4 @@
--- The words of `ranges`: in how many parts the file is read, and the file. Own.
+-- Promise. The words of `ranges`: in how many parts the file is read, and the file. Own.
 use Rattle.std.specs.Prelude.{ℕ, Option, Some, None, List, if◌then◌else◌, [], ◌∷◌}
 use lib.Chars.{codes}
 use Rattle.record_ranges.specs.declared.ranges_words.RangesWords.{RangesWords}

@@ -1,4 +1,4 @@
--- What becomes of stores that threads ask, and what they answer. Own.
+-- Inside. What becomes of stores that threads ask, and what they answer. Own.
 use Rattle.std.specs.Prelude.{◌≡◌, ℕ, Option, Some, Result, Err, IfOk, IfSome, List, [], ◌∷◌, ◌++◌}
 use Rattle.std.specs.List.{AllByRecursion, AllZip}
 use Rattle.record_io.specs.Calls.{OnlyAsks}

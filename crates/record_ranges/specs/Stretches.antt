@@ -1,10 +1,10 @@
--- What one thread reads of a file: the chunks between two places, and of their records those of one part. Own.
+-- Inside. What one thread reads of a file: the chunks between two places, and of their records those of one part. Own.
 use Rattle.std.specs.Prelude.{◌≡◌, ℕ, ◌≤◌, ◌⊎◌, List, [], ◌∷◌, length, slice_range}
 use Rattle.std.specs.List.{AllByRecursion, AllZip}
 use Rattle.record_values.specs.declared.file_totals.Totals.{Totals}
 use Rattle.chunk_header.specs.Chunks.{ChunkValue}
-use Rattle.meta_chunk.specs.Counts.{totals_of}
-use Rattle.meta_chunk.specs.Files.{IsPlain, IsChain, IsFile, ArePlaced, AreLaid, HoldEach, end_of_chunks, placed_from}
+use Rattle.meta_chunk.specs.Files.{totals_of, IsPlain, IsFile, ArePlaced, AreLaid, HoldEach, end_of_chunks, placed_from}
+use Rattle.meta_chunk.specs.Chains.{IsChain}
 use Rattle.record_ranges.specs.declared.stretches.Span.{Span}
 use Rattle.record_ranges.specs.declared.stretches.Stretch.{Stretch}
 use Rattle.record_ranges.specs.Ranges.{records_between}

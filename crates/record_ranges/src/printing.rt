@@ -5,7 +5,8 @@ ghost use Rattle.record_io.specs.Seen.{seen_stream, seen_file};
 ghost use Rattle.record_ranges.specs.Ranges.{AreRangesOf, even_cuts};
 ghost use Rattle.record_ranges.specs.Reads.{IfAllTellSame};
 ghost use Rattle.run_answers.specs.Endings.{HaveTold, IsAllowedEndOfMany};
-ghost use Rattle.run_answers.specs.Runs.{Runs, Seen};
+ghost use Rattle.run_answers.specs.Runs.{Runs};
+ghost use Rattle.run_answers.specs.RunObjects.{Seen};
 ghost use Rattle.record_ranges.specs.RangesCommand.{AreAlike, IsOnePast, MayBeRead, ranges_meaning};
 ghost use Rattle.record_ranges.specs.RangesEnds.{PrintsOnlyWhole, IsReadIn, PrintsFile, StopsBy, end_of_read};
 

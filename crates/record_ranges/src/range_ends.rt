@@ -1,8 +1,7 @@
 ghost use Rattle.std.specs.Prelude.{◌≡◌};
 ghost use Rattle.record_io.specs.Calls.{OnlyCounts, PutsTo};
 ghost use Rattle.record_io.specs.Seen.{seen_stream};
-ghost use Rattle.run_answers.specs.Endings.{SaysEnd};
-ghost use Rattle.run_answers.specs.Runs.{SaysAtEnd};
+ghost use Rattle.run_answers.specs.Endings.{SaysEnd, SaysAtEnd};
 ghost use Rattle.record_ranges.specs.RangesCommand.{differ_text};
 ghost use Rattle.record_ranges.specs.RangesEnds.{end_of_read, range_ends};
 

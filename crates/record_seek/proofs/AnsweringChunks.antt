@@ -14,7 +14,8 @@ use Rattle.chunk_reader.proofs.ChainSteps.{each_at}
 use Rattle.chunk_reader.proofs.Frames.{verdict_compressed, verdict_transposed}
 use Rattle.chunk_reader.proofs.HeadersTell.{laid_at, stands_below, places_are, passes, lies_of, holder_there}
 use Rattle.chunk_reader.proofs.NoReason.{no_reason, none_is_first}
-use Rattle.record_seek.specs.Found.{IsAnswering, IsFirstAt}
+use Rattle.record_seek.specs.Found.{IsAnswering}
+use Rattle.record_seek.specs.FirstRecords.{IsFirstAt}
 use Rattle.record_seek.proofs.FirstRecords.{first_record, answering_there}
 use Rattle.record_seek.proofs.JudgedSearch.{sought_at}
 use Rattle.record_seek.proofs.OneHolder.{holder_or_fault}

@@ -1,13 +1,12 @@
 -- What a search by key comes to, and with which fault it may end.
 use Rattle.std.proofs.Common.{◌≡◌, ◌⊎◌, ℕ, ◌*◌, ◌<◌, Option, Some, None, IfSome, List, [], ◌∷◌, refl, sym, subst, inl, inr, arith}
-use Rattle.chunk_reader.specs.Blocks.{TellsBegin, IsBlockFault}
-use Rattle.chunk_reader.specs.Holders.{ArePlacesBetween}
+use Rattle.chunk_reader.specs.Holders.{TellsBegin, IsBlockFault, ArePlacesBetween}
 use Rattle.chunk_reader.specs.Places.{end_at}
 use Rattle.chunk_reader.specs.declared.reasons.Fault.{Fault}
 use Rattle.chunk_reader.proofs.Blocks.{stands_one}
 use Rattle.record_seek.specs.Met as met
-use Rattle.record_seek.specs.Met.{IsMetBySearch, IsMetFault, LoadsMetChunk}
-use Rattle.record_seek.specs.Steps.{IsFaultOn, LoadsOn, FirstStandsBefore}
+use Rattle.record_seek.specs.Met.{IsMetBySearch, IsMetFault}
+use Rattle.record_seek.specs.Steps.{LoadsMetChunk, IsFaultOn, LoadsOn, FirstStandsBefore}
 use Rattle.record_seek.proofs.Ways.{same_told}
 
 -- from a place that is met, each further one is

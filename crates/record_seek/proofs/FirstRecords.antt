@@ -15,7 +15,8 @@ use Rattle.chunk_reader.specs.Places.{header_at, chunk_at}
 use Rattle.chunk_reader.specs.Searches.{MayAnswerAt, SearchComesTo, AnswersAt, IsSought, SearchGives}
 use Rattle.chunk_reader.proofs.HeadersTell.{laid_at, last_end, told_end, told_records, passes, passed_below, stands_below, places_are, places_of, lies_of, holder_there}
 use Rattle.chunk_reader.proofs.LaidAt.{chunk_at-laid}
-use Rattle.record_seek.specs.Found.{MayAnswer, IsAnswering, IsFirstAt}
+use Rattle.record_seek.specs.Found.{MayAnswer, IsAnswering}
+use Rattle.record_seek.specs.FirstRecords.{IsFirstAt}
 use Rattle.record_seek.proofs.PlacedRecords.{records_before, placed-stands}
 use Rattle.record_seek.proofs.Searching.{not_before, none_passed, searched_to, answering_of}
 

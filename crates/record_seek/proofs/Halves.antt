@@ -7,8 +7,7 @@ use Rattle.block_layout.specs.Layout.{blocks_below}
 use Rattle.chunk_header.specs.Chunks.{ChunkValue}
 use Rattle.meta_chunk.specs.Files.{IsFrame, begin_of, LiesIn, signature}
 use Rattle.meta_chunk.proofs.Begins.{begin_of-past, begin_of_rises, begin_of_rises_by}
-use Rattle.chunk_reader.specs.Blocks.{TellsBegin}
-use Rattle.chunk_reader.specs.Holders.{ArePlacesBetween}
+use Rattle.chunk_reader.specs.Holders.{TellsBegin, ArePlacesBetween}
 use Rattle.chunk_reader.specs.Places.{header_at}
 use Rattle.chunk_reader.specs.SearchBounds.{length_of_chunk, chunks_without_records, greatest_length_from, digit_count_of_blocks, key_bound}
 use Rattle.chunk_reader.proofs.Blocks.{stands_within}

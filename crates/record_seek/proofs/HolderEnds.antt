@@ -1,8 +1,7 @@
 -- Why no chunk is found that holds a position.
 use Rattle.std.proofs.Common.{◌≡◌, ℕ, ◌<◌, Option, Some, None, IfSome, List, subst, inl, inr, arith}
 use Rattle.block_layout.specs.Layout.{block_of}
-use Rattle.chunk_reader.specs.Blocks.{TellsBegin, IsBlockFault}
-use Rattle.chunk_reader.specs.Holders.{IsOnWay, IsHolderFault}
+use Rattle.chunk_reader.specs.Holders.{TellsBegin, IsBlockFault, IsOnWay, IsHolderFault}
 use Rattle.chunk_reader.specs.declared.reasons.Fault.{Fault}
 use Rattle.chunk_reader.specs.declared.reasons.VerifyEnd.{VerifyEnd}
 use Rattle.chunk_reader.specs.declared.reasons.VerifyEnd.TheVariants as verify

@@ -8,8 +8,7 @@ use Rattle.chunk_header.specs.Chunks.{ChunkValue}
 use Rattle.meta_chunk.specs.Files.{IsFrame, begin_of, end_of_chunks}
 use Rattle.meta_chunk.specs.Laid.{end_of_chunk}
 use Rattle.meta_chunk.proofs.Begins.{begin_of-next}
-use Rattle.chunk_reader.specs.Blocks.{TellsBegin}
-use Rattle.chunk_reader.specs.Holders.{ArePlacesBetween}
+use Rattle.chunk_reader.specs.Holders.{TellsBegin, ArePlacesBetween}
 use Rattle.chunk_reader.specs.Places.{header_at, end_at}
 use Rattle.chunk_reader.specs.Reasons.{Applies, NoneOf, unpassed_reasons}
 use Rattle.chunk_reader.specs.SearchBounds.{chunks_without_records, greatest_length_from}

@@ -2,9 +2,8 @@
 use Rattle.std.proofs.Common.{◌≡◌, ◌∙◌, ℕ, ◌≤◌, false, List, [], ◌∷◌, refl, sym, ap, subst, inl, inr, arith}
 use Rattle.std.specs.List.{AllByRecursion}
 use Rattle.block_layout.specs.Layout.{block_of}
-use Rattle.chunk_reader.specs.Blocks.{TellsBegin, IsBlockFault}
+use Rattle.chunk_reader.specs.Holders.{TellsBegin, IsBlockFault, ArePlacesBetween, IsOnWay, IsHolder, IsHolderFault}
 use Rattle.chunk_reader.specs.Faults.{IsVerdict}
-use Rattle.chunk_reader.specs.Holders.{ArePlacesBetween, IsOnWay, IsHolder, IsHolderFault}
 use Rattle.chunk_reader.specs.Places.{end_at}
 use Rattle.chunk_reader.specs.Reasons.{Applies, NoneOf, IsFirstOf, unpassed_reasons}
 use Rattle.chunk_reader.specs.declared.reasons.Fault.{Fault}

@@ -14,7 +14,8 @@ use Rattle.chunk_reader.specs.Places.{end_at}
 use Rattle.chunk_reader.specs.Reasons.{Applies, NoneOf, unpassed_reasons}
 use Rattle.chunk_reader.specs.Searches.{HasRecordsAt}
 use Rattle.chunk_reader.proofs.SignedFiles.{chunk_at-signature, no_reason-signature, end_at-signature}
-use Rattle.record_seek.specs.Found.{MayAnswer, IsAnswering, IsFirstAt, IsKeyFound, BytesStandBefore, OnlyFrontStandsBefore}
+use Rattle.record_seek.specs.Found.{MayAnswer, IsAnswering, IsKeyFound, BytesStandBefore, OnlyFrontStandsBefore}
+use Rattle.record_seek.specs.FirstRecords.{IsFirstAt}
 use Rattle.record_seek.specs.Met as met
 use Rattle.record_seek.specs.Met.{IsMetBySearch, IsMetRecord, LeadsWithoutRecords, LeadsPastAll}
 

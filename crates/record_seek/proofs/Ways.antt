@@ -4,8 +4,7 @@ use Rattle.std.proofs.lemmas.Bool.{cases_lt}
 use Rattle.block_layout.specs.Layout.{block_of}
 use Rattle.chunk_header.specs.Chunks.{ChunkValue}
 use Rattle.meta_chunk.specs.Files.{IsFrame, begin_of}
-use Rattle.chunk_reader.specs.Blocks.{TellsBegin}
-use Rattle.chunk_reader.specs.Holders.{ArePlacesBetween, IsOnWay, IsHolder}
+use Rattle.chunk_reader.specs.Holders.{TellsBegin, ArePlacesBetween, IsOnWay, IsHolder}
 use Rattle.chunk_reader.specs.Places.{end_at}
 use Rattle.chunk_reader.specs.Reasons.{Applies, NoneOf, IsFirstOf, unpassed_reasons}
 use Rattle.chunk_reader.specs.declared.reasons.Fault.{Fault}

@@ -1,4 +1,4 @@
--- How searches end before they are done. Own.
+-- Inside. How searches end before they are done. Own.
 use Rattle.chunk_reader.specs.declared.reasons.ReadEnd.{ReadEnd}
 use Rattle.chunk_reader.specs.declared.reasons.ReadEnd.TheVariants as read
 use Rattle.chunk_reader.specs.declared.reasons.VerifyEnd.{VerifyEnd}

@@ -1,4 +1,4 @@
--- Which record a search finds, told from a file's chunks and records alone. Own.
+-- Promise. Which record a search finds, told from a file's chunks and records alone. Own.
 use Rattle.std.specs.Prelude.{◌≡◌, ℕ, ◌-◌, ◌<◌, ◌≤◌, ◌⊎◌, Option, Some, None, List, [], length, slice_get}
 use Rattle.chunk_header.specs.Chunks.{ChunkValue}
 use Rattle.meta_chunk.specs.Files.{begin_of}
@@ -19,14 +19,6 @@ abbrev pub IsAnsweringNumber : List ChunkValue → (position j : ℕ) → Type 0
 IsAnsweringNumber ks position j =
     ((k : ChunkValue) × IsAnswering ks position j k)
     ⊎ ((j ≡ length ks) × ((i : ℕ) (k : ChunkValue) → ¬ MayAnswer ks position i k))
-
--- of records with their positions, the one of least position that is at least so much, or nothing where there is none
-abbrev pub IsFirstAt : List (ℕ × List ℕ) → ℕ → Option (ℕ × List ℕ) → Type 0
-IsFirstAt placed position (Some found) =
-    ((i : ℕ) × (slice_get placed i ≡ Some found)) × (position ≤ found.0)
-    × ((i : ℕ) (other : ℕ × List ℕ) → slice_get placed i ≡ Some other → position ≤ other.0 → found.0 ≤ other.0)
-IsFirstAt placed position None =
-    (i : ℕ) (other : ℕ × List ℕ) → slice_get placed i ≡ Some other → other.0 < position
 
 -- what a search by key may find among records, of which some stand before what is looked for: one that doesn't, and that is
 -- the first record or has one that does right before it; or nothing, where there is no record or the last one does

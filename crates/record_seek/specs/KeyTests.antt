@@ -1,4 +1,4 @@
--- Tests of records by their bytes. Own.
+-- Inside. Tests of records by their bytes. Own.
 use Rattle.std.specs.Prelude.{ℕ, ◌≤◌, ◌^◌, Bool, true, false, List, length}
 use Rattle.std.specs.Fn.{Shared, FnReturnsAt}
 use denote.Ref.{Bor}

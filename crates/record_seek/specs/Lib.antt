@@ -1,4 +1,5 @@
 pub mod Found
+pub mod FirstRecords
 pub mod Met
 pub mod KeyTests
 pub mod Steps

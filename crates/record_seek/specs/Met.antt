@@ -1,11 +1,11 @@
--- The places of a file that a search by key may come to, and what it may answer there of a file with a fault. Own.
+-- Promise. The places of a file that a search by key may come to, and what it may answer there of a file with a fault.
+-- Own.
 use Rattle.std.specs.Prelude.{◌≡◌, ℕ, ◌+◌, ◌-◌, ◌<◌, ◌⊎◌, false, Some, List, ◌∷◌, ◌++◌, length, slice_get}
 use Rattle.std.specs.List.{AllByRecursion}
-use Rattle.chunk_reader.specs.Blocks.{TellsBegin, IsBlockFault}
+use Rattle.chunk_reader.specs.Holders.{TellsBegin, IsBlockFault, ArePlacesBetween}
 use Rattle.chunk_reader.specs.Faults.{IsVerdict}
-use Rattle.chunk_reader.specs.Holders.{ArePlacesBetween}
 use Rattle.chunk_reader.specs.Places.{header_at, end_at}
-use Rattle.chunk_reader.specs.Reasons.{Applies, NoneOf, unpassed_reasons, loading_reasons}
+use Rattle.chunk_reader.specs.Reasons.{Applies, NoneOf, unpassed_reasons}
 use Rattle.chunk_reader.specs.Searches.{HasRecordsAt}
 use Rattle.chunk_reader.specs.declared.reasons.Fault.{Fault}
 
@@ -22,10 +22,6 @@ abbrev pub IsMetFault : List ℕ → Fault → Type 0
 IsMetFault file fault =
     ((block : ℕ) × IsBlockFault file block fault)
     ⊎ ((place : ℕ) × IsMetBySearch file place × (place < length file) × IsVerdict false file place fault)
-
--- at a place that is met the data of a chunk may be read: none of the reasons applies that come before
-abbrev pub LoadsMetChunk : List ℕ → Type 0
-LoadsMetChunk file = (place : ℕ) × IsMetBySearch file place × NoneOf (Applies file place) loading_reasons
 
 -- the chunks at these places have no records
 abbrev pub HaveNoRecords : List ℕ → List ℕ → Type 0

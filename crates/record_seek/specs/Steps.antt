@@ -1,4 +1,4 @@
--- What the steps of a search find. Own.
+-- Inside. What the steps of a search find. Own.
 use Rattle.std.specs.Prelude.{◌≡◌, ℕ, zero, suc, ◌+◌, ◌-◌, ◌*◌, ◌^◌, ◌<◌, ◌≤◌, ◌↔◌, ◌⊎◌, Bool, IsTrue, false, Option, Some, None, List, [], ◌∷◌, ◌++◌, length, slice_get, get_or}
 use Rattle.block_layout.specs.Layout.{chunk_header_size, IsBoundary}
 use Rattle.chunk_header.specs.Chunks.{ChunkValue}
@@ -11,7 +11,7 @@ use Rattle.chunk_reader.specs.Reasons.{Applies, NoneOf, unpassed_reasons, loadin
 use Rattle.chunk_reader.specs.SearchBounds.{length_of_chunk, chunks_without_records, greatest_length_from}
 use Rattle.chunk_reader.specs.Searches.{HasRecordsAt, SearchComesTo, AnswersAt}
 use Rattle.chunk_reader.specs.declared.reasons.Fault.{Fault}
-use Rattle.record_seek.specs.Met.{HaveNoRecords}
+use Rattle.record_seek.specs.Met.{HaveNoRecords, IsMetBySearch}
 use Rattle.record_seek.specs.declared.chunk_records.Found.{Found}
 use Rattle.record_seek.specs.declared.chunk_records.Held.{Held}
 use Rattle.record_seek.specs.declared.passes.Passed.{Passed}
@@ -186,3 +186,7 @@ reading_cost ks (suc j) = reading_cost ks j + cost_of_chunk (get_or ks j signatu
 abbrev pub placed_of : Option Found → Option (ℕ × List ℕ)
 placed_of (Some found) = Some (found.position, found.bytes)
 placed_of None = None
+
+-- at a place that is met the data of a chunk may be read: none of the reasons applies that come before
+abbrev pub LoadsMetChunk : List ℕ → Type 0
+LoadsMetChunk file = (place : ℕ) × IsMetBySearch file place × NoneOf (Applies file place) loading_reasons

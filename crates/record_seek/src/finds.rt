@@ -3,15 +3,15 @@ ghost use Rattle.chunk_header.specs.Chunks.{ChunkValue};
 ghost use Rattle.meta_chunk.specs.Files.{IsFile, IsFrame, ArePlaced, begin_of};
 ghost use Rattle.record_io.specs.Calls.{OnlyAsks};
 ghost use Rattle.block_layout.specs.Layout.{block_size, block_header_size, IsBlock, IsBoundary};
-ghost use Rattle.chunk_reader.specs.Blocks.{TellsBegin, IsBlockFault};
+ghost use Rattle.chunk_reader.specs.Holders.{TellsBegin, IsBlockFault};
 ghost use Rattle.chunk_reader.specs.Reasons.{Applies, NoneOf, loading_reasons};
 ghost use Rattle.chunk_reader.specs.SearchBounds.{key_bound};
 ghost use Rattle.chunk_reader.specs.Sizes.{HasSize};
 ghost use Rattle.chunk_reader.specs.declared.reasons.Fault.{Fault};
 ghost use Rattle.record_seek.specs.Found.{IsKeyFound, BytesStandBefore, OnlyFrontStandsBefore};
 ghost use Rattle.record_seek.specs.KeyTests.{IsKeyTest, StandsBefore};
-ghost use Rattle.record_seek.specs.Met.{IsMetFault, LoadsMetChunk, IsMetRecord, LeadsWithoutRecords, LeadsPastAll};
-ghost use Rattle.record_seek.specs.Steps.{IsHeld, IsNextHeld, IsPaidOn, IsFaultOn, LoadsOn, FirstStandsBefore, IsReadOn, FirstNotBefore, EndsReading, look_bound, reading_cost, placed_of};
+ghost use Rattle.record_seek.specs.Met.{IsMetFault, IsMetRecord, LeadsWithoutRecords, LeadsPastAll};
+ghost use Rattle.record_seek.specs.Steps.{LoadsMetChunk, IsHeld, IsNextHeld, IsPaidOn, IsFaultOn, LoadsOn, FirstStandsBefore, IsReadOn, FirstNotBefore, EndsReading, look_bound, reading_cost, placed_of};
 
 use crate::chunk_records::{Found, Held, first_before, first_not, held_at};
 use crate::key_tests::KeyTest;

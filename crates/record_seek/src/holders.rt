@@ -3,10 +3,9 @@ ghost use Rattle.record_io.specs.Calls.{OnlyAsks};
 ghost use Rattle.block_layout.specs.Layout.{block_size, chunk_header_size, block_of, IsBoundary};
 ghost use Rattle.chunk_header.specs.Chunks.{ChunkValue};
 ghost use Rattle.meta_chunk.specs.Files.{IsFrame};
-ghost use Rattle.chunk_reader.specs.Blocks.{TellsBegin};
-ghost use Rattle.chunk_reader.specs.Holders.{IsOnWay, IsHolder, IsHolderFault};
+ghost use Rattle.chunk_reader.specs.Holders.{TellsBegin, IsOnWay, IsHolder, IsHolderFault};
 ghost use Rattle.chunk_reader.specs.Reasons.{Applies, IsFirstOf, unpassed_reasons};
-ghost use Rattle.chunk_reader.specs.SearchBounds.{holder_bound};
+ghost use Rattle.chunk_reader.specs.HolderBounds.{holder_bound};
 ghost use Rattle.chunk_reader.specs.Sizes.{HasSize};
 ghost use Rattle.chunk_reader.specs.declared.reasons.Fault.{Fault};
 

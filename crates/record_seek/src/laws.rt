@@ -9,7 +9,8 @@ ghost use Rattle.chunk_reader.specs.Holders.{IsHolder, IsHolderFault};
 ghost use Rattle.chunk_reader.specs.Searches.{AnswersAt, SearchGives, IsSearchFault};
 ghost use Rattle.chunk_reader.specs.declared.reasons.Fault.{Fault};
 ghost use Rattle.chunk_reader.specs.declared.reasons.Why.TheVariants as why;
-ghost use Rattle.record_seek.specs.Found.{MayAnswer, IsAnswering, IsFirstAt, IsKeyFound, OnlyFrontStandsBefore};
+ghost use Rattle.record_seek.specs.Found.{MayAnswer, IsAnswering, IsKeyFound, OnlyFrontStandsBefore};
+ghost use Rattle.record_seek.specs.FirstRecords.{IsFirstAt};
 ghost use Rattle.record_seek.specs.Met.{IsMetBySearch, IsMetFault};
 
 /// In a file of chunks a search by position comes to the chunk that answers, as it is told without blocks, and where that is

@@ -1,4 +1,4 @@
--- Lists of bytes. Own.
+-- Promise. Lists of bytes. Own.
 use Rattle.std.specs.Prelude.{ℕ, ◌<◌, List}
 use Rattle.std.specs.List.{AllByRecursion}
 

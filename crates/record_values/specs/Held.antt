@@ -1,4 +1,4 @@
--- Bytes that lie in memory of their own, or in shared memory. Own.
+-- Inside. Bytes that lie in memory of their own, or in shared memory. Own.
 use Rattle.std.specs.Prelude.{ℕ, List}
 use Rattle.record_values.specs.declared.byte_list.Held.{Held}
 use Rattle.record_values.specs.declared.byte_list.Held.TheVariants.{Own, Shared}

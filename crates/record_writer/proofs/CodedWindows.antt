@@ -11,8 +11,7 @@ use Rattle.chunk_header.specs.Chunks.{ChunkValue}
 use Rattle.chunk_header.specs.SimpleChunks.{simple_chunk}
 use Rattle.chunk_header.specs.Views.{value_of_chunk}
 use Rattle.chunk_header.specs.declared.Chunk.{Chunk}
-use Rattle.meta_chunk.specs.Counts.{is_unread}
-use Rattle.meta_chunk.specs.Files.{end_of_chunks, laid_each}
+use Rattle.meta_chunk.specs.Files.{is_unread, end_of_chunks, laid_each}
 use Rattle.meta_chunk.specs.Laid.{end_of_chunk}
 use Rattle.meta_chunk.proofs.Joins.{end_of_chunks-append, end_of_chunks_past}
 use Rattle.simple_chunk.specs.Costs.{cost_of}

@@ -9,8 +9,7 @@ use Rattle.std.proofs.lemmas.List.Sums.{sum_by-cons, sum_by-append}
 use Rattle.record_values.specs.declared.file_totals.Totals.{Totals}
 use Rattle.chunk_header.specs.Chunks.{ChunkValue}
 use Rattle.chunk_header.specs.SimpleChunks.{simple_chunk}
-use Rattle.meta_chunk.specs.Counts.{is_unread, totals_of}
-use Rattle.meta_chunk.specs.Files.{signature, end_of_chunks, laid_each}
+use Rattle.meta_chunk.specs.Files.{is_unread, totals_of, signature, end_of_chunks, laid_each}
 use Rattle.meta_chunk.specs.Laid.{end_of_chunk}
 use Rattle.meta_chunk.proofs.Joins.{length-laid_each}
 use Rattle.meta_chunk.proofs.LaidChunks.{end_of_chunk_after}
@@ -27,7 +26,8 @@ use Rattle.record_writer.specs.declared.options.WriteOptions.{WriteOptions}
 use Rattle.record_writer.specs.Feeds.{Rest}
 use Rattle.record_writer.specs.Ends.{answer_of, end_of_cut}
 use Rattle.record_writer.specs.declared.engine.WriteEnd.{WriteEnd}
-use Rattle.record_writer.specs.Written.{TellsTotals, chunks_under, tail_chunks, totals_from}
+use Rattle.record_writer.specs.Written.{chunks_under, tail_chunks}
+use Rattle.record_writer.specs.WriteAnswers.{TellsTotals, totals_from}
 use Rattle.record_writer.specs.MadeFiles.{MadeFileValue, Lays, nothing_made, resumed_at, totals_behind, totals_made}
 use Rattle.record_writer.specs.declared.engine.WriteEnd.TheVariants as end
 

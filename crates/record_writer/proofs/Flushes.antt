@@ -3,7 +3,8 @@ use Rattle.std.proofs.Common.{◌≡◌, ◌∙◌, ℕ, Option, Some, None, Res
 use Rattle.std.proofs.lemmas.List.{append-nil}
 use Rattle.std.specs.Option.{IfSome}
 use Rattle.std.specs.Result.{OnOk, OnErr}
-use Rattle.record_io.specs.Outside.{Takes, TakesFront, TakesShort}
+use Rattle.record_io.specs.Outside.{Takes, TakesShort}
+use Rattle.record_io.specs.Calls.{TakesFront}
 use Rattle.record_io.proofs.Calls.{Takes-append, TakesFront-append, TakesFront-none, TakesShort-append, TakesShort-longer}
 use Rattle.meta_chunk.specs.Files.{signature, signature_bytes, laid_each}
 use Rattle.meta_chunk.specs.Laid.{end_of_chunk}
@@ -18,7 +19,8 @@ use Rattle.record_writer.specs.declared.engine.WriteEnd.TheVariants as end
 use Rattle.record_writer.specs.declared.options.WriteOptions.{WriteOptions}
 use Rattle.record_writer.specs.Ends.{answer_of, end_of_cut}
 use Rattle.record_writer.specs.Feeds.{Rest}
-use Rattle.record_writer.specs.Written.{TakesFile, file_under, tail_chunks, tail_under}
+use Rattle.record_writer.specs.Written.{file_under, tail_chunks}
+use Rattle.record_writer.specs.WriteAnswers.{TakesFile, tail_under}
 use Rattle.record_writer.specs.MadeFiles.{MadeFileValue, Lays, LaysFront, nothing_made, totals_behind, totals_made}
 use Rattle.record_writer.proofs.Counted.{totals_made-behind}
 use Rattle.record_writer.proofs.Fronts.{Takes-flushed, TakesShort-flushed, TakesShort-front_flushed, TakesFront-front_flushed, TakesShort-put_failed}

@@ -1,7 +1,8 @@
 -- What a sink took and what is held beside it, where a put failed or the work was cut off.
 use Rattle.std.proofs.Common.{◌≡◌, ◌≢◌, ◌∙◌, ℕ, Option, Some, None, List, [], ◌∷◌, ◌++◌, length, take, drop, refl, sym, ap, subst, append_assoc, arith}
 use Rattle.std.proofs.lemmas.List.{append-nil, take-append-drop, length-drop}
-use Rattle.record_io.specs.Outside.{Takes, TakesFront, TakesShort}
+use Rattle.record_io.specs.Outside.{Takes, TakesShort}
+use Rattle.record_io.specs.Calls.{TakesFront}
 use Rattle.record_io.specs.Buffers.{TakesAndHolds}
 use Rattle.record_io.proofs.Calls.{Takes-append, TakesFront-append, TakesFront-longer, TakesFront-before, TakesShort-append, TakesShort-longer}
 use Rattle.record_writer.specs.MadeFiles.{TakesAndHoldsFront}

@@ -8,7 +8,8 @@ use Rattle.record_group.specs.Groups.{groups}
 use Rattle.record_group.specs.Groupings.{Grouping, groups_from, IsPush}
 use Rattle.record_group.proofs.Pushes.{groups_from-push, all_pushed}
 use Rattle.record_writer.specs.declared.feed.Stop.{Stop}
-use Rattle.record_writer.specs.Feeds.{Rest, GivesRecord}
+use Rattle.record_writer.specs.Feeds.{Rest}
+use Rattle.record_writer.specs.FeedSteps.{GivesRecord}
 use Rattle.record_writer.specs.MadeFiles.{MadeFileValue, AreGiven, Lays, LaysFront, chunks_of_groups}
 use Rattle.record_writer.proofs.Layings.{Lays-append, LaysFront-behind, LaysFront-longer}
 

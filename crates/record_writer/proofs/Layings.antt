@@ -7,8 +7,7 @@ use Rattle.record_io.specs.Buffers.{TakesAndHolds}
 use Rattle.record_io.proofs.Buffered.{TakesAndHolds-append}
 use Rattle.chunk_header.specs.Chunks.{ChunkValue}
 use Rattle.meta_chunk.specs.Laid.{laid, end_of_chunk}
-use Rattle.meta_chunk.specs.Counts.{is_unread}
-use Rattle.meta_chunk.specs.Files.{end_of_chunks, laid_each}
+use Rattle.meta_chunk.specs.Files.{is_unread, end_of_chunks, laid_each}
 use Rattle.meta_chunk.specs.PaddingSizes.{padding_at}
 use Rattle.meta_chunk.proofs.Joins.{end_of_chunks-append, laid_each-append}
 use Rattle.record_writer.specs.MadeFiles.{MadeFileValue, Lays, LaysFront, TakesAndHoldsFront, nothing_made}

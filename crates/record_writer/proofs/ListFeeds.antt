@@ -5,7 +5,7 @@ use Rattle.std.proofs.lemmas.List.{at_drop_more}
 use Rattle.std.proofs.lemmas.List.Sums.{sum_by-cons}
 use Rattle.std.proofs.lemmas.Option.{get_or_from_slice_get, slice_get_within}
 use Rattle.simple_chunk.specs.Costs.{cost, cost_of}
-use Rattle.record_writer.specs.Feeds.{feed_bound}
+use Rattle.record_writer.specs.FeedSteps.{feed_bound}
 
 -- the bound of a list of records is no more than they cost
 pub feed_bound-cost : (records : List (List ℕ)) → feed_bound records ≤ cost_of records

@@ -2,8 +2,7 @@
 use Rattle.std.proofs.Common.{◌≡◌, ℕ, ◌^◌, ◌≤◌, Option, Result, Err, List, [], ◌∷◌, refl, arith}
 use Rattle.record_io.specs.Calls.{OnlyCounts}
 use Rattle.record_values.specs.declared.file_totals.Totals.{Totals}
-use Rattle.meta_chunk.specs.Counts.{totals_of}
-use Rattle.meta_chunk.specs.Files.{signature}
+use Rattle.meta_chunk.specs.Files.{totals_of, signature}
 use Rattle.record_writer.specs.declared.cut_off.CutOff.TheVariants as cut
 use Rattle.record_writer.specs.declared.engine.WriteEnd.{WriteEnd}
 use Rattle.record_writer.specs.declared.engine.WriteEnd.TheVariants.{Made}
@@ -11,7 +10,9 @@ use Rattle.record_writer.specs.declared.options.WriteOptions.{WriteOptions}
 use Rattle.record_writer.specs.Behind.{MayFollow, WritesBehind}
 use Rattle.record_writer.specs.Feeds.{Rest}
 use Rattle.record_writer.specs.MadeFiles.{MadeFileValue, Lays, LaysFront, nothing_made}
-use Rattle.record_writer.specs.Written.{AreInLimits, WritesRecords, chunks_under, file_under}
+use Rattle.record_writer.specs.Written.{chunks_under, file_under}
+use Rattle.record_writer.specs.OptionLimits.{AreInLimits}
+use Rattle.record_writer.specs.WriteAnswers.{WritesRecords}
 use Rattle.record_writer.proofs.Counted.{TellsTotals-cut, TellsTotals-signed, signed_boundary, signed_place, signed_records}
 use Rattle.record_writer.proofs.Flushes.{TakesFile-signed, TakesFile-unsigned}
 use Rattle.record_writer.proofs.Windows.{OnlyCounts-behind}

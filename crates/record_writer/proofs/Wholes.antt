@@ -7,7 +7,8 @@ use Rattle.meta_chunk.proofs.PaddingLemmas.{padding_at_near}
 use Rattle.record_group.specs.Groups.{groups, pads_start, pads_end, padding_if, front_padding, front_chunks, end_padding}
 use Rattle.record_group.proofs.Signed.{end_of_chunk-signature, file_of-signed}
 use Rattle.record_writer.specs.declared.options.WriteOptions.{WriteOptions}
-use Rattle.record_writer.specs.Written.{file_under, tail_chunks, tail_under}
+use Rattle.record_writer.specs.Written.{file_under, tail_chunks}
+use Rattle.record_writer.specs.WriteAnswers.{tail_under}
 use Rattle.record_writer.specs.MadeFiles.{MadeFileValue, Lays, LaysFront, chunks_of_groups}
 use Rattle.record_writer.proofs.Layings.{Lays-append, LaysFront-behind, LaysFront-longer}
 

@@ -24,7 +24,8 @@ use Rattle.record_writer.specs.declared.feed.Stop.{Stop}
 use Rattle.record_writer.specs.declared.group_taker.FeedPart.{FeedPart}
 use Rattle.record_writer.specs.declared.group_taker.FeedPart.TheVariants.{Window, All}
 use Rattle.record_writer.specs.Ends.{cut_of_put, cut_of_take}
-use Rattle.record_writer.specs.Feeds.{Rest, nothing_left}
+use Rattle.record_writer.specs.Feeds.{Rest}
+use Rattle.record_writer.specs.FeedSteps.{nothing_left}
 use Rattle.record_writer.specs.MadeFiles.{MadeFileValue, AreGiven, Lays, LaysFront, chunks_of_groups, reach_of}
 use Rattle.record_writer.specs.Windows.{AreFront, AreTaken, TakesGroups, groups_of}
 use Rattle.record_writer.proofs.Layings.{Lays-append, LaysFront-behind, LaysFront-longer}

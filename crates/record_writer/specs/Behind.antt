@@ -1,4 +1,4 @@
--- Records that are put behind what a file has already. Own.
+-- Inside. Records that are put behind what a file has already. Own.
 use Rattle.std.specs.Prelude.{◌≡◌, ℕ, ◌^◌, ◌≤◌, false, Option, Some, None, Result, Ok, Err, List, ◌++◌, IfOk, IfSome, OnOk, OnErr}
 use Rattle.block_layout.specs.Layout.{IsBoundary}
 use Rattle.record_io.specs.Calls.{OnlyCounts}
@@ -9,9 +9,12 @@ use Rattle.record_writer.specs.declared.cut_off.CutOff.{CutOff}
 use Rattle.record_writer.specs.declared.cut_off.CutOff.TheVariants.{Input, Made}
 use Rattle.record_writer.specs.declared.engine.WriteEnd.{WriteEnd}
 use Rattle.record_writer.specs.declared.feed.Stop.{Stop}
-use Rattle.record_writer.specs.Feeds.{Rest, nothing_left}
+use Rattle.record_writer.specs.Feeds.{Rest}
+use Rattle.record_writer.specs.FeedSteps.{nothing_left}
 use Rattle.record_writer.specs.MadeFiles.{MadeFileValue, Lays, LaysFront, totals_behind}
-use Rattle.record_writer.specs.Written.{AreInLimits, WritesRecords, tail_chunks, tail_under}
+use Rattle.record_writer.specs.Written.{tail_chunks}
+use Rattle.record_writer.specs.OptionLimits.{AreInLimits}
+use Rattle.record_writer.specs.WriteAnswers.{WritesRecords, tail_under}
 
 -- a feed of this bound may be put under options behind what a file has, which is no record and ends at a boundary
 pub record MayFollow (file : MadeFileValue) (options : WriteOptions) (bound : ℕ) : Type 0 where

@@ -1,4 +1,4 @@
--- Windows of groups that a coder codes. Own.
+-- Inside. Windows of groups that a coder codes. Own.
 use Rattle.std.specs.Prelude.{◌≡◌, ℕ, ◌+◌, ◌^◌, ◌<◌, ◌≤◌, Bool, List, All, length, map}
 use Rattle.std.specs.List.{AllByRecursion}
 use Rattle.chunk_header.specs.Chunks.{ChunkValue}

@@ -1,4 +1,4 @@
--- How a call that writes answers. Own.
+-- Inside. How a call that writes answers. Own.
 use Rattle.std.specs.Prelude.{Option, Some, None, Result, Ok, Err}
 use Rattle.record_values.specs.declared.file_totals.Totals.{Totals}
 use Rattle.record_writer.specs.declared.feed.Stop.{Stop}

@@ -1,7 +1,5 @@
--- What a feed of records still gives. Own.
-use Rattle.std.specs.Prelude.{◌≡◌, ℕ, ◌+◌, ◌≤◌, Option, Some, None, List, [], ◌∷◌, length, IfSome}
-use Rattle.std.specs.List.{sum_by}
-use Rattle.record_group.specs.Groupings.{Grouping, IsPush}
+-- Promise. What a feed of records still gives. Own.
+use Rattle.std.specs.Prelude.{ℕ, Option, Some, List, []}
 use Rattle.record_writer.specs.declared.feed.Stop.{Stop}
 
 -- what a feed has not given yet: records, and a stop where one ends them
@@ -9,37 +7,6 @@ pub record Rest : Type 0 where
   pub records : List (List ℕ)
   pub stop : Option Stop
 
--- what a feed reads
-pub record Origin : Type 0 where
-  -- the name of what it borrows, if it borrows what it reads
-  pub name : ℕ
-  -- how many bytes of that it leaves in any case, where that is shown
-  pub spared : Option ℕ
-
--- a feed borrows nothing, and shows nothing of what it leaves
-abbrev pub no_origin : Origin
-no_origin = record { name = 0; spared = None }
-
--- no record and no stop is left
-abbrev pub nothing_left : Rest
-nothing_left = record { records = []; stop = None }
-
 -- nothing is left but a stop
 abbrev pub stop_alone : Stop → Rest
 stop_alone s = record { records = []; stop = Some s }
-
--- how many bytes records have together, and one more for each
-abbrev pub feed_bound : List (List ℕ) → ℕ
-feed_bound records = sum_by length records + length records
-
--- where a feed showed what was to come, this record was the first of it
-abbrev pub GivesRecord : Option Rest → Option Rest → List ℕ → Type 0
-GivesRecord before after record_bytes =
-    IfSome before (λ r. (later : Rest) × (after ≡ Some later) × (r ≡ record later { records = record_bytes ∷ later.records }))
-
--- a feed gave its next record, and a grouper took it behind those of its open group
-pub record HandsOn (before after : Option Rest) (old_bound new_bound : ℕ) (old new : Grouping) : Type 0 where
-  pub record_bytes : List ℕ
-  pub gives : GivesRecord before after record_bytes
-  pub takes : IsPush old record_bytes None new
-  pub lowers : new_bound + length record_bytes + 1 ≤ old_bound

@@ -1,5 +1,8 @@
 pub mod Feeds
+pub mod FeedSteps
 pub mod Written
+pub mod WriteAnswers
+pub mod OptionLimits
 pub mod MadeFiles
 pub mod Ends
 pub mod Windows

@@ -1,4 +1,4 @@
--- How far a file is that is being made. Own.
+-- Inside. How far a file is that is being made. Own.
 use Rattle.std.specs.Prelude.{◌≡◌, ◌≢◌, ℕ, ◌+◌, ◌*◌, ◌^◌, ◌≤◌, Bool, true, false, Option, Some, List, [], ◌++◌, length, map, IfSome, Result, OnOk, OnErr}
 use Rattle.record_io.specs.Calls.{OnlyCounts}
 use Rattle.record_io.specs.Outside.{Takes}
@@ -6,8 +6,7 @@ use Rattle.record_io.specs.Buffers.{TakesAndHolds}
 use Rattle.record_values.specs.declared.file_totals.Totals.{Totals}
 use Rattle.chunk_header.specs.Chunks.{ChunkValue}
 use Rattle.chunk_header.specs.SimpleChunks.{simple_chunk}
-use Rattle.meta_chunk.specs.Counts.{totals_of}
-use Rattle.meta_chunk.specs.Files.{end_of_chunks, laid_each}
+use Rattle.meta_chunk.specs.Files.{totals_of, end_of_chunks, laid_each}
 use Rattle.simple_chunk.specs.Costs.{cost_of}
 use Rattle.record_group.specs.Groupings.{Grouping, groups_from}
 use Rattle.record_writer.specs.Feeds.{Rest}

@@ -1,4 +1,4 @@
--- What is taken of a feed before it is put. Own.
+-- Inside. What is taken of a feed before it is put. Own.
 use Rattle.std.specs.Prelude.{◌≡◌, ℕ, ◌<◌, ◌≤◌, Bool, true, Option, Some, None, Result, Ok, Err, List, [], ◌++◌, map, IfSome}
 use Rattle.record_io.specs.Calls.{OnlyCounts}
 use Rattle.meta_chunk.specs.Files.{end_of_chunks}
@@ -10,7 +10,8 @@ use Rattle.record_writer.specs.declared.cut_off.TakeEnd.TheVariants.{Input}
 use Rattle.record_writer.specs.declared.group_taker.FeedPart.{FeedPart}
 use Rattle.record_writer.specs.declared.group_taker.FeedPart.TheVariants.{Window, All}
 use Rattle.record_writer.specs.declared.options.WriteOptions.{WriteOptions}
-use Rattle.record_writer.specs.Feeds.{Rest, nothing_left}
+use Rattle.record_writer.specs.Feeds.{Rest}
+use Rattle.record_writer.specs.FeedSteps.{nothing_left}
 use Rattle.record_writer.specs.MadeFiles.{AreGiven, chunks_of_groups, reach_of}
 
 -- the groups whose chunks these are

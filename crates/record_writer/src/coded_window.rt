@@ -1,7 +1,7 @@
 ghost use Rattle.std.specs.Prelude.{◌≡◌, ◌≤◌, false, [], map, IsErr};
 ghost use Rattle.std.specs.List.{AllByRecursion};
 ghost use Rattle.chunk_header.specs.Views.{value_of_chunk};
-ghost use Rattle.meta_chunk.specs.Counts.{is_unread};
+ghost use Rattle.meta_chunk.specs.Files.{is_unread};
 ghost use Rattle.ordered_writer.specs.Reorders.{coming};
 ghost use Rattle.record_writer.specs.CodedWindows.{AreInOrder};
 ghost use Rattle.record_writer.specs.MadeFiles.{LaysTo, MayLay};

@@ -1,6 +1,6 @@
 ghost use Rattle.std.specs.Prelude.{◌≡◌, ◌+◌, ◌^◌, ◌<◌, ◌≤◌, true, false, [], IfOk, OnOk};
 ghost use Rattle.block_layout.specs.Layout.{IsBoundary};
-ghost use Rattle.meta_chunk.specs.Counts.{totals_of};
+ghost use Rattle.meta_chunk.specs.Files.{totals_of};
 ghost use Rattle.record_group.specs.Groups.{pads_start, pads_end};
 ghost use Rattle.record_group.specs.Groupings.{groups_from};
 ghost use Rattle.record_writer.specs.Behind.{MayFollow, PutsRecords, WritesBehind};
@@ -8,7 +8,9 @@ ghost use Rattle.record_writer.specs.CodedWindows.{CodesSimply};
 ghost use Rattle.record_writer.specs.Ends.{answer_of};
 ghost use Rattle.record_writer.specs.MadeFiles.{chunks_of_groups, reach_of};
 ghost use Rattle.record_writer.specs.Windows.{HasTakenNone, HaveNoGroup};
-ghost use Rattle.record_writer.specs.Written.{AreInLimits, WritesRecords, chunks_under, file_under, tail_chunks, tail_under, totals_from};
+ghost use Rattle.record_writer.specs.Written.{chunks_under, file_under, tail_chunks};
+ghost use Rattle.record_writer.specs.OptionLimits.{AreInLimits};
+ghost use Rattle.record_writer.specs.WriteAnswers.{WritesRecords, tail_under, totals_from};
 
 use crate::coded_window::CodedWindow;
 use crate::cut_off::CutOff;

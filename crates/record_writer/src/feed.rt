@@ -1,6 +1,7 @@
 ghost use Rattle.std.specs.Prelude.{◌≡◌, ◌≢◌, ℕ, ◌+◌, ◌^◌, ◌≤◌, true, false, Bool, Option, length, IfSome, OnOk};
 ghost use Rattle.record_io.specs.Calls.{OnlyCounts};
-ghost use Rattle.record_writer.specs.Feeds.{Rest, Origin, GivesRecord, HandsOn, no_origin, nothing_left, stop_alone};
+ghost use Rattle.record_writer.specs.Feeds.{Rest, stop_alone};
+ghost use Rattle.record_writer.specs.FeedSteps.{Origin, GivesRecord, HandsOn, no_origin, nothing_left};
 
 use record_group::Grouper;
 use record_io::{Bytes, Failed};

@@ -4,7 +4,7 @@ ghost use Rattle.meta_chunk.specs.Files.{end_of_chunks};
 ghost use Rattle.record_group.specs.Groupings.{groups_from, IsPush};
 ghost use Rattle.record_writer.specs.MadeFiles.{AreGiven, chunks_of_groups, reach_of};
 ghost use Rattle.record_writer.specs.Windows.{HasTakenNone, TakesGroups};
-ghost use Rattle.record_writer.specs.Written.{AreInLimits};
+ghost use Rattle.record_writer.specs.OptionLimits.{AreInLimits};
 
 use crate::cut_off::TakeEnd;
 use crate::feed::{FeedEnd, RecordFeed, Stop};
@@ -38,7 +38,7 @@ pub(crate) struct GroupTaker {
 
 impl Model for GroupTaker {
     ghost use Rattle.record_group.specs.Groupings.{Grouping};
-    ghost use Rattle.record_writer.specs.Written.{AreInLimits};
+    ghost use Rattle.record_writer.specs.OptionLimits.{AreInLimits};
 
     ghost Value = { Grouping };
 

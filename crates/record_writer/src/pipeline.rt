@@ -3,7 +3,7 @@ ghost use Rattle.record_io.specs.Calls.{OnlyCounts};
 ghost use Rattle.record_writer.specs.CodedWindows.{CodesSimply, IsCoded};
 ghost use Rattle.record_writer.specs.MadeFiles.{LaysTo, MayLay, chunks_of_groups};
 ghost use Rattle.record_writer.specs.Windows.{HasTakenNone, HaveNoGroup, StandInOrder, TakesGroups};
-ghost use Rattle.record_writer.specs.Written.{AreInLimits};
+ghost use Rattle.record_writer.specs.OptionLimits.{AreInLimits};
 
 use crate::coding::Workers;
 use crate::cut_off::{PutEnd, TakeEnd};

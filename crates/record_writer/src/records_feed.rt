@@ -1,6 +1,6 @@
 ghost use Rattle.std.specs.Prelude.{◌≡◌, ◌+◌, ◌^◌, ◌<◌, ◌≤◌, true, Some, None, [], ◌∷◌, All, drop, length, IfSome, IfNone};
 ghost use Rattle.std.specs.List.{AllByRecursion};
-ghost use Rattle.record_writer.specs.Feeds.{feed_bound};
+ghost use Rattle.record_writer.specs.FeedSteps.{feed_bound};
 
 use crate::feed::{FeedEnd, RecordFeed};
 use record_group::Grouper;

@@ -6,14 +6,15 @@ use Rattle.std.proofs.lemmas.Bool.{cond-true, cond-false}
 use Rattle.chunk_header.specs.Chunks.{ChunkValue}
 use Rattle.chunk_header.specs.SimpleChunks.{IsCompressed}
 use Rattle.meta_chunk.specs.Kinds.{IsSignature, IsPadding}
-use Rattle.meta_chunk.specs.Counts.{is_unread}
-use Rattle.meta_chunk.specs.Files.{IsPlain, IsTransposed}
+use Rattle.meta_chunk.specs.Files.{is_unread, IsPlain, IsTransposed}
 use Rattle.meta_chunk.specs.Laid.{end_of_chunk}
 use Rattle.chunk_reader.specs.Faults.{IsAllowed}
 use Rattle.chunk_reader.proofs.AllowedChunks.{allowed_small}
 use Rattle.chunk_reader.proofs.Verdicts.{is_unread-plain, is_unread-unread}
-use Rattle.damage_skip.specs.Pieces.{PieceKind, Given, Kept, LeftOut, Skipped, Piece, IsFoundAs, AreFound}
-use Rattle.repair_copy.specs.Relaid.{chunk_in, chunks_in, is_copied, copied}
+use Rattle.damage_skip.specs.Pieces.{PieceKind, Given, Kept, LeftOut, Skipped, Piece, IsFoundAs}
+use Rattle.damage_skip.specs.FilePieces.{AreFound}
+use Rattle.repair_copy.specs.RepairPuts.{chunk_in, chunks_in}
+use Rattle.repair_copy.specs.CopiedChunks.{is_copied, copied}
 
 -- whether a chunk of a kind is copied
 abbrev of_kind : ℕ → Bool

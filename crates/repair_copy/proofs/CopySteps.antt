@@ -7,8 +7,8 @@ use Rattle.record_io.specs.Outside.{Rose, Takes, TakesShort}
 use Rattle.record_io.specs.declared.outside.Failed.{Failed}
 use Rattle.std.specs.Result.{OnOk, OnErr, IsErr, is_err}
 use Rattle.record_group.proofs.Signed.{end_of_chunk-signature}
-use Rattle.record_io.specs.Buffers.{TakesAndHolds}
-use Rattle.record_io.specs.Puts.{Made, Notes, Put, Taken, taken_by, puts_to, GoOut, GoOutOrAreHeld, BreaksOff}
+use Rattle.record_io.specs.Buffers.{TakesAndHolds, GoOutOrAreHeld}
+use Rattle.record_io.specs.Puts.{Made, Notes, Put, Taken, taken_by, puts_to, GoOut, BreaksOff}
 use Rattle.record_io.proofs.Calls.{TakesShort-some}
 use Rattle.record_io.proofs.Puts.{puts_to-append, GoOut-append, GoOut-made, GoOut-notes, BreaksOff-last, BreaksOff-longer}
 use Rattle.chunk_header.specs.Chunks.{ChunkValue}
@@ -24,9 +24,8 @@ use Rattle.damage_skip.specs.Walks.{piece_of, IsEventIn}
 use Rattle.damage_skip.specs.declared.events.Event.{Event}
 use Rattle.damage_skip.specs.declared.events.Event.TheVariants as event
 use Rattle.damage_skip.specs.declared.regions.Region.{Region}
-use Rattle.repair_copy.specs.Relaid.{chunk_in, chunks_in}
-use Rattle.repair_copy.specs.RepairPuts.{puts_from, repair_puts, WentOutAtFault}
-use Rattle.repair_copy.specs.Copies.{FitsAt, stream_of, next_chunk_place, puts_behind, Begins, Copies, CopiesFront, HasBegun, HasCopied, HasPutAll, HasCopiedFront, HasPutAtFault}
+use Rattle.repair_copy.specs.RepairPuts.{chunk_in, chunks_in, puts_from, repair_puts}
+use Rattle.repair_copy.specs.Copies.{WentOutAtFault, FitsAt, stream_of, next_chunk_place, puts_behind, Begins, Copies, CopiesFront, HasBegun, HasCopied, HasPutAll, HasCopiedFront, HasPutAtFault}
 use Rattle.repair_copy.specs.declared.copying.Copied.{Copied}
 use Rattle.repair_copy.specs.declared.copying.FailedSink.{FailedSink}
 use Rattle.repair_copy.specs.declared.copying.FailedSink.TheVariants as cut

@@ -6,8 +6,7 @@ use denote.Ref.{Bor}
 use Rattle.record_io.specs.Outside.{Takes}
 use Rattle.record_io.specs.Puts.{Put, Taken, GoOut, Made, bytes_to}
 use Rattle.chunk_header.specs.Chunks.{ChunkValue}
-use Rattle.meta_chunk.specs.Counts.{totals_of}
-use Rattle.meta_chunk.specs.Files.{signature, begin_of, laid_each}
+use Rattle.meta_chunk.specs.Files.{totals_of, signature, begin_of, laid_each}
 use Rattle.damage_skip.specs.Damage.{Intact, IsDamaged}
 use Rattle.damage_skip.specs.Pieces.{Piece, events_in}
 use Rattle.damage_skip.specs.Policies.{IsAllowedRegion}
@@ -17,8 +16,8 @@ use Rattle.damage_skip.proofs.Damaged.{tiles_left, number_of_end}
 use Rattle.damage_skip.proofs.DamagedWalks.{left_region}
 use Rattle.damage_skip.proofs.Reached.{left_numbers}
 use Rattle.damage_skip.proofs.Untouched.{lost_up_to_a_block}
-use Rattle.repair_copy.specs.Relaid.{chunks_in, relaid}
-use Rattle.repair_copy.specs.RepairPuts.{repair_puts}
+use Rattle.repair_copy.specs.RepairPuts.{chunks_in, repair_puts}
+use Rattle.repair_copy.specs.RelaidFiles.{relaid}
 use Rattle.repair_copy.specs.Repairs.{AnswersRepair, WentOut, Repairs}
 use Rattle.repair_copy.specs.DamagedRepairs.{kept_of, AnswersDamaged, MakesOf, RepairsDamage}
 use Rattle.repair_copy.specs.declared.repairs.Repaired.{Repaired}

@@ -6,7 +6,8 @@ use Rattle.chunk_header.specs.Chunks.{ChunkValue}
 use Rattle.meta_chunk.specs.Files.{signature, end_of_chunks, laid_each}
 use Rattle.meta_chunk.proofs.Joins.{laid_each-append, end-laid_each}
 use Rattle.damage_skip.specs.Pieces.{PieceKind, Given, Kept, LeftOut, Skipped, Piece, is_event, events_in}
-use Rattle.repair_copy.specs.Relaid.{chunk_in, chunks_in, relaid}
+use Rattle.repair_copy.specs.RepairPuts.{chunk_in, chunks_in}
+use Rattle.repair_copy.specs.RelaidFiles.{relaid}
 
 -- a piece that is no event has no chunk
 no_event_no_chunk : (what : PieceKind) → is_event what ≡ false → chunk_in what ≡ []

@@ -6,12 +6,12 @@ use Rattle.std.proofs.lemmas.List.{append-nil}
 use denote.Ref.{Bor}
 use Rattle.record_io.specs.Puts.{Put, Taken, GoOut}
 use Rattle.chunk_header.specs.Chunks.{ChunkValue}
-use Rattle.meta_chunk.specs.Counts.{totals_of}
-use Rattle.meta_chunk.specs.Files.{signature, IsFramed, IsChainOf, IsFrame, begin_of, laid_each}
+use Rattle.meta_chunk.specs.Files.{totals_of, signature, IsFramed, IsChainOf, IsFrame, begin_of, laid_each}
 use Rattle.meta_chunk.proofs.Chains.{IsChainOf-take}
 use Rattle.chunk_reader.specs.declared.reasons.Why.{Why}
 use Rattle.damage_skip.specs.Fronts.{IsCutAt, AreFrontPieces}
-use Rattle.damage_skip.specs.Pieces.{Piece, Skipped, AreTiles, ArePieces, AreFound, GoesOn, events_in}
+use Rattle.damage_skip.specs.Pieces.{Piece, Skipped, AreTiles, GoesOn, events_in}
+use Rattle.damage_skip.specs.FilePieces.{ArePieces, AreFound}
 use Rattle.damage_skip.specs.Regions.{regions_in}
 use Rattle.damage_skip.specs.declared.regions.Region.{Region}
 use Rattle.damage_skip.proofs.Found.{tiles_found}
@@ -21,7 +21,8 @@ use Rattle.damage_skip.proofs.Prefixes.{cut_between}
 use Rattle.damage_skip.proofs.RegionsIn.{no_region, regions_in-append}
 use Rattle.damage_skip.proofs.Tiles.{events-append, goes_on_front}
 use Rattle.damage_skip.proofs.WalkedTo.{piece_at}
-use Rattle.repair_copy.specs.Relaid.{chunks_in, copied}
+use Rattle.repair_copy.specs.RepairPuts.{chunks_in}
+use Rattle.repair_copy.specs.CopiedChunks.{copied}
 use Rattle.repair_copy.specs.Repairs.{AnswersRepair, WentOut, Repairs}
 use Rattle.repair_copy.specs.DamagedRepairs.{MakesOf}
 use Rattle.repair_copy.specs.FrontRepairs.{AnswersFront, RepairsFront}

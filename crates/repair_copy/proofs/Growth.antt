@@ -14,7 +14,8 @@ use Rattle.chunk_reader.proofs.PassedChunks.{end_of_chunk-at}
 use Rattle.chunk_reader.proofs.SignedFiles.{end_of_chunk-signature}
 use Rattle.damage_skip.specs.Pieces.{PieceKind, Given, Kept, LeftOut, Skipped, Piece, IsFoundAs, IsPieceOf, AreTiles}
 use Rattle.damage_skip.proofs.OnePiece.{piece_cases, piece_past}
-use Rattle.repair_copy.specs.Relaid.{chunk_in, chunks_in, relaid}
+use Rattle.repair_copy.specs.RepairPuts.{chunk_in, chunks_in}
+use Rattle.repair_copy.specs.RelaidFiles.{relaid}
 
 -- bytes that begin at another place have at most one block header more between them
 end_of_moved : (a b size : ℕ) → 1 ≤ size → end_of b size + a ≤ end_of a size + b + 24

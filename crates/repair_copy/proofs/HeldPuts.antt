@@ -2,8 +2,8 @@
 use Rattle.std.proofs.Common.{◌≡◌, ◌≢◌, ◌∙◌, ℕ, Option, None, List, [], ◌∷◌, ◌++◌, length, length-append, take, refl, sym, ap, subst, append_assoc, arith}
 use Rattle.std.proofs.Math.Seq.{take-append_seam}
 use Rattle.record_io.specs.Outside.{Takes}
-use Rattle.record_io.specs.Buffers.{TakesAndHolds}
-use Rattle.record_io.specs.Puts.{Stream, Made, Put, Taken, taken_by, puts_to, GoOut, GoOutOrAreHeld, BreaksOff}
+use Rattle.record_io.specs.Buffers.{TakesAndHolds, GoOutOrAreHeld}
+use Rattle.record_io.specs.Puts.{Stream, Made, Put, Taken, taken_by, puts_to, GoOut, BreaksOff}
 use Rattle.record_io.proofs.Puts.{puts_to-append, GoOut-append, GoOut-made, BreaksOff-last, BreaksOff-behind}
 
 -- more is put behind what is held

@@ -11,11 +11,14 @@ use Rattle.meta_chunk.proofs.LaidChunks.{AreLaid-laid_each}
 use Rattle.chunk_reader.proofs.AllowedChunks.{allowed_small}
 use Rattle.chunk_reader.proofs.ChainSteps.{each_at}
 use Rattle.chunk_reader.proofs.SignedFiles.{IsChunk-signature, IsAllowed-signature}
-use Rattle.damage_skip.specs.Pieces.{PieceKind, Piece, ArePieces}
+use Rattle.damage_skip.specs.Pieces.{PieceKind, Piece}
+use Rattle.damage_skip.specs.FilePieces.{ArePieces}
 use Rattle.damage_skip.specs.Damage.{Intact, IsDamaged, AreReached, DamageLeaves, DamageLeavesEach, untouched}
 use Rattle.damage_skip.proofs.Damaged.{pieces_left}
 use Rattle.damage_skip.proofs.Reached.{reached_past, left_past, next_one}
-use Rattle.repair_copy.specs.Relaid.{chunk_in, chunks_in, relaid, is_copied, copied}
+use Rattle.repair_copy.specs.RepairPuts.{chunk_in, chunks_in}
+use Rattle.repair_copy.specs.RelaidFiles.{relaid}
+use Rattle.repair_copy.specs.CopiedChunks.{is_copied, copied}
 use Rattle.repair_copy.proofs.Copied.{unread_stays, none_before, found_chunk}
 
 -- the chunk of an untouched one's piece

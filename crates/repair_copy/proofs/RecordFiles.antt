@@ -13,14 +13,16 @@ use Rattle.meta_chunk.specs.Files.{signature, end_of_chunks, laid_each}
 use Rattle.meta_chunk.specs.PaddingSizes.{padding_at}
 use Rattle.meta_chunk.proofs.Begins.{end_of_chunks_boundary}
 use Rattle.meta_chunk.proofs.PaddingLemmas.{padding_at_are_padding}
-use Rattle.damage_skip.specs.Pieces.{Piece, ArePieces}
+use Rattle.damage_skip.specs.Pieces.{Piece}
+use Rattle.damage_skip.specs.FilePieces.{ArePieces}
 use Rattle.damage_skip.proofs.Found.{file_of_plain}
 use Rattle.record_group.specs.declared.pad.Pad.{Pad}
 use Rattle.record_group.specs.declared.pad.Pad.TheVariants.{No}
 use Rattle.record_group.specs.Groups.{groups, pads_start, pads_end, padding_if, front_padding, front_chunks, end_padding, record_chunks, chunks_of, file_of}
 use Rattle.record_group.specs.Records.{AreRecords}
 use Rattle.record_group.proofs.RecordFiles.{IsFile-file_of}
-use Rattle.repair_copy.specs.Relaid.{relaid, is_copied, copied}
+use Rattle.repair_copy.specs.RelaidFiles.{relaid}
+use Rattle.repair_copy.specs.CopiedChunks.{is_copied, copied}
 use Rattle.repair_copy.proofs.Copied.{left_out_stays, copied_all, copied_none}
 use Rattle.repair_copy.proofs.RelaidFiles.{whole_chunks}
 

@@ -15,7 +15,8 @@ use Rattle.meta_chunk.specs.Laid.{end_of_chunk, byte_at, laid_bytes, laid}
 use Rattle.meta_chunk.specs.Files.{signature, laid_each}
 use Rattle.chunk_reader.proofs.SignedFiles.{IsChunk-signature}
 use Rattle.damage_skip.specs.Pieces.{Piece, AreTiles}
-use Rattle.repair_copy.specs.Relaid.{chunks_in, relaid}
+use Rattle.repair_copy.specs.RepairPuts.{chunks_in}
+use Rattle.repair_copy.specs.RelaidFiles.{relaid}
 use Rattle.repair_copy.proofs.RelaidFiles.{tiles_sound}
 
 -- the bytes of a number are bytes

@@ -19,12 +19,15 @@ use Rattle.chunk_reader.proofs.PassedChunks.{AreBytes-own_bytes_at, AreBytes-dat
 use Rattle.chunk_reader.proofs.AllowedChunks.{IsAllowed-passed, IsAllowed-frame, allowed_small}
 use Rattle.chunk_reader.proofs.NoReasonLaid.{content_where_none}
 use Rattle.chunk_reader.proofs.SignedFiles.{IsChunk-signature, IsAllowed-signature}
-use Rattle.damage_skip.specs.Pieces.{PieceKind, Given, Kept, LeftOut, Skipped, Piece, SkipsFor, walk_reasons, IsFoundAs, IsPieceOf, AreTiles, ArePieces, records_of, records_in}
+use Rattle.damage_skip.specs.Pieces.{PieceKind, Given, Kept, LeftOut, Skipped, Piece, SkipsFor, walk_reasons, IsFoundAs, IsPieceOf, AreTiles, records_of, records_in}
+use Rattle.damage_skip.specs.FilePieces.{ArePieces}
 use Rattle.damage_skip.specs.Walks.{GoesOn}
 use Rattle.damage_skip.proofs.OnePiece.{piece_cases}
 use Rattle.damage_skip.proofs.Found.{file_of_plain, pieces_found}
 use Rattle.damage_skip.proofs.FoundRecords.{found_holds, records_in_events}
-use Rattle.repair_copy.specs.Relaid.{chunk_in, chunks_in, relaid, is_copied, copied}
+use Rattle.repair_copy.specs.RepairPuts.{chunk_in, chunks_in}
+use Rattle.repair_copy.specs.RelaidFiles.{relaid}
+use Rattle.repair_copy.specs.CopiedChunks.{is_copied, copied}
 use Rattle.repair_copy.proofs.EventChunks.{chunks_in_events}
 use Rattle.repair_copy.proofs.Copied.{found_chunks, found_copied, each_active, copied_all}
 

@@ -7,8 +7,8 @@ use Rattle.meta_chunk.proofs.Joins.{end_of_chunks-append, laid_each-append}
 use Rattle.damage_skip.specs.Pieces.{Piece}
 use Rattle.damage_skip.specs.Regions.{region_of, regions_in, told_text, skipped_text}
 use Rattle.damage_skip.proofs.RegionsIn.{told_first}
-use Rattle.repair_copy.specs.Relaid.{chunk_in, chunks_in, relaid}
-use Rattle.repair_copy.specs.RepairPuts.{puts_from, repair_puts}
+use Rattle.repair_copy.specs.RepairPuts.{chunk_in, chunks_in, puts_from, repair_puts}
+use Rattle.repair_copy.specs.RelaidFiles.{relaid}
 
 -- where the chunks of pieces end
 end_of-more : (place : ℕ) (p : Piece) (ps : List Piece)

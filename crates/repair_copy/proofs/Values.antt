@@ -10,7 +10,9 @@ use Rattle.meta_chunk.specs.PaddingSizes.{padding}
 use Rattle.meta_chunk.proofs.Begins.{end-zero_padding}
 use Rattle.chunk_reader.specs.declared.reasons.Why.TheVariants as why
 use Rattle.damage_skip.specs.Pieces.{Given, LeftOut, Skipped, Piece}
-use Rattle.repair_copy.specs.Relaid.{chunks_in, relaid, copied}
+use Rattle.repair_copy.specs.RepairPuts.{chunks_in}
+use Rattle.repair_copy.specs.RelaidFiles.{relaid}
+use Rattle.repair_copy.specs.CopiedChunks.{copied}
 
 -- an empty file is repaired to the signature
 none_relaid : relaid [] ≡ signature_bytes

@@ -4,8 +4,7 @@ use Rattle.std.specs.Fn.{Shared}
 use denote.Ref.{Bor}
 use Rattle.record_io.specs.Puts.{Put, Taken}
 use Rattle.record_io.proofs.ManyStores.{Rose-after}
-use Rattle.meta_chunk.specs.Counts.{totals_of}
-use Rattle.meta_chunk.specs.Files.{signature}
+use Rattle.meta_chunk.specs.Files.{totals_of, signature}
 use Rattle.record_writer.specs.MadeFiles.{totals_made}
 use Rattle.damage_skip.specs.Pieces.{Piece}
 use Rattle.damage_skip.specs.Policies.{IsAllowedRegion, IsRefusedRegion}
@@ -14,9 +13,8 @@ use Rattle.damage_skip.specs.Takings.{IsTakenByWalk}
 use Rattle.damage_skip.specs.declared.events.WalkEnd.{WalkEnd}
 use Rattle.damage_skip.specs.declared.events.WalkEnd.TheVariants as walk
 use Rattle.damage_skip.specs.declared.regions.Region.{Region}
-use Rattle.repair_copy.specs.Relaid.{chunks_in}
-use Rattle.repair_copy.specs.RepairPuts.{repair_puts, WentOutAtFault}
-use Rattle.repair_copy.specs.Copies.{HasCopied, HasPutAll, HasCopiedFront, HasPutAtFault, HasSkipped}
+use Rattle.repair_copy.specs.RepairPuts.{chunks_in, repair_puts}
+use Rattle.repair_copy.specs.Copies.{WentOutAtFault, HasCopied, HasPutAll, HasCopiedFront, HasPutAtFault, HasSkipped}
 use Rattle.repair_copy.specs.CopyEnds.{EndsWith, CopiesWalk, AnswersWalk, HasPutOut}
 use Rattle.repair_copy.specs.Repairs.{AnswersRepair, WentOut, Repairs, Skips, end_of_failed}
 use Rattle.repair_copy.specs.ShortRepairs.{RepairsShort}

@@ -6,8 +6,7 @@ use Rattle.meta_chunk.specs.Files.{signature, end_of_chunks, laid_each}
 use Rattle.damage_skip.specs.Pieces.{Piece}
 use Rattle.damage_skip.specs.Regions.{region_of, regions_in, told_text, skipped_text}
 use Rattle.damage_skip.proofs.RegionsIn.{told_first}
-use Rattle.repair_copy.specs.Relaid.{chunk_in}
-use Rattle.repair_copy.specs.RepairPuts.{puts_from, repair_puts}
+use Rattle.repair_copy.specs.RepairPuts.{chunk_in, puts_from, repair_puts}
 
 abbrev made : ℕ → Put
 made byte = record { to = Made; byte = byte }

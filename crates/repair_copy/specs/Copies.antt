@@ -1,15 +1,15 @@
--- How far a damaged file is copied. Own.
+-- Inside. How far a damaged file is copied. Own.
 use Rattle.std.specs.Prelude.{◌≡◌, ◌≢◌, ℕ, Bool, true, false, ◌+◌, ◌^◌, ◌≤◌, ◌⊎◌, ⊤, Option, Result, Err, List, [], ◌∷◌, ◌++◌, length, if◌then◌else◌, OnOk}
 use Rattle.std.specs.List.{AllByRecursion}
 use Rattle.std.specs.Fn.{Shared}
 use denote.Ref.{Bor}
 use Rattle.record_io.specs.Calls.{OnlyCounts}
-use Rattle.record_io.specs.Outside.{Takes, TakesShort}
-use Rattle.record_io.specs.Puts.{Stream, Made, Notes, Put, Taken, puts_to, GoOut, GoOutOrAreHeld, BreaksOff}
+use Rattle.record_io.specs.Outside.{Rose, Takes, TakesShort}
+use Rattle.record_io.specs.Puts.{Stream, Made, Notes, Put, Taken, puts_to, GoOut, BreaksOff}
+use Rattle.record_io.specs.Buffers.{GoOutOrAreHeld}
 use Rattle.chunk_header.specs.Views.{HasRightHash, value_of_chunk}
 use Rattle.chunk_header.specs.declared.Chunk.{Chunk}
-use Rattle.meta_chunk.specs.Counts.{is_unread, totals_of}
-use Rattle.meta_chunk.specs.Files.{signature, end_of_chunks}
+use Rattle.meta_chunk.specs.Files.{is_unread, totals_of, signature, end_of_chunks}
 use Rattle.meta_chunk.specs.Laid.{end_of_chunk}
 use Rattle.record_writer.specs.MadeFiles.{MadeFileValue, Lays, nothing_made, totals_made}
 use Rattle.damage_skip.specs.Pieces.{Piece}
@@ -18,8 +18,7 @@ use Rattle.damage_skip.specs.Regions.{regions_in, skipped_text, IsWalkedTo}
 use Rattle.damage_skip.specs.declared.events.Event.{Event}
 use Rattle.damage_skip.specs.declared.events.Event.TheVariants as event
 use Rattle.damage_skip.specs.declared.regions.Region.{Region}
-use Rattle.repair_copy.specs.Relaid.{chunks_in}
-use Rattle.repair_copy.specs.RepairPuts.{puts_from, repair_puts, WentOutAtFault}
+use Rattle.repair_copy.specs.RepairPuts.{chunks_in, puts_from, repair_puts}
 use Rattle.repair_copy.specs.declared.copying.Copied.{Copied}
 use Rattle.repair_copy.specs.declared.copying.FailedSink.{FailedSink}
 use Rattle.repair_copy.specs.declared.copying.FailedSink.TheVariants as cut
@@ -115,6 +114,14 @@ pub record HasCopiedFront (cut : FailedSink) (before after : Taken) (events : Li
   pub part : List Put
   pub went : GoOut before after part
   pub broken : BreaksOff (stream_of cut) part (repair_puts events)
+
+-- of what is put of events all went out, or a front where the made file, of these counts of faults, failed; and of no events
+-- nothing
+abbrev pub WentOutAtFault : (faults faults_then : ℕ) → List Piece → List Put → Type 0
+WentOutAtFault faults faults_then [] part = part ≡ []
+WentOutAtFault faults faults_then (event ∷ events) part =
+    (part ≡ repair_puts (event ∷ events))
+    ⊎ (Rose faults faults_then × (rest : List ℕ) × (repair_puts (event ∷ events) ≡ part ++ puts_to Made rest))
 
 -- what is put of these events went out at a fault
 pub record HasPutAtFault (faults faults_then : ℕ) (before after : Taken) (events : List Piece) : Type 0 where

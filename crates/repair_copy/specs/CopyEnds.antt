@@ -1,10 +1,9 @@
--- How the copying of a damaged file ends. Own.
+-- Inside. How the copying of a damaged file ends. Own.
 use Rattle.std.specs.Prelude.{◌≡◌, ℕ, ◌+◌, ◌*◌, ◌^◌, ◌≤◌, Bool, true, false, ⊤, Option, Some, None, Result, Ok, Err, IfOk, List, ◌∷◌, length}
 use Rattle.std.specs.Fn.{Shared}
 use denote.Ref.{Bor}
 use Rattle.record_io.specs.Puts.{Put, Taken, GoOut}
-use Rattle.meta_chunk.specs.Counts.{totals_of}
-use Rattle.meta_chunk.specs.Files.{signature}
+use Rattle.meta_chunk.specs.Files.{totals_of, signature}
 use Rattle.record_writer.specs.MadeFiles.{nothing_made}
 use Rattle.chunk_reader.specs.Reasons.{Applies, NoneOf, loading_reasons}
 use Rattle.damage_skip.specs.Pieces.{Piece}
@@ -14,7 +13,7 @@ use Rattle.damage_skip.specs.Takings.{IsTakenUpTo}
 use Rattle.damage_skip.specs.declared.events.WalkEnd.{WalkEnd}
 use Rattle.damage_skip.specs.declared.events.WalkEnd.TheVariants as walk
 use Rattle.damage_skip.specs.declared.regions.Region.{Region}
-use Rattle.repair_copy.specs.Relaid.{chunks_in}
+use Rattle.repair_copy.specs.RepairPuts.{chunks_in}
 use Rattle.repair_copy.specs.Walked.{EndsAt}
 use Rattle.repair_copy.specs.Copies.{HasCopied, HasCopiedFront}
 use Rattle.repair_copy.specs.Repairs.{WentOut}

@@ -1,4 +1,4 @@
--- What the repair of a damaged file makes and tells, told by the numbers of its chunks. Own.
+-- Inside. What the repair of a damaged file makes and tells, told by the numbers of its chunks. Own.
 use Rattle.std.specs.Prelude.{◌≡◌, ℕ, Bool, true, false, ⊤, Result, Ok, Err, List, ◌∷◌, length}
 use Rattle.std.specs.List.{AllByRecursion}
 use Rattle.std.specs.Fn.{Shared, FnReturnsAt}
@@ -6,15 +6,14 @@ use denote.Ref.{Bor}
 use Rattle.record_io.specs.Outside.{Takes}
 use Rattle.record_io.specs.Puts.{Put, Taken, GoOut}
 use Rattle.chunk_header.specs.Chunks.{ChunkValue}
-use Rattle.meta_chunk.specs.Counts.{totals_of}
-use Rattle.meta_chunk.specs.Files.{signature, IsFrame, laid_each}
+use Rattle.meta_chunk.specs.Files.{totals_of, signature, IsFrame, laid_each}
 use Rattle.damage_skip.specs.Damage.{Intact, AreReached, AreLostUpToABlock, DamageLeavesEach, untouched}
 use Rattle.damage_skip.specs.DamagedWalks.{IsLeftRegion}
 use Rattle.damage_skip.specs.Pieces.{Piece, events_in}
 use Rattle.damage_skip.specs.Policies.{IsAllowedRegion}
 use Rattle.damage_skip.specs.Regions.{regions_in}
 use Rattle.damage_skip.specs.declared.regions.Region.{Region}
-use Rattle.repair_copy.specs.Relaid.{copied}
+use Rattle.repair_copy.specs.CopiedChunks.{copied}
 use Rattle.repair_copy.specs.Repairs.{WentOut}
 use Rattle.repair_copy.specs.declared.repairs.Repaired.{Repaired}
 use Rattle.repair_copy.specs.declared.repairs.RepairEnd.{RepairEnd}

@@ -1,18 +1,17 @@
--- What the repair of the front of a file of chunks makes and tells. Own.
+-- Inside. What the repair of the front of a file of chunks makes and tells. Own.
 use Rattle.std.specs.Prelude.{◌≡◌, ℕ, Bool, true, false, ⊤, Result, Ok, Err, List, [], ◌∷◌, ◌++◌, length, take}
 use Rattle.std.specs.List.{AllByRecursion}
 use Rattle.std.specs.Fn.{Shared, FnReturnsAt}
 use denote.Ref.{Bor}
 use Rattle.record_io.specs.Puts.{Put, Taken, GoOut}
 use Rattle.chunk_header.specs.Chunks.{ChunkValue}
-use Rattle.meta_chunk.specs.Counts.{totals_of}
-use Rattle.meta_chunk.specs.Files.{signature}
+use Rattle.meta_chunk.specs.Files.{totals_of, signature}
 use Rattle.damage_skip.specs.Fronts.{AreFrontPieces}
 use Rattle.damage_skip.specs.Pieces.{Piece, Skipped, events_in}
 use Rattle.damage_skip.specs.Policies.{IsAllowedRegion}
 use Rattle.damage_skip.specs.Regions.{regions_in}
 use Rattle.damage_skip.specs.declared.regions.Region.{Region}
-use Rattle.repair_copy.specs.Relaid.{copied}
+use Rattle.repair_copy.specs.CopiedChunks.{copied}
 use Rattle.repair_copy.specs.Repairs.{WentOut}
 use Rattle.repair_copy.specs.DamagedRepairs.{MakesOf}
 use Rattle.repair_copy.specs.declared.repairs.Repaired.{Repaired}

@@ -1,4 +1,4 @@
--- What the repair of a file gives of which the undamaged one is known. Own.
+-- Inside. What the repair of a file gives of which the undamaged one is known. Own.
 use Rattle.std.specs.Prelude.{◌≡◌, ℕ, ◌^◌, ◌≤◌, Bool, Result, List, length, take}
 use Rattle.std.specs.Fn.{Shared}
 use denote.Ref.{Bor}

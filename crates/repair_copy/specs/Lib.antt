@@ -1,4 +1,4 @@
-pub mod Relaid
+pub mod CopiedChunks
 pub mod RepairPuts
 pub mod Walked
 pub mod Copies
@@ -8,3 +8,4 @@ pub mod DamagedRepairs
 pub mod ShortRepairs
 pub mod FrontRepairs
 pub mod KnownRepairs
+pub mod RelaidFiles

@@ -1,20 +1,19 @@
--- What a damaged file is repaired to under a test of regions, and how that ends. Own.
+-- Inside. What a damaged file is repaired to under a test of regions, and how that ends. Own.
 use Rattle.std.specs.Prelude.{◌≡◌, ℕ, ◌+◌, ◌*◌, ◌≤◌, Bool, true, ⊤, Option, Some, None, Result, Ok, Err, IfOk, List, ◌∷◌, length}
 use Rattle.std.specs.List.{AllByRecursion}
 use Rattle.std.specs.Fn.{Shared}
 use denote.Ref.{Bor}
 use Rattle.record_io.specs.Outside.{Takes, TakesShort}
 use Rattle.record_io.specs.Puts.{Put, Taken, Made, Notes, GoOut, BreaksOff}
-use Rattle.meta_chunk.specs.Counts.{totals_of}
-use Rattle.meta_chunk.specs.Files.{signature}
+use Rattle.meta_chunk.specs.Files.{totals_of, signature}
 use Rattle.chunk_reader.specs.Reasons.{Applies, NoneOf, loading_reasons}
 use Rattle.damage_skip.specs.Pieces.{Piece}
 use Rattle.damage_skip.specs.Policies.{IsAllowedRegion, IsRefusedRegion}
 use Rattle.damage_skip.specs.Regions.{regions_in, skipped_text, IsWalkedTo}
 use Rattle.damage_skip.specs.Steps.{IsOnward}
 use Rattle.damage_skip.specs.declared.regions.Region.{Region}
-use Rattle.repair_copy.specs.Relaid.{chunks_in}
-use Rattle.repair_copy.specs.RepairPuts.{repair_puts, WentOutAtFault}
+use Rattle.repair_copy.specs.RepairPuts.{chunks_in, repair_puts}
+use Rattle.repair_copy.specs.Copies.{WentOutAtFault}
 use Rattle.repair_copy.specs.Walked.{EndsAt}
 use Rattle.repair_copy.specs.declared.copying.FailedSink.{FailedSink}
 use Rattle.repair_copy.specs.declared.copying.FailedSink.TheVariants as cut

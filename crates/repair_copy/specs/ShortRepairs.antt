@@ -1,4 +1,4 @@
--- What the repair of a file has made and taken that could not be read on. Own.
+-- Inside. What the repair of a file has made and taken that could not be read on. Own.
 use Rattle.std.specs.Prelude.{ℕ, Bool, true, List}
 use Rattle.std.specs.Fn.{Shared}
 use denote.Ref.{Bor}
@@ -8,7 +8,7 @@ use Rattle.damage_skip.specs.Policies.{IsAllowedRegion}
 use Rattle.damage_skip.specs.Regions.{IsWalkedTo}
 use Rattle.damage_skip.specs.Takings.{IsTakenUpTo}
 use Rattle.damage_skip.specs.declared.regions.Region.{Region}
-use Rattle.repair_copy.specs.RepairPuts.{WentOutAtFault}
+use Rattle.repair_copy.specs.Copies.{WentOutAtFault}
 
 -- of a file that could not be read on these events were copied: what made, of these counts of faults, and notes took. The pieces up
 -- to there and the one there account for what was taken of the file

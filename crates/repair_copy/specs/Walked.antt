@@ -1,4 +1,4 @@
--- Where the walk of a file ends under a test of regions. Own.
+-- Inside. Where the walk of a file ends under a test of regions. Own.
 use Rattle.std.specs.Prelude.{◌≡◌, ℕ, ◌<◌, Bool, true, false, Option, Some, None, List, length}
 use Rattle.std.specs.Fn.{Shared, FnReturnsAt}
 use denote.Ref.{Bor}

@@ -6,7 +6,7 @@ ghost use Rattle.record_writer.specs.MadeFiles.{LaysFront, nothing_made};
 ghost use Rattle.damage_skip.specs.Pieces.{Piece};
 ghost use Rattle.damage_skip.specs.Regions.{regions_in};
 ghost use Rattle.damage_skip.specs.Walks.{piece_of, event_text};
-ghost use Rattle.repair_copy.specs.Relaid.{chunks_in};
+ghost use Rattle.repair_copy.specs.RepairPuts.{chunks_in};
 ghost use Rattle.repair_copy.specs.Copies.{FitsAt, next_chunk_place, Begins, Copies, CopiesFront, TellsLine, HasCopied, HasBegun, HasPutAll, HasCopiedFront, HasPutAtFault};
 
 use damage_skip::{Event, Region, region_line};

@@ -15,13 +15,15 @@ ghost use Rattle.record_group.specs.Groups.{file_of};
 ghost use Rattle.record_group.specs.Records.{AreRecords};
 ghost use Rattle.chunk_reader.specs.Faults.{IsAllowed, HasNoFault};
 ghost use Rattle.damage_skip.specs.Damage.{Intact, IsDamaged, AreReached, DamageLeavesEach, untouched};
-ghost use Rattle.damage_skip.specs.Pieces.{Piece, AreTiles, ArePieces, events_in, records_in};
+ghost use Rattle.damage_skip.specs.Pieces.{Piece, AreTiles, events_in, records_in};
+ghost use Rattle.damage_skip.specs.FilePieces.{ArePieces};
 ghost use Rattle.damage_skip.specs.Walks.{GoesOn};
 ghost use Rattle.damage_skip.specs.Policies.{IsTest, IsAllowedRegion};
 ghost use Rattle.damage_skip.specs.Regions.{regions_in, skipped_text, IsWalkedTo};
 ghost use Rattle.repair_copy.specs.Walked.{EndsAt};
-ghost use Rattle.repair_copy.specs.RepairPuts.{puts_from, repair_puts};
-ghost use Rattle.repair_copy.specs.Relaid.{chunk_in, chunks_in, relaid, copied};
+ghost use Rattle.repair_copy.specs.RepairPuts.{puts_from, repair_puts, chunk_in, chunks_in};
+ghost use Rattle.repair_copy.specs.RelaidFiles.{relaid};
+ghost use Rattle.repair_copy.specs.CopiedChunks.{copied};
 
 use damage_skip::{Policy, Region};
 

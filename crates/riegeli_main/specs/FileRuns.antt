@@ -1,10 +1,10 @@
--- What a run over real files shows, of which nothing is shown itself. Own.
+-- Inside. What a run over real files shows, of which nothing is shown itself. Own.
 use Rattle.std.specs.Prelude.{ℕ, List}
 use Rattle.record_io.specs.Seen.{SeenStream, SeenFile}
-use Rattle.run_answers.specs.Runs.{seen}
+use Rattle.run_answers.specs.RunObjects.{seen}
 use Rattle.run_answers.specs.declared.status.Status.{Status}
 use Rattle.riegeli_tool.specs.Commands.{accepted}
-use Rattle.riegeli_tool.specs.PastDamage.{RunsCommand}
+use Rattle.riegeli_tool.specs.CommandRuns.{RunsCommand}
 
 -- a run of the words' command ended with a status, of what its input and output showed before and after, and of what its files and
 -- notes did, whatever that was

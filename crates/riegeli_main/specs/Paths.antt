@@ -1,4 +1,4 @@
--- Which words are paths. Own.
+-- Promise. Which words are paths. Own.
 use Rattle.std.specs.Prelude.{ℕ, Option, Some, None, List, [], get_or}
 
 -- the path of a file, by its place among the words, and an empty one where it has none

@@ -20,7 +20,8 @@ use Rattle.write_lines.proofs.WriteLimits.{line_words_of-within}
 use Rattle.record_ranges.proofs.RangesLimits.{ranges_words_of-within}
 use Rattle.riegeli_tool.specs.AppendWords.{append_words_of}
 use Rattle.riegeli_tool.proofs.AppendLimits.{append_words_of-within}
-use Rattle.riegeli_tool.specs.Commands.{command_of, takes, accepted_of, accepted, IsWithinLimits}
+use Rattle.riegeli_tool.specs.Commands.{command_of, takes, accepted_of, accepted}
+use Rattle.riegeli_tool.specs.CommandLimits.{IsWithinLimits}
 
 -- so it is of either of two commands
 either : (b : Bool) (first second : Option Command) → IfSome first IsWithinLimits → IfSome second IsWithinLimits → IfSome (if b then first else second) IsWithinLimits

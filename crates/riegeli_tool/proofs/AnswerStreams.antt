@@ -4,14 +4,13 @@ use Rattle.std.specs.List.{flat_map}
 use Rattle.record_io.specs.Puts.{Put, Made, Out, Notes, bytes_to}
 use Rattle.record_io.proofs.Puts.{bytes_to-append, bytes_to-own, bytes_to-other}
 use Rattle.chunk_header.specs.Chunks.{ChunkValue}
-use Rattle.meta_chunk.specs.Counts.{totals_of}
-use Rattle.meta_chunk.specs.Files.{signature}
+use Rattle.meta_chunk.specs.Files.{totals_of, signature}
 use Rattle.damage_skip.specs.Pieces.{Piece}
 use Rattle.damage_skip.specs.declared.regions.Region.{Region}
 use Rattle.record_writer.specs.Feeds.{Rest}
 use Rattle.record_writer.specs.Written.{file_under}
-use Rattle.repair_copy.specs.Relaid.{chunks_in, relaid}
-use Rattle.repair_copy.specs.RepairPuts.{repair_puts}
+use Rattle.repair_copy.specs.RepairPuts.{chunks_in, repair_puts}
+use Rattle.repair_copy.specs.RelaidFiles.{relaid}
 use Rattle.repair_copy.proofs.RepairPuts.{made_in-repair, out_in-repair, notes_in-repair}
 use Rattle.riegeli_tool.specs.declared.repair_words.RepairWords.{RepairWords}
 use Rattle.sample_records.specs.declared.sample_words.SampleWords.{SampleWords}

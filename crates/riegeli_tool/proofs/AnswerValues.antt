@@ -11,11 +11,11 @@ use Rattle.run_answers.specs.Lines.{lines}
 use Rattle.write_lines.specs.Input.{taken_from}
 use Rattle.write_lines.specs.WriteWords.{line_words_of}
 use Rattle.riegeli_tool.specs.Commands.{command_of, accepted, names_of}
-use Rattle.riegeli_tool.specs.Usage.{usage_text, usage}
+use Rattle.riegeli_tool.specs.CommandAnswers.{usage_text, usage}
 use Rattle.write_lines.specs.WriteCommand.{answer_to}
-use Rattle.riegeli_tool.specs.CommandAnswers.{IsAnswerTo}
-use Rattle.run_answers.specs.Meanings.{reads}
-use Rattle.run_answers.specs.Runs.{first_lines}
+use Rattle.riegeli_tool.specs.AnswersTo.{IsAnswerTo}
+use Rattle.run_answers.specs.Unseen.{reads}
+use Rattle.run_answers.specs.CutShortRuns.{first_lines}
 use Rattle.run_answers.specs.declared.status.Status.TheVariants as status
 
 -- what the words `write F` say

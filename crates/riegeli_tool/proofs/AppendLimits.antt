@@ -1,7 +1,7 @@
 -- What the words of `append` say, and that it is within its limits.
 use Rattle.std.proofs.Common.{◌≡◌, ℕ, Option, Some, None, List, codes, ap, subst, refl}
 use Rattle.std.specs.Prelude.{is_some}
-use Rattle.record_writer.specs.Written.{AreInLimits}
+use Rattle.record_writer.specs.OptionLimits.{AreInLimits}
 use Rattle.word_options.specs.Options.{value_given, ◌>>=◌}
 use Rattle.write_lines.specs.WriteWords.{line_words_of}
 use Rattle.write_lines.specs.declared.write_words.WriteWords.{WriteWords}

@@ -18,11 +18,17 @@ use Rattle.record_append.specs.Grown.{IsRefusedToGrow, RefusesFor, bytes_at}
 use Rattle.run_answers.specs.declared.ending.Ending.{Ending}
 use Rattle.run_answers.specs.declared.status.Status.{Status}
 use Rattle.run_answers.specs.Answers.{Answer, noted}
-use Rattle.run_answers.specs.Endings.{SaysEnd}
+use Rattle.run_answers.specs.Endings.{SaysEnd, SaysAtEnd}
 use Rattle.run_answers.specs.FileAnswers.{OfFile, IsInReach, IsTooLong, limit_text, most_file_bytes}
 use Rattle.run_answers.specs.Meanings.{Read}
 use Rattle.run_answers.specs.Statuses.{fault_text}
-use Rattle.run_answers.specs.Runs.{Seen, seen, IsReadBy, IfGrown, IsWhole, IsCutOff, IsCutShort, OfSizes, SaysAtEnd, TakesThen, Breaks, HasCause, TakesAtMost, Runs}
+use Rattle.run_answers.specs.Runs.{Runs}
+use Rattle.run_answers.specs.RunObjects.{Seen, seen}
+use Rattle.run_answers.specs.RunReads.{IsReadBy, IfGrown, OfSizes}
+use Rattle.run_answers.specs.RunAnswers.{IsWhole}
+use Rattle.run_answers.specs.CutShortRuns.{IsCutOff, IsCutShort, TakesThen, Breaks}
+use Rattle.run_answers.specs.RunCauses.{HasCause}
+use Rattle.run_answers.specs.RunTakes.{TakesAtMost}
 use Rattle.run_answers.proofs.GrownRuns.{GrowsFile, grown-size, keeps-cut_off, keeps-whole}
 use Rattle.run_answers.proofs.RunEnds.{GaveButNotes, KeepsAtEnd, PutsLines-none, was-cut_off, went-so_far, ends-whole, ends-said, ends-cut_off}
 use Rattle.show_files.specs.Readings.{refused_text}

@@ -4,7 +4,8 @@ use Rattle.std.specs.Option.{IfSome, IsSomeAnd}
 use Rattle.std.proofs.lemmas.Option.{MatchOption-at_some}
 use Rattle.chunk_reader.specs.declared.reasons.Fault.{Fault}
 use Rattle.record_writer.specs.Feeds.{Rest}
-use Rattle.record_append.specs.Appends.{AnswersGrown, GrowsFrom, HoldsCutOff, HoldsGrownInPart, KeepsBy, Tells}
+use Rattle.record_append.specs.Appends.{GrowsFrom, HoldsGrownInPart}
+use Rattle.record_append.specs.AppendAnswers.{AnswersGrown, HoldsCutOff, KeepsBy, Tells}
 use Rattle.record_append.specs.Grown.{IsRefusedToGrow, RefusesFor, grown}
 use Rattle.record_append.specs.declared.appends.Appended.{Appended}
 use Rattle.record_append.specs.declared.appends.AppendEnd.{AppendEnd}

@@ -2,8 +2,7 @@
 use Rattle.std.proofs.Common.{◌≡◌, ℕ, true, false, Option, Some, None, List, [], ◌∷◌, ◌++◌, sym, ◌∙◌, ap}
 use Rattle.damage_skip.specs.Pieces.{Piece}
 use Rattle.damage_skip.proofs.Tiles.{events_one}
-use Rattle.repair_copy.specs.Relaid.{chunks_in}
-use Rattle.repair_copy.specs.RepairPuts.{repair_puts}
+use Rattle.repair_copy.specs.RepairPuts.{chunks_in, repair_puts}
 use Rattle.riegeli_tool.specs.declared.command.Command.{Command}
 use Rattle.riegeli_tool.specs.declared.command.Command.TheVariants.{Write, Show, Recover, Verify, Seek, Repair, Sample, Join, Ranges, Append, Collect}
 use Rattle.riegeli_tool.specs.declared.repair_words.RepairWords.{RepairWords}
@@ -15,7 +14,8 @@ use Rattle.show_damaged.specs.WalkAnswers.{walk_status}
 use Rattle.show_damaged.specs.RecoverCommand.{IsRecovered}
 use Rattle.show_files.specs.VerifyCommand.{IsVerified}
 use Rattle.riegeli_tool.specs.RepairCommand.{end_puts, IsRepaired}
-use Rattle.riegeli_tool.specs.CommandAnswers.{IsAnswerTo, answers_once, meaning_of}
+use Rattle.riegeli_tool.specs.CommandAnswers.{meaning_of}
+use Rattle.riegeli_tool.specs.AnswersTo.{IsAnswerTo, answers_once}
 use Rattle.run_answers.specs.Meanings.{Read}
 use Rattle.run_answers.proofs.OneAnswer.{one_of_file, same_answer}
 use Rattle.show_damaged.proofs.OneRecovery.{one_recovered}

@@ -4,13 +4,12 @@ use Rattle.std.specs.List.{AllByRecursion}
 use Rattle.std.proofs.lemmas.Bool.{eqb-true}
 use Rattle.record_values.specs.Bytes.{AreBytes}
 use Rattle.damage_skip.proofs.Tiles.{events_of}
-use Rattle.repair_copy.specs.Relaid.{chunks_in}
-use Rattle.repair_copy.specs.RepairPuts.{repair_puts}
+use Rattle.repair_copy.specs.RepairPuts.{chunks_in, repair_puts}
 use Rattle.riegeli_tool.specs.declared.command.Command.{Command}
 use Rattle.riegeli_tool.specs.declared.command.Command.TheVariants.{Write, Show, Recover, Verify, Seek, Repair, Sample, Join, Ranges, Append, Collect}
 use Rattle.riegeli_tool.specs.declared.repair_words.RepairWords.{RepairWords}
 use Rattle.run_answers.specs.Answers.{Answer}
-use Rattle.riegeli_tool.specs.Usage.{usage}
+use Rattle.riegeli_tool.specs.CommandAnswers.{usage, meaning_of}
 use Rattle.write_lines.specs.WriteCommand.{write_answer}
 use Rattle.show_files.specs.ShowCommand.{IsShown}
 use Rattle.damage_skip.specs.Bounds.{walked, refused_in}
@@ -20,8 +19,9 @@ use Rattle.show_damaged.specs.RecoverCommand.{IsRecovered}
 use Rattle.show_files.specs.VerifyCommand.{IsVerified}
 use Rattle.riegeli_tool.specs.RepairCommand.{end_puts, IsRepaired}
 use Rattle.sample_records.specs.SampleCommand.{sample_answer}
-use Rattle.riegeli_tool.specs.Commands.{stores_of, takes, command_of, accepted_of, accepted, IsWithinLimits}
-use Rattle.riegeli_tool.specs.CommandAnswers.{IsAnswerTo, meaning_of}
+use Rattle.riegeli_tool.specs.Commands.{stores_of, takes, command_of, accepted_of, accepted}
+use Rattle.riegeli_tool.specs.CommandLimits.{IsWithinLimits}
+use Rattle.riegeli_tool.specs.AnswersTo.{IsAnswerTo}
 use Rattle.run_answers.specs.Meanings.{Read}
 use Rattle.run_answers.proofs.OneAnswer.{of_file_exists}
 use Rattle.show_damaged.proofs.OneRecovery.{recovered_exists}

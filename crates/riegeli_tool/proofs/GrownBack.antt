@@ -5,12 +5,13 @@ use Rattle.std.proofs.lemmas.List.Elements.{All-append, All-from_recursion, recu
 use Rattle.record_values.specs.Bytes.{AreBytes}
 use Rattle.block_layout.specs.Layout.{IsBoundary}
 use Rattle.chunk_header.specs.Chunks.{ChunkValue}
-use Rattle.meta_chunk.specs.Files.{AreRecordsOf, IsFile, IsFrame, IsFrameChain, IsPlain}
+use Rattle.meta_chunk.specs.Files.{AreRecordsOf, IsFile, IsFrame, IsPlain}
+use Rattle.meta_chunk.specs.Chains.{IsFrameChain}
 use Rattle.meta_chunk.proofs.Chains.{IsChainOf-weaker}
 use Rattle.chunk_reader.proofs.ChainSteps.{chain_boundary}
 use Rattle.record_group.specs.Records.{AreRecords}
 use Rattle.record_group.proofs.RecordFiles.{IsFile-file_of, IsPlain-record_chunks}
-use Rattle.record_writer.specs.Written.{AreInLimits}
+use Rattle.record_writer.specs.OptionLimits.{AreInLimits}
 use Rattle.record_writer.specs.declared.options.WriteOptions.{WriteOptions}
 use Rattle.record_append.specs.Grown.{IsKeptTo, IsUnrefused, chunks_at, grown}
 use Rattle.record_append.proofs.GrownFiles.{grown_frame, grown_records, kept_once, kept_whole, taken_whole}

@@ -23,12 +23,15 @@ use Rattle.repair_copy.proofs.LeftChunks.{left_chunks}
 use Rattle.run_answers.specs.Answers.{Answer}
 use Rattle.run_answers.specs.FileAnswers.{OfFile}
 use Rattle.run_answers.specs.Meanings.{Read}
-use Rattle.run_answers.specs.Runs.{Seen, Runs}
+use Rattle.run_answers.specs.Runs.{Runs}
+use Rattle.run_answers.specs.RunObjects.{Seen}
 use Rattle.run_answers.specs.declared.status.Status.{Status}
 use Rattle.run_answers.proofs.OneAnswer.{same_answer}
 use Rattle.show_damaged.specs.RecoverCommand.{IsRecovered}
-use Rattle.riegeli_tool.specs.CommandAnswers.{IsAnswerTo, meaning_of}
-use Rattle.riegeli_tool.specs.PastDamage.{recovered_as, repaired_as, IsAnswerPastDamage, IsAnswerToFront, IsToldSo, IsToldPastDamage, RunsCommand, meaning_past_damage}
+use Rattle.riegeli_tool.specs.CommandAnswers.{meaning_of}
+use Rattle.riegeli_tool.specs.AnswersTo.{IsAnswerTo}
+use Rattle.riegeli_tool.specs.PastDamage.{recovered_as, repaired_as, IsAnswerPastDamage, IsAnswerToFront, IsToldSo, IsToldPastDamage, meaning_past_damage}
+use Rattle.riegeli_tool.specs.CommandRuns.{RunsCommand}
 use Rattle.riegeli_tool.specs.RepairCommand.{IsRepaired}
 use Rattle.riegeli_tool.specs.declared.command.Command.{Command}
 use Rattle.riegeli_tool.specs.declared.command.Command.TheVariants.{Write, Show, Recover, Verify, Seek, Repair, Sample, Join, Ranges, Append, Collect}

@@ -17,12 +17,13 @@ use Rattle.record_group.specs.Records.{AreRecords}
 use Rattle.record_group.proofs.RecordFiles.{IsFile-file_of, AreRecordsOf-chunks_of}
 use Rattle.record_writer.specs.declared.feed.Stop.{Stop}
 use Rattle.record_writer.specs.declared.feed.Stop.TheVariants.{TooLong, InputTooLong, BadLine}
-use Rattle.record_writer.specs.Written.{AreInLimits}
+use Rattle.record_writer.specs.OptionLimits.{AreInLimits}
 use Rattle.show_files.specs.declared.show_words.ShowWords.{ShowWords}
 use Rattle.write_lines.specs.declared.write_words.WriteWords.{WriteWords}
 use Rattle.run_answers.specs.Answers.{Answer, line}
 use Rattle.run_answers.specs.Lines.{lines}
-use Rattle.write_lines.specs.Input.{with_last_end, taken_from}
+use Rattle.write_lines.specs.Input.{taken_from}
+use Rattle.write_lines.specs.LastLines.{with_last_end}
 use Rattle.show_files.specs.declared.show_words.RecordForm.{RecordForm}
 use Rattle.show_files.specs.Readings.{bare, record_line}
 use Rattle.write_lines.specs.WriteCommand.{stop_status, write_answer}

@@ -3,10 +3,10 @@ use Rattle.std.proofs.Common.{◌≡◌, false, Some, None, [], ◌∷◌, codes
 use Rattle.riegeli_tool.specs.declared.command.Command.TheVariants.{Show, Verify}
 use Rattle.show_files.specs.ShowWords.{show_words_of}
 use Rattle.show_files.specs.VerifyWords.{verify_words_of}
-use Rattle.riegeli_tool.specs.Usage.{usage}
+use Rattle.riegeli_tool.specs.CommandAnswers.{usage}
 use Rattle.riegeli_tool.specs.Commands.{command_of, accepted, names_of}
-use Rattle.riegeli_tool.specs.CommandAnswers.{IsAnswerTo}
-use Rattle.run_answers.specs.Meanings.{reads}
+use Rattle.riegeli_tool.specs.AnswersTo.{IsAnswerTo}
+use Rattle.run_answers.specs.Unseen.{reads}
 
 -- the names of commands, whole and in small letters
 command_of_show : command_of (codes "show" ∷ codes "--positions" ∷ codes "A" ∷ []) ≡ Some (Show (record { form = record { positions = true; hex = false }; file = 2 }))

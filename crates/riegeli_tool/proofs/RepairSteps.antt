@@ -9,8 +9,7 @@ use Rattle.record_values.specs.declared.file_totals.Totals.{Totals}
 use Rattle.record_io.specs.Puts.{Put, Made, Out, Notes, Taken, taken_by, GoOut, BreaksOff, puts_to, bytes_to}
 use Rattle.record_io.proofs.Calls.{Takes-nothing}
 use Rattle.record_io.proofs.Puts.{bytes_to-append, bytes_to-other, GoOut-append, GoOut-out, GoOutOrAreHeld-none, BreaksOff-front, BreaksOff-last, BreaksOff-longer}
-use Rattle.meta_chunk.specs.Counts.{totals_of}
-use Rattle.meta_chunk.specs.Files.{signature, end_of_chunks}
+use Rattle.meta_chunk.specs.Files.{totals_of, signature, end_of_chunks}
 use Rattle.damage_skip.specs.Pieces.{Skipped, Piece, AreEvents}
 use Rattle.damage_skip.specs.Bounds.{may_skip, MaySkip, walked, refused_in}
 use Rattle.damage_skip.specs.Policies.{IsAllowedRegion}
@@ -24,8 +23,8 @@ use Rattle.show_damaged.specs.WalkAnswers.{walk_status}
 use Rattle.damage_skip.specs.declared.regions.Region.{Region}
 use Rattle.damage_skip.proofs.OnePiece.{piece_past}
 use Rattle.damage_skip.proofs.Tiles.{goes_on_whole}
-use Rattle.repair_copy.specs.Relaid.{chunks_in}
-use Rattle.repair_copy.specs.RepairPuts.{puts_from, repair_puts, WentOutAtFault}
+use Rattle.repair_copy.specs.RepairPuts.{chunks_in, puts_from, repair_puts}
+use Rattle.repair_copy.specs.Copies.{WentOutAtFault}
 use Rattle.repair_copy.specs.Repairs.{Repairs}
 use Rattle.repair_copy.specs.declared.repairs.Repaired.{Repaired}
 use Rattle.repair_copy.specs.declared.repairs.RepairEnd.{RepairEnd}
@@ -38,7 +37,7 @@ use Rattle.run_answers.specs.Answers.{Answer}
 use Rattle.run_answers.specs.FileAnswers.{OfFile, most_file_bytes, report}
 use Rattle.riegeli_tool.specs.RepairCommand.{end_puts, first_puts, IsRepaired, IsRepairedSoFar}
 use Rattle.run_answers.specs.PutSoFar.{HasPut, HasPutSoFar, HasPutFront, HasBrokenOff}
-use Rattle.run_answers.specs.Runs.{FailedToSay, PutsLines}
+use Rattle.run_answers.specs.CutShortRuns.{FailedToSay, PutsLines}
 use Rattle.show_damaged.specs.WalkingEnds.{IsBound, HasToldOf}
 use Rattle.run_answers.proofs.OneAnswer.{same_answer}
 use Rattle.riegeli_tool.proofs.CommandLaws.{one_repaired}

@@ -4,7 +4,11 @@ use Rattle.run_answers.specs.declared.status.Status.{Status}
 use Rattle.run_answers.specs.Answers.{Answer}
 use Rattle.run_answers.specs.Meanings.{Meaning, Read}
 use Rattle.run_answers.specs.declared.status.Status.TheVariants as status
-use Rattle.run_answers.specs.Runs.{Seen, IsReadBy, IfTold, OfSizes, WentOutSoFar, HasCause, Runs}
+use Rattle.run_answers.specs.Runs.{Runs}
+use Rattle.run_answers.specs.RunObjects.{Seen}
+use Rattle.run_answers.specs.RunReads.{IsReadBy, IfTold, OfSizes}
+use Rattle.run_answers.specs.CutShortRuns.{WentOutSoFar}
+use Rattle.run_answers.specs.RunCauses.{HasCause}
 
 module _ (m : Meaning) (answers : Read → Answer → Type 0) (so : (r : Read) (a : Answer) → m.answers r a → answers r a) (before after : Seen) where
   abbrev with_answers : Meaning

@@ -5,9 +5,10 @@ use Rattle.record_io.specs.Seen.{SeenStream}
 use Rattle.record_io.proofs.Calls.{Takes-nothing}
 use Rattle.record_io.proofs.Puts.{GoOut-nothing}
 use Rattle.run_answers.specs.declared.status.Status.{Status}
-use Rattle.riegeli_tool.specs.Usage.{usage_text, usage}
-use Rattle.riegeli_tool.specs.CommandAnswers.{usage_meaning}
-use Rattle.run_answers.specs.Runs.{Seen, SaysAtEnd, Runs}
+use Rattle.riegeli_tool.specs.CommandAnswers.{usage_text, usage, usage_meaning}
+use Rattle.run_answers.specs.Runs.{Runs}
+use Rattle.run_answers.specs.RunObjects.{Seen}
+use Rattle.run_answers.specs.Endings.{SaysAtEnd}
 use Rattle.run_answers.proofs.RunEnds.{OfSizes-unread, keeps-unread, none-taken, runs-said}
 use Rattle.run_answers.specs.declared.status.Status.TheVariants as status
 

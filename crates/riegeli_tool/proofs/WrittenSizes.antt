@@ -14,7 +14,8 @@ use Rattle.meta_chunk.proofs.Begins.{end_of_chunks_boundary}
 use Rattle.meta_chunk.proofs.Joins.{end_of_chunks-append, end-laid_each}
 use Rattle.meta_chunk.proofs.PaddingLemmas.{padding_at_near}
 use Rattle.record_group.specs.declared.pad.Pad.{Pad}
-use Rattle.record_group.specs.Groups.{KeepsLimits, groups, pads_start, pads_end, padding_if, front_padding, front_chunks, end_padding, record_chunks}
+use Rattle.record_group.specs.Groups.{groups, pads_start, pads_end, padding_if, front_padding, front_chunks, end_padding, record_chunks}
+use Rattle.record_group.specs.Groupings.{KeepsLimits}
 use Rattle.record_group.proofs.Grouping.{joined, joined-groups, groups-keep}
 use Rattle.record_group.proofs.Signed.{end_of_chunk-signature, length-file_of-signed}
 use Rattle.record_writer.specs.Feeds.{Rest}

@@ -1,4 +1,4 @@
--- What `append` leaves, prints, says and ends with. Own.
+-- Promise. What `append` leaves, prints, says and ends with. Own.
 use Rattle.std.specs.Prelude.{◌≡◌, ◌≢◌, ℕ, ◌-◌, ◌^◌, ◌<◌, ◌≤◌, ◌⊎◌, Bool, true, Option, Some, None, List, [], ◌∷◌, length}
 use Rattle.std.specs.List.{concat}
 use lib.Chars.{codes}

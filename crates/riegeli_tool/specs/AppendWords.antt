@@ -1,4 +1,5 @@
--- The words of `append`: those of `write`, of which the file is the one that is grown, and whether that may be cut. Own.
+-- Promise. The words of `append`: those of `write`, of which the file is the one that is grown, and whether that may be
+-- cut. Own.
 use Rattle.std.specs.Prelude.{ℕ, Option, Some, List, [], ◌∷◌, ◌++◌, is_some}
 use lib.Chars.{codes}
 use Rattle.riegeli_tool.specs.declared.append_words.AppendWords.{AppendWords}

@@ -1,4 +1,4 @@
--- How the work of `append` ends. Own.
+-- Inside. How the work of `append` ends. Own.
 use Rattle.std.specs.Prelude.{◌≡◌, ℕ, ◌<◌, ◌≤◌, ◌⊎◌, true, Bool, Option, Some, None, Result, Ok, Err, IfSome, List, [], ◌∷◌, length}
 use Rattle.record_io.specs.Outside.{Takes, TakesShort}
 use Rattle.record_writer.specs.Feeds.{Rest}

@@ -1,15 +1,15 @@
--- What each command means: one line a command, and one for words that are none. Own.
-use Rattle.std.specs.Prelude.{◌≡◌, Bool, true, false, Option, Some, None}
+-- Promise. What each command means: one line a command, and one for words that are none. Own.
+use Rattle.std.specs.Prelude.{◌≡◌, ℕ, false, Option, Some, None, List, ◌++◌}
+use lib.Chars.{codes}
 use Rattle.riegeli_tool.specs.declared.command.Command.{Command}
 use Rattle.riegeli_tool.specs.declared.command.Command.TheVariants.{Write, Show, Recover, Verify, Seek, Repair, Sample, Join, Ranges, Append, Collect}
-use Rattle.run_answers.specs.Answers.{Answer}
-use Rattle.riegeli_tool.specs.Usage.{usage_text, usage}
-use Rattle.run_answers.specs.Meanings.{Read, Meaning, meaning, none_used}
+use Rattle.run_answers.specs.Answers.{Answer, line, noted}
+use Rattle.run_answers.specs.Meanings.{Meaning, meaning, none_used}
 use Rattle.write_lines.specs.WriteCommand.{write_meaning}
 use Rattle.show_files.specs.ShowCommand.{show_meaning}
 use Rattle.show_damaged.specs.RecoverCommand.{recover_meaning}
 use Rattle.show_files.specs.VerifyCommand.{verify_meaning}
-use Rattle.show_found.specs.SeekCommand.{has_one_answer, seek_meaning}
+use Rattle.show_found.specs.SeekCommand.{seek_meaning}
 use Rattle.record_ranges.specs.RangesCommand.{ranges_meaning}
 use Rattle.riegeli_tool.specs.RepairCommand.{repair_meaning}
 use Rattle.sample_records.specs.SampleCommand.{sample_meaning}
@@ -17,6 +17,25 @@ use Rattle.join_files.specs.JoinCommand.{join_meaning}
 use Rattle.collect_files.specs.CollectCommand.{collect_meaning}
 use Rattle.riegeli_tool.specs.AppendCommand.{append_meaning}
 use Rattle.run_answers.specs.declared.status.Status.TheVariants as status
+
+-- the commands, as they are told where the words are none
+abbrev pub usage_text : List ℕ
+usage_text =
+    line (codes "usage:")
+    ++ line (codes "write [--chunk=N] [--every=N] [--workers=N] [--pad=start|end|both] [--hex] FILE")
+    ++ line (codes "show [--recover] [--most=N] [--hex] [--positions] FILE")
+    ++ line (codes "verify FILE")
+    ++ line (codes "seek (--at=N | --key=TEXT) [--hex] FILE")
+    ++ line (codes "repair [--most=N] FROM TO")
+    ++ line (codes "sample --seed=N --records=N [--chunk=N] [--workers=N] FILE")
+    ++ line (codes "join FROM... TO")
+    ++ line (codes "ranges --parts=N FILE")
+    ++ line (codes "append [--chunk=N] [--every=N] [--workers=N] [--pad=start|end|both] [--hex] [--cut] FILE")
+    ++ line (codes "collect FROM... TO")
+
+-- the answer to words that are no command
+abbrev pub usage : Answer
+usage = noted status.Usage usage_text
 
 -- what is said where the words are no command
 abbrev pub usage_meaning : Meaning
@@ -38,13 +57,3 @@ meaning_of (Some (Join words)) = join_meaning
 meaning_of (Some (Ranges words)) = ranges_meaning
 meaning_of (Some (Append words)) = append_meaning words
 meaning_of (Some (Collect words)) = collect_meaning
-
--- whether a command has one answer at most to what it reads: a search by key and a collection may have several
-abbrev pub answers_once : Option Command → Bool
-answers_once (Some (Seek words)) = has_one_answer words.by
-answers_once (Some (Collect words)) = false
-answers_once other = true
-
--- an answer to a command, of what it reads
-abbrev pub IsAnswerTo : Option Command → Read → Answer → Type 0
-IsAnswerTo command r answer = (meaning_of command).answers r answer

@@ -1,19 +1,18 @@
--- The commands and their words. Own.
-use Rattle.std.specs.Prelude.{ℕ, ◌*◌, ◌≤◌, Bool, Option, Some, None, List, [], ◌∷◌, option_map, ◌==◌, if◌then◌else◌}
+-- Promise. The commands and their words. Own.
+use Rattle.std.specs.Prelude.{ℕ, ◌*◌, Bool, Option, Some, None, List, [], ◌∷◌, option_map, ◌==◌, if◌then◌else◌}
 use Rattle.std.specs.Str.{bytes_eq}
 use lib.Chars.{codes}
 use Rattle.riegeli_tool.specs.declared.command.Command.{Command}
 use Rattle.riegeli_tool.specs.declared.command.Command.TheVariants.{Write, Show, Recover, Verify, Seek, Repair, Sample, Join, Ranges, Append, Collect}
 use Rattle.riegeli_tool.specs.declared.command.Names.{Names}
-use Rattle.record_writer.specs.Written.{AreInLimits}
 use Rattle.write_lines.specs.WriteWords.{write_words_of}
 use Rattle.show_files.specs.ShowWords.{show_words_of}
 use Rattle.show_damaged.specs.RecoverWords.{goes_past_damage, recover_words_of}
 use Rattle.show_files.specs.VerifyWords.{verify_words_of}
 use Rattle.show_found.specs.SeekWords.{seek_words_of}
-use Rattle.record_ranges.specs.RangesWords.{most_parts, ranges_words_of}
+use Rattle.record_ranges.specs.RangesWords.{ranges_words_of}
 use Rattle.riegeli_tool.specs.RepairWords.{repair_words_of}
-use Rattle.sample_records.specs.SampleWords.{most_records, sample_words_of}
+use Rattle.sample_records.specs.SampleWords.{sample_words_of}
 use Rattle.join_files.specs.JoinWords.{join_words_of}
 use Rattle.collect_files.specs.CollectWords.{collect_words_of}
 use Rattle.riegeli_tool.specs.AppendWords.{append_words_of}
@@ -83,13 +82,3 @@ accepted_of (Some command) count = if takes command count then Some command else
 -- the command that words are, where so many stores are handed in
 abbrev pub accepted : List (List ℕ) → ℕ → Option Command
 accepted words count = accepted_of (command_of words) count
-
--- what the words of a command say is within its limits
-abbrev pub IsWithinLimits : Command → Type 0
-IsWithinLimits (Write words) = AreInLimits words.options
-IsWithinLimits (Sample words) = AreInLimits words.options × (words.count ≤ most_records)
-IsWithinLimits (Join words) = (1 ≤ words.count) × (words.count ≤ 64)
-IsWithinLimits (Ranges words) = (1 ≤ words.parts) × (words.parts ≤ most_parts)
-IsWithinLimits (Append words) = AreInLimits words.write.options
-IsWithinLimits (Collect words) = (1 ≤ words.count) × (words.count ≤ 16)
-IsWithinLimits other = Unit {0}

@@ -1,11 +1,12 @@
-pub mod Usage
 pub mod RepairCommand
 pub mod RepairingEnds
 pub mod CommandAnswers
+pub mod AnswersTo
 pub mod RepairWords
 pub mod Commands
+pub mod CommandLimits
 pub mod PastDamage
+pub mod CommandRuns
 pub mod AppendWords
 pub mod AppendCommand
 pub mod AppendingEnds
-pub mod Unused

@@ -1,4 +1,4 @@
--- How a run of a command goes, and what `show` and `repair` answer past damage and to the front of a file. Own.
+-- Promise. What `show` and `repair` answer past damage and to the front of a file. Own.
 use Rattle.std.specs.Prelude.{◌≡◌, ℕ, ◌^◌, ◌≤◌, ⊤, Bool, true, false, Option, Some, MatchOption, List, [], ◌∷◌, ◌++◌, length, take}
 use Rattle.std.specs.List.{AllByRecursion, flat_map}
 use Rattle.record_io.specs.Puts.{Notes, puts_to}
@@ -10,12 +10,10 @@ use Rattle.damage_skip.specs.Fronts.{AreFrontPieces}
 use Rattle.damage_skip.specs.Pieces.{Piece, Skipped, events_in, records_in}
 use Rattle.damage_skip.specs.Regions.{regions_in, stopped_text}
 use Rattle.damage_skip.specs.declared.regions.Region.{Region}
-use Rattle.repair_copy.specs.Relaid.{chunks_in, copied}
-use Rattle.repair_copy.specs.RepairPuts.{repair_puts}
+use Rattle.repair_copy.specs.RepairPuts.{chunks_in, repair_puts}
+use Rattle.repair_copy.specs.CopiedChunks.{copied}
 use Rattle.run_answers.specs.Answers.{Answer}
 use Rattle.run_answers.specs.Meanings.{Meaning}
-use Rattle.run_answers.specs.Runs.{Seen, Runs}
-use Rattle.run_answers.specs.declared.status.Status.{Status}
 use Rattle.show_damaged.specs.RecoverCommand.{event_puts}
 use Rattle.show_damaged.specs.WalkAnswers.{walk_status}
 use Rattle.show_damaged.specs.declared.recover_words.RecoverWords.{RecoverWords}
@@ -84,9 +82,3 @@ meaning_past_damage command = record (meaning_of command) {
   answers = λ r answer. (meaning_of command).answers r answer
       × ((bytes : List ℕ) → r.files ≡ bytes ∷ [] → length bytes ≤ 2 ^ 60 → IsToldPastDamage command bytes answer);
 }
-
--- how a run of a command goes, and the same with its answers told past damage. The second says the first too, which is the one
--- to read
-pub record RunsCommand (command : Option Command) (before after : Seen) (ended : Status) : Type 0 where
-  pub runs : Runs (meaning_of command) before after ended
-  pub damaged : Runs (meaning_past_damage command) before after ended

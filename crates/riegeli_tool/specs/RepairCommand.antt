@@ -1,18 +1,16 @@
--- What `repair` makes, prints, says and ends with. Own.
+-- Promise. What `repair` makes, prints, says and ends with. Own.
 use Rattle.std.specs.Prelude.{◌≡◌, ℕ, ◌-◌, true, Option, Some, None, List, [], ◌∷◌, ◌++◌}
 use lib.Chars.{codes}
 use Rattle.record_io.specs.Puts.{Put, Out, Notes, puts_to}
 use Rattle.chunk_header.specs.Chunks.{ChunkValue}
-use Rattle.meta_chunk.specs.Counts.{totals_of}
-use Rattle.meta_chunk.specs.Files.{signature}
+use Rattle.meta_chunk.specs.Files.{totals_of, signature}
 use Rattle.damage_skip.specs.Pieces.{Piece, AreEvents}
 use Rattle.damage_skip.specs.Bounds.{MaySkip, walked, refused_in}
 use Rattle.damage_skip.specs.Regions.{region_text, regions_in, IsWalkedTo}
 use Rattle.damage_skip.specs.Takings.{IsTakenUpTo}
 use Rattle.show_damaged.specs.WalkAnswers.{walk_status, MayTakeWalk, MaySayWalk, MayEndWalk}
 use Rattle.damage_skip.specs.declared.regions.Region.{Region}
-use Rattle.repair_copy.specs.Relaid.{chunks_in}
-use Rattle.repair_copy.specs.RepairPuts.{repair_puts}
+use Rattle.repair_copy.specs.RepairPuts.{chunks_in, repair_puts}
 use Rattle.riegeli_tool.specs.declared.repair_words.RepairWords.{RepairWords}
 use Rattle.run_answers.specs.Answers.{Answer}
 use Rattle.run_answers.specs.FileAnswers.{file_meaning, report}

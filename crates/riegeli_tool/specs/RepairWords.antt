@@ -1,4 +1,5 @@
--- The words of `repair`: how much damage may be skipped at once, the file that it reads and the one that it makes. Own.
+-- Promise. The words of `repair`: how much damage may be skipped at once, the file that it reads and the one that it
+-- makes. Own.
 use Rattle.std.specs.Prelude.{ℕ, Option, Some, None, List, if◌then◌else◌, [], ◌∷◌}
 use lib.Chars.{codes}
 use Rattle.riegeli_tool.specs.declared.repair_words.RepairWords.{RepairWords}

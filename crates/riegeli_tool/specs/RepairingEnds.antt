@@ -1,4 +1,4 @@
--- How the work of `repair` ends. Own.
+-- Inside. How the work of `repair` ends. Own.
 use Rattle.damage_skip.specs.declared.regions.Region.{Region}
 use Rattle.repair_copy.specs.declared.repairs.RepairEnd.{RepairEnd}
 use Rattle.run_answers.specs.declared.ending.Ending.{Ending}

@@ -2,10 +2,9 @@ ghost use Rattle.std.specs.Prelude.{◌≡◌, map, length};
 ghost use Rattle.std.specs.String.{string_bytes};
 ghost use Rattle.riegeli_tool.specs.Commands.{accepted};
 ghost use Rattle.riegeli_tool.specs.CommandAnswers.{meaning_of};
-ghost use Rattle.riegeli_tool.specs.PastDamage.{RunsCommand};
-ghost use Rattle.riegeli_tool.specs.Unused.{LeavesUnused};
+ghost use Rattle.riegeli_tool.specs.CommandRuns.{RunsCommand, LeavesUnused};
 ghost use Rattle.record_io.specs.Seen.{seen_stream, seen_file};
-ghost use Rattle.run_answers.specs.Runs.{seen};
+ghost use Rattle.run_answers.specs.RunObjects.{seen};
 
 use crate::append::append;
 use crate::command::Command;

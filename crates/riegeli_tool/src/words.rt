@@ -1,6 +1,7 @@
 ghost use Rattle.std.specs.Prelude.{◌≡◌, IfSome, map};
 ghost use Rattle.std.specs.String.{string_bytes};
-ghost use Rattle.riegeli_tool.specs.Commands.{IsWithinLimits, accepted, command_named, command_of, names_of, show_command_of, stores_of};
+ghost use Rattle.riegeli_tool.specs.Commands.{accepted, command_named, command_of, names_of, show_command_of, stores_of};
+ghost use Rattle.riegeli_tool.specs.CommandLimits.{IsWithinLimits};
 
 use crate::append_words::append_words;
 use crate::command::{Command, Names};

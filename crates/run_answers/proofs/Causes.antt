@@ -2,7 +2,13 @@
 use Rattle.std.proofs.Common.{◌≡◌, ◌⊎◌, inl, inr, refl, sym, subst}
 use Rattle.run_answers.specs.declared.status.Status.{Status}
 use Rattle.run_answers.specs.Meanings.{Meaning}
-use Rattle.run_answers.specs.Runs.{Seen, IsWhole, IsCutOff, HadNoFault, HasCause, IfTold, Runs}
+use Rattle.run_answers.specs.Runs.{Runs}
+use Rattle.run_answers.specs.RunObjects.{Seen}
+use Rattle.run_answers.specs.RunAnswers.{IsWhole}
+use Rattle.run_answers.specs.CutShortRuns.{IsCutOff}
+use Rattle.run_answers.specs.NoFaults.{HadNoFault}
+use Rattle.run_answers.specs.RunCauses.{HasCause}
+use Rattle.run_answers.specs.RunReads.{IfTold}
 use Rattle.run_answers.specs.declared.status.Status.TheVariants as status
 
 -- without a fault a status that has a cause is that of a whole answer, or tells want of memory

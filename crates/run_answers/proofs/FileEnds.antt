@@ -13,12 +13,17 @@ use Rattle.run_answers.specs.declared.ending.Ending.{Ending}
 use Rattle.run_answers.specs.declared.sizes.SizeEnd.{SizeEnd}
 use Rattle.run_answers.specs.declared.status.Status.{Status}
 use Rattle.run_answers.specs.Answers.{Answer}
-use Rattle.run_answers.specs.Endings.{Endings, status_of, end_of_size, cut_unprinted, MayBeCut, IsAllowedEnd, IsShort, HasPutToCut, HasPutEarly, HasPutAtEnd, SaysEnd}
+use Rattle.run_answers.specs.Endings.{Endings, status_of, end_of_size, cut_unprinted, MayBeCut, IsAllowedEnd, IsShort, HasPutToCut, HasPutEarly, HasPutAtEnd, SaysEnd, SaysAtEnd}
 use Rattle.run_answers.specs.FileAnswers.{OfFile, IsInReach, IsTooLong, limit_text}
 use Rattle.run_answers.specs.FileSizes.{IsUnsized}
 use Rattle.run_answers.specs.Meanings.{Meaning}
 use Rattle.run_answers.specs.Statuses.{fault_text}
-use Rattle.run_answers.specs.Runs.{Seen, seen, IfTold, OfSizes, IsWhole, IsCutOff, IsCutShort, HadNoSinkFault, TakesThen, SaysAtEnd, Breaks, PutsLines, WasCutOff, FailedToSay, HasCause, Runs}
+use Rattle.run_answers.specs.Runs.{Runs}
+use Rattle.run_answers.specs.RunObjects.{Seen, seen, HadNoSinkFault}
+use Rattle.run_answers.specs.RunReads.{IfTold, OfSizes}
+use Rattle.run_answers.specs.RunAnswers.{IsWhole}
+use Rattle.run_answers.specs.CutShortRuns.{IsCutOff, IsCutShort, TakesThen, Breaks, PutsLines, WasCutOff, FailedToSay}
+use Rattle.run_answers.specs.RunCauses.{HasCause}
 use Rattle.run_answers.specs.PutSoFar.{HasPut, HasPutSoFar, HasPutFront}
 use Rattle.run_answers.proofs.OneAnswer.{of_file_exists}
 use Rattle.run_answers.proofs.PutSoFar.{front-nothing, noted-nothing, gave-put, whole-flushed, front-flushed, broken-flushed, untold-flushed, whole-unflushed, front-unflushed}

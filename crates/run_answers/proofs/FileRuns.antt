@@ -8,10 +8,13 @@ use Rattle.record_io.specs.Seen.{SeenStream, SeenFile}
 use Rattle.record_io.proofs.Puts.{GoOut-none_held}
 use Rattle.run_answers.specs.declared.status.Status.{Status}
 use Rattle.run_answers.specs.Answers.{Answer}
-use Rattle.run_answers.specs.FileAnswers.{OfFile, OfFileSoFar, HandsOut, IsInReach, file_meaning, most_file_bytes}
+use Rattle.run_answers.specs.FileAnswers.{OfFile, OfFileSoFar, IsInReach, file_meaning, most_file_bytes}
+use Rattle.run_answers.specs.FileSizes.{HandsOut}
 use Rattle.run_answers.specs.Meanings.{Uses, Meaning, Read}
 use Rattle.run_answers.specs.Statuses.{fault_text}
-use Rattle.run_answers.specs.Runs.{Seen, seen, IfRead, IfTold, OfSizes, TakesThen, WentOutSoFar}
+use Rattle.run_answers.specs.RunObjects.{Seen, seen}
+use Rattle.run_answers.specs.RunReads.{IfRead, IfTold, OfSizes}
+use Rattle.run_answers.specs.CutShortRuns.{TakesThen, WentOutSoFar}
 use Rattle.run_answers.specs.PutSoFar.{HasPutSoFar}
 use Rattle.run_answers.proofs.RunEnds.{Keeps, none-taken, went-so_far}
 

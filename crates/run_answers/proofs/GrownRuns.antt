@@ -6,7 +6,11 @@ use Rattle.record_io.specs.Seen.{SeenStream, SeenFile}
 use Rattle.run_answers.specs.declared.status.Status.{Status}
 use Rattle.run_answers.specs.FileAnswers.{IsInReach}
 use Rattle.run_answers.specs.Meanings.{Meaning, Read}
-use Rattle.run_answers.specs.Runs.{Seen, seen, handed_by, IfGrown, IsWhole, IsCutOff, OfSizes, TakesAtMost}
+use Rattle.run_answers.specs.RunObjects.{Seen, seen, handed_by}
+use Rattle.run_answers.specs.RunReads.{IfGrown, OfSizes}
+use Rattle.run_answers.specs.RunAnswers.{IsWhole}
+use Rattle.run_answers.specs.CutShortRuns.{IsCutOff}
+use Rattle.run_answers.specs.RunTakes.{TakesAtMost}
 use Rattle.run_answers.proofs.RunEnds.{KeepsGrown, KeepsAtEnd, whole-cut_off}
 use Rattle.run_answers.specs.declared.status.Status.TheVariants as status
 

@@ -2,7 +2,8 @@
 use Rattle.std.proofs.Common.{◌≡◌, ◌∙◌, ℕ, suc, ◌+◌, ◌<◌, ◌≤◌, false, List, [], ◌∷◌, ◌++◌, length, refl, ap, inl, inr, arith, zero, sym}
 use Rattle.std.specs.List.{concat, onto_first}
 use Rattle.std.proofs.lemmas.Bool.{cond-true, cond-false, false_from_ne_true, cases_Bool, false≢true}
-use Rattle.run_answers.specs.Lines.{ends_line, lines, NoneEnds}
+use Rattle.run_answers.specs.Lines.{ends_line, lines}
+use Rattle.run_answers.specs.OpenLines.{NoneEnds}
 
 -- the first byte doesn't, and none behind it does
 none_first : (b : ℕ) (bs : List ℕ) → NoneEnds (b ∷ bs) → ends_line b ≡ false

@@ -7,7 +7,7 @@ use Rattle.record_io.specs.ManyStores.{AnyRose}
 use Rattle.record_io.specs.Seen.{SeenStream, SeenFile, seen_file}
 use Rattle.record_io.proofs.ManyStores.{AnyRose-place}
 use Rattle.run_answers.specs.Meanings.{Meaning, Read}
-use Rattle.run_answers.specs.Runs.{OneRose, handed_by, seen}
+use Rattle.run_answers.specs.RunObjects.{OneRose, handed_by, seen}
 use Rattle.run_answers.proofs.AskedSizes.{exact_sizes}
 use Rattle.run_answers.proofs.RunEnds.{Keeps, none-taken}
 

@@ -14,11 +14,15 @@ use Rattle.run_answers.specs.declared.ending.Cut.{Cut}
 use Rattle.run_answers.specs.declared.ending.Ending.{Ending}
 use Rattle.run_answers.specs.declared.status.Status.{Status}
 use Rattle.run_answers.specs.Answers.{Answer, noted}
-use Rattle.run_answers.specs.Endings.{Endings, HaveTold, IsAllowedEndOfMany, MayBeCut, SaysEnd, status_of}
+use Rattle.run_answers.specs.Endings.{Endings, HaveTold, IsAllowedEndOfMany, MayBeCut, SaysEnd, status_of, SaysAtEnd}
 use Rattle.run_answers.specs.FileAnswers.{limit_text}
 use Rattle.run_answers.specs.Meanings.{Uses, Meaning, Read, meaning}
 use Rattle.run_answers.specs.Statuses.{fault_text}
-use Rattle.run_answers.specs.Runs.{Seen, seen, IfTold, IsCutOff, IsCutShort, OfSizes, OneRose, SaysAtEnd, TakesThen, Breaks, WasCutOff, HasCause, Runs}
+use Rattle.run_answers.specs.Runs.{Runs}
+use Rattle.run_answers.specs.RunObjects.{Seen, seen, OneRose}
+use Rattle.run_answers.specs.RunReads.{IfTold, OfSizes}
+use Rattle.run_answers.specs.CutShortRuns.{IsCutOff, IsCutShort, TakesThen, Breaks, WasCutOff}
+use Rattle.run_answers.specs.RunCauses.{HasCause}
 use Rattle.run_answers.proofs.FileEnds.{EndsWhole}
 use Rattle.run_answers.proofs.ManyFiles.{bytes_of, told_by, exact_shown, keeps-files, one_rose}
 use Rattle.run_answers.proofs.RunEnds.{GaveButNotes, Keeps, PutsLines-none, gave-said, was-cut_off, went-so_far, runs-whole, runs-said, runs-cut_off}

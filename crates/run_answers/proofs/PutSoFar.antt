@@ -9,7 +9,7 @@ use Rattle.record_io.proofs.Puts.{GoOut-nothing, GoOutOrAreHeld-none, GoOut-none
 use Rattle.run_answers.specs.declared.status.Status.{Status}
 use Rattle.run_answers.specs.Answers.{Answer, noted}
 use Rattle.run_answers.specs.FileAnswers.{OfFile}
-use Rattle.run_answers.specs.Runs.{FailedToSay, PutsLines}
+use Rattle.run_answers.specs.CutShortRuns.{FailedToSay, PutsLines}
 use Rattle.run_answers.specs.PutSoFar.{HasPut, HasPutSoFar, HasPutFront, HasBrokenOff}
 use Rattle.run_answers.proofs.RunEnds.{GaveButNotes, PutsLines-none}
 

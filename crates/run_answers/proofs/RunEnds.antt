@@ -10,7 +10,14 @@ use Rattle.run_answers.specs.declared.status.Status.{Status}
 use Rattle.run_answers.specs.Statuses.{fault_text}
 use Rattle.run_answers.specs.Answers.{Answer}
 use Rattle.run_answers.specs.Meanings.{Meaning, Read}
-use Rattle.run_answers.specs.Runs.{Seen, seen, IsWhole, IsCutOff, IsCutShort, HadNoSinkFault, IfRead, IfTold, OfSizes, handed_by, taken_in, Gave, TakesThen, SaysAtEnd, Breaks, PutsLines, WasCutOff, WentOutSoFar, FailedToSay, HasCause, NoneFell, IfGrown, TakesAtMost, Runs}
+use Rattle.run_answers.specs.Runs.{Runs}
+use Rattle.run_answers.specs.RunObjects.{Seen, seen, HadNoSinkFault, handed_by, taken_in, NoneFell}
+use Rattle.run_answers.specs.RunAnswers.{IsWhole, Gave}
+use Rattle.run_answers.specs.CutShortRuns.{IsCutOff, IsCutShort, TakesThen, Breaks, PutsLines, WasCutOff, WentOutSoFar, FailedToSay}
+use Rattle.run_answers.specs.RunReads.{IfRead, IfTold, OfSizes, IfGrown}
+use Rattle.run_answers.specs.Endings.{SaysAtEnd}
+use Rattle.run_answers.specs.RunCauses.{HasCause}
+use Rattle.run_answers.specs.RunTakes.{TakesAtMost}
 use Rattle.run_answers.specs.declared.status.Status.TheVariants as status
 
 -- what every end of a run keeps that grows no file

@@ -1,4 +1,4 @@
--- What a run writes, prints and answers. Own.
+-- Promise. What a run writes, prints and answers. Own.
 use Rattle.std.specs.Prelude.{ℕ, List, [], ◌∷◌, ◌++◌}
 use Rattle.record_io.specs.Puts.{Put, Notes, puts_to}
 use Rattle.run_answers.specs.declared.status.Status.{Status}

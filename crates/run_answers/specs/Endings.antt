@@ -1,8 +1,9 @@
--- How the work of a command that reads files ends, and what it has put and says then. Own.
-use Rattle.std.specs.Prelude.{◌≡◌, ◌≢◌, ℕ, true, Option, Some, Result, Ok, Err, List, [], ◌∷◌, map, IsSomeAnd}
+-- Inside. How the work of a command that reads files ends, and what it has put and says then. Own.
+use Rattle.std.specs.Prelude.{◌≡◌, ◌≢◌, ℕ, ◌⊎◌, true, Option, Some, Result, Ok, Err, List, [], ◌∷◌, map, IsSomeAnd}
 use Rattle.record_values.specs.Bytes.{AreBytes}
 use Rattle.record_io.specs.Puts.{Made, Out, Taken}
 use Rattle.record_io.specs.Seen.{SeenStream}
+use Rattle.record_io.specs.Outside.{Rose, Takes, TakesShort}
 use Rattle.run_answers.specs.declared.ending.Cut.{Cut}
 use Rattle.run_answers.specs.declared.ending.Ending.{Ending}
 use Rattle.run_answers.specs.declared.sizes.SizeEnd.{SizeEnd}
@@ -11,7 +12,7 @@ use Rattle.run_answers.specs.Answers.{Answer}
 use Rattle.run_answers.specs.FileAnswers.{OfFile, IsInReach, IsTooLong, limit_text}
 use Rattle.run_answers.specs.Meanings.{Meaning}
 use Rattle.run_answers.specs.Statuses.{fault_text}
-use Rattle.run_answers.specs.Runs.{IsCutShort, SaysAtEnd, TakesThen, FailedToSay}
+use Rattle.run_answers.specs.CutShortRuns.{IsCutShort, TakesThen, FailedToSay}
 use Rattle.run_answers.specs.PutSoFar.{HasBrokenOff, HasPut, HasPutFront}
 use Rattle.run_answers.specs.declared.ending.Cut.TheVariants as cut
 use Rattle.run_answers.specs.declared.ending.Ending.TheVariants as end
@@ -104,6 +105,12 @@ abbrev pub HasPutAtEnd : {X W : Type 0} → Endings X W → (List ℕ → Answer
     → Result X (Ending W) → List ℕ → (before after : Taken) → List ℕ → Type 0
 HasPutAtEnd ends P (Ok x) file before after held = HasPut P file before after held [] (ends.done x)
 HasPutAtEnd ends P (Err why) file before after held = HasPutEarly ends.text ends.status P why file before after held
+
+-- the work ended with a status and its text, or with that of a fault of notes, which took a front of the text and not all
+abbrev pub SaysAtEnd : Status → Status → SeenStream → SeenStream → List ℕ → Type 0
+SaysAtEnd ended wanted before after text =
+    ((ended ≡ wanted) × Takes before.bytes after.bytes text)
+    ⊎ ((ended ≡ status.Notes) × Rose before.faults after.faults × TakesShort before.bytes after.bytes text)
 
 -- what is said of the end in notes, and the status
 abbrev pub SaysEnd : {X W : Type 0} → Endings X W → Result X (Ending W) → Status → SeenStream → SeenStream → Type 0

@@ -1,5 +1,5 @@
--- What is answered of the one file that a command reads, and what it may take of it. Own.
-use Rattle.std.specs.Prelude.{◌≡◌, ℕ, ◌^◌, ◌<◌, ◌≤◌, ◌⊎◌, true, Option, IsSomeAnd, List, [], ◌∷◌, ◌++◌, length, decimal}
+-- Promise. What is answered of the one file that a command reads, and what it may take of it. Own.
+use Rattle.std.specs.Prelude.{◌≡◌, ℕ, ◌^◌, ◌<◌, ◌≤◌, ◌⊎◌, true, List, [], ◌∷◌, ◌++◌, length, decimal}
 use Rattle.std.specs.List.{concat}
 use lib.Chars.{codes}
 use Rattle.record_io.specs.Puts.{Put}
@@ -62,10 +62,3 @@ file_meaning Answers SoFar =
       may_work = IsInReach;
       may_take = λ sizes before after. Unit {0};
     }
-
--- what was handed out of the one file: nothing, or it has told a size by which a command goes on to its work, and no more than
--- the command may take
-abbrev pub HandsOut : Meaning → Option ℕ → (before after : ℕ) → Type 0
-HandsOut m told before after =
-    (after ≡ before)
-    ⊎ IsSomeAnd told (λ size. m.may_work (size ∷ []) × m.may_take (size ∷ []) (before ∷ []) (after ∷ []))

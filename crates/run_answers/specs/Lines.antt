@@ -1,14 +1,10 @@
--- Lines of bytes, which end by a byte 10. Own.
-use Rattle.std.specs.Prelude.{◌≡◌, ℕ, ◌<◌, Bool, true, List, [], ◌∷◌, length, slice_index, ◌==◌, if◌then◌else◌}
+-- Promise. Lines of bytes, which end by a byte 10. Own.
+use Rattle.std.specs.Prelude.{ℕ, Bool, List, [], ◌∷◌, length, ◌==◌, if◌then◌else◌}
 use Rattle.std.specs.List.{onto_first}
 
 -- whether a byte ends a line
 abbrev pub ends_line : ℕ → Bool
 ends_line b = b == 10
-
--- no byte ends a line
-abbrev pub NoneEnds : List ℕ → Type 0
-NoneEnds bytes = (k : ℕ) → k < length bytes → ¬ (ends_line (slice_index bytes k) ≡ true)
 
 -- the lines: the bytes before each byte 10, and the bytes after the last one if there are any
 abbrev pub lines : List ℕ → List (List ℕ)

@@ -1,4 +1,4 @@
--- What a command means: what it uses, answers, and may put and say. Own.
+-- Promise. What a command means: what it uses, answers, and may put and say. Own.
 use Rattle.std.specs.Prelude.{◌≡◌, ℕ, Bool, true, false, List, []}
 use Rattle.record_io.specs.Puts.{Put}
 use Rattle.run_answers.specs.declared.status.Status.{Status}
@@ -22,10 +22,6 @@ pub record Read : Type 0 where
   pub input : List ℕ
   pub files : List (List ℕ)
   pub grown : List ℕ
-
--- what is read where no file is grown
-abbrev pub reads : List ℕ → List (List ℕ) → Read
-reads input files = record { input = input; files = files; grown = [] }
 
 -- what a command means
 pub record Meaning : Type 1 where

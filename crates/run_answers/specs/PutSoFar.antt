@@ -1,10 +1,11 @@
--- What a command that reads one file has put when its work ends. Own.
+-- Inside. What a command that reads one file has put when its work ends. Own.
 use Rattle.std.specs.Prelude.{◌≡◌, ℕ, List, [], ◌∷◌, ◌++◌}
-use Rattle.record_io.specs.Puts.{Stream, Put, Out, Notes, Taken, GoOut, GoOutOrAreHeld, BreaksOff, puts_to}
+use Rattle.record_io.specs.Puts.{Stream, Put, Out, Notes, Taken, GoOut, BreaksOff, puts_to}
+use Rattle.record_io.specs.Buffers.{GoOutOrAreHeld}
 use Rattle.run_answers.specs.declared.status.Status.{Status}
 use Rattle.run_answers.specs.Answers.{Answer}
 use Rattle.run_answers.specs.FileAnswers.{OfFile}
-use Rattle.run_answers.specs.Runs.{PutsLines}
+use Rattle.run_answers.specs.CutShortRuns.{PutsLines}
 
 -- all that an answer to a file puts but a last text in notes went out, or is held for standard output; it ends with a status
 pub record HasPut (P : List ℕ → Answer → Type 0) (file : List ℕ) (before after : Taken) (held last : List ℕ) (ended : Status) : Type 0 where

@@ -1,4 +1,4 @@
--- What a run ends with. Own.
+-- Promise. What a run ends with. Own.
 use Rattle.std.specs.Prelude.{ℕ, List, []}
 use lib.Chars.{codes}
 use Rattle.run_answers.specs.declared.status.Status.{Status}

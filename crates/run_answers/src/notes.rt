@@ -2,9 +2,9 @@ ghost use Rattle.std.specs.Prelude.{◌≡◌, ◌++◌, [], decimal};
 ghost use Rattle.record_io.specs.Calls.{OnlyCounts, PutsTo};
 ghost use Rattle.record_io.specs.Seen.{seen_stream};
 ghost use Rattle.run_answers.specs.Answers.{line};
-ghost use Rattle.run_answers.specs.Endings.{status_of};
+ghost use Rattle.run_answers.specs.Endings.{status_of, SaysAtEnd};
 ghost use Rattle.run_answers.specs.FileAnswers.{limit_text};
-ghost use Rattle.run_answers.specs.Runs.{SaysAtEnd, TakesThen};
+ghost use Rattle.run_answers.specs.CutShortRuns.{TakesThen};
 ghost use Rattle.run_answers.specs.Statuses.{fault_text};
 
 use crate::ending::Cut;

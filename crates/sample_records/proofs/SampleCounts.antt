@@ -3,8 +3,7 @@ use Rattle.std.proofs.Common.{◌≡◌, ◌∙◌, ℕ, ◌≤◌, ◌^◌, Opt
 use Rattle.std.specs.Option.{IfSome}
 use Rattle.std.specs.List.{AllByRecursion}
 use Rattle.chunk_header.specs.Chunks.{ChunkValue}
-use Rattle.meta_chunk.specs.Counts.{totals_of}
-use Rattle.meta_chunk.specs.Files.{IsPlain, IsFramed}
+use Rattle.meta_chunk.specs.Files.{totals_of, IsPlain, IsFramed}
 use Rattle.meta_chunk.proofs.Joins.{end-laid_each}
 use Rattle.meta_chunk.proofs.Totals.{AreRecordsOf-counted}
 use Rattle.record_group.specs.Groups.{file_of}
@@ -13,7 +12,8 @@ use Rattle.record_group.proofs.RecordFiles.{IsFile-file_of, AreRecordsOf-chunks_
 use Rattle.record_values.specs.declared.file_totals.Totals.{Totals}
 use Rattle.record_writer.specs.declared.options.WriteOptions.{WriteOptions}
 use Rattle.record_writer.specs.Feeds.{Rest}
-use Rattle.record_writer.specs.Written.{TellsWritten, TakesFile, chunks_under, file_under}
+use Rattle.record_writer.specs.Written.{chunks_under, file_under}
+use Rattle.record_writer.specs.WriteAnswers.{TellsWritten, TakesFile}
 use Rattle.record_io.specs.Outside.{Takes}
 use Rattle.sample_records.specs.declared.sample_words.SampleWords.{SampleWords}
 use Rattle.sample_records.specs.SampleCommand.{sampled, sample_file, summary, sample_summary}

@@ -1,7 +1,7 @@
 -- What the words of `sample` say is within its limits.
 use Rattle.std.proofs.Common.{if◌then◌else◌, ◌≡◌, ℕ, ◌≤◌, Bool, true, false, Option, Some, None, List, sym, ap, codes}
 use Rattle.record_group.specs.declared.pad.Pad.TheVariants.{No}
-use Rattle.record_writer.specs.Written.{AreInLimits}
+use Rattle.record_writer.specs.OptionLimits.{AreInLimits}
 use Rattle.word_options.specs.Numbers.{number_within}
 use Rattle.word_options.specs.Options.{value_given, are_words_of, file_places, only, ◌>>=◌}
 use Rattle.word_options.specs.Writing.{chunk_size_of, workers_of}

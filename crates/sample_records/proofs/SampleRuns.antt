@@ -8,7 +8,10 @@ use Rattle.record_io.proofs.Puts.{GoOut-append, GoOut-made, GoOut-out, TakesFron
 use Rattle.run_answers.specs.declared.status.Status.{Status}
 use Rattle.run_answers.specs.Endings.{status_of}
 use Rattle.run_answers.specs.Statuses.{fault_text}
-use Rattle.run_answers.specs.Runs.{Seen, seen, IsCutOff, IsCutShort, Breaks, TakesThen, HasCause, Runs}
+use Rattle.run_answers.specs.Runs.{Runs}
+use Rattle.run_answers.specs.RunObjects.{Seen, seen}
+use Rattle.run_answers.specs.CutShortRuns.{IsCutOff, IsCutShort, Breaks, TakesThen}
+use Rattle.run_answers.specs.RunCauses.{HasCause}
 use Rattle.run_answers.proofs.RunEnds.{Keeps, OfSizes-unread, PutsLines-none, was-cut_off, went-so_far, runs-whole, runs-cut_off}
 use Rattle.run_answers.proofs.TwoStreams.{bytes_to-neither}
 use Rattle.sample_records.specs.declared.sample_words.SampleWords.{SampleWords}

@@ -1,4 +1,4 @@
--- The generator of `sample`: the records of a seed. Own.
+-- Promise. The generator of `sample`: the records of a seed. Own.
 use Rattle.std.specs.Prelude.{ℕ, zero, suc, ◌+◌, ◌*◌, ◌/◌, ◌%◌, ◌^◌, List, [], ◌∷◌}
 
 -- the state that a draw leaves. The first one is the seed

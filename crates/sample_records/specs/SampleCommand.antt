@@ -1,4 +1,4 @@
--- What `sample` makes, prints and ends with. Own.
+-- Promise. What `sample` makes, prints and ends with. Own.
 use Rattle.std.specs.Prelude.{◌≡◌, ℕ, true, List, [], ◌∷◌, ◌++◌, length, take}
 use Rattle.std.specs.List.{concat}
 use lib.Chars.{codes}

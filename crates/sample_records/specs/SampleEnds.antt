@@ -1,6 +1,7 @@
--- What the sinks of `sample` took, by how its work ended. Own.
+-- Inside. What the sinks of `sample` took, by how its work ended. Own.
 use Rattle.std.specs.Prelude.{◌≡◌, ℕ, Option, Result, Ok, Err, List}
-use Rattle.record_io.specs.Outside.{Takes, TakesFront, TakesShort}
+use Rattle.record_io.specs.Outside.{Takes, TakesShort}
+use Rattle.record_io.specs.Calls.{TakesFront}
 use Rattle.run_answers.specs.declared.ending.Cut.{Cut}
 use Rattle.run_answers.specs.declared.ending.Cut.TheVariants as cut
 use Rattle.sample_records.specs.declared.sample_words.SampleWords.{SampleWords}

@@ -1,4 +1,4 @@
--- The words of `sample`: a seed, a number of records, how these are written, and the file that it makes. Own.
+-- Promise. The words of `sample`: a seed, a number of records, how these are written, and the file that it makes. Own.
 use Rattle.std.specs.Prelude.{ℕ, ◌-◌, ◌^◌, Option, Some, None, List, if◌then◌else◌, [], ◌∷◌}
 use lib.Chars.{codes}
 use Rattle.record_group.specs.declared.pad.Pad.TheVariants.{No}

@@ -1,8 +1,9 @@
 ghost use Rattle.std.specs.Prelude.{◌≡◌, ◌≤◌, Err};
 ghost use Rattle.record_io.specs.Calls.{OnlyCounts};
 ghost use Rattle.record_io.specs.Seen.{seen_stream};
-ghost use Rattle.record_writer.specs.Written.{AreInLimits};
-ghost use Rattle.run_answers.specs.Runs.{Runs, Seen};
+ghost use Rattle.record_writer.specs.OptionLimits.{AreInLimits};
+ghost use Rattle.run_answers.specs.Runs.{Runs};
+ghost use Rattle.run_answers.specs.RunObjects.{Seen};
 ghost use Rattle.sample_records.specs.SampleCommand.{sample_meaning};
 ghost use Rattle.sample_records.specs.SampleEnds.{TakeSample, cut_of};
 ghost use Rattle.sample_records.specs.SampleWords.{most_records};

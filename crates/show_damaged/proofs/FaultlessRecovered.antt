@@ -6,7 +6,8 @@ use Rattle.meta_chunk.specs.Files.{IsPlain, IsFileOf}
 use Rattle.chunk_reader.specs.Faults.{HasNoFault}
 use Rattle.chunk_reader.specs.declared.reasons.Why.{Why}
 use Rattle.chunk_reader.proofs.ChainSteps.{longest_where_whole}
-use Rattle.damage_skip.specs.Pieces.{Skipped, Piece, placed_in}
+use Rattle.damage_skip.specs.Pieces.{Skipped, Piece}
+use Rattle.damage_skip.specs.FilePieces.{placed_in}
 use Rattle.damage_skip.specs.declared.regions.Region.{Region}
 use Rattle.damage_skip.proofs.FoundRecords.{events_not_skipped, events_placed}
 use Rattle.show_damaged.specs.declared.recover_words.RecoverWords.{RecoverWords}

@@ -4,8 +4,8 @@ use Rattle.std.specs.List.{AllByRecursion, flat_map}
 use Rattle.std.proofs.lemmas.List.{append-nil, append_assoc}
 use Rattle.std.proofs.lemmas.Grind.{flat_map-append}
 use Rattle.record_io.specs.Outside.{Takes, TakesShort}
-use Rattle.record_io.specs.Buffers.{TakesAndHolds}
-use Rattle.record_io.specs.Puts.{Put, Out, Notes, Taken, taken_by, GoOut, GoOutOrAreHeld, BreaksOff, puts_to, bytes_to}
+use Rattle.record_io.specs.Buffers.{TakesAndHolds, GoOutOrAreHeld}
+use Rattle.record_io.specs.Puts.{Put, Out, Notes, Taken, taken_by, GoOut, BreaksOff, puts_to, bytes_to}
 use Rattle.record_io.proofs.Calls.{Takes-append, TakesShort-append}
 use Rattle.record_io.proofs.Puts.{GoOut-append, GoOut-notes, GoOut-out, GoOutOrAreHeld-none, BreaksOff-last, BreaksOff-longer, BreaksOff-behind, bytes_to-append, bytes_to-other, puts_to-append}
 use Rattle.damage_skip.specs.Pieces.{Skipped, Piece, IsPieceOf, AreEvents}
@@ -32,7 +32,7 @@ use Rattle.run_answers.specs.Answers.{Answer}
 use Rattle.run_answers.specs.FileAnswers.{most_file_bytes, OfFile}
 use Rattle.run_answers.specs.PutSoFar.{HasPut, HasPutSoFar, HasPutFront, HasBrokenOff}
 use Rattle.show_damaged.specs.RecoverCommand.{event_puts, IsRecovered, IsRecoveredSoFar}
-use Rattle.run_answers.specs.Runs.{FailedToSay, PutsLines}
+use Rattle.run_answers.specs.CutShortRuns.{FailedToSay, PutsLines}
 use Rattle.show_damaged.specs.WalkingEnds.{HasToldOf}
 use Rattle.run_answers.proofs.TwoStreams.{bytes_to-second}
 use Rattle.show_damaged.proofs.OneRecovery.{one_recovered}

@@ -5,7 +5,8 @@ use Rattle.std.proofs.lemmas.Grind.{flat_map-append}
 use Rattle.record_io.specs.Puts.{Put, Made, Out, Notes, puts_to, bytes_to}
 use Rattle.record_io.proofs.Puts.{bytes_to-append, bytes_to-own, bytes_to-other, puts_to-append}
 use Rattle.chunk_reader.specs.declared.reasons.Why.{Why}
-use Rattle.damage_skip.specs.Pieces.{Skipped, Piece, placed_in, records_of}
+use Rattle.damage_skip.specs.Pieces.{Skipped, Piece, records_of}
+use Rattle.damage_skip.specs.FilePieces.{placed_in}
 use Rattle.show_damaged.specs.declared.recover_words.RecoverWords.{RecoverWords}
 use Rattle.run_answers.specs.Answers.{Answer}
 use Rattle.show_files.specs.declared.show_words.RecordForm.{RecordForm}

@@ -10,8 +10,9 @@ use Rattle.chunk_reader.specs.declared.reasons.Why.{Why}
 use Rattle.damage_skip.specs.Regions.{region_text, skipped_text}
 use Rattle.damage_skip.specs.declared.regions.Region.{Region}
 use Rattle.run_answers.specs.Answers.{line}
-use Rattle.run_answers.specs.Lines.{ends_line, NoneEnds, lines}
-use Rattle.run_answers.specs.Runs.{PutsLines, first_lines}
+use Rattle.run_answers.specs.Lines.{ends_line, lines}
+use Rattle.run_answers.specs.OpenLines.{NoneEnds}
+use Rattle.run_answers.specs.CutShortRuns.{PutsLines, first_lines}
 use Rattle.run_answers.proofs.Lines.{lines-first, NoneEnds-append, NoneEnds-cons}
 use Rattle.chunk_reader.specs.declared.reasons.Why.TheVariants as why
 

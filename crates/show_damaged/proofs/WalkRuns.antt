@@ -18,7 +18,8 @@ use Rattle.damage_skip.specs.Bounds.{may_skip, MaySkip}
 use Rattle.damage_skip.specs.Regions.{skipped_text, walk_text}
 use Rattle.show_damaged.specs.WalkAnswers.{walk_status, MaySayWalk, MayEndWalk}
 use Rattle.run_answers.specs.Meanings.{Meaning}
-use Rattle.run_answers.specs.Runs.{Seen, seen, HadNoSinkFault, Runs}
+use Rattle.run_answers.specs.Runs.{Runs}
+use Rattle.run_answers.specs.RunObjects.{Seen, seen, HadNoSinkFault}
 use Rattle.run_answers.specs.PutSoFar.{HasPutSoFar}
 use Rattle.show_damaged.specs.WalkingEnds.{walk_ends, TellsOf}
 use Rattle.run_answers.proofs.FileEnds.{EndsBy, EndsWhole, HasSaid, MayEndInReach, runs-file}

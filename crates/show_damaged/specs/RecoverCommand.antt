@@ -1,4 +1,4 @@
--- What `show` prints, says and ends with where it goes on past damage. Own.
+-- Promise. What `show` prints, says and ends with where it goes on past damage. Own.
 use Rattle.std.specs.Prelude.{◌≡◌, ℕ, ◌-◌, false, List, ◌++◌}
 use Rattle.std.specs.List.{enumerate_from, flat_map}
 use Rattle.record_io.specs.Puts.{Put, Out, Notes, puts_to}

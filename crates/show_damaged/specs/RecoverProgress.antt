@@ -1,7 +1,8 @@
--- How far `show` has gone on past damage. Own.
+-- Inside. How far `show` has gone on past damage. Own.
 use Rattle.std.specs.Prelude.{◌≡◌, ℕ, ◌+◌, ◌^◌, ◌<◌, false, None, Result, Ok, Err, List, [], ◌++◌, length, take}
 use Rattle.std.specs.List.{enumerate_from, flat_map}
-use Rattle.record_io.specs.Puts.{Out, Notes, Taken, GoOut, GoOutOrAreHeld, puts_to}
+use Rattle.record_io.specs.Puts.{Out, Notes, Taken, GoOut, puts_to}
+use Rattle.record_io.specs.Buffers.{GoOutOrAreHeld}
 use Rattle.damage_skip.specs.Pieces.{Piece, records_of}
 use Rattle.damage_skip.specs.Bounds.{MaySkip}
 use Rattle.damage_skip.specs.Regions.{regions_in, IsWalkedTo}

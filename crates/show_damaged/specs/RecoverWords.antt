@@ -1,4 +1,5 @@
--- The words of `show` that go on past damage: how much of it may be skipped at once, and what those of `show` say. Own.
+-- Promise. The words of `show` that go on past damage: how much of it may be skipped at once, and what those of `show`
+-- say. Own.
 use Rattle.std.specs.Prelude.{ℕ, ◌^◌, Bool, Option, Some, None, List, is_some, if◌then◌else◌, [], ◌∷◌}
 use lib.Chars.{codes}
 use Rattle.show_damaged.specs.declared.recover_words.RecoverWords.{RecoverWords}

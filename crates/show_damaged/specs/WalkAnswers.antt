@@ -1,4 +1,4 @@
--- What the commands that walk a record file past its damage take and say of it, and end with. Own.
+-- Promise. What the commands that walk a record file past its damage take and say of it, and end with. Own.
 use Rattle.std.specs.Prelude.{◌≡◌, ℕ, ◌-◌, ◌⊎◌, Bool, false, Option, Some, None, IfSome, List, [], ◌∷◌}
 use Rattle.std.specs.List.{AllByRecursion}
 use Rattle.damage_skip.specs.Bounds.{may_skip, MaySkip}

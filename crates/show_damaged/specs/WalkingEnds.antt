@@ -1,4 +1,4 @@
--- How the work of a command that walks a record file ends, and what it has said then. Own.
+-- Inside. How the work of a command that walks a record file ends, and what it has said then. Own.
 use Rattle.std.specs.Prelude.{◌≡◌, ℕ, Bool, false, Option, None, Result, Ok, Err, List, []}
 use Rattle.std.specs.List.{AllByRecursion}
 use Rattle.std.specs.Fn.{Shared, FnReturnsAt}
@@ -6,7 +6,8 @@ use denote.Ref.{Bor}
 use lib.Chars.{codes}
 use Rattle.record_io.specs.Outside.{Takes, TakesShort}
 use Rattle.damage_skip.specs.Bounds.{may_skip, MaySkip}
-use Rattle.damage_skip.specs.Regions.{IsRegion, region_text, skipped_text}
+use Rattle.damage_skip.specs.Regions.{region_text, skipped_text}
+use Rattle.damage_skip.specs.Policies.{IsRegion}
 use Rattle.show_damaged.specs.WalkAnswers.{walk_status}
 use Rattle.damage_skip.specs.declared.regions.Region.{Region}
 use Rattle.run_answers.specs.declared.ending.Ending.{Ending}

@@ -3,8 +3,7 @@ use Rattle.std.proofs.Common.{◌≡◌, ◌⊎◌, ℕ, true, false, List, [], 
 use Rattle.std.specs.List.{flat_map}
 use Rattle.record_io.specs.Puts.{Out, Notes, puts_to}
 use Rattle.chunk_header.specs.Chunks.{ChunkValue}
-use Rattle.meta_chunk.specs.Counts.{totals_of}
-use Rattle.meta_chunk.specs.Files.{IsPlain, IsChainOf, ArePlaced}
+use Rattle.meta_chunk.specs.Files.{totals_of, IsPlain, IsChainOf, ArePlaced}
 use Rattle.meta_chunk.proofs.Placed.{ArePlaced-one}
 use Rattle.chunk_reader.specs.Faults.{HasNoFault, IsFault}
 use Rattle.chunk_reader.specs.declared.reasons.Fault.{Fault}

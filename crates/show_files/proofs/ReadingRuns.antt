@@ -11,7 +11,8 @@ use Rattle.run_answers.specs.declared.status.Status.{Status}
 use Rattle.run_answers.specs.Answers.{Answer}
 use Rattle.run_answers.specs.Endings.{Endings, IsAllowedEnd, IsShort, HasPutAtEnd, SaysEnd}
 use Rattle.run_answers.specs.Meanings.{Meaning}
-use Rattle.run_answers.specs.Runs.{seen, Runs}
+use Rattle.run_answers.specs.Runs.{Runs}
+use Rattle.run_answers.specs.RunObjects.{seen}
 use Rattle.run_answers.specs.PutSoFar.{HasPutSoFar}
 use Rattle.show_files.specs.ReadingEnds.{reading_ends}
 use Rattle.show_files.specs.Readings.{MayEndReading, refused_text}

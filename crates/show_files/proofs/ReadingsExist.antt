@@ -4,8 +4,7 @@ use Rattle.std.specs.List.{flat_map}
 use Rattle.record_values.specs.Bytes.{AreBytes}
 use Rattle.record_io.specs.Puts.{Out, Notes, puts_to}
 use Rattle.chunk_header.specs.Chunks.{ChunkValue}
-use Rattle.meta_chunk.specs.Counts.{totals_of}
-use Rattle.meta_chunk.specs.Files.{IsPlain, IsChainOf, ArePlaced, placed_from}
+use Rattle.meta_chunk.specs.Files.{totals_of, IsPlain, IsChainOf, ArePlaced, placed_from}
 use Rattle.meta_chunk.proofs.Held.{HoldEach-framed}
 use Rattle.chunk_reader.specs.Faults.{IsLongest, BeginsWithSignature, HasNoFault, IsFault}
 use Rattle.chunk_reader.specs.declared.reasons.Fault.{Fault}

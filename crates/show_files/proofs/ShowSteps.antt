@@ -5,8 +5,8 @@ use Rattle.std.specs.List.{enumerate_from}
 use Rattle.std.proofs.lemmas.List.{append-nil, take-append-drop}
 use Rattle.std.proofs.lemmas.Grind.{flat_map-append}
 use Rattle.record_io.specs.Outside.{TakesShort}
-use Rattle.record_io.specs.Buffers.{TakesAndHolds}
-use Rattle.record_io.specs.Puts.{Put, Out, Notes, Taken, taken_by, GoOutOrAreHeld, BreaksOff, puts_to, bytes_to}
+use Rattle.record_io.specs.Buffers.{TakesAndHolds, GoOutOrAreHeld}
+use Rattle.record_io.specs.Puts.{Put, Out, Notes, Taken, taken_by, BreaksOff, puts_to, bytes_to}
 use Rattle.record_io.proofs.Puts.{GoOut-nothing, GoOutOrAreHeld-none, GoOutOrAreHeld-more, GoOut-broken, BreaksOff-longer, bytes_to-other, puts_to-append}
 use Rattle.record_values.specs.Bytes.{AreBytes}
 use Rattle.record_values.specs.declared.file_totals.Totals.{Totals}
@@ -14,13 +14,12 @@ use Rattle.chunk_header.specs.Chunks.{ChunkValue}
 use Rattle.chunk_header.specs.Views.{value_of_chunk}
 use Rattle.meta_chunk.specs.Kinds.{IsSignature, IsMetadata, IsPadding}
 use Rattle.meta_chunk.specs.Laid.{end_of_chunk}
-use Rattle.meta_chunk.specs.Counts.{totals_of}
-use Rattle.meta_chunk.specs.Files.{IsPlain, IsChainOf, IsFileOf, Holds, HoldEach, ArePlaced, placed_from, end_of_chunks}
+use Rattle.meta_chunk.specs.Files.{totals_of, IsPlain, IsChainOf, IsFileOf, Holds, HoldEach, ArePlaced, placed_from, end_of_chunks}
 use Rattle.meta_chunk.proofs.Held.{HoldEach-one}
 use Rattle.meta_chunk.proofs.Chains.{AreLaid-front_of}
 use Rattle.chunk_reader.specs.Progress.{AreReadFrom, ReaderValue}
 use Rattle.chunk_reader.specs.Readers.{ReadsIn, ReadsOn}
-use Rattle.chunk_reader.specs.ReadBounds.{MayBeReadTo}
+use Rattle.chunk_reader.specs.SearchBounds.{MayBeReadTo}
 use Rattle.chunk_reader.proofs.Rooms.{IsSized}
 use Rattle.chunk_reader.specs.Contents.{IsWhat, records_given, IsJudged}
 use Rattle.chunk_reader.specs.declared.judging.What.{What}

@@ -5,8 +5,7 @@ use Rattle.record_io.specs.Puts.{Put, Out, Notes, Taken, taken_by, puts_to}
 use Rattle.record_io.proofs.Puts.{GoOut-nothing, bytes_to-other}
 use Rattle.record_values.specs.declared.file_totals.Totals.{Totals}
 use Rattle.chunk_header.specs.Chunks.{ChunkValue}
-use Rattle.meta_chunk.specs.Counts.{totals_of}
-use Rattle.meta_chunk.specs.Files.{IsFrame}
+use Rattle.meta_chunk.specs.Files.{totals_of, IsFrame}
 use Rattle.chunk_reader.specs.Faults.{IsFault}
 use Rattle.chunk_reader.specs.declared.reasons.Fault.{Fault}
 use Rattle.run_answers.specs.Answers.{Answer}

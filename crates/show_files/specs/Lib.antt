@@ -1,4 +1,5 @@
 pub mod Readings
+pub mod RecordForms
 pub mod ReadingEnds
 pub mod ShowCommand
 pub mod ShowProgress

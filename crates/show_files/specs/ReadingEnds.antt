@@ -1,4 +1,4 @@
--- How strict reading of a record file ends. Own.
+-- Inside. How strict reading of a record file ends. Own.
 use Rattle.chunk_reader.specs.declared.reasons.Fault.{Fault}
 use Rattle.run_answers.specs.Endings.{Endings}
 use Rattle.show_files.specs.Readings.{refused_text}

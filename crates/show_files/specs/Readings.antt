@@ -1,5 +1,5 @@
--- What strict reading of a record file takes, prints and says. Own.
-use Rattle.std.specs.Prelude.{◌≡◌, ℕ, ◌+◌, ◌≤◌, ◌⊎◌, Bool, true, false, Option, Some, None, List, [], ◌∷◌, ◌++◌, decimal, if◌then◌else◌}
+-- Promise. What strict reading of a record file takes, prints and says. Own.
+use Rattle.std.specs.Prelude.{◌≡◌, ℕ, ◌+◌, ◌≤◌, ◌⊎◌, Bool, false, Option, Some, None, List, [], ◌∷◌, ◌++◌, decimal, if◌then◌else◌}
 use lib.Chars.{codes}
 use Rattle.hex.specs.Hex.{encode_lower}
 use Rattle.chunk_reader.specs.declared.reasons.Fault.{Fault}
@@ -28,10 +28,6 @@ refused_file_text index fault = refusal_line (Some index) fault
 -- records as they are, and nothing before them
 abbrev pub bare : RecordForm
 bare = record { positions = false; hex = false }
-
--- their digits, and nothing before them
-abbrev pub digits_alone : RecordForm
-digits_alone = record bare { hex = true }
 
 -- what is printed before a record: its position where that is wanted
 abbrev pub position_text : Bool → ℕ → List ℕ

@@ -1,11 +1,11 @@
--- What `show` prints, says and ends with. Own.
+-- Promise. What `show` prints, says and ends with. Own.
 use Rattle.std.specs.Prelude.{◌≡◌, ℕ, ◌-◌, ◌⊎◌, false, List, [], ◌++◌}
 use Rattle.std.specs.List.{flat_map}
 use Rattle.record_io.specs.Puts.{Put, Out, Notes, puts_to}
 use Rattle.chunk_header.specs.Chunks.{ChunkValue}
 use Rattle.meta_chunk.specs.Files.{IsPlain, IsChainOf, ArePlaced}
 use Rattle.chunk_reader.specs.Faults.{IsLongest, HasNoFault, IsFault}
-use Rattle.chunk_reader.specs.ReadBounds.{MayBeReadTo}
+use Rattle.chunk_reader.specs.SearchBounds.{MayBeReadTo}
 use Rattle.chunk_reader.specs.declared.reasons.Fault.{Fault}
 use Rattle.show_files.specs.declared.show_words.ShowWords.{ShowWords}
 use Rattle.run_answers.specs.Answers.{Answer}

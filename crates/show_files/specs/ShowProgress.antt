@@ -1,11 +1,11 @@
--- How far `show` has printed a file. Own.
+-- Inside. How far `show` has printed a file. Own.
 use Rattle.std.specs.Prelude.{◌≡◌, ℕ, ◌+◌, ◌<◌, ◌≤◌, Bool, true, Result, Ok, List}
 use Rattle.std.specs.List.{flat_map}
-use Rattle.record_io.specs.Puts.{Out, Taken, GoOutOrAreHeld, puts_to}
+use Rattle.record_io.specs.Puts.{Out, Taken, puts_to}
+use Rattle.record_io.specs.Buffers.{GoOutOrAreHeld}
 use Rattle.record_values.specs.declared.file_totals.Totals.{Totals}
 use Rattle.chunk_header.specs.Chunks.{ChunkValue}
-use Rattle.meta_chunk.specs.Counts.{totals_of}
-use Rattle.meta_chunk.specs.Files.{IsPlain, IsChainOf, ArePlaced}
+use Rattle.meta_chunk.specs.Files.{totals_of, IsPlain, IsChainOf, ArePlaced}
 use Rattle.chunk_reader.specs.declared.reasons.Fault.{Fault}
 use Rattle.run_answers.specs.declared.ending.Ending.{Ending}
 use Rattle.run_answers.specs.Endings.{HasPutAtEnd}

@@ -1,4 +1,4 @@
--- The words of `show`: how records are printed, and the file that it reads. Own.
+-- Promise. The words of `show`: how records are printed, and the file that it reads. Own.
 use Rattle.std.specs.Prelude.{ℕ, Option, Some, None, List, is_some, if◌then◌else◌, [], ◌∷◌}
 use lib.Chars.{codes}
 use Rattle.show_files.specs.declared.show_words.RecordForm.{RecordForm}

@@ -1,9 +1,8 @@
--- What `verify` prints, says and ends with. Own.
+-- Promise. What `verify` prints, says and ends with. Own.
 use Rattle.std.specs.Prelude.{◌≡◌, ℕ, ◌⊎◌, true, List, []}
 use Rattle.record_io.specs.Puts.{Out, puts_to, Put}
 use Rattle.chunk_header.specs.Chunks.{ChunkValue}
-use Rattle.meta_chunk.specs.Counts.{totals_of}
-use Rattle.meta_chunk.specs.Files.{IsFrame}
+use Rattle.meta_chunk.specs.Files.{totals_of, IsFrame}
 use Rattle.chunk_reader.specs.Faults.{IsFault}
 use Rattle.chunk_reader.specs.declared.reasons.Fault.{Fault}
 use Rattle.run_answers.specs.Answers.{Answer, noted}

@@ -1,4 +1,4 @@
--- The words of `verify`: the file that it reads. Own.
+-- Promise. The words of `verify`: the file that it reads. Own.
 use Rattle.std.specs.Prelude.{ℕ, Option, Some, None, List, [], if◌then◌else◌}
 use Rattle.show_files.specs.declared.verify_words.VerifyWords.{VerifyWords}
 use Rattle.word_options.specs.Options.{are_words_of, file_places, only, ◌>>=◌}

@@ -4,7 +4,7 @@ ghost use Rattle.record_io.specs.Calls.{OnlyCounts, PutsThrough, PutsTo};
 ghost use Rattle.record_io.specs.Seen.{seen_stream};
 ghost use Rattle.chunk_reader.specs.Names.{name_of};
 ghost use Rattle.run_answers.specs.Answers.{line};
-ghost use Rattle.run_answers.specs.Runs.{SaysAtEnd};
+ghost use Rattle.run_answers.specs.Endings.{SaysAtEnd};
 ghost use Rattle.show_files.specs.Readings.{file_text, refusal_line, refused_file_text, refused_text};
 
 use chunk_reader::Fault;

@@ -6,14 +6,15 @@ ghost use Rattle.record_io.specs.Calls.{OnlyAsks, OnlyCounts, PutsThrough};
 ghost use Rattle.record_io.specs.Seen.{seen_stream, seen_file};
 ghost use Rattle.chunk_reader.specs.Contents.{records_given};
 ghost use Rattle.chunk_reader.specs.Readers.{ReadsIn, ReadsOn};
-ghost use Rattle.chunk_reader.specs.ReadBounds.{MayBeReadTo};
+ghost use Rattle.chunk_reader.specs.SearchBounds.{MayBeReadTo};
 ghost use Rattle.run_answers.specs.Endings.{HasPutAtEnd, IsAllowedEnd, IsShort};
-ghost use Rattle.run_answers.specs.FileAnswers.{HandsOut};
+ghost use Rattle.run_answers.specs.FileSizes.{HandsOut};
 ghost use Rattle.show_files.specs.ReadingEnds.{reading_ends};
 ghost use Rattle.show_files.specs.ShowCommand.{IsShown, IsShownSoFar, show_meaning};
 ghost use Rattle.run_answers.specs.PutSoFar.{HasPutSoFar};
 ghost use Rattle.show_files.specs.ShowProgress.{record_lines, IsPrinted, MovesOn, PrintsOn, PutsNothing};
-ghost use Rattle.run_answers.specs.Runs.{Runs, Seen};
+ghost use Rattle.run_answers.specs.Runs.{Runs};
+ghost use Rattle.run_answers.specs.RunObjects.{Seen};
 
 use crate::reading::end_reading;
 use crate::record_lines::{LINES, put_records};

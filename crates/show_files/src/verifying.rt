@@ -3,10 +3,12 @@ ghost use Rattle.record_io.specs.Puts.{taken_by};
 ghost use Rattle.record_io.specs.Calls.{OnlyCounts};
 ghost use Rattle.record_io.specs.Seen.{seen_stream, seen_file};
 ghost use Rattle.run_answers.specs.Endings.{HasPutAtEnd, IsAllowedEnd, IsShort};
-ghost use Rattle.run_answers.specs.FileAnswers.{HandsOut, report};
+ghost use Rattle.run_answers.specs.FileAnswers.{report};
+ghost use Rattle.run_answers.specs.FileSizes.{HandsOut};
 ghost use Rattle.show_files.specs.ReadingEnds.{reading_ends};
 ghost use Rattle.show_files.specs.VerifyCommand.{IsVerified, verify_meaning};
-ghost use Rattle.run_answers.specs.Runs.{Runs, Seen};
+ghost use Rattle.run_answers.specs.Runs.{Runs};
+ghost use Rattle.run_answers.specs.RunObjects.{Seen};
 
 use crate::reading::end_reading;
 use chunk_reader::{Fault, VerifyEnd};

@@ -11,8 +11,7 @@ use Rattle.record_seek.specs.KeyTests.{StandsBefore}
 use Rattle.record_seek.specs.Met.{IsMetFault, IsMetRecord, LeadsWithoutRecords, LeadsPastAll}
 use Rattle.record_seek.specs.Steps.{placed_of}
 use Rattle.record_seek.specs.declared.chunk_records.Found.{Found}
-use Rattle.show_found.specs.ByteOrder.{is_below, IsBelow}
-use Rattle.show_found.specs.Searches.{MayFind, IsKeyFault}
+use Rattle.show_found.specs.Searches.{is_below, IsBelow, MayFind, IsKeyFault}
 
 -- a function answers of each list of bytes whether it is less than a key, and nothing else
 abbrev pub Compares : {F : Type 0} → Shared F (Bor (List ℕ) × Unit {0}) Bool → F → (key : List ℕ) → Type 0

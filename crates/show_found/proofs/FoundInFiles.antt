@@ -11,19 +11,19 @@ use Rattle.chunk_reader.specs.Searches.{SearchGives, IsSearchFault}
 use Rattle.chunk_reader.specs.declared.reasons.Fault.{Fault}
 use Rattle.chunk_reader.proofs.Frames.{file_of_frame}
 use Rattle.chunk_reader.proofs.HeadersTell.{passed_below}
-use Rattle.record_seek.specs.Found.{IsFirstAt, BytesStandBefore, OnlyFrontStandsBefore}
+use Rattle.record_seek.specs.Found.{BytesStandBefore, OnlyFrontStandsBefore}
+use Rattle.record_seek.specs.FirstRecords.{IsFirstAt}
 use Rattle.record_seek.specs.Met.{IsMetFault}
 use Rattle.record_seek.proofs.Finding.{told-met}
 use Rattle.record_seek.proofs.FirstRecords.{first_record, held_number, none_answers, placed-of}
 use Rattle.record_seek.proofs.MetPlaces.{no_met_fault}
 use Rattle.record_seek.proofs.OneHolder.{verdict_unpassed}
 use Rattle.run_answers.specs.Answers.{Answer}
-use Rattle.show_found.specs.ByteOrder.{IsBelow}
+use Rattle.show_found.specs.Searches.{IsBelow, MayGive, MayRefuse}
 use Rattle.show_found.specs.SeekCommand.{IsSeekAnswer, found_answer}
 use Rattle.show_found.specs.declared.seek_words.SeekWords.{SeekWords}
 use Rattle.show_found.specs.declared.seek_words.By.{By}
 use Rattle.show_found.specs.declared.seek_words.By.TheVariants.{At, Key}
-use Rattle.show_found.specs.Searches.{MayGive, MayRefuse}
 
 -- one way leads on where another one ends
 between-join : (file ps qs : List ℕ) (from mid to : ℕ) → ArePlacesBetween file from mid ps → ArePlacesBetween file mid to qs

@@ -26,8 +26,7 @@ use Rattle.record_seek.proofs.OneFound.{found_in_order}
 use Rattle.record_seek.proofs.PlacedRecords.{none_before_first}
 use Rattle.record_seek.proofs.ReadingOn.{read_empty, read_records, read_record}
 use Rattle.record_seek.proofs.RightBehind.{nothing-left, record-met}
-use Rattle.show_found.specs.ByteOrder.{is_below, IsBelow}
-use Rattle.show_found.specs.Searches.{MayFind, IsKeyFault}
+use Rattle.show_found.specs.Searches.{is_below, IsBelow, MayFind, IsKeyFault}
 
 -- of the records of a number below one each is less than the key
 abbrev AreBelow : (key : List ℕ) → List (List ℕ) → ℕ → Type 0

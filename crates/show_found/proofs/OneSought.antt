@@ -6,7 +6,8 @@ use Rattle.record_seek.proofs.JudgedSearch.{given_or_not}
 use Rattle.record_seek.proofs.OneSearch.{given_is_one, given_or_fault, search_fault_is_one}
 use Rattle.run_answers.specs.Answers.{Answer}
 use Rattle.show_found.specs.Searches.{MayGive, MayRefuse}
-use Rattle.show_found.specs.SeekCommand.{IsSeekAnswer, found_answer, refused_answer, has_one_answer}
+use Rattle.show_found.specs.SeekCommand.{IsSeekAnswer, found_answer, refused_answer}
+use Rattle.show_found.specs.SingleAnswers.{has_one_answer}
 use Rattle.show_found.specs.declared.seek_words.By.{By}
 use Rattle.show_found.specs.declared.seek_words.By.TheVariants.{At, Key}
 use Rattle.show_found.specs.declared.seek_words.SeekWords.{SeekWords}

@@ -3,7 +3,7 @@ use Rattle.std.proofs.Common.{◌≡◌, ℕ, Bool, true, false, Option, Some, N
 use Rattle.std.specs.Fmt.{digits}
 use Rattle.hex.specs.Hex.{encode_with}
 use Rattle.show_files.specs.Readings.{record_line}
-use Rattle.show_found.specs.ByteOrder.{is_below}
+use Rattle.show_found.specs.Searches.{is_below}
 use Rattle.show_found.specs.SeekCommand.{not_found_text, found_form}
 use Rattle.show_found.specs.SeekWords.{seek_words_of}
 use Rattle.show_found.specs.declared.seek_words.By.{By}

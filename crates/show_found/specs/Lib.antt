@@ -1,5 +1,5 @@
-pub mod ByteOrder
 pub mod SeekWords
 pub mod Searches
 pub mod SeekCommand
+pub mod SingleAnswers
 pub mod SeekEnds

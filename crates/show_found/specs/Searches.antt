@@ -1,5 +1,7 @@
--- What a search that `seek` makes may give. Own.
-use Rattle.std.specs.Prelude.{◌≡◌, ℕ, ◌+◌, ◌≤◌, ◌⊎◌, Option, None, IfSome, List, length, slice_get}
+-- Promise. What a search that `seek` makes may give, and the order of bytes. Own.
+use Rattle.std.specs.Prelude.{◌≡◌, ℕ, ◌+◌, ◌≤◌, ◌⊎◌, Bool, Option, None, IfSome, IsTrue, List, length, slice_get}
+use Rattle.std.specs.Cmp.Lexicographic.{slice_cmp}
+use Rattle.std.specs.Ordering.{is_lt, nat_cmp}
 use Rattle.chunk_header.specs.Chunks.{ChunkValue}
 use Rattle.meta_chunk.specs.Files.{IsFile, IsFrame, ArePlaced, LiesIn}
 use Rattle.chunk_reader.specs.SearchBounds.{position_bound, key_bound}
@@ -7,9 +9,16 @@ use Rattle.chunk_reader.specs.Searches.{SearchGives, IsSearchFault}
 use Rattle.chunk_reader.specs.declared.reasons.Fault.{Fault}
 use Rattle.record_seek.specs.Found.{IsAnsweringNumber, IsKeyFound, BytesStandBefore, OnlyFrontStandsBefore}
 use Rattle.record_seek.specs.Met.{IsMetFault, IsMetRecord, LeadsWithoutRecords, LeadsPastAll}
-use Rattle.show_found.specs.ByteOrder.{IsBelow}
 use Rattle.show_found.specs.declared.seek_words.By.{By}
 use Rattle.show_found.specs.declared.seek_words.By.TheVariants.{At, Key}
+
+-- whether bytes are less than those of a key: the first two that differ decide, and where none do the fewer are less
+abbrev pub is_below : (key bytes : List ℕ) → Bool
+is_below key bytes = is_lt (slice_cmp nat_cmp bytes key)
+
+-- they are less, and so stand before the key
+abbrev pub IsBelow : (key bytes : List ℕ) → Type 0
+IsBelow key bytes = IsTrue (is_below key bytes)
 
 -- what a search for a key may find in a file, by the bytes that are less than the key
 pub record MayFind (key file : List ℕ) (found : Option (ℕ × List ℕ)) : Type 0 where

@@ -1,5 +1,5 @@
--- What `seek` prints, says and ends with. Own.
-use Rattle.std.specs.Prelude.{◌≡◌, ℕ, ◌⊎◌, Bool, true, false, Option, Some, None, List, [], ◌∷◌}
+-- Promise. What `seek` prints, says and ends with. Own.
+use Rattle.std.specs.Prelude.{◌≡◌, ℕ, ◌⊎◌, Bool, true, Option, Some, None, List, [], ◌∷◌}
 use lib.Chars.{codes}
 use Rattle.record_io.specs.Puts.{Put, Out, puts_to}
 use Rattle.chunk_reader.specs.declared.reasons.Fault.{Fault}
@@ -11,7 +11,6 @@ use Rattle.show_files.specs.Readings.{refused_text, record_line, MayEndReading}
 use Rattle.show_files.specs.declared.show_words.RecordForm.{RecordForm}
 use Rattle.show_found.specs.Searches.{MayGive, MayRefuse, TakesOf, TakesBySize}
 use Rattle.show_found.specs.declared.seek_words.By.{By}
-use Rattle.show_found.specs.declared.seek_words.By.TheVariants.{At, Key}
 use Rattle.show_found.specs.declared.seek_words.SeekWords.{SeekWords}
 use Rattle.run_answers.specs.declared.status.Status.TheVariants as status
 
@@ -41,11 +40,6 @@ IsSeekAnswer words file answer =
 -- nothing is put before the line of the record
 abbrev pub IsSeekSoFar : (before after : ℕ) (file : List ℕ) → List Put → Type 0
 IsSeekSoFar before after file part = part ≡ []
-
--- whether there is one answer at most: for a position, while several records may be found for a key where they aren't in order
-abbrev pub has_one_answer : By → Bool
-has_one_answer (At position) = true
-has_one_answer (Key key) = false
 
 -- how many bytes the file may hand out, by its size, and by its bytes
 abbrev pub MayTakeBySize : By → (sizes before after : List ℕ) → Type 0

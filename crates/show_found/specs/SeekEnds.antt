@@ -1,4 +1,4 @@
--- How the work of `seek` ends. Own.
+-- Inside. How the work of `seek` ends. Own.
 use Rattle.std.specs.Prelude.{ℕ, List}
 use Rattle.run_answers.specs.Endings.{Endings}
 use Rattle.run_answers.specs.declared.status.Status.{Status}

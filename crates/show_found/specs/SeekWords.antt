@@ -1,4 +1,4 @@
--- The words of `seek`: what it looks for, how the record is printed, and the file that it reads. Own.
+-- Promise. The words of `seek`: what it looks for, how the record is printed, and the file that it reads. Own.
 use Rattle.std.specs.Prelude.{ℕ, ◌-◌, ◌^◌, Option, Some, None, List, is_some, if◌then◌else◌, [], ◌∷◌}
 use lib.Chars.{codes}
 use Rattle.show_found.specs.declared.seek_words.By.{By}

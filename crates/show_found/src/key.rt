@@ -1,5 +1,5 @@
 ghost use Rattle.std.specs.Prelude.{◌≡◌};
-ghost use Rattle.show_found.specs.ByteOrder.{is_below};
+ghost use Rattle.show_found.specs.Searches.{is_below};
 
 use std::marker::Model;
 

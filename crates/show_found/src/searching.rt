@@ -2,8 +2,7 @@ ghost use Rattle.std.specs.Prelude.{◌≡◌, ◌≤◌, ◌^◌, Some, Err, If
 ghost use Rattle.record_io.specs.Calls.{OnlyAsks};
 ghost use Rattle.chunk_reader.specs.declared.reasons.Fault.{Fault};
 ghost use Rattle.record_seek.specs.Steps.{placed_of};
-ghost use Rattle.show_found.specs.ByteOrder.{is_below};
-ghost use Rattle.show_found.specs.Searches.{MayFind, IsKeyFault, MayGive, MayRefuse, TakesOf, TakesBySize};
+ghost use Rattle.show_found.specs.Searches.{is_below, MayFind, IsKeyFault, MayGive, MayRefuse, TakesOf, TakesBySize};
 ghost use Rattle.show_found.specs.declared.seek_words.By.TheVariants as by;
 
 use crate::key::SearchKey;

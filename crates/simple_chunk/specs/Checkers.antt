@@ -1,4 +1,4 @@
--- What a checker of a simple chunk has taken of the chunk's data. Own.
+-- Inside. What a checker of a simple chunk has taken of the chunk's data. Own.
 use Rattle.std.specs.Prelude.{◌≡◌, ℕ, ◌+◌, ◌↔◌, List, ◌∷◌, ◌++◌, length, take}
 use Rattle.chunk_header.specs.Chunks.{ChunkValue}
 use Rattle.chunk_header.specs.SimpleChunks.{simple_kind, IsSimpleChunk, IsCompressed}

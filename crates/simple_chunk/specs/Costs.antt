@@ -1,4 +1,4 @@
--- What records cost where they are grouped into chunks. Own.
+-- Promise. What records cost where they are grouped into chunks. Own.
 use Rattle.std.specs.Prelude.{ℕ, ◌+◌, List, length}
 use Rattle.std.specs.List.{sum_by}
 

@@ -1,4 +1,4 @@
--- Records that lie joined in one list of bytes, and the places where they end. Own.
+-- Inside. Records that lie joined in one list of bytes, and the places where they end. Own.
 use Rattle.std.specs.Prelude.{◌≡◌, ℕ, zero, suc, ◌-◌, ◌≤◌, List, [], ◌∷◌, slice_index, slice_range}
 
 -- the records that end at these places, of which the first begins at a place

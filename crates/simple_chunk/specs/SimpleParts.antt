@@ -1,4 +1,4 @@
--- A simple chunk that is made in two steps: its memory is taken, then its sizes and header are made. Own.
+-- Inside. A simple chunk that is made in two steps: its memory is taken, then its sizes and header are made. Own.
 use Rattle.std.specs.Prelude.{◌≡◌, ℕ, ◌+◌, ◌^◌, ◌≤◌, Bool, Option, List, length, IfSome}
 use Rattle.varint_wire.specs.Varint.{shortest}
 use Rattle.chunk_header.specs.SimpleChunks.{simple_chunk, sizes_of}

@@ -1,5 +1,5 @@
--- The parts of a simple chunk's data without compression. Source: the Riegeli/records file format specification,
--- "Simple chunk with records".
+-- Inside. The parts of a simple chunk's data without compression. Source: the Riegeli/records file format
+-- specification, "Simple chunk with records".
 use Rattle.std.specs.Prelude.{◌≡◌, ℕ, List, ◌∷◌, ◌++◌, length, sum}
 use Rattle.varint_wire.specs.Varint.{Spells, SpellsEach, shortest}
 use Rattle.chunk_header.specs.SimpleChunks.{sizes_of}

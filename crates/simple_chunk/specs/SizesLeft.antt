@@ -1,4 +1,4 @@
--- Sizes of records that come in pieces. Own.
+-- Inside. Sizes of records that come in pieces. Own.
 use Rattle.std.specs.Prelude.{ℕ, List, ◌++◌}
 use Rattle.simple_chunk.specs.Sizes.{AreSizes}
 

@@ -4,7 +4,8 @@ use Rattle.std.proofs.Math.Nat.{pow-succ'}
 use Rattle.std.proofs.lemmas.Bool.{cases_lt}
 use Rattle.std.proofs.lemmas.Bool.Decides.{nat_tests}
 use Rattle.std.proofs.lemmas.List.{get_or_append_left, take_at, get_or_past}
-use Rattle.varint_wire.specs.Varint.{spelled_value, Spells, IsShortest, shortest_within, shortest}
+use Rattle.varint_wire.specs.Varint.{spelled_value, Spells, shortest_within, shortest}
+use Rattle.varint_wire.specs.ShortestSpellings.{IsShortest}
 
 -- the value of n bytes is below 128 ^ n
 pub spelled_value-lt : (bytes : List ℕ) → spelled_value bytes < 128 ^ length bytes

@@ -1,4 +1,4 @@
--- The bytes that a feed holds, by what it keeps of them. Own.
+-- Inside. The bytes that a feed holds, by what it keeps of them. Own.
 use Rattle.std.specs.Prelude.{ℕ, zero, suc, ◌+◌, ◌/◌, ◌%◌, List, [], ◌∷◌}
 
 -- one byte for each group of seven bits, the lowest group first; each is at least 128, as another follows

@@ -1,3 +1,4 @@
 pub mod Varint
+pub mod ShortestSpellings
 pub mod Reading
 pub mod Held

@@ -1,5 +1,5 @@
--- Where no varint is read. Source: the Riegeli/records file format specification, "Conventions". Own: a
--- varint has at most ten bytes and a value below 2 ^ 64.
+-- Inside. Where no varint is read. Source: the Riegeli/records file format specification, "Conventions". Own: a varint
+-- has at most ten bytes and a value below 2 ^ 64.
 use Rattle.std.specs.Prelude.{ℕ, ◌^◌, ◌<◌, ◌≤◌, ◌⊎◌, List, length, take, slice_index, EachIndex}
 use Rattle.varint_wire.specs.Varint.{spelled_value}
 

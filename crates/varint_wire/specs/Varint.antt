@@ -1,5 +1,5 @@
--- Varints. Source: the Riegeli/records file format specification, "Conventions". Own: every spelling of one
--- to ten bytes is read, also one that is not the shortest, and the shortest is written.
+-- Promise. Varints. Source: the Riegeli/records file format specification, "Conventions". Own: every spelling of one to
+-- ten bytes is read, also one that is not the shortest, and the shortest is written.
 use Rattle.std.specs.Prelude.{◌≡◌, ℕ, zero, suc, ◌+◌, ◌-◌, ◌*◌, ◌/◌, ◌%◌, ◌^◌, ◌<◌, ◌≤◌, List, [], ◌∷◌, ◌++◌, length, slice_index, nat_lt, if◌then◌else◌}
 
 -- the number that the low seven bits of each byte make, those of the first byte lowest
@@ -16,11 +16,6 @@ pub record Spells (value : ℕ) (bytes : List ℕ) : Type 0 where
   pub ended : slice_index bytes (length bytes - 1) < 128
   pub value_is : spelled_value bytes ≡ value
   pub fits : value < 2 ^ 64
-
--- the bytes are the spelling of least length
-pub record IsShortest (value : ℕ) (bytes : List ℕ) : Type 0 where
-  pub spells : Spells value bytes
-  pub least : (others : List ℕ) → Spells value others → length bytes ≤ length others
 
 -- the shortest spelling: groups of seven bits, the lowest first, up to the last that isn't 0
 abbrev pub shortest_within : ℕ → ℕ → List ℕ

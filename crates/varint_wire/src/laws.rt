@@ -1,7 +1,8 @@
 //! What holds of all varints. The functions do nothing: their contracts are the laws.
 
 ghost use Rattle.std.specs.Prelude.{◌≡◌, ℕ, ◌^◌, ◌<◌, List, ◌++◌};
-ghost use Rattle.varint_wire.specs.Varint.{Spells, IsShortest, shortest};
+ghost use Rattle.varint_wire.specs.Varint.{Spells, shortest};
+ghost use Rattle.varint_wire.specs.ShortestSpellings.{IsShortest};
 
 /// No spelling begins another: whatever follows, bytes begin with one varint at most. So what was
 /// written is read again. Own.

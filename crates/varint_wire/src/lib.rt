@@ -10,7 +10,8 @@ mod groups;
 pub mod laws;
 
 ghost use Rattle.std.specs.Prelude.{◌≡◌, ℕ, ◌<◌, ◌≤◌, ◌↔◌, List, ◌++◌, length, take, drop, IfOk};
-ghost use Rattle.varint_wire.specs.Varint.{Spells, IsShortest, shortest};
+ghost use Rattle.varint_wire.specs.Varint.{Spells, shortest};
+ghost use Rattle.varint_wire.specs.ShortestSpellings.{IsShortest};
 ghost use Rattle.varint_wire.specs.Reading.{IsCut, IsLong};
 
 pub use feed::{Feed, Step};

@@ -1,4 +1,4 @@
--- The words of a command that reads several files and makes one. Own.
+-- Promise. The words of a command that reads several files and makes one. Own.
 use Rattle.std.specs.Prelude.{ℕ, ◌+◌, ◌-◌, Bool, ◌&&◌, Option, Some, None, List, [], length, nat_le, if◌then◌else◌}
 use Rattle.std.specs.List.{list_any, range_with_len}
 use Rattle.word_options.specs.declared.many_files.FilesWords.{FilesWords}

@@ -1,4 +1,4 @@
--- Numbers as words spell them. Own.
+-- Promise. Numbers as words spell them. Own.
 use Rattle.std.specs.Prelude.{ℕ, ◌+◌, ◌-◌, ◌*◌, ◌^◌, Bool, ◌&&◌, Option, List, [], ◌∷◌, length, nat_le, nat_lt, option_and_then}
 use Rattle.std.specs.Bool.{then_some}
 use Rattle.std.specs.Char.{is_ascii_digit}

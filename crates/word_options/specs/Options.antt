@@ -1,4 +1,4 @@
--- The words of a command: its options and its files. The word at place 0 is the command's name. Own.
+-- Promise. The words of a command: its options and its files. The word at place 0 is the command's name. Own.
 use Rattle.std.specs.Prelude.{ℕ, ◌-◌, Bool, false, not, ◌&&◌, ◌||◌, Option, Some, None, List, [], ◌∷◌, length, drop, filter, slice_index, slice_get, is_some, option_map, option_and_then, nat_eq, nat_le, ◌==◌}
 use Rattle.std.specs.Bool.{then_some}
 use Rattle.std.specs.Option.{option_map_or}

@@ -1,4 +1,4 @@
--- The options that all commands have which write records. Own.
+-- Promise. The options that all commands have which write records. Own.
 use Rattle.std.specs.Prelude.{ℕ, ◌^◌, Option, List, option_map, unwrap_or}
 use lib.Chars.{codes}
 use Rattle.word_options.specs.Numbers.{number_within}

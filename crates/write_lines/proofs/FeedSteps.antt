@@ -7,8 +7,9 @@ use Rattle.hex.specs.Hex.{decode_of}
 use Rattle.hex.specs.declared.error.FromHexError.{FromHexError}
 use Rattle.record_writer.specs.declared.feed.Stop.{Stop}
 use Rattle.record_writer.specs.declared.feed.Stop.TheVariants.{TooLong, InputTooLong, BadLine}
-use Rattle.record_writer.specs.Feeds.{Rest, GivesRecord, nothing_left, stop_alone}
-use Rattle.run_answers.specs.Lines.{NoneEnds}
+use Rattle.record_writer.specs.Feeds.{Rest, stop_alone}
+use Rattle.record_writer.specs.FeedSteps.{GivesRecord, nothing_left}
+use Rattle.run_answers.specs.OpenLines.{NoneEnds}
 use Rattle.write_lines.specs.Input.{line_limit, or_bad_line, record_of_line, taken_before, taken_from}
 use Rattle.write_lines.specs.LineFeeds.{GivesLine, LineEndsAt, text_of, rest_of}
 use Rattle.run_answers.proofs.Lines.{NoneEnds-append}

@@ -1,8 +1,8 @@
 -- How much of its input a feed of lines leaves.
 use Rattle.std.proofs.Common.{◌≡◌, ◌∙◌, ℕ, ◌+◌, ◌-◌, List, [], Option, Some, None, is_some, length, drop, unwrap_or, ap, arith, length-drop}
 use Rattle.record_io.specs.Outside.{Gives}
-use Rattle.record_writer.specs.Feeds.{Origin}
-use Rattle.run_answers.specs.Runs.{TakesAtMost}
+use Rattle.record_writer.specs.FeedSteps.{Origin}
+use Rattle.run_answers.specs.RunTakes.{TakesAtMost}
 use Rattle.write_lines.specs.LineFeeds.{origin_of}
 
 -- origins of the same name that show the same

@@ -8,8 +8,10 @@ use Rattle.std.proofs.Math.Seq.{take-append-add, take-append_seam, drop-append-a
 use Rattle.hex.specs.Hex.{decode_of}
 use Rattle.record_writer.specs.declared.feed.Stop.{Stop}
 use Rattle.record_writer.specs.declared.feed.Stop.TheVariants.{TooLong, InputTooLong}
-use Rattle.record_writer.specs.Feeds.{Rest, nothing_left, stop_alone}
-use Rattle.run_answers.specs.Lines.{ends_line, NoneEnds, lines}
+use Rattle.record_writer.specs.Feeds.{Rest, stop_alone}
+use Rattle.record_writer.specs.FeedSteps.{nothing_left}
+use Rattle.run_answers.specs.Lines.{ends_line, lines}
+use Rattle.run_answers.specs.OpenLines.{NoneEnds}
 use Rattle.write_lines.specs.Input.{running, up_to_last_end, line_limit, or_bad_line, record_of_line, taken_before, taken_lines, stop_past_limit, taken_from}
 use Rattle.run_answers.proofs.Lines.{lines-first, lines-last, length-le-lines, NoneEnds-append, NoneEnds-cons}
 

@@ -15,7 +15,8 @@ use Rattle.record_writer.specs.declared.feed.Stop.TheVariants.{TooLong}
 use Rattle.record_writer.specs.Feeds.{Rest}
 use Rattle.run_answers.specs.Answers.{line}
 use Rattle.run_answers.specs.Lines.{ends_line, lines}
-use Rattle.write_lines.specs.Input.{running, up_to_last_end, with_last_end, line_limit, or_bad_line, record_of_line, taken_before, taken_lines, stop_past_limit, taken_from}
+use Rattle.write_lines.specs.Input.{running, up_to_last_end, line_limit, or_bad_line, record_of_line, taken_before, taken_lines, stop_past_limit, taken_from}
+use Rattle.write_lines.specs.LastLines.{with_last_end}
 use Rattle.run_answers.proofs.Lines.{lines-cons}
 use Rattle.write_lines.proofs.TakenLines.{taken_from-within, taken_from-past, short-record, long-refused, no_lines}
 

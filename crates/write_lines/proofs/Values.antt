@@ -2,7 +2,8 @@
 use Rattle.std.proofs.Common.{◌≡◌, ℕ, false, true, Some, None, Ok, Err, List, [], ◌∷◌, ◌++◌, length, codes, nat_lt, if◌then◌else◌, ap, refl}
 use Rattle.hex.specs.Hex.{decode_of, decode_pairs}
 use Rattle.record_writer.specs.declared.feed.Stop.TheVariants.{TooLong, InputTooLong, BadLine}
-use Rattle.write_lines.specs.Input.{running, up_to_last_end, line_limit, or_bad_line, record_of_line, stop_past_limit, taken_from, with_last_end}
+use Rattle.write_lines.specs.Input.{running, up_to_last_end, line_limit, or_bad_line, record_of_line, stop_past_limit, taken_from}
+use Rattle.write_lines.specs.LastLines.{with_last_end}
 
 -- the line that runs at the end, and what stands before it
 running_line : running (0x61 ∷ 10 ∷ 0x62 ∷ 0x63 ∷ []) ≡ 0x62 ∷ 0x63 ∷ []

@@ -2,7 +2,8 @@
 use Rattle.std.proofs.Common.{◌≡◌, ◌≢◌, ℕ, ◌^◌, Option, Some, None, Result, Ok, Err, List, [], ◌++◌, length, take, arith, refl, sym, ap, subst, ◌∙◌, decimal, codes}
 use Rattle.std.specs.Option.{IfSome}
 use Rattle.std.proofs.lemmas.Option.{MatchOption-at_some}
-use Rattle.record_io.specs.Outside.{Rose, Takes, TakesFront, TakesShort}
+use Rattle.record_io.specs.Outside.{Rose, Takes, TakesShort}
+use Rattle.record_io.specs.Calls.{TakesFront}
 use Rattle.record_io.specs.Puts.{Put, Made, Notes, taken_by, BreaksOff, puts_to}
 use Rattle.record_io.specs.Seen.{SeenStream, SeenFile}
 use Rattle.record_io.proofs.Calls.{Takes-nothing}
@@ -10,14 +11,20 @@ use Rattle.record_io.proofs.Puts.{GoOut-made, TakesFront-count, BreaksOff-last, 
 use Rattle.record_values.specs.declared.file_totals.Totals.{Totals}
 use Rattle.record_writer.specs.declared.engine.WriteEnd.{WriteEnd}
 use Rattle.record_writer.specs.declared.feed.Stop.{Stop}
-use Rattle.record_writer.specs.Written.{TellsWritten, TakesFile, file_under}
+use Rattle.record_writer.specs.Written.{file_under}
+use Rattle.record_writer.specs.WriteAnswers.{TellsWritten, TakesFile}
 use Rattle.run_answers.specs.declared.status.Status.{Status}
 use Rattle.write_lines.specs.declared.write_words.WriteWords.{WriteWords}
 use Rattle.run_answers.specs.Statuses.{fault_text}
 use Rattle.write_lines.specs.Input.{taken_from}
 use Rattle.run_answers.specs.Answers.{Answer, line}
 use Rattle.write_lines.specs.WriteCommand.{write_meaning, stop_text, stop_status, write_answer}
-use Rattle.run_answers.specs.Runs.{Seen, seen, IsWhole, IsCutOff, Breaks, TakesThen, SaysAtEnd, HasCause, Runs}
+use Rattle.run_answers.specs.Runs.{Runs}
+use Rattle.run_answers.specs.RunObjects.{Seen, seen}
+use Rattle.run_answers.specs.RunAnswers.{IsWhole}
+use Rattle.run_answers.specs.CutShortRuns.{IsCutOff, Breaks, TakesThen}
+use Rattle.run_answers.specs.Endings.{SaysAtEnd}
+use Rattle.run_answers.specs.RunCauses.{HasCause}
 use Rattle.run_answers.proofs.RunEnds.{GaveButNotes, Keeps, OfSizes-unread, PutsLines-none, gave-said, was-cut_off, went-so_far, runs-whole, runs-said, runs-cut_off}
 use Rattle.record_writer.specs.declared.engine.WriteEnd.TheVariants as end
 use Rattle.record_writer.specs.declared.feed.Stop.TheVariants as stop

@@ -2,7 +2,7 @@
 use Rattle.std.proofs.Common.{if◌then◌else◌, ◌≡◌, ℕ, ◌^◌, Bool, true, false, Option, Some, None, List, codes, ap}
 use Rattle.std.specs.Prelude.{is_some}
 use Rattle.record_group.specs.declared.pad.Pad.{Pad}
-use Rattle.record_writer.specs.Written.{AreInLimits}
+use Rattle.record_writer.specs.OptionLimits.{AreInLimits}
 use Rattle.write_lines.specs.declared.write_words.WriteWords.{WriteWords}
 use Rattle.word_options.specs.Options.{value_given, are_words_of, file_places, only, ◌>>=◌}
 use Rattle.word_options.specs.Writing.{chunk_size_of, workers_of}

@@ -2,7 +2,8 @@
 use Rattle.std.proofs.Common.{◌≡◌, ℕ, Option, Some, None, Result, Ok, Err, List, [], option_map}
 use Rattle.std.specs.Option.{IfSome}
 use Rattle.std.specs.Result.{OnOk}
-use Rattle.record_writer.specs.Feeds.{Rest, nothing_left}
+use Rattle.record_writer.specs.Feeds.{Rest}
+use Rattle.record_writer.specs.FeedSteps.{nothing_left}
 
 -- where nothing is left of the feed after the work, nothing is left of the input
 pub read-spent : {X E : Type 0} (result : Result X E) (left left_then : Option (List ℕ)) (rest rest_then : Option Rest) (taken : List ℕ → Rest)

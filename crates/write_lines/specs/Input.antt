@@ -1,5 +1,5 @@
--- The records that `write` takes from its input. Own.
-use Rattle.std.specs.Prelude.{ℕ, ◌+◌, ◌-◌, ◌^◌, Bool, Option, Some, None, Result, Ok, Err, List, [], ◌∷◌, ◌++◌, length, take, slice_index, nat_le, nat_lt, if◌then◌else◌}
+-- Promise. The records that `write` takes from its input. Own.
+use Rattle.std.specs.Prelude.{ℕ, ◌+◌, ◌-◌, ◌^◌, Bool, Option, Some, None, Result, Ok, Err, List, [], ◌∷◌, length, take, nat_le, nat_lt, if◌then◌else◌}
 use Rattle.std.specs.List.{after_last}
 use Rattle.hex.specs.Hex.{decode_of}
 use Rattle.hex.specs.declared.FromHexError.{FromHexError}
@@ -19,11 +19,6 @@ running bytes = after_last ends_line bytes
 -- the bytes up to the last byte 10
 abbrev pub up_to_last_end : List ℕ → List ℕ
 up_to_last_end bytes = take (length bytes - length (running bytes)) bytes
-
--- an input with a byte 10 behind its last line too
-abbrev pub with_last_end : List ℕ → List ℕ
-with_last_end [] = []
-with_last_end (b ∷ bs) = if ends_line (slice_index (b ∷ bs) (length bs)) then b ∷ bs else (b ∷ bs) ++ 10 ∷ []
 
 -- the most bytes that a line may have
 abbrev pub line_limit : Bool → ℕ

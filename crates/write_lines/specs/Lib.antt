@@ -1,4 +1,5 @@
 pub mod Input
+pub mod LastLines
 pub mod LineFeeds
 pub mod WriteCommand
 pub mod WriteWords

@@ -1,7 +1,8 @@
--- What a feed of lines still gives. Own.
+-- Inside. What a feed of lines still gives. Own.
 use Rattle.std.specs.Prelude.{◌≡◌, ℕ, ◌+◌, ◌-◌, ◌<◌, Bool, Option, Some, IfSome, List, ◌∷◌, ◌++◌, length, take, drop, option_map}
-use Rattle.record_writer.specs.Feeds.{Rest, Origin}
-use Rattle.run_answers.specs.Lines.{NoneEnds}
+use Rattle.record_writer.specs.Feeds.{Rest}
+use Rattle.record_writer.specs.FeedSteps.{Origin}
+use Rattle.run_answers.specs.OpenLines.{NoneEnds}
 use Rattle.write_lines.specs.Input.{record_of_line, taken_before, taken_from}
 
 -- the bytes that are held, and then those that the input has left, where it shows them

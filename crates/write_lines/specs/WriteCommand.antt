@@ -1,4 +1,4 @@
--- What `write` makes, says and ends with. Own.
+-- Promise. What `write` makes, says and ends with. Own.
 use Rattle.std.specs.Prelude.{◌≡◌, ℕ, ◌^◌, Option, Some, None, List, [], ◌++◌, length, decimal, true}
 use lib.Chars.{codes}
 use Rattle.record_io.specs.Puts.{Put, Made, Notes, puts_to}

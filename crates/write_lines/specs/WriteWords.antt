@@ -1,4 +1,4 @@
--- The words of `write` and of other commands that read lines: options, and one file. Own.
+-- Promise. The words of `write` and of other commands that read lines: options, and one file. Own.
 use Rattle.std.specs.Prelude.{ℕ, ◌^◌, Option, Some, None, List, option_map, unwrap_or, is_some, if◌then◌else◌, [], ◌∷◌}
 use Rattle.std.specs.Str.{bytes_eq}
 use lib.Chars.{codes}

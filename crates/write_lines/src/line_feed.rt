@@ -1,9 +1,10 @@
 ghost use Rattle.std.specs.Prelude.{◌≡◌, ◌+◌, ◌^◌, ◌<◌, ◌≤◌, ℕ, [], ◌∷◌, ◌++◌, Option, Some, ◌⊎◌, true, false, length, take, option_map, unwrap_or, None, Ok, Err, IfOk, IfSome, OnOk, IsErr};
 ghost use Rattle.record_io.specs.Calls.{OnlyCounts};
-ghost use Rattle.run_answers.specs.Lines.{NoneEnds};
+ghost use Rattle.run_answers.specs.OpenLines.{NoneEnds};
 ghost use Rattle.write_lines.specs.Input.{line_limit, taken_from};
 ghost use Rattle.write_lines.specs.LineFeeds.{AsksNothing, GivesLine, LineEndsAt, origin_of, text_of, rest_of};
-ghost use Rattle.record_writer.specs.Feeds.{nothing_left, stop_alone};
+ghost use Rattle.record_writer.specs.Feeds.{stop_alone};
+ghost use Rattle.record_writer.specs.FeedSteps.{nothing_left};
 ghost use Rattle.hex.specs.Hex.{decode_of};
 ghost use Rattle.hex.specs.declared.error.FromHexError.{FromHexError};
 

@@ -2,10 +2,15 @@ ghost use Rattle.std.specs.Prelude.{◌≡◌, ◌^◌, ◌≤◌, Some, [], IfS
 ghost use Rattle.record_io.specs.Outside.{Rose};
 ghost use Rattle.record_io.specs.Calls.{OnlyCounts};
 ghost use Rattle.record_io.specs.Seen.{seen_stream};
-ghost use Rattle.record_writer.specs.Written.{AreInLimits, TellsWritten, TakesFile, file_under};
+ghost use Rattle.record_writer.specs.Written.{file_under};
+ghost use Rattle.record_writer.specs.OptionLimits.{AreInLimits};
+ghost use Rattle.record_writer.specs.WriteAnswers.{TellsWritten, TakesFile};
 ghost use Rattle.write_lines.specs.Input.{most_input_taken, taken_from};
 ghost use Rattle.write_lines.specs.WriteCommand.{stop_status, stop_text, write_meaning};
-ghost use Rattle.run_answers.specs.Runs.{Runs, SaysAtEnd, Seen, TakesAtMost};
+ghost use Rattle.run_answers.specs.Runs.{Runs};
+ghost use Rattle.run_answers.specs.Endings.{SaysAtEnd};
+ghost use Rattle.run_answers.specs.RunObjects.{Seen};
+ghost use Rattle.run_answers.specs.RunTakes.{TakesAtMost};
 
 use crate::line_feed::LineFeed;
 use crate::write_words::WriteWords;

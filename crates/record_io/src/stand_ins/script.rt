@@ -1,5 +1,5 @@
 ghost use Rattle.std.specs.Prelude.{◌≡◌, ◌^◌, ◌<◌, ◌≤◌, ◌↔◌, length, take, min, Contains, IsTrue, IfOk};
-ghost use Rattle.record_io.specs.Outside.{one_more};
+ghost use Rattle.record_io.specs.FaultCounts.{one_more};
 ghost use Rattle.record_io.specs.Memory.{HasCalled, cut_to, new_script};
 
 use crate::outside::{Failed, fault};

@@ -1,6 +1,6 @@
 use Rattle.std.proofs.Common.{◌≡◌, IfSome, refl, subst, arith}
 use Rattle.block_layout.proofs.Ends.{end_of_after}
-use Rattle.chunk_reader.specs.Places.{IsFirstWrong}
+use Rattle.chunk_reader.specs.PlaceChecks.{IsFirstWrong}
 use Rattle.chunk_reader.specs.declared.reasons.Fault.{Fault}
 use Rattle.chunk_reader.specs.declared.reasons.Why.TheVariants.{BlockHeader}
 use Rattle.chunk_reader.proofs.Loads.{chunk_end-on_boundary, header_within}

@@ -1,5 +1,6 @@
 use Rattle.std.proofs.Common.{◌≡◌, ◌≢◌, ◌+◌, ◌*◌, ◌/◌, ◌%◌, ◌≤◌, Err, sym, ap, length, arith}
-use Rattle.block_layout.specs.Layout.{usable_from, end_of}
+use Rattle.block_layout.specs.Layout.{end_of}
+use Rattle.block_layout.specs.NextPlaces.{usable_from}
 use Rattle.block_layout.proofs.Ends.{end_of_above}
 use Rattle.chunk_reader.proofs.Scans.{accepted-none, accepted-one, refused-one, usable-end_of}
 use Rattle.chunk_reader.proofs.feeding.take_next.Goals as goal

@@ -2,7 +2,8 @@ use Rattle.std.proofs.Common.{◌≡◌, ◌∙◌, ◌+◌, Some, Err, length, 
 use Rattle.block_layout.proofs.ChunkEnds.{chunk_end_of_boundary, chunk_end_of_above}
 use Rattle.chunk_header.specs.Views.{value_of_chunk}
 use Rattle.meta_chunk.specs.Laid.{end_of_chunk}
-use Rattle.chunk_reader.specs.Reasons.{IsOneOf, loading_reasons}
+use Rattle.chunk_reader.specs.Reasons.{loading_reasons}
+use Rattle.chunk_reader.specs.Ends.{IsOneOf}
 use Rattle.chunk_reader.specs.declared.reasons.Fault.{Fault}
 use Rattle.chunk_reader.proofs.Loads.{refused_before}
 use Rattle.chunk_reader.proofs.Rooms.{IsSized}

@@ -1,5 +1,6 @@
 use Rattle.std.proofs.Common.{◌≡◌, ◌∙◌, true, Option, Result, Bool, Err, IfSome, List, ℕ, refl, ap, sym, subst}
-use Rattle.chunk_reader.specs.Places.{data_at, HaveHeadersOf}
+use Rattle.chunk_reader.specs.Places.{data_at}
+use Rattle.chunk_reader.specs.PlaceChecks.{HaveHeadersOf}
 use Rattle.chunk_reader.specs.Pieces.{HasTaken}
 use Rattle.chunk_reader.specs.Faults.{IsVerdict}
 use Rattle.chunk_reader.specs.declared.reasons.Fault.{Fault}

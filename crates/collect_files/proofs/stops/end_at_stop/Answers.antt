@@ -1,6 +1,6 @@
 use Rattle.std.proofs.Common.{sym, subst}
 use Rattle.record_io.specs.Seen.{seen_stream}
-use Rattle.run_answers.specs.Runs.{SaysAtEnd}
+use Rattle.run_answers.specs.Endings.{SaysAtEnd}
 use Rattle.collect_files.specs.CollectingEnds.{uncollected_status, uncollected_text}
 use Rattle.collect_files.proofs.stops.end_at_stop.Goals as goal
 

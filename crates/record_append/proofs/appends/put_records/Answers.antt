@@ -1,6 +1,7 @@
 use Rattle.std.proofs.Common.{◌≡◌, ◌∙◌, ◌^◌, ◌<◌, IfSome, ap, sym, arith, rules}
 use Rattle.record_io.specs.Outside.{Lent}
-use Rattle.record_writer.specs.Written.{TakesFile, file_under, tail_under}
+use Rattle.record_writer.specs.Written.{file_under}
+use Rattle.record_writer.specs.WriteAnswers.{TakesFile, tail_under}
 use Rattle.record_append.specs.Devices.{bytes_before, bytes_from}
 use Rattle.record_append.proofs.PutRecords.{answered_at-front, bytes_at-behind, bytes_at-front, held_more, named_loan, named_size, put_behind, told_still}
 use Rattle.record_append.proofs.appends.put_records.Goals as goal

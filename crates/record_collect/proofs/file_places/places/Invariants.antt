@@ -1,6 +1,6 @@
 use Rattle.std.proofs.Common.{◌≡◌, ◌+◌, ◌*◌, ◌≤◌, ◌++◌, length, drop, vec_capacity, vec_len}
 use Rattle.simple_chunk.specs.Costs.{cost_of}
-use Rattle.record_collect.specs.FilePlaces.{IsSound, opened_at, reach}
+use Rattle.record_collect.specs.OpenChunks.{IsSound, opened_at, reach}
 use Rattle.record_collect.proofs.PlaceSteps.{places_from}
 use Rattle.record_collect.proofs.file_places.places.Given as goal
 

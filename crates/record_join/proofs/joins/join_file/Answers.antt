@@ -1,6 +1,8 @@
 use Rattle.std.proofs.Common.{Option, IfSome, List, ℕ, ap, subst, rules}
-use Rattle.record_io.specs.Outside.{Takes, TakesFront, TakesShort}
-use Rattle.ordered_writer.specs.Writers.{Writer, padding_bytes}
+use Rattle.record_io.specs.Outside.{Takes, TakesShort}
+use Rattle.record_io.specs.Calls.{TakesFront}
+use Rattle.ordered_writer.specs.Writers.{Writer}
+use Rattle.ordered_writer.specs.Padding.{padding_bytes}
 use Rattle.record_join.proofs.Behind.{front_of_file, short_of_file, short_of_padding, whole_behind}
 use Rattle.record_join.proofs.joins.join_file.Goals as goal
 use Rattle.record_join.proofs.joins.join_file.Goals.{In_ok-pad}

@@ -4,7 +4,7 @@ use Rattle.std.proofs.lemmas.Result.{err_from_is_err_and}
 use Rattle.std.specs.List.{AllByRecursion}
 use Rattle.chunk_header.specs.Views.{HasRightHash, value_of_chunk}
 use Rattle.chunk_header.specs.declared.Chunk.{Chunk}
-use Rattle.meta_chunk.specs.Counts.{is_unread}
+use Rattle.meta_chunk.specs.Files.{is_unread}
 use Rattle.ordered_writer.specs.Reorders.{coming}
 use Rattle.record_writer.specs.MadeFiles.{Lays}
 use Rattle.record_writer.proofs.Layings.{Lays-none}

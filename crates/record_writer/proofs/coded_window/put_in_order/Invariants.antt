@@ -3,7 +3,7 @@ use Rattle.std.specs.List.{AllByRecursion}
 use Rattle.record_io.specs.Calls.{OnlyCounts}
 use Rattle.chunk_header.specs.Views.{HasRightHash, value_of_chunk}
 use Rattle.chunk_header.specs.declared.Chunk.{Chunk}
-use Rattle.meta_chunk.specs.Counts.{is_unread}
+use Rattle.meta_chunk.specs.Files.{is_unread}
 use Rattle.ordered_writer.specs.Reorders.{coming, count_held, room_of}
 use Rattle.record_writer.specs.MadeFiles.{Lays}
 use Rattle.record_writer.proofs.coded_window.put_in_order.Given as goal

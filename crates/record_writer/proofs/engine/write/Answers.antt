@@ -1,12 +1,14 @@
 use Rattle.std.proofs.Common.{◌≡◌, ◌∙◌, ◌++◌, Option, Err, IfSome, refl, ap, arith, rules}
 use Rattle.std.proofs.lemmas.Result.{IfOk-at_ok, err_from_is_err_and}
-use Rattle.record_io.specs.Outside.{Takes, TakesFront}
+use Rattle.record_io.specs.Outside.{Takes}
+use Rattle.record_io.specs.Calls.{TakesFront}
 use Rattle.record_io.proofs.Calls.{TakesFront-whole, TakesFront-none}
 use Rattle.record_values.specs.declared.file_totals.Totals.{Totals}
 use Rattle.record_writer.specs.declared.cut_off.CutOff.TheVariants.{Made}
 use Rattle.record_writer.specs.declared.feed.Stop.{Stop}
 use Rattle.record_writer.specs.MadeFiles.{totals_behind, totals_made}
-use Rattle.record_writer.specs.Written.{tail_chunks, tail_under}
+use Rattle.record_writer.specs.Written.{tail_chunks}
+use Rattle.record_writer.specs.WriteAnswers.{tail_under}
 use Rattle.record_writer.proofs.Counted.{TellsTotals-told, TellsTotals-cut, IfOk-ended}
 use Rattle.record_writer.proofs.Flushes.{Takes-ended, TakesShort-ended, totals_made-ended, TakesFile-cut, TakesFile-ended}
 use Rattle.record_writer.proofs.Windows.{where_done}

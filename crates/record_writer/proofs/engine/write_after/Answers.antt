@@ -1,7 +1,8 @@
 use Rattle.std.proofs.Common.{rules}
 use Rattle.std.proofs.lemmas.Result.{err_from_is_err_and}
 use Rattle.record_writer.specs.MadeFiles.{resumed_at, totals_behind}
-use Rattle.record_writer.specs.Written.{tail_chunks, totals_from}
+use Rattle.record_writer.specs.Written.{tail_chunks}
+use Rattle.record_writer.specs.WriteAnswers.{totals_from}
 use Rattle.record_writer.proofs.Counted.{TellsTotals-stopped, TellsTotals-resumed}
 use Rattle.record_writer.proofs.engine.write_after.Goals as goal
 

@@ -1,6 +1,6 @@
 use Rattle.std.proofs.Common.{◌∷◌, false}
 use Rattle.meta_chunk.specs.Files.{signature}
-use Rattle.repair_copy.specs.Relaid.{chunks_in}
+use Rattle.repair_copy.specs.RepairPuts.{chunks_in}
 use Rattle.repair_copy.proofs.RelaidFiles.{relaid_file, relaid_frame, relaid_records, relaid_walk}
 use Rattle.repair_copy.proofs.RelaidBytes.{AreBytes-relaid}
 use Rattle.repair_copy.proofs.laws.relaid_files_are_frames.Goals as goal

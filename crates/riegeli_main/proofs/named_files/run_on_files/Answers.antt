@@ -1,9 +1,9 @@
 use Rattle.std.proofs.Common.{ℕ, List, length, inl, inr, refl}
 use Rattle.record_io.specs.Seen.{SeenStream, SeenFile}
-use Rattle.run_answers.specs.Runs.{seen}
+use Rattle.run_answers.specs.RunObjects.{seen}
 use Rattle.run_answers.specs.declared.status.Status.{Status}
 use Rattle.riegeli_tool.specs.Commands.{accepted}
-use Rattle.riegeli_tool.specs.PastDamage.{RunsCommand}
+use Rattle.riegeli_tool.specs.CommandRuns.{RunsCommand}
 use Rattle.riegeli_main.specs.FileRuns.{RunsOnFiles}
 use Rattle.riegeli_main.proofs.named_files.run_on_files.Goals as goal
 

@@ -1,6 +1,6 @@
 use Rattle.std.proofs.Common.{◌≡◌, ◌+◌, ◌∙◌, Some, [], length, rules}
-use Rattle.record_append.specs.Appends.{AnswersGrown}
-use Rattle.run_answers.specs.Runs.{TakesAtMost}
+use Rattle.record_append.specs.AppendAnswers.{AnswersGrown}
+use Rattle.run_answers.specs.RunTakes.{TakesAtMost}
 use Rattle.write_lines.specs.Input.{most_input_taken}
 use Rattle.write_lines.proofs.FeedSteps.{input-spent}
 use Rattle.write_lines.proofs.Origins.{taken-at_most}

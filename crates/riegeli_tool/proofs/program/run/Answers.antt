@@ -2,7 +2,8 @@ use Rattle.std.proofs.Common.{◌∙◌, None, Some, [], sym, rules}
 use Rattle.std.proofs.Math.Seq.{map-set_same}
 use Rattle.riegeli_tool.specs.declared.command.Command.TheVariants.{Write, Show, Recover, Verify, Seek, Repair, Sample, Join, Ranges, Append, Collect}
 use Rattle.record_io.specs.Seen.{seen_file}
-use Rattle.run_answers.specs.Runs.{seen, unseen}
+use Rattle.run_answers.specs.RunObjects.{seen}
+use Rattle.run_answers.specs.Unseen.{unseen}
 use Rattle.run_answers.proofs.RunEnds.{runs-one_file}
 use Rattle.riegeli_tool.proofs.PastDamage.{runs-as}
 use Rattle.riegeli_tool.proofs.UsageRuns.{runs-usage}

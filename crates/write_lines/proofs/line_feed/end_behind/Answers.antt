@@ -1,6 +1,6 @@
 use Rattle.std.proofs.Common.{◌≡◌, ◌∙◌, ◌-◌, ℕ, List, take, drop, length, length-drop, refl, sym, ap}
 use Rattle.std.proofs.Math.Seq.{take-length}
-use Rattle.run_answers.specs.Lines.{NoneEnds}
+use Rattle.run_answers.specs.OpenLines.{NoneEnds}
 use Rattle.write_lines.specs.LineFeeds.{LineEndsAt}
 use Rattle.write_lines.proofs.FeedSteps.{LineEndsAt-behind, NoneEnds-behind}
 use Rattle.write_lines.proofs.line_feed.end_behind.Goals as goal

@@ -1,6 +1,6 @@
 use Rattle.std.proofs.Common.{◌≡◌, ◌∙◌, ◌^◌, ◌+◌, Some, [], rules, length}
 use Rattle.write_lines.specs.Input.{most_input_taken, taken_from}
-use Rattle.run_answers.specs.Runs.{TakesAtMost}
+use Rattle.run_answers.specs.RunTakes.{TakesAtMost}
 use Rattle.write_lines.proofs.FeedSteps.{input-spent}
 use Rattle.write_lines.proofs.Origins.{taken-at_most}
 use Rattle.write_lines.proofs.WrittenLines.{read-spent}

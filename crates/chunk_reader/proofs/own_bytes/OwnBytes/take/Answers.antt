@@ -1,6 +1,6 @@
 use Rattle.std.proofs.Common.{◌≡◌, ℕ, ◌+◌, ◌%◌, ◌≤◌, length, take, drop, arith}
 use Rattle.std.proofs.lemmas.List.{length-take-le}
-use Rattle.block_layout.specs.Layout.{IsNextPlace, usable_from}
+use Rattle.block_layout.specs.NextPlaces.{IsNextPlace, usable_from}
 use Rattle.block_layout.proofs.Ends.{end_of_after}
 use Rattle.block_layout.proofs.Runs.{end_of-run}
 use Rattle.chunk_reader.proofs.Rooms.{HasOwnBytes-small, HasOwnBytes-run, end_of-le, own_run}

@@ -3,13 +3,13 @@ use Rattle.std.proofs.lemmas.Result.{err_from_is_err_and}
 use Rattle.std.proofs.lemmas.Grind.{common_steps}
 use Rattle.chunk_reader.specs.Reasons.{Applies, NoneOf, loading_reasons}
 use Rattle.chunk_reader.proofs.Rooms.{IsSized}
-use Rattle.damage_skip.specs.Walks.{event_of, GoesOn, StandsIn, piece_of}
+use Rattle.damage_skip.specs.Walks.{event_of, GoesOn, StandsIn, piece_of, TakesByCall}
 use Rattle.damage_skip.specs.declared.events.Event.{Event}
 use Rattle.damage_skip.specs.declared.events.WalkEnd.{WalkEnd}
 use Rattle.damage_skip.proofs.DamagedWalks.{stays_told}
 use Rattle.damage_skip.proofs.FrontWalks.{in_remains, in_remains-cut_off}
 use Rattle.damage_skip.proofs.WalkSteps.{events_told, met_on, passes, memory_before, stops_there}
-use Rattle.damage_skip.specs.Takings.{IsTakenFrom, TakesByCall}
+use Rattle.damage_skip.specs.Takings.{IsTakenFrom}
 use Rattle.damage_skip.proofs.Takings.{taken-start, taken-still, taken-past, taken-to}
 use Rattle.damage_skip.proofs.walks.Walker.next.Goals as goal
 use Rattle.damage_skip.proofs.walks.Walker.next.Goals.{At-loop-self, In_ok-piece, After-event}

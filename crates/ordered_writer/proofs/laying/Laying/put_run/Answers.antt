@@ -1,5 +1,5 @@
 use Rattle.std.proofs.Common.{◌≡◌, ℕ, ◌+◌, ◌%◌, ◌<◌, ◌≤◌, length, arith}
-use Rattle.block_layout.specs.Layout.{usable_from}
+use Rattle.block_layout.specs.NextPlaces.{usable_from}
 use Rattle.record_io.proofs.Calls.{OnErr-any}
 use Rattle.block_layout.proofs.Runs.{end_of-run}
 use Rattle.ordered_writer.proofs.RunCalls.{TakesShort-header, TakesShort-run, TakesAndHolds-run}

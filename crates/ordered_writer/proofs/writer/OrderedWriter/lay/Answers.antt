@@ -1,6 +1,7 @@
 use Rattle.std.proofs.Common.{◌≡◌, ◌∙◌, ℕ, ◌+◌, List, ◌++◌, length, sym, ap, subst, arith, rules}
 use Rattle.std.proofs.lemmas.Result.{err_from_is_err_and}
-use Rattle.block_layout.specs.Layout.{chunk_end_of, IsOnBoundary}
+use Rattle.block_layout.specs.Layout.{chunk_end_of}
+use Rattle.block_layout.specs.NextPlaces.{IsOnBoundary}
 use Rattle.block_layout.proofs.Ends.{end_of_mono}
 use Rattle.block_layout.proofs.ChunkEnds.{chunk_end_of_past_bytes, chunk_end_of_boundary}
 use Rattle.chunk_header.specs.Views.{bytes_of_header}

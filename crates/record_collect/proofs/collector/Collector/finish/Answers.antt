@@ -2,7 +2,8 @@ use Rattle.std.proofs.Common.{◌≡◌, ◌∙◌, ◌<◌, ℕ, List, length, 
 use Rattle.std.specs.List.{AllByRecursion}
 use Rattle.std.proofs.lemmas.Result.{IfOk-weaker}
 use Rattle.record_collect.specs.declared.placed.Placed.{Placed}
-use Rattle.record_collect.specs.Gatherings.{AreGathered, GatheredValue, IsInBounds}
+use Rattle.record_collect.specs.Gatherings.{GatheredValue, IsInBounds}
+use Rattle.record_collect.specs.Passes.{AreGathered}
 use Rattle.record_collect.specs.Orders.{gathered_of}
 use Rattle.record_collect.proofs.Woven.{are_gathered, in_bounds}
 use Rattle.record_collect.proofs.collector.Collector.finish.Goals as goal

@@ -2,7 +2,7 @@ use Rattle.std.proofs.Common.{◌≡◌, ℕ, ◌^◌, ◌<◌, ◌≤◌, true,
 use Rattle.record_io.specs.Calls.{OnlyCounts}
 use Rattle.meta_chunk.specs.Files.{end_of_chunks}
 use Rattle.record_writer.specs.MadeFiles.{AreGiven, chunks_of_groups, reach_of}
-use Rattle.record_writer.specs.Written.{AreInLimits}
+use Rattle.record_writer.specs.OptionLimits.{AreInLimits}
 use Rattle.record_writer.proofs.group_taker.GroupTaker.take_groups.Given as goal
 
 abbrev pub invariant-loop-feed : goal.invariant-loop-feed

@@ -1,5 +1,5 @@
 use Rattle.std.proofs.Common.{◌≡◌, ◌+◌, ◌^◌, ◌<◌, ◌≤◌, ◌++◌, length}
-use Rattle.run_answers.specs.Lines.{NoneEnds}
+use Rattle.run_answers.specs.OpenLines.{NoneEnds}
 use Rattle.write_lines.specs.Input.{line_limit}
 use Rattle.write_lines.specs.LineFeeds.{origin_of, text_of}
 use Rattle.write_lines.proofs.line_feed.LineFeed.pull_line.Given as goal

@@ -1,0 +1,17 @@
+-- Promise. Which intact chunks of a damaged file are copied. Source: the Riegeli/records file format specification,
+-- "File format". Own: which are kept.
+use Rattle.std.specs.Prelude.{Bool, not, ◌&&◌, ◌||◌, ◌==◌, List, filter}
+use Rattle.chunk_header.specs.Chunks.{ChunkValue}
+use Rattle.chunk_header.specs.SimpleChunks.{simple_kind}
+use Rattle.meta_chunk.specs.Kinds.{metadata_kind, transposed_kind}
+use Rattle.meta_chunk.specs.Files.{is_unread}
+
+-- whether an intact chunk is copied: simple, metadata and transposed chunks are, of which those that are left unread only
+-- where these are kept; signatures and padding are not
+abbrev pub is_copied : Bool → ChunkValue → Bool
+is_copied keep k =
+    ((k.kind == simple_kind) || (k.kind == metadata_kind) || (k.kind == transposed_kind)) && (keep || not (is_unread k))
+
+-- of some chunks those that are copied
+abbrev pub copied : Bool → List ChunkValue → List ChunkValue
+copied keep ks = filter (is_copied keep) ks

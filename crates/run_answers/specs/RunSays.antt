@@ -1,0 +1,20 @@
+-- Promise. What a run says in notes. Own.
+use Rattle.std.specs.Prelude.{◌≡◌, ℕ, List}
+use Rattle.record_io.specs.Outside.{Takes, TakesShort}
+use Rattle.run_answers.specs.declared.status.Status.{Status}
+use Rattle.run_answers.specs.Statuses.{fault_text}
+use Rattle.run_answers.specs.Meanings.{Meaning}
+use Rattle.run_answers.specs.RunObjects.{Seen}
+use Rattle.run_answers.specs.RunAnswers.{IsWhole}
+use Rattle.run_answers.specs.CutShortRuns.{IsCutOff, TakesThen}
+use Rattle.run_answers.specs.RunReads.{OfSizes}
+use Rattle.run_answers.specs.declared.status.Status.TheVariants as status
+
+-- what a run says in notes, also where nothing shows what was read
+pub record RunSays (m : Meaning) (before after : Seen) (ended : Status) : Type 0 where
+  pub end_said : IsWhole ended
+      → OfSizes m before after (λ sizes. (text : List ℕ) × m.may_end sizes ended text × Takes before.notes.bytes after.notes.bytes text)
+  pub cut_off_said : IsCutOff ended → (text : List ℕ) × m.may_say text × TakesThen before.notes after.notes text (fault_text ended)
+  pub front_said : ended ≡ status.Notes
+      → OfSizes m before after (λ sizes.
+      (wanted : Status) × (text : List ℕ) × m.may_end sizes wanted text × TakesShort before.notes.bytes after.notes.bytes text)
