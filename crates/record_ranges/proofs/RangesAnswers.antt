@@ -13,10 +13,10 @@ use Rattle.chunk_reader.specs.declared.reasons.Fault.{Fault}
 use Rattle.chunk_reader.proofs.FileFaults.{fault_is_one, fault_or_none}
 use Rattle.chunk_reader.proofs.Frames.{chain_is_one, frame_of_plain}
 use Rattle.chunk_reader.proofs.FaultsDecided.{file_judged}
-use Rattle.run_answers.specs.Answers.{Answer, noted}
-use Rattle.run_answers.specs.FileAnswers.{limit_text}
-use Rattle.run_answers.specs.declared.status.Status.TheVariants as status
-use Rattle.show_files.specs.Readings.{bare, record_line, refused_text}
+use Rattle.command_frame.specs.Answers.{Answer, noted}
+use Rattle.command_frame.specs.FileAnswers.{limit_text}
+use Rattle.command_frame.specs.declared.status.Status.TheVariants as status
+use Rattle.show_command.specs.Readings.{bare, record_line, refused_text}
 use Rattle.record_ranges.specs.RangesCommand.{AreOneFile, Differ, IsRangesAnswer, IsReadAnswer, IsTextOfFile, MayBeRead, differ_text}
 use Rattle.record_ranges.proofs.RangesSizes.{alike_or_differ, alike_within, past_or_within, sizes_judged}
 

@@ -1,8 +1,8 @@
 -- What the words of `ranges` say is within its limits.
 use Rattle.std.proofs.Common.{if◌then◌else◌, ◌≡◌, ℕ, ◌≤◌, Bool, true, false, Option, Some, None, List, ap, codes}
-use Rattle.word_options.specs.Numbers.{number_within}
-use Rattle.word_options.specs.Options.{value_given, are_words_of, file_places, only, ◌>>=◌}
-use Rattle.word_options.proofs.WithinBounds.{and_then_some, number_within-bounds}
+use Rattle.command_frame.specs.Numbers.{number_within}
+use Rattle.command_frame.specs.Options.{value_given, are_words_of, file_places, only, ◌>>=◌}
+use Rattle.command_frame.proofs.WithinBounds.{and_then_some, number_within-bounds}
 use Rattle.record_ranges.specs.RangesWords.{most_parts, parts_of, ranges_options, ranges_words_of}
 use Rattle.record_ranges.specs.declared.ranges_words.RangesWords.{RangesWords}
 

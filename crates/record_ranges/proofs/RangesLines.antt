@@ -5,8 +5,8 @@ use Rattle.std.proofs.lemmas.Grind.{flat_map-append}
 use Rattle.std.proofs.lemmas.List.FromFn.{length-map-range_with_len}
 use Rattle.record_ranges.specs.Ranges.{AreRangesOf, RiseUpTo, even_cuts}
 use Rattle.record_ranges.proofs.AllParts.{all_records}
-use Rattle.run_answers.specs.Answers.{line}
-use Rattle.show_files.specs.Readings.{bare, record_line}
+use Rattle.command_frame.specs.Answers.{line}
+use Rattle.show_command.specs.Readings.{bare, record_line}
 use Rattle.record_ranges.specs.RangesCommand.{IsTextOfFile}
 use Rattle.record_ranges.specs.RangesEnds.{all_lines, part_lines}
 

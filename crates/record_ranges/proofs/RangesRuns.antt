@@ -8,26 +8,26 @@ use Rattle.record_io.specs.Outside.{Rose}
 use Rattle.record_io.specs.Puts.{Put, Out, Notes, taken_by, puts_to}
 use Rattle.record_io.specs.Seen.{SeenStream, SeenFile, seen_file}
 use Rattle.record_io.proofs.Puts.{GoOut-out, BreaksOff-last, bytes_to-other}
-use Rattle.run_answers.specs.declared.ending.Ending.{Ending}
-use Rattle.run_answers.specs.declared.status.Status.{Status}
-use Rattle.run_answers.specs.Answers.{noted}
-use Rattle.run_answers.specs.Endings.{HaveTold, IsAllowedEndOfMany, SaysEnd}
-use Rattle.run_answers.specs.FileAnswers.{limit_text}
-use Rattle.run_answers.specs.Runs.{Runs}
-use Rattle.run_answers.specs.RunObjects.{seen}
-use Rattle.run_answers.specs.CutShortRuns.{Breaks}
-use Rattle.run_answers.proofs.FileEnds.{EndsWhole}
-use Rattle.run_answers.proofs.ManyFilesEnds.{MayEndBy, EndsBySizes, ReadsFiles, WentAtEnd, WentButNotes, WentToCut, reads_files, runs-files, some_told, went_none, went_noted, went_whole}
-use Rattle.run_answers.proofs.TwoStreams.{GoOut-neither}
-use Rattle.show_files.specs.Readings.{refused_text}
+use Rattle.command_frame.specs.declared.ending.Ending.{Ending}
+use Rattle.command_frame.specs.declared.status.Status.{Status}
+use Rattle.command_frame.specs.Answers.{noted}
+use Rattle.command_frame.specs.Endings.{HaveTold, IsAllowedEndOfMany, SaysEnd}
+use Rattle.command_frame.specs.FileAnswers.{limit_text}
+use Rattle.command_frame.specs.Runs.{Runs}
+use Rattle.command_frame.specs.RunObjects.{seen}
+use Rattle.command_frame.specs.CutShortRuns.{Breaks}
+use Rattle.command_frame.proofs.FileEnds.{EndsWhole}
+use Rattle.command_frame.proofs.ManyFilesEnds.{MayEndBy, EndsBySizes, ReadsFiles, WentAtEnd, WentButNotes, WentToCut, reads_files, runs-files, some_told, went_none, went_noted, went_whole}
+use Rattle.command_frame.proofs.TwoStreams.{GoOut-neither}
+use Rattle.show_command.specs.Readings.{refused_text}
 use Rattle.record_ranges.specs.RangesCommand.{AreOneFile, IsOnePast, IsRangesAnswer, MayBeRead, MayEndRanges, differ_text, ranges_meaning}
 use Rattle.record_ranges.specs.RangesEnds.{PrintsOnlyWhole, PrintsFile, StopsBy, range_ends, unread_status, unread_text}
 use Rattle.record_ranges.specs.declared.range_ends.Unread.{Unread}
 use Rattle.record_ranges.proofs.RangesAnswers.{first_of_all, printed, ranges_exists}
 use Rattle.record_ranges.proofs.RangesStores.{of_one}
-use Rattle.run_answers.specs.declared.ending.Cut.TheVariants as cut
-use Rattle.run_answers.specs.declared.ending.Ending.TheVariants as end
-use Rattle.run_answers.specs.declared.status.Status.TheVariants as status
+use Rattle.command_frame.specs.declared.ending.Cut.TheVariants as cut
+use Rattle.command_frame.specs.declared.ending.Ending.TheVariants as end
+use Rattle.command_frame.specs.declared.status.Status.TheVariants as status
 use Rattle.record_ranges.specs.declared.range_ends.Unread.TheVariants as unread
 
 -- what is supposed of the stores of one file

@@ -5,14 +5,14 @@ use Rattle.std.specs.Result.{IfOk}
 use Rattle.chunk_reader.specs.Faults.{IsFault}
 use Rattle.chunk_reader.specs.declared.reasons.Fault.{Fault}
 use Rattle.chunk_reader.specs.declared.reasons.ReadEnd.{ReadEnd}
-use Rattle.run_answers.specs.Endings.{HaveTold, IsAllowedEndOfMany}
-use Rattle.run_answers.specs.declared.ending.Ending.{Ending}
+use Rattle.command_frame.specs.Endings.{HaveTold, IsAllowedEndOfMany}
+use Rattle.command_frame.specs.declared.ending.Ending.{Ending}
 use Rattle.record_ranges.specs.RangesCommand.{IsOnePast, IsTextOfFile, MayBeRead, ranges_meaning}
 use Rattle.record_ranges.specs.RangesEnds.{PrintsOnlyWhole, IsReadIn, PrintsFile, StopsBy, all_lines, end_of_read}
 use Rattle.record_ranges.specs.declared.range_ends.Unread.{Unread}
 use Rattle.chunk_reader.specs.declared.reasons.ReadEnd.TheVariants as read
-use Rattle.run_answers.specs.declared.ending.Cut.TheVariants as cut
-use Rattle.run_answers.specs.declared.ending.Ending.TheVariants as end
+use Rattle.command_frame.specs.declared.ending.Cut.TheVariants as cut
+use Rattle.command_frame.specs.declared.ending.Ending.TheVariants as end
 
 -- stores of which the bytes stay show the same file
 pub still_one : {S : Type 0} (bytes : S → Option (List ℕ)) (before after : List S) (file : List ℕ) → map bytes after ≡ map bytes before

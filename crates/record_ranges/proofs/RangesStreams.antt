@@ -10,19 +10,19 @@ use Rattle.meta_chunk.proofs.Placed.{ArePlaced-one}
 use Rattle.chunk_reader.specs.Faults.{HasNoFault}
 use Rattle.chunk_reader.proofs.FileFaults.{fault_is_one, fault_or_none}
 use Rattle.chunk_reader.proofs.Frames.{chain_is_one}
-use Rattle.run_answers.specs.Answers.{Answer, noted}
-use Rattle.run_answers.specs.declared.status.Status.{Status}
-use Rattle.run_answers.specs.FileAnswers.{limit_text}
-use Rattle.run_answers.proofs.OneAnswer.{same_answer}
-use Rattle.run_answers.proofs.TwoStreams.{bytes_to-second}
-use Rattle.show_files.specs.Readings.{bare, record_line, refused_text}
-use Rattle.show_files.specs.ShowCommand.{IsShown}
-use Rattle.show_files.specs.declared.show_words.RecordForm.{RecordForm}
-use Rattle.show_files.specs.declared.show_words.ShowWords.{ShowWords}
+use Rattle.command_frame.specs.Answers.{Answer, noted}
+use Rattle.command_frame.specs.declared.status.Status.{Status}
+use Rattle.command_frame.specs.FileAnswers.{limit_text}
+use Rattle.command_frame.proofs.OneAnswer.{same_answer}
+use Rattle.command_frame.proofs.TwoStreams.{bytes_to-second}
+use Rattle.show_command.specs.Readings.{bare, record_line, refused_text}
+use Rattle.show_command.specs.ShowCommand.{IsShown}
+use Rattle.show_command.specs.declared.show_words.RecordForm.{RecordForm}
+use Rattle.show_command.specs.declared.show_words.ShowWords.{ShowWords}
 use Rattle.record_ranges.specs.RangesCommand.{AreAlike, IsRangesAnswer, IsReadAnswer, IsTextOfFile, differ_text, most_range_bytes}
 use Rattle.record_ranges.proofs.RangesAnswers.{first_of_all, printed}
 use Rattle.record_ranges.proofs.RangesSizes.{alike_or_differ, alike_within, past_or_within}
-use Rattle.run_answers.specs.declared.status.Status.TheVariants as status
+use Rattle.command_frame.specs.declared.status.Status.TheVariants as status
 
 -- nothing is made; on standard output nothing is put unless the work was done, and then in notes nothing
 abbrev pub PutApart : Answer → Type 0

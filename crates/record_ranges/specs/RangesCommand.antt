@@ -7,12 +7,12 @@ use Rattle.chunk_header.specs.Chunks.{ChunkValue}
 use Rattle.meta_chunk.specs.Files.{IsFile, ArePlaced}
 use Rattle.chunk_reader.specs.Faults.{IsFault}
 use Rattle.chunk_reader.specs.declared.reasons.Fault.{Fault}
-use Rattle.run_answers.specs.Answers.{Answer, line, noted}
-use Rattle.run_answers.specs.FileAnswers.{limit_text}
-use Rattle.run_answers.specs.Meanings.{Meaning, meaning, none_used}
-use Rattle.run_answers.specs.declared.status.Status.{Status}
-use Rattle.run_answers.specs.declared.status.Status.TheVariants as status
-use Rattle.show_files.specs.Readings.{bare, record_line, refused_text}
+use Rattle.command_frame.specs.Answers.{Answer, line, noted}
+use Rattle.command_frame.specs.FileAnswers.{limit_text}
+use Rattle.command_frame.specs.Meanings.{Meaning, meaning, none_used}
+use Rattle.command_frame.specs.declared.status.Status.{Status}
+use Rattle.command_frame.specs.declared.status.Status.TheVariants as status
+use Rattle.show_command.specs.Readings.{bare, record_line, refused_text}
 
 -- the most bytes of a file that is read in parts
 abbrev pub most_range_bytes : ℕ

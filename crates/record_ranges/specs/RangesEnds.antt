@@ -4,18 +4,18 @@ use Rattle.std.specs.List.{flat_map}
 use Rattle.record_io.specs.Outside.{Takes, TakesShort}
 use Rattle.chunk_reader.specs.Faults.{IsFault}
 use Rattle.chunk_reader.specs.declared.reasons.ReadEnd.{ReadEnd}
-use Rattle.run_answers.specs.Answers.{line}
-use Rattle.run_answers.specs.Endings.{Endings}
-use Rattle.run_answers.specs.declared.ending.Ending.{Ending}
-use Rattle.run_answers.specs.declared.status.Status.{Status}
-use Rattle.show_files.specs.Readings.{refused_text}
+use Rattle.command_frame.specs.Answers.{line}
+use Rattle.command_frame.specs.Endings.{Endings}
+use Rattle.command_frame.specs.declared.ending.Ending.{Ending}
+use Rattle.command_frame.specs.declared.status.Status.{Status}
+use Rattle.show_command.specs.Readings.{refused_text}
 use Rattle.record_ranges.specs.RangesCommand.{AreAlike, AreWithin, Differ, IsOnePast, IsTextOfFile, MayBeRead, differ_text}
 use Rattle.record_ranges.specs.declared.file_sizes.SizesEnd.{SizesEnd}
 use Rattle.record_ranges.specs.declared.range_ends.Unread.{Unread}
 use Rattle.chunk_reader.specs.declared.reasons.ReadEnd.TheVariants as read
-use Rattle.run_answers.specs.declared.ending.Cut.TheVariants as cut
-use Rattle.run_answers.specs.declared.ending.Ending.TheVariants as end
-use Rattle.run_answers.specs.declared.status.Status.TheVariants as status
+use Rattle.command_frame.specs.declared.ending.Cut.TheVariants as cut
+use Rattle.command_frame.specs.declared.ending.Ending.TheVariants as end
+use Rattle.command_frame.specs.declared.status.Status.TheVariants as status
 use Rattle.record_ranges.specs.declared.file_sizes.SizesEnd.TheVariants as sizes_end
 use Rattle.record_ranges.specs.declared.range_ends.Unread.TheVariants as unread
 

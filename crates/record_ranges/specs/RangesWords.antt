@@ -2,8 +2,8 @@
 use Rattle.std.specs.Prelude.{ℕ, Option, Some, None, List, if◌then◌else◌, [], ◌∷◌}
 use lib.Chars.{codes}
 use Rattle.record_ranges.specs.declared.ranges_words.RangesWords.{RangesWords}
-use Rattle.word_options.specs.Numbers.{number_within}
-use Rattle.word_options.specs.Options.{value_given, are_words_of, file_places, only, ◌>>=◌}
+use Rattle.command_frame.specs.Numbers.{number_within}
+use Rattle.command_frame.specs.Options.{value_given, are_words_of, file_places, only, ◌>>=◌}
 
 -- the most parts of a file
 abbrev pub most_parts : ℕ

@@ -3,8 +3,8 @@ ghost use Rattle.record_ranges.specs.RangesEnds.{all_lines, part_lines};
 
 use crate::file_parts::Parts;
 use record_io::{Failed, PutBuffer, Sink};
-use show_files::show_words::RecordForm;
-use show_files::{LINES, put_record};
+use show_command::show_words::RecordForm;
+use show_command::{LINES, put_record};
 use simple_chunk::Records;
 
 /// Records as they are, and nothing before them.

@@ -4,9 +4,9 @@ ghost use Rattle.record_io.specs.ManyStores.{AreOnlyAsked};
 ghost use Rattle.record_io.specs.Seen.{seen_stream, seen_file};
 ghost use Rattle.record_ranges.specs.Ranges.{AreRangesOf, even_cuts};
 ghost use Rattle.record_ranges.specs.Reads.{IfAllTellSame};
-ghost use Rattle.run_answers.specs.Endings.{HaveTold, IsAllowedEndOfMany};
-ghost use Rattle.run_answers.specs.Runs.{Runs};
-ghost use Rattle.run_answers.specs.RunObjects.{Seen};
+ghost use Rattle.command_frame.specs.Endings.{HaveTold, IsAllowedEndOfMany};
+ghost use Rattle.command_frame.specs.Runs.{Runs};
+ghost use Rattle.command_frame.specs.RunObjects.{Seen};
 ghost use Rattle.record_ranges.specs.RangesCommand.{AreAlike, IsOnePast, MayBeRead, ranges_meaning};
 ghost use Rattle.record_ranges.specs.RangesEnds.{PrintsOnlyWhole, IsReadIn, PrintsFile, StopsBy, end_of_read};
 
@@ -18,8 +18,8 @@ use crate::range_ends::{Unread, end_of_read, end_ranges};
 use crate::ranges_words::{MOST_PARTS, RangesWords};
 use crate::reading::read_ranges;
 use chunk_reader::ReadEnd;
+use command_frame::{Cut, Ending, Status, ask_sizes};
 use record_io::{Failed, Sink, Store};
-use run_answers::{Cut, Ending, Status, ask_sizes};
 use std::alloc::Global;
 use std::thread::Threads;
 

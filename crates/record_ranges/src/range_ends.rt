@@ -1,15 +1,15 @@
 ghost use Rattle.std.specs.Prelude.{◌≡◌};
 ghost use Rattle.record_io.specs.Calls.{OnlyCounts, PutsTo};
 ghost use Rattle.record_io.specs.Seen.{seen_stream};
-ghost use Rattle.run_answers.specs.Endings.{SaysEnd, SaysAtEnd};
+ghost use Rattle.command_frame.specs.Endings.{SaysEnd, SaysAtEnd};
 ghost use Rattle.record_ranges.specs.RangesCommand.{differ_text};
 ghost use Rattle.record_ranges.specs.RangesEnds.{end_of_read, range_ends};
 
 use chunk_reader::{Fault, ReadEnd};
+use command_frame::{Cut, Ending, LINE, Status, cut_off, end_too_long};
 use itoa::Buffer;
 use record_io::{Failed, PutBuffer, Sink};
-use run_answers::{Cut, Ending, LINE, Status, cut_off, end_too_long};
-use show_files::end_with_fault;
+use show_command::end_with_fault;
 
 /// Why the file is not read.
 #[derive(Clone, Copy, Debug, PartialEq, Eq)]

@@ -2,7 +2,7 @@ ghost use Rattle.std.specs.Prelude.{◌≡◌, map};
 ghost use Rattle.std.specs.String.{string_bytes};
 ghost use Rattle.record_ranges.specs.RangesWords.{parts_of, ranges_words_of};
 
-use word_options::{are_words_of, only_file, optional_number};
+use command_frame::{are_words_of, only_file, optional_number};
 
 /// The most parts of a file.
 pub(crate) const MOST_PARTS: usize = 16;

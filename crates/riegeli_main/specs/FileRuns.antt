@@ -1,8 +1,8 @@
 -- Inside. What a run over real files shows, of which nothing is shown itself. Own.
 use Rattle.std.specs.Prelude.{ℕ, List}
 use Rattle.record_io.specs.Seen.{SeenStream, SeenFile}
-use Rattle.run_answers.specs.RunObjects.{seen}
-use Rattle.run_answers.specs.declared.status.Status.{Status}
+use Rattle.command_frame.specs.RunObjects.{seen}
+use Rattle.command_frame.specs.declared.status.Status.{Status}
 use Rattle.riegeli_tool.specs.Commands.{accepted}
 use Rattle.riegeli_tool.specs.CommandRuns.{RunsCommand}
 

@@ -4,19 +4,19 @@ use Rattle.std.specs.Option.{IfSome}
 use Rattle.std.specs.Str.{bytes_eq}
 use Rattle.riegeli_tool.specs.declared.command.Command.{Command}
 use Rattle.riegeli_tool.specs.declared.command.Command.TheVariants.{Write, Show, Recover, Verify, Seek, Repair, Sample, Join, Ranges, Append, Collect}
-use Rattle.show_found.specs.SeekWords.{seek_words_of}
-use Rattle.show_files.specs.ShowWords.{show_words_of}
-use Rattle.show_damaged.specs.RecoverWords.{goes_past_damage, recover_words_of}
-use Rattle.show_files.specs.VerifyWords.{verify_words_of}
+use Rattle.seek_command.specs.SeekWords.{seek_words_of}
+use Rattle.show_command.specs.ShowWords.{show_words_of}
+use Rattle.recover_command.specs.RecoverWords.{goes_past_damage, recover_words_of}
+use Rattle.show_command.specs.VerifyWords.{verify_words_of}
 use Rattle.record_ranges.specs.RangesWords.{ranges_words_of}
 use Rattle.riegeli_tool.specs.RepairWords.{repair_words_of}
-use Rattle.sample_records.specs.SampleWords.{sample_words_of}
-use Rattle.sample_records.proofs.SampleLimits.{sample_words_of-within}
-use Rattle.join_files.specs.JoinWords.{join_words_of}
-use Rattle.collect_files.specs.CollectWords.{collect_words_of}
-use Rattle.word_options.proofs.FilesLimits.{files_words_of-within}
-use Rattle.write_lines.specs.WriteWords.{write_words_of, write_options}
-use Rattle.write_lines.proofs.WriteLimits.{line_words_of-within}
+use Rattle.sample_command.specs.SampleWords.{sample_words_of}
+use Rattle.sample_command.proofs.SampleLimits.{sample_words_of-within}
+use Rattle.join_command.specs.JoinWords.{join_words_of}
+use Rattle.join_command.specs.CollectWords.{collect_words_of}
+use Rattle.command_frame.proofs.FilesLimits.{files_words_of-within}
+use Rattle.write_command.specs.WriteWords.{write_words_of, write_options}
+use Rattle.write_command.proofs.WriteLimits.{line_words_of-within}
 use Rattle.record_ranges.proofs.RangesLimits.{ranges_words_of-within}
 use Rattle.riegeli_tool.specs.AppendWords.{append_words_of}
 use Rattle.riegeli_tool.proofs.AppendLimits.{append_words_of-within}

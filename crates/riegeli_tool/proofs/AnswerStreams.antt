@@ -13,23 +13,23 @@ use Rattle.repair_copy.specs.RepairPuts.{chunks_in, repair_puts}
 use Rattle.repair_copy.specs.RelaidFiles.{relaid}
 use Rattle.repair_copy.proofs.RepairPuts.{made_in-repair, out_in-repair, notes_in-repair}
 use Rattle.riegeli_tool.specs.declared.repair_words.RepairWords.{RepairWords}
-use Rattle.sample_records.specs.declared.sample_words.SampleWords.{SampleWords}
-use Rattle.sample_records.specs.SampleCommand.{sample_file, sample_summary, sample_answer}
-use Rattle.show_files.specs.declared.show_words.ShowWords.{ShowWords}
-use Rattle.write_lines.specs.declared.write_words.WriteWords.{WriteWords}
-use Rattle.run_answers.specs.Answers.{Answer}
-use Rattle.show_files.specs.Readings.{record_line}
-use Rattle.run_answers.specs.FileAnswers.{report}
-use Rattle.write_lines.specs.WriteCommand.{stop_text, answer_to}
-use Rattle.show_files.specs.ShowCommand.{IsShown}
+use Rattle.sample_command.specs.declared.sample_words.SampleWords.{SampleWords}
+use Rattle.sample_command.specs.SampleCommand.{sample_file, sample_summary, sample_answer}
+use Rattle.show_command.specs.declared.show_words.ShowWords.{ShowWords}
+use Rattle.write_command.specs.declared.write_words.WriteWords.{WriteWords}
+use Rattle.command_frame.specs.Answers.{Answer}
+use Rattle.show_command.specs.Readings.{record_line}
+use Rattle.command_frame.specs.FileAnswers.{report}
+use Rattle.write_command.specs.WriteCommand.{stop_text, answer_to}
+use Rattle.show_command.specs.ShowCommand.{IsShown}
 use Rattle.damage_skip.specs.Bounds.{walked, refused_in}
 use Rattle.damage_skip.specs.Regions.{regions_in, skipped_text, stopped_text, walk_text}
 use Rattle.riegeli_tool.specs.RepairCommand.{end_puts, IsRepaired}
 use Rattle.record_join.specs.Joined.{joined}
-use Rattle.show_files.specs.Readings.{refused_file_text}
-use Rattle.join_files.specs.JoinCommand.{AreJoinedIn, AreJoinedToFaultIn}
-use Rattle.collect_files.specs.CollectCommand.{AreCollectedIn, collected_file, collected_lines}
-use Rattle.run_answers.proofs.TwoStreams.{bytes_to-first, bytes_to-second, bytes_to-neither}
+use Rattle.show_command.specs.Readings.{refused_file_text}
+use Rattle.join_command.specs.JoinCommand.{AreJoinedIn, AreJoinedToFaultIn}
+use Rattle.join_command.specs.CollectCommand.{AreCollectedIn, collected_file, collected_lines}
+use Rattle.command_frame.proofs.TwoStreams.{bytes_to-first, bytes_to-second, bytes_to-neither}
 
 -- of the answer of `write`
 pub written_made : (words : WriteWords) (rest : Rest) → bytes_to Made (answer_to words rest).puts ≡ file_under words.options rest.records

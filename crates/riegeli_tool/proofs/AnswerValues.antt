@@ -6,17 +6,17 @@ use Rattle.record_group.specs.declared.pad.Pad.TheVariants.{No, Both}
 use Rattle.record_group.specs.Groups.{file_of}
 use Rattle.record_writer.specs.declared.feed.Stop.TheVariants.{TooLong, InputTooLong, BadLine}
 use Rattle.riegeli_tool.specs.declared.command.Command.TheVariants.{Write}
-use Rattle.write_lines.specs.declared.write_words.WriteWords.{WriteWords}
-use Rattle.run_answers.specs.Lines.{lines}
-use Rattle.write_lines.specs.Input.{taken_from}
-use Rattle.write_lines.specs.WriteWords.{line_words_of}
+use Rattle.write_command.specs.declared.write_words.WriteWords.{WriteWords}
+use Rattle.command_frame.specs.Lines.{lines}
+use Rattle.write_command.specs.Input.{taken_from}
+use Rattle.write_command.specs.WriteWords.{line_words_of}
 use Rattle.riegeli_tool.specs.Commands.{command_of, accepted, names_of}
 use Rattle.riegeli_tool.specs.CommandAnswers.{usage_text, usage}
-use Rattle.write_lines.specs.WriteCommand.{answer_to}
+use Rattle.write_command.specs.WriteCommand.{answer_to}
 use Rattle.riegeli_tool.specs.AnswersTo.{IsAnswerTo}
-use Rattle.run_answers.specs.Unseen.{reads}
-use Rattle.run_answers.specs.CutShortRuns.{first_lines}
-use Rattle.run_answers.specs.declared.status.Status.TheVariants as status
+use Rattle.command_frame.specs.Unseen.{reads}
+use Rattle.command_frame.specs.CutShortRuns.{first_lines}
+use Rattle.command_frame.specs.declared.status.Status.TheVariants as status
 
 -- what the words `write F` say
 abbrev plain : WriteWords

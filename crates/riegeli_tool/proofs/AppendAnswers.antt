@@ -14,14 +14,14 @@ use Rattle.record_writer.specs.Feeds.{Rest}
 use Rattle.record_writer.specs.declared.feed.Stop.{Stop}
 use Rattle.record_append.specs.Grown.{IsRefusedToGrow, IsUnrefused, RefusesFor}
 use Rattle.record_append.proofs.GrownFiles.{empty_taken, kept_once, kept_somewhere, taken_whole}
-use Rattle.run_answers.specs.Answers.{Answer, noted}
-use Rattle.run_answers.specs.FileAnswers.{OfFile}
-use Rattle.run_answers.proofs.OneAnswer.{of_file_exists}
-use Rattle.show_files.specs.Readings.{refused_text}
-use Rattle.write_lines.specs.WriteCommand.{stop_text}
+use Rattle.command_frame.specs.Answers.{Answer, noted}
+use Rattle.command_frame.specs.FileAnswers.{OfFile}
+use Rattle.command_frame.proofs.OneAnswer.{of_file_exists}
+use Rattle.show_command.specs.Readings.{refused_text}
+use Rattle.write_command.specs.WriteCommand.{stop_text}
 use Rattle.riegeli_tool.specs.AppendCommand.{IsAppended, grown_answer, grown_puts, grown_text}
 use Rattle.riegeli_tool.specs.declared.append_words.AppendWords.{AppendWords}
-use Rattle.run_answers.specs.declared.status.Status.TheVariants as status
+use Rattle.command_frame.specs.declared.status.Status.TheVariants as status
 
 refuses_decided : (cut : Bool) (reason : Why) → RefusesFor cut reason ⊎ (¬ RefusesFor cut reason)
 refuses_decided cut why.NoSignature = inl (inl refl)

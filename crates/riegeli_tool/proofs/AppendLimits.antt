@@ -2,10 +2,10 @@
 use Rattle.std.proofs.Common.{◌≡◌, ℕ, Option, Some, None, List, codes, ap, subst, refl}
 use Rattle.std.specs.Prelude.{is_some}
 use Rattle.record_writer.specs.OptionLimits.{AreInLimits}
-use Rattle.word_options.specs.Options.{value_given, ◌>>=◌}
-use Rattle.write_lines.specs.WriteWords.{line_words_of}
-use Rattle.write_lines.specs.declared.write_words.WriteWords.{WriteWords}
-use Rattle.write_lines.proofs.WriteLimits.{line_words_of-within}
+use Rattle.command_frame.specs.Options.{value_given, ◌>>=◌}
+use Rattle.write_command.specs.WriteWords.{line_words_of}
+use Rattle.write_command.specs.declared.write_words.WriteWords.{WriteWords}
+use Rattle.write_command.proofs.WriteLimits.{line_words_of-within}
 use Rattle.riegeli_tool.specs.AppendWords.{append_options, append_words_of}
 use Rattle.riegeli_tool.specs.declared.append_words.AppendWords.{AppendWords}
 

@@ -15,25 +15,25 @@ use Rattle.record_writer.specs.declared.feed.Stop.{Stop}
 use Rattle.record_writer.specs.declared.options.WriteOptions.{WriteOptions}
 use Rattle.record_append.specs.Appends.{GrowsBy, GrowsFrom, HoldsGrownInPart}
 use Rattle.record_append.specs.Grown.{IsRefusedToGrow, RefusesFor, bytes_at}
-use Rattle.run_answers.specs.declared.ending.Ending.{Ending}
-use Rattle.run_answers.specs.declared.status.Status.{Status}
-use Rattle.run_answers.specs.Answers.{Answer, noted}
-use Rattle.run_answers.specs.Endings.{SaysEnd, SaysAtEnd}
-use Rattle.run_answers.specs.FileAnswers.{OfFile, IsInReach, IsTooLong, limit_text, most_file_bytes}
-use Rattle.run_answers.specs.Meanings.{Read}
-use Rattle.run_answers.specs.Statuses.{fault_text}
-use Rattle.run_answers.specs.Runs.{Runs}
-use Rattle.run_answers.specs.RunObjects.{Seen, seen}
-use Rattle.run_answers.specs.RunReads.{IsReadBy, IfGrown, OfSizes}
-use Rattle.run_answers.specs.RunAnswers.{IsWhole}
-use Rattle.run_answers.specs.CutShortRuns.{IsCutOff, IsCutShort, TakesThen, Breaks}
-use Rattle.run_answers.specs.RunCauses.{HasCause}
-use Rattle.run_answers.specs.RunTakes.{TakesAtMost}
-use Rattle.run_answers.proofs.GrownRuns.{GrowsFile, grown-size, keeps-cut_off, keeps-whole}
-use Rattle.run_answers.proofs.RunEnds.{GaveButNotes, KeepsAtEnd, PutsLines-none, was-cut_off, went-so_far, ends-whole, ends-said, ends-cut_off}
-use Rattle.show_files.specs.Readings.{refused_text}
-use Rattle.write_lines.specs.Input.{most_input_taken}
-use Rattle.write_lines.specs.WriteCommand.{stop_status, stop_text}
+use Rattle.command_frame.specs.declared.ending.Ending.{Ending}
+use Rattle.command_frame.specs.declared.status.Status.{Status}
+use Rattle.command_frame.specs.Answers.{Answer, noted}
+use Rattle.command_frame.specs.Endings.{SaysEnd, SaysAtEnd}
+use Rattle.command_frame.specs.FileAnswers.{OfFile, IsInReach, IsTooLong, limit_text, most_file_bytes}
+use Rattle.command_frame.specs.Meanings.{Read}
+use Rattle.command_frame.specs.Statuses.{fault_text}
+use Rattle.command_frame.specs.Runs.{Runs}
+use Rattle.command_frame.specs.RunObjects.{Seen, seen}
+use Rattle.command_frame.specs.RunReads.{IsReadBy, IfGrown, OfSizes}
+use Rattle.command_frame.specs.RunAnswers.{IsWhole}
+use Rattle.command_frame.specs.CutShortRuns.{IsCutOff, IsCutShort, TakesThen, Breaks}
+use Rattle.command_frame.specs.RunCauses.{HasCause}
+use Rattle.command_frame.specs.RunTakes.{TakesAtMost}
+use Rattle.command_frame.proofs.GrownRuns.{GrowsFile, grown-size, keeps-cut_off, keeps-whole}
+use Rattle.command_frame.proofs.RunEnds.{GaveButNotes, KeepsAtEnd, PutsLines-none, was-cut_off, went-so_far, ends-whole, ends-said, ends-cut_off}
+use Rattle.show_command.specs.Readings.{refused_text}
+use Rattle.write_command.specs.Input.{most_input_taken}
+use Rattle.write_command.specs.WriteCommand.{stop_status, stop_text}
 use Rattle.riegeli_tool.specs.AppendCommand.{IsAppended, IsLeft, KeepsOld, MayBeLeft, append_meaning, grown_answer, grown_puts, grown_text, lines_taken}
 use Rattle.riegeli_tool.specs.AppendingEnds.{HasAppended, HasTold, IsSizedBy, IsStopped, IsTold, KeepsOldAtEnd, appending_ends}
 use Rattle.riegeli_tool.specs.declared.append.Unappended.{Unappended}
@@ -41,9 +41,9 @@ use Rattle.riegeli_tool.specs.declared.append.Unappended.TheVariants.{Refused, S
 use Rattle.riegeli_tool.specs.declared.append_words.AppendWords.{AppendWords}
 use Rattle.riegeli_tool.proofs.AppendAnswers.{grown_exists}
 use Rattle.record_writer.specs.declared.feed.Stop.TheVariants as stop
-use Rattle.run_answers.specs.declared.ending.Cut.TheVariants as cut
-use Rattle.run_answers.specs.declared.ending.Ending.TheVariants as end
-use Rattle.run_answers.specs.declared.status.Status.TheVariants as status
+use Rattle.command_frame.specs.declared.ending.Cut.TheVariants as cut
+use Rattle.command_frame.specs.declared.ending.Ending.TheVariants as end
+use Rattle.command_frame.specs.declared.status.Status.TheVariants as status
 
 -- a command that grows one file
 grows : (words : AppendWords) → GrowsFile (append_meaning words)

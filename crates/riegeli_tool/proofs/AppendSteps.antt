@@ -9,19 +9,19 @@ use Rattle.record_append.specs.AppendAnswers.{AnswersGrown, HoldsCutOff, KeepsBy
 use Rattle.record_append.specs.Grown.{IsRefusedToGrow, RefusesFor, grown}
 use Rattle.record_append.specs.declared.appends.Appended.{Appended}
 use Rattle.record_append.specs.declared.appends.AppendEnd.{AppendEnd}
-use Rattle.run_answers.specs.FileAnswers.{IsInReach, most_file_bytes}
-use Rattle.run_answers.specs.FileSizes.{IsUnsized}
-use Rattle.run_answers.specs.declared.ending.Ending.{Ending}
-use Rattle.write_lines.specs.WriteCommand.{stop_text}
+use Rattle.command_frame.specs.FileAnswers.{IsInReach, most_file_bytes}
+use Rattle.command_frame.specs.FileSizes.{IsUnsized}
+use Rattle.command_frame.specs.declared.ending.Ending.{Ending}
+use Rattle.write_command.specs.WriteCommand.{stop_text}
 use Rattle.riegeli_tool.specs.AppendCommand.{appended_text, grown_text, lines_taken}
 use Rattle.riegeli_tool.specs.AppendingEnds.{HasAppended, IsSizedBy, IsTold, KeepsOldAtEnd, end_of_append}
 use Rattle.riegeli_tool.specs.declared.append.Unappended.{Unappended}
 use Rattle.riegeli_tool.specs.declared.append_words.AppendWords.{AppendWords}
 use Rattle.record_append.specs.declared.appends.AppendEnd.TheVariants as append
 use Rattle.record_writer.specs.declared.feed.Stop.TheVariants as stop
-use Rattle.run_answers.specs.declared.ending.Cut.TheVariants as cut
-use Rattle.run_answers.specs.declared.ending.Ending.TheVariants as end
-use Rattle.run_answers.specs.declared.sizes.SizeEnd.TheVariants as size
+use Rattle.command_frame.specs.declared.ending.Cut.TheVariants as cut
+use Rattle.command_frame.specs.declared.ending.Ending.TheVariants as end
+use Rattle.command_frame.specs.declared.sizes.SizeEnd.TheVariants as size
 
 -- P holds of an old file and of what an input gives, where these are shown
 abbrev pub IfBoth : AppendWords → (bytes input : Option (List ℕ)) → (List ℕ → Rest → Type 0) → Type 0

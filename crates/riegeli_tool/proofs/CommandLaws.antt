@@ -6,23 +6,23 @@ use Rattle.repair_copy.specs.RepairPuts.{chunks_in, repair_puts}
 use Rattle.riegeli_tool.specs.declared.command.Command.{Command}
 use Rattle.riegeli_tool.specs.declared.command.Command.TheVariants.{Write, Show, Recover, Verify, Seek, Repair, Sample, Join, Ranges, Append, Collect}
 use Rattle.riegeli_tool.specs.declared.repair_words.RepairWords.{RepairWords}
-use Rattle.run_answers.specs.Answers.{Answer}
-use Rattle.show_files.specs.ShowCommand.{IsShown}
+use Rattle.command_frame.specs.Answers.{Answer}
+use Rattle.show_command.specs.ShowCommand.{IsShown}
 use Rattle.damage_skip.specs.Bounds.{walked, refused_in}
 use Rattle.damage_skip.specs.Regions.{regions_in}
-use Rattle.show_damaged.specs.WalkAnswers.{walk_status}
-use Rattle.show_damaged.specs.RecoverCommand.{IsRecovered}
-use Rattle.show_files.specs.VerifyCommand.{IsVerified}
+use Rattle.recover_command.specs.WalkAnswers.{walk_status}
+use Rattle.recover_command.specs.RecoverCommand.{IsRecovered}
+use Rattle.show_command.specs.VerifyCommand.{IsVerified}
 use Rattle.riegeli_tool.specs.RepairCommand.{end_puts, IsRepaired}
 use Rattle.riegeli_tool.specs.CommandAnswers.{meaning_of}
 use Rattle.riegeli_tool.specs.AnswersTo.{IsAnswerTo, answers_once}
-use Rattle.run_answers.specs.Meanings.{Read}
-use Rattle.run_answers.proofs.OneAnswer.{one_of_file, same_answer}
-use Rattle.show_damaged.proofs.OneRecovery.{one_recovered}
-use Rattle.show_found.specs.SeekCommand.{IsSeekAnswer}
-use Rattle.show_found.proofs.OneSought.{one_sought}
-use Rattle.show_files.proofs.OneReading.{one_shown, one_verified}
-use Rattle.join_files.proofs.JoinAnswers.{join_is_one}
+use Rattle.command_frame.specs.Meanings.{Read}
+use Rattle.command_frame.proofs.OneAnswer.{one_of_file, same_answer}
+use Rattle.recover_command.proofs.OneRecovery.{one_recovered}
+use Rattle.seek_command.specs.SeekCommand.{IsSeekAnswer}
+use Rattle.seek_command.proofs.OneSought.{one_sought}
+use Rattle.show_command.proofs.OneReading.{one_shown, one_verified}
+use Rattle.join_command.proofs.JoinAnswers.{join_is_one}
 use Rattle.record_ranges.proofs.RangesAnswers.{ranges_is_one}
 use Rattle.riegeli_tool.specs.AppendCommand.{IsAppended, lines_taken}
 use Rattle.riegeli_tool.proofs.AppendAnswers.{one_appended}

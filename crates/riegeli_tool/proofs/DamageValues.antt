@@ -13,8 +13,8 @@ use Rattle.meta_chunk.specs.Kinds.{IsSignature}
 use Rattle.chunk_reader.specs.declared.reasons.Why.TheVariants as why
 use Rattle.damage_skip.specs.Damage.{Intact, IsIntactFrom, IsNext, AreLostUpToABlock}
 use Rattle.damage_skip.specs.Pieces.{Given, LeftOut, Skipped, Piece}
-use Rattle.run_answers.specs.declared.status.Status.TheVariants as status
-use Rattle.show_damaged.specs.declared.recover_words.RecoverWords.{RecoverWords}
+use Rattle.command_frame.specs.declared.status.Status.TheVariants as status
+use Rattle.recover_command.specs.declared.recover_words.RecoverWords.{RecoverWords}
 use Rattle.riegeli_tool.specs.PastDamage.{recovered_as, IsAnswerPastDamage}
 
 -- a file of `a`, `b` and `c`, each in a chunk, of which the second's header has changed

@@ -7,11 +7,11 @@ use Rattle.hex.specs.Hex.{IsBytes, encode_lower, is_hex_digit, lower_digits}
 use Rattle.hex.proofs.HexLemmas.{decode_of-encode_lower, decode_of-ok, length-encode_with}
 use Rattle.record_values.specs.Bytes.{AreBytes}
 use Rattle.record_group.specs.Records.{AreRecords, IsRecord}
-use Rattle.run_answers.specs.OpenLines.{NoneEnds}
-use Rattle.show_files.specs.Readings.{record_line}
-use Rattle.show_files.specs.RecordForms.{digits_alone}
-use Rattle.write_lines.specs.Input.{or_bad_line, record_of_line, taken_before, taken_from}
-use Rattle.write_lines.proofs.TakenLines.{short-record, taken_from-line, taken_from-nothing}
+use Rattle.command_frame.specs.OpenLines.{NoneEnds}
+use Rattle.show_command.specs.Readings.{record_line}
+use Rattle.show_command.specs.RecordForms.{digits_alone}
+use Rattle.write_command.specs.Input.{or_bad_line, record_of_line, taken_before, taken_from}
+use Rattle.write_command.proofs.TakenLines.{short-record, taken_from-line, taken_from-nothing}
 
 -- bytes, one by one
 are_bytes : (bytes : List ℕ) → AreBytes bytes → IsBytes bytes

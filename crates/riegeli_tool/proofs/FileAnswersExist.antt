@@ -8,28 +8,28 @@ use Rattle.repair_copy.specs.RepairPuts.{chunks_in, repair_puts}
 use Rattle.riegeli_tool.specs.declared.command.Command.{Command}
 use Rattle.riegeli_tool.specs.declared.command.Command.TheVariants.{Write, Show, Recover, Verify, Seek, Repair, Sample, Join, Ranges, Append, Collect}
 use Rattle.riegeli_tool.specs.declared.repair_words.RepairWords.{RepairWords}
-use Rattle.run_answers.specs.Answers.{Answer}
+use Rattle.command_frame.specs.Answers.{Answer}
 use Rattle.riegeli_tool.specs.CommandAnswers.{usage, meaning_of}
-use Rattle.write_lines.specs.WriteCommand.{write_answer}
-use Rattle.show_files.specs.ShowCommand.{IsShown}
+use Rattle.write_command.specs.WriteCommand.{write_answer}
+use Rattle.show_command.specs.ShowCommand.{IsShown}
 use Rattle.damage_skip.specs.Bounds.{walked, refused_in}
 use Rattle.damage_skip.specs.Regions.{regions_in}
-use Rattle.show_damaged.specs.WalkAnswers.{walk_status}
-use Rattle.show_damaged.specs.RecoverCommand.{IsRecovered}
-use Rattle.show_files.specs.VerifyCommand.{IsVerified}
+use Rattle.recover_command.specs.WalkAnswers.{walk_status}
+use Rattle.recover_command.specs.RecoverCommand.{IsRecovered}
+use Rattle.show_command.specs.VerifyCommand.{IsVerified}
 use Rattle.riegeli_tool.specs.RepairCommand.{end_puts, IsRepaired}
-use Rattle.sample_records.specs.SampleCommand.{sample_answer}
+use Rattle.sample_command.specs.SampleCommand.{sample_answer}
 use Rattle.riegeli_tool.specs.Commands.{stores_of, takes, command_of, accepted_of, accepted}
 use Rattle.riegeli_tool.specs.CommandLimits.{IsWithinLimits}
 use Rattle.riegeli_tool.specs.AnswersTo.{IsAnswerTo}
-use Rattle.run_answers.specs.Meanings.{Read}
-use Rattle.run_answers.proofs.OneAnswer.{of_file_exists}
-use Rattle.show_damaged.proofs.OneRecovery.{recovered_exists}
-use Rattle.show_files.proofs.ReadingsExist.{shown_exists, verified_exists}
-use Rattle.show_found.specs.SeekCommand.{IsSeekAnswer}
-use Rattle.show_found.proofs.OneSought.{sought_exists}
-use Rattle.join_files.proofs.JoinAnswers.{join_exists}
-use Rattle.collect_files.proofs.CollectAnswers.{collect_exists}
+use Rattle.command_frame.specs.Meanings.{Read}
+use Rattle.command_frame.proofs.OneAnswer.{of_file_exists}
+use Rattle.recover_command.proofs.OneRecovery.{recovered_exists}
+use Rattle.show_command.proofs.ReadingsExist.{shown_exists, verified_exists}
+use Rattle.seek_command.specs.SeekCommand.{IsSeekAnswer}
+use Rattle.seek_command.proofs.OneSought.{sought_exists}
+use Rattle.join_command.proofs.JoinAnswers.{join_exists}
+use Rattle.join_command.proofs.CollectAnswers.{collect_exists}
 use Rattle.riegeli_tool.specs.AppendCommand.{lines_taken}
 use Rattle.riegeli_tool.proofs.AcceptedLimits.{accepted-within}
 use Rattle.record_ranges.proofs.RangesAnswers.{ranges_exists}

@@ -15,8 +15,8 @@ use Rattle.record_writer.specs.OptionLimits.{AreInLimits}
 use Rattle.record_writer.specs.declared.options.WriteOptions.{WriteOptions}
 use Rattle.record_append.specs.Grown.{IsKeptTo, IsUnrefused, chunks_at, grown}
 use Rattle.record_append.proofs.GrownFiles.{grown_frame, grown_records, kept_once, kept_whole, taken_whole}
-use Rattle.run_answers.specs.FileAnswers.{most_file_bytes}
-use Rattle.write_lines.proofs.TakenRecords.{taken_from-records}
+use Rattle.command_frame.specs.FileAnswers.{most_file_bytes}
+use Rattle.write_command.proofs.TakenRecords.{taken_from-records}
 use Rattle.riegeli_tool.specs.AppendCommand.{IsLeft, lines_taken}
 use Rattle.riegeli_tool.specs.declared.append_words.AppendWords.{AppendWords}
 

@@ -4,8 +4,8 @@ use Rattle.riegeli_tool.specs.declared.command.Names.{Names}
 use Rattle.riegeli_tool.specs.Commands.{command_of, names_of, none_named}
 use Rattle.record_ranges.specs.RangesWords.{ranges_words_of}
 use Rattle.riegeli_tool.specs.RepairWords.{repair_words_of}
-use Rattle.word_options.specs.FilesWords.{files_words_of}
-use Rattle.write_lines.specs.WriteWords.{line_words_of}
+use Rattle.command_frame.specs.FilesWords.{files_words_of}
+use Rattle.write_command.specs.WriteWords.{line_words_of}
 
 -- what words name
 abbrev named : List (List ℕ) → Names

@@ -20,14 +20,14 @@ use Rattle.damage_skip.proofs.Untouched.{left_records, lost_up_to_a_block}
 use Rattle.damage_skip.proofs.WalkedTo.{piece_at, each_region}
 use Rattle.repair_copy.proofs.EventChunks.{chunks_in_events}
 use Rattle.repair_copy.proofs.LeftChunks.{left_chunks}
-use Rattle.run_answers.specs.Answers.{Answer}
-use Rattle.run_answers.specs.FileAnswers.{OfFile}
-use Rattle.run_answers.specs.Meanings.{Read}
-use Rattle.run_answers.specs.Runs.{Runs}
-use Rattle.run_answers.specs.RunObjects.{Seen}
-use Rattle.run_answers.specs.declared.status.Status.{Status}
-use Rattle.run_answers.proofs.OneAnswer.{same_answer}
-use Rattle.show_damaged.specs.RecoverCommand.{IsRecovered}
+use Rattle.command_frame.specs.Answers.{Answer}
+use Rattle.command_frame.specs.FileAnswers.{OfFile}
+use Rattle.command_frame.specs.Meanings.{Read}
+use Rattle.command_frame.specs.Runs.{Runs}
+use Rattle.command_frame.specs.RunObjects.{Seen}
+use Rattle.command_frame.specs.declared.status.Status.{Status}
+use Rattle.command_frame.proofs.OneAnswer.{same_answer}
+use Rattle.recover_command.specs.RecoverCommand.{IsRecovered}
 use Rattle.riegeli_tool.specs.CommandAnswers.{meaning_of}
 use Rattle.riegeli_tool.specs.AnswersTo.{IsAnswerTo}
 use Rattle.riegeli_tool.specs.PastDamage.{recovered_as, repaired_as, IsAnswerPastDamage, IsAnswerToFront, IsToldSo, IsToldPastDamage, meaning_past_damage}

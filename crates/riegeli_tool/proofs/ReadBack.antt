@@ -18,22 +18,22 @@ use Rattle.record_group.proofs.RecordFiles.{IsFile-file_of, AreRecordsOf-chunks_
 use Rattle.record_writer.specs.declared.feed.Stop.{Stop}
 use Rattle.record_writer.specs.declared.feed.Stop.TheVariants.{TooLong, InputTooLong, BadLine}
 use Rattle.record_writer.specs.OptionLimits.{AreInLimits}
-use Rattle.show_files.specs.declared.show_words.ShowWords.{ShowWords}
-use Rattle.write_lines.specs.declared.write_words.WriteWords.{WriteWords}
-use Rattle.run_answers.specs.Answers.{Answer, line}
-use Rattle.run_answers.specs.Lines.{lines}
-use Rattle.write_lines.specs.Input.{taken_from}
-use Rattle.write_lines.specs.LastLines.{with_last_end}
-use Rattle.show_files.specs.declared.show_words.RecordForm.{RecordForm}
-use Rattle.show_files.specs.Readings.{bare, record_line}
-use Rattle.write_lines.specs.WriteCommand.{stop_status, write_answer}
-use Rattle.show_files.specs.ShowCommand.{IsShown}
+use Rattle.show_command.specs.declared.show_words.ShowWords.{ShowWords}
+use Rattle.write_command.specs.declared.write_words.WriteWords.{WriteWords}
+use Rattle.command_frame.specs.Answers.{Answer, line}
+use Rattle.command_frame.specs.Lines.{lines}
+use Rattle.write_command.specs.Input.{taken_from}
+use Rattle.write_command.specs.LastLines.{with_last_end}
+use Rattle.show_command.specs.declared.show_words.RecordForm.{RecordForm}
+use Rattle.show_command.specs.Readings.{bare, record_line}
+use Rattle.write_command.specs.WriteCommand.{stop_status, write_answer}
+use Rattle.show_command.specs.ShowCommand.{IsShown}
 use Rattle.riegeli_tool.proofs.AnswerStreams.{written_made}
 use Rattle.record_ranges.proofs.RangesLines.{bare_lines}
-use Rattle.show_files.proofs.OneReading.{EndsReading}
-use Rattle.run_answers.proofs.OneAnswer.{same_answer}
-use Rattle.write_lines.proofs.TakenRecords.{taken_from-records, taken_from-all, lines-joined}
-use Rattle.run_answers.specs.declared.status.Status.TheVariants as status
+use Rattle.show_command.proofs.OneReading.{EndsReading}
+use Rattle.command_frame.proofs.OneAnswer.{same_answer}
+use Rattle.write_command.proofs.TakenRecords.{taken_from-records, taken_from-all, lines-joined}
+use Rattle.command_frame.specs.declared.status.Status.TheVariants as status
 
 -- lists of few bytes can be written
 pub are_records : (records : List (List ℕ)) → AllByRecursion AreBytes records → AllByRecursion (λ bytes. length bytes ≤ 2 ^ 24) records → AreRecords records

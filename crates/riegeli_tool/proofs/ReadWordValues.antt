@@ -1,12 +1,12 @@
 -- The words of `show` and `verify`, judged by hand, computed from the definitions.
 use Rattle.std.proofs.Common.{◌≡◌, false, Some, None, [], ◌∷◌, codes, refl, true}
 use Rattle.riegeli_tool.specs.declared.command.Command.TheVariants.{Show, Verify}
-use Rattle.show_files.specs.ShowWords.{show_words_of}
-use Rattle.show_files.specs.VerifyWords.{verify_words_of}
+use Rattle.show_command.specs.ShowWords.{show_words_of}
+use Rattle.show_command.specs.VerifyWords.{verify_words_of}
 use Rattle.riegeli_tool.specs.CommandAnswers.{usage}
 use Rattle.riegeli_tool.specs.Commands.{command_of, accepted, names_of}
 use Rattle.riegeli_tool.specs.AnswersTo.{IsAnswerTo}
-use Rattle.run_answers.specs.Unseen.{reads}
+use Rattle.command_frame.specs.Unseen.{reads}
 
 -- the names of commands, whole and in small letters
 command_of_show : command_of (codes "show" ∷ codes "--positions" ∷ codes "A" ∷ []) ≡ Some (Show (record { form = record { positions = true; hex = false }; file = 2 }))

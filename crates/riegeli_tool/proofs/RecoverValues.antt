@@ -1,8 +1,8 @@
 -- The words of `show` that go on past damage, judged by hand, computed from the definitions.
 use Rattle.std.proofs.Common.{◌≡◌, true, false, Some, None, [], ◌∷◌, codes, refl}
 use Rattle.riegeli_tool.specs.declared.command.Command.TheVariants.{Recover}
-use Rattle.show_files.specs.ShowWords.{show_words_of}
-use Rattle.show_damaged.specs.RecoverWords.{recover_words_of}
+use Rattle.show_command.specs.ShowWords.{show_words_of}
+use Rattle.recover_command.specs.RecoverWords.{recover_words_of}
 use Rattle.riegeli_tool.specs.Commands.{command_of, accepted, names_of}
 
 -- a file, and the options in any place, none of them twice

@@ -17,23 +17,23 @@ use Rattle.damage_skip.proofs.WalkedTo.{walked-none}
 use Rattle.damage_skip.proofs.Takings.{up_to-none}
 use Rattle.damage_skip.proofs.WalkTakings.{by_walk-then}
 use Rattle.riegeli_tool.specs.declared.repair_words.RepairWords.{RepairWords}
-use Rattle.run_answers.specs.declared.status.Status.{Status}
-use Rattle.run_answers.specs.declared.ending.Ending.{Ending}
-use Rattle.run_answers.specs.FileAnswers.{IsInReach, most_file_bytes, report}
+use Rattle.command_frame.specs.declared.status.Status.{Status}
+use Rattle.command_frame.specs.declared.ending.Ending.{Ending}
+use Rattle.command_frame.specs.FileAnswers.{IsInReach, most_file_bytes, report}
 use Rattle.riegeli_tool.specs.RepairCommand.{IsRepaired, IsRepairedSoFar, repair_meaning}
 use Rattle.riegeli_tool.specs.RepairingEnds.{end_of_repair}
-use Rattle.show_damaged.specs.WalkAnswers.{walk_status}
-use Rattle.run_answers.specs.PutSoFar.{HasPut, HasPutSoFar}
-use Rattle.run_answers.specs.Endings.{IsAllowedEnd, IsShort, HasPutToCut, HasPutAtEnd}
-use Rattle.show_damaged.specs.WalkingEnds.{walk_ends, IsBound, TellsOf}
-use Rattle.run_answers.proofs.FileEnds.{some-answer}
-use Rattle.run_answers.proofs.FileRuns.{reads_file}
+use Rattle.recover_command.specs.WalkAnswers.{walk_status}
+use Rattle.command_frame.specs.PutSoFar.{HasPut, HasPutSoFar}
+use Rattle.command_frame.specs.Endings.{IsAllowedEnd, IsShort, HasPutToCut, HasPutAtEnd}
+use Rattle.recover_command.specs.WalkingEnds.{walk_ends, IsBound, TellsOf}
+use Rattle.command_frame.proofs.FileEnds.{some-answer}
+use Rattle.command_frame.proofs.FileRuns.{reads_file}
 use Rattle.riegeli_tool.proofs.FileAnswersExist.{repaired_exists}
 use Rattle.riegeli_tool.proofs.RepairSteps.{allowed-may, cut-so_far, cut-walked, repaired-walked, stopped-walked, told-front, told-of, unmade-walked, unreported-walked, untold-walked}
-use Rattle.show_damaged.proofs.WalkRuns.{IsWalking, untold-may}
+use Rattle.recover_command.proofs.WalkRuns.{IsWalking, untold-may}
 use Rattle.repair_copy.specs.declared.repairs.RepairEnd.TheVariants as repair
-use Rattle.run_answers.specs.declared.ending.Cut.TheVariants as cut
-use Rattle.run_answers.specs.declared.ending.Ending.TheVariants as end
+use Rattle.command_frame.specs.declared.ending.Cut.TheVariants as cut
+use Rattle.command_frame.specs.declared.ending.Ending.TheVariants as end
 
 pub repair_walks : (words : RepairWords) → IsWalking (repair_meaning words) (IsRepaired words) (IsRepairedSoFar words) words.most
 repair_walks words = record {

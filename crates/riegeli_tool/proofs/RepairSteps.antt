@@ -18,8 +18,8 @@ use Rattle.damage_skip.specs.Regions.{region_text, regions_in, skipped_text, IsW
 use Rattle.damage_skip.proofs.BoundedWalks.{MaySkipEach, walked-behind, walked-all, refused-none, walked-to_refused, refused-there}
 use Rattle.damage_skip.proofs.RegionsIn.{each_so, skipped_text-pieces}
 use Rattle.damage_skip.proofs.WalkedTo.{piece_at, walked-so, rest_of, rest_from}
-use Rattle.show_damaged.proofs.WalkStatuses.{status-all, status-stopped}
-use Rattle.show_damaged.specs.WalkAnswers.{walk_status}
+use Rattle.recover_command.proofs.WalkStatuses.{status-all, status-stopped}
+use Rattle.recover_command.specs.WalkAnswers.{walk_status}
 use Rattle.damage_skip.specs.declared.regions.Region.{Region}
 use Rattle.damage_skip.proofs.OnePiece.{piece_past}
 use Rattle.damage_skip.proofs.Tiles.{goes_on_whole}
@@ -32,19 +32,19 @@ use Rattle.repair_copy.proofs.RepairPuts.{repair_puts-append, notes_in-repair, o
 use Rattle.repair_copy.proofs.WholeLines.{whole_lines}
 use lib.Chars.{codes}
 use Rattle.riegeli_tool.specs.declared.repair_words.RepairWords.{RepairWords}
-use Rattle.run_answers.specs.declared.status.Status.{Status}
-use Rattle.run_answers.specs.Answers.{Answer}
-use Rattle.run_answers.specs.FileAnswers.{OfFile, most_file_bytes, report}
+use Rattle.command_frame.specs.declared.status.Status.{Status}
+use Rattle.command_frame.specs.Answers.{Answer}
+use Rattle.command_frame.specs.FileAnswers.{OfFile, most_file_bytes, report}
 use Rattle.riegeli_tool.specs.RepairCommand.{end_puts, first_puts, IsRepaired, IsRepairedSoFar}
-use Rattle.run_answers.specs.PutSoFar.{HasPut, HasPutSoFar, HasPutFront, HasBrokenOff}
-use Rattle.run_answers.specs.CutShortRuns.{FailedToSay, PutsLines}
-use Rattle.show_damaged.specs.WalkingEnds.{IsBound, HasToldOf}
-use Rattle.run_answers.proofs.OneAnswer.{same_answer}
+use Rattle.command_frame.specs.PutSoFar.{HasPut, HasPutSoFar, HasPutFront, HasBrokenOff}
+use Rattle.command_frame.specs.CutShortRuns.{FailedToSay, PutsLines}
+use Rattle.recover_command.specs.WalkingEnds.{IsBound, HasToldOf}
+use Rattle.command_frame.proofs.OneAnswer.{same_answer}
 use Rattle.riegeli_tool.proofs.CommandLaws.{one_repaired}
-use Rattle.show_damaged.proofs.RegionTexts.{PutsLines-regions}
-use Rattle.show_files.proofs.ShowSteps.{in_reach}
+use Rattle.recover_command.proofs.RegionTexts.{PutsLines-regions}
+use Rattle.show_command.proofs.ShowSteps.{in_reach}
 use Rattle.repair_copy.specs.declared.repairs.RepairEnd.TheVariants as repair
-use Rattle.run_answers.specs.declared.status.Status.TheVariants as status
+use Rattle.command_frame.specs.declared.status.Status.TheVariants as status
 
 -- the status by the number of regions
 pub status_of-none : (count : ℕ) → count ≡ 0 → (regions : List Region) → count ≡ length regions → status.Ok ≡ walk_status regions None

@@ -1,14 +1,14 @@
 -- A run of a command is one of the same command with further facts of its answers.
 use Rattle.std.proofs.Common.{ℕ, inl, inr, List}
-use Rattle.run_answers.specs.declared.status.Status.{Status}
-use Rattle.run_answers.specs.Answers.{Answer}
-use Rattle.run_answers.specs.Meanings.{Meaning, Read}
-use Rattle.run_answers.specs.declared.status.Status.TheVariants as status
-use Rattle.run_answers.specs.Runs.{Runs}
-use Rattle.run_answers.specs.RunObjects.{Seen}
-use Rattle.run_answers.specs.RunReads.{IsReadBy, IfTold, OfSizes}
-use Rattle.run_answers.specs.CutShortRuns.{WentOutSoFar}
-use Rattle.run_answers.specs.RunCauses.{HasCause}
+use Rattle.command_frame.specs.declared.status.Status.{Status}
+use Rattle.command_frame.specs.Answers.{Answer}
+use Rattle.command_frame.specs.Meanings.{Meaning, Read}
+use Rattle.command_frame.specs.declared.status.Status.TheVariants as status
+use Rattle.command_frame.specs.Runs.{Runs}
+use Rattle.command_frame.specs.RunObjects.{Seen}
+use Rattle.command_frame.specs.RunReads.{IsReadBy, IfTold, OfSizes}
+use Rattle.command_frame.specs.CutShortRuns.{WentOutSoFar}
+use Rattle.command_frame.specs.RunCauses.{HasCause}
 
 module _ (m : Meaning) (answers : Read → Answer → Type 0) (so : (r : Read) (a : Answer) → m.answers r a → answers r a) (before after : Seen) where
   abbrev with_answers : Meaning

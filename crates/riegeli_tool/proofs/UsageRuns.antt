@@ -4,13 +4,13 @@ use Rattle.record_io.specs.Puts.{taken_by}
 use Rattle.record_io.specs.Seen.{SeenStream}
 use Rattle.record_io.proofs.Calls.{Takes-nothing}
 use Rattle.record_io.proofs.Puts.{GoOut-nothing}
-use Rattle.run_answers.specs.declared.status.Status.{Status}
+use Rattle.command_frame.specs.declared.status.Status.{Status}
 use Rattle.riegeli_tool.specs.CommandAnswers.{usage_text, usage, usage_meaning}
-use Rattle.run_answers.specs.Runs.{Runs}
-use Rattle.run_answers.specs.RunObjects.{Seen}
-use Rattle.run_answers.specs.Endings.{SaysAtEnd}
-use Rattle.run_answers.proofs.RunEnds.{OfSizes-unread, keeps-unread, none-taken, runs-said}
-use Rattle.run_answers.specs.declared.status.Status.TheVariants as status
+use Rattle.command_frame.specs.Runs.{Runs}
+use Rattle.command_frame.specs.RunObjects.{Seen}
+use Rattle.command_frame.specs.Endings.{SaysAtEnd}
+use Rattle.command_frame.proofs.RunEnds.{OfSizes-unread, keeps-unread, none-taken, runs-said}
+use Rattle.command_frame.specs.declared.status.Status.TheVariants as status
 
 -- words that are no command: the usage text was said, or notes failed
 pub runs-usage : (others : Seen) (notes notes_then : SeenStream) (ended : Status)

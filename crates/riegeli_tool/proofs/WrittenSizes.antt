@@ -21,14 +21,14 @@ use Rattle.record_group.proofs.Signed.{end_of_chunk-signature, length-file_of-si
 use Rattle.record_writer.specs.Feeds.{Rest}
 use Rattle.record_writer.specs.declared.feed.Stop.{Stop}
 use Rattle.record_writer.proofs.Reaches.{group-near}
-use Rattle.write_lines.specs.declared.write_words.WriteWords.{WriteWords}
-use Rattle.run_answers.specs.Lines.{ends_line, lines}
-use Rattle.write_lines.specs.Input.{running, up_to_last_end, record_of_line, taken_before, taken_lines, stop_past_limit, taken_from}
-use Rattle.write_lines.specs.WriteCommand.{write_answer}
+use Rattle.write_command.specs.declared.write_words.WriteWords.{WriteWords}
+use Rattle.command_frame.specs.Lines.{ends_line, lines}
+use Rattle.write_command.specs.Input.{running, up_to_last_end, record_of_line, taken_before, taken_lines, stop_past_limit, taken_from}
+use Rattle.write_command.specs.WriteCommand.{write_answer}
 use Rattle.riegeli_tool.proofs.AnswerStreams.{written_made}
-use Rattle.run_answers.proofs.Lines.{lines-cons}
-use Rattle.write_lines.proofs.TakenLines.{taken_from-within, taken_from-past}
-use Rattle.write_lines.proofs.TakenRecords.{record_of_line-shorter}
+use Rattle.command_frame.proofs.Lines.{lines-cons}
+use Rattle.write_command.proofs.TakenLines.{taken_from-within, taken_from-past}
+use Rattle.write_command.proofs.TakenRecords.{record_of_line-shorter}
 
 -- lines cost their bytes, and 8 more for each, of which each has a byte or an end
 cost-onto_first : (b : ℕ) (parts : List (List ℕ)) → cost_of (onto_first b parts) ≤ cost_of parts + 9

@@ -1,8 +1,8 @@
 -- Inside. The answers to a command, and whether there is one at most. Own.
 use Rattle.std.specs.Prelude.{Bool, true, false, Option, Some}
-use Rattle.run_answers.specs.Answers.{Answer}
-use Rattle.run_answers.specs.Meanings.{Read}
-use Rattle.show_found.specs.SingleAnswers.{has_one_answer}
+use Rattle.command_frame.specs.Answers.{Answer}
+use Rattle.command_frame.specs.Meanings.{Read}
+use Rattle.seek_command.specs.SingleAnswers.{has_one_answer}
 use Rattle.riegeli_tool.specs.declared.command.Command.{Command}
 use Rattle.riegeli_tool.specs.declared.command.Command.TheVariants.{Seek, Collect}
 use Rattle.riegeli_tool.specs.CommandAnswers.{meaning_of}

@@ -10,14 +10,14 @@ use Rattle.record_append.specs.Appends.{GrowsBy, GrowsFrom, HoldsGrownInPart, Ke
 use Rattle.record_append.specs.Grown.{IsKeptTo, IsRefusedToGrow, IsUnrefused, RefusesFor, grown}
 use Rattle.record_append.specs.declared.appends.Appended.{Appended}
 use Rattle.riegeli_tool.specs.declared.append_words.AppendWords.{AppendWords}
-use Rattle.run_answers.specs.Answers.{Answer, noted}
-use Rattle.run_answers.specs.FileAnswers.{OfFile, IsInReach, IsTooLong, count_line, limit_text, most_file_bytes}
-use Rattle.run_answers.specs.Meanings.{Meaning, meaning, none_used}
-use Rattle.run_answers.specs.declared.status.Status.{Status}
-use Rattle.show_files.specs.Readings.{refused_text}
-use Rattle.write_lines.specs.Input.{most_input_taken, taken_from}
-use Rattle.write_lines.specs.WriteCommand.{MayEndWrite, stop_status, stop_text}
-use Rattle.run_answers.specs.declared.status.Status.TheVariants as status
+use Rattle.command_frame.specs.Answers.{Answer, noted}
+use Rattle.command_frame.specs.FileAnswers.{OfFile, IsInReach, IsTooLong, count_line, limit_text, most_file_bytes}
+use Rattle.command_frame.specs.Meanings.{Meaning, meaning, none_used}
+use Rattle.command_frame.specs.declared.status.Status.{Status}
+use Rattle.show_command.specs.Readings.{refused_text}
+use Rattle.write_command.specs.Input.{most_input_taken, taken_from}
+use Rattle.write_command.specs.WriteCommand.{MayEndWrite, stop_status, stop_text}
+use Rattle.command_frame.specs.declared.status.Status.TheVariants as status
 
 -- what is printed of what became of a file, each number behind its name
 abbrev pub appended_text : Appended → List ℕ

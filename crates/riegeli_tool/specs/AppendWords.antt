@@ -3,8 +3,8 @@
 use Rattle.std.specs.Prelude.{ℕ, Option, Some, List, [], ◌∷◌, ◌++◌, is_some}
 use lib.Chars.{codes}
 use Rattle.riegeli_tool.specs.declared.append_words.AppendWords.{AppendWords}
-use Rattle.word_options.specs.Options.{value_given, ◌>>=◌}
-use Rattle.write_lines.specs.WriteWords.{line_words_of, write_options}
+use Rattle.command_frame.specs.Options.{value_given, ◌>>=◌}
+use Rattle.write_command.specs.WriteWords.{line_words_of, write_options}
 
 -- the options of `append`: those of `write`, and a flag
 abbrev pub append_options : List (List ℕ)

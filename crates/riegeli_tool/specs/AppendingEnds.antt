@@ -6,21 +6,21 @@ use Rattle.record_writer.specs.declared.feed.Stop.{Stop}
 use Rattle.record_append.specs.Appends.{GrowsBy, GrowsFrom, HoldsGrown, HoldsGrownInPart, KeepsFront}
 use Rattle.record_append.specs.Grown.{IsRefusedToGrow, RefusesFor}
 use Rattle.record_append.specs.declared.appends.AppendEnd.{AppendEnd}
-use Rattle.run_answers.specs.Endings.{Endings, MayBeCut}
-use Rattle.run_answers.specs.FileAnswers.{IsInReach, IsTooLong, most_file_bytes}
-use Rattle.run_answers.specs.declared.ending.Ending.{Ending}
-use Rattle.run_answers.specs.declared.status.Status.{Status}
-use Rattle.show_files.specs.Readings.{refused_text}
-use Rattle.write_lines.specs.WriteCommand.{stop_status, stop_text}
+use Rattle.command_frame.specs.Endings.{Endings, MayBeCut}
+use Rattle.command_frame.specs.FileAnswers.{IsInReach, IsTooLong, most_file_bytes}
+use Rattle.command_frame.specs.declared.ending.Ending.{Ending}
+use Rattle.command_frame.specs.declared.status.Status.{Status}
+use Rattle.show_command.specs.Readings.{refused_text}
+use Rattle.write_command.specs.WriteCommand.{stop_status, stop_text}
 use Rattle.riegeli_tool.specs.AppendCommand.{append_meaning, grown_text}
 use Rattle.riegeli_tool.specs.declared.append.Unappended.{Unappended}
 use Rattle.riegeli_tool.specs.declared.append.Unappended.TheVariants.{Refused, Stopped}
 use Rattle.riegeli_tool.specs.declared.append_words.AppendWords.{AppendWords}
 use Rattle.record_append.specs.declared.appends.AppendEnd.TheVariants as append
 use Rattle.record_writer.specs.declared.feed.Stop.TheVariants as stop
-use Rattle.run_answers.specs.declared.ending.Cut.TheVariants as cut
-use Rattle.run_answers.specs.declared.ending.Ending.TheVariants as end
-use Rattle.run_answers.specs.declared.status.Status.TheVariants as status
+use Rattle.command_frame.specs.declared.ending.Cut.TheVariants as cut
+use Rattle.command_frame.specs.declared.ending.Ending.TheVariants as end
+use Rattle.command_frame.specs.declared.status.Status.TheVariants as status
 
 -- the end by which records were not put to a file to the end of their feed
 abbrev pub end_of_append : AppendEnd → Ending Unappended

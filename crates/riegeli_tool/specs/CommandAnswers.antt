@@ -3,20 +3,20 @@ use Rattle.std.specs.Prelude.{◌≡◌, ℕ, false, Option, Some, None, List, �
 use lib.Chars.{codes}
 use Rattle.riegeli_tool.specs.declared.command.Command.{Command}
 use Rattle.riegeli_tool.specs.declared.command.Command.TheVariants.{Write, Show, Recover, Verify, Seek, Repair, Sample, Join, Ranges, Append, Collect}
-use Rattle.run_answers.specs.Answers.{Answer, line, noted}
-use Rattle.run_answers.specs.Meanings.{Meaning, meaning, none_used}
-use Rattle.write_lines.specs.WriteCommand.{write_meaning}
-use Rattle.show_files.specs.ShowCommand.{show_meaning}
-use Rattle.show_damaged.specs.RecoverCommand.{recover_meaning}
-use Rattle.show_files.specs.VerifyCommand.{verify_meaning}
-use Rattle.show_found.specs.SeekCommand.{seek_meaning}
+use Rattle.command_frame.specs.Answers.{Answer, line, noted}
+use Rattle.command_frame.specs.Meanings.{Meaning, meaning, none_used}
+use Rattle.write_command.specs.WriteCommand.{write_meaning}
+use Rattle.show_command.specs.ShowCommand.{show_meaning}
+use Rattle.recover_command.specs.RecoverCommand.{recover_meaning}
+use Rattle.show_command.specs.VerifyCommand.{verify_meaning}
+use Rattle.seek_command.specs.SeekCommand.{seek_meaning}
 use Rattle.record_ranges.specs.RangesCommand.{ranges_meaning}
 use Rattle.riegeli_tool.specs.RepairCommand.{repair_meaning}
-use Rattle.sample_records.specs.SampleCommand.{sample_meaning}
-use Rattle.join_files.specs.JoinCommand.{join_meaning}
-use Rattle.collect_files.specs.CollectCommand.{collect_meaning}
+use Rattle.sample_command.specs.SampleCommand.{sample_meaning}
+use Rattle.join_command.specs.JoinCommand.{join_meaning}
+use Rattle.join_command.specs.CollectCommand.{collect_meaning}
 use Rattle.riegeli_tool.specs.AppendCommand.{append_meaning}
-use Rattle.run_answers.specs.declared.status.Status.TheVariants as status
+use Rattle.command_frame.specs.declared.status.Status.TheVariants as status
 
 -- the commands, as they are told where the words are none
 abbrev pub usage_text : List ℕ

@@ -2,7 +2,7 @@
 use Rattle.std.specs.Prelude.{◌≤◌}
 use Rattle.record_writer.specs.OptionLimits.{AreInLimits}
 use Rattle.record_ranges.specs.RangesWords.{most_parts}
-use Rattle.sample_records.specs.SampleWords.{most_records}
+use Rattle.sample_command.specs.SampleWords.{most_records}
 use Rattle.riegeli_tool.specs.declared.command.Command.{Command}
 use Rattle.riegeli_tool.specs.declared.command.Command.TheVariants.{Write, Sample, Join, Ranges, Append, Collect}
 

@@ -1,9 +1,9 @@
 -- Promise. How a run of a command goes, and what it leaves of the objects that its command doesn't use. Own.
 use Rattle.std.specs.Prelude.{◌≡◌, false, Option, List}
-use Rattle.run_answers.specs.RunObjects.{Seen}
-use Rattle.run_answers.specs.Runs.{Runs}
-use Rattle.run_answers.specs.declared.status.Status.{Status}
-use Rattle.run_answers.specs.Meanings.{Uses}
+use Rattle.command_frame.specs.RunObjects.{Seen}
+use Rattle.command_frame.specs.Runs.{Runs}
+use Rattle.command_frame.specs.declared.status.Status.{Status}
+use Rattle.command_frame.specs.Meanings.{Uses}
 use Rattle.riegeli_tool.specs.CommandAnswers.{meaning_of}
 use Rattle.riegeli_tool.specs.declared.command.Command.{Command}
 use Rattle.riegeli_tool.specs.PastDamage.{meaning_past_damage}

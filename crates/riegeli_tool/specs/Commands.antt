@@ -5,16 +5,16 @@ use lib.Chars.{codes}
 use Rattle.riegeli_tool.specs.declared.command.Command.{Command}
 use Rattle.riegeli_tool.specs.declared.command.Command.TheVariants.{Write, Show, Recover, Verify, Seek, Repair, Sample, Join, Ranges, Append, Collect}
 use Rattle.riegeli_tool.specs.declared.command.Names.{Names}
-use Rattle.write_lines.specs.WriteWords.{write_words_of}
-use Rattle.show_files.specs.ShowWords.{show_words_of}
-use Rattle.show_damaged.specs.RecoverWords.{goes_past_damage, recover_words_of}
-use Rattle.show_files.specs.VerifyWords.{verify_words_of}
-use Rattle.show_found.specs.SeekWords.{seek_words_of}
+use Rattle.write_command.specs.WriteWords.{write_words_of}
+use Rattle.show_command.specs.ShowWords.{show_words_of}
+use Rattle.recover_command.specs.RecoverWords.{goes_past_damage, recover_words_of}
+use Rattle.show_command.specs.VerifyWords.{verify_words_of}
+use Rattle.seek_command.specs.SeekWords.{seek_words_of}
 use Rattle.record_ranges.specs.RangesWords.{ranges_words_of}
 use Rattle.riegeli_tool.specs.RepairWords.{repair_words_of}
-use Rattle.sample_records.specs.SampleWords.{sample_words_of}
-use Rattle.join_files.specs.JoinWords.{join_words_of}
-use Rattle.collect_files.specs.CollectWords.{collect_words_of}
+use Rattle.sample_command.specs.SampleWords.{sample_words_of}
+use Rattle.join_command.specs.JoinWords.{join_words_of}
+use Rattle.join_command.specs.CollectWords.{collect_words_of}
 use Rattle.riegeli_tool.specs.AppendWords.{append_words_of}
 
 -- the command that the words of `show` are

@@ -12,11 +12,11 @@ use Rattle.damage_skip.specs.Regions.{regions_in, stopped_text}
 use Rattle.damage_skip.specs.declared.regions.Region.{Region}
 use Rattle.repair_copy.specs.RepairPuts.{chunks_in, repair_puts}
 use Rattle.repair_copy.specs.CopiedChunks.{copied}
-use Rattle.run_answers.specs.Answers.{Answer}
-use Rattle.run_answers.specs.Meanings.{Meaning}
-use Rattle.show_damaged.specs.RecoverCommand.{event_puts}
-use Rattle.show_damaged.specs.WalkAnswers.{walk_status}
-use Rattle.show_damaged.specs.declared.recover_words.RecoverWords.{RecoverWords}
+use Rattle.command_frame.specs.Answers.{Answer}
+use Rattle.command_frame.specs.Meanings.{Meaning}
+use Rattle.recover_command.specs.RecoverCommand.{event_puts}
+use Rattle.recover_command.specs.WalkAnswers.{walk_status}
+use Rattle.recover_command.specs.declared.recover_words.RecoverWords.{RecoverWords}
 use Rattle.riegeli_tool.specs.CommandAnswers.{meaning_of}
 use Rattle.riegeli_tool.specs.RepairCommand.{end_puts}
 use Rattle.riegeli_tool.specs.declared.command.Command.{Command}

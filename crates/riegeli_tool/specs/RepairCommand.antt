@@ -8,13 +8,13 @@ use Rattle.damage_skip.specs.Pieces.{Piece, AreEvents}
 use Rattle.damage_skip.specs.Bounds.{MaySkip, walked, refused_in}
 use Rattle.damage_skip.specs.Regions.{region_text, regions_in, IsWalkedTo}
 use Rattle.damage_skip.specs.Takings.{IsTakenUpTo}
-use Rattle.show_damaged.specs.WalkAnswers.{walk_status, MayTakeWalk, MaySayWalk, MayEndWalk}
+use Rattle.recover_command.specs.WalkAnswers.{walk_status, MayTakeWalk, MaySayWalk, MayEndWalk}
 use Rattle.damage_skip.specs.declared.regions.Region.{Region}
 use Rattle.repair_copy.specs.RepairPuts.{chunks_in, repair_puts}
 use Rattle.riegeli_tool.specs.declared.repair_words.RepairWords.{RepairWords}
-use Rattle.run_answers.specs.Answers.{Answer}
-use Rattle.run_answers.specs.FileAnswers.{file_meaning, report}
-use Rattle.run_answers.specs.Meanings.{Meaning, none_used}
+use Rattle.command_frame.specs.Answers.{Answer}
+use Rattle.command_frame.specs.FileAnswers.{file_meaning, report}
+use Rattle.command_frame.specs.Meanings.{Meaning, none_used}
 
 -- what is put last: the report of the file of these chunks, or the line of the region that is refused
 abbrev pub end_puts : Option Region → List ChunkValue → List Put

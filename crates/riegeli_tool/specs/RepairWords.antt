@@ -3,8 +3,8 @@
 use Rattle.std.specs.Prelude.{ℕ, Option, Some, None, List, if◌then◌else◌, [], ◌∷◌}
 use lib.Chars.{codes}
 use Rattle.riegeli_tool.specs.declared.repair_words.RepairWords.{RepairWords}
-use Rattle.word_options.specs.Options.{are_words_of, file_places, only_two, is_same_at, ◌>>=◌}
-use Rattle.show_damaged.specs.RecoverWords.{most_of}
+use Rattle.command_frame.specs.Options.{are_words_of, file_places, only_two, is_same_at, ◌>>=◌}
+use Rattle.recover_command.specs.RecoverWords.{most_of}
 
 -- the options of `repair`
 abbrev pub repair_options : List (List ℕ)

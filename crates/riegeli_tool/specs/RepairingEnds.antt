@@ -1,10 +1,10 @@
 -- Inside. How the work of `repair` ends. Own.
 use Rattle.damage_skip.specs.declared.regions.Region.{Region}
 use Rattle.repair_copy.specs.declared.repairs.RepairEnd.{RepairEnd}
-use Rattle.run_answers.specs.declared.ending.Ending.{Ending}
+use Rattle.command_frame.specs.declared.ending.Ending.{Ending}
 use Rattle.repair_copy.specs.declared.repairs.RepairEnd.TheVariants as repair
-use Rattle.run_answers.specs.declared.ending.Cut.TheVariants as cut
-use Rattle.run_answers.specs.declared.ending.Ending.TheVariants as end
+use Rattle.command_frame.specs.declared.ending.Cut.TheVariants as cut
+use Rattle.command_frame.specs.declared.ending.Ending.TheVariants as end
 
 -- the end by which the repair of a file ended
 abbrev pub end_of_repair : RepairEnd → Ending Region

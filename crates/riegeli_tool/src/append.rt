@@ -7,26 +7,26 @@ ghost use Rattle.record_append.specs.AppendAnswers.{AnswersGrown, KeepsBy};
 ghost use Rattle.record_append.specs.Devices.{CountsFaults};
 ghost use Rattle.record_append.specs.Grown.{IsRefusedToGrow, RefusesFor};
 ghost use Rattle.record_writer.specs.OptionLimits.{AreInLimits};
-ghost use Rattle.run_answers.specs.Endings.{SaysEnd};
-ghost use Rattle.run_answers.specs.FileAnswers.{IsInReach, most_file_bytes};
-ghost use Rattle.run_answers.specs.FileSizes.{IsUnsized};
-ghost use Rattle.run_answers.specs.Runs.{Runs};
-ghost use Rattle.run_answers.specs.RunObjects.{Seen};
-ghost use Rattle.run_answers.specs.RunTakes.{TakesAtMost};
-ghost use Rattle.write_lines.specs.Input.{most_input_taken};
+ghost use Rattle.command_frame.specs.Endings.{SaysEnd};
+ghost use Rattle.command_frame.specs.FileAnswers.{IsInReach, most_file_bytes};
+ghost use Rattle.command_frame.specs.FileSizes.{IsUnsized};
+ghost use Rattle.command_frame.specs.Runs.{Runs};
+ghost use Rattle.command_frame.specs.RunObjects.{Seen};
+ghost use Rattle.command_frame.specs.RunTakes.{TakesAtMost};
+ghost use Rattle.write_command.specs.Input.{most_input_taken};
 ghost use Rattle.riegeli_tool.specs.AppendCommand.{append_meaning, appended_text, lines_taken};
 ghost use Rattle.riegeli_tool.specs.AppendingEnds.{HasAppended, HasTold, IsSizedBy, KeepsOldAtEnd, appending_ends, end_of_append};
 
 use crate::append_words::AppendWords;
 use chunk_reader::Fault;
+use command_frame::{Cut, Ending, SizeEnd, Status, cut_off, end_too_long, put_counts, size_of};
 use record_append::{AppendEnd, Appended, AsStore, Device};
 use record_io::{Failed, Sink, Source};
 use record_writer::Stop;
-use run_answers::{Cut, Ending, SizeEnd, Status, cut_off, end_too_long, put_counts, size_of};
-use show_files::end_with_fault;
+use show_command::end_with_fault;
 use std::alloc::Global;
 use std::thread::Threads;
-use write_lines::{LineFeed, MOST_INPUT, end_with_stop};
+use write_command::{LineFeed, MOST_INPUT, end_with_stop};
 
 /// What the lines of an input are not appended past.
 #[derive(Clone, Copy)]

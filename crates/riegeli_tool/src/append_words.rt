@@ -2,8 +2,8 @@ ghost use Rattle.std.specs.Prelude.{◌≡◌, map};
 ghost use Rattle.std.specs.String.{string_bytes};
 ghost use Rattle.riegeli_tool.specs.AppendWords.{append_words_of};
 
-use word_options::value_given;
-use write_lines::write_words::{WriteWords, line_words};
+use command_frame::value_given;
+use write_command::write_words::{WriteWords, line_words};
 
 /// What the words of `append` say.
 #[derive(Clone, Copy)]

@@ -3,14 +3,14 @@ ghost use Rattle.riegeli_tool.specs.Commands.{names_by, none_named, takes};
 
 use crate::append_words::AppendWords;
 use crate::repair_words::RepairWords;
+use command_frame::FilesWords;
 use record_ranges::ranges_words::RangesWords;
-use sample_records::sample_words::SampleWords;
-use show_damaged::recover_words::RecoverWords;
-use show_files::show_words::ShowWords;
-use show_files::verify_words::VerifyWords;
-use show_found::seek_words::SeekWords;
-use word_options::FilesWords;
-use write_lines::write_words::WriteWords;
+use recover_command::recover_words::RecoverWords;
+use sample_command::sample_words::SampleWords;
+use seek_command::seek_words::SeekWords;
+use show_command::show_words::ShowWords;
+use show_command::verify_words::VerifyWords;
+use write_command::write_words::WriteWords;
 
 /// A command, with what its words say.
 #[derive(Drop)]

@@ -11,8 +11,8 @@ mod repair_words;
 mod words;
 
 pub use command::Names;
+pub use command_frame::Status;
 pub use program::run;
-pub use run_answers::Status;
-pub use sample_records::SampleFeed;
+pub use sample_command::SampleFeed;
 pub use words::names;
-pub use write_lines::LineFeed;
+pub use write_command::LineFeed;

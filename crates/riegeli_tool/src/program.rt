@@ -4,25 +4,24 @@ ghost use Rattle.riegeli_tool.specs.Commands.{accepted};
 ghost use Rattle.riegeli_tool.specs.CommandAnswers.{meaning_of};
 ghost use Rattle.riegeli_tool.specs.CommandRuns.{RunsCommand, LeavesUnused};
 ghost use Rattle.record_io.specs.Seen.{seen_stream, seen_file};
-ghost use Rattle.run_answers.specs.RunObjects.{seen};
+ghost use Rattle.command_frame.specs.RunObjects.{seen};
 
 use crate::append::append;
 use crate::command::Command;
 use crate::repair::repair;
 use crate::words::accept;
-use collect_files::collect_files;
-use join_files::join_files;
+use command_frame::{Status, end};
+use join_command::{collect_files, join_files};
 use record_append::Device;
 use record_io::{Sink, Source, Store};
 use record_ranges::ranges;
-use run_answers::{Status, end};
-use sample_records::sample;
-use show_damaged::recover;
-use show_files::{show, verify};
-use show_found::show_found;
+use recover_command::recover;
+use sample_command::sample;
+use seek_command::show_found;
+use show_command::{show, verify};
 use std::alloc::Global;
 use std::thread::Threads;
-use write_lines::write;
+use write_command::write;
 
 /// What is said where the words are no command.
 const USAGE: &str = "usage:

@@ -6,22 +6,22 @@ ghost use Rattle.record_io.specs.Seen.{seen_stream, seen_file};
 ghost use Rattle.damage_skip.specs.Bounds.{MaySkip};
 ghost use Rattle.damage_skip.specs.Takings.{IsTakenByWalk};
 ghost use Rattle.damage_skip.specs.declared.regions.Region.{Region};
-ghost use Rattle.run_answers.specs.FileSizes.{HandsOut};
+ghost use Rattle.command_frame.specs.FileSizes.{HandsOut};
 ghost use Rattle.riegeli_tool.specs.RepairCommand.{IsRepaired, IsRepairedSoFar, repair_meaning};
 ghost use Rattle.riegeli_tool.specs.RepairingEnds.{end_of_repair};
-ghost use Rattle.run_answers.specs.Runs.{Runs};
-ghost use Rattle.run_answers.specs.RunObjects.{Seen};
-ghost use Rattle.run_answers.specs.PutSoFar.{HasPutSoFar};
-ghost use Rattle.run_answers.specs.Endings.{HasPutAtEnd, IsAllowedEnd, IsShort};
-ghost use Rattle.show_damaged.specs.WalkAnswers.{walk_status};
-ghost use Rattle.show_damaged.specs.WalkingEnds.{TellsOf, walk_ends};
+ghost use Rattle.command_frame.specs.Runs.{Runs};
+ghost use Rattle.command_frame.specs.RunObjects.{Seen};
+ghost use Rattle.command_frame.specs.PutSoFar.{HasPutSoFar};
+ghost use Rattle.command_frame.specs.Endings.{HasPutAtEnd, IsAllowedEnd, IsShort};
+ghost use Rattle.recover_command.specs.WalkAnswers.{walk_status};
+ghost use Rattle.recover_command.specs.WalkingEnds.{TellsOf, walk_ends};
 
 use crate::repair_words::RepairWords;
+use command_frame::{Cut, Ending, Status, put_report, size_of};
 use damage_skip::{Policy, Region};
 use record_io::{Failed, Sink, Store};
+use recover_command::{end_walk, may_skip};
 use repair_copy::RepairEnd;
-use run_answers::{Cut, Ending, Status, put_report, size_of};
-use show_damaged::{end_walk, may_skip};
 use std::alloc::Global;
 
 /// Makes the file of what is intact of a file and prints the report of its totals, and says in notes what is skipped and why

@@ -2,8 +2,8 @@ ghost use Rattle.std.specs.Prelude.{◌≡◌, map};
 ghost use Rattle.std.specs.String.{string_bytes};
 ghost use Rattle.riegeli_tool.specs.RepairWords.{repair_words_of};
 
-use show_damaged::recover_words::most;
-use word_options::{are_words_of, is_same_at, two_files};
+use command_frame::{are_words_of, is_same_at, two_files};
+use recover_command::recover_words::most;
 
 /// What the words of `repair` say.
 #[derive(Clone, Copy)]

@@ -6,15 +6,15 @@ ghost use Rattle.riegeli_tool.specs.CommandLimits.{IsWithinLimits};
 use crate::append_words::append_words;
 use crate::command::{Command, Names};
 use crate::repair_words::repair_words;
-use collect_files::collect_words::collect_words;
-use join_files::join_words::join_words;
+use join_command::collect_words::collect_words;
+use join_command::join_words::join_words;
 use record_ranges::ranges_words::ranges_words;
-use sample_records::sample_words::sample_words;
-use show_damaged::recover_words::{goes_past_damage, recover_words};
-use show_files::show_words::show_words;
-use show_files::verify_words::verify_words;
-use show_found::seek_words::seek_words;
-use write_lines::write_words::write_words;
+use recover_command::recover_words::{goes_past_damage, recover_words};
+use sample_command::sample_words::sample_words;
+use seek_command::seek_words::seek_words;
+use show_command::show_words::show_words;
+use show_command::verify_words::verify_words;
+use write_command::write_words::write_words;
 
 /// The files that the words name. None for words that are no command. Own.
 pub fn names(words: &[String]) -> Names

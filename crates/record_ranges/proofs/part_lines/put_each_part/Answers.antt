@@ -3,7 +3,7 @@ use Rattle.std.specs.List.{flat_map}
 use Rattle.std.proofs.lemmas.Option.{get_or_from_slice_get}
 use Rattle.record_io.specs.Buffers.{TakesAndHolds}
 use Rattle.record_io.proofs.Calls.{OnErr-any}
-use Rattle.show_files.proofs.LinePuts.{lines-next, lines-failed}
+use Rattle.show_command.proofs.LinePuts.{lines-next, lines-failed}
 use Rattle.record_ranges.specs.RangesEnds.{part_lines}
 use Rattle.record_ranges.proofs.part_lines.put_each_part.Goals as goal
 

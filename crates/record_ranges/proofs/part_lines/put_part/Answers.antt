@@ -3,8 +3,8 @@ use Rattle.std.specs.List.{flat_map}
 use Rattle.std.proofs.lemmas.Option.{get_or_from_slice_get}
 use Rattle.record_io.specs.Buffers.{TakesAndHolds}
 use Rattle.record_io.proofs.Calls.{OnErr-any}
-use Rattle.show_files.proofs.LinePuts.{lines-next, lines-failed}
-use Rattle.run_answers.specs.Answers.{line}
+use Rattle.show_command.proofs.LinePuts.{lines-next, lines-failed}
+use Rattle.command_frame.specs.Answers.{line}
 use Rattle.record_ranges.proofs.part_lines.put_part.Goals as goal
 
 pub returns-in_err-put_record : goal.returns-in_err-put_record

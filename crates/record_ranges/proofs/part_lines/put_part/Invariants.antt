@@ -2,7 +2,7 @@ use Rattle.std.proofs.Common.{◌++◌, take}
 use Rattle.std.specs.List.{flat_map}
 use Rattle.record_io.specs.Buffers.{TakesAndHolds}
 use Rattle.record_io.specs.Calls.{OnlyCounts}
-use Rattle.run_answers.specs.Answers.{line}
+use Rattle.command_frame.specs.Answers.{line}
 use Rattle.record_ranges.proofs.part_lines.put_part.Given as goal
 
 abbrev pub invariant-loop-number : goal.invariant-loop-number

@@ -1,6 +1,6 @@
 use Rattle.std.proofs.Common.{rules}
 use Rattle.std.proofs.lemmas.Result.{on_ok_weaker, on_err_weaker}
-use Rattle.run_answers.proofs.NoteLines.{front-flushed, whole-flushed}
+use Rattle.command_frame.proofs.NoteLines.{front-flushed, whole-flushed}
 use Rattle.record_ranges.specs.RangesEnds.{all_lines}
 use Rattle.record_ranges.proofs.part_lines.put_parts.Goals as goal
 

@@ -1,6 +1,6 @@
 use Rattle.std.proofs.Common.{◌≡◌, ◌∙◌, Some, map, sym, inl, inr, rules}
 use Rattle.record_io.proofs.ManyStores.{asked_twice, same_bytes, same_told, untold}
-use Rattle.run_answers.proofs.AskedSizes.{exact_sizes, none_untold, same_handed}
+use Rattle.command_frame.proofs.AskedSizes.{exact_sizes, none_untold, same_handed}
 use Rattle.record_ranges.proofs.RangesSteps.{still_one}
 use Rattle.record_ranges.proofs.RangesStores.{size_of_one, told_alike}
 use Rattle.record_ranges.proofs.printing.print_file.Goals as goal

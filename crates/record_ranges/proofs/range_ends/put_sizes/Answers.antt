@@ -1,7 +1,7 @@
 use Rattle.std.proofs.Common.{◌∙◌, List, ℕ, [], ◌∷◌, ◌++◌, decimal, codes, sym, subst, append_assoc, rules}
 use Rattle.std.proofs.lemmas.Result.{on_ok_weaker, on_err_weaker}
 use Rattle.record_io.specs.Buffers.{TakesAndHolds}
-use Rattle.run_answers.proofs.NoteLines.{front-flushed, whole-flushed}
+use Rattle.command_frame.proofs.NoteLines.{front-flushed, whole-flushed}
 use Rattle.record_ranges.specs.RangesCommand.{differ_text}
 use Rattle.record_ranges.proofs.range_ends.put_sizes.Goals as goal
 

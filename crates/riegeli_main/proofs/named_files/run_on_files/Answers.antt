@@ -1,7 +1,7 @@
 use Rattle.std.proofs.Common.{ℕ, List, length, inl, inr, refl}
 use Rattle.record_io.specs.Seen.{SeenStream, SeenFile}
-use Rattle.run_answers.specs.RunObjects.{seen}
-use Rattle.run_answers.specs.declared.status.Status.{Status}
+use Rattle.command_frame.specs.RunObjects.{seen}
+use Rattle.command_frame.specs.declared.status.Status.{Status}
 use Rattle.riegeli_tool.specs.Commands.{accepted}
 use Rattle.riegeli_tool.specs.CommandRuns.{RunsCommand}
 use Rattle.riegeli_main.specs.FileRuns.{RunsOnFiles}

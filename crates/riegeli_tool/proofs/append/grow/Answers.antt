@@ -1,10 +1,10 @@
 use Rattle.std.proofs.Common.{◌≡◌, ◌+◌, ◌∙◌, Some, [], length, rules}
 use Rattle.record_append.specs.AppendAnswers.{AnswersGrown}
-use Rattle.run_answers.specs.RunTakes.{TakesAtMost}
-use Rattle.write_lines.specs.Input.{most_input_taken}
-use Rattle.write_lines.proofs.FeedSteps.{input-spent}
-use Rattle.write_lines.proofs.Origins.{taken-at_most}
-use Rattle.write_lines.proofs.WrittenLines.{read-spent}
+use Rattle.command_frame.specs.RunTakes.{TakesAtMost}
+use Rattle.write_command.specs.Input.{most_input_taken}
+use Rattle.write_command.proofs.FeedSteps.{input-spent}
+use Rattle.write_command.proofs.Origins.{taken-at_most}
+use Rattle.write_command.proofs.WrittenLines.{read-spent}
 use Rattle.riegeli_tool.specs.AppendCommand.{lines_taken}
 use Rattle.riegeli_tool.proofs.AppendSteps.{taken-given}
 use Rattle.riegeli_tool.proofs.append.grow.Goals as goal

@@ -1,7 +1,7 @@
 use Rattle.std.proofs.Common.{◌≡◌, ◌∙◌, ℕ, Bool, Some, None, List, ap, codes, map, rules, sym}
 use Rattle.std.specs.Prelude.{is_some}
 use Rattle.std.specs.String.{string_bytes}
-use Rattle.word_options.specs.Options.{value_given}
+use Rattle.command_frame.specs.Options.{value_given}
 use Rattle.riegeli_tool.proofs.AppendLimits.{append_words_of-by}
 use Rattle.riegeli_tool.proofs.append_words.append_words.Goals as goal
 

@@ -1,8 +1,8 @@
-use Rattle.show_files.proofs.ReadingsExist.{shown_exists, verified_exists}
-use Rattle.show_damaged.proofs.OneRecovery.{recovered_exists}
-use Rattle.show_found.proofs.OneSought.{sought_exists}
-use Rattle.join_files.proofs.JoinAnswers.{join_exists}
-use Rattle.collect_files.proofs.CollectAnswers.{collect_exists}
+use Rattle.show_command.proofs.ReadingsExist.{shown_exists, verified_exists}
+use Rattle.recover_command.proofs.OneRecovery.{recovered_exists}
+use Rattle.seek_command.proofs.OneSought.{sought_exists}
+use Rattle.join_command.proofs.JoinAnswers.{join_exists}
+use Rattle.join_command.proofs.CollectAnswers.{collect_exists}
 use Rattle.record_ranges.proofs.RangesAnswers.{ranges_exists}
 use Rattle.riegeli_tool.proofs.FileAnswersExist.{repaired_exists, answer_exists}
 use Rattle.riegeli_tool.specs.AppendCommand.{lines_taken}

@@ -1,5 +1,5 @@
 use Rattle.riegeli_tool.specs.CommandAnswers.{meaning_of}
-use Rattle.run_answers.proofs.Causes.{whole-or-memory, answers-or-memory}
+use Rattle.command_frame.proofs.Causes.{whole-or-memory, answers-or-memory}
 use Rattle.riegeli_tool.proofs.laws.no_fault_without_a_cause.Goals as goal
 
 pub returns : goal.returns

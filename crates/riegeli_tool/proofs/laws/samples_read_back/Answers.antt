@@ -1,5 +1,5 @@
-use Rattle.sample_records.specs.SampleCommand.{sampled}
-use Rattle.sample_records.proofs.Drawings.{sample_of-records}
+use Rattle.sample_command.specs.SampleCommand.{sampled}
+use Rattle.sample_command.proofs.Drawings.{sample_of-records}
 use Rattle.riegeli_tool.proofs.ReadBack.{written-faultless, written-records}
 use Rattle.riegeli_tool.proofs.laws.samples_read_back.Goals as goal
 

@@ -1,4 +1,4 @@
-use Rattle.show_found.proofs.FoundInFiles.{position-prints, key-prints}
+use Rattle.seek_command.proofs.FoundInFiles.{position-prints, key-prints}
 use Rattle.riegeli_tool.proofs.laws.seek_finds_records_of_files_without_fault.Goals as goal
 
 pub returns : goal.returns

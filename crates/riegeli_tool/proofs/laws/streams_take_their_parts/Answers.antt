@@ -1,4 +1,4 @@
-use Rattle.show_damaged.proofs.RecoverStreams.{recovered-streams}
+use Rattle.recover_command.proofs.RecoverStreams.{recovered-streams}
 use Rattle.riegeli_tool.proofs.AnswerStreams.{written-streams, shown-streams, repaired-streams, sampled-streams, joined-streams, refused-streams, collected-streams}
 use Rattle.record_ranges.proofs.RangesStreams.{ranges-streams}
 use Rattle.riegeli_tool.proofs.AppendAnswers.{grown-streams}

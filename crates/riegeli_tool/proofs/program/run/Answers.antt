@@ -2,9 +2,9 @@ use Rattle.std.proofs.Common.{◌∙◌, None, Some, [], sym, rules}
 use Rattle.std.proofs.Math.Seq.{map-set_same}
 use Rattle.riegeli_tool.specs.declared.command.Command.TheVariants.{Write, Show, Recover, Verify, Seek, Repair, Sample, Join, Ranges, Append, Collect}
 use Rattle.record_io.specs.Seen.{seen_file}
-use Rattle.run_answers.specs.RunObjects.{seen}
-use Rattle.run_answers.specs.Unseen.{unseen}
-use Rattle.run_answers.proofs.RunEnds.{runs-one_file}
+use Rattle.command_frame.specs.RunObjects.{seen}
+use Rattle.command_frame.specs.Unseen.{unseen}
+use Rattle.command_frame.proofs.RunEnds.{runs-one_file}
 use Rattle.riegeli_tool.proofs.PastDamage.{runs-as}
 use Rattle.riegeli_tool.proofs.UsageRuns.{runs-usage}
 use Rattle.riegeli_tool.proofs.program.run.Goals as goal

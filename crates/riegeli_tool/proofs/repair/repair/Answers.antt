@@ -1,9 +1,9 @@
 use Rattle.std.proofs.Common.{true, [], ◌∷◌, arith, refl}
 use Rattle.riegeli_tool.specs.RepairCommand.{IsRepaired, IsRepairedSoFar, repair_meaning}
-use Rattle.show_damaged.specs.WalkAnswers.{MayTakeWalk}
-use Rattle.run_answers.proofs.FileRuns.{still-sized, told-files, file-keeps}
+use Rattle.recover_command.specs.WalkAnswers.{MayTakeWalk}
+use Rattle.command_frame.proofs.FileRuns.{still-sized, told-files, file-keeps}
 use Rattle.riegeli_tool.proofs.RepairEnds.{repair_walks}
-use Rattle.show_damaged.proofs.WalkRuns.{runs-walking}
+use Rattle.recover_command.proofs.WalkRuns.{runs-walking}
 use Rattle.riegeli_tool.proofs.repair.repair.Goals as goal
 
 pub returns-clause-runs : goal.returns-clause-runs

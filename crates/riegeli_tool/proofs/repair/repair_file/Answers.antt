@@ -2,14 +2,14 @@ use Rattle.std.proofs.Common.{◌∙◌, true, refl, rules, tests}
 use Rattle.damage_skip.specs.Bounds.{MaySkip}
 use Rattle.damage_skip.proofs.WalkTakings.{by_walk-none}
 use Rattle.riegeli_tool.specs.RepairCommand.{IsRepaired, IsRepairedSoFar, repair_meaning}
-use Rattle.show_damaged.specs.WalkingEnds.{walk_ends}
-use Rattle.run_answers.proofs.FileEnds.{unsized-put, unsized-allowed}
-use Rattle.run_answers.proofs.FileRuns.{handed-work, told-in_reach}
+use Rattle.recover_command.specs.WalkingEnds.{walk_ends}
+use Rattle.command_frame.proofs.FileEnds.{unsized-put, unsized-allowed}
+use Rattle.command_frame.proofs.FileRuns.{handed-work, told-in_reach}
 use Rattle.riegeli_tool.proofs.FileAnswersExist.{repaired_exists}
-use Rattle.run_answers.proofs.PutSoFar.{so_far-nothing}
+use Rattle.command_frame.proofs.PutSoFar.{so_far-nothing}
 use Rattle.riegeli_tool.proofs.RepairEnds.{repaired-none, repair-takes, ended-walks, ended-so_far, ended-tells, ended-allowed, done-walks, done-tells, unreported-ends, unreported-tells}
-use Rattle.show_files.proofs.ShowSteps.{short_told}
-use Rattle.show_damaged.proofs.WalkRuns.{tells-unsized}
+use Rattle.show_command.proofs.ShowSteps.{short_told}
+use Rattle.recover_command.proofs.WalkRuns.{tells-unsized}
 use Rattle.riegeli_tool.proofs.repair.repair_file.Goals as goal
 
 pub returns-in_err-size-clause-walks : goal.returns-in_err-size-clause-walks

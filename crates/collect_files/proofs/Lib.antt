@@ -1,9 +1,0 @@
-pub mod AllWeaves
-pub mod CollectAnswers
-pub mod CollectedFiles
-pub mod CollectRuns
-pub mod CollectSteps
-mod CollectValues
-pub mod FileLines
-pub mod OneCollected
-pub mod Weaves

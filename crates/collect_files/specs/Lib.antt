@@ -1,3 +1,0 @@
-pub mod CollectCommand
-pub mod CollectingEnds
-pub mod CollectWords

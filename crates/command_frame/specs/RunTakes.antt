@@ -1,0 +1,29 @@
+-- Promise. What a run takes of what it reads. Own.
+use Rattle.std.specs.Prelude.{◌≡◌, ◌≢◌, ℕ, ◌+◌, ◌≤◌, ◌⊎◌, true, Option, Some, None, IfSome, IsSomeAnd, List, length, drop, slice_get}
+use Rattle.record_io.specs.Seen.{SeenFile}
+use Rattle.command_frame.specs.declared.status.Status.{Status}
+use Rattle.command_frame.specs.Meanings.{Meaning}
+use Rattle.command_frame.specs.RunObjects.{Seen, handed_by}
+use Rattle.command_frame.specs.CutShortRuns.{IsCutOff}
+use Rattle.command_frame.specs.RunReads.{IfRead, OfSizes}
+use Rattle.command_frame.specs.declared.status.Status.TheVariants as status
+
+-- of an input that showed its bytes at most so many were taken
+abbrev pub TakesAtMost : ℕ → (before after : Option (List ℕ)) → Type 0
+TakesAtMost most before after = IfSome before (λ left. IsSomeAnd after (λ rest. length left ≤ length rest + most))
+
+-- what a run takes of what it reads
+pub record RunTakes (m : Meaning) (before after : Seen) (ended : Status) : Type 0 where
+  -- files are asked their sizes first: what cuts the work off, unless it is a fault of theirs, finds them within the limit
+  pub in_reach : IsCutOff ended → ended ≢ status.File → ended ≢ status.Grown → OfSizes m before after m.may_work
+  -- and only then are they read, and no more of them than the command may take
+  pub handed : (handed_by after.files ≡ handed_by before.files)
+      ⊎ ((m.uses.files ≡ true)
+      × OfSizes m before after (λ sizes. m.may_work sizes × m.may_take sizes (handed_by before.files) (handed_by after.files)))
+  pub handed_of : IfRead m before (λ r. m.may_take_of r (handed_by before.files) (handed_by after.files))
+  pub grown_handed : (after.grown.handed ≡ before.grown.handed) ⊎ ((m.uses.grown ≡ true) × OfSizes m before after m.may_work)
+  -- in their order: behind a file that told no size none is asked
+  pub in_order : (place : ℕ) (file : SeenFile) → slice_get after.files place ≡ Some file → file.told ≡ None
+      → drop (place + 1) after.files ≡ drop (place + 1) before.files
+  -- of the input no more is taken than the command may take, however it ended
+  pub input_taken : TakesAtMost m.most_taken before.input.bytes after.input.bytes

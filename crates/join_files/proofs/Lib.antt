@@ -1,3 +1,0 @@
-pub mod JoinAnswers
-pub mod JoinRuns
-pub mod JoinSteps

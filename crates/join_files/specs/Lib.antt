@@ -1,3 +1,0 @@
-pub mod JoinWords
-pub mod JoinCommand
-pub mod JoiningEnds

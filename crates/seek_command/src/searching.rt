@@ -1,0 +1,56 @@
+ghost use Rattle.std.specs.Prelude.{◌≡◌, ◌≤◌, ◌^◌, Some, Err, IfOk, IfSome};
+ghost use Rattle.record_io.specs.Calls.{OnlyAsks};
+ghost use Rattle.chunk_reader.specs.declared.reasons.Fault.{Fault};
+ghost use Rattle.record_seek.specs.Steps.{placed_of};
+ghost use Rattle.seek_command.specs.Searches.{is_below, MayFind, IsKeyFault, MayGive, MayRefuse, TakesOf, TakesBySize};
+ghost use Rattle.seek_command.specs.declared.seek_words.By.TheVariants as by;
+
+use crate::key::SearchKey;
+use crate::seek_words::By;
+use chunk_reader::ReadEnd;
+use record_io::Store;
+use record_seek::{Found, KeyTest, find, seek};
+use std::alloc::Global;
+
+/// The record that is looked for in a file of so many bytes, or `None` where there is none.
+pub(crate) fn search<S: Store>(
+    alloc: Global,
+    by: &By,
+    file: &mut S,
+    size: u64,
+) -> Result<Option<Found>, ReadEnd>
+    requires told { S.told file.old ≡ Some size }
+    requires in_reach { size ≤ 2 ^ 60 }
+    ensures gives { IfOk result (λ found. IfSome (S.bytes file.old) (λ bytes. MayGive by.now bytes (placed_of found))) }
+    ensures refused { (fault : Fault) → result ≡ Err (ReadEnd.Refused fault) → IfSome (S.bytes file.old) (λ bytes. MayRefuse by.now bytes fault) }
+    ensures handed { IfSome (S.bytes file.old) (λ bytes. TakesOf by.now bytes (S.handed file.old) (S.handed file.new)) }
+    ensures by_size { TakesBySize by.now size (S.handed file.old) (S.handed file.new) }
+    ensures file { OnlyAsks S.bytes S.told S.name S.faults (result ≡ Err ReadEnd.Store) file.old file.new }
+{
+    match by {
+        By::At(position) => seek(alloc, file, size, *position),
+        By::Key(key) => find_key(alloc, file, size, key),
+    }
+}
+
+/// A record of a file that isn't less than a key, behind one that is.
+fn find_key<S: Store>(
+    alloc: Global,
+    file: &mut S,
+    size: u64,
+    key: &SearchKey,
+) -> Result<Option<Found>, ReadEnd>
+    requires told { S.told file.old ≡ Some size }
+    requires in_reach { size ≤ 2 ^ 60 }
+    ensures found { IfOk result (λ found. IfSome (S.bytes file.old) (λ bytes. MayFind key.now bytes (placed_of found))) }
+    ensures refused { (fault : Fault) → result ≡ Err (ReadEnd.Refused fault) → IfSome (S.bytes file.old) (λ bytes. IsKeyFault bytes fault) }
+    ensures handed { IfSome (S.bytes file.old) (λ bytes. TakesOf (by.Key key.now) bytes (S.handed file.old) (S.handed file.new)) }
+    ensures file { OnlyAsks S.bytes S.told S.name S.faults (result ≡ Err ReadEnd.Store) file.old file.new }
+{
+    let test = KeyTest::new(
+        |bytes: &[u8]| -> bool
+            ensures { result ≡ is_below key.entry.now bytes.now }
+        { key.is_past(bytes) },
+    );
+    find(alloc, file, size, &test)
+}

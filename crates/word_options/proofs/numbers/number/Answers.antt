@@ -1,7 +1,0 @@
-use Rattle.std.proofs.Common.{sym, ◌∙◌}
-use Rattle.word_options.proofs.Decimals.{number_in-parsed}
-use Rattle.word_options.proofs.numbers.number.Goals as goal
-
-pub returns-then-is_numeral : goal.returns-then-is_numeral
-returns-then-is_numeral c =
-    c.ok.ensures.value ∙ number_in-parsed c.args.word.now c.parse.result (sym c.if-is_numeral.ensures) c.parse.ensures.value.0

@@ -1,4 +1,0 @@
-pub mod Numbers
-pub mod Options
-pub mod FilesWords
-pub mod Writing

@@ -1,4 +1,0 @@
-use Rattle.write_lines.proofs.writing.end_with_stop.Goals as goal
-
-pub returns-in-TooLong-clause-told : goal.returns-in-TooLong-clause-told
-returns-in-TooLong-clause-told g c = rw c.in-TooLong.is c.end_with_number.ensures.told
