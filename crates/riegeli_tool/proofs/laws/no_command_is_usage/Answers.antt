@@ -2,4 +2,4 @@ use Rattle.riegeli_tool.proofs.UsageRuns.{ends-usage}
 use Rattle.riegeli_tool.proofs.laws.no_command_is_usage.Goals as goal
 
 pub returns : goal.returns
-returns c = λ before after ended ran. ends-usage before after ended ran
+returns c = record { usage = λ before after ended ran. ends-usage before after ended ran }
