@@ -3,7 +3,7 @@ ghost use Rattle.std.specs.Prelude.{◌≤◌, length, IsSomeAnd};
 
 use crate::stand_ins::{Call, FOLDER, FakeFiles, REPLACED, Script};
 use record_append::{AsSink, AsStore, Device, FileDevice};
-use record_io::{Failed, get_exact, put_all};
+use record_io::{Failed, Store, get_exact, put_all};
 use std::fs::{self, OpenFile, OpenOptions};
 use std::io;
 use std::process::Abort;
