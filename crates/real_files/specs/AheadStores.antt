@@ -1,5 +1,5 @@
 -- Inside. What a store holds that reads ahead. Own.
-use Rattle.std.specs.Prelude.{◌≡◌, ℕ, ◌+◌, ◌^◌, ◌<◌, ◌==◌, max, Bool, false, Option, Some, None, Result, IfSome, OnErr, List, length, slice_range, refl, if◌then◌else◌}
+use Rattle.std.specs.Prelude.{◌≡◌, ℕ, ◌+◌, ◌^◌, ◌<◌, ◌≤◌, ◌==◌, max, Bool, false, Option, Some, None, Result, IfSome, OnErr, List, length, slice_range, refl, if◌then◌else◌}
 use Rattle.std.specs.Int.{next_multiple_of}
 use Rattle.record_io.specs.Outside.{Rose}
 use Rattle.record_io.specs.FaultCounts.{faults_after}
@@ -11,6 +11,11 @@ pub record Part : Type 0 where
   pub from : ℕ
   -- the bytes
   pub bytes : List ℕ
+
+-- a place lies where a part has a byte
+pub record LiesIn (part : Part) (at : ℕ) : Type 0 where
+  pub begins : part.from ≤ at
+  pub ends : at < part.from + length part.bytes
 
 -- where a file shows its bytes, these stand at their place in it
 abbrev pub IsPartOf : Option (List ℕ) → Part → Type 0

@@ -1,5 +1,5 @@
 -- Inside. What can be relied on of files that are used apart from others, and of what is told apart from them. Own.
-use Rattle.std.specs.Prelude.{◌≡◌, ℕ, Option, None, Some, Bool, true, false, is_some, Result, List, IfSome, IsErr, OnErr, OnOk}
+use Rattle.std.specs.Prelude.{◌≡◌, ℕ, Option, None, Some, Bool, true, false, is_some, Result, List, IfSome, IsErr, OnErr}
 use Rattle.record_io.specs.Outside.{Lent, Rose}
 use Rattle.record_io.specs.FaultCounts.{faults_after}
 use Rattle.record_io.specs.Seen.{SeenFile, SeenStream}
@@ -17,21 +17,6 @@ pub record ApartFrom (F : Type 0) : Type 0 where
 -- a file before its first call
 abbrev pub unused : {F : Type 0} → F → ApartFrom F
 unused file = record { apart = None; file = file; faults = 0 }
-
--- a file of this name that is neither opened nor told its size
-abbrev pub unopened : List ℕ → Opened
-unopened path = record { path = path; opened = None; told = None; end = None; contents = None; handed = 0; faults = 0 }
-
--- one that isn't made yet
-abbrev pub unmade : List ℕ → Writing
-unmade path = record { path = path; opened = None; contents = None; faults = 0 }
-
--- a call on it leaves its name, and whether it could be made, and counts its failure
-pub record StaysMade {X E : Type 0} (result : Result X E) (before after : Writing) : Type 0 where
-  pub opened : OnOk result (after.opened ≡ Some true)
-  pub opened_once : IfSome before.opened (λ could. after.opened ≡ Some could)
-  pub same_path : after.path ≡ before.path
-  pub counted : after.faults ≡ faults_after result before.faults
 
 -- what one shows that is read and grown: nothing of its bytes
 abbrev pub apart_seen : ApartFrom Opened → SeenFile

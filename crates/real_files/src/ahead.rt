@@ -1,4 +1,4 @@
-ghost use Rattle.std.specs.Prelude.{◌≡◌, ◌+◌, ◌<◌, ◌≤◌, length, None, Some, IfOk, IsSomeAnd, OnErr, max};
+ghost use Rattle.std.specs.Prelude.{◌≡◌, ◌+◌, ◌<◌, ◌≤◌, length, None, Some, IfOk, IsSomeAnd, OnErr, max, min};
 ghost use Rattle.record_io.specs.Seen.{TellsSize, ReadsPiece, CutsAt, GrowsBy};
 ghost use Rattle.real_files.specs.AheadStores.{PassesOn, most_asked, ahead_seen, told_by};
 
@@ -101,8 +101,9 @@ impl<S: Store + Drop, const N: usize> Store for ReadAheadBy<S, N> {
         ensures passes { PassesOn result self.old self.new }
         ensures ended { IfOk result (λ n. self.new.ended ≡ Some (at + n)) }
         ensures same_ended { OnErr result (self.new.ended ≡ self.old.ended) }
-        ensures inner_handed { self.new.inner_handed ≤ self.old.inner_handed + most_asked N self.old.ended at (length buf.old) }
-        ensures inner_most { self.new.inner_handed ≤ self.old.inner_handed + max N (length buf.old) }
+        ensures inner_handed { self.new.inner_handed
+            ≤ self.old.inner_handed + min (most_asked N self.old.ended at (length buf.old))
+            (max N (length buf.old)) }
     {
         let Some(size) = self.told else {
             return Err(fault(&mut self.faults));

@@ -1,9 +1,8 @@
 //! A real file that is read or grown, unless it is one that a standard stream is.
-ghost use Rattle.std.specs.Prelude.{◌≡◌, ◌<◌, ◌≤◌, length, take, None, Some, true, IfOk, IsSomeAnd, OnOk, OnErr};
-ghost use Rattle.std.specs.Io.KnownBytes.{Appends};
-ghost use Rattle.record_io.specs.Edge.{AppendsFront, EndsBehind, ReadsAt, StaysOpen};
+ghost use Rattle.std.specs.Prelude.{◌≡◌, ◌<◌, ◌≤◌, length, take, None, Some, true, IfOk, IsSomeAnd, OnOk};
+ghost use Rattle.record_io.specs.Edge.{AppendsPiece, EndsBehind, ReadsAt, StaysOpen, unopened};
 ghost use Rattle.record_io.specs.Seen.{CutsAt, GrowsBy, ReadsPiece, TellsSize};
-ghost use Rattle.real_files.specs.Apart.{KeepsApart, apart_seen, unopened, unused};
+ghost use Rattle.real_files.specs.Apart.{KeepsApart, apart_seen, unused};
 
 use crate::apart::Apart;
 use crate::streams::Behind;
@@ -76,7 +75,6 @@ impl<'a, R: Files, O: Opening> Store for ApartFile<'a, R, O> {
 
     fn read_at(&mut self, at: u64, buf: &mut [u8]) -> Result<usize, Failed>
         requires below { IsSomeAnd self.old.file.told (λ size. at < size) }
-        requires room { 0 < length buf.old }
         ensures reads { ReadsPiece result at (length buf.old) buf.new (apart_seen self.old) (apart_seen self.new) }
         ensures keeps { KeepsApart (StaysOpen result self.old.file self.new.file) result self.old self.new }
         ensures apart { self.new.apart ≡ Some true }
@@ -101,11 +99,10 @@ impl<'a, R: Files> Device for ApartFile<'a, R, ReadAppend> {
     }
 
     fn put(&mut self, piece: &[u8]) -> Result<usize, Failed>
-        requires { 0 < length piece.now }
         ensures grows { GrowsBy result piece.now (apart_seen self.old) (apart_seen self.new) }
         ensures keeps { KeepsApart (StaysOpen result self.old.file self.new.file) result self.old self.new }
-        ensures appends { IfOk result (λ n. Appends self.old.file.contents self.new.file.contents (take n piece.now)) }
-        ensures front { OnErr result (AppendsFront self.old.file.contents self.new.file.contents piece.now) }
+        ensures appends { AppendsPiece result piece.now self.old.file.contents
+            self.new.file.contents }
         ensures ends { IfOk result (λ n. EndsBehind self.old.file.end self.new.file.end n) }
     {
         self.apart.look(&mut self.faults)?;

@@ -1,9 +1,8 @@
 //! A real file that is made, unless it is one that is read or that a standard stream is.
-ghost use Rattle.std.specs.Prelude.{◌≡◌, ◌<◌, length, take, None, IfOk, OnErr};
-ghost use Rattle.std.specs.Io.KnownBytes.{Appends};
-ghost use Rattle.record_io.specs.Edge.{AppendsFront};
+ghost use Rattle.std.specs.Prelude.{◌≡◌, None};
+ghost use Rattle.record_io.specs.Edge.{AppendsPiece, StaysMade, unmade};
 ghost use Rattle.record_io.specs.Seen.{TakesPiece};
-ghost use Rattle.real_files.specs.Apart.{KeepsApart, StaysMade, made_seen, unmade, unused};
+ghost use Rattle.real_files.specs.Apart.{KeepsApart, made_seen, unused};
 
 use crate::apart::Apart;
 use crate::streams::Behind;
@@ -58,11 +57,10 @@ impl<'a, R: Files> Sink for ApartSink<'a, R> {
     ghost faults = { λ s. s.faults };
 
     fn put(&mut self, piece: &[u8]) -> Result<usize, Failed>
-        requires { 0 < length piece.now }
         ensures takes { TakesPiece result piece.now (made_seen self.old) (made_seen self.new) }
         ensures keeps { KeepsApart (StaysMade result self.old.file self.new.file) result self.old self.new }
-        ensures appends { IfOk result (λ n. Appends self.old.file.contents self.new.file.contents (take n piece.now)) }
-        ensures front { OnErr result (AppendsFront self.old.file.contents self.new.file.contents piece.now) }
+        ensures appends { AppendsPiece result piece.now self.old.file.contents
+            self.new.file.contents }
     {
         self.apart.look(&mut self.faults)?;
         counted(self.file.put(piece), &mut self.faults)

@@ -1,6 +1,6 @@
-ghost use Rattle.std.specs.Prelude.{◌≡◌, ◌+◌, ◌-◌, ◌^◌, ◌<◌, ◌≤◌, ◌↔◌, [], length, take, max, min, slice_range, Some, IsTrue, IsErr, IfOk, IfSome, IsSomeAnd, OnOk, OnErr};
-ghost use Rattle.record_io.specs.Calls.{OnlyAsks};
-ghost use Rattle.real_files.specs.AheadStores.{IsPartOf};
+ghost use Rattle.std.specs.Prelude.{◌≡◌, ◌+◌, ◌-◌, ◌<◌, ◌≤◌, ◌↔◌, [], length, take, max, min, slice_range, Some, IsTrue, IsErr, IfOk, IfSome, IsSomeAnd, OnOk, OnErr};
+ghost use Rattle.record_io.specs.Calls.{AsksUpTo, HandlesSome};
+ghost use Rattle.real_files.specs.AheadStores.{IsPartOf, LiesIn};
 
 use record_io::{Failed, Store};
 use std::marker::Model;
@@ -58,12 +58,12 @@ impl<const N: usize> HeldPart<N> {
         requires room { 0 < length buf.old }
         requires some { 0 < most }
         requires part { IsPartOf (S.bytes store.old) self.old }
-        ensures some { IfOk result (λ n. 0 < n) }
-        ensures fits { IfOk result (λ n. n ≤ length buf.old) }
+        ensures some { HandlesSome result (length buf.old) }
         ensures given { IfOk result (λ n. IfSome (S.bytes store.old) (λ file. take n buf.new ≡ slice_range file at (at + n))) }
         ensures part { IsPartOf (S.bytes store.new) self.new }
-        ensures handed { S.handed store.new ≤ S.handed store.old + max (min most N) (length buf.old) }
-        ensures store { OnlyAsks S.bytes S.told S.name S.faults (IsErr result) store.old store.new }
+        ensures store { AsksUpTo S.bytes S.told S.handed S.name S.faults (IsErr result)
+            (max (min most N) (length buf.old))
+            store.old store.new }
     {
         if !self.holds(at) {
             if buf.len() >= N / 2 {
@@ -76,15 +76,14 @@ impl<const N: usize> HeldPart<N> {
 
     // Whether the byte at this place is held.
     fn holds(&self, at: u64) -> bool
-        ensures { IsTrue result ↔ ((self.now.from ≤ at) × (at < self.now.from + length self.now.bytes)) }
+        ensures { IsTrue result ↔ LiesIn self.now at }
     {
         at >= self.from && at - self.from < self.count as u64
     }
 
     // Copies what is held from this place on into the front of the buffer, and answers how many bytes.
     fn give(&self, at: u64, buf: &mut [u8]) -> usize
-        requires begins { self.now.from ≤ at }
-        requires ends { at < self.now.from + length self.now.bytes }
+        requires held { LiesIn self.now at }
         requires room { 0 < length buf.old }
         ensures some { 0 < result }
         ensures fits { result ≤ length buf.old }
@@ -110,12 +109,11 @@ impl<const N: usize> HeldPart<N> {
         requires below { at < size }
         requires room { 0 < N }
         requires wanted { 0 < most }
-        ensures begins { OnOk result (self.new.from ≡ at) }
-        ensures some { OnOk result (0 < length self.new.bytes) }
+        ensures held { OnOk result (LiesIn self.new at) }
         ensures part { IsPartOf (S.bytes store.new) self.new }
         ensures emptied { OnErr result (self.new.bytes ≡ []) }
-        ensures handed { S.handed store.new ≤ S.handed store.old + min most N }
-        ensures store { OnlyAsks S.bytes S.told S.name S.faults (IsErr result) store.old store.new }
+        ensures store { AsksUpTo S.bytes S.told S.handed S.name S.faults (IsErr result) (min most N)
+            store.old store.new }
     {
         self.clear();
         let count = (size - at).min(most.min(N) as u64) as usize;
@@ -129,11 +127,10 @@ impl<const N: usize> HeldPart<N> {
 fn ask<S: Store>(store: &mut S, at: u64, buf: &mut [u8]) -> Result<usize, Failed>
     requires within { IsSomeAnd (S.told store.old) (λ size. at + length buf.old ≤ size) }
     requires room { 0 < length buf.old }
-    ensures some { IfOk result (λ n. 0 < n) }
-    ensures fits { IfOk result (λ n. n ≤ length buf.old) }
+    ensures some { HandlesSome result (length buf.old) }
     ensures given { IfOk result (λ n. IfSome (S.bytes store.old) (λ file. take n buf.new ≡ slice_range file at (at + n))) }
-    ensures handed { S.handed store.new ≤ S.handed store.old + length buf.old }
-    ensures store { OnlyAsks S.bytes S.told S.name S.faults (IsErr result) store.old store.new }
+    ensures store { AsksUpTo S.bytes S.told S.handed S.name S.faults (IsErr result) (length buf.old)
+        store.old store.new }
 {
     store.read_at(at, buf)
 }

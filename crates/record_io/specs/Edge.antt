@@ -1,5 +1,5 @@
 -- Inside. What can be relied on of real files and streams, of whose bytes nothing is shown to callers. Own.
-use Rattle.std.specs.Prelude.{◌≡◌, ℕ, ◌+◌, ◌-◌, ◌^◌, ◌≤◌, min, true, Option, None, Some, Result, Ok, Err, Bool, List, length, take, IfSome, OnOk, OnErr}
+use Rattle.std.specs.Prelude.{◌≡◌, ℕ, ◌+◌, ◌-◌, ◌^◌, ◌≤◌, min, true, Option, None, Some, Result, Ok, Err, Bool, List, length, take, IfOk, IfSome, OnOk, OnErr}
 use Rattle.std.specs.Io.KnownBytes.{Appends, Consumes}
 use Rattle.record_io.specs.FaultCounts.{faults_after}
 use Rattle.record_io.specs.Seen.{SeenStream, SeenFile}
@@ -20,6 +20,10 @@ pub record Opened : Type 0 where
   pub handed : ℕ
   -- how many faults there were
   pub faults : ℕ
+
+-- a file of this name that is neither opened nor told its size
+abbrev pub unopened : List ℕ → Opened
+unopened path = record { path = path; opened = None; told = None; end = None; contents = None; handed = 0; faults = 0 }
 
 -- what it shows: none of its bytes
 abbrev pub opened_seen : Opened → SeenFile
@@ -48,6 +52,17 @@ pub record Writing : Type 0 where
   pub contents : Option (List ℕ)
   -- how many faults there were
   pub faults : ℕ
+
+-- one of this name that isn't made yet
+abbrev pub unmade : List ℕ → Writing
+unmade path = record { path = path; opened = None; contents = None; faults = 0 }
+
+-- a call counts its failure, and leaves the file's name, and whether it could be made
+pub record StaysMade {X E : Type 0} (result : Result X E) (before after : Writing) : Type 0 where
+  pub opened : OnOk result (after.opened ≡ Some true)
+  pub opened_once : IfSome before.opened (λ could. after.opened ≡ Some could)
+  pub same_path : after.path ≡ before.path
+  pub counted : after.faults ≡ faults_after result before.faults
 
 -- what it shows
 abbrev pub writing_seen : Writing → SeenStream
@@ -84,6 +99,11 @@ written contents (Some (Err error)) = None
 -- known bytes grew by a front of these
 abbrev pub AppendsFront : Option (List ℕ) → Option (List ℕ) → List ℕ → Type 0
 AppendsFront before after bytes = (n : ℕ) × (n ≤ length bytes) × Appends before after (take n bytes)
+
+-- known bytes grew by so many of the front of a piece as the call answers, or where it failed by a front of it
+pub record AppendsPiece {E : Type 0} (result : Result ℕ E) (piece : List ℕ) (before after : Option (List ℕ)) : Type 0 where
+  pub appends : IfOk result (λ n. Appends before after (take n piece))
+  pub front : OnErr result (AppendsFront before after piece)
 
 -- a file gave these bytes after it was moved to a place, where its position is known
 abbrev pub ReadsAt : {F : Type 0} → (F → Option ℕ) → (F → Option (List ℕ)) → F → F → ℕ → List ℕ → Type 0

@@ -10,8 +10,8 @@ pub record SeenStream : Type 0 where
 abbrev pub seen_stream : {X : Type 0} → (X → Option (List ℕ)) → (X → ℕ) → X → SeenStream
 seen_stream bytes faults x = record { bytes = bytes x; faults = faults x }
 
--- what a file shows: its bytes, where it shows them, the size that it told the last time, how many bytes it handed out, and its
--- count of faults
+-- what a file shows: its bytes, where it shows them, the size that it told the last time, how many bytes it handed out, up to
+-- 2 ^ 64 - 1, and its count of faults
 pub record SeenFile : Type 0 where
   pub bytes : Option (List ℕ)
   pub told : Option ℕ

@@ -1,9 +1,7 @@
 //! Real files as sinks, which show none of their bytes to a proof.
-ghost use Rattle.std.specs.Prelude.{◌≡◌, ◌<◌, length, take, None, Some, true, IfOk, IfSome, OnOk, OnErr};
-ghost use Rattle.std.specs.Io.KnownBytes.{Appends};
-ghost use Rattle.record_io.specs.FaultCounts.{faults_after};
+ghost use Rattle.std.specs.Prelude.{◌≡◌, None};
 ghost use Rattle.record_io.specs.Seen.{TakesPiece};
-ghost use Rattle.record_io.specs.Edge.{AppendsFront, writing_seen};
+ghost use Rattle.record_io.specs.Edge.{AppendsPiece, StaysMade, unmade, writing_seen};
 
 use crate::outside::{Failed, Sink, fault};
 use crate::std_calls::put_to;
@@ -36,10 +34,7 @@ impl<'a, R: Files> Model for FileSink<'a, R> {
 impl<'a, R: Files> FileSink<'a, R> {
     /// The file of this name, which is not made yet.
     pub fn named(rt: &'a R, path: &'a str) -> FileSink<'a, R>
-        ensures path { result.path ≡ path.now }
-        ensures unopened { result.opened ≡ None }
-        ensures contents { result.contents ≡ None }
-        ensures faults { result.faults ≡ 0 }
+        ensures { result ≡ unmade path.now }
     {
         FileSink {
             rt,
@@ -56,14 +51,9 @@ impl<'a, R: Files> Sink for FileSink<'a, R> {
     ghost faults = { λ s. s.faults };
 
     fn put(&mut self, piece: &[u8]) -> Result<usize, Failed>
-        requires { 0 < length piece.now }
         ensures takes { TakesPiece result piece.now (writing_seen self.old) (writing_seen self.new) }
-        ensures appends { IfOk result (λ n. Appends self.old.contents self.new.contents (take n piece.now)) }
-        ensures front { OnErr result (AppendsFront self.old.contents self.new.contents piece.now) }
-        ensures opened_once { IfSome self.old.opened (λ could. self.new.opened ≡ Some could) }
-        ensures opened { OnOk result (self.new.opened ≡ Some true) }
-        ensures same_path { self.new.path ≡ self.old.path }
-        ensures counted { self.new.faults ≡ faults_after result self.old.faults }
+        ensures appends { AppendsPiece result piece.now self.old.contents self.new.contents }
+        ensures stays { StaysMade result self.old self.new }
     {
         let (rt, path) = (self.rt, self.path);
         match self

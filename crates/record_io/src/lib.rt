@@ -2,6 +2,7 @@
 //! counts are in bytes or calls. Own, as a whole.
 #![tactic(auto)]
 
+mod cut;
 mod file_sink;
 mod named_file;
 mod outside;
@@ -10,6 +11,7 @@ mod stand_ins;
 pub mod std_calls;
 mod streams;
 
+pub use cut::Cut;
 pub use file_sink::FileSink;
 pub use named_file::{FileDevice, FileStore, NamedFile, Opening, ReadAppend, ReadOnly};
 pub use outside::{Device, Failed, Sink, Source, Store, counted, fault, get_exact, put_all};

@@ -1,9 +1,8 @@
 //! Real files as stores and as devices, which show none of their bytes to a proof.
-ghost use Rattle.std.specs.Prelude.{◌≡◌, ◌<◌, ◌≤◌, length, take, None, Some, IfOk, IfSome, IsSomeAnd, OnOk, OnErr};
-ghost use Rattle.std.specs.Io.KnownBytes.{Appends};
+ghost use Rattle.std.specs.Prelude.{◌≡◌, ◌<◌, ◌≤◌, length, take, None, Some, IfOk, IfSome, IsSomeAnd, OnOk};
 ghost use Rattle.record_io.specs.FaultCounts.{faults_after};
 ghost use Rattle.record_io.specs.Seen.{TellsSize, ReadsPiece, CutsAt, GrowsBy};
-ghost use Rattle.record_io.specs.Edge.{AppendsFront, EndsBehind, ReadsAt, StaysOpen, opened_seen};
+ghost use Rattle.record_io.specs.Edge.{AppendsPiece, EndsBehind, ReadsAt, StaysOpen, opened_seen, unopened};
 
 use crate::outside::{Device, Failed, Store, counted, fault};
 use crate::std_calls::{put_to, read_from, size_of};
@@ -88,7 +87,7 @@ impl<'a, R: Files, O: Opening> Model for NamedFile<'a, R, O> {
 impl<'a, R: Files, O: Opening> NamedFile<'a, R, O> {
     /// The file of this name, which is not opened yet. It takes no memory.
     pub fn named(rt: &'a R, path: &'a str) -> NamedFile<'a, R, O>
-        ensures { result ≡ record { path = path.now; opened = None; told = None; end = None; contents = None; handed = 0; faults = 0 } }
+        ensures { result ≡ unopened path.now }
     {
         NamedFile {
             rt,
@@ -133,7 +132,6 @@ impl<'a, R: Files, O: Opening> Store for NamedFile<'a, R, O> {
 
     fn read_at(&mut self, at: u64, buf: &mut [u8]) -> Result<usize, Failed>
         requires below { IsSomeAnd self.old.told (λ size. at < size) }
-        requires room { 0 < length buf.old }
         ensures reads { ReadsPiece result at (length buf.old) buf.new (opened_seen self.old) (opened_seen self.new) }
         ensures stays { StaysOpen result self.old self.new }
         ensures same_opened { self.new.opened ≡ self.old.opened }
@@ -172,11 +170,9 @@ impl<'a, R: Files> Device for NamedFile<'a, R, ReadAppend> {
     }
 
     fn put(&mut self, piece: &[u8]) -> Result<usize, Failed>
-        requires { 0 < length piece.now }
         ensures grows { GrowsBy result piece.now (opened_seen self.old) (opened_seen self.new) }
         ensures stays { StaysOpen result self.old self.new }
-        ensures appends { IfOk result (λ n. Appends self.old.contents self.new.contents (take n piece.now)) }
-        ensures front { OnErr result (AppendsFront self.old.contents self.new.contents piece.now) }
+        ensures appends { AppendsPiece result piece.now self.old.contents self.new.contents }
         ensures ends { IfOk result (λ n. EndsBehind self.old.end self.new.end n) }
     {
         self.told = None;

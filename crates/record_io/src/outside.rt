@@ -1,8 +1,8 @@
 ghost use Rattle.std.specs.Prelude.{◌≡◌, ℕ, ◌+◌, ◌-◌, ◌^◌, ◌<◌, ◌≤◌, ◌⊎◌, Option, List, length, slice_range, IsErr, IfOk, IfSome, IsSomeAnd, OnOk, OnErr};
 ghost use Rattle.record_io.specs.Outside.{Lent, none_lent};
-ghost use Rattle.record_io.specs.FaultCounts.{one_more, faults_after};
+ghost use Rattle.record_io.specs.FaultCounts.{AddsFault, faults_after};
 ghost use Rattle.record_io.specs.Seen.{seen_stream, seen_file, GivesPiece, TakesPiece, TellsSize, ReadsPiece, CutsAt, GrowsBy};
-ghost use Rattle.record_io.specs.Calls.{OnlyAsks, PutsTo};
+ghost use Rattle.record_io.specs.Calls.{AsksUpTo, PutsTo};
 
 /// A call on the outside failed.
 #[derive(Clone, Copy, Debug, PartialEq, Eq)]
@@ -10,9 +10,7 @@ pub struct Failed;
 
 /// Counts a fault, for the call that failed to answer. A count at its greatest stays there.
 pub fn fault(faults: &mut u64) -> Failed
-    ensures counted { faults.new ≡ one_more faults.old }
-    ensures never_falls { faults.old ≤ faults.new }
-    ensures small { faults.new < 2 ^ 64 }
+    ensures { AddsFault faults.old faults.new }
 {
     *faults = faults.saturating_add(1);
     Failed
@@ -133,9 +131,9 @@ pub fn get_exact<S: Store>(store: &mut S, at: u64, buf: &mut [u8]) -> Result<(),
     requires within { 0 < length buf.old → IsSomeAnd (S.told store.old) (λ size. at + length buf.old ≤ size) }
     ensures exact { OnOk result (IfSome (S.bytes store.old) (λ file. buf.new ≡ slice_range file at (at + length buf.old))) }
     ensures handed_out { OnOk result ((S.handed store.new ≡ S.handed store.old + length buf.old) ⊎ (S.handed store.new ≡ 2 ^ 64 - 1)) }
-    ensures handed_most { S.handed store.new ≤ S.handed store.old + length buf.old }
     ensures handed_small { S.handed store.old < 2 ^ 64 → (S.handed store.old ≤ S.handed store.new) × (S.handed store.new < 2 ^ 64) }
-    ensures store { OnlyAsks S.bytes S.told S.name S.faults (IsErr result) store.old store.new }
+    ensures store { AsksUpTo S.bytes S.told S.handed S.name S.faults (IsErr result) (length buf.old)
+        store.old store.new }
 {
     let mut got = 0;
     while got < buf.len() {

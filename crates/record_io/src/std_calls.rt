@@ -1,9 +1,10 @@
 //! Calls on the readers, writers and files of std, each of whose failures counts one fault. They serve objects over files
 //! and streams, also those of other crates.
-ghost use Rattle.std.specs.Prelude.{◌≡◌, ◌<◌, ◌≤◌, length, take, IfOk, OnErr};
+ghost use Rattle.std.specs.Prelude.{◌≡◌, ◌≤◌, length, take, IfOk, OnErr};
 ghost use Rattle.std.specs.Io.KnownBytes.{Appends, Keeps, ReadConsumes};
 ghost use Rattle.record_io.specs.FaultCounts.{faults_after};
-ghost use Rattle.record_io.specs.Edge.{AppendsFront, ReadsAt};
+ghost use Rattle.record_io.specs.Calls.{HandlesSome};
+ghost use Rattle.record_io.specs.Edge.{AppendsPiece, ReadsAt};
 
 use crate::outside::{Failed, counted, fault};
 use std::fs::OpenFile;
@@ -29,8 +30,7 @@ pub fn read_from<F: Read + Seek>(
     buf: &mut [u8],
     faults: &mut u64,
 ) -> Result<usize, Failed>
-    ensures some { IfOk result (λ n. 0 < n) }
-    ensures fits { IfOk result (λ n. n ≤ length buf.old) }
+    ensures some { HandlesSome result (length buf.old) }
     ensures bytes { IfOk result (λ n. ReadsAt F.stream_position F.remaining file.old file.new at (take n buf.new)) }
     ensures counted { faults.new ≡ faults_after result faults.old }
 {
@@ -55,8 +55,7 @@ pub fn size_of<F: OpenFile>(file: &F, faults: &mut u64) -> Result<u64, Failed>
 
 /// Writes a front of the piece, and answers how many bytes: at least 1.
 fn write_to<T: Write>(to: &mut T, piece: &[u8], faults: &mut u64) -> Result<usize, Failed>
-    ensures some { IfOk result (λ n. 0 < n) }
-    ensures fits { IfOk result (λ n. n ≤ length piece.now) }
+    ensures some { HandlesSome result (length piece.now) }
     ensures appends { IfOk result (λ n. Appends (T.contents to.old) (T.contents to.new) (take n piece.now)) }
     ensures kept { OnErr result (Keeps (T.contents to.old) (T.contents to.new)) }
     ensures counted { faults.new ≡ faults_after result faults.old }
@@ -70,10 +69,8 @@ fn write_to<T: Write>(to: &mut T, piece: &[u8], faults: &mut u64) -> Result<usiz
 
 /// Writes a front of the piece, of which the writer holds nothing back, and answers how many bytes: at least 1.
 pub fn put_to<T: Write>(to: &mut T, piece: &[u8], faults: &mut u64) -> Result<usize, Failed>
-    ensures some { IfOk result (λ n. 0 < n) }
-    ensures fits { IfOk result (λ n. n ≤ length piece.now) }
-    ensures appends { IfOk result (λ n. Appends (T.contents to.old) (T.contents to.new) (take n piece.now)) }
-    ensures front { OnErr result (AppendsFront (T.contents to.old) (T.contents to.new) piece.now) }
+    ensures some { HandlesSome result (length piece.now) }
+    ensures appends { AppendsPiece result piece.now (T.contents to.old) (T.contents to.new) }
     ensures counted { faults.new ≡ faults_after result faults.old }
 {
     let count = write_to(to, piece, faults)?;

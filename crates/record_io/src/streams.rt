@@ -1,9 +1,9 @@
 //! Real streams, which show none of their bytes to a proof.
-ghost use Rattle.std.specs.Prelude.{◌≡◌, ◌<◌, length, take, None, IfOk, OnErr};
-ghost use Rattle.std.specs.Io.KnownBytes.{Appends, ReadConsumes};
+ghost use Rattle.std.specs.Prelude.{◌≡◌, length, None};
+ghost use Rattle.std.specs.Io.KnownBytes.{ReadConsumes};
 ghost use Rattle.record_io.specs.FaultCounts.{faults_after};
 ghost use Rattle.record_io.specs.Seen.{GivesPiece, TakesPiece};
-ghost use Rattle.record_io.specs.Edge.{AppendsFront, incoming_seen, outgoing_seen};
+ghost use Rattle.record_io.specs.Edge.{AppendsPiece, incoming_seen, outgoing_seen};
 
 use crate::outside::{Failed, Sink, Source};
 use crate::std_calls::{put_to, take_from};
@@ -31,8 +31,7 @@ impl<T: Read> Model for StdInput<T> {
 impl<T: Read + Drop> StdInput<T> {
     /// What this reader gives.
     pub fn new(from: T) -> StdInput<T>
-        ensures remaining { result.remaining ≡ T.remaining from }
-        ensures faults { result.faults ≡ 0 }
+        ensures { result ≡ record { remaining = T.remaining from; faults = 0 } }
     {
         StdInput { from, faults: 0 }
     }
@@ -44,7 +43,6 @@ impl<T: Read + Drop> Source for StdInput<T> {
     ghost faults = { λ s. s.faults };
 
     fn take(&mut self, buf: &mut [u8]) -> Result<usize, Failed>
-        requires { 0 < length buf.old }
         ensures gives { GivesPiece result (length buf.old) buf.new (incoming_seen self.old) (incoming_seen self.new) }
         ensures bytes { ReadConsumes self.old.remaining self.new.remaining result buf.new }
         ensures counted { self.new.faults ≡ faults_after result self.old.faults }
@@ -77,8 +75,7 @@ impl<T: Write> Model for StdOut<T> {
 impl<T: Write + Drop> StdOut<T> {
     /// What goes to this writer.
     pub fn new(to: T) -> StdOut<T>
-        ensures contents { result.contents ≡ T.contents to }
-        ensures faults { result.faults ≡ 0 }
+        ensures { result ≡ record { contents = T.contents to; faults = 0 } }
     {
         StdOut { to, faults: 0 }
     }
@@ -90,10 +87,8 @@ impl<T: Write + Drop> Sink for StdOut<T> {
     ghost faults = { λ s. s.faults };
 
     fn put(&mut self, piece: &[u8]) -> Result<usize, Failed>
-        requires { 0 < length piece.now }
         ensures takes { TakesPiece result piece.now (outgoing_seen self.old) (outgoing_seen self.new) }
-        ensures appends { IfOk result (λ n. Appends self.old.contents self.new.contents (take n piece.now)) }
-        ensures front { OnErr result (AppendsFront self.old.contents self.new.contents piece.now) }
+        ensures appends { AppendsPiece result piece.now self.old.contents self.new.contents }
         ensures counted { self.new.faults ≡ faults_after result self.old.faults }
     {
         put_to(&mut self.to, piece, &mut self.faults)

@@ -1,6 +1,6 @@
 ghost use Rattle.std.specs.Prelude.{◌≡◌, ◌-◌, ◌<◌, ◌≤◌, ◌↔◌, ◌⊎◌, true, length, min, Contains, Some, IsErr, IfOk, OnOk};
 ghost use Rattle.record_io.specs.Seen.{TellsSize, ReadsPiece, CutsAt, GrowsBy};
-ghost use Rattle.record_io.specs.Memory.{HasCalled, HasCounted, cut_to, file_seen, new_file, told_if};
+ghost use Rattle.record_io.specs.Memory.{HasByteAt, HasCalledFile, HasCounted, cut_to, file_seen, new_file, told_if};
 
 use super::script::Script;
 use crate::outside::{Device, Failed, Store};
@@ -99,8 +99,7 @@ impl Store for MemDevice {
     fn size(&mut self) -> Result<u64, Failed>
         ensures tells { TellsSize result (file_seen self.old) (file_seen self.new) }
         ensures asked { OnOk result (self.new.asked ≡ true) }
-        ensures called { HasCalled result self.old.script self.new.script }
-        ensures same_most { self.new.most ≡ self.old.most }
+        ensures called { HasCalledFile result self.old self.new }
     {
         self.script.begin(0)?;
         self.asked = true;
@@ -108,13 +107,11 @@ impl Store for MemDevice {
     }
 
     fn read_at(&mut self, at: u64, buf: &mut [u8]) -> Result<usize, Failed>
-        requires asked { self.old.asked ≡ true }
-        requires below { at < length self.old.bytes }
+        requires below { HasByteAt self.old at }
         requires room { 0 < length buf.old }
         ensures reads { ReadsPiece result at (length buf.old) buf.new (file_seen self.old) (file_seen self.new) }
         ensures cut { IfOk result (λ n. n ≡ cut_to self.old.script.cuts self.old.script.number (min (length buf.old) (length self.old.bytes - at))) }
-        ensures called { HasCalled result self.old.script self.new.script }
-        ensures same_most { self.new.most ≡ self.old.most }
+        ensures called { HasCalledFile result self.old self.new }
     {
         let given = self.script.copy(&self.bytes[at as usize..], buf)?;
         self.handed = self.handed.saturating_add(given as u64);
@@ -127,8 +124,7 @@ impl Device for MemDevice {
         requires asked { self.old.asked ≡ true }
         requires within { at ≤ length self.old.bytes }
         ensures cuts { CutsAt result at (file_seen self.old) (file_seen self.new) }
-        ensures called { HasCalled result self.old.script self.new.script }
-        ensures same_most { self.new.most ≡ self.old.most }
+        ensures called { HasCalledFile result self.old self.new }
     {
         self.asked = false;
         self.script.begin(0)?;

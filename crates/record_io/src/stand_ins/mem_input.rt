@@ -31,8 +31,7 @@ impl Model for MemInput {
 impl MemInput {
     /// All these bytes, none of them given yet. It takes no memory.
     pub fn new(bytes: Vec<u8>, cuts: Vec<u32>, fails: Vec<u32>) -> MemInput
-        ensures left { result.left ≡ bytes.items }
-        ensures script { result.script ≡ new_script cuts.items fails.items }
+        ensures { result ≡ record { left = bytes.items; script = new_script cuts.items fails.items } }
     {
         MemInput {
             bytes,

@@ -1,6 +1,6 @@
 ghost use Rattle.std.specs.Prelude.{◌≡◌, ◌-◌, ◌<◌, true, length, min, Some, IfOk, OnOk};
 ghost use Rattle.record_io.specs.Seen.{TellsSize, ReadsPiece};
-ghost use Rattle.record_io.specs.Memory.{HasCalled, cut_to, file_seen, new_file, told_if};
+ghost use Rattle.record_io.specs.Memory.{HasByteAt, HasCalledFile, cut_to, file_seen, new_file, told_if};
 
 use super::mem_device::MemDevice;
 use crate::outside::{Failed, Store};
@@ -50,18 +50,17 @@ impl Store for MemStore {
     fn size(&mut self) -> Result<u64, Failed>
         ensures tells { TellsSize result (file_seen self.old) (file_seen self.new) }
         ensures asked { OnOk result (self.new.asked ≡ true) }
-        ensures called { HasCalled result self.old.script self.new.script }
+        ensures called { HasCalledFile result self.old self.new }
     {
         self.held.size()
     }
 
     fn read_at(&mut self, at: u64, buf: &mut [u8]) -> Result<usize, Failed>
-        requires asked { self.old.asked ≡ true }
-        requires below { at < length self.old.bytes }
+        requires below { HasByteAt self.old at }
         requires room { 0 < length buf.old }
         ensures reads { ReadsPiece result at (length buf.old) buf.new (file_seen self.old) (file_seen self.new) }
         ensures cut { IfOk result (λ n. n ≡ cut_to self.old.script.cuts self.old.script.number (min (length buf.old) (length self.old.bytes - at))) }
-        ensures called { HasCalled result self.old.script self.new.script }
+        ensures called { HasCalledFile result self.old self.new }
     {
         self.held.read_at(at, buf)
     }

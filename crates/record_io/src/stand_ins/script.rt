@@ -1,5 +1,5 @@
-ghost use Rattle.std.specs.Prelude.{◌≡◌, ◌^◌, ◌<◌, ◌≤◌, ◌↔◌, length, take, min, Contains, IsTrue, IfOk};
-ghost use Rattle.record_io.specs.FaultCounts.{one_more};
+ghost use Rattle.std.specs.Prelude.{◌≡◌, ◌^◌, ◌<◌, ◌↔◌, length, take, min, Contains, IsTrue, IfOk};
+ghost use Rattle.record_io.specs.FaultCounts.{AddsFault, one_more};
 ghost use Rattle.record_io.specs.Memory.{HasCalled, cut_to, new_script};
 
 use crate::outside::{Failed, fault};
@@ -68,8 +68,7 @@ impl Script {
     /// Counts a fault, for the call that failed to answer.
     pub fn fault(&mut self) -> Failed
         ensures counted { self.new ≡ record self.old { faults = one_more self.old.faults } }
-        ensures never_falls { self.old.faults ≤ self.new.faults }
-        ensures small { self.new.faults < 2 ^ 64 }
+        ensures fault { AddsFault self.old.faults self.new.faults }
     {
         fault(&mut self.faults)
     }

@@ -29,8 +29,7 @@ impl Model for SureInput {
 impl SureInput {
     /// All these bytes, none of them given yet. It takes no memory.
     pub fn new(bytes: Vec<u8>, cuts: Vec<u32>) -> SureInput
-        ensures left { result.left ≡ bytes.items }
-        ensures script { result.script ≡ new_script cuts.items [] }
+        ensures { result ≡ record { left = bytes.items; script = new_script cuts.items [] } }
     {
         let fails = Vec::new(*bytes.allocator());
         SureInput {

@@ -1,6 +1,6 @@
 ghost use Rattle.std.specs.Prelude.{◌≡◌, ◌-◌, ◌<◌, true, [], length, min, Some, IsOk, IfOk};
 ghost use Rattle.record_io.specs.Seen.{TellsSize, ReadsPiece};
-ghost use Rattle.record_io.specs.Memory.{HasCalled, cut_to, new_file, sure_file_seen, told_if};
+ghost use Rattle.record_io.specs.Memory.{HasByteAt, HasCalledFile, cut_to, new_file, sure_file_seen, told_if};
 
 use super::mem_store::MemStore;
 use crate::outside::{Failed, Store};
@@ -55,19 +55,18 @@ impl Store for SureStore {
         ensures sure { IsOk result }
         ensures tells { TellsSize result (sure_file_seen self.old) (sure_file_seen self.new) }
         ensures asked { self.new.asked ≡ true }
-        ensures called { HasCalled result self.old.script self.new.script }
+        ensures called { HasCalledFile result self.old self.new }
     {
         self.store.size()
     }
 
     fn read_at(&mut self, at: u64, buf: &mut [u8]) -> Result<usize, Failed>
-        requires asked { self.old.asked ≡ true }
-        requires below { at < length self.old.bytes }
+        requires below { HasByteAt self.old at }
         requires room { 0 < length buf.old }
         ensures sure { IsOk result }
         ensures reads { ReadsPiece result at (length buf.old) buf.new (sure_file_seen self.old) (sure_file_seen self.new) }
         ensures cut { IfOk result (λ n. n ≡ cut_to self.old.script.cuts self.old.script.number (min (length buf.old) (length self.old.bytes - at))) }
-        ensures called { HasCalled result self.old.script self.new.script }
+        ensures called { HasCalledFile result self.old self.new }
     {
         self.store.read_at(at, buf)
     }

@@ -18,3 +18,9 @@ loop-got-preserved g c =
       handed_most = omega (arith, more.handed_out);
       asks = search rules;
     }
+
+pub returns-in_err-got-clause-store : goal.returns-in_err-got-clause-store
+returns-in_err-got-clause-store g c = record { asks = search rules; handed = omega (arith, c.in_err-got.ensures.reads.same_handed) }
+
+pub returns-clause-store : goal.returns-clause-store
+returns-clause-store g c = record { asks = search rules; handed = omega arith }
