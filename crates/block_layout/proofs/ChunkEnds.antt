@@ -66,12 +66,6 @@ chunk_end_from_number begin size num_records e h =
     let P : ℕ → Type 0 = IsChunkEnd begin size num_records in
     subst P (sym h) (chunk_end_of_is_chunk_end begin size num_records)
 
--- the chunk's end is past what the number is past
-pub chunk_end_past : (begin size num_records limit e : ℕ)
-    → limit < chunk_end_of begin size num_records → IsChunkEnd begin size num_records e → limit < e
-chunk_end_past begin size num_records limit e h g =
-    omega (arith, chunk_end_is_chunk_end_of begin size num_records e g)
-
 -- without padding a chunk ends with its bytes
 pub chunk_end_of-end_of : (begin size num_records : ℕ)
     → begin + num_records ≤ end_of begin size → IsBoundary (end_of begin size)
@@ -131,4 +125,4 @@ room_before_chunk_end begin size num_records =
     omega (arith, (end_of_is_end begin size).holds, room_mono begin (end_of begin size) last (chunk_end_of_past_bytes begin size num_records))
 
 -- what a function that finds a chunk's end asks for
-pub ruleset chunk_end_steps = (chunk_end_of-opened, chunk_end_of_past_bytes, chunk_end_of_room, chunk_end_from_number, chunk_end_past)
+pub ruleset chunk_end_steps = (chunk_end_of-opened, chunk_end_of_past_bytes, chunk_end_of_room)

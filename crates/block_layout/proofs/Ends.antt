@@ -57,10 +57,6 @@ end_is_end_of begin size e h = end_unique begin size e (end_of begin size) h (en
 pub end_from_number : (begin size e : ℕ) → e ≡ end_of begin size → IsEnd begin size e
 end_from_number begin size e h = let P : ℕ → Type 0 = IsEnd begin size in subst P (sym h) (end_of_is_end begin size)
 
--- the end is past what the number is past
-pub end_past : (begin size limit e : ℕ) → limit < end_of begin size → IsEnd begin size e → limit < e
-end_past begin size limit e h g = omega (arith, end_is_end_of begin size e g)
-
 -- one byte or more end past the begin
 pub end_of_above : (begin size : ℕ) → 1 ≤ size → begin < end_of begin size
 end_of_above begin size h = omega (arith, end_of-some begin size h)
@@ -152,4 +148,4 @@ pub boundary_from_shift : (p k : ℕ) → boundary_from (p + k * 65536) ≡ boun
 boundary_from_shift p k = grind arith
 
 -- what a function that finds the end asks for
-pub ruleset end_steps = (end_of-zero, end_of-some, end_of_room, end_from_number, end_past)
+pub ruleset end_steps = (end_of-zero, end_of-some, end_of_room)

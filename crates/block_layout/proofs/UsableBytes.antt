@@ -1,11 +1,11 @@
--- Lemmas on `usable_bytes`, the bytes that stand at usable positions, and on `own_bytes_at`, so many of a file's.
+-- Lemmas on `usable_bytes`, the bytes that stand at usable positions, and on `usable_bytes_at`, so many of a file's.
 use Rattle.std.proofs.Common.{◌≡◌, ℕ, Some, suc, ◌+◌, ◌-◌, ◌%◌, ◌<◌, ◌≤◌, min, inl, inr, List, [], ◌∷◌, ◌++◌, length, get_or, take, drop, take-add, refl, sym, ap, ◌∙◌, arith}
 use Rattle.std.specs.Prelude.{◌↔◌, slice_get, slice_range}
 use Rattle.std.proofs.lemmas.Bool.{cases_lt}
 use Rattle.std.proofs.lemmas.List.{nil_from_length, take-append-drop, take_at, drop_more, get_or_at, get_or-take, get_or-drop, length-take, length-take-le, length-drop, drop-drop}
 use Rattle.std.proofs.Math.Seq.{take-append-add}
 use Rattle.std.proofs.lemmas.Option.{slice_get-get_or, slice_get_past}
-use Rattle.block_layout.specs.Layout.{IsBlock, IsUsable, room, usable_below, usable_at, end_of, usable_bytes, own_bytes_at}
+use Rattle.block_layout.specs.Layout.{IsBlock, IsUsable, room, usable_below, usable_at, end_of, usable_bytes, usable_bytes_at}
 use Rattle.block_layout.specs.NextPlaces.{IsNextPlace, usable_from}
 use Rattle.block_layout.proofs.Room.{room-closed, room_mono, room_below}
 use Rattle.block_layout.proofs.Ends.{end_of_after, end_of_least, end_of_is_end}
@@ -104,9 +104,9 @@ usable_bytes-block_header b xs h g =
     nil_from_length (usable_bytes b xs) (omega (arith, length-usable_bytes b xs, room-closed b (b + length xs)))
 
 -- at a place there are as many as are asked for, or as have room in the file
-pub length-own_bytes_at : (file : List ℕ) (begin size : ℕ)
-    → length (own_bytes_at file begin size) ≡ min size (room begin (length file))
-length-own_bytes_at file begin size =
+pub length-usable_bytes_at : (file : List ℕ) (begin size : ℕ)
+    → length (usable_bytes_at file begin size) ≡ min size (room begin (length file))
+length-usable_bytes_at file begin size =
     let bytes = drop begin file in
     omega (
       arith,
@@ -118,13 +118,13 @@ length-own_bytes_at file begin size =
     )
 
 -- and each has as many before it as there is room, also past the file
-pub slice_get-own_bytes_at : (file : List ℕ) (begin size p : ℕ) → begin ≤ p → IsUsable p → room begin p < size
-    → slice_get (own_bytes_at file begin size) (room begin p) ≡ slice_get file p
-slice_get-own_bytes_at file begin size p h u g =
-    let own = own_bytes_at file begin size in
+pub slice_get-usable_bytes_at : (file : List ℕ) (begin size p : ℕ) → begin ≤ p → IsUsable p → room begin p < size
+    → slice_get (usable_bytes_at file begin size) (room begin p) ≡ slice_get file p
+slice_get-usable_bytes_at file begin size p h u g =
+    let own = usable_bytes_at file begin size in
     let bytes = drop begin file in
     let i = room begin p in
-    let count = length-own_bytes_at file begin size in
+    let count = length-usable_bytes_at file begin size in
     elim (cases_lt p (length file)) [
       | inl l ↦ slice_get-get_or own i 0 (omega (arith, room_below begin p (length file) h u l))
           ∙ ap Some (get_or-take size (usable_bytes begin bytes) i 0 g
@@ -136,18 +136,18 @@ slice_get-own_bytes_at file begin size p h u g =
     ]
 
 -- so they are all there exactly where the file reaches their end
-pub own_bytes_at_whole : (file : List ℕ) (begin size : ℕ) → begin ≤ length file
-    → (length (own_bytes_at file begin size) ≡ size) ↔ (end_of begin size ≤ length file)
-own_bytes_at_whole file begin size h =
-    let count = length-own_bytes_at file begin size in (
+pub usable_bytes_at_whole : (file : List ℕ) (begin size : ℕ) → begin ≤ length file
+    → (length (usable_bytes_at file begin size) ≡ size) ↔ (end_of begin size ≤ length file)
+usable_bytes_at_whole file begin size h =
+    let count = length-usable_bytes_at file begin size in (
       λ whole. end_of_least begin size (length file) h (omega arith),
       λ reached. omega (arith, (end_of_is_end begin size).holds, room_mono begin (end_of begin size) (length file) reached),
     )
 
 -- they stand between the place and that end
-pub own_bytes_at-to_end : (file : List ℕ) (begin size : ℕ) → end_of begin size ≤ length file
-    → own_bytes_at file begin size ≡ usable_bytes begin (slice_range file begin (end_of begin size))
-own_bytes_at-to_end file begin size h =
+pub usable_bytes_at-to_end : (file : List ℕ) (begin size : ℕ) → end_of begin size ≤ length file
+    → usable_bytes_at file begin size ≡ usable_bytes begin (slice_range file begin (end_of begin size))
+usable_bytes_at-to_end file begin size h =
     let count = end_of begin size - begin in
     let bytes = drop begin file in
     let after = end_of_after begin size in
@@ -157,10 +157,10 @@ own_bytes_at-to_end file begin size h =
     ∙ take_at (usable_bytes begin (take count bytes)) (usable_bytes (begin + length (take count bytes)) (drop count bytes)) size
     (length-usable_bytes begin (take count bytes) ∙ ap (room begin) (omega arith) ∙ (end_of_is_end begin size).holds)
 
--- more own bytes go on where the first of them end
-pub own_bytes_at-more : (file : List ℕ) (begin m n : ℕ) → end_of begin m ≤ length file
-    → own_bytes_at file begin (m + n) ≡ own_bytes_at file begin m ++ own_bytes_at file (end_of begin m) n
-own_bytes_at-more file begin m n h =
+-- more usable bytes go on where the first of them end
+pub usable_bytes_at-more : (file : List ℕ) (begin m n : ℕ) → end_of begin m ≤ length file
+    → usable_bytes_at file begin (m + n) ≡ usable_bytes_at file begin m ++ usable_bytes_at file (end_of begin m) n
+usable_bytes_at-more file begin m n h =
     let end = end_of begin m in
     let bytes = drop begin file in
     let after = end_of_after begin m in
@@ -170,19 +170,19 @@ own_bytes_at-more file begin m n h =
     let split : front ++ rest ≡ bytes =
     ap (λ xs. front ++ xs) (sym (drop-drop (end - begin) begin file ∙ ap (λ k. drop k file) (omega arith)))
     ∙ take-append-drop (end - begin) bytes in
-    let own : usable_bytes begin front ≡ own_bytes_at file begin m = sym (own_bytes_at-to_end file begin m h) in
-    let size : length (own_bytes_at file begin m) ≡ m = (own_bytes_at_whole file begin m (omega arith)).1 h in
+    let own : usable_bytes begin front ≡ usable_bytes_at file begin m = sym (usable_bytes_at-to_end file begin m h) in
+    let size : length (usable_bytes_at file begin m) ≡ m = (usable_bytes_at_whole file begin m (omega arith)).1 h in
     ap (λ xs. take (m + n) (usable_bytes begin xs)) (sym split)
     ∙ ap (take (m + n)) (usable_bytes-append begin front rest)
     ∙ ap (λ k. take (m + n) (usable_bytes begin front ++ usable_bytes k rest)) (omega arith)
     ∙ ap (λ xs. take (m + n) (xs ++ usable_bytes end rest)) own
-    ∙ ap (λ k. take (k + n) (own_bytes_at file begin m ++ usable_bytes end rest)) (sym size)
-    ∙ take-append-add (own_bytes_at file begin m) (usable_bytes end rest) n
+    ∙ ap (λ k. take (k + n) (usable_bytes_at file begin m ++ usable_bytes end rest)) (sym size)
+    ∙ take-append-add (usable_bytes_at file begin m) (usable_bytes end rest) n
 
--- own bytes up to the next block stand in a row behind the block header, where there is one
-pub own_bytes_at-run : (file : List ℕ) (p n : ℕ) → 1 ≤ n → IsNextPlace p → usable_from p % 65536 + n ≤ 65536
-    → usable_from p + n ≤ length file → own_bytes_at file p n ≡ slice_range file (usable_from p) (usable_from p + n)
-own_bytes_at-run file p n some next fits within =
+-- usable bytes up to the next block stand in a row behind the block header, where there is one
+pub usable_bytes_at-run : (file : List ℕ) (p n : ℕ) → 1 ≤ n → IsNextPlace p → usable_from p % 65536 + n ≤ 65536
+    → usable_from p + n ≤ length file → usable_bytes_at file p n ≡ slice_range file (usable_from p) (usable_from p + n)
+usable_bytes_at-run file p n some next fits within =
     let first = usable_from p in
     let end : end_of p n ≡ first + n = end_of-run p n some next fits in
     let bytes = drop p file in
@@ -200,7 +200,7 @@ own_bytes_at-run file p n some next fits within =
     let none : usable_bytes p header ≡ [] =
     nil_from_length (usable_bytes p header) (length-usable_bytes p header ∙ ap (λ k. room p (p + k)) header_size
     ∙ ap (room p) (omega arith) ∙ room-usable_from p) in
-    own_bytes_at-to_end file p n (omega arith)
+    usable_bytes_at-to_end file p n (omega arith)
     ∙ ap (usable_bytes p) split
     ∙ usable_bytes-append p header run
     ∙ ap (λ xs. xs ++ usable_bytes (p + length header) run) none

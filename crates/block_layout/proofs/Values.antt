@@ -5,7 +5,7 @@ use Rattle.std.specs.Prelude.{map}
 use Rattle.std.specs.List.{range_with_len}
 use Rattle.highway_hash.specs.HighwayHash.{hash_of, finished, after_remainder, after_packets, finishing_round, updated, mixed, multiplied, zipped, reset, lanes_of, remainder_packet}
 use Rattle.highway_hash.specs.Riegeli.{with_hash, BeginsWithHash}
-use Rattle.block_layout.specs.Layout.{block_of, IsUsable, IsBoundary, room, IsEnd, IsChunkEnd, end_of, chunk_end_of, usable_bytes, own_bytes_at}
+use Rattle.block_layout.specs.Layout.{block_of, IsUsable, IsBoundary, room, IsEnd, IsChunkEnd, end_of, chunk_end_of, usable_bytes, usable_bytes_at}
 use Rattle.block_layout.specs.BlockHeaders.{block_header, IsRightBlockHeader, IsSane, StandsAt}
 use Rattle.block_layout.proofs.Room.{room_mono}
 
@@ -125,36 +125,36 @@ usable_behind_a_header : usable_bytes 65540 (range_with_len 65540 21) ≡ 65560 
 unfolding usable_bytes
 usable_behind_a_header = refl
 
--- at the begin of a file, 40 own bytes stand behind the block header
-own_at_the_begin : own_bytes_at (range_with_len 0 100) 0 40 ≡ range_with_len 24 40
+-- at the begin of a file, 40 usable bytes stand behind the block header
+own_at_the_begin : usable_bytes_at (range_with_len 0 100) 0 40 ≡ range_with_len 24 40
 unfolding usable_bytes
 own_at_the_begin = refl
 
 -- a file that ends early has fewer
-own_cut_off : own_bytes_at (range_with_len 0 100) 64 40 ≡ range_with_len 64 36
+own_cut_off : usable_bytes_at (range_with_len 0 100) 64 40 ≡ range_with_len 64 36
 unfolding usable_bytes
 own_cut_off = refl
 
-own_at_the_end : own_bytes_at (range_with_len 0 100) 100 40 ≡ []
+own_at_the_end : usable_bytes_at (range_with_len 0 100) 100 40 ≡ []
 unfolding usable_bytes
 own_at_the_end = refl
 
-own_past_the_end : own_bytes_at (range_with_len 0 100) 101 40 ≡ []
+own_past_the_end : usable_bytes_at (range_with_len 0 100) 101 40 ≡ []
 unfolding usable_bytes
 own_past_the_end = refl
 
 -- over a block header
-own_over_a_header : own_bytes_at (range_with_len 0 65580) 65530 16 ≡ range_with_len 65530 6 ++ range_with_len 65560 10
+own_over_a_header : usable_bytes_at (range_with_len 0 65580) 65530 16 ≡ range_with_len 65530 6 ++ range_with_len 65560 10
 unfolding usable_bytes
 own_over_a_header = refl
 
 -- in a file that ends within it
-own_before_a_header : own_bytes_at (range_with_len 0 65550) 65530 16 ≡ range_with_len 65530 6
+own_before_a_header : usable_bytes_at (range_with_len 0 65550) 65530 16 ≡ range_with_len 65530 6
 unfolding usable_bytes
 own_before_a_header = refl
 
 -- at a block
-own_at_a_block : own_bytes_at (range_with_len 0 65580) 65536 16 ≡ range_with_len 65560 16
+own_at_a_block : usable_bytes_at (range_with_len 0 65580) 65536 16 ≡ range_with_len 65560 16
 unfolding usable_bytes
 own_at_a_block = refl
 

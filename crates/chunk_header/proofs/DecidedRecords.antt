@@ -8,7 +8,8 @@ use Rattle.varint_wire.specs.Varint.{spelled_value, Spells, SpellsEach}
 use Rattle.varint_wire.proofs.Spellings.{spelling_is_one}
 use Rattle.varint_wire.proofs.InARow.{spellings_are_one}
 use Rattle.chunk_header.specs.Chunks.{ChunkValue}
-use Rattle.chunk_header.specs.SimpleChunks.{simple_kind, IsSimple, IsSimpleChunk}
+use Rattle.chunk_header.specs.Kinds.{simple_kind}
+use Rattle.chunk_header.specs.SimpleChunks.{IsSimple, IsSimpleChunk}
 use Rattle.chunk_header.proofs.Decided.{IsDecided, both, same_decided, less_decided, at_most_decided, equal_decided, each_below_decided, some_below_decided}
 use Rattle.chunk_header.proofs.SimpleChunks.{sum-map-length}
 

@@ -6,7 +6,7 @@ use Rattle.highway_hash.specs.Riegeli.{with_hash}
 use Rattle.varint_wire.specs.Varint.{Spells, SpellsEach, shortest}
 use Rattle.varint_wire.proofs.Spellings.{Spells-small}
 use Rattle.varint_wire.proofs.Values.{longer_spelling_of_1}
-use Rattle.chunk_header.specs.Chunks.{ChunkValue, IsChunk, IsRightChunkHeader, header_fields, header_bytes, own_bytes}
+use Rattle.chunk_header.specs.Chunks.{ChunkValue, IsChunk, IsRightChunkHeader, header_fields, header_bytes, chunk_bytes}
 use Rattle.chunk_header.specs.SimpleChunks.{IsSimple, simple_data, simple_chunk}
 
 -- a header of no data and no records, with the hash of no data
@@ -45,7 +45,7 @@ fields_in_place : header_fields 0x0102030405060708 0x1112131415161718 0x72 0x212
 fields_in_place = refl
 
 -- the records `a`, `bc` and an empty one: header, then data
-own_bytes_of_three : own_bytes (simple_chunk ((0x61 ∷ []) ∷ (0x62 ∷ 0x63 ∷ []) ∷ [] ∷ [])) ≡
+chunk_bytes_of_three : chunk_bytes (simple_chunk ((0x61 ∷ []) ∷ (0x62 ∷ 0x63 ∷ []) ∷ [] ∷ [])) ≡
     0x18 ∷ 0x09 ∷ 0xa8 ∷ 0x0e ∷ 0x07 ∷ 0xa2 ∷ 0x61 ∷ 0x2f
     ∷ 0x08 ∷ 0 ∷ 0 ∷ 0 ∷ 0 ∷ 0 ∷ 0 ∷ 0
     ∷ 0xc5 ∷ 0x3d ∷ 0x74 ∷ 0x41 ∷ 0x6c ∷ 0xa3 ∷ 0x86 ∷ 0x87
@@ -53,7 +53,7 @@ own_bytes_of_three : own_bytes (simple_chunk ((0x61 ∷ []) ∷ (0x62 ∷ 0x63 �
     ∷ 0x03 ∷ 0 ∷ 0 ∷ 0 ∷ 0 ∷ 0 ∷ 0 ∷ 0
     ∷ 0x00 ∷ 0x03 ∷ 0x01 ∷ 0x02 ∷ 0x00 ∷ 0x61 ∷ 0x62 ∷ 0x63 ∷ []
 unfolding hash_of finished after_remainder after_packets finishing_round updated mixed multiplied zipped reset lanes_of remainder_packet shortest
-own_bytes_of_three = refl
+chunk_bytes_of_three = refl
 
 -- the records `a` and `b`
 data_of_two : simple_data ((0x61 ∷ []) ∷ (0x62 ∷ []) ∷ []) ≡ 0x00 ∷ 0x02 ∷ 0x01 ∷ 0x01 ∷ 0x61 ∷ 0x62 ∷ []

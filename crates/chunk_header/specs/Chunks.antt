@@ -41,9 +41,9 @@ header_bytes k =
 abbrev pub IsRightChunkHeader : List ℕ → Type 0
 IsRightChunkHeader bytes = (length bytes ≡ header_size) × BeginsWithHash bytes
 
--- the chunk's own bytes: header and data, with no block header between
-abbrev pub own_bytes : ChunkValue → List ℕ
-own_bytes k = header_bytes k ++ k.«data»
+-- the chunk's bytes: header and data, with no block header between
+abbrev pub chunk_bytes : ChunkValue → List ℕ
+chunk_bytes k = header_bytes k ++ k.«data»
 
 -- what a chunk header says: the size and the hash of the data, the kind, the number of records and the decoded size
 pub record HeaderValue : Type 0 where

@@ -4,10 +4,7 @@ use Rattle.std.specs.Prelude.{◌≡◌, ◌≢◌, ℕ, ◌<◌, List, ◌∷�
 use Rattle.std.specs.List.{concat, flat_map}
 use Rattle.varint_wire.specs.Varint.{Spells, SpellsEach, shortest}
 use Rattle.chunk_header.specs.Chunks.{ChunkValue}
-
--- the kind of a simple chunk
-abbrev pub simple_kind : ℕ
-simple_kind = 0x72
+use Rattle.chunk_header.specs.Kinds.{simple_kind}
 
 -- the chunk holds these records: the data is a compression type of 0, a spelling of how many bytes the sizes
 -- take, a spelling of each record's size, and the records joined

@@ -1,10 +1,22 @@
--- Inside. What headers and chunks of the program stand for. Source: the Riegeli/records file format specification,
--- "Chunk header".
+-- Inside. What kinds, headers and chunks of the program stand for. Source: the Riegeli/records file format specification,
+-- "Chunk types" and "Chunk header".
 use Rattle.std.specs.Prelude.{◌≡◌, ℕ, ◌<◌, ◌^◌, List, length}
 use Rattle.highway_hash.specs.Riegeli.{riegeli_hash, with_hash}
-use Rattle.chunk_header.specs.Chunks.{ChunkValue, HeaderValue, header_fields}
+use Rattle.chunk_header.specs.Chunks.{ChunkValue, HeaderValue, IsChunk, header_fields}
+use Rattle.chunk_header.specs.Kinds.{signature_kind, metadata_kind, padding_kind, simple_kind, transposed_kind}
 use Rattle.chunk_header.specs.declared.Header.{Header}
 use Rattle.chunk_header.specs.declared.Chunk.{Chunk}
+use Rattle.chunk_header.specs.declared.kinds.Kind.{Kind}
+use Rattle.chunk_header.specs.declared.kinds.Kind.TheVariants.{Signature, Metadata, Padding, Simple, Transposed, Unknown}
+
+-- the byte of a kind
+abbrev pub byte_of_kind : Kind → ℕ
+byte_of_kind Signature = signature_kind
+byte_of_kind Metadata = metadata_kind
+byte_of_kind Padding = padding_kind
+byte_of_kind Simple = simple_kind
+byte_of_kind Transposed = transposed_kind
+byte_of_kind (Unknown byte) = byte
 
 -- the 32 bytes of a header behind its hash
 abbrev pub fields_of_header : Header → List ℕ
@@ -47,6 +59,18 @@ value_of_chunk c = value_of c.header c.bytes
 -- the header has the data's hash
 abbrev pub HasRightHash : Chunk → Type 0
 HasRightHash c = c.header.data_hash ≡ riegeli_hash c.bytes
+
+-- a chunk of the program is this one, under the data's hash
+pub record IsMadeChunk (k : ChunkValue) (c : Chunk) : Type 0 where
+  pub value : value_of_chunk c ≡ k
+  pub right : HasRightHash c
+  pub sound : IsChunk (value_of_chunk c)
+
+-- a chunk of the program has this header and this data
+pub record IsReadChunk (h : Header) («data» : List ℕ) (c : Chunk) : Type 0 where
+  pub header : c.header ≡ h
+  pub bytes : c.bytes ≡ «data»
+  pub sound : IsChunk (value_of_chunk c)
 
 -- all that a header says is said of a chunk
 pub record IsHeaderOf (h : Header) (k : ChunkValue) : Type 0 where

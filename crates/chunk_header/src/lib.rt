@@ -2,12 +2,14 @@
 //! and "Chunk header".
 #![tactic(auto)]
 
+mod kinds;
 pub mod laws;
 
 ghost use Rattle.std.specs.Prelude.{◌≡◌, ◌↔◌, ◌+◌, ◌^◌, ◌<◌, ◌++◌, length, Some, IsNone, IfSome, IsTrue};
-ghost use Rattle.chunk_header.specs.Chunks.{IsChunk, IsRightChunkHeader};
+ghost use Rattle.chunk_header.specs.Chunks.{IsRightChunkHeader};
 
 use highway_hash::{Hasher, RIEGELI, begins_with_hash, hash_lanes};
+pub use kinds::{Kind, kind_of};
 use record_values::Bytes;
 
 /// How many bytes the header of a chunk has.
@@ -117,19 +119,17 @@ pub struct Chunk {
 }
 
 impl Chunk {
-    ghost use Rattle.chunk_header.specs.Views.{HasRightHash, value_of_chunk};
+    ghost use Rattle.chunk_header.specs.Views.{HasRightHash, IsMadeChunk, IsReadChunk};
 
     /// The chunk of these fields and this data, whose hash is taken here. `decoded_size` is in bytes.
     pub fn new(kind: u8, num_records: u64, decoded_size: u64, bytes: Bytes) -> Chunk
         requires { num_records < 2 ^ 56 }
-        ensures value { value_of_chunk result ≡ record {
+        ensures { IsMadeChunk (record {
           kind = kind;
           num_records = num_records;
           decoded_size = decoded_size;
           «data» = bytes;
-        } }
-        ensures right { HasRightHash result }
-        ensures sound { IsChunk (value_of_chunk result) }
+        }) result }
     {
         Chunk {
             header: Header {
@@ -147,9 +147,7 @@ impl Chunk {
     /// wrong.
     pub fn read(header: Header, bytes: Bytes) -> Chunk
         requires { length bytes ≡ header.data_size }
-        ensures header { result.header ≡ header }
-        ensures bytes { result.bytes ≡ bytes }
-        ensures sound { IsChunk (value_of_chunk result) }
+        ensures { IsReadChunk header bytes result }
     {
         Chunk { header, bytes }
     }

@@ -4,13 +4,13 @@ use Rattle.std.proofs.lemmas.Bool.{cases_lt, cases_order}
 use Rattle.std.specs.Prelude.{slice_get, slice_range}
 use Rattle.std.proofs.lemmas.List.{take_all, take_at, take-take, length-take-le, take-append-drop, take_more, drop_at, drop-take, drop_more}
 use Rattle.std.proofs.lemmas.Option.{slice_get_cases, slice_get_within, get_or_from_slice_get}
-use Rattle.block_layout.specs.Layout.{IsBoundary, own_bytes_at}
+use Rattle.block_layout.specs.Layout.{IsBoundary, usable_bytes_at}
 use Rattle.block_layout.proofs.ChunkEnds.{chunk_end_of_boundary}
-use Rattle.chunk_header.specs.Chunks.{ChunkValue, own_bytes}
+use Rattle.chunk_header.specs.Chunks.{ChunkValue, chunk_bytes}
 use Rattle.meta_chunk.specs.Laid.{IsLaid, laid, end_of_chunk}
 use Rattle.meta_chunk.specs.Files.{AreLaid, begin_of, end_of_chunks, laid_each}
 use Rattle.meta_chunk.proofs.LaidChunks.{end_of_chunk_after, end-IsLaid, end-laid}
-use Rattle.meta_chunk.proofs.OwnBytes.{own_bytes_at-IsLaid}
+use Rattle.meta_chunk.proofs.ChunkBytes.{usable_bytes_at-IsLaid}
 use Rattle.meta_chunk.proofs.Joins.{end_of_chunks-append, end_of_chunks_past, end-AreLaid, AreLaid-split, laid_each-append, end-laid_each}
 
 -- the chunks before one, that one, and those behind it
@@ -153,12 +153,12 @@ IsLaid-in_file ks file place j k within h at =
     (slice_range-take file place (begin_of ks j) (begin_of ks (j + 1)) (begin_of-within ks file place (j + 1) within h))
     (IsLaid-at ks (take place file) j k h at)
 
--- and so its own bytes are the own bytes at its begin
-pub own_bytes_at-begin : (ks : List ChunkValue) (file : List ℕ) (place j : ℕ) (k : ChunkValue)
+-- and so its bytes are the usable bytes at its begin
+pub usable_bytes_at-begin : (ks : List ChunkValue) (file : List ℕ) (place j : ℕ) (k : ChunkValue)
     → place ≤ length file → AreLaid 0 ks (take place file) → slice_get ks j ≡ Some k
-    → own_bytes_at file (begin_of ks j) (40 + length k.«data») ≡ own_bytes k
-own_bytes_at-begin ks file place j k within h at =
-    own_bytes_at-IsLaid (begin_of ks j) k file (begin_of ks (j + 1)) (IsLaid-in_file ks file place j k within h at)
+    → usable_bytes_at file (begin_of ks j) (40 + length k.«data») ≡ chunk_bytes k
+usable_bytes_at-begin ks file place j k within h at =
+    usable_bytes_at-IsLaid (begin_of ks j) k file (begin_of ks (j + 1)) (IsLaid-in_file ks file place j k within h at)
 
 -- with zero padding they end where the last of them does
 pub end-zero_padding : (ks : List ChunkValue) → length (laid_each 0 ks) ≡ begin_of ks (length ks)

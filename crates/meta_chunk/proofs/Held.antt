@@ -4,7 +4,8 @@ use Rattle.std.specs.List.{AllByRecursion, flat_map}
 use Rattle.std.proofs.lemmas.List.{nil_from_length}
 use Rattle.std.proofs.lemmas.Grind.{flat_map-append}
 use Rattle.chunk_header.specs.Chunks.{ChunkValue}
-use Rattle.chunk_header.specs.SimpleChunks.{simple_kind, IsSimpleChunk}
+use Rattle.chunk_header.specs.Kinds.{simple_kind}
+use Rattle.chunk_header.specs.SimpleChunks.{IsSimpleChunk}
 use Rattle.chunk_header.proofs.OneList.{records_are_one}
 use Rattle.meta_chunk.specs.Kinds.{IsSignature}
 use Rattle.meta_chunk.specs.Files.{signature, IsPlain, IsUnread, IsFramed, Holds, HoldEach, AreRecordsOf}

@@ -10,7 +10,7 @@ use Rattle.block_layout.specs.Layout.{IsBlock, IsUsable, IsChunkEnd, room}
 use Rattle.block_layout.specs.BlockHeaders.{block_header}
 use Rattle.block_layout.proofs.Room.{boundary_past_block}
 use Rattle.block_layout.proofs.ChunkEnds.{chunk_end_of_room, chunk_end_of_boundary, chunk_end_of_is_chunk_end, chunk_end_is_chunk_end_of}
-use Rattle.chunk_header.specs.Chunks.{ChunkValue, IsChunk, own_bytes}
+use Rattle.chunk_header.specs.Chunks.{ChunkValue, IsChunk, chunk_bytes}
 use Rattle.meta_chunk.specs.Laid.{IsLaid, end_of_chunk, byte_at, laid, laid_bytes}
 use Rattle.meta_chunk.specs.Files.{AreLaid, laid_each}
 use Rattle.meta_chunk.proofs.OneBlock.{length-laid}
@@ -25,27 +25,27 @@ end-IsLaid begin k bytes h = chunk_end_is_chunk_end_of begin (40 + length k.«da
 
 -- at a usable position stands the chunk's own byte
 pub IsLaid-usable : (begin : ℕ) (k : ChunkValue) (bytes : List ℕ) (p : ℕ) → IsLaid begin k bytes
-    → begin ≤ p → p < begin + length bytes → IsUsable p → room begin p < length (own_bytes k)
-    → get_or bytes (p - begin) 0 ≡ get_or (own_bytes k) (room begin p) 0
+    → begin ≤ p → p < begin + length bytes → IsUsable p → room begin p < length (chunk_bytes k)
+    → get_or bytes (p - begin) 0 ≡ get_or (chunk_bytes k) (room begin p) 0
 IsLaid-usable begin k bytes p h low high usable within =
-    same_Some (get_or bytes (p - begin) 0) (get_or (own_bytes k) (room begin p) 0)
+    same_Some (get_or bytes (p - begin) 0) (get_or (chunk_bytes k) (room begin p) 0)
     (sym (slice_get-get_or bytes (p - begin) 0 (omega arith))
     ∙ h.own p low high usable within
-    ∙ slice_get-get_or (own_bytes k) (room begin p) 0 within)
+    ∙ slice_get-get_or (chunk_bytes k) (room begin p) 0 within)
 
 -- a laid chunk's bytes end where the chunk does
 pub end-laid : (begin : ℕ) (k : ChunkValue) → begin + length (laid begin k) ≡ end_of_chunk begin k
 end-laid begin k = omega (arith, length-laid begin k, end_of_chunk_after begin k)
 
 -- the byte at a position
-get_or-laid : (begin : ℕ) (k : ChunkValue) (p : ℕ) → begin ≤ p → p < end_of_chunk begin k → get_or (laid begin k) (p - begin) 0 ≡ byte_at begin (end_of_chunk begin k) (own_bytes k) p
+get_or-laid : (begin : ℕ) (k : ChunkValue) (p : ℕ) → begin ≤ p → p < end_of_chunk begin k → get_or (laid begin k) (p - begin) 0 ≡ byte_at begin (end_of_chunk begin k) (chunk_bytes k) p
 unfolding laid_bytes
 get_or-laid begin k p h g =
-    get_or-map-range_with_len (byte_at begin (end_of_chunk begin k) (own_bytes k)) begin (end_of_chunk begin k - begin) (p - begin) p 0 (omega arith) (omega arith)
+    get_or-map-range_with_len (byte_at begin (end_of_chunk begin k) (chunk_bytes k)) begin (end_of_chunk begin k - begin) (p - begin) p 0 (omega arith) (omega arith)
 
 -- at a usable position it is the chunk's own byte, or 0 past these
 pub laid-usable : (begin : ℕ) (k : ChunkValue) (p : ℕ) → begin ≤ p → p < end_of_chunk begin k → IsUsable p
-    → get_or (laid begin k) (p - begin) 0 ≡ get_or (own_bytes k) (room begin p) 0
+    → get_or (laid begin k) (p - begin) 0 ≡ get_or (chunk_bytes k) (room begin p) 0
 laid-usable begin k p h g u =
     get_or-laid begin k p h g
     ∙ cond-false (ltb (p % 65536) 24) _ _ (le-ltb _ _ u)
@@ -90,7 +90,7 @@ IsLaid-laid begin k h = record {
   own = λ p low high usable within.
       slice_get-get_or (laid begin k) (p - begin) 0 (omega arith)
       ∙ ap Some (laid-usable begin k p low (omega (arith, end-laid begin k)) usable)
-      ∙ sym (slice_get-get_or (own_bytes k) (room begin p) 0 within);
+      ∙ sym (slice_get-get_or (chunk_bytes k) (room begin p) 0 within);
   headers = λ b block low high.
       headers-laid begin k b block low (omega (arith, end-laid begin k))
       ∙ ap (λ (e : ℕ). block_header (b - begin) (e - b)) (sym (end-laid begin k));

@@ -3,7 +3,7 @@ pub mod OneBlock
 pub mod LaidChunks
 pub mod Joins
 pub mod OneLaying
-pub mod OwnBytes
+pub mod ChunkBytes
 pub mod OneChunk
 pub mod Begins
 pub mod Chains

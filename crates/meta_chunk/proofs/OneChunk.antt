@@ -1,13 +1,13 @@
--- A chunk is known by its own bytes, so at a place of a file at most one is laid.
+-- A chunk is known by its bytes, so at a place of a file at most one is laid.
 use Rattle.std.proofs.Common.{◌≡◌, ◌∙◌, ℕ, ◌-◌, ◌/◌, ◌%◌, ◌^◌, ◌<◌, List, ◌++◌, length, get_or, take, drop, refl, sym, ap, arith}
 use Rattle.std.specs.Prelude.{slice_range}
 use Rattle.std.specs.Int.{w64, to_le_bytes, from_le_bytes}
 use Rattle.std.proofs.lemmas.List.{append_assoc, take_at, drop_at, take-append-drop}
 use Rattle.std.proofs.lemmas.Nat.{from_le_bytes-to_le_bytes_8}
 use Rattle.block_layout.specs.Layout.{usable_bytes}
-use Rattle.chunk_header.specs.Chunks.{ChunkValue, IsChunk, header_bytes, own_bytes}
+use Rattle.chunk_header.specs.Chunks.{ChunkValue, IsChunk, header_bytes, chunk_bytes}
 use Rattle.meta_chunk.specs.Laid.{IsLaid}
-use Rattle.meta_chunk.proofs.OwnBytes.{own-front}
+use Rattle.meta_chunk.proofs.ChunkBytes.{own-front}
 
 -- a word is known by its bytes
 word-inj : (x y : ℕ) → x < 2 ^ 64 → y < 2 ^ 64 → to_le_bytes w64 x ≡ to_le_bytes w64 y → x ≡ y
@@ -30,13 +30,13 @@ same_chunk k l kind records decoded content =
     ∙ ap (λ (x : ℕ). record { kind = l.kind; num_records = l.num_records; decoded_size = x; «data» = k.«data» }) decoded
     ∙ ap (λ (x : List ℕ). record { kind = l.kind; num_records = l.num_records; decoded_size = l.decoded_size; «data» = x }) content
 
--- a chunk's own bytes are its header and its data
-header_first : (k : ChunkValue) (rest : List ℕ) → own_bytes k ++ rest ≡ header_bytes k ++ (k.«data» ++ rest)
+-- a chunk's bytes are its header and its data
+header_first : (k : ChunkValue) (rest : List ℕ) → chunk_bytes k ++ rest ≡ header_bytes k ++ (k.«data» ++ rest)
 header_first k rest = append_assoc (header_bytes k) k.«data» rest
 
--- a chunk is known by its own bytes, whatever follows these
-own_bytes-inj : (k l : ChunkValue) (rest more : List ℕ) → IsChunk k → IsChunk l → own_bytes k ++ rest ≡ own_bytes l ++ more → k ≡ l
-own_bytes-inj k l rest more h g same =
+-- a chunk is known by its bytes, whatever follows these
+chunk_bytes-inj : (k l : ChunkValue) (rest more : List ℕ) → IsChunk k → IsChunk l → chunk_bytes k ++ rest ≡ chunk_bytes l ++ more → k ≡ l
+chunk_bytes-inj k l rest more h g same =
     let whole : header_bytes k ++ (k.«data» ++ rest) ≡ header_bytes l ++ (l.«data» ++ more) =
     sym (header_first k rest) ∙ same ∙ header_first l more in
     let header : header_bytes k ≡ header_bytes l =
@@ -62,9 +62,9 @@ pub IsLaid-one : (begin : ℕ) (k l : ChunkValue) (bytes rest others more : List
     → bytes ++ rest ≡ others ++ more → k ≡ l
 IsLaid-one begin k l bytes rest others more h g same =
     let usable : List ℕ = usable_bytes begin (bytes ++ rest) in
-    let m : ℕ = length (own_bytes k) in
-    let n : ℕ = length (own_bytes l) in
-    own_bytes-inj k l (drop m usable) (drop n usable) h.chunk g.chunk
+    let m : ℕ = length (chunk_bytes k) in
+    let n : ℕ = length (chunk_bytes l) in
+    chunk_bytes-inj k l (drop m usable) (drop n usable) h.chunk g.chunk
     (ap (λ (xs : List ℕ). xs ++ drop m usable) (sym (own-front begin k bytes rest h))
     ∙ take-append-drop m usable
     ∙ sym (take-append-drop n usable)

@@ -10,8 +10,8 @@ use Rattle.block_layout.specs.BlockHeaders.{block_header}
 use Rattle.block_layout.proofs.Room.{room_below}
 use Rattle.block_layout.proofs.Ends.{end_of_is_end}
 use Rattle.block_layout.proofs.ChunkEnds.{chunk_end_of_boundary, chunk_end_of-few_records}
-use Rattle.chunk_header.specs.Chunks.{ChunkValue, own_bytes}
-use Rattle.chunk_header.proofs.Lengths.{length-own_bytes}
+use Rattle.chunk_header.specs.Chunks.{ChunkValue, chunk_bytes}
+use Rattle.chunk_header.proofs.Lengths.{length-chunk_bytes}
 use Rattle.meta_chunk.specs.Laid.{IsLaid, end_of_chunk, laid}
 use Rattle.meta_chunk.specs.Files.{IsPlain, IsFile, AreLaid, laid_each}
 use Rattle.meta_chunk.proofs.LaidChunks.{end-IsLaid, IsLaid-usable, end-laid, laid-usable, laid-header}
@@ -20,18 +20,18 @@ use Rattle.meta_chunk.proofs.LaidChunks.{end-IsLaid, IsLaid-usable, end-laid, la
 abbrev pub HasFewRecords : ChunkValue → Type 0
 HasFewRecords k = k.num_records ≤ 40 + length k.«data»
 
--- without padding each usable position has one of the chunk's own bytes
+-- without padding each usable position has one of the chunk's bytes
 room-few_records : (begin : ℕ) (k : ChunkValue) (p : ℕ) → HasFewRecords k → begin ≤ p → p < end_of_chunk begin k → IsUsable p
-    → room begin p < length (own_bytes k)
+    → room begin p < length (chunk_bytes k)
 room-few_records begin k p few low high usable =
     let size : ℕ = 40 + length k.«data» in
     let last : end_of_chunk begin k ≡ end_of begin size = chunk_end_of-few_records begin size k.num_records (omega arith) few in
-    omega (arith, room_below begin p (end_of begin size) low usable (omega arith), (end_of_is_end begin size).holds, length-own_bytes k)
+    omega (arith, room_below begin p (end_of begin size) low usable (omega arith), (end_of_is_end begin size).holds, length-chunk_bytes k)
 
 -- the byte at a usable position
 at_usable : (begin : ℕ) (k : ChunkValue) (bytes : List ℕ) (p : ℕ)
     → HasFewRecords k → IsLaid begin k bytes → begin ≤ p → p < end_of_chunk begin k → IsUsable p
-    → get_or bytes (p - begin) 0 ≡ get_or (own_bytes k) (room begin p) 0
+    → get_or bytes (p - begin) 0 ≡ get_or (chunk_bytes k) (room begin p) 0
 at_usable begin k bytes p few h low high usable =
     let last : begin + length bytes ≡ end_of_chunk begin k = end-IsLaid begin k bytes h in
     IsLaid-usable begin k bytes p h low (omega arith) usable (room-few_records begin k p few low high usable)

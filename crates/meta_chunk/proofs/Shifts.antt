@@ -5,7 +5,7 @@ use Rattle.block_layout.specs.Layout.{IsBlock, room}
 use Rattle.block_layout.specs.BlockHeaders.{block_header}
 use Rattle.block_layout.proofs.Room.{room_shift}
 use Rattle.block_layout.proofs.ChunkEnds.{chunk_end_of_shift, chunk_end_from_number}
-use Rattle.chunk_header.specs.Chunks.{ChunkValue, own_bytes}
+use Rattle.chunk_header.specs.Chunks.{ChunkValue, chunk_bytes}
 use Rattle.meta_chunk.specs.Laid.{IsLaid}
 use Rattle.meta_chunk.specs.Files.{AreLaid}
 use Rattle.meta_chunk.proofs.LaidChunks.{end-IsLaid}
@@ -24,7 +24,7 @@ IsLaid-further begin blocks k bytes h = record {
       ap (room (begin + blocks * 65536)) back ∙ room_shift begin q blocks in
       ap (slice_get bytes) place
       ∙ h.own q (omega arith) (omega arith) (omega arith) (omega arith)
-      ∙ ap (slice_get (own_bytes k)) (sym before);
+      ∙ ap (slice_get (chunk_bytes k)) (sym before);
   headers = λ b block low high.
       let a : ℕ = b - blocks * 65536 in
       let place : b - (begin + blocks * 65536) ≡ a - begin = omega arith in

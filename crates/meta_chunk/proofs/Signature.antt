@@ -4,7 +4,7 @@ use Rattle.std.specs.Prelude.{ℕ, replicate}
 use Rattle.highway_hash.specs.HighwayHash.{hash_of, finished, after_remainder, after_packets, finishing_round, updated, mixed, multiplied, zipped, reset, lanes_of, remainder_packet}
 use Rattle.block_layout.specs.Layout.{room, end_of, chunk_end_of}
 use Rattle.block_layout.specs.BlockHeaders.{block_header}
-use Rattle.chunk_header.specs.Chunks.{own_bytes}
+use Rattle.chunk_header.specs.Chunks.{chunk_bytes}
 use Rattle.meta_chunk.specs.Laid.{laid, laid_bytes}
 use Rattle.meta_chunk.specs.Files.{signature}
 
@@ -26,13 +26,13 @@ pub first_block_header : block_header 0 64 ≡ first_header
 unfolding hash_of finished after_remainder after_packets finishing_round updated mixed multiplied zipped reset lanes_of remainder_packet
 first_block_header = refl
 
--- the signature's own bytes
-own_bytes-signature : own_bytes signature ≡ signature_header
+-- the signature's bytes
+chunk_bytes-signature : chunk_bytes signature ≡ signature_header
 unfolding hash_of finished after_remainder after_packets finishing_round updated mixed multiplied zipped reset lanes_of remainder_packet
-own_bytes-signature = refl
+chunk_bytes-signature = refl
 
 -- the signature stands behind the first block header
-laid-signature_parts : laid 0 signature ≡ block_header 0 64 ++ own_bytes signature
+laid-signature_parts : laid 0 signature ≡ block_header 0 64 ++ chunk_bytes signature
 unfolding laid_bytes room end_of chunk_end_of
 laid-signature_parts = refl
 
@@ -40,5 +40,5 @@ laid-signature_parts = refl
 pub laid-signature : laid 0 signature ≡ first_header ++ signature_header
 laid-signature =
     laid-signature_parts
-    ∙ ap (λ (b : List ℕ). b ++ own_bytes signature) first_block_header
-    ∙ ap (λ (b : List ℕ). first_header ++ b) own_bytes-signature
+    ∙ ap (λ (b : List ℕ). b ++ chunk_bytes signature) first_block_header
+    ∙ ap (λ (b : List ℕ). first_header ++ b) chunk_bytes-signature

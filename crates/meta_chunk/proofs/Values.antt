@@ -5,7 +5,7 @@ use Rattle.std.proofs.Common.{◌≡◌, sym, ℕ, suc, ◌<◌, inl, inr, List,
 use Rattle.highway_hash.specs.HighwayHash.{hash_of, finished, after_remainder, after_packets, finishing_round, updated, mixed, multiplied, zipped, reset, lanes_of, remainder_packet}
 use Rattle.varint_wire.specs.Varint.{shortest}
 use Rattle.block_layout.specs.Layout.{room, end_of, chunk_end_of}
-use Rattle.chunk_header.specs.Chunks.{ChunkValue, own_bytes}
+use Rattle.chunk_header.specs.Chunks.{ChunkValue, chunk_bytes}
 use Rattle.chunk_header.specs.SimpleChunks.{simple_chunk, IsSimple, IsSimpleChunk}
 use Rattle.chunk_header.proofs.SimpleChunks.{IsSimple-simple_chunk}
 use Rattle.meta_chunk.specs.Kinds.{KeepsRule}
@@ -42,40 +42,40 @@ padding_laid : drop 41 (laid 64 (record { kind = 0x74; num_records = 60; decoded
 unfolding laid_bytes chunk_end_of end_of room hash_of finished after_remainder after_packets finishing_round updated mixed multiplied zipped reset lanes_of remainder_packet
 padding_laid = refl
 
--- a chunk that begins at a block: its block header leads back by 0 and on by 68, and its own bytes come behind
+-- a chunk that begins at a block: its block header leads back by 0 and on by 68, and its bytes come behind
 at_a_block : ChunkValue
 at_a_block = simple_chunk ((0x78 ∷ []) ∷ [])
 
-previous_at_a_block : byte_at 65536 (end_of_chunk 65536 at_a_block) (own_bytes at_a_block) 65544 ≡ 0
+previous_at_a_block : byte_at 65536 (end_of_chunk 65536 at_a_block) (chunk_bytes at_a_block) 65544 ≡ 0
 unfolding at_a_block chunk_end_of end_of room hash_of finished after_remainder after_packets finishing_round updated mixed multiplied zipped reset lanes_of remainder_packet shortest
 previous_at_a_block = refl
 
-next_at_a_block : byte_at 65536 (end_of_chunk 65536 at_a_block) (own_bytes at_a_block) 65552 ≡ 68
+next_at_a_block : byte_at 65536 (end_of_chunk 65536 at_a_block) (chunk_bytes at_a_block) 65552 ≡ 68
 unfolding at_a_block chunk_end_of end_of room hash_of finished after_remainder after_packets finishing_round updated mixed multiplied zipped reset lanes_of remainder_packet shortest
 next_at_a_block = refl
 
-own_byte_at_a_block : byte_at 65536 (end_of_chunk 65536 at_a_block) (own_bytes at_a_block) 65568 ≡ 4
+own_byte_at_a_block : byte_at 65536 (end_of_chunk 65536 at_a_block) (chunk_bytes at_a_block) 65568 ≡ 4
 unfolding at_a_block chunk_end_of end_of room hash_of finished after_remainder after_packets finishing_round updated mixed multiplied zipped reset lanes_of remainder_packet shortest
 own_byte_at_a_block = refl
 
-last_byte_at_a_block : byte_at 65536 (end_of_chunk 65536 at_a_block) (own_bytes at_a_block) 65603 ≡ 0x78
+last_byte_at_a_block : byte_at 65536 (end_of_chunk 65536 at_a_block) (chunk_bytes at_a_block) 65603 ≡ 0x78
 unfolding at_a_block chunk_end_of end_of room hash_of finished after_remainder after_packets finishing_round updated mixed multiplied zipped reset lanes_of remainder_packet shortest
 last_byte_at_a_block = refl
 
 -- the same chunk six bytes before a block: the block header stands between bytes 5 and 6 of the chunk's header
-previous_across_a_block : byte_at 65530 (end_of_chunk 65530 at_a_block) (own_bytes at_a_block) 65544 ≡ 6
+previous_across_a_block : byte_at 65530 (end_of_chunk 65530 at_a_block) (chunk_bytes at_a_block) 65544 ≡ 6
 unfolding at_a_block chunk_end_of end_of room hash_of finished after_remainder after_packets finishing_round updated mixed multiplied zipped reset lanes_of remainder_packet shortest
 previous_across_a_block = refl
 
-next_across_a_block : byte_at 65530 (end_of_chunk 65530 at_a_block) (own_bytes at_a_block) 65552 ≡ 62
+next_across_a_block : byte_at 65530 (end_of_chunk 65530 at_a_block) (chunk_bytes at_a_block) 65552 ≡ 62
 unfolding at_a_block chunk_end_of end_of room hash_of finished after_remainder after_packets finishing_round updated mixed multiplied zipped reset lanes_of remainder_packet shortest
 next_across_a_block = refl
 
-byte_before_a_block : byte_at 65530 (end_of_chunk 65530 at_a_block) (own_bytes at_a_block) 65535 ≡ 129
+byte_before_a_block : byte_at 65530 (end_of_chunk 65530 at_a_block) (chunk_bytes at_a_block) 65535 ≡ 129
 unfolding at_a_block chunk_end_of end_of room hash_of finished after_remainder after_packets finishing_round updated mixed multiplied zipped reset lanes_of remainder_packet shortest
 byte_before_a_block = refl
 
-byte_behind_a_header : byte_at 65530 (end_of_chunk 65530 at_a_block) (own_bytes at_a_block) 65560 ≡ 141
+byte_behind_a_header : byte_at 65530 (end_of_chunk 65530 at_a_block) (chunk_bytes at_a_block) 65560 ≡ 141
 unfolding at_a_block chunk_end_of end_of room hash_of finished after_remainder after_packets finishing_round updated mixed multiplied zipped reset lanes_of remainder_packet shortest
 byte_behind_a_header = refl
 

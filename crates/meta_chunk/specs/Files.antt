@@ -5,8 +5,9 @@ use Rattle.std.specs.Prelude.{◌≡◌, ◌≢◌, ℕ, ◌+◌, ◌^◌, ◌<�
 use Rattle.std.specs.List.{AllByRecursion, flat_map, enumerate_from, sum_by}
 use Rattle.record_values.specs.declared.file_totals.Totals.{Totals}
 use Rattle.chunk_header.specs.Chunks.{ChunkValue}
-use Rattle.chunk_header.specs.SimpleChunks.{IsSimple, simple_kind, IsSimpleChunk, IsCompressed}
-use Rattle.meta_chunk.specs.Kinds.{signature_kind, transposed_kind, IsSignature, IsMetadata, IsPadding}
+use Rattle.chunk_header.specs.Kinds.{signature_kind, simple_kind, transposed_kind}
+use Rattle.chunk_header.specs.SimpleChunks.{IsSimple, IsSimpleChunk, IsCompressed}
+use Rattle.meta_chunk.specs.Kinds.{IsSignature, IsMetadata, IsPadding}
 use Rattle.meta_chunk.specs.Laid.{IsLaid, laid, end_of_chunk}
 
 -- the signature chunk

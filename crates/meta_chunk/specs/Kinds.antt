@@ -1,29 +1,8 @@
--- Promise. The kinds of chunks. Source: the Riegeli/records file format specification, "Chunk types". Own: the rules on
--- fields in their details.
-use Rattle.std.specs.Prelude.{◌≡◌, ◌≢◌, ℕ, length}
+-- Promise. Chunks of the kinds, and the rules of these. Source: the Riegeli/records file format specification, "Chunk
+-- types". Own: the rules on fields in their details.
+use Rattle.std.specs.Prelude.{◌≡◌, ℕ, length}
 use Rattle.chunk_header.specs.Chunks.{ChunkValue}
-use Rattle.chunk_header.specs.SimpleChunks.{simple_kind}
-
--- the kinds with a name, beside that of simple chunks
-abbrev pub signature_kind : ℕ
-signature_kind = 0x73
-
-abbrev pub metadata_kind : ℕ
-metadata_kind = 0x6d
-
-abbrev pub padding_kind : ℕ
-padding_kind = 0x70
-
-abbrev pub transposed_kind : ℕ
-transposed_kind = 0x74
-
--- the byte is of none of the kinds with a name
-pub record IsOfNoName (byte : ℕ) : Type 0 where
-  pub signature : byte ≢ signature_kind
-  pub metadata : byte ≢ metadata_kind
-  pub padding : byte ≢ padding_kind
-  pub simple : byte ≢ simple_kind
-  pub transposed : byte ≢ transposed_kind
+use Rattle.chunk_header.specs.Kinds.{signature_kind, metadata_kind, padding_kind}
 
 -- the rule that a kind has on the fields of its header: a signature has no data, no records and no decoded size,
 -- metadata has no records, padding no records and no decoded size, and other kinds have no rule

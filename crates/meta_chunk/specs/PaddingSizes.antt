@@ -3,7 +3,7 @@
 use Rattle.std.specs.Prelude.{ℕ, ◌+◌, ◌-◌, ◌%◌, List, [], ◌∷◌, replicate, nat_le, ◌==◌, if◌then◌else◌}
 use Rattle.block_layout.specs.Layout.{block_size, chunk_header_size, usable_size}
 use Rattle.chunk_header.specs.Chunks.{ChunkValue}
-use Rattle.meta_chunk.specs.Kinds.{padding_kind}
+use Rattle.chunk_header.specs.Kinds.{padding_kind}
 
 -- the padding chunk of so many zero bytes
 abbrev pub padding : ℕ → ChunkValue

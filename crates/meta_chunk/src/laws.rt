@@ -4,8 +4,8 @@ ghost use Rattle.std.specs.List.{AllByRecursion};
 ghost use Rattle.std.specs.List.Sorted.{IsStrictlyIncreasing};
 ghost use Rattle.std.specs.Prelude.{◌≡◌, IsTrue, ℕ, ◌+◌, ◌-◌, ◌*◌, ◌%◌, ◌<◌, ◌≤◌, ◌↔◌, List, [], ◌∷◌, ◌++◌, Some, length, map, take, drop, slice_get, slice_range};
 ghost use Rattle.block_layout.specs.BlockHeaders.{block_header};
-ghost use Rattle.block_layout.specs.Layout.{block_size, block_header_size, chunk_header_size, IsBlock, IsBoundary, usable_bytes, own_bytes_at};
-ghost use Rattle.chunk_header.specs.Chunks.{ChunkValue, IsChunk, header_size, header_bytes, own_bytes};
+ghost use Rattle.block_layout.specs.Layout.{block_size, block_header_size, chunk_header_size, IsBlock, IsBoundary, usable_bytes, usable_bytes_at};
+ghost use Rattle.chunk_header.specs.Chunks.{ChunkValue, IsChunk, header_size, header_bytes, chunk_bytes};
 ghost use Rattle.meta_chunk.specs.Files.{is_unread, totals_of, signature, signature_bytes, IsPlain, IsUnread, IsFramed, Holds, HoldEach, AreRecordsOf, ArePlaced, AreLaid, IsFile, begin_of, end_of_chunks, laid_each};
 ghost use Rattle.meta_chunk.specs.Chains.{IsChain, IsFrameChain};
 ghost use Rattle.meta_chunk.specs.Kinds.{IsSignature, IsPadding};
@@ -76,17 +76,17 @@ pub fn chunks_move_by_blocks()
         → IsBlock block → AreLaid 0 ks bytes → AreLaid block ks bytes }
 {}
 
-/// A chunk is laid in a file exactly where the own bytes at its begin are the chunk's, and each of its blocks has
-/// its header. A chunk is known by its own bytes, so at a place of a file one is laid at most. Own.
-pub fn own_bytes_stand_at_the_begin()
+/// A chunk is laid in a file exactly where the usable bytes at its begin are the chunk's, and each of its blocks has
+/// its header. A chunk is known by its bytes, so at a place of a file one is laid at most. Own.
+pub fn chunk_bytes_stand_at_the_begin()
     ensures first { (begin : ℕ) (k : ChunkValue) (bytes : List ℕ)
-        → IsLaid begin k bytes → take (length (own_bytes k)) (usable_bytes begin bytes) ≡ own_bytes k }
+        → IsLaid begin k bytes → take (length (chunk_bytes k)) (usable_bytes begin bytes) ≡ chunk_bytes k }
     ensures in_file { (begin : ℕ) (k : ChunkValue) (file : List ℕ) (end : ℕ)
         → IsLaid begin k (slice_range file begin end)
-        → own_bytes_at file begin (chunk_header_size + length k.«data») ≡ own_bytes k }
+        → usable_bytes_at file begin (chunk_header_size + length k.«data») ≡ chunk_bytes k }
     ensures header { (begin : ℕ) (k : ChunkValue) (file : List ℕ) (end : ℕ)
         → IsLaid begin k (slice_range file begin end)
-        → own_bytes_at file begin chunk_header_size ≡ header_bytes k }
+        → usable_bytes_at file begin chunk_header_size ≡ header_bytes k }
     ensures headers { (begin : ℕ) (k : ChunkValue) (file : List ℕ) (end b : ℕ)
         → IsLaid begin k (slice_range file begin end)
         → IsBlock b → begin ≤ b → b < end_of_chunk begin k
@@ -94,7 +94,7 @@ pub fn own_bytes_stand_at_the_begin()
     ensures laid { (begin : ℕ) (k : ChunkValue) (file : List ℕ)
         → IsChunk k
         → end_of_chunk begin k ≤ length file
-        → own_bytes_at file begin (chunk_header_size + length k.«data») ≡ own_bytes k
+        → usable_bytes_at file begin (chunk_header_size + length k.«data») ≡ chunk_bytes k
         → ((b : ℕ) → IsBlock b → begin ≤ b → b < end_of_chunk begin k
         → slice_range file b (b + block_header_size) ≡ block_header (b - begin) (end_of_chunk begin k - b))
         → IsLaid begin k (slice_range file begin (end_of_chunk begin k)) }
@@ -130,9 +130,9 @@ pub fn chunks_stand_at_their_begins()
     ensures at { (ks : List ChunkValue) (file : List ℕ) (place j : ℕ) (k : ChunkValue)
         → place ≤ length file → AreLaid 0 ks (take place file) → slice_get ks j ≡ Some k
         → IsLaid (begin_of ks j) k (slice_range file (begin_of ks j) (begin_of ks (j + 1))) }
-    ensures own_bytes { (ks : List ChunkValue) (file : List ℕ) (place j : ℕ) (k : ChunkValue)
+    ensures chunk_bytes { (ks : List ChunkValue) (file : List ℕ) (place j : ℕ) (k : ChunkValue)
         → place ≤ length file → AreLaid 0 ks (take place file) → slice_get ks j ≡ Some k
-        → own_bytes_at file (begin_of ks j) (chunk_header_size + length k.«data») ≡ own_bytes k }
+        → usable_bytes_at file (begin_of ks j) (chunk_header_size + length k.«data») ≡ chunk_bytes k }
     ensures zero_padding_end { (ks : List ChunkValue)
         → length (laid_each 0 ks) ≡ begin_of ks (length ks) }
     ensures zero_padding_at { (ks : List ChunkValue) (j : ℕ) (k : ChunkValue)

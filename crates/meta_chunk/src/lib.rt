@@ -2,11 +2,12 @@
 //! signature that a file begins with, and padding up to a block.
 #![tactic(auto)]
 
-mod chunk_kind;
 mod file_signature;
+mod kind_rules;
 pub mod laws;
 mod padding_chunk;
 
-pub use chunk_kind::{BadFields, Kind, check, kind_of};
+pub use chunk_header::{Kind, kind_of};
 pub use file_signature::SIGNATURE;
+pub use kind_rules::{BadFields, check};
 pub use padding_chunk::padding_size;

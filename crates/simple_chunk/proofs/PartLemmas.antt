@@ -7,7 +7,8 @@ use Rattle.std.proofs.lemmas.List.Sums.{sum_by-cons}
 use Rattle.varint_wire.specs.Varint.{Spells, SpellsEach}
 use Rattle.varint_wire.proofs.Spellings.{spelling_is_one}
 use Rattle.chunk_header.specs.Chunks.{ChunkValue}
-use Rattle.chunk_header.specs.SimpleChunks.{simple_kind, IsSimple, IsSimpleChunk}
+use Rattle.chunk_header.specs.Kinds.{simple_kind}
+use Rattle.chunk_header.specs.SimpleChunks.{IsSimple, IsSimpleChunk}
 use Rattle.chunk_header.proofs.SimpleChunks.{sum-map-length}
 use Rattle.simple_chunk.proofs.RecordLists.{AreEnds-le, length-records_from, concat-records_from}
 use Rattle.simple_chunk.specs.Records.{records_from, AreEnds, sizes_between}

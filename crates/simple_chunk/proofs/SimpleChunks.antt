@@ -2,7 +2,8 @@
 use Rattle.std.proofs.Common.{◌≡◌, ◌∙◌, ℕ, ◌^◌, ◌≤◌, List, ◌++◌, length, refl, ap, subst, arith}
 use Rattle.std.specs.List.{concat}
 use Rattle.chunk_header.specs.Chunks.{ChunkValue}
-use Rattle.chunk_header.specs.SimpleChunks.{IsSimple, simple_kind, simple_data, simple_chunk}
+use Rattle.chunk_header.specs.Kinds.{simple_kind}
+use Rattle.chunk_header.specs.SimpleChunks.{IsSimple, simple_data, simple_chunk}
 use Rattle.chunk_header.specs.Views.{IsHeaderOf}
 use Rattle.chunk_header.specs.declared.Header.{Header}
 use Rattle.chunk_header.proofs.SimpleChunks.{IsSimple-simple_chunk, length-sizes_of, sum-map-length}

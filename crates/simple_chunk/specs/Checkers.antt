@@ -1,7 +1,8 @@
 -- Inside. What a checker of a simple chunk has taken of the chunk's data. Own.
 use Rattle.std.specs.Prelude.{◌≡◌, ℕ, ◌+◌, ◌↔◌, List, ◌∷◌, ◌++◌, length, take}
 use Rattle.chunk_header.specs.Chunks.{ChunkValue}
-use Rattle.chunk_header.specs.SimpleChunks.{simple_kind, IsSimpleChunk, IsCompressed}
+use Rattle.chunk_header.specs.Kinds.{simple_kind}
+use Rattle.chunk_header.specs.SimpleChunks.{IsSimpleChunk, IsCompressed}
 use Rattle.chunk_header.specs.Views.{value_of}
 use Rattle.chunk_header.specs.declared.Header.{Header}
 use Rattle.simple_chunk.specs.SizesLeft.{SizesValue, AreLeft}

@@ -1,4 +1,6 @@
+pub mod Appends
 pub mod Costs
+pub mod Decoding
 pub mod Records
 pub mod Sizes
 pub mod SizesLeft

@@ -1,5 +1,6 @@
 ghost use Rattle.std.specs.Prelude.{◌≡◌, ◌≢◌, ◌↔◌, ℕ, ◌-◌, ◌<◌, ◌≤◌, List, [], ◌∷◌, ◌++◌, length, take, IsOk};
-ghost use Rattle.chunk_header.specs.SimpleChunks.{simple_kind, IsSimpleChunk, IsCompressed};
+ghost use Rattle.chunk_header.specs.Kinds.{simple_kind};
+ghost use Rattle.chunk_header.specs.SimpleChunks.{IsSimpleChunk, IsCompressed};
 ghost use Rattle.chunk_header.specs.Views.{value_of};
 ghost use Rattle.chunk_header.specs.declared.Header.{Header};
 ghost use Rattle.simple_chunk.specs.Checkers.{HasChecked, Follows, IsBehindFront, IsBehindSizes};

@@ -1,8 +1,9 @@
-ghost use Rattle.std.specs.Prelude.{◌≡◌, ◌≢◌, ◌↔◌, ℕ, ◌<◌, ◌≤◌, List, length, drop, slice_index, IfOk, IsNone, IfSome, IsTrue, IsOkUnless};
-ghost use Rattle.varint_wire.specs.Varint.{SpellsEach};
-ghost use Rattle.chunk_header.specs.SimpleChunks.{simple_kind, IsSimple, IsSimpleChunk, IsCompressed};
+ghost use Rattle.std.specs.Prelude.{◌≡◌, ◌≢◌, ◌↔◌, ℕ, ◌<◌, ◌≤◌, List, length, drop, slice_index, IfOk, IsNone, IfSome, IsTrue};
+ghost use Rattle.chunk_header.specs.Kinds.{simple_kind};
+ghost use Rattle.chunk_header.specs.SimpleChunks.{IsSimple};
 ghost use Rattle.chunk_header.specs.Views.{value_of, value_of_chunk};
-ghost use Rattle.simple_chunk.specs.Records.{records_from, AreEnds, sizes_between};
+ghost use Rattle.simple_chunk.specs.Decoding.{JudgesSimple, AreEndsOf};
+ghost use Rattle.simple_chunk.specs.Records.{records_from, AreEnds};
 ghost use Rattle.simple_chunk.specs.Sizes.{AreParts, AreSizes, IsSplit};
 
 use crate::record_list::Records;
@@ -44,10 +45,7 @@ pub fn decode(alloc: Global, header: &Header, bytes: &[u8]) -> Result<Records, S
     requires simple { header.now.kind ≡ simple_kind }
     requires whole { length bytes.now ≡ header.now.data_size }
     ensures holds { IfOk result (λ records. IsSimple (value_of header.now bytes.now) records) }
-    ensures compressed { (result ≡ Err SimpleFault.Compressed) ↔ IsCompressed (value_of header.now bytes.now) }
-    ensures contents { result ≡ Err SimpleFault.Contents
-        → (¬ IsCompressed (value_of header.now bytes.now)) × (¬ IsSimpleChunk (value_of header.now bytes.now)) }
-    ensures accepted { IsSimpleChunk (value_of header.now bytes.now) → IsOkUnless result SimpleFault.Memory }
+    ensures judged { JudgesSimple (value_of header.now bytes.now) result }
 {
     let (begin, ends) = find_records(alloc, header, bytes)?;
     let values = bytes[begin..].to_vec(alloc)?;
@@ -62,10 +60,7 @@ pub fn decode(alloc: Global, header: &Header, bytes: &[u8]) -> Result<Records, S
 pub fn decode_chunk(alloc: Global, chunk: &Chunk) -> Result<Records, SimpleFault>
     requires simple { chunk.now.header.kind ≡ simple_kind }
     ensures holds { IfOk result (λ records. IsSimple (value_of_chunk chunk.now) records) }
-    ensures compressed { (result ≡ Err SimpleFault.Compressed) ↔ IsCompressed (value_of_chunk chunk.now) }
-    ensures contents { result ≡ Err SimpleFault.Contents
-        → (¬ IsCompressed (value_of_chunk chunk.now)) × (¬ IsSimpleChunk (value_of_chunk chunk.now)) }
-    ensures accepted { IsSimpleChunk (value_of_chunk chunk.now) → IsOkUnless result SimpleFault.Memory }
+    ensures judged { JudgesSimple (value_of_chunk chunk.now) result }
 {
     let (begin, ends) = find_records(alloc, &chunk.header, chunk.bytes.as_slice())?;
     let values = chunk.bytes.part(begin..chunk.bytes.len())?;
@@ -83,10 +78,7 @@ fn find_records(
     ensures ends { IfOk result (λ found. AreEnds 0 found.1.items (length (drop found.0 bytes.now))) }
     ensures holds { IfOk result (λ found.
         IsSimple (value_of header.now bytes.now) (records_from 0 found.1.items (drop found.0 bytes.now))) }
-    ensures compressed { (result ≡ Err SimpleFault.Compressed) ↔ IsCompressed (value_of header.now bytes.now) }
-    ensures contents { result ≡ Err SimpleFault.Contents
-        → (¬ IsCompressed (value_of header.now bytes.now)) × (¬ IsSimpleChunk (value_of header.now bytes.now)) }
-    ensures accepted { IsSimpleChunk (value_of header.now bytes.now) → IsOkUnless result SimpleFault.Memory }
+    ensures judged { JudgesSimple (value_of header.now bytes.now) result }
 {
     if is_compressed(bytes) {
         return Err(SimpleFault::Compressed);
@@ -135,9 +127,7 @@ fn read_ends(
     sizes: &[u8],
     whole: usize,
 ) -> Result<Option<Vec<usize>>, AllocError>
-    ensures ends { IfOk result (λ found. IfSome found (λ ends. AreEnds 0 ends.items whole)) }
-    ensures counted { IfOk result (λ found. IfSome found (λ ends. length ends.items ≡ count)) }
-    ensures spelled { IfOk result (λ found. IfSome found (λ ends. SpellsEach (sizes_between 0 ends.items) sizes.now)) }
+    ensures ends { IfOk result (λ found. IfSome found (λ ends. AreEndsOf count whole sizes.now ends.items)) }
     ensures none { IfOk result (λ found. IsNone found → ¬ AreSizes count whole sizes.now) }
 {
     if count > sizes.len() as u64 {

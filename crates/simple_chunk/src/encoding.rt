@@ -1,18 +1,15 @@
-ghost use Rattle.std.specs.Prelude.{◌≡◌, ◌+◌, ◌^◌, ◌≤◌, ◌++◌, length, vec_len, vec_capacity, IfOk};
+ghost use Rattle.std.specs.Prelude.{◌≡◌, ◌+◌, ◌^◌, ◌≤◌, length, vec_len, vec_capacity, IfOk};
 ghost use Rattle.varint_wire.specs.Varint.{shortest};
-ghost use Rattle.chunk_header.specs.Chunks.{IsChunk};
 ghost use Rattle.chunk_header.specs.SimpleChunks.{IsSimple, simple_chunk, simple_data, sizes_of};
-ghost use Rattle.chunk_header.specs.Views.{value_of_chunk, HasRightHash};
+ghost use Rattle.chunk_header.specs.Views.{value_of_chunk, IsMadeChunk};
+ghost use Rattle.simple_chunk.specs.Appends.{Appends};
 ghost use Rattle.simple_chunk.specs.Costs.{cost_of};
 ghost use Rattle.simple_chunk.specs.Sizes.{data_front};
 
 use crate::record_list::Records;
-use chunk_header::Chunk;
+use chunk_header::{Chunk, Kind};
 use record_values::Bytes;
 use std::alloc::{AllocError, Global};
-
-/// The kind of a simple chunk.
-pub(crate) const SIMPLE: u8 = b'r';
 
 /// The compression type of data that is not compressed.
 const UNCOMPRESSED: u8 = 0;
@@ -23,15 +20,13 @@ const UNCOMPRESSED: u8 = 0;
 /// Riegeli/records file format specification, "Simple chunk with records".
 pub fn encode(alloc: Global, records: &Records) -> Result<Chunk, AllocError>
     requires { cost_of records.now ≤ 2 ^ 25 }
-    ensures value { IfOk result (λ chunk. value_of_chunk chunk ≡ simple_chunk records.now) }
+    ensures made { IfOk result (IsMadeChunk (simple_chunk records.now)) }
     ensures holds { IfOk result (λ chunk. IsSimple (value_of_chunk chunk) records.now) }
-    ensures right { IfOk result (λ chunk. HasRightHash chunk) }
-    ensures sound { IfOk result (λ chunk. IsChunk (value_of_chunk chunk)) }
 {
     let data = encode_data(alloc, records)?;
     let decoded_size = records.values().len() as u64;
     Ok(Chunk::new(
-        SIMPLE,
+        Kind::Simple.byte(),
         records.len() as u64,
         decoded_size,
         Bytes::from(data),
@@ -63,8 +58,7 @@ pub(crate) fn front_len(sizes_len: usize) -> usize
 pub(crate) fn append_front(out: &mut Vec<u8>, records: &Records, sizes_len: usize)
     requires sizes { sizes_len ≡ length (sizes_of records.now) }
     requires room { vec_len out.old + (1 + length (shortest sizes_len) + sizes_len) ≤ vec_capacity out.old }
-    ensures items { out.new.items ≡ out.old.items ++ data_front records.now }
-    ensures room { vec_capacity out.old ≤ vec_capacity out.new }
+    ensures { Appends (data_front records.now) out.old.items out.new.items (vec_capacity out.old) (vec_capacity out.new) }
 {
     append(out, &[UNCOMPRESSED]);
     append_varint(out, sizes_len);
@@ -87,8 +81,7 @@ pub(crate) fn sizes_len(records: &Records) -> usize
 /// Appends the sizes of the records, for which there is room.
 fn append_sizes(out: &mut Vec<u8>, records: &Records)
     requires { vec_len out.old + length (sizes_of records.now) ≤ vec_capacity out.old }
-    ensures items { out.new.items ≡ out.old.items ++ sizes_of records.now }
-    ensures room { vec_capacity out.old ≤ vec_capacity out.new }
+    ensures { Appends (sizes_of records.now) out.old.items out.new.items (vec_capacity out.old) (vec_capacity out.new) }
 {
     for i in 0..records.len() {
         append_varint(out, records.get(i).len());
@@ -105,8 +98,7 @@ fn varint_len(value: usize) -> usize
 /// Appends the shortest varint of a number, for which there is room.
 fn append_varint(out: &mut Vec<u8>, value: usize)
     requires { vec_len out.old + length (shortest value) ≤ vec_capacity out.old }
-    ensures items { out.new.items ≡ out.old.items ++ shortest value }
-    ensures room { vec_capacity out.old ≤ vec_capacity out.new }
+    ensures { Appends (shortest value) out.old.items out.new.items (vec_capacity out.old) (vec_capacity out.new) }
 {
     // Most sizes take one byte.
     if value < 0x80 {
@@ -121,8 +113,7 @@ fn append_varint(out: &mut Vec<u8>, value: usize)
 /// Appends bytes for which there is room.
 fn append(out: &mut Vec<u8>, piece: &[u8])
     requires { vec_len out.old + length piece.now ≤ vec_capacity out.old }
-    ensures items { out.new.items ≡ out.old.items ++ piece.now }
-    ensures room { vec_capacity out.old ≤ vec_capacity out.new }
+    ensures { Appends piece.now out.old.items out.new.items (vec_capacity out.old) (vec_capacity out.new) }
 {
     out.extend_from_slice(piece).unwrap();
 }

@@ -3,9 +3,9 @@ ghost use Rattle.chunk_header.specs.SimpleChunks.{simple_chunk, simple_data};
 ghost use Rattle.chunk_header.specs.Views.{IsHeaderOf};
 ghost use Rattle.simple_chunk.specs.Costs.{cost_of};
 
-use crate::encoding::{SIMPLE, append_front, front_len, sizes_len};
+use crate::encoding::{append_front, front_len, sizes_len};
 use crate::record_list::Records;
-use chunk_header::Header;
+use chunk_header::{Header, Kind};
 use std::alloc::{AllocError, Global};
 use std::marker::Model;
 use std::mem;
@@ -81,7 +81,7 @@ impl SimpleChunk {
         append_front(&mut self.front, &self.records, self.sizes_len);
         let values = self.records.values();
         self.header = Some(Header::of_parts(
-            SIMPLE,
+            Kind::Simple.byte(),
             self.records.len() as u64,
             values.len() as u64,
             &self.front,

@@ -11,7 +11,6 @@ pub mod laws;
 
 ghost use Rattle.std.specs.Prelude.{◌≡◌, ℕ, ◌<◌, ◌≤◌, ◌↔◌, List, ◌++◌, length, take, drop, IfOk};
 ghost use Rattle.varint_wire.specs.Varint.{Spells, shortest};
-ghost use Rattle.varint_wire.specs.ShortestSpellings.{IsShortest};
 ghost use Rattle.varint_wire.specs.Reading.{IsCut, IsLong};
 
 pub use feed::{Feed, Step};
@@ -31,10 +30,8 @@ pub enum VarintFault {
 /// again, whatever bytes follow. Standard: "Conventions".
 #[inline]
 pub fn write(value: u64, buf: &mut [u8; 10]) -> usize
-    ensures some { 0 < result }
     ensures at_most_ten { result ≤ 10 }
     ensures written { take result buf.new ≡ shortest value }
-    ensures shortest { IsShortest value (take result buf.new) }
     ensures behind { drop result buf.new ≡ drop result buf.old }
 {
     let mut rest = value;

@@ -2,7 +2,6 @@ use Rattle.std.proofs.Common.{refl, arith, ◌∙◌}
 use Rattle.std.proofs.lemmas.List.{length-set}
 use Rattle.varint_wire.specs.Varint.{shortest}
 use Rattle.varint_wire.proofs.Bits.{marked_group}
-use Rattle.varint_wire.proofs.Spellings.{IsShortest-shortest}
 use Rattle.varint_wire.proofs.Writing.{room_more, write_more, write_last, behind_more}
 use Rattle.varint_wire.proofs.write.Goals as goal
 
@@ -30,8 +29,3 @@ loop-rest-preserved c =
 pub returns-clause-written : goal.returns-clause-written
 returns-clause-written c =
     write_last c.loop-rest.buf (shortest c.args.value) c.loop-rest.at c.loop-rest.rest (omega arith) c.loop-rest-test.false c.loop-rest.invariant.written
-
-pub returns-clause-shortest : goal.returns-clause-shortest
-returns-clause-shortest c =
-    rw (write_last c.loop-rest.buf (shortest c.args.value) c.loop-rest.at c.loop-rest.rest (omega arith) c.loop-rest-test.false c.loop-rest.invariant.written)
-    (IsShortest-shortest c.args.value (omega arith))

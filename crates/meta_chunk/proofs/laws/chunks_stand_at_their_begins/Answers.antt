@@ -1,5 +1,5 @@
 use Rattle.std.proofs.Common.{◌∙◌, length, sym, arith}
-use Rattle.meta_chunk.proofs.Begins.{begin_of_boundary, begin_of_rises, begin_of_rises_by, begin_of-next, begin_of-past, begin_of-place, begin_of-within, holder_of, holder_one, IsLaid-in_file, own_bytes_at-begin, end-zero_padding, slice_range-laid_each}
+use Rattle.meta_chunk.proofs.Begins.{begin_of_boundary, begin_of_rises, begin_of_rises_by, begin_of-next, begin_of-past, begin_of-place, begin_of-within, holder_of, holder_one, IsLaid-in_file, usable_bytes_at-begin, end-zero_padding, slice_range-laid_each}
 use Rattle.meta_chunk.proofs.laws.chunks_stand_at_their_begins.Goals as goal
 
 pub returns : goal.returns
@@ -14,7 +14,7 @@ returns c = record {
   holder = holder_of;
   one_holder = holder_one;
   at = IsLaid-in_file;
-  own_bytes = own_bytes_at-begin;
+  chunk_bytes = usable_bytes_at-begin;
   zero_padding_end = end-zero_padding;
   zero_padding_at = slice_range-laid_each;
 }

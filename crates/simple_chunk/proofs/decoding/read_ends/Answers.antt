@@ -21,5 +21,9 @@ loop-number-preserved c =
     let items : c.push.new.self.items ≡ c.loop-number.ends.items ++ (c.loop-number.end + c.in-Some.size) ∷ [] = search rules in
     record { reading = rw items more; room = search rules }
 
-pub returns-clause-spelled : goal.returns-clause-spelled
-returns-clause-spelled c = SizesRead-spelled _ _ _ _ _ _ _ c.loop-number.invariant.reading (nil_from_length _ (search rules))
+pub returns-clause-ends : goal.returns-clause-ends
+returns-clause-ends c = record {
+  ends = search rules;
+  counted = search rules;
+  spelled = SizesRead-spelled _ _ _ _ _ _ _ c.loop-number.invariant.reading (nil_from_length _ (search rules));
+}

@@ -8,5 +8,8 @@ unwrap-requires c =
     let one : length (shortest c.args.value) ≡ 1 = ap length (shortest-small c.args.value c.if-value-lt128.true) in
     search rules
 
-pub returns-then-value-lt128-clause-items : goal.returns-then-value-lt128-clause-items
-returns-then-value-lt128-clause-items c = rw (shortest-small c.args.value c.if-value-lt128.true) (search rules)
+pub returns-then-value-lt128 : goal.returns-then-value-lt128
+returns-then-value-lt128 c = record {
+  items = rw (shortest-small c.args.value c.if-value-lt128.true) (search rules);
+  room = search rules;
+}

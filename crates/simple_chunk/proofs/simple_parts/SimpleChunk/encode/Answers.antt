@@ -15,7 +15,7 @@ invariant_of-self c =
       record { few = room.few; sized = room.sized; room = omega (arith, room.room, c.clear.ensures.capacity, c.append_front.ensures.room) },
       (
         IsHeaderOf-simple_chunk records c.of_parts.result c.len.result (length c.values-values.result.now) c.deref.result.now c.values-values.result.now
-            c.of_parts.ensures c.len.ensures (ap length c.values-values.ensures.value) (c.deref.ensures.value ∙ front) c.values-values.ensures.value,
+            (rw c.byte.ensures at c.of_parts.ensures) c.len.ensures (ap length c.values-values.ensures.value) (c.deref.ensures.value ∙ front) c.values-values.ensures.value,
         front,
       ),
     )

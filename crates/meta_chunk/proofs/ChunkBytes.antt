@@ -1,21 +1,21 @@
--- A chunk's own bytes, found in a file at its begin.
+-- A chunk's bytes, found in a file at its begin.
 use Rattle.std.proofs.Common.{◌≡◌, ◌∙◌, ℕ, ◌+◌, ◌-◌, ◌<◌, ◌≤◌, List, ◌++◌, Some, length, get_or, take, drop, refl, sym, ap, subst, arith}
 use Rattle.std.specs.Prelude.{slice_range}
 use Rattle.std.proofs.lemmas.List.{ext_get_or, get_or-take, length-take, length-take-le, length-drop, take_at, take-take, drop-take, drop-drop, take-append-drop, take-append-le}
 use Rattle.std.proofs.lemmas.Option.{slice_get-get_or}
-use Rattle.block_layout.specs.Layout.{IsBlock, IsChunkEnd, room, usable_below, usable_at, usable_bytes, own_bytes_at}
+use Rattle.block_layout.specs.Layout.{IsBlock, IsChunkEnd, room, usable_below, usable_at, usable_bytes, usable_bytes_at}
 use Rattle.block_layout.specs.BlockHeaders.{block_header}
 use Rattle.block_layout.proofs.Room.{boundary_past_block}
 use Rattle.block_layout.proofs.ChunkEnds.{room_before_chunk_end, chunk_end_of_boundary, chunk_end_of_is_chunk_end}
 use Rattle.block_layout.proofs.UsableBytes.{length-usable_bytes, get_or-usable_bytes, usable_place, usable_bytes-append}
-use Rattle.chunk_header.specs.Chunks.{ChunkValue, IsChunk, header_bytes, own_bytes}
-use Rattle.chunk_header.proofs.Lengths.{length-own_bytes}
+use Rattle.chunk_header.specs.Chunks.{ChunkValue, IsChunk, header_bytes, chunk_bytes}
+use Rattle.chunk_header.proofs.Lengths.{length-chunk_bytes}
 use Rattle.meta_chunk.specs.Laid.{IsLaid, end_of_chunk}
 use Rattle.meta_chunk.proofs.LaidChunks.{end_of_chunk_after, end-IsLaid, IsLaid-usable}
 
 -- a laid chunk has at least as many bytes at usable positions as are its own
 length-own-usable : (begin : ℕ) (k : ChunkValue) (bytes : List ℕ) → IsLaid begin k bytes
-    → length (own_bytes k) ≤ length (usable_bytes begin bytes)
+    → length (chunk_bytes k) ≤ length (usable_bytes begin bytes)
 length-own-usable begin k bytes h =
     let last : begin + length bytes ≡ end_of_chunk begin k = end-IsLaid begin k bytes h in
     omega (
@@ -23,15 +23,15 @@ length-own-usable begin k bytes h =
       length-usable_bytes begin bytes,
       ap (room begin) last,
       room_before_chunk_end begin (40 + length k.«data») k.num_records,
-      length-own_bytes k,
+      length-chunk_bytes k,
     )
 
 -- the first of them are its own
 pub own-IsLaid : (begin : ℕ) (k : ChunkValue) (bytes : List ℕ) → IsLaid begin k bytes
-    → take (length (own_bytes k)) (usable_bytes begin bytes) ≡ own_bytes k
+    → take (length (chunk_bytes k)) (usable_bytes begin bytes) ≡ chunk_bytes k
 own-IsLaid begin k bytes h =
     let usable : List ℕ = usable_bytes begin bytes in
-    let own : List ℕ = own_bytes k in
+    let own : List ℕ = chunk_bytes k in
     let enough : length own ≤ length usable = length-own-usable begin k bytes h in
     let size : length usable ≡ room begin (begin + length bytes) = length-usable_bytes begin bytes in
     let taken : length (take (length own) usable) ≡ length own = length-take-le (length own) usable enough in
@@ -47,27 +47,27 @@ own-IsLaid begin k bytes h =
 
 -- and so it is with whatever stands behind the chunk
 pub own-front : (begin : ℕ) (k : ChunkValue) (bytes rest : List ℕ) → IsLaid begin k bytes
-    → take (length (own_bytes k)) (usable_bytes begin (bytes ++ rest)) ≡ own_bytes k
+    → take (length (chunk_bytes k)) (usable_bytes begin (bytes ++ rest)) ≡ chunk_bytes k
 own-front begin k bytes rest h =
     let behind : List ℕ = usable_bytes (begin + length bytes) rest in
-    ap (take (length (own_bytes k))) (usable_bytes-append begin bytes rest)
-    ∙ take-append-le (length (own_bytes k)) (usable_bytes begin bytes) behind (length-own-usable begin k bytes h)
+    ap (take (length (chunk_bytes k))) (usable_bytes-append begin bytes rest)
+    ∙ take-append-le (length (chunk_bytes k)) (usable_bytes begin bytes) behind (length-own-usable begin k bytes h)
     ∙ own-IsLaid begin k bytes h
 
--- in a file, the own bytes at the chunk's begin are its own
-pub own_bytes_at-IsLaid : (begin : ℕ) (k : ChunkValue) (file : List ℕ) (end : ℕ) → IsLaid begin k (slice_range file begin end)
-    → own_bytes_at file begin (40 + length k.«data») ≡ own_bytes k
-own_bytes_at-IsLaid begin k file end h =
-    ap (own_bytes_at file begin) (sym (length-own_bytes k))
-    ∙ ap (λ (xs : List ℕ). take (length (own_bytes k)) (usable_bytes begin xs)) (sym (take-append-drop (end - begin) (drop begin file)))
+-- in a file, the usable bytes at the chunk's begin are its own
+pub usable_bytes_at-IsLaid : (begin : ℕ) (k : ChunkValue) (file : List ℕ) (end : ℕ) → IsLaid begin k (slice_range file begin end)
+    → usable_bytes_at file begin (40 + length k.«data») ≡ chunk_bytes k
+usable_bytes_at-IsLaid begin k file end h =
+    ap (usable_bytes_at file begin) (sym (length-chunk_bytes k))
+    ∙ ap (λ (xs : List ℕ). take (length (chunk_bytes k)) (usable_bytes begin xs)) (sym (take-append-drop (end - begin) (drop begin file)))
     ∙ own-front begin k (slice_range file begin end) (drop (end - begin) (drop begin file)) h
 
 -- and of them the first 40 are its header
 pub header_at-IsLaid : (begin : ℕ) (k : ChunkValue) (file : List ℕ) (end : ℕ) → IsLaid begin k (slice_range file begin end)
-    → own_bytes_at file begin 40 ≡ header_bytes k
+    → usable_bytes_at file begin 40 ≡ header_bytes k
 header_at-IsLaid begin k file end h =
     sym (take-take 40 (40 + length k.«data») (usable_bytes begin (drop begin file)) (omega arith))
-    ∙ ap (take 40) (own_bytes_at-IsLaid begin k file end h)
+    ∙ ap (take 40) (usable_bytes_at-IsLaid begin k file end h)
     ∙ take_at (header_bytes k) k.«data» 40 refl
 
 -- a range within a range of a list is one of the list
@@ -99,13 +99,13 @@ headers-IsLaid begin k file end b h block low high =
     ∙ h.headers b block low (omega arith)
     ∙ ap (λ (e : ℕ). block_header (b - begin) (e - b)) last
 
--- and where its own bytes and these headers stand, the chunk is laid
-pub IsLaid-from_own_bytes : (begin : ℕ) (k : ChunkValue) (file : List ℕ) → IsChunk k → end_of_chunk begin k ≤ length file
-    → own_bytes_at file begin (40 + length k.«data») ≡ own_bytes k
+-- and where its bytes and these headers stand, the chunk is laid
+pub IsLaid-from_usable_bytes : (begin : ℕ) (k : ChunkValue) (file : List ℕ) → IsChunk k → end_of_chunk begin k ≤ length file
+    → usable_bytes_at file begin (40 + length k.«data») ≡ chunk_bytes k
     → ((b : ℕ) → IsBlock b → begin ≤ b → b < end_of_chunk begin k
     → slice_range file b (b + 24) ≡ block_header (b - begin) (end_of_chunk begin k - b))
     → IsLaid begin k (slice_range file begin (end_of_chunk begin k))
-IsLaid-from_own_bytes begin k file h fits own headers =
+IsLaid-from_usable_bytes begin k file h fits own headers =
     let end : ℕ = end_of_chunk begin k in
     let bytes : List ℕ = slice_range file begin end in
     let behind : List ℕ = drop begin file in
@@ -121,9 +121,9 @@ IsLaid-from_own_bytes begin k file h fits own headers =
           slice_get-get_or bytes (p - begin) 0 (omega arith)
           ∙ ap Some (get_or-take (end - begin) behind (p - begin) 0 (omega arith)
           ∙ sym (get_or-usable_bytes begin behind p low (omega (arith, length-drop begin file)) usable)
-          ∙ sym (get_or-take (40 + length k.«data») (usable_bytes begin behind) (room begin p) 0 (omega (arith, length-own_bytes k)))
+          ∙ sym (get_or-take (40 + length k.«data») (usable_bytes begin behind) (room begin p) 0 (omega (arith, length-chunk_bytes k)))
           ∙ ap (λ (xs : List ℕ). get_or xs (room begin p) 0) own)
-          ∙ sym (slice_get-get_or (own_bytes k) (room begin p) 0 within);
+          ∙ sym (slice_get-get_or (chunk_bytes k) (room begin p) 0 within);
       headers = λ b block low high.
           let header_end : b + 25 ≤ end = boundary_past_block b end block
           (chunk_end_of_boundary begin (40 + length k.«data») k.num_records) (omega arith) in
