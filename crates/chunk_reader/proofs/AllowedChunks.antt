@@ -2,8 +2,9 @@
 use Rattle.std.proofs.Common.{◌≡◌, ◌≢◌, ◌∙◌, ◌⊎◌, ℕ, ◌≤◌, Bool, true, false, length, sym, ap, subst, inl, inr, arith}
 use Rattle.std.proofs.lemmas.Option.{get_or_from_slice_get}
 use Rattle.chunk_header.specs.Chunks.{ChunkValue}
-use Rattle.chunk_header.specs.SimpleChunks.{simple_kind, IsSimpleChunk, IsCompressed}
-use Rattle.meta_chunk.specs.Kinds.{signature_kind, metadata_kind, padding_kind, transposed_kind, KeepsRule, IsOfKind, IsOfNoName, IsSignature, IsMetadata, IsPadding}
+use Rattle.chunk_header.specs.Kinds.{signature_kind, metadata_kind, padding_kind, simple_kind, transposed_kind, IsOfNoName}
+use Rattle.chunk_header.specs.SimpleChunks.{IsSimpleChunk, IsCompressed}
+use Rattle.meta_chunk.specs.Kinds.{KeepsRule, IsOfKind, IsSignature, IsMetadata, IsPadding}
 use Rattle.meta_chunk.specs.Files.{max_data_size, IsPlain, IsTransposed}
 use Rattle.meta_chunk.proofs.Held.{plain_or_unread}
 use Rattle.chunk_reader.specs.Reasons.{HasBadContents}

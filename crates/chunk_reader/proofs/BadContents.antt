@@ -3,7 +3,8 @@ use Rattle.std.proofs.Common.{◌≡◌, ◌≢◌, ℕ, ◌<◌, ◌⊎◌, inl
 use Rattle.std.specs.Prelude.{slice_get, slice_index}
 use Rattle.std.proofs.lemmas.Bool.{cases_eq}
 use Rattle.chunk_header.specs.Chunks.{ChunkValue}
-use Rattle.chunk_header.specs.SimpleChunks.{simple_kind, IsSimpleChunk, IsCompressed}
+use Rattle.chunk_header.specs.Kinds.{simple_kind}
+use Rattle.chunk_header.specs.SimpleChunks.{IsSimpleChunk, IsCompressed}
 use Rattle.chunk_reader.specs.Reasons.{HasBadContents}
 
 -- data that isn't compressed is none, or begins with 0

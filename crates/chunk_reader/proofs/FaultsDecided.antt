@@ -8,10 +8,11 @@ use Rattle.record_values.specs.Bytes.{AreBytes}
 use Rattle.block_layout.specs.Layout.{IsBlock, end_of}
 use Rattle.block_layout.specs.BlockHeaders.{block_header}
 use Rattle.chunk_header.specs.Chunks.{ChunkValue, IsRightChunkHeader}
-use Rattle.chunk_header.specs.SimpleChunks.{simple_kind, IsCompressed}
+use Rattle.chunk_header.specs.Kinds.{signature_kind, metadata_kind, padding_kind, simple_kind, transposed_kind, IsOfNoName}
+use Rattle.chunk_header.specs.SimpleChunks.{IsCompressed}
 use Rattle.chunk_header.proofs.Decided.{IsDecided, both, same_decided, less_decided, at_most_decided, equal_decided, lists_decided, not_decided, some_below_decided}
 use Rattle.chunk_header.proofs.DecidedRecords.{records_decided}
-use Rattle.meta_chunk.specs.Kinds.{signature_kind, metadata_kind, padding_kind, transposed_kind, KeepsRule, IsOfNoName}
+use Rattle.meta_chunk.specs.Kinds.{KeepsRule}
 use Rattle.meta_chunk.specs.Files.{max_data_size, signature_bytes, IsChainOf}
 use Rattle.chunk_reader.specs.Places.{header_bytes_at, header_at, end_at, chunk_at, HasHeaderOf}
 use Rattle.chunk_reader.specs.Reasons.{HasBadContents, ContentApplies, IsWrongBlock, Applies, NoneOf, IsFirstOf, strict_reasons}

@@ -8,7 +8,7 @@ use Rattle.chunk_header.specs.Chunks.{ChunkValue, HeaderValue, IsRightChunkHeade
 use Rattle.chunk_header.proofs.HeaderValues.{header_in-chunk}
 use Rattle.meta_chunk.specs.Laid.{IsLaid, end_of_chunk}
 use Rattle.meta_chunk.proofs.OneChunk.{same_chunk}
-use Rattle.meta_chunk.proofs.OwnBytes.{own_bytes_at-IsLaid, header_at-IsLaid, headers-IsLaid}
+use Rattle.meta_chunk.proofs.ChunkBytes.{usable_bytes_at-IsLaid, header_at-IsLaid, headers-IsLaid}
 use Rattle.chunk_reader.specs.Places.{header_bytes_at, header_at, end_by, end_at, data_at, chunk_at}
 use Rattle.chunk_reader.specs.PlaceChecks.{HaveHeadersOf}
 use Rattle.chunk_header.specs.Chunks.{header_in}
@@ -45,7 +45,7 @@ pub data_at-laid : (begin : ℕ) (k : ChunkValue) (file : List ℕ) (end : ℕ) 
     → data_at file begin (header_at file begin).data_size ≡ k.«data»
 data_at-laid begin k file end h =
     ap (λ (v : HeaderValue). data_at file begin v.data_size) (header_at-laid begin k file end h)
-    ∙ ap (drop 40) (own_bytes_at-IsLaid begin k file end h)
+    ∙ ap (drop 40) (usable_bytes_at-IsLaid begin k file end h)
     ∙ drop_at (header_bytes k) k.«data» 40 refl
 
 -- so it is the chunk at its place

@@ -9,7 +9,7 @@ use Rattle.chunk_header.specs.Chunks.{ChunkValue, HeaderValue}
 use Rattle.chunk_header.specs.SimpleChunks.{IsCompressed}
 use Rattle.meta_chunk.specs.Laid.{IsLaid, end_of_chunk}
 use Rattle.meta_chunk.proofs.LaidChunks.{end_of_chunk_after, end-IsLaid}
-use Rattle.meta_chunk.specs.Kinds.{IsOfNoName}
+use Rattle.chunk_header.specs.Kinds.{IsOfNoName}
 use Rattle.meta_chunk.specs.Files.{IsPlain, IsTransposed}
 use Rattle.chunk_reader.specs.Places.{end_at, chunk_at}
 use Rattle.chunk_reader.specs.Reasons.{Applies, NoneOf, IsFirstOf, content_reasons, strict_reasons, HasBadContents}

@@ -8,11 +8,12 @@ use Rattle.highway_hash.specs.Riegeli.{riegeli_hash, with_hash}
 use Rattle.record_values.specs.Bytes.{AreBytes}
 use Rattle.block_layout.specs.BlockHeaders.{block_header}
 use Rattle.chunk_header.specs.Chunks.{ChunkValue, IsRightChunkHeader}
-use Rattle.chunk_header.specs.SimpleChunks.{simple_kind, IsSimpleChunk, IsCompressed}
+use Rattle.chunk_header.specs.Kinds.{signature_kind, metadata_kind, padding_kind, simple_kind, transposed_kind, IsOfNoName}
+use Rattle.chunk_header.specs.SimpleChunks.{IsSimpleChunk, IsCompressed}
 use Rattle.chunk_header.proofs.RightHeaders.{header_of_right}
 use Rattle.chunk_header.proofs.Decided.{lists_decided, equal_decided, true_where_not_false}
 use Rattle.chunk_header.proofs.DecidedRecords.{records_decided}
-use Rattle.meta_chunk.specs.Kinds.{signature_kind, metadata_kind, padding_kind, transposed_kind, KeepsRule, IsOfNoName}
+use Rattle.meta_chunk.specs.Kinds.{KeepsRule}
 use Rattle.meta_chunk.specs.Laid.{IsLaid}
 use Rattle.meta_chunk.specs.Files.{max_data_size}
 use Rattle.chunk_reader.specs.Places.{header_bytes_at, header_at, end_at, chunk_at}
@@ -20,7 +21,7 @@ use Rattle.chunk_reader.specs.PlaceChecks.{HaveHeadersOf}
 use Rattle.chunk_reader.specs.Reasons.{HasBadContents, Applies, NoneOf, content_reasons, strict_reasons}
 use Rattle.chunk_reader.specs.Faults.{IsAllowed}
 use Rattle.chunk_reader.specs.declared.reasons.Why.TheVariants as why
-use Rattle.chunk_reader.proofs.PassedChunks.{AreBytes-own_bytes_at, AreBytes-data_at, IsLaid-right, length-data}
+use Rattle.chunk_reader.proofs.PassedChunks.{AreBytes-usable_bytes_at, AreBytes-data_at, IsLaid-right, length-data}
 use Rattle.chunk_reader.proofs.AllowedChunks.{IsPassed, IsAllowed-passed}
 
 -- what isn't false of equal lists or numbers is true
@@ -58,7 +59,7 @@ at_most a b not = omega arith
 pub laid_where_none : (keep : Bool) (file : List ℕ) (place : ℕ) → AreBytes file → NoneOf (Applies file place) (strict_reasons keep)
     → IsLaid place (chunk_at file place) (slice_range file place (end_at file place))
 laid_where_none keep file place bytes (short, (header, (cut, (large, (blocks, content))))) =
-    let h = header_of_right (header_bytes_at file place) (AreBytes-own_bytes_at file place 40 bytes)
+    let h = header_of_right (header_bytes_at file place) (AreBytes-usable_bytes_at file place 40 bytes)
     (right_header (header_bytes_at file place) header) in
     IsLaid-right file place h.0 (record {
       sound = h.1;

@@ -6,16 +6,16 @@ use Rattle.std.proofs.lemmas.List.{take-append-drop, take-take, length-drop}
 use Rattle.std.proofs.lemmas.List.Elements.{All-from_recursion, recursion_from_All, All-take, All-drop}
 use Rattle.highway_hash.specs.Riegeli.{riegeli_hash, with_hash}
 use Rattle.record_values.specs.Bytes.{AreBytes}
-use Rattle.block_layout.specs.Layout.{usable_bytes, own_bytes_at, end_of, chunk_end_of}
-use Rattle.block_layout.proofs.UsableBytes.{usable_bytes-nil, usable_bytes-usable, usable_bytes-header, own_bytes_at_whole}
+use Rattle.block_layout.specs.Layout.{usable_bytes, usable_bytes_at, end_of, chunk_end_of}
+use Rattle.block_layout.proofs.UsableBytes.{usable_bytes-nil, usable_bytes-usable, usable_bytes-header, usable_bytes_at_whole}
 use Rattle.block_layout.proofs.ChunkEnds.{chunk_end_of_past_bytes, chunk_end_of_room}
 use Rattle.block_layout.proofs.Ends.{end_of_after}
-use Rattle.chunk_header.specs.Chunks.{ChunkValue, HeaderValue, IsChunk, header_in, header_fields, header_bytes, own_bytes}
+use Rattle.chunk_header.specs.Chunks.{ChunkValue, HeaderValue, IsChunk, header_in, header_fields, header_bytes, chunk_bytes}
 use Rattle.chunk_header.specs.declared.Header.{Header}
 use Rattle.chunk_header.specs.Views.{IsHeader, bytes_of_header, value_of_header}
 use Rattle.chunk_header.proofs.HeaderValues.{header_in-header}
 use Rattle.meta_chunk.specs.Laid.{IsLaid, end_of_chunk}
-use Rattle.meta_chunk.proofs.OwnBytes.{IsLaid-from_own_bytes}
+use Rattle.meta_chunk.proofs.ChunkBytes.{IsLaid-from_usable_bytes}
 use Rattle.chunk_reader.specs.Places.{header_bytes_at, header_at, end_at, data_at, chunk_at}
 use Rattle.chunk_reader.specs.PlaceChecks.{HaveHeadersOf}
 use Rattle.chunk_reader.proofs.LaidAt.{header_of}
@@ -31,15 +31,15 @@ pub length-data_at : (file : List ℕ) (place size num_records : ℕ)
     → length (data_at file place size) ≡ size
 length-data_at file place size num_records fits =
     let end : end_of place (40 + size) ≤ length file = omega (arith, chunk_end_of_past_bytes place (40 + size) num_records) in
-    let whole : length (own_bytes_at file place (40 + size)) ≡ 40 + size =
-    (own_bytes_at_whole file place (40 + size) (omega (arith, end_of_after place (40 + size)))).1 end in
-    omega (arith, length-drop 40 (own_bytes_at file place (40 + size)))
+    let whole : length (usable_bytes_at file place (40 + size)) ≡ 40 + size =
+    (usable_bytes_at_whole file place (40 + size) (omega (arith, end_of_after place (40 + size)))).1 end in
+    omega (arith, length-drop 40 (usable_bytes_at file place (40 + size)))
 
--- the own bytes at a place are a header and data
-own_bytes_at-parts : (file : List ℕ) (place size : ℕ)
-    → own_bytes_at file place (40 + size) ≡ header_bytes_at file place ++ data_at file place size
-own_bytes_at-parts file place size =
-    let own : List ℕ = own_bytes_at file place (40 + size) in
+-- the usable bytes at a place are a header and data
+usable_bytes_at-parts : (file : List ℕ) (place size : ℕ)
+    → usable_bytes_at file place (40 + size) ≡ header_bytes_at file place ++ data_at file place size
+usable_bytes_at-parts file place size =
+    let own : List ℕ = usable_bytes_at file place (40 + size) in
     sym (take-append-drop 40 own)
     ∙ ap (λ (xs : List ℕ). xs ++ drop 40 own) (take-take 40 (40 + size) (usable_bytes place (drop place file)) (omega arith))
 
@@ -61,13 +61,13 @@ AreBytes-drop : (n : ℕ) (bytes : List ℕ) → AreBytes bytes → AreBytes (dr
 AreBytes-drop n bytes h =
     recursion_from_All (λ b. b < 256) (drop n bytes) (All-drop (λ b. b < 256) n bytes (All-from_recursion (λ b. b < 256) bytes h))
 
-pub AreBytes-own_bytes_at : (file : List ℕ) (place size : ℕ) → AreBytes file → AreBytes (own_bytes_at file place size)
-AreBytes-own_bytes_at file place size h =
+pub AreBytes-usable_bytes_at : (file : List ℕ) (place size : ℕ) → AreBytes file → AreBytes (usable_bytes_at file place size)
+AreBytes-usable_bytes_at file place size h =
     AreBytes-take size (usable_bytes place (drop place file)) (AreBytes-usable_bytes place (drop place file) (AreBytes-drop place file h))
 
 pub AreBytes-data_at : (file : List ℕ) (place size : ℕ) → AreBytes file → AreBytes (data_at file place size)
 AreBytes-data_at file place size h =
-    AreBytes-drop 40 (own_bytes_at file place (40 + size)) (AreBytes-own_bytes_at file place (40 + size) h)
+    AreBytes-drop 40 (usable_bytes_at file place (40 + size)) (AreBytes-usable_bytes_at file place (40 + size) h)
 
 -- what is right of a chunk at a place: its header is one whose bytes are told, the file has the chunk, its data are bytes
 -- with the hash that the header says, and its blocks have their headers
@@ -149,12 +149,12 @@ IsLaid-right file place h right =
     let end : end_of_chunk place k ≡ end_at file place = end_of_chunk-at file place right.whole in
     let value : value_of_header h ≡ header_of k =
     sym (header_at-header file place h right.sound right.header) ∙ header_of-chunk_at file place right.whole right.hash in
-    let own : own_bytes_at file place (40 + length k.«data») ≡ own_bytes k =
-    ap (λ (n : ℕ). own_bytes_at file place (40 + n)) size
-    ∙ own_bytes_at-parts file place (header_at file place).data_size
+    let own : usable_bytes_at file place (40 + length k.«data») ≡ chunk_bytes k =
+    ap (λ (n : ℕ). usable_bytes_at file place (40 + n)) size
+    ∙ usable_bytes_at-parts file place (header_at file place).data_size
     ∙ ap (λ (xs : List ℕ). xs ++ k.«data») (right.header ∙ header_bytes-same h k value) in
     subst (λ (e : ℕ). IsLaid place k (slice_range file place e)) end
-    (IsLaid-from_own_bytes place k file
+    (IsLaid-from_usable_bytes place k file
     (IsChunk-at file place h right.sound right.header right.whole right.bytes)
     (subst (λ (e : ℕ). e ≤ length file) (sym end) right.whole)
     own

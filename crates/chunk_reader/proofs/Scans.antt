@@ -7,7 +7,7 @@ use Rattle.block_layout.proofs.Ends.{end_of-some, end_of-more, end_of_room}
 use Rattle.chunk_reader.proofs.Rooms.{end_of-le}
 use Rattle.chunk_reader.specs.BlockJudges.{EachBlock, StopsAtBlock, StopsAtBlockInChunk, JudgesUpTo}
 use Rattle.chunk_reader.specs.Places.{HasHeaderOf}
-use Rattle.chunk_reader.specs.PlaceChecks.{HasOwnBytes, IsFirstWrong}
+use Rattle.chunk_reader.specs.PlaceChecks.{HasUsableBytes, IsFirstWrong}
 
 -- where no block lies each is accepted
 pub accepted-none : (bytes : Option (List ℕ)) (A : List ℕ → ℕ → Type 0) (from to : ℕ) → blocks_below to ≤ blocks_below from
@@ -190,16 +190,16 @@ wrong-first (Some file) begin end told taken (block, first, few) =
     })
 
 -- bytes that end by a told place have room
-pub HasOwnBytes-before : (told : Option ℕ) (place count end : ℕ) → IsSomeAnd told (λ size. end ≤ size) → end_of place count ≤ end → end ≤ 2 ^ 60
-    → HasOwnBytes told place count
-HasOwnBytes-before None place count end some within small = elim some [ ]
-HasOwnBytes-before (Some size) place count end some within small = (omega arith, omega (arith, some))
+pub HasUsableBytes-before : (told : Option ℕ) (place count end : ℕ) → IsSomeAnd told (λ size. end ≤ size) → end_of place count ≤ end → end ≤ 2 ^ 60
+    → HasUsableBytes told place count
+HasUsableBytes-before None place count end some within small = elim some [ ]
+HasUsableBytes-before (Some size) place count end some within small = (omega arith, omega (arith, some))
 
--- own bytes end past the block header before them, where there is one
+-- usable bytes end past the block header before them, where there is one
 pub usable-end_of : (place n : ℕ) → 1 ≤ n → usable_from place + n ≤ end_of place n
 usable-end_of place n some = omega (arith, end_of-some place n some)
 
--- the block headers before or within a chunk header take what it spans beyond its own bytes
+-- the block headers before or within a chunk header take what it spans beyond its usable bytes
 pub headers-of_header : (begin : ℕ) → IsOnBoundary begin
     → 24 * (blocks_below (end_of begin 40) - blocks_below begin) + (begin + 40) ≤ end_of begin 40
 headers-of_header begin boundary = omega (arith, boundary, end_of-some begin 40 (omega arith))
@@ -219,15 +219,15 @@ piece-within place count i n now is less =
     omega (arith, joined, end_of-le place (i + n) count less)
 
 -- and it has room where they have
-pub HasOwnBytes-piece : (told : Option ℕ) (place count i n : ℕ) → HasOwnBytes told place count → i + n ≤ count
-    → HasOwnBytes told (end_of place i) n
-HasOwnBytes-piece None place count i n room less = elim room [ ]
-HasOwnBytes-piece (Some size) place count i n room less =
+pub HasUsableBytes-piece : (told : Option ℕ) (place count i n : ℕ) → HasUsableBytes told place count → i + n ≤ count
+    → HasUsableBytes told (end_of place i) n
+HasUsableBytes-piece None place count i n room less = elim room [ ]
+HasUsableBytes-piece (Some size) place count i n room less =
     let within : end_of (end_of place i) n ≤ end_of place count =
     omega (arith, end_of-more place i n, end_of-le place (i + n) count less) in
     (omega (arith, room.0, within), omega (arith, room.1, within))
 
 -- bytes that have room end in the file
-pub HasOwnBytes-told : (told : Option ℕ) (place count : ℕ) → HasOwnBytes told place count → IsSomeAnd told (λ size. end_of place count ≤ size)
-HasOwnBytes-told None place count room = elim room [ ]
-HasOwnBytes-told (Some size) place count room = room.1
+pub HasUsableBytes-told : (told : Option ℕ) (place count : ℕ) → HasUsableBytes told place count → IsSomeAnd told (λ size. end_of place count ≤ size)
+HasUsableBytes-told None place count room = elim room [ ]
+HasUsableBytes-told (Some size) place count room = room.1

@@ -5,10 +5,11 @@ use Rattle.highway_hash.specs.Riegeli.{riegeli_hash}
 use Rattle.chunk_header.specs.Chunks.{IsChunk}
 use Rattle.chunk_header.specs.declared.Header.{Header}
 use Rattle.chunk_header.specs.declared.Chunk.{Chunk}
-use Rattle.chunk_header.specs.Views.{IsHeader, HasRightHash, bytes_of_header, value_of_header, value_of_chunk}
+use Rattle.chunk_header.specs.Views.{HasRightHash, value_of_chunk}
 use Rattle.chunk_reader.specs.Contents.{IsJudgedIn}
 use Rattle.chunk_reader.specs.Faults.{IsVerdict}
-use Rattle.chunk_reader.specs.Places.{header_bytes_at, end_by, end_at, data_at}
+use Rattle.chunk_reader.specs.Heads.{IsFoundHead}
+use Rattle.chunk_reader.specs.Places.{end_at, data_at}
 use Rattle.chunk_reader.specs.PlaceChecks.{HaveHeadersOf, IsFirstWrong}
 use Rattle.chunk_reader.specs.Reasons.{Applies, ContentApplies, NoneOf, IsFirstOf, unpassed_reasons, loading_reasons, content_reasons}
 use Rattle.chunk_reader.specs.Ends.{IsOneOf}
@@ -19,13 +20,6 @@ use Rattle.chunk_reader.specs.declared.reasons.Why.TheVariants as why
 use Rattle.chunk_reader.proofs.PassedChunks.{end_at_after}
 use Rattle.chunk_reader.proofs.Rooms.{IsSized}
 use Rattle.chunk_reader.proofs.Verdicts.{verdict_loading, verdict_block, verdict_content, value_of-at, end_by-at, hash_of-at, none_at, laid_at}
-
--- what is known of a chunk whose header is read, and which the file has
-pub record IsFound (bytes : Option (List ℕ)) (at end : ℕ) (h : Header) : Type 0 where
-  pub fits : IsHeader h
-  pub end_is : end ≡ end_by at (value_of_header h)
-  pub header : IfSome bytes (λ file. header_bytes_at file at ≡ bytes_of_header h)
-  pub none : IfSome bytes (λ file. NoneOf (Applies file at) loading_reasons)
 
 -- a reason by which its data isn't read is the verdict
 pub refused_early : (bytes : Option (List ℕ)) (keep : Bool) (at : ℕ) (fault : Fault) → fault.at ≡ at
@@ -42,17 +36,17 @@ handed_early (Some file) at before after h = λ _. omega (arith, end_at_after fi
 
 -- a wrong block is the verdict
 pub refused_block : (bytes now : Option (List ℕ)) (keep : Bool) (at end : ℕ) (h : Header) (fault : Fault) → now ≡ bytes
-    → IsFound bytes at end h → fault.why ≡ why.BlockHeader
+    → IsFoundHead loading_reasons bytes at h end → fault.why ≡ why.BlockHeader
     → IfSome now (λ file. IsFirstWrong file at end at end fault.at)
     → IfSome bytes (λ file. IsVerdict keep file at fault)
 refused_block None now keep at end h fault same found is wrong = tt
 refused_block (Some file) now keep at end h fault same found is wrong =
     let P : Option (List ℕ) → Type 0 = λ o. IfSome o (λ bytes. IsFirstWrong bytes at end at end fault.at) in
-    verdict_block keep file at end fault found.none (found.end_is ∙ end_by-at file at h found.fits found.header) (subst P same wrong) is
+    verdict_block keep file at end fault found.none (found.ends ∙ end_by-at file at h found.fits found.header) (subst P same wrong) is
 
 -- what is known of a chunk whose data is read, and of its blocks
 pub record IsLoaded (bytes : Option (List ℕ)) (at end : ℕ) (c : Chunk) : Type 0 where
-  pub found : IsFound bytes at end c.header
+  pub found : IsFoundHead loading_reasons bytes at c.header end
   pub sound : IsChunk (value_of_chunk c)
   pub given : IfSome bytes (λ file. c.bytes ≡ data_at file at c.header.data_size)
   pub right : IfSome bytes (λ file. HaveHeadersOf file at end at end)
@@ -71,7 +65,7 @@ refused_content None keep at end c w fault loaded is first = tt
 refused_content (Some file) keep at end c w fault loaded is first =
     let h = c.header in
     let found = loaded.found in
-    let same_end : end ≡ end_at file at = found.end_is ∙ end_by-at file at h found.fits found.header in
+    let same_end : end ≡ end_at file at = found.ends ∙ end_by-at file at h found.fits found.header in
     let P : Fault → Type 0 = λ f. IsVerdict keep file at f in
     subst P is (
     verdict_content keep file at h.data_hash (value_of_chunk c) (record { at = at; why = w }) found.none
@@ -130,7 +124,7 @@ judged_in None keep size at end c j sized loaded within is_end is_chunk none = t
 judged_in (Some file) keep size at end c j sized loaded within is_end is_chunk none =
     let h = c.header in
     let found = loaded.found in
-    let same_end : end ≡ end_at file at = found.end_is ∙ end_by-at file at h found.fits found.header in
+    let same_end : end ≡ end_at file at = found.ends ∙ end_by-at file at h found.fits found.header in
     let right = right_at file at end same_end loaded.right in
     record {
       chunk = ap value_of_chunk is_chunk ∙ value_of-at file at h c.bytes found.fits found.header loaded.given;
@@ -140,8 +134,8 @@ judged_in (Some file) keep size at end c j sized loaded within is_end is_chunk n
     }
 
 -- no more was handed out than the chunk has bytes
-pub handed_whole : (bytes : Option (List ℕ)) (at end before after : ℕ) (h : Header) → IsFound bytes at end h → after + at ≤ before + end
+pub handed_whole : (bytes : Option (List ℕ)) (at end before after : ℕ) (h : Header) → IsFoundHead loading_reasons bytes at h end → after + at ≤ before + end
     → IfSome bytes (λ file. NoneOf (Applies file at) unpassed_reasons → after + at ≤ before + end_at file at)
 handed_whole None at end before after h found few = tt
 handed_whole (Some file) at end before after h found few =
-    λ _. omega (arith, few, found.end_is, end_by-at file at h found.fits found.header)
+    λ _. omega (arith, few, found.ends, end_by-at file at h found.fits found.header)

@@ -8,9 +8,10 @@ use Rattle.block_layout.proofs.ChunkEnds.{chunk_end_of_boundary, chunk_end_of_pa
 use Rattle.block_layout.proofs.Ends.{end_of_after, end_of_room}
 use Rattle.chunk_header.specs.Chunks.{ChunkValue}
 use Rattle.chunk_header.specs.declared.Header.{Header}
-use Rattle.chunk_header.specs.Views.{IsHeader, bytes_of_header, value_of_header, value_of}
+use Rattle.chunk_header.specs.Views.{value_of}
 use Rattle.meta_chunk.specs.Files.{IsPlain, IsUnread, is_unread, totals_of}
-use Rattle.chunk_reader.specs.Reasons.{HasBadContents, Applies, NoneOf, IsFirstOf, loading_reasons}
+use Rattle.chunk_reader.specs.Heads.{IsFoundHead}
+use Rattle.chunk_reader.specs.Reasons.{HasBadContents, Applies, IsFirstOf, loading_reasons}
 use Rattle.chunk_reader.specs.Faults.{IsVerdict, BeginsWithSignature}
 use Rattle.chunk_reader.specs.Pieces.{HasTaken, TellsUnread, IsVerifiedIn}
 use Rattle.chunk_reader.specs.declared.piece_judge.PieceJudge.{PieceJudge}
@@ -20,7 +21,7 @@ use Rattle.chunk_reader.specs.declared.verifying.Verified.{Verified}
 use Rattle.chunk_reader.specs.declared.reasons.Why.{Why}
 use Rattle.chunk_reader.specs.declared.reasons.Fault.{Fault}
 use Rattle.record_values.specs.declared.file_totals.Totals.{Totals}
-use Rattle.chunk_reader.specs.Places.{header_bytes_at, end_by, end_at, data_at, chunk_at}
+use Rattle.chunk_reader.specs.Places.{end_at, data_at, chunk_at}
 use Rattle.chunk_reader.specs.PlaceChecks.{HaveHeadersOf, IsFirstWrong}
 use Rattle.chunk_reader.proofs.PassedChunks.{length-data_at, IsLaid-right}
 use Rattle.chunk_reader.proofs.Loads.{header_within, IsOnBoundary-of}
@@ -44,11 +45,8 @@ tells_contents hash k right bad = inr (λ wrong. wrong right, inl (bad, refl))
 -- the header of a chunk that the file has was found at a place
 pub record IsFound (bytes : Option (List ℕ)) (size at end : ℕ) (h : Header) : Type 0 where
   pub sized : IsSized bytes (Some size)
-  pub sound : IsHeader h
-  pub ends : end ≡ end_by at (value_of_header h)
+  pub head : IsFoundHead loading_reasons bytes at h end
   pub within : end ≤ size
-  pub header : IfSome bytes (λ file. header_bytes_at file at ≡ bytes_of_header h)
-  pub none : IfSome bytes (λ file. NoneOf (Applies file at) loading_reasons)
 
 -- the chunk there is refused where its header can't be found, and at its first wrong block
 pub refused_loading : (bytes : Option (List ℕ)) (at : ℕ) (fault : Fault) → fault.at ≡ at
@@ -63,7 +61,7 @@ refused_block None now size at end h fault found same reason wrong = tt
 refused_block (Some file) None size at end h fault found same reason wrong = cc
 refused_block (Some file) (Some other) size at end h fault found same reason wrong =
     let is : other ≡ file = cc in
-    verdict_block true file at end fault found.none (found.ends ∙ end_by-at file at h found.sound found.header)
+    verdict_block true file at end fault found.head.none (found.head.ends ∙ end_by-at file at h found.head.fits found.head.header)
     (subst (λ (f : List ℕ). IsFirstWrong f at end at end fault.at) is wrong) reason
 
 -- the data of that chunk was judged, and the headers of its blocks are right
@@ -80,7 +78,7 @@ tells_data : (file : List ℕ) (size at end : ℕ) (h : Header) (judge : PieceJu
     → TellsUnread h.data_hash (value_of h (data_at file at h.data_size)) told
 tells_data file size at end h judge told found through =
     let whole : length (data_at file at h.data_size) ≡ h.data_size =
-    length-data_at file at h.data_size h.num_records (omega (arith, found.ends, found.within, found.sized)) in
+    length-data_at file at h.data_size h.num_records (omega (arith, found.head.ends, found.within, found.sized)) in
     let P : Header → Type 0 = λ x. (taken : List ℕ) → HasTaken judge taken → length taken ≡ x.data_size
     → TellsUnread x.data_hash (value_of x taken) told in
     let tells : P h = subst P through.header through.tells in
@@ -89,7 +87,7 @@ tells_data file size at end h judge told found through =
 blocks_at : (file : List ℕ) (size at end : ℕ) (h : Header) → IsFound (Some file) size at end h → HaveHeadersOf file at end at end
     → HaveHeadersOf file at (end_at file at) at (end_at file at)
 blocks_at file size at end h found right =
-    subst (λ (e : ℕ). HaveHeadersOf file at e at e) (found.ends ∙ end_by-at file at h found.sound found.header) right
+    subst (λ (e : ℕ). HaveHeadersOf file at e at e) (found.head.ends ∙ end_by-at file at h found.head.fits found.head.header) right
 
 pub passed : (bytes : Option (List ℕ)) (size at : ℕ) (h : Header) (judge : PieceJudge) (v : Verified)
     → IsFound bytes size at v.end h → IsThrough bytes at v.end h judge (Ok v.unread) → v.num_records ≡ h.num_records
@@ -98,22 +96,22 @@ passed None size at h judge v found through records = tt
 passed (Some file) size at h judge v found through records =
     let told = tells_data file size at v.end h judge (Ok v.unread) found through in
     let bytes : List ℕ = data_at file at h.data_size in
-    let is : value_of h bytes ≡ chunk_at file at = value_of-at file at h bytes found.sound found.header refl in
+    let is : value_of h bytes ≡ chunk_at file at = value_of-at file at h bytes found.head.fits found.head.header refl in
     let «data» : bytes ≡ (chunk_at file at).«data» = ap (λ (c : ChunkValue). c.«data») is in
-    let ends : v.end ≡ end_at file at = found.ends ∙ end_by-at file at h found.sound found.header in
+    let ends : v.end ≡ end_at file at = found.head.ends ∙ end_by-at file at h found.head.fits found.head.header in
     let blocks : HaveHeadersOf file at (end_at file at) at (end_at file at) = blocks_at file size at v.end h found through.right in
     let hash : riegeli_hash bytes ≡ h.data_hash =
     elim (cases_eq (riegeli_hash bytes) h.data_hash) [ inl same ↦ same | inr differs ↦ absurd (told.1.0 differs) ] in
     record {
       laid = IsLaid-right file at h (record {
-        sound = found.sound;
-        header = found.header;
+        sound = found.head.fits;
+        header = found.head.header;
         whole = omega (arith, sym ends, found.within, found.sized);
         bytes = subst AreBytes «data» through.taken.are_bytes;
-        hash = ap riegeli_hash (sym «data») ∙ hash ∙ hash_of-at file at h found.sound found.header;
+        hash = ap riegeli_hash (sym «data») ∙ hash ∙ hash_of-at file at h found.head.fits found.head.header;
         blocks = blocks;
       });
-      none = none_at true file at h bytes found.sound found.header refl found.none blocks told.1;
+      none = none_at true file at h bytes found.head.fits found.head.header refl found.head.none blocks told.1;
       end = ends;
       num_records = records ∙ ap (λ (c : ChunkValue). c.num_records) is;
       unread = told.0 ∙ ap is_unread is;
@@ -124,10 +122,10 @@ pub refused_content : (bytes : Option (List ℕ)) (size at end : ℕ) (h : Heade
     → IfSome bytes (λ file. IsVerdict true file at fault)
 refused_content None size at end h judge fault found through here = tt
 refused_content (Some file) size at end h judge fault found through here =
-    verdict_content true file at h.data_hash (value_of h (data_at file at h.data_size)) fault found.none
+    verdict_content true file at h.data_hash (value_of h (data_at file at h.data_size)) fault found.head.none
     (blocks_at file size at end h found through.right)
-    (hash_of-at file at h found.sound found.header)
-    (value_of-at file at h (data_at file at h.data_size) found.sound found.header refl)
+    (hash_of-at file at h found.head.fits found.head.header)
+    (value_of-at file at h (data_at file at h.data_size) found.head.fits found.head.header refl)
     (tells_data file size at end h judge (Err fault.why) found through) here
 
 -- where such a chunk ends

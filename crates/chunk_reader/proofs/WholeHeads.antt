@@ -19,6 +19,12 @@ HasRightHead h at file = NoneOf (Applies file at) header_reasons × (header_byte
 says : (h : Header) (at : ℕ) (file : List ℕ) → IsHeader h → HasRightHead h at file → header_at file at ≡ value_of_header h
 says h at file fits right = header_at-header file at h fits right.1
 
+-- the header stands there
+pub there : (bytes : Option (List ℕ)) (at : ℕ) (h : Header) → IfSome bytes (HasRightHead h at)
+    → IfSome bytes (λ file. header_bytes_at file at ≡ bytes_of_header h)
+there None at h right = tt
+there (Some file) at h right = right.1
+
 -- the file ends before its chunk
 pub first_truncated : (bytes : Option (List ℕ)) (size at : ℕ) (h : Header) → IsSized bytes (Some size) → IsHeader h
     → IfSome bytes (HasRightHead h at) → size < end_by at (value_of_header h)

@@ -1,16 +1,20 @@
 -- Inside. What strict reading makes of chunks that are well formed. Own.
-use Rattle.std.specs.Prelude.{◌≡◌, ℕ, ◌<◌, ◌≤◌, ◌⊎◌, Bool, true, List, [], length, slice_range}
+use Rattle.std.specs.Prelude.{◌≡◌, ℕ, ◌<◌, ◌≤◌, ◌⊎◌, Bool, true, Result, Err, IfOk, List, [], length, slice_range}
 use Rattle.block_layout.specs.Layout.{IsBoundary}
 use Rattle.chunk_header.specs.Chunks.{ChunkValue, IsChunk}
 use Rattle.chunk_header.specs.SimpleChunks.{IsSimple, IsCompressed}
+use Rattle.chunk_header.specs.declared.Chunk.{Chunk}
 use Rattle.chunk_header.specs.Views.{value_of_chunk, HasRightHash}
 use Rattle.meta_chunk.specs.Kinds.{IsSignature, IsMetadata, IsPadding}
 use Rattle.meta_chunk.specs.Files.{max_data_size, IsTransposed}
 use Rattle.meta_chunk.specs.Laid.{IsLaid, end_of_chunk}
 use Rattle.chunk_reader.specs.Places.{end_at, chunk_at}
-use Rattle.chunk_reader.specs.Reasons.{Applies, NoneOf, strict_reasons}
+use Rattle.chunk_reader.specs.Reasons.{Applies, ContentApplies, NoneOf, IsFirstOf, content_reasons, strict_reasons}
 use Rattle.chunk_reader.specs.declared.chunk_content.Content.{Content}
 use Rattle.chunk_reader.specs.declared.chunk_content.Content.TheVariants as content
+use Rattle.chunk_reader.specs.declared.chunk_content.ContentEnd.{ContentEnd}
+use Rattle.chunk_reader.specs.declared.chunk_content.ContentEnd.TheVariants.{Fault}
+use Rattle.chunk_reader.specs.declared.reasons.Why.{Why}
 use Rattle.chunk_reader.specs.declared.judging.Judged.{Judged}
 use Rattle.chunk_reader.specs.declared.judging.What.{What}
 use Rattle.chunk_reader.specs.declared.judging.What.TheVariants.{Records, Passive, Unread}
@@ -27,6 +31,13 @@ abbrev pub IsWhat : Bool → ChunkValue → What → Type 0
 IsWhat keep k (Records records) = IsSimple k records
 IsWhat keep k Passive = IsSignature k ⊎ IsMetadata k ⊎ IsPadding k
 IsWhat keep k Unread = (keep ≡ true) × (IsCompressed k ⊎ IsTransposed k)
+
+-- the content of a chunk is refused exactly by the first reason that applies to it, unless memory is wanting first
+pub record JudgesContent {X : Type 0} (keep : Bool) (chunk : Chunk) (result : Result X ContentEnd) : Type 0 where
+  pub sound : IfOk result
+      (λ _. NoneOf (ContentApplies chunk.header.data_hash (value_of_chunk chunk)) (content_reasons keep))
+  pub refused : (why : Why) → result ≡ Err (Fault why)
+      → IsFirstOf (ContentApplies chunk.header.data_hash (value_of_chunk chunk)) (content_reasons keep) why
 
 -- the records that are given of it: none where it isn't a chunk of records
 abbrev pub records_given : What → List (List ℕ)

@@ -9,7 +9,7 @@ use Rattle.chunk_reader.specs.declared.reasons.Why.{Why}
 use Rattle.chunk_reader.specs.declared.reasons.Why.TheVariants as why
 use Rattle.chunk_reader.specs.declared.reasons.Fault.{Fault}
 
--- the chunks that reading passes: those that are read, and where unread ones are kept these too
+-- the chunks that reading passes: those that are read, and to keep, which a true here and below stands for, unread ones too
 abbrev pub IsAllowed : Bool → ChunkValue → Type 0
 IsAllowed false = IsPlain
 IsAllowed true = IsFramed

@@ -1,11 +1,12 @@
 pub mod Places
 pub mod PlaceChecks
 pub mod Sizes
+pub mod Runs
 pub mod BlockJudges
 pub mod Reasons
+pub mod Heads
 pub mod Faults
 pub mod Fronts
-pub mod Heads
 pub mod HeldData
 pub mod Contents
 pub mod Progress

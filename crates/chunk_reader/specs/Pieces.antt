@@ -4,7 +4,7 @@ use Rattle.highway_hash.specs.Riegeli.{riegeli_key}
 use Rattle.highway_hash.specs.Hashers.{hasher_of}
 use Rattle.record_values.specs.Bytes.{AreBytes}
 use Rattle.chunk_header.specs.Chunks.{ChunkValue}
-use Rattle.chunk_header.specs.SimpleChunks.{simple_kind}
+use Rattle.chunk_header.specs.Kinds.{simple_kind}
 use Rattle.simple_chunk.specs.Checkers.{HasChecked}
 use Rattle.meta_chunk.specs.Files.{is_unread}
 use Rattle.meta_chunk.specs.Laid.{IsLaid}

@@ -1,11 +1,11 @@
--- Inside. Room for own bytes at a place of a file, and the block headers of a chunk there. Own.
+-- Inside. Room for usable bytes at a place of a file, and the block headers of a chunk there. Own.
 use Rattle.std.specs.Prelude.{ℕ, ◌^◌, ◌<◌, ◌≤◌, Option, IsSomeAnd, List}
 use Rattle.block_layout.specs.Layout.{IsBlock, end_of}
 use Rattle.chunk_reader.specs.Places.{HasHeaderOf}
 
--- a size was told up to which so many own bytes from a place have room, within the limit of files
-abbrev pub HasOwnBytes : Option ℕ → ℕ → ℕ → Type 0
-HasOwnBytes told place count = IsSomeAnd told (λ size. (end_of place count ≤ 2 ^ 60) × (end_of place count ≤ size))
+-- a size was told up to which so many usable bytes from a place have room, within the limit of files
+abbrev pub HasUsableBytes : Option ℕ → ℕ → ℕ → Type 0
+HasUsableBytes told place count = IsSomeAnd told (λ size. (end_of place count ≤ 2 ^ 60) × (end_of place count ≤ size))
 
 -- each block from a place up to another has the header that it has in a chunk from a begin to an end
 abbrev pub HaveHeadersOf : List ℕ → ℕ → ℕ → ℕ → ℕ → Type 0

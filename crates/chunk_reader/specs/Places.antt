@@ -1,13 +1,13 @@
 -- Promise. What stands at a place of a file. Source: the Riegeli/records file format specification, "Chunk" and "Chunk
 -- header".
 use Rattle.std.specs.Prelude.{◌≡◌, ℕ, ◌+◌, ◌-◌, List, drop, slice_range}
-use Rattle.block_layout.specs.Layout.{block_header_size, chunk_header_size, own_bytes_at, chunk_end_of}
+use Rattle.block_layout.specs.Layout.{block_header_size, chunk_header_size, usable_bytes_at, chunk_end_of}
 use Rattle.block_layout.specs.BlockHeaders.{block_header}
 use Rattle.chunk_header.specs.Chunks.{ChunkValue, HeaderValue, header_in}
 
 -- the bytes of the chunk header at a place, or those of its front that the file has
 abbrev pub header_bytes_at : List ℕ → ℕ → List ℕ
-header_bytes_at file place = own_bytes_at file place chunk_header_size
+header_bytes_at file place = usable_bytes_at file place chunk_header_size
 
 -- what they say
 abbrev pub header_at : List ℕ → ℕ → HeaderValue
@@ -23,7 +23,7 @@ end_at file place = end_by place (header_at file place)
 
 -- so many bytes of data behind the chunk header at a place, or all where there are fewer
 abbrev pub data_at : List ℕ → ℕ → ℕ → List ℕ
-data_at file place size = drop chunk_header_size (own_bytes_at file place (chunk_header_size + size))
+data_at file place size = drop chunk_header_size (usable_bytes_at file place (chunk_header_size + size))
 
 -- the chunk at a place, as its header says
 abbrev pub chunk_at : List ℕ → ℕ → ChunkValue

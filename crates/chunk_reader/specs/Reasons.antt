@@ -4,8 +4,9 @@ use Rattle.std.specs.List.{AllByRecursion}
 use Rattle.highway_hash.specs.Riegeli.{riegeli_hash}
 use Rattle.block_layout.specs.Layout.{chunk_header_size, IsBlock, end_of}
 use Rattle.chunk_header.specs.Chunks.{ChunkValue, IsRightChunkHeader}
-use Rattle.chunk_header.specs.SimpleChunks.{simple_kind, IsSimpleChunk, IsCompressed}
-use Rattle.meta_chunk.specs.Kinds.{KeepsRule, IsOfNoName}
+use Rattle.chunk_header.specs.Kinds.{simple_kind, IsOfNoName}
+use Rattle.chunk_header.specs.SimpleChunks.{IsSimpleChunk, IsCompressed}
+use Rattle.meta_chunk.specs.Kinds.{KeepsRule}
 use Rattle.meta_chunk.specs.Files.{max_data_size, IsTransposed}
 use Rattle.chunk_reader.specs.Places.{header_bytes_at, header_at, end_at, chunk_at, HasHeaderOf}
 use Rattle.chunk_reader.specs.declared.reasons.Why.{Why}

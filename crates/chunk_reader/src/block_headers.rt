@@ -1,9 +1,9 @@
-ghost use Rattle.std.specs.Prelude.{◌+◌, ◌<◌, ◌≤◌, IfOk, IfSome, IsErr};
-ghost use Rattle.record_io.specs.Calls.{OnlyAsks};
-ghost use Rattle.block_layout.specs.Layout.{IsBlock, block_header_size};
+ghost use Rattle.std.specs.Prelude.{IfOk, IfSome, IsErr};
+ghost use Rattle.record_io.specs.Calls.{AsksUpTo};
+ghost use Rattle.block_layout.specs.Layout.{block_header_size};
 ghost use Rattle.block_layout.specs.BlockHeaders.{IsSane};
 ghost use Rattle.chunk_reader.specs.Holders.{IsSaneHeaderAt};
-ghost use Rattle.chunk_reader.specs.Sizes.{HasSize};
+ghost use Rattle.chunk_reader.specs.Sizes.{HasBlock};
 
 use block_layout::{BLOCK_HEADER_SIZE, BlockHeader};
 use record_io::{Failed, Store, get_exact};
@@ -21,13 +21,11 @@ pub fn sane_header_at<S: Store>(
     size: u64,
     block: u64,
 ) -> Result<Option<BlockHeader>, Failed>
-    requires sized { HasSize (S.told store.old) size }
-    requires at_block { IsBlock block }
-    requires below { block < size }
+    requires { HasBlock (S.told store.old) size block }
     ensures sane { IfOk result (λ found. IfSome found (λ header. IsSane block header.previous header.next)) }
     ensures found { IfOk result (λ found. IfSome (S.bytes store.old) (λ file. IsSaneHeaderAt file block found)) }
-    ensures handed { S.handed store.new ≤ S.handed store.old + block_header_size }
-    ensures store { OnlyAsks S.bytes S.told S.name S.faults (IsErr result) store.old store.new }
+    ensures store { AsksUpTo S.bytes S.told S.handed S.name S.faults (IsErr result)
+        block_header_size store.old store.new }
 {
     if size - block < BLOCK_HEADER_SIZE {
         return Ok(None);

@@ -1,5 +1,5 @@
 ghost use Rattle.std.specs.Prelude.{◌≡◌, ℕ, ◌+◌, ◌-◌, ◌*◌, ◌^◌, ◌≤◌, Option, List, IfSome, OnOk, Err};
-ghost use Rattle.record_io.specs.Calls.{OnlyAsks};
+ghost use Rattle.record_io.specs.Calls.{AsksUpTo};
 ghost use Rattle.block_layout.specs.Layout.{block_header_size, blocks_below, IsBlock};
 ghost use Rattle.chunk_reader.specs.BlockJudges.{MayJudge, EachBlock, StopsAtBlock, JudgesUpTo};
 
@@ -53,8 +53,8 @@ pub trait JudgesBlocks {
         ensures accepted { OnOk result (IfSome (S.bytes store.old) (λ file. accepts self.now file block)) }
         ensures refused { (told : ℕ) → result ≡ Err (BlockEnd.Refused told)
             → may_tell self.now told × IfSome (S.bytes store.old) (λ file. tells self.now file block told) }
-        ensures handed { S.handed store.new ≤ S.handed store.old + block_header_size }
-        ensures store { OnlyAsks S.bytes S.told S.name S.faults (result ≡ Err BlockEnd.Store) store.old store.new };
+        ensures store { AsksUpTo S.bytes S.told S.handed S.name S.faults (result ≡ Err BlockEnd.Store)
+            block_header_size store.old store.new };
 }
 
 /// Judges the headers of the blocks from a place up to another, up to the first that isn't accepted.
@@ -72,8 +72,8 @@ pub fn judge_blocks<S: Store, J: JudgesBlocks>(
         (S.handed store.new - S.handed store.old)) }
     ensures looks { IfSome (S.bytes store.old) (λ file.
         JudgesUpTo (J.accepts judge.now file) from to (S.handed store.new - S.handed store.old)) }
-    ensures handed { S.handed store.new ≤ S.handed store.old + block_header_size * (blocks_below to - blocks_below from) }
-    ensures store { OnlyAsks S.bytes S.told S.name S.faults (result ≡ Err BlockEnd.Store) store.old store.new }
+    ensures store { AsksUpTo S.bytes S.told S.handed S.name S.faults (result ≡ Err BlockEnd.Store)
+        (block_header_size * (blocks_below to - blocks_below from)) store.old store.new }
 {
     let mut block = from.div_ceil(BLOCK_SIZE) * BLOCK_SIZE;
     while block < to {

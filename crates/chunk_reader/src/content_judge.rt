@@ -1,8 +1,7 @@
 ghost use Rattle.std.specs.Prelude.{◌≡◌, ◌↔◌, false, IsTrue, IfOk, OnOk, OnErr};
 ghost use Rattle.meta_chunk.specs.KindViews.{HeaderKeepsRule};
 ghost use Rattle.chunk_header.specs.Views.{HasRightHash, value_of_chunk};
-ghost use Rattle.chunk_reader.specs.Contents.{IsContent};
-ghost use Rattle.chunk_reader.specs.Reasons.{ContentApplies, NoneOf, IsFirstOf, content_reasons};
+ghost use Rattle.chunk_reader.specs.Contents.{IsContent, JudgesContent};
 ghost use Rattle.chunk_reader.specs.declared.reasons.Why.{Why};
 
 use crate::chunk_content::{Content, ContentEnd};
@@ -22,9 +21,7 @@ use std::alloc::Global;
 /// `UnknownKind`; unless memory is wanting first.
 pub fn content(alloc: Global, chunk: &Chunk) -> Result<Content, ContentEnd>
     ensures content { IfOk result (λ content. IsContent (value_of_chunk chunk.now) content) }
-    ensures sound { IfOk result (λ _. NoneOf (ContentApplies chunk.now.header.data_hash (value_of_chunk chunk.now)) (content_reasons false)) }
-    ensures refused { (why : Why) → result ≡ Err (ContentEnd.Fault why)
-        → IsFirstOf (ContentApplies chunk.now.header.data_hash (value_of_chunk chunk.now)) (content_reasons false) why }
+    ensures judged { JudgesContent false chunk.now result }
 {
     content_under(alloc, chunk, chunk.hash_right())
 }
@@ -37,9 +34,7 @@ pub fn content(alloc: Global, chunk: &Chunk) -> Result<Content, ContentEnd>
 pub fn content_under(alloc: Global, chunk: &Chunk, right: bool) -> Result<Content, ContentEnd>
     requires { IsTrue right ↔ HasRightHash chunk.now }
     ensures content { IfOk result (λ content. IsContent (value_of_chunk chunk.now) content) }
-    ensures sound { IfOk result (λ _. NoneOf (ContentApplies chunk.now.header.data_hash (value_of_chunk chunk.now)) (content_reasons false)) }
-    ensures refused { (why : Why) → result ≡ Err (ContentEnd.Fault why)
-        → IsFirstOf (ContentApplies chunk.now.header.data_hash (value_of_chunk chunk.now)) (content_reasons false) why }
+    ensures judged { JudgesContent false chunk.now result }
 {
     if !right {
         return Err(ContentEnd::Fault(Why::DataHash));

@@ -1,25 +1,26 @@
 ghost use Rattle.std.specs.Prelude.{◌≡◌, ℕ, ◌+◌, ◌-◌, ◌<◌, ◌≤◌, List, ◌++◌, length, take, IfOk, IfSome, OnOk, Err};
-ghost use Rattle.record_io.specs.Calls.{OnlyAsks};
-ghost use Rattle.block_layout.specs.Layout.{chunk_header_size, end_of, own_bytes_at};
+ghost use Rattle.record_io.specs.Calls.{AsksWithin};
+ghost use Rattle.block_layout.specs.Layout.{chunk_header_size, end_of, usable_bytes_at};
 ghost use Rattle.chunk_header.specs.Views.{value_of_header};
 ghost use Rattle.chunk_header.specs.declared.Header.{Header};
 ghost use Rattle.chunk_reader.specs.BlockJudges.{MayJudge, EachBlock, StopsAtBlock, StopsAtBlockInChunk, IsUnfed};
 ghost use Rattle.chunk_reader.specs.Places.{data_at};
-ghost use Rattle.chunk_reader.specs.PlaceChecks.{HasOwnBytes, HaveHeadersOf, IsFirstWrong};
+ghost use Rattle.chunk_reader.specs.PlaceChecks.{HasUsableBytes, HaveHeadersOf, IsFirstWrong};
+ghost use Rattle.chunk_reader.specs.Runs.{TakesRun};
 ghost use Rattle.chunk_reader.specs.Sizes.{HasSpan};
 ghost use Rattle.chunk_reader.specs.declared.reasons.Fault.{Fault};
 ghost use Rattle.chunk_reader.specs.declared.reasons.Why.{Why};
 
 use crate::block_judges::{BlockEnd, ExactHeaders, JudgesBlocks, judge_blocks};
 use crate::judging::refused;
-use crate::own_bytes::OwnBytes;
 use crate::reasons::{VerifyEnd, Why};
+use crate::usable_bytes::UsableBytes;
 use block_layout::BLOCK_SIZE;
 use chunk_header::Header;
 use record_io::Store;
 
 /// How many bytes of data are taken at a time at most. Own.
-const PIECE_SIZE: usize = 4096;
+const BUFFER_SIZE: usize = 4096;
 
 /// What takes the data of a chunk piece by piece. Own.
 pub trait TakesData {
@@ -64,45 +65,44 @@ pub fn read_data<S: Store, J: JudgesBlocks, T: TakesData>(
     ensures refused { (told : ℕ) → result ≡ Err (BlockEnd.Refused told) → J.may_tell judge.now told
         × IfSome (S.bytes store.old) (λ file. StopsAtBlockInChunk (J.accepts judge.now file) (J.tells judge.now file) at end told
         (S.handed store.new - S.handed store.old)) }
-    ensures handed { S.handed store.new + (at + chunk_header_size) ≤ S.handed store.old + end }
-    ensures store { OnlyAsks S.bytes S.told S.name S.faults (result ≡ Err BlockEnd.Store) store.old store.new }
+    ensures store { AsksWithin S.bytes S.told S.handed S.name S.faults (result ≡ Err BlockEnd.Store)
+        (at + chunk_header_size) end store.old store.new }
 {
-    let mut own = OwnBytes::behind_header(at);
-    judge_blocks(store, judge, at, own.place)?;
-    feed_data(store, judge, &mut own, header.data_size, taker)?;
-    judge_blocks(store, judge, own.place, end)
+    let mut usable = UsableBytes::behind_header(at);
+    judge_blocks(store, judge, at, usable.place)?;
+    feed_data(store, judge, &mut usable, header.data_size, taker)?;
+    judge_blocks(store, judge, usable.place, end)
 }
 
 /// Reads so many bytes of data piece by piece, and gives them to what takes them.
 fn feed_data<S: Store, J: JudgesBlocks, T: TakesData>(
     store: &mut S,
     judge: &J,
-    own: &mut OwnBytes,
+    usable: &mut UsableBytes,
     size: u64,
     taker: &mut T,
 ) -> Result<(), BlockEnd>
     requires judges { MayJudge (J.fits judge.now (S.told store.old)) (J.begin judge.now) (J.end judge.now)
-        own.old.place (end_of own.old.place size) }
-    requires told { HasOwnBytes (S.told store.old) own.old.place size }
+        usable.old.place (end_of usable.old.place size) }
+    requires told { HasUsableBytes (S.told store.old) usable.old.place size }
     requires unfed { IsUnfed (T.has_taken taker.old) (T.has_left taker.old) size }
     ensures same_header { OnOk result (T.header taker.new ≡ T.header taker.old) }
-    ensures taken { OnOk result (IfSome (S.bytes store.old) (λ file. T.has_taken taker.new (own_bytes_at file own.old.place size))) }
+    ensures taken { OnOk result (IfSome (S.bytes store.old) (λ file. T.has_taken taker.new (usable_bytes_at file usable.old.place size))) }
     ensures none_left { OnOk result (T.has_left taker.new 0) }
-    ensures moved { OnOk result (own.new.place ≡ end_of own.old.place size) }
-    ensures accepted { OnOk result (IfSome (S.bytes store.old) (λ file. EachBlock (J.accepts judge.now file) own.old.place own.new.place)) }
+    ensures moved { OnOk result (usable.new.place ≡ end_of usable.old.place size) }
+    ensures accepted { OnOk result (IfSome (S.bytes store.old) (λ file. EachBlock (J.accepts judge.now file) usable.old.place usable.new.place)) }
     ensures refused { (told : ℕ) → result ≡ Err (BlockEnd.Refused told) → J.may_tell judge.now told
-        × IfSome (S.bytes store.old) (λ file. StopsAtBlock (J.accepts judge.now file) (J.tells judge.now file) own.old.place
-        (end_of own.old.place size) told (S.handed store.new - S.handed store.old)) }
-    ensures handed { OnOk result (S.handed store.new + own.old.place ≤ S.handed store.old + own.new.place) }
-    ensures handed_at_most { S.handed store.new + own.old.place ≤ S.handed store.old + end_of own.old.place size }
-    ensures store { OnlyAsks S.bytes S.told S.name S.faults (result ≡ Err BlockEnd.Store) store.old store.new }
+        × IfSome (S.bytes store.old) (λ file. StopsAtBlock (J.accepts judge.now file) (J.tells judge.now file) usable.old.place
+        (end_of usable.old.place size) told (S.handed store.new - S.handed store.old)) }
+    ensures store { AsksWithin S.bytes S.told S.handed S.name S.faults (result ≡ Err BlockEnd.Store)
+        usable.old.place (end_of usable.old.place size) store.old store.new }
 {
-    let mut piece = [0; PIECE_SIZE];
+    let mut buf = [0; BUFFER_SIZE];
     let mut left = size;
     while left > 0 {
-        let most = left.min(PIECE_SIZE as u64) as usize;
-        let count = take_next(store, judge, own, &mut piece[..most])?;
-        taker.feed(&piece[..count]);
+        let most = left.min(BUFFER_SIZE as u64) as usize;
+        let count = take_next(store, judge, usable, &mut buf[..most])?;
+        taker.feed(&buf[..count]);
         left -= count as u64;
     }
     Ok(())
@@ -113,29 +113,27 @@ fn feed_data<S: Store, J: JudgesBlocks, T: TakesData>(
 fn take_next<S: Store, J: JudgesBlocks>(
     store: &mut S,
     judge: &J,
-    own: &mut OwnBytes,
+    usable: &mut UsableBytes,
     buf: &mut [u8],
 ) -> Result<usize, BlockEnd>
     requires judges { MayJudge (J.fits judge.now (S.told store.old)) (J.begin judge.now) (J.end judge.now)
-        own.old.place (end_of own.old.place (length buf.old)) }
+        usable.old.place (end_of usable.old.place (length buf.old)) }
     requires room { 0 < length buf.old }
-    requires told { HasOwnBytes (S.told store.old) own.old.place (length buf.old) }
-    ensures some { IfOk result (λ n. 0 < n) }
-    ensures fits { IfOk result (λ n. n ≤ length buf.old) }
-    ensures moved { IfOk result (λ n. own.new.place ≡ end_of own.old.place n) }
-    ensures given { IfOk result (λ n. IfSome (S.bytes store.old) (λ file. take n buf.new ≡ own_bytes_at file own.old.place n)) }
-    ensures accepted { OnOk result (IfSome (S.bytes store.old) (λ file. EachBlock (J.accepts judge.now file) own.old.place own.new.place)) }
+    requires told { HasUsableBytes (S.told store.old) usable.old.place (length buf.old) }
+    ensures run { IfOk result (λ n. TakesRun usable.old.place (length buf.old) n usable.new.place) }
+    ensures given { IfOk result (λ n. IfSome (S.bytes store.old) (λ file. take n buf.new ≡ usable_bytes_at file usable.old.place n)) }
+    ensures accepted { OnOk result (IfSome (S.bytes store.old) (λ file. EachBlock (J.accepts judge.now file) usable.old.place usable.new.place)) }
     ensures refused { (told : ℕ) → result ≡ Err (BlockEnd.Refused told) → J.may_tell judge.now told
-        × IfSome (S.bytes store.old) (λ file. StopsAtBlock (J.accepts judge.now file) (J.tells judge.now file) own.old.place
-        (end_of own.old.place (length buf.old)) told (S.handed store.new - S.handed store.old)) }
-    ensures handed { OnOk result (S.handed store.new + own.old.place ≤ S.handed store.old + own.new.place) }
-    ensures handed_at_most { S.handed store.new + own.old.place ≤ S.handed store.old + end_of own.old.place (length buf.old) }
-    ensures store { OnlyAsks S.bytes S.told S.name S.faults (result ≡ Err BlockEnd.Store) store.old store.new }
+        × IfSome (S.bytes store.old) (λ file. StopsAtBlock (J.accepts judge.now file) (J.tells judge.now file) usable.old.place
+        (end_of usable.old.place (length buf.old)) told (S.handed store.new - S.handed store.old)) }
+    ensures handed { OnOk result (S.handed store.new + usable.old.place ≤ S.handed store.old + usable.new.place) }
+    ensures store { AsksWithin S.bytes S.told S.handed S.name S.faults (result ≡ Err BlockEnd.Store)
+        usable.old.place (end_of usable.old.place (length buf.old)) store.old store.new }
 {
-    if own.place % BLOCK_SIZE == 0 {
-        judge.judge(store, own.place)?;
+    if usable.place % BLOCK_SIZE == 0 {
+        judge.judge(store, usable.place)?;
     }
-    Ok(own.take(store, buf)?)
+    Ok(usable.take(store, buf)?)
 }
 
 /// Reads the data of a chunk, and refuses the first block within the chunk that hasn't the header which the chunk gives it.
@@ -154,8 +152,8 @@ pub(crate) fn feed_chunk<S: Store, T: TakesData>(
     ensures right { OnOk result (IfSome (S.bytes store.old) (λ file. HaveHeadersOf file at end at end)) }
     ensures wrong { (fault : Fault) → result ≡ Err (VerifyEnd.Refused fault) → (fault.why ≡ Why.BlockHeader)
         × IfSome (S.bytes store.old) (λ file. IsFirstWrong file at end at end fault.at) }
-    ensures handed { S.handed store.new + (at + chunk_header_size) ≤ S.handed store.old + end }
-    ensures store { OnlyAsks S.bytes S.told S.name S.faults (result ≡ Err VerifyEnd.Store) store.old store.new }
+    ensures store { AsksWithin S.bytes S.told S.handed S.name S.faults (result ≡ Err VerifyEnd.Store)
+        (at + chunk_header_size) end store.old store.new }
 {
     let judge = ExactHeaders { begin: at, end };
     match read_data(store, &judge, at, end, header, taker) {

@@ -1,5 +1,5 @@
 ghost use Rattle.std.specs.Prelude.{◌≡◌, ◌+◌, ◌-◌, ◌≤◌, Bool, List, None, Some, IfOk, IfSome, OnOk, OnErr, Ok, Err, ℕ};
-ghost use Rattle.record_io.specs.Calls.{OnlyAsks};
+ghost use Rattle.record_io.specs.Calls.{AsksUpTo, OnlyAsks};
 ghost use Rattle.chunk_reader.specs.Contents.{IsJudged, IsJudgedIn};
 ghost use Rattle.chunk_reader.specs.Faults.{BeginsWithSignature};
 ghost use Rattle.chunk_reader.specs.Progress.{AreReadFrom};
@@ -12,7 +12,7 @@ ghost use Rattle.chunk_reader.specs.declared.judging.Judged.{Judged};
 use crate::judging::{Judged, What, strict_at};
 use crate::progress::{NO_CHUNKS, check_signature, totals_with_chunk};
 use crate::reasons::{ReadEnd, VerifyEnd};
-use chunk_header::Chunk;
+use chunk_header::{Chunk, Kind};
 use meta_chunk::SIGNATURE;
 use record_io::{Bytes, Store, Totals};
 use std::alloc::Global;
@@ -114,16 +114,16 @@ fn first_chunk<S: Store>(alloc: Global, store: &mut S, size: u64) -> Result<Judg
     ensures signed { OnOk result (IfSome (S.bytes store.old) BeginsWithSignature) }
     ensures refused { (fault : Fault) → result ≡ Err (VerifyEnd.Refused fault) → (fault.at ≡ 0) × (fault.why ≡ Why.NoSignature)
         × IfSome (S.bytes store.old) (λ file. ¬ BeginsWithSignature file) }
-    ensures handed { S.handed store.new ≤ S.handed store.old + 64 }
     ensures handed_given { IfOk result (λ judged. S.handed store.new ≤ S.handed store.old + judged.end) }
     ensures handed_at_most { S.handed store.new ≤ S.handed store.old + size }
-    ensures store { OnlyAsks S.bytes S.told S.name S.faults (result ≡ Err VerifyEnd.Store) store.old store.new }
+    ensures store { AsksUpTo S.bytes S.told S.handed S.name S.faults (result ≡ Err VerifyEnd.Store)
+        64 store.old store.new }
 {
     check_signature(store, size)?;
     Ok(Judged {
         begin: 0,
         end: SIGNATURE.len() as u64,
-        chunk: Chunk::new(b's', 0, 0, Bytes::new(alloc)),
+        chunk: Chunk::new(Kind::Signature.byte(), 0, 0, Bytes::new(alloc)),
         what: What::Passive,
     })
 }

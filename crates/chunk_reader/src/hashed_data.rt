@@ -1,6 +1,5 @@
 ghost use Rattle.std.specs.Prelude.{◌≡◌, ◌↔◌, [], length, IsTrue, IfOk};
-ghost use Rattle.chunk_header.specs.Chunks.{IsChunk};
-ghost use Rattle.chunk_header.specs.Views.{HasRightHash, value_of_chunk};
+ghost use Rattle.chunk_header.specs.Views.{HasRightHash, IsReadChunk};
 
 use crate::feeding::TakesData;
 use chunk_header::{Chunk, Header};
@@ -48,9 +47,7 @@ impl HashedData {
     /// its memory with the records that are read from it.
     pub fn into_chunk(self) -> Result<(Chunk, bool), AllocError>
         requires { length self.bytes ≡ self.header.data_size }
-        ensures header { IfOk result (λ made. made.0.header ≡ self.header) }
-        ensures bytes { IfOk result (λ made. made.0.bytes ≡ self.bytes) }
-        ensures sound { IfOk result (λ made. IsChunk (value_of_chunk made.0)) }
+        ensures chunk { IfOk result (λ made. IsReadChunk self.header self.bytes made.0) }
         ensures right { IfOk result (λ made. IsTrue made.1 ↔ HasRightHash made.0) }
     {
         let HashedData {

@@ -1,5 +1,5 @@
 ghost use Rattle.std.specs.Prelude.{◌≡◌, ◌+◌, ◌^◌, ◌<◌, ◌≤◌, Option, ℕ, IfOk, IfSome, MatchOption, IsErr};
-ghost use Rattle.record_io.specs.Calls.{OnlyAsks};
+ghost use Rattle.record_io.specs.Calls.{AsksUpTo};
 ghost use Rattle.block_layout.specs.Layout.{chunk_header_size, end_of};
 ghost use Rattle.chunk_header.specs.Views.{IsHeader, value_of_header};
 ghost use Rattle.chunk_reader.specs.Places.{end_by};
@@ -7,7 +7,7 @@ ghost use Rattle.chunk_reader.specs.Heads.{IsHead};
 ghost use Rattle.chunk_reader.specs.Sizes.{MayBeginAt};
 ghost use Rattle.chunk_header.specs.declared.Header.{Header};
 
-use crate::own_bytes::OwnBytes;
+use crate::usable_bytes::UsableBytes;
 use block_layout::chunk_end;
 use chunk_header::{HEADER_SIZE, Header};
 use record_io::{Failed, Store};
@@ -43,15 +43,15 @@ pub fn head_at<S: Store>(store: &mut S, size: u64, at: u64) -> Result<Head, Fail
     ensures end { (header : Header) (end : Option ℕ) → result ≡ Ok (Head.Right header end)
         → MatchOption end (2 ^ 63 < end_by at (value_of_header header)) (λ e. e ≡ end_by at (value_of_header header)) }
     ensures within { (header : Header) (end : Option ℕ) → result ≡ Ok (Head.Right header end) → end_of at chunk_header_size ≤ size }
-    ensures handed { S.handed store.new ≤ S.handed store.old + chunk_header_size }
     ensures handed_at_most { S.handed store.new + at ≤ S.handed store.old + size }
-    ensures store { OnlyAsks S.bytes S.told S.name S.faults (IsErr result) store.old store.new }
+    ensures store { AsksUpTo S.bytes S.told S.handed S.name S.faults (IsErr result)
+        chunk_header_size store.old store.new }
 {
-    if OwnBytes::behind_header(at).place > size {
+    if UsableBytes::behind_header(at).place > size {
         return Ok(Head::Short);
     }
     let mut bytes = [0; HEADER_SIZE];
-    OwnBytes::from(at).fill(store, &mut bytes)?;
+    UsableBytes::from(at).fill(store, &mut bytes)?;
     Ok(match Header::from_bytes(&bytes) {
         Some(header) => Head::Right {
             header,

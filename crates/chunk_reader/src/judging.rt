@@ -1,14 +1,15 @@
 ghost use Rattle.std.specs.Prelude.{◌≡◌, ◌↔◌, ◌+◌, ◌^◌, ◌≤◌, ◌⊎◌, IsTrue, IfOk, IfSome, IsSomeAnd, Err};
-ghost use Rattle.record_io.specs.Calls.{OnlyAsks};
+ghost use Rattle.record_io.specs.Calls.{AsksUpTo, AsksWithin};
 ghost use Rattle.block_layout.specs.Layout.{chunk_header_size, IsBoundary};
 ghost use Rattle.chunk_header.specs.Chunks.{IsChunk};
-ghost use Rattle.chunk_header.specs.Views.{IsHeader, HasRightHash, bytes_of_header, value_of_chunk, value_of_header};
+ghost use Rattle.chunk_header.specs.Views.{HasRightHash, value_of_chunk, value_of_header};
 ghost use Rattle.meta_chunk.specs.Files.{max_data_size};
-ghost use Rattle.chunk_reader.specs.Contents.{IsWhat, IsJudged, IsJudgedIn};
+ghost use Rattle.chunk_reader.specs.Contents.{IsWhat, IsJudged, IsJudgedIn, JudgesContent};
 ghost use Rattle.chunk_reader.specs.Faults.{IsVerdict};
-ghost use Rattle.chunk_reader.specs.Places.{header_bytes_at, end_by, end_at, data_at};
+ghost use Rattle.chunk_reader.specs.Heads.{IsFoundHead};
+ghost use Rattle.chunk_reader.specs.Places.{end_by, end_at, data_at};
 ghost use Rattle.chunk_reader.specs.PlaceChecks.{HaveHeadersOf, IsFirstWrong};
-ghost use Rattle.chunk_reader.specs.Reasons.{Applies, ContentApplies, NoneOf, IsFirstOf, unpassed_reasons, loading_reasons, content_reasons};
+ghost use Rattle.chunk_reader.specs.Reasons.{Applies, NoneOf, IsFirstOf, unpassed_reasons, loading_reasons};
 ghost use Rattle.chunk_reader.specs.Ends.{IsOneOf};
 ghost use Rattle.chunk_reader.specs.Sizes.{MayBeginAt, HasSpan};
 ghost use Rattle.chunk_reader.specs.declared.reasons.Fault.{Fault};
@@ -18,9 +19,9 @@ use crate::chunk_content::{Content, ContentEnd};
 use crate::content_judge::content_under;
 use crate::feeding::feed_chunk;
 use crate::hashed_data::HashedData;
-use crate::own_bytes::OwnBytes;
 use crate::passed_heads::passed_head_at;
 use crate::reasons::{Fault, ReadEnd, VerifyEnd, Why};
+use crate::usable_bytes::UsableBytes;
 use chunk_header::{Chunk, Header};
 use record_io::{Bytes, Failed, Store};
 use simple_chunk::Records;
@@ -104,11 +105,11 @@ pub fn data_at<S: Store>(
     ensures header { IfOk result (λ chunk. chunk.header ≡ header.now) }
     ensures sound { IfOk result (λ chunk. IsChunk (value_of_chunk chunk)) }
     ensures given { IfOk result (λ chunk. IfSome (S.bytes store.old) (λ file. chunk.bytes ≡ data_at file at header.now.data_size)) }
-    ensures handed { S.handed store.new ≤ S.handed store.old + header.now.data_size }
-    ensures store { OnlyAsks S.bytes S.told S.name S.faults (result ≡ Err LoadEnd.Store) store.old store.new }
+    ensures store { AsksUpTo S.bytes S.told S.handed S.name S.faults (result ≡ Err LoadEnd.Store)
+        header.now.data_size store.old store.new }
 {
     let mut data = vec![in alloc; 0; header.data_size as usize]?;
-    OwnBytes::behind_header(at).fill(store, &mut data)?;
+    UsableBytes::behind_header(at).fill(store, &mut data)?;
     Ok(Chunk::read(*header, Bytes::from(data).share()?))
 }
 
@@ -142,9 +143,9 @@ pub fn strict_at<S: Store>(
     ensures early_refused { (fault : Fault) → result ≡ Err (ReadEnd.Refused fault) → IsOneOf loading_reasons fault.why
         → S.handed store.new ≤ S.handed store.old + chunk_header_size }
     ensures handed_given { IfOk result (λ judged. S.handed store.new + at ≤ S.handed store.old + judged.end) }
-    ensures handed_at_most { S.handed store.new + at ≤ S.handed store.old + size }
     ensures memory { result ≡ Err ReadEnd.Memory → IfSome (S.bytes store.old) (λ file. NoneOf (Applies file at) loading_reasons) }
-    ensures store { OnlyAsks S.bytes S.told S.name S.faults (result ≡ Err ReadEnd.Store) store.old store.new }
+    ensures store { AsksWithin S.bytes S.told S.handed S.name S.faults (result ≡ Err ReadEnd.Store)
+        at size store.old store.new }
 {
     let (header, end) = whole_head_at(store, size, at)?;
     let (chunk, right) = read_chunk(alloc, store, at, end, header)?;
@@ -165,9 +166,7 @@ pub fn strict_at<S: Store>(
 fn what_of(alloc: Global, chunk: &Chunk, right: bool, keep: bool) -> Result<What, ContentEnd>
     requires { IsTrue right ↔ HasRightHash chunk.now }
     ensures what { IfOk result (λ what. IsWhat keep (value_of_chunk chunk.now) what) }
-    ensures sound { IfOk result (λ _. NoneOf (ContentApplies chunk.now.header.data_hash (value_of_chunk chunk.now)) (content_reasons keep)) }
-    ensures refused { (why : Why) → result ≡ Err (ContentEnd.Fault why)
-        → IsFirstOf (ContentApplies chunk.now.header.data_hash (value_of_chunk chunk.now)) (content_reasons keep) why }
+    ensures judged { JudgesContent keep chunk.now result }
 {
     match content_under(alloc, chunk, right) {
         Ok(Content::Records(records)) => Ok(What::Records(records)),
@@ -184,17 +183,14 @@ pub(crate) fn whole_head_at<S: Store>(
     at: u64,
 ) -> Result<(Header, u64), VerifyEnd>
     requires place { MayBeginAt (S.told store.old) size at }
-    ensures end { IfOk result (λ found. found.1 ≡ end_by at (value_of_header found.0)) }
+    ensures found { IfOk result (λ found. IsFoundHead loading_reasons (S.bytes store.old) at found.0 found.1) }
     ensures within { IfOk result (λ found. found.1 ≤ size) }
     ensures small { IfOk result (λ found. found.0.data_size ≤ max_data_size) }
-    ensures fits { IfOk result (λ found. IsHeader found.0) }
-    ensures header { IfOk result (λ found. IfSome (S.bytes store.old) (λ file. header_bytes_at file at ≡ bytes_of_header found.0)) }
-    ensures sound { IfOk result (λ _. IfSome (S.bytes store.old) (λ file. NoneOf (Applies file at) loading_reasons)) }
     ensures refused { (fault : Fault) → result ≡ Err (VerifyEnd.Refused fault) → (fault.at ≡ at)
         × IfSome (S.bytes store.old) (λ file. IsFirstOf (Applies file at) loading_reasons fault.why) }
-    ensures handed { S.handed store.new ≤ S.handed store.old + chunk_header_size }
     ensures handed_at_most { S.handed store.new + at ≤ S.handed store.old + size }
-    ensures store { OnlyAsks S.bytes S.told S.name S.faults (result ≡ Err VerifyEnd.Store) store.old store.new }
+    ensures store { AsksUpTo S.bytes S.told S.handed S.name S.faults (result ≡ Err VerifyEnd.Store)
+        chunk_header_size store.old store.new }
 {
     let (header, end) = passed_head_at(store, size, at)?;
     if header.data_size > MAX_DATA_SIZE {
@@ -228,8 +224,8 @@ fn read_chunk<S: Store>(
     ensures right { IfOk result (λ _. IfSome (S.bytes store.old) (λ file. HaveHeadersOf file at end at end)) }
     ensures wrong { (fault : Fault) → result ≡ Err (ReadEnd.Refused fault) → (fault.why ≡ Why.BlockHeader)
         × IfSome (S.bytes store.old) (λ file. IsFirstWrong file at end at end fault.at) }
-    ensures handed { S.handed store.new + (at + chunk_header_size) ≤ S.handed store.old + end }
-    ensures store { OnlyAsks S.bytes S.told S.name S.faults (result ≡ Err ReadEnd.Store) store.old store.new }
+    ensures store { AsksWithin S.bytes S.told S.handed S.name S.faults (result ≡ Err ReadEnd.Store)
+        (at + chunk_header_size) end store.old store.new }
 {
     let mut data = HashedData::new(alloc, header)?;
     feed_chunk(store, at, end, &header, &mut data)?;

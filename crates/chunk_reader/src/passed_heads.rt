@@ -1,9 +1,8 @@
 ghost use Rattle.std.specs.Prelude.{◌≡◌, ◌+◌, ◌≤◌, IfOk, IfSome, Err};
-ghost use Rattle.record_io.specs.Calls.{OnlyAsks};
+ghost use Rattle.record_io.specs.Calls.{AsksUpTo};
 ghost use Rattle.block_layout.specs.Layout.{chunk_header_size};
-ghost use Rattle.chunk_header.specs.Views.{IsHeader, bytes_of_header, value_of_header};
-ghost use Rattle.chunk_reader.specs.Places.{header_bytes_at, end_by};
-ghost use Rattle.chunk_reader.specs.Reasons.{Applies, NoneOf, IsFirstOf, unpassed_reasons};
+ghost use Rattle.chunk_reader.specs.Heads.{IsFoundHead};
+ghost use Rattle.chunk_reader.specs.Reasons.{Applies, IsFirstOf, unpassed_reasons};
 ghost use Rattle.chunk_reader.specs.Sizes.{MayBeginAt};
 ghost use Rattle.chunk_reader.specs.declared.reasons.Fault.{Fault};
 
@@ -28,16 +27,13 @@ pub fn passed_head_at<S: Store>(
     at: u64,
 ) -> Result<(Header, u64), VerifyEnd>
     requires place { MayBeginAt (S.told store.old) size at }
-    ensures end { IfOk result (λ found. found.1 ≡ end_by at (value_of_header found.0)) }
+    ensures found { IfOk result (λ found. IsFoundHead unpassed_reasons (S.bytes store.old) at found.0 found.1) }
     ensures within { IfOk result (λ found. found.1 ≤ size) }
-    ensures fits { IfOk result (λ found. IsHeader found.0) }
-    ensures header { IfOk result (λ found. IfSome (S.bytes store.old) (λ file. header_bytes_at file at ≡ bytes_of_header found.0)) }
-    ensures sound { IfOk result (λ _. IfSome (S.bytes store.old) (λ file. NoneOf (Applies file at) unpassed_reasons)) }
     ensures refused { (fault : Fault) → result ≡ Err (VerifyEnd.Refused fault) → (fault.at ≡ at)
         × IfSome (S.bytes store.old) (λ file. IsFirstOf (Applies file at) unpassed_reasons fault.why) }
-    ensures handed { S.handed store.new ≤ S.handed store.old + chunk_header_size }
     ensures handed_at_most { S.handed store.new + at ≤ S.handed store.old + size }
-    ensures store { OnlyAsks S.bytes S.told S.name S.faults (result ≡ Err VerifyEnd.Store) store.old store.new }
+    ensures store { AsksUpTo S.bytes S.told S.handed S.name S.faults (result ≡ Err VerifyEnd.Store)
+        chunk_header_size store.old store.new }
 {
     let (header, end) = match head_at(store, size, at)? {
         Head::Short => return Err(refused(at, Why::Short)),

@@ -1,10 +1,11 @@
-ghost use Rattle.std.specs.Prelude.{◌≡◌, ◌≢◌, ◌≤◌, ℕ, List, [], length};
-ghost use Rattle.chunk_header.specs.SimpleChunks.{simple_kind};
+ghost use Rattle.std.specs.Prelude.{◌≡◌, ◌≢◌, ◌≤◌, ℕ, List, length};
+ghost use Rattle.chunk_header.specs.Kinds.{simple_kind};
 ghost use Rattle.chunk_header.specs.Views.{value_of};
 ghost use Rattle.chunk_header.specs.declared.Header.{Header};
 ghost use Rattle.highway_hash.specs.Riegeli.{riegeli_hash};
 ghost use Rattle.simple_chunk.specs.Checkers.{HasChecked};
 ghost use Rattle.meta_chunk.specs.Files.{max_data_size};
+ghost use Rattle.chunk_reader.specs.BlockJudges.{IsUnfed};
 ghost use Rattle.chunk_reader.specs.Pieces.{HasTaken, HasLeft, TellsUnread};
 
 use crate::feeding::TakesData;
@@ -28,8 +29,7 @@ impl PieceJudge {
     /// A judge that has taken no data yet of the chunk of this header.
     pub(crate) fn new(header: &Header) -> PieceJudge
         ensures header { result.header ≡ header.now }
-        ensures left { HasLeft result header.now.data_size }
-        ensures taken { HasTaken result [] }
+        ensures unfed { IsUnfed (HasTaken result) (HasLeft result) header.now.data_size }
     {
         PieceJudge {
             header: *header,
@@ -64,6 +64,7 @@ impl PieceJudge {
 }
 
 impl TakesData for PieceJudge {
+    ghost use Rattle.chunk_reader.specs.BlockJudges.{IsUnfed};
     ghost use Rattle.chunk_reader.specs.Pieces.{HasTaken, HasLeft};
 
     ghost header = { λ judge. judge.header };

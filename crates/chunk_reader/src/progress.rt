@@ -1,7 +1,7 @@
 ghost use Rattle.std.specs.Prelude.{◌≡◌, ◌+◌, ◌^◌, ◌<◌, ◌≤◌, Some, IfSome, OnOk, Err};
-ghost use Rattle.record_io.specs.Calls.{OnlyAsks};
+ghost use Rattle.record_io.specs.Calls.{AsksUpTo};
 ghost use Rattle.chunk_reader.specs.Faults.{BeginsWithSignature};
-ghost use Rattle.chunk_reader.specs.Progress.{totals_with_chunk};
+ghost use Rattle.chunk_reader.specs.Progress.{totals_with_chunk, AreInBounds};
 ghost use Rattle.chunk_reader.specs.declared.reasons.Fault.{Fault};
 
 use crate::reasons::{Fault, VerifyEnd, Why};
@@ -15,9 +15,9 @@ pub(crate) fn check_signature<S: Store>(store: &mut S, size: u64) -> Result<(), 
     ensures long { OnOk result (64 ≤ size) }
     ensures refused { (fault : Fault) → result ≡ Err (VerifyEnd.Refused fault) → (fault.at ≡ 0) × (fault.why ≡ Why.NoSignature)
         × IfSome (S.bytes store.old) (λ file. ¬ BeginsWithSignature file) }
-    ensures handed { S.handed store.new ≤ S.handed store.old + 64 }
     ensures handed_at_most { S.handed store.new ≤ S.handed store.old + size }
-    ensures store { OnlyAsks S.bytes S.told S.name S.faults (result ≡ Err VerifyEnd.Store) store.old store.new }
+    ensures store { AsksUpTo S.bytes S.told S.handed S.name S.faults (result ≡ Err VerifyEnd.Store)
+        64 store.old store.new }
 {
     let mut bytes = [0; SIGNATURE.len()];
     if size >= bytes.len() as u64 {
@@ -52,9 +52,7 @@ pub(crate) const SIGNATURE_ALONE: Totals = Totals {
 pub(crate) fn totals_with_chunk(totals: &Totals, end: u64, records: u64, unread: bool) -> Totals
     requires room { totals.now.bytes + records ≤ end }
     requires small { end ≤ 2 ^ 60 }
-    requires chunks { totals.now.chunks ≤ totals.now.bytes }
-    requires counts { totals.now.records ≤ totals.now.bytes }
-    requires unread { totals.now.unread ≤ totals.now.bytes }
+    requires bounds { AreInBounds end totals.now }
     ensures { result ≡ totals_with_chunk totals.now end records unread }
 {
     Totals {

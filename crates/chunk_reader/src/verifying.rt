@@ -1,5 +1,5 @@
 ghost use Rattle.std.specs.Prelude.{◌≡◌, ◌+◌, ◌≤◌, ◌⊎◌, List, [], Some, None, true, IfOk, IfSome, OnOk, IsErr, Err};
-ghost use Rattle.record_io.specs.Calls.{OnlyAsks};
+ghost use Rattle.record_io.specs.Calls.{AsksUpTo, AsksWithin, HasSize};
 ghost use Rattle.block_layout.specs.Layout.{chunk_header_size, IsBoundary, end_of};
 ghost use Rattle.chunk_header.specs.Chunks.{ChunkValue};
 ghost use Rattle.meta_chunk.specs.Files.{totals_of, IsFrame};
@@ -7,7 +7,7 @@ ghost use Rattle.chunk_reader.specs.Pieces.{IsVerifiedIn};
 ghost use Rattle.chunk_reader.specs.Faults.{IsFault, IsVerdict};
 ghost use Rattle.chunk_reader.specs.Fronts.{IsFrontOf};
 ghost use Rattle.chunk_reader.specs.Progress.{AreInBounds};
-ghost use Rattle.chunk_reader.specs.Sizes.{HasSize, MayBeginAt};
+ghost use Rattle.chunk_reader.specs.Sizes.{MayBeginAt};
 ghost use Rattle.chunk_reader.specs.declared.reasons.Fault.{Fault};
 ghost use Rattle.chunk_reader.specs.declared.reasons.Why.TheVariants.{NoSignature};
 
@@ -43,8 +43,8 @@ pub fn verify<S: Store>(store: &mut S, size: u64) -> Result<Totals, VerifyEnd>
     ensures totals { IfOk result (λ totals. AreInBounds size totals × (totals.bytes ≡ size) × (64 ≤ size)) }
     ensures refused { (fault : Fault) → result ≡ Err (VerifyEnd.Refused fault)
         → IfSome (S.bytes store.old) (λ file. IsFault true file fault) }
-    ensures handed { S.handed store.new ≤ S.handed store.old + size }
-    ensures store { OnlyAsks S.bytes S.told S.name S.faults (result ≡ Err VerifyEnd.Store) store.old store.new }
+    ensures store { AsksUpTo S.bytes S.told S.handed S.name S.faults (result ≡ Err VerifyEnd.Store)
+        size store.old store.new }
 {
     let mut totals = NO_CHUNKS;
     count_front(store, size, &mut totals)?;
@@ -64,8 +64,8 @@ pub fn verify_front<S: Store>(store: &mut S, size: u64) -> Result<Front, Failed>
     ensures totals { IfOk result (λ front. AreInBounds size front.totals) }
     ensures whole { IfOk result (λ front. front.fault ≡ None → (front.totals.bytes ≡ size) × (64 ≤ size)) }
     ensures signed { IfOk result (λ front. IfSome front.fault (λ fault. (fault.why ≡ NoSignature) ⊎ (64 ≤ front.totals.bytes))) }
-    ensures handed { S.handed store.new ≤ S.handed store.old + size }
-    ensures store { OnlyAsks S.bytes S.told S.name S.faults (IsErr result) store.old store.new }
+    ensures store { AsksUpTo S.bytes S.told S.handed S.name S.faults (IsErr result)
+        size store.old store.new }
 {
     let mut totals = NO_CHUNKS;
     let fault = match count_front(store, size, &mut totals) {
@@ -86,8 +86,8 @@ fn count_front<S: Store>(store: &mut S, size: u64, totals: &mut Totals) -> Resul
         → IfSome (S.bytes store.old) (λ file. IsFrontOf file (record { totals = totals.new; fault = Some fault })) }
     ensures signed { (fault : Fault) → result ≡ Err (VerifyEnd.Refused fault) → (fault.why ≡ NoSignature) ⊎ (64 ≤ totals.new.bytes) }
     ensures totals { AreInBounds size totals.new }
-    ensures handed { S.handed store.new ≤ S.handed store.old + size }
-    ensures store { OnlyAsks S.bytes S.told S.name S.faults (result ≡ Err VerifyEnd.Store) store.old store.new }
+    ensures store { AsksUpTo S.bytes S.told S.handed S.name S.faults (result ≡ Err VerifyEnd.Store)
+        size store.old store.new }
 {
     check_signature(store, size)?;
     *totals = SIGNATURE_ALONE;
@@ -115,8 +115,8 @@ fn verify_at<S: Store>(store: &mut S, size: u64, at: u64) -> Result<Verified, Ve
     ensures refused { (fault : Fault) → result ≡ Err (VerifyEnd.Refused fault)
         → IfSome (S.bytes store.old) (λ file. IsVerdict true file at fault) }
     ensures handed { IfOk result (λ v. S.handed store.new + at ≤ S.handed store.old + v.end) }
-    ensures handed_at_most { S.handed store.new + at ≤ S.handed store.old + size }
-    ensures store { OnlyAsks S.bytes S.told S.name S.faults (result ≡ Err VerifyEnd.Store) store.old store.new }
+    ensures store { AsksWithin S.bytes S.told S.handed S.name S.faults (result ≡ Err VerifyEnd.Store)
+        at size store.old store.new }
 {
     let (header, end) = whole_head_at(store, size, at)?;
     let mut judge = PieceJudge::new(&header);

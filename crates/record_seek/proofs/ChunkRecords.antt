@@ -15,8 +15,8 @@ use Rattle.chunk_reader.specs.Reasons.{Applies, NoneOf, loading_reasons, strict_
 use Rattle.chunk_reader.specs.declared.judging.Judged.{Judged}
 use Rattle.chunk_reader.specs.declared.judging.What.{What}
 use Rattle.chunk_reader.specs.declared.judging.What.TheVariants as what
-use Rattle.record_seek.specs.Steps.{IsHeld, IsHeldAt}
-use Rattle.record_seek.specs.declared.chunk_records.Held.{Held}
+use Rattle.record_seek.specs.Steps.{AreChunkRecords, AreRecordsAt}
+use Rattle.record_seek.specs.declared.chunk_records.ChunkRecords.{ChunkRecords}
 
 -- no reason keeps a chunk without fault from being read
 pub strict_none_loading : (file : List ℕ) (place : ℕ) → NoneOf (Applies file place) (strict_reasons false)
@@ -68,9 +68,9 @@ count_of k records (inl simple) = omega (arith, simple.num_records)
 count_of k records (inr (none, empty)) = omega (arith, ap length empty)
 
 -- and may be asked for them
-pub held-of : (size place : ℕ) (j : Judged) (held : Held) → size ≤ 2 ^ 60 → IsJudged false size place j → held.begin ≡ j.begin → held.end ≡ j.end
-    → held.records ≡ records_given j.what → IsHeld held
-held-of size place j held reach judged begin end records =
+pub records-of : (size place : ℕ) (j : Judged) (held : ChunkRecords) → size ≤ 2 ^ 60 → IsJudged false size place j → held.begin ≡ j.begin → held.end ≡ j.end
+    → held.records ≡ records_given j.what → AreChunkRecords held
+records-of size place j held reach judged begin end records =
     let k : ChunkValue = value_of_chunk j.chunk in
     let holds : HoldsThem k held.records = subst (HoldsThem k) (sym records) (records_held k j.what judged.what) in
     record {
@@ -90,11 +90,11 @@ held-of size place j held reach judged begin end records =
     }
 
 -- it is the chunk of the file
-pub held-there : (bytes : Option (List ℕ)) (size place : ℕ) (j : Judged) (held : Held) → IsJudged false size place j
+pub records-there : (bytes : Option (List ℕ)) (size place : ℕ) (j : Judged) (held : ChunkRecords) → IsJudged false size place j
     → IfSome bytes (λ file. IsJudgedIn false file place j) → held.begin ≡ j.begin → held.end ≡ j.end → held.records ≡ records_given j.what
-    → IfSome bytes (λ file. IsHeldAt file held)
-held-there None size place j held judged sound begin end records = tt
-held-there (Some file) size place j held judged sound begin end records =
+    → IfSome bytes (λ file. AreRecordsAt file held)
+records-there None size place j held judged sound begin end records = tt
+records-there (Some file) size place j held judged sound begin end records =
     let at : place ≡ held.begin = sym (begin ∙ judged.begin) in
     let holds : HoldsThem (value_of_chunk j.chunk) held.records =
     subst (HoldsThem (value_of_chunk j.chunk)) (sym records) (records_held (value_of_chunk j.chunk) j.what judged.what) in

@@ -14,9 +14,9 @@ use Rattle.chunk_reader.specs.SearchBounds.{length_of_chunk}
 use Rattle.chunk_reader.proofs.HeadersTell.{laid_at, stands_below, passed_below, told_end, told_records}
 use Rattle.chunk_reader.proofs.LaidAt.{chunk_at-laid}
 use Rattle.record_seek.specs.Met.{HaveNoRecords}
-use Rattle.record_seek.specs.Steps.{IsPassedAt, IsFirstNot, IsFirstHeld, IsNextHeld, IsPaidOn, EndsReading, cost_of_chunk, reading_cost}
+use Rattle.record_seek.specs.Steps.{IsPassedAt, IsFirstNot, AreFirstRecords, AreNextRecords, IsPaidOn, EndsReading, cost_of_chunk, reading_cost}
 use Rattle.record_seek.specs.declared.chunk_records.Found.{Found}
-use Rattle.record_seek.specs.declared.chunk_records.Held.{Held}
+use Rattle.record_seek.specs.declared.chunk_records.ChunkRecords.{ChunkRecords}
 use Rattle.record_seek.specs.declared.passes.Passed.{Passed}
 use Rattle.record_seek.proofs.Ways.{same_told}
 
@@ -148,14 +148,14 @@ paid_empties Before file begin place to spent now then (p ∷ places) paid (same
     paid_empties Before file begin (end_at file place) to spent (now + 40) then places past rest none.1 (omega (arith, more))
 
 -- past the first chunk with records, which stand before
-pub paid_read-records : (Before : List ℕ → Type 0) (bytes bytes_now : Option (List ℕ)) (begin place : ℕ) (next : Option Held) (held : Held) (found : Option Found) (spent now then : ℕ)
+pub paid_read-records : (Before : List ℕ → Type 0) (bytes bytes_now : Option (List ℕ)) (begin place : ℕ) (next : Option ChunkRecords) (held : ChunkRecords) (found : Option Found) (spent now then : ℕ)
     → bytes_now ≡ bytes → IfSome bytes (IsPaidRead Before begin place spent now) → next ≡ Some held
-    → IfSome bytes_now (λ file. IsNextHeld file place now then next) → found ≡ None → IsFirstNot Before held.records held.begin found
+    → IfSome bytes_now (λ file. AreNextRecords file place now then next) → found ≡ None → IsFirstNot Before held.records held.begin found
     → IfSome bytes (IsPaidRead Before begin held.end spent then)
 paid_read-records Before None bytes_now begin place next held found spent now then same paid is first none not = tt
 paid_read-records Before (Some file) bytes_now begin place next held found spent now then same paid is first none not =
-    let there : IsFirstHeld file place now then held =
-    subst (IsNextHeld file place now then) is (same_told (λ f. IsNextHeld f place now then next) (Some file) bytes_now same first) in
+    let there : AreFirstRecords file place now then held =
+    subst (AreNextRecords file place now then) is (same_told (λ f. AreNextRecords f place now then next) (Some file) bytes_now same first) in
     let all : IsFirstNot Before held.records held.begin None = subst (IsFirstNot Before held.records held.begin) none not in
     let come =
     paid_empties Before file begin place held.begin spent now (now + 40 * length there.places) there.places paid there.between there.none_before

@@ -12,9 +12,9 @@ use Rattle.chunk_reader.specs.Searches.{HasRecordsAt}
 use Rattle.chunk_reader.specs.declared.reasons.Fault.{Fault}
 use Rattle.chunk_reader.proofs.Rooms.{IsSized}
 use Rattle.record_seek.specs.Met.{HaveNoRecords}
-use Rattle.record_seek.specs.Steps.{IsPassedAt, IsHeldAt, IsFirstBefore, IsFirstNot, EndBefore, AreReadTo, IsReadRecord, IsFaultOn, LoadsOn, IsFirstFrom, IsFirstHeld, NoneFrom, IsNextHeld, IsPaidOn, FirstStandsBefore, FirstNotBefore}
+use Rattle.record_seek.specs.Steps.{IsPassedAt, AreRecordsAt, IsFirstBefore, IsFirstNot, EndBefore, AreReadTo, IsReadRecord, IsFaultOn, LoadsOn, IsFirstFrom, AreFirstRecords, NoneFrom, AreNextRecords, IsPaidOn, FirstStandsBefore, FirstNotBefore}
 use Rattle.record_seek.specs.declared.chunk_records.Found.{Found}
-use Rattle.record_seek.specs.declared.chunk_records.Held.{Held}
+use Rattle.record_seek.specs.declared.chunk_records.ChunkRecords.{ChunkRecords}
 use Rattle.record_seek.specs.declared.passes.Passed.{Passed}
 use Rattle.record_seek.proofs.ChunkRecords.{strict_none_loading}
 use Rattle.record_seek.proofs.Searching.{all-push}
@@ -55,15 +55,15 @@ empty-on (Some file) bytes_now from place chunk spent now then same empty passed
     }
 
 -- up to the first chunk with records
-pub first-held : (bytes bytes_now bytes_then : Option (List ℕ)) (from place : ℕ) (chunk : Passed) (spent now then last : ℕ) (held : Held) → bytes_now ≡ bytes
+pub first-records : (bytes bytes_now bytes_then : Option (List ℕ)) (from place : ℕ) (chunk : Passed) (spent now then last : ℕ) (held : ChunkRecords) → bytes_now ≡ bytes
     → bytes_then ≡ bytes → IfSome bytes (λ file. IsEmptyTo file from place spent now) → IfSome bytes_now (λ file. IsPassedAt file place chunk)
-    → 0 < chunk.num_records → then ≤ now + 40 → held.begin ≡ place → IfSome bytes_then (λ file. IsHeldAt file held)
+    → 0 < chunk.num_records → then ≤ now + 40 → held.begin ≡ place → IfSome bytes_then (λ file. AreRecordsAt file held)
     → IfSome bytes_then (λ file. NoneOf (Applies file place) unpassed_reasons → last + place ≤ then + end_at file place)
-    → IfSome bytes (λ file. IsFirstHeld file from spent last held)
-first-held None bytes_now bytes_then from place chunk spent now then last held same also empty passed some more at there read = tt
-first-held (Some file) bytes_now bytes_then from place chunk spent now then last held same also empty passed some more at there read =
+    → IfSome bytes (λ file. AreFirstRecords file from spent last held)
+first-records None bytes_now bytes_then from place chunk spent now then last held same also empty passed some more at there read = tt
+first-records (Some file) bytes_now bytes_then from place chunk spent now then last held same also empty passed some more at there read =
     let here : IsPassedAt file place chunk = same_told (λ f. IsPassedAt f place chunk) (Some file) bytes_now same passed in
-    let is : IsHeldAt file held = same_told (λ f. IsHeldAt f held) (Some file) bytes_then also there in
+    let is : AreRecordsAt file held = same_told (λ f. AreRecordsAt f held) (Some file) bytes_then also there in
     let whole = same_told (λ f. NoneOf (Applies f place) unpassed_reasons → last + place ≤ then + end_at f place) (Some file) bytes_then also read in
     let count : chunk.num_records ≡ (chunk_at file held.begin).num_records =
     here.num_records ∙ ap (λ (p : ℕ). (chunk_at file p).num_records) (sym at) in
@@ -83,8 +83,8 @@ first-held (Some file) bytes_now bytes_then from place chunk spent now then last
     }
 
 -- of whose first record it is asked whether it stands before
-first_there : (Before : List ℕ → Type 0) (file : List ℕ) (from spent now : ℕ) (held : Held) (before : Bool)
-    → IsFirstHeld file from spent now held → IsFirstBefore Before held.records before
+first_there : (Before : List ℕ → Type 0) (file : List ℕ) (from spent now : ℕ) (held : ChunkRecords) (before : Bool)
+    → AreFirstRecords file from spent now held → IsFirstBefore Before held.records before
     → (bytes : List ℕ) × IsFirstFrom file from bytes × (IsTrue before ↔ Before bytes)
 first_there Before file from spent now held before first (inr (empty, never)) = absurd (omega (arith, first.some, ap length empty))
 first_there Before file from spent now held before first (inl (bytes, stands, asked)) = (
@@ -111,21 +111,21 @@ some_at P (Some found) x holds is = subst (λ (o : Option _). IfSome o P) is hol
 some_at P None x holds is = cc
 
 -- it does
-pub first-before : (Before : List ℕ → Type 0) (bytes : Option (List ℕ)) (from spent now : ℕ) (next : Option Held) (held : Held) (before : Bool)
-    → next ≡ Some held → IfSome bytes (λ file. IsNextHeld file from spent now next) → IsFirstBefore Before held.records before → before ≡ true
+pub first-before : (Before : List ℕ → Type 0) (bytes : Option (List ℕ)) (from spent now : ℕ) (next : Option ChunkRecords) (held : ChunkRecords) (before : Bool)
+    → next ≡ Some held → IfSome bytes (λ file. AreNextRecords file from spent now next) → IsFirstBefore Before held.records before → before ≡ true
     → IfSome bytes (λ file. FirstStandsBefore Before file from)
 first-before Before None from spent now next held before is first asked answer = tt
 first-before Before (Some file) from spent now next held before is first asked answer =
-    let (bytes, there, asks) = first_there Before file from spent now held before (subst (IsNextHeld file from spent now) is first) asked in
+    let (bytes, there, asks) = first_there Before file from spent now held before (subst (AreNextRecords file from spent now) is first) asked in
     (bytes, there, asks.0 answer)
 
 -- or it doesn't
-pub first-not : (Before : List ℕ → Type 0) (bytes : Option (List ℕ)) (from spent now : ℕ) (next : Option Held) (held : Held) (before : Bool)
-    → next ≡ Some held → IfSome bytes (λ file. IsNextHeld file from spent now next) → IsFirstBefore Before held.records before → before ≡ false
+pub first-not : (Before : List ℕ → Type 0) (bytes : Option (List ℕ)) (from spent now : ℕ) (next : Option ChunkRecords) (held : ChunkRecords) (before : Bool)
+    → next ≡ Some held → IfSome bytes (λ file. AreNextRecords file from spent now next) → IsFirstBefore Before held.records before → before ≡ false
     → IfSome bytes (λ file. FirstNotBefore Before file from)
 first-not Before None from spent now next held before is first asked answer = tt
 first-not Before (Some file) from spent now next held before is first asked answer =
-    let (bytes, there, asks) = first_there Before file from spent now held before (subst (IsNextHeld file from spent now) is first) asked in
+    let (bytes, there, asks) = first_there Before file from spent now held before (subst (AreNextRecords file from spent now) is first) asked in
     inl (
       bytes,
       there,
@@ -135,10 +135,10 @@ first-not Before (Some file) from spent now next held before is first asked answ
     )
 
 -- or there is none up to the file's end
-pub none-next : (bytes : Option (List ℕ)) (from spent now : ℕ) (next : Option Held) → next ≡ None
-    → IfSome bytes (λ file. IsNextHeld file from spent now next) → IfSome bytes (λ file. NoneFrom file from)
+pub none-next : (bytes : Option (List ℕ)) (from spent now : ℕ) (next : Option ChunkRecords) → next ≡ None
+    → IfSome bytes (λ file. AreNextRecords file from spent now next) → IfSome bytes (λ file. NoneFrom file from)
 none-next None from spent now next is none = tt
-none-next (Some file) from spent now next is none = subst (IsNextHeld file from spent now) is none
+none-next (Some file) from spent now next is none = subst (AreNextRecords file from spent now) is none
 
 pub none-before : (Before : List ℕ → Type 0) (bytes : Option (List ℕ)) (from : ℕ) → IfSome bytes (λ file. NoneFrom file from)
     → IfSome bytes (λ file. FirstNotBefore Before file from)
@@ -264,11 +264,11 @@ loads-further (Some file) now from place same come loads =
     let (at, places, between, none) = same_told (λ f. LoadsOn f place) (Some file) now same loads in
     (at, come.0 ++ places, between_append file come.0 places from place at come.1 between, none)
 
-pub loads-first : (bytes : Option (List ℕ)) (from spent now : ℕ) (next : Option Held) (held : Held) → next ≡ Some held
-    → IfSome bytes (λ file. IsNextHeld file from spent now next) → IfSome bytes (λ file. LoadsOn file from)
+pub loads-first : (bytes : Option (List ℕ)) (from spent now : ℕ) (next : Option ChunkRecords) (held : ChunkRecords) → next ≡ Some held
+    → IfSome bytes (λ file. AreNextRecords file from spent now next) → IfSome bytes (λ file. LoadsOn file from)
 loads-first None from spent now next held is first = tt
 loads-first (Some file) from spent now next held is first =
-    let there : IsFirstHeld file from spent now held = subst (IsNextHeld file from spent now) is first in
+    let there : AreFirstRecords file from spent now held = subst (AreNextRecords file from spent now) is first in
     (held.begin, there.places, there.between, strict_none_loading file held.begin there.holds.without_fault)
 
 -- records are read from chunk to chunk
@@ -339,13 +339,13 @@ read_records Before file from place records read none some holds all =
       });
     }
 
-pub read-records : (Before : List ℕ → Type 0) (bytes now : Option (List ℕ)) (from place spent paid : ℕ) (next : Option Held) (held : Held) (found : Option Found) → now ≡ bytes
-    → IfSome bytes (λ file. AreReadTo Before file from place) → next ≡ Some held → IfSome now (λ file. IsNextHeld file place spent paid next)
+pub read-records : (Before : List ℕ → Type 0) (bytes now : Option (List ℕ)) (from place spent paid : ℕ) (next : Option ChunkRecords) (held : ChunkRecords) (found : Option Found) → now ≡ bytes
+    → IfSome bytes (λ file. AreReadTo Before file from place) → next ≡ Some held → IfSome now (λ file. AreNextRecords file place spent paid next)
     → found ≡ None → IsFirstNot Before held.records held.begin found → IfSome bytes (λ file. AreReadTo Before file from held.end)
 read-records Before None now from place spent paid next held found same read is first none all = tt
 read-records Before (Some file) now from place spent paid next held found same read is first none all =
-    let there : IsFirstHeld file place spent paid held =
-    subst (IsNextHeld file place spent paid) is (same_told (λ f. IsNextHeld f place spent paid next) (Some file) now same first) in
+    let there : AreFirstRecords file place spent paid held =
+    subst (AreNextRecords file place spent paid) is (same_told (λ f. AreNextRecords f place spent paid next) (Some file) now same first) in
     subst (AreReadTo Before file from) (sym there.end)
     (read_records Before file from held.begin held.records
     (read_empties Before file from place held.begin there.places read there.between there.none_before) there.whole there.some there.holds
@@ -368,23 +368,23 @@ read_record Before file from place records found read none holds (number, stands
   before = before;
 }
 
-pub read-found : (Before : List ℕ → Type 0) (bytes now : Option (List ℕ)) (from place spent paid : ℕ) (next : Option Held) (held : Held) (found : Option Found) (f : Found) → now ≡ bytes
-    → IfSome bytes (λ file. AreReadTo Before file from place) → next ≡ Some held → IfSome now (λ file. IsNextHeld file place spent paid next)
+pub read-found : (Before : List ℕ → Type 0) (bytes now : Option (List ℕ)) (from place spent paid : ℕ) (next : Option ChunkRecords) (held : ChunkRecords) (found : Option Found) (f : Found) → now ≡ bytes
+    → IfSome bytes (λ file. AreReadTo Before file from place) → next ≡ Some held → IfSome now (λ file. AreNextRecords file place spent paid next)
     → found ≡ Some f → IsFirstNot Before held.records held.begin found → IfSome bytes (λ file. IsReadRecord Before file from f)
 read-found Before None now from place spent paid next held found f same read is first some not = tt
 read-found Before (Some file) now from place spent paid next held found f same read is first some not =
-    let there : IsFirstHeld file place spent paid held =
-    subst (IsNextHeld file place spent paid) is (same_told (λ f. IsNextHeld f place spent paid next) (Some file) now same first) in
+    let there : AreFirstRecords file place spent paid held =
+    subst (AreNextRecords file place spent paid) is (same_told (λ f. AreNextRecords f place spent paid next) (Some file) now same first) in
     read_record Before file from held.begin held.records f
     (read_empties Before file from place held.begin there.places read there.between there.none_before) there.whole there.holds
     (subst (IsFirstNot Before held.records held.begin) some not)
 
 -- or to the file's end
-pub read-ended : (Before : List ℕ → Type 0) (bytes now : Option (List ℕ)) (from place spent paid : ℕ) (next : Option Held) → now ≡ bytes
-    → IfSome bytes (λ file. AreReadTo Before file from place) → next ≡ None → IfSome now (λ file. IsNextHeld file place spent paid next)
+pub read-ended : (Before : List ℕ → Type 0) (bytes now : Option (List ℕ)) (from place spent paid : ℕ) (next : Option ChunkRecords) → now ≡ bytes
+    → IfSome bytes (λ file. AreReadTo Before file from place) → next ≡ None → IfSome now (λ file. AreNextRecords file place spent paid next)
     → IfSome bytes (λ file. AreReadTo Before file from (length file))
 read-ended Before None now from place spent paid next same read is none = tt
 read-ended Before (Some file) now from place spent paid next same read is none =
     let end : NoneFrom file place =
-    subst (IsNextHeld file place spent paid) is (same_told (λ f. IsNextHeld f place spent paid next) (Some file) now same none) in
+    subst (AreNextRecords file place spent paid) is (same_told (λ f. AreNextRecords f place spent paid next) (Some file) now same none) in
     read_empties Before file from place (length file) end.0 read end.1 end.2

@@ -16,9 +16,9 @@ use Rattle.chunk_reader.proofs.HeadersTell.{stands_below, passed_below, told_end
 use Rattle.chunk_reader.proofs.Rooms.{IsSized}
 use Rattle.record_seek.specs.Ends.{read_end_of_holder}
 use Rattle.record_seek.specs.Found.{IsAnsweringNumber}
-use Rattle.record_seek.specs.Steps.{IsAnswer, IsHeldAt, IsNumbered, placed_of}
+use Rattle.record_seek.specs.Steps.{IsAnswer, AreRecordsAt, IsNumbered, placed_of}
 use Rattle.record_seek.specs.declared.chunk_records.Found.{Found}
-use Rattle.record_seek.specs.declared.chunk_records.Held.{Held}
+use Rattle.record_seek.specs.declared.chunk_records.ChunkRecords.{ChunkRecords}
 use Rattle.record_seek.specs.declared.holders.HolderEnd.{HolderEnd}
 use Rattle.record_seek.specs.declared.holders.HolderEnd.TheVariants as holder
 use Rattle.record_seek.proofs.ChunkRecords.{strict_none_loading}
@@ -63,7 +63,7 @@ refused-answer (Some file) now at place fault same answer refused =
     inr (inr (place, answer, same_told (λ f. IsVerdict false f place fault) (Some file) now same refused))
 
 -- its record
-simple_given : (file : List ℕ) (at number : ℕ) (held : Held) (found : Option Found) → number ≡ at - held.begin → AnswersAt file at held.begin
+simple_given : (file : List ℕ) (at number : ℕ) (held : ChunkRecords) (found : Option Found) → number ≡ at - held.begin → AnswersAt file at held.begin
     → HasRecordsAt file held.begin held.records → IsNumbered held.records held.begin number found → SearchGives file at (placed_of found)
 simple_given file at number held None is answer there few =
     absurd (omega (arith, is, few, there.holds.num_records, answer.has.0, answer.has.1))
@@ -76,21 +76,21 @@ simple_given file at number held (Some found) is answer there (stands, position)
   position_there = omega (arith, is, position);
 }
 
-record_given : (file : List ℕ) (at number : ℕ) (held : Held) (found : Option Found) → number ≡ at - held.begin → AnswersAt file at held.begin
-    → IsHeldAt file held → IsNumbered held.records held.begin number found → SearchGives file at (placed_of found)
+record_given : (file : List ℕ) (at number : ℕ) (held : ChunkRecords) (found : Option Found) → number ≡ at - held.begin → AnswersAt file at held.begin
+    → AreRecordsAt file held → IsNumbered held.records held.begin number found → SearchGives file at (placed_of found)
 record_given file at number held found is answer there numbered =
     elim there.records [
       | inl simple ↦ simple_given file at number held found is answer (record { without_fault = there.none; holds = simple }) numbered
       | inr none ↦ absurd (omega (arith, none.0, answer.has.0))
     ]
 
-pub gives-answer : (bytes now : Option (List ℕ)) (at place number : ℕ) (held : Held) (found : Option Found) → now ≡ bytes
-    → number ≡ at - place → IfSome bytes (λ file. AnswersAt file at place) → held.begin ≡ place → IfSome now (λ file. IsHeldAt file held)
+pub gives-answer : (bytes now : Option (List ℕ)) (at place number : ℕ) (held : ChunkRecords) (found : Option Found) → now ≡ bytes
+    → number ≡ at - place → IfSome bytes (λ file. AnswersAt file at place) → held.begin ≡ place → IfSome now (λ file. AreRecordsAt file held)
     → IsNumbered held.records held.begin number found → IfSome bytes (λ file. SearchGives file at (placed_of found))
 gives-answer None now at place number held found same is answer begin there numbered = tt
 gives-answer (Some file) now at place number held found same is answer begin there numbered =
     record_given file at number held found (omega (arith, is, begin)) (subst (AnswersAt file at) (sym begin) answer)
-    (same_told (λ f. IsHeldAt f held) (Some file) now same there) numbered
+    (same_told (λ f. AreRecordsAt f held) (Some file) now same there) numbered
 
 -- or nothing up to the file's end
 pub gives-nothing : (bytes : Option (List ℕ)) (at : ℕ) → IfSome bytes (λ file. SearchComesTo file at (length file))
@@ -106,14 +106,14 @@ memory-for None now at place same answer none = tt
 memory-for (Some file) now at place same answer none =
     (place, answer, same_told (λ f. NoneOf (Applies f place) loading_reasons) (Some file) now same none)
 
-pub memory-in : (bytes now : Option (List ℕ)) (at place : ℕ) (held : Held) → now ≡ bytes → IfSome bytes (λ file. AnswersAt file at place)
-    → held.begin ≡ place → IfSome now (λ file. IsHeldAt file held)
+pub memory-in : (bytes now : Option (List ℕ)) (at place : ℕ) (held : ChunkRecords) → now ≡ bytes → IfSome bytes (λ file. AnswersAt file at place)
+    → held.begin ≡ place → IfSome now (λ file. AreRecordsAt file held)
     → IfSome bytes (λ file. (p : ℕ) × AnswersAt file at p × NoneOf (Applies file p) loading_reasons)
 memory-in None now at place held same answer begin there = tt
 memory-in (Some file) now at place held same answer begin there = (
   held.begin,
   subst (AnswersAt file at) (sym begin) answer,
-  strict_none_loading file held.begin (same_told (λ f. IsHeldAt f held) (Some file) now same there).none,
+  strict_none_loading file held.begin (same_told (λ f. AreRecordsAt f held) (Some file) now same there).none,
 )
 
 -- so much a search takes of a file of chunks: to find the holder, and the chunk that answers

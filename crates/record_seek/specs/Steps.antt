@@ -1,5 +1,6 @@
 -- Inside. What the steps of a search find. Own.
 use Rattle.std.specs.Prelude.{◌≡◌, ℕ, zero, suc, ◌+◌, ◌-◌, ◌*◌, ◌^◌, ◌<◌, ◌≤◌, ◌↔◌, ◌⊎◌, Bool, IsTrue, false, Option, Some, None, List, [], ◌∷◌, ◌++◌, length, slice_get, get_or}
+use Rattle.record_io.specs.Calls.{HasSize}
 use Rattle.block_layout.specs.Layout.{chunk_header_size, IsBoundary}
 use Rattle.chunk_header.specs.Chunks.{ChunkValue}
 use Rattle.chunk_header.specs.SimpleChunks.{IsSimple}
@@ -13,8 +14,25 @@ use Rattle.chunk_reader.specs.Searches.{HasRecordsAt, SearchComesTo, AnswersAt}
 use Rattle.chunk_reader.specs.declared.reasons.Fault.{Fault}
 use Rattle.record_seek.specs.Met.{HaveNoRecords, IsMetBySearch}
 use Rattle.record_seek.specs.declared.chunk_records.Found.{Found}
-use Rattle.record_seek.specs.declared.chunk_records.Held.{Held}
+use Rattle.record_seek.specs.declared.chunk_records.ChunkRecords.{ChunkRecords}
 use Rattle.record_seek.specs.declared.passes.Passed.{Passed}
+
+-- a boundary, up to a place
+pub record IsBoundaryTo (last place : ℕ) : Type 0 where
+  pub boundary : IsBoundary place
+  pub within : place ≤ last
+
+-- a file has a size, and it may be read on from a boundary of it, or from its end
+pub record MayReadFrom (told : Option ℕ) (size from : ℕ) : Type 0 where
+  pub sized : HasSize told size
+  pub place : IsBoundaryTo size from
+
+-- a chunk that is passed from a place on, in a file of so many bytes, ends at a boundary behind its header and its records' positions
+pub record IsPassedWithin (size place : ℕ) (chunk : Passed) : Type 0 where
+  pub boundary : IsBoundary chunk.end
+  pub past : place + chunk_header_size ≤ chunk.end
+  pub within : chunk.end ≤ size
+  pub room : place + chunk.num_records ≤ chunk.end
 
 -- a chunk that is passed at a place of a file
 pub record IsPassedAt (file : List ℕ) (place : ℕ) (chunk : Passed) : Type 0 where
@@ -27,20 +45,26 @@ abbrev pub IsAnswer : List ℕ → ℕ → Option ℕ → Type 0
 IsAnswer file position (Some place) = AnswersAt file position place
 IsAnswer file position None = SearchComesTo file position (length file)
 
--- a chunk between boundaries, the positions of whose records are numbers of 64 bits, and each of whose records is no longer than
--- a chunk's data may be
-pub record IsHeld (held : Held) : Type 0 where
-  pub after : held.begin < held.end
-  pub to_boundary : IsBoundary held.end
-  pub room : held.begin + length held.records < 2 ^ 64
-  pub small : (i : ℕ) (bytes : List ℕ) → slice_get held.records i ≡ Some bytes → length bytes ≤ max_data_size
+-- the records of a chunk between boundaries: their positions are numbers of 64 bits, and none is longer than a chunk's data may
+-- be
+pub record AreChunkRecords (chunk : ChunkRecords) : Type 0 where
+  pub after : chunk.begin < chunk.end
+  pub to_boundary : IsBoundary chunk.end
+  pub room : chunk.begin + length chunk.records < 2 ^ 64
+  pub small : (i : ℕ) (bytes : List ℕ) → slice_get chunk.records i ≡ Some bytes → length bytes ≤ max_data_size
 
--- it is the chunk of a file there, which has no fault, with its records
-pub record IsHeldAt (file : List ℕ) (held : Held) : Type 0 where
-  pub none : NoneOf (Applies file held.begin) (strict_reasons false)
-  pub end : held.end ≡ end_at file held.begin
-  pub records : IsSimple (chunk_at file held.begin) held.records
-      ⊎ (((chunk_at file held.begin).num_records ≡ 0) × (held.records ≡ []))
+-- such a chunk stands at a place or behind it, in a file of so many bytes
+pub record AreRecordsFrom (from size : ℕ) (chunk : ChunkRecords) : Type 0 where
+  pub of_chunk : AreChunkRecords chunk
+  pub onward : from ≤ chunk.begin
+  pub within : chunk.end ≤ size
+
+-- the chunk of a file there has no fault, and these are its records
+pub record AreRecordsAt (file : List ℕ) (chunk : ChunkRecords) : Type 0 where
+  pub none : NoneOf (Applies file chunk.begin) (strict_reasons false)
+  pub end : chunk.end ≡ end_at file chunk.begin
+  pub records : IsSimple (chunk_at file chunk.begin) chunk.records
+      ⊎ (((chunk_at file chunk.begin).num_records ≡ 0) × (chunk.records ≡ []))
 
 -- of the records of a chunk that begins at a place, the one of a number with its position, or nothing where there are fewer
 abbrev pub IsNumbered : List (List ℕ) → (begin number : ℕ) → Option Found → Type 0
@@ -123,15 +147,15 @@ pub record IsFirstFrom (file : List ℕ) (from : ℕ) (bytes : List ℕ) : Type 
 
 -- the first chunk with records from a place on: it has no fault, and what was handed out in between is the header of each chunk
 -- without records before it, its own header, and the chunk
-pub record IsFirstHeld (file : List ℕ) (from spent now : ℕ) (held : Held) : Type 0 where
+pub record AreFirstRecords (file : List ℕ) (from spent now : ℕ) (chunk : ChunkRecords) : Type 0 where
   pub places : List ℕ
-  pub between : ArePlacesBetween file from held.begin places
+  pub between : ArePlacesBetween file from chunk.begin places
   pub none_before : HaveNoRecords file places
-  pub whole : NoneOf (Applies file held.begin) unpassed_reasons
-  pub end : held.end ≡ end_at file held.begin
-  pub holds : HasRecordsAt file held.begin held.records
-  pub some : 0 < length held.records
-  pub paid : now + held.begin ≤ spent + chunk_header_size * (length places + 1) + held.end
+  pub whole : NoneOf (Applies file chunk.begin) unpassed_reasons
+  pub end : chunk.end ≡ end_at file chunk.begin
+  pub holds : HasRecordsAt file chunk.begin chunk.records
+  pub some : 0 < length chunk.records
+  pub paid : now + chunk.begin ≤ spent + chunk_header_size * (length places + 1) + chunk.end
 
 -- what a look at it takes of a file of chunks at most: the headers of chunks without records, and a chunk
 abbrev pub look_bound : List ChunkValue → ℕ
@@ -146,9 +170,9 @@ abbrev pub NoneFrom : List ℕ → (from : ℕ) → Type 0
 NoneFrom file from = (places : List ℕ) × ArePlacesBetween file from (length file) places × HaveNoRecords file places
 
 -- the first chunk with records, or none up to the file's end
-abbrev pub IsNextHeld : List ℕ → (from spent now : ℕ) → Option Held → Type 0
-IsNextHeld file from spent now (Some held) = IsFirstHeld file from spent now held
-IsNextHeld file from spent now None = NoneFrom file from
+abbrev pub AreNextRecords : List ℕ → (from spent now : ℕ) → Option ChunkRecords → Type 0
+AreNextRecords file from spent now (Some chunk) = AreFirstRecords file from spent now chunk
+AreNextRecords file from spent now None = NoneFrom file from
 
 -- what is handed out to come to the first chunk with records from a place on: the headers of the chunks without records before a
 -- place, that of the chunk there, and where that has records the chunk

@@ -7,7 +7,7 @@ ghost use Rattle.chunk_reader.specs.Reasons.{Applies, NoneOf, unpassed_reasons, 
 ghost use Rattle.chunk_reader.specs.Sizes.{MayBeginAt};
 ghost use Rattle.chunk_reader.specs.declared.reasons.Fault.{Fault};
 ghost use Rattle.record_seek.specs.KeyTests.{IsKeyTest, StandsBefore};
-ghost use Rattle.record_seek.specs.Steps.{IsHeld, IsHeldAt, IsNumbered, IsFirstBefore, IsFirstNot};
+ghost use Rattle.record_seek.specs.Steps.{AreChunkRecords, AreRecordsFrom, AreRecordsAt, IsNumbered, IsFirstBefore, IsFirstNot};
 
 use crate::key_tests::KeyTest;
 use chunk_reader::{ReadEnd, What, strict_at};
@@ -24,29 +24,28 @@ pub struct Found {
     pub bytes: Bytes,
 }
 
-/// A chunk without fault.
+/// The records of a chunk without fault.
 #[derive(Debug, Drop)]
-pub(crate) struct Held {
-    /// Where it begins.
+pub(crate) struct ChunkRecords {
+    /// Where the chunk begins.
     pub begin: u64,
     /// Where it ends.
     pub end: u64,
-    /// Its records: none where it isn't a chunk of records.
+    /// None where it isn't a chunk of records.
     pub records: Records,
 }
 
-/// The chunk at a place of a file, which is judged strictly.
-pub(crate) fn held_at<S: Store>(
+/// The records of the chunk at a place of a file, which is judged strictly.
+pub(crate) fn records_at<S: Store>(
     alloc: Global,
     store: &mut S,
     size: u64,
     place: u64,
-) -> Result<Held, ReadEnd>
+) -> Result<ChunkRecords, ReadEnd>
     requires place { MayBeginAt (S.told store.old) size place }
-    ensures begin { IfOk result (λ held. held.begin ≡ place) }
-    ensures within { IfOk result (λ held. held.end ≤ size) }
-    ensures held { IfOk result IsHeld }
-    ensures there { IfOk result (λ held. IfSome (S.bytes store.old) (λ file. IsHeldAt file held)) }
+    ensures begin { IfOk result (λ chunk. chunk.begin ≡ place) }
+    ensures chunk { IfOk result (AreRecordsFrom place size) }
+    ensures there { IfOk result (λ chunk. IfSome (S.bytes store.old) (λ file. AreRecordsAt file chunk)) }
     ensures refused { (fault : Fault) → result ≡ Err (ReadEnd.Refused fault)
         → IfSome (S.bytes store.old) (λ file. IsVerdict false file place fault) }
     ensures handed { IfSome (S.bytes store.old) (λ file. NoneOf (Applies file place) unpassed_reasons
@@ -55,7 +54,7 @@ pub(crate) fn held_at<S: Store>(
     ensures store { OnlyAsks S.bytes S.told S.name S.faults (result ≡ Err ReadEnd.Store) store.old store.new }
 {
     let judged = strict_at(alloc, store, size, place, false)?;
-    Ok(Held {
+    Ok(ChunkRecords {
         begin: judged.begin,
         end: judged.end,
         records: records_found(alloc, judged.what),
@@ -75,46 +74,49 @@ fn records_found(alloc: Global, what: What) -> Records
 /// The record of this number of a chunk; `None` where it has fewer.
 pub(crate) fn record_of(
     alloc: Global,
-    held: &Held,
+    chunk: &ChunkRecords,
     number: u64,
 ) -> Result<Option<Found>, AllocError>
-    requires { IsHeld held.now }
-    ensures { IfOk result (λ found. IsNumbered held.now.records held.now.begin number found) }
+    requires { AreChunkRecords chunk.now }
+    ensures { IfOk result (λ found. IsNumbered chunk.now.records chunk.now.begin number found) }
 {
-    if number >= held.records.len() as u64 {
+    if number >= chunk.records.len() as u64 {
         return Ok(None);
     }
     let mut bytes = Bytes::new(alloc);
-    bytes.push_all(held.records.get(number as usize))?;
+    bytes.push_all(chunk.records.get(number as usize))?;
     Ok(Some(Found {
-        position: held.begin + number,
+        position: chunk.begin + number,
         bytes,
     }))
 }
 
 /// Whether the first record of a chunk stands before; no where it has none.
-pub(crate) fn first_before<F: Fn(&[u8]) -> bool + Drop>(held: &Held, test: &KeyTest<F>) -> bool
-    requires held { IsHeld held.now }
+pub(crate) fn first_before<F: Fn(&[u8]) -> bool + Drop>(
+    chunk: &ChunkRecords,
+    test: &KeyTest<F>,
+) -> bool
+    requires chunk { AreChunkRecords chunk.now }
     requires test { IsKeyTest F.Fn test.now.test }
-    ensures { IsFirstBefore (StandsBefore F.Fn test.now.test) held.now.records result }
+    ensures { IsFirstBefore (StandsBefore F.Fn test.now.test) chunk.now.records result }
 {
-    held.records.len() > 0 && test.before(held.records.get(0))
+    chunk.records.len() > 0 && test.before(chunk.records.get(0))
 }
 
 /// The first record of a chunk that doesn't stand before.
 pub(crate) fn first_not<F: Fn(&[u8]) -> bool + Drop>(
     alloc: Global,
-    held: &Held,
+    chunk: &ChunkRecords,
     test: &KeyTest<F>,
 ) -> Result<Option<Found>, AllocError>
-    requires held { IsHeld held.now }
+    requires chunk { AreChunkRecords chunk.now }
     requires test { IsKeyTest F.Fn test.now.test }
-    ensures found { IfOk result (λ found. IsFirstNot (StandsBefore F.Fn test.now.test) held.now.records held.now.begin found) }
+    ensures found { IfOk result (λ found. IsFirstNot (StandsBefore F.Fn test.now.test) chunk.now.records chunk.now.begin found) }
     ensures apart { IfOk result (λ found. IfSome found (λ f. ¬ StandsBefore F.Fn test.now.test f.bytes)) }
 {
-    for number in 0..held.records.len() {
-        if !test.before(held.records.get(number)) {
-            return record_of(alloc, held, number as u64);
+    for number in 0..chunk.records.len() {
+        if !test.before(chunk.records.get(number)) {
+            return record_of(alloc, chunk, number as u64);
         }
     }
     Ok(None)

@@ -1,19 +1,19 @@
 ghost use Rattle.std.specs.Prelude.{◌≡◌, ℕ, ◌+◌, ◌*◌, ◌/◌, ◌<◌, ◌≤◌, ◌⊎◌, true, false, List, Some, None, Ok, IfOk, IfSome, Err, length, slice_get};
 ghost use Rattle.chunk_header.specs.Chunks.{ChunkValue};
 ghost use Rattle.meta_chunk.specs.Files.{IsFile, IsFrame, ArePlaced, begin_of};
-ghost use Rattle.record_io.specs.Calls.{OnlyAsks};
-ghost use Rattle.block_layout.specs.Layout.{block_size, block_header_size, IsBlock, IsBoundary};
+ghost use Rattle.record_io.specs.Calls.{AsksUpTo, HasSize, OnlyAsks};
+ghost use Rattle.block_layout.specs.Layout.{block_size, block_header_size};
 ghost use Rattle.chunk_reader.specs.Holders.{TellsBegin, IsBlockFault};
 ghost use Rattle.chunk_reader.specs.Reasons.{Applies, NoneOf, loading_reasons};
 ghost use Rattle.chunk_reader.specs.SearchBounds.{key_bound};
-ghost use Rattle.chunk_reader.specs.Sizes.{HasSize};
+ghost use Rattle.chunk_reader.specs.Sizes.{HasBlock};
 ghost use Rattle.chunk_reader.specs.declared.reasons.Fault.{Fault};
 ghost use Rattle.record_seek.specs.Found.{IsKeyFound, BytesStandBefore, OnlyFrontStandsBefore};
 ghost use Rattle.record_seek.specs.KeyTests.{IsKeyTest, StandsBefore};
 ghost use Rattle.record_seek.specs.Met.{IsMetFault, IsMetRecord, LeadsWithoutRecords, LeadsPastAll};
-ghost use Rattle.record_seek.specs.Steps.{LoadsMetChunk, IsHeld, IsNextHeld, IsPaidOn, IsFaultOn, LoadsOn, FirstStandsBefore, IsReadOn, FirstNotBefore, EndsReading, look_bound, reading_cost, placed_of};
+ghost use Rattle.record_seek.specs.Steps.{LoadsMetChunk, IsBoundaryTo, MayReadFrom, AreRecordsFrom, AreNextRecords, IsPaidOn, IsFaultOn, LoadsOn, FirstStandsBefore, IsReadOn, FirstNotBefore, EndsReading, look_bound, reading_cost, placed_of};
 
-use crate::chunk_records::{Found, Held, first_before, first_not, held_at};
+use crate::chunk_records::{ChunkRecords, Found, first_before, first_not, records_at};
 use crate::key_tests::KeyTest;
 use crate::passes::{passed_at, told_begin};
 use block_layout::BLOCK_SIZE;
@@ -46,8 +46,6 @@ pub fn find<S: Store, F: Fn(&[u8]) -> bool + Drop>(
     ensures in_order { IfOk result (λ found. IfSome (S.bytes store.old) (λ file. (ks : List ChunkValue) (placed : List (ℕ × List ℕ)) (count : ℕ)
         → IsFile ks file → ArePlaced ks placed → OnlyFrontStandsBefore (BytesStandBefore (StandsBefore F.Fn test.now.test)) placed count
         → placed_of found ≡ slice_get placed count)) }
-    ensures whole { (fault : Fault) → result ≡ Err (ReadEnd.Refused fault)
-        → IfSome (S.bytes store.old) (λ file. (ks : List ChunkValue) → ¬ IsFile ks file) }
     ensures apart { IfOk result (λ found. IfSome found (λ f. ¬ StandsBefore F.Fn test.now.test f.bytes)) }
     ensures met { (found : Found) → result ≡ Ok (Some found)
         → IfSome (S.bytes store.old) (λ file. IsMetRecord file (StandsBefore F.Fn test.now.test) (found.position, found.bytes)) }
@@ -82,12 +80,11 @@ fn reading_begin<S: Store>(store: &mut S, size: u64, low: u64) -> Result<u64, Ve
     requires below { 0 < low → low * block_size < size }
     ensures begin { IfOk result (λ begin. IfSome (S.bytes store.old) (λ file.
         ((low ≡ 0) × (begin ≡ 0)) ⊎ ((0 < low) × TellsBegin file (low * block_size) begin))) }
-    ensures boundary { IfOk result IsBoundary }
-    ensures within { IfOk result (λ begin. begin ≤ size) }
+    ensures place { IfOk result (IsBoundaryTo size) }
     ensures refused { (fault : Fault) → result ≡ Err (VerifyEnd.Refused fault)
         → IfSome (S.bytes store.old) (λ file. IsBlockFault file (low * block_size) fault) }
-    ensures handed { S.handed store.new ≤ S.handed store.old + block_header_size }
-    ensures store { OnlyAsks S.bytes S.told S.name S.faults (result ≡ Err VerifyEnd.Store) store.old store.new }
+    ensures store { AsksUpTo S.bytes S.told S.handed S.name S.faults (result ≡ Err VerifyEnd.Store)
+        block_header_size store.old store.new }
 {
     if low == 0 {
         return Ok(0);
@@ -103,9 +100,7 @@ fn stands_before<S: Store, F: Fn(&[u8]) -> bool + Drop>(
     test: &KeyTest<F>,
     block: u64,
 ) -> Result<bool, ReadEnd>
-    requires sized { HasSize (S.told store.old) size }
-    requires at_block { IsBlock block }
-    requires below { block < size }
+    requires block { HasBlock (S.told store.old) size block }
     requires test { IsKeyTest F.Fn test.now.test }
     ensures before { result ≡ Ok true → IfSome (S.bytes store.old) (λ file. (begin : ℕ)
         × TellsBegin file block begin × FirstStandsBefore (StandsBefore F.Fn test.now.test) file begin) }
@@ -119,28 +114,24 @@ fn stands_before<S: Store, F: Fn(&[u8]) -> bool + Drop>(
     ensures store { OnlyAsks S.bytes S.told S.name S.faults (result ≡ Err ReadEnd.Store) store.old store.new }
 {
     let begin = told_begin(store, size, block)?;
-    let Some(held) = next_held(alloc, store, size, begin)? else {
+    let Some(chunk) = next_records(alloc, store, size, begin)? else {
         return Ok(false);
     };
-    Ok(first_before(&held, test))
+    Ok(first_before(&chunk, test))
 }
 
 /// The first chunk with records from a place on; `None` where there is none up to the file's end. A chunk without records is
 /// passed by its header alone.
-fn next_held<S: Store>(
+fn next_records<S: Store>(
     alloc: Global,
     store: &mut S,
     size: u64,
     from: u64,
-) -> Result<Option<Held>, ReadEnd>
-    requires sized { HasSize (S.told store.old) size }
-    requires from_boundary { IsBoundary from }
-    requires within { from ≤ size }
-    ensures held { IfOk result (λ next. IfSome next IsHeld) }
-    ensures onward { IfOk result (λ next. IfSome next (λ held. from ≤ held.begin)) }
-    ensures within { IfOk result (λ next. IfSome next (λ held. held.end ≤ size)) }
+) -> Result<Option<ChunkRecords>, ReadEnd>
+    requires { MayReadFrom (S.told store.old) size from }
+    ensures chunk { IfOk result (λ next. IfSome next (AreRecordsFrom from size)) }
     ensures next { IfOk result (λ next. IfSome (S.bytes store.old) (λ file.
-        IsNextHeld file from (S.handed store.old) (S.handed store.new) next)) }
+        AreNextRecords file from (S.handed store.old) (S.handed store.new) next)) }
     ensures refused { (fault : Fault) → result ≡ Err (ReadEnd.Refused fault)
         → IfSome (S.bytes store.old) (λ file. IsFaultOn file from fault) }
     ensures handed { IfSome (S.bytes store.old) (IsPaidOn from (S.handed store.old) (S.handed store.new)) }
@@ -151,7 +142,7 @@ fn next_held<S: Store>(
     while place < size {
         let passed = passed_at(store, size, place)?;
         if passed.num_records > 0 {
-            return Ok(Some(held_at(alloc, store, size, place)?));
+            return Ok(Some(records_at(alloc, store, size, place)?));
         }
         place = passed.end;
     }
@@ -166,9 +157,7 @@ fn read_on<S: Store, F: Fn(&[u8]) -> bool + Drop>(
     test: &KeyTest<F>,
     begin: u64,
 ) -> Result<Option<Found>, ReadEnd>
-    requires sized { HasSize (S.told store.old) size }
-    requires from_boundary { IsBoundary begin }
-    requires within { begin ≤ size }
+    requires from { MayReadFrom (S.told store.old) size begin }
     requires test { IsKeyTest F.Fn test.now.test }
     ensures read { IfOk result (λ found. IfSome (S.bytes store.old) (λ file.
         IsReadOn (StandsBefore F.Fn test.now.test) file begin found)) }
@@ -182,11 +171,11 @@ fn read_on<S: Store, F: Fn(&[u8]) -> bool + Drop>(
     ensures store { OnlyAsks S.bytes S.told S.name S.faults (result ≡ Err ReadEnd.Store) store.old store.new }
 {
     let mut place = begin;
-    while let Some(held) = next_held(alloc, store, size, place)? {
-        if let Some(found) = first_not(alloc, &held, test)? {
+    while let Some(chunk) = next_records(alloc, store, size, place)? {
+        if let Some(found) = first_not(alloc, &chunk, test)? {
             return Ok(Some(found));
         }
-        place = held.end;
+        place = chunk.end;
     }
     Ok(None)
 }

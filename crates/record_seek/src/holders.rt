@@ -1,13 +1,13 @@
 ghost use Rattle.std.specs.Prelude.{◌≡◌, ℕ, ◌+◌, ◌*◌, ◌<◌, ◌≤◌, ◌↔◌, List, Some, None, IfOk, IfSome, Ok, Err};
-ghost use Rattle.record_io.specs.Calls.{OnlyAsks};
+ghost use Rattle.record_io.specs.Calls.{OnlyAsks, HasSize};
 ghost use Rattle.block_layout.specs.Layout.{block_size, chunk_header_size, block_of, IsBoundary};
 ghost use Rattle.chunk_header.specs.Chunks.{ChunkValue};
 ghost use Rattle.meta_chunk.specs.Files.{IsFrame};
 ghost use Rattle.chunk_reader.specs.Holders.{TellsBegin, IsOnWay, IsHolder, IsHolderFault};
 ghost use Rattle.chunk_reader.specs.Reasons.{Applies, IsFirstOf, unpassed_reasons};
 ghost use Rattle.chunk_reader.specs.HolderBounds.{holder_bound};
-ghost use Rattle.chunk_reader.specs.Sizes.{HasSize};
 ghost use Rattle.chunk_reader.specs.declared.reasons.Fault.{Fault};
+ghost use Rattle.record_seek.specs.Steps.{IsBoundaryTo};
 
 use crate::passes::{passed_at, told_begin};
 use block_layout::BLOCK_SIZE;
@@ -91,10 +91,8 @@ fn block_before(at: u64) -> u64
 fn holder_from<S: Store>(store: &mut S, size: u64, at: u64, begin: u64) -> Result<u64, VerifyEnd>
     requires sized { HasSize (S.told store.old) size }
     requires below { at < size }
-    requires before { begin ≤ at }
-    requires from_boundary { IsBoundary begin }
-    ensures boundary { IfOk result IsBoundary }
-    ensures before { IfOk result (λ place. place ≤ at) }
+    requires begin { IsBoundaryTo at begin }
+    ensures place { IfOk result (IsBoundaryTo at) }
     ensures holder { IfOk result (λ place. IfSome (S.bytes store.old) (λ file.
         TellsBegin file (block_of at) begin → IsHolder file at place)) }
     ensures refused { (fault : Fault) → result ≡ Err (VerifyEnd.Refused fault)

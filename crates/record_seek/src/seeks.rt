@@ -1,18 +1,18 @@
 ghost use Rattle.std.specs.Prelude.{◌≡◌, ℕ, ◌+◌, ◌-◌, ◌*◌, ◌^◌, ◌<◌, ◌≤◌, ◌↔◌, List, IsTrue, IfOk, IfSome, Err};
-ghost use Rattle.record_io.specs.Calls.{OnlyAsks};
-ghost use Rattle.block_layout.specs.Layout.{chunk_header_size, IsBoundary};
+ghost use Rattle.record_io.specs.Calls.{OnlyAsks, HasSize};
+ghost use Rattle.block_layout.specs.Layout.{chunk_header_size};
 ghost use Rattle.chunk_header.specs.Chunks.{ChunkValue};
 ghost use Rattle.meta_chunk.specs.Files.{IsFrame, begin_of, LiesIn};
 ghost use Rattle.chunk_reader.specs.Holders.{IsHolder};
 ghost use Rattle.chunk_reader.specs.Reasons.{Applies, NoneOf, IsFirstOf, unpassed_reasons, loading_reasons};
 ghost use Rattle.chunk_reader.specs.Searches.{HasRecordFrom, SearchComesTo, AnswersAt, SearchGives, IsSearchFault};
 ghost use Rattle.chunk_reader.specs.SearchBounds.{position_bound};
-ghost use Rattle.chunk_reader.specs.Sizes.{HasSize, MayBeginAt};
+ghost use Rattle.chunk_reader.specs.Sizes.{MayBeginAt};
 ghost use Rattle.chunk_reader.specs.declared.reasons.Fault.{Fault};
 ghost use Rattle.record_seek.specs.Found.{IsAnsweringNumber};
 ghost use Rattle.record_seek.specs.Steps.{IsAnswer, placed_of};
 
-use crate::chunk_records::{Found, held_at, record_of};
+use crate::chunk_records::{Found, record_of, records_at};
 use crate::holders::holder;
 use crate::passes::passed_at;
 use chunk_reader::{ReadEnd, VerifyEnd};
@@ -53,8 +53,8 @@ pub fn seek<S: Store>(
     let Some(place) = answering_from(store, size, at, begin)? else {
         return Ok(None);
     };
-    let held = held_at(alloc, store, size, place)?;
-    Ok(record_of(alloc, &held, at.saturating_sub(place))?)
+    let chunk = records_at(alloc, store, size, place)?;
+    Ok(record_of(alloc, &chunk, at.saturating_sub(place))?)
 }
 
 /// Where the first chunk begins that has a record at or past a position, from the chunk on that holds it.
@@ -65,8 +65,7 @@ fn answering_from<S: Store>(
     begin: u64,
 ) -> Result<Option<u64>, VerifyEnd>
     requires place { MayBeginAt (S.told store.old) size begin }
-    ensures boundary { IfOk result (λ found. IfSome found IsBoundary) }
-    ensures within { IfOk result (λ found. IfSome found (λ place. place < size)) }
+    ensures place { IfOk result (λ found. IfSome found (MayBeginAt (S.told store.new) size)) }
     ensures answer { IfOk result (λ found. IfSome (S.bytes store.old) (λ file. IsHolder file at begin → IsAnswer file at found)) }
     ensures refused { (fault : Fault) → result ≡ Err (VerifyEnd.Refused fault)
         → IfSome (S.bytes store.old) (λ file. IsHolder file at begin

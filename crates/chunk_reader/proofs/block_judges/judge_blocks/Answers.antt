@@ -24,7 +24,7 @@ loop-block-preserved g c =
       near = omega (arith, c.loop-block-test.true);
       accepted = accepted-joined _ _ accepts c.args.from block (block + 65536) kept.asks.same_bytes kept.accepted
           (accepted-one _ accepts block (block + 65536) kept.at_block (omega arith) given.accepted);
-      handed = omega (arith, kept.handed, given.handed, kept.from_place, kept.at_block);
+      handed = omega (arith, kept.handed, given.store.handed, kept.from_place, kept.at_block);
       asks = search rules;
     }
 
@@ -36,19 +36,22 @@ returns-in_err-judge-clause-refused g c =
       here.0,
       refused-passed _ _ (g.J.JudgesBlocks.accepts c.args.judge.now) (g.J.JudgesBlocks.tells c.args.judge.now) c.args.from c.loop-block.block
           c.args.to told _ _ _ kept.asks.same_bytes kept.at_block kept.from_place c.loop-block-test.true kept.accepted kept.handed
-          c.judge.ensures.handed here.1,
+          c.judge.ensures.store.handed here.1,
     )
 
 pub returns-in_err-judge-clause-looks : goal.returns-in_err-judge-clause-looks
 returns-in_err-judge-clause-looks g c =
     let kept = c.loop-block.invariant in
     judged-last _ (g.J.JudgesBlocks.accepts c.args.judge.now) c.args.from c.loop-block.block c.args.to _ _ _ kept.at_block kept.from_place
-    c.loop-block-test.true kept.accepted kept.handed c.judge.ensures.handed
+    c.loop-block-test.true kept.accepted kept.handed c.judge.ensures.store.handed
 
-pub returns-in_err-judge-clause-handed : goal.returns-in_err-judge-clause-handed
-returns-in_err-judge-clause-handed g c =
+pub returns-in_err-judge-clause-store : goal.returns-in_err-judge-clause-store
+returns-in_err-judge-clause-store g c =
     let kept = c.loop-block.invariant in
-    omega (arith, kept.handed, c.judge.ensures.handed, kept.from_place, kept.at_block, c.loop-block-test.true)
+    record {
+      asks = search rules;
+      handed = omega (arith, kept.handed, c.judge.ensures.store.handed, kept.from_place, kept.at_block, c.loop-block-test.true);
+    }
 
 pub returns-clause-accepted : goal.returns-clause-accepted
 returns-clause-accepted g c =
@@ -61,7 +64,10 @@ returns-clause-looks g c =
     judged-all _ (g.J.JudgesBlocks.accepts c.args.judge.now) c.args.from c.loop-block.block c.args.to _ _ kept.at_block c.loop-block-test.false
     kept.near kept.accepted kept.handed
 
-pub returns-clause-handed : goal.returns-clause-handed
-returns-clause-handed g c =
+pub returns-clause-store : goal.returns-clause-store
+returns-clause-store g c =
     let kept = c.loop-block.invariant in
-    omega (arith, kept.handed, kept.at_block, kept.near, c.loop-block-test.false)
+    record {
+      asks = search rules;
+      handed = omega (arith, kept.handed, kept.at_block, kept.near, c.loop-block-test.false);
+    }

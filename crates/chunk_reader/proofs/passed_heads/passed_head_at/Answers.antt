@@ -7,7 +7,7 @@ use Rattle.chunk_reader.specs.Reasons.{unpassed_reasons}
 use Rattle.chunk_reader.specs.declared.heads.Head.{Head}
 use Rattle.chunk_reader.specs.declared.reasons.Why.TheVariants as why
 use Rattle.chunk_reader.proofs.Rooms.{IsSized}
-use Rattle.chunk_reader.proofs.WholeHeads.{HasRightHead, first_truncated, none_unpassed, refused_for}
+use Rattle.chunk_reader.proofs.WholeHeads.{HasRightHead, there, first_truncated, none_unpassed, refused_for}
 use Rattle.chunk_reader.proofs.passed_heads.passed_head_at.Goals as goal
 use Rattle.chunk_reader.proofs.passed_heads.passed_head_at.Goals.{In-Right}
 
@@ -51,14 +51,14 @@ returns-then-end-size-clause-refused g c =
     refused_for unpassed_reasons _ c.args.at why.Truncated fault (cc)
     (first_truncated _ c.args.size c.args.at c.in-Right.header (sized g at) (fits g at) (right g at) (omega (arith, is, c.if-end-size.true)))
 
-pub returns-clause-end : goal.returns-clause-end
-returns-clause-end g c =
-    let at = (goal.at.returns-clause-end g c).In-Right in
-    end_some c.in-Right.end (2 ^ 63) c.in-Some.end (end_by c.args.at (value_of_header c.in-Right.header)) c.in-Some.is (end_is g at)
-
-pub returns-clause-sound : goal.returns-clause-sound
-returns-clause-sound g c =
-    let at = (goal.at.returns-clause-sound g c).In-Right in
+pub returns-clause-found : goal.returns-clause-found
+returns-clause-found g c =
+    let at = (goal.at.returns-clause-found g c).In-Right in
     let is : c.in-Some.end ≡ end_by c.args.at (value_of_header c.in-Right.header) =
     end_some c.in-Right.end (2 ^ 63) c.in-Some.end (end_by c.args.at (value_of_header c.in-Right.header)) c.in-Some.is (end_is g at) in
-    none_unpassed _ c.args.size c.args.at c.in-Right.header (sized g at) (fits g at) (right g at) (omega (arith, is, c.if-end-size.false))
+    record {
+      fits = fits g at;
+      ends = is;
+      header = there _ c.args.at c.in-Right.header (right g at);
+      none = none_unpassed _ c.args.size c.args.at c.in-Right.header (sized g at) (fits g at) (right g at) (omega (arith, is, c.if-end-size.false));
+    }

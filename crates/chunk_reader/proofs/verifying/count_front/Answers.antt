@@ -23,7 +23,7 @@ loop-totals-init g c = record {
   bounds = AreInBounds-signature c.args.size c.in_ok-check_signature.ensures.long;
   signed = lit≤ tt;
   read = signature_read true _ c.in_ok-check_signature.ensures.signed;
-  handed = omega (arith, c.check_signature.ensures.handed);
+  handed = omega (arith, c.check_signature.ensures.store.handed);
   asks = search rules;
 }
 
@@ -39,6 +39,18 @@ returns-in_err-passed-clause-refused g c =
 
 pub returns-in_err-passed-clause-signed : goal.returns-in_err-passed-clause-signed
 returns-in_err-passed-clause-signed g c = λ fault e. inr c.loop-totals.invariant.signed
+
+pub totals_with_chunk-requires-clause-bounds : goal.totals_with_chunk-requires-clause-bounds
+totals_with_chunk-requires-clause-bounds g c =
+    let kept = c.loop-totals.invariant.bounds in
+    record {
+      within = omega (arith, c.in_ok-passed.ensures.end.1, end_of_room c.loop-totals.totals.bytes 40);
+      boundary = kept.boundary;
+      signed = kept.signed;
+      chunks = kept.chunks;
+      records = kept.records;
+      unread = kept.unread;
+    }
 
 pub loop-totals-smaller : goal.loop-totals-smaller
 loop-totals-smaller g c =

@@ -21,18 +21,15 @@ returns-in_err-header-clause-refused g c =
 found : (g : _) (c : In_ok-header g) → IsFound (g.S.Store.bytes c.args.store.now) c.args.size c.args.at c.in_ok-header.end c.in_ok-header.header
 found g c = record {
   sized = subst (IsSized (g.S.Store.bytes c.args.store.now)) c.requires.place.sized.is_told (g.met.S.Store.sized c.args.store.now);
-  sound = c.in_ok-header.ensures.fits;
-  ends = c.in_ok-header.ensures.end;
+  head = c.in_ok-header.ensures.found;
   within = c.in_ok-header.ensures.within;
-  header = c.in_ok-header.ensures.header;
-  none = c.in_ok-header.ensures.sound;
 }
 
 -- the data behind it, which was judged
 through : (g : _) (c : After-finish g)
     → IsThrough (g.S.Store.bytes c.args.store.now) c.args.at c.in_ok-header.end c.in_ok-header.header c.feed_chunk.new.taker c.finish.result
 through g c =
-    let same = c.in_ok-header.ensures.store.same_bytes in
+    let same = c.in_ok-header.ensures.store.asks.same_bytes in
     let judge = c.feed_chunk.new.taker in
     let P : Option (List ℕ) → Type 0 = λ o. IfSome o (λ file. HasTaken judge (data_at file c.args.at c.in_ok-header.header.data_size)) in
     let Q : Option (List ℕ) → Type 0 = λ o. IfSome o (λ file. HaveHeadersOf file c.args.at c.in_ok-header.end c.args.at c.in_ok-header.end) in
@@ -49,12 +46,12 @@ returns-in_err-feed_chunk-clause-refused g c =
     let header = (goal.at.returns-in_err-feed_chunk-clause-refused g c).In_ok-header in
     let wrong = c.in_err-feed_chunk.ensures.wrong fault (ap Err (sym (rw e at c.from_residual-in_err-feed_chunk.ensures.1))) in
     refused_block _ _ c.args.size c.args.at c.in_ok-header.end c.in_ok-header.header fault (found g header)
-    c.in_ok-header.ensures.store.same_bytes wrong.0 wrong.1
+    c.in_ok-header.ensures.store.asks.same_bytes wrong.0 wrong.1
 
 pub returns-in-Ok-clause-end : goal.returns-in-Ok-clause-end
 returns-in-Ok-clause-end g c =
     verified_end c.args.size c.args.at c.in_ok-header.end c.in_ok-header.header.data_size c.in_ok-header.header.num_records
-    c.in_ok-header.ensures.end c.in_ok-header.ensures.within
+    c.in_ok-header.ensures.found.ends c.in_ok-header.ensures.within
 
 pub returns-in-Ok-clause-passed : goal.returns-in-Ok-clause-passed
 returns-in-Ok-clause-passed g c =

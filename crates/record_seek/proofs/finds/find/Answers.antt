@@ -1,15 +1,13 @@
-use Rattle.std.proofs.Common.{◌∙◌, ◌+◌, ◌-◌, ◌*◌, ◌/◌, Some, None, Ok, Err, IfSome, sym, ap, subst, arith, rules}
+use Rattle.std.proofs.Common.{◌∙◌, ◌+◌, ◌-◌, ◌*◌, ◌/◌, Some, None, Ok, Err, IfSome, ap, subst, arith, rules}
 use Rattle.chunk_reader.proofs.Loads as loads
 use Rattle.chunk_reader.proofs.Rooms.{IsSized}
 use Rattle.record_seek.specs.KeyTests.{StandsBefore}
-use Rattle.record_seek.specs.Met.{IsMetFault}
 use Rattle.record_seek.specs.Steps.{IsReadOn}
 use Rattle.record_seek.proofs.Finding.{begins-front, begins-at, block-met, fault-met, loads-met}
-use Rattle.record_seek.proofs.FoundByKey.{found-in, in-order, met-not_whole}
+use Rattle.record_seek.proofs.FoundByKey.{found-in, in-order}
 use Rattle.record_seek.proofs.Halves.{halved-begun, halved-up, halved-down, takes-look, takes-begin, takes-reading}
 use Rattle.record_seek.proofs.ReadingOn.{ok_at}
 use Rattle.record_seek.proofs.RightBehind.{nothing-left, record-met}
-use Rattle.record_seek.proofs.Ways.{same_told}
 use Rattle.record_seek.proofs.finds.find.Goals as goal
 use Rattle.record_seek.proofs.finds.find.Goals.{Start}
 
@@ -22,7 +20,7 @@ returns-clause-found g c =
     let kept = c.loop-high.invariant in
     let given = c.in_ok-begin.ensures in
     found-in (StandsBefore g.F.Fn c.args.test.now.test) _ _ _ c.args.size c.loop-high.low c.in_ok-begin.begin c.read_on.result kept.asks.same_bytes
-    (given.store.same_bytes ∙ kept.asks.same_bytes) (sized g (goal.at.returns-clause-found g c).Start) c.requires.sized.in_reach kept.begins given.begin
+    (given.store.asks.same_bytes ∙ kept.asks.same_bytes) (sized g (goal.at.returns-clause-found g c).Start) c.requires.sized.in_reach kept.begins given.begin
     c.read_on.ensures.read
 
 pub returns-clause-in_order : goal.returns-clause-in_order
@@ -40,7 +38,7 @@ returns-clause-met g c =
     let kept = c.loop-high.invariant in
     let given = c.in_ok-begin.ensures in
     let Before = StandsBefore g.F.Fn c.args.test.now.test in
-    record-met Before _ _ _ c.loop-high.low c.in_ok-begin.begin found kept.asks.same_bytes (given.store.same_bytes ∙ kept.asks.same_bytes) kept.begins
+    record-met Before _ _ _ c.loop-high.low c.in_ok-begin.begin found kept.asks.same_bytes (given.store.asks.same_bytes ∙ kept.asks.same_bytes) kept.begins
     given.begin
     (ok_at (λ f. IfSome (g.S.Store.bytes c.reading_begin.new.store) (λ file. IsReadOn Before file c.in_ok-begin.begin f)) c.read_on.result (Some found)
     c.read_on.ensures.read is)
@@ -51,7 +49,7 @@ returns-clause-none g c =
     let kept = c.loop-high.invariant in
     let given = c.in_ok-begin.ensures in
     let Before = StandsBefore g.F.Fn c.args.test.now.test in
-    nothing-left Before _ _ _ c.loop-high.low c.in_ok-begin.begin kept.asks.same_bytes (given.store.same_bytes ∙ kept.asks.same_bytes) kept.begins
+    nothing-left Before _ _ _ c.loop-high.low c.in_ok-begin.begin kept.asks.same_bytes (given.store.asks.same_bytes ∙ kept.asks.same_bytes) kept.begins
     given.begin
     (ok_at (λ f. IfSome (g.S.Store.bytes c.reading_begin.new.store) (λ file. IsReadOn Before file c.in_ok-begin.begin f)) c.read_on.result None
     c.read_on.ensures.read is)
@@ -61,27 +59,8 @@ returns-clause-refused g c =
     λ fault e.
     let kept = c.loop-high.invariant in
     let given = c.in_ok-begin.ensures in
-    fault-met _ _ _ c.loop-high.low c.in_ok-begin.begin fault kept.asks.same_bytes (given.store.same_bytes ∙ kept.asks.same_bytes) given.begin
+    fault-met _ _ _ c.loop-high.low c.in_ok-begin.begin fault kept.asks.same_bytes (given.store.asks.same_bytes ∙ kept.asks.same_bytes) given.begin
     (c.read_on.ensures.refused fault e)
-
-pub returns-in_err-stands_before-clause-whole : goal.returns-in_err-stands_before-clause-whole
-returns-in_err-stands_before-clause-whole g c =
-    λ fault e.
-    met-not_whole _ c.args.size fault (sized g (goal.at.returns-in_err-stands_before-clause-whole g c).Start) c.requires.sized.in_reach
-    (same_told (λ file. IsMetFault file fault) _ _ c.loop-high.invariant.asks.same_bytes
-    (c.in_err-stands_before.ensures.refused fault (ap Err (sym (rw e at c.from_residual.ensures.1)))))
-
-pub returns-in_err-begin-clause-whole : goal.returns-in_err-begin-clause-whole
-returns-in_err-begin-clause-whole g c =
-    λ fault e.
-    met-not_whole _ c.args.size fault (sized g (goal.at.returns-in_err-begin-clause-whole g c).Start) c.requires.sized.in_reach
-    (returns-in_err-begin-clause-refused g c fault e)
-
-pub returns-clause-whole : goal.returns-clause-whole
-returns-clause-whole g c =
-    λ fault e.
-    met-not_whole _ c.args.size fault (sized g (goal.at.returns-clause-whole g c).Start) c.requires.sized.in_reach
-    (returns-clause-refused g c fault e)
 
 pub returns-in_err-stands_before-clause-handed : goal.returns-in_err-stands_before-clause-handed
 returns-in_err-stands_before-clause-handed g c =
@@ -92,15 +71,15 @@ returns-in_err-stands_before-clause-handed g c =
 pub returns-in_err-begin-clause-handed : goal.returns-in_err-begin-clause-handed
 returns-in_err-begin-clause-handed g c =
     takes-begin (StandsBefore g.F.Fn c.args.test.now.test) _ c.args.size c.loop-high.low c.loop-high.high _ _ _
-    (sized g (goal.at.returns-in_err-begin-clause-handed g c).Start) c.loop-high.invariant.halved c.in_err-begin.ensures.handed
+    (sized g (goal.at.returns-in_err-begin-clause-handed g c).Start) c.loop-high.invariant.halved c.in_err-begin.ensures.store.handed
 
 pub returns-clause-handed : goal.returns-clause-handed
 returns-clause-handed g c =
     let kept = c.loop-high.invariant in
     let given = c.in_ok-begin.ensures in
     takes-reading (StandsBefore g.F.Fn c.args.test.now.test) _ _ _ c.args.size c.loop-high.low c.loop-high.high c.in_ok-begin.begin _ _ _ _
-    kept.asks.same_bytes (given.store.same_bytes ∙ kept.asks.same_bytes) (sized g (goal.at.returns-clause-handed g c).Start)
-    c.requires.sized.in_reach kept.halved kept.ordered (omega (arith, c.loop-high-test.false)) given.begin given.handed c.read_on.ensures.handed
+    kept.asks.same_bytes (given.store.asks.same_bytes ∙ kept.asks.same_bytes) (sized g (goal.at.returns-clause-handed g c).Start)
+    c.requires.sized.in_reach kept.halved kept.ordered (omega (arith, c.loop-high-test.false)) given.begin given.store.handed c.read_on.ensures.handed
 
 pub loop-high-init : goal.loop-high-init
 loop-high-init g c = record {
@@ -148,5 +127,5 @@ returns-clause-memory g c =
     λ e.
     let kept = c.loop-high.invariant in
     let given = c.in_ok-begin.ensures in
-    loads-met _ _ _ c.loop-high.low c.in_ok-begin.begin kept.asks.same_bytes (given.store.same_bytes ∙ kept.asks.same_bytes) given.begin
+    loads-met _ _ _ c.loop-high.low c.in_ok-begin.begin kept.asks.same_bytes (given.store.asks.same_bytes ∙ kept.asks.same_bytes) given.begin
     (c.read_on.ensures.memory e)

@@ -1,93 +1,91 @@
-use Rattle.std.proofs.Common.{◌≤◌, Err, sym, ap, arith, rules}
+use Rattle.std.proofs.Common.{Err, sym, ap, arith, rules}
 use Rattle.record_seek.specs.KeyTests.{StandsBefore}
-use Rattle.record_seek.specs.Steps.{IsHeld}
-use Rattle.record_seek.specs.declared.chunk_records.Held.{Held}
+use Rattle.record_seek.specs.Steps.{AreRecordsFrom}
 use Rattle.record_seek.proofs.ReadCosts.{paid_read-records, reading-on}
 use Rattle.record_seek.proofs.ReadingOn.{some_at, read-come, read-records, read-found, read-ended, fault-further, loads-further, loads-first}
 use Rattle.record_seek.proofs.finds.read_on.Goals as goal
 
-pub returns-in_err-held-clause-refused : goal.returns-in_err-held-clause-refused
-returns-in_err-held-clause-refused g c =
+pub returns-in_err-chunk-clause-refused : goal.returns-in_err-chunk-clause-refused
+returns-in_err-chunk-clause-refused g c =
     λ fault e.
-    let kept = c.loop-held.invariant in
-    fault-further _ _ c.args.begin c.loop-held.place fault kept.asks.same_bytes
-    (read-come (StandsBefore g.F.Fn c.args.test.now.test) _ c.args.begin c.loop-held.place kept.read)
-    (c.in_err-held.ensures.refused fault (ap Err (sym (rw e at c.from_residual.ensures.1))))
+    let kept = c.loop-chunk.invariant in
+    fault-further _ _ c.args.begin c.loop-chunk.place fault kept.asks.same_bytes
+    (read-come (StandsBefore g.F.Fn c.args.test.now.test) _ c.args.begin c.loop-chunk.place kept.read)
+    (c.in_err-chunk.ensures.refused fault (ap Err (sym (rw e at c.from_residual.ensures.1))))
 
-pub returns-in_err-held-clause-handed : goal.returns-in_err-held-clause-handed
-returns-in_err-held-clause-handed g c =
-    let kept = c.loop-held.invariant in
-    reading-on (StandsBefore g.F.Fn c.args.test.now.test) _ _ c.args.begin c.loop-held.place _ _ _ kept.asks.same_bytes kept.paid
-    c.next_held.ensures.handed
+pub returns-in_err-chunk-clause-handed : goal.returns-in_err-chunk-clause-handed
+returns-in_err-chunk-clause-handed g c =
+    let kept = c.loop-chunk.invariant in
+    reading-on (StandsBefore g.F.Fn c.args.test.now.test) _ _ c.args.begin c.loop-chunk.place _ _ _ kept.asks.same_bytes kept.paid
+    c.next_records.ensures.handed
 
-pub returns-in_err-held-clause-memory : goal.returns-in_err-held-clause-memory
-returns-in_err-held-clause-memory g c =
+pub returns-in_err-chunk-clause-memory : goal.returns-in_err-chunk-clause-memory
+returns-in_err-chunk-clause-memory g c =
     λ e.
-    let kept = c.loop-held.invariant in
-    loads-further _ _ c.args.begin c.loop-held.place kept.asks.same_bytes
-    (read-come (StandsBefore g.F.Fn c.args.test.now.test) _ c.args.begin c.loop-held.place kept.read)
-    (c.in_err-held.ensures.memory (ap Err (sym (rw e at c.from_residual.ensures.1))))
+    let kept = c.loop-chunk.invariant in
+    loads-further _ _ c.args.begin c.loop-chunk.place kept.asks.same_bytes
+    (read-come (StandsBefore g.F.Fn c.args.test.now.test) _ c.args.begin c.loop-chunk.place kept.read)
+    (c.in_err-chunk.ensures.memory (ap Err (sym (rw e at c.from_residual.ensures.1))))
 
-pub first_not-requires-clause-held : goal.first_not-requires-clause-held
-first_not-requires-clause-held g c = some_at IsHeld _ c.in-Some.held c.in_ok-held.ensures.held c.in-Some.is
+pub first_not-requires-clause-chunk : goal.first_not-requires-clause-chunk
+first_not-requires-clause-chunk g c =
+    (some_at (AreRecordsFrom c.loop-chunk.place c.args.size) _ c.in-Some.chunk c.in_ok-chunk.ensures.chunk c.in-Some.is).of_chunk
 
 pub returns-in_err-found-clause-handed : goal.returns-in_err-found-clause-handed
 returns-in_err-found-clause-handed g c =
-    let kept = c.loop-held.invariant in
-    reading-on (StandsBefore g.F.Fn c.args.test.now.test) _ _ c.args.begin c.loop-held.place _ _ _ kept.asks.same_bytes kept.paid
-    c.next_held.ensures.handed
+    let kept = c.loop-chunk.invariant in
+    reading-on (StandsBefore g.F.Fn c.args.test.now.test) _ _ c.args.begin c.loop-chunk.place _ _ _ kept.asks.same_bytes kept.paid
+    c.next_records.ensures.handed
 
 pub returns-in_err-found-clause-memory : goal.returns-in_err-found-clause-memory
 returns-in_err-found-clause-memory g c =
     λ e.
-    let kept = c.loop-held.invariant in
-    loads-further _ _ c.args.begin c.loop-held.place kept.asks.same_bytes
-    (read-come (StandsBefore g.F.Fn c.args.test.now.test) _ c.args.begin c.loop-held.place kept.read)
-    (loads-first _ c.loop-held.place _ _ _ c.in-Some.held c.in-Some.is c.in_ok-held.ensures.next)
+    let kept = c.loop-chunk.invariant in
+    loads-further _ _ c.args.begin c.loop-chunk.place kept.asks.same_bytes
+    (read-come (StandsBefore g.F.Fn c.args.test.now.test) _ c.args.begin c.loop-chunk.place kept.read)
+    (loads-first _ c.loop-chunk.place _ _ _ c.in-Some.chunk c.in-Some.is c.in_ok-chunk.ensures.next)
 
 pub returns-in-Some-2-clause-read : goal.returns-in-Some-2-clause-read
 returns-in-Some-2-clause-read g c =
-    let kept = c.loop-held.invariant in
-    read-found (StandsBefore g.F.Fn c.args.test.now.test) _ _ c.args.begin c.loop-held.place _ _ _ c.in-Some.held _ c.in-Some-2.found
-    kept.asks.same_bytes kept.read c.in-Some.is c.in_ok-held.ensures.next c.in-Some-2.is c.in_ok-found.ensures.found
+    let kept = c.loop-chunk.invariant in
+    read-found (StandsBefore g.F.Fn c.args.test.now.test) _ _ c.args.begin c.loop-chunk.place _ _ _ c.in-Some.chunk _ c.in-Some-2.found
+    kept.asks.same_bytes kept.read c.in-Some.is c.in_ok-chunk.ensures.next c.in-Some-2.is c.in_ok-found.ensures.found
 
 pub returns-in-Some-2-clause-handed : goal.returns-in-Some-2-clause-handed
 returns-in-Some-2-clause-handed g c =
-    let kept = c.loop-held.invariant in
-    reading-on (StandsBefore g.F.Fn c.args.test.now.test) _ _ c.args.begin c.loop-held.place _ _ _ kept.asks.same_bytes kept.paid
-    c.next_held.ensures.handed
+    let kept = c.loop-chunk.invariant in
+    reading-on (StandsBefore g.F.Fn c.args.test.now.test) _ _ c.args.begin c.loop-chunk.place _ _ _ kept.asks.same_bytes kept.paid
+    c.next_records.ensures.handed
 
-pub loop-held-preserved : goal.loop-held-preserved
-loop-held-preserved g c =
-    let kept = c.loop-held.invariant in
-    let given = c.in_ok-held.ensures in
-    let held : IsHeld c.in-Some.held = some_at IsHeld _ c.in-Some.held given.held c.in-Some.is in
+pub loop-chunk-preserved : goal.loop-chunk-preserved
+loop-chunk-preserved g c =
+    let kept = c.loop-chunk.invariant in
+    let given = c.in_ok-chunk.ensures in
+    let chunk = some_at (AreRecordsFrom c.loop-chunk.place c.args.size) _ c.in-Some.chunk given.chunk c.in-Some.is in
     record {
-      boundary = held.to_boundary;
-      within = some_at (λ (h : Held). h.end ≤ c.args.size) _ c.in-Some.held given.within c.in-Some.is;
-      read = read-records (StandsBefore g.F.Fn c.args.test.now.test) _ _ c.args.begin c.loop-held.place _ _ _ c.in-Some.held _
+      boundary = chunk.of_chunk.to_boundary;
+      within = chunk.within;
+      read = read-records (StandsBefore g.F.Fn c.args.test.now.test) _ _ c.args.begin c.loop-chunk.place _ _ _ c.in-Some.chunk _
           kept.asks.same_bytes kept.read c.in-Some.is given.next c.in_default-2.is c.in_ok-found.ensures.found;
-      paid = paid_read-records (StandsBefore g.F.Fn c.args.test.now.test) _ _ c.args.begin c.loop-held.place _ c.in-Some.held _ _ _ _
+      paid = paid_read-records (StandsBefore g.F.Fn c.args.test.now.test) _ _ c.args.begin c.loop-chunk.place _ c.in-Some.chunk _ _ _ _
           kept.asks.same_bytes kept.paid c.in-Some.is given.next c.in_default-2.is c.in_ok-found.ensures.found;
       asks = search rules;
     }
 
-pub loop-held-smaller : goal.loop-held-smaller
-loop-held-smaller g c =
-    let given = c.in_ok-held.ensures in
-    let held : IsHeld c.in-Some.held = some_at IsHeld _ c.in-Some.held given.held c.in-Some.is in
-    let onward : c.loop-held.place ≤ c.in-Some.held.begin = some_at (λ (h : Held). c.loop-held.place ≤ h.begin) _ c.in-Some.held given.onward c.in-Some.is in
-    let within : c.in-Some.held.end ≤ c.args.size = some_at (λ (h : Held). h.end ≤ c.args.size) _ c.in-Some.held given.within c.in-Some.is in
-    omega (arith, held.after, onward, within)
+pub loop-chunk-smaller : goal.loop-chunk-smaller
+loop-chunk-smaller g c =
+    let given = c.in_ok-chunk.ensures in
+    let chunk = some_at (AreRecordsFrom c.loop-chunk.place c.args.size) _ c.in-Some.chunk given.chunk c.in-Some.is in
+    omega (arith, chunk.of_chunk.after, chunk.onward, chunk.within)
 
 pub returns-clause-read : goal.returns-clause-read
 returns-clause-read g c =
-    let kept = c.loop-held.invariant in
-    read-ended (StandsBefore g.F.Fn c.args.test.now.test) _ _ c.args.begin c.loop-held.place _ _ _ kept.asks.same_bytes kept.read
-    c.in_default.is c.in_ok-held.ensures.next
+    let kept = c.loop-chunk.invariant in
+    read-ended (StandsBefore g.F.Fn c.args.test.now.test) _ _ c.args.begin c.loop-chunk.place _ _ _ kept.asks.same_bytes kept.read
+    c.in_default.is c.in_ok-chunk.ensures.next
 
 pub returns-clause-handed : goal.returns-clause-handed
 returns-clause-handed g c =
-    let kept = c.loop-held.invariant in
-    reading-on (StandsBefore g.F.Fn c.args.test.now.test) _ _ c.args.begin c.loop-held.place _ _ _ kept.asks.same_bytes kept.paid
-    c.next_held.ensures.handed
+    let kept = c.loop-chunk.invariant in
+    reading-on (StandsBefore g.F.Fn c.args.test.now.test) _ _ c.args.begin c.loop-chunk.place _ _ _ kept.asks.same_bytes kept.paid
+    c.next_records.ensures.handed

@@ -6,8 +6,8 @@ use Rattle.record_seek.specs.Steps.{AreReadTo}
 use Rattle.record_seek.proofs.ReadCosts.{IsPaidRead}
 use Rattle.record_seek.proofs.finds.read_on.Given as goal
 
-abbrev pub invariant-loop-held : goal.invariant-loop-held
-invariant-loop-held g l = record {
+abbrev pub invariant-loop-chunk : goal.invariant-loop-chunk
+invariant-loop-chunk g l = record {
   boundary : IsBoundary l.place;
   within : l.place ≤ l.size;
   read : IfSome (g.S.Store.bytes l.fn.store) (λ file. AreReadTo (StandsBefore g.F.Fn l.test.test) file l.begin l.place);
@@ -15,5 +15,5 @@ invariant-loop-held g l = record {
   asks : OnlyAsks g.S.Store.bytes g.S.Store.told g.S.Store.name g.S.Store.faults ⊥ l.fn.store l.store;
 }
 
-abbrev pub decreases-loop-held : goal.decreases-loop-held
-decreases-loop-held g l = l.size - l.place
+abbrev pub decreases-loop-chunk : goal.decreases-loop-chunk
+decreases-loop-chunk g l = l.size - l.place

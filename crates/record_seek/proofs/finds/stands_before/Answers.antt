@@ -2,7 +2,7 @@ use Rattle.std.proofs.Common.{Some, Err, refl, sym, ap, subst}
 use Rattle.chunk_reader.proofs.Loads as loads
 use Rattle.chunk_reader.proofs.Rooms.{IsSized}
 use Rattle.record_seek.specs.KeyTests.{StandsBefore}
-use Rattle.record_seek.specs.Steps.{IsHeld, FirstStandsBefore, FirstNotBefore}
+use Rattle.record_seek.specs.Steps.{AreRecordsFrom, FirstStandsBefore, FirstNotBefore}
 use Rattle.record_seek.proofs.Finding.{block-met, told-met, loads-told, from-told}
 use Rattle.record_seek.proofs.LookCosts.{block-takes, told-takes}
 use Rattle.record_seek.proofs.ReadingOn.{some_at, first-before, first-not, none-next, none-before}
@@ -11,7 +11,7 @@ use Rattle.record_seek.proofs.finds.stands_before.Goals.{Start}
 
 -- the told size is that of the file
 sized : (g : _) (c : Start g) → IsSized (g.S.Store.bytes c.args.store.now) (Some c.args.size)
-sized g c = subst (IsSized (g.S.Store.bytes c.args.store.now)) c.requires.sized.is_told (g.met.S.Store.sized c.args.store.now)
+sized g c = subst (IsSized (g.S.Store.bytes c.args.store.now)) c.requires.block.sized.is_told (g.met.S.Store.sized c.args.store.now)
 
 pub returns-in_err-begin-clause-refused : goal.returns-in_err-begin-clause-refused
 returns-in_err-begin-clause-refused g c =
@@ -20,63 +20,64 @@ returns-in_err-begin-clause-refused g c =
     (c.in_err-begin.ensures.refused fault (ap Err (loads.refused_before c.in_err-begin.field-0.0 fault (rw e at c.from_residual.ensures.1))))
 
 pub returns-in_err-begin-clause-handed : goal.returns-in_err-begin-clause-handed
-returns-in_err-begin-clause-handed g c = block-takes _ _ _ c.in_err-begin.ensures.handed
+returns-in_err-begin-clause-handed g c = block-takes _ _ _ c.in_err-begin.ensures.store.handed
 
-pub returns-in_err-held-clause-refused : goal.returns-in_err-held-clause-refused
-returns-in_err-held-clause-refused g c =
+pub returns-in_err-chunk-clause-refused : goal.returns-in_err-chunk-clause-refused
+returns-in_err-chunk-clause-refused g c =
     λ fault e.
-    told-met _ _ c.args.block c.in_ok-begin.begin fault c.in_ok-begin.ensures.store.same_bytes c.in_ok-begin.ensures.told
-    (c.in_err-held.ensures.refused fault (ap Err (sym (rw e at c.from_residual-in_err-held.ensures.1))))
+    told-met _ _ c.args.block c.in_ok-begin.begin fault c.in_ok-begin.ensures.store.asks.same_bytes c.in_ok-begin.ensures.told
+    (c.in_err-chunk.ensures.refused fault (ap Err (sym (rw e at c.from_residual-in_err-chunk.ensures.1))))
 
-pub returns-in_err-held-clause-handed : goal.returns-in_err-held-clause-handed
-returns-in_err-held-clause-handed g c =
+pub returns-in_err-chunk-clause-handed : goal.returns-in_err-chunk-clause-handed
+returns-in_err-chunk-clause-handed g c =
     let given = c.in_ok-begin.ensures in
-    told-takes _ _ c.args.size c.args.block c.in_ok-begin.begin _ _ _ given.store.same_bytes
-    (sized g (goal.at.returns-in_err-held-clause-handed g c).Start) c.requires.sized.in_reach given.told given.handed
-    c.next_held.ensures.handed
+    told-takes _ _ c.args.size c.args.block c.in_ok-begin.begin _ _ _ given.store.asks.same_bytes
+    (sized g (goal.at.returns-in_err-chunk-clause-handed g c).Start) c.requires.block.sized.in_reach given.told given.store.handed
+    c.next_records.ensures.handed
 
-pub returns-in_err-held-clause-memory : goal.returns-in_err-held-clause-memory
-returns-in_err-held-clause-memory g c =
+pub returns-in_err-chunk-clause-memory : goal.returns-in_err-chunk-clause-memory
+returns-in_err-chunk-clause-memory g c =
     λ e.
-    loads-told _ _ c.args.block c.in_ok-begin.begin c.in_ok-begin.ensures.store.same_bytes c.in_ok-begin.ensures.told
-    (c.in_err-held.ensures.memory (ap Err (sym (rw e at c.from_residual-in_err-held.ensures.1))))
+    loads-told _ _ c.args.block c.in_ok-begin.begin c.in_ok-begin.ensures.store.asks.same_bytes c.in_ok-begin.ensures.told
+    (c.in_err-chunk.ensures.memory (ap Err (sym (rw e at c.from_residual-in_err-chunk.ensures.1))))
 
 pub returns-in_default-clause-not_before : goal.returns-in_default-clause-not_before
 returns-in_default-clause-not_before g c =
     λ e.
     from-told (FirstNotBefore (StandsBefore g.F.Fn c.args.test.now.test)) _ _ c.args.block c.in_ok-begin.begin
-    c.in_ok-begin.ensures.store.same_bytes c.in_ok-begin.ensures.told
+    c.in_ok-begin.ensures.store.asks.same_bytes c.in_ok-begin.ensures.told
     (none-before (StandsBefore g.F.Fn c.args.test.now.test) _ c.in_ok-begin.begin
-    (none-next _ c.in_ok-begin.begin _ _ _ c.in_default.is c.in_ok-held.ensures.next))
+    (none-next _ c.in_ok-begin.begin _ _ _ c.in_default.is c.in_ok-chunk.ensures.next))
 
 pub returns-in_default-clause-handed : goal.returns-in_default-clause-handed
 returns-in_default-clause-handed g c =
     let given = c.in_ok-begin.ensures in
-    told-takes _ _ c.args.size c.args.block c.in_ok-begin.begin _ _ _ given.store.same_bytes
-    (sized g (goal.at.returns-in_default-clause-handed g c).Start) c.requires.sized.in_reach given.told given.handed
-    c.next_held.ensures.handed
+    told-takes _ _ c.args.size c.args.block c.in_ok-begin.begin _ _ _ given.store.asks.same_bytes
+    (sized g (goal.at.returns-in_default-clause-handed g c).Start) c.requires.block.sized.in_reach given.told given.store.handed
+    c.next_records.ensures.handed
 
-pub first_before-requires-clause-held : goal.first_before-requires-clause-held
-first_before-requires-clause-held g c = some_at IsHeld _ c.in-Some.held c.in_ok-held.ensures.held c.in-Some.is
+pub first_before-requires-clause-chunk : goal.first_before-requires-clause-chunk
+first_before-requires-clause-chunk g c =
+    (some_at (AreRecordsFrom c.in_ok-begin.begin c.args.size) _ c.in-Some.chunk c.in_ok-chunk.ensures.chunk c.in-Some.is).of_chunk
 
 pub returns-clause-before : goal.returns-clause-before
 returns-clause-before g c =
     λ e.
     from-told (FirstStandsBefore (StandsBefore g.F.Fn c.args.test.now.test)) _ _ c.args.block c.in_ok-begin.begin
-    c.in_ok-begin.ensures.store.same_bytes c.in_ok-begin.ensures.told
-    (first-before (StandsBefore g.F.Fn c.args.test.now.test) _ c.in_ok-begin.begin _ _ _ c.in-Some.held _ c.in-Some.is
-    c.in_ok-held.ensures.next c.first_before.ensures (cc))
+    c.in_ok-begin.ensures.store.asks.same_bytes c.in_ok-begin.ensures.told
+    (first-before (StandsBefore g.F.Fn c.args.test.now.test) _ c.in_ok-begin.begin _ _ _ c.in-Some.chunk _ c.in-Some.is
+    c.in_ok-chunk.ensures.next c.first_before.ensures (cc))
 
 pub returns-clause-not_before : goal.returns-clause-not_before
 returns-clause-not_before g c =
     λ e.
     from-told (FirstNotBefore (StandsBefore g.F.Fn c.args.test.now.test)) _ _ c.args.block c.in_ok-begin.begin
-    c.in_ok-begin.ensures.store.same_bytes c.in_ok-begin.ensures.told
-    (first-not (StandsBefore g.F.Fn c.args.test.now.test) _ c.in_ok-begin.begin _ _ _ c.in-Some.held _ c.in-Some.is
-    c.in_ok-held.ensures.next c.first_before.ensures (cc))
+    c.in_ok-begin.ensures.store.asks.same_bytes c.in_ok-begin.ensures.told
+    (first-not (StandsBefore g.F.Fn c.args.test.now.test) _ c.in_ok-begin.begin _ _ _ c.in-Some.chunk _ c.in-Some.is
+    c.in_ok-chunk.ensures.next c.first_before.ensures (cc))
 
 pub returns-clause-handed : goal.returns-clause-handed
 returns-clause-handed g c =
     let given = c.in_ok-begin.ensures in
-    told-takes _ _ c.args.size c.args.block c.in_ok-begin.begin _ _ _ given.store.same_bytes (sized g (goal.at.returns-clause-handed g c).Start)
-    c.requires.sized.in_reach given.told given.handed c.next_held.ensures.handed
+    told-takes _ _ c.args.size c.args.block c.in_ok-begin.begin _ _ _ given.store.asks.same_bytes (sized g (goal.at.returns-clause-handed g c).Start)
+    c.requires.block.sized.in_reach given.told given.store.handed c.next_records.ensures.handed

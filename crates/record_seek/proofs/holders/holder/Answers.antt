@@ -14,6 +14,6 @@ returns-in_err-begin-clause-refused g c =
 pub returns-in_err-holder_from-clause-refused : goal.returns-in_err-holder_from-clause-refused
 returns-in_err-holder_from-clause-refused g c =
     λ fault e.
-    refused-way _ _ c.args.at _ c.in_ok-begin.begin fault c.in_ok-begin.ensures.store.same_bytes (omega arith) c.in_ok-begin.ensures.told
+    refused-way _ _ c.args.at _ c.in_ok-begin.begin fault c.in_ok-begin.ensures.store.asks.same_bytes (omega arith) c.in_ok-begin.ensures.told
     (c.in_err-holder_from.ensures.refused fault
     (ap Err (refused_before c.in_err-holder_from.field-0.0 fault (rw e at c.from_residual-in_err-holder_from.ensures.1))))

@@ -10,9 +10,9 @@ sized g c = subst (IsSized (g.S.Store.bytes c.args.store.now)) c.requires.sized.
 
 pub loop-passed-init : goal.loop-passed-init
 loop-passed-init g c = record {
-  boundary = c.requires.from_boundary;
-  before = c.requires.before;
-  way = way-begun _ c.args.size c.args.at c.args.begin (sized g c) c.requires.below c.requires.before;
+  boundary = c.requires.begin.boundary;
+  before = c.requires.begin.within;
+  way = way-begun _ c.args.size c.args.at c.args.begin (sized g c) c.requires.below c.requires.begin.within;
   paid = paid-begun _ c.args.at c.args.begin _;
   asks = search rules;
 }
@@ -27,7 +27,7 @@ returns-in_err-passed-clause-refused g c =
 pub returns-in_err-passed-clause-handed : goal.returns-in_err-passed-clause-handed
 returns-in_err-passed-clause-handed g c =
     let kept = c.loop-passed.invariant in
-    paid-all _ c.args.at c.args.begin c.loop-passed.place _ _ _ kept.before c.passed_at.ensures.handed kept.paid
+    paid-all _ c.args.at c.args.begin c.loop-passed.place _ _ _ kept.before c.passed_at.ensures.store.handed kept.paid
 
 pub returns-then-at-passed-clause-holder : goal.returns-then-at-passed-clause-holder
 returns-then-at-passed-clause-holder g c =
@@ -38,7 +38,7 @@ returns-then-at-passed-clause-holder g c =
 pub returns-then-at-passed-clause-handed : goal.returns-then-at-passed-clause-handed
 returns-then-at-passed-clause-handed g c =
     let kept = c.loop-passed.invariant in
-    paid-all _ c.args.at c.args.begin c.loop-passed.place _ _ _ kept.before c.passed_at.ensures.handed kept.paid
+    paid-all _ c.args.at c.args.begin c.loop-passed.place _ _ _ kept.before c.passed_at.ensures.store.handed kept.paid
 
 pub loop-passed-preserved : goal.loop-passed-preserved
 loop-passed-preserved g c =
@@ -46,11 +46,11 @@ loop-passed-preserved g c =
     let given = c.in_ok-passed.ensures in
     let chunk = c.in_ok-passed.passed in
     record {
-      boundary = given.boundary;
+      boundary = given.bounds.boundary;
       before = c.if-at-passed.false;
       way = way-on _ _ c.args.at c.args.begin c.loop-passed.place chunk kept.asks.same_bytes kept.way given.passed c.if-at-passed.false;
       paid = paid-on _ _ c.args.size c.args.at c.args.begin c.loop-passed.place chunk _ _ _ kept.asks.same_bytes
-          (sized g (goal.at.loop-passed-preserved g c).Start) c.requires.sized.in_reach c.requires.below given.passed given.past
-          c.passed_at.ensures.handed kept.paid;
+          (sized g (goal.at.loop-passed-preserved g c).Start) c.requires.sized.in_reach c.requires.below given.passed given.bounds.past
+          c.passed_at.ensures.store.handed kept.paid;
       asks = search rules;
     }

@@ -7,17 +7,13 @@ pub returns-in_err-header-clause-refused : goal.returns-in_err-header-clause-ref
 returns-in_err-header-clause-refused g c =
     λ fault e. c.in_err-header.ensures.refused fault (ap Err (sym (rw e at c.from_residual.ensures.1)))
 
-pub returns-clause-boundary : goal.returns-clause-boundary
-returns-clause-boundary g c =
+pub returns-clause-bounds : goal.returns-clause-bounds
+returns-clause-bounds g c =
     let h = c.in_ok-header.header in
-    subst IsBoundary (sym c.in_ok-header.ensures.end) (chunk_end_of_boundary c.args.at (40 + h.data_size) h.num_records)
-
-pub returns-clause-past : goal.returns-clause-past
-returns-clause-past g c =
-    let h = c.in_ok-header.header in
-    omega (arith, c.in_ok-header.ensures.end, chunk_end_of_room c.args.at (40 + h.data_size) h.num_records)
-
-pub returns-clause-room : goal.returns-clause-room
-returns-clause-room g c =
-    let h = c.in_ok-header.header in
-    omega (arith, c.in_ok-header.ensures.end, chunk_end_of_past_records c.args.at (40 + h.data_size) h.num_records)
+    let ends = c.in_ok-header.ensures.found.ends in
+    record {
+      boundary = subst IsBoundary (sym ends) (chunk_end_of_boundary c.args.at (40 + h.data_size) h.num_records);
+      past = omega (arith, ends, chunk_end_of_room c.args.at (40 + h.data_size) h.num_records);
+      within = c.in_ok-header.ensures.within;
+      room = omega (arith, ends, chunk_end_of_past_records c.args.at (40 + h.data_size) h.num_records);
+    }

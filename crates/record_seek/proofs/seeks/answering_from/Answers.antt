@@ -17,7 +17,7 @@ returns-in_err-passed-clause-refused g c =
 
 pub returns-in_err-passed-clause-handed : goal.returns-in_err-passed-clause-handed
 returns-in_err-passed-clause-handed g c =
-    search-paid _ c.args.at c.args.begin c.loop-place.place _ _ _ c.passed_at.ensures.handed c.loop-place.invariant.search
+    search-paid _ c.args.at c.args.begin c.loop-place.place _ _ _ c.passed_at.ensures.store.handed c.loop-place.invariant.search
 
 pub returns-then-has_record_from-clause-answer : goal.returns-then-has_record_from-clause-answer
 returns-then-has_record_from-clause-answer g c =
@@ -27,20 +27,20 @@ returns-then-has_record_from-clause-answer g c =
 
 pub returns-then-has_record_from-clause-handed : goal.returns-then-has_record_from-clause-handed
 returns-then-has_record_from-clause-handed g c =
-    search-paid _ c.args.at c.args.begin c.loop-place.place _ _ _ c.passed_at.ensures.handed c.loop-place.invariant.search
+    search-paid _ c.args.at c.args.begin c.loop-place.place _ _ _ c.passed_at.ensures.store.handed c.loop-place.invariant.search
 
 pub loop-place-preserved : goal.loop-place-preserved
 loop-place-preserved g c =
     let kept = c.loop-place.invariant in
     let given = c.in_ok-passed.ensures in
     record {
-      boundary = given.boundary;
-      within = given.within;
+      boundary = given.bounds.boundary;
+      within = given.bounds.within;
       search = search-on _ _ c.args.at c.args.begin c.loop-place.place c.in_ok-passed.passed _ _ _ kept.asks.same_bytes kept.search
           given.passed
           (λ has.
           let no : false ≡ true = c.if-has_record_from.ensures.1 has in
-          absurd (cc)) c.passed_at.ensures.handed;
+          absurd (cc)) c.passed_at.ensures.store.handed;
       asks = search rules;
     }
 

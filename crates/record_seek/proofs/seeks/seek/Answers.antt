@@ -93,32 +93,32 @@ pub returns-in_default-2-clause-handed_past : goal.returns-in_default-2-clause-h
 returns-in_default-2-clause-handed_past g c =
     λ past. absurd (omega (arith, past, below g (goal.at.returns-in_default-2-clause-handed_past g c).In-Some))
 
-pub returns-in_err-held-clause-refused : goal.returns-in_err-held-clause-refused
-returns-in_err-held-clause-refused g c =
+pub returns-in_err-chunk-clause-refused : goal.returns-in_err-chunk-clause-refused
+returns-in_err-chunk-clause-refused g c =
     λ fault e.
-    let at = goal.at.returns-in_err-held-clause-refused g c in
+    let at = goal.at.returns-in_err-chunk-clause-refused g c in
     refused-answer _ _ c.args.at c.in-Some-2.place fault
     (c.in_ok-place.ensures.store.same_bytes ∙ c.in_ok-begin.ensures.store.same_bytes) (answering g at.In-Some-2)
-    (c.in_err-held.ensures.refused fault (ap Err (sym (rw e at c.from_residual-in_err-held.ensures.1))))
+    (c.in_err-chunk.ensures.refused fault (ap Err (sym (rw e at c.from_residual-in_err-chunk.ensures.1))))
 
-pub returns-in_err-held-clause-handed : goal.returns-in_err-held-clause-handed
-returns-in_err-held-clause-handed g c = takes g (goal.at.returns-in_err-held-clause-handed g c).In-Some-2 _ c.in_err-held.ensures.handed
+pub returns-in_err-chunk-clause-handed : goal.returns-in_err-chunk-clause-handed
+returns-in_err-chunk-clause-handed g c = takes g (goal.at.returns-in_err-chunk-clause-handed g c).In-Some-2 _ c.in_err-chunk.ensures.handed
 
-pub returns-in_err-held-clause-handed_past : goal.returns-in_err-held-clause-handed_past
-returns-in_err-held-clause-handed_past g c =
-    λ past. absurd (omega (arith, past, below g (goal.at.returns-in_err-held-clause-handed_past g c).In-Some))
+pub returns-in_err-chunk-clause-handed_past : goal.returns-in_err-chunk-clause-handed_past
+returns-in_err-chunk-clause-handed_past g c =
+    λ past. absurd (omega (arith, past, below g (goal.at.returns-in_err-chunk-clause-handed_past g c).In-Some))
 
-pub returns-in_err-held-clause-memory : goal.returns-in_err-held-clause-memory
-returns-in_err-held-clause-memory g c =
+pub returns-in_err-chunk-clause-memory : goal.returns-in_err-chunk-clause-memory
+returns-in_err-chunk-clause-memory g c =
     λ e.
-    let at = goal.at.returns-in_err-held-clause-memory g c in
+    let at = goal.at.returns-in_err-chunk-clause-memory g c in
     memory-for _ _ c.args.at c.in-Some-2.place
     (c.in_ok-place.ensures.store.same_bytes ∙ c.in_ok-begin.ensures.store.same_bytes) (answering g at.In-Some-2)
-    (c.in_err-held.ensures.memory (ap Err (sym (rw e at c.from_residual-in_err-held.ensures.1))))
+    (c.in_err-chunk.ensures.memory (ap Err (sym (rw e at c.from_residual-in_err-chunk.ensures.1))))
 
 pub returns-in_err-record_of-clause-handed : goal.returns-in_err-record_of-clause-handed
 returns-in_err-record_of-clause-handed g c =
-    takes g (goal.at.returns-in_err-record_of-clause-handed g c).In-Some-2 _ c.in_ok-held.ensures.handed
+    takes g (goal.at.returns-in_err-record_of-clause-handed g c).In-Some-2 _ c.in_ok-chunk.ensures.handed
 
 pub returns-in_err-record_of-clause-handed_past : goal.returns-in_err-record_of-clause-handed_past
 returns-in_err-record_of-clause-handed_past g c =
@@ -127,18 +127,18 @@ returns-in_err-record_of-clause-handed_past g c =
 pub returns-in_err-record_of-clause-memory : goal.returns-in_err-record_of-clause-memory
 returns-in_err-record_of-clause-memory g c =
     λ e.
-    memory-in _ _ c.args.at c.in-Some-2.place c.in_ok-held.held
+    memory-in _ _ c.args.at c.in-Some-2.place c.in_ok-chunk.chunk
     (c.in_ok-place.ensures.store.same_bytes ∙ c.in_ok-begin.ensures.store.same_bytes)
-    (answering g (goal.at.returns-in_err-record_of-clause-memory g c).In-Some-2) c.in_ok-held.ensures.begin c.in_ok-held.ensures.there
+    (answering g (goal.at.returns-in_err-record_of-clause-memory g c).In-Some-2) c.in_ok-chunk.ensures.begin c.in_ok-chunk.ensures.there
 
 pub returns-clause-found : goal.returns-clause-found
 returns-clause-found g c =
-    gives-answer _ _ c.args.at c.in-Some-2.place _ c.in_ok-held.held _
+    gives-answer _ _ c.args.at c.in-Some-2.place _ c.in_ok-chunk.chunk _
     (c.in_ok-place.ensures.store.same_bytes ∙ c.in_ok-begin.ensures.store.same_bytes) (omega arith)
-    (answering g (goal.at.returns-clause-found g c).In-Some-2) c.in_ok-held.ensures.begin c.in_ok-held.ensures.there c.in_ok-record_of.ensures
+    (answering g (goal.at.returns-clause-found g c).In-Some-2) c.in_ok-chunk.ensures.begin c.in_ok-chunk.ensures.there c.in_ok-record_of.ensures
 
 pub returns-clause-handed : goal.returns-clause-handed
-returns-clause-handed g c = takes g (goal.at.returns-clause-handed g c).In-Some-2 _ c.in_ok-held.ensures.handed
+returns-clause-handed g c = takes g (goal.at.returns-clause-handed g c).In-Some-2 _ c.in_ok-chunk.ensures.handed
 
 pub returns-clause-handed_past : goal.returns-clause-handed_past
 returns-clause-handed_past g c =

@@ -105,6 +105,18 @@ totals_with_chunk-self-inside-requires-clause-room g c =
 pub totals_with_chunk-self-inside-requires-clause-small : goal.totals_with_chunk-self-inside-requires-clause-small
 totals_with_chunk-self-inside-requires-clause-small g c = omega (arith, (judged g c).within, c.requires.reads.in_reach)
 
+pub totals_with_chunk-self-inside-requires-clause-bounds : goal.totals_with_chunk-self-inside-requires-clause-bounds
+totals_with_chunk-self-inside-requires-clause-bounds g c =
+    let kept = c.self.invariant in
+    record {
+      within = omega (arith, (judged g c).after, ap (λ (t : Totals). t.bytes) (totals_shown g c));
+      boundary = kept.boundary;
+      signed = kept.signed;
+      chunks = kept.chunks;
+      records = kept.records;
+      unread = kept.unread;
+    }
+
 -- the totals with the chunk that was given
 counts : (g : _) (c : After-totals_with_chunk-self-inside g) → c.totals_with_chunk-self-inside.result
     ≡ totals_with_chunk c.args.self.now.totals c.if-at-eq0.judged.end c.if-at-eq0.judged.chunk.header.num_records c.match-matches.matches
@@ -179,7 +191,7 @@ returns-clause-goes_on g c =
     }
 
 pub returns-in_err-judged-clause-read_to : goal.returns-in_err-judged-clause-read_to
-returns-in_err-judged-clause-read_to g c = read_to-header _ c.args.self.now.totals.bytes _ _ c.in_err-judged.ensures.handed
+returns-in_err-judged-clause-read_to g c = read_to-header _ c.args.self.now.totals.bytes _ _ c.in_err-judged.ensures.store.handed
 
 pub returns-in_err-judged-2-clause-read_to : goal.returns-in_err-judged-2-clause-read_to
 returns-in_err-judged-2-clause-read_to g c =
@@ -189,7 +201,7 @@ returns-in_err-judged-2-clause-read_to g c =
 pub returns-clause-read_to : goal.returns-clause-read_to
 returns-clause-read_to g c = elim c.if-at-eq0.branch [
   | then-at-eq0+in_ok-judged w ↦
-      rw (w.store-is) (read_to-header _ c.args.self.now.totals.bytes _ _ w.in_ok-judged.ensures.handed)
+      rw (w.store-is) (read_to-header _ c.args.self.now.totals.bytes _ _ w.in_ok-judged.ensures.store.handed)
   | else-at-eq0+then-at-self+in_ok-judged-2 w ↦
       rw (w.store-is) (read_to-chunk _ w.at-then-at-self.result c.args.self.now.totals.bytes _ _ w.at-then-at-self.ensures
       w.in_ok-judged-2.ensures.early w.in_ok-judged-2.ensures.handed)

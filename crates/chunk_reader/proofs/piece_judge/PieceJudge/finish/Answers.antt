@@ -1,7 +1,7 @@
 use Rattle.std.proofs.Common.{◌≡◌, ◌≢◌, ◌∙◌, Option, sym, subst, arith}
 use Rattle.std.specs.Prelude.{MatchOption}
 use Rattle.highway_hash.specs.Riegeli.{riegeli_key}
-use Rattle.chunk_header.specs.SimpleChunks.{simple_kind}
+use Rattle.chunk_header.specs.Kinds.{simple_kind}
 use Rattle.simple_chunk.specs.Checkers.{CheckerValue, HasChecked}
 use Rattle.chunk_reader.proofs.piece_judge.PieceJudge.finish.Goals as goal
 

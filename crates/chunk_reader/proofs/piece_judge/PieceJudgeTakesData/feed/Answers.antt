@@ -2,7 +2,7 @@ use Rattle.std.proofs.Common.{◌≡◌, ◌≢◌, ◌++◌, Option, sym, subst
 use Rattle.std.specs.Prelude.{MatchOption}
 use Rattle.highway_hash.specs.Riegeli.{riegeli_key}
 use Rattle.record_values.proofs.ByteLists.{AreBytes-append, AreBytes-each}
-use Rattle.chunk_header.specs.SimpleChunks.{simple_kind}
+use Rattle.chunk_header.specs.Kinds.{simple_kind}
 use Rattle.simple_chunk.specs.Checkers.{CheckerValue, HasChecked}
 use Rattle.chunk_reader.proofs.piece_judge.PieceJudgeTakesData.feed.Goals as goal
 

@@ -2,7 +2,7 @@ use Rattle.std.proofs.Common.{◌-◌, ◌≤◌, IfSome}
 use Rattle.record_io.specs.Calls.{OnlyAsks}
 use Rattle.block_layout.specs.Layout.{IsBoundary}
 use Rattle.record_seek.proofs.ReadingOn.{IsEmptyTo}
-use Rattle.record_seek.proofs.finds.next_held.Given as goal
+use Rattle.record_seek.proofs.finds.next_records.Given as goal
 
 abbrev pub invariant-loop-place : goal.invariant-loop-place
 invariant-loop-place g l = record {

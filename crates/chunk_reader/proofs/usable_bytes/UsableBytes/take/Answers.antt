@@ -3,9 +3,9 @@ use Rattle.std.proofs.lemmas.List.{length-take-le}
 use Rattle.block_layout.specs.NextPlaces.{IsNextPlace, usable_from}
 use Rattle.block_layout.proofs.Ends.{end_of_after}
 use Rattle.block_layout.proofs.Runs.{end_of-run}
-use Rattle.chunk_reader.proofs.Rooms.{HasOwnBytes-small, HasOwnBytes-run, end_of-le, own_run}
-use Rattle.chunk_reader.proofs.own_bytes.OwnBytes.take.Goals as goal
-use Rattle.chunk_reader.proofs.own_bytes.OwnBytes.take.Goals.{After-min-run}
+use Rattle.chunk_reader.proofs.Rooms.{HasUsableBytes-small, HasUsableBytes-run, end_of-le, own_run}
+use Rattle.chunk_reader.proofs.usable_bytes.UsableBytes.take.Goals as goal
+use Rattle.chunk_reader.proofs.usable_bytes.UsableBytes.take.Goals.{After-min-run}
 
 -- the run: one byte or more of the buffer, up to the next block at most
 record IsRun (place size n : ℕ) : Type 0 where
@@ -22,14 +22,14 @@ run g c =
 pub usable_from-first-requires-clause-small : goal.usable_from-first-requires-clause-small
 usable_from-first-requires-clause-small g c =
     let place = c.args.self.now.place in
-    omega (arith, end_of_after place (length c.args.buf.now), HasOwnBytes-small _ place (length c.args.buf.now) c.requires.told)
+    omega (arith, end_of_after place (length c.args.buf.now), HasUsableBytes-small _ place (length c.args.buf.now) c.requires.told)
 
 pub get_exact-requires : goal.get_exact-requires
 get_exact-requires g c =
     let r = run g (goal.at.get_exact-requires g c).After-min-run in
     let first : c.usable_from-first.result ≡ usable_from c.args.self.now.place = c.usable_from-first.ensures in
     let size : length (take c.min-run.result c.args.buf.now) ≡ c.min-run.result = length-take-le c.min-run.result c.args.buf.now r.enough in
-    record { within = λ _. rw (first, size) (HasOwnBytes-run _ c.args.self.now.place (length c.args.buf.now) c.min-run.result c.requires.told r.enough r.some r.next r.fits) }
+    record { within = λ _. rw (first, size) (HasUsableBytes-run _ c.args.self.now.place (length c.args.buf.now) c.min-run.result c.requires.told r.enough r.some r.next r.fits) }
 
 pub overflow_add-self : goal.overflow_add-self
 overflow_add-self g c =
@@ -40,13 +40,19 @@ overflow_add-self g c =
       c.usable_from-first.ensures,
       end_of-run place c.min-run.result r.some r.next r.fits,
       end_of-le place c.min-run.result (length c.args.buf.now) r.enough,
-      HasOwnBytes-small _ place (length c.args.buf.now) c.requires.told,
+      HasUsableBytes-small _ place (length c.args.buf.now) c.requires.told,
     )
 
-pub returns-clause-moved : goal.returns-clause-moved
-returns-clause-moved g c =
-    let r = run g (goal.at.returns-clause-moved g c).After-min-run in
-    omega (arith, c.usable_from-first.ensures, end_of-run c.args.self.now.place c.min-run.result r.some r.next r.fits)
+pub returns-clause-run : goal.returns-clause-run
+returns-clause-run g c =
+    let r = run g (goal.at.returns-clause-run g c).After-min-run in
+    let first : c.usable_from-first.result ≡ usable_from c.args.self.now.place = c.usable_from-first.ensures in
+    record {
+      some = r.some;
+      fits = r.enough;
+      moved = omega (arith, first, end_of-run c.args.self.now.place c.min-run.result r.some r.next r.fits);
+      in_block = omega (arith, first, r.fits);
+    }
 
 pub returns-clause-given : goal.returns-clause-given
 returns-clause-given g c =

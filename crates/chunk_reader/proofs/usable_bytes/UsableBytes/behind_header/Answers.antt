@@ -2,10 +2,10 @@ use Rattle.std.proofs.Common.{◌≡◌, rules}
 use Rattle.block_layout.specs.Layout.{end_of}
 use Rattle.chunk_reader.proofs.HeaderEnds.{header_end-is_some}
 use Rattle.chunk_reader.proofs.Loads.{next_behind}
-use Rattle.chunk_reader.proofs.own_bytes.OwnBytes.behind_header.Goals as goal
+use Rattle.chunk_reader.proofs.usable_bytes.UsableBytes.behind_header.Goals as goal
 
 pub unwrap-requires : goal.unwrap-requires
-unwrap-requires c = header_end-is_some c.args.begin c.end_of.result c.requires.in_reach c.end_of.ensures.past_number
+unwrap-requires c = header_end-is_some c.args.begin c.end_of.result c.requires.in_reach c.end_of.ensures.past
 
 pub from-requires : goal.from-requires
 from-requires c =
