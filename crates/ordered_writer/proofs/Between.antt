@@ -42,7 +42,7 @@ pub laid_between-none : (begin end place until : ℕ) (own : List ℕ) → until
 laid_between-none begin end place until own none =
     nil_from_length (laid_between begin end place until own) (omega (arith, length-laid_between begin end place until own))
 
--- they are known by as many own bytes as have room
+-- they are known by as many usable bytes as have room
 pub laid_between-same : (begin end place until : ℕ) (own other : List ℕ)
     → ((i : ℕ) → i < room place until → get_or own i 0 ≡ get_or other i 0)
     → laid_between begin end place until own ≡ laid_between begin end place until other
@@ -123,7 +123,7 @@ laid_between-header begin end block own is_block =
     ∙ ap (λ (b : ℕ). get_or (block_header (b - begin) (end - b)) ((block + i) % 65536) 0) back
     ∙ ap (λ (n : ℕ). get_or header n 0) place)
 
--- own bytes up to the next block at most
+-- usable bytes up to the next block at most
 pub laid_between-run : (begin end place n : ℕ) (own : List ℕ) → IsUsable place → place % 65536 + n ≤ 65536 → n ≤ length own
     → laid_between begin end place (place + n) own ≡ take n own
 laid_between-run begin end place n own usable fits enough =

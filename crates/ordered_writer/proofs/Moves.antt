@@ -7,7 +7,7 @@ use Rattle.block_layout.specs.Layout.{IsBoundary, chunk_end_of, room}
 use Rattle.block_layout.specs.BlockHeaders.{block_header}
 use Rattle.block_layout.proofs.Room.{room-closed, room_shift}
 use Rattle.block_layout.proofs.ChunkEnds.{chunk_end_of_shift, chunk_end_from_number}
-use Rattle.chunk_header.specs.Chunks.{ChunkValue, own_bytes}
+use Rattle.chunk_header.specs.Chunks.{ChunkValue, chunk_bytes}
 use Rattle.meta_chunk.specs.Laid.{IsLaid, byte_at, end_of_chunk, laid, laid_bytes}
 use Rattle.meta_chunk.specs.Files.{AreLaid, end_of_chunks, laid_each}
 use Rattle.meta_chunk.specs.PaddingSizes.{padding, padding_at}
@@ -72,8 +72,8 @@ laid_bytes-further begin end blocks own =
 
 laid-further : (k : ChunkValue) (begin blocks : ℕ) → laid (begin + blocks * 65536) k ≡ laid begin k
 laid-further k begin blocks =
-    ap (λ (e : ℕ). laid_bytes (begin + blocks * 65536) e (own_bytes k)) (chunk_end_of_shift begin (40 + length k.«data») k.num_records blocks)
-    ∙ laid_bytes-further begin (end_of_chunk begin k) blocks (own_bytes k)
+    ap (λ (e : ℕ). laid_bytes (begin + blocks * 65536) e (chunk_bytes k)) (chunk_end_of_shift begin (40 + length k.«data») k.num_records blocks)
+    ∙ laid_bytes-further begin (end_of_chunk begin k) blocks (chunk_bytes k)
 
 laid_each-further : (ks : List ChunkValue) (place blocks : ℕ) → laid_each (place + blocks * 65536) ks ≡ laid_each place ks
 unfolding laid_each
@@ -118,7 +118,7 @@ IsLaid-alike p q k bytes same h = record {
       let before : room q x ≡ room p y = omega (arith, same, room-closed q x, room-closed p y) in
       ap (slice_get bytes) place
       ∙ h.own y (omega arith) (omega arith) (omega (arith, same, usable)) (omega (arith, before, within))
-      ∙ ap (slice_get (own_bytes k)) (sym before);
+      ∙ ap (slice_get (chunk_bytes k)) (sym before);
   headers = λ b block low high.
       let a : ℕ = b - q + p in
       let place : b - q ≡ a - p = omega arith in

@@ -1,10 +1,11 @@
 -- What is held while numbers move on.
 use Rattle.std.proofs.Common.{◌≡◌, ◌∙◌, ℕ, ◌+◌, ◌-◌, ◌<◌, cond, Option, Some, None, List, [], ◌∷◌, ◌++◌, length, get_or, drop, refl, sym, ap, arith}
 use Rattle.std.specs.Prelude.{count_by, is_some}
+use Rattle.std.proofs.lemmas.Grind.{common_steps}
 use Rattle.std.proofs.lemmas.List.Folds.{sum_by-replicate}
 use Rattle.std.proofs.lemmas.List.Sums.{sum_by-append, sum_by-cons, sum_by-set}
 use Rattle.chunk_header.specs.declared.Chunk.{Chunk}
-use Rattle.ordered_writer.specs.Reorders.{CanHold, Reordering, coming, count_held, held_at, held_in_row, moved_on, reordering_from, with_held}
+use Rattle.ordered_writer.specs.Reorders.{CanHold, Reordering, coming, count_held, held_at, held_in_row, moved_on, reordering_from, room_of, with_held}
 
 -- whether there is one, as a number
 abbrev one_if_some : Option Chunk → ℕ
@@ -46,3 +47,7 @@ coming-moved r c h = row_moved r.held (ap (λ (n : ℕ). get_or r.held n None) (
     row_moved (x ∷ held) first =
         ap (λ (x : Option Chunk). held_in_row (x ∷ held)) first
         ∙ ap (λ (cs : List Chunk). c ∷ cs) (sym (row-gap held))
+
+-- there is as much room once a chunk is held
+pub room_of-held : (r : Reordering) (number : ℕ) (chunk : Chunk) → room_of (with_held r number chunk) ≡ room_of r
+room_of-held r number chunk = grind (arith, common_steps)

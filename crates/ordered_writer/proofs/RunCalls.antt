@@ -104,7 +104,7 @@ run_end-rest place end at bytes within room =
     let size : length (take (length bytes - at) (drop at bytes)) ≡ length bytes - at = ap length (take_rest bytes at) ∙ length-drop at bytes in
     omega (arith, ap (end_of (end_of place at)) size ∙ end_of-rest place at (length bytes) within)
 
--- zero bytes go on where no own bytes are left
+-- zero bytes go on where no usable bytes are left
 zeros-rest : (begin end place middle until n : ℕ)
     → laid_between begin end middle until (replicate n 0) ≡ laid_between begin end middle until (drop (room place middle) [])
 zeros-rest begin end place middle until n =

@@ -8,12 +8,12 @@ use Rattle.block_layout.proofs.Runs.{room-usable_from, usable_from-block, usable
 use Rattle.ordered_writer.specs.Layings.{laid_between}
 use Rattle.ordered_writer.proofs.Between.{get_or-zeros, laid_between-none, laid_between-same, laid_between-split, laid_between-header, laid_between-run}
 
--- zero bytes are what stands past the own bytes
+-- zero bytes are what stands past the usable bytes
 pub laid_between-zeros : (begin end place until n : ℕ) → laid_between begin end place until (replicate n 0) ≡ laid_between begin end place until []
 laid_between-zeros begin end place until n =
     laid_between-same begin end place until (replicate n 0) [] (λ i small. get_or-zeros n i)
 
--- own bytes behind those that have room don't show
+-- usable bytes behind those that have room don't show
 pub laid_between-front : (begin end place until : ℕ) (own more : List ℕ) → room place until ≤ length own
     → laid_between begin end place until (own ++ more) ≡ laid_between begin end place until own
 laid_between-front begin end place until own more room =

@@ -1,10 +1,15 @@
 -- Inside. Parts of a chunk that is laid piece by piece. Own.
-use Rattle.std.specs.Prelude.{ℕ, ◌-◌, ◌%◌, List, map, nat_lt, if◌then◌else◌, slice_index}
+use Rattle.std.specs.Prelude.{◌≡◌, ℕ, ◌-◌, ◌%◌, List, map, nat_lt, if◌then◌else◌, slice_index}
 use Rattle.std.specs.List.{range_with_len}
 use Rattle.block_layout.specs.Layout.{block_size, block_header_size, room}
 use Rattle.block_layout.specs.BlockHeaders.{block_header}
 
--- the byte at a position of a chunk that is laid from a begin to an end, where own bytes go on at a place: a block
+-- a chunk is laid from the same begin to the same end as before
+pub record SameSpan (begin begin_then end end_then : ℕ) : Type 0 where
+  pub same_begin : begin_then ≡ begin
+  pub same_end : end_then ≡ end
+
+-- the byte at a position of a chunk that is laid from a begin to an end, where usable bytes go on at a place: a block
 -- header's byte, the next of these bytes, or zero past them
 abbrev pub byte_from : (begin end place : ℕ) → List ℕ → ℕ → ℕ
 byte_from begin end place own p =

@@ -1,5 +1,6 @@
 -- Inside. Chunks that are written one after another, with zero padding. Own.
-use Rattle.std.specs.Prelude.{ℕ, Bool, true, false, List, ◌++◌}
+use Rattle.std.specs.Prelude.{◌≡◌, ℕ, ◌≤◌, Bool, true, false, Result, List, ◌++◌, OnOk, OnErr}
+use Rattle.block_layout.specs.Layout.{IsBoundary}
 use Rattle.chunk_header.specs.declared.Chunk.{Chunk}
 use Rattle.chunk_header.specs.declared.Header.{Header}
 use Rattle.chunk_header.specs.Views.{bytes_of_header, value_of}
@@ -16,6 +17,21 @@ writer_at position = record { position = position; spent = false }
 
 abbrev pub spent_writer_at : ℕ → Writer
 spent_writer_at position = record { position = position; spent = true }
+
+-- no call of a writer failed, and where it goes on to lies within a limit
+pub record MayReach (writer : Writer) (end most : ℕ) : Type 0 where
+  pub unspent : writer.spent ≡ false
+  pub in_reach : end ≤ most
+
+-- a boundary that lies within a limit
+pub record IsBoundaryWithin (place most : ℕ) : Type 0 where
+  pub boundary : IsBoundary place
+  pub in_reach : place ≤ most
+
+-- a writer goes on at this end after a call, and is spent where the call failed
+pub record GoesOnTo {X E : Type 0} (result : Result X E) (end : ℕ) (before after : Writer) : Type 0 where
+  pub moved : OnOk result (after ≡ writer_at end)
+  pub spent : OnErr result (after ≡ spent_writer_at before.position)
 
 -- the bytes of a chunk of this data from its begin to its end, with zero padding and with a header, whose hash of the data may
 -- be another than the data's

@@ -5,9 +5,9 @@ ghost use Rattle.block_layout.specs.Layout.{end_of};
 ghost use Rattle.block_layout.specs.NextPlaces.{IsNextPlace, IsOnBoundary, usable_from};
 ghost use Rattle.record_io.specs.Outside.{TakesShort};
 ghost use Rattle.record_io.specs.Buffers.{TakesAndHolds};
-ghost use Rattle.record_io.specs.Calls.{OnlyCounts, PutsThrough};
+ghost use Rattle.record_io.specs.Calls.{OnlyCounts, PutsThrough, PutsWithin};
 ghost use Rattle.meta_chunk.specs.Laid.{laid_bytes};
-ghost use Rattle.ordered_writer.specs.Layings.{laid_between};
+ghost use Rattle.ordered_writer.specs.Layings.{SameSpan, laid_between};
 
 use block_layout::{BLOCK_HEADER_SIZE, BLOCK_SIZE, BlockHeader};
 use record_io::{Failed, PutBuffer, Sink};
@@ -29,9 +29,8 @@ pub(crate) fn lay_chunk<const N: usize, M: Sink>(
     requires from_boundary { IsOnBoundary begin }
     requires to_boundary { IsOnBoundary end }
     requires in_reach { end ≤ 2 ^ 62 }
-    ensures sink { PutsThrough M.taken M.lent M.faults result buffer.old buffer.new
+    ensures sink { PutsWithin M.taken M.lent M.faults result N buffer.old buffer.new
         (laid_bytes begin end (header.now ++ (front.now ++ rest.now))) sink.old sink.new }
-    ensures fits { length buffer.old ≤ N → length buffer.new ≤ N }
 {
     let mut laying = Laying {
         begin,
@@ -57,7 +56,7 @@ struct Laying {
 }
 
 impl Laying {
-    // Lays the next of the chunk's own bytes.
+    // Lays the next of the chunk's bytes.
     fn put<const N: usize, M: Sink>(
         &mut self,
         buffer: &mut PutBuffer<N>,
@@ -66,11 +65,9 @@ impl Laying {
     ) -> Result<(), Failed>
         requires room { end_of self.old.place (length bytes.now) ≤ self.old.end }
         ensures moved { OnOk result (self.new.place ≡ end_of self.old.place (length bytes.now)) }
-        ensures same_begin { self.new.begin ≡ self.old.begin }
-        ensures same_end { self.new.end ≡ self.old.end }
-        ensures sink { PutsThrough M.taken M.lent M.faults result buffer.old buffer.new
+        ensures span { SameSpan self.old.begin self.new.begin self.old.end self.new.end }
+        ensures sink { PutsWithin M.taken M.lent M.faults result N buffer.old buffer.new
             (laid_between self.old.begin self.old.end self.old.place (end_of self.old.place (length bytes.now)) bytes.now) sink.old sink.new }
-        ensures fits { length buffer.old ≤ N → length buffer.new ≤ N }
     {
         let mut at = 0;
         while at < bytes.len() {
@@ -89,12 +86,10 @@ impl Laying {
     ) -> Result<(), Failed>
         requires room { end_of self.old.place (length (front.now ++ rest.now)) ≤ self.old.end }
         ensures moved { OnOk result (self.new.place ≡ end_of self.old.place (length (front.now ++ rest.now))) }
-        ensures same_begin { self.new.begin ≡ self.old.begin }
-        ensures same_end { self.new.end ≡ self.old.end }
-        ensures sink { PutsThrough M.taken M.lent M.faults result buffer.old buffer.new
+        ensures span { SameSpan self.old.begin self.new.begin self.old.end self.new.end }
+        ensures sink { PutsWithin M.taken M.lent M.faults result N buffer.old buffer.new
             (laid_between self.old.begin self.old.end self.old.place
             (end_of self.old.place (length (front.now ++ rest.now))) (front.now ++ rest.now)) sink.old sink.new }
-        ensures fits { length buffer.old ≤ N → length buffer.new ≤ N }
     {
         self.put(buffer, sink, front)?;
         self.put(buffer, sink, rest)
@@ -106,9 +101,8 @@ impl Laying {
         buffer: &mut PutBuffer<N>,
         sink: &mut M,
     ) -> Result<(), Failed>
-        ensures sink { PutsThrough M.taken M.lent M.faults result buffer.old buffer.new
+        ensures sink { PutsWithin M.taken M.lent M.faults result N buffer.old buffer.new
             (laid_between self.old.begin self.old.end self.old.place self.old.end []) sink.old sink.new }
-        ensures fits { length buffer.old ≤ N → length buffer.new ≤ N }
     {
         while self.place < self.end {
             self.put_run(buffer, sink, &ZEROS)?;
@@ -129,8 +123,7 @@ impl Laying {
         ensures some_put { IfOk result (λ n. 0 < n) }
         ensures within { IfOk result (λ n. n ≤ length bytes.now) }
         ensures moved { IfOk result (λ n. self.new.place ≡ end_of self.old.place n) }
-        ensures same_begin { self.new.begin ≡ self.old.begin }
-        ensures same_end { self.new.end ≡ self.old.end }
+        ensures span { SameSpan self.old.begin self.new.begin self.old.end self.new.end }
         ensures whole { OnOk result (TakesAndHolds (M.taken sink.old) (M.taken sink.new)
             (buffer.old ++ laid_between self.old.begin self.old.end self.old.place self.new.place bytes.now) buffer.new) }
         ensures front { OnErr result (TakesShort (M.taken sink.old) (M.taken sink.new)
@@ -157,8 +150,7 @@ impl Laying {
         requires before_end { self.old.place < self.old.end }
         ensures moved { OnOk result (self.new.place ≡ usable_from self.old.place) }
         ensures before_end { OnOk result (self.new.place < self.new.end) }
-        ensures same_begin { self.new.begin ≡ self.old.begin }
-        ensures same_end { self.new.end ≡ self.old.end }
+        ensures span { SameSpan self.old.begin self.new.begin self.old.end self.new.end }
         ensures sink { PutsThrough M.taken M.lent M.faults result buffer.old buffer.new
             (laid_between self.old.begin self.old.end self.old.place (usable_from self.old.place) []) sink.old sink.new }
     {

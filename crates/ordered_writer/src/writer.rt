@@ -1,17 +1,17 @@
-ghost use Rattle.std.specs.Prelude.{◌≡◌, ◌+◌, ◌*◌, ◌^◌, ◌<◌, ◌≤◌, ◌↔◌, false, ◌++◌, replicate, length, IsTrue, IfOk, OnOk, OnErr};
+ghost use Rattle.std.specs.Prelude.{◌≡◌, ◌+◌, ◌*◌, ◌^◌, ◌<◌, ◌≤◌, ◌↔◌, false, ◌++◌, replicate, length, IsTrue, IfOk};
 ghost use Rattle.highway_hash.specs.Riegeli.{riegeli_hash};
-ghost use Rattle.block_layout.specs.Layout.{IsBlock, IsBoundary, block_size, chunk_header_size, chunk_end_of};
-ghost use Rattle.record_io.specs.Calls.{PutsTo, PutsThrough};
+ghost use Rattle.block_layout.specs.Layout.{IsBlock, block_size, chunk_header_size, chunk_end_of};
+ghost use Rattle.record_io.specs.Calls.{PutsTo, PutsWithin};
 ghost use Rattle.chunk_header.specs.Chunks.{header_bytes};
 ghost use Rattle.chunk_header.specs.Views.{bytes_of_header, value_of, value_of_chunk};
 ghost use Rattle.meta_chunk.specs.Laid.{laid_bytes, end_of_chunk};
-ghost use Rattle.meta_chunk.specs.Files.{signature, signature_bytes, end_of_chunks, laid_each};
+ghost use Rattle.meta_chunk.specs.Files.{signature_bytes, end_of_chunks, laid_each};
 ghost use Rattle.meta_chunk.specs.PaddingSizes.{padding, padding_at};
-ghost use Rattle.ordered_writer.specs.Writers.{writer_at, spent_writer_at, laid_as, laid_with};
+ghost use Rattle.ordered_writer.specs.Writers.{GoesOnTo, IsBoundaryWithin, MayReach, writer_at, laid_as, laid_with};
 
 use crate::laying::{ZEROS, lay_chunk};
 use block_layout::chunk_end;
-use chunk_header::{Chunk, Header};
+use chunk_header::{Chunk, Header, Kind};
 use highway_hash::{Hasher, RIEGELI};
 use meta_chunk::{SIGNATURE, padding_size};
 use record_io::{Failed, PutBuffer, Sink};
@@ -55,8 +55,7 @@ impl OrderedWriter {
 
     /// A writer that goes on at a position: a boundary, at most 2^61.
     pub fn resume(position: u64) -> OrderedWriter
-        requires boundary { IsBoundary position }
-        requires in_reach { position ≤ 2 ^ 61 }
+        requires { IsBoundaryWithin position (2 ^ 61) }
         ensures { result ≡ writer_at position }
     {
         OrderedWriter {
@@ -68,8 +67,7 @@ impl OrderedWriter {
     /// Where the next chunk begins: a boundary, at most 2^62.
     pub fn position(&self) -> u64
         ensures value { result ≡ self.now.position }
-        ensures boundary { IsBoundary self.now.position }
-        ensures in_reach { self.now.position ≤ 2 ^ 62 }
+        ensures within { IsBoundaryWithin self.now.position (2 ^ 62) }
     {
         self.position
     }
@@ -87,11 +85,8 @@ impl OrderedWriter {
     ///
     /// `Failed` only where the sink failed.
     pub fn start<M: Sink>(&mut self, sink: &mut M) -> Result<(), Failed>
-        requires unspent { self.old.spent ≡ false }
-        requires at_front { self.old.position ≡ 0 }
-        ensures moved { OnOk result (self.new ≡ writer_at (end_of_chunk 0 signature)) }
-        ensures at_64 { OnOk result (self.new.position ≡ 64) }
-        ensures spent { OnErr result (self.new ≡ spent_writer_at self.old.position) }
+        requires at_front { self.old ≡ writer_at 0 }
+        ensures goes_on { GoesOnTo result 64 self.old self.new }
         ensures sink { PutsTo M.taken M.lent M.faults result signature_bytes sink.old sink.new }
     {
         self.start_into(&mut PutBuffer::<0>::new(), sink)
@@ -103,11 +98,12 @@ impl OrderedWriter {
     ///
     /// `Failed` only where the sink failed.
     pub fn put<M: Sink>(&mut self, sink: &mut M, chunk: &Chunk) -> Result<u64, Failed>
-        requires unspent { self.old.spent ≡ false }
-        requires in_reach { end_of_chunk self.old.position (value_of_chunk chunk.now) ≤ 2 ^ 62 }
+        requires may_reach { MayReach self.old
+            (end_of_chunk self.old.position (value_of_chunk chunk.now)) (2 ^ 62) }
         ensures begin { IfOk result (λ begin. begin ≡ self.old.position) }
-        ensures moved { OnOk result (self.new ≡ writer_at (end_of_chunk self.old.position (value_of_chunk chunk.now))) }
-        ensures spent { OnErr result (self.new ≡ spent_writer_at self.old.position) }
+        ensures goes_on { GoesOnTo result (end_of_chunk self.old.position
+            (value_of_chunk chunk.now))
+            self.old self.new }
         ensures sink { PutsTo M.taken M.lent M.faults result (laid_as self.old.position chunk.now) sink.old sink.new }
     {
         self.put_into(&mut PutBuffer::<0>::new(), sink, chunk)
@@ -120,10 +116,10 @@ impl OrderedWriter {
     ///
     /// `Failed` only where the sink failed.
     pub fn pad<M: Sink>(&mut self, sink: &mut M) -> Result<(), Failed>
-        requires unspent { self.old.spent ≡ false }
-        requires in_reach { self.old.position ≤ 2 ^ 61 }
-        ensures moved { OnOk result (self.new ≡ writer_at (end_of_chunks self.old.position (padding_at self.old.position))) }
-        ensures spent { OnErr result (self.new ≡ spent_writer_at self.old.position) }
+        requires may_reach { MayReach self.old self.old.position (2 ^ 61) }
+        ensures goes_on { GoesOnTo result (end_of_chunks self.old.position
+            (padding_at self.old.position))
+            self.old self.new }
         ensures sink { PutsTo M.taken M.lent M.faults result
             (laid_each self.old.position (padding_at self.old.position)) sink.old sink.new }
     {
@@ -140,13 +136,10 @@ impl OrderedWriter {
         buffer: &mut PutBuffer<N>,
         sink: &mut M,
     ) -> Result<(), Failed>
-        requires unspent { self.old.spent ≡ false }
-        requires at_front { self.old.position ≡ 0 }
-        ensures moved { OnOk result (self.new ≡ writer_at (end_of_chunk 0 signature)) }
-        ensures at_64 { OnOk result (self.new.position ≡ 64) }
-        ensures spent { OnErr result (self.new ≡ spent_writer_at self.old.position) }
-        ensures sink { PutsThrough M.taken M.lent M.faults result buffer.old buffer.new signature_bytes sink.old sink.new }
-        ensures fits { length buffer.old ≤ N → length buffer.new ≤ N }
+        requires at_front { self.old ≡ writer_at 0 }
+        ensures goes_on { GoesOnTo result 64 self.old self.new }
+        ensures sink { PutsWithin M.taken M.lent M.faults result N buffer.old buffer.new
+            signature_bytes sink.old sink.new }
     {
         self.spent = true;
         buffer.put(sink, &SIGNATURE)?;
@@ -166,14 +159,14 @@ impl OrderedWriter {
         sink: &mut M,
         chunk: &Chunk,
     ) -> Result<u64, Failed>
-        requires unspent { self.old.spent ≡ false }
-        requires in_reach { end_of_chunk self.old.position (value_of_chunk chunk.now) ≤ 2 ^ 62 }
+        requires may_reach { MayReach self.old
+            (end_of_chunk self.old.position (value_of_chunk chunk.now)) (2 ^ 62) }
         ensures begin { IfOk result (λ begin. begin ≡ self.old.position) }
-        ensures moved { OnOk result (self.new ≡ writer_at (end_of_chunk self.old.position (value_of_chunk chunk.now))) }
-        ensures spent { OnErr result (self.new ≡ spent_writer_at self.old.position) }
-        ensures sink { PutsThrough M.taken M.lent M.faults result buffer.old buffer.new
+        ensures goes_on { GoesOnTo result (end_of_chunk self.old.position
+            (value_of_chunk chunk.now))
+            self.old self.new }
+        ensures sink { PutsWithin M.taken M.lent M.faults result N buffer.old buffer.new
             (laid_as self.old.position chunk.now) sink.old sink.new }
-        ensures fits { length buffer.old ≤ N → length buffer.new ≤ N }
     {
         self.put_parts_into(buffer, sink, &chunk.header, &[], chunk.bytes.as_slice())
     }
@@ -191,15 +184,15 @@ impl OrderedWriter {
         front: &[u8],
         rest: &[u8],
     ) -> Result<u64, Failed>
-        requires unspent { self.old.spent ≡ false }
+        requires may_reach { MayReach self.old
+            (end_of_chunk self.old.position (value_of header.now (front.now ++ rest.now))) (2 ^ 62) }
         requires sized { length front.now + length rest.now ≡ header.now.data_size }
-        requires in_reach { end_of_chunk self.old.position (value_of header.now (front.now ++ rest.now)) ≤ 2 ^ 62 }
         ensures begin { IfOk result (λ begin. begin ≡ self.old.position) }
-        ensures moved { OnOk result (self.new ≡ writer_at (end_of_chunk self.old.position (value_of header.now (front.now ++ rest.now)))) }
-        ensures spent { OnErr result (self.new ≡ spent_writer_at self.old.position) }
-        ensures sink { PutsThrough M.taken M.lent M.faults result buffer.old buffer.new
+        ensures goes_on { GoesOnTo result (end_of_chunk self.old.position
+            (value_of header.now (front.now ++ rest.now)))
+            self.old self.new }
+        ensures sink { PutsWithin M.taken M.lent M.faults result N buffer.old buffer.new
             (laid_with self.old.position header.now (front.now ++ rest.now)) sink.old sink.new }
-        ensures fits { length buffer.old ≤ N → length buffer.new ≤ N }
     {
         let begin = self.position;
         self.lay(buffer, sink, header, front, rest)?;
@@ -216,13 +209,12 @@ impl OrderedWriter {
         buffer: &mut PutBuffer<N>,
         sink: &mut M,
     ) -> Result<(), Failed>
-        requires unspent { self.old.spent ≡ false }
-        requires in_reach { self.old.position ≤ 2 ^ 61 }
-        ensures moved { OnOk result (self.new ≡ writer_at (end_of_chunks self.old.position (padding_at self.old.position))) }
-        ensures spent { OnErr result (self.new ≡ spent_writer_at self.old.position) }
-        ensures sink { PutsThrough M.taken M.lent M.faults result buffer.old buffer.new
+        requires may_reach { MayReach self.old self.old.position (2 ^ 61) }
+        ensures goes_on { GoesOnTo result (end_of_chunks self.old.position
+            (padding_at self.old.position))
+            self.old self.new }
+        ensures sink { PutsWithin M.taken M.lent M.faults result N buffer.old buffer.new
             (laid_each self.old.position (padding_at self.old.position)) sink.old sink.new }
-        ensures fits { length buffer.old ≤ N → length buffer.new ≤ N }
     {
         let Some(size) = padding_size(self.position) else {
             return Ok(());
@@ -239,16 +231,16 @@ impl OrderedWriter {
         front: &[u8],
         rest: &[u8],
     ) -> Result<(), Failed>
-        requires unspent { self.old.spent ≡ false }
+        requires may_reach { MayReach self.old
+            (chunk_end_of self.old.position (chunk_header_size + header.now.data_size)
+            header.now.num_records) (2 ^ 62) }
         requires is_front { length (front.now ++ rest.now) ≤ header.now.data_size }
-        requires in_reach { chunk_end_of self.old.position (chunk_header_size + header.now.data_size) header.now.num_records ≤ 2 ^ 62 }
-        ensures moved { OnOk result (self.new
-            ≡ writer_at (chunk_end_of self.old.position (chunk_header_size + header.now.data_size) header.now.num_records)) }
-        ensures spent { OnErr result (self.new ≡ spent_writer_at self.old.position) }
-        ensures sink { PutsThrough M.taken M.lent M.faults result buffer.old buffer.new
+        ensures goes_on { GoesOnTo result
+            (chunk_end_of self.old.position (chunk_header_size + header.now.data_size)
+            header.now.num_records) self.old self.new }
+        ensures sink { PutsWithin M.taken M.lent M.faults result N buffer.old buffer.new
             (laid_bytes self.old.position (chunk_end_of self.old.position (chunk_header_size + header.now.data_size) header.now.num_records)
             (bytes_of_header header.now ++ (front.now ++ rest.now))) sink.old sink.new }
-        ensures fits { length buffer.old ≤ N → length buffer.new ≤ N }
     {
         let Some(end) = chunk_end(self.position, header.data_size, header.num_records) else {
             unreachable!();
@@ -272,8 +264,7 @@ impl OrderedWriter {
 /// Where the padding at a position ends, which is a block: the position itself where it is one. It must be a boundary, at
 /// most 2^61. "Padding chunk".
 pub fn padded(at: u64) -> u64
-    requires boundary { IsBoundary at }
-    requires in_reach { at ≤ 2 ^ 61 }
+    requires { IsBoundaryWithin at (2 ^ 61) }
     ensures end { result ≡ end_of_chunks at (padding_at at) }
     ensures block { IsBlock result }
     ensures same { IsBlock at → result ≡ at }
@@ -298,7 +289,7 @@ fn padding_header(size: u64) -> Header
     Header {
         data_size: size,
         data_hash: hash_of_zeros(size),
-        kind: b'p',
+        kind: Kind::Padding.byte(),
         num_records: 0,
         decoded_size: 0,
     }

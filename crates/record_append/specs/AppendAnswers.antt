@@ -1,5 +1,5 @@
 -- Inside. What is answered where records are put behind those of an old file. Own.
-use Rattle.std.specs.Prelude.{◌≡◌, ℕ, ◌+◌, ◌^◌, ◌<◌, ◌≤◌, ◌⊎◌, Bool, true, Option, Some, None, Result, Ok, Err, IfSome, IsSomeAnd, List, length}
+use Rattle.std.specs.Prelude.{◌≡◌, ℕ, ◌+◌, ◌<◌, ◌≤◌, ◌⊎◌, Bool, Option, Some, None, Result, Ok, Err, IfSome, IsSomeAnd, List, length}
 use Rattle.record_values.specs.declared.file_totals.Totals.{Totals}
 use Rattle.record_io.specs.Seen.{SeenFile}
 use Rattle.block_layout.specs.NextPlaces.{IsOnBoundary}
@@ -7,9 +7,8 @@ use Rattle.chunk_reader.specs.declared.reasons.Fault.{Fault}
 use Rattle.record_writer.specs.declared.options.WriteOptions.{WriteOptions}
 use Rattle.record_writer.specs.Feeds.{Rest}
 use Rattle.record_writer.specs.declared.feed.Stop.TheVariants.{TooLong as too_long, InputTooLong as input_too_long, BadLine as bad_line}
-use Rattle.record_writer.specs.OptionLimits.{AreInLimits}
 use Rattle.record_writer.specs.WriteAnswers.{totals_from}
-use Rattle.record_append.specs.Appends.{GrowsBy, GrowsFrom, HoldsGrown, HoldsGrownInPart, KeepsFront}
+use Rattle.record_append.specs.Appends.{HoldsAppended, GrowsFrom, HoldsGrown, HoldsGrownInPart, KeepsFront}
 use Rattle.record_append.specs.declared.appends.Appended.{Appended}
 use Rattle.record_append.specs.declared.appends.AppendEnd.{AppendEnd}
 use Rattle.record_append.specs.declared.appends.AppendEnd.TheVariants.{Refused, TooLong, InputTooLong, BadLine, Input, Device, Memory}
@@ -64,19 +63,13 @@ AnswersGrown (Ok told) options cut file rest held =
     (rest.stop ≡ None) × HoldsGrown options cut file told.kept rest.records held × Tells options file rest.records told
 AnswersGrown (Err (Refused fault)) options cut file rest held = held ≡ Some file
 AnswersGrown (Err (TooLong count)) options cut file rest held =
-    (rest.stop ≡ Some too_long) × (count ≡ length rest.records) × GrowsBy options cut file rest.records held
-AnswersGrown (Err InputTooLong) options cut file rest held = (rest.stop ≡ Some input_too_long) × GrowsBy options cut file rest.records held
+    (rest.stop ≡ Some too_long) × (count ≡ length rest.records) × HoldsAppended options cut file rest.records held
+AnswersGrown (Err InputTooLong) options cut file rest held = (rest.stop ≡ Some input_too_long) × HoldsAppended options cut file rest.records held
 AnswersGrown (Err (BadLine count)) options cut file rest held =
-    (rest.stop ≡ Some bad_line) × (count ≡ length rest.records) × GrowsBy options cut file rest.records held
+    (rest.stop ≡ Some bad_line) × (count ≡ length rest.records) × HoldsAppended options cut file rest.records held
 AnswersGrown (Err Input) options cut file rest held = HoldsCutOff options cut file rest.records held
 AnswersGrown (Err Device) options cut file rest held = HoldsCutOff options cut file rest.records held
 AnswersGrown (Err Memory) options cut file rest held = HoldsCutOff options cut file rest.records held
-
--- records of a feed can be put: it may be asked, what it reads is within reach, and the options are within their limits
-pub record MayPut (options : WriteOptions) (is_going : Bool) (bound : ℕ) : Type 0 where
-  pub going : is_going ≡ true
-  pub in_reach : bound ≤ 2 ^ 41
-  pub in_limits : AreInLimits options
 
 -- which old files, of so many bytes, are refused, and with which fault; device and feed are then as they were, and of the file at
 -- most its bytes were handed out

@@ -27,5 +27,5 @@ abbrev pub KeepsFront : Bool → List ℕ → List ℕ → Type 0
 KeepsFront cut file held = (held ≡ file) ⊎ ((place : ℕ) × GrowsFrom cut file place held)
 
 -- a device holds the old file, which isn't refused, grown by these records
-abbrev pub GrowsBy : WriteOptions → Bool → List ℕ → List (List ℕ) → Option (List ℕ) → Type 0
-GrowsBy options cut file records held = (place : ℕ) × HoldsGrown options cut file place records held
+abbrev pub HoldsAppended : WriteOptions → Bool → List ℕ → List (List ℕ) → Option (List ℕ) → Type 0
+HoldsAppended options cut file records held = (place : ℕ) × HoldsGrown options cut file place records held

@@ -1,9 +1,10 @@
 ghost use Rattle.std.specs.Prelude.{◌≡◌, ◌+◌, ◌^◌, ◌<◌, ◌≤◌, ◌++◌, ℕ, List, Some, Err, IfOk, IfSome, IsSomeAnd, OnOk};
-ghost use Rattle.record_io.specs.Calls.{OnlyCounts};
+ghost use Rattle.record_io.specs.Calls.{HasSize, OnlyCounts};
 ghost use Rattle.record_io.specs.Seen.{seen_file};
 ghost use Rattle.record_writer.specs.FeedSteps.{nothing_left};
+ghost use Rattle.record_writer.specs.OptionLimits.{MayPut};
 ghost use Rattle.record_writer.specs.WriteAnswers.{TellsTotals, TakesFile};
-ghost use Rattle.record_append.specs.AppendAnswers.{AnswersGrown, AnswersRest, KeepsOld, MayBeKeptTo, MayPut, RefusesOld, totals_at};
+ghost use Rattle.record_append.specs.AppendAnswers.{AnswersGrown, AnswersRest, KeepsOld, MayBeKeptTo, RefusesOld, totals_at};
 ghost use Rattle.record_append.specs.Devices.{CountsFaults, EndsAt};
 ghost use Rattle.record_append.specs.Grown.{bytes_at};
 
@@ -115,8 +116,7 @@ pub fn append<R: Threads + Sync, L: RecordFeed, G: Device + Send>(
     device: &mut G,
     size: u64,
 ) -> Result<Appended, AppendEnd>
-    requires told { G.told device.old ≡ Some size }
-    requires in_reach { size ≤ 2 ^ 60 }
+    requires sized { HasSize (G.told device.old) size }
     requires feed { MayPut options.now (L.going feed.old) (L.bound feed.old) }
     ensures grown { IfSome (G.bytes device.old) (λ file. IfSome (L.rest feed.old) (λ rest.
         AnswersGrown result options.now cut file rest (G.bytes device.new))) }
@@ -126,7 +126,6 @@ pub fn append<R: Threads + Sync, L: RecordFeed, G: Device + Send>(
     ensures keeps { KeepsOld result cut size (G.bytes device.old) (G.bytes device.new) (G.told device.new) }
     ensures told { IfOk result (λ told. MayBeKeptTo size told.kept × (told.kept + told.dropped ≡ size) × (told.kept ≤ told.bytes)) }
     ensures read_to_end { OnOk result (IfSome (L.rest feed.old) (λ _. L.rest feed.new ≡ Some nothing_left)) }
-
     ensures feed { OnlyCounts L.origin L.faults (result ≡ Err AppendEnd.Input) feed.old feed.new }
     ensures device { CountsFaults G.faults (result ≡ Err AppendEnd.Device) device.old device.new }
 {

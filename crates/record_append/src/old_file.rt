@@ -1,5 +1,5 @@
-ghost use Rattle.std.specs.Prelude.{◌≡◌, ◌+◌, ◌^◌, ◌<◌, ◌≤◌, ◌↔◌, IsTrue, None, Some, Err, IfOk, IfSome, IsErr, OnErr, OnOk, length, option_map, take};
-ghost use Rattle.record_io.specs.Calls.{OnlyAsks, OnlyCounts};
+ghost use Rattle.std.specs.Prelude.{◌≡◌, ◌<◌, ◌≤◌, ◌↔◌, IsTrue, None, Some, Err, IfOk, IfSome, IsErr, OnErr, OnOk, length, option_map, take};
+ghost use Rattle.record_io.specs.Calls.{AsksUpTo, HasSize, OnlyCounts};
 ghost use Rattle.chunk_reader.specs.declared.reasons.Fault.{Fault};
 ghost use Rattle.record_append.specs.AppendAnswers.{MayBeKeptTo};
 ghost use Rattle.record_append.specs.Devices.{EndsAt};
@@ -14,15 +14,14 @@ use record_io::{Device, Failed};
 ///
 /// `Refused` where the file is refused, and `Store` where the device failed.
 pub(crate) fn judge<G: Device>(device: &mut G, size: u64, cut: bool) -> Result<u64, VerifyEnd>
-    requires told { G.told device.old ≡ Some size }
-    requires in_reach { size ≤ 2 ^ 60 }
+    requires sized { HasSize (G.told device.old) size }
     ensures kept { IfOk result (λ place. IfSome (G.bytes device.old) (λ file. IsUnrefused cut file × IsKeptTo file place)) }
     ensures place { IfOk result (λ place. MayBeKeptTo size place) }
     ensures sized { IfSome (G.bytes device.old) (λ file. size ≡ length file) }
     ensures refused { (fault : Fault) → result ≡ Err (VerifyEnd.Refused fault)
         → (0 < size) × RefusesFor cut fault.why × IfSome (G.bytes device.old) (λ file. IsRefusedToGrow cut file fault) }
-    ensures handed { G.handed device.new ≤ G.handed device.old + size }
-    ensures device { OnlyAsks G.bytes G.told G.name G.faults (result ≡ Err VerifyEnd.Store) device.old device.new }
+    ensures device { AsksUpTo G.bytes G.told G.handed G.name G.faults (result ≡ Err VerifyEnd.Store)
+        size device.old device.new }
 {
     let front = verify_front(device, size)?;
     match refusal(&front, size, cut) {

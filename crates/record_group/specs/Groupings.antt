@@ -1,6 +1,6 @@
 -- Inside. What a grouper keeps between records, and what it gives for them. Own.
 use Rattle.std.specs.Prelude.{◌≡◌, ◌≢◌, ℕ, ◌+◌, ◌^◌, ◌≤◌, true, false, Option, Some, None, IfSome, List, [], ◌∷◌, ◌++◌, length}
-use Rattle.std.specs.Option.{option_to_list}
+use Rattle.std.specs.Option.{ForSome, option_to_list}
 use Rattle.simple_chunk.specs.Costs.{cost_of}
 use Rattle.record_group.specs.Groups.{closes_before, groups_after}
 
@@ -16,6 +16,18 @@ pub record KeepsLimits (size : ℕ) (every : Option ℕ) (group : List (List ℕ
   pub some : group ≢ []
   pub count : IfSome every (λ most. 1 ≤ most → length group ≤ most)
   pub costs : 2 ≤ length group → cost_of group ≤ size
+
+-- a size, and a number of records where one is wanted, that groups may be limited to
+pub record MayLimit (size : ℕ) (every : Option ℕ) : Type 0 where
+  pub some_size : 1 ≤ size
+  pub size_at_most : size ≤ 2 ^ 24
+  pub some_records : ForSome every (λ count. 1 ≤ count)
+  pub every_at_most : ForSome every (λ count. count ≤ 2 ^ 24)
+
+-- a group that is given keeps the limits, and so costs at most that size, or what one record does
+pub record IsGivenGroup (size : ℕ) (every : Option ℕ) (group : List (List ℕ)) : Type 0 where
+  pub limits : KeepsLimits size every group
+  pub costs : cost_of group ≤ 2 ^ 24 + 8
 
 -- what a grouper keeps: a size of at most 2 ^ 24, and an open group that is empty or keeps the limits, and so costs
 -- at most that size, or what one record does

@@ -1,8 +1,7 @@
-ghost use Rattle.std.specs.Prelude.{◌≡◌, ◌≢◌, ℕ, ◌+◌, ◌^◌, ◌≤◌, ◌↔◌, true, false, None, Ok, List, [], ◌∷◌, ◌++◌, length, IsNone, IfOk, IfSome, OnErr};
-ghost use Rattle.std.specs.Option.{ForSome, option_to_list};
-ghost use Rattle.simple_chunk.specs.Costs.{cost_of};
+ghost use Rattle.std.specs.Prelude.{◌≡◌, ◌≢◌, ℕ, ◌^◌, ◌≤◌, ◌↔◌, true, false, None, Ok, List, [], ◌∷◌, ◌++◌, length, IsNone, IfOk, IfSome, OnErr};
+ghost use Rattle.std.specs.Option.{option_to_list};
 ghost use Rattle.record_group.specs.Groups.{closes_before, groups};
-ghost use Rattle.record_group.specs.Groupings.{KeepsLimits, new_grouping, groups_from, IsPush};
+ghost use Rattle.record_group.specs.Groupings.{IsGivenGroup, IsPush, MayLimit, groups_from, new_grouping};
 
 use record_values::Bytes;
 use simple_chunk::{RECORD_COST, Records};
@@ -40,10 +39,7 @@ impl Grouper {
     /// at most `every` records, where that is a number, from 1 to 2^24. It takes no memory.
     #[tactic(auto, unfolding(crate::specs::Groups::groups))]
     pub fn new(alloc: Global, size: u64, every: Option<u64>) -> Grouper
-        requires some_size { 1 ≤ size }
-        requires size { size ≤ 2 ^ 24 }
-        requires some_records { ForSome every (λ count. 1 ≤ count) }
-        requires every { ForSome every (λ count. count ≤ 2 ^ 24) }
+        requires { MayLimit size every }
         ensures value { result ≡ new_grouping size every }
         ensures all { (records : List (List ℕ))
             → groups_from result records ≡ groups records size every }
@@ -58,6 +54,20 @@ impl Grouper {
         }
     }
 
+    /// A grouper of no records yet, with the same size and number of records. It takes no memory.
+    pub fn emptied(&self) -> Grouper
+        ensures { result ≡ new_grouping self.now.size self.now.every }
+    {
+        Grouper {
+            alloc: self.alloc,
+            size: self.size,
+            every: self.every,
+            group: Records::new(self.alloc),
+            room: (0, 0),
+            spare: Records::new(self.alloc),
+        }
+    }
+
     /// As `push_from`, of a copy of the record.
     pub fn push(&mut self, rec: &[u8]) -> Result<Option<Records>, AllocError>
         requires { length rec.now ≤ 2 ^ 24 }
@@ -65,8 +75,8 @@ impl Grouper {
         ensures rest { IfOk result (λ given. (records : List (List ℕ))
             → groups_from self.old (rec.now ∷ records)
             ≡ option_to_list given ++ groups_from self.new records) }
-        ensures limits { IfOk result (λ given. IfSome given (KeepsLimits self.old.size self.old.every)) }
-        ensures costs { IfOk result (λ given. IfSome given (λ group. cost_of group ≤ 2 ^ 24 + 8)) }
+        ensures given { IfOk result (λ given. IfSome given
+            (IsGivenGroup self.old.size self.old.every)) }
         ensures kept { OnErr result (self.new ≡ self.old) }
     {
         let mut copy = Bytes::new(self.alloc);
@@ -82,8 +92,8 @@ impl Grouper {
         ensures rest { IfOk result (λ given. (records : List (List ℕ))
             → groups_from self.old (rec.old ∷ records)
             ≡ option_to_list given ++ groups_from self.new records) }
-        ensures limits { IfOk result (λ given. IfSome given (KeepsLimits self.old.size self.old.every)) }
-        ensures costs { IfOk result (λ given. IfSome given (λ group. cost_of group ≤ 2 ^ 24 + 8)) }
+        ensures given { IfOk result (λ given. IfSome given
+            (IsGivenGroup self.old.size self.old.every)) }
         ensures kept { OnErr result (self.new ≡ self.old) }
     {
         if self.closes_before(rec.as_slice()) {
@@ -130,8 +140,7 @@ impl Grouper {
         ensures none { IsNone result ↔ (self.group ≡ []) }
         ensures last { IfSome result (λ group. group ≡ self.group) }
         ensures rest { groups_from self [] ≡ option_to_list result }
-        ensures limits { IfSome result (KeepsLimits self.size self.every) }
-        ensures costs { IfSome result (λ group. cost_of group ≤ 2 ^ 24 + 8) }
+        ensures given { IfSome result (IsGivenGroup self.size self.every) }
     {
         if self.group.is_empty() {
             None

@@ -1,5 +1,5 @@
 -- The file of records, once its signature is put.
-use Rattle.std.proofs.Common.{◌≡◌, ℕ, ◌^◌, ◌≤◌, Option, Result, Err, List, [], ◌∷◌, refl, arith}
+use Rattle.std.proofs.Common.{◌≡◌, ℕ, Bool, Option, Result, Err, List, [], ◌∷◌, refl, arith}
 use Rattle.record_io.specs.Calls.{OnlyCounts}
 use Rattle.record_values.specs.declared.file_totals.Totals.{Totals}
 use Rattle.meta_chunk.specs.Files.{totals_of, signature}
@@ -11,22 +11,21 @@ use Rattle.record_writer.specs.Behind.{MayFollow, WritesBehind}
 use Rattle.record_writer.specs.Feeds.{Rest}
 use Rattle.record_writer.specs.MadeFiles.{MadeFileValue, Lays, LaysFront, nothing_made}
 use Rattle.record_writer.specs.Written.{chunks_under, file_under}
-use Rattle.record_writer.specs.OptionLimits.{AreInLimits}
+use Rattle.record_writer.specs.OptionLimits.{MayPut}
 use Rattle.record_writer.specs.WriteAnswers.{WritesRecords}
 use Rattle.record_writer.proofs.Counted.{TellsTotals-cut, TellsTotals-signed, signed_boundary, signed_place, signed_records}
 use Rattle.record_writer.proofs.Flushes.{TakesFile-signed, TakesFile-unsigned}
 use Rattle.record_writer.proofs.Windows.{OnlyCounts-behind}
 
 -- records may follow the signature
-pub MayFollow-signed : (a b : Option (List ℕ)) (s : MadeFileValue) (options : WriteOptions) (bound : ℕ)
-    → Lays a b nothing_made s (signature ∷ []) → bound ≤ 2 ^ 41 → AreInLimits options → MayFollow s options bound
-MayFollow-signed a b s options bound laid in_reach in_limits = record {
+pub MayFollow-signed : (a b : Option (List ℕ)) (s : MadeFileValue) (options : WriteOptions) (is_going : Bool) (bound : ℕ)
+    → Lays a b nothing_made s (signature ∷ []) → MayPut options is_going bound → MayFollow s options is_going bound
+MayFollow-signed a b s options is_going bound laid feed = record {
   going = laid.going;
   no_record = signed_records a b s laid;
   from_boundary = signed_boundary a b s laid;
   within = omega (arith, signed_place a b s laid);
-  in_reach = in_reach;
-  in_limits = in_limits;
+  feed = feed;
 }
 
 -- what a call does that writes the file of a feed's records

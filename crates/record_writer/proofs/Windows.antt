@@ -1,5 +1,5 @@
 -- Groups that are taken of a feed, and then put together.
-use Rattle.std.proofs.Common.{◌≡◌, ◌≢◌, ◌∙◌, ℕ, ◌+◌, ◌<◌, ◌≤◌, Bool, Option, Some, None, Result, Ok, Err, List, [], ◌∷◌, ◌++◌, length, take, drop, get_or, slice_set, IfSome, OnOk, refl, sym, ap, subst, inl, inr, append_assoc, add-one, arith, rules}
+use Rattle.std.proofs.Common.{◌≡◌, ◌∙◌, ℕ, ◌+◌, ◌<◌, ◌≤◌, Bool, Option, Some, None, Result, Ok, Err, List, [], ◌∷◌, ◌++◌, length, take, drop, get_or, slice_set, IfSome, OnOk, refl, sym, ap, subst, inl, inr, append_assoc, add-one, arith, rules}
 use Rattle.std.proofs.Math.Seq.{take-suc, map-set_same}
 use Rattle.std.proofs.lemmas.Option.{none-some}
 use Rattle.std.proofs.lemmas.Result.{IfOk-at_ok}
@@ -15,15 +15,9 @@ use Rattle.simple_chunk.specs.SimpleParts.{SimpleValue}
 use Rattle.record_group.specs.Groupings.{Grouping, groups_from}
 use Rattle.record_writer.specs.declared.cut_off.CutOff.{CutOff}
 use Rattle.record_writer.specs.declared.cut_off.CutOff.TheVariants as cut
-use Rattle.record_writer.specs.declared.cut_off.PutEnd.{PutEnd}
-use Rattle.record_writer.specs.declared.cut_off.PutEnd.TheVariants as put
-use Rattle.record_writer.specs.declared.cut_off.TakeEnd.{TakeEnd}
-use Rattle.record_writer.specs.declared.cut_off.TakeEnd.TheVariants as take
-use Rattle.record_writer.specs.declared.cut_off.TakeEnd.TheVariants.{Input}
 use Rattle.record_writer.specs.declared.feed.Stop.{Stop}
 use Rattle.record_writer.specs.declared.group_taker.FeedPart.{FeedPart}
 use Rattle.record_writer.specs.declared.group_taker.FeedPart.TheVariants.{Window, All}
-use Rattle.record_writer.specs.Ends.{cut_of_put, cut_of_take}
 use Rattle.record_writer.specs.Feeds.{Rest}
 use Rattle.record_writer.specs.FeedSteps.{nothing_left}
 use Rattle.record_writer.specs.MadeFiles.{MadeFileValue, AreGiven, Lays, LaysFront, chunks_of_groups, reach_of}
@@ -35,15 +29,9 @@ use Rattle.record_writer.proofs.Given.{AreGiven-ended, chunks_of_groups-all}
 pub where_done : {X E P : Type 0} (result : Result X E) (x : X) → result ≡ Ok x → OnOk result P → P
 where_done {X} {E} {P} result x is h = IfOk-at_ok (λ _. P) is h
 
--- that the sink failed is told only where it did
-pub made_told : {X Y : Type 0} (end : PutEnd) → ◌≡◌ {A = Result X CutOff} (Err (cut_of_put end)) (Err cut.Made) → ◌≡◌ {A = Result Y PutEnd} (Err end) (Err put.Made)
-made_told put.Made told = refl
-made_told put.Memory told = absurd (cc told)
-
--- and never where records were taken
-pub not_made : {X : Type 0} (end : TakeEnd) → ◌≢◌ {A = Result X CutOff} (Err (cut_of_take end)) (Err cut.Made)
-not_made take.Input = λ told. cc told
-not_made take.Memory = λ told. cc told
+-- what cut off one call cut off another that hands it on
+pub handed_on : {X Y : Type 0} (end other : CutOff) → ◌≡◌ {A = Result X CutOff} (Err end) (Err other) → ◌≡◌ {A = Result Y CutOff} (Err end) (Err other)
+handed_on end other told = let same : end ≡ other = cc told in ap Err same
 
 -- what holds anyway holds where a call didn't fail
 pub OnOk-any : {X E P : Type 0} (result : Result X E) → P → OnOk result P
@@ -148,14 +136,14 @@ AreGiven-front None b old new given h = tt
 AreGiven-front (Some all) b old new given (rest, told, of) = (groups_from new rest.records, of.groups)
 
 -- as are those that were taken, however that ended
-AreTaken-front : (t : Result FeedPart TakeEnd) (a b : Option Rest) (old new : Grouping) (given : List (List (List ℕ))) → AreTaken t a b old new given → AreFront a old given
+AreTaken-front : (t : Result FeedPart CutOff) (a b : Option Rest) (old new : Grouping) (given : List (List (List ℕ))) → AreTaken t a b old new given → AreFront a old given
 AreTaken-front (Ok Window) a b old new given h = AreGiven-front a b old new given h
 AreTaken-front (Ok (All stop)) None b old new given h = tt
 AreTaken-front (Ok (All stop)) (Some all) b old new given h = ([], h.1 ∙ sym (append-nil given))
-AreTaken-front (Err cut) a b old new given h = h
+AreTaken-front (Err end) a b old new given h = h
 
 -- so where a front of their chunks was put, that is one of all
-pub LaysFront-taken : {F : Type 0} (t : Result FeedPart TakeEnd) (ra rb : Option Rest) (old new : Grouping) (given : List (List (List ℕ))) (a b : Option (List ℕ)) (s u : MadeFileValue)
+pub LaysFront-taken : {F : Type 0} (t : Result FeedPart CutOff) (ra rb : Option Rest) (old new : Grouping) (given : List (List (List ℕ))) (a b : Option (List ℕ)) (s u : MadeFileValue)
     → AreTaken t ra rb old new given → LaysFront F a b s u (chunks_of_groups given)
     → IfSome ra (λ rest. LaysFront F a b s u (chunks_of_groups (groups_from old rest.records)))
 LaysFront-taken t None rb old new given a b s u taken front = tt
@@ -173,10 +161,10 @@ Lays-taken stop None rb old new given a b s u taken laid = tt
 Lays-taken stop (Some all) rb old new given a b s u taken laid = subst (λ (gs : List (List (List ℕ))). Lays a b s u (chunks_of_groups gs)) (sym taken.1) laid
 
 -- a number that falls with each window
-abbrev pub to_take : Result FeedPart TakeEnd → ℕ → ℕ
+abbrev pub to_take : Result FeedPart CutOff → ℕ → ℕ
 to_take (Ok Window) bound = bound + 1
 to_take (Ok (All stop)) bound = 0
-to_take (Err cut) bound = 0
+to_take (Err end) bound = 0
 
 -- what holds of whatever a feed has left behind a window, where it shows that
 IfSome-given : (a b : Option Rest) (old new : Grouping) (given : List (List (List ℕ))) (P : Type 0)
@@ -185,7 +173,7 @@ IfSome-given None b old new given P h p = tt
 IfSome-given (Some all) b old new given P (rest, told, of) p = subst (λ (o : Option Rest). IfSome o (λ _. P)) told p
 
 -- groups that were taken behind a window
-AreTaken-append : (t : Result FeedPart TakeEnd) (a b c : Option Rest) (old between new : Grouping) (given more : List (List (List ℕ)))
+AreTaken-append : (t : Result FeedPart CutOff) (a b c : Option Rest) (old between new : Grouping) (given more : List (List (List ℕ)))
     → AreGiven a b old between given → AreTaken t b c between new more → AreTaken t a c old new (given ++ more)
 AreTaken-append (Ok Window) a b c old between new given more h then = AreGiven-append a b c old between new given more h then
 AreTaken-append (Ok (All stop)) None b c old between new given more h then = tt
@@ -194,8 +182,8 @@ AreTaken-append (Ok (All stop)) (Some all) b c old between new given more (rest,
       of.stop ∙ ended.0,
       of.groups ∙ ap (λ (gs : List (List (List ℕ))). given ++ gs) ended.1,
     )
-AreTaken-append (Err cut) None b c old between new given more h then = tt
-AreTaken-append (Err cut) (Some all) b c old between new given more (rest, told, of) then =
+AreTaken-append (Err end) None b c old between new given more h then = tt
+AreTaken-append (Err end) (Some all) b c old between new given more (rest, told, of) then =
     let front = subst (λ (o : Option Rest). AreFront o between more) told then in (
       front.0,
       of.groups
@@ -219,13 +207,13 @@ OnlyCounts-behind lent faults P Q a b c first then = record {
 }
 
 -- all was taken, and this stop follows
-abbrev all_taken : Option Stop → Result FeedPart TakeEnd
+abbrev all_taken : Option Stop → Result FeedPart CutOff
 all_taken stop = Ok (All stop)
 
-stop_in : Result FeedPart TakeEnd → Option Stop
+stop_in : Result FeedPart CutOff → Option Stop
 stop_in (Ok Window) = None
 stop_in (Ok (All stop)) = stop
-stop_in (Err cut) = None
+stop_in (Err end) = None
 
 -- at its end without a stop a feed has nothing left
 drained-at_end : (a b c : Option Rest) (old between : Grouping) (given : List (List (List ℕ))) (stop : Option Stop)
@@ -245,7 +233,7 @@ groups-moved given made taken more held is =
 
 module _ (L N : Type 0) (rest : L → Option Rest) (bound : L → ℕ) (going : L → Bool) (origin : L → N) (faults : L → ℕ) where
   -- a window of groups, and what was taken behind it
-  pub TakesGroups-append : (a b c : L) (old between new : Grouping) (given more : List (List (List ℕ))) (t : Result FeedPart TakeEnd)
+  pub TakesGroups-append : (a b c : L) (old between new : Grouping) (given more : List (List (List ℕ))) (t : Result FeedPart CutOff)
       → TakesGroups rest bound going origin faults a b old between given (Ok Window) → TakesGroups rest bound going origin faults b c between new more t
       → TakesGroups rest bound going origin faults a c old new (given ++ more) t
   TakesGroups-append a b c old between new given more t first then = record {
@@ -261,11 +249,12 @@ module _ (L N : Type 0) (rest : L → Option Rest) (bound : L → ℕ) (going : 
           ap (λ (ks : List ChunkValue). end_of_chunks place ks) (chunks_of_groups-all (given ++ more) given more refl),
         );
     drained = λ ended. IfSome-given (rest a) (rest b) old between given (rest c ≡ Some nothing_left) first.given_of (then.drained ended);
-    counts = OnlyCounts-behind origin faults (Ok Window ≡ Err Input) (t ≡ Err Input) a b c first.counts then.counts;
+    counts = OnlyCounts-behind origin faults (Ok Window ≡ Err cut.Input) (t ≡ Err cut.Input) a b c first.counts then.counts;
+    no_sink = then.no_sink;
   }
 
   -- where those that were made are put, and what was taken is held behind the others
-  pub TakesGroups-moved : (a b c : L) (old between new : Grouping) (given made taken more held : List (List (List ℕ))) (t : Result FeedPart TakeEnd) → held ≡ taken ++ more
+  pub TakesGroups-moved : (a b c : L) (old between new : Grouping) (given made taken more held : List (List (List ℕ))) (t : Result FeedPart CutOff) → held ≡ taken ++ more
       → TakesGroups rest bound going origin faults a b old between (given ++ (made ++ taken)) (Ok Window) → TakesGroups rest bound going origin faults b c between new more t
       → TakesGroups rest bound going origin faults a c old new ((given ++ made) ++ held) t
   TakesGroups-moved a b c old between new given made taken more held t is first then =
@@ -277,7 +266,7 @@ module _ (L N : Type 0) (rest : L → Option Rest) (bound : L → ℕ) (going : 
       → AreGiven (rest a) (rest b) old between given → IfSome (rest b) (λ r. r ≡ record { records = []; stop = stop }) → (stop ≡ None → rest c ≡ rest b)
       → all ≡ given ++ groups_from between []
       → ((place : ℕ) → reach_of (end_of_chunks place (chunks_of_groups all)) new (bound c) ≤ reach_of place old (bound a))
-      → OnlyCounts origin faults (all_taken stop ≡ Err Input) a c
+      → OnlyCounts origin faults (all_taken stop ≡ Err cut.Input) a c
       → TakesGroups rest bound going origin faults a c old new all (all_taken stop)
   unfolding stop_in
   TakesGroups-ended a b c old between new given all stop before ended kept last reach counts = record {
@@ -288,4 +277,5 @@ module _ (L N : Type 0) (rest : L → Option Rest) (bound : L → ℕ) (going : 
     in_reach = reach;
     drained = λ at_end. drained-at_end (rest a) (rest b) (rest c) old between given stop before ended kept (ap stop_in at_end);
     counts = counts;
+    no_sink = λ is. cc is;
   }

@@ -1,5 +1,5 @@
 -- Inside. Records that are put behind what a file has already. Own.
-use Rattle.std.specs.Prelude.{◌≡◌, ℕ, ◌^◌, ◌≤◌, false, Option, Some, None, Result, Ok, Err, List, ◌++◌, IfOk, IfSome, OnOk, OnErr}
+use Rattle.std.specs.Prelude.{◌≡◌, ℕ, ◌^◌, ◌≤◌, Bool, false, Option, Some, None, Result, Ok, Err, List, ◌++◌, IfOk, IfSome, OnOk, OnErr}
 use Rattle.block_layout.specs.Layout.{IsBoundary}
 use Rattle.record_io.specs.Calls.{OnlyCounts}
 use Rattle.record_values.specs.declared.file_totals.Totals.{Totals}
@@ -13,17 +13,16 @@ use Rattle.record_writer.specs.Feeds.{Rest}
 use Rattle.record_writer.specs.FeedSteps.{nothing_left}
 use Rattle.record_writer.specs.MadeFiles.{MadeFileValue, Lays, LaysFront, totals_behind}
 use Rattle.record_writer.specs.Written.{tail_chunks}
-use Rattle.record_writer.specs.OptionLimits.{AreInLimits}
+use Rattle.record_writer.specs.OptionLimits.{MayPut}
 use Rattle.record_writer.specs.WriteAnswers.{WritesRecords, tail_under}
 
--- a feed of this bound may be put under options behind what a file has, which is no record and ends at a boundary
-pub record MayFollow (file : MadeFileValue) (options : WriteOptions) (bound : ℕ) : Type 0 where
+-- a feed may be put under options behind what a file has, which is no record and ends at a boundary
+pub record MayFollow (file : MadeFileValue) (options : WriteOptions) (is_going : Bool) (bound : ℕ) : Type 0 where
   pub going : file.spent ≡ false
   pub no_record : file.records ≡ 0
   pub from_boundary : IsBoundary file.place
   pub within : file.place ≤ 2 ^ 60
-  pub in_reach : bound ≤ 2 ^ 41
-  pub in_limits : AreInLimits options
+  pub feed : MayPut options is_going bound
 
 -- a call wrote a feed's records behind what a file has: the totals are of both
 pub record WritesBehind {L N M K : Type 0} (rest : L → Option Rest) (origin : L → N) (feed_faults : L → ℕ)

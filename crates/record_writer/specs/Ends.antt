@@ -3,24 +3,10 @@ use Rattle.std.specs.Prelude.{Option, Some, None, Result, Ok, Err}
 use Rattle.record_values.specs.declared.file_totals.Totals.{Totals}
 use Rattle.record_writer.specs.declared.feed.Stop.{Stop}
 use Rattle.record_writer.specs.declared.feed.Stop.TheVariants.{TooLong as too_long, InputTooLong as input_too_long, BadLine as bad_line}
-use Rattle.record_writer.specs.declared.cut_off.TakeEnd.{TakeEnd}
-use Rattle.record_writer.specs.declared.cut_off.TakeEnd.TheVariants as take
-use Rattle.record_writer.specs.declared.cut_off.PutEnd.{PutEnd}
-use Rattle.record_writer.specs.declared.cut_off.PutEnd.TheVariants as put
 use Rattle.record_writer.specs.declared.cut_off.CutOff.{CutOff}
 use Rattle.record_writer.specs.declared.cut_off.CutOff.TheVariants.{Input as input, Made as made, Memory as memory}
 use Rattle.record_writer.specs.declared.engine.WriteEnd.{WriteEnd}
 use Rattle.record_writer.specs.declared.engine.WriteEnd.TheVariants.{TooLong, InputTooLong, BadLine, Input, Made, Memory}
-
--- what cut the work off, where records were taken
-abbrev pub cut_of_take : TakeEnd → CutOff
-cut_of_take take.Input = input
-cut_of_take take.Memory = memory
-
--- and where chunks were put
-abbrev pub cut_of_put : PutEnd → CutOff
-cut_of_put put.Made = made
-cut_of_put put.Memory = memory
 
 -- where the work was cut off
 abbrev pub end_of_cut : CutOff → WriteEnd

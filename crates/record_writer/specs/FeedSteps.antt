@@ -1,5 +1,5 @@
 -- Inside. What a feed of records reads, and how it hands on the next record. Own.
-use Rattle.std.specs.Prelude.{◌≡◌, ℕ, ◌+◌, ◌≤◌, Option, Some, None, IfSome, List, [], ◌∷◌, length}
+use Rattle.std.specs.Prelude.{◌≡◌, ℕ, ◌+◌, ◌^◌, ◌≤◌, Bool, Option, Some, None, IfSome, List, [], ◌∷◌, length}
 use Rattle.std.specs.List.{sum_by}
 use Rattle.record_group.specs.Groupings.{Grouping, IsPush}
 use Rattle.record_writer.specs.Feeds.{Rest}
@@ -27,6 +27,29 @@ feed_bound records = sum_by length records + length records
 abbrev pub GivesRecord : Option Rest → Option Rest → List ℕ → Type 0
 GivesRecord before after record_bytes =
     IfSome before (λ r. (later : Rest) × (after ≡ Some later) × (r ≡ record later { records = record_bytes ∷ later.records }))
+
+-- a feed gave its next record, of 2^24 bytes or fewer
+pub record GivesNext (before after : Option Rest) (old_bound new_bound : ℕ) (record_bytes : List ℕ) : Type 0 where
+  pub next : GivesRecord before after record_bytes
+  pub at_most : length record_bytes ≤ 2 ^ 24
+  pub lowers : new_bound + length record_bytes + 1 ≤ old_bound
+
+-- a feed is at its end without a stop, where it shows what is to come
+pub record IsAtEnd (before after : Option Rest) : Type 0 where
+  pub at_end : IfSome before (λ rest. rest ≡ nothing_left)
+  pub kept : after ≡ before
+
+-- a feed gave nothing to a grouper
+pub record HandsNone (before after : Option Rest) (old_bound new_bound : ℕ) (old new : Grouping) : Type 0 where
+  pub rest : after ≡ before
+  pub bound : new_bound ≡ old_bound
+  pub grouper : new ≡ old
+
+-- a call reads nothing of what a feed reads: whether it may be asked, what it reads and its count of faults stay
+pub record ReadsNothing {L N : Type 0} (going : L → Bool) (origin : L → N) (faults : L → ℕ) (before after : L) : Type 0 where
+  pub same_going : going after ≡ going before
+  pub same_origin : origin after ≡ origin before
+  pub same_faults : faults after ≡ faults before
 
 -- a feed gave its next record, and a grouper took it behind those of its open group
 pub record HandsOn (before after : Option Rest) (old_bound new_bound : ℕ) (old new : Grouping) : Type 0 where

@@ -1,5 +1,5 @@
 -- Inside. How far a file is that is being made. Own.
-use Rattle.std.specs.Prelude.{◌≡◌, ◌≢◌, ℕ, ◌+◌, ◌*◌, ◌^◌, ◌≤◌, Bool, true, false, Option, Some, List, [], ◌++◌, length, map, IfSome, Result, OnOk, OnErr}
+use Rattle.std.specs.Prelude.{◌≡◌, ◌≢◌, ℕ, ◌+◌, ◌*◌, ◌^◌, ◌≤◌, Bool, true, false, Option, Some, List, [], ◌++◌, length, map, IfSome, Result, IsErr, OnOk, OnErr}
 use Rattle.record_io.specs.Calls.{OnlyCounts}
 use Rattle.record_io.specs.Outside.{Takes}
 use Rattle.record_io.specs.Buffers.{TakesAndHolds}
@@ -51,6 +51,11 @@ pub record MayLay (file : MadeFileValue) (ks : List ChunkValue) : Type 0 where
   pub going : file.spent ≡ false
   pub in_reach : end_of_chunks file.place ks ≤ 2 ^ 62
 
+-- padding may be laid behind what is there: no put failed, and it ends at or below 2^61
+pub record MayPad (file : MadeFileValue) : Type 0 where
+  pub going : file.spent ≡ false
+  pub in_reach : file.place ≤ 2 ^ 61
+
 -- chunks were laid behind those that were there
 pub record Lays (before after : Option (List ℕ)) (old new : MadeFileValue) (ks : List ChunkValue) : Type 0 where
   pub bytes : TakesAndHolds before after (old.held ++ laid_each old.place ks) new.held
@@ -80,6 +85,12 @@ pub record LaysTo {M K X E : Type 0} (taken : M → Option (List ℕ)) (lent : M
   pub whole : OnOk result (Lays (taken before) (taken after) old new ks)
   pub front : OnErr result (LaysFront Fails (taken before) (taken after) old new ks)
   pub counts : OnlyCounts lent faults Fails before after
+
+-- the same by one call, which fails only where the sink did: then no other follows, nothing is held, and the counts are as before
+pub record LaysOrSpends {M K X E : Type 0} (taken : M → Option (List ℕ)) (lent : M → K) (faults : M → ℕ)
+    (result : Result X E) (old new : MadeFileValue) (ks : List ChunkValue) (before after : M) : Type 0 where
+  pub laid : LaysTo taken lent faults (IsErr result) result old new ks before after
+  pub spent : OnErr result (new ≡ spent_in old)
 
 -- the chunks of groups
 abbrev pub chunks_of_groups : List (List (List ℕ)) → List ChunkValue

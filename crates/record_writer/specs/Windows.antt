@@ -1,12 +1,12 @@
 -- Inside. What is taken of a feed before it is put. Own.
-use Rattle.std.specs.Prelude.{◌≡◌, ℕ, ◌<◌, ◌≤◌, Bool, true, Option, Some, None, Result, Ok, Err, List, [], ◌++◌, map, IfSome}
+use Rattle.std.specs.Prelude.{◌≡◌, ◌≢◌, ℕ, ◌<◌, ◌≤◌, Bool, true, Option, Some, None, Result, Ok, Err, List, [], ◌++◌, map, IfSome}
 use Rattle.record_io.specs.Calls.{OnlyCounts}
 use Rattle.meta_chunk.specs.Files.{end_of_chunks}
 use Rattle.simple_chunk.specs.SimpleParts.{SimpleValue}
 use Rattle.record_group.specs.Groups.{groups}
 use Rattle.record_group.specs.Groupings.{Grouping, groups_from}
-use Rattle.record_writer.specs.declared.cut_off.TakeEnd.{TakeEnd}
-use Rattle.record_writer.specs.declared.cut_off.TakeEnd.TheVariants.{Input}
+use Rattle.record_writer.specs.declared.cut_off.CutOff.{CutOff}
+use Rattle.record_writer.specs.declared.cut_off.CutOff.TheVariants.{Input, Made}
 use Rattle.record_writer.specs.declared.group_taker.FeedPart.{FeedPart}
 use Rattle.record_writer.specs.declared.group_taker.FeedPart.TheVariants.{Window, All}
 use Rattle.record_writer.specs.declared.options.WriteOptions.{WriteOptions}
@@ -25,23 +25,24 @@ AreFront before old given =
 
 -- groups that were taken of a feed: those that were given; or all groups, where this stop follows the records, or none; or
 -- a front of all groups, where the work was cut off
-abbrev pub AreTaken : Result FeedPart TakeEnd → Option Rest → Option Rest → Grouping → Grouping → List (List (List ℕ)) → Type 0
+abbrev pub AreTaken : Result FeedPart CutOff → Option Rest → Option Rest → Grouping → Grouping → List (List (List ℕ)) → Type 0
 AreTaken (Ok Window) before after old new given = AreGiven before after old new given
 AreTaken (Ok (All stop)) before after old new given =
     IfSome before (λ rest. (rest.stop ≡ stop) × (groups_from old rest.records ≡ given))
 AreTaken (Err cut) before after old new given = AreFront before old given
 
 -- what a feed leaves from which groups were taken: it may be asked for more behind a window, and has less left then; their chunks
--- and those still to come reach no further than before; at its end nothing is left; and it only counts
--- its faults
+-- and those still to come reach no further than before; at its end nothing is left; it only counts its
+-- faults; and what is put to doesn't cut it off
 pub record TakesGroups {L N : Type 0} (rest : L → Option Rest) (bound : L → ℕ) (going : L → Bool) (origin : L → N) (faults : L → ℕ)
-    (before after : L) (old new : Grouping) (given : List (List (List ℕ))) (taken : Result FeedPart TakeEnd) : Type 0 where
+    (before after : L) (old new : Grouping) (given : List (List (List ℕ))) (taken : Result FeedPart CutOff) : Type 0 where
   pub given_of : AreTaken taken (rest before) (rest after) old new given
   pub may_go_on : taken ≡ Ok Window → going after ≡ true
   pub lowers : taken ≡ Ok Window → bound after < bound before
   pub in_reach : (place : ℕ) → reach_of (end_of_chunks place (chunks_of_groups given)) new (bound after) ≤ reach_of place old (bound before)
   pub drained : taken ≡ Ok (All None) → IfSome (rest before) (λ _. rest after ≡ Some nothing_left)
   pub counts : OnlyCounts origin faults (taken ≡ Err Input) before after
+  pub no_sink : taken ≢ Err Made
 
 -- what takes groups has taken no record, and will give those of these options
 pub record HasTakenNone (taker : Grouping) (options : WriteOptions) : Type 0 where

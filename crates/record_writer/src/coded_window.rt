@@ -1,10 +1,8 @@
 ghost use Rattle.std.specs.Prelude.{◌≡◌, ◌≤◌, false, [], map, IsErr};
-ghost use Rattle.std.specs.List.{AllByRecursion};
 ghost use Rattle.chunk_header.specs.Views.{value_of_chunk};
-ghost use Rattle.meta_chunk.specs.Files.{is_unread};
 ghost use Rattle.ordered_writer.specs.Reorders.{coming};
-ghost use Rattle.record_writer.specs.CodedWindows.{AreInOrder};
-ghost use Rattle.record_writer.specs.MadeFiles.{LaysTo, MayLay};
+ghost use Rattle.record_writer.specs.CodedWindows.{CanBePut};
+ghost use Rattle.record_writer.specs.MadeFiles.{LaysTo};
 
 use crate::made_file::MadeFile;
 use crate::pace::Pace;
@@ -167,9 +165,7 @@ impl Window for CodedWindow {
 ///
 /// `Failed` only where the sink failed. It took a front of what was held and the chunks, and not all.
 fn put_out<M: Sink>(chunks: Reorder, file: &mut MadeFile, made: &mut M) -> Result<(), Failed>
-    requires may_lay { MayLay file.old (map value_of_chunk (coming chunks)) }
-    requires in_order { AreInOrder (map value_of_chunk (coming chunks)) chunks }
-    requires read { AllByRecursion (λ chunk. is_unread (value_of_chunk chunk) ≡ false) (coming chunks) }
+    requires { CanBePut file.old chunks }
     ensures { LaysTo M.taken M.lent M.faults (IsErr result) result file.old file.new (map value_of_chunk (coming chunks))
         made.old made.new }
 {
@@ -188,9 +184,7 @@ fn put_in_order<M: Sink>(
     file: &mut MadeFile,
     made: &mut M,
 ) -> Result<(), Failed>
-    requires may_lay { MayLay file.old (map value_of_chunk (coming chunks)) }
-    requires in_order { AreInOrder (map value_of_chunk (coming chunks)) chunks }
-    requires read { AllByRecursion (λ chunk. is_unread (value_of_chunk chunk) ≡ false) (coming chunks) }
+    requires { CanBePut file.old chunks }
     ensures { LaysTo M.taken M.lent M.faults (IsErr result) result file.old file.new (map value_of_chunk (coming chunks))
         made.old made.new }
 {

@@ -1,15 +1,15 @@
-ghost use Rattle.std.specs.Prelude.{◌≡◌, ◌+◌, ◌^◌, ◌<◌, ◌≤◌, true, false, [], IfOk, OnOk};
-ghost use Rattle.block_layout.specs.Layout.{IsBoundary};
+ghost use Rattle.std.specs.Prelude.{◌≡◌, ◌+◌, ◌^◌, ◌<◌, ◌≤◌, false, [], IfOk, OnOk};
 ghost use Rattle.meta_chunk.specs.Files.{totals_of};
+ghost use Rattle.ordered_writer.specs.Writers.{IsBoundaryWithin};
 ghost use Rattle.record_group.specs.Groups.{pads_start, pads_end};
 ghost use Rattle.record_group.specs.Groupings.{groups_from};
 ghost use Rattle.record_writer.specs.Behind.{MayFollow, PutsRecords, WritesBehind};
-ghost use Rattle.record_writer.specs.CodedWindows.{CodesSimply};
+ghost use Rattle.record_writer.specs.CodedWindows.{CodesSimply, MayCodeAndTake};
 ghost use Rattle.record_writer.specs.Ends.{answer_of};
 ghost use Rattle.record_writer.specs.MadeFiles.{chunks_of_groups, reach_of};
 ghost use Rattle.record_writer.specs.Windows.{HasTakenNone, HaveNoGroup};
 ghost use Rattle.record_writer.specs.Written.{chunks_under, file_under, tail_chunks};
-ghost use Rattle.record_writer.specs.OptionLimits.{AreInLimits};
+ghost use Rattle.record_writer.specs.OptionLimits.{MayPut};
 ghost use Rattle.record_writer.specs.WriteAnswers.{WritesRecords, tail_under, totals_from};
 
 use crate::coded_window::CodedWindow;
@@ -95,9 +95,7 @@ pub fn write_records<R: Threads + Sync, L: RecordFeed, M: Sink + Send>(
     feed: &mut L,
     made: &mut M,
 ) -> Result<Totals, WriteEnd>
-    requires feed_going { L.going feed.old ≡ true }
-    requires in_reach { L.bound feed.old ≤ 2 ^ 41 }
-    requires in_limits { AreInLimits options.now }
+    requires may_put { MayPut options.now (L.going feed.old) (L.bound feed.old) }
     ensures { WritesRecords L.rest L.origin L.faults M.taken M.lent M.faults
         (λ records. totals_of (chunks_under options.now records)) (file_under options.now) result feed.old feed.new made.old made.new }
 {
@@ -121,12 +119,9 @@ pub fn write_after<R: Threads + Sync, L: RecordFeed, M: Sink + Send>(
     feed: &mut L,
     made: &mut M,
 ) -> Result<Totals, WriteEnd>
-    requires from_boundary { IsBoundary at }
+    requires place { IsBoundaryWithin at (2 ^ 60) }
     requires behind_signature { 64 ≤ at }
-    requires within { at ≤ 2 ^ 60 }
-    requires feed_going { L.going feed.old ≡ true }
-    requires in_reach { L.bound feed.old ≤ 2 ^ 41 }
-    requires in_limits { AreInLimits options.now }
+    requires may_put { MayPut options.now (L.going feed.old) (L.bound feed.old) }
     ensures written { WritesRecords L.rest L.origin L.faults M.taken M.lent M.faults
         (λ records. totals_from at (tail_chunks options.now at records)) (tail_under options.now at) result feed.old feed.new made.old made.new }
     ensures in_reach { IfOk result (λ totals. at + totals.bytes < 2 ^ 64) }
@@ -162,9 +157,7 @@ pub fn write_coded<R: Threads + Sync, C: Coder + Sync, L: RecordFeed, M: Sink + 
     made: &mut M,
 ) -> Result<Totals, WriteEnd>
     requires codes { CodesSimply (C.chunk_of coder.now) }
-    requires feed_going { L.going feed.old ≡ true }
-    requires in_reach { L.bound feed.old ≤ 2 ^ 41 }
-    requires in_limits { AreInLimits options.now }
+    requires may_put { MayPut options.now (L.going feed.old) (L.bound feed.old) }
     ensures { WritesRecords L.rest L.origin L.faults M.taken M.lent M.faults
         (λ records. totals_of (chunks_under options.now records)) (file_under options.now) result feed.old feed.new made.old made.new }
 {
@@ -183,8 +176,7 @@ fn write_rest<R: Threads + Sync, L: RecordFeed, M: Sink + Send>(
     feed: &mut L,
     made: &mut M,
 ) -> Result<Totals, WriteEnd>
-    requires follows { MayFollow file.old options.now (L.bound feed.old) }
-    requires feed_going { L.going feed.old ≡ true }
+    requires follows { MayFollow file.old options.now (L.going feed.old) (L.bound feed.old) }
     ensures { WritesBehind L.rest L.origin L.faults M.taken M.lent M.faults options.now file.old result feed.old feed.new made.old made.new }
 {
     if options.workers > 1 {
@@ -208,8 +200,7 @@ fn write<R: Threads + Sync, C: Coder + Sync, W: Window + Send, L: RecordFeed, M:
 ) -> Result<Totals, WriteEnd>
     requires codes { CodesSimply (C.chunk_of coder.now) }
     requires empty { W.groups window ≡ [] }
-    requires follows { MayFollow file.old options.now (L.bound feed.old) }
-    requires feed_going { L.going feed.old ≡ true }
+    requires follows { MayFollow file.old options.now (L.going feed.old) (L.bound feed.old) }
     ensures { WritesBehind L.rest L.origin L.faults M.taken M.lent M.faults options.now file.old result feed.old feed.new made.old made.new }
 {
     let mut pipeline = Pipeline::new(alloc, options, window);
@@ -244,10 +235,9 @@ fn put_chunks<R: Threads + Sync, C: Coder + Sync, W: Window + Send, L: RecordFee
     made: &mut M,
 ) -> Result<Option<Stop>, CutOff>
     requires codes { CodesSimply (C.chunk_of coder.now) }
-    requires follows { MayFollow file.old options.now (L.bound feed.old) }
+    requires follows { MayFollow file.old options.now (L.going feed.old) (L.bound feed.old) }
     requires windows { HaveNoGroup W.groups W.ready pipeline.old.next pipeline.old.coming.taken pipeline.old.coming.free }
     requires taker { HasTakenNone pipeline.old.coming.taker options.now }
-    requires feed_going { L.going feed.old ≡ true }
     ensures put { PutsRecords L.rest L.origin L.faults M.taken M.lent M.faults (tail_chunks options.now file.old.place)
         result file.old file.new feed.old feed.new made.old made.new }
     ensures behind { OnOk result (file.old.place ≤ file.new.place) }
@@ -283,10 +273,9 @@ fn put_groups<R: Threads + Sync, C: Coder + Sync, W: Window + Send, L: RecordFee
     feed: &mut L,
     made: &mut M,
 ) -> Result<Option<Stop>, CutOff>
-    requires codes { CodesSimply (C.chunk_of coder.now) }
+    requires work { MayCodeAndTake (C.chunk_of coder.now) (L.going feed.old) }
     requires going { file.old.spent ≡ false }
     requires windows { HaveNoGroup W.groups W.ready pipeline.old.next pipeline.old.coming.taken pipeline.old.coming.free }
-    requires feed_going { L.going feed.old ≡ true }
     requires in_reach { reach_of file.old.place pipeline.old.coming.taker (L.bound feed.old) ≤ 2 ^ 61 }
     ensures put { PutsRecords L.rest L.origin L.faults M.taken M.lent M.faults
         (λ records. chunks_of_groups (groups_from pipeline.old.coming.taker records))
@@ -299,7 +288,7 @@ fn put_groups<R: Threads + Sync, C: Coder + Sync, W: Window + Send, L: RecordFee
         match part {
             Ok(FeedPart::Window) => part = pipeline.go_on(rt, coder, file, feed, made)?,
             Ok(FeedPart::All(stop)) => break Ok(stop),
-            Err(end) => break Err(CutOff::from(end)),
+            Err(cut) => break Err(cut),
         }
     };
     // What was taken before the work was cut off is put too.

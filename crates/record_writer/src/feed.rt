@@ -1,7 +1,7 @@
-ghost use Rattle.std.specs.Prelude.{◌≡◌, ◌≢◌, ℕ, ◌+◌, ◌^◌, ◌≤◌, true, false, Bool, Option, length, IfSome, OnOk};
+ghost use Rattle.std.specs.Prelude.{◌≡◌, ◌≢◌, ℕ, ◌≤◌, true, false, Bool, Option, IfSome, OnOk};
 ghost use Rattle.record_io.specs.Calls.{OnlyCounts};
 ghost use Rattle.record_writer.specs.Feeds.{Rest, stop_alone};
-ghost use Rattle.record_writer.specs.FeedSteps.{Origin, GivesRecord, HandsOn, no_origin, nothing_left};
+ghost use Rattle.record_writer.specs.FeedSteps.{GivesNext, HandsNone, HandsOn, IsAtEnd, Origin, ReadsNothing, no_origin};
 
 use record_group::Grouper;
 use record_io::{Bytes, Failed};
@@ -76,11 +76,9 @@ pub trait RecordFeed {
     fn pull(&mut self, alloc: Global, into: &mut Bytes) -> Result<bool, FeedEnd>
         requires { going self.old ≡ true }
         ensures going { OnOk result (going self.new ≡ true) }
-        ensures next { result ≡ Ok true → GivesRecord (rest self.old) (rest self.new) into.new }
-        ensures at_most { result ≡ Ok true → length into.new ≤ 2 ^ 24 }
-        ensures lowers { result ≡ Ok true → bound self.new + length into.new + 1 ≤ bound self.old }
-        ensures at_end { result ≡ Ok false → IfSome (rest self.old) (λ r. r ≡ nothing_left) }
-        ensures end_kept { result ≡ Ok false → rest self.new ≡ rest self.old }
+        ensures gives { result ≡ Ok true → GivesNext (rest self.old) (rest self.new)
+            (bound self.old) (bound self.new) into.new }
+        ensures at_end { result ≡ Ok false → IsAtEnd (rest self.old) (rest self.new) }
         ensures stop { (s : Stop) → result ≡ Err (FeedEnd.Stop s) → IfSome (rest self.old) (λ r. r ≡ stop_alone s) }
         ensures never_rises { bound self.new ≤ bound self.old }
         ensures counts { OnlyCounts origin faults (result ≡ Err FeedEnd.Failed) self.old self.new };
@@ -89,12 +87,9 @@ pub trait RecordFeed {
     /// before it, and answers whether that is so. Else, and after want of memory, both are as before. A feed need not do so.
     fn push_held(&mut self, grouper: &mut Grouper) -> Result<bool, AllocError>
         ensures pushed { result ≡ Ok true → HandsOn (rest self.old) (rest self.new) (bound self.old) (bound self.new) grouper.old grouper.new }
-        ensures rest_kept { result ≢ Ok true → rest self.new ≡ rest self.old }
-        ensures bound_kept { result ≢ Ok true → bound self.new ≡ bound self.old }
-        ensures grouper_kept { result ≢ Ok true → grouper.new ≡ grouper.old }
-        ensures same_going { going self.new ≡ going self.old }
-        ensures same_origin { origin self.new ≡ origin self.old }
-        ensures same_faults { faults self.new ≡ faults self.old }
+        ensures kept { result ≢ Ok true → HandsNone (rest self.old) (rest self.new) (bound self.old)
+            (bound self.new) grouper.old grouper.new }
+        ensures keeps { ReadsNothing going origin faults self.old self.new }
     {
         Ok(false)
     }

@@ -2,11 +2,12 @@ ghost use Rattle.std.specs.Option.{option_to_list};
 ghost use Rattle.std.specs.Prelude.{◌≡◌, ℕ, ◌+◌, ◌^◌, ◌<◌, ◌≤◌, true, Option, List, [], ◌++◌, length, OnOk, OnErr};
 ghost use Rattle.meta_chunk.specs.Files.{end_of_chunks};
 ghost use Rattle.record_group.specs.Groupings.{groups_from, IsPush};
+ghost use Rattle.record_writer.specs.FeedSteps.{ReadsNothing};
 ghost use Rattle.record_writer.specs.MadeFiles.{AreGiven, chunks_of_groups, reach_of};
 ghost use Rattle.record_writer.specs.Windows.{HasTakenNone, TakesGroups};
 ghost use Rattle.record_writer.specs.OptionLimits.{AreInLimits};
 
-use crate::cut_off::TakeEnd;
+use crate::cut_off::CutOff;
 use crate::feed::{FeedEnd, RecordFeed, Stop};
 use crate::options::WriteOptions;
 use crate::pace::Pace;
@@ -30,7 +31,6 @@ pub(crate) enum FeedPart {
 #[derive(Drop)]
 pub(crate) struct GroupTaker {
     alloc: Global,
-    options: WriteOptions,
     grouper: Grouper,
     /// The record that was pulled last.
     rec: Bytes,
@@ -38,13 +38,10 @@ pub(crate) struct GroupTaker {
 
 impl Model for GroupTaker {
     ghost use Rattle.record_group.specs.Groupings.{Grouping};
-    ghost use Rattle.record_writer.specs.OptionLimits.{AreInLimits};
 
     ghost Value = { Grouping };
 
     ghost view = { λ t. t.grouper };
-
-    ghost invariant = { λ t. AreInLimits t.options };
 }
 
 impl GroupTaker {
@@ -55,7 +52,6 @@ impl GroupTaker {
     {
         GroupTaker {
             alloc,
-            options: *options,
             grouper: Grouper::new(alloc, options.size, options.every),
             rec: Bytes::new(alloc),
         }
@@ -68,7 +64,7 @@ impl GroupTaker {
         feed: &mut L,
         window: &mut W,
         pace: &Pace,
-    ) -> Result<FeedPart, TakeEnd>
+    ) -> Result<FeedPart, CutOff>
         requires feed_going { L.going feed.old ≡ true }
         requires empty { W.groups window.old ≡ [] }
         ensures { TakesGroups L.rest L.bound L.going L.origin L.faults feed.old feed.new self.old self.new (W.groups window.new) result }
@@ -85,8 +81,8 @@ impl GroupTaker {
                 )?,
                 Ok(false) => break None,
                 Err(FeedEnd::Stop(stop)) => break Some(stop),
-                Err(FeedEnd::Failed) => return Err(TakeEnd::Input),
-                Err(FeedEnd::Memory) => return Err(TakeEnd::Memory),
+                Err(FeedEnd::Failed) => return Err(CutOff::Input),
+                Err(FeedEnd::Memory) => return Err(CutOff::Memory),
             }
             if window.is_full(pace) {
                 return Ok(FeedPart::Window);
@@ -104,7 +100,7 @@ impl GroupTaker {
         ensures in_reach { (place : ℕ) → reach_of (end_of_chunks place (chunks_of_groups (W.groups window.new))) self.new 0
             ≤ reach_of (end_of_chunks place (chunks_of_groups (W.groups window.old))) self.old 0 }
     {
-        let next = Grouper::new(self.alloc, self.options.size, self.options.every);
+        let next = self.grouper.emptied();
         if let Some(mut group) = mem::replace(&mut self.grouper, next).finish() {
             window.push(self.alloc, &mut group, pace)?;
         }
@@ -117,9 +113,7 @@ fn take_held<L: RecordFeed>(grouper: &mut Grouper, feed: &mut L) -> Result<(), A
     ensures taken { AreGiven (L.rest feed.old) (L.rest feed.new) grouper.old grouper.new [] }
     ensures lowers { L.bound feed.new ≤ L.bound feed.old }
     ensures in_reach { (place : ℕ) → reach_of place grouper.new (L.bound feed.new) ≤ reach_of place grouper.old (L.bound feed.old) }
-    ensures same_going { L.going feed.new ≡ L.going feed.old }
-    ensures same_faults { L.faults feed.new ≡ L.faults feed.old }
-    ensures same_origin { L.origin feed.new ≡ L.origin feed.old }
+    ensures keeps { ReadsNothing L.going L.origin L.faults feed.old feed.new }
 {
     while feed.push_held(grouper)? {}
     Ok(())

@@ -1,13 +1,12 @@
-ghost use Rattle.std.specs.Prelude.{◌≡◌, ◌^◌, ◌≤◌, true, false, [], ◌∷◌, OnOk, OnErr, IsErr};
-ghost use Rattle.block_layout.specs.Layout.{IsBoundary};
-ghost use Rattle.record_io.specs.Calls.{OnlyCounts, PutsTo};
+ghost use Rattle.std.specs.Prelude.{◌≡◌, ◌^◌, ◌≤◌, true, [], ◌∷◌};
+ghost use Rattle.record_io.specs.Calls.{PutsTo};
 ghost use Rattle.chunk_header.specs.SimpleChunks.{simple_chunk};
 ghost use Rattle.chunk_header.specs.Views.{value_of_chunk, HasRightHash};
 ghost use Rattle.meta_chunk.specs.Files.{is_unread, signature};
-ghost use Rattle.meta_chunk.specs.Laid.{end_of_chunk};
 ghost use Rattle.meta_chunk.specs.PaddingSizes.{padding_at};
+ghost use Rattle.ordered_writer.specs.Writers.{IsBoundaryWithin};
 ghost use Rattle.record_group.specs.Groups.{padding_if};
-ghost use Rattle.record_writer.specs.MadeFiles.{Lays, LaysFront, LaysTo, MayLay, nothing_made, resumed_at, spent_in, totals_made};
+ghost use Rattle.record_writer.specs.MadeFiles.{LaysOrSpends, MayLay, MayPad, nothing_made, resumed_at, totals_made};
 
 use chunk_header::Chunk;
 use ordered_writer::OrderedWriter;
@@ -48,8 +47,7 @@ impl MadeFile {
 
     /// A file that goes on behind bytes that others wrote, at a boundary of 2^61 at most. Of these it counts the bytes alone.
     pub fn resume(place: u64) -> MadeFile
-        requires boundary { IsBoundary place }
-        requires in_reach { place ≤ 2 ^ 61 }
+        requires { IsBoundaryWithin place (2 ^ 61) }
         ensures { result ≡ resumed_at place }
     {
         MadeFile {
@@ -69,10 +67,8 @@ impl MadeFile {
     /// and the counts are as before.
     pub fn start<M: Sink>(&mut self, made: &mut M) -> Result<(), Failed>
         requires at_front { self.old ≡ nothing_made }
-        ensures whole { OnOk result (Lays (M.taken made.old) (M.taken made.new) self.old self.new (signature ∷ [])) }
-        ensures front { OnErr result (LaysFront (IsErr result) (M.taken made.old) (M.taken made.new) self.old self.new (signature ∷ [])) }
-        ensures spent { OnErr result (self.new ≡ spent_in self.old) }
-        ensures made { OnlyCounts M.lent M.faults (IsErr result) made.old made.new }
+        ensures laid { LaysOrSpends M.taken M.lent M.faults result self.old self.new
+            (signature ∷ []) made.old made.new }
     {
         self.writer.start_into(&mut self.buffer, made)?;
         self.chunks = 1;
@@ -86,14 +82,11 @@ impl MadeFile {
     /// `Failed` only where the sink failed. It took a front of what was held and the chunk, and not all. Nothing is held then, and
     /// the counts are as before.
     pub fn put<M: Sink>(&mut self, made: &mut M, chunk: &Chunk, unread: bool) -> Result<(), Failed>
-        requires going { self.old.spent ≡ false }
-        requires in_reach { end_of_chunk self.old.place (value_of_chunk chunk.now) ≤ 2 ^ 62 }
+        requires may_lay { MayLay self.old (value_of_chunk chunk.now ∷ []) }
         requires right { HasRightHash chunk.now }
         requires unread { unread ≡ is_unread (value_of_chunk chunk.now) }
-        ensures whole { OnOk result (Lays (M.taken made.old) (M.taken made.new) self.old self.new (value_of_chunk chunk.now ∷ [])) }
-        ensures front { OnErr result (LaysFront (IsErr result) (M.taken made.old) (M.taken made.new) self.old self.new (value_of_chunk chunk.now ∷ [])) }
-        ensures spent { OnErr result (self.new ≡ spent_in self.old) }
-        ensures made { OnlyCounts M.lent M.faults (IsErr result) made.old made.new }
+        ensures laid { LaysOrSpends M.taken M.lent M.faults result self.old self.new
+            (value_of_chunk chunk.now ∷ []) made.old made.new }
     {
         self.writer.put_into(&mut self.buffer, made, chunk)?;
         self.chunks += 1;
@@ -118,9 +111,8 @@ impl MadeFile {
     ) -> Result<(), Failed>
         requires may_lay { MayLay self.old (simple_chunk chunk.now.records ∷ []) }
         requires encoded { chunk.now.encoded ≡ true }
-        ensures laid { LaysTo M.taken M.lent M.faults (IsErr result) result self.old self.new (simple_chunk chunk.now.records ∷ [])
-            made.old made.new }
-        ensures spent { OnErr result (self.new ≡ spent_in self.old) }
+        ensures laid { LaysOrSpends M.taken M.lent M.faults result self.old self.new
+            (simple_chunk chunk.now.records ∷ []) made.old made.new }
     {
         let header = chunk.header();
         let (front, records) = chunk.data();
@@ -133,22 +125,18 @@ impl MadeFile {
 
     /// Puts the padding up to a block, where it is wanted.
     pub(crate) fn pad_if<M: Sink>(&mut self, wanted: bool, made: &mut M) -> Result<(), Failed>
-        requires going { self.old.spent ≡ false }
-        requires in_reach { self.old.place ≤ 2 ^ 61 }
-        ensures laid { LaysTo M.taken M.lent M.faults (IsErr result) result self.old self.new (padding_if wanted self.old.place)
-            made.old made.new }
-        ensures spent { OnErr result (self.new ≡ spent_in self.old) }
+        requires may_pad { MayPad self.old }
+        ensures laid { LaysOrSpends M.taken M.lent M.faults result self.old self.new
+            (padding_if wanted self.old.place) made.old made.new }
     {
         if wanted { self.pad(made) } else { Ok(()) }
     }
 
     /// Puts the padding up to a block, which at a block is none.
     fn pad<M: Sink>(&mut self, made: &mut M) -> Result<(), Failed>
-        requires going { self.old.spent ≡ false }
-        requires in_reach { self.old.place ≤ 2 ^ 61 }
-        ensures laid { LaysTo M.taken M.lent M.faults (IsErr result) result self.old self.new (padding_at self.old.place)
-            made.old made.new }
-        ensures spent { OnErr result (self.new ≡ spent_in self.old) }
+        requires may_pad { MayPad self.old }
+        ensures laid { LaysOrSpends M.taken M.lent M.faults result self.old self.new
+            (padding_at self.old.place) made.old made.new }
     {
         let begin = self.writer.position();
         self.writer.pad_into(&mut self.buffer, made)?;
@@ -165,7 +153,6 @@ impl MadeFile {
     /// `Failed` only where the sink failed. It took a front of what was held, and not all.
     pub fn flush<M: Sink>(&mut self, made: &mut M) -> Result<(), Failed>
         ensures made { PutsTo M.taken M.lent M.faults result self.old.held made.old made.new }
-        ensures same_totals { totals_made self.new ≡ totals_made self.old }
         ensures emptied { self.new ≡ record self.old { held = [] } }
     {
         self.buffer.flush(made)

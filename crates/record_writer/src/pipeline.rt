@@ -1,12 +1,12 @@
-ghost use Rattle.std.specs.Prelude.{◌≡◌, ℕ, true, List, [], ◌++◌, Err, IfOk, IsErr, OnOk};
+ghost use Rattle.std.specs.Prelude.{◌≡◌, ◌≢◌, ℕ, true, List, [], ◌++◌, Err, IfOk, IsErr, OnOk};
 ghost use Rattle.record_io.specs.Calls.{OnlyCounts};
-ghost use Rattle.record_writer.specs.CodedWindows.{CodesSimply, IsCoded};
+ghost use Rattle.record_writer.specs.CodedWindows.{CodesSimply, IsCoded, MayCodeAndTake};
 ghost use Rattle.record_writer.specs.MadeFiles.{LaysTo, MayLay, chunks_of_groups};
 ghost use Rattle.record_writer.specs.Windows.{HasTakenNone, HaveNoGroup, StandInOrder, TakesGroups};
 ghost use Rattle.record_writer.specs.OptionLimits.{AreInLimits};
 
 use crate::coding::Workers;
-use crate::cut_off::{PutEnd, TakeEnd};
+use crate::cut_off::CutOff;
 use crate::feed::RecordFeed;
 use crate::group_taker::{FeedPart, GroupTaker};
 use crate::made_file::MadeFile;
@@ -60,7 +60,7 @@ impl<W: Window + Send> Pipeline<W> {
     }
 
     /// Takes the first window. At the end of the feed, also where that is a stop, the last group is in it.
-    pub fn begin<L: RecordFeed>(&mut self, feed: &mut L) -> Result<FeedPart, TakeEnd>
+    pub fn begin<L: RecordFeed>(&mut self, feed: &mut L) -> Result<FeedPart, CutOff>
         requires windows { HaveNoGroup W.groups W.ready self.old.next self.old.coming.taken self.old.coming.free }
         requires feed_going { L.going feed.old ≡ true }
         ensures taken { TakesGroups L.rest L.bound L.going L.origin L.faults feed.old feed.new self.old.coming.taker self.new.coming.taker
@@ -86,18 +86,18 @@ impl<W: Window + Send> Pipeline<W> {
         file: &mut MadeFile,
         feed: &mut L,
         made: &mut M,
-    ) -> Result<Result<FeedPart, TakeEnd>, PutEnd>
-        requires codes { CodesSimply (C.chunk_of coder.now) }
+    ) -> Result<Result<FeedPart, CutOff>, CutOff>
+        requires work { MayCodeAndTake (C.chunk_of coder.now) (L.going feed.old) }
         requires may_lay { MayLay file.old (chunks_of_groups (W.groups self.old.next)) }
         requires windows { StandInOrder W.groups W.ready self.old.next self.old.coming.free }
-        requires feed_going { L.going feed.old ≡ true }
-        ensures laid { LaysTo M.taken M.lent M.faults (result ≡ Err PutEnd.Made) result file.old file.new
+        ensures laid { LaysTo M.taken M.lent M.faults (result ≡ Err CutOff.Made) result file.old
+            file.new
             (chunks_of_groups (W.groups self.old.next)) made.old made.new }
         ensures taken { IfOk result (λ part. (more : List (List (List ℕ)))
             × (W.groups self.new.next ++ W.groups self.new.coming.taken ≡ W.groups self.old.coming.taken ++ more)
             × TakesGroups L.rest L.bound L.going L.origin L.faults feed.old feed.new self.old.coming.taker self.new.coming.taker more part) }
         ensures windows { OnOk result (StandInOrder W.groups W.ready self.new.next self.new.coming.free) }
-        ensures feed { OnlyCounts L.origin L.faults ⊥ feed.old feed.new }
+        ensures feed { OnlyCounts L.origin L.faults (result ≡ Err CutOff.Input) feed.old feed.new }
     {
         let (laid, (coded, part)) = if self.next.is_empty() || self.next.is_large() {
             let laid = self.next.put(file, made);
@@ -121,12 +121,11 @@ impl<W: Window + Send> Pipeline<W> {
         made: &mut M,
     ) -> (
         Result<(), Failed>,
-        (Result<(), AllocError>, Result<FeedPart, TakeEnd>),
+        (Result<(), AllocError>, Result<FeedPart, CutOff>),
     )
-        requires codes { CodesSimply (C.chunk_of coder.now) }
+        requires work { MayCodeAndTake (C.chunk_of coder.now) (L.going feed.old) }
         requires may_lay { MayLay file.old (chunks_of_groups (W.groups self.old.next)) }
         requires windows { StandInOrder W.groups W.ready self.old.next self.old.coming.free }
-        requires feed_going { L.going feed.old ≡ true }
         ensures laid { LaysTo M.taken M.lent M.faults (IsErr result.0) result.0 file.old file.new
             (chunks_of_groups (W.groups self.old.next)) made.old made.new }
         ensures emptied { OnOk result.0 (W.groups self.new.next ≡ []) }
@@ -147,9 +146,8 @@ impl<W: Window + Send> Pipeline<W> {
                 pace.end_put(put.is_err());
                 put
             },
-            &mut || -> (Result<(), AllocError>, Result<FeedPart, TakeEnd>)
-                requires codes { CodesSimply (C.chunk_of coder.now) }
-                requires feed_going { L.going feed.now ≡ true }
+            &mut || -> (Result<(), AllocError>, Result<FeedPart, CutOff>)
+                requires work { MayCodeAndTake (C.chunk_of coder.now) (L.going feed.now) }
                 requires free { W.groups coming.now.free ≡ [] }
             { coming.code_and_take(rt, coder, feed, pace) },
         )
@@ -167,12 +165,14 @@ impl<W: Window + Send> Pipeline<W> {
         coder: &C,
         file: &mut MadeFile,
         made: &mut M,
-    ) -> Result<(), PutEnd>
+    ) -> Result<(), CutOff>
         requires codes { CodesSimply (C.chunk_of coder.now) }
         requires may_lay { MayLay file.old (chunks_of_groups (W.groups self.old.next ++ W.groups self.old.coming.taken)) }
         requires ready { W.ready self.old.next }
-        ensures { LaysTo M.taken M.lent M.faults (result ≡ Err PutEnd.Made) result file.old file.new
+        ensures laid { LaysTo M.taken M.lent M.faults (result ≡ Err CutOff.Made) result file.old
+            file.new
             (chunks_of_groups (W.groups self.old.next ++ W.groups self.old.coming.taken)) made.old made.new }
+        ensures no_feed { result ≢ Err CutOff.Input }
     {
         let (put, coded) = self.put_and_code(rt, coder, file, made);
         put?;
@@ -239,9 +239,8 @@ impl<W: Window + Send> Coming<W> {
         coder: &C,
         feed: &mut L,
         pace: &Pace,
-    ) -> (Result<(), AllocError>, Result<FeedPart, TakeEnd>)
-        requires codes { CodesSimply (C.chunk_of coder.now) }
-        requires feed_going { L.going feed.old ≡ true }
+    ) -> (Result<(), AllocError>, Result<FeedPart, CutOff>)
+        requires work { MayCodeAndTake (C.chunk_of coder.now) (L.going feed.old) }
         requires free { W.groups self.old.free ≡ [] }
         ensures coded { OnOk result.0 (IsCoded W.groups W.ready self.old.taken self.new.taken) }
         ensures taken { TakesGroups L.rest L.bound L.going L.origin L.faults feed.old feed.new self.old.taker self.new.taker (W.groups self.new.free) result.1 }
@@ -260,7 +259,7 @@ impl<W: Window + Send> Coming<W> {
             &mut || -> Result<(), AllocError>
                 requires codes { CodesSimply (C.chunk_of coder.now) }
             { workers.code(rt, coder, taken) },
-            &mut || -> Result<FeedPart, TakeEnd>
+            &mut || -> Result<FeedPart, CutOff>
                 requires feed_going { L.going feed.now ≡ true }
                 requires free { W.groups free.now ≡ [] }
             { taker.take_groups(feed, free, pace) },
@@ -280,7 +279,7 @@ impl<W: Window + Send> Coming<W> {
     }
 
     /// Takes the next window.
-    fn take<L: RecordFeed>(&mut self, feed: &mut L, pace: &Pace) -> Result<FeedPart, TakeEnd>
+    fn take<L: RecordFeed>(&mut self, feed: &mut L, pace: &Pace) -> Result<FeedPart, CutOff>
         requires feed_going { L.going feed.old ≡ true }
         requires free { W.groups self.old.free ≡ [] }
         ensures taken { TakesGroups L.rest L.bound L.going L.origin L.faults feed.old feed.new self.old.taker self.new.taker (W.groups self.new.free) result }

@@ -25,17 +25,17 @@ end_is c = end_of_padding-inside c.args.at c.in-Some.size (is_inside c) c.in-Som
 pub unreachable-requires : goal.unreachable-requires
 unreachable-requires c =
     let k = (goal.at.unreachable-requires c).After-chunk_end in
-    let far = c.in_default-chunk_end.ensures.past_number in
+    let far = c.in_default-chunk_end.ensures.past in
     absurd (omega (arith, far, end_of_padding_near c.args.at c.in-Some.size (is_inside k) c.in-Some.ensures.size c.requires.in_reach))
 
 pub returns-clause-end : goal.returns-clause-end
-returns-clause-end c = c.in-Some-chunk_end.ensures.number ∙ sym (end_is (goal.at.returns-clause-end c).After-chunk_end)
+returns-clause-end c = c.in-Some-chunk_end.ensures.end ∙ sym (end_is (goal.at.returns-clause-end c).After-chunk_end)
 
 pub returns-clause-near : goal.returns-clause-near
 returns-clause-near c =
     omega (
       arith,
-      c.in-Some-chunk_end.ensures.number,
+      c.in-Some-chunk_end.ensures.end,
       end_is (goal.at.returns-clause-near c).After-chunk_end,
       padding_at_near c.args.at c.requires.boundary,
     )

@@ -28,7 +28,7 @@ returns-clause-grown g c =
     grown_whole c.args.options.now c.args.cut bytes (g.G.Store.bytes c.cut_to.new.device) (g.G.Store.bytes c.put_records.new.device)
     (g.L.RecordFeed.rest c.args.feed.now) c.args.size c.in_ok-kept.kept c.in_ok-put.put
     c.in_ok-kept.ensures.kept c.in_ok-kept.ensures.sized c.in_ok-kept.ensures.place.within
-    (rw c.judge.ensures.device.same_bytes at c.in_ok-cut_to.ensures.leaves)
+    (rw c.judge.ensures.device.asks.same_bytes at c.in_ok-cut_to.ensures.leaves)
     c.in_ok-put.ensures.answer c.in_ok-put.ensures.put
 
 pub returns-clause-answer : goal.returns-clause-answer

@@ -9,7 +9,7 @@ returns-in-Some-clause-refused g c =
     λ fault is.
     let same : c.in-Some.fault ≡ fault = cc in
     let bytes = g.G.Store.bytes c.args.device.now in
-    let sized : IsSized bytes c.args.size = sized_told bytes (g.G.Store.told c.args.device.now) c.args.size (g.met.G.Store.sized c.args.device.now) c.requires.told in
+    let sized : IsSized bytes c.args.size = sized_told bytes (g.G.Store.told c.args.device.now) c.args.size (g.met.G.Store.sized c.args.device.now) c.requires.sized.is_told in
     subst (λ (f : Fault). (0 < c.args.size) × RefusesFor c.args.cut f.why × IfSome bytes (λ file. IsRefusedToGrow c.args.cut file f)) same (
       c.in-Some.ensures.refused.1,
       c.in-Some.ensures.refused.2,
@@ -19,7 +19,7 @@ returns-in-Some-clause-refused g c =
 pub returns-in-None-clause-kept : goal.returns-in-None-clause-kept
 returns-in-None-clause-kept g c =
     let bytes = g.G.Store.bytes c.args.device.now in
-    let sized : IsSized bytes c.args.size = sized_told bytes (g.G.Store.told c.args.device.now) c.args.size (g.met.G.Store.sized c.args.device.now) c.requires.told in
+    let sized : IsSized bytes c.args.size = sized_told bytes (g.G.Store.told c.args.device.now) c.args.size (g.met.G.Store.sized c.args.device.now) c.requires.sized.is_told in
     kept_front c.args.cut bytes c.args.size c.in_ok-front.front sized c.in_ok-front.ensures.front (c.in-None.ensures.taken refl)
 
 pub returns-in-None-clause-place : goal.returns-in-None-clause-place

@@ -21,12 +21,15 @@ loop-chunk-init g c = record {
   counts = search rules;
 }
 
-pub put-requires-clause-in_reach : goal.put-requires-clause-in_reach
-put-requires-clause-in_reach g c =
+pub put-requires-clause-may_lay : goal.put-requires-clause-may_lay
+put-requires-clause-may_lay g c =
     let before = c.loop-chunk.invariant.laid in
     let is = ap (λ (cs : List Chunk). before.0 ++ cs) (sym c.in-Some.ensures.coming) ∙ before.1 in
-    next-within c.args.file.now.place c.loop-chunk.file.place (2 ^ 62) (coming c.args.chunks) before.0 (coming c.next.new.self) c.in-Some.chunk is before.2.place
-    c.requires.may_lay.in_reach
+    record {
+      going = before.2.going;
+      in_reach = next-within c.args.file.now.place c.loop-chunk.file.place (2 ^ 62) (coming c.args.chunks) before.0 (coming c.next.new.self) c.in-Some.chunk is
+          before.2.place c.requires.may_lay.in_reach;
+    }
 
 pub returns-in_err-put : goal.returns-in_err-put
 returns-in_err-put g c =
@@ -38,7 +41,7 @@ returns-in_err-put g c =
       whole = tt;
       front = LaysFront-next (g.M.Sink.taken c.args.made.now) (g.M.Sink.taken c.loop-chunk.made) (g.M.Sink.taken c.put.new.made) c.args.file.now
           c.loop-chunk.file c.put.new.self (coming c.args.chunks) before.0 (coming c.next.new.self) c.in-Some.chunk is before.2
-          c.in_err-put.ensures.front;
+          c.in_err-put.ensures.laid.laid.front;
       counts = search rules;
     })
 
@@ -53,7 +56,7 @@ loop-chunk-preserved g c =
       laid = (
         given ++ chunk ∷ [],
         append_assoc given (chunk ∷ []) rest ∙ ap (λ (cs : List Chunk). given ++ cs) (sym comes) ∙ before.laid.1,
-        Lays-next _ _ _ c.args.file.now c.loop-chunk.file c.put.new.self given chunk before.laid.2 c.in_ok-put.ensures.whole,
+        Lays-next _ _ _ c.args.file.now c.loop-chunk.file c.put.new.self given chunk before.laid.2 c.in_ok-put.ensures.laid.laid.whole,
       );
       right = (subst (AllByRecursion HasRightHash) comes before.right).1;
       read = (subst (AllByRecursion (λ (c : Chunk). is_unread (value_of_chunk c) ≡ false)) comes before.read).1;

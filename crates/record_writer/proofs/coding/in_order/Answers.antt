@@ -5,7 +5,7 @@ use Rattle.chunk_workers.specs.declared.numbered.Numbered.{Numbered}
 use Rattle.chunk_workers.specs.Windows.{paired}
 use Rattle.ordered_writer.specs.Reorders.{CanHoldEach, Reordering, reordering_from, room_of, with_each}
 use Rattle.ordered_writer.proofs.ByNumber.{can_hold_window}
-use Rattle.ordered_writer.proofs.Reorderings.{count_held-empty}
+use Rattle.ordered_writer.proofs.Reorderings.{count_held-empty, room_of-held}
 use Rattle.record_writer.proofs.coding.in_order.Goals as goal
 
 pub loop-numbered-init : goal.loop-numbered-init
@@ -40,7 +40,7 @@ loop-numbered-preserved c =
     let held = c.hold.ensures.held in
     record {
       wanted = ap (λ (r : Reordering). r.wanted) held ∙ before.wanted;
-      room = c.hold.ensures.room ∙ before.room;
+      room = ap room_of held ∙ room_of-held c.loop-numbered.order _ _ ∙ before.room;
       can_hold = subst (λ (r : Reordering). CanHoldEach r rest) (sym held)
           (subst (λ (items : List Numbered). CanHoldEach c.loop-numbered.order (paired items)) step before.can_hold).1;
       held = ap (λ (r : Reordering). with_each r rest) held

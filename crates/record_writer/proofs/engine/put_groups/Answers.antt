@@ -1,10 +1,10 @@
-use Rattle.std.proofs.Common.{◌≡◌, ◌^◌, ◌≤◌, ◌++◌, ◌≢◌, Ok, Err, Result, [], refl, subst, arith, rules}
+use Rattle.std.proofs.Common.{◌≡◌, ◌∙◌, ◌^◌, ◌≤◌, ◌++◌, ◌≢◌, Ok, Err, Result, [], refl, subst, arith, rules}
 use Rattle.std.proofs.lemmas.Result.{err_from_is_err_and}
 use Rattle.record_io.proofs.Calls.{OnErr-any}
 use Rattle.meta_chunk.specs.Files.{end_of_chunks}
 use Rattle.meta_chunk.proofs.Joins.{end_of_chunks_past}
+use Rattle.record_writer.specs.declared.cut_off.CutOff.{CutOff}
 use Rattle.record_writer.specs.declared.cut_off.CutOff.TheVariants.{Made}
-use Rattle.record_writer.specs.declared.cut_off.TakeEnd.{TakeEnd}
 use Rattle.record_writer.specs.declared.group_taker.FeedPart.{FeedPart}
 use Rattle.record_writer.specs.declared.group_taker.FeedPart.TheVariants.{Window, All}
 use Rattle.record_writer.specs.MadeFiles.{chunks_of_groups}
@@ -12,7 +12,7 @@ use Rattle.record_writer.specs.Windows.{AreTaken, TakesGroups}
 use Rattle.record_writer.proofs.Layings.{Lays-none, LaysFront-where, LaysFront-whole}
 use Rattle.record_writer.proofs.Given.{Lays-all, LaysFront-all, LaysFront-more}
 use Rattle.record_writer.proofs.Reaches.{reach_of-window, within-before}
-use Rattle.record_writer.proofs.Windows.{Lays-taken, LaysFront-taken, made_told, not_made, OnOk-any, TakesGroups-moved}
+use Rattle.record_writer.proofs.Windows.{Lays-taken, LaysFront-taken, handed_on, OnOk-any, TakesGroups-moved}
 use Rattle.record_writer.proofs.engine.put_groups.Goals as goal
 
 pub loop-part-init : goal.loop-part-init
@@ -50,7 +50,7 @@ returns-in_err-part-in-Ok-Window-clause-put g c =
       front = LaysFront-taken c.loop-part.part _ (g.L.RecordFeed.rest c.loop-part.feed) _ c.loop-part.pipeline.coming.taker (before.0 ++ (first ++ taken)) _ _ _ _ before.2.given_of
           (LaysFront-all _ _ _ _ c.loop-part.file c.go_on.new.file (before.0 ++ (first ++ taken)) before.0 (first ++ taken) refl before.1
           (LaysFront-more _ _ c.loop-part.file c.go_on.new.file first taken
-          (LaysFront-where _ _ c.loop-part.file c.go_on.new.file _ (made_told c.in_err-part-in-Ok-Window.field-0.0) c.in_err-part-in-Ok-Window.ensures.laid.front)));
+          (LaysFront-where _ _ c.loop-part.file c.go_on.new.file _ (handed_on c.in_err-part-in-Ok-Window.field-0.0 Made) c.in_err-part-in-Ok-Window.ensures.laid.front)));
       drained = search rules;
       feed = search rules;
       made = search rules;
@@ -71,7 +71,7 @@ loop-part-preserved g c =
             c.args.feed.now c.loop-part.feed c.go_on.new.feed c.args.pipeline.now.coming.taker c.loop-part.pipeline.coming.taker c.go_on.new.self.coming.taker
             before.0 first taken next.0 (g.W.Window.groups c.go_on.new.self.next ++ g.W.Window.groups c.go_on.new.self.coming.taken)
             c.in_ok-part-in-Ok-Window.part next.1
-            (subst (λ (t : Result FeedPart TakeEnd). TakesGroups g.L.RecordFeed.rest g.L.RecordFeed.bound g.L.RecordFeed.going g.L.RecordFeed.origin
+            (subst (λ (t : Result FeedPart CutOff). TakesGroups g.L.RecordFeed.rest g.L.RecordFeed.bound g.L.RecordFeed.going g.L.RecordFeed.origin
             g.L.RecordFeed.faults c.args.feed.now c.loop-part.feed c.args.pipeline.now.coming.taker c.loop-part.pipeline.coming.taker
             (before.0 ++ (first ++ taken)) t) more before.2)
             next.2,
@@ -100,7 +100,7 @@ returns-in_err-finish-clause-put g c =
       whole = tt;
       front = LaysFront-taken c.loop-part.part _ (g.L.RecordFeed.rest c.loop-part.feed) _ c.loop-part.pipeline.coming.taker (before.0 ++ held) _ _ _ _ before.2.given_of
           (LaysFront-all _ _ _ _ c.loop-part.file c.finish.new.file (before.0 ++ held) before.0 held refl before.1
-          (LaysFront-where _ _ c.loop-part.file c.finish.new.file _ (made_told c.in_err-finish.field-0.0) c.in_err-finish.ensures.front));
+          (LaysFront-where _ _ c.loop-part.file c.finish.new.file _ (handed_on c.in_err-finish.field-0.0 Made) c.in_err-finish.ensures.laid.front));
       drained = search rules;
       feed = search rules;
       made = search rules;
@@ -110,11 +110,13 @@ pub returns-clause-put : goal.returns-clause-put
 returns-clause-put g c =
     let before = c.loop-part.invariant.laid in
     let held = g.W.Window.groups c.loop-part.pipeline.next ++ g.W.Window.groups c.loop-part.pipeline.coming.taken in
-    let laid = Lays-all _ _ _ c.args.file.now c.loop-part.file c.finish.new.file (before.0 ++ held) before.0 held refl before.1 c.in_ok-finish.ensures.whole in
+    let laid = Lays-all _ _ _ c.args.file.now c.loop-part.file c.finish.new.file (before.0 ++ held) before.0 held refl before.1 c.in_ok-finish.ensures.laid.whole in
     let done : c.match-part.end ≢ Err Made =
     elim c.match-part.branch [
       | goal.in-Ok-All w ↦ rw w.end-is (λ is. cc is)
-      | goal.in-Err w ↦ rw (w.end-is, w.from.ensures) (not_made w.in-Err.end)
+      | goal.in-Err w ↦
+          let part : c.loop-part.part ≡ Err w.in-Err.cut = search rules in
+          rw w.end-is (λ is. before.2.no_sink (part ∙ handed_on w.in-Err.cut Made is))
     ] in
     record {
       stop = search rules;
@@ -124,7 +126,7 @@ returns-clause-put g c =
             rw w.end-is
             (Lays-taken w.in-Ok-All.stop (g.L.RecordFeed.rest c.args.feed.now) (g.L.RecordFeed.rest c.loop-part.feed) c.args.pipeline.now.coming.taker
             c.loop-part.pipeline.coming.taker (before.0 ++ held) _ _ _ _
-            (subst (λ (t : Result FeedPart TakeEnd). AreTaken t (g.L.RecordFeed.rest c.args.feed.now) (g.L.RecordFeed.rest c.loop-part.feed) c.args.pipeline.now.coming.taker
+            (subst (λ (t : Result FeedPart CutOff). AreTaken t (g.L.RecordFeed.rest c.args.feed.now) (g.L.RecordFeed.rest c.loop-part.feed) c.args.pipeline.now.coming.taker
             c.loop-part.pipeline.coming.taker (before.0 ++ held)) ended before.2.given_of)
             laid)
         | goal.in-Err w ↦ rw w.end-is tt
@@ -132,7 +134,7 @@ returns-clause-put g c =
       front = OnErr-any _
           (LaysFront-taken c.loop-part.part _ (g.L.RecordFeed.rest c.loop-part.feed) _ c.loop-part.pipeline.coming.taker (before.0 ++ held) _ _ _ _ before.2.given_of
           (LaysFront-all _ _ _ _ c.loop-part.file c.finish.new.file (before.0 ++ held) before.0 held refl before.1
-          (LaysFront-whole _ _ _ _ _ done c.in_ok-finish.ensures.whole)));
+          (LaysFront-whole _ _ _ _ _ done c.in_ok-finish.ensures.laid.whole)));
       drained = search rules;
       feed = search rules;
       made = search rules;
@@ -150,9 +152,9 @@ returns-clause-place g c =
         arith,
         before.1.place,
         end_of_chunks_past c.args.file.now.place (chunks_of_groups before.0),
-        c.in_ok-finish.ensures.whole.place,
+        c.in_ok-finish.ensures.laid.whole.place,
         end_of_chunks_past c.loop-part.file.place (chunks_of_groups held),
       ),
-      omega (arith, near, c.in_ok-finish.ensures.whole.place),
+      omega (arith, near, c.in_ok-finish.ensures.laid.whole.place),
     ) in
     OnOk-any _ moved

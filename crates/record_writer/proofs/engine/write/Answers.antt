@@ -58,7 +58,7 @@ returns g c =
     let put = c.put_chunks-stop.ensures.put in
     let same : totals_made c.if-is_ok.file ≡ totals_made c.put_chunks-stop.new.file =
     elim c.if-is_ok.branch [
-      | goal.then-is_ok+in_ok-flush w ↦ rw w.file-is w.flush.ensures.same_totals
+      | goal.then-is_ok+in_ok-flush w ↦ rw w.file-is (ap totals_made w.flush.ensures.emptied)
       | goal.else-is_ok+else-totals-gt0 w ↦ rw w.file-is (refl {a = totals_made c.put_chunks-stop.new.file})
     ] in
     let totals = totals_made-ended c.args.options.now c.args.file.now _ _ c.put_chunks-stop.new.file _ c.put_chunks-stop.result put.whole in

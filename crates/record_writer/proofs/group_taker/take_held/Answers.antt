@@ -6,7 +6,7 @@ use Rattle.record_writer.proofs.group_taker.take_held.Goals as goal
 pub returns-in_err-push_held-clause-in_reach : goal.returns-in_err-push_held-clause-in_reach
 returns-in_err-push_held-clause-in_reach g c = λ place.
     let not : c.push_held.result ≢ Ok true = search rules in
-    reach_of-kept place c.loop.grouper c.push_held.new.grouper _ _ _ (c.push_held.ensures.grouper_kept not) (c.push_held.ensures.bound_kept not) (c.loop.invariant.in_reach place)
+    reach_of-kept place c.loop.grouper c.push_held.new.grouper _ _ _ (c.push_held.ensures.kept not).grouper (c.push_held.ensures.kept not).bound (c.loop.invariant.in_reach place)
 
 pub loop-preserved : goal.loop-preserved
 loop-preserved g c =
@@ -16,12 +16,14 @@ loop-preserved g c =
       given = AreGiven-push _ (g.L.RecordFeed.rest c.loop.feed) _ _ c.loop.grouper _ [] h.record_bytes None c.loop.invariant.given h.gives h.takes;
       lowers = omega (arith, h.lowers, c.loop.invariant.lowers);
       in_reach = λ place. reach_of-handed place c.loop.grouper c.push_held.new.grouper _ _ _ h.record_bytes h.takes h.lowers (c.loop.invariant.in_reach place);
-      same_going = c.push_held.ensures.same_going ∙ c.loop.invariant.same_going;
-      same_faults = c.push_held.ensures.same_faults ∙ c.loop.invariant.same_faults;
-      same_origin = c.push_held.ensures.same_origin ∙ c.loop.invariant.same_origin;
+      keeps = record {
+        same_going = c.push_held.ensures.keeps.same_going ∙ c.loop.invariant.keeps.same_going;
+        same_origin = c.push_held.ensures.keeps.same_origin ∙ c.loop.invariant.keeps.same_origin;
+        same_faults = c.push_held.ensures.keeps.same_faults ∙ c.loop.invariant.keeps.same_faults;
+      };
     }
 
 pub returns-clause-in_reach : goal.returns-clause-in_reach
 returns-clause-in_reach g c = λ place.
     let not : c.push_held.result ≢ Ok true = search rules in
-    reach_of-kept place c.loop.grouper c.push_held.new.grouper _ _ _ (c.push_held.ensures.grouper_kept not) (c.push_held.ensures.bound_kept not) (c.loop.invariant.in_reach place)
+    reach_of-kept place c.loop.grouper c.push_held.new.grouper _ _ _ (c.push_held.ensures.kept not).grouper (c.push_held.ensures.kept not).bound (c.loop.invariant.in_reach place)

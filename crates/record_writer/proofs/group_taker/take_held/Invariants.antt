@@ -1,4 +1,5 @@
-use Rattle.std.proofs.Common.{◌≡◌, ℕ, ◌≤◌, []}
+use Rattle.std.proofs.Common.{ℕ, ◌≤◌, []}
+use Rattle.record_writer.specs.FeedSteps.{ReadsNothing}
 use Rattle.record_writer.specs.MadeFiles.{AreGiven, reach_of}
 use Rattle.record_writer.proofs.group_taker.take_held.Given as goal
 
@@ -7,9 +8,7 @@ invariant-loop g l = record {
   given : AreGiven (g.L.RecordFeed.rest l.fn.feed) (g.L.RecordFeed.rest l.feed) l.fn.grouper l.grouper [];
   lowers : g.L.RecordFeed.bound l.feed ≤ g.L.RecordFeed.bound l.fn.feed;
   in_reach : (place : ℕ) → reach_of place l.grouper (g.L.RecordFeed.bound l.feed) ≤ reach_of place l.fn.grouper (g.L.RecordFeed.bound l.fn.feed);
-  same_going : g.L.RecordFeed.going l.feed ≡ g.L.RecordFeed.going l.fn.feed;
-  same_faults : g.L.RecordFeed.faults l.feed ≡ g.L.RecordFeed.faults l.fn.feed;
-  same_origin : g.L.RecordFeed.origin l.feed ≡ g.L.RecordFeed.origin l.fn.feed;
+  keeps : ReadsNothing g.L.RecordFeed.going g.L.RecordFeed.origin g.L.RecordFeed.faults l.fn.feed l.feed;
 }
 
 abbrev pub decreases-loop : goal.decreases-loop

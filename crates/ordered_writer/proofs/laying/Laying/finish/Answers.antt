@@ -20,7 +20,7 @@ loop-self-init g c =
 pub loop-self-smaller : goal.loop-self-smaller
 loop-self-smaller g c =
     let further : c.loop-self.self.place < end_of c.loop-self.self.place c.in_ok-put_run.field-0 = end_of_above c.loop-self.self.place c.in_ok-put_run.field-0 c.in_ok-put_run.ensures.some_put in
-    omega (arith, c.in_ok-put_run.ensures.moved, c.put_run.ensures.same_end)
+    omega (arith, c.in_ok-put_run.ensures.moved, c.put_run.ensures.span.same_end)
 
 pub loop-self-preserved : goal.loop-self-preserved
 loop-self-preserved g c =
@@ -38,17 +38,22 @@ loop-self-preserved g c =
       counts = search rules;
     }
 
-pub returns-in_err-put_run-clause-sink : goal.returns-in_err-put_run-clause-sink
-returns-in_err-put_run-clause-sink g c =
-    let self = c.args.self.now in
-    let i = c.loop-self.invariant in
-    let front = c.in_err-put_run.ensures.front in
-    let place : ℕ = c.loop-self.self.place in
-    let until : ℕ = min (end_of place 4096) self.end in
-    record {
-      whole = search rules;
-      front = OnErr-any _ (TakesShort-more_zeros _ _ _ c.args.buffer.now c.loop-self.buffer self.begin self.end self.place place until
-          4096 i.after (omega (arith, end_of_after place 4096)) (omega arith) i.taken (rw (i.begin, i.end) at front));
-      emptied = search rules;
-      counts = search rules;
-    }
+pub returns-in_err-put_run : goal.returns-in_err-put_run
+returns-in_err-put_run g c = record {
+  sink =
+      let self = c.args.self.now in
+      let i = c.loop-self.invariant in
+      let front = c.in_err-put_run.ensures.front in
+      let place : ℕ = c.loop-self.self.place in
+      let until : ℕ = min (end_of place 4096) self.end in
+      record {
+        through = record {
+          whole = search rules;
+          front = OnErr-any _ (TakesShort-more_zeros _ _ _ c.args.buffer.now c.loop-self.buffer self.begin self.end self.place place until
+              4096 i.after (omega (arith, end_of_after place 4096)) (omega arith) i.taken (rw (i.begin, i.end) at front));
+          emptied = search rules;
+          counts = search rules;
+        };
+        fits = λ _. c.put_run.ensures.fits;
+      };
+}

@@ -44,11 +44,14 @@ returns-in_err-at-clause-sink g c =
     run_end-rest self.place self.end c.loop-at.at bytes i.within c.requires.room in
     let front = rw (i.place, i.begin, i.end, until) at c.in_err-at.ensures.front in
     record {
-      whole = search rules;
-      front = OnErr-any _ (TakesShort-more _ _ _ c.args.buffer.now c.loop-at.buffer self.begin self.end self.place (end_of self.place c.loop-at.at) (end_of self.place (length bytes))
-          bytes rest (end_of_after self.place c.loop-at.at) (end_of_mono self.place c.loop-at.at (length bytes) i.within) (same_rest self.begin self.end self.place _ c.loop-at.at bytes) (rw i.place at i.taken) front);
-      emptied = search rules;
-      counts = search rules;
+      through = record {
+        whole = search rules;
+        front = OnErr-any _ (TakesShort-more _ _ _ c.args.buffer.now c.loop-at.buffer self.begin self.end self.place (end_of self.place c.loop-at.at) (end_of self.place (length bytes))
+            bytes rest (end_of_after self.place c.loop-at.at) (end_of_mono self.place c.loop-at.at (length bytes) i.within) (same_rest self.begin self.end self.place _ c.loop-at.at bytes) (rw i.place at i.taken) front);
+        emptied = search rules;
+        counts = search rules;
+      };
+      fits = λ _. c.put_run.ensures.fits;
     }
 
 pub loop-at-preserved : goal.loop-at-preserved

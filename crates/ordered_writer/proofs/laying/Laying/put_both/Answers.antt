@@ -14,12 +14,15 @@ pub returns-in_err-put-clause-sink : goal.returns-in_err-put-clause-sink
 returns-in_err-put-clause-sink g c =
     let self = c.args.self.now in
     record {
-      whole = search rules;
-      front = OnErr-any _ (TakesShort-first _ _ c.args.buffer.now self.begin self.end self.place (end_of self.place (length (c.args.front.now ++ c.args.rest.now)))
-          c.args.front.now c.args.rest.now (omega (arith, both_end self.place c.args.front.now c.args.rest.now, end_of_after (first_end self.place c.args.front.now) (length c.args.rest.now)))
-          c.in_err-put.ensures.sink.front);
-      emptied = search rules;
-      counts = search rules;
+      through = record {
+        whole = search rules;
+        front = OnErr-any _ (TakesShort-first _ _ c.args.buffer.now self.begin self.end self.place (end_of self.place (length (c.args.front.now ++ c.args.rest.now)))
+            c.args.front.now c.args.rest.now (omega (arith, both_end self.place c.args.front.now c.args.rest.now, end_of_after (first_end self.place c.args.front.now) (length c.args.rest.now)))
+            c.in_err-put.ensures.sink.through.front);
+        emptied = search rules;
+        counts = search rules;
+      };
+      fits = c.in_err-put.ensures.sink.fits;
     }
 
 -- where the others end
@@ -31,7 +34,7 @@ ends g c =
 pub put-requires-2 : goal.put-requires-2
 put-requires-2 g c = (
   search rules,
-  omega (arith, ends g (goal.at.put-requires-2 g c).In_ok-put, c.in_ok-put.ensures.same_end, c.requires.room),
+  omega (arith, ends g (goal.at.put-requires-2 g c).In_ok-put, c.in_ok-put.ensures.span.same_end, c.requires.room),
 )
 
 pub returns-clause-moved : goal.returns-clause-moved
@@ -43,15 +46,18 @@ returns-clause-sink g c =
     let self = c.args.self.now in
     let e = c.in_ok-put.ensures in
     let until = end_of self.place (length (c.args.front.now ++ c.args.rest.now)) in
-    let then = rw (ends g (goal.at.returns-clause-sink g c).In_ok-put, e.same_begin, e.same_end, e.moved) at c.put-2.ensures.sink in
+    let then = rw (ends g (goal.at.returns-clause-sink g c).In_ok-put, e.span.same_begin, e.span.same_end, e.moved) at c.put-2.ensures.sink in
     let is_until = sym (both_end self.place c.args.front.now c.args.rest.now) in
     record {
-      whole = on_ok_weaker c.put-2.result
-          (TakesAndHolds-both _ _ _ c.args.buffer.now c.put.new.buffer c.put-2.new.buffer self.begin self.end self.place until c.args.front.now c.args.rest.now
-          is_until e.sink.whole) then.whole;
-      front = on_err_weaker c.put-2.result
-          (TakesShort-second _ _ _ c.args.buffer.now c.put.new.buffer self.begin self.end self.place until c.args.front.now c.args.rest.now
-          is_until e.sink.whole) then.front;
-      emptied = search rules;
-      counts = search rules;
+      through = record {
+        whole = on_ok_weaker c.put-2.result
+            (TakesAndHolds-both _ _ _ c.args.buffer.now c.put.new.buffer c.put-2.new.buffer self.begin self.end self.place until c.args.front.now c.args.rest.now
+            is_until e.sink.through.whole) then.through.whole;
+        front = on_err_weaker c.put-2.result
+            (TakesShort-second _ _ _ c.args.buffer.now c.put.new.buffer self.begin self.end self.place until c.args.front.now c.args.rest.now
+            is_until e.sink.through.whole) then.through.front;
+        emptied = search rules;
+        counts = search rules;
+      };
+      fits = λ within. c.put-2.ensures.sink.fits (e.sink.fits within);
     }

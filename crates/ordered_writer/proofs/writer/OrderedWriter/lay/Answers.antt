@@ -18,7 +18,7 @@ place_is g c = ap (λ (w : Writer). w.position) c.self.view_is
 end_is : (g : _) (c : After-to_bytes g)
     → c.in-Some.end ≡ chunk_end_of c.args.self.now.position (40 + c.args.header.now.data_size) c.args.header.now.num_records
 end_is g c =
-    c.in-Some.ensures.number
+    c.in-Some.ensures.end
     ∙ ap (λ (begin : ℕ). chunk_end_of begin (40 + c.args.header.now.data_size) c.args.header.now.num_records) (place_is g c)
 
 pub lay_chunk-requires : goal.lay_chunk-requires
@@ -26,7 +26,7 @@ lay_chunk-requires g c =
     let begin = c.self.inside.position in
     let header = c.args.header.now in
     let size : length c.to_bytes.result ≡ 40 = ap length c.to_bytes.ensures in
-    let number : c.in-Some.end ≡ chunk_end_of begin (40 + header.data_size) header.num_records = c.in-Some.ensures.number in (
+    let number : c.in-Some.end ≡ chunk_end_of begin (40 + header.data_size) header.num_records = c.in-Some.ensures.end in (
       search rules,
       (
         omega (
@@ -43,6 +43,14 @@ lay_chunk-requires g c =
           ),
         ),
       ),
+    )
+
+pub invariant_of-self-2 : goal.invariant_of-self-2
+invariant_of-self-2 g c =
+    let header = c.args.header.now in (
+      omega (arith, end_is g (goal.at.invariant_of-self-2 g c).After-to_bytes),
+      subst IsOnBoundary (sym c.in-Some.ensures.end)
+          (IsOnBoundary-from_boundary _ (chunk_end_of_boundary c.self.inside.position (40 + header.data_size) header.num_records)),
     )
 
 -- the bytes that are laid are those of the chunk

@@ -16,17 +16,23 @@ at_block : (g : _) (c : In_default g) → IsBlock c.args.self.now.position
 at_block g c =
     subst IsBlock (ap (λ (w : Writer). w.position) c.self.view_is) (c.in_default.ensures.none.0 refl)
 
-pub returns-in_default-clause-moved : goal.returns-in_default-clause-moved
-returns-in_default-clause-moved g c =
-    going_on c.args.self.now c.requires.unspent
-    ∙ ap writer_at (sym (end_of_padding-block c.args.self.now.position (at_block g c)))
+pub returns-in_default-clause-goes_on : goal.returns-in_default-clause-goes_on
+returns-in_default-clause-goes_on g c = record {
+  moved =
+      going_on c.args.self.now c.requires.may_reach.unspent
+      ∙ ap writer_at (sym (end_of_padding-block c.args.self.now.position (at_block g c)));
+  spent = tt;
+}
 
 pub returns-in_default-clause-sink : goal.returns-in_default-clause-sink
 returns-in_default-clause-sink g c = record {
-  whole = rw (laid_padding-block c.args.self.now.position (at_block g c)) (TakesAndHolds-none (g.M.Sink.taken c.args.sink.now) c.args.buffer.now);
-  front = search rules;
-  emptied = search rules;
-  counts = search rules;
+  through = record {
+    whole = rw (laid_padding-block c.args.self.now.position (at_block g c)) (TakesAndHolds-none (g.M.Sink.taken c.args.sink.now) c.args.buffer.now);
+    front = search rules;
+    emptied = search rules;
+    counts = search rules;
+  };
+  fits = search rules;
 }
 
 -- within a block the padding is one chunk of this size
@@ -66,20 +72,24 @@ lay-requires g c =
     let k = (goal.at.lay-requires g c).After-padding_header in (
       search rules,
       (
-        c.requires.unspent,
-        (
-          omega arith,
-          omega (arith, end_is g k, end_of_padding_near c.args.self.now.position c.in-Some.size (is_inside g k) (size_is g k) c.requires.in_reach),
-        ),
+        record {
+          unspent = c.requires.may_reach.unspent;
+          in_reach =
+              omega (arith, end_is g k, end_of_padding_near c.args.self.now.position c.in-Some.size (is_inside g k) (size_is g k) c.requires.may_reach.in_reach);
+        },
+        omega arith,
       ),
     )
 
-pub returns-clause-moved : goal.returns-clause-moved
-returns-clause-moved g c =
-    let k = (goal.at.returns-clause-moved g c).After-padding_header in
-    on_ok_weaker c.lay.result
-    (λ moved. moved ∙ ap writer_at (end_is g k ∙ sym (end_of_padding-inside c.args.self.now.position c.in-Some.size (is_inside g k) (size_is g k))))
-    c.lay.ensures.moved
+pub returns-clause-goes_on : goal.returns-clause-goes_on
+returns-clause-goes_on g c =
+    let k = (goal.at.returns-clause-goes_on g c).After-padding_header in
+    record {
+      moved = on_ok_weaker c.lay.result
+          (λ moved. moved ∙ ap writer_at (end_is g k ∙ sym (end_of_padding-inside c.args.self.now.position c.in-Some.size (is_inside g k) (size_is g k))))
+          c.lay.ensures.goes_on.moved;
+      spent = c.lay.ensures.goes_on.spent;
+    }
 
 pub returns-clause-sink : goal.returns-clause-sink
 returns-clause-sink g c = rw (← bytes_are g (goal.at.returns-clause-sink g c).After-padding_header) c.lay.ensures.sink

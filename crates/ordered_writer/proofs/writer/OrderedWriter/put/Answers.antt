@@ -13,10 +13,10 @@ all-taken a b bytes held none h =
 
 pub returns-clause-sink : goal.returns-clause-sink
 returns-clause-sink g c =
-    let through = rw c.new.ensures at c.put_into.ensures.sink in
-    let none = c.put_into.ensures.fits (omega (arith, ap length c.new.ensures)) in
+    let gone = rw c.new.ensures at c.put_into.ensures.sink.through in
+    let none = c.put_into.ensures.sink.fits (omega (arith, ap length c.new.ensures)) in
     record {
-      whole = on_ok_weaker c.put_into.result (all-taken _ _ _ c.put_into.new.buffer none) through.whole;
-      front = through.front;
+      whole = on_ok_weaker c.put_into.result (all-taken _ _ _ c.put_into.new.buffer none) gone.whole;
+      front = gone.front;
       counts = search rules;
     }

@@ -7,10 +7,14 @@ use Rattle.record_writer.proofs.CodedWindows.{all-read}
 use Rattle.record_writer.proofs.Layings.{Lays-none}
 use Rattle.record_writer.proofs.coded_window.CodedWindowWindow.put.Goals as goal
 
-pub put_out-requires-clause-read : goal.put_out-requires-clause-read
-put_out-requires-clause-read g c =
+pub put_out-requires : goal.put_out-requires
+put_out-requires g c =
     let coded : AreInOrder (chunks_of_groups c.args.self.now.groups) c.in-Some.chunks = search rules in
-    all-read (coming c.in-Some.chunks) c.args.self.now.groups coded.values
+    record {
+      may_lay = rw coded.values c.requires.may_lay;
+      in_order = rw coded.values coded;
+      read = all-read (coming c.in-Some.chunks) c.args.self.now.groups coded.values;
+    }
 
 pub returns-clause-laid : goal.returns-clause-laid
 returns-clause-laid g c =

@@ -39,6 +39,7 @@ returns-in_err-take_held g c =
       in_reach = λ place. held_reach g at place;
       drained = search rules;
       counts = search rules;
+      no_sink = λ is. cc is;
     })
 
 pub returns-in_err-take_record-in-Ok-true : goal.returns-in_err-take_record-in-Ok-true
@@ -56,10 +57,11 @@ returns-in_err-take_record-in-Ok-true g c =
             arith,
             held_reach g at place,
             c.in_err-take_record-in-Ok-true.ensures.in_reach place,
-            c.in-Ok-true.ensures.lowers (ap Ok c.in-Ok-true.field-0-test),
+            (c.in-Ok-true.ensures.gives (ap Ok c.in-Ok-true.field-0-test)).lowers,
           );
       drained = search rules;
       counts = search rules;
+      no_sink = λ is. cc is;
     })
 
 pub returns-in-Err-Failed : goal.returns-in-Err-Failed
@@ -72,6 +74,7 @@ returns-in-Err-Failed g c =
       in_reach = λ place. omega (arith, held_reach g at place, c.pull.ensures.never_rises);
       drained = search rules;
       counts = search rules;
+      no_sink = λ is. cc is;
     }
 
 pub returns-in-Err-Memory : goal.returns-in-Err-Memory
@@ -84,14 +87,15 @@ returns-in-Err-Memory g c =
       in_reach = λ place. omega (arith, held_reach g at place, c.pull.ensures.never_rises);
       drained = search rules;
       counts = search rules;
+      no_sink = λ is. cc is;
     }
 
 pub returns-then-is_full : goal.returns-then-is_full
 returns-then-is_full g c =
     let at = (goal.at.returns-then-is_full g c).After-take_held in
     let after = c.in_ok-take_record-in-Ok-true.ensures.whole in
-    let gives = c.in-Ok-true.ensures.next (ap Ok c.in-Ok-true.field-0-test) in
-    let less = c.in-Ok-true.ensures.lowers (ap Ok c.in-Ok-true.field-0-test) in
+    let gives = (c.in-Ok-true.ensures.gives (ap Ok c.in-Ok-true.field-0-test)).next in
+    let less = (c.in-Ok-true.ensures.gives (ap Ok c.in-Ok-true.field-0-test)).lowers in
     record {
       given_of = rw after.2
           (AreGiven-push _ _ _ _ c.take_held.new.grouper _ (g.W.Window.groups c.loop-feed.window) _ after.0 (held g at) gives after.1);
@@ -100,16 +104,16 @@ returns-then-is_full g c =
       in_reach = λ place. omega (arith, held_reach g at place, c.in_ok-take_record-in-Ok-true.ensures.in_reach place, less);
       drained = search rules;
       counts = search rules;
+      no_sink = λ is. cc is;
     }
 
 pub loop-feed-preserved : goal.loop-feed-preserved
 loop-feed-preserved g c =
     let at = (goal.at.loop-feed-preserved g c).After-take_held in
     let after = c.in_ok-take_record-in-Ok-true.ensures.whole in
-    let gives = c.in-Ok-true.ensures.next (ap Ok c.in-Ok-true.field-0-test) in
-    let less = c.in-Ok-true.ensures.lowers (ap Ok c.in-Ok-true.field-0-test) in
+    let gives = (c.in-Ok-true.ensures.gives (ap Ok c.in-Ok-true.field-0-test)).next in
+    let less = (c.in-Ok-true.ensures.gives (ap Ok c.in-Ok-true.field-0-test)).lowers in
     record {
-      limits = c.loop-feed.invariant.limits;
       room = search rules;
       given = rw after.2
           (AreGiven-push _ _ _ _ c.take_held.new.grouper _ (g.W.Window.groups c.loop-feed.window) _ after.0 (held g at) gives after.1);
@@ -140,6 +144,7 @@ returns-in_err-take_last g c =
           ];
       drained = search rules;
       counts = search rules;
+      no_sink = λ is. cc is;
     })
 
 pub returns : goal.returns

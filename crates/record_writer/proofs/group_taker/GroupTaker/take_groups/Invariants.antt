@@ -2,12 +2,10 @@ use Rattle.std.proofs.Common.{◌≡◌, ℕ, ◌^◌, ◌<◌, ◌≤◌, true,
 use Rattle.record_io.specs.Calls.{OnlyCounts}
 use Rattle.meta_chunk.specs.Files.{end_of_chunks}
 use Rattle.record_writer.specs.MadeFiles.{AreGiven, chunks_of_groups, reach_of}
-use Rattle.record_writer.specs.OptionLimits.{AreInLimits}
 use Rattle.record_writer.proofs.group_taker.GroupTaker.take_groups.Given as goal
 
 abbrev pub invariant-loop-feed : goal.invariant-loop-feed
 invariant-loop-feed g l = record {
-  limits : AreInLimits l.self-inside.options;
   room : length (g.W.Window.groups l.window) < 2 ^ 32;
   given : AreGiven (g.L.RecordFeed.rest l.fn.feed) (g.L.RecordFeed.rest l.feed) l.fn.self l.self-inside.grouper (g.W.Window.groups l.window);
   feed_going : g.L.RecordFeed.going l.feed ≡ true;

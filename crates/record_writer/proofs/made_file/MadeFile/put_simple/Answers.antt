@@ -30,25 +30,30 @@ put_parts_into-requires g c =
     let reach = rw (← c.self.view_is) at c.requires.may_lay.in_reach in (
       search rules,
       (
-        search rules,
-        (
-          omega (arith, c.data.ensures.size, c.header-header.ensures.size),
-          omega (arith, reach, end_is g (goal.at.put_parts_into-requires g c).After-data c.self.inside.writer.position),
-        ),
+        record {
+          unspent = search rules;
+          in_reach = omega (arith, reach, end_is g (goal.at.put_parts_into-requires g c).After-data c.self.inside.writer.position);
+        },
+        omega (arith, c.data.ensures.size, c.header-header.ensures.size),
       ),
     )
 
-pub returns-in_err-put_parts_into-clause-laid : goal.returns-in_err-put_parts_into-clause-laid
-returns-in_err-put_parts_into-clause-laid g c =
-    let p = err_from_is_err_and c.from_residual.result c.from_residual.ensures.1 in
-    let is = laid_is g (goal.at.returns-in_err-put_parts_into-clause-laid g c).After-data c.self.inside.writer.position in
-    rw (p.1, ← c.self.view_is)
-    (record {
-      whole = tt;
-      front = LaysFront-one _ _ _ _ (simple_chunk c.args.chunk.now.records) c.in_err-put_parts_into.ensures.sink.emptied
-          (rw is at c.in_err-put_parts_into.ensures.sink.front);
-      counts = search rules;
-    })
+pub returns-in_err-put_parts_into : goal.returns-in_err-put_parts_into
+returns-in_err-put_parts_into g c = record {
+  laid =
+      let p = err_from_is_err_and c.from_residual.result c.from_residual.ensures.1 in
+      let is = laid_is g (goal.at.returns-in_err-put_parts_into g c).After-data c.self.inside.writer.position in
+      record {
+        laid = rw (p.1, ← c.self.view_is)
+            (record {
+              whole = tt;
+              front = LaysFront-one _ _ _ _ (simple_chunk c.args.chunk.now.records) c.in_err-put_parts_into.ensures.sink.through.emptied
+                  (rw is at c.in_err-put_parts_into.ensures.sink.through.front);
+              counts = search rules;
+            });
+        spent = search rules;
+      };
+}
 
 -- the counts stay below where the chunk ends
 counts : (g : _) (c : After-put_parts_into g)
@@ -73,25 +78,30 @@ invariant_of-self-2 g c =
     omega (
       arith,
       c.self.invariant,
-      ap (λ (w : Writer). w.position) c.in_ok-put_parts_into.ensures.moved,
+      ap (λ (w : Writer). w.position) c.in_ok-put_parts_into.ensures.goes_on.moved,
       end_is g (goal.at.invariant_of-self-2 g c).After-data c.self.inside.writer.position,
       counts g (goal.at.invariant_of-self-2 g c).After-put_parts_into,
     )
 
-pub returns-clause-laid : goal.returns-clause-laid
-returns-clause-laid g c =
-    let at = (goal.at.returns-clause-laid g c).After-data in
-    let is = laid_is g at c.self.inside.writer.position in
-    rw (← c.self.view_is)
-    (record {
-      whole = Lays-read _ _ _ _ (simple_chunk c.args.chunk.now.records)
-          (rw is at c.in_ok-put_parts_into.ensures.sink.whole)
-          (ap (λ (w : Writer). w.position) c.in_ok-put_parts_into.ensures.moved ∙ end_is g at c.self.inside.writer.position)
-          (ap (λ (w : Writer). w.spent) c.in_ok-put_parts_into.ensures.moved)
-          (omega arith)
-          refl
-          (omega (arith, c.header-header.ensures.num_records))
-          (omega arith);
-      front = tt;
-      counts = search rules;
-    })
+pub returns : goal.returns
+returns g c = record {
+  laid =
+      let at = (goal.at.returns g c).After-data in
+      let is = laid_is g at c.self.inside.writer.position in
+      rw (← c.self.view_is)
+      (record {
+        laid = record {
+          whole = Lays-read _ _ _ _ (simple_chunk c.args.chunk.now.records)
+              (rw is at c.in_ok-put_parts_into.ensures.sink.through.whole)
+              (ap (λ (w : Writer). w.position) c.in_ok-put_parts_into.ensures.goes_on.moved ∙ end_is g at c.self.inside.writer.position)
+              (ap (λ (w : Writer). w.spent) c.in_ok-put_parts_into.ensures.goes_on.moved)
+              (omega arith)
+              refl
+              (omega (arith, c.header-header.ensures.num_records))
+              (omega arith);
+          front = tt;
+          counts = search rules;
+        };
+        spent = tt;
+      });
+}

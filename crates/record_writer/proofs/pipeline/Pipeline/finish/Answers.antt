@@ -2,7 +2,7 @@ use Rattle.std.proofs.Common.{◌≡◌, ◌^◌, ◌++◌, Err, List, ℕ, refl
 use Rattle.std.specs.Result.{IsErr}
 use Rattle.std.proofs.lemmas.Result.{err_from_is_err_and}
 use Rattle.record_io.proofs.Calls.{OnErr-any}
-use Rattle.record_writer.specs.declared.cut_off.PutEnd.TheVariants.{Made}
+use Rattle.record_writer.specs.declared.cut_off.CutOff.TheVariants.{Made}
 use Rattle.record_writer.specs.MadeFiles.{Lays, LaysFront, chunks_of_groups}
 use Rattle.record_writer.proofs.Layings.{LaysFront-where, LaysFront-whole}
 use Rattle.record_writer.proofs.Given.{Lays-all, LaysFront-all, LaysFront-more}
@@ -16,8 +16,8 @@ put_and_code-put-requires-clause-may_lay g c κs within = record {
       c.requires.may_lay.in_reach;
 }
 
-pub returns-in_err-put : goal.returns-in_err-put
-returns-in_err-put g c =
+pub returns-in_err-put-clause-laid : goal.returns-in_err-put-clause-laid
+returns-in_err-put-clause-laid g c =
     let first = g.W.Window.groups c.args.self.now.next in
     let failed : IsErr c.put_and_code-put.result.0 = search rules in
     let front : LaysFront (IsErr c.put_and_code-put.result.0) (g.M.Sink.taken c.args.made.now) (g.M.Sink.taken c.put_and_code-put.new.made)
@@ -30,8 +30,8 @@ returns-in_err-put g c =
       counts = search rules;
     }
 
-pub returns-in_err-coded : goal.returns-in_err-coded
-returns-in_err-coded g c =
+pub returns-in_err-coded-clause-laid : goal.returns-in_err-coded-clause-laid
+returns-in_err-coded-clause-laid g c =
     let first = g.W.Window.groups c.args.self.now.next in
     let laid : Lays (g.M.Sink.taken c.args.made.now) (g.M.Sink.taken c.put_and_code-put.new.made) c.args.file.now c.put_and_code-put.new.file
     (chunks_of_groups first) = search rules in
@@ -56,8 +56,8 @@ put-requires-clause-may_lay g c =
       in_reach = rw same (within-behind c.args.file.now.place c.put_and_code-put.new.file.place (2 ^ 62) first taken laid.place c.requires.may_lay.in_reach);
     }
 
-pub returns-in_err-put-2 : goal.returns-in_err-put-2
-returns-in_err-put-2 g c =
+pub returns-in_err-put-2-clause-laid : goal.returns-in_err-put-2-clause-laid
+returns-in_err-put-2-clause-laid g c =
     let first = g.W.Window.groups c.args.self.now.next in
     let taken = g.W.Window.groups c.args.self.now.coming.taken in
     let laid : Lays (g.M.Sink.taken c.args.made.now) (g.M.Sink.taken c.put_and_code-put.new.made) c.args.file.now c.put_and_code-put.new.file
@@ -73,8 +73,8 @@ returns-in_err-put-2 g c =
       counts = search rules;
     }
 
-pub returns : goal.returns
-returns g c =
+pub returns-clause-laid : goal.returns-clause-laid
+returns-clause-laid g c =
     let first = g.W.Window.groups c.args.self.now.next in
     let taken = g.W.Window.groups c.args.self.now.coming.taken in
     let laid : Lays (g.M.Sink.taken c.args.made.now) (g.M.Sink.taken c.put_and_code-put.new.made) c.args.file.now c.put_and_code-put.new.file

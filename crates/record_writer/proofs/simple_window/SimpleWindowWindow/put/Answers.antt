@@ -41,7 +41,7 @@ returns-in_err-put_simple-clause-laid g c =
     (record {
       whole = tt;
       front = LaysFront-chunk _ _ _ c.args.file.now c.loop-i.file _ c.args.self.now c.loop-i.i c.index_mut-chunk.result.now.records
-          there.0 there.1 c.loop-i.invariant.laid (rw c.encode.ensures at c.in_err-put_simple.ensures.laid.front);
+          there.0 there.1 c.loop-i.invariant.laid (rw c.encode.ensures at c.in_err-put_simple.ensures.laid.laid.front);
       counts = search rules;
     })
 
@@ -54,6 +54,6 @@ loop-i-preserved g c =
       groups = groups-kept c.loop-i.self-inside.chunks.items c.loop-i.self-inside.count c.args.self.now c.loop-i.i c.index_mut-chunk.result.now c.encode.new.self
           c.loop-i.invariant.groups c.index_mut-chunk.ensures.value (ap (λ (chunk : SimpleValue). chunk.records) c.encode.ensures);
       laid = Lays-chunk _ _ _ c.args.file.now c.loop-i.file _ c.args.self.now c.loop-i.i c.index_mut-chunk.result.now.records
-          there.0 there.1 c.loop-i.invariant.laid (rw c.encode.ensures at c.in_ok-put_simple.ensures.laid.whole);
+          there.0 there.1 c.loop-i.invariant.laid (rw c.encode.ensures at c.in_ok-put_simple.ensures.laid.laid.whole);
       counts = search rules;
     }
