@@ -18,7 +18,7 @@ use Rattle.chunk_reader.specs.Places.{header_bytes_at, data_at}
 use Rattle.chunk_reader.specs.declared.reasons.Why.TheVariants as why
 use Rattle.damage_skip.specs.Damage.{Intact, IsDamaged, IsIntactFrom, IsNext, DamageLeaves, DamageLeavesEach}
 use Rattle.damage_skip.specs.FilePieces.{IsSettled}
-use Rattle.damage_skip.specs.Pieces.{PieceKind, Given, Kept, LeftOut, Skipped, Piece, IsFoundAs, AreTiles}
+use Rattle.damage_skip.specs.Pieces.{PieceKind, Records, Kept, SignatureOrPadding, Skipped, Piece, IsFoundAs, AreTiles}
 use Rattle.damage_skip.proofs.Damaged.{left_front}
 use Rattle.damage_skip.proofs.LaterBytes.{own_in_front, tiles_kept}
 use Rattle.damage_skip.proofs.Prefixes.{slice_in_front, header_in_front, cut_chain}
@@ -33,9 +33,9 @@ slice_get-take (x ∷ xs) (suc n) (suc i) inside = slice_get-take xs n i (omega 
 
 -- what is found is settled
 found_settled : (keep : Bool) (size end : ℕ) (k : ChunkValue) (what : PieceKind) → IsFoundAs keep k what → IsSettled size end what
-found_settled keep size end k (Given records c) found = tt
+found_settled keep size end k (Records records c) found = tt
 found_settled keep size end k (Kept c) found = tt
-found_settled keep size end k LeftOut found = tt
+found_settled keep size end k SignatureOrPadding found = tt
 found_settled keep size end k (Skipped w) found = absurd found
 
 -- the first n chunks of a file

@@ -87,9 +87,9 @@ call_past (Some damaged) told told_then before after result sized stands stands_
 pub cut_on : (bytes : Option (List ℕ)) (before after : Progress) (end : LoadEnd) → WalksOn bytes before after (Ok None)
     → WalksOn bytes before after (Err (walk_end_of end))
 cut_on bytes before after load.Store on =
-    record { same_size = on.same_size; same_keep = on.same_keep; rises = on.rises; past = on.past; stopped = on.stopped }
+    record { same_size = on.same_size; same_keep = on.same_keep; same_decodes = on.same_decodes; rises = on.rises; past = on.past; stopped = on.stopped }
 cut_on bytes before after load.Memory on =
-    record { same_size = on.same_size; same_keep = on.same_keep; rises = on.rises; past = on.past; stopped = on.stopped }
+    record { same_size = on.same_size; same_keep = on.same_keep; same_decodes = on.same_decodes; rises = on.rises; past = on.past; stopped = on.stopped }
 
 -- one that stays
 pub stays_told : (bytes : Option (List ℕ)) (keep : Bool) (place : ℕ) → IfSome bytes (λ file. GoesOn keep file place place [])

@@ -9,16 +9,16 @@ use Rattle.meta_chunk.specs.Laid.{end_of_chunk}
 use Rattle.meta_chunk.specs.Files.{IsFileOf, Holds, HoldEach, AreRecordsOf, end_of_chunks, begin_of, placed_from, ArePlaced}
 use Rattle.chunk_reader.specs.Faults.{IsAllowed}
 use Rattle.chunk_reader.specs.declared.reasons.Why.{Why}
-use Rattle.damage_skip.specs.Pieces.{PieceKind, Given, Kept, LeftOut, Skipped, Piece, IsFoundAs, is_event, events_in, AreEvents, records_of, records_in}
+use Rattle.damage_skip.specs.Pieces.{PieceKind, Records, Kept, SignatureOrPadding, Skipped, Piece, IsFoundAs, is_event, events_in, AreEvents, records_of, records_in}
 use Rattle.damage_skip.specs.FilePieces.{placed_in, AreFound}
 use Rattle.damage_skip.proofs.OnePiece.{given_or_kept, given_or_left_out}
 use Rattle.damage_skip.proofs.Found.{pieces_found}
 
 -- what is found intact isn't skipped
 found_not_skipped : (keep : Bool) (k : ChunkValue) (what : PieceKind) → IsFoundAs keep k what → (w : Why) → what ≢ Skipped w
-found_not_skipped keep k (Given records c) found w = λ same. cc
+found_not_skipped keep k (Records records c) found w = λ same. cc
 found_not_skipped keep k (Kept c) found w = λ same. cc
-found_not_skipped keep k LeftOut found w = λ same. cc
+found_not_skipped keep k SignatureOrPadding found w = λ same. cc
 found_not_skipped keep k (Skipped v) found w = absurd found
 
 pub none_skipped : (keep : Bool) (place : ℕ) (ks : List ChunkValue) (pieces : List Piece) → AreFound keep place ks pieces
@@ -31,9 +31,9 @@ none_skipped keep place (k ∷ ks) (p ∷ pieces) (begin, end, found, rest) =
 
 -- it gives the records that the chunk holds
 pub found_holds : (keep : Bool) (k : ChunkValue) (what : PieceKind) → IsFoundAs keep k what → Holds k (records_of what)
-found_holds keep k (Given records c) (simple, is) = inl simple
+found_holds keep k (Records records c) (simple, is) = inl simple
 found_holds keep k (Kept c) (kept, is) = inr (λ has. given_or_kept keep k has.0 has.1 kept, refl)
-found_holds keep k LeftOut left_out = inr (λ has. given_or_left_out k has.0 has.1 left_out, refl)
+found_holds keep k SignatureOrPadding left_out = inr (λ has. given_or_left_out k has.0 has.1 left_out, refl)
 found_holds keep k (Skipped w) found = absurd found
 
 abbrev lists_in : List Piece → List (List (List ℕ))
@@ -100,9 +100,9 @@ found_at keep ks pieces j k piece h at there =
 
 -- pieces that are no events give no records
 no_event_no_records : (what : PieceKind) → is_event what ≡ false → records_of what ≡ []
-no_event_no_records (Given records c) h = cc
+no_event_no_records (Records records c) h = cc
 no_event_no_records (Kept c) h = cc
-no_event_no_records LeftOut h = refl
+no_event_no_records SignatureOrPadding h = refl
 no_event_no_records (Skipped w) h = cc
 
 -- so what events give is what all pieces give

@@ -3,7 +3,7 @@ use Rattle.std.proofs.Common.{◌↔◌, ◌≡◌, ◌⊎◌, ℕ, Bool, true, 
 use Rattle.std.specs.Prelude.{slice_range}
 use Rattle.chunk_header.specs.Chunks.{ChunkValue}
 use Rattle.chunk_header.specs.SimpleChunks.{IsCompressed}
-use Rattle.meta_chunk.specs.Kinds.{IsOfNoName}
+use Rattle.chunk_header.specs.Kinds.{IsOfNoName}
 use Rattle.meta_chunk.specs.Laid.{IsLaid, end_of_chunk}
 use Rattle.meta_chunk.specs.Files.{IsTransposed, IsFramed}
 use Rattle.chunk_reader.specs.Places.{end_at, chunk_at}

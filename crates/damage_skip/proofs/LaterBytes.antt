@@ -3,12 +3,12 @@ use Rattle.std.proofs.Common.{◌≡◌, ◌≢◌, ◌∙◌, ◌↔◌, ◌⊎
 use Rattle.std.specs.List.{AllByRecursion}
 use Rattle.std.proofs.lemmas.Bool.{cases_lt}
 use Rattle.std.proofs.lemmas.List.{take_at, take_all, length-take-le, length-append}
-use Rattle.block_layout.specs.Layout.{IsBlock, end_of, own_bytes_at, usable_bytes}
+use Rattle.block_layout.specs.Layout.{IsBlock, end_of, usable_bytes_at, usable_bytes}
 use Rattle.block_layout.specs.BlockHeaders.{StandsAt}
 use Rattle.block_layout.proofs.Room.{room_split, boundary_past_block}
 use Rattle.block_layout.proofs.Ends.{end_of_after, end_of_above, end_of_mono, end_of_least, end_of_is_end}
 use Rattle.block_layout.proofs.ChunkEnds.{chunk_end_of_boundary, chunk_end_of_past_bytes}
-use Rattle.block_layout.proofs.UsableBytes.{own_bytes_at-to_end}
+use Rattle.block_layout.proofs.UsableBytes.{usable_bytes_at-to_end}
 use Rattle.chunk_header.specs.Chunks.{ChunkValue, HeaderValue, IsRightChunkHeader, header_in}
 use Rattle.chunk_reader.specs.Places.{header_bytes_at, header_at, end_by, end_at, data_at, chunk_at}
 use Rattle.chunk_reader.specs.Reasons.{ContentApplies, NoneOf, IsFirstOf}
@@ -17,7 +17,7 @@ use Rattle.chunk_reader.specs.declared.reasons.Why.TheVariants as why
 use Rattle.chunk_reader.proofs.Blocks.{stands_within}
 use Rattle.chunk_reader.proofs.FileFaults.{first_applies}
 use Rattle.damage_skip.specs.FilePieces.{IsSettled}
-use Rattle.damage_skip.specs.Pieces.{PieceKind, Given, Kept, LeftOut, Skipped, Piece, SkipsFor, walk_reasons, SkipsTo, IsFoundAs, IsPieceOf, AreTiles}
+use Rattle.damage_skip.specs.Pieces.{PieceKind, Records, Kept, SignatureOrPadding, Skipped, Piece, SkipsFor, walk_reasons, SkipsTo, IsFoundAs, IsPieceOf, AreTiles}
 use Rattle.damage_skip.specs.Resyncs.{IsFirstBlock, StandsFrom, landing, IsResync, Contradicts}
 use Rattle.damage_skip.proofs.PlacesFurtherOn.{landing-back, landing-on}
 use Rattle.damage_skip.proofs.OnePiece.{IsWhole, piece_whole, piece_past, whole_later}
@@ -32,13 +32,13 @@ end_of_rises begin from size before =
     end_of_least begin size end (omega arith)
     (omega (arith, room_split begin from end before after, (end_of_is_end from size).holds))
 
--- the own bytes at a place are those of the front that has them
+-- the usable bytes at a place are those of the front that has them
 pub own_in_front : (file : List ℕ) (m place size : ℕ) → m ≤ length file → end_of place size ≤ m
-    → own_bytes_at (take m file) place size ≡ own_bytes_at file place size
+    → usable_bytes_at (take m file) place size ≡ usable_bytes_at file place size
 own_in_front file m place size within fits =
-    own_bytes_at-to_end (take m file) place size (omega (arith, length-take-le m file within))
+    usable_bytes_at-to_end (take m file) place size (omega (arith, length-take-le m file within))
     ∙ ap (usable_bytes place) (slice_in_front file m place (end_of place size) (end_of_after place size) fits)
-    ∙ sym (own_bytes_at-to_end file place size (omega arith))
+    ∙ sym (usable_bytes_at-to_end file place size (omega arith))
 
 -- so is what stands at a block
 pub stands_back : (file : List ℕ) (m b previous next : ℕ) → b + 24 ≤ m → StandsAt file b previous next → StandsAt (take m file) b previous next
@@ -309,9 +309,9 @@ module _ (file : List ℕ) (m : ℕ) (within : m ≤ length file) where
   piece_kept : (keep : Bool) (begin end : ℕ) (what : PieceKind) → IsSettled m end what → IsPieceOf keep (take m file) begin end what
       → IsPieceOf keep file begin end what
   piece_kept keep begin end (Skipped w) settled (first, to) = skip_kept keep begin end w settled first to
-  piece_kept keep begin end (Given records k) settled h = found_kept keep begin end (Given records k) h
+  piece_kept keep begin end (Records records k) settled h = found_kept keep begin end (Records records k) h
   piece_kept keep begin end (Kept k) settled h = found_kept keep begin end (Kept k) h
-  piece_kept keep begin end LeftOut settled h = found_kept keep begin end LeftOut h
+  piece_kept keep begin end SignatureOrPadding settled h = found_kept keep begin end SignatureOrPadding h
 
   -- and so are settled pieces
   pub tiles_kept : (keep : Bool) (from to : ℕ) (pieces : List Piece) → AllByRecursion (λ p. IsSettled m p.end p.what) pieces

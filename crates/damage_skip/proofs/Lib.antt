@@ -17,8 +17,10 @@ pub mod RegionLines
 pub mod Leads
 pub mod Resyncing
 pub mod Fills
+pub mod KeptChunks
 pub mod PieceSteps
 pub mod WalkSteps
+pub mod WalkFronts
 pub mod Takings
 pub mod RegionsIn
 pub mod WalkedTo

@@ -19,7 +19,7 @@ use Rattle.chunk_reader.proofs.NoReason.{none_is_first}
 use Rattle.chunk_reader.proofs.NoReasonLaid.{content_where_none}
 use Rattle.chunk_reader.proofs.AllowedChunks.{IsPassed}
 use Rattle.damage_skip.specs.Resyncs.{Contradicts, landing}
-use Rattle.damage_skip.specs.Pieces.{PieceKind, Given, Kept, LeftOut, Skipped, SkipsFor, walk_reasons, SkipsTo, IsFoundAs, IsPieceOf}
+use Rattle.damage_skip.specs.Pieces.{PieceKind, Records, Kept, SignatureOrPadding, Skipped, SkipsFor, walk_reasons, SkipsTo, IsFoundAs, IsPieceOf}
 use Rattle.damage_skip.specs.Steps.{IsOnward}
 use Rattle.damage_skip.proofs.PlacesFurtherOn.{onward-landing, landing_same, first_block_one, first_block_of, resync_past, resync_one, resync_of, says_against, against_decided, some_against_decided}
 
@@ -119,16 +119,16 @@ kept_or_left_out keep k kept left_out =
 
 -- what an intact chunk is found as is one
 pub found_one : (keep : Bool) (k : ChunkValue) (a b : PieceKind) → IsFoundAs keep k a → IsFoundAs keep k b → a ≡ b
-found_one keep k (Given records c) (Given others d) (simple, is) (also, there) =
-    ap (λ (xs : List (List ℕ)). Given xs c) (records_are_one k records others simple also) ∙ ap (Given others) (is ∙ sym there)
-found_one keep k (Given records c) (Kept d) (simple, is) (kept, there) = absurd (given_or_kept keep k records simple kept)
-found_one keep k (Given records c) LeftOut (simple, is) left_out = absurd (given_or_left_out k records simple left_out)
-found_one keep k (Kept c) (Given records d) (kept, is) (simple, there) = absurd (given_or_kept keep k records simple kept)
+found_one keep k (Records records c) (Records others d) (simple, is) (also, there) =
+    ap (λ (xs : List (List ℕ)). Records xs c) (records_are_one k records others simple also) ∙ ap (Records others) (is ∙ sym there)
+found_one keep k (Records records c) (Kept d) (simple, is) (kept, there) = absurd (given_or_kept keep k records simple kept)
+found_one keep k (Records records c) SignatureOrPadding (simple, is) left_out = absurd (given_or_left_out k records simple left_out)
+found_one keep k (Kept c) (Records records d) (kept, is) (simple, there) = absurd (given_or_kept keep k records simple kept)
 found_one keep k (Kept c) (Kept d) (kept, is) (also, there) = ap Kept (is ∙ sym there)
-found_one keep k (Kept c) LeftOut (kept, is) left_out = absurd (kept_or_left_out keep k kept left_out)
-found_one keep k LeftOut (Given records d) left_out (simple, there) = absurd (given_or_left_out k records simple left_out)
-found_one keep k LeftOut (Kept d) left_out (kept, there) = absurd (kept_or_left_out keep k kept left_out)
-found_one keep k LeftOut LeftOut left_out also = refl
+found_one keep k (Kept c) SignatureOrPadding (kept, is) left_out = absurd (kept_or_left_out keep k kept left_out)
+found_one keep k SignatureOrPadding (Records records d) left_out (simple, there) = absurd (given_or_left_out k records simple left_out)
+found_one keep k SignatureOrPadding (Kept d) left_out (kept, there) = absurd (kept_or_left_out keep k kept left_out)
+found_one keep k SignatureOrPadding SignatureOrPadding left_out also = refl
 found_one keep k (Skipped w) b h g = absurd h
 found_one keep k a (Skipped w) h g = absurd g
 
@@ -143,16 +143,16 @@ IsWhole keep file begin end what =
 
 pub piece_cases : (keep : Bool) (file : List ℕ) (begin end : ℕ) (what : PieceKind) → IsPieceOf keep file begin end what
     → IsSkip keep file begin end what ⊎ IsWhole keep file begin end what
-piece_cases keep file begin end (Given records c) h = inr h
+piece_cases keep file begin end (Records records c) h = inr h
 piece_cases keep file begin end (Kept c) h = inr h
-piece_cases keep file begin end LeftOut h = inr h
+piece_cases keep file begin end SignatureOrPadding h = inr h
 piece_cases keep file begin end (Skipped w) (first, to) = inl (w, refl, first, to)
 
 pub piece_whole : (keep : Bool) (file : List ℕ) (begin end : ℕ) (what : PieceKind) → IsWhole keep file begin end what
     → IsPieceOf keep file begin end what
-piece_whole keep file begin end (Given records c) h = h
+piece_whole keep file begin end (Records records c) h = h
 piece_whole keep file begin end (Kept c) h = h
-piece_whole keep file begin end LeftOut h = h
+piece_whole keep file begin end SignatureOrPadding h = h
 piece_whole keep file begin end (Skipped w) h = absurd h.2
 
 -- so at a place one piece begins at most
@@ -185,10 +185,10 @@ piece_past keep file begin end what below h =
 
 -- where no reason passes over a chunk, it is found
 found_plain : (keep : Bool) (k : ChunkValue) → IsPassed false k → (what : PieceKind) × IsFoundAs keep k what
-found_plain keep k (inl (records, simple)) = (Given records k, (simple, refl))
-found_plain keep k (inr (inl s)) = (LeftOut, inl s)
+found_plain keep k (inl (records, simple)) = (Records records k, (simple, refl))
+found_plain keep k (inr (inl s)) = (SignatureOrPadding, inl s)
 found_plain keep k (inr (inr (inl m))) = (Kept k, (inl m, refl))
-found_plain keep k (inr (inr (inr p))) = (LeftOut, inr p)
+found_plain keep k (inr (inr (inr p))) = (SignatureOrPadding, inr p)
 
 pub found_of : (keep : Bool) (k : ChunkValue) → IsPassed keep k → (what : PieceKind) × IsFoundAs keep k what
 found_of false k plain = found_plain false k plain

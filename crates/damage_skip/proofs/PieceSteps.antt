@@ -4,6 +4,9 @@ use Rattle.std.specs.List.{AllByRecursion}
 use Rattle.block_layout.proofs.ChunkEnds.{chunk_end_of_boundary, chunk_end_of_above}
 use Rattle.block_layout.specs.Layout.{IsBoundary}
 use Rattle.chunk_header.specs.Chunks.{ChunkValue, HeaderValue, IsChunk}
+use Rattle.chunk_header.specs.SimpleChunks.{IsSimpleChunk}
+use Rattle.chunk_header.proofs.Decided.{IsDecided}
+use Rattle.chunk_header.proofs.DecidedRecords.{records_decided}
 use Rattle.chunk_header.specs.declared.Header.{Header}
 use Rattle.chunk_header.specs.declared.Chunk.{Chunk}
 use Rattle.chunk_header.specs.Views.{IsHeader, value_of_header, value_of, value_of_chunk}
@@ -25,25 +28,23 @@ use Rattle.chunk_reader.proofs.WholeHeads.{HasRightHead, none_loading, none_unpa
 use Rattle.damage_skip.specs.Pieces as pieces
 use Rattle.damage_skip.specs.Pieces.{SkipsFor, SkipsTo, IsPieceOf, walk_reasons}
 use Rattle.damage_skip.specs.Resyncs.{IsResync, Contradicts}
-use Rattle.damage_skip.specs.Steps.{LeadsTo, IsEndOf, IsOnward, HasIntact, IsKeptAs, IsReadAs, IsUnloaded, IsPieceFrom, value_of_piece_kind}
-use Rattle.damage_skip.specs.declared.pieces.Piece.{Piece}
-use Rattle.damage_skip.specs.declared.pieces.PieceKind.{PieceKind}
-use Rattle.damage_skip.specs.declared.pieces.PieceKind.TheVariants as what
-
--- a piece is the one at a place of a file
-abbrev pub IsPieceThere : Bool → ℕ → Piece → List ℕ → Type 0
-IsPieceThere keep at piece file = IsPieceOf keep file at piece.end (value_of_piece_kind piece.what)
+use Rattle.damage_skip.specs.Steps.{LeadsTo, IsEndOf, IsOnward, HasIntact, IsKeptAs, IsReadAs, IsUnloaded, IsPieceFrom, IsPieceThere, kept_as, kept_by, value_of_found}
+use Rattle.damage_skip.specs.declared.pieces.NextPiece.{NextPiece}
+use Rattle.damage_skip.specs.declared.progress.Progress.{Progress}
+use Rattle.damage_skip.proofs.KeptChunks.{compressed_holds_none}
+use Rattle.damage_skip.specs.declared.pieces.Found.{Found}
+use Rattle.damage_skip.specs.declared.pieces.Found.TheVariants as what
 
 -- bytes that are passed over up to a place
-abbrev pub IsSkipped : Piece → ℕ → Why → Type 0
+abbrev pub IsSkipped : NextPiece → ℕ → Why → Type 0
 IsSkipped piece to w = piece ≡ record { end = to; what = what.Skipped w }
 
-skipped_there : (keep : Bool) (file : List ℕ) (at to : ℕ) (w : Why) (piece : Piece) → IsSkipped piece to w
+skipped_there : (keep : Bool) (file : List ℕ) (at to : ℕ) (w : Why) (piece : NextPiece) → IsSkipped piece to w
     → IsPieceOf keep file at to (pieces.Skipped w) → IsPieceThere keep at piece file
-skipped_there keep file at to w piece is there = subst (λ (p : Piece). IsPieceThere keep at p file) (sym is) there
+skipped_there keep file at to w piece is there = subst (λ (p : NextPiece). IsPieceThere keep at p file) (sym is) there
 
 -- no whole header
-pub short_piece : (bytes now : Option (List ℕ)) (keep : Bool) (at to : ℕ) (found : Head) (piece : Piece) → now ≡ bytes → found ≡ head.Short
+pub short_piece : (bytes now : Option (List ℕ)) (keep : Bool) (at to : ℕ) (found : Head) (piece : NextPiece) → now ≡ bytes → found ≡ head.Short
     → IsSkipped piece to why.Short → IfSome bytes (λ file. IsHead file at found) → IfSome now (λ file. IsResync file at to)
     → IfSome bytes (IsPieceThere keep at piece)
 short_piece None now keep at to found piece same short is there resync = tt
@@ -54,7 +55,7 @@ short_piece (Some file) (Some other) keep at to found piece same short is there 
     (inl (subst (IsHead file at) short there, refl), subst (λ (f : List ℕ). IsResync f at to) same_file resync)
 
 -- a header of another hash than its own
-pub bad_hash_piece : (bytes now : Option (List ℕ)) (keep : Bool) (at to : ℕ) (found : Head) (piece : Piece) → now ≡ bytes → found ≡ head.BadHash
+pub bad_hash_piece : (bytes now : Option (List ℕ)) (keep : Bool) (at to : ℕ) (found : Head) (piece : NextPiece) → now ≡ bytes → found ≡ head.BadHash
     → IsSkipped piece to why.HeaderHash → IfSome bytes (λ file. IsHead file at found) → IfSome now (λ file. IsResync file at to)
     → IfSome bytes (IsPieceThere keep at piece)
 bad_hash_piece None now keep at to found piece same bad is there resync = tt
@@ -92,33 +93,34 @@ contradicted_there keep file at to place right below (b, p, n, first, leads) = (
 )
 
 -- a chunk whose data isn't read
-unloaded_there : (keep : Bool) (file : List ℕ) (at to : ℕ) (w : Why) (piece : Piece) → NoneOf (Applies file at) header_reasons
+unloaded_there : (keep : Bool) (file : List ℕ) (at to : ℕ) (w : Why) (piece : NextPiece) → NoneOf (Applies file at) header_reasons
     → ContradictBelow file at to → ((¬ SkipsFor file at why.Contradicted) → IsPieceOf keep file at to (pieces.Skipped w))
     → IsUnloaded file at (end_at file at) to w piece → IsPieceThere keep at piece file
 unloaded_there keep file at to w piece right below otherwise (inl (is, leads)) =
-    subst (λ (x : PieceKind). IsPieceOf keep file at piece.end (value_of_piece_kind x)) (sym is)
+    subst (λ (x : Found). IsPieceOf keep file at piece.end (value_of_found x)) (sym is)
     (contradicted_there keep file at to piece.end right below leads)
 unloaded_there keep file at to w piece right below otherwise (inr (is, ends, none)) =
-    subst (λ (x : PieceKind). IsPieceOf keep file at piece.end (value_of_piece_kind x)) (sym is)
+    subst (λ (x : Found). IsPieceOf keep file at piece.end (value_of_found x)) (sym is)
     (subst (λ (e : ℕ). IsPieceOf keep file at e (pieces.Skipped w)) (sym ends) (otherwise (none_contradicts file at to below none)))
 
-pub unloaded_landing : (bytes : Option (List ℕ)) (begin end to place : ℕ) (w : Why) (piece : Piece) → IsSkipped piece place why.Contradicted
+pub unloaded_landing : (bytes : Option (List ℕ)) (begin end to place : ℕ) (w : Why) (piece : NextPiece) → IsSkipped piece place why.Contradicted
     → IfSome bytes (λ file. LeadsTo file begin end begin to (Some place)) → IfSome bytes (λ file. IsUnloaded file begin end to w piece)
 unloaded_landing None begin end to place w piece is first = tt
 unloaded_landing (Some file) begin end to place w piece is first =
-    subst (λ (p : Piece). IsUnloaded file begin end to w p) (sym is) (inl (refl, first))
+    subst (λ (p : NextPiece). IsUnloaded file begin end to w p) (sym is) (inl (refl, first))
 
-pub unloaded_none : (bytes : Option (List ℕ)) (begin end to : ℕ) (w : Why) (piece : Piece) → IsSkipped piece to w
+pub unloaded_none : (bytes : Option (List ℕ)) (begin end to : ℕ) (w : Why) (piece : NextPiece) → IsSkipped piece to w
     → IfSome bytes (λ file. LeadsTo file begin end begin to None) → IfSome bytes (λ file. IsUnloaded file begin end to w piece)
 unloaded_none None begin end to w piece is none = tt
-unloaded_none (Some file) begin end to w piece is none = subst (λ (p : Piece). IsUnloaded file begin end to w p) (sym is) (inr (refl, refl, none))
+unloaded_none (Some file) begin end to w piece is none = subst (λ (p : NextPiece). IsUnloaded file begin end to w p) (sym is) (inr (refl, refl, none))
 
 -- such a piece ends further on
-pub skipped_onward : (size begin to : ℕ) (w : Why) (piece : Piece) → IsSkipped piece to w → IsOnward size begin to → IsPieceFrom size begin piece
-skipped_onward size begin to w piece is onward = subst (IsPieceFrom size begin) (sym is) (record { onward = onward; intact = tt })
+pub skipped_onward : (walk : Progress) (to : ℕ) (w : Why) (piece : NextPiece) → IsSkipped piece to w → IsOnward walk.size walk.place to
+    → IsPieceFrom walk piece
+skipped_onward walk to w piece is onward = subst (IsPieceFrom walk) (sym is) (record { onward = onward; intact = tt })
 
 -- a chunk that the file doesn't have to its end
-pub truncated_piece : (bytes : Option (List ℕ)) (keep : Bool) (size at : ℕ) (h : Header) (piece : Piece) → IsSized bytes (Some size) → IsHeader h
+pub truncated_piece : (bytes : Option (List ℕ)) (keep : Bool) (size at : ℕ) (h : Header) (piece : NextPiece) → IsSized bytes (Some size) → IsHeader h
     → IfSome bytes (HasRightHead h at) → size < end_by at (value_of_header h)
     → IfSome bytes (λ file. IsUnloaded file at (end_by at (value_of_header h)) size why.Truncated piece)
     → IfSome bytes (IsPieceThere keep at piece)
@@ -136,7 +138,7 @@ pub says_size : (file : List ℕ) (at : ℕ) (h : Header) → IsHeader h → Has
 says_size file at h fits right = ap (λ (v : HeaderValue). v.data_size) (sym (header_at-header file at h fits right.1))
 
 -- a chunk that has too much data
-pub too_large_piece : (bytes : Option (List ℕ)) (keep : Bool) (size at end : ℕ) (h : Header) (piece : Piece) → IsSized bytes (Some size) → IsHeader h
+pub too_large_piece : (bytes : Option (List ℕ)) (keep : Bool) (size at end : ℕ) (h : Header) (piece : NextPiece) → IsSized bytes (Some size) → IsHeader h
     → IfSome bytes (HasRightHead h at) → end ≡ end_by at (value_of_header h) → end ≤ size → max_data_size < h.data_size
     → IfSome bytes (λ file. IsUnloaded file at end end why.TooLarge piece)
     → IfSome bytes (IsPieceThere keep at piece)
@@ -151,7 +153,7 @@ too_large_piece (Some file) keep size at end h piece sized fits right is within 
     (subst (λ (e : ℕ). IsUnloaded file at e end why.TooLarge piece) ends unloaded)
 
 -- a chunk of which a block within tells otherwise
-pub contradicted_piece : (bytes : Option (List ℕ)) (keep : Bool) (at end place : ℕ) (h : Header) (piece : Piece) → IsHeader h
+pub contradicted_piece : (bytes : Option (List ℕ)) (keep : Bool) (at end place : ℕ) (h : Header) (piece : NextPiece) → IsHeader h
     → IfSome bytes (HasRightHead h at) → end ≡ end_by at (value_of_header h) → IsSkipped piece place why.Contradicted
     → IfSome bytes (λ file. LeadsTo file at end at end (Some place))
     → IfSome bytes (IsPieceThere keep at piece)
@@ -221,30 +223,38 @@ all_none keep file at chunk there none =
     none_behind (SkipsFor file at) early_reasons (content_reasons keep) there.early
     (content_none keep file at (same_none keep _ _ _ _ there.hash there.value none))
 
-read_there : (keep : Bool) (file : List ℕ) (at : ℕ) (chunk : Chunk) (w : PieceKind) → IsThere file at chunk → IsReadAs keep chunk w
-    → IsPieceOf keep file at (end_at file at) (value_of_piece_kind w)
-read_there keep file at chunk (what.Skipped reason) there first =
-    let here = same_first keep _ _ _ _ reason there.hash there.value first in (
-      first_behind (SkipsFor file at) early_reasons (content_reasons keep) reason there.early (content_passes keep file at reason here),
-      skips_first _ file at (end_at file at) (content_reasons keep) reason (content_skips keep file at) here,
+-- what is kept there
+kept_there : (walk : Progress) (file : List ℕ) (at : ℕ) (k : ChunkValue) (d : IsDecided (IsSimpleChunk k))
+    → NoneOf (SkipsFor file at) (walk_reasons walk.keep) → pieces.IsFoundAs walk.keep (chunk_at file at) (kept_by k d)
+    → IsPieceOf walk.keep file at (end_at file at) (kept_by k d)
+kept_there walk file at k (inl (records, simple)) none found = (none, refl, found)
+kept_there walk file at k (inr other) none found = (none, refl, found)
+
+read_there : (walk : Progress) (file : List ℕ) (at : ℕ) (chunk : Chunk) (w : Found) → IsThere file at chunk → IsReadAs walk chunk w
+    → IsPieceOf walk.keep file at (end_at file at) (value_of_found w)
+read_there walk file at chunk (what.Skipped reason) there first =
+    let here = same_first walk.keep _ _ _ _ reason there.hash there.value first in (
+      first_behind (SkipsFor file at) early_reasons (content_reasons walk.keep) reason there.early (content_passes walk.keep file at reason here),
+      skips_first _ file at (end_at file at) (content_reasons walk.keep) reason (content_skips walk.keep file at) here,
     )
-read_there keep file at chunk (what.Given records same) there read =
-    let given : pieces.PieceKind = pieces.Given records (value_of_chunk same) in
-    (all_none keep file at chunk there read.0, refl, subst (λ (k : ChunkValue). pieces.IsFoundAs keep k given) there.value read.1)
-read_there keep file at chunk (what.Kept same unread) there read =
-    let kept : pieces.PieceKind = pieces.Kept (value_of_chunk same) in
-    (all_none keep file at chunk there read.0, refl, subst (λ (k : ChunkValue). pieces.IsFoundAs keep k kept) there.value read.1)
-read_there keep file at chunk what.LeftOut there read =
-    (all_none keep file at chunk there read.0, refl, subst (λ (k : ChunkValue). pieces.IsFoundAs keep k pieces.LeftOut) there.value read.1)
+read_there walk file at chunk (what.Records records same) there read =
+    let given : pieces.PieceKind = pieces.Records records (value_of_chunk same) in
+    (all_none walk.keep file at chunk there read.0, refl, subst (λ (k : ChunkValue). pieces.IsFoundAs walk.keep k given) there.value read.1)
+read_there walk file at chunk (what.Kept same unread) there read =
+    let kept : pieces.PieceKind = kept_as (value_of_chunk same) in
+    kept_there walk file at (value_of_chunk same) (records_decided (value_of_chunk same))
+    (all_none walk.keep file at chunk there read.0) (subst (λ (k : ChunkValue). pieces.IsFoundAs walk.keep k kept) there.value read.1)
+read_there walk file at chunk what.SignatureOrPadding there read =
+    (all_none walk.keep file at chunk there read.0, refl, subst (λ (k : ChunkValue). pieces.IsFoundAs walk.keep k pieces.SignatureOrPadding) there.value read.1)
 
 -- a chunk that was read
-pub read_piece : (bytes : Option (List ℕ)) (keep : Bool) (size at end : ℕ) (h : Header) (chunk : Chunk) (piece : Piece)
+pub read_piece : (bytes : Option (List ℕ)) (walk : Progress) (size at end : ℕ) (h : Header) (chunk : Chunk) (piece : NextPiece)
     → IsSized bytes (Some size) → IsHeader h → IfSome bytes (HasRightHead h at) → end ≡ end_by at (value_of_header h) → end ≤ size
     → h.data_size ≤ max_data_size → chunk.header ≡ h
     → IfSome bytes (λ file. (chunk.bytes ≡ data_at file at h.data_size) × LeadsTo file at end at end None)
-    → piece.end ≡ end → IsReadAs keep chunk piece.what → IfSome bytes (IsPieceThere keep at piece)
-read_piece None keep size at end h chunk piece sized fits right is within small same loaded ends read = tt
-read_piece (Some file) keep size at end h chunk piece sized fits right is within small same loaded ends read =
+    → piece.end ≡ end → IsReadAs walk chunk piece.what → IfSome bytes (IsPieceThere walk.keep at piece)
+read_piece None walk size at end h chunk piece sized fits right is within small same loaded ends read = tt
+read_piece (Some file) walk size at end h chunk piece sized fits right is within small same loaded ends read =
     let end_is : end ≡ end_at file at = is ∙ end_by-at file at h fits right.1 in
     let passing = none_unpassed (Some file) size at h sized fits right (omega (arith, is, within)) in
     let loading = none_loading (Some file) at h fits right.1 passing small in
@@ -254,8 +264,8 @@ read_piece (Some file) keep size at end h chunk piece sized fits right is within
       hash = ap (λ (x : Header). x.data_hash) same ∙ hash_of-at file at h fits right.1;
       value = ap (λ (x : Header). value_of x chunk.bytes) same ∙ value_of-at file at h chunk.bytes fits right.1 loaded.0;
     } in
-    subst (λ (e : ℕ). IsPieceOf keep file at e (value_of_piece_kind piece.what)) (sym (ends ∙ end_is))
-    (read_there keep file at chunk piece.what there read)
+    subst (λ (e : ℕ). IsPieceOf walk.keep file at e (value_of_found piece.what)) (sym (ends ∙ end_is))
+    (read_there walk file at chunk piece.what there read)
 
 -- where it ends, whether or not the file shows its bytes
 pub onward_end : (size at : ℕ) (h : Header) (end : ℕ) → end ≡ end_by at (value_of_header h) → end ≤ size → IsOnward size at end
@@ -274,40 +284,50 @@ chunk_ends at end h chunk same is =
     rw (size, records) is
 
 -- what is known of one that is kept tells whether it is left unread
-kept_unread : (k : ChunkValue) (unread : Bool) → length k.«data» ≤ max_data_size → IsKeptAs k unread → unread ≡ is_unread k
-kept_unread k true small (inl compressed) = sym (is_unread-unread k (small, inr compressed))
-kept_unread k true small (inr transposed) = sym (is_unread-unread k (small, inl transposed))
-kept_unread k false small metadata = sym (is_unread-plain k (small, inr (inr (inl metadata))))
+kept_unread : (decodes : Bool) (k : ChunkValue) (unread : Bool) → length k.«data» ≤ max_data_size → IsKeptAs decodes k unread
+    → unread ≡ is_unread k
+kept_unread decodes k true small (inl compressed) = sym (is_unread-unread k (small, inr compressed))
+kept_unread decodes k true small (inr transposed) = sym (is_unread-unread k (small, inl transposed))
+kept_unread decodes k false small (inl metadata) = sym (is_unread-plain k (small, inr (inr (inl metadata))))
+kept_unread decodes k false small (inr (judged, simple)) = sym (is_unread-plain k (small, inl simple))
+
+-- and where records are decoded that it holds none
+kept_holds_none : (decodes : Bool) (k : ChunkValue) (unread : Bool) → IsKeptAs decodes k unread → decodes ≡ true → ¬ IsSimpleChunk k
+kept_holds_none decodes k true (inl compressed) is simple = compressed_holds_none k compressed simple
+kept_holds_none decodes k true (inr transposed) is simple = omega (arith, transposed, simple.1.kind)
+kept_holds_none decodes k false (inl metadata) is simple = omega (arith, metadata.0, simple.1.kind)
+kept_holds_none decodes k false (inr (judged, holds)) is simple = cc (sym judged ∙ is)
 
 -- and is intact
-read_intact : (keep : Bool) (at end : ℕ) (h : Header) (chunk : Chunk) (w : PieceKind) → chunk.header ≡ h → end ≡ end_by at (value_of_header h)
-    → IsChunk (value_of_chunk chunk) → h.data_size ≤ max_data_size → IsReadAs keep chunk w → HasIntact at end w
-read_intact keep at end h chunk (what.Skipped reason) same is sound small read = tt
-read_intact keep at end h chunk what.LeftOut same is sound small read = tt
-read_intact keep at end h chunk (what.Kept kept unread) same is sound small read =
+read_intact : (walk : Progress) (at end : ℕ) (h : Header) (chunk : Chunk) (w : Found) → chunk.header ≡ h → end ≡ end_by at (value_of_header h)
+    → IsChunk (value_of_chunk chunk) → h.data_size ≤ max_data_size → IsReadAs walk chunk w → HasIntact walk.decodes at end w
+read_intact walk at end h chunk (what.Skipped reason) same is sound small read = tt
+read_intact walk at end h chunk what.SignatureOrPadding same is sound small read = tt
+read_intact walk at end h chunk (what.Kept kept unread) same is sound small read =
     let few : length chunk.bytes ≤ max_data_size = omega (arith, chunk.sized, ap (λ (x : Header). x.data_size) same, small) in
-    subst (λ (c : Chunk). HasIntact at end (what.Kept c unread)) (sym read.2.0) (
+    subst (λ (c : Chunk). HasIntact walk.decodes at end (what.Kept c unread)) (sym read.2.0) (
       chunk_ends at end h chunk same is,
-      record { right = right_hash keep chunk read.0; sound = sound; small = few },
-      kept_unread (value_of_chunk chunk) unread few read.2.1,
+      record { right = right_hash walk.keep chunk read.0; sound = sound; small = few },
+      kept_unread walk.decodes (value_of_chunk chunk) unread few read.2.1,
+      kept_holds_none walk.decodes (value_of_chunk chunk) unread read.2.1,
     )
-read_intact keep at end h chunk (what.Given records given) same is sound small read =
-    subst (λ (c : Chunk). HasIntact at end (what.Given records c)) (sym read.2) (
+read_intact walk at end h chunk (what.Records records given) same is sound small read =
+    subst (λ (c : Chunk). HasIntact walk.decodes at end (what.Records records c)) (sym read.2) (
       chunk_ends at end h chunk same is,
       record {
-        right = right_hash keep chunk read.0;
+        right = right_hash walk.keep chunk read.0;
         sound = sound;
         small = omega (arith, chunk.sized, ap (λ (x : Header). x.data_size) same, small);
       },
       read.1.0,
     )
 
-pub read_from : (keep : Bool) (size at end : ℕ) (h : Header) (chunk : Chunk) (piece : Piece)
-    → end ≡ end_by at (value_of_header h) → end ≤ size → h.data_size ≤ max_data_size → chunk.header ≡ h → IsChunk (value_of_chunk chunk)
-    → piece.end ≡ end → IsReadAs keep chunk piece.what → IsPieceFrom size at piece
-read_from keep size at end h chunk piece is within small same sound ends read = record {
-  onward = onward_end size at h piece.end (ends ∙ is) (omega (arith, ends, within));
-  intact = read_intact keep at piece.end h chunk piece.what same (ends ∙ is) sound small read;
+pub read_from : (walk : Progress) (end : ℕ) (h : Header) (chunk : Chunk) (piece : NextPiece)
+    → end ≡ end_by walk.place (value_of_header h) → end ≤ walk.size → h.data_size ≤ max_data_size → chunk.header ≡ h → IsChunk (value_of_chunk chunk)
+    → piece.end ≡ end → IsReadAs walk chunk piece.what → IsPieceFrom walk piece
+read_from walk end h chunk piece is within small same sound ends read = record {
+  onward = onward_end walk.size walk.place h piece.end (ends ∙ is) (omega (arith, ends, within));
+  intact = read_intact walk walk.place piece.end h chunk piece.what same (ends ∙ is) sound small read;
 }
 
 -- the end by a header, of which one past 2 ^ 63 isn't told

@@ -7,7 +7,7 @@ use Rattle.std.proofs.lemmas.Option.{slice_get_cases}
 use Rattle.block_layout.specs.Layout.{usable_bytes, end_of}
 use Rattle.block_layout.specs.BlockHeaders.{StandsAt}
 use Rattle.block_layout.proofs.Ends.{end_of_after}
-use Rattle.block_layout.proofs.UsableBytes.{own_bytes_at-to_end}
+use Rattle.block_layout.proofs.UsableBytes.{usable_bytes_at-to_end}
 use Rattle.chunk_header.specs.Chunks.{ChunkValue, IsRightChunkHeader, header_in}
 use Rattle.meta_chunk.specs.Laid.{IsLaid}
 use Rattle.meta_chunk.specs.Files.{IsFramed, AreLaid, IsChainOf, IsFrame, begin_of}
@@ -113,9 +113,9 @@ stands_in_front file m b previous next h =
 pub header_in_front : (file : List ℕ) (m place : ℕ) → m ≤ length file → end_of place 40 ≤ m
     → header_bytes_at (take m file) place ≡ header_bytes_at file place
 header_in_front file m place within fits =
-    own_bytes_at-to_end (take m file) place 40 (omega (arith, length-take-le m file within))
+    usable_bytes_at-to_end (take m file) place 40 (omega (arith, length-take-le m file within))
     ∙ ap (usable_bytes place) (slice_in_front file m place (end_of place 40) (end_of_after place 40) fits)
-    ∙ sym (own_bytes_at-to_end file place 40 (omega arith))
+    ∙ sym (usable_bytes_at-to_end file place 40 (omega arith))
 
 -- a chunk of a file of chunks that is cut at a place within it
 module _ (keep : Bool) (file : List ℕ) (begin : ℕ) (k : ChunkValue) (end m : ℕ) (laid : IsLaid begin k (slice_range file begin end))

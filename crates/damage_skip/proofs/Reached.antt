@@ -13,7 +13,7 @@ use Rattle.meta_chunk.proofs.Begins.{holder_of, holder_one}
 use Rattle.chunk_reader.proofs.ChainSteps.{each_at}
 use Rattle.chunk_reader.proofs.FaultsDecided.{least_below}
 use Rattle.chunk_reader.specs.declared.reasons.Why.TheVariants as why
-use Rattle.damage_skip.specs.Pieces.{PieceKind, Given, Kept, LeftOut, Skipped, Piece, IsFoundAs}
+use Rattle.damage_skip.specs.Pieces.{PieceKind, Records, Kept, SignatureOrPadding, Skipped, Piece, IsFoundAs}
 use Rattle.damage_skip.specs.Damage.{Intact, IsIntactFrom, IsNext, AreReached, DamageLeaves, DamageLeavesEach}
 use Rattle.damage_skip.proofs.OnePiece.{found_one, found_of, given_or_kept}
 use Rattle.damage_skip.proofs.Tiles.{same_piece}
@@ -132,19 +132,19 @@ reached_of ks intact j inside = reached_from ks intact (length ks) j (omega arit
 
 -- a chunk that is left unread is none that is found where such chunks aren't kept
 unread_or_found : (k : ChunkValue) (what : PieceKind) → (IsCompressed k ⊎ IsTransposed k) → ¬ IsFoundAs false k what
-unread_or_found k (Given records c) unread (simple, is) = given_or_kept true k records simple (inr (refl, unread))
+unread_or_found k (Records records c) unread (simple, is) = given_or_kept true k records simple (inr (refl, unread))
 unread_or_found k (Kept c) (inl compressed) (inl metadata, is) =
     let r : k.kind ≡ 0x72 = compressed.0 in let m : k.kind ≡ 0x6d = metadata.0 in omega arith
 unread_or_found k (Kept c) (inr transposed) (inl metadata, is) =
     let t : k.kind ≡ 0x74 = transposed in let m : k.kind ≡ 0x6d = metadata.0 in omega arith
 unread_or_found k (Kept c) unread (inr (kept, also), is) = cc kept
-unread_or_found k LeftOut (inl compressed) (inl s) =
+unread_or_found k SignatureOrPadding (inl compressed) (inl s) =
     let r : k.kind ≡ 0x72 = compressed.0 in let n : k.kind ≡ 0x73 = s.0 in omega arith
-unread_or_found k LeftOut (inl compressed) (inr p) =
+unread_or_found k SignatureOrPadding (inl compressed) (inr p) =
     let r : k.kind ≡ 0x72 = compressed.0 in let n : k.kind ≡ 0x70 = p.0 in omega arith
-unread_or_found k LeftOut (inr transposed) (inl s) =
+unread_or_found k SignatureOrPadding (inr transposed) (inl s) =
     let t : k.kind ≡ 0x74 = transposed in let n : k.kind ≡ 0x73 = s.0 in omega arith
-unread_or_found k LeftOut (inr transposed) (inr p) =
+unread_or_found k SignatureOrPadding (inr transposed) (inr p) =
     let t : k.kind ≡ 0x74 = transposed in let n : k.kind ≡ 0x70 = p.0 in omega arith
 unread_or_found k (Skipped w) unread found = found
 

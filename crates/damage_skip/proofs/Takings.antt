@@ -1,6 +1,7 @@
 -- How many bytes the steps of a walk take, where the bytes of the file may be shown.
-use Rattle.std.proofs.Common.{◌≡◌, ◌∙◌, ℕ, ◌+◌, ◌-◌, ◌*◌, ◌<◌, ◌≤◌, min, Bool, ◌⊎◌, inl, inr, Option, Some, None, Result, Ok, Err, IfOk, IfSome, List, [], ◌∷◌, ◌++◌, length, refl, sym, subst, arith}
+use Rattle.std.proofs.Common.{◌≡◌, ◌∙◌, ℕ, ◌+◌, ◌-◌, ◌*◌, ◌<◌, ◌≤◌, min, Bool, ◌⊎◌, inl, inr, Option, Some, None, Result, Ok, Err, IfSome, List, [], ◌∷◌, ◌++◌, length, refl, sym, subst, arith}
 use Rattle.std.proofs.lemmas.Bool.{cases_lt}
+use Rattle.std.specs.Result.{IsErr}
 use Rattle.block_layout.specs.Layout.{IsBlock, blocks_below}
 use Rattle.chunk_header.proofs.Decided.{IsDecided, both, not_decided}
 use Rattle.chunk_header.specs.declared.Header.{Header}
@@ -12,6 +13,7 @@ use Rattle.chunk_reader.specs.Places.{end_by, end_at}
 use Rattle.chunk_reader.specs.Reasons.{Applies, NoneOf, header_reasons, loading_reasons}
 use Rattle.chunk_reader.specs.declared.heads.Head.{Head}
 use Rattle.chunk_reader.specs.declared.heads.Head.TheVariants as head
+use Rattle.chunk_reader.specs.declared.judging.LoadEnd.{LoadEnd}
 use Rattle.chunk_reader.specs.declared.reasons.Why.{Why}
 use Rattle.chunk_reader.proofs.FaultsDecided.{reason_decided}
 use Rattle.chunk_reader.proofs.PassedChunks.{end_at_after}
@@ -20,13 +22,13 @@ use Rattle.chunk_reader.proofs.Verdicts.{end_by-at}
 use Rattle.chunk_reader.proofs.WholeHeads.{HasRightHead, none_loading, none_unpassed}
 use Rattle.damage_skip.specs.Pieces.{Piece}
 use Rattle.damage_skip.specs.Resyncs.{StandsFrom, Contradicts}
-use Rattle.damage_skip.specs.Steps.{IsEndOf, ContradictsIn, LeadsTo, AgreesAt, DisagreesAt}
+use Rattle.damage_skip.specs.Steps.{IsEndOf, ContradictsIn, LeadsTo, AgreesAt, DisagreesAt, IsPieceThere, TakesForPiece}
 use Rattle.damage_skip.specs.Takings.{LooksAtBlocks, MayTakeAt, StopsInChunk, StopsWhereContradicted, MayTakeFor, AccountFor, IsTakenFrom, IsTakenUpTo}
 use Rattle.damage_skip.specs.Walks.{TakesByCall}
 use Rattle.damage_skip.specs.declared.events.Event.{Event}
 use Rattle.damage_skip.specs.declared.events.WalkEnd.{WalkEnd}
-use Rattle.damage_skip.specs.declared.pieces.Piece as code
-use Rattle.damage_skip.proofs.PieceSteps.{IsPieceThere, says_size}
+use Rattle.damage_skip.specs.declared.pieces.NextPiece.{NextPiece}
+use Rattle.damage_skip.proofs.PieceSteps.{says_size}
 use Rattle.damage_skip.proofs.Resyncing.{StandNotBelow}
 use Rattle.damage_skip.proofs.WalkSteps.{tiles_joined, piece_value}
 
@@ -263,25 +265,55 @@ judged-looks (Some file) begin end told from to taken is h = record {
 }
 
 -- with the chunk header before it
-pub takes_headed : (bytes now : Option (List ℕ)) (place before middle after : ℕ) → now ≡ bytes → middle ≤ before + 40
+head_taken : (bytes now : Option (List ℕ)) (place before middle after : ℕ) → now ≡ bytes → middle ≤ before + 40
     → IfSome now (λ file. MayTakeAt file place (40 + (after - middle))) → IfSome bytes (λ file. MayTakeAt file place (after - before))
-takes_headed None now place before middle after same few takes = tt
-takes_headed (Some file) None place before middle after same few takes = absurd (cc same)
-takes_headed (Some file) (Some other) place before middle after same few takes =
+head_taken None now place before middle after same few takes = tt
+head_taken (Some file) None place before middle after same few takes = absurd (cc same)
+head_taken (Some file) (Some other) place before middle after same few takes =
     may_take_less file place (after - before) (40 + (after - middle)) (omega (arith, few))
     (subst (λ (f : List ℕ). MayTakeAt f place (40 + (after - middle))) (cc same) takes)
 
-pub stops_headed : {E : Type 0} (result : Result code.Piece E) (bytes now : Option (List ℕ)) (place before middle after : ℕ) → now ≡ bytes
-    → middle ≤ before + 40
-    → IfOk result (λ piece. IfSome now (λ file. StopsWhereContradicted file place (40 + (after - middle))))
-    → IfOk result (λ piece. IfSome bytes (λ file. StopsWhereContradicted file place (after - before)))
-stops_headed (Err e) bytes now place before middle after same few stops = tt
-stops_headed (Ok piece) None now place before middle after same few stops = tt
-stops_headed (Ok piece) (Some file) None place before middle after same few stops = absurd (cc same)
-stops_headed (Ok piece) (Some file) (Some other) place before middle after same few stops =
+head_stops : (bytes now : Option (List ℕ)) (place before middle after : ℕ) → now ≡ bytes → middle ≤ before + 40
+    → IfSome now (λ file. StopsWhereContradicted file place (40 + (after - middle)))
+    → IfSome bytes (λ file. StopsWhereContradicted file place (after - before))
+head_stops None now place before middle after same few stops = tt
+head_stops (Some file) None place before middle after same few stops = absurd (cc same)
+head_stops (Some file) (Some other) place before middle after same few stops =
     let here : StopsWhereContradicted file place (40 + (after - middle)) =
     subst (λ (f : List ℕ). StopsWhereContradicted f place (40 + (after - middle))) (cc same) stops in
     λ loaded b p n c. omega (arith, few, here loaded b p n c)
+
+-- both of them, and each of both
+pub taken_for : (bytes : Option (List ℕ)) (place taken : ℕ) → IfSome bytes (λ file. MayTakeAt file place taken)
+    → IfSome bytes (λ file. StopsWhereContradicted file place taken) → IfSome bytes (λ file. MayTakeFor file place taken)
+taken_for None place taken takes stops = tt
+taken_for (Some file) place taken takes stops = (takes, stops)
+
+pub taken_at : (bytes : Option (List ℕ)) (place taken : ℕ) → IfSome bytes (λ file. MayTakeFor file place taken)
+    → IfSome bytes (λ file. MayTakeAt file place taken)
+taken_at None place taken h = tt
+taken_at (Some file) place taken h = h.0
+
+stopped_at : (bytes : Option (List ℕ)) (place taken : ℕ) → IfSome bytes (λ file. MayTakeFor file place taken)
+    → IfSome bytes (λ file. StopsWhereContradicted file place taken)
+stopped_at None place taken h = tt
+stopped_at (Some file) place taken h = h.1
+
+-- whichever way the piece was looked for
+pub takes_headed : {E : Type 0} (result : Result NextPiece E) (bytes now : Option (List ℕ)) (place before middle after : ℕ) → now ≡ bytes
+    → middle ≤ before + 40 → IfSome now (λ file. TakesForPiece result file place (40 + (after - middle)))
+    → IfSome bytes (λ file. TakesForPiece result file place (after - before))
+takes_headed (Err e) bytes now place before middle after same few takes = head_taken bytes now place before middle after same few takes
+takes_headed (Ok piece) bytes now place before middle after same few takes =
+    taken_for bytes place (after - before)
+    (head_taken bytes now place before middle after same few (taken_at now place (40 + (after - middle)) takes))
+    (head_stops bytes now place before middle after same few (stopped_at now place (40 + (after - middle)) takes))
+
+-- also where there is none
+pub takes_failed : (result : Result NextPiece LoadEnd) (bytes : Option (List ℕ)) (place taken : ℕ) → IsErr result
+    → IfSome bytes (λ file. MayTakeAt file place taken) → IfSome bytes (λ file. TakesForPiece result file place taken)
+takes_failed (Ok piece) bytes place taken failed takes = absurd (cc failed)
+takes_failed (Err e) bytes place taken failed takes = takes
 
 -- pieces account for fewer bytes too
 account_less : (file : List ℕ) (pieces : List Piece) (less taken : ℕ) → less ≤ taken → AccountFor file pieces taken → AccountFor file pieces less
@@ -325,17 +357,16 @@ taken-still (Some file) keep size place taken sized within none =
     (0, taken-none keep file place 0 (omega arith), may_take_head file place (taken - 0) (omega (arith, sized, within, none)) (omega (arith, none)))
 
 -- or goes on past a piece
-pub taken-past : (bytes now : Option (List ℕ)) (keep kept : Bool) (size from at : ℕ) (piece : code.Piece) (start middle after : ℕ)
+pub taken-past : (bytes now : Option (List ℕ)) (keep kept : Bool) (size from at : ℕ) (piece : NextPiece) (start middle after : ℕ)
     → now ≡ bytes → kept ≡ keep → IsSized bytes (Some size) → at < size
     → IfSome bytes (λ file. IsTakenFrom keep file from at (middle - start)) → IfSome now (IsPieceThere kept at piece)
-    → IfSome now (λ file. MayTakeAt file at (after - middle)) → IfSome now (λ file. StopsWhereContradicted file at (after - middle))
-    → IfSome bytes (λ file. IsTakenFrom keep file from piece.end (after - start))
-taken-past None now keep kept size from at piece start middle after same same_keep sized below on there takes stops = tt
-taken-past (Some file) None keep kept size from at piece start middle after same same_keep sized below on there takes stops = absurd (cc same)
-taken-past (Some file) (Some other) keep kept size from at piece start middle after same same_keep sized below on there takes stops =
+    → IfSome now (λ file. MayTakeFor file at (after - middle)) → IfSome bytes (λ file. IsTakenFrom keep file from piece.end (after - start))
+taken-past None now keep kept size from at piece start middle after same same_keep sized below on there takes = tt
+taken-past (Some file) None keep kept size from at piece start middle after same same_keep sized below on there takes = absurd (cc same)
+taken-past (Some file) (Some other) keep kept size from at piece start middle after same same_keep sized below on there takes =
     let is : other ≡ file = cc same in
     let here : IsPieceThere keep at piece file = subst (λ (k : Bool). IsPieceThere k at piece file) same_keep (subst (IsPieceThere kept at piece) is there) in
-    let may : MayTakeFor file at (after - middle) = subst (λ (f : List ℕ). MayTakeFor f at (after - middle)) is (takes, stops) in
+    let may : MayTakeFor file at (after - middle) = subst (λ (f : List ℕ). MayTakeFor f at (after - middle)) is takes in
     taken-joined keep file from at piece.end (middle - start) (after - middle) (after - start) (omega arith) on
     (piece_value at piece ∷ [], (refl, omega (arith, sized, below), here, refl), (after - middle, may, omega arith))
 

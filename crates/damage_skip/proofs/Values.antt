@@ -27,7 +27,7 @@ use Rattle.damage_skip.specs.Resyncs.{landing, IsResync, Contradicts}
 use Rattle.damage_skip.specs.Damage.{Intact, IsNext, IsDamaged, IsIntactFrom, AreReached, DamageLeavesEach, AreLostUpToABlock}
 use Rattle.damage_skip.specs.Fronts.{IsCutAt}
 use Rattle.damage_skip.specs.Takings.{MayTakeAt, MayTakeFor}
-use Rattle.damage_skip.specs.Pieces.{PieceKind, Given, LeftOut, Skipped, Piece, SkipsFor, walk_reasons, events_in, records_in}
+use Rattle.damage_skip.specs.Pieces.{PieceKind, Records, SignatureOrPadding, Skipped, Piece, SkipsFor, walk_reasons, events_in, records_in}
 use Rattle.damage_skip.specs.FilePieces.{ArePieces, placed_in}
 
 -- a block met before the chunk that it interrupts leads to that chunk's begin
@@ -143,11 +143,11 @@ no_pieces keep = refl
 
 -- records of pieces, with their positions
 two : List ℕ → List ℕ → Piece
-two a b = record { begin = 64; end = 112; what = Given (a ∷ b ∷ []) signature }
+two a b = record { begin = 64; end = 112; what = Records (a ∷ b ∷ []) signature }
 
 three_pieces : List ℕ → List ℕ → List Piece
 three_pieces a b =
-    record { begin = 0; end = 64; what = LeftOut }
+    record { begin = 0; end = 64; what = SignatureOrPadding }
     ∷ two a b
     ∷ record { begin = 112; end = 65536; what = Skipped why.DataHash }
     ∷ []
@@ -199,13 +199,13 @@ in_last = record { number = lit< tt; begins = omega (arith, begins.5); ends = om
 
 -- the pieces that its damage may leave
 given : (begin end : ℕ) → Piece
-given begin end = record { begin = begin; end = end; what = Given (large_record ∷ []) large }
+given begin end = record { begin = begin; end = end; what = Records (large_record ∷ []) large }
 
 skipped : (begin end : ℕ) → Piece
 skipped begin end = record { begin = begin; end = end; what = Skipped why.HeaderHash }
 
 left_out : (begin end : ℕ) → Piece
-left_out begin end = record { begin = begin; end = end; what = LeftOut }
+left_out begin end = record { begin = begin; end = end; what = SignatureOrPadding }
 
 signature_is_one : IsSignature signature
 signature_is_one =
@@ -469,7 +469,7 @@ cut_between : IsCutAt five 2 30109 []
 cut_between = inl (sym begins.2, refl)
 
 first_kind : List Piece → PieceKind
-first_kind [] = LeftOut
+first_kind [] = SignatureOrPadding
 first_kind (piece ∷ pieces) = piece.what
 
 not_cut_as_damaged : ¬ IsCutAt five 2 40000 (cut_region 40000 why.HeaderHash ∷ [])

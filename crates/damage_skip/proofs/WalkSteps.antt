@@ -1,21 +1,22 @@
 -- The steps of a walk, where the bytes of the file may be shown.
 use Rattle.std.proofs.Common.{◌≡◌, ◌∙◌, ℕ, ◌<◌, Bool, Option, Some, None, IfSome, List, [], ◌∷◌, ◌++◌, length, refl, sym, ap, subst, arith}
 use Rattle.std.proofs.lemmas.List.Elements.{filter-append}
+use Rattle.chunk_header.specs.Chunks.{ChunkValue}
 use Rattle.chunk_header.specs.Views.{value_of_chunk}
 use Rattle.chunk_reader.specs.declared.judging.LoadEnd.{LoadEnd}
 use Rattle.chunk_reader.specs.declared.judging.LoadEnd.TheVariants as load
 use Rattle.chunk_reader.proofs.Rooms.{IsSized}
 use Rattle.damage_skip.specs.Ends.{walk_end_of}
-use Rattle.damage_skip.specs.Pieces.{Piece, Given, Kept, LeftOut, Skipped, IsPieceOf, AreTiles, is_event, events_in}
-use Rattle.damage_skip.specs.Steps.{HasIntact, value_of_piece_kind}
+use Rattle.damage_skip.specs.Pieces.{Piece, Records, SignatureOrPadding, Skipped, IsPieceOf, AreTiles, is_event, events_in}
+use Rattle.damage_skip.specs.Steps.{HasIntact, IsPieceThere, kept_as, value_of_found}
 use Rattle.damage_skip.specs.Walks.{piece_of, what_event, event_of, GoesOn, IsMet, IsStoppedAt}
 use Rattle.damage_skip.specs.declared.events.Event.{Event}
 use Rattle.damage_skip.specs.declared.events.WalkEnd.TheVariants as walk
-use Rattle.damage_skip.specs.declared.pieces.Piece as code
-use Rattle.damage_skip.specs.declared.pieces.PieceKind.{PieceKind}
-use Rattle.damage_skip.specs.declared.pieces.PieceKind.TheVariants as what
+use Rattle.damage_skip.specs.declared.pieces.NextPiece.{NextPiece}
+use Rattle.damage_skip.specs.declared.pieces.Found.{Found}
+use Rattle.damage_skip.specs.declared.pieces.Found.TheVariants as what
 use Rattle.damage_skip.specs.declared.regions.Region.{Region}
-use Rattle.damage_skip.proofs.PieceSteps.{IsPieceThere}
+use Rattle.damage_skip.proofs.KeptChunks.{kept_event}
 
 -- pieces behind pieces
 pub tiles_joined : (keep : Bool) (file : List ℕ) (from middle to : ℕ) (front rest : List Piece) → AreTiles keep file from middle front
@@ -37,11 +38,11 @@ met_on (Some file) keep kept from to events same (front, tiles) (rest, more, are
     subst (λ (k : Bool). IsMet k file to) (sym same) (front ++ rest, tiles_joined keep file 0 from to front rest tiles more)
 
 -- the piece that begins at a place, as the definition has it
-abbrev pub piece_value : ℕ → code.Piece → Piece
-piece_value at piece = record { begin = at; end = piece.end; what = value_of_piece_kind piece.what }
+abbrev pub piece_value : ℕ → NextPiece → Piece
+piece_value at piece = record { begin = at; end = piece.end; what = value_of_found piece.what }
 
 -- one piece more
-one_more : (keep : Bool) (file : List ℕ) (from at : ℕ) (piece : code.Piece) (events : List Piece) → GoesOn keep file from at []
+one_more : (keep : Bool) (file : List ℕ) (from at : ℕ) (piece : NextPiece) (events : List Piece) → GoesOn keep file from at []
     → at < length file → IsPieceThere keep at piece file → events_in (piece_value at piece ∷ []) ≡ events
     → GoesOn keep file from piece.end events
 one_more keep file from at piece events (front, tiles, none) below there are = (
@@ -56,29 +57,30 @@ events_told None = []
 events_told (Some e) = piece_of e ∷ []
 
 -- what is told of it
-told_of : (at end : ℕ) (w : PieceKind) (o : Option Event) → what_event at end w ≡ o → HasIntact at end w
-    → events_in (record { begin = at; end = end; what = value_of_piece_kind w } ∷ []) ≡ events_told o
-told_of at end (what.Given records chunk) o is intact =
-    subst (λ (x : Option Event). events_in (record { begin = at; end = end; what = Given records (value_of_chunk chunk) } ∷ []) ≡ events_told x) is
-    (ap (λ (e : ℕ). record { begin = at; end = e; what = Given records (value_of_chunk chunk) } ∷ []) intact.0)
-told_of at end (what.Kept chunk unread) o is intact =
-    subst (λ (x : Option Event). events_in (record { begin = at; end = end; what = Kept (value_of_chunk chunk) } ∷ []) ≡ events_told x) is
-    (ap (λ (e : ℕ). record { begin = at; end = e; what = Kept (value_of_chunk chunk) } ∷ []) intact.0)
-told_of at end what.LeftOut o is intact =
-    subst (λ (x : Option Event). events_in (record { begin = at; end = end; what = LeftOut } ∷ []) ≡ events_told x) is refl
-told_of at end (what.Skipped why) o is intact =
+told_of : (decodes : Bool) (at end : ℕ) (w : Found) (o : Option Event) → what_event at end w ≡ o → HasIntact decodes at end w
+    → events_in (record { begin = at; end = end; what = value_of_found w } ∷ []) ≡ events_told o
+told_of decodes at end (what.Records records chunk) o is intact =
+    subst (λ (x : Option Event). events_in (record { begin = at; end = end; what = Records records (value_of_chunk chunk) } ∷ []) ≡ events_told x) is
+    (ap (λ (e : ℕ). record { begin = at; end = e; what = Records records (value_of_chunk chunk) } ∷ []) intact.0)
+told_of decodes at end (what.Kept chunk unread) o is intact =
+    let k : ChunkValue = value_of_chunk chunk in
+    subst (λ (x : Option Event). events_in (record { begin = at; end = end; what = kept_as k } ∷ []) ≡ events_told x) is
+    (kept_event at end k ∙ ap (λ (e : ℕ). record { begin = at; end = e; what = kept_as k } ∷ []) intact.0)
+told_of decodes at end what.SignatureOrPadding o is intact =
+    subst (λ (x : Option Event). events_in (record { begin = at; end = end; what = SignatureOrPadding } ∷ []) ≡ events_told x) is refl
+told_of decodes at end (what.Skipped why) o is intact =
     subst (λ (x : Option Event). events_in (record { begin = at; end = end; what = Skipped why } ∷ []) ≡ events_told x) is refl
 
 -- so the walk goes on past it
-pub passes : (bytes now : Option (List ℕ)) (keep kept : Bool) (size from at : ℕ) (piece : code.Piece) (o : Option Event) → now ≡ bytes → kept ≡ keep
+pub passes : (bytes now : Option (List ℕ)) (keep kept : Bool) (size from at : ℕ) (decodes : Bool) (piece : NextPiece) (o : Option Event) → now ≡ bytes → kept ≡ keep
     → IsSized bytes (Some size) → at < size → IfSome bytes (λ file. GoesOn keep file from at []) → IfSome now (IsPieceThere kept at piece)
-    → HasIntact at piece.end piece.what → event_of at piece ≡ o → IfSome bytes (λ file. GoesOn keep file from piece.end (events_told o))
-passes None now keep kept size from at piece o same same_keep sized below on there intact told = tt
-passes (Some file) None keep kept size from at piece o same same_keep sized below on there intact told = cc
-passes (Some file) (Some other) keep kept size from at piece o same same_keep sized below on there intact told =
+    → HasIntact decodes at piece.end piece.what → event_of at piece ≡ o → IfSome bytes (λ file. GoesOn keep file from piece.end (events_told o))
+passes None now keep kept size from at decodes piece o same same_keep sized below on there intact told = tt
+passes (Some file) None keep kept size from at decodes piece o same same_keep sized below on there intact told = cc
+passes (Some file) (Some other) keep kept size from at decodes piece o same same_keep sized below on there intact told =
     let is : other ≡ file = cc in
     let here : IsPieceThere keep at piece file = subst (λ (k : Bool). IsPieceThere k at piece file) same_keep (subst (IsPieceThere kept at piece) is there) in
-    one_more keep file from at piece (events_told o) on (omega (arith, sized, below)) here (told_of at piece.end piece.what o told intact)
+    one_more keep file from at piece (events_told o) on (omega (arith, sized, below)) here (told_of decodes at piece.end piece.what o told intact)
 
 -- where there was no memory to walk on, there was none to load a chunk
 pub memory_before : (end : LoadEnd) → walk.Memory ≡ walk_end_of end → end ≡ load.Memory
@@ -86,7 +88,7 @@ memory_before load.Memory same = refl
 memory_before load.Store same = cc
 
 -- a region that stops the walk is the piece at its place
-pub stops_there : (bytes now : Option (List ℕ)) (keep kept : Bool) (size place : ℕ) (piece : code.Piece) (region : Region) → now ≡ bytes → kept ≡ keep
+pub stops_there : (bytes now : Option (List ℕ)) (keep kept : Bool) (size place : ℕ) (piece : NextPiece) (region : Region) → now ≡ bytes → kept ≡ keep
     → IsSized bytes (Some size) → place < size → IfSome now (IsPieceThere kept place piece) → region.begin ≡ place → region.end ≡ piece.end
     → piece.what ≡ what.Skipped region.why → IfSome bytes (λ file. IsStoppedAt keep file place (Some region))
 stops_there None now keep kept size place piece region same same_keep sized below there begins ends is = tt
@@ -94,5 +96,5 @@ stops_there (Some file) None keep kept size place piece region same same_keep si
 stops_there (Some file) (Some other) keep kept size place piece region same same_keep sized below there begins ends is =
     let is_file : other ≡ file = cc in
     let here : IsPieceThere keep place piece file = subst (λ (k : Bool). IsPieceThere k place piece file) same_keep (subst (IsPieceThere kept place piece) is_file there) in
-    let skipped : IsPieceOf keep file place piece.end (Skipped region.why) = subst (λ (w : PieceKind). IsPieceOf keep file place piece.end (value_of_piece_kind w)) is here in
+    let skipped : IsPieceOf keep file place piece.end (Skipped region.why) = subst (λ (w : Found). IsPieceOf keep file place piece.end (value_of_found w)) is here in
     (begins, omega (arith, sized, below), subst (λ (e : ℕ). IsPieceOf keep file place e (Skipped region.why)) (sym ends) skipped)

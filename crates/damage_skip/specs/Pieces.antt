@@ -14,9 +14,9 @@ use Rattle.damage_skip.specs.Resyncs.{IsFirstBlock, Contradicts, IsResync, landi
 -- what a piece is: a chunk that gives records, one that is kept as it is, one that is neither given nor told of, or bytes
 -- that are passed over for a reason
 pub data PieceKind : Type 0 where
-  Given : List (List ℕ) → ChunkValue → PieceKind
+  Records : List (List ℕ) → ChunkValue → PieceKind
   Kept : ChunkValue → PieceKind
-  LeftOut : PieceKind
+  SignatureOrPadding : PieceKind
   Skipped : Why → PieceKind
 
 -- a piece of a file
@@ -49,10 +49,10 @@ SkipsTo file place other to = to ≡ end_at file place
 
 -- what a chunk is that no reason passes over
 abbrev pub IsFoundAs : Bool → ChunkValue → PieceKind → Type 0
-IsFoundAs keep k (Given records chunk) = IsSimple k records × (chunk ≡ k)
+IsFoundAs keep k (Records records chunk) = IsSimple k records × (chunk ≡ k)
 IsFoundAs keep k (Kept chunk) =
     (IsMetadata k ⊎ ((keep ≡ true) × (IsCompressed k ⊎ IsTransposed k))) × (chunk ≡ k)
-IsFoundAs keep k LeftOut = IsSignature k ⊎ IsPadding k
+IsFoundAs keep k SignatureOrPadding = IsSignature k ⊎ IsPadding k
 IsFoundAs keep k (Skipped why) = ⊥
 
 -- what the piece is that begins at a place of a file, and where it ends
@@ -72,7 +72,7 @@ AreTiles keep file from to (piece ∷ pieces) =
 
 -- whether a piece is an event: given, kept or skipped
 abbrev pub is_event : PieceKind → Bool
-is_event LeftOut = false
+is_event SignatureOrPadding = false
 is_event other = true
 
 -- the pieces that are events
@@ -90,7 +90,7 @@ AreEvents keep file events = GoesOn keep file 0 (length file) events
 
 -- the records that a piece gives
 abbrev pub records_of : PieceKind → List (List ℕ)
-records_of (Given records chunk) = records
+records_of (Records records chunk) = records
 records_of other = []
 
 -- the records that pieces give, joined

@@ -2,6 +2,7 @@
 use Rattle.std.specs.Prelude.{◌≡◌, ℕ, ◌≤◌, ◌<◌, ◌^◌, Bool, true, false, Option, Some, None, Result, Ok, Err, IfSome, ⊤, List, [], ◌∷◌, length}
 use Rattle.std.specs.Fn.{Shared, FnReturnsAt}
 use denote.Ref.{Bor}
+use lib.Chars.{codes}
 use Rattle.chunk_header.specs.SimpleChunks.{IsSimple}
 use Rattle.chunk_header.specs.Views.{value_of_chunk}
 use Rattle.meta_chunk.specs.Files.{is_unread}
@@ -12,34 +13,35 @@ use Rattle.damage_skip.specs.Takings.{IsTakenFrom, IsTakenUpTo}
 use Rattle.damage_skip.specs.declared.events.Event.TheVariants as event
 use Rattle.damage_skip.specs.declared.events.WalkEnd.{WalkEnd}
 use Rattle.damage_skip.specs.declared.events.WalkEnd.TheVariants as walk
-use Rattle.damage_skip.specs.declared.pieces.Piece as code
-use Rattle.damage_skip.specs.declared.pieces.PieceKind.{PieceKind}
-use Rattle.damage_skip.specs.declared.pieces.PieceKind.TheVariants as what
+use Rattle.damage_skip.specs.declared.pieces.NextPiece.{NextPiece}
+use Rattle.damage_skip.specs.declared.pieces.Found.{Found}
+use Rattle.damage_skip.specs.declared.pieces.Found.TheVariants as what
 use Rattle.damage_skip.specs.declared.progress.Progress.{Progress}
 use Rattle.damage_skip.specs.declared.regions.Region.{Region}
-use Rattle.damage_skip.specs.Pieces.{Piece, Given, Kept, Skipped, IsPieceOf, AreTiles}
+use Rattle.damage_skip.specs.Pieces.{Piece, Records, Skipped, IsPieceOf, AreTiles}
 use Rattle.damage_skip.specs.Policies.{IsTest}
-use Rattle.damage_skip.specs.Regions.{region_of, told_text}
+use Rattle.damage_skip.specs.Regions.{region_text}
 pub use Rattle.damage_skip.specs.Pieces.{GoesOn}
-use Rattle.damage_skip.specs.Steps.{IsIntact, IsOnward}
+use Rattle.damage_skip.specs.Steps.{IsIntact, IsOnward, KeepsNone, kept_as}
 
 -- the piece that an event tells of
 abbrev pub piece_of : Event → Piece
 piece_of (event.Records begin records chunk) = record {
   begin = begin;
   end = end_of_chunk begin (value_of_chunk chunk);
-  what = Given records (value_of_chunk chunk);
+  what = Records records (value_of_chunk chunk);
 }
 piece_of (event.Kept begin chunk unread) = record {
   begin = begin;
   end = end_of_chunk begin (value_of_chunk chunk);
-  what = Kept (value_of_chunk chunk);
+  what = kept_as (value_of_chunk chunk);
 }
 piece_of (event.Skipped region) = record { begin = region.begin; end = region.end; what = Skipped region.why }
 
 -- the line of an event that is a region; other events have none
 abbrev pub event_text : Event → List ℕ
-event_text e = told_text (region_of (piece_of e))
+event_text (event.Skipped region) = region_text (codes "skipped") region
+event_text other = []
 
 -- the place is the begin of a piece of the file, or its end
 abbrev pub IsMet : Bool → List ℕ → ℕ → Type 0
@@ -50,6 +52,14 @@ abbrev pub IsStoppedAt : Bool → List ℕ → ℕ → Option Region → Type 0
 IsStoppedAt keep file place stopped =
     IfSome stopped
     (λ region. (region.begin ≡ place) × (place < length file) × IsPieceOf keep file place region.end (Skipped region.why))
+
+-- a walk is at the front of a file of so many bytes
+pub record IsAtFront (size : ℕ) (keep decodes : Bool) (at : Progress) : Type 0 where
+  pub size_is : at.size ≡ size
+  pub keep_is : at.keep ≡ keep
+  pub decodes_is : at.decodes ≡ decodes
+  pub at_front : at.place ≡ 0
+  pub going : at.stopped ≡ None
 
 -- a walk stands in a file of the size that was told: at a piece of it or at its end, and where it has stopped, at that region
 pub record StandsIn (file : Option (List ℕ)) (told : Option ℕ) (at : Progress) : Type 0 where
@@ -64,32 +74,33 @@ pub record MayGoOn {F : Type 0} (test : Shared F (Bor Region × Unit {0}) Bool) 
   pub is_test : IsTest test f
 
 -- the chunk of an event is intact, and holds the records that are given or is known to be left unread
-abbrev pub IsIntactIn : Event → Type 0
-IsIntactIn (event.Records begin records chunk) = IsIntact chunk × IsSimple (value_of_chunk chunk) records
-IsIntactIn (event.Kept begin chunk unread) = IsIntact chunk × (unread ≡ is_unread (value_of_chunk chunk))
-IsIntactIn (event.Skipped region) = ⊤
+abbrev pub IsIntactIn : (decodes : Bool) → Event → Type 0
+IsIntactIn decodes (event.Records begin records chunk) = IsIntact chunk × IsSimple (value_of_chunk chunk) records
+IsIntactIn decodes (event.Kept begin chunk unread) =
+    IsIntact chunk × (unread ≡ is_unread (value_of_chunk chunk)) × KeepsNone decodes chunk
+IsIntactIn decodes (event.Skipped region) = ⊤
 
--- an event of a walk that it takes from a place up to another
-pub record IsEventIn (from to : ℕ) (e : Event) : Type 0 where
-  pub from_place : from ≤ (piece_of e).begin
+-- an event of a walk that it takes up to a place
+pub record IsEventIn (at : Progress) (to : ℕ) (e : Event) : Type 0 where
+  pub from_place : at.place ≤ (piece_of e).begin
   pub rises : (piece_of e).begin < (piece_of e).end
   pub to_place : (piece_of e).end ≡ to
-  pub intact : IsIntactIn e
+  pub intact : IsIntactIn at.decodes e
 
 -- an event that a test lets pass, where it is a region
-pub record IsAllowedEvent {F : Type 0} (test : Shared F (Bor Region × Unit {0}) Bool) (f : F) (from to : ℕ) (e : Event) : Type 0 where
-  pub bounds : IsEventIn from to e
+pub record IsAllowedEvent {F : Type 0} (test : Shared F (Bor Region × Unit {0}) Bool) (f : F) (at : Progress) (to : ℕ) (e : Event) : Type 0 where
+  pub bounds : IsEventIn at to e
   pub allowed : (region : Region) → e ≡ event.Skipped region → FnReturnsAt test f region true
 
 -- what is told of what a piece from a place up to another is, if it is an event
-abbrev pub what_event : (begin end : ℕ) → PieceKind → Option Event
-what_event begin end (what.Given records chunk) = Some (event.Records begin records chunk)
+abbrev pub what_event : (begin end : ℕ) → Found → Option Event
+what_event begin end (what.Records records chunk) = Some (event.Records begin records chunk)
 what_event begin end (what.Kept chunk unread) = Some (event.Kept begin chunk unread)
-what_event begin end what.LeftOut = None
+what_event begin end what.SignatureOrPadding = None
 what_event begin end (what.Skipped why) = Some (event.Skipped (record { begin = begin; end = end; why = why }))
 
 -- what is told of a piece
-abbrev pub event_of : ℕ → code.Piece → Option Event
+abbrev pub event_of : ℕ → NextPiece → Option Event
 event_of begin piece = what_event begin piece.end piece.what
 
 -- a region that a walk stops at: it begins at the walk's place
@@ -116,12 +127,13 @@ stop_of other = None
 pub record WalksOn (file : Option (List ℕ)) (before after : Progress) (result : Result (Option Event) WalkEnd) : Type 0 where
   pub same_size : after.size ≡ before.size
   pub same_keep : after.keep ≡ before.keep
+  pub same_decodes : after.decodes ≡ before.decodes
   pub rises : before.place ≤ after.place
   pub past : IfSome file (λ bytes. GoesOn before.keep bytes before.place after.place (events_of result))
   pub stopped : after.stopped ≡ stop_of result
 
 -- the region that a piece is at a place, where a test refuses it, or none where the test allows it or the piece is none
-abbrev pub Refuses : {F : Type 0} → Shared F (Bor Region × Unit {0}) Bool → F → ℕ → code.Piece → Option Region → Type 0
+abbrev pub Refuses : {F : Type 0} → Shared F (Bor Region × Unit {0}) Bool → F → ℕ → NextPiece → Option Region → Type 0
 Refuses test f place piece None =
     (why : Why) → piece.what ≡ what.Skipped why → FnReturnsAt test f (record { begin = place; end = piece.end; why = why }) true
 Refuses test f place piece (Some region) =

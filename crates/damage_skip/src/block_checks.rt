@@ -1,8 +1,8 @@
 ghost use Rattle.std.specs.Prelude.{◌≡◌, ℕ, ◌+◌, ◌-◌, ◌^◌, ◌<◌, ◌≤◌, ◌↔◌, IsTrue, IfOk, IfSome, IsErr};
-ghost use Rattle.record_io.specs.Calls.{OnlyAsks};
+ghost use Rattle.record_io.specs.Calls.{AsksUpTo};
 ghost use Rattle.block_layout.specs.Layout.{IsBlock, block_size, block_header_size};
 ghost use Rattle.block_layout.specs.BlockHeaders.{IsSane};
-ghost use Rattle.chunk_reader.specs.Sizes.{HasSize};
+ghost use Rattle.chunk_reader.specs.Sizes.{HasBlock};
 ghost use Rattle.damage_skip.specs.Steps.{IsOnward, IsEndOf, LeadsTo};
 
 use crate::resyncs::landing;
@@ -31,16 +31,14 @@ pub(crate) struct ChunkSpan {
 impl ChunkSpan {
     /// Where reading goes on where the header at a block within the chunk is right and sane and tells of another chunk.
     fn contradicted_at<S: Store>(self, store: &mut S, block: u64) -> Result<Option<u64>, Failed>
-        requires sized { HasSize (S.told store.old) self.size }
-        requires at_block { IsBlock block }
-        requires below { block < self.size }
+        requires block { HasBlock (S.told store.old) self.size block }
         requires begun { self.begin ≤ block }
         requires within { IfSome self.end (λ e. block < e) }
         ensures onward { IfOk result (λ landing. IfSome landing (λ to. IsOnward self.size self.begin to)) }
         ensures leads { (end : ℕ) → IsEndOf self.end end
             → IfOk result (λ landing. IfSome (S.bytes store.old) (λ file. LeadsTo file self.begin end block (block + 1) landing)) }
-        ensures handed { S.handed store.new ≤ S.handed store.old + block_header_size }
-        ensures store { OnlyAsks S.bytes S.told S.name S.faults (IsErr result) store.old store.new }
+        ensures store { AsksUpTo S.bytes S.told S.handed S.name S.faults (IsErr result)
+            block_header_size store.old store.new }
     {
         let Some(header) = sane_header_at(store, self.size, block)? else {
             return Ok(None);
@@ -62,7 +60,7 @@ impl ChunkSpan {
 }
 
 impl JudgesBlocks for ChunkSpan {
-    ghost use Rattle.chunk_reader.specs.Sizes.{HasSize};
+    ghost use Rattle.record_io.specs.Calls.{HasSize};
     ghost use Rattle.damage_skip.specs.Steps.{IsOnward, AgreesAt, DisagreesAt, limit_of};
 
     ghost fits = { λ span told. HasSize told span.size };

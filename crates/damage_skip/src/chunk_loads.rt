@@ -1,11 +1,8 @@
 ghost use Rattle.std.specs.Prelude.{◌≡◌, ◌+◌, ◌-◌, ◌≤◌, IfOk, IfSome, Err};
-ghost use Rattle.record_io.specs.Calls.{OnlyAsks};
-ghost use Rattle.block_layout.specs.Layout.{chunk_header_size, IsBoundary};
-ghost use Rattle.chunk_header.specs.Views.{value_of_header};
+ghost use Rattle.record_io.specs.Calls.{AsksWithin};
+ghost use Rattle.block_layout.specs.Layout.{chunk_header_size};
 ghost use Rattle.meta_chunk.specs.Files.{max_data_size};
-ghost use Rattle.chunk_reader.specs.Places.{end_by};
-ghost use Rattle.chunk_reader.specs.Sizes.{HasSize};
-ghost use Rattle.damage_skip.specs.Steps.{IsLoadOf, IsLoadIn};
+ghost use Rattle.damage_skip.specs.Steps.{IsChunkWithin, IsLoadOf, IsLoadIn};
 ghost use Rattle.damage_skip.specs.Takings.{StopsInChunk};
 
 use crate::block_checks::ChunkSpan;
@@ -33,17 +30,14 @@ pub(crate) fn load<S: Store>(
     end: u64,
     header: Header,
 ) -> Result<Loaded, LoadEnd>
-    requires sized { HasSize (S.told store.old) size }
-    requires from_boundary { IsBoundary at }
-    requires end { end ≡ end_by at (value_of_header header) }
-    requires within { end ≤ size }
+    requires within { IsChunkWithin (S.told store.old) size at end header }
     requires small { header.data_size ≤ max_data_size }
     ensures loaded { IfOk result (λ loaded. IsLoadOf size at header loaded) }
     ensures sound { IfOk result (λ loaded. IfSome (S.bytes store.old) (λ file. IsLoadIn file at end header loaded)) }
-    ensures handed { S.handed store.new + (at + chunk_header_size) ≤ S.handed store.old + end }
     ensures stops { IfOk result (λ loaded. IfSome (S.bytes store.old) (λ file.
         StopsInChunk file at end (at + chunk_header_size + (S.handed store.new - S.handed store.old)))) }
-    ensures store { OnlyAsks S.bytes S.told S.name S.faults (result ≡ Err LoadEnd.Store) store.old store.new }
+    ensures store { AsksWithin S.bytes S.told S.handed S.name S.faults (result ≡ Err LoadEnd.Store)
+        (at + chunk_header_size) end store.old store.new }
 {
     let span = ChunkSpan {
         size,

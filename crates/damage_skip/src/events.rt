@@ -15,7 +15,8 @@ pub enum Event {
         /// The chunk.
         chunk: Chunk,
     },
-    /// A chunk that is intact and gives no records: metadata, or, where these are kept, compressed or transposed.
+    /// A chunk that is intact and gives no records: metadata, or, where these are kept, compressed or transposed; or a simple
+    /// chunk of a walk that only judges it.
     Kept {
         /// Where the chunk begins.
         begin: u64,

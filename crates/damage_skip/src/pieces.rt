@@ -1,70 +1,70 @@
-ghost use Rattle.std.specs.Prelude.{◌≡◌, ◌↔◌, ℕ, ◌+◌, ◌-◌, ◌<◌, ◌≤◌, ◌⊎◌, Some, IsTrue, IfOk, IfSome, IsErr, Err};
-ghost use Rattle.record_io.specs.Calls.{OnlyAsks};
-ghost use Rattle.block_layout.specs.Layout.{IsBoundary, chunk_header_size};
-ghost use Rattle.chunk_header.specs.Views.{IsHeader, HasRightHash, value_of_header};
+ghost use Rattle.std.specs.Prelude.{◌≡◌, ◌↔◌, ℕ, ◌+◌, ◌-◌, ◌≤◌, true, false, Some, IsTrue, IfOk, IfSome, IsErr, Err};
+ghost use Rattle.record_io.specs.Calls.{OnlyAsks, HasSize};
+ghost use Rattle.block_layout.specs.Layout.{chunk_header_size};
+ghost use Rattle.chunk_header.specs.SimpleChunks.{IsSimpleChunk};
+ghost use Rattle.chunk_header.specs.Views.{IsHeader, HasRightHash, value_of_chunk, value_of_header};
 ghost use Rattle.chunk_reader.specs.Heads.{IsHead};
 ghost use Rattle.chunk_reader.specs.Places.{end_by};
-ghost use Rattle.chunk_reader.specs.Reasons.{Applies, NoneOf, loading_reasons};
-ghost use Rattle.chunk_reader.specs.Sizes.{HasSize, MayBeginAt};
-ghost use Rattle.damage_skip.specs.Pieces.{IsPieceOf};
-ghost use Rattle.damage_skip.specs.Takings.{LooksAtBlocks, MayTakeAt, StopsWhereContradicted};
-ghost use Rattle.damage_skip.specs.Steps.{ContradictsIn, IsEndOf, IsReadAs, IsUnloaded, IsPieceFrom, value_of_piece_kind};
+ghost use Rattle.chunk_reader.specs.Reasons.{Applies, HasBadContents, NoneOf, loading_reasons};
+ghost use Rattle.chunk_reader.specs.Sizes.{MayBeginAt};
+ghost use Rattle.damage_skip.specs.Takings.{LooksAtBlocks};
+ghost use Rattle.damage_skip.specs.Steps.{ContradictsIn, IsChunkWithin, IsEndOf, IsOnward, IsPieceThere, IsReadAs, IsUnloaded, IsPieceFrom, TakesForPiece};
 
 use crate::block_checks::ChunkSpan;
 use crate::chunk_loads::{Loaded, load};
+use crate::progress::Progress;
 use crate::resyncs::resync;
 use chunk_header::{Chunk, Header};
 use chunk_reader::{
     BlockEnd, Content, ContentEnd, Head, LoadEnd, MAX_DATA_SIZE, Why, content_under, head_at,
     judge_blocks,
 };
+use meta_chunk::{Kind, kind_of};
 use record_io::{Failed, Store};
-use simple_chunk::Records;
+use simple_chunk::{Checker, Records, SimpleFault};
 use std::alloc::{AllocError, Global};
 
-/// A piece of a file, which begins where the walk stands.
+/// The piece of a file that begins where a walk is.
 #[derive(Debug, Drop)]
-pub(crate) struct Piece {
+pub(crate) struct NextPiece {
     /// Where it ends.
     pub end: u64,
     /// What it is.
-    pub what: PieceKind,
+    pub what: Found,
 }
 
 /// What a piece is.
 #[derive(Debug, Drop)]
-pub(crate) enum PieceKind {
+pub(crate) enum Found {
     /// A chunk of records.
-    Given(Records, Chunk),
+    Records(Records, Chunk),
     /// A chunk that is kept, and whether it is left unread.
     Kept(Chunk, bool),
     /// A signature or a padding chunk.
-    LeftOut,
+    SignatureOrPadding,
     /// Bytes that are passed over.
     Skipped(Why),
 }
 
-/// The piece that begins at a place of a file.
+/// The piece that begins where a walk is.
 pub(crate) fn piece_at<S: Store>(
     alloc: Global,
     store: &mut S,
-    size: u64,
-    at: u64,
-    keep: bool,
-) -> Result<Piece, LoadEnd>
-    requires place { MayBeginAt (S.told store.old) size at }
-    ensures piece { IfOk result (λ piece. IsPieceFrom size at piece) }
-    ensures sound { IfOk result (λ piece. IfSome (S.bytes store.old) (λ file. IsPieceOf keep file at piece.end (value_of_piece_kind piece.what))) }
-    ensures memory { result ≡ Err LoadEnd.Memory → IfSome (S.bytes store.old) (λ file. NoneOf (Applies file at) loading_reasons) }
-    ensures takes { IfSome (S.bytes store.old) (λ file. MayTakeAt file at (S.handed store.new - S.handed store.old)) }
-    ensures stops { IfOk result (λ piece. IfSome (S.bytes store.old) (λ file.
-        StopsWhereContradicted file at (S.handed store.new - S.handed store.old))) }
+    walk: Progress,
+) -> Result<NextPiece, LoadEnd>
+    requires place { MayBeginAt (S.told store.old) walk.size walk.place }
+    ensures piece { IfOk result (IsPieceFrom walk) }
+    ensures sound { IfOk result (λ piece. IfSome (S.bytes store.old) (IsPieceThere walk.keep walk.place piece)) }
+    ensures memory { result ≡ Err LoadEnd.Memory
+        → IfSome (S.bytes store.old) (λ file. NoneOf (Applies file walk.place) loading_reasons) }
+    ensures takes { IfSome (S.bytes store.old) (λ file.
+        TakesForPiece result file walk.place (S.handed store.new - S.handed store.old)) }
     ensures store { OnlyAsks S.bytes S.told S.name S.faults (result ≡ Err LoadEnd.Store) store.old store.new }
 {
-    match head_at(store, size, at)? {
-        Head::Short => Ok(skipped(resync(store, size, at)?, Why::Short)),
-        Head::BadHash => Ok(skipped(resync(store, size, at)?, Why::HeaderHash)),
-        Head::Right { header, end } => headed_piece(alloc, store, size, at, keep, header, end),
+    match head_at(store, walk.size, walk.place)? {
+        Head::Short => Ok(skipped(resync(store, walk.size, walk.place)?, Why::Short)),
+        Head::BadHash => Ok(skipped(resync(store, walk.size, walk.place)?, Why::HeaderHash)),
+        Head::Right { header, end } => headed_piece(alloc, store, walk, header, end),
     }
 }
 
@@ -72,69 +72,55 @@ pub(crate) fn piece_at<S: Store>(
 fn headed_piece<S: Store>(
     alloc: Global,
     store: &mut S,
-    size: u64,
-    at: u64,
-    keep: bool,
+    walk: Progress,
     header: Header,
     end: Option<u64>,
-) -> Result<Piece, LoadEnd>
-    requires place { MayBeginAt (S.told store.old) size at }
+) -> Result<NextPiece, LoadEnd>
+    requires place { MayBeginAt (S.told store.old) walk.size walk.place }
     requires fits { IsHeader header }
-    requires end { IsEndOf end (end_by at (value_of_header header)) }
-    requires head { IfSome (S.bytes store.old) (λ file. IsHead file at (Head.Right header end)) }
-    ensures piece { IfOk result (λ piece. IsPieceFrom size at piece) }
-    ensures sound { IfOk result (λ piece. IfSome (S.bytes store.old) (λ file. IsPieceOf keep file at piece.end (value_of_piece_kind piece.what))) }
-    ensures memory { result ≡ Err LoadEnd.Memory → IfSome (S.bytes store.old) (λ file. NoneOf (Applies file at) loading_reasons) }
-    ensures takes { IfSome (S.bytes store.old) (λ file. MayTakeAt file at (chunk_header_size + (S.handed store.new - S.handed store.old))) }
-    ensures stops { IfOk result (λ piece. IfSome (S.bytes store.old) (λ file.
-        StopsWhereContradicted file at (chunk_header_size + (S.handed store.new - S.handed store.old)))) }
+    requires end { IsEndOf end (end_by walk.place (value_of_header header)) }
+    requires head { IfSome (S.bytes store.old) (λ file. IsHead file walk.place (Head.Right header end)) }
+    ensures piece { IfOk result (IsPieceFrom walk) }
+    ensures sound { IfOk result (λ piece. IfSome (S.bytes store.old) (IsPieceThere walk.keep walk.place piece)) }
+    ensures memory { result ≡ Err LoadEnd.Memory
+        → IfSome (S.bytes store.old) (λ file. NoneOf (Applies file walk.place) loading_reasons) }
+    ensures takes { IfSome (S.bytes store.old) (λ file.
+        TakesForPiece result file walk.place (chunk_header_size + (S.handed store.new - S.handed store.old))) }
     ensures store { OnlyAsks S.bytes S.told S.name S.faults (result ≡ Err LoadEnd.Store) store.old store.new }
 {
-    let span = ChunkSpan {
-        size,
-        begin: at,
-        end,
-    };
     match end {
-        Some(end) if end <= size => held_piece(alloc, store, size, at, keep, header, end),
-        _ => Ok(unloaded_piece(store, span, size, Why::Truncated)?),
+        Some(end) if end <= walk.size => chunk_piece(alloc, store, walk, header, end),
+        _ => Ok(unloaded_piece(store, walk, end, walk.size, Why::Truncated)?),
     }
 }
 
 /// The piece that begins with a chunk header, where the file has the chunk to its end.
-fn held_piece<S: Store>(
+fn chunk_piece<S: Store>(
     alloc: Global,
     store: &mut S,
-    size: u64,
-    at: u64,
-    keep: bool,
+    walk: Progress,
     header: Header,
     end: u64,
-) -> Result<Piece, LoadEnd>
-    requires sized { HasSize (S.told store.old) size }
-    requires from_boundary { IsBoundary at }
+) -> Result<NextPiece, LoadEnd>
+    requires within { IsChunkWithin (S.told store.old) walk.size walk.place end header }
     requires fits { IsHeader header }
-    requires end { end ≡ end_by at (value_of_header header) }
-    requires within { end ≤ size }
-    requires head { IfSome (S.bytes store.old) (λ file. IsHead file at (Head.Right header (Some end))) }
-    ensures piece { IfOk result (λ piece. IsPieceFrom size at piece) }
-    ensures sound { IfOk result (λ piece. IfSome (S.bytes store.old) (λ file. IsPieceOf keep file at piece.end (value_of_piece_kind piece.what))) }
-    ensures memory { result ≡ Err LoadEnd.Memory → IfSome (S.bytes store.old) (λ file. NoneOf (Applies file at) loading_reasons) }
-    ensures takes { IfSome (S.bytes store.old) (λ file. MayTakeAt file at (chunk_header_size + (S.handed store.new - S.handed store.old))) }
-    ensures stops { IfOk result (λ piece. IfSome (S.bytes store.old) (λ file.
-        StopsWhereContradicted file at (chunk_header_size + (S.handed store.new - S.handed store.old)))) }
+    requires head { IfSome (S.bytes store.old) (λ file. IsHead file walk.place (Head.Right header (Some end))) }
+    ensures piece { IfOk result (IsPieceFrom walk) }
+    ensures sound { IfOk result (λ piece. IfSome (S.bytes store.old) (IsPieceThere walk.keep walk.place piece)) }
+    ensures memory { result ≡ Err LoadEnd.Memory
+        → IfSome (S.bytes store.old) (λ file. NoneOf (Applies file walk.place) loading_reasons) }
+    ensures takes { IfSome (S.bytes store.old) (λ file.
+        TakesForPiece result file walk.place (chunk_header_size + (S.handed store.new - S.handed store.old))) }
     ensures store { OnlyAsks S.bytes S.told S.name S.faults (result ≡ Err LoadEnd.Store) store.old store.new }
 {
     if header.data_size > MAX_DATA_SIZE {
-        let span = ChunkSpan {
-            size,
-            begin: at,
-            end: Some(end),
-        };
-        return Ok(unloaded_piece(store, span, end, Why::TooLarge)?);
+        return Ok(unloaded_piece(store, walk, Some(end), end, Why::TooLarge)?);
     }
-    match load(alloc, store, size, at, end, header)? {
-        Loaded::Whole(chunk, right) => Ok(whole_piece(alloc, chunk, right, end, keep)?),
+    match load(alloc, store, walk.size, walk.place, end, header)? {
+        Loaded::Whole(chunk, right) => {
+            let what = read_as(alloc, chunk, right, walk)?;
+            Ok(NextPiece { end, what })
+        }
         Loaded::Contradicted(landing) => Ok(skipped(landing, Why::Contradicted)),
     }
 }
@@ -143,68 +129,90 @@ fn held_piece<S: Store>(
 /// tells of another chunk.
 fn unloaded_piece<S: Store>(
     store: &mut S,
-    span: ChunkSpan,
+    walk: Progress,
+    end: Option<u64>,
     to: u64,
     why: Why,
-) -> Result<Piece, Failed>
-    requires sized { HasSize (S.told store.old) span.size }
-    requires after { span.begin < to }
-    requires within_file { to ≤ span.size }
-    requires boundary { IsBoundary to ⊎ (to ≡ span.size) }
-    requires within { IfSome span.end (λ e. to ≤ e) }
-    ensures piece { IfOk result (λ piece. IsPieceFrom span.size span.begin piece) }
-    ensures unloaded { (end : ℕ) → IsEndOf span.end end
-        → IfOk result (λ piece. IfSome (S.bytes store.old) (λ file. IsUnloaded file span.begin end to why piece)) }
-    ensures looks { (end : ℕ) → IsEndOf span.end end → IfSome (S.bytes store.old) (λ file.
-        LooksAtBlocks (ContradictsIn file span.begin end span.begin to) span.begin to (S.handed store.new - S.handed store.old)) }
+) -> Result<NextPiece, Failed>
+    requires sized { HasSize (S.told store.old) walk.size }
+    requires onward { IsOnward walk.size walk.place to }
+    requires within { IfSome end (λ e. to ≤ e) }
+    ensures piece { IfOk result (IsPieceFrom walk) }
+    ensures unloaded { (e : ℕ) → IsEndOf end e
+        → IfOk result (λ piece. IfSome (S.bytes store.old) (λ file. IsUnloaded file walk.place e to why piece)) }
+    ensures looks { (e : ℕ) → IsEndOf end e → IfSome (S.bytes store.old) (λ file.
+        LooksAtBlocks (ContradictsIn file walk.place e walk.place to) walk.place to (S.handed store.new - S.handed store.old)) }
     ensures store { OnlyAsks S.bytes S.told S.name S.faults (IsErr result) store.old store.new }
 {
-    match judge_blocks(store, &span, span.begin, to) {
+    let span = ChunkSpan {
+        size: walk.size,
+        begin: walk.place,
+        end,
+    };
+    match judge_blocks(store, &span, walk.place, to) {
         Ok(()) => Ok(skipped(to, why)),
         Err(BlockEnd::Refused(landing)) => Ok(skipped(landing, Why::Contradicted)),
         Err(BlockEnd::Store) => Err(Failed),
     }
 }
 
-/// The piece of a chunk that was read, which ends at a place, and of which it is known whether its header has the data's hash.
-fn whole_piece(
-    alloc: Global,
-    chunk: Chunk,
-    right: bool,
-    end: u64,
-    keep: bool,
-) -> Result<Piece, AllocError>
+/// What a chunk is that was read, of which it is known whether its header has the data's hash. Where the walk doesn't decode
+/// records, they take no memory.
+fn read_as(alloc: Global, chunk: Chunk, right: bool, walk: Progress) -> Result<Found, AllocError>
     requires { IsTrue right ↔ HasRightHash chunk }
-    ensures end { IfOk result (λ piece. piece.end ≡ end) }
-    ensures read { IfOk result (λ piece. IsReadAs keep chunk piece.what) }
+    ensures { IfOk result (λ what. IsReadAs walk chunk what) }
 {
-    let what = read_as(alloc, chunk, right, keep)?;
-    Ok(Piece { end, what })
+    if right && !walk.decodes {
+        match holds_records(&chunk) {
+            Some(true) => return Ok(Found::Kept(chunk, false)),
+            Some(false) => return Ok(Found::Skipped(Why::Contents)),
+            None => {}
+        }
+    }
+    decoded_as(alloc, chunk, right, walk)
 }
 
-/// What a chunk is that was read, of which it is known whether its header has the data's hash.
-fn read_as(alloc: Global, chunk: Chunk, right: bool, keep: bool) -> Result<PieceKind, AllocError>
+/// The same, where the records of a simple chunk are decoded.
+#[tactic(auto, using(crate::proofs::KeptChunks::kept_found))]
+fn decoded_as(alloc: Global, chunk: Chunk, right: bool, walk: Progress) -> Result<Found, AllocError>
     requires { IsTrue right ↔ HasRightHash chunk }
-    ensures read { IfOk result (λ what. IsReadAs keep chunk what) }
+    ensures { IfOk result (λ what. IsReadAs walk chunk what) }
 {
     match content_under(alloc, &chunk, right) {
-        Ok(Content::Records(records)) => Ok(PieceKind::Given(records, chunk)),
-        Ok(Content::Metadata) => Ok(PieceKind::Kept(chunk, false)),
-        Ok(Content::Signature | Content::Padding) => Ok(PieceKind::LeftOut),
-        Err(ContentEnd::Fault(Why::Compressed | Why::Transposed)) if keep => {
-            Ok(PieceKind::Kept(chunk, true))
+        Ok(Content::Records(records)) => Ok(Found::Records(records, chunk)),
+        Ok(Content::Metadata) => Ok(Found::Kept(chunk, false)),
+        Ok(Content::Signature | Content::Padding) => Ok(Found::SignatureOrPadding),
+        Err(ContentEnd::Fault(Why::Compressed | Why::Transposed)) if walk.keep => {
+            Ok(Found::Kept(chunk, true))
         }
-        Err(ContentEnd::Fault(why)) => Ok(PieceKind::Skipped(why)),
+        Err(ContentEnd::Fault(why)) => Ok(Found::Skipped(why)),
         Err(ContentEnd::Memory) => Err(AllocError),
     }
 }
 
-/// Bytes that are passed over to a place.
-fn skipped(end: u64, why: Why) -> Piece
-    ensures { result ≡ record { end = end; what = PieceKind.Skipped why } }
+/// Whether records stand in a simple chunk that isn't compressed; `None` of another chunk. It takes no memory.
+fn holds_records(chunk: &Chunk) -> Option<bool>
+    ensures some { result ≡ Some true → IsSimpleChunk (value_of_chunk chunk.now) }
+    ensures none { result ≡ Some false → HasBadContents (value_of_chunk chunk.now) }
 {
-    Piece {
+    let Kind::Simple = kind_of(chunk.header.kind) else {
+        return None;
+    };
+    let mut checker = Checker::new(&chunk.header);
+    checker.feed(chunk.bytes.as_slice());
+    match checker.finish() {
+        Ok(()) => Some(true),
+        Err(SimpleFault::Contents) => Some(false),
+        Err(SimpleFault::Compressed | SimpleFault::Memory) => None,
+    }
+}
+
+/// Bytes that are passed over to a place.
+fn skipped(end: u64, why: Why) -> NextPiece
+    ensures { result ≡ record { end = end; what = Found.Skipped why } }
+{
+    NextPiece {
         end,
-        what: PieceKind::Skipped(why),
+        what: Found::Skipped(why),
     }
 }

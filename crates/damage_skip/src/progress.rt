@@ -10,6 +10,8 @@ pub struct Progress {
     pub size: u64,
     /// Whether compressed and transposed chunks are kept.
     pub keep: bool,
+    /// Whether records are decoded, or simple chunks only judged and kept.
+    pub decodes: bool,
     /// Where the next piece of the file begins: a boundary, or the file's end.
     pub place: u64,
     /// The region that the walk has stopped at.

@@ -1,10 +1,10 @@
-ghost use Rattle.std.specs.Prelude.{◌≡◌, ◌-◌, ◌<◌, ◌≤◌, ◌⊎◌, IfOk, IfSome, IsErr};
+ghost use Rattle.std.specs.Prelude.{◌≡◌, ◌-◌, IfOk, IfSome, IsErr};
 ghost use Rattle.record_io.specs.Calls.{OnlyAsks};
-ghost use Rattle.block_layout.specs.Layout.{IsBoundary};
 ghost use Rattle.block_layout.specs.BlockHeaders.{IsSane};
 ghost use Rattle.chunk_reader.specs.Sizes.{MayBeginAt};
 ghost use Rattle.damage_skip.specs.DamagedWalks.{LeadsPastDamage};
 ghost use Rattle.damage_skip.specs.Resyncs.{IsResync, StandsFrom, landing};
+ghost use Rattle.damage_skip.specs.Steps.{IsOnward};
 ghost use Rattle.damage_skip.specs.Takings.{LooksAtBlocks};
 
 use crate::block_checks::next_block;
@@ -28,9 +28,7 @@ pub fn resync<S: Store>(store: &mut S, size: u64, from: u64) -> Result<u64, Fail
     requires place { MayBeginAt (S.told store.old) size from }
     ensures resync { IfOk result (λ to. IfSome (S.bytes store.old) (λ file. IsResync file from to)) }
     ensures damaged { IfOk result (λ to. IfSome (S.bytes store.old) (λ file. LeadsPastDamage file from to)) }
-    ensures past { IfOk result (λ to. from < to) }
-    ensures within { IfOk result (λ to. to ≤ size) }
-    ensures boundary { IfOk result (λ to. IsBoundary to ⊎ (to ≡ size)) }
+    ensures onward { IfOk result (IsOnward size from) }
     ensures looks { IfSome (S.bytes store.old) (λ file.
         LooksAtBlocks (StandsFrom file from) from size (S.handed store.new - S.handed store.old)) }
     ensures store { OnlyAsks S.bytes S.told S.name S.faults (IsErr result) store.old store.new }

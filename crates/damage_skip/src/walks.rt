@@ -1,16 +1,16 @@
-ghost use Rattle.std.specs.Prelude.{◌≡◌, ◌-◌, ◌^◌, ◌≤◌, ℕ, Ok, Err, Some, None, List, IfSome};
+ghost use Rattle.std.specs.Prelude.{◌≡◌, ◌-◌, ◌^◌, ◌≤◌, true, Ok, Err, Some, None, IfSome};
 ghost use Rattle.record_io.specs.Calls.{OnlyAsks};
 ghost use Rattle.chunk_reader.specs.Reasons.{Applies, NoneOf, loading_reasons};
 ghost use Rattle.damage_skip.specs.DamagedWalks.{WalksInRemains};
 ghost use Rattle.damage_skip.specs.Policies.{IsTest};
 ghost use Rattle.damage_skip.specs.Steps.{IsPieceFrom};
-ghost use Rattle.damage_skip.specs.Walks.{TakesByCall, IsMet, IsStoppedAt, StandsIn, MayGoOn, WalksOn, IsAllowedEvent, IsRefusedStop, Refuses, event_of};
-ghost use Rattle.damage_skip.specs.Walkers.{progress_of, test_of};
+ghost use Rattle.damage_skip.specs.Walks.{TakesByCall, IsAtFront, StandsIn, MayGoOn, WalksOn, IsAllowedEvent, IsRefusedStop, Refuses, event_of};
+ghost use Rattle.damage_skip.specs.Walkers.{progress_of, test_of, IsJudging};
 ghost use Rattle.damage_skip.specs.declared.events.Event.{Event};
 ghost use Rattle.damage_skip.specs.declared.regions.Region.{Region};
 
 use crate::events::{Event, WalkEnd};
-use crate::pieces::{Piece, PieceKind, piece_at};
+use crate::pieces::{Found, NextPiece, piece_at};
 use crate::policies::Policy;
 use crate::progress::Progress;
 use crate::regions::Region;
@@ -28,23 +28,27 @@ impl<F: Fn(&Region) -> bool + Drop> Walker<F> {
     /// A walk of a file of so many bytes, from its front. With `keep`, compressed and transposed chunks are given in place of
     /// being passed over.
     pub fn new(size: u64, keep: bool, policy: Policy<F>) -> Walker<F>
-        ensures size { (progress_of result).size ≡ size }
-        ensures keep { (progress_of result).keep ≡ keep }
-        ensures at_front { (progress_of result).place ≡ 0 }
-        ensures going { (progress_of result).stopped ≡ None }
+        ensures begins { IsAtFront size keep true (progress_of result) }
         ensures test { test_of result ≡ policy.test }
-        ensures met { (file : List ℕ) → IsMet keep file (progress_of result).place }
-        ensures stopped_there { (file : List ℕ) → IsStoppedAt keep file (progress_of result).place (progress_of result).stopped }
     {
         Walker {
             progress: Progress {
                 size,
                 keep,
+                decodes: true,
                 place: 0,
                 stopped: None,
             },
             policy,
         }
+    }
+
+    /// The walk that only judges simple chunks: an intact one is an event that is kept, and its records take no memory.
+    pub fn judging(mut self) -> Walker<F>
+        ensures { IsJudging self result }
+    {
+        self.progress.decodes = false;
+        self
     }
 
     /// The next event of the file; `None` exactly at its end. The file's size was told and is the walker's, at most 2^60.
@@ -73,7 +77,7 @@ impl<F: Fn(&Region) -> bool + Drop> Walker<F> {
         ensures remains { WalksInRemains (S.bytes store.old) (progress_of self.old) (progress_of self.new) result }
         ensures same_test { test_of self.new ≡ test_of self.old }
         ensures event { (event : Event) → result ≡ Ok (Some event)
-            → IsAllowedEvent F.Fn (test_of self.old) (progress_of self.old).place (progress_of self.new).place event }
+            → IsAllowedEvent F.Fn (test_of self.old) (progress_of self.old) (progress_of self.new).place event }
         ensures ended { result ≡ Ok None → (progress_of self.new).place ≡ (progress_of self.old).size }
         ensures refused { (region : Region) → result ≡ Err (WalkEnd.Stopped region) → (progress_of self.old).stopped ≡ None
             → IsRefusedStop F.Fn (test_of self.old) (progress_of self.new).size (progress_of self.new).place region }
@@ -89,13 +93,8 @@ impl<F: Fn(&Region) -> bool + Drop> Walker<F> {
             return Err(WalkEnd::Stopped(region));
         }
         while self.progress.place < self.progress.size {
-            let Progress {
-                size,
-                keep,
-                place,
-                ..
-            } = self.progress;
-            let piece = piece_at(alloc, store, size, place, keep)?;
+            let place = self.progress.place;
+            let piece = piece_at(alloc, store, self.progress)?;
             if let Some(region) = self.refused(&piece) {
                 self.progress.stopped = Some(region);
                 return Err(WalkEnd::Stopped(region));
@@ -109,13 +108,13 @@ impl<F: Fn(&Region) -> bool + Drop> Walker<F> {
     }
 
     /// The region that a piece at the place is, where the policy doesn't allow to pass over it.
-    fn refused(&self, piece: &Piece) -> Option<Region>
+    fn refused(&self, piece: &NextPiece) -> Option<Region>
         requires in_reach { self.now.progress.size ≤ 2 ^ 60 }
         requires test { IsTest F.Fn self.now.policy.test }
-        requires piece { IsPieceFrom self.now.progress.size self.now.progress.place piece.now }
+        requires piece { IsPieceFrom self.now.progress piece.now }
         ensures { Refuses F.Fn self.now.policy.test self.now.progress.place piece.now result }
     {
-        let PieceKind::Skipped(why) = &piece.what else {
+        let Found::Skipped(why) = &piece.what else {
             return None;
         };
         let region = Region {
@@ -132,22 +131,22 @@ impl<F: Fn(&Region) -> bool + Drop> Walker<F> {
 }
 
 /// What a piece that begins at a place is told as; `None` where nothing is told of it.
-fn event(begin: u64, piece: Piece) -> Option<Event>
+fn event(begin: u64, piece: NextPiece) -> Option<Event>
     ensures { result ≡ event_of begin piece }
 {
     match piece.what {
-        PieceKind::Given(records, chunk) => Some(Event::Records {
+        Found::Records(records, chunk) => Some(Event::Records {
             begin,
             records,
             chunk,
         }),
-        PieceKind::Kept(chunk, unread) => Some(Event::Kept {
+        Found::Kept(chunk, unread) => Some(Event::Kept {
             begin,
             chunk,
             unread,
         }),
-        PieceKind::LeftOut => None,
-        PieceKind::Skipped(why) => Some(Event::Skipped(Region {
+        Found::SignatureOrPadding => None,
+        Found::Skipped(why) => Some(Event::Skipped(Region {
             begin,
             end: piece.end,
             why,

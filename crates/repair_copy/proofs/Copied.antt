@@ -11,7 +11,7 @@ use Rattle.meta_chunk.specs.Laid.{end_of_chunk}
 use Rattle.chunk_reader.specs.Faults.{IsAllowed}
 use Rattle.chunk_reader.proofs.AllowedChunks.{allowed_small}
 use Rattle.chunk_reader.proofs.Verdicts.{is_unread-plain, is_unread-unread}
-use Rattle.damage_skip.specs.Pieces.{PieceKind, Given, Kept, LeftOut, Skipped, Piece, IsFoundAs}
+use Rattle.damage_skip.specs.Pieces.{PieceKind, Records, Kept, SignatureOrPadding, Skipped, Piece, IsFoundAs}
 use Rattle.damage_skip.specs.FilePieces.{AreFound}
 use Rattle.repair_copy.specs.RepairPuts.{chunk_in, chunks_in}
 use Rattle.repair_copy.specs.CopiedChunks.{is_copied, copied}
@@ -73,7 +73,7 @@ plain_wanted keep k plain = inr (is_unread-plain k plain)
 pub found_chunk : (keep : Bool) (k : ChunkValue) (what : PieceKind) (xs : List ChunkValue) → length k.«data» ≤ 2 ^ 26 → IsFoundAs keep k what
     → chunk_in what ++ xs ≡ (if is_copied keep k then k ∷ xs else xs)
 unfolding IsWanted
-found_chunk keep k (Given records c) xs small (simple, is) =
+found_chunk keep k (Records records c) xs small (simple, is) =
     one_before keep k (c ∷ []) xs
     (simple_copied keep k simple.kind (plain_wanted keep k (small, inl (records, simple))))
     (ap (λ (x : ChunkValue). x ∷ []) is)
@@ -85,7 +85,7 @@ found_chunk keep k (Kept c) xs small (inr (kept, inl compressed), is) =
     one_before keep k (c ∷ []) xs (simple_copied keep k compressed.0 (inl kept)) (ap (λ (x : ChunkValue). x ∷ []) is)
 found_chunk keep k (Kept c) xs small (inr (kept, inr transposed), is) =
     one_before keep k (c ∷ []) xs (transposed_copied keep k transposed (inl kept)) (ap (λ (x : ChunkValue). x ∷ []) is)
-found_chunk keep k LeftOut xs small left_out = none_before keep k [] xs (left_out_stays keep k left_out) refl
+found_chunk keep k SignatureOrPadding xs small left_out = none_before keep k [] xs (left_out_stays keep k left_out) refl
 found_chunk keep k (Skipped w) xs small found = absurd found
 
 -- so the pieces of chunks that are found have those that are copied
@@ -104,7 +104,7 @@ one_copied keep k c same is = (subst (λ (x : ChunkValue). is_copied keep x ≡ 
 pub found_copied : (keep : Bool) (k : ChunkValue) (what : PieceKind) → length k.«data» ≤ 2 ^ 26 → IsFoundAs keep k what
     → AllByRecursion (λ c. is_copied keep c ≡ true) (chunk_in what)
 unfolding IsWanted
-found_copied keep k (Given records c) small (simple, is) =
+found_copied keep k (Records records c) small (simple, is) =
     one_copied keep k c is (simple_copied keep k simple.kind (plain_wanted keep k (small, inl (records, simple))))
 found_copied keep k (Kept c) small (inl metadata, is) =
     one_copied keep k c is (metadata_copied keep k metadata.0 (plain_wanted keep k (small, inr (inr (inl metadata)))))
@@ -112,7 +112,7 @@ found_copied keep k (Kept c) small (inr (kept, inl compressed), is) =
     one_copied keep k c is (simple_copied keep k compressed.0 (inl kept))
 found_copied keep k (Kept c) small (inr (kept, inr transposed), is) =
     one_copied keep k c is (transposed_copied keep k transposed (inl kept))
-found_copied keep k LeftOut small left_out = tt
+found_copied keep k SignatureOrPadding small left_out = tt
 found_copied keep k (Skipped w) small found = tt
 
 -- so is an allowed chunk that is neither a signature nor padding

@@ -5,7 +5,7 @@ use Rattle.std.specs.List.{cons_option}
 use Rattle.std.proofs.lemmas.List.{append-nil, take-append-drop}
 use Rattle.record_io.specs.Outside.{Rose, Takes, TakesShort}
 use Rattle.record_io.specs.declared.outside.Failed.{Failed}
-use Rattle.std.specs.Result.{OnOk, OnErr, IsErr, is_err}
+use Rattle.std.specs.Result.{OnOk, OnErr, IsErr, IsErrAnd}
 use Rattle.record_group.proofs.Signed.{end_of_chunk-signature}
 use Rattle.record_io.specs.Buffers.{TakesAndHolds, GoOutOrAreHeld}
 use Rattle.record_io.specs.Puts.{Made, Notes, Put, Taken, taken_by, puts_to, GoOut, BreaksOff}
@@ -23,16 +23,17 @@ use Rattle.damage_skip.specs.Regions.{region_of, regions_in, told_text}
 use Rattle.damage_skip.specs.Walks.{piece_of, IsEventIn}
 use Rattle.damage_skip.specs.declared.events.Event.{Event}
 use Rattle.damage_skip.specs.declared.events.Event.TheVariants as event
+use Rattle.damage_skip.specs.declared.progress.Progress.{Progress}
 use Rattle.damage_skip.specs.declared.regions.Region.{Region}
 use Rattle.repair_copy.specs.RepairPuts.{chunk_in, chunks_in, puts_from, repair_puts}
-use Rattle.repair_copy.specs.Copies.{WentOutAtFault, FitsAt, stream_of, next_chunk_place, puts_behind, Begins, Copies, CopiesFront, HasBegun, HasCopied, HasPutAll, HasCopiedFront, HasPutAtFault}
+use Rattle.repair_copy.specs.Copies.{WentOutAtFault, FitsAt, BreaksOffBy, next_chunk_place, puts_behind, Begins, Copies, CopiesFront, CopiesTo, IsPast, HasBegun, HasCopied, HasPutAll, HasCopiedFront, HasCopiedTo, HasPutTo, HasPutAtFault}
 use Rattle.repair_copy.specs.declared.copying.Copied.{Copied}
-use Rattle.repair_copy.specs.declared.copying.FailedSink.{FailedSink}
-use Rattle.repair_copy.specs.declared.copying.FailedSink.TheVariants as cut
+use Rattle.repair_copy.specs.declared.repairs.RepairEnd.{RepairEnd}
+use Rattle.repair_copy.specs.declared.repairs.RepairEnd.TheVariants as end
 use Rattle.damage_skip.proofs.RegionsIn.{regions_in-append}
-use Rattle.repair_copy.proofs.EventChunks.{chunks_in-append}
+use Rattle.repair_copy.proofs.EventChunks.{chunks_in-append, kept_chunk}
 use Rattle.repair_copy.proofs.Growth.{place_moved}
-use Rattle.repair_copy.proofs.HeldPuts.{held_more, held_broken, breaks_off-front, held_made, held_flushed}
+use Rattle.repair_copy.proofs.HeldPuts.{held_more, held_broken_by, breaks_off-front, held_made, held_flushed}
 use Rattle.repair_copy.proofs.RepairPuts.{repair_puts-append}
 
 -- what is held went out: no chunk is laid then
@@ -79,17 +80,15 @@ chunk_put a b n s t p k one none lays begun counted = record {
 
 -- or not whole
 pub chunk_failed : {Fails : Type 0} (a b n : Option (List ℕ)) (s t : MadeFileValue) (p : Piece) (k : ChunkValue) → chunk_in p.what ≡ k ∷ [] → region_of p ≡ None
-    → LaysFront Fails a b s t (k ∷ []) → Fails → (c : FailedSink) → cut.Made ≡ c
-    → CopiesFront c (taken_by a None n) (taken_by b None n) s p
-chunk_failed a b n s t p k one none front fails c is =
-    subst (λ (x : FailedSink). CopiesFront x (taken_by a None n) (taken_by b None n) s p) is (record {
-      part = puts_to Made front.bytes.passed;
-      went = GoOut-made a b None n front.bytes.passed front.bytes.taken;
-      broken = subst (λ (ps : List Put). BreaksOff Made (puts_to Made front.bytes.passed) ps) (sym (puts_of-chunk s p none))
-          (subst (λ (ks : List ChunkValue). BreaksOff Made (puts_to Made front.bytes.passed) (puts_to Made (s.held ++ laid_each s.place ks))) (sym one)
-          (breaks_off-front Made (s.held ++ laid_each s.place (k ∷ [])) front.bytes.passed t.held front.bytes.rest front.bytes.parts
-          (front.bytes.short fails)));
-    })
+    → LaysFront Fails a b s t (k ∷ []) → Fails → CopiesFront end.Made (taken_by a None n) (taken_by b None n) s p
+chunk_failed a b n s t p k one none front fails = record {
+  part = puts_to Made front.bytes.passed;
+  went = GoOut-made a b None n front.bytes.passed front.bytes.taken;
+  broken = subst (λ (ps : List Put). BreaksOff Made (puts_to Made front.bytes.passed) ps) (sym (puts_of-chunk s p none))
+      (subst (λ (ks : List ChunkValue). BreaksOff Made (puts_to Made front.bytes.passed) (puts_to Made (s.held ++ laid_each s.place ks))) (sym one)
+      (breaks_off-front Made (s.held ++ laid_each s.place (k ∷ [])) front.bytes.passed t.held front.bytes.rest front.bytes.parts
+      (front.bytes.short fails)));
+}
 
 -- a line was put, behind what was held
 pub line_put : (a b n m : Option (List ℕ)) (s t : Copied) (p : Piece) → chunk_in p.what ≡ [] → length (regions_in (p ∷ [])) ≡ 1 → s.file.spent ≡ false
@@ -113,29 +112,38 @@ line_put a b n m s t p none one going taken held line begun counted = record {
 
 -- or what was held before it was not put whole
 pub flush_failed : (a b n : Option (List ℕ)) (s : MadeFileValue) (p : Piece) → chunk_in p.what ≡ [] → TakesShort a b s.held
-    → (c : FailedSink) → cut.Made ≡ c → CopiesFront c (taken_by a None n) (taken_by b None n) s p
-flush_failed a b n s p none short c is =
-    subst (λ (x : FailedSink). CopiesFront x (taken_by a None n) (taken_by b None n) s p) is (record {
-      part = puts_to Made (take short.0 s.held);
-      went = GoOut-made a b None n (take short.0 s.held) short.2;
-      broken = subst (λ (ps : List Put). BreaksOff Made (puts_to Made (take short.0 s.held)) ps) (sym (puts_of-line s p none))
-          (BreaksOff-longer Made (puts_to Made (take short.0 s.held)) (puts_to Made s.held) (puts_to Notes (told_text (region_of p)))
-          (BreaksOff-last Made [] s.held short.0 short.1));
-    })
+    → CopiesFront end.Made (taken_by a None n) (taken_by b None n) s p
+flush_failed a b n s p none short = record {
+  part = puts_to Made (take short.0 s.held);
+  went = GoOut-made a b None n (take short.0 s.held) short.2;
+  broken = subst (λ (ps : List Put). BreaksOff Made (puts_to Made (take short.0 s.held)) ps) (sym (puts_of-line s p none))
+      (BreaksOff-longer Made (puts_to Made (take short.0 s.held)) (puts_to Made s.held) (puts_to Notes (told_text (region_of p)))
+      (BreaksOff-last Made [] s.held short.0 short.1));
+}
 
 -- or the line itself
 pub line_failed : (a b n m : Option (List ℕ)) (s : MadeFileValue) (p : Piece) → chunk_in p.what ≡ [] → Takes a b s.held
-    → TakesShort n m (told_text (region_of p)) → (c : FailedSink) → cut.Notes ≡ c
-    → CopiesFront c (taken_by a None n) (taken_by b None m) s p
-line_failed a b n m s p none taken short c is =
+    → TakesShort n m (told_text (region_of p)) → CopiesFront end.Notes (taken_by a None n) (taken_by b None m) s p
+line_failed a b n m s p none taken short =
     let line : List ℕ = told_text (region_of p) in
-    subst (λ (x : FailedSink). CopiesFront x (taken_by a None n) (taken_by b None m) s p) is (record {
+    record {
       part = puts_to Made s.held ++ puts_to Notes (take short.0 line);
       went = GoOut-append (taken_by a None n) (taken_by b None n) (taken_by b None m) (puts_to Made s.held) (puts_to Notes (take short.0 line))
           (GoOut-made a b None n s.held taken) (GoOut-notes b None n m (take short.0 line) short.2);
       broken = subst (λ (ps : List Put). BreaksOff Notes (puts_to Made s.held ++ puts_to Notes (take short.0 line)) ps) (sym (puts_of-line s p none))
           (BreaksOff-last Notes (puts_to Made s.held) line short.0 short.1);
-    })
+    }
+
+-- an end that a call passes on is that of the sink that failed
+pub copies_failed : {X : Type 0} (result : Result X RepairEnd) (end : RepairEnd) (before after : Taken) (s t : Copied) (p : Piece)
+    → IsErr result → IsErrAnd result (λ e. e ≡ end) → CopiesFront end before after s.file p → CopiesTo result before after s t p
+copies_failed (Ok done) end before after s t p failed is front = absurd (cc failed)
+copies_failed (Err e) end before after s t p failed is front = subst (λ (x : RepairEnd). CopiesFront x before after s.file p) (sym is) front
+
+pub copied_failed : {X : Type 0} (result : Result X RepairEnd) (end : RepairEnd) (before after : Taken) (t : Copied) (events : List Piece)
+    → IsErr result → IsErrAnd result (λ e. e ≡ end) → HasCopiedFront end before after events → HasCopiedTo result before after t events
+copied_failed (Ok done) end before after t events failed is front = absurd (cc failed)
+copied_failed (Err e) end before after t events failed is front = subst (λ (x : RepairEnd). HasCopiedFront x before after events) (sym is) front
 
 -- once the signature was put, the file is begun
 pub has_begun : (before : Taken) (a b n : Option (List ℕ)) (s t : Copied) (events : List Piece)
@@ -160,18 +168,17 @@ has_begun before a b n s t events (inr (h, some)) (inr (unbegun, begun, counted,
 -- or that was cut off
 pub begin_failed : {Fails : Type 0} (before : Taken) (a b n : Option (List ℕ)) (s : Copied) (t : MadeFileValue) (events more : List Piece)
     → HasCopied before (taken_by a None n) s events → s.begun ≡ false → LaysFront Fails a b nothing_made t (signature ∷ []) → Fails
-    → (c : FailedSink) → cut.Made ≡ c → HasCopiedFront c before (taken_by b None n) (events ++ more)
-begin_failed before a b n s t events more (inr (h, some)) unbegun front fails c is = cc (h.begun, unbegun)
-begin_failed before a b n s t events more (inl h) unbegun front fails c is =
+    → HasCopiedFront end.Made before (taken_by b None n) (events ++ more)
+begin_failed before a b n s t events more (inr (h, some)) unbegun front fails = cc (h.begun, unbegun)
+begin_failed before a b n s t events more (inl h) unbegun front fails =
     let bytes : List ℕ = laid_each 0 (signature ∷ []) in
-    subst (λ (x : FailedSink). HasCopiedFront x before (taken_by b None n) (events ++ more)) is
-    (subst (λ (es : List Piece). HasCopiedFront cut.Made before (taken_by b None n) (es ++ more)) (sym h.none)
-    (subst (λ (x : Taken). HasCopiedFront cut.Made x (taken_by b None n) more) h.same (record {
+    subst (λ (es : List Piece). HasCopiedFront end.Made before (taken_by b None n) (es ++ more)) (sym h.none)
+    (subst (λ (x : Taken). HasCopiedFront end.Made x (taken_by b None n) more) h.same (record {
       part = puts_to Made front.bytes.passed;
       went = GoOut-made a b None n front.bytes.passed front.bytes.taken;
       broken = BreaksOff-longer Made (puts_to Made front.bytes.passed) (puts_to Made bytes) (puts_from (end_of_chunks 0 (signature ∷ [])) more)
           (breaks_off-front Made bytes front.bytes.passed t.held front.bytes.rest front.bytes.parts (front.bytes.short fails));
-    })))
+    }))
 
 -- what is put of one event more
 puts_more : (before after : Taken) (s : Copied) (events : List Piece) (e : Piece) → HasBegun before after s events
@@ -198,22 +205,23 @@ copies_more before now then s t events e h more = record {
 }
 
 -- or that was cut off
-pub copies_cut : (c : FailedSink) (before now then : Taken) (s : Copied) (events : List Piece) (e : Piece) → HasBegun before now s events
+copies_cut : (c : RepairEnd) (before now then : Taken) (s : Copied) (events : List Piece) (e : Piece) → HasBegun before now s events
     → CopiesFront c now then s.file e → HasCopiedFront c before then (events ++ e ∷ [])
 copies_cut c before now then s events e h front = record {
   part = h.puts.passed ++ front.part;
   went = GoOut-append before now then h.puts.passed front.part h.puts.went front.went;
-  broken = subst (λ (ps : List Put). BreaksOff (stream_of c) (h.puts.passed ++ front.part) ps) (sym (puts_more before now s events e h))
-      (held_broken (stream_of c) before now (repair_puts events) front.part (puts_from s.file.place (e ∷ [])) s.file.held h.puts front.broken);
+  broken = subst (λ (ps : List Put). BreaksOffBy c (h.puts.passed ++ front.part) ps) (sym (puts_more before now s events e h))
+      (held_broken_by c before now (repair_puts events) front.part (puts_from s.file.place (e ∷ [])) s.file.held h.puts front.broken);
 }
 
 -- so it is behind the signature
-pub event_copied : (r : Result (Unit {0}) FailedSink) (a b n : Option (List ℕ)) (then : Taken) (s t u : Copied) (e : Piece) → Begins a b s t
-    → OnOk r (Copies (taken_by b None n) then t u e)
-    → OnOk r ((before : Taken) (events : List Piece) → HasCopied before (taken_by a None n) s events → HasBegun before then u (events ++ e ∷ []))
-event_copied (Err c) a b n then s t u e begins copies = tt
-event_copied (Ok done) a b n then s t u e begins copies =
-    λ before events h. copies_more before (taken_by b None n) then t u events e (has_begun before a b n s t events h begins) copies
+pub event_copied : (r : Result (Unit {0}) RepairEnd) (a b n : Option (List ℕ)) (then : Taken) (s t u : Copied) (e : Piece) → Begins a b s t
+    → CopiesTo r (taken_by b None n) then t u e
+    → (before : Taken) (events : List Piece) → HasCopied before (taken_by a None n) s events → HasCopiedTo r before then u (events ++ e ∷ [])
+event_copied (Err c) a b n then s t u e begins front before events h =
+    copies_cut c before (taken_by b None n) then t events e (has_begun before a b n s t events h begins) front
+event_copied (Ok done) a b n then s t u e begins copies before events h =
+    copies_more before (taken_by b None n) then t u events e (has_begun before a b n s t events h begins) copies
 
 -- where what is held went out, all did
 put_all : (before : Taken) (a b n : Option (List ℕ)) (s t : Copied) (events : List Piece) → HasBegun before (taken_by a None n) s events
@@ -240,35 +248,20 @@ flush_broke before a b n ps held h (count, less, took) = (
 )
 
 finish_failed : (before : Taken) (a b n : Option (List ℕ)) (s : Copied) (events : List Piece) → HasBegun before (taken_by a None n) s events
-    → TakesShort a b s.file.held → HasCopiedFront cut.Made before (taken_by b None n) events
+    → TakesShort a b s.file.held → HasCopiedFront end.Made before (taken_by b None n) events
 finish_failed before a b n s events h short =
     let broke = flush_broke before a b n (repair_puts events) s.file.held h.puts short in
     record { part = broke.0; went = broke.1; broken = broke.2 }
 
 -- so it is behind the signature
-pub finish_whole : (r : Result (Unit {0}) Failed) (a b c : Option (List ℕ)) (s t u : Copied) → Begins a b s t → OnOk r (Takes b c t.file.held)
-    → totals_made u.file ≡ totals_made t.file → u.regions ≡ t.regions
-    → OnOk r ((before : Taken) (n : Option (List ℕ)) (events : List Piece) → HasCopied before (taken_by a None n) s events
-    → HasPutAll before (taken_by c None n) u events)
-finish_whole (Err failed) a b c s t u begins taken totals counted = tt
-finish_whole (Ok done) a b c s t u begins taken totals counted =
-    λ before n events h. put_all before b c n t u events (has_begun before a b n s t events h begins) taken totals counted
-
-pub finish_front : (r : Result (Unit {0}) Failed) (a b c : Option (List ℕ)) (s t : Copied) → Begins a b s t → OnErr r (TakesShort b c t.file.held)
-    → OnErr r ((before : Taken) (n : Option (List ℕ)) (events : List Piece) → HasCopied before (taken_by a None n) s events
-    → HasCopiedFront cut.Made before (taken_by c None n) events)
-finish_front (Ok done) a b c s t begins short = tt
-finish_front (Err failed) a b c s t begins short =
-    λ before n events h. finish_failed before b c n t events (has_begun before a b n s t events h begins) short
-
--- what holds where a call failed, and where it didn't
-pub where_failed : {X E P : Type 0} (result : Result X E) → is_err result ≡ true → OnErr result P → P
-where_failed (Ok done) failed h = absurd (cc failed)
-where_failed (Err e) failed h = h
-
-pub where_done : {X E P : Type 0} (result : Result X E) → is_err result ≡ false → OnOk result P → P
-where_done (Ok done) went h = h
-where_done (Err e) went h = absurd (cc went)
+pub finish_put : (r : Result (Unit {0}) Failed) (a b c : Option (List ℕ)) (s t u : Copied) → Begins a b s t → OnOk r (Takes b c t.file.held)
+    → OnErr r (TakesShort b c t.file.held) → totals_made u.file ≡ totals_made t.file → u.regions ≡ t.regions
+    → (before : Taken) (n : Option (List ℕ)) (events : List Piece) → HasCopied before (taken_by a None n) s events
+    → HasPutTo r before (taken_by c None n) u events
+finish_put (Ok done) a b c s t u begins taken short totals counted before n events h =
+    put_all before b c n t u events (has_begun before a b n s t events h begins) taken totals counted
+finish_put (Err failed) a b c s t u begins taken short totals counted before n events h =
+    finish_failed before b c n t events (has_begun before a b n s t events h begins) short
 
 -- at a fault too, but for what wasn't begun
 all_at_fault : (f g : ℕ) (events : List Piece) → events ≢ [] → WentOutAtFault f g events (repair_puts events)
@@ -314,25 +307,60 @@ next_place_small from s small = elim (cases_Bool s.begun) [
   | inr unbegun ↦ omega (arith, next_when_unbegun s unbegun)
 ]
 
+-- once the signature was put the next chunk is laid where the file ends
+begun_next : (a b : Option (List ℕ)) (s t : Copied) → Begins a b s t
+    → (t.begun ≡ true) × (t.file.place ≡ next_chunk_place s) × (t.regions ≡ s.regions)
+begun_next a b s t (inl (begun, same, made)) = (
+  subst (λ (x : Copied). x.begun ≡ true) (sym same) begun,
+  ap (λ (x : Copied). x.file.place) same ∙ sym (next_when_begun s begun),
+  ap (λ (x : Copied). x.regions) same,
+)
+begun_next a b s t (inr (unbegun, begun, counted, lays)) = (
+  begun,
+  lays.place ∙ sym (cond-false s.begun s.file.place (end_of_chunks 0 (signature ∷ [])) unbegun),
+  counted,
+)
+
+-- and behind an event
+pub event_past : {N : Type 0} (r : Result (Unit {0}) RepairEnd) (a b : Option (List ℕ)) (now then : Taken) (s t u : Copied) (e : Piece) (n m : N)
+    → Begins a b s t → CopiesTo r now then t u e → OnOk r (u.regions ≡ t.regions → m ≡ n) → OnOk r (IsPast e s u n m)
+event_past (Err c) a b now then s t u e n m begins front quiet = tt
+event_past (Ok done) a b now then s t u e n m begins more quiet =
+    let begun = begun_next a b s t begins in
+    record {
+      begun = more.begun ∙ begun.0;
+      going = more.chunks.going;
+      place = more.chunks.place ∙ ap (λ (p : ℕ). end_of_chunks p (chunks_in (e ∷ []))) begun.1;
+      regions = omega (arith, more.regions, begun.2);
+      quiet = λ same. quiet (same ∙ sym begun.2);
+    }
+
 -- an event's chunk can be laid
-pub fits : (from to place : ℕ) (e : Event) → IsEventIn from to e → place ≤ 64 + 2 * from → to ≤ 2 ^ 60 → FitsAt place e
-fits from to place (event.Records begin records chunk) h small reach = record {
+pub fits : (at : Progress) (to place : ℕ) (e : Event) → IsEventIn at to e → place ≤ 64 + 2 * at.place → to ≤ 2 ^ 60 → FitsAt place e
+fits at to place (event.Records begin records chunk) h small reach = record {
   right = h.intact.0.right;
   in_reach = omega (arith, h.from_place, h.to_place, place_moved begin place (value_of_chunk chunk) (omega (arith, h.from_place)));
   unread_is = sym (is_unread-plain (value_of_chunk chunk) (h.intact.0.small, inl (records, h.intact.1)));
 }
-fits from to place (event.Kept begin chunk unread) h small reach = record {
+fits at to place (event.Kept begin chunk unread) h small reach = record {
   right = h.intact.0.right;
   in_reach = omega (arith, h.from_place, h.to_place, place_moved begin place (value_of_chunk chunk) (omega (arith, h.from_place)));
   unread_is = h.intact.1;
 }
-fits from to place (event.Skipped region) h small reach = tt
+fits at to place (event.Skipped region) h small reach = tt
 
 -- and moves the place where the next one is laid by at most twice its size
-pub grows : (from to place : ℕ) (e : Event) → IsEventIn from to e → place ≤ 64 + 2 * from
+pub grows : (at : Progress) (to place : ℕ) (e : Event) → IsEventIn at to e → place ≤ 64 + 2 * at.place
     → end_of_chunks place (chunks_in (piece_of e ∷ [])) ≤ 64 + 2 * to
-grows from to place (event.Records begin records chunk) h small =
+grows at to place (event.Records begin records chunk) h small =
     omega (arith, h.from_place, h.to_place, place_moved begin place (value_of_chunk chunk) (omega (arith, h.from_place)))
-grows from to place (event.Kept begin chunk unread) h small =
-    omega (arith, h.from_place, h.to_place, place_moved begin place (value_of_chunk chunk) (omega (arith, h.from_place)))
-grows from to place (event.Skipped region) h small = omega (arith, h.from_place, h.rises, h.to_place)
+grows at to place (event.Kept begin chunk unread) h small =
+    let k : ChunkValue = value_of_chunk chunk in
+    omega (
+      arith,
+      h.from_place,
+      h.to_place,
+      place_moved begin place k (omega (arith, h.from_place)),
+      ap {B = ℕ} (λ (ks : List ChunkValue). end_of_chunks place (ks ++ [])) (kept_chunk k),
+    )
+grows at to place (event.Skipped region) h small = omega (arith, h.from_place, h.rises, h.to_place)

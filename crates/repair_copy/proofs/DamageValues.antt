@@ -17,7 +17,7 @@ use Rattle.meta_chunk.proofs.LaidChunks.{AreLaid-laid_each}
 use Rattle.chunk_reader.proofs.SignedFiles.{IsChunk-signature, IsAllowed-signature}
 use Rattle.chunk_reader.specs.declared.reasons.Why.TheVariants as why
 use Rattle.damage_skip.specs.Damage.{Intact, IsIntactFrom, IsNext, AreReached, AreLostUpToABlock, DamageLeavesEach}
-use Rattle.damage_skip.specs.Pieces.{Given, LeftOut, Skipped, Piece}
+use Rattle.damage_skip.specs.Pieces.{Records, SignatureOrPadding, Skipped, Piece}
 use Rattle.damage_skip.specs.declared.regions.Region.{Region}
 use Rattle.repair_copy.specs.DamagedRepairs.{RepairsDamage}
 use Rattle.repair_copy.specs.RepairPuts.{repair_puts}
@@ -59,13 +59,13 @@ third_lost (suc (suc (suc zero))) before missed = (2, lit< tt, refl, λ b here. 
 third_lost (suc (suc (suc (suc lost)))) before missed = absurd (omega arith)
 
 given : Piece
-given = record { begin = 64; end = 108; what = Given ((0x61 ∷ []) ∷ []) (of_byte 0x61) }
+given = record { begin = 64; end = 108; what = Records ((0x61 ∷ []) ∷ []) (of_byte 0x61) }
 
 skipped : Piece
 skipped = record { begin = 108; end = 196; what = Skipped why.HeaderHash }
 
 pieces_of_abc : List Piece
-pieces_of_abc = record { begin = 0; end = 64; what = LeftOut } ∷ given ∷ skipped ∷ []
+pieces_of_abc = record { begin = 0; end = 64; what = SignatureOrPadding } ∷ given ∷ skipped ∷ []
 
 a_is_simple : IsSimple (of_byte 0x61) ((0x61 ∷ []) ∷ [])
 unfolding of_byte shortest

@@ -63,10 +63,10 @@ makes_of (Err end.Notes) faults faults_then before after events part xs same all
 makes_of (Err end.Memory) faults faults_then before after events part xs same all went = tt
 
 pub damage_repaired : {F : Type 0} (test : Shared F (Bor Region × Unit {0}) Bool) (f : F) (result : Result Repaired RepairEnd) (faults faults_then : ℕ)
-    (before after : Taken) (damaged : List ℕ) → Repairs test f result faults faults_then before after damaged
+    (before after : Taken) (taken : ℕ) (damaged : List ℕ) → Repairs test f result faults faults_then before after taken damaged
     → (ks : List ChunkValue) (file : List ℕ) (intact : Intact) → length file ≤ 2 ^ 60 → IsDamaged ks file damaged intact
     → RepairsDamage test f result faults faults_then before after ks intact
-damage_repaired test f result faults faults_then before after damaged h ks file intact reach d =
+damage_repaired test f result faults faults_then before after taken damaged h ks file intact reach d =
     let pieces : List Piece = h.walked.walked.0 in
     let are : events_in pieces ≡ h.events = h.walked.walked.2 in
     let left = tiles_left true ks file damaged intact d reach 0 0 h.place pieces (omega arith) refl h.walked.walked.1 in

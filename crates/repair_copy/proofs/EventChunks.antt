@@ -3,17 +3,21 @@ use Rattle.std.proofs.Common.{◌≡◌, ◌∙◌, false, List, [], ◌∷◌, 
 use Rattle.std.proofs.lemmas.Bool.{cases_Bool, cond-true, cond-false}
 use Rattle.std.proofs.lemmas.Grind.{flat_map-append}
 use Rattle.chunk_header.specs.Chunks.{ChunkValue}
+use Rattle.chunk_header.specs.SimpleChunks.{IsSimpleChunk}
+use Rattle.chunk_header.proofs.Decided.{IsDecided}
+use Rattle.chunk_header.proofs.DecidedRecords.{records_decided}
 use Rattle.meta_chunk.specs.Files.{signature, end_of_chunks, laid_each}
 use Rattle.meta_chunk.proofs.Joins.{laid_each-append, end-laid_each}
-use Rattle.damage_skip.specs.Pieces.{PieceKind, Given, Kept, LeftOut, Skipped, Piece, is_event, events_in}
+use Rattle.damage_skip.specs.Pieces.{PieceKind, Records, Kept, SignatureOrPadding, Skipped, Piece, is_event, events_in}
+use Rattle.damage_skip.specs.Steps.{kept_as, kept_by}
 use Rattle.repair_copy.specs.RepairPuts.{chunk_in, chunks_in}
 use Rattle.repair_copy.specs.RelaidFiles.{relaid}
 
 -- a piece that is no event has no chunk
 no_event_no_chunk : (what : PieceKind) → is_event what ≡ false → chunk_in what ≡ []
-no_event_no_chunk (Given records c) h = cc
+no_event_no_chunk (Records records c) h = cc
 no_event_no_chunk (Kept c) h = cc
-no_event_no_chunk LeftOut h = refl
+no_event_no_chunk SignatureOrPadding h = refl
 no_event_no_chunk (Skipped w) h = refl
 
 pub chunks_in_events : (pieces : List Piece) → chunks_in (events_in pieces) ≡ chunks_in pieces
@@ -52,3 +56,11 @@ pub relaid-push : (pieces : List Piece) (piece : Piece)
 relaid-push pieces piece =
     relaid-append pieces (piece ∷ [])
     ∙ ap (λ (ks : List ChunkValue). relaid pieces ++ laid_each (length (relaid pieces)) ks) (append-nil (chunk_in piece.what))
+
+-- a chunk that is kept is that of its piece, also where it was only judged that records stand in it
+chunk_by : (k : ChunkValue) (d : IsDecided (IsSimpleChunk k)) → chunk_in (kept_by k d) ≡ k ∷ []
+chunk_by k (inl (records, simple)) = refl
+chunk_by k (inr none) = refl
+
+pub kept_chunk : (k : ChunkValue) → chunk_in (kept_as k) ≡ k ∷ []
+kept_chunk k = chunk_by k (records_decided k)

@@ -174,11 +174,11 @@ module _ {F : Type 0} (test : Shared F (Bor Region × Unit {0}) Bool) (f : F) (k
   makes_front (Err end.Memory) faults faults_then before after events left part are h all went = tt
 
 front_repaired : {F : Type 0} (test : Shared F (Bor Region × Unit {0}) Bool) (f : F) (result : Result Repaired RepairEnd) (faults faults_then : ℕ)
-    (before after : Taken) (bytes : List ℕ) → Repairs test f result faults faults_then before after bytes
+    (before after : Taken) (taken : ℕ) (bytes : List ℕ) → Repairs test f result faults faults_then before after taken bytes
     → (ks : List ChunkValue) (file : List ℕ) (m : ℕ) → IsFrame ks file → m ≤ length file → bytes ≡ take m file
     → RepairsFront test f result faults faults_then before after ks file m
 unfolding kept
-front_repaired test f result faults faults_then before after bytes h ks file m frame within is =
+front_repaired test f result faults faults_then before after taken bytes h ks file m frame within is =
     let front = front_pieces true ks file m frame within in
     let whole : ArePieces true bytes front.0 = subst (λ (b : List ℕ). ArePieces true b front.0) (sym is) front.2 in
     let left = goes_on_front true bytes h.place h.events (events_in front.0) h.walked.walked (front.0, whole, refl) in
@@ -200,10 +200,10 @@ front_repaired test f result faults faults_then before after bytes h ks file m f
 
 -- where the file shows its bytes, also where that is a damaged one
 pub repairs_known : {F : Type 0} (test : Shared F (Bor Region × Unit {0}) Bool) (f : F) (bytes : Option (List ℕ)) (result : Result Repaired RepairEnd)
-    (faults faults_then : ℕ) (before after : Taken) → IfSome bytes (Repairs test f result faults faults_then before after)
+    (faults faults_then taken : ℕ) (before after : Taken) → IfSome bytes (Repairs test f result faults faults_then before after taken)
     → IfSome bytes (RepairsKnown test f result faults faults_then before after)
-repairs_known test f None result faults faults_then before after h = tt
-repairs_known test f (Some shown) result faults faults_then before after h = record {
-  damaged = damage_repaired test f result faults faults_then before after shown h;
-  cut = front_repaired test f result faults faults_then before after shown h;
+repairs_known test f None result faults faults_then taken before after h = tt
+repairs_known test f (Some shown) result faults faults_then taken before after h = record {
+  damaged = damage_repaired test f result faults faults_then before after taken shown h;
+  cut = front_repaired test f result faults faults_then before after taken shown h;
 }

@@ -12,7 +12,7 @@ use Rattle.meta_chunk.proofs.LaidChunks.{end_of_chunk_after}
 use Rattle.chunk_reader.specs.Places.{end_at, chunk_at}
 use Rattle.chunk_reader.proofs.PassedChunks.{end_of_chunk-at}
 use Rattle.chunk_reader.proofs.SignedFiles.{end_of_chunk-signature}
-use Rattle.damage_skip.specs.Pieces.{PieceKind, Given, Kept, LeftOut, Skipped, Piece, IsFoundAs, IsPieceOf, AreTiles}
+use Rattle.damage_skip.specs.Pieces.{PieceKind, Records, Kept, SignatureOrPadding, Skipped, Piece, IsFoundAs, IsPieceOf, AreTiles}
 use Rattle.damage_skip.proofs.OnePiece.{piece_cases, piece_past}
 use Rattle.repair_copy.specs.RepairPuts.{chunk_in, chunks_in}
 use Rattle.repair_copy.specs.RelaidFiles.{relaid}
@@ -58,9 +58,9 @@ place_moved begin place k small = omega (arith, end_of_chunk_moved begin place k
 -- the chunk of a whole piece is the one at its place, if it has one
 one_or_none : (file : List ℕ) (keep : Bool) (place : ℕ) (what : PieceKind) → IsFoundAs keep (chunk_at file place) what
     → (chunk_in what ≡ chunk_at file place ∷ []) ⊎ (chunk_in what ≡ [])
-one_or_none file keep place (Given records c) found = inl (ap (λ (x : ChunkValue). x ∷ []) found.1)
+one_or_none file keep place (Records records c) found = inl (ap (λ (x : ChunkValue). x ∷ []) found.1)
 one_or_none file keep place (Kept c) found = inl (ap (λ (x : ChunkValue). x ∷ []) found.1)
-one_or_none file keep place LeftOut found = inr refl
+one_or_none file keep place SignatureOrPadding found = inr refl
 one_or_none file keep place (Skipped w) found = inr refl
 
 -- so a piece moves the place where the next chunk is laid by at most twice its size

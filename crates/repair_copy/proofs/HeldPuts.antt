@@ -3,8 +3,11 @@ use Rattle.std.proofs.Common.{◌≡◌, ◌≢◌, ◌∙◌, ℕ, Option, None
 use Rattle.std.proofs.Math.Seq.{take-append_seam}
 use Rattle.record_io.specs.Outside.{Takes}
 use Rattle.record_io.specs.Buffers.{TakesAndHolds, GoOutOrAreHeld}
-use Rattle.record_io.specs.Puts.{Stream, Made, Put, Taken, taken_by, puts_to, GoOut, BreaksOff}
+use Rattle.record_io.specs.Puts.{Stream, Made, Notes, Put, Taken, taken_by, puts_to, GoOut, BreaksOff}
 use Rattle.record_io.proofs.Puts.{puts_to-append, GoOut-append, GoOut-made, BreaksOff-last, BreaksOff-behind}
+use Rattle.repair_copy.specs.Copies.{BreaksOffBy}
+use Rattle.repair_copy.specs.declared.repairs.RepairEnd.{RepairEnd}
+use Rattle.repair_copy.specs.declared.repairs.RepairEnd.TheVariants as end
 
 -- more is put behind what is held
 pub held_more : (a b c : Taken) (ps qs : List Put) (held now : List ℕ) → GoOutOrAreHeld a b Made ps held
@@ -19,12 +22,21 @@ held_more a b c ps qs held now first then = record {
 }
 
 -- or breaks off
-pub held_broken : (s : Stream) (a b : Taken) (ps part qs : List Put) (held : List ℕ) (h : GoOutOrAreHeld a b Made ps held)
+held_broken : (s : Stream) (a b : Taken) (ps part qs : List Put) (held : List ℕ) (h : GoOutOrAreHeld a b Made ps held)
     → BreaksOff s part (puts_to Made held ++ qs) → BreaksOff s (h.passed ++ part) (ps ++ qs)
 held_broken s a b ps part qs held h broken =
     subst (λ (xs : List Put). BreaksOff s (h.passed ++ part) xs)
     (sym (append_assoc h.passed (puts_to Made held) qs) ∙ ap (λ (xs : List Put). xs ++ qs) (sym h.parts))
     (BreaksOff-behind s h.passed part (puts_to Made held ++ qs) broken)
+
+-- at the sink that failed
+pub held_broken_by : (end : RepairEnd) (a b : Taken) (ps part qs : List Put) (held : List ℕ) (h : GoOutOrAreHeld a b Made ps held)
+    → BreaksOffBy end part (puts_to Made held ++ qs) → BreaksOffBy end (h.passed ++ part) (ps ++ qs)
+held_broken_by end.Made a b ps part qs held h broken = held_broken Made a b ps part qs held h broken
+held_broken_by end.Notes a b ps part qs held h broken = held_broken Notes a b ps part qs held h broken
+held_broken_by end.Store a b ps part qs held h broken = absurd broken
+held_broken_by end.Memory a b ps part qs held h broken = absurd broken
+held_broken_by (end.Stopped region) a b ps part qs held h broken = absurd broken
 
 -- a front of bytes to one stream, behind which some are held and others follow
 pub breaks_off-front : (s : Stream) (bytes front held rest : List ℕ) → bytes ≡ front ++ (held ++ rest) → rest ≢ []

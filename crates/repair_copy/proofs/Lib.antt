@@ -11,7 +11,7 @@ pub mod WholeLines
 mod HeldPuts
 mod CopySteps
 mod WalkedFiles
-mod WalkEnds
+pub mod WalkEnds
 mod SkippedRegions
 pub mod OneWalk
 pub mod DamagedRepairs

@@ -10,7 +10,7 @@ use Rattle.record_values.proofs.ByteLists.{AreBytes-append}
 use Rattle.block_layout.specs.Layout.{room}
 use Rattle.block_layout.specs.BlockHeaders.{block_header}
 use Rattle.block_layout.proofs.BlockHeaders.{block_header_is_bytes}
-use Rattle.chunk_header.specs.Chunks.{ChunkValue, IsChunk, header_bytes, header_fields, own_bytes}
+use Rattle.chunk_header.specs.Chunks.{ChunkValue, IsChunk, header_bytes, header_fields, chunk_bytes}
 use Rattle.meta_chunk.specs.Laid.{end_of_chunk, byte_at, laid_bytes, laid}
 use Rattle.meta_chunk.specs.Files.{signature, laid_each}
 use Rattle.chunk_reader.proofs.SignedFiles.{IsChunk-signature}
@@ -27,8 +27,8 @@ seven_bytes : (n : ℕ) → AreBytes (take 7 (to_le_bytes w64 n))
 seven_bytes n = search rules
 
 -- so are those of a chunk that a header can hold
-AreBytes-own_bytes : (k : ChunkValue) → IsChunk k → AreBytes (own_bytes k)
-AreBytes-own_bytes k h =
+AreBytes-chunk_bytes : (k : ChunkValue) → IsChunk k → AreBytes (chunk_bytes k)
+AreBytes-chunk_bytes k h =
     let size : ℕ = length k.«data» in
     let hash : ℕ = riegeli_hash k.«data» in
     let fields : List ℕ = header_fields size hash k.kind k.num_records k.decoded_size in
@@ -70,8 +70,8 @@ AreBytes-laid : (begin : ℕ) (k : ChunkValue) → IsChunk k → AreBytes (laid 
 unfolding laid_bytes
 AreBytes-laid begin k h =
     let end : ℕ = end_of_chunk begin k in
-    AreBytes-map (byte_at begin end (own_bytes k))
-    (λ p. byte_laid begin end (own_bytes k) p (AreBytes-own_bytes k h))
+    AreBytes-map (byte_at begin end (chunk_bytes k))
+    (λ p. byte_laid begin end (chunk_bytes k) p (AreBytes-chunk_bytes k h))
     (range_with_len begin (end - begin))
 
 -- and so are those of chunks one after another

@@ -15,11 +15,11 @@ use Rattle.meta_chunk.proofs.Held.{IsSignature-one, AreRecordsOf-append}
 use Rattle.chunk_reader.specs.Places.{header_bytes_at, header_at, end_at, chunk_at}
 use Rattle.chunk_reader.specs.Reasons.{Applies, NoneOf, content_reasons}
 use Rattle.chunk_reader.specs.Faults.{IsAllowed}
-use Rattle.chunk_reader.proofs.PassedChunks.{AreBytes-own_bytes_at, AreBytes-data_at, IsChunk-at, length-data}
+use Rattle.chunk_reader.proofs.PassedChunks.{AreBytes-usable_bytes_at, AreBytes-data_at, IsChunk-at, length-data}
 use Rattle.chunk_reader.proofs.AllowedChunks.{IsAllowed-passed, IsAllowed-frame, allowed_small}
 use Rattle.chunk_reader.proofs.NoReasonLaid.{content_where_none}
 use Rattle.chunk_reader.proofs.SignedFiles.{IsChunk-signature, IsAllowed-signature}
-use Rattle.damage_skip.specs.Pieces.{PieceKind, Given, Kept, LeftOut, Skipped, Piece, SkipsFor, walk_reasons, IsFoundAs, IsPieceOf, AreTiles, records_of, records_in}
+use Rattle.damage_skip.specs.Pieces.{PieceKind, Records, Kept, SignatureOrPadding, Skipped, Piece, SkipsFor, walk_reasons, IsFoundAs, IsPieceOf, AreTiles, records_of, records_in}
 use Rattle.damage_skip.specs.FilePieces.{ArePieces}
 use Rattle.damage_skip.specs.Walks.{GoesOn}
 use Rattle.damage_skip.proofs.OnePiece.{piece_cases}
@@ -60,7 +60,7 @@ module _ (keep : Bool) (file : List ℕ) where
 
   pub sound_at : (place : ℕ) → AreBytes file → NoneOf (SkipsFor file place) (walk_reasons keep) → IsChunk (chunk_at file place)
   sound_at place bytes (short, (header, (against, (cut, (large, content))))) =
-      let h = header_of_right (header_bytes_at file place) (AreBytes-own_bytes_at file place 40 bytes)
+      let h = header_of_right (header_bytes_at file place) (AreBytes-usable_bytes_at file place 40 bytes)
       (right_header (header_bytes_at file place) header) in
       IsChunk-at file place h.0 h.1 h.2 (at_most (length file) (end_at file place) cut)
       (AreBytes-data_at file place (header_at file place).data_size bytes)
@@ -77,9 +77,9 @@ module _ (keep : Bool) (file : List ℕ) where
         ]
 
     each_before : (what : PieceKind) (ks : List ChunkValue) → AllByRecursion P (chunk_in what) → AllByRecursion P ks → AllByRecursion P (chunk_in what ++ ks)
-    each_before (Given records c) ks h rest = (h.0, rest)
+    each_before (Records records c) ks h rest = (h.0, rest)
     each_before (Kept c) ks h rest = (h.0, rest)
-    each_before LeftOut ks h rest = rest
+    each_before SignatureOrPadding ks h rest = rest
     each_before (Skipped w) ks h rest = rest
 
     pub of_tiles : (from to : ℕ) (pieces : List Piece) → AreTiles keep file from to pieces → AllByRecursion P (chunks_in pieces)
@@ -90,9 +90,9 @@ module _ (keep : Bool) (file : List ℕ) where
   -- where it holds of each chunk to which no reason applies
   of_chunk : (P : ChunkValue → Type 0) (place : ℕ) (what : PieceKind) → P (chunk_at file place) → IsFoundAs keep (chunk_at file place) what
       → AllByRecursion P (chunk_in what)
-  of_chunk P place (Given records c) h (simple, is) = (subst P (sym is) h, tt)
+  of_chunk P place (Records records c) h (simple, is) = (subst P (sym is) h, tt)
   of_chunk P place (Kept c) h (kept, is) = (subst P (sym is) h, tt)
-  of_chunk P place LeftOut h left_out = tt
+  of_chunk P place SignatureOrPadding h left_out = tt
   of_chunk P place (Skipped w) h found = tt
 
   pub tiles_allowed : (from to : ℕ) (pieces : List Piece) → AreTiles keep file from to pieces → AllByRecursion (IsAllowed keep) (chunks_in pieces)
@@ -124,13 +124,13 @@ module _ (keep : Bool) (file : List ℕ) where
 
   -- which hold the records of the pieces
   piece_records : (begin end : ℕ) (what : PieceKind) → IsPieceOf keep file begin end what → AreRecordsOf (chunk_in what) (records_of what)
-  piece_records begin end (Given records c) (none, to, found) =
-      let holds : Holds c records = subst (λ (x : ChunkValue). Holds x records) (sym found.1) (found_holds keep (chunk_at file begin) (Given records c) found) in
+  piece_records begin end (Records records c) (none, to, found) =
+      let holds : Holds c records = subst (λ (x : ChunkValue). Holds x records) (sym found.1) (found_holds keep (chunk_at file begin) (Records records c) found) in
       (records ∷ [], (holds, refl), sym (append-nil records))
   piece_records begin end (Kept c) (none, to, found) =
       let holds : Holds c [] = subst (λ (x : ChunkValue). Holds x []) (sym found.1) (found_holds keep (chunk_at file begin) (Kept c) found) in
       ([] ∷ [], (holds, refl), refl)
-  piece_records begin end LeftOut h = ([], refl, refl)
+  piece_records begin end SignatureOrPadding h = ([], refl, refl)
   piece_records begin end (Skipped w) h = ([], refl, refl)
 
   pub tiles_records : (from to : ℕ) (pieces : List Piece) → AreTiles keep file from to pieces → AreRecordsOf (chunks_in pieces) (records_in pieces)
@@ -142,7 +142,7 @@ module _ (keep : Bool) (file : List ℕ) where
   pub relaid_records : (from to : ℕ) (pieces : List Piece) → AreTiles keep file from to pieces
       → AreRecordsOf (signature ∷ chunks_in pieces) (records_in pieces)
   relaid_records from to pieces h =
-      let holds : Holds signature [] = found_holds keep signature LeftOut (inl ((IsSignature-one signature).1 refl)) in
+      let holds : Holds signature [] = found_holds keep signature SignatureOrPadding (inl ((IsSignature-one signature).1 refl)) in
       AreRecordsOf-append (signature ∷ []) (chunks_in pieces) [] (records_in pieces) ([] ∷ [], (holds, refl), refl)
       (tiles_records from to pieces h)
 

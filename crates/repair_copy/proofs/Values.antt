@@ -9,7 +9,7 @@ use Rattle.meta_chunk.specs.Files.{signature, signature_bytes, begin_of, laid_ea
 use Rattle.meta_chunk.specs.PaddingSizes.{padding}
 use Rattle.meta_chunk.proofs.Begins.{end-zero_padding}
 use Rattle.chunk_reader.specs.declared.reasons.Why.TheVariants as why
-use Rattle.damage_skip.specs.Pieces.{Given, LeftOut, Skipped, Piece}
+use Rattle.damage_skip.specs.Pieces.{Records, SignatureOrPadding, Skipped, Piece}
 use Rattle.repair_copy.specs.RepairPuts.{chunks_in}
 use Rattle.repair_copy.specs.RelaidFiles.{relaid}
 use Rattle.repair_copy.specs.CopiedChunks.{copied}
@@ -21,7 +21,7 @@ none_relaid = append-nil signature_bytes
 
 -- and so are two signatures, one behind the other
 signatures : List Piece
-signatures = record { begin = 0; end = 64; what = LeftOut } ∷ record { begin = 64; end = 104; what = LeftOut } ∷ []
+signatures = record { begin = 0; end = 64; what = SignatureOrPadding } ∷ record { begin = 64; end = 104; what = SignatureOrPadding } ∷ []
 
 signatures_relaid : relaid signatures ≡ signature_bytes
 unfolding laid_each signatures
@@ -34,10 +34,10 @@ large = record { kind = 0x72; num_records = 1; decoded_size = 30000; «data» = 
 -- the pieces of a file of four of these, where the header of the first has changed
 behind_two : List (List ℕ) → List Piece
 behind_two records =
-    record { begin = 0; end = 64; what = LeftOut }
+    record { begin = 0; end = 64; what = SignatureOrPadding }
     ∷ record { begin = 64; end = 60154; what = Skipped why.HeaderHash }
-    ∷ record { begin = 60154; end = 90223; what = Given records large }
-    ∷ record { begin = 90223; end = 120268; what = Given records large }
+    ∷ record { begin = 60154; end = 90223; what = Records records large }
+    ∷ record { begin = 90223; end = 120268; what = Records records large }
     ∷ []
 
 -- the last two are laid where the first two were
@@ -60,11 +60,11 @@ length_behind_two records = end-zero_padding (signature ∷ chunks_in (behind_tw
 -- where the data of the second alone has changed, the file is as long as that of three
 around_one : List (List ℕ) → List Piece
 around_one records =
-    record { begin = 0; end = 64; what = LeftOut }
-    ∷ record { begin = 64; end = 30109; what = Given records large }
+    record { begin = 0; end = 64; what = SignatureOrPadding }
+    ∷ record { begin = 64; end = 30109; what = Records records large }
     ∷ record { begin = 30109; end = 60154; what = Skipped why.DataHash }
-    ∷ record { begin = 60154; end = 90223; what = Given records large }
-    ∷ record { begin = 90223; end = 120268; what = Given records large }
+    ∷ record { begin = 60154; end = 90223; what = Records records large }
+    ∷ record { begin = 90223; end = 120268; what = Records records large }
     ∷ []
 
 end_around_one : (records : List (List ℕ)) → begin_of (signature ∷ chunks_in (around_one records)) 4 ≡ 90223
@@ -81,10 +81,10 @@ of_a = simple_chunk ((0x61 ∷ []) ∷ [])
 
 padded : List Piece
 padded =
-    record { begin = 0; end = 64; what = LeftOut }
-    ∷ record { begin = 64; end = 65536; what = LeftOut }
-    ∷ record { begin = 65536; end = 65604; what = Given ((0x61 ∷ []) ∷ []) of_a }
-    ∷ record { begin = 65604; end = 131072; what = LeftOut }
+    record { begin = 0; end = 64; what = SignatureOrPadding }
+    ∷ record { begin = 64; end = 65536; what = SignatureOrPadding }
+    ∷ record { begin = 65536; end = 65604; what = Records ((0x61 ∷ []) ∷ []) of_a }
+    ∷ record { begin = 65604; end = 131072; what = SignatureOrPadding }
     ∷ []
 
 end_of_padded : begin_of (signature ∷ chunks_in padded) 2 ≡ 108

@@ -1,5 +1,5 @@
 -- Files that are walked and copied, where their bytes may be shown.
-use Rattle.std.proofs.Common.{◌≡◌, ◌≢◌, ◌∙◌, ℕ, ◌-◌, ◌≤◌, Bool, true, false, Option, Some, None, Result, Ok, Err, IfSome, List, [], ◌∷◌, ◌++◌, length, refl, sym, subst, inr, arith}
+use Rattle.std.proofs.Common.{◌≡◌, ◌≢◌, ◌∙◌, ℕ, ◌-◌, ◌≤◌, Bool, true, false, Option, Some, None, Result, Ok, Err, IfSome, List, [], ◌∷◌, ◌++◌, length, refl, sym, ap, subst, inr, arith}
 use Rattle.std.specs.Prelude.{⊤}
 use Rattle.std.specs.List.{AllByRecursion}
 use Rattle.std.specs.Fn.{Shared, FnReturnsAt}
@@ -15,6 +15,9 @@ use Rattle.damage_skip.specs.Walks.{GoesOn, IsStop, IsStoppedAt}
 use Rattle.damage_skip.specs.declared.events.WalkEnd.{WalkEnd}
 use Rattle.damage_skip.specs.declared.events.WalkEnd.TheVariants as walk
 use Rattle.damage_skip.specs.declared.regions.Region.{Region}
+use Rattle.damage_skip.specs.Walkers.{IsJudging, test_of}
+use Rattle.damage_skip.specs.declared.policies.Policy.{Policy}
+use Rattle.damage_skip.specs.declared.walks.Walker.{Walker}
 use Rattle.damage_skip.proofs.Takings.{may_take_head}
 use Rattle.damage_skip.proofs.Tiles.{tiles_within}
 use Rattle.damage_skip.proofs.WalkedTo.{walked-further, walked-on}
@@ -22,7 +25,7 @@ use Rattle.repair_copy.specs.Walked.{EndsAt}
 use Rattle.repair_copy.specs.Copies.{HasCopied, HasBegun, HasCopiedFront, HasWalked}
 use Rattle.repair_copy.specs.CopyEnds.{EndsWith, CopiesWalk}
 use Rattle.repair_copy.specs.declared.copying.Copied.{Copied}
-use Rattle.repair_copy.specs.declared.copying.FailedSink.{FailedSink}
+use Rattle.repair_copy.specs.declared.repairs.RepairEnd.{RepairEnd}
 
 -- what holds of the same bytes
 same_told : (P : List ℕ → Type 0) (a b : Option (List ℕ)) → b ≡ a → IfSome b P → IfSome a P
@@ -31,6 +34,10 @@ same_told P a b same h = subst (λ (x : Option (List ℕ)). IfSome x P) same h
 any_told : (bytes : Option (List ℕ)) → IfSome bytes (λ file. ⊤)
 any_told None = tt
 any_told (Some file) = tt
+
+-- a walk that only judges has the same test
+pub judging-test : {F : Type 0} (before after : Walker F) → IsJudging before after → test_of after ≡ test_of before
+judging-test {F} before after is = ap (λ (p : Policy F). p.test) is.same_policy
 
 -- a last event is one
 some_last : (events : List Piece) (e : Piece) → events ++ e ∷ [] ≢ []
@@ -89,19 +96,19 @@ module _ {F : Type 0} (test : Shared F (Bor Region × Unit {0}) Bool) (f : F) wh
       }
 
     -- or that was cut off
-    pub cut_within : (s t : Copied) (before now_taken then : Taken) (e : Piece) (cut : FailedSink) (result : Result (Option WalkEnd) FailedSink) (taken : ℕ)
-        → result ≡ Err cut
+    pub cut_within : (s t : Copied) (before now_taken then : Taken) (e : Piece) (end : RepairEnd) (result : Result (Option WalkEnd) RepairEnd) (taken : ℕ)
+        → result ≡ Err end
         → IfSome bytes (HasWalked test f place s before now_taken)
         → IfSome now (λ file. GoesOn keep file place to (e ∷ [])) → AllByRecursion (IsAllowedRegion test f) (regions_in (e ∷ []))
-        → ((b : Taken) (events : List Piece) → HasCopied b now_taken s events → HasCopiedFront cut b then (events ++ e ∷ []))
+        → ((b : Taken) (events : List Piece) → HasCopied b now_taken s events → HasCopiedFront end b then (events ++ e ∷ []))
         → IfSome bytes (λ file. IsTakenFrom true file 0 to taken)
         → IfSome bytes (CopiesWalk test f result t before then taken)
-    cut_within s t before now_taken then e cut result taken is h on pass front account = both bytes h (goes_on (e ∷ []) on) account where
+    cut_within s t before now_taken then e end result taken is h on pass front account = both bytes h (goes_on (e ∷ []) on) account where
       both : (x : Option (List ℕ)) → IfSome x (HasWalked test f place s before now_taken) → IfSome x (λ file. GoesOn true file place to (e ∷ []))
           → IfSome x (λ file. IsTakenFrom true file 0 to taken) → IfSome x (CopiesWalk test f result t before then taken)
       both None h on account = tt
       both (Some file) h on account =
-          subst (λ (r : Result (Option WalkEnd) FailedSink). CopiesWalk test f r t before then taken file) (sym is) (record {
+          subst (λ (r : Result (Option WalkEnd) RepairEnd). CopiesWalk test f r t before then taken file) (sym is) (record {
             place = to;
             events = h.events ++ e ∷ [];
             walked = walked-on true (IsAllowedRegion test f) file place to h.events (e ∷ []) h.walked on pass;

@@ -2,8 +2,7 @@
 -- "File format". Own: which are kept.
 use Rattle.std.specs.Prelude.{Bool, not, ◌&&◌, ◌||◌, ◌==◌, List, filter}
 use Rattle.chunk_header.specs.Chunks.{ChunkValue}
-use Rattle.chunk_header.specs.SimpleChunks.{simple_kind}
-use Rattle.meta_chunk.specs.Kinds.{metadata_kind, transposed_kind}
+use Rattle.chunk_header.specs.Kinds.{metadata_kind, simple_kind, transposed_kind}
 use Rattle.meta_chunk.specs.Files.{is_unread}
 
 -- whether an intact chunk is copied: simple, metadata and transposed chunks are, of which those that are left unread only

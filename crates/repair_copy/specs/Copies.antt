@@ -1,11 +1,11 @@
 -- Inside. How far a damaged file is copied. Own.
-use Rattle.std.specs.Prelude.{◌≡◌, ◌≢◌, ℕ, Bool, true, false, ◌+◌, ◌^◌, ◌≤◌, ◌⊎◌, ⊤, Option, Result, Err, List, [], ◌∷◌, ◌++◌, length, if◌then◌else◌, OnOk}
+use Rattle.std.specs.Prelude.{◌≡◌, ◌≢◌, ℕ, Bool, true, false, ◌+◌, ◌^◌, ◌≤◌, ◌⊎◌, ⊤, Option, Result, Ok, Err, List, [], ◌∷◌, ◌++◌, length, if◌then◌else◌, OnOk}
 use Rattle.std.specs.List.{AllByRecursion}
 use Rattle.std.specs.Fn.{Shared}
 use denote.Ref.{Bor}
 use Rattle.record_io.specs.Calls.{OnlyCounts}
 use Rattle.record_io.specs.Outside.{Rose, Takes, TakesShort}
-use Rattle.record_io.specs.Puts.{Stream, Made, Notes, Put, Taken, puts_to, GoOut, BreaksOff}
+use Rattle.record_io.specs.Puts.{Made, Notes, Put, Taken, puts_to, GoOut, BreaksOff}
 use Rattle.record_io.specs.Buffers.{GoOutOrAreHeld}
 use Rattle.chunk_header.specs.Views.{HasRightHash, value_of_chunk}
 use Rattle.chunk_header.specs.declared.Chunk.{Chunk}
@@ -20,8 +20,8 @@ use Rattle.damage_skip.specs.declared.events.Event.TheVariants as event
 use Rattle.damage_skip.specs.declared.regions.Region.{Region}
 use Rattle.repair_copy.specs.RepairPuts.{chunks_in, puts_from, repair_puts}
 use Rattle.repair_copy.specs.declared.copying.Copied.{Copied}
-use Rattle.repair_copy.specs.declared.copying.FailedSink.{FailedSink}
-use Rattle.repair_copy.specs.declared.copying.FailedSink.TheVariants as cut
+use Rattle.repair_copy.specs.declared.repairs.RepairEnd.{RepairEnd}
+use Rattle.repair_copy.specs.declared.repairs.RepairEnd.TheVariants as end
 
 -- a chunk of which it is said whether it is left unread has the hash of its data, and ends within reach where it is laid at a
 -- place
@@ -36,10 +36,11 @@ FitsAt place (event.Records begin records chunk) = IsFit place chunk false
 FitsAt place (event.Kept begin chunk unread) = IsFit place chunk unread
 FitsAt place (event.Skipped region) = ⊤
 
--- the stream whose sink failed
-abbrev pub stream_of : FailedSink → Stream
-stream_of cut.Made = Made
-stream_of cut.Notes = Notes
+-- what is put broke off at the sink that failed
+abbrev pub BreaksOffBy : RepairEnd → (part all : List Put) → Type 0
+BreaksOffBy end.Made part all = BreaksOff Made part all
+BreaksOffBy end.Notes part all = BreaksOff Notes part all
+BreaksOffBy other part all = ⊥
 
 -- where the next chunk is laid: the signature comes before the first
 abbrev pub next_chunk_place : Copied → ℕ
@@ -63,25 +64,39 @@ pub record Copies (before after : Taken) (old new : Copied) (event : Piece) : Ty
   pub begun : new.begun ≡ old.begun
   pub regions : new.regions ≡ old.regions + length (regions_in (event ∷ []))
 
--- the copying of an event was cut off
-pub record CopiesFront (cut : FailedSink) (before after : Taken) (old : MadeFileValue) (event : Piece) : Type 0 where
+-- a sink cut the copying of an event off
+pub record CopiesFront (end : RepairEnd) (before after : Taken) (old : MadeFileValue) (event : Piece) : Type 0 where
   pub part : List Put
   pub went : GoOut before after part
-  pub broken : BreaksOff (stream_of cut) part (puts_behind old event)
+  pub broken : BreaksOffBy end part (puts_behind old event)
 
--- what notes took of a line where the work was cut off: a front and not all where they failed, and else nothing
-abbrev pub TakesLine : FailedSink → Option (List ℕ) → Option (List ℕ) → List ℕ → Type 0
-TakesLine cut.Made before after line = Takes before after []
-TakesLine cut.Notes before after line = TakesShort before after line
+-- whichever came of it
+abbrev pub CopiesTo : {X : Type 0} → Result X RepairEnd → (before after : Taken) → (old new : Copied) → Piece → Type 0
+CopiesTo (Ok _) before after old new event = Copies before after old new event
+CopiesTo (Err end) before after old new event = CopiesFront end before after old.file event
+
+-- what notes took of a line where a sink cut the work off: a front and not all where they failed, and else nothing
+abbrev pub TakesLine : RepairEnd → Option (List ℕ) → Option (List ℕ) → List ℕ → Type 0
+TakesLine end.Made before after line = Takes before after []
+TakesLine end.Notes before after line = TakesShort before after line
+TakesLine other before after line = ⊥
 
 -- the line of an event went to notes, all of it, or where the work was cut off what they took of it; the made file and notes only
 -- count their faults
 pub record TellsLine {M N K L X : Type 0} (made_lent : M → K) (made_faults : M → ℕ) (notes_taken : N → Option (List ℕ)) (notes_lent : N → L)
-    (notes_faults : N → ℕ) (result : Result X FailedSink) (line : List ℕ) (made made_then : M) (notes notes_then : N) : Type 0 where
+    (notes_faults : N → ℕ) (result : Result X RepairEnd) (line : List ℕ) (made made_then : M) (notes notes_then : N) : Type 0 where
   pub whole : OnOk result (Takes (notes_taken notes) (notes_taken notes_then) line)
-  pub front : (failed : FailedSink) → result ≡ Err failed → TakesLine failed (notes_taken notes) (notes_taken notes_then) line
-  pub made_counts : OnlyCounts made_lent made_faults (result ≡ Err cut.Made) made made_then
-  pub notes_counts : OnlyCounts notes_lent notes_faults (result ≡ Err cut.Notes) notes notes_then
+  pub front : (end : RepairEnd) → result ≡ Err end → TakesLine end (notes_taken notes) (notes_taken notes_then) line
+  pub made_counts : OnlyCounts made_lent made_faults (result ≡ Err end.Made) made made_then
+  pub notes_counts : OnlyCounts notes_lent notes_faults (result ≡ Err end.Notes) notes notes_then
+
+-- an event was copied: the made file goes on behind its chunk, and it is counted if it is a region; else nothing was told
+pub record IsPast {N : Type 0} (event : Piece) (old new : Copied) (notes notes_then : N) : Type 0 where
+  pub begun : new.begun ≡ true
+  pub going : new.file.spent ≡ false
+  pub place : new.file.place ≡ end_of_chunks (next_chunk_place old) (chunks_in (event ∷ []))
+  pub regions : new.regions ≡ old.regions + length (regions_in (event ∷ []))
+  pub quiet : new.regions ≡ old.regions → notes_then ≡ notes
 
 -- a file was begun, and events from the front of another were copied into it
 pub record HasBegun (before after : Taken) (copied : Copied) (events : List Piece) : Type 0 where
@@ -110,10 +125,20 @@ pub record HasPutAll (before after : Taken) (copied : Copied) (events : List Pie
   pub regions : copied.regions ≡ length (regions_in events)
 
 -- what is put of these events broke off
-pub record HasCopiedFront (cut : FailedSink) (before after : Taken) (events : List Piece) : Type 0 where
+pub record HasCopiedFront (end : RepairEnd) (before after : Taken) (events : List Piece) : Type 0 where
   pub part : List Put
   pub went : GoOut before after part
-  pub broken : BreaksOff (stream_of cut) part (repair_puts events)
+  pub broken : BreaksOffBy end part (repair_puts events)
+
+-- these events were copied, or a sink cut that off
+abbrev pub HasCopiedTo : {X : Type 0} → Result X RepairEnd → (before after : Taken) → Copied → List Piece → Type 0
+HasCopiedTo (Ok _) before after copied events = HasBegun before after copied events
+HasCopiedTo (Err end) before after copied events = HasCopiedFront end before after events
+
+-- all of them went out, or the made file cut that off
+abbrev pub HasPutTo : {X E : Type 0} → Result X E → (before after : Taken) → Copied → List Piece → Type 0
+HasPutTo (Ok _) before after copied events = HasPutAll before after copied events
+HasPutTo (Err _) before after copied events = HasCopiedFront end.Made before after events
 
 -- of what is put of events all went out, or a front where the made file, of these counts of faults, failed; and of no events
 -- nothing

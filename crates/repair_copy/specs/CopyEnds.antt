@@ -1,5 +1,5 @@
 -- Inside. How the copying of a damaged file ends. Own.
-use Rattle.std.specs.Prelude.{◌≡◌, ℕ, ◌+◌, ◌*◌, ◌^◌, ◌≤◌, Bool, true, false, ⊤, Option, Some, None, Result, Ok, Err, IfOk, List, ◌∷◌, length}
+use Rattle.std.specs.Prelude.{◌≡◌, ℕ, ◌+◌, ◌*◌, ◌≤◌, Bool, true, false, ⊤, Option, Some, None, Result, Ok, Err, IfOk, List, ◌∷◌, length}
 use Rattle.std.specs.Fn.{Shared}
 use denote.Ref.{Bor}
 use Rattle.record_io.specs.Puts.{Put, Taken, GoOut}
@@ -16,9 +16,8 @@ use Rattle.damage_skip.specs.declared.regions.Region.{Region}
 use Rattle.repair_copy.specs.RepairPuts.{chunks_in}
 use Rattle.repair_copy.specs.Walked.{EndsAt}
 use Rattle.repair_copy.specs.Copies.{HasCopied, HasCopiedFront}
-use Rattle.repair_copy.specs.Repairs.{WentOut}
+use Rattle.repair_copy.specs.Repairs.{Skips, WentOut}
 use Rattle.repair_copy.specs.declared.copying.Copied.{Copied}
-use Rattle.repair_copy.specs.declared.copying.FailedSink.{FailedSink}
 use Rattle.repair_copy.specs.declared.repairs.Repaired.{Repaired}
 use Rattle.repair_copy.specs.declared.repairs.RepairEnd.{RepairEnd}
 use Rattle.repair_copy.specs.declared.repairs.RepairEnd.TheVariants as end
@@ -32,13 +31,13 @@ EndsWith test f (Some walk.Store) file place = ⊤
 EndsWith test f (Some walk.Memory) file place = NoneOf (Applies file place) loading_reasons
 
 -- events up to a place were copied, where the walk ended, or the copying of them was cut off
-abbrev pub CopiesUpTo : {F : Type 0} → Shared F (Bor Region × Unit {0}) Bool → F → Result (Option WalkEnd) FailedSink → Copied → (before after : Taken)
+abbrev pub CopiesUpTo : {F : Type 0} → Shared F (Bor Region × Unit {0}) Bool → F → Result (Option WalkEnd) RepairEnd → Copied → (before after : Taken)
     → List ℕ → ℕ → List Piece → Type 0
 CopiesUpTo test f (Ok ended) copied before after file place events = HasCopied before after copied events × EndsWith test f ended file place
-CopiesUpTo test f (Err cut) copied before after file place events = HasCopiedFront cut before after events
+CopiesUpTo test f (Err end) copied before after file place events = HasCopiedFront end before after events
 
 -- the events of a file's walk were copied, and the pieces up to there and the one there account for what was taken of the file
-pub record CopiesWalk {F : Type 0} (test : Shared F (Bor Region × Unit {0}) Bool) (f : F) (result : Result (Option WalkEnd) FailedSink)
+pub record CopiesWalk {F : Type 0} (test : Shared F (Bor Region × Unit {0}) Bool) (f : F) (result : Result (Option WalkEnd) RepairEnd)
     (copied : Copied) (before after : Taken) (taken : ℕ) (file : List ℕ) : Type 0 where
   pub place : ℕ
   pub events : List Piece
@@ -46,10 +45,11 @@ pub record CopiesWalk {F : Type 0} (test : Shared F (Bor Region × Unit {0}) Boo
   pub copies : CopiesUpTo test f result copied before after file place events
   pub account : IsTakenUpTo true file 0 place taken
 
--- a file told so many bytes, no more than are read
-pub record TellsWithin (telling : Option ℕ) (size : ℕ) : Type 0 where
-  pub told : telling ≡ Some size
-  pub in_reach : size ≤ 2 ^ 60
+-- the regions that were passed over where a sink cut the copying off
+abbrev pub SkipsUpTo : {F : Type 0} → Shared F (Bor Region × Unit {0}) Bool → F → RepairEnd → (before after : Option (List ℕ)) → Type 0
+SkipsUpTo test f end.Made before after = Skips test f (Err end.Made) before after
+SkipsUpTo test f end.Notes before after = Skips test f (Err end.Notes) before after
+SkipsUpTo test f other before after = ⊥
 
 -- what was copied of a file of so many bytes is nothing before the first event and has no more than twice as many behind the
 -- signature, no more regions than bytes, and told of none where there are none

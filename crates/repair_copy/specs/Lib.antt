@@ -5,7 +5,6 @@ pub mod Copies
 pub mod Repairs
 pub mod CopyEnds
 pub mod DamagedRepairs
-pub mod ShortRepairs
 pub mod FrontRepairs
 pub mod KnownRepairs
 pub mod RelaidFiles

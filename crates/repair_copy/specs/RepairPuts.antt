@@ -5,12 +5,12 @@ use Rattle.std.specs.List.{flat_map}
 use Rattle.record_io.specs.Puts.{Put, Made, Notes, puts_to}
 use Rattle.chunk_header.specs.Chunks.{ChunkValue}
 use Rattle.meta_chunk.specs.Files.{signature, end_of_chunks, laid_each}
-use Rattle.damage_skip.specs.Pieces.{PieceKind, Piece, Given, Kept}
+use Rattle.damage_skip.specs.Pieces.{PieceKind, Piece, Records, Kept}
 use Rattle.damage_skip.specs.Regions.{region_of, told_text}
 
 -- the chunk of a piece that gives records or is kept; other pieces have none
 abbrev pub chunk_in : PieceKind → List ChunkValue
-chunk_in (Given records chunk) = chunk ∷ []
+chunk_in (Records records chunk) = chunk ∷ []
 chunk_in (Kept chunk) = chunk ∷ []
 chunk_in other = []
 

@@ -11,12 +11,11 @@ use Rattle.damage_skip.specs.Pieces.{Piece}
 use Rattle.damage_skip.specs.Policies.{IsAllowedRegion, IsRefusedRegion}
 use Rattle.damage_skip.specs.Regions.{regions_in, skipped_text, IsWalkedTo}
 use Rattle.damage_skip.specs.Steps.{IsOnward}
+use Rattle.damage_skip.specs.Takings.{IsTakenUpTo}
 use Rattle.damage_skip.specs.declared.regions.Region.{Region}
 use Rattle.repair_copy.specs.RepairPuts.{chunks_in, repair_puts}
 use Rattle.repair_copy.specs.Copies.{WentOutAtFault}
 use Rattle.repair_copy.specs.Walked.{EndsAt}
-use Rattle.repair_copy.specs.declared.copying.FailedSink.{FailedSink}
-use Rattle.repair_copy.specs.declared.copying.FailedSink.TheVariants as cut
 use Rattle.repair_copy.specs.declared.repairs.Repaired.{Repaired}
 use Rattle.repair_copy.specs.declared.repairs.RepairEnd.{RepairEnd}
 use Rattle.repair_copy.specs.declared.repairs.RepairEnd.TheVariants as end
@@ -44,9 +43,10 @@ abbrev pub TakesNotes : Result Repaired RepairEnd → Option (List ℕ) → Opti
 TakesNotes (Err end.Notes) before after text = TakesShort before after text
 TakesNotes other before after text = Takes before after text
 
--- of a file these events were copied: what was answered, and what made, of these counts of faults, and notes took
+-- of a file these events were copied: what was answered, and what made, of these counts of faults, and notes took. The pieces up to
+-- there and the one there account for what was taken of the file
 pub record Repairs {F : Type 0} (test : Shared F (Bor Region × Unit {0}) Bool) (f : F) (result : Result Repaired RepairEnd)
-    (faults faults_then : ℕ) (before after : Taken) (file : List ℕ) : Type 0 where
+    (faults faults_then : ℕ) (before after : Taken) (taken : ℕ) (file : List ℕ) : Type 0 where
   pub place : ℕ
   pub events : List Piece
   pub walked : IsWalkedTo true (IsAllowedRegion test f) file place events
@@ -54,6 +54,7 @@ pub record Repairs {F : Type 0} (test : Shared F (Bor Region × Unit {0}) Bool) 
   pub part : List Put
   pub went : WentOut result faults faults_then events part
   pub took : GoOut before after part
+  pub account : IsTakenUpTo true file 0 place taken
 
 -- what is answered where these regions were passed over
 abbrev pub AnswersSkipped : {F : Type 0} → Shared F (Bor Region × Unit {0}) Bool → F → Result Repaired RepairEnd → List Region → Type 0
@@ -81,8 +82,3 @@ pub record IsRepairWithin (size : ℕ) (repaired : Repaired) : Type 0 where
 pub record AnswersWithin (size : ℕ) (result : Result Repaired RepairEnd) : Type 0 where
   pub done : IfOk result (IsRepairWithin size)
   pub stopped : (region : Region) → result ≡ Err (end.Stopped region) → IsOnward size region.begin region.end
-
--- why a repair ended that was cut off
-abbrev pub end_of_failed : FailedSink → RepairEnd
-end_of_failed cut.Made = end.Made
-end_of_failed cut.Notes = end.Notes

@@ -1,14 +1,13 @@
-ghost use Rattle.std.specs.Prelude.{◌≡◌, ℕ, ◌+◌, ◌^◌, ◌<◌, true, false, Err, Option, List, [], ◌∷◌, ◌++◌, length, OnOk, OnErr, IsErr};
+ghost use Rattle.std.specs.Prelude.{◌≡◌, ℕ, ◌^◌, ◌<◌, false, Option, List, [], ◌∷◌, ◌++◌, OnOk, OnErr, IsErr};
 ghost use Rattle.record_io.specs.Puts.{Taken, taken_by};
 ghost use Rattle.record_io.specs.Calls.{OnlyCounts};
-ghost use Rattle.meta_chunk.specs.Files.{signature, end_of_chunks};
+ghost use Rattle.meta_chunk.specs.Files.{signature};
 ghost use Rattle.record_writer.specs.MadeFiles.{LaysFront, nothing_made};
 ghost use Rattle.damage_skip.specs.Pieces.{Piece};
-ghost use Rattle.damage_skip.specs.Regions.{regions_in};
 ghost use Rattle.damage_skip.specs.Walks.{piece_of, event_text};
-ghost use Rattle.repair_copy.specs.RepairPuts.{chunks_in};
-ghost use Rattle.repair_copy.specs.Copies.{FitsAt, next_chunk_place, Begins, Copies, CopiesFront, TellsLine, HasCopied, HasBegun, HasPutAll, HasCopiedFront, HasPutAtFault};
+ghost use Rattle.repair_copy.specs.Copies.{FitsAt, next_chunk_place, Begins, CopiesTo, TellsLine, IsPast, HasCopied, HasCopiedTo, HasPutTo, HasPutAtFault};
 
+use crate::repairs::RepairEnd;
 use damage_skip::{Event, Region, region_line};
 use record_io::{Failed, Sink};
 use record_writer::MadeFile;
@@ -22,23 +21,6 @@ pub(crate) struct Copied {
     pub begun: bool,
     /// How many regions were passed over.
     pub regions: u64,
-}
-
-/// The sink that failed, which cut the work off.
-#[derive(Clone, Copy, Debug, PartialEq, Eq)]
-pub(crate) enum FailedSink {
-    Made,
-    Notes,
-}
-
-impl From<Failed> for FailedSink {
-    ghost use Rattle.repair_copy.specs.declared.copying.FailedSink.TheVariants.{Made};
-
-    ghost from_gives = { λ _ cut. cut ≡ Made };
-
-    fn from(_: Failed) -> FailedSink {
-        FailedSink::Made
-    }
 }
 
 impl Copied {
@@ -61,24 +43,18 @@ impl Copied {
         event: &Event,
         made: &mut M,
         notes: &mut E,
-    ) -> Result<(), FailedSink>
+    ) -> Result<(), RepairEnd>
         requires unbegun { self.old.begun ≡ false → self.old.file ≡ nothing_made }
         requires going { self.old.file.spent ≡ false }
         requires fits { FitsAt (next_chunk_place self.old) event.now }
         requires few { self.old.regions < 2 ^ 63 }
-        ensures whole { OnOk result ((before : Taken) (events : List Piece)
+        ensures copies { (before : Taken) (events : List Piece)
             → HasCopied before (taken_by (M.taken made.old) None (E.taken notes.old)) self.old events
-            → HasBegun before (taken_by (M.taken made.new) None (E.taken notes.new)) self.new (events ++ piece_of event.now ∷ [])) }
-        ensures front { (cut : FailedSink) → result ≡ Err cut → (before : Taken) (events : List Piece)
-            → HasCopied before (taken_by (M.taken made.old) None (E.taken notes.old)) self.old events
-            → HasCopiedFront cut before (taken_by (M.taken made.new) None (E.taken notes.new)) (events ++ piece_of event.now ∷ []) }
+            → HasCopiedTo result before (taken_by (M.taken made.new) None (E.taken notes.new)) self.new
+            (events ++ piece_of event.now ∷ []) }
         ensures tells { TellsLine M.lent M.faults E.taken E.lent E.faults result (event_text event.now)
             made.old made.new notes.old notes.new }
-        ensures begun { OnOk result (self.new.begun ≡ true) }
-        ensures going { OnOk result (self.new.file.spent ≡ false) }
-        ensures place { OnOk result (self.new.file.place ≡ end_of_chunks (next_chunk_place self.old) (chunks_in (piece_of event.now ∷ []))) }
-        ensures regions { OnOk result (self.new.regions ≡ self.old.regions + length (regions_in (piece_of event.now ∷ []))) }
-        ensures quiet { OnOk result (self.new.regions ≡ self.old.regions → notes.new ≡ notes.old) }
+        ensures past { OnOk result (IsPast (piece_of event.now) self.old self.new notes.old notes.new) }
     {
         self.begin(made)?;
         self.put_event(event, made, notes)
@@ -87,12 +63,9 @@ impl Copied {
     /// Puts out what is held of a file that was copied whole, or up to a region that stops the work. Nothing is held then.
     pub fn finish<M: Sink>(&mut self, made: &mut M) -> Result<(), Failed>
         requires unbegun { self.old.begun ≡ false → self.old.file ≡ nothing_made }
-        ensures whole { OnOk result ((before : Taken) (notes : Option (List ℕ)) (events : List Piece)
+        ensures puts { (before : Taken) (notes : Option (List ℕ)) (events : List Piece)
             → HasCopied before (taken_by (M.taken made.old) None notes) self.old events
-            → HasPutAll before (taken_by (M.taken made.new) None notes) self.new events) }
-        ensures front { OnErr result ((before : Taken) (notes : Option (List ℕ)) (events : List Piece)
-            → HasCopied before (taken_by (M.taken made.old) None notes) self.old events
-            → HasCopiedFront FailedSink.Made before (taken_by (M.taken made.new) None notes) events) }
+            → HasPutTo result before (taken_by (M.taken made.new) None notes) self.new events }
         ensures place { OnOk result (self.new.file.place ≡ next_chunk_place self.old) }
         ensures regions { OnOk result (self.new.regions ≡ self.old.regions) }
         ensures made { OnlyCounts M.lent M.faults (IsErr result) made.old made.new }
@@ -133,14 +106,12 @@ impl Copied {
         event: &Event,
         made: &mut M,
         notes: &mut E,
-    ) -> Result<(), FailedSink>
+    ) -> Result<(), RepairEnd>
         requires going { self.old.file.spent ≡ false }
         requires fits { FitsAt self.old.file.place event.now }
         requires few { self.old.regions < 2 ^ 63 }
-        ensures whole { OnOk result (Copies (taken_by (M.taken made.old) None (E.taken notes.old))
-            (taken_by (M.taken made.new) None (E.taken notes.new)) self.old self.new (piece_of event.now)) }
-        ensures front { (cut : FailedSink) → result ≡ Err cut → CopiesFront cut (taken_by (M.taken made.old) None (E.taken notes.old))
-            (taken_by (M.taken made.new) None (E.taken notes.new)) self.old.file (piece_of event.now) }
+        ensures copies { CopiesTo result (taken_by (M.taken made.old) None (E.taken notes.old))
+            (taken_by (M.taken made.new) None (E.taken notes.new)) self.old self.new (piece_of event.now) }
         ensures tells { TellsLine M.lent M.faults E.taken E.lent E.faults result (event_text event.now)
             made.old made.new notes.old notes.new }
         ensures quiet { OnOk result (self.new.regions ≡ self.old.regions → notes.new ≡ notes.old) }
@@ -159,13 +130,11 @@ impl Copied {
         region: &Region,
         made: &mut M,
         notes: &mut E,
-    ) -> Result<(), FailedSink>
+    ) -> Result<(), RepairEnd>
         requires going { self.old.file.spent ≡ false }
         requires few { self.old.regions < 2 ^ 63 }
-        ensures whole { OnOk result (Copies (taken_by (M.taken made.old) None (E.taken notes.old))
-            (taken_by (M.taken made.new) None (E.taken notes.new)) self.old self.new (piece_of (Event.Skipped region.now))) }
-        ensures front { (cut : FailedSink) → result ≡ Err cut → CopiesFront cut (taken_by (M.taken made.old) None (E.taken notes.old))
-            (taken_by (M.taken made.new) None (E.taken notes.new)) self.old.file (piece_of (Event.Skipped region.now)) }
+        ensures copies { CopiesTo result (taken_by (M.taken made.old) None (E.taken notes.old))
+            (taken_by (M.taken made.new) None (E.taken notes.new)) self.old self.new (piece_of (Event.Skipped region.now)) }
         ensures tells { TellsLine M.lent M.faults E.taken E.lent E.faults result (event_text (Event.Skipped region.now))
             made.old made.new notes.old notes.new }
     {
@@ -175,7 +144,7 @@ impl Copied {
                 self.regions += 1;
                 Ok(())
             }
-            Err(Failed) => Err(FailedSink::Notes),
+            Err(Failed) => Err(RepairEnd::Notes),
         }
     }
 }

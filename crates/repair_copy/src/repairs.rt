@@ -1,21 +1,19 @@
-ghost use Rattle.std.specs.Prelude.{◌≡◌, ◌+◌, ◌-◌, ◌*◌, ◌≤◌, ◌⊎◌, ℕ, true, false, Option, Some, None, Ok, Err, IfOk, OnOk, IfSome, List};
+ghost use Rattle.std.specs.Prelude.{◌≡◌, ◌+◌, ◌-◌, ◌*◌, ◌≤◌, ℕ, true, false, Option, Some, None, Ok, Err, IfOk, OnOk, IfSome, List};
 ghost use Rattle.record_io.specs.Puts.{Taken, taken_by};
-ghost use Rattle.record_io.specs.Calls.{OnlyAsks, OnlyCounts};
+ghost use Rattle.record_io.specs.Calls.{HasSize, OnlyAsks, OnlyCounts};
 ghost use Rattle.record_writer.specs.MadeFiles.{nothing_made};
 ghost use Rattle.damage_skip.specs.Pieces.{Piece};
 ghost use Rattle.damage_skip.specs.Policies.{IsTest, IsAllowedRegion, IsRefusedRegion};
 ghost use Rattle.damage_skip.specs.Steps.{IsOnward};
-ghost use Rattle.damage_skip.specs.Takings.{IsTakenByWalk};
 ghost use Rattle.damage_skip.specs.declared.regions.Region.{Region};
 ghost use Rattle.repair_copy.specs.Copies.{HasCopied, HasSkipped};
-ghost use Rattle.repair_copy.specs.CopyEnds.{AnswersWalk, CopiesWalk, HasPutOut, IsCopyWithin, TellsWithin};
+ghost use Rattle.repair_copy.specs.CopyEnds.{AnswersWalk, CopiesWalk, HasPutOut, IsCopyWithin, SkipsUpTo};
 ghost use Rattle.repair_copy.specs.KnownRepairs.{RepairsKnown};
-ghost use Rattle.repair_copy.specs.Repairs.{AnswersWithin, IsRepairWithin, Skips, Repairs, end_of_failed};
-ghost use Rattle.repair_copy.specs.ShortRepairs.{RepairsShort};
+ghost use Rattle.repair_copy.specs.Repairs.{AnswersWithin, IsRepairWithin, Skips, Repairs};
 
-use crate::copying::{Copied, FailedSink};
+use crate::copying::Copied;
 use damage_skip::{Policy, Region, WalkEnd, Walker};
-use record_io::{Sink, Store, Totals};
+use record_io::{Failed, Sink, Store, Totals};
 use std::alloc::Global;
 
 /// What a repair made and passed over. Own.
@@ -42,17 +40,13 @@ pub enum RepairEnd {
     Memory,
 }
 
-impl From<FailedSink> for RepairEnd {
-    ghost use Rattle.std.specs.Prelude.{◌≡◌};
-    ghost use Rattle.repair_copy.specs.Repairs.{end_of_failed};
+impl From<Failed> for RepairEnd {
+    ghost use Rattle.repair_copy.specs.declared.repairs.RepairEnd.TheVariants.{Made};
 
-    ghost from_gives = { λ cut end. end ≡ end_of_failed cut };
+    ghost from_gives = { λ _ end. end ≡ Made };
 
-    fn from(cut: FailedSink) -> RepairEnd {
-        match cut {
-            FailedSink::Made => RepairEnd::Made,
-            FailedSink::Notes => RepairEnd::Notes,
-        }
+    fn from(_: Failed) -> RepairEnd {
+        RepairEnd::Made
     }
 }
 
@@ -86,17 +80,13 @@ pub fn repair<S: Store, F: Fn(&Region) -> bool + Drop, M: Sink, E: Sink>(
     made: &mut M,
     notes: &mut E,
 ) -> Result<Repaired, RepairEnd>
-    requires file { TellsWithin (S.told store.old) size }
+    requires sized { HasSize (S.told store.old) size }
     requires test { IsTest F.Fn policy.test }
     ensures repairs { IfSome (S.bytes store.old) (Repairs F.Fn policy.test result (M.faults made.old) (M.faults made.new)
-        (taken_by (M.taken made.old) None (E.taken notes.old)) (taken_by (M.taken made.new) None (E.taken notes.new))) }
+        (taken_by (M.taken made.old) None (E.taken notes.old)) (taken_by (M.taken made.new) None (E.taken notes.new))
+        (S.handed store.new - S.handed store.old)) }
     ensures known { IfSome (S.bytes store.old) (RepairsKnown F.Fn policy.test result (M.faults made.old) (M.faults made.new)
         (taken_by (M.taken made.old) None (E.taken notes.old)) (taken_by (M.taken made.new) None (E.taken notes.new))) }
-    ensures cut_short { (result ≡ Err RepairEnd.Store) ⊎ (result ≡ Err RepairEnd.Memory) → IfSome (S.bytes store.old)
-        (RepairsShort F.Fn policy.test (M.faults made.old) (M.faults made.new) (taken_by (M.taken made.old) None (E.taken notes.old))
-        (taken_by (M.taken made.new) None (E.taken notes.new)) (S.handed store.new - S.handed store.old)) }
-    ensures takes { IfSome (S.bytes store.old) (λ file.
-        IsTakenByWalk true (IsAllowedRegion F.Fn policy.test) file (S.handed store.new - S.handed store.old)) }
     ensures skips { Skips F.Fn policy.test result (E.taken notes.old) (E.taken notes.new) }
     ensures quiet { IfOk result (λ repaired. repaired.regions ≡ 0 → notes.new ≡ notes.old) }
     ensures bounds { AnswersWithin size result }
@@ -118,24 +108,24 @@ fn copy_walk<S: Store, F: Fn(&Region) -> bool + Drop, M: Sink, E: Sink>(
     copied: &mut Copied,
     made: &mut M,
     notes: &mut E,
-) -> Result<Option<WalkEnd>, FailedSink>
-    requires file { TellsWithin (S.told store.old) size }
+) -> Result<Option<WalkEnd>, RepairEnd>
+    requires sized { HasSize (S.told store.old) size }
     requires test { IsTest F.Fn policy.test }
     requires none_copied { (copied.old.file ≡ nothing_made) × (copied.old.begun ≡ false) × (copied.old.regions ≡ 0) }
     ensures copies { IfSome (S.bytes store.old) (CopiesWalk F.Fn policy.test result copied.new
         (taken_by (M.taken made.old) None (E.taken notes.old)) (taken_by (M.taken made.new) None (E.taken notes.new))
         (S.handed store.new - S.handed store.old)) }
     ensures skipped { OnOk result (HasSkipped F.Fn policy.test copied.new.regions (E.taken notes.old) (E.taken notes.new)) }
-    ensures skips { (cut : FailedSink) → result ≡ Err cut
-        → Skips F.Fn policy.test (Err (end_of_failed cut)) (E.taken notes.old) (E.taken notes.new) }
+    ensures skips { (end : RepairEnd) → result ≡ Err end
+        → SkipsUpTo F.Fn policy.test end (E.taken notes.old) (E.taken notes.new) }
     ensures stop { (region : Region) → result ≡ Ok (Some (WalkEnd.Stopped region))
         → IsOnward size region.begin region.end × IsRefusedRegion F.Fn policy.test region }
     ensures within { OnOk result (IsCopyWithin size copied.new notes.old notes.new) }
     ensures store { OnlyAsks S.bytes S.told S.name S.faults (result ≡ Ok (Some WalkEnd.Store)) store.old store.new }
-    ensures made { OnlyCounts M.lent M.faults (result ≡ Err FailedSink.Made) made.old made.new }
-    ensures notes { OnlyCounts E.lent E.faults (result ≡ Err FailedSink.Notes) notes.old notes.new }
+    ensures made { OnlyCounts M.lent M.faults (result ≡ Err RepairEnd.Made) made.old made.new }
+    ensures notes { OnlyCounts E.lent E.faults (result ≡ Err RepairEnd.Notes) notes.old notes.new }
 {
-    let mut walker = Walker::new(size, true, policy);
+    let mut walker = Walker::new(size, true, policy).judging();
     loop {
         match walker.next(alloc, store) {
             Ok(Some(event)) => copied.put(&event, made, notes)?,
@@ -162,18 +152,14 @@ fn end_repair<M: Sink>(
 {
     match ended {
         None => {
-            if copied.finish(made).is_err() {
-                return Err(RepairEnd::Made);
-            }
+            copied.finish(made)?;
             Ok(Repaired {
                 totals: copied.file.totals(),
                 regions: copied.regions,
             })
         }
         Some(WalkEnd::Stopped(region)) => {
-            if copied.finish(made).is_err() {
-                return Err(RepairEnd::Made);
-            }
+            copied.finish(made)?;
             Err(RepairEnd::Stopped(region))
         }
         Some(WalkEnd::Store) => {

@@ -26,7 +26,7 @@ loop-block-preserved g c =
       from_place = omega (arith, kept.from_place);
       near = omega (arith, c.loop-block-test.true);
       none = stand-more _ _ c.args.from c.loop-block.block c.in_ok-header.field-0 kept.asks.same_bytes kept.at_block (cc) kept.none given.found;
-      handed = omega (arith, kept.handed, given.handed, kept.from_place, kept.at_block);
+      handed = omega (arith, kept.handed, given.store.handed, kept.from_place, kept.at_block);
       asks = search rules;
     }
 
@@ -45,13 +45,13 @@ pub returns-in_err-header-clause-looks : goal.returns-in_err-header-clause-looks
 returns-in_err-header-clause-looks g c =
     let kept = c.loop-block.invariant in
     stand-looks _ c.args.size c.args.from c.loop-block.block _ _ _ kept.at_block kept.from_place c.loop-block-test.true kept.none kept.handed
-    c.sane_header_at.ensures.handed
+    c.sane_header_at.ensures.store.handed
 
 pub returns-in-Some-clause-looks : goal.returns-in-Some-clause-looks
 returns-in-Some-clause-looks g c =
     let kept = c.loop-block.invariant in
     stand-looks _ c.args.size c.args.from c.loop-block.block _ _ _ kept.at_block kept.from_place c.loop-block-test.true kept.none kept.handed
-    c.sane_header_at.ensures.handed
+    c.sane_header_at.ensures.store.handed
 
 pub returns-clause-looks : goal.returns-clause-looks
 returns-clause-looks g c =

@@ -13,17 +13,18 @@ use Rattle.damage_skip.specs.Walks.{piece_of, IsEventIn, IsAllowedEvent, IsRefus
 use Rattle.damage_skip.specs.declared.events.WalkEnd.TheVariants as walk
 use Rattle.damage_skip.specs.declared.regions.Region.{Region}
 use Rattle.damage_skip.proofs.RegionsIn.{one_region}
+use Rattle.damage_skip.proofs.WalkFronts.{front-judging, front-stands}
 use Rattle.repair_copy.specs.Walked.{EndsAt}
 use Rattle.repair_copy.specs.Copies.{next_chunk_place, HasSkipped, HasWalked}
 use Rattle.repair_copy.proofs.CopySteps.{fits, grows, next_place_small}
-use Rattle.repair_copy.proofs.WalkedFiles.{taken-passed, walk_ended, walked_to_end, walked_next, cut_within, ends_at_end, ends_at_region, ends_with}
+use Rattle.repair_copy.proofs.WalkedFiles.{judging-test, taken-passed, walk_ended, walked_to_end, walked_next, cut_within, ends_at_end, ends_at_region, ends_with}
 use Rattle.repair_copy.proofs.SkippedRegions.{regions_of, event_allowed, skipped_next, skips_cut}
 use Rattle.repair_copy.proofs.repairs.copy_walk.Goals as goal
 use Rattle.repair_copy.proofs.repairs.copy_walk.Goals.{In-Ok-Some, In_ok-put-in-Ok-Some, In-Err, After-next}
 
 -- an event that the walk gives
 given : (g : _) (c : In-Ok-Some g)
-    → IsAllowedEvent g.F.Fn c.loop-event.walker.policy.test c.loop-event.walker.progress.place c.next.new.self.progress.place c.in-Ok-Some.event
+    → IsAllowedEvent g.F.Fn c.loop-event.walker.policy.test c.loop-event.walker.progress c.next.new.self.progress.place c.in-Ok-Some.event
 given g c = c.in-Ok-Some.ensures.event c.in-Ok-Some.event (ap Ok c.in-Ok-Some.field-0-is)
 
 -- the walk goes on past it
@@ -40,22 +41,22 @@ allowed g c =
 
 pub loop-event-init : goal.loop-event-init
 loop-event-init g c =
-    let new = c.new-walker.ensures in
+    let front = front-judging c.args.size true c.new.result c.judging-walker.result c.new.ensures.begins c.judging-walker.ensures in
     record {
-      same_size = new.size;
-      keeps = new.keep;
-      going_on = new.going;
-      same_test = new.test;
-      stands = search rules;
-      copied = search rules;
+      same_size = front.size_is;
+      keeps = front.keep_is;
+      going_on = front.going;
+      same_test = judging-test _ _ c.judging-walker.ensures ∙ c.new.ensures.test;
+      stands = front-stands _ _ c.args.size true false _ front c.requires.sized;
+      copied = search (rules, front);
       skipped = search rules;
       quiet = search rules;
       unbegun = search rules;
       going = search rules;
-      small = search rules;
-      few = search rules;
+      small = search (rules, front);
+      few = search (rules, front);
       store = search rules;
-      taken = search rules;
+      taken = search (rules, front);
       made = search rules;
       notes = search rules;
     }
@@ -63,7 +64,7 @@ loop-event-init g c =
 pub put-requires-clause-fits : goal.put-requires-clause-fits
 put-requires-clause-fits g c =
     let at = (goal.at.put-requires-clause-fits g c).In-Ok-Some in
-    fits c.loop-event.walker.progress.place c.next.new.self.progress.place (next_chunk_place c.loop-event.copied) c.in-Ok-Some.event (given g at).bounds
+    fits c.loop-event.walker.progress c.next.new.self.progress.place (next_chunk_place c.loop-event.copied) c.in-Ok-Some.event (given g at).bounds
     (next_place_small c.loop-event.walker.progress.place c.loop-event.copied c.loop-event.invariant.small)
     (omega (arith, c.next.new.self.progress.within, c.in-Ok-Some.ensures.stands.in_reach))
 
@@ -75,7 +76,7 @@ returns-in_err-put-in-Ok-Some-clause-copies g c =
     cut_within g.F.Fn c.args.policy.test _ _ c.loop-event.walker.progress.keep c.loop-event.walker.progress.place c.next.new.self.progress.place kept.store.same_bytes kept.keeps
     c.loop-event.copied _ _ _ _ (piece_of c.in-Ok-Some.event) c.in_err-put-in-Ok-Some.field-0.0 c.from_residual.result _ (p.1 ∙ ap Err p.2) kept.copied (on g at).past
     (allowed g at)
-    (c.in_err-put-in-Ok-Some.ensures.front c.in_err-put-in-Ok-Some.field-0.0 (cc))
+    c.in_err-put-in-Ok-Some.ensures.copies
     (called-on _ _ c.loop-event.walker.progress.keep true 0 c.loop-event.walker.progress.place c.next.new.self.progress.place _
     (Some c.in-Ok-Some.event) _ _ _ kept.store.same_bytes kept.keeps (ap Ok c.in-Ok-Some.field-0-is) kept.taken c.in-Ok-Some.ensures.takes)
 
@@ -83,9 +84,9 @@ pub returns-in_err-put-in-Ok-Some-clause-skips : goal.returns-in_err-put-in-Ok-S
 returns-in_err-put-in-Ok-Some-clause-skips g c =
     let at = (goal.at.returns-in_err-put-in-Ok-Some-clause-skips g c).In-Ok-Some in
     let p = err_from_is_err_and c.from_residual.result c.from_residual.ensures.1 in
-    λ cut is.
-    skips_cut g.F.Fn c.args.policy.test cut _ _ _ _ c.in-Ok-Some.event c.loop-event.invariant.skipped
-    (c.in_err-put-in-Ok-Some.ensures.tells.front cut (cc (p.1 ∙ ap Err p.2, is))) (allowed g at)
+    λ end is.
+    skips_cut g.F.Fn c.args.policy.test end _ _ _ _ c.in-Ok-Some.event c.loop-event.invariant.skipped
+    (c.in_err-put-in-Ok-Some.ensures.tells.front end (cc (p.1 ∙ ap Err p.2, is))) (allowed g at)
 
 -- what was copied with the event
 copied : (g : _) (c : In_ok-put-in-Ok-Some g)
@@ -98,32 +99,32 @@ copied g c on allowed =
     let kept = c.loop-event.invariant in
     walked_next _ _ _ _ c.loop-event.walker.progress.keep c.loop-event.walker.progress.place c.next.new.self.progress.place kept.store.same_bytes kept.keeps
     c.loop-event.copied c.put.new.self _ _ _ (piece_of c.in-Ok-Some.event) kept.copied on.past
-    allowed c.in_ok-put-in-Ok-Some.ensures.whole
+    allowed c.in_ok-put-in-Ok-Some.ensures.copies
 
 -- where that is no region nothing is told
 quiet : (g : _) (c : In_ok-put-in-Ok-Some g) → c.put.new.self.regions ≡ 0 → c.put.new.notes ≡ c.args.notes.now
 quiet g c none =
-    c.in_ok-put-in-Ok-Some.ensures.quiet (omega (arith, none, c.in_ok-put-in-Ok-Some.ensures.regions))
-    ∙ c.loop-event.invariant.quiet (omega (arith, none, c.in_ok-put-in-Ok-Some.ensures.regions))
+    c.in_ok-put-in-Ok-Some.ensures.past.quiet (omega (arith, none, c.in_ok-put-in-Ok-Some.ensures.past.regions))
+    ∙ c.loop-event.invariant.quiet (omega (arith, none, c.in_ok-put-in-Ok-Some.ensures.past.regions))
 
 small : (g : _) (c : In_ok-put-in-Ok-Some g)
-    → IsEventIn c.loop-event.walker.progress.place c.next.new.self.progress.place c.in-Ok-Some.event
+    → IsEventIn c.loop-event.walker.progress c.next.new.self.progress.place c.in-Ok-Some.event
     → c.put.new.self.file.place ≤ 64 + 2 * c.next.new.self.progress.place
 small g c there =
     omega (
       arith,
-      c.in_ok-put-in-Ok-Some.ensures.place,
-      grows c.loop-event.walker.progress.place c.next.new.self.progress.place (next_chunk_place c.loop-event.copied) c.in-Ok-Some.event there
+      c.in_ok-put-in-Ok-Some.ensures.past.place,
+      grows c.loop-event.walker.progress c.next.new.self.progress.place (next_chunk_place c.loop-event.copied) c.in-Ok-Some.event there
           (next_place_small c.loop-event.walker.progress.place c.loop-event.copied c.loop-event.invariant.small),
     )
 
 few : (g : _) (c : In_ok-put-in-Ok-Some g)
-    → IsEventIn c.loop-event.walker.progress.place c.next.new.self.progress.place c.in-Ok-Some.event
+    → IsEventIn c.loop-event.walker.progress c.next.new.self.progress.place c.in-Ok-Some.event
     → c.put.new.self.regions ≤ c.next.new.self.progress.place
 few g c there =
     omega (
       arith,
-      c.in_ok-put-in-Ok-Some.ensures.regions,
+      c.in_ok-put-in-Ok-Some.ensures.past.regions,
       one_region c.in-Ok-Some.event,
       c.loop-event.invariant.few,
       there.from_place,
@@ -133,7 +134,7 @@ few g c there =
 
 -- what holds behind the event, however it is dropped
 preserved : (g : _) (c : In_ok-put-in-Ok-Some g)
-    → IsAllowedEvent g.F.Fn c.loop-event.walker.policy.test c.loop-event.walker.progress.place c.next.new.self.progress.place c.in-Ok-Some.event
+    → IsAllowedEvent g.F.Fn c.loop-event.walker.policy.test c.loop-event.walker.progress c.next.new.self.progress.place c.in-Ok-Some.event
     → WalksOn (g.S.Store.bytes c.loop-event.store) c.loop-event.walker.progress c.next.new.self.progress (Ok (Some c.in-Ok-Some.event))
     → AllByRecursion (IsAllowedRegion g.F.Fn c.args.policy.test) (regions_of c.in-Ok-Some.event)
     → record {
@@ -168,10 +169,10 @@ preserved g c given on passed =
       stands = subst (λ (told : Option ℕ). StandsIn (g.S.Store.bytes c.next.new.store) told c.next.new.self.progress) (sym e.store.same_told)
           (subst (λ (b : Option (List ℕ)). StandsIn b (g.S.Store.told c.loop-event.store) c.next.new.self.progress) (sym e.store.same_bytes) e.stands);
       copied = copied g c on passed;
-      skipped = skipped_next _ _ _ _ _ _ _ c.in-Ok-Some.event kept.skipped c.in_ok-put-in-Ok-Some.ensures.tells.whole c.in_ok-put-in-Ok-Some.ensures.regions passed;
+      skipped = skipped_next _ _ _ _ _ _ _ c.in-Ok-Some.event kept.skipped c.in_ok-put-in-Ok-Some.ensures.tells.whole c.in_ok-put-in-Ok-Some.ensures.past.regions passed;
       quiet = quiet g c;
-      unbegun = λ unbegun. cc (unbegun, c.in_ok-put-in-Ok-Some.ensures.begun);
-      going = c.in_ok-put-in-Ok-Some.ensures.going;
+      unbegun = λ unbegun. cc (unbegun, c.in_ok-put-in-Ok-Some.ensures.past.begun);
+      going = c.in_ok-put-in-Ok-Some.ensures.past.going;
       small = small g c given.bounds;
       few = few g c given.bounds;
       store = search rules;

@@ -5,8 +5,8 @@ use Rattle.damage_skip.specs.Policies.{IsRefusedRegion}
 use Rattle.damage_skip.specs.Steps.{IsOnward}
 use Rattle.damage_skip.specs.declared.regions.Region.{Region}
 use Rattle.repair_copy.proofs.FrontRepairs.{repairs_known}
-use Rattle.repair_copy.proofs.SkippedRegions.{skips_failed}
-use Rattle.repair_copy.proofs.WalkEnds.{quiet_ended, failed-not_short, repairs_ended, short_ended, repairs_cut, taken_of, skips_ended}
+use Rattle.repair_copy.proofs.SkippedRegions.{skips_failed, within_failed, read_on}
+use Rattle.repair_copy.proofs.WalkEnds.{quiet_ended, repairs_ended, repairs_cut, skips_ended}
 use Rattle.repair_copy.proofs.repairs.repair.Goals as goal
 use Rattle.repair_copy.proofs.repairs.repair.Goals.{In_ok-ended}
 
@@ -17,23 +17,33 @@ returns-in_err-ended-clause-repairs g c =
     c.in_err-ended.ensures.copies
 
 pub returns-in_err-ended-clause-known : goal.returns-in_err-ended-clause-known
-returns-in_err-ended-clause-known g c = repairs_known g.F.Fn c.args.policy.test _ _ _ _ _ _ (returns-in_err-ended-clause-repairs g c)
-
-pub returns-in_err-ended-clause-cut_short : goal.returns-in_err-ended-clause-cut_short
-returns-in_err-ended-clause-cut_short g c =
-    let p = err_from_is_err_and c.from_residual.result c.from_residual.ensures.1 in
-    λ short. absurd (failed-not_short c.in_err-ended.field-0.0 c.from_residual.result (p.1 ∙ ap Err p.2) short)
-
-pub returns-in_err-ended-clause-takes : goal.returns-in_err-ended-clause-takes
-returns-in_err-ended-clause-takes g c =
-    taken_of g.F.Fn c.args.policy.test _ (Err c.in_err-ended.field-0.0) c.copy_walk.new.copied _ _ _
-    c.in_err-ended.ensures.copies
+returns-in_err-ended-clause-known g c = repairs_known g.F.Fn c.args.policy.test _ _ _ _ _ _ _ (returns-in_err-ended-clause-repairs g c)
 
 pub returns-in_err-ended-clause-skips : goal.returns-in_err-ended-clause-skips
 returns-in_err-ended-clause-skips g c =
     let p = err_from_is_err_and c.from_residual.result c.from_residual.ensures.1 in
     skips_failed g.F.Fn c.args.policy.test c.from_residual.result c.in_err-ended.field-0.0 _ _ (p.1 ∙ ap Err p.2)
     (c.in_err-ended.ensures.skips c.in_err-ended.field-0.0 refl)
+
+pub returns-in_err-ended-clause-bounds : goal.returns-in_err-ended-clause-bounds
+returns-in_err-ended-clause-bounds g c =
+    let p = err_from_is_err_and c.from_residual.result c.from_residual.ensures.1 in
+    within_failed g.F.Fn c.args.policy.test c.args.size c.from_residual.result c.in_err-ended.field-0.0 _ _ (p.1 ∙ ap Err p.2)
+    (c.in_err-ended.ensures.skips c.in_err-ended.field-0.0 refl)
+
+pub returns-in_err-ended-clause-store : goal.returns-in_err-ended-clause-store
+returns-in_err-ended-clause-store g c =
+    let p = err_from_is_err_and c.from_residual.result c.from_residual.ensures.1 in
+    let asked = c.in_err-ended.ensures.store in
+    record {
+      same_bytes = asked.same_bytes;
+      same_told = asked.same_told;
+      same_name = asked.same_name;
+      cause = λ store. absurd (read_on g.F.Fn c.args.policy.test c.from_residual.result c.in_err-ended.field-0.0 _ _ (p.1 ∙ ap Err p.2)
+          (c.in_err-ended.ensures.skips c.in_err-ended.field-0.0 refl) store);
+      never_falls = asked.never_falls;
+      small = asked.small;
+    }
 
 pub returns-clause-repairs : goal.returns-clause-repairs
 returns-clause-repairs g c =
@@ -43,19 +53,7 @@ returns-clause-repairs g c =
     c.in_ok-ended.ensures.copies
 
 pub returns-clause-known : goal.returns-clause-known
-returns-clause-known g c = repairs_known g.F.Fn c.args.policy.test _ _ _ _ _ _ (returns-clause-repairs g c)
-
-pub returns-clause-cut_short : goal.returns-clause-cut_short
-returns-clause-cut_short g c = λ short.
-    short_ended g.F.Fn c.args.policy.test _ c.end_repair.result c.in_ok-ended.ended c.copy_walk.new.copied _ _ _ _ _ _ _
-    c.in_ok-ended.ensures.made.never_falls
-    (λ before events. c.end_repair.ensures.put before (g.E.Sink.taken c.copy_walk.new.notes) events)
-    short c.in_ok-ended.ensures.copies
-
-pub returns-clause-takes : goal.returns-clause-takes
-returns-clause-takes g c =
-    taken_of g.F.Fn c.args.policy.test _ (Ok c.in_ok-ended.ended) c.copy_walk.new.copied _ _ _
-    c.in_ok-ended.ensures.copies
+returns-clause-known g c = repairs_known g.F.Fn c.args.policy.test _ _ _ _ _ _ _ (returns-clause-repairs g c)
 
 -- the region at which the walk stopped
 stopped : (g : _) (c : In_ok-ended g) (region : Region) → c.in_ok-ended.ended ≡ Some (walk.Stopped region)

@@ -1,13 +1,14 @@
-use Rattle.std.proofs.Common.{◌≡◌, ◌∙◌, ℕ, ◌+◌, Option, Some, None, IfSome, List, ap, subst}
+use Rattle.std.proofs.Common.{◌≡◌, ◌∙◌, ℕ, ◌+◌, Option, Some, None, IfSome, List, ap, subst, rules}
 use Rattle.damage_skip.specs.Steps.{IsOnward, LeadsTo}
 use Rattle.damage_skip.proofs.Leads.{leads-at, limit-file, limit-chunk, each_end}
 use Rattle.damage_skip.proofs.block_checks.ChunkSpanJudgesBlocks.judge.Goals as goal
 
-pub contradicted_at-requires-clause-sized : goal.contradicted_at-requires-clause-sized
-contradicted_at-requires-clause-sized g c = c.requires.judges.fits
-
-pub contradicted_at-requires-clause-below : goal.contradicted_at-requires-clause-below
-contradicted_at-requires-clause-below g c = limit-file c.args.self.now.end c.args.self.now.size c.args.block c.requires.judges.within
+pub contradicted_at-requires-clause-block : goal.contradicted_at-requires-clause-block
+contradicted_at-requires-clause-block g c = record {
+  sized = c.requires.judges.fits;
+  at_block = search rules;
+  below = limit-file c.args.self.now.end c.args.self.now.size c.args.block c.requires.judges.within;
+}
 
 pub contradicted_at-requires-clause-begun : goal.contradicted_at-requires-clause-begun
 contradicted_at-requires-clause-begun g c = c.requires.judges.begun

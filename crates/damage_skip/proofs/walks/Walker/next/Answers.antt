@@ -10,7 +10,7 @@ use Rattle.damage_skip.proofs.DamagedWalks.{stays_told}
 use Rattle.damage_skip.proofs.FrontWalks.{in_remains, in_remains-cut_off}
 use Rattle.damage_skip.proofs.WalkSteps.{events_told, met_on, passes, memory_before, stops_there}
 use Rattle.damage_skip.specs.Takings.{IsTakenFrom}
-use Rattle.damage_skip.proofs.Takings.{taken-start, taken-still, taken-past, taken-to}
+use Rattle.damage_skip.proofs.Takings.{taken_at, taken-start, taken-still, taken-past, taken-to}
 use Rattle.damage_skip.proofs.walks.Walker.next.Goals as goal
 use Rattle.damage_skip.proofs.walks.Walker.next.Goals.{At-loop-self, In_ok-piece, After-event}
 
@@ -46,7 +46,7 @@ past g c told is =
     let sized : IsSized (g.S.Store.bytes c.args.store.now) (Some from.size) =
     subst (IsSized (g.S.Store.bytes c.args.store.now)) c.requires.may.stands.size (g.met.S.Store.sized c.args.store.now) in
     subst (λ (o : Option Event). IfSome (g.S.Store.bytes c.args.store.now) (λ file. GoesOn from.keep file from.place c.in_ok-piece.piece.end (events_told o))) is
-    (passes _ _ from.keep at.keep from.size from.place at.place c.in_ok-piece.piece c.event.result kept.asks.same_bytes kept.on.same_keep sized
+    (passes _ _ from.keep at.keep from.size from.place at.place at.decodes c.in_ok-piece.piece c.event.result kept.asks.same_bytes kept.on.same_keep sized
     (omega (arith, c.loop-self-test.true, kept.on.same_size)) kept.on.past c.in_ok-piece.ensures.sound c.in_ok-piece.ensures.piece.intact
     (sym {b = event_of at.place c.in_ok-piece.piece} c.event.ensures))
 
@@ -62,7 +62,6 @@ taken g c =
     subst (IsSized (g.S.Store.bytes c.args.store.now)) c.requires.may.stands.size (g.met.S.Store.sized c.args.store.now) in
     taken-past _ _ from.keep at.keep from.size from.place at.place c.in_ok-piece.piece _ _ _ kept.asks.same_bytes kept.on.same_keep sized
     (omega (arith, c.loop-self-test.true, kept.on.same_size)) kept.taken c.in_ok-piece.ensures.sound c.in_ok-piece.ensures.takes
-    c.in_ok-piece.ensures.stops
 
 pub returns-in_err-piece-clause-stands : goal.returns-in_err-piece-clause-stands
 returns-in_err-piece-clause-stands g c = stands g (goal.at.returns-in_err-piece-clause-stands g c).At-loop-self
@@ -93,6 +92,7 @@ returns-in-Some-event-clause-goes_on g c =
     record {
       same_size = search rules;
       same_keep = search rules;
+      same_decodes = search rules;
       rises = search rules;
       past = past g (goal.at.returns-in-Some-event-clause-goes_on g c).After-event (Some c.in-Some-event.event) c.in-Some-event.is;
       stopped = search rules;
@@ -119,6 +119,7 @@ loop-self-preserved g c =
       on = record {
         same_size = kept.on.same_size;
         same_keep = kept.on.same_keep;
+        same_decodes = kept.on.same_decodes;
         rises = omega (arith, kept.on.rises, given.piece.onward.past);
         past = past g (goal.at.loop-self-preserved g c).After-event None (cc);
         stopped = kept.on.stopped;
@@ -139,6 +140,7 @@ returns-in-Some-clause-remains g c =
     in_remains _ _ _ at at _ sized c.requires.may.stands c.requires.may.stands (record {
       same_size = refl;
       same_keep = refl;
+      same_decodes = refl;
       rises = omega arith;
       past = stays_told _ at.keep at.place;
       stopped = search rules;
@@ -157,7 +159,7 @@ returns-in-Some-refused-clause-remains g c =
     let on = c.loop-self.invariant.on in
     in_remains _ _ _ c.args.self.now.progress _ _ (sized_before g (goal.at.returns-in-Some-refused-clause-remains g c).At-loop-self)
     c.requires.may.stands (returns-in-Some-refused-clause-stands g c)
-    (record { same_size = on.same_size; same_keep = on.same_keep; rises = on.rises; past = on.past; stopped = refl }) (λ none. cc)
+    (record { same_size = on.same_size; same_keep = on.same_keep; same_decodes = on.same_decodes; rises = on.rises; past = on.past; stopped = refl }) (λ none. cc)
 
 pub returns-in-Some-event-clause-remains : goal.returns-in-Some-event-clause-remains
 returns-in-Some-event-clause-remains g c =
@@ -174,7 +176,7 @@ pub loop-self-init : goal.loop-self-init
 loop-self-init g c =
     let at = c.args.self.now.progress in
     record {
-      on = record { same_size = refl; same_keep = refl; rises = omega arith; past = stays_told _ at.keep at.place; stopped = first_of (search rules, grind (arith, common_steps)) };
+      on = record { same_size = refl; same_keep = refl; same_decodes = refl; rises = omega arith; past = stays_told _ at.keep at.place; stopped = first_of (search rules, grind (arith, common_steps)) };
       same_policy = first_of (search rules, grind (arith, common_steps));
       asks = first_of (search rules, grind (arith, common_steps));
       taken = taken-start _ at.keep at.place _ (omega arith);
@@ -201,7 +203,8 @@ pub returns-in-Some-refused-clause-takes : goal.returns-in-Some-refused-clause-t
 returns-in-Some-refused-clause-takes g c =
     let from = c.args.self.now.progress in
     let at = c.loop-self.self.progress in
-    taken-to _ _ from.keep from.place at.place _ _ _ c.loop-self.invariant.asks.same_bytes c.loop-self.invariant.taken c.in_ok-piece.ensures.takes
+    taken-to _ _ from.keep from.place at.place _ _ _ c.loop-self.invariant.asks.same_bytes c.loop-self.invariant.taken
+    (taken_at _ at.place _ c.in_ok-piece.ensures.takes)
 
 pub returns-in-Some-event-clause-takes : goal.returns-in-Some-event-clause-takes
 returns-in-Some-event-clause-takes g c = taken g (goal.at.returns-in-Some-event-clause-takes g c).In_ok-piece
