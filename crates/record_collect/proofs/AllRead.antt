@@ -3,13 +3,14 @@ use Rattle.std.proofs.Common.{◌≡◌, ◌∙◌, ℕ, ◌+◌, ◌<◌, zero,
 use Rattle.std.specs.Prelude.{slice_get}
 use Rattle.std.proofs.lemmas.List.{take_more}
 use Rattle.number_shares.proofs.Lists.{all_push}
-use Rattle.chunk_reader.specs.declared.reasons.Fault.{Fault}
 use Rattle.chunk_reader.specs.declared.reasons.ReadEnd.{ReadEnd}
 use Rattle.chunk_reader.specs.declared.reasons.ReadEnd.TheVariants as read
-use Rattle.record_collect.specs.declared.feeding.Fed.{Fed}
-use Rattle.record_collect.specs.declared.feeding.Fed.TheVariants.{Whole, Front}
-use Rattle.record_collect.specs.declared.gathering.GatherEnd.TheVariants as gather
-use Rattle.record_collect.specs.Ends.{gather_end_of}
+use Rattle.record_collect.specs.declared.feeding.Coverage.{Coverage}
+use Rattle.record_collect.specs.declared.feeding.Coverage.TheVariants.{Whole, Front}
+use Rattle.record_collect.specs.declared.gathering.GatherEnd.{GatherEnd}
+use Rattle.record_collect.specs.Ends.{IsGatheredBy, gather_end_of}
+use Rattle.record_collect.specs.Gatherings.{GatheredValue}
+use Rattle.record_collect.specs.Passes.{PassValue}
 use Rattle.record_collect.specs.Takings.{AreRead, IsFirstStopped, IsRead, both_taken}
 
 -- what stands behind a list, and what stands in it
@@ -23,11 +24,11 @@ stands-before (z ∷ xs) ys zero x there = there
 stands-before (z ∷ xs) ys (suc i) x there = stands-before xs ys i x there
 
 -- one answer more
-read-push : (answers : List (Result Fed ReadEnd)) (a : Result Fed ReadEnd) (part more : Fed) → AreRead answers part → a ≡ Ok more
+read-push : (answers : List (Result Coverage ReadEnd)) (a : Result Coverage ReadEnd) (part more : Coverage) → AreRead answers part → a ≡ Ok more
     → AreRead (answers ++ a ∷ []) (both_taken part more)
 read-push answers a Whole Whole h is = record {
   each = all_push IsRead answers a (Whole, is) h.each;
-  whole = λ e. all_push (λ (b : Result Fed ReadEnd). b ≡ Ok Whole) answers a is (h.whole refl);
+  whole = λ e. all_push (λ (b : Result Coverage ReadEnd). b ≡ Ok Whole) answers a is (h.whole refl);
   front = λ e. absurd cc;
 }
 read-push answers a Whole Front h is = record {
@@ -41,29 +42,23 @@ read-push answers a Front more h is = record {
   front = λ e. (let one = h.front refl in (one.0, stands-before answers (a ∷ []) one.0 (Ok Front) one.1));
 }
 
-pub read-more : (answers : List (Result Fed ReadEnd)) (i : ℕ) (d : Result Fed ReadEnd) (part more both : Fed) → i < length answers
+pub read-more : (answers : List (Result Coverage ReadEnd)) (i : ℕ) (d : Result Coverage ReadEnd) (part more both : Coverage) → i < length answers
     → AreRead (take i answers) part → get_or answers i d ≡ Ok more → both ≡ both_taken part more → AreRead (take (i + 1) answers) both
 read-more answers i d part more both below h is joined =
     subst (AreRead (take (i + 1) answers)) (sym joined)
-    (subst (λ (l : List (Result Fed ReadEnd)). AreRead l (both_taken part more)) (sym (take_more answers i d below))
+    (subst (λ (l : List (Result Coverage ReadEnd)). AreRead l (both_taken part more)) (sym (take_more answers i d below))
     (read-push (take i answers) (get_or answers i d) part more h is))
 
 -- what is taken of all, by its form
-pub read_as : (answers : List (Result Fed ReadEnd)) (part form : Fed) → part ≡ form → AreRead answers part → AreRead answers form
+pub read_as : (answers : List (Result Coverage ReadEnd)) (part form : Coverage) → part ≡ form → AreRead answers part → AreRead answers form
 read_as answers part form is h = subst (AreRead answers) is h
 
 -- how gathering ends by the first file that was not read to its end
-pub stopped-refused : (answers : List (Result Fed ReadEnd)) (at : ℕ) (end : ReadEnd) (index : ℕ) (fault : Fault) → IsFirstStopped answers at end
-    → gather_end_of at end ≡ gather.Refused index fault → IsFirstStopped answers index (read.Refused fault)
-stopped-refused answers at (read.Refused f) index fault first is =
-    let same : (at ≡ index) × (f ≡ fault) = (cc, cc) in
-    subst (λ (i : ℕ). IsFirstStopped answers i (read.Refused fault)) same.0
-    (subst (λ (f : Fault). IsFirstStopped answers at (read.Refused f)) same.1 first)
-stopped-refused answers at read.Store index fault first is = absurd cc
-stopped-refused answers at read.Memory index fault first is = absurd cc
-
-pub stopped-store : (answers : List (Result Fed ReadEnd)) (at : ℕ) (end : ReadEnd) → IsFirstStopped answers at end
-    → gather_end_of at end ≡ gather.Store → (i : ℕ) × (slice_get answers i ≡ Some (Err read.Store))
-stopped-store answers at (read.Refused f) first is = absurd cc
-stopped-store answers at read.Store first is = (at, first.there)
-stopped-store answers at read.Memory first is = absurd cc
+pub stopped_as : (passes : List PassValue) (answers : List (Result Coverage ReadEnd)) (at : ℕ) (end : ReadEnd) (result : Result GatheredValue GatherEnd)
+    → result ≡ Err (gather_end_of at end) → IsFirstStopped answers at end → IsGatheredBy result passes answers
+stopped_as passes answers at end result is first =
+    subst (λ (r : Result GatheredValue GatherEnd). IsGatheredBy r passes answers) (sym is) (by_end end first) where
+      by_end : (end : ReadEnd) → IsFirstStopped answers at end → IsGatheredBy (Err (gather_end_of at end)) passes answers
+      by_end (read.Refused fault) first = first
+      by_end read.Store first = (at, first.there)
+      by_end read.Memory first = tt

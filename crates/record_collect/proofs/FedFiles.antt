@@ -12,8 +12,8 @@ use Rattle.chunk_reader.specs.Readers.{IsNextChunk, IsReadWhole, IsFaultBehind}
 use Rattle.chunk_reader.specs.declared.judging.Judged.{Judged}
 use Rattle.chunk_reader.specs.declared.reasons.Fault.{Fault}
 use Rattle.chunk_reader.proofs.ChainSteps.{IsChainOf-nil}
-use Rattle.record_collect.specs.declared.feeding.Fed.{Fed}
-use Rattle.record_collect.specs.declared.feeding.Fed.TheVariants.{Whole}
+use Rattle.record_collect.specs.declared.feeding.Coverage.{Coverage}
+use Rattle.record_collect.specs.declared.feeding.Coverage.TheVariants.{Whole}
 use Rattle.record_collect.specs.Passes.{PassValue, IsFresh, pass_records}
 use Rattle.record_collect.specs.Takings.{IsTakenOf, IsTakenSoFar, TakesOn}
 
@@ -37,7 +37,7 @@ taken-fresh (Some file) totals pass none fresh =
     })
 
 -- one chunk more
-pub taken-more : (bytes : Option (List ℕ)) (before after : ReaderValue) (j : Judged) (held : List (List ℕ)) (part more : Fed) (old new : PassValue)
+pub taken-more : (bytes : Option (List ℕ)) (before after : ReaderValue) (j : Judged) (held : List (List ℕ)) (part more : Coverage) (old new : PassValue)
     → before.keep ≡ false → IsNextChunk bytes before after j → Holds (value_of_chunk j.chunk) held → TakesOn part old more new held
     → IfSome bytes (λ file. IsTakenSoFar file before.totals part old → IsTakenSoFar file after.totals more new)
 taken-more None before after j held part more old new strict h holds takes = tt
@@ -56,7 +56,7 @@ taken-more (Some file) before after j held part more old new strict h holds take
     }
 
 -- and the whole file
-pub taken-whole : (bytes now : Option (List ℕ)) (at : ReaderValue) (part : Fed) (pass : PassValue) → now ≡ bytes → at.keep ≡ false → IsReadWhole now at
+pub taken-whole : (bytes now : Option (List ℕ)) (at : ReaderValue) (part : Coverage) (pass : PassValue) → now ≡ bytes → at.keep ≡ false → IsReadWhole now at
     → IfSome bytes (λ file. IsTakenSoFar file at.totals part pass) → IfSome bytes (λ file. IsTakenOf file part pass)
 taken-whole None now at part pass same strict h s = tt
 taken-whole (Some file) now at part pass same strict h s =

@@ -1,5 +1,5 @@
 -- What threads were answered for halves of the stores, put together, and what it says of stores and files.
-use Rattle.std.proofs.Common.{◌≡◌, ◌∙◌, ℕ, zero, suc, ◌<◌, false, Option, Result, List, [], ◌∷◌, ◌++◌, Some, Ok, Err, All, IfOk, IfSome, inl, inr, map, length, refl, sym, ap, subst, arith}
+use Rattle.std.proofs.Common.{◌≡◌, ◌∙◌, ℕ, zero, suc, ◌+◌, ◌^◌, ◌<◌, ◌≤◌, false, Option, Result, List, [], ◌∷◌, ◌++◌, Some, Ok, Err, All, IfOk, IfSome, inl, inr, map, length, refl, sym, ap, subst, arith, length-append}
 use Rattle.std.specs.Prelude.{slice_get, slice_index_or, slice_set}
 use Rattle.std.specs.List.{AllByRecursion, AllZip}
 use Rattle.std.proofs.lemmas.List.Elements.{All-from_recursion, recursion_from_All}
@@ -10,10 +10,10 @@ use Rattle.chunk_reader.specs.Faults.{IsFault, IsFirstFault}
 use Rattle.chunk_reader.specs.declared.reasons.Fault.{Fault}
 use Rattle.chunk_reader.specs.declared.reasons.ReadEnd.{ReadEnd}
 use Rattle.chunk_reader.specs.declared.reasons.ReadEnd.TheVariants.{Refused, Store}
-use Rattle.record_collect.specs.declared.feeding.Fed.{Fed}
+use Rattle.record_collect.specs.declared.feeding.Coverage.{Coverage}
 use Rattle.record_collect.specs.Gatherings.{AreRecordsOfEach}
-use Rattle.record_collect.specs.Passes.{CollectorValue, PassValue, BelongsTo}
-use Rattle.record_collect.specs.Takings.{AreFed, HasAccepted, IsFed, IsFirstStopped, IsRead, IsTakenOf}
+use Rattle.record_collect.specs.Passes.{CollectorValue, PassValue, BelongsTo, IsReady}
+use Rattle.record_collect.specs.Takings.{AreFed, CanBeFed, HasAccepted, IsFed, IsFirstStopped, IsRead, IsTakenOf}
 
 -- what a front of the stores shows, and what the others do
 pub told-front : {S X : Type 0} (tell : S → Option X) (stores a c : List S) (told x y : List X) → stores ≡ a ++ c → told ≡ x ++ y → length x ≡ length a
@@ -40,11 +40,33 @@ all-front {X} P xs a c is all =
     halves [] all = (tt, all)
     halves (x ∷ a) all = (let rest = halves a all.1 in ((all.0, rest.0), rest.1))
 
+-- so each half of the stores can be read by its passes where all can
+pub can_be_fed-halves : {S : Type 0} (told : S → Option ℕ) (collector : CollectorValue) (sizes low high : List ℕ) (passes p q : List PassValue)
+    (answers x y : List (Result Coverage ReadEnd)) (stores front back : List S)
+    → sizes ≡ low ++ high → passes ≡ p ++ q → answers ≡ x ++ y → stores ≡ front ++ back
+    → length low ≡ length front → length p ≡ length front → length x ≡ length front → CanBeFed told collector sizes passes answers stores
+    → CanBeFed told collector low p x front × CanBeFed told collector high q y back
+can_be_fed-halves told collector sizes low high passes p q answers x y stores front back of_sizes of_passes of_answers of_stores m n k h =
+    let tells = told-front told stores front back sizes low high of_stores of_sizes m h.are_told in
+    let reach = all-front (λ (size : ℕ). size ≤ 2 ^ 60) sizes low high of_sizes h.in_reach in
+    let ready = all-front (IsReady collector) passes p q of_passes h.ready in
+    let many : length stores ≡ length front + length back = ap length of_stores ∙ length-append front back in (
+      record { as_many_sizes = m; as_many_passes = n; as_many_answers = k; are_told = tells.0; in_reach = reach.0; ready = ready.0 },
+      record {
+        as_many_sizes = omega (arith, h.as_many_sizes, ap length of_sizes ∙ length-append low high, m, many);
+        as_many_passes = omega (arith, h.as_many_passes, ap length of_passes ∙ length-append p q, n, many);
+        as_many_answers = omega (arith, h.as_many_answers, ap length of_answers ∙ length-append x y, k, many);
+        are_told = tells.1;
+        in_reach = reach.1;
+        ready = ready.1;
+      },
+    )
+
 -- what a pass has of the records of a file
 pub record Taking : Type 0 where
   pub list : List (List ℕ)
   pub pass : PassValue
-  pub part : Fed
+  pub part : Coverage
   pub has : HasAccepted part pass list
 
 abbrev pub lists_of : List Taking → List (List (List ℕ))
@@ -53,28 +75,28 @@ lists_of rows = map (λ (r : Taking). r.list) rows
 abbrev pub passes_of : List Taking → List PassValue
 passes_of rows = map (λ (r : Taking). r.pass) rows
 
-abbrev pub answers_of : List Taking → List (Result Fed ReadEnd)
+abbrev pub answers_of : List Taking → List (Result Coverage ReadEnd)
 answers_of rows = map (λ (r : Taking). Ok r.part) rows
 
 -- the files have no fault, and this is what the passes have of their records
-pub record AreTakings (files : List (List ℕ)) (passes : List PassValue) (answers : List (Result Fed ReadEnd)) : Type 0 where
+pub record AreTakings (files : List (List ℕ)) (passes : List PassValue) (answers : List (Result Coverage ReadEnd)) : Type 0 where
   pub rows : List Taking
   pub are : AreRecordsOfEach files (lists_of rows)
   pub of_passes : passes ≡ passes_of rows
   pub of_answers : answers ≡ answers_of rows
 
 -- a file that was read to its end
-taken_of : (told : Option (List ℕ)) (file : List ℕ) (answer : Result Fed ReadEnd) (part : Fed) (pass : PassValue) → told ≡ Some file → answer ≡ Ok part
+taken_of : (told : Option (List ℕ)) (file : List ℕ) (answer : Result Coverage ReadEnd) (part : Coverage) (pass : PassValue) → told ≡ Some file → answer ≡ Ok part
     → IfOk answer (λ part. IfSome told (λ f. IsTakenOf f part pass)) → IsTakenOf file part pass
 taken_of told file answer part pass is read h =
     subst (λ (o : Option (List ℕ)). IfSome o (λ f. IsTakenOf f part pass)) is
-    (subst (λ (a : Result Fed ReadEnd). IfOk a (λ p. IfSome told (λ f. IsTakenOf f p pass))) read h)
+    (subst (λ (a : Result Coverage ReadEnd). IfOk a (λ p. IfSome told (λ f. IsTakenOf f p pass))) read h)
 
 module _ {S L : Type 0} (bytes : S → Option (List ℕ)) (told : S → Option ℕ) (name : S → L) (faults : S → ℕ) where
-  abbrev AllFed : CollectorValue → List PassValue → List S → List S → List (Result Fed ReadEnd) → Type 0
+  abbrev AllFed : CollectorValue → List PassValue → List S → List S → List (Result Coverage ReadEnd) → Type 0
   AllFed = AreFed bytes told name faults
 
-  fed_append : (collector : CollectorValue) (p q : List PassValue) (a b c d : List S) (x y : List (Result Fed ReadEnd))
+  fed_append : (collector : CollectorValue) (p q : List PassValue) (a b c d : List S) (x y : List (Result Coverage ReadEnd))
       → AllFed collector p a b x → AllFed collector q c d y → AllFed collector (p ++ q) (a ++ c) (b ++ d) (x ++ y)
   fed_append collector [] q [] [] c d [] y h k = k
   fed_append collector [] q [] [] c d (r ∷ x) y h k = absurd h
@@ -85,7 +107,7 @@ module _ {S L : Type 0} (bytes : S → Option (List ℕ)) (told : S → Option �
   fed_append collector (e ∷ p) q (s ∷ a) (t ∷ b) c d [] y h k = absurd h
   fed_append collector (e ∷ p) q (s ∷ a) (t ∷ b) c d (r ∷ x) y h k = (h.0, fed_append collector p q a b c d x y h.1 k)
 
-  pub fed_halves : (collector : CollectorValue) (passes p q : List PassValue) (before after a b c d : List S) (answers x y : List (Result Fed ReadEnd))
+  pub fed_halves : (collector : CollectorValue) (passes p q : List PassValue) (before after a b c d : List S) (answers x y : List (Result Coverage ReadEnd))
       → passes ≡ p ++ q → before ≡ a ++ c → after ≡ b ++ d → answers ≡ x ++ y
       → AreFed bytes told name faults collector p a b x → AreFed bytes told name faults collector q c d y
       → AreFed bytes told name faults collector passes before after answers
@@ -97,7 +119,7 @@ module _ {S L : Type 0} (bytes : S → Option (List ℕ)) (told : S → Option �
       (fed_append collector p q a b c d x y h k))))
 
   -- one store, or none
-  pub fed-one : (collector : CollectorValue) (passes : List PassValue) (stores : List S) (answers : List (Result Fed ReadEnd)) (d : S) (pass : PassValue) (store : S) (answer : Result Fed ReadEnd)
+  pub fed-one : (collector : CollectorValue) (passes : List PassValue) (stores : List S) (answers : List (Result Coverage ReadEnd)) (d : S) (pass : PassValue) (store : S) (answer : Result Coverage ReadEnd)
       → length stores < 2 → length passes ≡ length stores → length answers ≡ length stores → IsFed bytes told name faults collector pass (slice_index_or stores 0 d) store answer
       → AreFed bytes told name faults collector (slice_set passes 0 pass) stores (slice_set stores 0 store) (slice_set answers 0 answer)
   fed-one collector [] [] [] d pass store answer short many as_many h = tt
@@ -111,7 +133,7 @@ module _ {S L : Type 0} (bytes : S → Option (List ℕ)) (told : S → Option �
   fed-one collector (p ∷ []) (s ∷ []) (a ∷ []) d pass store answer short many as_many h = (h, tt)
 
   -- as many passes as stores
-  pub fed-many : (collector : CollectorValue) (passes : List PassValue) (before after : List S) (answers : List (Result Fed ReadEnd))
+  pub fed-many : (collector : CollectorValue) (passes : List PassValue) (before after : List S) (answers : List (Result Coverage ReadEnd))
       → AreFed bytes told name faults collector passes before after answers → length passes ≡ length before
   fed-many collector [] [] after answers h = refl
   fed-many collector [] (s ∷ before) after answers h = absurd h
@@ -121,7 +143,7 @@ module _ {S L : Type 0} (bytes : S → Option (List ℕ)) (told : S → Option �
   fed-many collector (p ∷ passes) (s ∷ before) (t ∷ after) (a ∷ answers) h = ap suc (fed-many collector passes before after answers h.1)
 
   -- the passes belong to the collector
-  belong : (collector : CollectorValue) (passes : List PassValue) (before after : List S) (answers : List (Result Fed ReadEnd))
+  belong : (collector : CollectorValue) (passes : List PassValue) (before after : List S) (answers : List (Result Coverage ReadEnd))
       → AllFed collector passes before after answers → AllByRecursion (BelongsTo collector) passes
   belong collector [] before after answers h = tt
   belong collector (p ∷ passes) [] after answers h = absurd h
@@ -129,12 +151,12 @@ module _ {S L : Type 0} (bytes : S → Option (List ℕ)) (told : S → Option �
   belong collector (p ∷ passes) (s ∷ before) (t ∷ after) [] h = absurd h
   belong collector (p ∷ passes) (s ∷ before) (t ∷ after) (a ∷ answers) h = (h.0.belongs, belong collector passes before after answers h.1)
 
-  pub all_belong : (collector : CollectorValue) (passes : List PassValue) (before after : List S) (answers : List (Result Fed ReadEnd))
+  pub all_belong : (collector : CollectorValue) (passes : List PassValue) (before after : List S) (answers : List (Result Coverage ReadEnd))
       → AreFed bytes told name faults collector passes before after answers → All (BelongsTo collector) passes
   all_belong collector passes before after answers h =
       All-from_recursion (BelongsTo collector) passes (belong collector passes before after answers h)
 
-  each_asked : (collector : CollectorValue) (passes : List PassValue) (before after : List S) (answers : List (Result Fed ReadEnd))
+  each_asked : (collector : CollectorValue) (passes : List PassValue) (before after : List S) (answers : List (Result Coverage ReadEnd))
       → AllFed collector passes before after answers → AllZip (OnlyAsks bytes told name faults ⊥) before after
   each_asked collector [] [] [] answers h = tt
   each_asked collector [] [] (t ∷ after) answers h = absurd h
@@ -145,7 +167,7 @@ module _ {S L : Type 0} (bytes : S → Option (List ℕ)) (told : S → Option �
   each_asked collector (p ∷ passes) (s ∷ before) (t ∷ after) (a ∷ answers) h =
       (asks_whatever bytes told name faults s t h.0.asks, each_asked collector passes before after answers h.1)
 
-  rose : (collector : CollectorValue) (passes : List PassValue) (before after : List S) (answers : List (Result Fed ReadEnd)) (i : ℕ)
+  rose : (collector : CollectorValue) (passes : List PassValue) (before after : List S) (answers : List (Result Coverage ReadEnd)) (i : ℕ)
       → AllFed collector passes before after answers → slice_get answers i ≡ Some (Err Store) → AnyRose faults before after
   rose collector [] [] [] [] i h failed = absurd cc
   rose collector [] [] [] (a ∷ answers) i h failed = absurd h
@@ -158,7 +180,7 @@ module _ {S L : Type 0} (bytes : S → Option (List ℕ)) (told : S → Option �
   rose collector (p ∷ passes) (s ∷ before) (t ∷ after) (a ∷ answers) (suc i) h failed = inr (rose collector passes before after answers i h.1 failed)
 
   -- the stores were only asked, and where one answered that it failed, a count rose
-  pub fed-asked : {F : Type 0} (collector : CollectorValue) (passes : List PassValue) (before after : List S) (answers : List (Result Fed ReadEnd))
+  pub fed-asked : {F : Type 0} (collector : CollectorValue) (passes : List PassValue) (before after : List S) (answers : List (Result Coverage ReadEnd))
       → AreFed bytes told name faults collector passes before after answers → (F → (i : ℕ) × (slice_get answers i ≡ Some (Err Store)))
       → AreOnlyAsked bytes told name faults F before after
   fed-asked collector passes before after answers h failed = record {
@@ -167,7 +189,7 @@ module _ {S L : Type 0} (bytes : S → Option (List ℕ)) (told : S → Option �
   }
 
   -- the first answer that a file is refused has the first fault
-  pub first-refused : (collector : CollectorValue) (passes : List PassValue) (before after : List S) (answers : List (Result Fed ReadEnd)) (files : List (List ℕ)) (index : ℕ) (fault : Fault)
+  pub first-refused : (collector : CollectorValue) (passes : List PassValue) (before after : List S) (answers : List (Result Coverage ReadEnd)) (files : List (List ℕ)) (index : ℕ) (fault : Fault)
       → AreTold bytes before files → AreFed bytes told name faults collector passes before after answers → IsFirstStopped answers index (Refused fault)
       → IsFirstFault false files index fault
   first-refused collector [] [] [] [] files index fault tells h first = absurd (let no = first.there in cc)
@@ -202,7 +224,7 @@ module _ {S L : Type 0} (bytes : S → Option (List ℕ)) (told : S → Option �
       }
 
   -- what the passes have, where each file was read to its end
-  pub all-taken : (collector : CollectorValue) (passes : List PassValue) (before after : List S) (answers : List (Result Fed ReadEnd)) (files : List (List ℕ))
+  pub all-taken : (collector : CollectorValue) (passes : List PassValue) (before after : List S) (answers : List (Result Coverage ReadEnd)) (files : List (List ℕ))
       → AreTold bytes before files → AreFed bytes told name faults collector passes before after answers → AllByRecursion IsRead answers
       → AreTakings files passes answers
   all-taken collector [] [] [] [] [] tells h read = record { rows = []; are = tt; of_passes = refl; of_answers = refl }
@@ -225,5 +247,5 @@ module _ {S L : Type 0} (bytes : S → Option (List ℕ)) (told : S → Option �
         rows = row ∷ rest.rows;
         are = ((taken.chunks, taken.is_file, taken.are), rest.are);
         of_passes = ap (λ (ps : List PassValue). p ∷ ps) rest.of_passes;
-        of_answers = ap (λ (r : Result Fed ReadEnd). r ∷ answers) one.1 ∙ ap (λ (rs : List (Result Fed ReadEnd)). Ok one.0 ∷ rs) rest.of_answers;
+        of_answers = ap (λ (r : Result Coverage ReadEnd). r ∷ answers) one.1 ∙ ap (λ (rs : List (Result Coverage ReadEnd)). Ok one.0 ∷ rs) rest.of_answers;
       }

@@ -3,7 +3,7 @@ use Rattle.std.proofs.Common.{◌≡◌, List, [], ◌∷◌, replicate, lit≤,
 use Rattle.varint_wire.specs.Varint.{shortest}
 use Rattle.block_layout.specs.Layout.{chunk_end_of, end_of}
 use Rattle.record_group.specs.Groups.{groups}
-use Rattle.record_collect.specs.declared.feeding.Fed.TheVariants.{Whole, Front}
+use Rattle.record_collect.specs.declared.feeding.Coverage.TheVariants.{Whole, Front}
 use Rattle.record_collect.specs.declared.placed.Placed.{Placed}
 use Rattle.record_collect.specs.FilePlaces.{places_in_file}
 use Rattle.record_collect.specs.Gatherings.{GatheredValue}

@@ -3,7 +3,6 @@ use Rattle.std.proofs.Common.{◌≡◌, ◌∙◌, ◌⊎◌, ℕ, zero, suc, �
 use Rattle.std.specs.Prelude.{slice_get}
 use Rattle.std.specs.List.{AllByRecursion, sum_by}
 use Rattle.std.specs.Option.{option_to_list}
-use Rattle.std.proofs.lemmas.Result.{IfOk-weaker}
 use Rattle.std.proofs.lemmas.Slice.Zip.{AllZip-long}
 use Rattle.std.proofs.lemmas.List.Sums.{sum_by-append, sum_by-cons}
 use Rattle.chunk_header.specs.Chunks.{ChunkValue}
@@ -18,14 +17,15 @@ use Rattle.chunk_reader.specs.declared.reasons.Fault.{Fault}
 use Rattle.chunk_reader.specs.declared.reasons.ReadEnd.{ReadEnd}
 use Rattle.chunk_reader.specs.declared.reasons.ReadEnd.TheVariants as read
 use Rattle.chunk_reader.proofs.ManyFiles.{first_is_one, first_or_none}
-use Rattle.record_collect.specs.declared.feeding.Fed.{Fed}
-use Rattle.record_collect.specs.declared.feeding.Fed.TheVariants.{Whole, Front}
+use Rattle.record_collect.specs.declared.feeding.Coverage.{Coverage}
+use Rattle.record_collect.specs.declared.feeding.Coverage.TheVariants.{Whole, Front}
 use Rattle.record_collect.specs.declared.gathering.GatherEnd.{GatherEnd}
 use Rattle.record_collect.specs.declared.gathering.GatherEnd.TheVariants as gather
 use Rattle.number_shares.specs.Least.{IsLeast}
 use Rattle.record_collect.specs.Limits.{limit}
 use Rattle.record_collect.specs.Passes.{CollectorValue, PassValue, ends_of, pass_records, AreGathered, HaveReceipts}
 use Rattle.record_collect.specs.Gatherings.{AreWoven, GatheredValue, IsInBounds, AreGatheredOf, AreRecordsOfEach, HasTooLong, IsTooMuch}
+use Rattle.record_collect.specs.Ends.{IsGatheredBy, IsGatheredOf, TellsFirst}
 use Rattle.record_collect.specs.Takings.{AreFed, AreRead, HasAccepted, IsFirstStopped, WasRefused}
 use Rattle.record_collect.proofs.WovenCosts.{woven-cost, woven-stands}
 use Rattle.record_collect.proofs.AllRead.{stands-behind}
@@ -33,7 +33,7 @@ use Rattle.record_collect.proofs.FedThreads.{AreTakings, Taking, all-taken, answ
 
 -- where each pass has all records of its file, these are the lists
 whole_list : (row : Taking) → row.part ≡ Whole → row.list ≡ pass_records row.pass
-whole_list row is = sym (subst (λ (part : Fed). HasAccepted part row.pass row.list) is row.has).0
+whole_list row is = sym (subst (λ (part : Coverage). HasAccepted part row.pass row.list) is row.has).0
 
 whole_lists : (rows : List Taking) → AllByRecursion (λ a. a ≡ Ok Whole) (answers_of rows) → lists_of rows ≡ map pass_records (passes_of rows)
 whole_lists [] all = refl
@@ -45,7 +45,7 @@ whole_lists (row ∷ rows) all =
 pub many-gathered : (passes : List PassValue) (made : GatheredValue) → AreGathered passes made → length made.numbers ≡ length passes
 many-gathered passes made h = AllZip-long (HaveReceipts made.records) passes made.numbers h.receipts
 
-pub gathered-whole : (files : List (List ℕ)) (passes : List PassValue) (answers : List (Result Fed ReadEnd)) (made : GatheredValue)
+pub gathered-whole : (files : List (List ℕ)) (passes : List PassValue) (answers : List (Result Coverage ReadEnd)) (made : GatheredValue)
     → AreTakings files passes answers → AreRead answers Whole → AreGathered passes made → IsInBounds made → AreGatheredOf files made
 gathered-whole files passes answers made h read are bounds =
     let all : AllByRecursion (λ a. a ≡ Ok Whole) (answers_of h.rows) = subst (AllByRecursion (λ a. a ≡ Ok Whole)) h.of_answers (read.whole refl) in
@@ -66,10 +66,10 @@ refused-cost row refused (rest, is) =
     let own : cost_of row.list ≡ cost_of (pass_records row.pass ++ refused ∷ rest) = ap cost_of is in
     omega (arith, own, sum_by-append cost (pass_records row.pass) (refused ∷ rest), sum_by-cons cost refused rest)
 
-row-cost : (row : Taking) (part : Fed) → row.part ≡ part → cost_of (pass_records row.pass) ≤ cost_of row.list
+row-cost : (row : Taking) (part : Coverage) → row.part ≡ part → cost_of (pass_records row.pass) ≤ cost_of row.list
 row-cost row Whole is = omega (arith, ap cost_of (whole_list row is))
 row-cost row Front is =
-    let has = subst (λ (part : Fed). HasAccepted part row.pass row.list) is row.has in
+    let has = subst (λ (part : Coverage). HasAccepted part row.pass row.list) is row.has in
     omega (arith, refused-cost row has.0 (has.1, has.2))
 
 rows-cost : (rows : List Taking) → sum_by cost_of (map pass_records (passes_of rows)) ≤ sum_by cost_of (lists_of rows)
@@ -106,7 +106,7 @@ rows-refused (r ∷ rows) (suc i) row refused there h =
     )
 
 -- the row that an answer, or an end, is of
-row_answered : (rows : List Taking) (i : ℕ) (part : Fed) → slice_get (answers_of rows) i ≡ Some (Ok part)
+row_answered : (rows : List Taking) (i : ℕ) (part : Coverage) → slice_get (answers_of rows) i ≡ Some (Ok part)
     → (row : Taking) × (slice_get rows i ≡ Some row) × (row.part ≡ part)
 row_answered [] i part there = absurd cc
 row_answered (r ∷ rows) zero part there = (r, refl, cc)
@@ -159,18 +159,18 @@ too_long rows i row refused there h long = record {
   long = refused;
   one_list = list_at rows i row there;
   one_record = ap (λ (l : List (List ℕ)). slice_get l (length (pass_records row.pass))) h.1 ∙ stands-behind (pass_records row.pass) refused h.0;
-  more = long;
+  too_long = long;
 }
 
 -- where the records of the passes cost the least number at which one ended, those of the files are too much
-over_at : (rows : List Taking) (n : ℕ) (h : IsEndedRow rows n) (part : Fed) → h.row.part ≡ part → sum_by cost_of (map pass_records (passes_of rows)) ≡ n
+over_at : (rows : List Taking) (n : ℕ) (h : IsEndedRow rows n) (part : Coverage) → h.row.part ≡ part → sum_by cost_of (map pass_records (passes_of rows)) ≡ n
     → HasTooLong (lists_of rows) ⊎ (limit < sum_by cost_of (lists_of rows))
 over_at rows n h Whole is costs =
-    let has = subst (λ (part : Fed). HasAccepted part h.row.pass h.row.list) is h.row.has in
+    let has = subst (λ (part : Coverage). HasAccepted part h.row.pass h.row.list) is h.row.has in
     let no : None ≡ Some n = sym has.1 ∙ h.ended in
     absurd cc
 over_at rows n h Front is costs =
-    let has = subst (λ (part : Fed). HasAccepted part h.row.pass h.row.list) is h.row.has in
+    let has = subst (λ (part : Coverage). HasAccepted part h.row.pass h.row.list) is h.row.has in
     let was : WasRefused h.row.pass has.0 = has.3 in
     elim was [
       | inl long ↦ inl (too_long rows h.number h.row has.0 h.there (has.1, has.2) long)
@@ -185,7 +185,7 @@ over : (rows : List Taking) (made : GatheredValue) (i : ℕ) → AreGathered (pa
 over rows made i are there =
     let at = row_answered rows i Front there in
     let row : Taking = at.0 in
-    let has = subst (λ (part : Fed). HasAccepted part row.pass row.list) at.2 row.has in
+    let has = subst (λ (part : Coverage). HasAccepted part row.pass row.list) at.2 row.has in
     let was : WasRefused row.pass has.0 = has.3 in
     elim was [
       | inl long ↦ inl (too_long rows i row has.0 at.1 (has.1, has.2) long)
@@ -195,7 +195,7 @@ over rows made i are there =
           over_at rows (cost_of made.records) ends ends.row.part refl (woven-cost (map pass_records (passes_of rows)) made.records made.numbers are.woven)
     ]
 
-pub gathered-front : (files : List (List ℕ)) (passes : List PassValue) (answers : List (Result Fed ReadEnd)) (made : GatheredValue)
+pub gathered-front : (files : List (List ℕ)) (passes : List PassValue) (answers : List (Result Coverage ReadEnd)) (made : GatheredValue)
     → AreTakings files passes answers → AreRead answers Front → AreGathered passes made → IsTooMuch files
 gathered-front files passes answers made h read are =
     let one = read.front refl in
@@ -203,7 +203,7 @@ gathered-front files passes answers made h read are =
       lists = lists_of h.rows;
       are = h.are;
       over = over h.rows made one.0 (subst (λ (ps : List PassValue). AreGathered ps made) h.of_passes are)
-          (subst (λ (l : List (Result Fed ReadEnd)). slice_get l one.0 ≡ Some (Ok Front)) h.of_answers one.1);
+          (subst (λ (l : List (Result Coverage ReadEnd)). slice_get l one.0 ≡ Some (Ok Front)) h.of_answers one.1);
     }
 
 -- files have one list of records each
@@ -233,84 +233,69 @@ fits files made h much =
       | inl long ↦
           let there = woven-stands made.records h.lists made.numbers long.list_number long.number long.list long.long h.woven.each long.one_list long.one_record in
           let short : length long.long ≤ 2 ^ 24 = all_at (λ (r : List ℕ). length r ≤ 2 ^ 24) made.records there.0 long.long there.1 h.bounds.short in
-          absurd (omega (arith, short, long.more))
+          absurd (omega (arith, short, long.too_long))
       | inr more ↦ absurd (omega (arith, more, h.bounds.most, woven-cost h.lists made.records made.numbers h.woven))
     ]
 
--- so each answer that is owed is given, or a store or memory failed
-abbrev pub IsOwed : List (List ℕ) → Result GatheredValue GatherEnd → Type 0
-IsOwed files result =
-    ((index : ℕ) (fault : Fault) → IsFirstFault false files index fault → (result ≡ Err (gather.Refused index fault)) ⊎ (result ≡ Err gather.Store) ⊎ (result ≡ Err gather.Memory))
-    × (IsTooMuch files → (result ≡ Err gather.TooMuch) ⊎ (result ≡ Err gather.Store) ⊎ (result ≡ Err gather.Memory))
+-- so the first fault is told, and that the records are too much
+owed-gathered : (files : List (List ℕ)) (made : GatheredValue) → AreGatheredOf files made → TellsFirst (Ok made) files
+owed-gathered files made h = record {
+  refused = λ index fault first. absurd (first_or_none false files index fault first (none_of_each files h.lists h.are));
+  too_much = λ much. absurd (fits files made h much);
+}
 
-owed-gathered : (files : List (List ℕ)) (made : GatheredValue) → AreGatheredOf files made → IsOwed files (Ok made)
-owed-gathered files made h = (
-  λ index fault first. absurd (first_or_none false files index fault first (none_of_each files h.lists h.are)),
-  λ much. absurd (fits files made h much),
-)
-
-owed-refused : (files : List (List ℕ)) (index : ℕ) (fault : Fault) → IsFirstFault false files index fault → IsOwed files (Err (gather.Refused index fault))
-owed-refused files index fault h = (
-  λ other fault' first.
+owed-refused : (files : List (List ℕ)) (index : ℕ) (fault : Fault) → IsFirstFault false files index fault → TellsFirst (Err (gather.Refused index fault)) files
+owed-refused files index fault h = record {
+  refused = λ other fault' first.
       let same = first_is_one false files index other fault fault' h first in
-      inl (ap (λ (i : ℕ). Err (gather.Refused i fault)) same.0 ∙ ap (λ (f : Fault). Err (gather.Refused other f)) same.1),
-  λ much. absurd (first_or_none false files index fault h (none_of_each files much.lists much.are)),
-)
+      inl (ap (λ (i : ℕ). Err (gather.Refused i fault)) same.0 ∙ ap (λ (f : Fault). Err (gather.Refused other f)) same.1);
+  too_much = λ much. absurd (first_or_none false files index fault h (none_of_each files much.lists much.are));
+}
 
-owed-too_much : (files : List (List ℕ)) → IsTooMuch files → IsOwed files (Err gather.TooMuch)
-owed-too_much files h = (
-  λ index fault first. absurd (first_or_none false files index fault first (none_of_each files h.lists h.are)),
-  λ much. inl refl,
-)
+owed-too_much : (files : List (List ℕ)) → IsTooMuch files → TellsFirst (Err gather.TooMuch) files
+owed-too_much files h = record {
+  refused = λ index fault first. absurd (first_or_none false files index fault first (none_of_each files h.lists h.are));
+  too_much = λ much. inl refl;
+}
 
-pub owed : {S : Type 0} (bytes : S → Option (List ℕ)) (stores : List S) (result : Result GatheredValue GatherEnd)
-    → IfOk result (λ made. IfAllTell bytes stores (λ files. AreGatheredOf files made))
-    → ((index : ℕ) (fault : Fault) → result ≡ Err (gather.Refused index fault) → IfAllTell bytes stores (λ files. IsFirstFault false files index fault))
-    → (result ≡ Err gather.TooMuch → IfAllTell bytes stores IsTooMuch)
-    → IfAllTell bytes stores (λ files. IsOwed files result)
-owed bytes stores (Ok made) gathered refused too_much files tells = owed-gathered files made (gathered files tells)
-owed bytes stores (Err (gather.Refused index fault)) gathered refused too_much files tells =
-    owed-refused files index fault (refused index fault refl files tells)
-owed bytes stores (Err gather.TooMuch) gathered refused too_much files tells = owed-too_much files (too_much refl files tells)
-owed bytes stores (Err gather.Store) gathered refused too_much files tells = (λ index fault first. inr (inl refl), λ much. inr (inl refl))
-owed bytes stores (Err gather.Memory) gathered refused too_much files tells = (λ index fault first. inr (inr refl), λ much. inr (inr refl))
+pub owed : (files : List (List ℕ)) (result : Result GatheredValue GatherEnd) → IsGatheredOf result files → TellsFirst result files
+owed files (Ok made) h = owed-gathered files made h
+owed files (Err (gather.Refused index fault)) h = owed-refused files index fault h
+owed files (Err gather.TooMuch) h = owed-too_much files h
+owed files (Err gather.Store) h = record { refused = λ index fault first. inr (inl refl); too_much = λ much. inr (inl refl) }
+owed files (Err gather.Memory) h = record { refused = λ index fault first. inr (inr refl); too_much = λ much. inr (inr refl) }
 
 -- what is answered, by what was put of the stores' files
 module _ {S L : Type 0} (bytes : S → Option (List ℕ)) (told : S → Option ℕ) (name : S → L) (faults : S → ℕ) (collector : CollectorValue)
-    (passes : List PassValue) (before after : List S) (answers given : List (Result Fed ReadEnd)) (result : Result GatheredValue GatherEnd)
+    (passes : List PassValue) (before after : List S) (answers given : List (Result Coverage ReadEnd))
     (same : given ≡ answers) (fed : AreFed bytes told name faults collector passes before after answers) where
-  pub answers-gathered : IfOk result (λ made. AreRead given Whole × AreGathered passes made × IsInBounds made)
-      → IfOk result (λ made. IfAllTell bytes before (λ files. AreGatheredOf files made))
-  answers-gathered = IfOk-weaker result (λ made. AreRead given Whole × AreGathered passes made × IsInBounds made)
-      (λ made. IfAllTell bytes before (λ files. AreGatheredOf files made))
-      (λ made h files tells.
-      let whole : AreRead answers Whole = subst (λ (l : List (Result Fed ReadEnd)). AreRead l Whole) same h.0 in
+  pub answers-gathered : (result : Result GatheredValue GatherEnd) → IsGatheredBy result passes given → IfAllTell bytes before (IsGatheredOf result)
+  answers-gathered (Ok made) (read, are, bounds) files tells =
+      let whole : AreRead answers Whole = subst (λ (l : List (Result Coverage ReadEnd)). AreRead l Whole) same read in
       let taken = all-taken bytes told name faults collector passes before after answers files tells fed whole.each in
-      gathered-whole files passes answers made taken whole h.1 h.2)
-
-  pub answers-many : IfOk result (λ made. AreRead given Whole × AreGathered passes made × IsInBounds made)
-      → IfOk result (λ made. length made.numbers ≡ length before)
-  answers-many = IfOk-weaker result (λ made. AreRead given Whole × AreGathered passes made × IsInBounds made)
-      (λ made. length made.numbers ≡ length before)
-      (λ made h. many-gathered passes made h.1 ∙ fed-many bytes told name faults collector passes before after answers fed)
-
-  pub answers-refused : ((index : ℕ) (fault : Fault) → result ≡ Err (gather.Refused index fault) → IsFirstStopped given index (read.Refused fault))
-      → (index : ℕ) (fault : Fault) → result ≡ Err (gather.Refused index fault) → IfAllTell bytes before (λ files. IsFirstFault false files index fault)
-  answers-refused refused index fault is files tells =
+      gathered-whole files passes answers made taken whole are bounds
+  answers-gathered (Err (gather.Refused index fault)) stopped files tells =
       first-refused bytes told name faults collector passes before after answers files index fault tells fed
-      (subst (λ (l : List (Result Fed ReadEnd)). IsFirstStopped l index (read.Refused fault)) same (refused index fault is))
-
-  pub answers-too_much : (result ≡ Err gather.TooMuch → (made : GatheredValue) × AreRead given Front × AreGathered passes made)
-      → result ≡ Err gather.TooMuch → IfAllTell bytes before IsTooMuch
-  answers-too_much too_much is files tells =
-      let much = too_much is in
-      let front : AreRead answers Front = subst (λ (l : List (Result Fed ReadEnd)). AreRead l Front) same much.1 in
+      (subst (λ (l : List (Result Coverage ReadEnd)). IsFirstStopped l index (read.Refused fault)) same stopped)
+  answers-gathered (Err gather.TooMuch) (made, read, are) files tells =
+      let front : AreRead answers Front = subst (λ (l : List (Result Coverage ReadEnd)). AreRead l Front) same read in
       let taken = all-taken bytes told name faults collector passes before after answers files tells fed front.each in
-      gathered-front files passes answers much.0 taken front much.2
+      gathered-front files passes answers made taken front are
+  answers-gathered (Err gather.Store) h files tells = tt
+  answers-gathered (Err gather.Memory) h files tells = tt
 
-  pub answers-asked : (result ≡ Err gather.Store → (i : ℕ) × (slice_get given i ≡ Some (Err read.Store)))
+  pub answers-many : (result : Result GatheredValue GatherEnd) → IsGatheredBy result passes given → IfOk result (λ made. length made.numbers ≡ length before)
+  answers-many (Ok made) (read, are, bounds) =
+      many-gathered passes made are ∙ fed-many bytes told name faults collector passes before after answers fed
+  answers-many (Err end) h = tt
+
+  pub answers-asked : (result : Result GatheredValue GatherEnd) → IsGatheredBy result passes given
       → AreOnlyAsked bytes told name faults (result ≡ Err gather.Store) before after
-  answers-asked failed = fed-asked bytes told name faults collector passes before after answers fed
-      (λ is.
-      let one = failed is in
-      (one.0, subst (λ (l : List (Result Fed ReadEnd)). slice_get l one.0 ≡ Some (Err read.Store)) same one.1))
+  answers-asked result h = fed-asked bytes told name faults collector passes before after answers fed (λ is. failed_at result h is) where
+    failed_at : (result : Result GatheredValue GatherEnd) → IsGatheredBy result passes given → result ≡ Err gather.Store
+        → (i : ℕ) × (slice_get answers i ≡ Some (Err read.Store))
+    failed_at (Ok made) h is = absurd (cc is)
+    failed_at (Err (gather.Refused index fault)) h is = absurd (cc is)
+    failed_at (Err gather.TooMuch) h is = absurd (cc is)
+    failed_at (Err gather.Store) (i, there) is = (i, subst (λ (l : List (Result Coverage ReadEnd)). slice_get l i ≡ Some (Err read.Store)) same there)
+    failed_at (Err gather.Memory) h is = absurd (cc is)

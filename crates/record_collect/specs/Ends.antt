@@ -1,12 +1,42 @@
--- Inside. How gathering ends where a file was not read to its end. Own.
-use Rattle.std.specs.Prelude.{ℕ}
+-- Inside. How gathering ends, and what it says of files and passes then. Own.
+use Rattle.std.specs.Prelude.{◌≡◌, ℕ, ◌⊎◌, false, Some, Result, Ok, Err, List, slice_get}
+use Rattle.chunk_reader.specs.Faults.{IsFirstFault}
+use Rattle.chunk_reader.specs.declared.reasons.Fault.{Fault}
 use Rattle.chunk_reader.specs.declared.reasons.ReadEnd.{ReadEnd}
 use Rattle.chunk_reader.specs.declared.reasons.ReadEnd.TheVariants as read
+use Rattle.record_collect.specs.Gatherings.{AreGatheredOf, GatheredValue, IsInBounds, IsTooMuch}
+use Rattle.record_collect.specs.Passes.{AreGathered, PassValue}
+use Rattle.record_collect.specs.Takings.{AreRead, IsFirstStopped}
+use Rattle.record_collect.specs.declared.feeding.Coverage.{Coverage}
+use Rattle.record_collect.specs.declared.feeding.Coverage.TheVariants.{Whole, Front}
 use Rattle.record_collect.specs.declared.gathering.GatherEnd.{GatherEnd}
 use Rattle.record_collect.specs.declared.gathering.GatherEnd.TheVariants as gather
 
--- with the number of the file and its fault, or as its store or memory failed
+-- with the number of a file that was not read to its end, and its fault, or as its store or memory failed
 abbrev pub gather_end_of : ℕ → ReadEnd → GatherEnd
 gather_end_of index (read.Refused fault) = gather.Refused index fault
 gather_end_of index read.Store = gather.Store
 gather_end_of index read.Memory = gather.Memory
+
+-- what files are, by how gathering their records ended
+abbrev pub IsGatheredOf : Result GatheredValue GatherEnd → List (List ℕ) → Type 0
+IsGatheredOf (Ok made) files = AreGatheredOf files made
+IsGatheredOf (Err (gather.Refused index fault)) files = IsFirstFault false files index fault
+IsGatheredOf (Err gather.TooMuch) files = IsTooMuch files
+IsGatheredOf (Err gather.Store) files = Unit {0}
+IsGatheredOf (Err gather.Memory) files = Unit {0}
+
+-- and what passes are, and the answers of their stores
+abbrev pub IsGatheredBy : Result GatheredValue GatherEnd → List PassValue → List (Result Coverage ReadEnd) → Type 0
+IsGatheredBy (Ok made) passes answers = AreRead answers Whole × AreGathered passes made × IsInBounds made
+IsGatheredBy (Err (gather.Refused index fault)) passes answers = IsFirstStopped answers index (read.Refused fault)
+IsGatheredBy (Err gather.TooMuch) passes answers = (made : GatheredValue) × AreRead answers Front × AreGathered passes made
+IsGatheredBy (Err gather.Store) passes answers = (i : ℕ) × (slice_get answers i ≡ Some (Err read.Store))
+IsGatheredBy (Err gather.Memory) passes answers = Unit {0}
+
+-- the first file with a fault is told, and that the records are too much, unless a store or memory failed
+pub record TellsFirst (result : Result GatheredValue GatherEnd) (files : List (List ℕ)) : Type 0 where
+  pub refused : (index : ℕ) (fault : Fault) → IsFirstFault false files index fault
+      → (result ≡ Err (gather.Refused index fault)) ⊎ (result ≡ Err gather.Store) ⊎ (result ≡ Err gather.Memory)
+  pub too_much : IsTooMuch files
+      → (result ≡ Err gather.TooMuch) ⊎ (result ≡ Err gather.Store) ⊎ (result ≡ Err gather.Memory)

@@ -48,7 +48,7 @@ pub record HasTooLong (lists : List (List (List ℕ))) : Type 0 where
   pub long : List ℕ
   pub one_list : slice_get lists list_number ≡ Some list
   pub one_record : slice_get list number ≡ Some long
-  pub more : 2 ^ 24 < length long
+  pub too_long : 2 ^ 24 < length long
 
 -- the files have no fault, and they have a record of more than 2 ^ 24 bytes, or records that cost more than the limit together
 pub record IsTooMuch (files : List (List ℕ)) : Type 0 where

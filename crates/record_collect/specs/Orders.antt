@@ -1,11 +1,16 @@
 -- Inside. The records of all passes in one list, each with its receipt and the number of its pass. Own.
-use Rattle.std.specs.Prelude.{◌≡◌, ℕ, ◌+◌, ◌==◌, if◌then◌else◌, List, [], ◌∷◌, map}
-use Rattle.std.specs.List.{filter, range_with_len, sum_by}
+use Rattle.std.specs.Prelude.{◌≡◌, ◌≢◌, ℕ, ◌+◌, ◌^◌, ◌<◌, ◌≤◌, ◌==◌, if◌then◌else◌, Some, List, [], ◌∷◌, length, map, slice_get}
+use Rattle.std.specs.List.{AllByRecursion, filter, range_with_len, sum_by}
 use Rattle.simple_chunk.specs.Costs.{cost}
+use Rattle.atomic_table.specs.Table.{Me}
+use Rattle.number_shares.specs.Least.{IsLeast}
+use Rattle.number_shares.specs.declared.table.SeatView.{SeatView}
 use Rattle.number_shares.specs.declared.table.Piece.{Piece}
 use Rattle.record_collect.specs.declared.collector.Accepted.{Accepted}
 use Rattle.record_collect.specs.declared.placed.Placed.{Placed}
 use Rattle.record_collect.specs.Gatherings.{GatheredValue}
+use Rattle.record_collect.specs.Limits.{limit}
+use Rattle.record_collect.specs.Passes.{PassValue, Rises, ends_of}
 
 -- a record of a pass in the list of all
 abbrev pub place_in : ℕ → Accepted → Placed
@@ -36,6 +41,29 @@ bytes_in es = map (λ e. e.bytes) es
 abbrev pub places_of : ℕ → ℕ → List Placed → List ℕ
 places_of pass at [] = []
 places_of pass at (e ∷ es) = if e.pass == pass then at ∷ places_of pass (at + 1) es else places_of pass (at + 1) es
+
+-- these are the records of so many passes, each with the number of its pass
+pub record ArePlaced (passes : List PassValue) (count : ℕ) (es : List Placed) : Type 0 where
+  pub each : (i : ℕ) (p : PassValue) → slice_get passes i ≡ Some p → of_pass i es ≡ map (place_in i) p.mine
+  pub rising : (i : ℕ) (p : PassValue) → slice_get passes i ≡ Some p → Rises p.mine
+  pub no_other : AllByRecursion (λ e. e.pass < count) es
+
+-- a seat has what the seats of so many passes had: the pieces of these records, and the numbers at which passes ended
+pub record HasAllOf (passes : List PassValue) (count : ℕ) (es : List Placed) (me : Me (Unit {0}) SeatView) : Type 0 where
+  pub mine : me.0.mine ≡ map piece_at es
+  pub past : map (λ x. x.at) me.0.past ≡ ends_of passes
+  pub weight : me.0.weight ≡ count
+  pub slots : me.1 ≡ []
+
+-- these are the records of so many passes in the order of their receipts: none is too long, what they cost is within the limit,
+-- and where passes ended the least number at which one did
+pub record AreSorted (passes : List PassValue) (count : ℕ) (es : List Placed) : Type 0 where
+  pub each : (i : ℕ) (p : PassValue) → slice_get passes i ≡ Some p → of_pass i es ≡ map (place_in i) p.mine
+  pub no_other : AllByRecursion (λ e. e.pass < count) es
+  pub receipts : ReceiptsAddUp 0 es
+  pub short : AllByRecursion (λ e. length e.bytes ≤ 2 ^ 24) es
+  pub most : cost_of_placed es ≤ limit
+  pub ended : ends_of passes ≢ [] → IsLeast (cost_of_placed es) (ends_of passes)
 
 -- the records, and the numbers of each of so many passes
 abbrev pub gathered_of : List Placed → ℕ → GatheredValue

@@ -31,6 +31,10 @@ BelongsTo collector pass = pass.table ≡ collector.table
 abbrev pub IsFresh : PassValue → Type 0
 IsFresh pass = (pass.mine ≡ []) × (pass.ended ≡ None)
 
+-- a pass of the collector of which nothing was put yet
+abbrev pub IsReady : CollectorValue → PassValue → Type 0
+IsReady collector pass = BelongsTo collector pass × IsFresh pass
+
 -- each receipt is below the next
 abbrev pub Rises : List Accepted → Type 0
 Rises [] = Unit {0}

@@ -1,6 +1,6 @@
 //! A list that several threads put records into.
 ghost use Rattle.std.specs.Prelude.{◌≡◌, ◌≤◌, [], All, IfErr, IfOk, vec_len};
-ghost use Rattle.record_collect.specs.Passes.{BelongsTo, IsFresh, IsPut, IsRefused};
+ghost use Rattle.record_collect.specs.Passes.{BelongsTo, IsFresh, IsPut, IsReady, IsRefused};
 ghost use Rattle.record_collect.specs.Puts.{puts};
 
 use atomic_table::{Seat, Table};
@@ -92,7 +92,7 @@ impl Collector {
         requires passes { (1 ≤ passes) × (passes ≤ 16) }
         ensures collector { IfOk result (λ made. made.0.passes ≡ passes) }
         ensures passes { IfOk result (λ made. vec_len made.1 ≡ passes) }
-        ensures each { IfOk result (λ made. All (λ pass. BelongsTo made.0 pass × IsFresh pass) made.1.items) }
+        ensures each { IfOk result (λ made. All (IsReady made.0) made.1.items) }
     {
         let mut made = Vec::with_capacity(alloc, passes as usize)?;
         let bounds = Bounds {

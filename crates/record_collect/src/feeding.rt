@@ -1,14 +1,14 @@
 //! The records of one file, which are put by one pass.
-ghost use Rattle.std.specs.Prelude.{◌≡◌, ℕ, ◌^◌, ◌<◌, ◌≤◌, [], ◌∷◌, List, Some, IfOk, IfSome, Ok, Err, false, true};
-ghost use Rattle.record_io.specs.Calls.{OnlyAsks};
+ghost use Rattle.std.specs.Prelude.{◌≡◌, ℕ, ◌^◌, ◌<◌, ◌≤◌, [], ◌∷◌, List, IfOk, IfSome, Ok, Err, false, true};
+ghost use Rattle.record_io.specs.Calls.{HasSize, OnlyAsks};
 ghost use Rattle.chunk_header.specs.Views.{value_of_chunk};
 ghost use Rattle.meta_chunk.specs.Files.{Holds};
 ghost use Rattle.chunk_reader.specs.Contents.{IsJudged};
 ghost use Rattle.chunk_reader.specs.Faults.{IsFault};
 ghost use Rattle.chunk_reader.specs.Readers.{ReadsIn, ReadsOn, IsReadWhole};
 ghost use Rattle.chunk_reader.specs.declared.reasons.Fault.{Fault};
-ghost use Rattle.record_collect.specs.Passes.{BelongsTo, IsFresh};
-ghost use Rattle.record_collect.specs.Takings.{IsTakenOf, IsTakenSoFar, TakesOn};
+ghost use Rattle.record_collect.specs.Passes.{BelongsTo, IsReady};
+ghost use Rattle.record_collect.specs.Takings.{IsFed, IsTakenSoFar, TakesOn};
 
 use crate::collector::{CollectEnd, Collector, Pass};
 use chunk_reader::{Judged, ReadEnd, Reader, What};
@@ -18,7 +18,7 @@ use std::alloc::AllocError;
 
 /// What a pass has of the records of a file.
 #[derive(Clone, Copy, Debug, PartialEq, Eq)]
-pub(crate) enum Fed {
+pub(crate) enum Coverage {
     /// All of them.
     Whole,
     /// Those before one that was refused.
@@ -36,19 +36,13 @@ pub(crate) fn feed_file<S: Store>(
     store: &mut S,
     size: u64,
     pass: &mut Pass,
-) -> Result<Fed, ReadEnd>
-    requires told { S.told store.old ≡ Some size }
-    requires in_reach { size ≤ 2 ^ 60 }
-    requires belongs { BelongsTo collector.now pass.old }
-    requires fresh { IsFresh pass.old }
-    ensures belongs { BelongsTo collector.now pass.new }
-    ensures part { IfOk result (λ part. IfSome (S.bytes store.old) (λ file. IsTakenOf file part pass.new)) }
-    ensures refused { (fault : Fault) → result ≡ Err (ReadEnd.Refused fault)
-        → IfSome (S.bytes store.old) (λ file. IsFault false file fault) }
-    ensures store { OnlyAsks S.bytes S.told S.name S.faults (result ≡ Err ReadEnd.Store) store.old store.new }
+) -> Result<Coverage, ReadEnd>
+    requires sized { HasSize (S.told store.old) size }
+    requires ready { IsReady collector.now pass.old }
+    ensures fed { IsFed S.bytes S.told S.name S.faults collector.now pass.new store.old store.new result }
 {
     let mut reader = Reader::new(size, false);
-    let mut part = Fed::Whole;
+    let mut part = Coverage::Whole;
     while feed_next(collector, store, &mut reader, pass, &mut part)? {}
     Ok(part)
 }
@@ -59,7 +53,7 @@ fn feed_next<S: Store>(
     store: &mut S,
     reader: &mut Reader,
     pass: &mut Pass,
-    part: &mut Fed,
+    part: &mut Coverage,
 ) -> Result<bool, ReadEnd>
     requires strict { reader.old.keep ≡ false }
     requires reads { ReadsIn (S.bytes store.old) (S.told store.old) reader.old }
@@ -87,8 +81,8 @@ fn feed_chunk(
     collector: &Collector,
     judged: &Judged,
     pass: &mut Pass,
-    part: Fed,
-) -> Result<Fed, AllocError>
+    part: Coverage,
+) -> Result<Coverage, AllocError>
     requires judged { (size place : ℕ) × (size ≤ 2 ^ 60) × IsJudged false size place judged.now }
     requires belongs { BelongsTo collector.now pass.old }
     ensures belongs { BelongsTo collector.now pass.new }
@@ -106,8 +100,8 @@ fn feed_records(
     collector: &Collector,
     records: &Records,
     pass: &mut Pass,
-    part: Fed,
-) -> Result<Fed, AllocError>
+    part: Coverage,
+) -> Result<Coverage, AllocError>
     requires { BelongsTo collector.now pass.old }
     ensures belongs { BelongsTo collector.now pass.new }
     ensures part { IfOk result (λ after. TakesOn part pass.old after pass.new records.now) }
@@ -125,28 +119,28 @@ fn feed_record(
     collector: &Collector,
     rec: &[u8],
     pass: &mut Pass,
-    part: Fed,
-) -> Result<Fed, AllocError>
+    part: Coverage,
+) -> Result<Coverage, AllocError>
     requires { BelongsTo collector.now pass.old }
     ensures belongs { BelongsTo collector.now pass.new }
     ensures part { IfOk result (λ after. TakesOn part pass.old after pass.new (rec.now ∷ [])) }
 {
     match part {
-        Fed::Whole => put_record(collector, rec, pass),
-        Fed::Front => Ok(Fed::Front),
+        Coverage::Whole => put_record(collector, rec, pass),
+        Coverage::Front => Ok(Coverage::Front),
     }
 }
 
 /// Puts a record.
-fn put_record(collector: &Collector, rec: &[u8], pass: &mut Pass) -> Result<Fed, AllocError>
+fn put_record(collector: &Collector, rec: &[u8], pass: &mut Pass) -> Result<Coverage, AllocError>
     requires { BelongsTo collector.now pass.old }
     ensures belongs { BelongsTo collector.now pass.new }
-    ensures part { IfOk result (λ after. TakesOn Fed.Whole pass.old after pass.new (rec.now ∷ [])) }
+    ensures part { IfOk result (λ after. TakesOn Coverage.Whole pass.old after pass.new (rec.now ∷ [])) }
 {
     match collector.put(pass, rec) {
-        Ok(_) => Ok(Fed::Whole),
-        Err(CollectEnd::TooLong) => Ok(Fed::Front),
-        Err(CollectEnd::Full { .. }) => Ok(Fed::Front),
+        Ok(_) => Ok(Coverage::Whole),
+        Err(CollectEnd::TooLong) => Ok(Coverage::Front),
+        Err(CollectEnd::Full { .. }) => Ok(Coverage::Front),
         Err(CollectEnd::Memory) => Err(AllocError),
     }
 }

@@ -1,11 +1,8 @@
 //! What is made of the passes of a collector.
-ghost use Rattle.std.specs.Prelude.{◌≡◌, ◌≢◌, ℕ, ◌<◌, ◌≤◌, ◌^◌, Some, [], All, IfOk, length, map, vec_len, slice_get};
-ghost use Rattle.std.specs.List.{AllByRecursion};
-ghost use Rattle.number_shares.specs.Least.{IsLeast};
+ghost use Rattle.std.specs.Prelude.{◌≡◌, ◌<◌, All, IfOk, vec_len};
 ghost use Rattle.record_collect.specs.Gatherings.{IsInBounds};
-ghost use Rattle.record_collect.specs.Passes.{AreGathered, BelongsTo, PassValue, Rises, ends_of};
-ghost use Rattle.record_collect.specs.Orders.{ReceiptsAddUp, cost_of_placed, of_pass, piece_at, place_in};
-ghost use Rattle.record_collect.specs.Limits.{limit};
+ghost use Rattle.record_collect.specs.Passes.{AreGathered, BelongsTo};
+ghost use Rattle.record_collect.specs.Orders.{ArePlaced, AreSorted, HasAllOf};
 
 use crate::collector::{Collector, Pass};
 use crate::gathered::Gathered;
@@ -33,12 +30,7 @@ impl Collector {
     fn sorted(self, alloc: Global, passes: Vec<Pass>) -> Result<Vec<Placed>, AllocError>
         requires passes { vec_len passes ≡ self.passes }
         requires each { All (BelongsTo self) passes.items }
-        ensures each { IfOk result (λ all. (i : ℕ) (p : PassValue) → slice_get passes.items i ≡ Some p → of_pass i all.items ≡ map (place_in i) p.mine) }
-        ensures no_other { IfOk result (λ all. AllByRecursion (λ e. e.pass < vec_len passes) all.items) }
-        ensures receipts { IfOk result (λ all. ReceiptsAddUp 0 all.items) }
-        ensures short { IfOk result (λ all. AllByRecursion (λ e. length e.bytes ≤ 2 ^ 24) all.items) }
-        ensures most { IfOk result (λ all. cost_of_placed all.items ≤ limit) }
-        ensures ended { IfOk result (λ all. ends_of passes.items ≢ [] → IsLeast (cost_of_placed all.items) (ends_of passes.items)) }
+        ensures { IfOk result (λ all. AreSorted passes.items (vec_len passes) all.items) }
     {
         let (whole, mut all) = self.joined(alloc, passes)?;
         let Collector { table, .. } = self;
@@ -56,13 +48,8 @@ impl Collector {
         requires passes { 0 < vec_len passes }
         requires each { All (BelongsTo self.now) passes.items }
         ensures table { IfOk result (λ r. r.0.table_id ≡ self.now.table) }
-        ensures mine { IfOk result (λ r. r.0.me.0.mine ≡ map piece_at r.1.items) }
-        ensures past { IfOk result (λ r. map (λ x. x.at) r.0.me.0.past ≡ ends_of passes.items) }
-        ensures weight { IfOk result (λ r. r.0.me.0.weight ≡ vec_len passes) }
-        ensures slots { IfOk result (λ r. r.0.me.1 ≡ []) }
-        ensures each { IfOk result (λ r. (i : ℕ) (p : PassValue) → slice_get passes.items i ≡ Some p → of_pass i r.1.items ≡ map (place_in i) p.mine) }
-        ensures rising { IfOk result (λ r. (i : ℕ) (p : PassValue) → slice_get passes.items i ≡ Some p → Rises p.mine) }
-        ensures no_other { IfOk result (λ r. AllByRecursion (λ e. e.pass < vec_len passes) r.1.items) }
+        ensures seat { IfOk result (λ r. HasAllOf passes.items (vec_len passes) r.1.items r.0.me) }
+        ensures placed { IfOk result (λ r. ArePlaced passes.items (vec_len passes) r.1.items) }
     {
         let mut all = Vec::new(alloc);
         let Some(last) = passes.pop() else {

@@ -1,17 +1,13 @@
 //! Files whose records are gathered into one list, by threads.
-ghost use Rattle.std.specs.Prelude.{◌≡◌, ℕ, All, ◌+◌, ◌^◌, ◌<◌, ◌≤◌, ◌⊎◌, Some, IfOk, Ok, Err, false, length, slice_get, vec_len};
-ghost use Rattle.std.specs.List.{AllByRecursion};
-ghost use Rattle.record_io.specs.ManyStores.{AreOnlyAsked, AreTold, IfAllTell};
-ghost use Rattle.chunk_reader.specs.Faults.{IsFirstFault};
-ghost use Rattle.chunk_reader.specs.declared.reasons.Fault.{Fault};
-ghost use Rattle.record_collect.specs.declared.feeding.Fed.{Fed};
-ghost use Rattle.record_collect.specs.declared.gathering.Stopped.{Stopped};
-ghost use Rattle.record_collect.specs.Gatherings.{GatheredValue, IsInBounds, AreGatheredOf, IsTooMuch};
-ghost use Rattle.record_collect.specs.Passes.{AreGathered, BelongsTo};
-ghost use Rattle.record_collect.specs.Takings.{AreRead, IsFirstStopped, both_taken};
+ghost use Rattle.std.specs.Prelude.{◌≡◌, All, ◌≤◌, IfOk, Err, length, vec_len};
+ghost use Rattle.record_io.specs.ManyStores.{AreOnlyAsked, IfAllTell};
+ghost use Rattle.record_collect.specs.declared.gathering.StoppedAt.{StoppedAt};
+ghost use Rattle.record_collect.specs.Ends.{IsGatheredBy, IsGatheredOf, TellsFirst};
+ghost use Rattle.record_collect.specs.Passes.{BelongsTo};
+ghost use Rattle.record_collect.specs.Takings.{AreRead, AreSized, IsFirstStopped, both_taken};
 
 use crate::collector::{Collector, Pass};
-use crate::feeding::Fed;
+use crate::feeding::Coverage;
 use crate::gathered::Gathered;
 use crate::slots::feed_into;
 use chunk_reader::{Fault, ReadEnd};
@@ -39,17 +35,17 @@ pub enum GatherEnd {
 
 /// A file that was not read to its end, by its number from 0, and why. Own.
 #[derive(Clone, Copy)]
-struct Stopped {
+struct StoppedAt {
     index: u64,
     end: ReadEnd,
 }
 
-impl From<Stopped> for GatherEnd {
+impl From<StoppedAt> for GatherEnd {
     ghost use Rattle.record_collect.specs.Ends.{gather_end_of};
 
     ghost from_gives = { λ stopped end. end ≡ gather_end_of stopped.index stopped.end };
 
-    fn from(stopped: Stopped) -> GatherEnd {
+    fn from(stopped: StoppedAt) -> GatherEnd {
         let index = stopped.index;
         match stopped.end {
             ReadEnd::Refused(fault) => GatherEnd::Refused { index, fault },
@@ -73,22 +69,14 @@ pub fn gather<R: Threads + Sync, S: Store + Send>(
     stores: &mut [S],
     sizes: &[u64],
 ) -> Result<Gathered, GatherEnd>
-    requires some { 0 < length stores.old }
-    requires few { length stores.old ≤ 16 }
-    requires told { AreTold S.told stores.old sizes.now }
-    requires in_reach { AllByRecursion (λ size. size ≤ 2 ^ 60) sizes.now }
+    requires many { (1 ≤ length stores.old) × (length stores.old ≤ 16) }
+    requires sized { AreSized S.told stores.old sizes.now }
     ensures many { IfOk result (λ made. length made.numbers ≡ length stores.old) }
-    ensures gathered { IfOk result (λ made. IfAllTell S.bytes stores.old (λ files. AreGatheredOf files made)) }
-    ensures refused { (index : ℕ) (fault : Fault) → result ≡ Err (GatherEnd.Refused index fault)
-        → IfAllTell S.bytes stores.old (λ files. IsFirstFault false files index fault) }
-    ensures too_much { result ≡ Err GatherEnd.TooMuch → IfAllTell S.bytes stores.old IsTooMuch }
-    ensures complete { IfAllTell S.bytes stores.old (λ files.
-        ((index : ℕ) (fault : Fault) → IsFirstFault false files index fault
-        → (result ≡ Err (GatherEnd.Refused index fault)) ⊎ (result ≡ Err GatherEnd.Store) ⊎ (result ≡ Err GatherEnd.Memory))
-        × (IsTooMuch files → (result ≡ Err GatherEnd.TooMuch) ⊎ (result ≡ Err GatherEnd.Store) ⊎ (result ≡ Err GatherEnd.Memory))) }
+    ensures gathered { IfAllTell S.bytes stores.old (IsGatheredOf result) }
+    ensures complete { IfAllTell S.bytes stores.old (TellsFirst result) }
     ensures stores { AreOnlyAsked S.bytes S.told S.name S.faults (result ≡ Err GatherEnd.Store) stores.old stores.new }
 {
-    let Ok(mut answers) = unread(alloc, stores.len()) else {
+    let Ok(mut answers) = unanswered(alloc, stores.len()) else {
         return Err(GatherEnd::Memory);
     };
     let Ok((collector, mut passes)) = Collector::new(alloc, stores.len() as u32) else {
@@ -104,28 +92,24 @@ fn all_gathered(
     alloc: Global,
     collector: Collector,
     passes: Vec<Pass>,
-    answers: &[Result<Fed, ReadEnd>],
+    answers: &[Result<Coverage, ReadEnd>],
 ) -> Result<Gathered, GatherEnd>
     requires passes { vec_len passes ≡ collector.passes }
     requires each { All (BelongsTo collector) passes.items }
-    ensures read { IfOk result (λ made. AreRead answers.now Fed.Whole × AreGathered passes.items made × IsInBounds made) }
-    ensures refused { (index : ℕ) (fault : Fault) → result ≡ Err (GatherEnd.Refused index fault) → IsFirstStopped answers.now index (ReadEnd.Refused fault) }
-    ensures too_much { result ≡ Err GatherEnd.TooMuch
-        → (made : GatheredValue) × AreRead answers.now Fed.Front × AreGathered passes.items made }
-    ensures store { result ≡ Err GatherEnd.Store → (i : ℕ) × (slice_get answers.now i ≡ Some (Err ReadEnd.Store)) }
+    ensures { IsGatheredBy result passes.items answers.now }
 {
     let part = all_read(answers)?;
     let Ok(made) = collector.finish(alloc, passes) else {
         return Err(GatherEnd::Memory);
     };
     match part {
-        Fed::Whole => Ok(made),
-        Fed::Front => Err(GatherEnd::TooMuch),
+        Coverage::Whole => Ok(made),
+        Coverage::Front => Err(GatherEnd::TooMuch),
     }
 }
 
 /// So many places for answers.
-fn unread(alloc: Global, count: usize) -> Result<Vec<Result<Fed, ReadEnd>>, AllocError>
+fn unanswered(alloc: Global, count: usize) -> Result<Vec<Result<Coverage, ReadEnd>>, AllocError>
     ensures { IfOk result (λ answers. vec_len answers ≡ count) }
 {
     let mut answers = Vec::with_capacity(alloc, count)?;
@@ -136,16 +120,16 @@ fn unread(alloc: Global, count: usize) -> Result<Vec<Result<Fed, ReadEnd>>, Allo
 }
 
 /// What was taken of all files together, or the first that was not read to its end.
-fn all_read(answers: &[Result<Fed, ReadEnd>]) -> Result<Fed, Stopped>
+fn all_read(answers: &[Result<Coverage, ReadEnd>]) -> Result<Coverage, StoppedAt>
     ensures read { IfOk result (λ part. AreRead answers.now part) }
-    ensures stopped { (stopped : Stopped) → result ≡ Err stopped → IsFirstStopped answers.now stopped.index stopped.end }
+    ensures stopped { (stopped : StoppedAt) → result ≡ Err stopped → IsFirstStopped answers.now stopped.index stopped.end }
 {
-    let mut part = Fed::Whole;
+    let mut part = Coverage::Whole;
     for index in 0..answers.len() {
         let more = match answers[index] {
             Ok(more) => more,
             Err(end) => {
-                return Err(Stopped {
+                return Err(StoppedAt {
                     index: index as u64,
                     end,
                 });
@@ -157,11 +141,11 @@ fn all_read(answers: &[Result<Fed, ReadEnd>]) -> Result<Fed, Stopped>
 }
 
 /// What is taken of files together with one more.
-fn both_taken(part: Fed, more: Fed) -> Fed
+fn both_taken(part: Coverage, more: Coverage) -> Coverage
     ensures { result ≡ both_taken part more }
 {
     match part {
-        Fed::Whole => more,
-        Fed::Front => Fed::Front,
+        Coverage::Whole => more,
+        Coverage::Front => Coverage::Front,
     }
 }

@@ -1,13 +1,10 @@
 //! Threads that each read one store.
-ghost use Rattle.std.specs.Prelude.{◌≡◌, ◌^◌, ◌<◌, ◌≤◌, All, length, vec_len};
-ghost use Rattle.std.specs.List.{AllByRecursion};
+ghost use Rattle.std.specs.Prelude.{◌≡◌, ◌<◌, length, vec_len};
 ghost use Rattle.std.specs.Thread.{IsSync, IsSend};
-ghost use Rattle.record_io.specs.ManyStores.{AreTold};
-ghost use Rattle.record_collect.specs.Passes.{BelongsTo, IsFresh};
-ghost use Rattle.record_collect.specs.Takings.{AreFed};
+ghost use Rattle.record_collect.specs.Takings.{AreFed, CanBeFed};
 
 use crate::collector::{Collector, Pass};
-use crate::feeding::{Fed, feed_file};
+use crate::feeding::{Coverage, feed_file};
 use chunk_reader::ReadEnd;
 use record_io::Store;
 use std::thread::{Threads, join_mut};
@@ -20,15 +17,10 @@ pub(crate) fn feed_slots<R: Threads + Sync, S: Store + Send>(
     collector: &Collector,
     sizes: &[u64],
     passes: &mut [Pass],
-    answers: &mut [Result<Fed, ReadEnd>],
+    answers: &mut [Result<Coverage, ReadEnd>],
     stores: &mut [S],
 )
-    requires sizes { length sizes.now ≡ length stores.old }
-    requires passes { length passes.old ≡ length stores.old }
-    requires answers { length answers.old ≡ length stores.old }
-    requires told { AreTold S.told stores.old sizes.now }
-    requires in_reach { All (λ size. size ≤ 2 ^ 60) sizes.now }
-    requires each { All (λ pass. BelongsTo collector.now pass × IsFresh pass) passes.old }
+    requires { CanBeFed S.told collector.now sizes.now passes.old answers.old stores.old }
     ensures { AreFed S.bytes S.told S.name S.faults collector.now passes.new stores.old stores.new answers.new }
 {
     if stores.len() < 2 {
@@ -43,15 +35,13 @@ pub(crate) fn feed_slots<R: Threads + Sync, S: Store + Send>(
     join_mut(
         rt,
         &mut ||
-            requires { IsSync R.row × IsSend S.row × (length low.now ≡ length front.now) × (length p.now ≡ length front.now) × (length x.now ≡ length front.now)
-                × AreTold S.told front.now low.now × All (λ size. size ≤ 2 ^ 60) low.now
-                × All (λ pass. BelongsTo collector.now pass × IsFresh pass) p.now }
+            requires { IsSync R.row × IsSend S.row
+                × CanBeFed S.told collector.now low.now p.now x.now front.now }
             ensures { AreFed S.bytes S.told S.name S.faults collector.entry.now p.exit.now front.entry.now front.exit.now x.exit.now }
         { feed_slots(rt, collector, low, p, x, front) },
         &mut ||
-            requires { IsSync R.row × IsSend S.row × (length high.now ≡ length back.now) × (length q.now ≡ length back.now) × (length y.now ≡ length back.now)
-                × AreTold S.told back.now high.now × All (λ size. size ≤ 2 ^ 60) high.now
-                × All (λ pass. BelongsTo collector.now pass × IsFresh pass) q.now }
+            requires { IsSync R.row × IsSend S.row
+                × CanBeFed S.told collector.now high.now q.now y.now back.now }
             ensures { AreFed S.bytes S.told S.name S.faults collector.entry.now q.exit.now back.entry.now back.exit.now y.exit.now }
         { feed_slots(rt, collector, high, q, y, back) },
     );
@@ -62,16 +52,11 @@ fn feed_slot<S: Store>(
     collector: &Collector,
     sizes: &[u64],
     passes: &mut [Pass],
-    answers: &mut [Result<Fed, ReadEnd>],
+    answers: &mut [Result<Coverage, ReadEnd>],
     stores: &mut [S],
 )
     requires short { length stores.old < 2 }
-    requires sizes { length sizes.now ≡ length stores.old }
-    requires passes { length passes.old ≡ length stores.old }
-    requires answers { length answers.old ≡ length stores.old }
-    requires told { AreTold S.told stores.old sizes.now }
-    requires in_reach { All (λ size. size ≤ 2 ^ 60) sizes.now }
-    requires each { All (λ pass. BelongsTo collector.now pass × IsFresh pass) passes.old }
+    requires ready { CanBeFed S.told collector.now sizes.now passes.old answers.old stores.old }
     ensures { AreFed S.bytes S.told S.name S.faults collector.now passes.new stores.old stores.new answers.new }
 {
     if !stores.is_empty() {
@@ -85,15 +70,10 @@ pub(crate) fn feed_into<R: Threads + Sync, S: Store + Send>(
     collector: &Collector,
     sizes: &[u64],
     passes: &mut Vec<Pass>,
-    answers: &mut Vec<Result<Fed, ReadEnd>>,
+    answers: &mut Vec<Result<Coverage, ReadEnd>>,
     stores: &mut [S],
 )
-    requires sizes { length sizes.now ≡ length stores.old }
-    requires passes { vec_len passes.old ≡ length stores.old }
-    requires answers { vec_len answers.old ≡ length stores.old }
-    requires told { AreTold S.told stores.old sizes.now }
-    requires in_reach { All (λ size. size ≤ 2 ^ 60) sizes.now }
-    requires each { All (λ pass. BelongsTo collector.now pass × IsFresh pass) passes.old.items }
+    requires { CanBeFed S.told collector.now sizes.now passes.old.items answers.old.items stores.old }
     ensures passes { vec_len passes.new ≡ vec_len passes.old }
     ensures fed { AreFed S.bytes S.told S.name S.faults collector.now passes.new.items stores.old stores.new answers.new.items }
 {

@@ -1,9 +1,8 @@
 -- One more file behind others: its totals, and what a sink takes of it.
-use Rattle.std.proofs.Common.{◌≡◌, ◌∙◌, ℕ, ◌+◌, ◌%◌, ◌<◌, ◌≤◌, ◌⊎◌, Option, Some, None, List, [], ◌++◌, length, IfSome, ap, inl, inr, arith}
+use Rattle.std.proofs.Common.{◌≡◌, ◌∙◌, ℕ, ◌+◌, ◌%◌, ◌<◌, ◌≤◌, ◌⊎◌, Option, Some, None, Ok, Err, List, [], length, IfSome, refl, ap, true, inl, inr, arith}
 use Rattle.std.proofs.lemmas.Bool.{cases_lt}
 use Rattle.record_values.specs.declared.file_totals.Totals.{Totals}
 use Rattle.record_io.specs.Outside.{Takes, TakesShort}
-use Rattle.record_io.specs.Calls.{TakesFront}
 use Rattle.record_io.proofs.Calls.{Takes-append, TakesFront-append, TakesShort-append, TakesShort-longer}
 use Rattle.block_layout.specs.Layout.{IsBlock, IsBoundary}
 use Rattle.block_layout.specs.NextPlaces.{IsOnBoundary}
@@ -13,8 +12,12 @@ use Rattle.meta_chunk.specs.PaddingSizes.{padding_at}
 use Rattle.meta_chunk.proofs.Joins.{end_of_chunks_past}
 use Rattle.meta_chunk.proofs.PaddingLemmas.{IsBlock-padding_at, padding_at-block, padding_at-inside}
 use Rattle.ordered_writer.specs.Padding.{padding_bytes}
+use Rattle.chunk_reader.specs.Faults.{IsFault}
 use Rattle.chunk_reader.specs.Progress.{AreInBounds}
-use Rattle.record_join.specs.Joins.{totals_joined, AreTotalsWith, IsFrontPut, IsShortPut}
+use Rattle.chunk_reader.specs.declared.reasons.Fault.{Fault}
+use Rattle.record_join.specs.Joins.{totals_joined, TakesCopied, TakesNext}
+use Rattle.record_join.specs.declared.joins.JoinEnd.{JoinEnd}
+use Rattle.record_join.specs.declared.joins.JoinEnd.TheVariants as end
 
 pub on_boundary : (p : ℕ) → IsOnBoundary p → IsBoundary p
 on_boundary p h = elim (cases_lt 0 (p % 65536)) [ inl inside ↦ inr (h inside) | inr none ↦ inl (omega (arith, none)) ]
@@ -58,30 +61,35 @@ bounds_behind before file most begin count h g block past = record {
 abbrev pub HasTotals : Option (List ℕ) → Totals → Type 0
 HasTotals bytes totals = IfSome bytes (λ file. (ks : List ChunkValue) × IsFrame ks file × (totals ≡ totals_of ks))
 
--- of the padding before it not all was put
-pub short_of_padding : (bytes a b : Option (List ℕ)) (padding : List ℕ) (totals : Totals) → HasTotals bytes totals → TakesShort a b padding
-    → IfSome bytes (λ file. IsShortPut padding file a b)
-short_of_padding None a b padding totals h short = tt
-short_of_padding (Some file) a b padding totals h short = ((h.0, h.1), TakesShort-longer a b padding file short)
+-- of a file that is refused nothing was put
+pub refused_behind : (bytes taken : Option (List ℕ)) (index : ℕ) (front : Totals) (fault : Fault) → IfSome bytes (λ file. IsFault true file fault)
+    → IfSome bytes (λ file. TakesNext (Err (end.Refused index fault)) index front file taken taken)
+refused_behind None taken index front fault is = tt
+refused_behind (Some file) taken index front fault is = (refl, is, refl)
 
--- the padding was put, and a front of the file
-pub front_of_file : (bytes a b c : Option (List ℕ)) (padding : List ℕ) (totals : Totals) → HasTotals bytes totals → Takes a b padding
-    → IfSome bytes (λ file. TakesFront b c file) → IfSome bytes (λ file. IsFrontPut padding file a c)
-front_of_file None a b c padding totals h whole front = tt
-front_of_file (Some file) a b c padding totals h whole front = inr ((h.0, h.1), TakesFront-append a b c padding file whole front)
+module _ (a b : Option (List ℕ)) (index : ℕ) (front file_totals : Totals) where
+  -- of the padding before it not all was put
+  pub short_of_padding : (bytes : Option (List ℕ)) → HasTotals bytes file_totals → TakesShort a b (padding_bytes front.bytes)
+      → IfSome bytes (λ file. TakesNext (Err end.Made) index front file a b)
+  short_of_padding None h short = tt
+  short_of_padding (Some file) h short = ((h.0, h.1), TakesShort-longer a b (padding_bytes front.bytes) file short)
 
--- or not all of the file
-pub short_of_file : (bytes a b c : Option (List ℕ)) (padding : List ℕ) (totals : Totals) → HasTotals bytes totals → Takes a b padding
-    → IfSome bytes (λ file. TakesShort b c file) → IfSome bytes (λ file. IsShortPut padding file a c)
-short_of_file None a b c padding totals h whole short = tt
-short_of_file (Some file) a b c padding totals h whole short = ((h.0, h.1), TakesShort-append a b c padding file whole short)
+  -- the padding was put, and so much of the file
+  pub copied_behind : (X : Type 0) (why : JoinEnd) (bytes c : Option (List ℕ)) → HasTotals bytes file_totals → Takes a b (padding_bytes front.bytes)
+      → IfSome bytes (λ file. TakesCopied {X = X} (Err why) file b c) → IfSome bytes (λ file. TakesNext (Err why) index front file a c)
+  copied_behind X why None c h padding copied = tt
+  copied_behind X (end.Refused number fault) (Some file) c h padding copied = absurd copied
+  copied_behind X end.Store (Some file) c h padding copied =
+      inr ((h.0, h.1), TakesFront-append a b c (padding_bytes front.bytes) file padding copied)
+  copied_behind X end.Made (Some file) c h padding copied =
+      ((h.0, h.1), TakesShort-append a b c (padding_bytes front.bytes) file padding copied)
 
--- and the whole file
-pub whole_behind : (bytes a b c : Option (List ℕ)) (before file_totals totals : Totals) → HasTotals bytes file_totals → totals ≡ totals_joined before file_totals
-    → Takes a b (padding_bytes before.bytes) → IfSome bytes (λ file. Takes b c file)
-    → IfSome bytes (λ file. AreTotalsWith before file totals × Takes a c (padding_bytes before.bytes ++ file))
-whole_behind None a b c before file_totals totals h is padding whole = tt
-whole_behind (Some file) a b c before file_totals totals h is padding whole = (
-  (h.0, h.1, is ∙ ap (totals_joined before) h.2),
-  Takes-append a b c (padding_bytes before.bytes) file padding whole,
-)
+  -- and the whole file
+  pub whole_behind : (totals : Totals) (bytes c : Option (List ℕ)) → HasTotals bytes file_totals → totals ≡ totals_joined front file_totals
+      → Takes a b (padding_bytes front.bytes) → IfSome bytes (λ file. Takes b c file)
+      → IfSome bytes (λ file. TakesNext (Ok totals) index front file a c)
+  whole_behind totals None c h is padding whole = tt
+  whole_behind totals (Some file) c h is padding whole = (
+    (h.0, h.1, is ∙ ap (totals_joined front) h.2),
+    Takes-append a b c (padding_bytes front.bytes) file padding whole,
+  )

@@ -1,11 +1,14 @@
 -- A file that is copied piece by piece.
-use Rattle.std.proofs.Common.{◌≡◌, ◌∙◌, ℕ, ◌+◌, ◌-◌, ◌≤◌, Option, Some, None, List, ◌++◌, length, take, drop, IfSome, sym, ap, subst, arith}
+use Rattle.std.proofs.Common.{◌≡◌, ◌∙◌, ℕ, ◌+◌, ◌-◌, ◌≤◌, Option, Some, None, Err, List, ◌++◌, length, take, drop, IfSome, sym, ap, subst, arith}
 use Rattle.std.specs.Prelude.{slice_range}
 use Rattle.std.proofs.Math.Seq.{take-add}
 use Rattle.std.proofs.lemmas.List.{take-append-drop, take_all}
 use Rattle.record_io.specs.Outside.{Takes, TakesShort}
 use Rattle.record_io.specs.Calls.{TakesFront}
-use Rattle.record_io.proofs.Calls.{Takes-append, TakesFront-longer, TakesFront-whole, TakesShort-append, TakesShort-longer}
+use Rattle.record_io.proofs.Calls.{Takes-append, TakesFront-append, TakesFront-longer, TakesFront-none, TakesShort-append, TakesShort-longer}
+use Rattle.record_join.specs.Joins.{TakesCopied}
+use Rattle.record_join.specs.declared.joins.JoinEnd.{JoinEnd}
+use Rattle.record_join.specs.declared.joins.JoinEnd.TheVariants as end
 
 -- a front and a piece behind it
 front_and_piece : (file : List ℕ) (at n : ℕ) → take at file ++ slice_range file at (at + n) ≡ take (at + n) file
@@ -21,24 +24,36 @@ copied_more None a b c at n front piece = tt
 copied_more (Some file) a b c at n front piece =
     subst (Takes a c) (front_and_piece file at n) (Takes-append a b c (take at file) (slice_range file at (at + n)) front piece)
 
--- the pieces so far are a front of the file
-pub copied_front : (bytes : Option (List ℕ)) (a b : Option (List ℕ)) (at : ℕ)
-    → IfSome bytes (λ file. Takes a b (take at file)) → IfSome bytes (λ file. TakesFront a b file)
-copied_front None a b at front = tt
-copied_front (Some file) a b at front =
-    subst (TakesFront a b) (take-append-drop at file)
-    (TakesFront-longer a b (take at file) (drop at file) (TakesFront-whole a b (take at file) front))
+-- of a piece that wasn't read nothing is put
+pub copied_none : (bytes taken : Option (List ℕ)) (piece : List ℕ → List ℕ) → IfSome bytes (λ file. TakesFront taken taken (piece file))
+copied_none None taken piece = tt
+copied_none (Some file) taken piece = TakesFront-none taken (piece file)
 
--- not all of a piece more is not all of the file
-pub copied_short : (bytes : Option (List ℕ)) (a b c : Option (List ℕ)) (at n : ℕ)
-    → IfSome bytes (λ file. Takes a b (take at file)) → IfSome bytes (λ file. TakesShort b c (slice_range file at (at + n)))
-    → IfSome bytes (λ file. TakesShort a c file)
-copied_short None a b c at n front piece = tt
-copied_short (Some file) a b c at n front piece =
-    let more = TakesShort-append a b c (take at file) (slice_range file at (at + n)) front piece in
-    subst (TakesShort a c)
+-- P holds of what was put of the file where it does of a piece more
+behind_pieces : (P : (before after : Option (List ℕ)) → List ℕ → Type 0)
+    → ((a b : Option (List ℕ)) (x y : List ℕ) → P a b x → P a b (x ++ y))
+    → ((a b c : Option (List ℕ)) (x y : List ℕ) → Takes a b x → P b c y → P a c (x ++ y))
+    → (bytes a b c : Option (List ℕ)) (at n : ℕ)
+    → IfSome bytes (λ file. Takes a b (take at file)) → IfSome bytes (λ file. P b c (slice_range file at (at + n)))
+    → IfSome bytes (λ file. P a c file)
+behind_pieces P longer append None a b c at n front piece = tt
+behind_pieces P longer append (Some file) a b c at n front piece =
+    subst (P a c)
     (ap (λ (xs : List ℕ). xs ++ drop (at + n) file) (front_and_piece file at n) ∙ take-append-drop (at + n) file)
-    (TakesShort-longer a c (take at file ++ slice_range file at (at + n)) (drop (at + n) file) more)
+    (longer a c (take at file ++ slice_range file at (at + n)) (drop (at + n) file)
+    (append a b c (take at file) (slice_range file at (at + n)) front piece))
+
+-- so a file is copied as far as its pieces are
+pub copied_failed : (X Y : Type 0) (why : JoinEnd) (bytes a b c : Option (List ℕ)) (at n : ℕ)
+    → IfSome bytes (λ file. Takes a b (take at file))
+    → IfSome bytes (λ file. TakesCopied {X = X} (Err why) (slice_range file at (at + n)) b c)
+    → IfSome bytes (λ file. TakesCopied {X = Y} (Err why) file a c)
+copied_failed X Y (end.Refused index fault) None a b c at n front piece = tt
+copied_failed X Y (end.Refused index fault) (Some file) a b c at n front piece = absurd piece
+copied_failed X Y end.Store bytes a b c at n front piece =
+    behind_pieces TakesFront TakesFront-longer TakesFront-append bytes a b c at n front piece
+copied_failed X Y end.Made bytes a b c at n front piece =
+    behind_pieces TakesShort TakesShort-longer TakesShort-append bytes a b c at n front piece
 
 -- all of it
 pub copied_whole : (bytes : Option (List ℕ)) (told : Option ℕ) (a b : Option (List ℕ)) (at size : ℕ)

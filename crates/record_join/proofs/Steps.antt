@@ -1,5 +1,5 @@
 -- Files that are joined one by one.
-use Rattle.std.proofs.Common.{◌≡◌, ◌∙◌, ℕ, ◌+◌, ◌<◌, ◌≤◌, ◌⊎◌, true, Option, Some, Result, Err, List, [], ◌∷◌, ◌++◌, length, take, get_or, refl, sym, ap, subst, inl, inr, arith}
+use Rattle.std.proofs.Common.{◌≡◌, ◌∙◌, ℕ, ◌+◌, ◌<◌, ◌≤◌, ◌⊎◌, true, Option, Some, Ok, Err, List, [], ◌∷◌, ◌++◌, length, take, get_or, refl, sym, ap, subst, inl, inr, arith}
 use Rattle.std.specs.Prelude.{slice_get, sum}
 use Rattle.std.specs.List.{AllByRecursion}
 use Rattle.std.proofs.lemmas.List.{append_assoc, length-take-le, take_all, take_more}
@@ -16,14 +16,14 @@ use Rattle.meta_chunk.specs.PaddingSizes.{padding_at}
 use Rattle.meta_chunk.proofs.PaddingLemmas.{padding_at-block, padding_at_near}
 use Rattle.ordered_writer.specs.Padding.{padding_bytes}
 use Rattle.ordered_writer.proofs.JoinedFiles.{IsFileOf-joined, length-file, length-joined, totals-joined}
-use Rattle.chunk_reader.specs.Faults.{HasNoFault, IsFault, HaveNoFault, IsFirstFault}
+use Rattle.chunk_reader.specs.Faults.{HasNoFault, IsFault, HaveNoFault}
 use Rattle.chunk_reader.specs.declared.reasons.Fault.{Fault}
 use Rattle.block_layout.specs.Layout.{IsBoundary}
 use Rattle.record_join.specs.Joined.{joined, joined_at_most}
-use Rattle.record_join.specs.Joins.{totals_joined, AreJoined, AreJoinedUpTo, AreTotalsWith, IsFrontJoined, IsFrontPut, IsPutOfJoined, IsShortJoined, IsShortPut}
+use Rattle.record_join.specs.Joins.{totals_joined, AnswersFirst, AreJoined, AreJoinedUpTo, AreTotalsWith, IsFrontJoined, IsFrontPut, IsPutOfJoined, TakesJoined, TakesNext}
 use Rattle.record_join.specs.declared.joins.JoinEnd.{JoinEnd}
 use Rattle.record_join.specs.declared.joins.JoinEnd.TheVariants as end
-use Rattle.chunk_reader.proofs.ManyFiles.{first_is_one}
+use Rattle.chunk_reader.proofs.ManyFiles.{first_is_one, first_or_none, first_without}
 use Rattle.record_join.proofs.FirstFaults.{front_joined}
 use Rattle.record_join.proofs.JoinedFiles.{boundaries, joined-more}
 
@@ -151,12 +151,12 @@ AreJoined-all files count totals before after some all kept =
       }
     ]
 
--- up to a file with a fault, of which nothing was put
-pub AreJoinedUpTo-fault : (files : List (List ℕ)) (count : ℕ) (file : List ℕ) (fault : Fault) (totals : Totals) (before after : Option (List ℕ))
-    → slice_get files count ≡ Some file → IsFault true file fault → JoinedSoFar files count totals before after
-    → AreJoinedUpTo files count fault before after
-AreJoinedUpTo-fault files count file fault totals before after there is kept =
-    record { first = record { before = kept.without_fault; file = file; there = there; is_fault = is }; took = kept.took }
+-- so none of them has a fault that could be told
+pub first_none : (files : List (List ℕ)) (totals : Totals) (before after : Option (List ℕ)) → AreJoined files totals before after → AnswersFirst (Ok totals) files
+first_none files totals before after all = record {
+  complete = λ index fault first. absurd (first_or_none true files index fault first all.without_fault);
+  sound_first = λ made. absurd (cc made);
+}
 
 -- up to a file without fault of which P holds behind those before it
 IsPutOfJoined-failed : (P : (before after : Option (List ℕ)) → List ℕ → Type 0)
@@ -175,32 +175,45 @@ IsPutOfJoined-failed P longer append files count file totals before between afte
     (subst (HaveNoFault true) is (all_and (HasNoFault true) first file kept.without_fault none))
     (subst (λ (fs : List (List ℕ)). P before after (joined fs)) is of_all)
 
--- up to a file of which a front was put, or nothing
-pub IsFrontJoined-failed : (files : List (List ℕ)) (count : ℕ) (file : List ℕ) (totals : Totals) (before between after : Option (List ℕ))
-    → slice_get files count ≡ Some file → IsFrontPut (padding_bytes totals.bytes) file between after
-    → JoinedSoFar files count totals before between → IsFrontJoined files before after
-IsFrontJoined-failed files count file totals before between after there (inl same) kept =
-    front_joined TakesFront TakesFront-longer files count before after kept.without_fault
-    (TakesFront-whole before after (joined (take count files)) (subst (λ (o : Option (List ℕ)). Takes before o (joined (take count files))) (sym same) kept.took))
-IsFrontJoined-failed files count file totals before between after there (inr (none, front)) kept =
-    IsPutOfJoined-failed TakesFront TakesFront-longer TakesFront-append files count file totals before between after there none front kept
+-- up to a file that wasn't put whole
+module _ (files : List (List ℕ)) (count : ℕ) (file : List ℕ) (totals : Totals) (before between after : Option (List ℕ))
+    (there : slice_get files count ≡ Some file) (kept : JoinedSoFar files count totals before between) where
+  -- of which nothing was put, since it has a fault
+  refused_here : (fault : Fault) → IsFault true file fault → after ≡ between → AreJoinedUpTo files count fault before after
+  refused_here fault is same = record {
+    first = record { before = kept.without_fault; file = file; there = there; is_fault = is };
+    took = subst (λ (o : Option (List ℕ)). Takes before o (joined (take count files))) (sym same) kept.took;
+  }
 
--- up to a file of which a front was put and not all
-pub IsShortJoined-failed : (files : List (List ℕ)) (count : ℕ) (file : List ℕ) (totals : Totals) (before between after : Option (List ℕ))
-    → slice_get files count ≡ Some file → IsShortPut (padding_bytes totals.bytes) file between after
-    → JoinedSoFar files count totals before between → IsShortJoined files before after
-IsShortJoined-failed files count file totals before between after there (none, short) kept =
-    IsPutOfJoined-failed TakesShort TakesShort-longer TakesShort-append files count file totals before between after there none short kept
+  -- or a front was, or nothing
+  front_here : IsFrontPut (padding_bytes totals.bytes) file between after → IsFrontJoined files before after
+  front_here (inl same) =
+      front_joined TakesFront TakesFront-longer files count before after kept.without_fault
+      (TakesFront-whole before after (joined (take count files)) (subst (λ (o : Option (List ℕ)). Takes before o (joined (take count files))) (sym same) kept.took))
+  front_here (inr (none, front)) =
+      IsPutOfJoined-failed TakesFront TakesFront-longer TakesFront-append files count file totals before between after there none front kept
 
--- a work that ended at a file ended at the first with a fault, unless a store or the sink failed
-pub ended_at_first : {X : Type 0} (result : Result X JoinEnd) (why : JoinEnd) (files : List (List ℕ)) (index : ℕ) (fault : Fault) → result ≡ Err why
-    → ((number : ℕ) (other : Fault) → why ≡ end.Refused number other → IsFirstFault true files number other) → IsFirstFault true files index fault
-    → (result ≡ Err (end.Refused index fault)) ⊎ (result ≡ Err end.Store) ⊎ (result ≡ Err end.Made)
-ended_at_first result (end.Refused number other) files index fault is refused first =
-    let one = first_is_one true files number index other fault (refused number other refl) first in
-    inl (is ∙ ap (λ (n : ℕ). Err (end.Refused n other)) one.0 ∙ ap (λ (f : Fault). Err (end.Refused index f)) one.1)
-ended_at_first result end.Store files index fault is refused first = inr (inl is)
-ended_at_first result end.Made files index fault is refused first = inr (inr is)
+  -- so files are joined by the end of this one
+  pub joined_failed : (why : JoinEnd) → TakesNext (Err why) count totals file between after → TakesJoined (Err why) files before after
+  joined_failed (end.Refused number fault) (same, is, unput) =
+      subst (λ (n : ℕ). AreJoinedUpTo files n fault before after) (sym same) (refused_here fault is unput)
+  joined_failed end.Store front = front_here front
+  joined_failed end.Made (none, short) =
+      IsPutOfJoined-failed TakesShort TakesShort-longer TakesShort-append files count file totals before between after there none short kept
+
+  -- and it is the first with a fault that is told
+  pub first_failed : (why : JoinEnd) → TakesNext (Err why) count totals file between after → AnswersFirst (Err why) files
+  first_failed (end.Refused number fault) (same, is, unput) = record {
+    complete = λ index other first.
+        let one = first_is_one true files count index fault other (refused_here fault is unput).first first in
+        inl (ap (λ (n : ℕ). Err (end.Refused n fault)) (same ∙ one.0) ∙ ap (λ (f : Fault). Err (end.Refused index f)) one.1);
+    sound_first = λ made. absurd (cc made);
+  }
+  first_failed end.Store front = record { complete = λ index fault first. inr (inl refl); sound_first = λ made. absurd (cc made) }
+  first_failed end.Made (none, short) = record {
+    complete = λ index fault first. inr (inr refl);
+    sound_first = λ made. first_without true files count file there none kept.without_fault;
+  }
 
 -- where one more file ends
 pub fits_more : (sizes : List ℕ) (count place then : ℕ) → count < length sizes → IsBoundary place → place ≤ joined_at_most (take count sizes)

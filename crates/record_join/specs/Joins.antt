@@ -1,14 +1,24 @@
 -- Inside. What is made of files that stores show. Own.
-use Rattle.std.specs.Prelude.{◌≡◌, ℕ, ◌+◌, ◌⊎◌, true, Option, List, [], ◌∷◌, ◌++◌, length, take}
+use Rattle.std.specs.Prelude.{◌≡◌, ℕ, ◌+◌, ◌^◌, ◌<◌, ◌≤◌, ◌⊎◌, true, Option, Result, Ok, Err, List, [], ◌∷◌, ◌++◌, length, take}
 use Rattle.record_values.specs.declared.file_totals.Totals.{Totals}
 use Rattle.record_io.specs.Outside.{Takes, TakesShort}
 use Rattle.record_io.specs.Calls.{TakesFront}
+use Rattle.record_io.specs.ManyStores.{AreTold}
 use Rattle.chunk_header.specs.Chunks.{ChunkValue}
 use Rattle.meta_chunk.specs.Files.{totals_of, IsFrame, end_of_chunks}
 use Rattle.meta_chunk.specs.PaddingSizes.{padding_at}
-use Rattle.chunk_reader.specs.Faults.{HasNoFault, HaveNoFault, IsFirstFault}
+use Rattle.ordered_writer.specs.Padding.{padding_bytes}
+use Rattle.chunk_reader.specs.Faults.{HasNoFault, HaveNoFault, IsFault, IsFirstFault}
 use Rattle.chunk_reader.specs.declared.reasons.Fault.{Fault}
-use Rattle.record_join.specs.Joined.{joined}
+use Rattle.record_join.specs.Joined.{joined, joined_at_most}
+use Rattle.record_join.specs.declared.joins.JoinEnd.{JoinEnd}
+use Rattle.record_join.specs.declared.joins.JoinEnd.TheVariants as end
+
+-- stores told sizes by which they can be joined: there is one, and one behind another they have no more bytes than a file may
+pub record CanBeJoined {S : Type 0} (told : S → Option ℕ) (stores : List S) (sizes : List ℕ) : Type 0 where
+  pub some : 0 < length stores
+  pub are_told : AreTold told stores sizes
+  pub in_reach : joined_at_most sizes ≤ 2 ^ 60
 
 -- the totals of files and of one more behind them, with the padding between
 abbrev pub totals_joined : Totals → Totals → Totals
@@ -50,6 +60,19 @@ IsFrontJoined files before after = IsPutOfJoined TakesFront files before after
 abbrev pub IsShortJoined : List (List ℕ) → (before after : Option (List ℕ)) → Type 0
 IsShortJoined files before after = IsPutOfJoined TakesShort files before after
 
+-- what was put of files by how joining them ended
+abbrev pub TakesJoined : Result Totals JoinEnd → List (List ℕ) → (before after : Option (List ℕ)) → Type 0
+TakesJoined (Ok totals) files before after = AreJoined files totals before after
+TakesJoined (Err (end.Refused index fault)) files before after = AreJoinedUpTo files index fault before after
+TakesJoined (Err end.Store) files before after = IsFrontJoined files before after
+TakesJoined (Err end.Made) files before after = IsShortJoined files before after
+
+-- the first file with a fault is told, unless a store or the sink failed; and the sink fails only where the first file has none
+pub record AnswersFirst (result : Result Totals JoinEnd) (files : List (List ℕ)) : Type 0 where
+  pub complete : (index : ℕ) (fault : Fault) → IsFirstFault true files index fault
+      → (result ≡ Err (end.Refused index fault)) ⊎ (result ≡ Err end.Store) ⊎ (result ≡ Err end.Made)
+  pub sound_first : result ≡ Err end.Made → HaveNoFault true (take 1 files)
+
 -- of one more file nothing was put; or it has no fault, and a front of it behind some padding was put
 abbrev pub IsFrontPut : (padding file : List ℕ) → (before after : Option (List ℕ)) → Type 0
 IsFrontPut padding file before after =
@@ -58,6 +81,22 @@ IsFrontPut padding file before after =
 -- one more file has no fault, and a front of it behind some padding was put and not all
 abbrev pub IsShortPut : (padding file : List ℕ) → (before after : Option (List ℕ)) → Type 0
 IsShortPut padding file before after = HasNoFault true file × TakesShort before after (padding ++ file)
+
+-- what was put of one more file, of this number and behind those of these totals, by how that ended
+abbrev pub TakesNext : Result Totals JoinEnd → ℕ → Totals → (file : List ℕ) → (before after : Option (List ℕ)) → Type 0
+TakesNext (Ok totals) index front file before after =
+    AreTotalsWith front file totals × Takes before after (padding_bytes front.bytes ++ file)
+TakesNext (Err (end.Refused number fault)) index front file before after =
+    (number ≡ index) × IsFault true file fault × (after ≡ before)
+TakesNext (Err end.Store) index front file before after = IsFrontPut (padding_bytes front.bytes) file before after
+TakesNext (Err end.Made) index front file before after = IsShortPut (padding_bytes front.bytes) file before after
+
+-- what was put of a file that is copied, or of a piece of one
+abbrev pub TakesCopied : {X : Type 0} → Result X JoinEnd → List ℕ → (before after : Option (List ℕ)) → Type 0
+TakesCopied (Ok x) bytes before after = Takes before after bytes
+TakesCopied (Err (end.Refused index fault)) bytes before after = ⊥
+TakesCopied (Err end.Store) bytes before after = TakesFront before after bytes
+TakesCopied (Err end.Made) bytes before after = TakesShort before after bytes
 
 -- the chunks of files one after another: those of each but the last and the padding at its end, and those of the last
 abbrev pub joined_chunks : List (List ChunkValue) → List ChunkValue

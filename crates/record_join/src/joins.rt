@@ -1,17 +1,13 @@
-ghost use Rattle.std.specs.Prelude.{◌≡◌, ℕ, ◌+◌, ◌*◌, ◌^◌, ◌<◌, ◌≤◌, ◌⊎◌, ◌++◌, true, Some, Err, IfOk, IfSome, List, length, slice_get, take};
-ghost use Rattle.record_io.specs.Outside.{Takes};
-ghost use Rattle.record_io.specs.Calls.{OnlyAsks, OnlyCounts};
+ghost use Rattle.std.specs.Prelude.{◌≡◌, ℕ, ◌+◌, ◌*◌, ◌^◌, ◌≤◌, Some, Err, IfOk, IfSome, slice_get};
+ghost use Rattle.record_io.specs.Calls.{AsksUpTo, HasSize, OnlyCounts};
+ghost use Rattle.record_io.specs.ManyStores.{AreOnlyAsked, IfAllTell};
 ghost use Rattle.meta_chunk.specs.Files.{end_of_chunks};
 ghost use Rattle.meta_chunk.specs.PaddingSizes.{padding_at};
-ghost use Rattle.ordered_writer.specs.Padding.{padding_bytes};
-ghost use Rattle.chunk_reader.specs.Faults.{IsFault, HaveNoFault, IsFirstFault};
 ghost use Rattle.chunk_reader.specs.Progress.{AreInBounds};
-ghost use Rattle.chunk_reader.specs.declared.reasons.Fault.{Fault};
 ghost use Rattle.record_join.specs.Joined.{joined_at_most};
-ghost use Rattle.record_join.specs.Joins.{totals_joined, AreJoined, AreJoinedUpTo, AreTotalsWith, IsFrontJoined, IsFrontPut, IsShortJoined, IsShortPut};
-ghost use Rattle.record_io.specs.ManyStores.{AreOnlyAsked, AreTold, IfAllTell};
+ghost use Rattle.record_join.specs.Joins.{totals_joined, AnswersFirst, CanBeJoined, TakesJoined, TakesNext};
 
-use crate::copies::{CopyEnd, copy_file};
+use crate::copies::copy_file;
 use chunk_reader::{Fault, VerifyEnd, verify};
 use ordered_writer::{OrderedWriter, padded};
 use record_io::{Failed, Sink, Store, Totals};
@@ -67,20 +63,10 @@ pub fn join<S: Store, M: Sink>(
     sizes: &[u64],
     made: &mut M,
 ) -> Result<Totals, JoinEnd>
-    requires some { 0 < length stores.old }
-    requires told { AreTold S.told stores.old sizes.now }
-    requires in_reach { joined_at_most sizes.now ≤ 2 ^ 60 }
-    ensures whole { IfOk result (λ totals.
-        IfAllTell S.bytes stores.old (λ files. AreJoined files totals (M.taken made.old) (M.taken made.new))) }
-    ensures refused { (index : ℕ) (fault : Fault) → result ≡ Err (JoinEnd.Refused index fault)
-        → IfAllTell S.bytes stores.old (λ files. AreJoinedUpTo files index fault (M.taken made.old) (M.taken made.new)) }
-    ensures complete { IfAllTell S.bytes stores.old (λ files. (index : ℕ) (fault : Fault) → IsFirstFault true files index fault
-        → (result ≡ Err (JoinEnd.Refused index fault)) ⊎ (result ≡ Err JoinEnd.Store) ⊎ (result ≡ Err JoinEnd.Made)) }
-    ensures front { result ≡ Err JoinEnd.Store
-        → IfAllTell S.bytes stores.old (λ files. IsFrontJoined files (M.taken made.old) (M.taken made.new)) }
-    ensures short { result ≡ Err JoinEnd.Made
-        → IfAllTell S.bytes stores.old (λ files. IsShortJoined files (M.taken made.old) (M.taken made.new)) }
-    ensures sound_first { result ≡ Err JoinEnd.Made → IfAllTell S.bytes stores.old (λ files. HaveNoFault true (take 1 files)) }
+    requires sized { CanBeJoined S.told stores.old sizes.now }
+    ensures joined { IfAllTell S.bytes stores.old (λ files.
+        TakesJoined result files (M.taken made.old) (M.taken made.new)) }
+    ensures first { IfAllTell S.bytes stores.old (AnswersFirst result) }
     ensures totals { IfOk result (λ totals. AreInBounds (joined_at_most sizes.now) totals) }
     ensures handed { (place : ℕ) (a b : S) (size : ℕ)
         → slice_get stores.old place ≡ Some a → slice_get stores.new place ≡ Some b → slice_get sizes.now place ≡ Some size
@@ -103,22 +89,14 @@ fn join_file<S: Store, M: Sink>(
     before: &Totals,
     made: &mut M,
 ) -> Result<Totals, JoinEnd>
-    requires told { S.told store.old ≡ Some size }
-    requires in_reach { size ≤ 2 ^ 60 }
+    requires sized { HasSize (S.told store.old) size }
     requires before { AreInBounds (2 ^ 60) before.now }
-    ensures whole { IfOk result (λ totals. IfSome (S.bytes store.old) (λ file.
-        AreTotalsWith before.now file totals
-        × Takes (M.taken made.old) (M.taken made.new) (padding_bytes before.now.bytes ++ file))) }
-    ensures refused { (number : ℕ) (fault : Fault) → result ≡ Err (JoinEnd.Refused number fault)
-        → (number ≡ index) × (made.new ≡ made.old) × IfSome (S.bytes store.old) (λ file. IsFault true file fault) }
-    ensures front { result ≡ Err JoinEnd.Store → IfSome (S.bytes store.old) (λ file.
-        IsFrontPut (padding_bytes before.now.bytes) file (M.taken made.old) (M.taken made.new)) }
-    ensures short { result ≡ Err JoinEnd.Made → IfSome (S.bytes store.old) (λ file.
-        IsShortPut (padding_bytes before.now.bytes) file (M.taken made.old) (M.taken made.new)) }
-    ensures totals { IfOk result (λ totals. AreInBounds totals.bytes totals) }
-    ensures end { IfOk result (λ totals. totals.bytes ≡ end_of_chunks before.now.bytes (padding_at before.now.bytes) + size) }
-    ensures handed { S.handed store.new ≤ S.handed store.old + 2 * size }
-    ensures store { OnlyAsks S.bytes S.told S.name S.faults (result ≡ Err JoinEnd.Store) store.old store.new }
+    ensures joined { IfSome (S.bytes store.old) (λ file.
+        TakesNext result index before.now file (M.taken made.old) (M.taken made.new)) }
+    ensures counted { IfOk result (λ totals. AreInBounds totals.bytes totals
+        × (totals.bytes ≡ end_of_chunks before.now.bytes (padding_at before.now.bytes) + size)) }
+    ensures store { AsksUpTo S.bytes S.told S.handed S.name S.faults (result ≡ Err JoinEnd.Store)
+        (2 * size) store.old store.new }
     ensures made { OnlyCounts M.lent M.faults (result ≡ Err JoinEnd.Made) made.old made.new }
 {
     let file = match verify(store, size) {
@@ -128,11 +106,8 @@ fn join_file<S: Store, M: Sink>(
     };
     let mut writer = OrderedWriter::resume(before.bytes);
     writer.pad(made)?;
-    match copy_file(store, size, made) {
-        Ok(()) => Ok(totals_joined(before, &file)),
-        Err(CopyEnd::Store) => Err(JoinEnd::Store),
-        Err(CopyEnd::Made) => Err(JoinEnd::Made),
-    }
+    copy_file(store, size, made)?;
+    Ok(totals_joined(before, &file))
 }
 
 /// The totals of files and of one more behind them, with the padding between.

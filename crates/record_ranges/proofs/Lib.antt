@@ -8,7 +8,6 @@ pub mod EvenCuts
 pub mod Answering
 mod Values
 pub mod RangesAnswers
-pub mod RangesLimits
 pub mod RangesLines
 pub mod RangesRuns
 pub mod RangesSizes

@@ -18,7 +18,7 @@ use Rattle.command_frame.specs.FileAnswers.{limit_text}
 use Rattle.command_frame.specs.declared.status.Status.TheVariants as status
 use Rattle.show_command.specs.Readings.{bare, record_line, refused_text}
 use Rattle.record_ranges.specs.RangesCommand.{AreOneFile, Differ, IsRangesAnswer, IsReadAnswer, IsTextOfFile, MayBeRead, differ_text}
-use Rattle.record_ranges.proofs.RangesSizes.{alike_or_differ, alike_within, past_or_within, sizes_judged}
+use Rattle.record_ranges.proofs.RangesSizes.{alike_or_differ, alike_within, sizes_judged}
 
 -- an answer that is printed alone
 abbrev pub printed : List ℕ → Answer
@@ -93,16 +93,16 @@ one_differ sizes a b c d h g =
 -- and one at most
 pub ranges_is_one : (files : List (List ℕ)) (a b : Answer) → IsRangesAnswer files a → IsRangesAnswer files b → a ≡ b
 ranges_is_one files a b (inl (past, is)) (inl (too, also)) = is ∙ sym also
-ranges_is_one files a b (inl (past, is)) (inr (inl (within, first, other, differ, also))) = absurd (past_or_within (map length files) past within)
+ranges_is_one files a b (inl (past, is)) (inr (inl (within, first, other, differ, also))) = absurd (past within)
 ranges_is_one files a b (inl (past, is)) (inr (inr (may, file, there, h))) =
-    absurd (past_or_within (map length files) past (alike_within may.0 (map length files) may.1))
-ranges_is_one files a b (inr (inl (within, first, other, differ, is))) (inl (past, also)) = absurd (past_or_within (map length files) past within)
+    absurd (past (alike_within may.0 (map length files) may.1))
+ranges_is_one files a b (inr (inl (within, first, other, differ, is))) (inl (past, also)) = absurd (past within)
 ranges_is_one files a b (inr (inl (within, first, other, differ, is))) (inr (inl (too, one, another, differs, also))) =
     is ∙ one_differ (map length files) first other one another differ differs ∙ sym also
 ranges_is_one files a b (inr (inl (within, first, other, differ, is))) (inr (inr (may, file, there, h))) =
     absurd (alike_or_differ may.0 first other (map length files) may.1 differ)
 ranges_is_one files a b (inr (inr (may, file, there, h))) (inl (past, also)) =
-    absurd (past_or_within (map length files) past (alike_within may.0 (map length files) may.1))
+    absurd (past (alike_within may.0 (map length files) may.1))
 ranges_is_one files a b (inr (inr (may, file, there, h))) (inr (inl (within, first, other, differ, also))) =
     absurd (alike_or_differ may.0 first other (map length files) may.1 differ)
 ranges_is_one files a b (inr (inr (may, file, there, h))) (inr (inr (also, other, is, g))) =

@@ -2,33 +2,11 @@
 use Rattle.std.proofs.Common.{◌≡◌, ◌∙◌, ℕ, zero, suc, ◌<◌, ◌≤◌, ◌⊎◌, Bool, true, false, cond, not, ◌||◌, Option, Some, None, List, [], ◌∷◌, get_or, length, refl, sym, ap, subst, inl, inr, arith}
 use Rattle.std.specs.Prelude.{◌==◌, nat_lt, slice_get}
 use Rattle.std.specs.List.{AllByRecursion, find, list_any}
-use Rattle.std.proofs.lemmas.Bool.{cases_Bool, eqb-true, eq-eqb, ltb-false, ltb-true}
-use Rattle.std.proofs.lemmas.List.Folds.{Any-from_list_any}
-use Rattle.record_ranges.specs.RangesCommand.{AreAlike, AreWithin, Differ, IsOnePast, MayBeRead, most_range_bytes}
-
--- one size is past the limit, or none is
-pub one_past : (sizes : List ℕ) → list_any (λ size. nat_lt most_range_bytes size) sizes ≡ true → IsOnePast sizes
-one_past sizes is =
-    let (k, size, below, there, test) = Any-from_list_any (λ size. nat_lt most_range_bytes size) sizes is in
-    (k, size, below, there, ltb-true most_range_bytes size test)
-
-neither : (a b : Bool) → (a || b) ≡ false → (a ≡ false) × (b ≡ false)
-neither true b is = absurd (cc is)
-neither false b is = (refl, is)
-
-pub none_past : (sizes : List ℕ) → list_any (λ size. nat_lt most_range_bytes size) sizes ≡ false → AreWithin sizes
-none_past [] is = tt
-none_past (size ∷ sizes) is =
-    let (first, others) = neither (nat_lt most_range_bytes size) (list_any (λ n. nat_lt most_range_bytes n) sizes) is in
-    (ltb-false most_range_bytes size first, none_past sizes others)
-
--- not both
-pub past_or_within : (sizes : List ℕ) → IsOnePast sizes → AreWithin sizes → ⊥
-past_or_within [] (k, size, below, there, past) within = omega (arith, below)
-past_or_within (first ∷ sizes) (zero, size, below, there, past) within =
-    let is : first ≡ size = there in omega (arith, is, past, within.0)
-past_or_within (first ∷ sizes) (suc k, size, below, there, past) within =
-    past_or_within sizes (k, size, omega (arith, below), there, past) within.1
+use Rattle.std.proofs.lemmas.Bool.{cases_Bool, eqb-true, eq-eqb}
+use Rattle.command_frame.specs.FileAnswers.{AreWithin}
+use Rattle.command_frame.proofs.AskedFiles.{none_past, one_past}
+use Rattle.record_ranges.specs.RangesCommand.{AreAlike, Differ, MayBeRead, most_range_bytes}
+use Rattle.record_ranges.specs.RangesEnds.{IsOnePast}
 
 -- where none is another than this one, all are this one
 not_found : (b : Bool) (size : ℕ) (rest : Option ℕ) → cond (not b) (Some size) rest ≡ None → (b ≡ true) × (rest ≡ None)
@@ -48,9 +26,9 @@ none_other first (size ∷ sizes) all =
     ap (λ (b : Bool). cond (not b) (Some size) (find (λ size. not (size == first)) sizes)) (eq-eqb size first all.0) ∙ none_other first sizes all.1
 
 -- sizes that are alike are within the limit
-pub alike_within : (size : ℕ) (sizes : List ℕ) → AreAlike size sizes → AreWithin sizes
+pub alike_within : (size : ℕ) (sizes : List ℕ) → AreAlike size sizes → AreWithin most_range_bytes sizes
 alike_within size sizes h = each sizes h.same where
-  each : (sizes : List ℕ) → AllByRecursion (λ other. other ≡ size) sizes → AreWithin sizes
+  each : (sizes : List ℕ) → AllByRecursion (λ other. other ≡ size) sizes → AreWithin most_range_bytes sizes
   each [] all = tt
   each (other ∷ sizes) all = (omega (arith, all.0, h.within), each sizes all.1)
 
@@ -70,24 +48,24 @@ alike_or_differ size first other sizes h (there, found) =
 
 -- what there is of sizes
 pub sizes_judged : (sizes : List ℕ) → 0 < length sizes → IsOnePast sizes
-    ⊎ (AreWithin sizes × (first : ℕ) × (other : ℕ) × Differ sizes first other)
+    ⊎ (AreWithin most_range_bytes sizes × (first : ℕ) × (other : ℕ) × Differ sizes first other)
     ⊎ MayBeRead sizes
 sizes_judged [] some = absurd (omega (arith, some))
 sizes_judged (first ∷ sizes) some = elim (cases_Bool (list_any (λ size. nat_lt most_range_bytes size) (first ∷ sizes))) [
-  | inl past ↦ inl (one_past (first ∷ sizes) past)
+  | inl past ↦ inl (one_past most_range_bytes (first ∷ sizes) past)
   | inr none ↦
-      let within = none_past (first ∷ sizes) none in
+      let within = none_past most_range_bytes (first ∷ sizes) none in
       of_others within (find (λ size. not (size == first)) (first ∷ sizes)) refl
 ] where
-  of_others : AreWithin (first ∷ sizes) → (found : Option ℕ) → find (λ size. not (size == first)) (first ∷ sizes) ≡ found
+  of_others : AreWithin most_range_bytes (first ∷ sizes) → (found : Option ℕ) → find (λ size. not (size == first)) (first ∷ sizes) ≡ found
       → IsOnePast (first ∷ sizes)
-      ⊎ (AreWithin (first ∷ sizes) × (one : ℕ) × (other : ℕ) × Differ (first ∷ sizes) one other)
+      ⊎ (AreWithin most_range_bytes (first ∷ sizes) × (one : ℕ) × (other : ℕ) × Differ (first ∷ sizes) one other)
       ⊎ MayBeRead (first ∷ sizes)
   of_others within None is =
       inr (inr (first, record { some = some; same = all_same first (first ∷ sizes) is; within = within.0 }))
   of_others within (Some other) is = inr (inl (within, first, other, (refl, is)))
 
 -- the first of sizes within the limit
-pub within_first : (sizes : List ℕ) (d : ℕ) → 0 < length sizes → AreWithin sizes → get_or sizes 0 d ≤ most_range_bytes
+pub within_first : (sizes : List ℕ) (d : ℕ) → 0 < length sizes → AreWithin most_range_bytes sizes → get_or sizes 0 d ≤ most_range_bytes
 within_first [] d some within = absurd (omega (arith, some))
 within_first (size ∷ sizes) d some within = within.0

@@ -7,11 +7,11 @@ use Rattle.chunk_reader.specs.declared.reasons.Fault.{Fault}
 use Rattle.chunk_reader.specs.declared.reasons.ReadEnd.{ReadEnd}
 use Rattle.command_frame.specs.Endings.{HaveTold, IsAllowedEndOfMany}
 use Rattle.command_frame.specs.declared.ending.Ending.{Ending}
-use Rattle.record_ranges.specs.RangesCommand.{IsOnePast, IsTextOfFile, MayBeRead, ranges_meaning}
-use Rattle.record_ranges.specs.RangesEnds.{PrintsOnlyWhole, IsReadIn, PrintsFile, StopsBy, all_lines, end_of_read}
-use Rattle.record_ranges.specs.declared.range_ends.Unread.{Unread}
+use Rattle.record_ranges.specs.RangesCommand.{IsTextOfFile, MayBeRead, ranges_meaning}
+use Rattle.record_ranges.specs.RangesEnds.{IsOnePast, PrintsOnlyWhole, IsReadIn, PrintsFile, StopsBy, all_lines, end_of_read}
+use Rattle.record_ranges.specs.declared.range_ends.RangesStop.{RangesStop}
 use Rattle.chunk_reader.specs.declared.reasons.ReadEnd.TheVariants as read
-use Rattle.command_frame.specs.declared.ending.Cut.TheVariants as cut
+use Rattle.record_io.specs.declared.cut.Cut.TheVariants as cut
 use Rattle.command_frame.specs.declared.ending.Ending.TheVariants as end
 
 -- stores of which the bytes stay show the same file
@@ -34,31 +34,31 @@ read-in (Err read.Store) file P holds text refused = tt
 read-in (Err read.Memory) file P holds text refused = tt
 
 -- the work ended as the file was not read
-module _ (e : ReadEnd) (why : Ending Unread) (is : why ≡ end_of_read e) where
+module _ (e : ReadEnd) (why : Ending RangesStop) (is : why ≡ end_of_read e) where
   pub unread-allowed : (told : List (Option ℕ)) → HaveTold told MayBeRead
       → IsAllowedEndOfMany {X = Unit {0}} ranges_meaning IsOnePast StopsBy (Err why) told
-  unread-allowed told ready = subst (λ (w : Ending Unread). IsAllowedEndOfMany {X = Unit {0}} ranges_meaning IsOnePast StopsBy (Err w) told) (sym is) (by_end e) where
+  unread-allowed told ready = subst (λ (w : Ending RangesStop). IsAllowedEndOfMany {X = Unit {0}} ranges_meaning IsOnePast StopsBy (Err w) told) (sym is) (by_end e) where
     by_end : (e : ReadEnd) → IsAllowedEndOfMany {X = Unit {0}} ranges_meaning IsOnePast StopsBy (Err (end_of_read e)) told
     by_end (read.Refused fault) = ready
     by_end read.Store = refl
     by_end read.Memory = (refl, ready)
 
   pub unread-file : (file : List ℕ) (out : Option (List ℕ)) → IsReadIn (Err e) file → PrintsFile {X = Unit {0}} (Err why) file out out
-  unread-file file out h = subst (λ (w : Ending Unread). PrintsFile {X = Unit {0}} (Err w) file out out) (sym is) (by_end e h) where
+  unread-file file out h = subst (λ (w : Ending RangesStop). PrintsFile {X = Unit {0}} (Err w) file out out) (sym is) (by_end e h) where
     by_end : (e : ReadEnd) → IsReadIn (Err e) file → PrintsFile {X = Unit {0}} (Err (end_of_read e)) file out out
     by_end (read.Refused fault) h = h
     by_end read.Store h = tt
     by_end read.Memory h = tt
 
   pub unread-printed : (out : Option (List ℕ)) → PrintsOnlyWhole {X = Unit {0}} (Err why) out out
-  unread-printed out = subst (λ (w : Ending Unread). PrintsOnlyWhole {X = Unit {0}} (Err w) out out) (sym is) (by_end e) where
+  unread-printed out = subst (λ (w : Ending RangesStop). PrintsOnlyWhole {X = Unit {0}} (Err w) out out) (sym is) (by_end e) where
     by_end : (e : ReadEnd) → PrintsOnlyWhole {X = Unit {0}} (Err (end_of_read e)) out out
     by_end (read.Refused fault) = refl
     by_end read.Store = refl
     by_end read.Memory = refl
 
   -- a store failed where that is told
-  pub store_failed : ◌≡◌ {A = Result (Unit {0}) (Ending Unread)} (Err why) (Err (end.Cut cut.File)) → e ≡ read.Store
+  pub store_failed : ◌≡◌ {A = Result (Unit {0}) (Ending RangesStop)} (Err why) (Err (end.Cut cut.File)) → e ≡ read.Store
   store_failed failed = by_end e (let same : why ≡ end.Cut cut.File = cc failed in sym is ∙ same) where
     by_end : (e : ReadEnd) → end_of_read e ≡ end.Cut cut.File → e ≡ read.Store
     by_end (read.Refused fault) failed = absurd (cc failed)

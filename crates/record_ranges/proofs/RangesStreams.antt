@@ -21,7 +21,7 @@ use Rattle.show_command.specs.declared.show_words.RecordForm.{RecordForm}
 use Rattle.show_command.specs.declared.show_words.ShowWords.{ShowWords}
 use Rattle.record_ranges.specs.RangesCommand.{AreAlike, IsRangesAnswer, IsReadAnswer, IsTextOfFile, differ_text, most_range_bytes}
 use Rattle.record_ranges.proofs.RangesAnswers.{first_of_all, printed}
-use Rattle.record_ranges.proofs.RangesSizes.{alike_or_differ, alike_within, past_or_within}
+use Rattle.record_ranges.proofs.RangesSizes.{alike_or_differ, alike_within}
 use Rattle.command_frame.specs.declared.status.Status.TheVariants as status
 
 -- nothing is made; on standard output nothing is put unless the work was done, and then in notes nothing
@@ -68,7 +68,7 @@ pub ranges-read : (files : List (List ℕ)) (file : List ℕ) (answer : Answer) 
     → length file ≤ most_range_bytes → IsRangesAnswer files answer → IsReadAnswer file answer
 ranges-read files file answer some one small (inl (past, is)) =
     let alike = sizes_of_one files file some one small in
-    absurd (past_or_within (map length files) past (alike_within (length file) (map length files) alike))
+    absurd (past (alike_within (length file) (map length files) alike))
 ranges-read files file answer some one small (inr (inl (within, first, other, differ, is))) =
     absurd (alike_or_differ (length file) first other (map length files) (sizes_of_one files file some one small) differ)
 ranges-read files file answer some one small (inr (inr (may, read, there, h))) =

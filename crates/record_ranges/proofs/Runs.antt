@@ -19,7 +19,7 @@ use Rattle.chunk_reader.proofs.NoReasonLaid.{allowed_where_none}
 use Rattle.record_ranges.specs.declared.stretches.Span.{Span}
 use Rattle.record_ranges.specs.declared.stretches.Stretch.{Stretch}
 use Rattle.record_ranges.specs.Ranges.{records_between}
-use Rattle.record_ranges.specs.Stretches.{AreChunksBetween, IsJudgedStretch, IsStretchOf, LiesWithin}
+use Rattle.record_ranges.specs.Stretches.{stretch_at, AreChunksBetween, IsJudgedStretch, IsStretchOf, LiesWithin}
 use Rattle.record_ranges.proofs.Between.{between-append}
 
 -- two lists of which each meets P
@@ -144,13 +144,12 @@ stretch-goes_on (Some file) size span old new j held h g begin last end holds re
     stretch-more file size span old new j held h g begin last end holds records
 
 -- a stretch from a chunk that holds the first position of a part on, up to the part's end or past that
-pub stretch-whole : (bytes now : Option (List ℕ)) (size begin : ℕ) (span : Span) (result : Result Stretch ReadEnd) → now ≡ bytes → IsSized bytes (Some size)
-    → begin ≤ span.from → IfOk result (λ s. s.begin ≡ begin) → IfOk result (λ s. span.to ≤ s.end) → IfOk result (λ s. s.end ≤ size)
-    → IfOk result (λ s. IfSome now (λ file. IsJudgedStretch file span s)) → IfOk result (λ s. IfSome bytes (λ file. IsStretchOf file span s))
-stretch-whole bytes now size begin span (Err end) same sized before from past within judged = tt
-stretch-whole None now size begin span (Ok s) same sized before from past within judged = tt
-stretch-whole (Some file) now size begin span (Ok s) same sized before from past within judged = record {
-  judged = subst (λ (b : Option (List ℕ)). IfSome b (λ f. IsJudgedStretch f span s)) same judged;
+pub stretch-whole : (bytes : Option (List ℕ)) (size begin : ℕ) (span : Span) (s : Stretch) → IsSized bytes (Some size)
+    → begin ≤ span.from → s.begin ≡ begin → span.to ≤ s.end → s.end ≤ size
+    → IfSome bytes (λ file. IsJudgedStretch file span s) → IfSome bytes (λ file. IsStretchOf file span s)
+stretch-whole None size begin span s sized before from past within judged = tt
+stretch-whole (Some file) size begin span s sized before from past within judged = record {
+  judged = judged;
   before = omega (arith, from, before);
   past = past;
   within = omega (arith, within, sized);
@@ -158,11 +157,13 @@ stretch-whole (Some file) now size begin span (Ok s) same sized before from past
 
 -- or of no chunks at the file's end
 pub stretch-at_end : (bytes : Option (List ℕ)) (size : ℕ) (span : Span) (s : Stretch) → IsSized bytes (Some size) → LiesWithin size span → size ≤ span.from
-    → s.begin ≡ size → s.last ≡ size → s.end ≡ size → s.records ≡ [] → IfSome bytes (λ file. IsStretchOf file span s)
-stretch-at_end None size span s sized lies past begin last end none = tt
-stretch-at_end (Some file) size span s sized lies past begin last end none = record {
-  judged = stretch-none file span s (last ∙ sym begin) (end ∙ sym begin) none;
-  before = omega (arith, begin, past);
-  past = omega (arith, lies.1, end);
-  within = omega (arith, end, sized);
-}
+    → s ≡ stretch_at size → IfSome bytes (λ file. IsStretchOf file span s)
+stretch-at_end None size span s sized lies past is = tt
+stretch-at_end (Some file) size span s sized lies past is =
+    subst (IsStretchOf file span) (sym is)
+    (record {
+      judged = stretch-none file span (stretch_at size) refl refl refl;
+      before = omega (arith, past);
+      past = omega (arith, lies.1, past);
+      within = omega (arith, sized);
+    })

@@ -1,18 +1,49 @@
 -- What threads were answered for halves of the parts, put together, and what it says of the stores.
-use Rattle.std.proofs.Common.{◌≡◌, ◌∙◌, ◌⊎◌, ℕ, ◌<◌, Option, Result, List, [], ◌∷◌, ◌++◌, Some, Ok, Err, All, IfOk, IfSome, inl, inr, map, take, set, length, refl, sym, subst, arith}
+use Rattle.std.proofs.Common.{◌≡◌, ◌∙◌, ◌⊎◌, ℕ, ◌+◌, ◌^◌, ◌<◌, ◌≤◌, Option, Result, List, [], ◌∷◌, ◌++◌, Some, Ok, Err, All, IfOk, IfSome, inl, inr, map, take, set, length, refl, sym, ap, subst, arith, length-append}
 use Rattle.std.specs.Prelude.{slice_index_or}
 use Rattle.std.specs.List.{AllByRecursion, AllZip}
 use Rattle.std.proofs.Math.Seq.{take-append_seam}
+use Rattle.std.proofs.lemmas.List.Elements.{All-from_recursion, recursion_from_All}
 use Rattle.record_io.specs.Calls.{OnlyAsks}
 use Rattle.record_io.specs.Outside.{Rose}
 use Rattle.chunk_reader.specs.declared.reasons.ReadEnd.{ReadEnd}
 use Rattle.chunk_reader.specs.declared.reasons.ReadEnd.TheVariants.{Store}
 use Rattle.record_ranges.specs.declared.stretches.Span.{Span}
 use Rattle.record_ranges.specs.declared.stretches.Stretch.{Stretch}
-use Rattle.record_ranges.specs.Stretches.{IsStretchOf}
+use Rattle.record_ranges.specs.Stretches.{IsStretchOf, LiesWithin}
 use Rattle.record_io.specs.ManyStores.{AnyRose, AreOnlyAsked}
 use Rattle.record_io.proofs.ManyStores.{AnyRose-then, Rose-after, asks_twice, asks_whatever, each_none}
-use Rattle.record_ranges.specs.Reads.{AreAnswered, AreReadIn, IsAmong}
+use Rattle.record_ranges.specs.Reads.{AreAnswered, AreReadIn, CanBeRead, IsAmong}
+
+-- what holds of all holds of a front, and of the others
+all-front : {X : Type 0} (P : X → Type 0) (xs a c : List X) → xs ≡ a ++ c → All P xs → All P a × All P c
+all-front {X} P xs a c is all =
+    let both = halves a (subst (AllByRecursion P) is (recursion_from_All P xs all)) in
+    (All-from_recursion P a both.0, All-from_recursion P c both.1)
+  where
+    halves : (a : List X) → AllByRecursion P (a ++ c) → AllByRecursion P a × AllByRecursion P c
+    halves [] all = (tt, all)
+    halves (x ∷ a) all = (let rest = halves a all.1 in ((all.0, rest.0), rest.1))
+
+-- so each half of the stores can be read where all can
+pub can_be_read-halves : {S : Type 0} (told : S → Option ℕ) (size : ℕ) (spans low high : List Span) (answers x y : List (Result Stretch ReadEnd))
+    (stores front back : List S) → spans ≡ low ++ high → answers ≡ x ++ y → stores ≡ front ++ back
+    → length low ≡ length front → length x ≡ length front → CanBeRead told size spans answers stores
+    → CanBeRead told size low x front × CanBeRead told size high y back
+can_be_read-halves told size spans low high answers x y stores front back of_spans of_answers of_stores m k h =
+    let tells = all-front (λ s. told s ≡ Some size) stores front back of_stores h.are_told in
+    let within = all-front (λ (span : Span). LiesWithin size span) spans low high of_spans h.within in
+    let many : length stores ≡ length front + length back = ap length of_stores ∙ length-append front back in
+    (
+      record { as_many_spans = m; as_many_answers = k; are_told = tells.0; within = within.0; in_reach = h.in_reach },
+      record {
+        as_many_spans = omega (arith, h.as_many_spans, ap length of_spans ∙ length-append low high, m, many);
+        as_many_answers = omega (arith, h.as_many_answers, ap length of_answers ∙ length-append x y, k, many);
+        are_told = tells.1;
+        within = within.1;
+        in_reach = h.in_reach;
+      },
+    )
 
 module _ {S L : Type 0} (bytes : S → Option (List ℕ)) (told : S → Option ℕ) (name : S → L) (faults : S → ℕ) where
   abbrev Answered : List Span → List S → List S → List (Result Stretch ReadEnd) → Type 0

@@ -3,4 +3,3 @@ pub mod Stretches
 pub mod Reads
 pub mod RangesCommand
 pub mod RangesEnds
-pub mod RangesWords

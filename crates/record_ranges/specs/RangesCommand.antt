@@ -1,6 +1,6 @@
 -- Promise. What `ranges` prints, says and ends with. Own.
 use Rattle.std.specs.Prelude.{◌≡◌, ℕ, ◌^◌, ◌<◌, ◌≤◌, ◌⊎◌, not, ◌==◌, true, false, Some, List, [], ◌∷◌, ◌++◌, decimal, length, map, slice_get}
-use Rattle.std.specs.List.{AllByRecursion, Any, find, flat_map}
+use Rattle.std.specs.List.{AllByRecursion, find, flat_map}
 use lib.Chars.{codes}
 use Rattle.record_io.specs.Puts.{Out, puts_to}
 use Rattle.chunk_header.specs.Chunks.{ChunkValue}
@@ -8,7 +8,7 @@ use Rattle.meta_chunk.specs.Files.{IsFile, ArePlaced}
 use Rattle.chunk_reader.specs.Faults.{IsFault}
 use Rattle.chunk_reader.specs.declared.reasons.Fault.{Fault}
 use Rattle.command_frame.specs.Answers.{Answer, line, noted}
-use Rattle.command_frame.specs.FileAnswers.{limit_text}
+use Rattle.command_frame.specs.FileAnswers.{AreWithin, MayEndBySizes, limit_text}
 use Rattle.command_frame.specs.Meanings.{Meaning, meaning, none_used}
 use Rattle.command_frame.specs.declared.status.Status.{Status}
 use Rattle.command_frame.specs.declared.status.Status.TheVariants as status
@@ -17,14 +17,6 @@ use Rattle.show_command.specs.Readings.{bare, record_line, refused_text}
 -- the most bytes of a file that is read in parts
 abbrev pub most_range_bytes : ℕ
 most_range_bytes = 2 ^ 28
-
--- sizes of files that have no more
-abbrev pub AreWithin : List ℕ → Type 0
-AreWithin sizes = AllByRecursion (λ size. size ≤ most_range_bytes) sizes
-
--- one of them is of a file that has more
-abbrev pub IsOnePast : List ℕ → Type 0
-IsOnePast sizes = Any (λ size. most_range_bytes < size) sizes
 
 -- the sizes of stores that differ: the first, and the first that is another
 abbrev pub Differ : List ℕ → (first other : ℕ) → Type 0
@@ -61,8 +53,8 @@ IsReadAnswer file answer =
 -- the answer to what the stores of one file show, by their sizes first
 abbrev pub IsRangesAnswer : List (List ℕ) → Answer → Type 0
 IsRangesAnswer files answer =
-    (IsOnePast (map length files) × (answer ≡ noted status.Limit limit_text))
-    ⊎ (AreWithin (map length files)
+    (¬ AreWithin most_range_bytes (map length files) × (answer ≡ noted status.Limit limit_text))
+    ⊎ (AreWithin most_range_bytes (map length files)
     × (first : ℕ) × (other : ℕ) × Differ (map length files) first other × (answer ≡ noted status.Differ (differ_text first other)))
     ⊎ (MayBeRead (map length files) × (file : List ℕ) × (slice_get files 0 ≡ Some file) × IsReadAnswer file answer)
 
@@ -70,14 +62,12 @@ IsRangesAnswer files answer =
 abbrev pub AreOneFile : List (List ℕ) → Type 0
 AreOneFile files = (file : List ℕ) × AllByRecursion (λ other. other ≡ file) files
 
--- how reading in parts may end by the sizes that the stores told, whatever they hold: with its work done or with a fault, or as
--- a size is too large, or as two differ
+-- how it may end by the sizes that the stores told, whatever they hold: also with a fault, or as two sizes differ
 abbrev pub MayEndRanges : List ℕ → Status → List ℕ → Type 0
 MayEndRanges sizes ended text =
-    (MayBeRead sizes × (ended ≡ status.Ok) × (text ≡ []))
-    ⊎ (MayBeRead sizes × (fault : Fault) × (ended ≡ status.Refused) × (text ≡ refused_text fault))
-    ⊎ (IsOnePast sizes × (ended ≡ status.Limit) × (text ≡ limit_text))
-    ⊎ (AreWithin sizes × (first : ℕ) × (other : ℕ) × Differ sizes first other × (ended ≡ status.Differ) × (text ≡ differ_text first other))
+    MayEndBySizes (λ sizes. ¬ AreWithin most_range_bytes sizes) MayBeRead
+    (λ ended text. (fault : Fault) × (ended ≡ status.Refused) × (text ≡ refused_text fault)) sizes ended text
+    ⊎ (AreWithin most_range_bytes sizes × (first : ℕ) × (other : ℕ) × Differ sizes first other × (ended ≡ status.Differ) × (text ≡ differ_text first other))
 
 -- what `ranges` means: once the sizes let the file be read, it is supposed that all stores show the same bytes
 abbrev pub ranges_meaning : Meaning

@@ -1,10 +1,12 @@
 -- Inside. What one thread reads of a file: the chunks between two places, and of their records those of one part. Own.
-use Rattle.std.specs.Prelude.{◌≡◌, ℕ, ◌≤◌, ◌⊎◌, List, [], ◌∷◌, length, slice_range}
-use Rattle.std.specs.List.{AllByRecursion, AllZip}
+use Rattle.std.specs.Prelude.{◌≡◌, ℕ, ◌≤◌, ◌⊎◌, List, [], ◌∷◌, ◌++◌, length, slice_range}
+use Rattle.std.specs.List.{AllByRecursion, AllZip, enumerate_from}
 use Rattle.record_values.specs.declared.file_totals.Totals.{Totals}
 use Rattle.chunk_header.specs.Chunks.{ChunkValue}
-use Rattle.meta_chunk.specs.Files.{totals_of, IsPlain, IsFile, ArePlaced, AreLaid, HoldEach, end_of_chunks, placed_from}
+use Rattle.chunk_header.specs.Views.{value_of_chunk}
+use Rattle.meta_chunk.specs.Files.{totals_of, Holds, IsPlain, IsFile, ArePlaced, AreLaid, HoldEach, end_of_chunks, placed_from}
 use Rattle.meta_chunk.specs.Chains.{IsChain}
+use Rattle.chunk_reader.specs.declared.judging.Judged.{Judged}
 use Rattle.record_ranges.specs.declared.stretches.Span.{Span}
 use Rattle.record_ranges.specs.declared.stretches.Stretch.{Stretch}
 use Rattle.record_ranges.specs.Ranges.{records_between}
@@ -36,6 +38,18 @@ pub record IsStretchOf (file : List ℕ) (span : Span) (s : Stretch) : Type 0 wh
   pub before : s.begin ≤ span.from
   pub past : span.to ≤ s.end
   pub within : s.end ≤ length file
+
+-- a stretch of no chunks, at a place
+abbrev pub stretch_at : ℕ → Stretch
+stretch_at place = record { begin = place; last = place; end = place; records = [] }
+
+-- a stretch goes on by a chunk that was judged, and takes those of its records that are of the part
+pub record TakesChunk (judged : Judged) (span : Span) (before after : Stretch) : Type 0 where
+  pub last : after.last ≡ judged.begin
+  pub end : after.end ≡ judged.end
+  pub held : List (List ℕ)
+  pub holds : Holds (value_of_chunk judged.chunk) held
+  pub records : after.records ≡ before.records ++ records_between span.from span.to (enumerate_from judged.begin held)
 
 -- parts meet one after another, from a last chunk that begins and ends at these places up to the size: each begins where the
 -- part before it ends, or where the last chunk of that begins

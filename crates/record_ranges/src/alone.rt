@@ -1,9 +1,9 @@
-ghost use Rattle.std.specs.Prelude.{◌≡◌, ℕ, ◌^◌, ◌≤◌, ◌<◌, Some, IfOk, IfSome, OnOk, Ok, true, false, Err};
+ghost use Rattle.std.specs.Prelude.{◌≡◌, ◌<◌, IfOk, IfSome, OnOk, Ok, true, false};
 ghost use Rattle.std.specs.List.{AllZip};
-ghost use Rattle.record_io.specs.Calls.{OnlyAsks};
-ghost use Rattle.chunk_reader.specs.Faults.{BeginsWithSignature, IsFault};
+ghost use Rattle.record_io.specs.Calls.{HasSize};
+ghost use Rattle.chunk_reader.specs.Faults.{BeginsWithSignature};
 ghost use Rattle.chunk_reader.specs.Readers.{ReadsIn, ReadsOn, IsReadWhole};
-ghost use Rattle.chunk_reader.specs.declared.reasons.Fault.{Fault};
+ghost use Rattle.record_ranges.specs.Reads.{ReadsStrictly};
 ghost use Rattle.record_ranges.specs.Stretches.{IsReadFromFront, IsReadSoFar};
 
 use crate::stretches::{Span, Stretch};
@@ -17,12 +17,9 @@ use std::alloc::Global;
 ///
 /// `Refused` with the fault of the file where it doesn't. `Store` only where the store failed.
 pub(crate) fn check_front<S: Store>(alloc: Global, store: &mut S, size: u64) -> Result<(), ReadEnd>
-    requires told { S.told store.old ≡ Some size }
-    requires in_reach { size ≤ 2 ^ 60 }
+    requires sized { HasSize (S.told store.old) size }
     ensures signed { OnOk result (IfSome (S.bytes store.old) BeginsWithSignature) }
-    ensures refused { (fault : Fault) → result ≡ Err (ReadEnd.Refused fault)
-        → IfSome (S.bytes store.old) (λ file. IsFault false file fault) }
-    ensures store { OnlyAsks S.bytes S.told S.name S.faults (result ≡ Err ReadEnd.Store) store.old store.new }
+    ensures answered { ReadsStrictly S.bytes S.told S.name S.faults result store.old store.new }
 {
     let mut reader = Reader::new(size, false);
     reader.next(alloc, store)?;
@@ -40,12 +37,9 @@ pub(crate) fn read_alone<S: Store>(
     size: u64,
     spans: &[Span],
 ) -> Result<Vec<Stretch>, ReadEnd>
-    requires told { S.told store.old ≡ Some size }
-    requires in_reach { size ≤ 2 ^ 60 }
+    requires sized { HasSize (S.told store.old) size }
     ensures read { IfOk result (λ parts. IfSome (S.bytes store.old) (λ file. AllZip (IsReadFromFront file) spans.now parts.items)) }
-    ensures refused { (fault : Fault) → result ≡ Err (ReadEnd.Refused fault)
-        → IfSome (S.bytes store.old) (λ file. IsFault false file fault) }
-    ensures store { OnlyAsks S.bytes S.told S.name S.faults (result ≡ Err ReadEnd.Store) store.old store.new }
+    ensures answered { ReadsStrictly S.bytes S.told S.name S.faults result store.old store.new }
 {
     let mut parts = Vec::new(alloc);
     for &span in spans {
@@ -64,12 +58,9 @@ fn read_from_front<S: Store>(
     size: u64,
     span: Span,
 ) -> Result<Stretch, ReadEnd>
-    requires told { S.told store.old ≡ Some size }
-    requires in_reach { size ≤ 2 ^ 60 }
+    requires sized { HasSize (S.told store.old) size }
     ensures read { IfOk result (λ part. IfSome (S.bytes store.old) (λ file. IsReadFromFront file span part)) }
-    ensures refused { (fault : Fault) → result ≡ Err (ReadEnd.Refused fault)
-        → IfSome (S.bytes store.old) (λ file. IsFault false file fault) }
-    ensures store { OnlyAsks S.bytes S.told S.name S.faults (result ≡ Err ReadEnd.Store) store.old store.new }
+    ensures answered { ReadsStrictly S.bytes S.told S.name S.faults result store.old store.new }
 {
     let mut reader = Reader::new(size, false);
     let mut part = Stretch::at(alloc, 0);
@@ -92,9 +83,7 @@ fn take_next<S: Store>(
     ensures read { result ≡ Ok true → IfSome (S.bytes store.old) (λ file.
         IsReadSoFar file span reader.old.totals part.old.records → IsReadSoFar file span reader.new.totals part.new.records) }
     ensures ended { result ≡ Ok false → (part.new ≡ part.old) × (reader.new ≡ reader.old) × IsReadWhole (S.bytes store.old) reader.old }
-    ensures refused { (fault : Fault) → result ≡ Err (ReadEnd.Refused fault)
-        → IfSome (S.bytes store.old) (λ file. IsFault false file fault) }
-    ensures store { OnlyAsks S.bytes S.told S.name S.faults (result ≡ Err ReadEnd.Store) store.old store.new }
+    ensures answered { ReadsStrictly S.bytes S.told S.name S.faults result store.old store.new }
 {
     let Some(judged) = reader.next(alloc, store)? else {
         return Ok(false);

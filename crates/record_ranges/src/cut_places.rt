@@ -23,8 +23,7 @@ impl Model for Cuts {
 impl Cuts {
     /// Cuts of a file of `size` bytes, at most 2^28, into parts that are alike, up to a byte: 1 to 16 of them.
     pub fn even(alloc: Global, size: u64, parts: u32) -> Result<Cuts, AllocError>
-        requires some { 1 ≤ parts }
-        requires few { parts ≤ 16 }
+        requires parts { (1 ≤ parts) × (parts ≤ 16) }
         requires small { size ≤ 2 ^ 28 }
         ensures { IfOk result (λ cuts. cuts ≡ even_cuts size parts) }
     {
@@ -61,8 +60,7 @@ impl Cuts {
 
 /// Where the part of this number begins, from 0 on, of so many that are alike.
 fn even_cut(size: u64, parts: u32, part: u32) -> u64
-    requires some { 1 ≤ parts }
-    requires one { part ≤ 16 }
+    requires parts { (1 ≤ parts) × (part ≤ 16) }
     requires small { size ≤ 2 ^ 28 }
     ensures { result ≡ part * size / parts }
 {

@@ -1,7 +1,8 @@
-ghost use Rattle.std.specs.Prelude.{◌≡◌, ◌<◌, not, ◌==◌, length, nat_lt};
-ghost use Rattle.std.specs.List.{find, list_any};
-ghost use Rattle.record_ranges.specs.RangesCommand.{most_range_bytes};
+ghost use Rattle.std.specs.Prelude.{◌≡◌, ◌<◌, not, ◌==◌, length};
+ghost use Rattle.std.specs.List.{find};
 ghost use Rattle.record_ranges.specs.RangesEnds.{IsSizeBy};
+
+use command_frame::is_one_past;
 
 /// The most bytes of a file that is read in parts: 256 MiB. All its records are held at once.
 const MOST_BYTES: u64 = 1 << 28;
@@ -20,7 +21,7 @@ pub(crate) fn size_by(sizes: &[u64]) -> Result<u64, SizesEnd>
     requires some { 0 < length sizes.now }
     ensures { IsSizeBy result sizes.now }
 {
-    if is_one_past(sizes) {
+    if is_one_past(sizes, MOST_BYTES) {
         return Err(SizesEnd::Limit);
     }
     let first = sizes[0];
@@ -28,13 +29,6 @@ pub(crate) fn size_by(sizes: &[u64]) -> Result<u64, SizesEnd>
         Some(other) => Err(SizesEnd::Differ { first, other }),
         None => Ok(first),
     }
-}
-
-/// Whether a size is of a file that has more bytes than are read.
-fn is_one_past(sizes: &[u64]) -> bool
-    ensures { result ≡ list_any (λ size. nat_lt most_range_bytes size) sizes.now }
-{
-    sizes.iter().any(|size| *size > MOST_BYTES)
 }
 
 /// The first of the sizes that is another than this one.

@@ -1,20 +1,21 @@
-ghost use Rattle.std.specs.Prelude.{◌≡◌, ◌+◌, ◌^◌, ◌≤◌, ◌<◌, ◌⊎◌, ℕ, All, None, Some, IfOk, Ok, Err, drop, length, map, slice_get};
+ghost use Rattle.std.specs.Prelude.{◌≡◌, ◌≤◌, IfOk, Ok, Err, length, map};
 ghost use Rattle.record_io.specs.Calls.{OnlyCounts};
 ghost use Rattle.record_io.specs.ManyStores.{AreOnlyAsked};
 ghost use Rattle.record_io.specs.Seen.{seen_stream, seen_file};
 ghost use Rattle.record_ranges.specs.Ranges.{AreRangesOf, even_cuts};
 ghost use Rattle.record_ranges.specs.Reads.{IfAllTellSame};
-ghost use Rattle.command_frame.specs.Endings.{HaveTold, IsAllowedEndOfMany};
+ghost use Rattle.command_frame.specs.AskedFiles.{AsksFiles, KeepsFiles};
+ghost use Rattle.command_frame.specs.Endings.{IsAllowedEndOfMany};
 ghost use Rattle.command_frame.specs.Runs.{Runs};
 ghost use Rattle.command_frame.specs.RunObjects.{Seen};
-ghost use Rattle.record_ranges.specs.RangesCommand.{AreAlike, IsOnePast, MayBeRead, ranges_meaning};
-ghost use Rattle.record_ranges.specs.RangesEnds.{PrintsOnlyWhole, IsReadIn, PrintsFile, StopsBy, end_of_read};
+ghost use Rattle.record_ranges.specs.RangesCommand.{ranges_meaning};
+ghost use Rattle.record_ranges.specs.RangesEnds.{AreOfOneFile, IsOnePast, IsReadIn, PrintsOne, StopsBy, end_of_read};
 
 use crate::cut_places::Cuts;
 use crate::file_parts::Parts;
 use crate::file_sizes::{SizesEnd, size_by};
 use crate::part_lines::put_parts;
-use crate::range_ends::{Unread, end_of_read, end_ranges};
+use crate::range_ends::{RangesStop, end_of_read, end_ranges};
 use crate::ranges_words::{MOST_PARTS, RangesWords};
 use crate::reading::read_ranges;
 use chunk_reader::ReadEnd;
@@ -34,15 +35,12 @@ pub fn ranges<R: Threads + Sync, S: Store + Send, O: Sink, E: Sink>(
     out: &mut O,
     notes: &mut E,
 ) -> Status
-    requires one_each { length files.old ≡ words.now.parts }
-    requires some { 1 ≤ words.now.parts }
-    requires few { words.now.parts ≤ 16 }
+    requires parts { (length files.old ≡ words.now.parts) × (1 ≤ words.now.parts) × (words.now.parts ≤ 16) }
     ensures runs { (others : Seen) → Runs ranges_meaning
         (record others { files = map (seen_file S.bytes S.told S.handed S.faults) files.old; out = seen_stream O.taken O.faults out.old; notes = seen_stream E.taken E.faults notes.old })
         (record others { files = map (seen_file S.bytes S.told S.handed S.faults) files.new; out = seen_stream O.taken O.faults out.new; notes = seen_stream E.taken E.faults notes.new })
         result }
-    ensures same_bytes { map (λ file. S.bytes file) files.new ≡ map (λ file. S.bytes file) files.old }
-    ensures same_names { map (λ file. S.name file) files.new ≡ map (λ file. S.name file) files.old }
+    ensures files { KeepsFiles S.bytes S.name files.old files.new }
     ensures notes_kept { result ≡ Status.Ok → notes.new ≡ notes.old }
 {
     let ended = print_file(rt, alloc, words.parts, files, out);
@@ -56,19 +54,11 @@ fn print_file<R: Threads + Sync, S: Store + Send, O: Sink>(
     parts: u32,
     files: &mut [S],
     out: &mut O,
-) -> Result<(), Ending<Unread>>
-    requires one_each { length files.old ≡ parts }
-    requires some { 1 ≤ parts }
-    requires few { parts ≤ 16 }
-    ensures file { IfAllTellSame S.bytes files.old (λ file. PrintsFile result file (O.taken out.old) (O.taken out.new)) }
-    ensures printed { PrintsOnlyWhole result (O.taken out.old) (O.taken out.new) }
-    ensures allowed { IsAllowedEndOfMany ranges_meaning IsOnePast StopsBy result (map (λ file. S.told file) files.new) }
-    ensures in_order { (place : ℕ) (file : S) → slice_get files.new place ≡ Some file → S.told file ≡ None
-        → drop (place + 1) files.new ≡ drop (place + 1) files.old }
-    ensures handed { (map (λ file. S.handed file) files.new ≡ map (λ file. S.handed file) files.old)
-        ⊎ HaveTold (map (λ file. S.told file) files.new) MayBeRead }
-    // Of each store its bytes stay, and what it borrows.
-    ensures files { AreOnlyAsked S.bytes (λ file. None) S.name S.faults (result ≡ Err (Ending.Cut Cut.File)) files.old files.new }
+) -> Result<(), Ending<RangesStop>>
+    requires parts { (length files.old ≡ parts) × (1 ≤ parts) × (parts ≤ 16) }
+    ensures prints { PrintsOne S.bytes files.old result (O.taken out.old) (O.taken out.new) }
+    ensures files { AsksFiles S.bytes S.told S.handed S.name S.faults
+        ranges_meaning IsOnePast StopsBy result files.old files.new }
     ensures out { OnlyCounts O.lent O.faults (result ≡ Err (Ending.Cut Cut.Out)) out.old out.new }
 {
     let mut room = [0; MOST_PARTS];
@@ -79,7 +69,7 @@ fn print_file<R: Threads + Sync, S: Store + Send, O: Sink>(
     match size_by(sizes) {
         Ok(size) => print_sized(rt, alloc, size, parts, files, out),
         Err(SizesEnd::Limit) => Err(Ending::Limit),
-        Err(SizesEnd::Differ { first, other }) => Err(Ending::At(Unread::Differ { first, other })),
+        Err(SizesEnd::Differ { first, other }) => Err(Ending::At(RangesStop::Differ { first, other })),
     }
 }
 
@@ -91,14 +81,10 @@ fn print_sized<R: Threads + Sync, S: Store + Send, O: Sink>(
     parts: u32,
     files: &mut [S],
     out: &mut O,
-) -> Result<(), Ending<Unread>>
-    requires one_each { length files.old ≡ parts }
-    requires some { 1 ≤ parts }
-    requires few { parts ≤ 16 }
-    requires told { HaveTold (map (λ file. S.told file) files.old) (AreAlike size) }
-    requires exact { IfAllTellSame S.bytes files.old (λ file. size ≡ length file) }
-    ensures file { IfAllTellSame S.bytes files.old (λ file. PrintsFile result file (O.taken out.old) (O.taken out.new)) }
-    ensures printed { PrintsOnlyWhole result (O.taken out.old) (O.taken out.new) }
+) -> Result<(), Ending<RangesStop>>
+    requires parts { (length files.old ≡ parts) × (1 ≤ parts) × (parts ≤ 16) }
+    requires one { AreOfOneFile S.bytes S.told size files.old }
+    ensures prints { PrintsOne S.bytes files.old result (O.taken out.old) (O.taken out.new) }
     ensures allowed { IsAllowedEndOfMany ranges_meaning IsOnePast StopsBy result (map (λ file. S.told file) files.new) }
     ensures files { AreOnlyAsked S.bytes S.told S.name S.faults (result ≡ Err (Ending.Cut Cut.File)) files.old files.new }
     ensures out { OnlyCounts O.lent O.faults (result ≡ Err (Ending.Cut Cut.Out)) out.old out.new }
@@ -121,12 +107,8 @@ fn read_parts<R: Threads + Sync, S: Store + Send>(
     parts: u32,
     files: &mut [S],
 ) -> Result<Parts, ReadEnd>
-    requires one_each { length files.old ≡ parts }
-    requires some { 1 ≤ parts }
-    requires few { parts ≤ 16 }
-    requires told { All (λ s. S.told s ≡ Some size) files.old }
-    requires exact { IfAllTellSame S.bytes files.old (λ file. size ≡ length file) }
-    requires small { size ≤ 2 ^ 28 }
+    requires parts { (length files.old ≡ parts) × (1 ≤ parts) × (parts ≤ 16) }
+    requires one { AreOfOneFile S.bytes S.told size files.old }
     ensures read { IfAllTellSame S.bytes files.old (IsReadIn result) }
     ensures even { IfOk result (λ read. IfAllTellSame S.bytes files.old (λ file. AreRangesOf file (even_cuts size parts) read)) }
     ensures files { AreOnlyAsked S.bytes S.told S.name S.faults (result ≡ Err ReadEnd.Store) files.old files.new }

@@ -13,7 +13,7 @@ use show_command::end_with_fault;
 
 /// Why the file is not read.
 #[derive(Clone, Copy, Debug, PartialEq, Eq)]
-pub(crate) enum Unread {
+pub(crate) enum RangesStop {
     /// The file is refused.
     Refused(Fault),
     /// Two stores of the file told different sizes: the first one, and the first that told another.
@@ -21,18 +21,18 @@ pub(crate) enum Unread {
 }
 
 /// The end by which a file was not read.
-pub(crate) fn end_of_read(end: ReadEnd) -> Ending<Unread>
+pub(crate) fn end_of_read(end: ReadEnd) -> Ending<RangesStop>
     ensures { result ≡ end_of_read end }
 {
     match end {
-        ReadEnd::Refused(fault) => Ending::At(Unread::Refused(fault)),
+        ReadEnd::Refused(fault) => Ending::At(RangesStop::Refused(fault)),
         ReadEnd::Store => Ending::Cut(Cut::File),
         ReadEnd::Memory => Ending::Cut(Cut::Memory),
     }
 }
 
 /// Says in notes why the work ended before it was done.
-pub(crate) fn end_ranges<E: Sink>(ended: Result<(), Ending<Unread>>, notes: &mut E) -> Status
+pub(crate) fn end_ranges<E: Sink>(ended: Result<(), Ending<RangesStop>>, notes: &mut E) -> Status
     ensures told { SaysEnd range_ends ended result (seen_stream E.taken E.faults notes.old)
         (seen_stream E.taken E.faults notes.new) }
     ensures notes_kept { result ≡ Status.Ok → notes.new ≡ notes.old }
@@ -41,8 +41,8 @@ pub(crate) fn end_ranges<E: Sink>(ended: Result<(), Ending<Unread>>, notes: &mut
     match ended {
         Ok(()) => Status::Ok,
         Err(Ending::Limit) => end_too_long(notes),
-        Err(Ending::At(Unread::Refused(fault))) => end_with_fault(notes, &fault),
-        Err(Ending::At(Unread::Differ { first, other })) => end_with_sizes(notes, first, other),
+        Err(Ending::At(RangesStop::Refused(fault))) => end_with_fault(notes, &fault),
+        Err(Ending::At(RangesStop::Differ { first, other })) => end_with_sizes(notes, first, other),
         Err(Ending::Cut(cut)) => cut_off(notes, cut),
     }
 }

@@ -1,5 +1,5 @@
 ghost use Rattle.std.specs.Prelude.{◌≡◌, ℕ, ◌+◌, ◌^◌, ◌≤◌, ◌<◌, ◌⊎◌, All, Some, IfOk, IfSome, Err, false, List, Result, length, vec_len, map};
-ghost use Rattle.record_io.specs.Calls.{OnlyAsks};
+ghost use Rattle.record_io.specs.Calls.{HasSize, OnlyAsks};
 ghost use Rattle.record_io.specs.ManyStores.{AreOnlyAsked};
 ghost use Rattle.record_io.specs.Outside.{Rose};
 ghost use Rattle.chunk_reader.specs.Faults.{IsFault};
@@ -36,10 +36,8 @@ pub fn read_ranges<R: Threads + Sync, S: Store + Send>(
     size: u64,
     cuts: &Cuts,
 ) -> Result<Parts, ReadEnd>
-    requires one_more { length stores.old ≡ length cuts.now + 1 }
-    requires few { length stores.old ≤ 16 }
-    requires told { All (λ s. S.told s ≡ Some size) stores.old }
-    requires small { size ≤ 2 ^ 28 }
+    requires many { (length stores.old ≡ length cuts.now + 1) × (length stores.old ≤ 16) }
+    requires sized { All (λ s. S.told s ≡ Some size) stores.old × (size ≤ 2 ^ 28) }
     requires rise { RiseUpTo size 0 cuts.now }
     ensures ranges { IfOk result (λ parts. IfAllTellSame S.bytes stores.old (λ file. AreRangesOf file cuts.now parts)) }
     ensures refused { (fault : Fault) → result ≡ Err (ReadEnd.Refused fault)
@@ -51,7 +49,7 @@ pub fn read_ranges<R: Threads + Sync, S: Store + Send>(
     let Ok(spans) = cuts.spans(alloc, size) else {
         return Err(ReadEnd::Memory);
     };
-    let Ok(mut answers) = unread(alloc, stores.len()) else {
+    let Ok(mut answers) = unanswered(alloc, stores.len()) else {
         return Err(ReadEnd::Memory);
     };
     let setup = Setup { alloc, size };
@@ -63,7 +61,7 @@ pub fn read_ranges<R: Threads + Sync, S: Store + Send>(
 }
 
 /// So many places for answers.
-fn unread(alloc: Global, count: usize) -> Result<Vec<Result<Stretch, ReadEnd>>, AllocError>
+fn unanswered(alloc: Global, count: usize) -> Result<Vec<Result<Stretch, ReadEnd>>, AllocError>
     ensures { IfOk result (λ answers. vec_len answers ≡ count) }
 {
     let mut answers = Vec::with_capacity(alloc, count)?;
@@ -82,8 +80,7 @@ fn judged_parts<S: Store>(
     spans: &[Span],
     answers: Vec<Result<Stretch, ReadEnd>>,
 ) -> Result<Vec<Stretch>, ReadEnd>
-    requires told { S.told store.old ≡ Some size }
-    requires in_reach { size ≤ 2 ^ 60 }
+    requires sized { HasSize (S.told store.old) size }
     requires some { 0 < length spans.now }
     ensures parts { IfOk result (λ parts. IfSome (S.bytes store.old) (λ file.
         AreReadIn file spans.now answers.items → AreReadOf file size spans.now parts.items)) }

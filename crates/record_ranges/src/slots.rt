@@ -1,6 +1,6 @@
 ghost use Rattle.std.specs.Prelude.{◌≡◌, ◌^◌, ◌<◌, ◌≤◌, All, Some, length, vec_len};
 ghost use Rattle.std.specs.Thread.{IsSync, IsSend};
-ghost use Rattle.record_ranges.specs.Reads.{AreAnswered};
+ghost use Rattle.record_ranges.specs.Reads.{AreAnswered, CanBeRead};
 ghost use Rattle.record_ranges.specs.Stretches.{LiesWithin};
 
 use crate::stretches::{Span, Stretch, read_stretch};
@@ -28,11 +28,7 @@ pub(crate) fn read_slots<R: Threads + Sync, S: Store + Send>(
     answers: &mut [Result<Stretch, ReadEnd>],
     stores: &mut [S],
 )
-    requires spans { length spans.now ≡ length stores.old }
-    requires answers { length answers.old ≡ length stores.old }
-    requires told { All (λ s. S.told s ≡ Some setup.now.size) stores.old }
-    requires within { All (λ span. LiesWithin setup.now.size span) spans.now }
-    requires in_reach { setup.now.size ≤ 2 ^ 60 }
+    requires { CanBeRead S.told setup.now.size spans.now answers.old stores.old }
     ensures { AreAnswered S.bytes S.told S.name S.faults spans.now stores.old stores.new answers.new }
 {
     if stores.len() < 2 {
@@ -46,15 +42,11 @@ pub(crate) fn read_slots<R: Threads + Sync, S: Store + Send>(
     join_mut(
         rt,
         &mut ||
-            requires { IsSync R.row × IsSend S.row × (length low.now ≡ length front.now) × (length x.now ≡ length front.now)
-                × All (λ s. S.told s ≡ Some setup.now.size) front.now × All (λ span. LiesWithin setup.now.size span) low.now
-                × (setup.now.size ≤ 2 ^ 60) }
+            requires { IsSync R.row × IsSend S.row × CanBeRead S.told setup.now.size low.now x.now front.now }
             ensures { AreAnswered S.bytes S.told S.name S.faults low.entry.now front.entry.now front.exit.now x.exit.now }
         { read_slots(rt, setup, low, x, front) },
         &mut ||
-            requires { IsSync R.row × IsSend S.row × (length high.now ≡ length back.now) × (length y.now ≡ length back.now)
-                × All (λ s. S.told s ≡ Some setup.now.size) back.now × All (λ span. LiesWithin setup.now.size span) high.now
-                × (setup.now.size ≤ 2 ^ 60) }
+            requires { IsSync R.row × IsSend S.row × CanBeRead S.told setup.now.size high.now y.now back.now }
             ensures { AreAnswered S.bytes S.told S.name S.faults high.entry.now back.entry.now back.exit.now y.exit.now }
         { read_slots(rt, setup, high, y, back) },
     );
@@ -68,11 +60,7 @@ fn read_slot<S: Store>(
     stores: &mut [S],
 )
     requires short { length stores.old < 2 }
-    requires spans { length spans.now ≡ length stores.old }
-    requires answers { length answers.old ≡ length stores.old }
-    requires told { All (λ s. S.told s ≡ Some setup.now.size) stores.old }
-    requires within { All (λ span. LiesWithin setup.now.size span) spans.now }
-    requires in_reach { setup.now.size ≤ 2 ^ 60 }
+    requires ready { CanBeRead S.told setup.now.size spans.now answers.old stores.old }
     ensures { AreAnswered S.bytes S.told S.name S.faults spans.now stores.old stores.new answers.new }
 {
     if !stores.is_empty() {
@@ -90,9 +78,8 @@ pub(crate) fn read_into<R: Threads + Sync, S: Store + Send>(
 )
     requires spans { length spans.now ≡ length stores.old }
     requires answers { vec_len answers.old ≡ length stores.old }
-    requires told { All (λ s. S.told s ≡ Some setup.now.size) stores.old }
+    requires sized { All (λ s. S.told s ≡ Some setup.now.size) stores.old × (setup.now.size ≤ 2 ^ 60) }
     requires within { All (λ span. LiesWithin setup.now.size span) spans.now }
-    requires in_reach { setup.now.size ≤ 2 ^ 60 }
     ensures { AreAnswered S.bytes S.told S.name S.faults spans.now stores.old stores.new answers.new.items }
 {
     read_slots(rt, setup, spans, answers.as_mut_slice(), stores);

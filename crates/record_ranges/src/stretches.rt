@@ -1,12 +1,11 @@
-ghost use Rattle.std.specs.Prelude.{◌≡◌, ℕ, ◌+◌, ◌^◌, ◌<◌, ◌≤◌, ◌++◌, false, List, [], ◌∷◌, Some, IfOk, IfSome, OnOk, Err, length};
+ghost use Rattle.std.specs.Prelude.{◌≡◌, ℕ, ◌+◌, ◌^◌, ◌<◌, ◌≤◌, ◌++◌, false, [], ◌∷◌, IfSome, OnOk, Err, length};
 ghost use Rattle.std.specs.List.{enumerate_from};
-ghost use Rattle.record_io.specs.Calls.{OnlyAsks};
+ghost use Rattle.record_io.specs.Calls.{HasSize, OnlyAsks};
 ghost use Rattle.block_layout.specs.Layout.{IsBoundary};
-ghost use Rattle.chunk_header.specs.Views.{value_of_chunk};
-ghost use Rattle.meta_chunk.specs.Files.{Holds};
 ghost use Rattle.chunk_reader.specs.Contents.{IsJudged};
 ghost use Rattle.record_ranges.specs.Ranges.{records_between};
-ghost use Rattle.record_ranges.specs.Stretches.{IsJudgedStretch, IsStretchOf, LiesWithin};
+ghost use Rattle.record_ranges.specs.Reads.{IsAnswered};
+ghost use Rattle.record_ranges.specs.Stretches.{IsJudgedStretch, LiesWithin, TakesChunk, stretch_at};
 
 use chunk_reader::{Judged, ReadEnd, What, strict_at};
 use record_io::Store;
@@ -39,10 +38,7 @@ pub(crate) struct Stretch {
 impl Stretch {
     /// No chunks yet, at a place.
     pub(crate) fn at(alloc: Global, place: u64) -> Stretch
-        ensures begin { result.begin ≡ place }
-        ensures last { result.last ≡ place }
-        ensures end { result.end ≡ place }
-        ensures records { result.records ≡ [] }
+        ensures { result ≡ stretch_at place }
     {
         Stretch {
             begin: place,
@@ -64,10 +60,7 @@ impl Stretch {
     pub(crate) fn take(&mut self, judged: &Judged, span: Span) -> Result<(), AllocError>
         requires judged { (size place : ℕ) × (size ≤ 2 ^ 60) × IsJudged false size place judged.now }
         ensures begin { self.new.begin ≡ self.old.begin }
-        ensures last { OnOk result (self.new.last ≡ judged.now.begin) }
-        ensures end { OnOk result (self.new.end ≡ judged.now.end) }
-        ensures records { OnOk result ((held : List (List ℕ)) × Holds (value_of_chunk judged.now.chunk) held
-            × (self.new.records ≡ self.old.records ++ records_between span.from span.to (enumerate_from judged.now.begin held))) }
+        ensures taken { OnOk result (TakesChunk judged.now span self.old self.new) }
     {
         if let What::Records(held) = &judged.what {
             take_records(held, judged.begin, span, &mut self.records)?;
@@ -122,11 +115,9 @@ pub(crate) fn read_stretch<S: Store>(
     size: u64,
     span: Span,
 ) -> Result<Stretch, ReadEnd>
-    requires told { S.told store.old ≡ Some size }
-    requires in_reach { size ≤ 2 ^ 60 }
+    requires sized { HasSize (S.told store.old) size }
     requires within { LiesWithin size span }
-    ensures stretch { IfOk result (λ s. IfSome (S.bytes store.old) (λ file. IsStretchOf file span s)) }
-    ensures store { OnlyAsks S.bytes S.told S.name S.faults (result ≡ Err ReadEnd.Store) store.old store.new }
+    ensures { IsAnswered S.bytes S.told S.name S.faults span store.old store.new result }
 {
     match holder(store, size, span.from)? {
         Some(begin) => read_on(alloc, store, size, begin, span),
@@ -142,16 +133,10 @@ fn read_on<S: Store>(
     begin: u64,
     span: Span,
 ) -> Result<Stretch, ReadEnd>
-    requires told { S.told store.old ≡ Some size }
-    requires in_reach { size ≤ 2 ^ 60 }
+    requires sized { HasSize (S.told store.old) size }
     requires within { LiesWithin size span }
-    requires from_boundary { IsBoundary begin }
-    requires before { begin ≤ span.from }
-    ensures begin { IfOk result (λ s. s.begin ≡ begin) }
-    ensures past { IfOk result (λ s. span.to ≤ s.end) }
-    ensures inside { IfOk result (λ s. s.end ≤ size) }
-    ensures judged { IfOk result (λ s. IfSome (S.bytes store.old) (λ file. IsJudgedStretch file span s)) }
-    ensures store { OnlyAsks S.bytes S.told S.name S.faults (result ≡ Err ReadEnd.Store) store.old store.new }
+    requires from { IsBoundary begin × (begin ≤ span.from) }
+    ensures { IsAnswered S.bytes S.told S.name S.faults span store.old store.new result }
 {
     let mut stretch = Stretch::at(alloc, begin);
     stretch.make_room(span)?;
@@ -169,14 +154,11 @@ fn read_next<S: Store>(
     span: Span,
     stretch: &mut Stretch,
 ) -> Result<(), ReadEnd>
-    requires told { S.told store.old ≡ Some size }
-    requires in_reach { size ≤ 2 ^ 60 }
-    requires from_boundary { IsBoundary stretch.old.end }
-    requires below { stretch.old.end < size }
+    requires sized { HasSize (S.told store.old) size }
+    requires from { IsBoundary stretch.old.end × (stretch.old.end < size) }
     ensures begin { stretch.new.begin ≡ stretch.old.begin }
-    ensures boundary { OnOk result (IsBoundary stretch.new.end) }
-    ensures past { OnOk result (stretch.old.end < stretch.new.end) }
-    ensures within { OnOk result (stretch.new.end ≤ size) }
+    ensures moved { OnOk result (IsBoundary stretch.new.end
+        × (stretch.old.end < stretch.new.end) × (stretch.new.end ≤ size)) }
     ensures judged { OnOk result (IfSome (S.bytes store.old) (λ file.
         IsJudgedStretch file span stretch.old → IsJudgedStretch file span stretch.new)) }
     ensures store { OnlyAsks S.bytes S.told S.name S.faults (result ≡ Err ReadEnd.Store) store.old store.new }

@@ -1,17 +1,11 @@
-use Rattle.std.proofs.Common.{refl, sym}
-use Rattle.record_collect.proofs.AllRead.{stopped-refused, stopped-store}
+use Rattle.std.proofs.Common.{◌∙◌, Err, ap, refl}
+use Rattle.std.proofs.lemmas.Result.{err_from_is_err_and}
+use Rattle.record_collect.proofs.AllRead.{stopped_as}
 use Rattle.record_collect.proofs.gathering.all_gathered.Goals as goal
 
-pub returns-in_err-part-clause-refused : goal.returns-in_err-part-clause-refused
-returns-in_err-part-clause-refused c =
+pub returns-in_err-part : goal.returns-in_err-part
+returns-in_err-part c =
     let stopped = c.in_err-part.field-0.0 in
-    λ index fault is.
-    stopped-refused c.args.answers.now stopped.index stopped.end index fault (c.in_err-part.ensures.stopped stopped refl)
-    (sym (rw is at c.from_residual.ensures.1))
-
-pub returns-in_err-part-clause-store : goal.returns-in_err-part-clause-store
-returns-in_err-part-clause-store c =
-    let stopped = c.in_err-part.field-0.0 in
-    λ is.
-    stopped-store c.args.answers.now stopped.index stopped.end (c.in_err-part.ensures.stopped stopped refl)
-    (sym (rw is at c.from_residual.ensures.1))
+    let p = err_from_is_err_and c.from_residual.result c.from_residual.ensures.1 in
+    stopped_as c.args.passes.items c.args.answers.now stopped.index stopped.end c.from_residual.result (p.1 ∙ ap Err p.2)
+    (c.in_err-part.ensures.stopped stopped refl)

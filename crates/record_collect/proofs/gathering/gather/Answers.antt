@@ -1,5 +1,5 @@
 use Rattle.record_collect.proofs.FedThreads.{all_belong}
-use Rattle.record_collect.proofs.WholeGatherings.{answers-asked, answers-gathered, answers-many, answers-refused, answers-too_much, owed}
+use Rattle.record_collect.proofs.WholeGatherings.{answers-asked, answers-gathered, answers-many, owed}
 use Rattle.record_io.proofs.ManyStores.{none_asked}
 use Rattle.record_collect.proofs.gathering.gather.Goals as goal
 
@@ -19,28 +19,17 @@ all_gathered-requires-clause-each g c =
 pub returns-clause-many : goal.returns-clause-many
 returns-clause-many g c =
     answers-many g.S.Store.bytes g.S.Store.told g.S.Store.name g.S.Store.faults _ c.feed_into.new.passes.items c.args.stores.now c.feed_into.new.stores
-    c.feed_into.new.answers.items c.deref.result.now c.all_gathered.result c.deref.ensures.value c.feed_into.ensures.fed c.all_gathered.ensures.read
+    c.feed_into.new.answers.items c.deref.result.now c.deref.ensures.value c.feed_into.ensures.fed c.all_gathered.result c.all_gathered.ensures
 
 pub returns-clause-gathered : goal.returns-clause-gathered
 returns-clause-gathered g c =
     answers-gathered g.S.Store.bytes g.S.Store.told g.S.Store.name g.S.Store.faults _ c.feed_into.new.passes.items c.args.stores.now c.feed_into.new.stores
-    c.feed_into.new.answers.items c.deref.result.now c.all_gathered.result c.deref.ensures.value c.feed_into.ensures.fed c.all_gathered.ensures.read
-
-pub returns-clause-refused : goal.returns-clause-refused
-returns-clause-refused g c =
-    answers-refused g.S.Store.bytes g.S.Store.told g.S.Store.name g.S.Store.faults _ c.feed_into.new.passes.items c.args.stores.now c.feed_into.new.stores
-    c.feed_into.new.answers.items c.deref.result.now c.all_gathered.result c.deref.ensures.value c.feed_into.ensures.fed c.all_gathered.ensures.refused
-
-pub returns-clause-too_much : goal.returns-clause-too_much
-returns-clause-too_much g c =
-    answers-too_much g.S.Store.bytes g.S.Store.told g.S.Store.name g.S.Store.faults _ c.feed_into.new.passes.items c.args.stores.now c.feed_into.new.stores
-    c.feed_into.new.answers.items c.deref.result.now c.all_gathered.result c.deref.ensures.value c.feed_into.ensures.fed c.all_gathered.ensures.too_much
+    c.feed_into.new.answers.items c.deref.result.now c.deref.ensures.value c.feed_into.ensures.fed c.all_gathered.result c.all_gathered.ensures
 
 pub returns-clause-complete : goal.returns-clause-complete
-returns-clause-complete g c =
-    owed g.S.Store.bytes c.args.stores.now c.all_gathered.result (returns-clause-gathered g c) (returns-clause-refused g c) (returns-clause-too_much g c)
+returns-clause-complete g c = λ files tells. owed files c.all_gathered.result (returns-clause-gathered g c files tells)
 
 pub returns-clause-stores : goal.returns-clause-stores
 returns-clause-stores g c =
     answers-asked g.S.Store.bytes g.S.Store.told g.S.Store.name g.S.Store.faults _ c.feed_into.new.passes.items c.args.stores.now c.feed_into.new.stores
-    c.feed_into.new.answers.items c.deref.result.now c.all_gathered.result c.deref.ensures.value c.feed_into.ensures.fed c.all_gathered.ensures.store
+    c.feed_into.new.answers.items c.deref.result.now c.deref.ensures.value c.feed_into.ensures.fed c.all_gathered.result c.all_gathered.ensures

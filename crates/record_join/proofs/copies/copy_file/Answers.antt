@@ -1,32 +1,28 @@
-use Rattle.std.proofs.Common.{◌≡◌, ◌∙◌, ◌+◌, Option, Err, IfSome, List, ℕ, length, take, drop, ap, sym, subst, arith, rules, length-append, length-drop}
+use Rattle.std.proofs.Common.{◌≡◌, ◌∙◌, ◌+◌, Option, Err, IfSome, List, ℕ, Result, length, take, drop, ap, sym, subst, arith, rules, length-append, length-drop}
 use Rattle.std.specs.Prelude.{slice_range}
 use Rattle.std.proofs.lemmas.List.{length-take-le}
 use Rattle.std.proofs.lemmas.Result.{err_from_is_err_and}
-use Rattle.record_io.specs.Outside.{Takes, TakesShort}
-use Rattle.record_io.specs.Calls.{TakesFront}
-use Rattle.record_join.proofs.CopiedPieces.{copied_front, copied_more, copied_short}
+use Rattle.record_io.specs.Outside.{Takes}
+use Rattle.record_join.specs.Joins.{TakesCopied}
+use Rattle.record_join.specs.declared.joins.JoinEnd.{JoinEnd}
+use Rattle.record_join.proofs.CopiedPieces.{copied_failed, copied_more}
 use Rattle.record_join.proofs.copies.copy_file.Goals as goal
 
-pub returns-in_err-copy_piece-clause-front : goal.returns-in_err-copy_piece-clause-front
-returns-in_err-copy_piece-clause-front g c =
-    λ failed.
-    let p = err_from_is_err_and c.from_residual.result c.from_residual.ensures.1 in
-    let bytes : Option (List ℕ) = g.S.Store.bytes c.args.store.now in
-    let P : Option (List ℕ) → Type 0 = λ o. IfSome bytes (λ file. TakesFront (g.M.Sink.taken c.args.made.now) o file) in
-    subst P (ap g.M.Sink.taken (sym (c.in_err-copy_piece.ensures.unput (sym (p.1 ∙ ap Err p.2) ∙ failed))))
-    (copied_front bytes (g.M.Sink.taken c.args.made.now) (g.M.Sink.taken c.loop-at.made) c.loop-at.at c.loop-at.invariant.taken)
-
-pub returns-in_err-copy_piece-clause-short : goal.returns-in_err-copy_piece-clause-short
-returns-in_err-copy_piece-clause-short g c =
-    λ failed.
+pub returns-in_err-copy_piece-clause-copied : goal.returns-in_err-copy_piece-clause-copied
+returns-in_err-copy_piece-clause-copied g c =
     let p = err_from_is_err_and c.from_residual.result c.from_residual.ensures.1 in
     let kept = c.loop-at.invariant in
     let at : ℕ = c.loop-at.at in
     let n : ℕ = length (take c.min-count.result c.loop-at.piece) in
-    let P : Option (List ℕ) → Type 0 = λ o. IfSome o (λ file.
-    TakesShort (g.M.Sink.taken c.loop-at.made) (g.M.Sink.taken c.copy_piece.new.made) (slice_range file at (at + n))) in
-    copied_short (g.S.Store.bytes c.args.store.now) (g.M.Sink.taken c.args.made.now) (g.M.Sink.taken c.loop-at.made) _ at n kept.taken
-    (subst P kept.asks.same_bytes (c.in_err-copy_piece.ensures.short (sym (p.1 ∙ ap Err p.2) ∙ failed)))
+    let bytes : Option (List ℕ) = g.S.Store.bytes c.args.store.now in
+    let a : Option (List ℕ) = g.M.Sink.taken c.args.made.now in
+    let b : Option (List ℕ) = g.M.Sink.taken c.loop-at.made in
+    let then : Option (List ℕ) = g.M.Sink.taken c.copy_piece.new.made in
+    let why : JoinEnd = c.in_err-copy_piece.field-0.0 in
+    let P : Option (List ℕ) → Type 0 = λ o. IfSome o (λ file. TakesCopied {X = Unit {0}} (Err why) (slice_range file at (at + n)) b then) in
+    let Q : Result (Unit {0}) JoinEnd → Type 0 = λ r. IfSome bytes (λ file. TakesCopied r file a then) in
+    subst Q (sym (p.1 ∙ ap Err p.2))
+    (copied_failed (Unit {0}) (Unit {0}) why bytes a b then at n kept.taken (subst P kept.asks.asks.same_bytes c.in_err-copy_piece.ensures.copied))
 
 pub loop-at-preserved : goal.loop-at-preserved
 loop-at-preserved g c =
@@ -51,8 +47,10 @@ loop-at-preserved g c =
         c.min-count.ensures,
       );
       taken = subst Q n (copied_more (g.S.Store.bytes c.args.store.now) (g.M.Sink.taken c.args.made.now) (g.M.Sink.taken c.loop-at.made) _ at (length piece)
-          kept.taken (subst P kept.asks.same_bytes c.in_ok-copy_piece.ensures.whole));
-      handed = omega (arith, c.in_ok-copy_piece.ensures.handed, kept.handed, n);
-      asks = search rules;
+          kept.taken (subst P kept.asks.asks.same_bytes c.in_ok-copy_piece.ensures.copied));
+      asks = record {
+        asks = search rules;
+        handed = omega (arith, c.in_ok-copy_piece.ensures.store.handed, kept.asks.handed, n);
+      };
       counts = search rules;
     }

@@ -15,29 +15,31 @@ pub returns-in_default-clause-stores : goal.returns-in_default-clause-stores
 returns-in_default-clause-stores g c =
     none_asked g.S.Store.bytes g.S.Store.told g.S.Store.name g.S.Store.faults c.args.stores.now (λ failed. cc)
 
-pub returns-in_default-unread-clause-stores : goal.returns-in_default-unread-clause-stores
-returns-in_default-unread-clause-stores g c =
+pub returns-in_default-unanswered-clause-stores : goal.returns-in_default-unanswered-clause-stores
+returns-in_default-unanswered-clause-stores g c =
     none_asked g.S.Store.bytes g.S.Store.told g.S.Store.name g.S.Store.faults c.args.stores.now (λ failed. cc)
 
 pub read_into-requires-clause-spans : goal.read_into-requires-clause-spans
 read_into-requires-clause-spans g c κs within =
-    ap length (c.deref.ensures.value ∙ c.in-Ok.ensures) ∙ spans-length c.args.size 0 c.args.cuts.now ∙ sym c.requires.one_more
+    ap length (c.deref.ensures.value ∙ c.in-Ok.ensures) ∙ spans-length c.args.size 0 c.args.cuts.now ∙ sym c.requires.many.0
 
 pub read_into-requires-clause-within : goal.read_into-requires-clause-within
 read_into-requires-clause-within g c κs within =
     spans-within c.args.size 0 c.args.cuts.now c.deref.result.now (c.deref.ensures.value ∙ c.in-Ok.ensures) c.requires.rise
 
-pub judged_parts-requires-clause-told : goal.judged_parts-requires-clause-told
-judged_parts-requires-clause-told g c =
-    first-told g.S.Store.bytes g.S.Store.told g.S.Store.name g.S.Store.faults c.args.size c.deref.result.now c.args.stores.now c.read_into.new.stores
-    c.read_into.new.answers.items c.index-stores-0.result c.read_into.ensures c.requires.told (omega (arith, c.requires.one_more))
+pub judged_parts-requires-clause-sized : goal.judged_parts-requires-clause-sized
+judged_parts-requires-clause-sized g c = record {
+  is_told = first-told g.S.Store.bytes g.S.Store.told g.S.Store.name g.S.Store.faults c.args.size c.deref.result.now c.args.stores.now c.read_into.new.stores
+    c.read_into.new.answers.items c.index-stores-0.result c.read_into.ensures c.requires.sized.0 (omega (arith, c.requires.many.0));
+  in_reach = omega (arith, c.requires.sized.1);
+}
 
 -- where all stores show the same bytes, the first shows them after the threads too
 tells : (g : _) (c : After-judged_parts g) (file : List ℕ) → AllByRecursion (λ s. g.S.Store.bytes s ≡ Some file) c.args.stores.now
     → g.S.Store.bytes (slice_index_or c.read_into.new.stores 0 c.index-stores-0.result) ≡ Some file
 tells g c file same =
     first-bytes g.S.Store.bytes g.S.Store.told g.S.Store.name g.S.Store.faults file c.deref.result.now c.args.stores.now c.read_into.new.stores
-    c.read_into.new.answers.items c.index-stores-0.result c.read_into.ensures same (omega (arith, c.requires.one_more))
+    c.read_into.new.answers.items c.index-stores-0.result c.read_into.ensures same (omega (arith, c.requires.many.0))
 
 pub returns-in-Ok-judged_parts-clause-ranges : goal.returns-in-Ok-judged_parts-clause-ranges
 returns-in-Ok-judged_parts-clause-ranges g c = λ file same.
@@ -59,7 +61,7 @@ returns-in-Ok-judged_parts-clause-complete g c =
 pub returns-in-Ok-judged_parts-clause-stores : goal.returns-in-Ok-judged_parts-clause-stores
 returns-in-Ok-judged_parts-clause-stores g c =
     asked_again g.S.Store.bytes g.S.Store.told g.S.Store.name g.S.Store.faults c.deref.result.now c.args.stores.now c.read_into.new.stores
-    c.read_into.new.answers.items c.index-stores-0.result c.judged_parts.new.store (omega (arith, c.requires.one_more)) c.read_into.ensures
+    c.read_into.new.answers.items c.index-stores-0.result c.judged_parts.new.store (omega (arith, c.requires.many.0)) c.read_into.ensures
     c.judged_parts.ensures.store (λ never. absurd (cc))
 
 pub returns-clause-refused : goal.returns-clause-refused
@@ -75,5 +77,5 @@ returns-clause-complete g c =
 pub returns-clause-stores : goal.returns-clause-stores
 returns-clause-stores g c =
     asked_again g.S.Store.bytes g.S.Store.told g.S.Store.name g.S.Store.faults c.deref.result.now c.args.stores.now c.read_into.new.stores
-    c.read_into.new.answers.items c.index-stores-0.result c.judged_parts.new.store (omega (arith, c.requires.one_more)) c.read_into.ensures
+    c.read_into.new.answers.items c.index-stores-0.result c.judged_parts.new.store (omega (arith, c.requires.many.0)) c.read_into.ensures
     c.judged_parts.ensures.store (λ failed. let end : c.in-Err.end ≡ read.Store = cc in c.in-Err.ensures.cause (ap Err end))

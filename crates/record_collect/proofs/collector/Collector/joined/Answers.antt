@@ -1,5 +1,7 @@
-use Rattle.std.proofs.Common.{◌≡◌, ◌∙◌, ℕ, ◌+◌, List, [], ◌∷◌, ◌++◌, All, map, length, ap, sym, subst, arith}
+use Rattle.std.proofs.Common.{◌≡◌, ◌∙◌, ℕ, ◌+◌, ◌<◌, List, [], ◌∷◌, ◌++◌, All, map, length, ap, sym, subst, arith}
+use Rattle.std.specs.List.{AllByRecursion}
 use Rattle.std.specs.Option.{option_to_list}
+use Rattle.std.proofs.lemmas.Grind.{common_steps}
 use Rattle.std.proofs.lemmas.List.{append-nil}
 use Rattle.number_shares.proofs.Lists.{of_last, of_others, flat_map-last}
 use Rattle.atomic_table.specs.Table.{Me}
@@ -102,4 +104,26 @@ loop-other-preserved c =
       gathered = subst (IsGathered rest c.args.passes.items) (sym items)
           (gathered_more rest c.args.passes.items other c.loop-other.all.items (subst Rises mine c.other.invariant.4)
           (subst (λ (ps : List PassValue). IsGathered ps c.args.passes.items c.loop-other.all.items) was h.gathered));
+    }
+
+-- no pass is left
+pub returns-clause-seat : goal.returns-clause-seat
+returns-clause-seat c =
+    let h = c.loop-other.invariant in
+    let none : c.loop-other.passes.items ≡ [] = grind (arith, common_steps) in
+    record {
+      mine = h.mine;
+      past = subst (λ (ps : List PassValue). ends_of ps ++ map (λ (x : Piece). x.at) c.loop-other.whole.me.0.past ≡ ends_of c.args.passes.items) none h.past;
+      weight = grind (arith, common_steps);
+      slots = h.slots;
+    }
+
+pub returns-clause-placed : goal.returns-clause-placed
+returns-clause-placed c =
+    let none : c.loop-other.passes.items ≡ [] = grind (arith, common_steps) in
+    let h = subst (λ (ps : List PassValue). IsGathered ps c.args.passes.items c.loop-other.all.items) none c.loop-other.invariant.gathered in
+    record {
+      each = λ i p at. h.placed i p (omega arith) at;
+      rising = λ i p at. h.rising i p (omega arith) at;
+      no_other = subst (λ (n : ℕ). AllByRecursion (λ (e : Placed). e.pass < n) c.loop-other.all.items) (grind (arith, common_steps)) h.no_other;
     }

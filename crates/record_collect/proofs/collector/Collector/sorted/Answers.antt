@@ -22,36 +22,28 @@ out c =
     let whole = c.in_ok-whole.whole in
     let final = c.close_with.ensures.values.2 in
     let passes : key.seats ≡ c.args.self.passes = c.self.invariant.3 ∙ ap (λ v. v.passes) c.self.view_is in
-    let weight : whole.me.0.weight ≡ key.seats = c.in_ok-whole.ensures.weight ∙ c.requires.passes ∙ sym passes in
+    let weight : whole.me.0.weight ≡ key.seats = c.in_ok-whole.ensures.seat.weight ∙ c.requires.passes ∙ sym passes in
     let up = IsNonDecreasingBy-from_sort_by_key (λ (e : Placed). e.at) _ c.in_ok-sort_by_key.ensures.sorted (λ a r q k. search rules) in
-    sorted_out key final.0 whole.id whole.me.0 c.in_ok-whole.all.items c.sort_by_key.new.self.items c.self.invariant.2 final.1.0 final.1.1 weight c.in_ok-whole.ensures.mine c.in_ok-sort_by_key.ensures.permutation up
+    sorted_out key final.0 whole.id whole.me.0 c.in_ok-whole.all.items c.sort_by_key.new.self.items c.self.invariant.2 final.1.0 final.1.1 weight c.in_ok-whole.ensures.seat.mine c.in_ok-sort_by_key.ensures.permutation up
 
-pub returns-clause-each : goal.returns-clause-each
-returns-clause-each c =
-    λ i p at. of_pass_sorted i p.mine c.in_ok-whole.all.items c.sort_by_key.new.self.items (c.in_ok-whole.ensures.each i p at) (c.in_ok-whole.ensures.rising i p at) (out c).tiles.laid c.in_ok-sort_by_key.ensures.permutation
-
-pub returns-clause-no_other : goal.returns-clause-no_other
-returns-clause-no_other c = all_permuted (λ (e : Placed). e.pass < vec_len c.args.passes) c.in_ok-whole.all.items c.sort_by_key.new.self.items c.in_ok-sort_by_key.ensures.permutation c.in_ok-whole.ensures.no_other
-
-pub returns-clause-receipts : goal.returns-clause-receipts
-returns-clause-receipts c = (out c).tiles.laid
-
-pub returns-clause-short : goal.returns-clause-short
-returns-clause-short c =
-    all_map (λ (e : Placed). IsMine puts (piece_at e)) (λ (e : Placed). length e.bytes ≤ 2 ^ 24) c.sort_by_key.new.self.items (λ e own. omega (arith, own.few)) (out c).mine
-
-pub returns-clause-most : goal.returns-clause-most
-returns-clause-most c =
-    let low : 0 + cost_of_placed c.sort_by_key.new.self.items ≤ limit = laid_most 0 c.sort_by_key.new.self.items (omega arith) (out c).tiles.laid (out c).mine in
-    omega (arith, low)
-
-pub returns-clause-ended : goal.returns-clause-ended
-returns-clause-ended c =
-    λ ended.
+pub returns : goal.returns
+returns c =
+    let all = c.in_ok-whole.all.items in
+    let sorted = c.sort_by_key.new.self.items in
+    let permuted = c.in_ok-sort_by_key.ensures.permutation in
+    let low : 0 + cost_of_placed sorted ≤ limit = laid_most 0 sorted (omega arith) (out c).tiles.laid (out c).mine in
     let past : List Piece = c.in_ok-whole.whole.me.0.past in
-    let ends : map (λ (x : Piece). x.at) past ≡ ends_of c.args.passes.items = c.in_ok-whole.ensures.past in
-    let some : ¬ (past ≡ []) = λ none. ended (sym ends ∙ ap (map (λ (x : Piece). x.at)) none) in
-    let from_none : 0 + cost_of_placed c.sort_by_key.new.self.items ≡ cost_of_placed c.sort_by_key.new.self.items = omega arith in
-    subst (λ (n : ℕ). IsLeast n (ends_of c.args.passes.items)) from_none
-    (subst (IsLeast (0 + cost_of_placed c.sort_by_key.new.self.items)) ends
-    (least_past puts (0 + cost_of_placed c.sort_by_key.new.self.items) (slice_index c.close_with.ensures.values.2.0.words 0) past (omega arith) (out c).hand.past (out c).tiles.rest some))
+    let ends : map (λ (x : Piece). x.at) past ≡ ends_of c.args.passes.items = c.in_ok-whole.ensures.seat.past in
+    let from_none : 0 + cost_of_placed sorted ≡ cost_of_placed sorted = omega arith in
+    record {
+      each = λ i p at. of_pass_sorted i p.mine all sorted (c.in_ok-whole.ensures.placed.each i p at) (c.in_ok-whole.ensures.placed.rising i p at) (out c).tiles.laid permuted;
+      no_other = all_permuted (λ (e : Placed). e.pass < vec_len c.args.passes) all sorted permuted c.in_ok-whole.ensures.placed.no_other;
+      receipts = (out c).tiles.laid;
+      short = all_map (λ (e : Placed). IsMine puts (piece_at e)) (λ (e : Placed). length e.bytes ≤ 2 ^ 24) sorted (λ e own. omega (arith, own.few)) (out c).mine;
+      most = omega (arith, low);
+      ended = λ ended.
+          let some : ¬ (past ≡ []) = λ none. ended (sym ends ∙ ap (map (λ (x : Piece). x.at)) none) in
+          subst (λ (n : ℕ). IsLeast n (ends_of c.args.passes.items)) from_none
+          (subst (IsLeast (0 + cost_of_placed sorted)) ends
+          (least_past puts (0 + cost_of_placed sorted) (slice_index c.close_with.ensures.values.2.0.words 0) past (omega arith) (out c).hand.past (out c).tiles.rest some));
+    }
