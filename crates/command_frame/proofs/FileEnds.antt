@@ -8,7 +8,7 @@ use Rattle.record_io.specs.Puts.{Put, Made, Out, Taken, taken_by, GoOut}
 use Rattle.record_io.specs.Seen.{SeenStream, SeenFile}
 use Rattle.record_io.proofs.Calls.{Takes-nothing, TakesShort-some}
 use Rattle.record_io.proofs.Puts.{GoOut-none_held}
-use Rattle.command_frame.specs.declared.ending.Cut.{Cut}
+use Rattle.record_io.specs.declared.cut.Cut.{Cut}
 use Rattle.command_frame.specs.declared.ending.Ending.{Ending}
 use Rattle.command_frame.specs.declared.sizes.SizeEnd.{SizeEnd}
 use Rattle.command_frame.specs.declared.status.Status.{Status}
@@ -29,7 +29,7 @@ use Rattle.command_frame.proofs.OneAnswer.{of_file_exists}
 use Rattle.command_frame.proofs.PutSoFar.{front-nothing, noted-nothing, gave-put, whole-flushed, front-flushed, broken-flushed, untold-flushed, whole-unflushed, front-unflushed}
 use Rattle.command_frame.proofs.FileRuns.{ReadsFile, told-answer, told-size, told-so_far}
 use Rattle.command_frame.proofs.RunEnds.{GaveButNotes, Keeps, OfSizes-map, runs-whole, runs-notes, runs-cut_off, runs-said, gave-said, then-behind, was-cut_off}
-use Rattle.command_frame.specs.declared.ending.Cut.TheVariants as cut
+use Rattle.record_io.specs.declared.cut.Cut.TheVariants as cut
 use Rattle.command_frame.specs.declared.ending.Ending.TheVariants as end
 use Rattle.command_frame.specs.declared.sizes.SizeEnd.TheVariants as size
 use Rattle.command_frame.specs.declared.status.Status.TheVariants as status

@@ -2,8 +2,7 @@
 use Rattle.std.proofs.Common.{if◌then◌else◌, ◌≡◌, ◌+◌, ◌-◌, ◌&&◌, ℕ, ◌≤◌, Bool, true, false, Some, None, List, [], length, refl, ap, arith}
 use Rattle.std.proofs.lemmas.Bool.{and_parts, leb-true}
 use Rattle.command_frame.specs.declared.many_files.FilesWords.{FilesWords}
-use Rattle.command_frame.specs.FilesWords.{files_words_of, is_read_too, may_be_files}
-use Rattle.command_frame.specs.Options.{are_words_of}
+use Rattle.command_frame.specs.Options.{are_words_of, files_words_of, is_read_too, may_be_files}
 
 of_words : (are read_too : Bool) (most count : ℕ) (w : FilesWords) → (are ≡ true → (3 ≤ count) × (count ≤ most + 2))
     → (if are then (if read_too then None else Some (record { count = count - 2; to = count - 1 })) else None) ≡ Some w

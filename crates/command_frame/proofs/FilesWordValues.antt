@@ -1,6 +1,6 @@
 -- Words that name several files, of which one is made, judged by hand, computed from the definitions.
 use Rattle.std.proofs.Common.{◌≡◌, Some, None, [], ◌∷◌, codes, refl}
-use Rattle.command_frame.specs.FilesWords.{files_words_of}
+use Rattle.command_frame.specs.Options.{files_words_of}
 
 -- one file and more, which may be the same
 one_file : files_words_of 2 (codes "join" ∷ codes "A" ∷ codes "B" ∷ []) ≡ Some (record { count = 1; to = 2 })

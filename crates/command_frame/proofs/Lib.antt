@@ -19,3 +19,4 @@ pub mod TwoStreams
 pub mod AskedSizes
 pub mod ManyFiles
 pub mod ManyFilesEnds
+pub mod AskedFiles

@@ -10,7 +10,7 @@ use Rattle.record_io.specs.Puts.{Put, Notes, Taken, taken_by, GoOut, bytes_to}
 use Rattle.record_io.specs.Seen.{SeenStream, SeenFile, seen_file}
 use Rattle.record_io.proofs.Calls.{Takes-nothing}
 use Rattle.record_io.proofs.ManyStores.{none_falls, same_bytes}
-use Rattle.command_frame.specs.declared.ending.Cut.{Cut}
+use Rattle.record_io.specs.declared.cut.Cut.{Cut}
 use Rattle.command_frame.specs.declared.ending.Ending.{Ending}
 use Rattle.command_frame.specs.declared.status.Status.{Status}
 use Rattle.command_frame.specs.Answers.{Answer, noted}
@@ -26,7 +26,7 @@ use Rattle.command_frame.specs.RunCauses.{HasCause}
 use Rattle.command_frame.proofs.FileEnds.{EndsWhole}
 use Rattle.command_frame.proofs.ManyFiles.{bytes_of, told_by, exact_shown, keeps-files, one_rose}
 use Rattle.command_frame.proofs.RunEnds.{GaveButNotes, Keeps, PutsLines-none, gave-said, was-cut_off, went-so_far, runs-whole, runs-said, runs-cut_off}
-use Rattle.command_frame.specs.declared.ending.Cut.TheVariants as cut
+use Rattle.record_io.specs.declared.cut.Cut.TheVariants as cut
 use Rattle.command_frame.specs.declared.ending.Ending.TheVariants as end
 use Rattle.command_frame.specs.declared.status.Status.TheVariants as status
 

@@ -1,12 +1,11 @@
 -- Numbers that are read within bounds are within them.
-use Rattle.std.proofs.Common.{◌≡◌, ℕ, ◌≤◌, ◌^◌, Bool, true, false, Option, Some, None, List, nat_le, option_map, unwrap_or, codes, refl, subst, arith, ◌&&◌}
+use Rattle.std.proofs.Common.{◌≡◌, ℕ, ◌≤◌, Bool, true, false, Option, Some, None, List, nat_le, option_map, unwrap_or, refl, subst, ◌&&◌}
 use Rattle.std.specs.Prelude.{option_and_then}
 use Rattle.std.specs.Bool.{then_some}
 use Rattle.std.specs.Option.{ForSome}
 use Rattle.std.proofs.lemmas.Bool.{and_parts, leb-true}
 use Rattle.command_frame.specs.Numbers.{number_in, number_within}
-use Rattle.command_frame.specs.Options.{value_given, optional_value}
-use Rattle.command_frame.specs.Writing.{default_chunk_size, chunk_size_of, workers_of}
+use Rattle.command_frame.specs.Options.{optional_value}
 
 -- what stands behind an answer that is there
 pub and_then_some : {X Y : Type 0} (o : Option X) (f : X → Option Y) (y : Y) → option_and_then f o ≡ Some y → (x : X) × (o ≡ Some x) × (f x ≡ Some y)
@@ -44,24 +43,7 @@ optional_value-within least most (Some word) found is n e =
     subst (IsWithin least most) same (number_within-bounds least most word read.0 read.1)
 
 -- and the default where there is none
-unwrap_or-within : (least most default : ℕ) (found : Option ℕ) → IsWithin least most default → ForSome found (IsWithin least most)
+pub unwrap_or-within : (least most default : ℕ) (found : Option ℕ) → IsWithin least most default → ForSome found (IsWithin least most)
     → IsWithin least most (unwrap_or found default)
 unwrap_or-within least most default None h g = h
 unwrap_or-within least most default (Some n) h g = g n refl
-
--- a number behind an option that may be left out, or its default
-pub optional-within : (least most default : ℕ) (value : Option (List ℕ)) (n : ℕ) → IsWithin least most default
-    → option_map (λ found. unwrap_or found default) (optional_value (number_within least most) value) ≡ Some n → IsWithin least most n
-optional-within least most default value n h is =
-    let read = map_some (optional_value (number_within least most) value) (λ found. unwrap_or found default) n is in
-    subst (IsWithin least most) read.2 (unwrap_or-within least most default read.0 h (optional_value-within least most value read.0 read.1))
-
-pub chunk_size_of-within : (words : List (List ℕ)) (size : ℕ) → chunk_size_of words ≡ Some size → IsWithin 1 (2 ^ 24) size
-chunk_size_of-within words size is =
-    optional-within 1 (2 ^ 24) default_chunk_size (value_given (codes "--chunk=") words) size
-    (record { least_bound = omega arith; most_bound = omega arith }) is
-
-pub workers_of-within : (words : List (List ℕ)) (workers : ℕ) → workers_of words ≡ Some workers → IsWithin 1 16 workers
-workers_of-within words workers is =
-    optional-within 1 16 1 (value_given (codes "--workers=") words) workers
-    (record { least_bound = omega arith; most_bound = omega arith }) is

@@ -54,7 +54,7 @@ pub record PutsLines (part puts : List Put) : Type 0 where
   pub lines : bytes_to Notes part ≡ first_lines count (bytes_to Notes puts)
 
 -- a run was cut off: of what an answer puts a front went out, of lines in notes whole ones, and then the line that tells what
--- cut it off
+-- cut it off, or where notes failed a front of that line
 pub record WasCutOff (ended : Status) (before after : Seen) (answer : Answer) : Type 0 where
   pub part : List Put
   pub broke : Breaks ended part answer.puts
@@ -63,7 +63,7 @@ pub record WasCutOff (ended : Status) (before after : Seen) (answer : Answer) : 
   pub lines : PutsLines part answer.puts
   pub notes : TakesThen before.notes after.notes (bytes_to Notes part) (fault_text ended)
 
--- a command was cut short where it may have been, and then the line went out that tells what cut it off
+-- a command was cut short where it may have been, and then the line went out that tells what cut it off, or a front of it
 pub record WentOutSoFar (m : Meaning) (ended : Status) (before after : Seen) (r : Read) : Type 0 where
   pub part : List Put
   pub found : m.may_have_put r (handed_by before.files) (handed_by after.files) part

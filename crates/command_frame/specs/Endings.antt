@@ -1,10 +1,11 @@
 -- Inside. How the work of a command that reads files ends, and what it has put and says then. Own.
 use Rattle.std.specs.Prelude.{◌≡◌, ◌≢◌, ℕ, ◌⊎◌, true, Option, Some, Result, Ok, Err, List, [], ◌∷◌, map, IsSomeAnd}
 use Rattle.record_values.specs.Bytes.{AreBytes}
+use Rattle.record_io.specs.Calls.{OnlyCounts}
 use Rattle.record_io.specs.Puts.{Made, Out, Taken}
-use Rattle.record_io.specs.Seen.{SeenStream}
+use Rattle.record_io.specs.Seen.{SeenStream, seen_stream}
 use Rattle.record_io.specs.Outside.{Rose, Takes, TakesShort}
-use Rattle.command_frame.specs.declared.ending.Cut.{Cut}
+use Rattle.record_io.specs.declared.cut.Cut.{Cut}
 use Rattle.command_frame.specs.declared.ending.Ending.{Ending}
 use Rattle.command_frame.specs.declared.sizes.SizeEnd.{SizeEnd}
 use Rattle.command_frame.specs.declared.status.Status.{Status}
@@ -14,7 +15,7 @@ use Rattle.command_frame.specs.Meanings.{Meaning}
 use Rattle.command_frame.specs.Statuses.{fault_text}
 use Rattle.command_frame.specs.CutShortRuns.{IsCutShort, TakesThen, FailedToSay}
 use Rattle.command_frame.specs.PutSoFar.{HasBrokenOff, HasPut, HasPutFront}
-use Rattle.command_frame.specs.declared.ending.Cut.TheVariants as cut
+use Rattle.record_io.specs.declared.cut.Cut.TheVariants as cut
 use Rattle.command_frame.specs.declared.ending.Ending.TheVariants as end
 use Rattle.command_frame.specs.declared.sizes.SizeEnd.TheVariants as size
 use Rattle.command_frame.specs.declared.status.Status.TheVariants as status
@@ -112,6 +113,17 @@ SaysAtEnd ended wanted before after text =
     ((ended ≡ wanted) × Takes before.bytes after.bytes text)
     ⊎ ((ended ≡ status.Notes) × Rose before.faults after.faults × TakesShort before.bytes after.bytes text)
 
+-- so it ended in notes, of which only that and their count of faults changed
+pub record EndsWith {M L : Type 0} (taken : M → Option (List ℕ)) (lent : M → L) (faults : M → ℕ)
+    (ended wanted : Status) (text : List ℕ) (before after : M) : Type 0 where
+  pub said : SaysAtEnd ended wanted (seen_stream taken faults before) (seen_stream taken faults after) text
+  pub counts : OnlyCounts lent faults ⊥ before after
+
+-- of notes what they borrow stays, and their count of faults never falls; where the work was done nothing was said
+pub record SpeaksIn {M L : Type 0} (lent : M → L) (faults : M → ℕ) (ended : Status) (before after : M) : Type 0 where
+  pub counts : OnlyCounts lent faults ⊥ before after
+  pub silent : ended ≡ status.Ok → after ≡ before
+
 -- what is said of the end in notes, and the status
 abbrev pub SaysEnd : {X W : Type 0} → Endings X W → Result X (Ending W) → Status → SeenStream → SeenStream → Type 0
 SaysEnd ends (Ok x) ended before after = (ended ≡ ends.done x) × (after ≡ before)
@@ -120,3 +132,9 @@ SaysEnd ends (Err (end.At w)) ended before after = SaysAtEnd ended (ends.status 
 SaysEnd ends (Err (end.Cut cut.Notes)) ended before after = (ended ≡ status.Notes) × (after ≡ before)
 SaysEnd ends (Err (end.Cut cut)) ended before after =
     (ended ≡ status_of cut) × TakesThen before after [] (fault_text (status_of cut))
+
+-- so it ended in notes, which it left as they were where the work was done with the status `Ok`
+pub record EndsInNotes {X W M L : Type 0} (taken : M → Option (List ℕ)) (lent : M → L) (faults : M → ℕ)
+    (ends : Endings X W) (result : Result X (Ending W)) (ended : Status) (before after : M) : Type 0 where
+  pub said : SaysEnd ends result ended (seen_stream taken faults before) (seen_stream taken faults after)
+  pub speaks : SpeaksIn lent faults ended before after

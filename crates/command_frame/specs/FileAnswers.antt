@@ -1,11 +1,12 @@
 -- Promise. What is answered of the one file that a command reads, and what it may take of it. Own.
 use Rattle.std.specs.Prelude.{◌≡◌, ℕ, ◌^◌, ◌<◌, ◌≤◌, ◌⊎◌, true, List, [], ◌∷◌, ◌++◌, length, decimal}
-use Rattle.std.specs.List.{concat}
+use Rattle.std.specs.List.{AllByRecursion, concat}
 use lib.Chars.{codes}
 use Rattle.record_io.specs.Puts.{Put}
 use Rattle.record_values.specs.declared.file_totals.Totals.{Totals}
 use Rattle.command_frame.specs.Answers.{Answer, line, noted}
 use Rattle.command_frame.specs.Meanings.{Meaning, meaning, none_used}
+use Rattle.command_frame.specs.declared.status.Status.{Status}
 use Rattle.command_frame.specs.declared.status.Status.TheVariants as status
 
 -- a number behind a name, as a line
@@ -52,6 +53,17 @@ IsInReach sizes = ⊥
 abbrev pub IsTooLong : List ℕ → Type 0
 IsTooLong (size ∷ []) = most_file_bytes < size
 IsTooLong sizes = ⊥
+
+-- each file of these sizes has so many bytes at most
+abbrev pub AreWithin : ℕ → List ℕ → Type 0
+AreWithin most sizes = AllByRecursion (λ size. size ≤ most) sizes
+
+-- how a command may end by the sizes of its files, whatever they hold: with its work done, where these let it work, or at what it
+-- doesn't go past, with such a status and text; or with the line of its limit, where they are past that
+abbrev pub MayEndBySizes : (past within : List ℕ → Type 0) → (Status → List ℕ → Type 0) → List ℕ → Status → List ℕ → Type 0
+MayEndBySizes past within Stops sizes ended text =
+    (within sizes × (((ended ≡ status.Ok) × (text ≡ [])) ⊎ Stops ended text))
+    ⊎ (past sizes × (ended ≡ status.Limit) × (text ≡ limit_text))
 
 -- what a command means that reads one file and prints, of which these are the answers and what it may have put so far: it says
 -- nothing before its end

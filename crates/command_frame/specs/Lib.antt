@@ -1,6 +1,5 @@
 pub mod Numbers
 pub mod Options
-pub mod FilesWords
 pub mod Writing
 pub mod Answers
 pub mod Meanings
@@ -21,3 +20,4 @@ pub mod NoFaults
 pub mod CutShortRuns
 pub mod PutSoFar
 pub mod Endings
+pub mod AskedFiles

@@ -1,5 +1,5 @@
 -- Promise. Lines of bytes, which end by a byte 10. Own.
-use Rattle.std.specs.Prelude.{ℕ, Bool, List, [], ◌∷◌, length, ◌==◌, if◌then◌else◌}
+use Rattle.std.specs.Prelude.{ℕ, Bool, List, [], ◌∷◌, ◌==◌, if◌then◌else◌}
 use Rattle.std.specs.List.{onto_first}
 
 -- whether a byte ends a line

@@ -29,8 +29,8 @@ pub record Meaning : Type 1 where
   pub is_command : Bool
   -- what it uses
   pub uses : Uses
-  -- what is supposed of what it reads, as that all stores of one file show the same bytes, once their sizes let it go on to its
-  -- work
+  -- what has to hold of what it reads for its answers to be told, as that all stores of one file show the same bytes, once
+  -- their sizes let it go on to its work
   pub supposes : Read → Type 0
   -- its answers to what it reads
   pub answers : Read → Answer → Type 0
@@ -55,7 +55,7 @@ pub record Meaning : Type 1 where
   pub most_taken : ℕ
 
 -- a command that uses these: it supposes nothing, reads and grows no file, says nothing before its end, and takes nothing of the
--- input
+-- input. What is ⊥ here is asked only of files that it uses, and of its end, which each command tells itself
 abbrev pub meaning : Uses → (Read → Answer → Type 0) → Meaning
 meaning uses answers = record {
   is_command = true;

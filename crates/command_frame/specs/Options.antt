@@ -1,9 +1,11 @@
 -- Promise. The words of a command: its options and its files. The word at place 0 is the command's name. Own.
-use Rattle.std.specs.Prelude.{ℕ, ◌-◌, Bool, false, not, ◌&&◌, ◌||◌, Option, Some, None, List, [], ◌∷◌, length, drop, filter, slice_index, slice_get, is_some, option_map, option_and_then, nat_eq, nat_le, ◌==◌}
+use Rattle.std.specs.Prelude.{ℕ, ◌+◌, ◌-◌, Bool, false, not, ◌&&◌, ◌||◌, if◌then◌else◌, Option, Some, None, List, [], ◌∷◌, length, drop, filter, slice_index, slice_get, get_or, is_some, option_map, option_and_then, nat_eq, nat_le, ◌==◌}
 use Rattle.std.specs.Bool.{then_some}
 use Rattle.std.specs.Option.{option_map_or}
 use Rattle.std.specs.Str.{bytes_eq}
 use Rattle.std.specs.List.{filter_map, list_all, list_any, range_with_len, starts_with}
+use Rattle.command_frame.specs.Numbers.{number_within}
+use Rattle.command_frame.specs.declared.many_files.FilesWords.{FilesWords}
 
 -- a word that names a file: not empty, and not beginning with a dash
 abbrev pub is_file_word : List ℕ → Bool
@@ -25,6 +27,10 @@ values_of option words = filter_map (value_in option) words
 -- the option's value, where it stands
 abbrev pub value_given : List ℕ → List (List ℕ) → Option (List ℕ)
 value_given option words = slice_get (values_of option words) 0
+
+-- whether a flag stands there
+abbrev pub has_flag : List ℕ → List (List ℕ) → Bool
+has_flag flag words = is_some (value_given flag words)
 
 -- whether a word may stand in a command of these options: it names a file, or is one of them
 abbrev pub is_word_of : List (List ℕ) → List ℕ → Bool
@@ -53,19 +59,37 @@ abbrev pub only_two : {X : Type 0} → List X → Option (X × X)
 only_two (x ∷ y ∷ []) = Some (x, y)
 only_two xs = None
 
--- whether two words are there and the same
-abbrev pub is_same : Option (List ℕ) → Option (List ℕ) → Bool
-is_same (Some word) (Some other) = bytes_eq word other
-is_same word other = false
+-- the place of the file of a command that has these options and one file
+abbrev pub file_of : (options words : List (List ℕ)) → Option ℕ
+file_of options words = if are_words_of options words then only (file_places words) else None
 
 -- whether the words at two places are the same
 abbrev pub is_same_at : List (List ℕ) → ℕ → ℕ → Bool
-is_same_at words place other = is_same (slice_get words place) (slice_get words other)
+is_same_at words place other = bytes_eq (get_or words place []) (get_or words other [])
+
+-- how many words there may be of a command that reads several files and makes one: its name, 1 to so many files, and the made one
+abbrev pub may_be_files : ℕ → ℕ → Bool
+may_be_files most count = nat_le 3 count && nat_le count (most + 2)
+
+-- whether a word behind the command's name is the one at a later place
+abbrev pub is_read_too : List (List ℕ) → ℕ → Bool
+is_read_too words to = list_any (λ place. is_same_at words place to) (range_with_len 1 (to - 1))
+
+-- what the words of such a command say: all name files, the last of them the made one, which is none of the others
+unfoldable pub files_words_of : (most : ℕ) → List (List ℕ) → Option FilesWords
+files_words_of most words =
+    if are_words_of [] words && may_be_files most (length words)
+    then (if is_read_too words (length words - 1) then None else Some (record { count = length words - 2; to = length words - 1 }))
+    else None
 
 -- what a value that may be left out is read as: None where it is there and can't be read
 abbrev pub optional_value : {X : Type 0} → (List ℕ → Option X) → Option (List ℕ) → Option (Option X)
 optional_value read None = Some None
 optional_value read (Some value) = option_map Some (read value)
+
+-- the number of an option that may be left out: None where the option stands there without a number within these bounds
+abbrev pub number_given : (option : List ℕ) (least most : ℕ) → List (List ℕ) → Option (Option ℕ)
+number_given option least most words = optional_value (number_within least most) (value_given option words)
 
 -- what follows from an answer, if there is one
 infixl 10 ◌>>=◌

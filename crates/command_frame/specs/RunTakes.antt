@@ -14,9 +14,9 @@ TakesAtMost most before after = IfSome before (λ left. IsSomeAnd after (λ rest
 
 -- what a run takes of what it reads
 pub record RunTakes (m : Meaning) (before after : Seen) (ended : Status) : Type 0 where
-  -- files are asked their sizes first: what cuts the work off, unless it is a fault of theirs, finds them within the limit
+  -- where the work was cut off, unless by a fault of its files, these told sizes by which it goes on to its work
   pub in_reach : IsCutOff ended → ended ≢ status.File → ended ≢ status.Grown → OfSizes m before after m.may_work
-  -- and only then are they read, and no more of them than the command may take
+  -- files hand out nothing unless they told such sizes, and then no more than the command may take
   pub handed : (handed_by after.files ≡ handed_by before.files)
       ⊎ ((m.uses.files ≡ true)
       × OfSizes m before after (λ sizes. m.may_work sizes × m.may_take sizes (handed_by before.files) (handed_by after.files)))

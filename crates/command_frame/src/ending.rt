@@ -1,44 +1,8 @@
 ghost use Rattle.std.specs.Prelude.{◌≡◌};
-ghost use Rattle.command_frame.specs.Endings.{cut_unprinted, status_of};
+ghost use Rattle.command_frame.specs.Endings.{cut_unprinted};
 
 use crate::sizes::SizeEnd;
-use crate::status::Status;
-
-/// What cuts the work of a command off. Own.
-#[derive(Clone, Copy, Debug, PartialEq, Eq)]
-pub enum Cut {
-    /// Standard input failed.
-    Input,
-    /// A file that is read failed.
-    File,
-    /// The file that is made failed.
-    Made,
-    /// The file that is grown failed.
-    Grown,
-    /// Standard output failed.
-    Out,
-    /// Standard error failed.
-    Notes,
-    /// There was not enough memory.
-    Memory,
-}
-
-impl Cut {
-    /// The status that tells it.
-    pub fn status(&self) -> Status
-        ensures { result ≡ status_of self.now }
-    {
-        match self {
-            Cut::Input => Status::Input,
-            Cut::File => Status::File,
-            Cut::Made => Status::Made,
-            Cut::Grown => Status::Grown,
-            Cut::Out => Status::Out,
-            Cut::Notes => Status::Notes,
-            Cut::Memory => Status::Memory,
-        }
-    }
-}
+use record_io::Cut;
 
 /// Why the work of a command that reads a record file ended before it was done. Own.
 #[derive(Clone, Copy, Debug, PartialEq, Eq)]

@@ -9,13 +9,17 @@ mod options;
 mod reports;
 mod sizes;
 mod status;
-mod writing;
 
-pub use ending::{Cut, Ending, unprinted};
+pub use ending::{Ending, unprinted};
 pub use many_files::{FilesWords, files_words};
 pub use notes::{LINE, cut_off, end, end_too_long, end_with_number};
-pub use options::{are_words_of, is_same_at, only_file, optional_number, two_files, value_given};
+pub use options::{
+    are_words_of, file_of, has_flag, is_same_at, number_given, two_files, value_given,
+};
+pub use record_io::Cut;
 pub use reports::{put_counts, put_report};
-pub use sizes::{MOST_FILE_BYTES, SizeEnd, ask_sizes, size_of};
+pub use sizes::{MOST_FILE_BYTES, SizeEnd, ask_sizes, is_one_past, size_of};
 pub use status::Status;
-pub use writing::{DEFAULT_CHUNK_SIZE, chunk_size, workers};
+
+/// The chunk size where none is named.
+pub const DEFAULT_CHUNK_SIZE: u64 = 1 << 20;

@@ -1,6 +1,6 @@
 ghost use Rattle.std.specs.Prelude.{◌≡◌, map};
 ghost use Rattle.std.specs.String.{string_bytes};
-ghost use Rattle.command_frame.specs.FilesWords.{files_words_of, is_read_too};
+ghost use Rattle.command_frame.specs.Options.{files_words_of, is_read_too};
 
 use crate::options::{are_words_of, is_same_at};
 
@@ -15,7 +15,7 @@ pub struct FilesWords {
 
 /// What words say that name 1 to `most` files behind the command's name, which are read, and then the one that is made, which
 /// is none of them.
-#[tactic(auto, unfolding(crate::specs::FilesWords::files_words_of))]
+#[tactic(auto, unfolding(crate::specs::Options::files_words_of))]
 pub fn files_words(words: &[String], most: usize) -> Option<FilesWords>
     ensures { result ≡ files_words_of most (map string_bytes words.now) }
 {

@@ -2,24 +2,21 @@ ghost use Rattle.std.specs.Prelude.{◌≡◌, ◌++◌, [], decimal};
 ghost use Rattle.record_io.specs.Calls.{OnlyCounts, PutsTo};
 ghost use Rattle.record_io.specs.Seen.{seen_stream};
 ghost use Rattle.command_frame.specs.Answers.{line};
-ghost use Rattle.command_frame.specs.Endings.{status_of, SaysAtEnd};
+ghost use Rattle.command_frame.specs.Endings.{EndsWith, status_of};
 ghost use Rattle.command_frame.specs.FileAnswers.{limit_text};
 ghost use Rattle.command_frame.specs.CutShortRuns.{TakesThen};
 ghost use Rattle.command_frame.specs.Statuses.{fault_text};
 
-use crate::ending::Cut;
 use crate::status::Status;
 use itoa::Buffer;
-use record_io::{Failed, PutBuffer, Sink, put_all};
+use record_io::{Cut, Failed, PutBuffer, Sink, put_all};
 
 /// The most bytes of a line, of which a quarter holds each of its parts.
 pub const LINE: usize = 128;
 
 /// Ends the work with a text and its status, or with that of a fault of notes.
 pub fn end<E: Sink>(notes: &mut E, text: &str, status: Status) -> Status
-    ensures told { SaysAtEnd result status (seen_stream E.taken E.faults notes.old)
-        (seen_stream E.taken E.faults notes.new) text.now }
-    ensures notes { OnlyCounts E.lent E.faults ⊥ notes.old notes.new }
+    ensures notes { EndsWith E.taken E.lent E.faults result status text.now notes.old notes.new }
 {
     match put_all(notes, text.as_bytes()) {
         Ok(()) => status,
@@ -29,18 +26,16 @@ pub fn end<E: Sink>(notes: &mut E, text: &str, status: Status) -> Status
 
 /// The same where a file has more bytes than are read.
 pub fn end_too_long<E: Sink>(notes: &mut E) -> Status
-    ensures told { SaysAtEnd result Status.Limit (seen_stream E.taken E.faults notes.old)
-        (seen_stream E.taken E.faults notes.new) limit_text }
-    ensures notes { OnlyCounts E.lent E.faults ⊥ notes.old notes.new }
+    ensures notes { EndsWith E.taken E.lent E.faults result Status.Limit limit_text
+        notes.old notes.new }
 {
     end(notes, "limit file\n", Status::Limit)
 }
 
 /// The same with a line of a text and a number.
 pub fn end_with_number<E: Sink>(notes: &mut E, text: &str, number: u64, status: Status) -> Status
-    ensures told { SaysAtEnd result status (seen_stream E.taken E.faults notes.old)
-        (seen_stream E.taken E.faults notes.new) (line (text.now ++ decimal number)) }
-    ensures notes { OnlyCounts E.lent E.faults ⊥ notes.old notes.new }
+    ensures notes { EndsWith E.taken E.lent E.faults result status (line (text.now ++ decimal number))
+        notes.old notes.new }
 {
     match put_number(notes, text, number) {
         Ok(()) => status,
@@ -71,7 +66,7 @@ pub fn cut_off<E: Sink>(notes: &mut E, cut: Cut) -> Status
         return Status::Notes;
     }
     let _ = put_all(notes, fault_line(cut).as_bytes());
-    cut.status()
+    Status::of(cut)
 }
 
 /// The line that tells a fault or want of memory.

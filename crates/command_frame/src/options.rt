@@ -1,8 +1,22 @@
-ghost use Rattle.std.specs.Prelude.{◌≡◌, length, map, nat_le, slice_get};
+ghost use Rattle.std.specs.Prelude.{◌≡◌, [], get_or, length, map, nat_le, slice_get};
 ghost use Rattle.std.specs.Option.{option_copied};
 ghost use Rattle.std.specs.String.{string_bytes};
-ghost use Rattle.command_frame.specs.Numbers.{number_within};
-ghost use Rattle.command_frame.specs.Options.{is_file_word, has_value, value_in, values_of, value_given, is_word_of, are_words_of, is_file_at, file_places, only, only_two, is_same_at, optional_value};
+ghost use Rattle.command_frame.specs.Options.{
+  is_file_word,
+  has_value,
+  value_in,
+  values_of,
+  value_given,
+  has_flag,
+  is_word_of,
+  are_words_of,
+  is_file_at,
+  file_places,
+  only_two,
+  file_of,
+  is_same_at,
+  number_given,
+};
 
 use crate::numbers::number_within;
 
@@ -70,9 +84,16 @@ fn has_value(option: &str) -> bool
     option.ends_with('=')
 }
 
+/// Whether a flag stands among the words.
+pub fn has_flag(flag: &str, words: &[String]) -> bool
+    ensures { result ≡ has_flag flag.now (map string_bytes words.now) }
+{
+    value_given(flag, words).is_some()
+}
+
 /// The number that an option has, if it stands among the words, and None where it isn't one from `least` to `most`.
-pub fn optional_number(option: &str, words: &[String], least: u64, most: u64) -> Option<Option<u64>>
-    ensures { result ≡ optional_value (number_within least most) (value_given option.now (map string_bytes words.now)) }
+pub fn number_given(option: &str, words: &[String], least: u64, most: u64) -> Option<Option<u64>>
+    ensures { result ≡ number_given option.now least most (map string_bytes words.now) }
 {
     match value_given(option, words) {
         Some(value) => number_within(value, least, most).map(Some),
@@ -80,10 +101,13 @@ pub fn optional_number(option: &str, words: &[String], least: u64, most: u64) ->
     }
 }
 
-/// The place of the file among the words, where there is just one.
-pub fn only_file(words: &[String]) -> Option<usize>
-    ensures { result ≡ only (file_places (map string_bytes words.now)) }
+/// The place of the file among the words, where these are of a command that has these options and one file.
+pub fn file_of(options: &[&str], words: &[String]) -> Option<usize>
+    ensures { result ≡ file_of (map (λ option. option.now) options.now) (map string_bytes words.now) }
 {
+    if !are_words_of(options, words) {
+        return None;
+    }
     let file = nth_file(words, 0)?;
     nth_file(words, 1).is_none().then_some(file)
 }
@@ -101,9 +125,16 @@ pub fn two_files(words: &[String]) -> Option<(usize, usize)>
 pub fn is_same_at(words: &[String], place: usize, other: usize) -> bool
     ensures { result ≡ is_same_at (map string_bytes words.now) place other }
 {
-    match (words.get(place), words.get(other)) {
-        (Some(word), Some(other)) => word == other,
-        _ => false,
+    word_at(words, place) == word_at(words, other)
+}
+
+/// The word at this place, or an empty one.
+fn word_at(words: &[String], place: usize) -> &str
+    ensures { result.now ≡ get_or (map string_bytes words.now) place [] }
+{
+    match words.get(place) {
+        Some(word) => word.as_str(),
+        None => "",
     }
 }
 

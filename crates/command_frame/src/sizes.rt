@@ -1,7 +1,7 @@
-ghost use Rattle.std.specs.Prelude.{◌≡◌, ℕ, ◌+◌, ◌≤◌, None, Some, drop, length, slice_get, IfOk, IfSome, IfErr, IsErr, OnOk};
-ghost use Rattle.record_io.specs.Calls.{OnlyCounts};
+ghost use Rattle.std.specs.Prelude.{◌≡◌, ℕ, ◌+◌, None, Some, drop, length, nat_lt, slice_get, IfOk, IfSome, IfErr, IsErr, OnOk};
+ghost use Rattle.std.specs.List.{list_any};
+ghost use Rattle.record_io.specs.Calls.{HasSize, OnlyCounts};
 ghost use Rattle.record_io.specs.ManyStores.{AreOnlyAsked, AreTold};
-ghost use Rattle.command_frame.specs.FileAnswers.{most_file_bytes};
 ghost use Rattle.command_frame.specs.FileSizes.{IsUnsized};
 
 use record_io::{Failed, Store};
@@ -20,8 +20,7 @@ pub enum SizeEnd {
 
 /// The size of a file that may be read.
 pub fn size_of<S: Store>(file: &mut S) -> Result<u64, SizeEnd>
-    ensures told { IfOk result (λ size. S.told file.new ≡ Some size) }
-    ensures in_reach { IfOk result (λ size. size ≤ most_file_bytes) }
+    ensures sized { IfOk result (λ size. HasSize (S.told file.new) size) }
     ensures exact { IfOk result (λ size. IfSome (S.bytes file.old) (λ bytes. size ≡ length bytes)) }
     ensures unread { IfErr result (λ ended. IsUnsized ended (S.told file.new) (S.bytes file.old) (S.faults file.old) (S.faults file.new)) }
     ensures same_handed { S.handed file.new ≡ S.handed file.old }
@@ -51,4 +50,11 @@ pub fn ask_sizes<S: Store>(files: &mut [S], sizes: &mut [u64]) -> Result<(), Fai
         sizes[index] = size;
     }
     Ok(())
+}
+
+/// Whether a size is of a file that has more bytes than these.
+pub fn is_one_past(sizes: &[u64], most: u64) -> bool
+    ensures { result ≡ list_any (λ size. nat_lt most size) sizes.now }
+{
+    sizes.iter().any(|size| *size > most)
 }

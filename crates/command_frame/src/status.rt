@@ -1,5 +1,8 @@
 ghost use Rattle.std.specs.Prelude.{◌≡◌};
+ghost use Rattle.command_frame.specs.Endings.{status_of};
 ghost use Rattle.command_frame.specs.Statuses.{number_of};
+
+use record_io::Cut;
 
 /// What a run of the program ends with. Own.
 #[derive(Clone, Copy, Debug, PartialEq, Eq)]
@@ -39,6 +42,21 @@ pub enum Status {
 }
 
 impl Status {
+    /// The status that tells what cut the work off.
+    pub fn of(cut: Cut) -> Status
+        ensures { result ≡ status_of cut }
+    {
+        match cut {
+            Cut::Input => Status::Input,
+            Cut::File => Status::File,
+            Cut::Made => Status::Made,
+            Cut::Grown => Status::Grown,
+            Cut::Out => Status::Out,
+            Cut::Notes => Status::Notes,
+            Cut::Memory => Status::Memory,
+        }
+    }
+
     /// The exit status of the program, from 0 to 15. Own.
     pub fn number(&self) -> u8
         ensures { result ≡ number_of self.now }

@@ -16,24 +16,15 @@ use Rattle.command_frame.specs.Answers.{Answer, noted}
 use Rattle.command_frame.specs.FileAnswers.{limit_text, most_file_bytes}
 use Rattle.command_frame.specs.declared.status.Status.TheVariants as status
 use Rattle.show_command.specs.Readings.{refused_file_text}
-use Rattle.join_command.specs.CollectCommand.{AreEachInReach, IsCollectAnswer, IsOneTooLong, collected_answer, too_much_text}
+use Rattle.command_frame.proofs.AskedFiles.{within_or_past}
+use Rattle.join_command.specs.CollectCommand.{IsCollectAnswer, collected_answer, too_much_text}
+use Rattle.join_command.specs.CollectingEnds.{AreEachInReach, IsOneTooLong}
 use Rattle.join_command.proofs.Weaves.{in_turn, in_turn-bounds, in_turn-woven, numbers_from, too_long_or_short}
 
 -- the answer to files whose records are gathered so
 pub is_whole : (files : List (List ℕ)) (made : GatheredValue) → AreEachInReach (map length files) → AreGatheredOf files made
     → IsCollectAnswer files (collected_answer made)
 is_whole files made reach gathered = inr (reach, inl (record { made = made; gathered = gathered; is = refl }))
-
--- one of the sizes passes the limit, or none does
-pub sizes_judged : (sizes : List ℕ) → IsOneTooLong sizes ⊎ AreEachInReach sizes
-sizes_judged [] = inr tt
-sizes_judged (size ∷ sizes) = elim (cases_lt most_file_bytes size) [
-  | inl long ↦ inl (0, size, omega arith, refl, long)
-  | inr fits ↦ elim (sizes_judged sizes) [
-    | inl (place, other, below, there, long) ↦ inl (suc place, other, omega (arith, below), there, long)
-    | inr others ↦ inr (fits, others)
-  ]
-]
 
 -- the records of a file without fault
 records_of_file : (file : List ℕ) → HasNoFault false file → (records : List (List ℕ)) × ((ks : List ChunkValue) × IsFile ks file × AreRecordsOf ks records)
@@ -76,7 +67,7 @@ answer_in_reach files bytes reach = elim (files_judged false files bytes) [
 ]
 
 pub collect_exists : (files : List (List ℕ)) → AllByRecursion AreBytes files → (answer : Answer) × IsCollectAnswer files answer
-collect_exists files bytes = elim (sizes_judged (map length files)) [
+collect_exists files bytes = elim (within_or_past most_file_bytes (map length files)) [
   | inl long ↦ (noted status.Limit limit_text, inl (long, refl))
   | inr reach ↦ answer_in_reach files bytes reach
 ]

@@ -3,7 +3,6 @@ use Rattle.std.proofs.Common.{◌≡◌, ◌≢◌, ℕ, ◌+◌, ◌≤◌, ◌
 use Rattle.std.specs.Prelude.{slice_get}
 use Rattle.std.specs.List.{AllByRecursion}
 use Rattle.record_values.specs.Bytes.{AreBytes}
-use Rattle.record_io.specs.ManyStores.{AreOnlyAsked}
 use Rattle.record_io.specs.Outside.{Rose, Takes}
 use Rattle.record_io.specs.Puts.{Made, Out, Notes, taken_by, puts_to}
 use Rattle.record_io.specs.Seen.{SeenStream, SeenFile, seen_file}
@@ -12,20 +11,22 @@ use Rattle.record_collect.specs.Gatherings.{AreGatheredOf, GatheredValue}
 use Rattle.command_frame.specs.declared.ending.Ending.{Ending}
 use Rattle.command_frame.specs.declared.status.Status.{Status}
 use Rattle.command_frame.specs.Answers.{Answer, noted}
-use Rattle.command_frame.specs.Endings.{IsAllowedEndOfMany, SaysEnd}
+use Rattle.command_frame.specs.AskedFiles.{AsksFiles}
+use Rattle.command_frame.specs.Endings.{SaysEnd}
 use Rattle.command_frame.specs.FileAnswers.{limit_text}
 use Rattle.command_frame.specs.Runs.{Runs}
 use Rattle.command_frame.specs.RunObjects.{seen}
 use Rattle.command_frame.specs.CutShortRuns.{Breaks}
 use Rattle.command_frame.proofs.FileEnds.{EndsWhole}
-use Rattle.command_frame.proofs.ManyFilesEnds.{MayEndBy, EndsBySizes, ReadsFiles, WentAtEnd, WentButNotes, WentToCut, reads_files, runs-files, went_none, went_noted, went_whole}
+use Rattle.command_frame.proofs.AskedFiles.{runs-asked}
+use Rattle.command_frame.proofs.ManyFilesEnds.{MayEndBy, EndsBySizes, ReadsFiles, WentAtEnd, WentButNotes, WentToCut, reads_files, went_none, went_noted, went_whole}
 use Rattle.command_frame.proofs.TwoStreams.{GoOut-both, GoOut-first, GoOut-neither, bytes_to-neither}
 use Rattle.show_command.specs.Readings.{refused_file_text}
-use Rattle.join_command.specs.CollectCommand.{AreEachInReach, IsOneTooLong, IsCollectAnswer, IsCollectedSoFar, MayEndCollecting, collect_meaning, collected_answer, collected_file, collected_lines, too_much_text}
-use Rattle.join_command.specs.CollectingEnds.{TakeCollected, collecting_ends, uncollected_status, uncollected_text}
+use Rattle.join_command.specs.CollectCommand.{IsCollectAnswer, IsCollectedSoFar, collect_meaning, collected_answer, collected_file, collected_lines, too_much_text}
+use Rattle.join_command.specs.CollectingEnds.{AreEachInReach, IsOneTooLong, TakeCollected, collecting_ends, uncollected_status, uncollected_text}
 use Rattle.join_command.specs.declared.stops.Uncollected.{Uncollected}
 use Rattle.join_command.proofs.CollectAnswers.{answer_in_reach, collect_exists, is_whole}
-use Rattle.command_frame.specs.declared.ending.Cut.TheVariants as cut
+use Rattle.record_io.specs.declared.cut.Cut.TheVariants as cut
 use Rattle.command_frame.specs.declared.ending.Ending.TheVariants as end
 use Rattle.command_frame.specs.declared.status.Status.TheVariants as status
 use Rattle.join_command.specs.declared.stops.Uncollected.TheVariants as uncollected
@@ -33,12 +34,12 @@ use Rattle.join_command.specs.declared.stops.Uncollected.TheVariants as uncollec
 -- so `collect` reads its files, and so it may end by their sizes
 reads-collect : ReadsFiles collect_meaning (λ all. Unit {0}) IsCollectAnswer IsCollectedSoFar
 reads-collect =
-    reads_files collect_meaning.uses (λ all. Unit {0}) IsCollectAnswer IsCollectedSoFar AreEachInReach (λ sizes before after. Unit {0}) MayEndCollecting
+    reads_files collect_meaning.uses (λ all. Unit {0}) IsCollectAnswer IsCollectedSoFar AreEachInReach (λ sizes before after. Unit {0}) collect_meaning.may_end
     refl refl refl
 
 stop_collect : (w : Uncollected) (sizes : List ℕ) → AreEachInReach sizes → collect_meaning.may_end sizes (uncollected_status w) (uncollected_text w)
-stop_collect (uncollected.Refused index fault) sizes within = inr (inl (within, index, fault, refl, refl))
-stop_collect uncollected.TooMuch sizes within = inr (inr (inl (within, refl, refl)))
+stop_collect (uncollected.Refused index fault) sizes within = inl (within, inr (inl (index, fault, refl, refl)))
+stop_collect uncollected.TooMuch sizes within = inl (within, inr (inr (refl, refl)))
 
 stop_whole : (w : Uncollected) → EndsWhole collect_meaning (uncollected_status w)
 stop_whole (uncollected.Refused index fault) = (tt, λ before after. tt)
@@ -51,8 +52,8 @@ stop_other uncollected.TooMuch is = cc is
 ends-collect : {X : Type 0} → EndsBySizes {X = X} collect_meaning collecting_ends IsOneTooLong (λ _. AreEachInReach)
 ends-collect = record {
   done = λ x. refl;
-  may_work = λ sizes within. inl (within, refl, refl);
-  too_long = λ sizes past. inr (inr (inr (past, refl, refl)));
+  may_work = λ sizes within. inl (within, inl (refl, refl));
+  too_long = λ sizes past. inr (past, refl, refl);
   stop = stop_collect;
   whole = stop_whole;
   other = stop_other;
@@ -134,11 +135,8 @@ pub runs-collected : {S L X : Type 0} (bytes : S → Option (List ℕ)) (told : 
     (input made made_then : SeenStream) (grown : SeenFile) (out out_then notes notes_then : SeenStream)
     (result : Result X (Ending Uncollected)) (ended : Status)
     → ((file : S) → IfSome (bytes file) (λ bs. IfSome (told file) (λ size. size ≡ length bs)))
-    → AreOnlyAsked bytes (λ s. None) name faults (result ≡ Err (end.Cut cut.File)) files files_then
+    → AsksFiles bytes told handed name faults collect_meaning IsOneTooLong (λ _. AreEachInReach) result files files_then
     → made.faults ≤ made_then.faults → out.faults ≤ out_then.faults → notes.faults ≤ notes_then.faults
-    → ((place : ℕ) (file : S) → slice_get files_then place ≡ Some file → told file ≡ None → drop (place + 1) files_then ≡ drop (place + 1) files)
-    → (map handed files_then ≡ map handed files) ⊎ ((sizes : List ℕ) × (map told files_then ≡ map Some sizes) × AreEachInReach sizes)
-    → IsAllowedEndOfMany collect_meaning IsOneTooLong (λ _. AreEachInReach) result (map told files_then)
     → ((all : List (List ℕ)) → map bytes files ≡ map Some all → TakeCollected result all made.bytes made_then.bytes out.bytes out_then.bytes)
     → SaysEnd collecting_ends result ended notes notes_then
     → (result ≡ Err (end.Cut cut.Made) → Rose made.faults made_then.faults)
@@ -146,10 +144,10 @@ pub runs-collected : {S L X : Type 0} (bytes : S → Option (List ℕ)) (told : 
     → Runs collect_meaning
     (seen input (map (seen_file bytes told handed faults) files) made grown out notes)
     (seen input (map (seen_file bytes told handed faults) files_then) made_then grown out_then notes_then) ended
-runs-collected bytes told handed name faults files files_then input made made_then grown out out_then notes notes_then result ended sized asked m o n in_order handed_out sizes took says made_rose out_rose =
-    runs-files bytes told handed name faults files files_then collect_meaning (λ all. Unit {0}) IsCollectAnswer IsCollectedSoFar reads-collect
+runs-collected bytes told handed name faults files files_then input made made_then grown out out_then notes notes_then result ended sized asks m o n took says made_rose out_rose =
+    runs-asked bytes told handed name faults files files_then collect_meaning (λ all. Unit {0}) IsCollectAnswer IsCollectedSoFar reads-collect
     collecting_ends IsOneTooLong (λ _. AreEachInReach) ends-collect input made made_then grown out out_then notes notes_then result ended
-    sized asked m o n in_order (elim handed_out [ inl unread ↦ inl unread | inr (some, tells, reach) ↦ inr (some, tells, reach, tt) ]) sizes
+    sized asks m o n
     (λ all is are supposed within.
     went-collect all made.bytes made_then.bytes out.bytes out_then.bytes notes.bytes result are within (took all is))
     says made_rose out_rose

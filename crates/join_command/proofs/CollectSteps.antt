@@ -1,54 +1,32 @@
 -- Files that are asked their sizes, and whose records are then gathered and put into one.
 use Rattle.std.proofs.Common.{◌≡◌, ◌∙◌, ℕ, false, true, Option, Result, Err, List, refl, sym, ap, subst, inl, inr}
-use Rattle.std.specs.Prelude.{nat_lt}
-use Rattle.std.specs.List.{list_any}
-use Rattle.std.proofs.lemmas.Bool.{lt-ltb, ltb-true}
-use Rattle.std.proofs.lemmas.List.Folds.{Any-from_list_any, list_any-from_Any}
 use Rattle.record_io.specs.Outside.{Takes, TakesShort}
-use Rattle.chunk_reader.specs.Faults.{IsFirstFault}
-use Rattle.chunk_reader.specs.declared.reasons.Fault.{Fault}
-use Rattle.record_collect.specs.Gatherings.{IsTooMuch, GatheredValue}
+use Rattle.record_io.specs.Calls.{TakesFront}
+use Rattle.record_io.specs.declared.cut.Cut.{Cut}
+use Rattle.record_collect.specs.Ends.{IsGatheredOf}
+use Rattle.record_collect.specs.Gatherings.{AreGatheredOf, GatheredValue}
 use Rattle.record_collect.specs.FilePlaces.{places_in_file}
 use Rattle.command_frame.specs.Writing.{default_chunk_size}
 use Rattle.record_collect.specs.declared.gathering.GatherEnd.{GatherEnd}
 use Rattle.command_frame.specs.declared.ending.Ending.{Ending}
 use Rattle.command_frame.specs.Endings.{HaveTold, IsAllowedEndOfMany}
-use Rattle.command_frame.specs.FileAnswers.{most_file_bytes}
-use Rattle.join_command.specs.CollectCommand.{AreEachInReach, IsOneTooLong, collect_meaning, collected_file, collected_lines, files_lines}
-use Rattle.join_command.specs.CollectingEnds.{TakeCollected, end_of_gather}
+use Rattle.join_command.specs.CollectCommand.{collect_meaning, collected_file, collected_lines, files_lines}
+use Rattle.join_command.specs.CollectingEnds.{AreEachInReach, IsOneTooLong, PutsGathered, TakeCollected, TakesFile, end_of_gather}
 use Rattle.join_command.specs.declared.stops.Uncollected.{Uncollected}
-use Rattle.join_command.proofs.CollectAnswers.{sizes_judged}
 use Rattle.record_collect.specs.declared.gathering.GatherEnd.TheVariants as gather
-use Rattle.command_frame.specs.declared.ending.Cut.TheVariants as cut
+use Rattle.record_io.specs.declared.cut.Cut.TheVariants as cut
 use Rattle.command_frame.specs.declared.ending.Ending.TheVariants as end
-
--- whether one is too long, by the test that tells it
-pub one_too_long : (sizes : List ℕ) → list_any (λ size. nat_lt most_file_bytes size) sizes ≡ true → IsOneTooLong sizes
-one_too_long sizes is =
-    let (place, size, below, there, long) = Any-from_list_any (λ size. nat_lt most_file_bytes size) sizes is in
-    (place, size, below, there, ltb-true most_file_bytes size long)
-
-pub none_too_long : (sizes : List ℕ) → list_any (λ size. nat_lt most_file_bytes size) sizes ≡ false → AreEachInReach sizes
-none_too_long sizes is = elim (sizes_judged sizes) [
-  | inl (place, size, below, there, long) ↦ absurd (cc (
-    is,
-    list_any-from_Any (λ n. nat_lt most_file_bytes n) sizes (place, size, below, there, lt-ltb most_file_bytes size long),
-  ))
-  | inr reach ↦ reach
-]
 
 -- what gathering took where it ended early
 pub took-ended : (X : Type 0) (e : GatherEnd) (why : Ending Uncollected) (made out : Option (List ℕ)) (all : List (List ℕ)) → why ≡ end_of_gather e
-    → ((index : ℕ) (fault : Fault) → e ≡ gather.Refused index fault → IsFirstFault false all index fault)
-    → (e ≡ gather.TooMuch → IsTooMuch all) → TakeCollected {X = X} (Err why) all made made out out
-took-ended X e why made out all is refused much =
-    subst (λ (w : Ending Uncollected). TakeCollected {X = X} (Err w) all made made out out) (sym is) (by_end e refused much) where
-      by_end : (e : GatherEnd) → ((index : ℕ) (fault : Fault) → e ≡ gather.Refused index fault → IsFirstFault false all index fault)
-          → (e ≡ gather.TooMuch → IsTooMuch all) → TakeCollected {X = X} (Err (end_of_gather e)) all made made out out
-      by_end (gather.Refused index fault) refused much = (refused index fault refl, refl, refl)
-      by_end gather.TooMuch refused much = (much refl, refl, refl)
-      by_end gather.Store refused much = (refl, refl)
-      by_end gather.Memory refused much = inl (refl, refl)
+    → IsGatheredOf (Err e) all → TakeCollected {X = X} (Err why) all made made out out
+took-ended X e why made out all is gathered =
+    subst (λ (w : Ending Uncollected). TakeCollected {X = X} (Err w) all made made out out) (sym is) (by_end e gathered) where
+      by_end : (e : GatherEnd) → IsGatheredOf (Err e) all → TakeCollected {X = X} (Err (end_of_gather e)) all made made out out
+      by_end (gather.Refused index fault) first = (first, refl, refl)
+      by_end gather.TooMuch much = (much, refl, refl)
+      by_end gather.Store h = (refl, refl)
+      by_end gather.Memory h = inl (refl, refl)
 
 pub sized-ended : (X : Type 0) (e : GatherEnd) (why : Ending Uncollected) (told : List (Option ℕ)) → why ≡ end_of_gather e
     → HaveTold told AreEachInReach → IsAllowedEndOfMany {X = X} collect_meaning IsOneTooLong (λ _. AreEachInReach) (Err why) told
@@ -92,3 +70,45 @@ put-unprinted value records places made made_then out out_then same are took pri
   subst (λ (rs : List (List ℕ)). Takes made made_then (collected_file rs)) same took,
   subst (λ (text : List ℕ). TakesShort out out_then text) (lines-of value records places same are) printed,
 )
+
+-- where the file wasn't written to its end, no line was put
+pub put-failed : (X Y : Type 0) (why : Cut) (value : GatheredValue) (records : List (List ℕ)) (made made_then out : Option (List ℕ)) → records ≡ value.records
+    → TakesFile {X = X} (Err why) (collected_file records) made made_then → PutsGathered {X = Y} (Err why) value made made_then out out
+put-failed X Y cut.Input value records made made_then out same took = absurd took
+put-failed X Y cut.File value records made made_then out same took = absurd took
+put-failed X Y cut.Made value records made made_then out same took =
+    (subst (λ (rs : List (List ℕ)). TakesShort made made_then (collected_file rs)) same took, refl)
+put-failed X Y cut.Grown value records made made_then out same took = absurd took
+put-failed X Y cut.Out value records made made_then out same took = absurd took
+put-failed X Y cut.Notes value records made made_then out same took = absurd took
+put-failed X Y cut.Memory value records made made_then out same took =
+    (subst (λ (rs : List (List ℕ)). TakesFront made made_then (collected_file rs)) same took, refl)
+
+-- how the work ends where putting was cut off so
+module _ (X Y : Type 0) (value : GatheredValue) (made made_then out out_then : Option (List ℕ)) where
+  pub took-cut : (why : Cut) (all : List (List ℕ)) → PutsGathered {X = X} (Err why) value made made_then out out_then → AreGatheredOf all value
+      → TakeCollected {X = Y} (Err (end.Cut why)) all made made_then out out_then
+  took-cut cut.Input all (never, unprinted) gathered = absurd never
+  took-cut cut.File all (never, unprinted) gathered = absurd never
+  took-cut cut.Made all put gathered = (value, gathered, put)
+  took-cut cut.Grown all (never, unprinted) gathered = absurd never
+  took-cut cut.Out all put gathered = (value, gathered, put)
+  took-cut cut.Notes all (never, unprinted) gathered = absurd never
+  took-cut cut.Memory all put gathered = inr (value, gathered, put)
+
+  pub sized-cut : (why : Cut) (told : List (Option ℕ)) → PutsGathered {X = X} (Err why) value made made_then out out_then → HaveTold told AreEachInReach
+      → IsAllowedEndOfMany {X = Y} {W = Uncollected} collect_meaning IsOneTooLong (λ _. AreEachInReach) (Err (end.Cut why)) told
+  sized-cut cut.Input told (never, unprinted) sized = absurd never
+  sized-cut cut.File told (never, unprinted) sized = absurd never
+  sized-cut cut.Made told put sized = (refl, sized)
+  sized-cut cut.Grown told (never, unprinted) sized = absurd never
+  sized-cut cut.Out told put sized = (refl, sized)
+  sized-cut cut.Notes told (never, unprinted) sized = absurd never
+  sized-cut cut.Memory told put sized = (refl, sized)
+
+  -- and no file failed
+  pub file-cut : {A : Type 0} (why : Cut) → PutsGathered {X = X} (Err why) value made made_then out out_then
+      → ◌≡◌ {A = Result Y (Ending Uncollected)} (Err (end.Cut why)) (Err (end.Cut cut.File)) → A
+  file-cut why put failed =
+      let is : why ≡ cut.File = cc failed in
+      absurd (subst (λ (w : Cut). PutsGathered {X = X} (Err w) value made made_then out out_then) is put).0

@@ -1,14 +1,13 @@
 -- The lines of `collect`, judged by hand, computed from the definitions.
-use Rattle.std.proofs.Common.{◌≡◌, ℕ, Some, None, List, [], ◌∷◌, ◌++◌, codes, length, replicate, lit<, lit≤, refl}
+use Rattle.std.proofs.Common.{◌≡◌, ℕ, List, [], ◌∷◌, codes, length, lit<, lit≤, refl, arith}
 use Rattle.std.specs.Fmt.{digits}
 use Rattle.varint_wire.specs.Varint.{shortest}
 use Rattle.block_layout.specs.Layout.{chunk_end_of, end_of, room}
 use Rattle.meta_chunk.specs.Files.{laid_each}
 use Rattle.meta_chunk.specs.Laid.{laid_bytes}
 use Rattle.record_group.specs.Groups.{groups, file_of}
-use Rattle.command_frame.specs.FilesWords.{files_words_of}
-use Rattle.join_command.specs.CollectCommand.{AreEachInReach, IsOneTooLong, collected_file, collected_lines, files_lines, too_much_text}
-use Rattle.join_command.specs.CollectWords.{collect_words_of}
+use Rattle.join_command.specs.CollectCommand.{collected_file, collected_lines, files_lines, too_much_text}
+use Rattle.join_command.specs.CollectingEnds.{AreEachInReach, IsOneTooLong}
 
 -- two files, the second of which has the first and the last of four records, and a file without records
 two_files : files_lines (64 ∷ 65 ∷ 66 ∷ 108 ∷ []) ((1 ∷ 2 ∷ []) ∷ (0 ∷ 3 ∷ []) ∷ []) ≡ codes "0 65\n0 66\n1 64\n1 108\n"
@@ -39,22 +38,9 @@ length_of_six : length (collected_file six_records) ≡ 118
 unfolding six_records groups file_of laid_each laid_bytes chunk_end_of end_of room shortest
 length_of_six = refl
 
--- 16 files are read, and no 17th; the one that is made is none of them
-sixteen : collect_words_of (codes "collect" ∷ replicate 16 (codes "F") ++ codes "T" ∷ []) ≡ Some (record { count = 16; to = 17 })
-unfolding files_words_of
-sixteen = refl
-
-seventeen : collect_words_of (codes "collect" ∷ replicate 17 (codes "F") ++ codes "T" ∷ []) ≡ None
-unfolding files_words_of
-seventeen = refl
-
-made_and_read : collect_words_of (codes "collect" ∷ codes "F" ∷ codes "T" ∷ codes "F" ∷ []) ≡ None
-unfolding files_words_of
-made_and_read = refl
-
 -- a file may have 2 ^ 60 bytes, and no more
 in_reach : AreEachInReach (0 ∷ 1152921504606846976 ∷ [])
 in_reach = (lit≤ tt, (lit≤ tt, tt))
 
 too_long : IsOneTooLong (0 ∷ 1152921504606846977 ∷ [])
-too_long = (1, 1152921504606846977, lit< tt, refl, lit< tt)
+too_long = λ within. omega (arith, within.1.0)

@@ -30,7 +30,7 @@ refused_answer files index fault =
 -- files of bytes have an answer
 pub join_exists : (files : List (List ℕ)) → files ≢ [] → AllByRecursion AreBytes files → (answer : Answer) × IsJoinAnswer files answer
 join_exists files some bytes = elim (cases_lt most_file_bytes (joined_at_most (map length files))) [
-  | inl long ↦ (noted status.Limit limit_text, inl (long, refl))
+  | inl long ↦ (noted status.Limit limit_text, inl ((λ reach. omega (arith, long, reach)), refl))
   | inr reach ↦ elim (files_judged true files bytes) [
     | inl none ↦
         let whole = joined-no_fault files some none in
@@ -52,6 +52,6 @@ judged-one files a b (inr h) (inr g) =
 -- and one at most
 pub join_is_one : (files : List (List ℕ)) (a b : Answer) → IsJoinAnswer files a → IsJoinAnswer files b → a ≡ b
 join_is_one files a b (inl (long, is)) (inl (too, also)) = is ∙ sym also
-join_is_one files a b (inl (long, is)) (inr (reach, g)) = absurd (omega (arith, long, reach))
-join_is_one files a b (inr (reach, h)) (inl (long, also)) = absurd (omega (arith, long, reach))
+join_is_one files a b (inl (long, is)) (inr (reach, g)) = absurd (long reach)
+join_is_one files a b (inr (reach, h)) (inl (long, also)) = absurd (long reach)
 join_is_one files a b (inr (reach, h)) (inr (also, g)) = judged-one files a b h g

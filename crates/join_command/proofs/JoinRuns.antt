@@ -3,7 +3,6 @@ use Rattle.std.proofs.Common.{◌≡◌, ◌≢◌, ◌∙◌, ℕ, ◌+◌, ◌
 use Rattle.std.specs.Prelude.{slice_get}
 use Rattle.std.specs.List.{AllByRecursion}
 use Rattle.record_values.specs.Bytes.{AreBytes}
-use Rattle.record_io.specs.ManyStores.{AreOnlyAsked}
 use Rattle.record_io.specs.Outside.{Rose, Takes, TakesShort}
 use Rattle.record_io.specs.Calls.{TakesFront}
 use Rattle.record_io.specs.Puts.{Put, Made, Out, Notes, taken_by, BreaksOff, puts_to}
@@ -17,27 +16,29 @@ use Rattle.record_join.proofs.JoinedFiles.{joined-no_fault}
 use Rattle.command_frame.specs.declared.ending.Ending.{Ending}
 use Rattle.command_frame.specs.declared.status.Status.{Status}
 use Rattle.command_frame.specs.Answers.{Answer}
-use Rattle.command_frame.specs.Endings.{IsAllowedEndOfMany, SaysEnd}
+use Rattle.command_frame.specs.AskedFiles.{AsksFiles}
+use Rattle.command_frame.specs.Endings.{SaysEnd}
 use Rattle.command_frame.specs.FileAnswers.{limit_text, report}
 use Rattle.command_frame.specs.Runs.{Runs}
 use Rattle.command_frame.specs.RunObjects.{seen}
 use Rattle.command_frame.specs.CutShortRuns.{Breaks}
-use Rattle.command_frame.proofs.ManyFilesEnds.{MayEndBy, EndsBySizes, ReadsFiles, WentAtEnd, WentToCut, reads_files, runs-files, some_told, went_none, went_noted, went_whole}
+use Rattle.command_frame.proofs.AskedFiles.{runs-asked}
+use Rattle.command_frame.proofs.ManyFilesEnds.{MayEndBy, EndsBySizes, ReadsFiles, WentAtEnd, WentToCut, reads_files, some_told, went_none, went_noted, went_whole}
 use Rattle.command_frame.proofs.TwoStreams.{GoOut-both, GoOut-first, GoOut-neither, bytes_to-neither}
 use Rattle.show_command.specs.Readings.{refused_file_text}
-use Rattle.join_command.specs.JoinCommand.{AreTogetherInReach, AreTooLong, IsJoinAnswer, AreToJoin, IsJoinedSoFar, MayEndJoining, MayJoin, join_meaning}
-use Rattle.join_command.specs.JoiningEnds.{TakeJoined, joining_ends}
+use Rattle.join_command.specs.JoinCommand.{AreTogetherInReach, IsJoinAnswer, AreToJoin, IsJoinedSoFar, MayJoin, join_meaning}
+use Rattle.join_command.specs.JoiningEnds.{AreTooLong, TakeJoined, joining_ends}
 use Rattle.join_command.specs.declared.refusals.Refusal.{Refusal}
 use Rattle.join_command.proofs.JoinAnswers.{whole_answer, refused_answer, join_exists}
-use Rattle.command_frame.specs.declared.ending.Cut.TheVariants as cut
+use Rattle.record_io.specs.declared.cut.Cut.TheVariants as cut
 use Rattle.command_frame.specs.declared.ending.Ending.TheVariants as end
 use Rattle.command_frame.specs.declared.status.Status.TheVariants as status
 
 -- nothing was put yet
 nothing_yet : (all : List (List ℕ)) → AllByRecursion AreBytes all → IsJoinedSoFar all []
 nothing_yet all bytes = elim (files_judged true all bytes) [
-  | inl none ↦ record { front = all; are = inl (none, refl); count = 0; puts = refl }
-  | inr (index, fault, first) ↦ record { front = take index all; are = inr (index, fault, first, refl); count = 0; puts = refl }
+  | inl none ↦ (all, inl (none, refl), 0, refl)
+  | inr (index, fault, first) ↦ (take index all, inr (index, fault, first, refl), 0, refl)
 ]
 
 -- of the files that are joined so many bytes were put, of which Within holds
@@ -89,14 +90,14 @@ front_put P Within made made_then counted all bytes some reach front = elim (fil
 -- so `join` reads its files, and so it may end by their sizes
 reads-join : ReadsFiles join_meaning (λ all. Unit {0}) IsJoinAnswer IsJoinedSoFar
 reads-join =
-    reads_files join_meaning.uses (λ all. Unit {0}) IsJoinAnswer IsJoinedSoFar AreTogetherInReach MayJoin MayEndJoining refl refl refl
+    reads_files join_meaning.uses (λ all. Unit {0}) IsJoinAnswer IsJoinedSoFar AreTogetherInReach MayJoin join_meaning.may_end refl refl refl
 
 ends-join : {X : Type 0} → EndsBySizes {X = X} join_meaning joining_ends AreTooLong (λ _. AreTogetherInReach)
 ends-join = record {
   done = λ x. refl;
-  may_work = λ sizes within. inl (within, refl, refl);
-  too_long = λ sizes past. inr (inr (past, refl, refl));
-  stop = λ refusal sizes within. inr (inl (within, refusal.index, refusal.fault, refl, refl));
+  may_work = λ sizes within. inl (within, inl (refl, refl));
+  too_long = λ sizes past. inr (past, refl, refl);
+  stop = λ refusal sizes within. inl (within, inr (refusal.index, refusal.fault, refl, refl));
   whole = λ refusal. (tt, λ before after. tt);
   other = λ refusal is. cc is;
 }
@@ -113,7 +114,7 @@ module _ (all : List (List ℕ)) (made made_then out out_then notes : Option (Li
     breaks = breaks;
     quiet = bytes_to-other Notes Made (take h.count (joined h.front)) refl;
     went = GoOut-first made made_then out out_then notes (take h.count (joined h.front)) h.took unprinted;
-    so_far = λ short. record { front = h.front; are = h.are; count = h.count; puts = refl };
+    so_far = λ short. (h.front, h.are, h.count, refl);
   }
 
   went-join : {X : Type 0} (result : Result X (Ending Refusal)) → AllByRecursion AreBytes all → all ≢ []
@@ -174,12 +175,8 @@ pub runs-joined : {S L X : Type 0} (bytes : S → Option (List ℕ)) (told : S �
     (input made made_then : SeenStream) (grown : SeenFile) (out out_then notes notes_then : SeenStream)
     (result : Result X (Ending Refusal)) (ended : Status) → 0 < length files
     → ((file : S) → IfSome (bytes file) (λ bs. IfSome (told file) (λ size. size ≡ length bs)))
-    → AreOnlyAsked bytes (λ s. None) name faults (result ≡ Err (end.Cut cut.File)) files files_then
+    → AsksFiles bytes told handed name faults join_meaning AreTooLong (λ _. AreTogetherInReach) result files files_then
     → made.faults ≤ made_then.faults → out.faults ≤ out_then.faults → notes.faults ≤ notes_then.faults
-    → ((place : ℕ) (file : S) → slice_get files_then place ≡ Some file → told file ≡ None → drop (place + 1) files_then ≡ drop (place + 1) files)
-    → (map handed files_then ≡ map handed files)
-    ⊎ ((sizes : List ℕ) × (map told files_then ≡ map Some sizes) × AreTogetherInReach sizes × MayJoin sizes (map handed files) (map handed files_then))
-    → IsAllowedEndOfMany join_meaning AreTooLong (λ _. AreTogetherInReach) result (map told files_then)
     → ((all : List (List ℕ)) → map bytes files ≡ map Some all → TakeJoined result all made.bytes made_then.bytes out.bytes out_then.bytes)
     → SaysEnd joining_ends result ended notes notes_then
     → (result ≡ Err (end.Cut cut.Made) → Rose made.faults made_then.faults)
@@ -187,10 +184,10 @@ pub runs-joined : {S L X : Type 0} (bytes : S → Option (List ℕ)) (told : S �
     → Runs join_meaning
     (seen input (map (seen_file bytes told handed faults) files) made grown out notes)
     (seen input (map (seen_file bytes told handed faults) files_then) made_then grown out_then notes_then) ended
-runs-joined bytes told handed name faults files files_then input made made_then grown out out_then notes notes_then result ended some sized asked m o n in_order handed_out sizes took says made_rose out_rose =
-    runs-files bytes told handed name faults files files_then join_meaning (λ all. Unit {0}) IsJoinAnswer IsJoinedSoFar reads-join
+runs-joined bytes told handed name faults files files_then input made made_then grown out out_then notes notes_then result ended some sized asks m o n took says made_rose out_rose =
+    runs-asked bytes told handed name faults files files_then join_meaning (λ all. Unit {0}) IsJoinAnswer IsJoinedSoFar reads-join
     joining_ends AreTooLong (λ _. AreTogetherInReach) ends-join input made made_then grown out out_then notes notes_then result ended
-    sized asked m o n in_order handed_out sizes
+    sized asks m o n
     (λ all is are supposed within.
     went-join all made.bytes made_then.bytes out.bytes out_then.bytes notes.bytes result are (some_told bytes files all some is) within (took all is))
     says made_rose out_rose

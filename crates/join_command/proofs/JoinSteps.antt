@@ -2,17 +2,16 @@
 use Rattle.std.proofs.Common.{◌≡◌, ◌∙◌, ℕ, ◌+◌, ◌*◌, ◌≤◌, Option, Some, Result, Err, List, length, map, refl, sym, ap, subst, inr, arith}
 use Rattle.std.specs.Prelude.{slice_get}
 use Rattle.record_values.specs.declared.file_totals.Totals.{Totals}
-use Rattle.chunk_reader.specs.declared.reasons.Fault.{Fault}
-use Rattle.record_join.specs.Joins.{AreJoinedUpTo, IsFrontJoined, IsShortJoined}
+use Rattle.record_join.specs.Joins.{TakesJoined}
 use Rattle.record_join.specs.declared.joins.JoinEnd.{JoinEnd}
 use Rattle.command_frame.specs.declared.ending.Ending.{Ending}
 use Rattle.command_frame.specs.Endings.{HaveTold, IsAllowedEndOfMany}
 use Rattle.command_frame.proofs.ManyFiles.{shown_at}
-use Rattle.join_command.specs.JoinCommand.{AreTogetherInReach, AreTooLong, MayJoin, join_meaning}
-use Rattle.join_command.specs.JoiningEnds.{TakeJoined, end_of_join}
+use Rattle.join_command.specs.JoinCommand.{AreTogetherInReach, MayJoin, join_meaning}
+use Rattle.join_command.specs.JoiningEnds.{AreTooLong, TakeJoined, end_of_join}
 use Rattle.join_command.specs.declared.refusals.Refusal.{Refusal}
 use Rattle.record_join.specs.declared.joins.JoinEnd.TheVariants as join
-use Rattle.command_frame.specs.declared.ending.Cut.TheVariants as cut
+use Rattle.record_io.specs.declared.cut.Cut.TheVariants as cut
 use Rattle.command_frame.specs.declared.ending.Ending.TheVariants as end
 
 -- what each of them handed out
@@ -26,18 +25,15 @@ may_join handed sizes before after each = λ place x y size was is sized.
     omega (arith, each place a.0 b.0 size a.1 b.1 sized, a.2, b.2)
 
 -- how joining ended, where it ended before it was done
-pub took-ended : (X : Type 0) (result : Result Totals JoinEnd) (e : JoinEnd) (why : Ending Refusal) (made made_then out : Option (List ℕ)) (all : List (List ℕ))
-    → result ≡ Err e → why ≡ end_of_join e → AreTogetherInReach (map length all)
-    → ((index : ℕ) (fault : Fault) → result ≡ Err (join.Refused index fault) → AreJoinedUpTo all index fault made made_then)
-    → (result ≡ Err join.Store → IsFrontJoined all made made_then)
-    → (result ≡ Err join.Made → IsShortJoined all made made_then)
+pub took-ended : (X : Type 0) (e : JoinEnd) (why : Ending Refusal) (made made_then out : Option (List ℕ)) (all : List (List ℕ))
+    → why ≡ end_of_join e → AreTogetherInReach (map length all) → TakesJoined (Err e) all made made_then
     → TakeJoined {X = X} (Err why) all made made_then out out
-took-ended X result e why made made_then out all ended is reach refused front short =
-    subst (λ (w : Ending Refusal). TakeJoined {X = X} (Err w) all made made_then out out) (sym is) (by_end e ended) where
-      by_end : (e : JoinEnd) → result ≡ Err e → TakeJoined {X = X} (Err (end_of_join e)) all made made_then out out
-      by_end (join.Refused index fault) ended = (refused index fault ended, refl)
-      by_end join.Store ended = (inr (reach, front ended), refl)
-      by_end join.Made ended = (short ended, refl)
+took-ended X e why made made_then out all is reach took =
+    subst (λ (w : Ending Refusal). TakeJoined {X = X} (Err w) all made made_then out out) (sym is) (by_end e took) where
+      by_end : (e : JoinEnd) → TakesJoined (Err e) all made made_then → TakeJoined {X = X} (Err (end_of_join e)) all made made_then out out
+      by_end (join.Refused index fault) took = (took, refl)
+      by_end join.Store front = (inr (reach, front), refl)
+      by_end join.Made short = (short, refl)
 
 -- and what the files told then
 pub sized-ended : (X : Type 0) (e : JoinEnd) (why : Ending Refusal) (told : List (Option ℕ)) → why ≡ end_of_join e

@@ -13,7 +13,8 @@ use Rattle.command_frame.specs.FileAnswers.{most_file_bytes}
 use Rattle.command_frame.specs.declared.status.Status.TheVariants as status
 use Rattle.command_frame.proofs.TwoStreams.{bytes_to-neither}
 use Rattle.show_command.specs.Readings.{refused_file_text}
-use Rattle.join_command.specs.CollectCommand.{AreCollectedIn, AreEachInReach, AreOnlyRefusedIn, AreTooMuchIn, IsCollectAnswer, IsOneTooLong, collected_answer, collected_file, collected_lines}
+use Rattle.join_command.specs.CollectCommand.{AreCollectedIn, AreOnlyRefusedIn, AreTooMuchIn, IsCollectAnswer, collected_answer, collected_file, collected_lines}
+use Rattle.join_command.specs.CollectingEnds.{AreEachInReach, IsOneTooLong}
 use Rattle.join_command.proofs.AllWeaves.{each_gathered}
 use Rattle.join_command.proofs.CollectAnswers.{is_whole}
 
@@ -69,15 +70,10 @@ judged_alike files a b (inr (inr h)) (inl g) = absurd (fits files g.made g.gathe
 judged_alike files a b (inr (inr h)) (inr (inl g)) = absurd (refused_or_too_much files b g h.0)
 judged_alike files a b (inr (inr h)) (inr (inr g)) = same a b (h.1 ∙ sym g.1)
 
-long_or_in_reach : (sizes : List ℕ) → IsOneTooLong sizes → AreEachInReach sizes → ⊥
-long_or_in_reach sizes (place, size, below, there, long) reach =
-    let at : slice_get sizes place ≡ Some size = slice_get-get_or sizes place size below ∙ ap Some there in
-    omega (arith, long, all_at (λ (n : ℕ). n ≤ most_file_bytes) sizes place size at reach)
-
 pub answers_alike : (files : List (List ℕ)) (a b : Answer) → IsCollectAnswer files a → IsCollectAnswer files b → AreAlike a b
 answers_alike files a b (inl (long, is)) (inl (too, also)) = same a b (is ∙ sym also)
-answers_alike files a b (inl (long, is)) (inr (reach, g)) = absurd (long_or_in_reach (map length files) long reach)
-answers_alike files a b (inr (reach, h)) (inl (long, also)) = absurd (long_or_in_reach (map length files) long reach)
+answers_alike files a b (inl (long, is)) (inr (reach, g)) = absurd (long reach)
+answers_alike files a b (inr (reach, h)) (inl (long, also)) = absurd (long reach)
 answers_alike files a b (inr (reach, h)) (inr (also, g)) = judged_alike files a b h g
 
 -- an answer of a whole run is one of gathered records

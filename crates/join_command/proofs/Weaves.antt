@@ -150,7 +150,7 @@ pub too_long_or_short : (lists : List (List (List ℕ))) → HasTooLong lists �
 too_long_or_short [] = inr tt
 too_long_or_short (list ∷ lists) = elim (one_too_long list) [
   | inl (number, long, there, more) ↦
-      inl (record { list_number = 0; number = number; list = list; long = long; one_list = refl; one_record = there; more = more })
+      inl (record { list_number = 0; number = number; list = list; long = long; one_list = refl; one_record = there; too_long = more })
   | inr short ↦ elim (too_long_or_short lists) [
     | inl h ↦ inl (record {
       list_number = suc h.list_number;
@@ -159,7 +159,7 @@ too_long_or_short (list ∷ lists) = elim (one_too_long list) [
       long = h.long;
       one_list = h.one_list;
       one_record = h.one_record;
-      more = h.more;
+      too_long = h.too_long;
     })
     | inr others ↦ inr (short, others)
   ]

@@ -1,6 +1,6 @@
 -- Promise. What `collect` makes, prints, says and ends with. Own.
-use Rattle.std.specs.Prelude.{◌≡◌, ℕ, ◌<◌, ◌≤◌, ◌⊎◌, false, true, None, List, [], ◌∷◌, ◌++◌, decimal, length, map, slice_index, take}
-use Rattle.std.specs.List.{AllByRecursion, Any, enumerate_from, flat_map}
+use Rattle.std.specs.Prelude.{◌≡◌, ℕ, ◌⊎◌, false, true, None, List, [], ◌∷◌, ◌++◌, decimal, length, map, slice_index, take}
+use Rattle.std.specs.List.{enumerate_from, flat_map}
 use lib.Chars.{codes}
 use Rattle.record_io.specs.Puts.{Put, Made, Out, puts_to}
 use Rattle.chunk_reader.specs.Faults.{IsFirstFault}
@@ -11,19 +11,10 @@ use Rattle.record_collect.specs.FilePlaces.{places_in_file}
 use Rattle.record_collect.specs.Gatherings.{AreGatheredOf, IsTooMuch, GatheredValue}
 use Rattle.command_frame.specs.Writing.{default_chunk_size}
 use Rattle.command_frame.specs.Answers.{Answer, line, noted}
-use Rattle.command_frame.specs.FileAnswers.{limit_text, most_file_bytes}
+use Rattle.command_frame.specs.FileAnswers.{AreWithin, MayEndBySizes, limit_text, most_file_bytes}
 use Rattle.command_frame.specs.Meanings.{Meaning, meaning, none_used}
-use Rattle.command_frame.specs.declared.status.Status.{Status}
 use Rattle.command_frame.specs.declared.status.Status.TheVariants as status
 use Rattle.show_command.specs.Readings.{refused_file_text}
-
--- each of the files has so few bytes that it is read
-abbrev pub AreEachInReach : List ℕ → Type 0
-AreEachInReach sizes = AllByRecursion (λ size. size ≤ most_file_bytes) sizes
-
--- one of them has more
-abbrev pub IsOneTooLong : List ℕ → Type 0
-IsOneTooLong sizes = Any (λ size. most_file_bytes < size) sizes
 
 -- the file of collected records: their chunks have the size that they have where none is named, and it isn't padded
 abbrev pub collected_file : List (List ℕ) → List ℕ
@@ -74,29 +65,23 @@ AreTooMuchIn files answer = IsTooMuch files × (answer ≡ noted status.Limit to
 -- an answer to files, by their sizes first
 abbrev pub IsCollectAnswer : List (List ℕ) → Answer → Type 0
 IsCollectAnswer files answer =
-    (IsOneTooLong (map length files) × (answer ≡ noted status.Limit limit_text))
-    ⊎ (AreEachInReach (map length files) × (AreCollectedIn files answer ⊎ AreOnlyRefusedIn files answer ⊎ AreTooMuchIn files answer))
+    (¬ AreWithin most_file_bytes (map length files) × (answer ≡ noted status.Limit limit_text))
+    ⊎ (AreWithin most_file_bytes (map length files) × (AreCollectedIn files answer ⊎ AreOnlyRefusedIn files answer ⊎ AreTooMuchIn files answer))
 
 -- what was put so far: nothing, or so many bytes of the file of their records
 abbrev pub IsCollectedSoFar : List (List ℕ) → List Put → Type 0
 IsCollectedSoFar files part =
     (part ≡ []) ⊎ ((made : GatheredValue) × AreGatheredOf files made × (count : ℕ) × (part ≡ puts_to Made (take count (collected_file made.records))))
 
--- how collecting the records of files of these sizes may end, whatever they hold: with its work done, with a fault of one or as
--- the records are too many, or as one file is too long
-abbrev pub MayEndCollecting : List ℕ → Status → List ℕ → Type 0
-MayEndCollecting sizes ended text =
-    (AreEachInReach sizes × (ended ≡ status.Ok) × (text ≡ []))
-    ⊎ (AreEachInReach sizes × (index : ℕ) × (fault : Fault) × (ended ≡ status.Refused) × (text ≡ refused_file_text index fault))
-    ⊎ (AreEachInReach sizes × (ended ≡ status.Limit) × (text ≡ too_much_text))
-    ⊎ (IsOneTooLong sizes × (ended ≡ status.Limit) × (text ≡ limit_text))
-
--- what `collect` means: the order of the records is left open, and so it may have several answers
+-- what `collect` means: the order of the records is left open, and so it may have several answers; whatever its files hold, it may
+-- end with a fault of one, or as the records are too many
 abbrev pub collect_meaning : Meaning
 collect_meaning =
     record (meaning (record none_used { files = true; made = true; out = true; memory = true }) (λ r answer. IsCollectAnswer r.files answer)) {
       may_have_put = λ r before after part. IsCollectedSoFar r.files part;
-      may_work = AreEachInReach;
+      may_work = AreWithin most_file_bytes;
       may_take = λ sizes before after. Unit {0};
-      may_end = MayEndCollecting;
+      may_end = MayEndBySizes (λ sizes. ¬ AreWithin most_file_bytes sizes) (AreWithin most_file_bytes)
+          (λ ended text. ((index : ℕ) × (fault : Fault) × (ended ≡ status.Refused) × (text ≡ refused_file_text index fault))
+          ⊎ ((ended ≡ status.Limit) × (text ≡ too_much_text)));
     }

@@ -7,8 +7,10 @@ use Rattle.record_collect.specs.Gatherings.{AreGatheredOf, IsTooMuch, GatheredVa
 use Rattle.record_collect.specs.declared.gathering.GatherEnd.{GatherEnd}
 use Rattle.record_collect.specs.declared.gathering.GatherEnd.TheVariants as gather
 use Rattle.command_frame.specs.Endings.{Endings}
+use Rattle.command_frame.specs.FileAnswers.{AreWithin, most_file_bytes}
 use Rattle.command_frame.specs.declared.ending.Ending.{Ending}
-use Rattle.command_frame.specs.declared.ending.Cut.TheVariants as cut
+use Rattle.record_io.specs.declared.cut.Cut.{Cut}
+use Rattle.record_io.specs.declared.cut.Cut.TheVariants as cut
 use Rattle.command_frame.specs.declared.ending.Ending.TheVariants as end
 use Rattle.command_frame.specs.declared.status.Status.{Status}
 use Rattle.command_frame.specs.declared.status.Status.TheVariants as status
@@ -16,8 +18,13 @@ use Rattle.show_command.specs.Readings.{refused_file_text}
 use Rattle.join_command.specs.CollectCommand.{collected_file, collected_lines, too_much_text}
 use Rattle.join_command.specs.declared.stops.Uncollected.{Uncollected}
 use Rattle.join_command.specs.declared.stops.Uncollected.TheVariants as uncollected
-use Rattle.join_command.specs.declared.writing.PutCut.{PutCut}
-use Rattle.join_command.specs.declared.writing.PutCut.TheVariants as put
+
+-- each of the files has so few bytes that it is read, or not
+abbrev pub AreEachInReach : List ℕ → Type 0
+AreEachInReach sizes = AreWithin most_file_bytes sizes
+
+abbrev pub IsOneTooLong : List ℕ → Type 0
+IsOneTooLong sizes = ¬ AreEachInReach sizes
 
 -- the end by which the records of files were not gathered
 abbrev pub end_of_gather : GatherEnd → Ending Uncollected
@@ -39,21 +46,26 @@ uncollected_status uncollected.TooMuch = status.Limit
 abbrev pub collecting_ends : {X : Type 0} → Endings X Uncollected
 collecting_ends = record { done = λ _. status.Ok; text = uncollected_text; status = uncollected_status }
 
--- what the made file and standard output took of gathered records, by how it ended: the file, and the lines of where each record
--- stands; where standard output failed, a front of the lines and not all; where the file failed, a front of it and not all; and
--- where memory was wanting, a front of it
-abbrev pub PutsGathered : {X : Type 0} → Result X PutCut → GatheredValue → (made made_then out out_then : Option (List ℕ)) → Type 0
+-- what the made file took of bytes that are written to it, by what cut that off: a front and not all where it failed, and a front
+-- where memory was wanting
+abbrev pub TakesFile : {X : Type 0} → Result X Cut → List ℕ → (made made_then : Option (List ℕ)) → Type 0
+TakesFile (Ok x) file made made_then = Takes made made_then file
+TakesFile (Err cut.Made) file made made_then = TakesShort made made_then file
+TakesFile (Err cut.Memory) file made made_then = TakesFront made made_then file
+TakesFile (Err other) file made made_then = ⊥
+
+-- what it and standard output took of gathered records: the file, and the lines of where each record stands; where standard output
+-- failed, a front of the lines and not all; and else no lines
+abbrev pub PutsGathered : {X : Type 0} → Result X Cut → GatheredValue → (made made_then out out_then : Option (List ℕ)) → Type 0
 PutsGathered (Ok x) all made made_then out out_then =
     Takes made made_then (collected_file all.records) × Takes out out_then (collected_lines all)
-PutsGathered (Err put.Out) all made made_then out out_then =
+PutsGathered (Err cut.Out) all made made_then out out_then =
     Takes made made_then (collected_file all.records) × TakesShort out out_then (collected_lines all)
-PutsGathered (Err put.Made) all made made_then out out_then =
-    TakesShort made made_then (collected_file all.records) × (out_then ≡ out)
-PutsGathered (Err put.Memory) all made made_then out out_then =
-    TakesFront made made_then (collected_file all.records) × (out_then ≡ out)
+PutsGathered {X} (Err cut) all made made_then out out_then =
+    TakesFile {X = X} (Err cut) (collected_file all.records) made made_then × (out_then ≡ out)
 
 -- the records of files were gathered, and this was put of them
-abbrev pub AreGatheredAndPut : {X : Type 0} → Result X PutCut → List (List ℕ) → (made made_then out out_then : Option (List ℕ)) → Type 0
+abbrev pub AreGatheredAndPut : {X : Type 0} → Result X Cut → List (List ℕ) → (made made_then out out_then : Option (List ℕ)) → Type 0
 AreGatheredAndPut result files made made_then out out_then =
     (all : GatheredValue) × AreGatheredOf files all × PutsGathered result all made made_then out out_then
 
@@ -63,8 +75,8 @@ TakeCollected (Ok x) files made made_then out out_then = AreGatheredAndPut (Ok x
 TakeCollected (Err (end.At (uncollected.Refused index fault))) files made made_then out out_then =
     IsFirstFault false files index fault × (made_then ≡ made) × (out_then ≡ out)
 TakeCollected (Err (end.At uncollected.TooMuch)) files made made_then out out_then = IsTooMuch files × (made_then ≡ made) × (out_then ≡ out)
-TakeCollected {X} (Err (end.Cut cut.Made)) files made made_then out out_then = AreGatheredAndPut {X = X} (Err put.Made) files made made_then out out_then
-TakeCollected {X} (Err (end.Cut cut.Out)) files made made_then out out_then = AreGatheredAndPut {X = X} (Err put.Out) files made made_then out out_then
+TakeCollected {X} (Err (end.Cut cut.Made)) files made made_then out out_then = AreGatheredAndPut {X = X} (Err cut.Made) files made made_then out out_then
+TakeCollected {X} (Err (end.Cut cut.Out)) files made made_then out out_then = AreGatheredAndPut {X = X} (Err cut.Out) files made made_then out out_then
 TakeCollected {X} (Err (end.Cut cut.Memory)) files made made_then out out_then =
-    ((made_then ≡ made) × (out_then ≡ out)) ⊎ AreGatheredAndPut {X = X} (Err put.Memory) files made made_then out out_then
+    ((made_then ≡ made) × (out_then ≡ out)) ⊎ AreGatheredAndPut {X = X} (Err cut.Memory) files made made_then out out_then
 TakeCollected (Err other) files made made_then out out_then = (made_then ≡ made) × (out_then ≡ out)

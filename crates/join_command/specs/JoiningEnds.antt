@@ -14,9 +14,13 @@ use Rattle.show_command.specs.Readings.{refused_file_text}
 use Rattle.join_command.specs.JoinCommand.{AreTogetherInReach}
 use Rattle.join_command.specs.declared.refusals.Refusal.{Refusal}
 use Rattle.record_join.specs.declared.joins.JoinEnd.TheVariants as join
-use Rattle.command_frame.specs.declared.ending.Cut.TheVariants as cut
+use Rattle.record_io.specs.declared.cut.Cut.TheVariants as cut
 use Rattle.command_frame.specs.declared.ending.Ending.TheVariants as end
 use Rattle.command_frame.specs.declared.status.Status.TheVariants as status
+
+-- files of these sizes have too many bytes one after another
+abbrev pub AreTooLong : List ℕ → Type 0
+AreTooLong sizes = ¬ AreTogetherInReach sizes
 
 -- the end by which files were not joined
 abbrev pub end_of_join : JoinEnd → Ending Refusal

@@ -1,6 +1,4 @@
-pub mod JoinWords
 pub mod JoinCommand
 pub mod JoiningEnds
 pub mod CollectCommand
 pub mod CollectingEnds
-pub mod CollectWords

@@ -1,19 +1,23 @@
-ghost use Rattle.std.specs.Prelude.{◌≡◌, ◌+◌, ◌<◌, ◌≤◌, ◌⊎◌, ℕ, Some, None, Err, List, drop, length, map, slice_get};
+ghost use Rattle.std.specs.Prelude.{◌≡◌, ◌≤◌, Err, length, map};
 ghost use Rattle.record_io.specs.Calls.{OnlyCounts};
-ghost use Rattle.record_io.specs.ManyStores.{AreOnlyAsked, AreTold, IfAllTell};
+ghost use Rattle.record_io.specs.ManyStores.{AreOnlyAsked, IfAllTell};
 ghost use Rattle.record_io.specs.Seen.{seen_stream, seen_file};
+ghost use Rattle.record_join.specs.Joins.{CanBeJoined};
+ghost use Rattle.command_frame.specs.AskedFiles.{AsksFiles, KeepsFiles};
 ghost use Rattle.command_frame.specs.Endings.{IsAllowedEndOfMany};
 ghost use Rattle.command_frame.specs.Runs.{Runs};
 ghost use Rattle.command_frame.specs.RunObjects.{Seen};
-ghost use Rattle.join_command.specs.JoinCommand.{AreTogetherInReach, AreTooLong, MayJoin, join_meaning};
-ghost use Rattle.join_command.specs.JoiningEnds.{TakeJoined, end_of_join};
+ghost use Rattle.join_command.specs.JoinCommand.{AreTogetherInReach, MayJoin, join_meaning};
+ghost use Rattle.join_command.specs.JoiningEnds.{AreTooLong, TakeJoined, end_of_join};
 
-use crate::join_words::MOST_FILES;
 use crate::refusals::{Refusal, end_joining};
 use crate::sizes::are_in_reach;
 use command_frame::{Cut, Ending, Status, ask_sizes, put_report};
 use record_io::{Failed, Sink, Store};
 use record_join::{JoinEnd, join};
+
+/// The most files that are read. Own.
+pub const MOST_JOINED: usize = 64;
 
 /// Lays files one after another, 1 to 64, and prints the report of what they make, or says in notes which of them is refused
 /// and why. It takes no memory.
@@ -24,14 +28,12 @@ pub fn join_files<S: Store, M: Sink, O: Sink, E: Sink>(
     out: &mut O,
     notes: &mut E,
 ) -> Status
-    requires some { 0 < length files.old }
-    requires few { length files.old ≤ 64 }
+    requires many { (1 ≤ length files.old) × (length files.old ≤ 64) }
     ensures runs { (others : Seen) → Runs join_meaning
         (record others { files = map (seen_file S.bytes S.told S.handed S.faults) files.old; made = seen_stream M.taken M.faults made.old; out = seen_stream O.taken O.faults out.old; notes = seen_stream E.taken E.faults notes.old })
         (record others { files = map (seen_file S.bytes S.told S.handed S.faults) files.new; made = seen_stream M.taken M.faults made.new; out = seen_stream O.taken O.faults out.new; notes = seen_stream E.taken E.faults notes.new })
         result }
-    ensures same_bytes { map (λ file. S.bytes file) files.new ≡ map (λ file. S.bytes file) files.old }
-    ensures same_names { map (λ file. S.name file) files.new ≡ map (λ file. S.name file) files.old }
+    ensures files { KeepsFiles S.bytes S.name files.old files.new }
     ensures notes_kept { result ≡ Status.Ok → notes.new ≡ notes.old }
 {
     let ended = make_joined(files, made, out);
@@ -44,21 +46,14 @@ fn make_joined<S: Store, M: Sink, O: Sink>(
     made: &mut M,
     out: &mut O,
 ) -> Result<(), Ending<Refusal>>
-    requires some { 0 < length files.old }
-    requires few { length files.old ≤ 64 }
+    requires many { (1 ≤ length files.old) × (length files.old ≤ 64) }
     ensures joined { IfAllTell S.bytes files.old (λ all. TakeJoined result all (M.taken made.old) (M.taken made.new) (O.taken out.old) (O.taken out.new)) }
-    ensures sized { IsAllowedEndOfMany join_meaning AreTooLong (λ _. AreTogetherInReach) result (map (λ file. S.told file) files.new) }
-    ensures in_order { (place : ℕ) (file : S) → slice_get files.new place ≡ Some file → S.told file ≡ None
-        → drop (place + 1) files.new ≡ drop (place + 1) files.old }
-    ensures handed { (map (λ file. S.handed file) files.new ≡ map (λ file. S.handed file) files.old)
-        ⊎ ((sizes : List ℕ) × AreTold S.told files.new sizes × AreTogetherInReach sizes
-        × MayJoin sizes (map (λ file. S.handed file) files.old) (map (λ file. S.handed file) files.new)) }
-    // Whatever sizes they tell then.
-    ensures files { AreOnlyAsked S.bytes (λ file. None) S.name S.faults (result ≡ Err (Ending.Cut Cut.File)) files.old files.new }
+    ensures files { AsksFiles S.bytes S.told S.handed S.name S.faults
+        join_meaning AreTooLong (λ _. AreTogetherInReach) result files.old files.new }
     ensures made { OnlyCounts M.lent M.faults (result ≡ Err (Ending.Cut Cut.Made)) made.old made.new }
     ensures out { OnlyCounts O.lent O.faults (result ≡ Err (Ending.Cut Cut.Out)) out.old out.new }
 {
-    let mut room = [0; MOST_FILES];
+    let mut room = [0; MOST_JOINED];
     let sizes = &mut room[..files.len()];
     let Ok(()) = ask_sizes(files, sizes) else {
         return Err(Ending::Cut(Cut::File));
@@ -76,11 +71,9 @@ fn join_sized<S: Store, M: Sink, O: Sink>(
     made: &mut M,
     out: &mut O,
 ) -> Result<(), Ending<Refusal>>
-    requires some { 0 < length files.old }
-    requires told { AreTold S.told files.old sizes.now }
-    requires in_reach { AreTogetherInReach sizes.now }
+    requires sized { CanBeJoined S.told files.old sizes.now }
     ensures joined { IfAllTell S.bytes files.old (λ all. TakeJoined result all (M.taken made.old) (M.taken made.new) (O.taken out.old) (O.taken out.new)) }
-    ensures sized { IsAllowedEndOfMany join_meaning AreTooLong (λ _. AreTogetherInReach) result (map (λ file. S.told file) files.new) }
+    ensures allowed { IsAllowedEndOfMany join_meaning AreTooLong (λ _. AreTogetherInReach) result (map (λ file. S.told file) files.new) }
     ensures handed { MayJoin sizes.now (map (λ file. S.handed file) files.old) (map (λ file. S.handed file) files.new) }
     ensures files { AreOnlyAsked S.bytes S.told S.name S.faults (result ≡ Err (Ending.Cut Cut.File)) files.old files.new }
     ensures made { OnlyCounts M.lent M.faults (result ≡ Err (Ending.Cut Cut.Made)) made.old made.new }

@@ -2,9 +2,7 @@
 //! they tell of it. Own, as a whole.
 #![tactic(auto)]
 
-pub mod collect_words;
 mod collecting;
-pub mod join_words;
 mod joining;
 pub mod laws;
 mod place_lines;
@@ -13,5 +11,5 @@ mod sizes;
 mod stops;
 mod writing;
 
-pub use collecting::collect_files;
-pub use joining::join_files;
+pub use collecting::{MOST_COLLECTED, collect_files};
+pub use joining::{MOST_JOINED, join_files};

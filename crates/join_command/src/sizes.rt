@@ -1,5 +1,4 @@
-ghost use Rattle.std.specs.Prelude.{◌≡◌, ◌<◌, ◌≤◌, length, nat_le, nat_lt};
-ghost use Rattle.std.specs.List.{list_any};
+ghost use Rattle.std.specs.Prelude.{◌≡◌, ◌≤◌, length, nat_le};
 ghost use Rattle.record_join.specs.Joined.{joined_at_most};
 ghost use Rattle.command_frame.specs.FileAnswers.{most_file_bytes};
 
@@ -10,8 +9,7 @@ const MOST_PADDING: u64 = 131_072;
 
 /// Whether files of these sizes have so few bytes one after another that they are joined: no more than one that is read.
 pub(crate) fn are_in_reach(sizes: &[u64]) -> bool
-    requires some { 0 < length sizes.now }
-    requires few { length sizes.now ≤ 64 }
+    requires { (1 ≤ length sizes.now) × (length sizes.now ≤ 64) }
     ensures { result ≡ nat_le (joined_at_most sizes.now) most_file_bytes }
 {
     let mut room = MOST_FILE_BYTES - MOST_PADDING * (sizes.len() as u64 - 1);
@@ -22,11 +20,4 @@ pub(crate) fn are_in_reach(sizes: &[u64]) -> bool
         room -= *size;
     }
     true
-}
-
-/// Whether one of these sizes is of a file that has more bytes than are read.
-pub(crate) fn is_one_too_long(sizes: &[u64]) -> bool
-    ensures { result ≡ list_any (λ size. nat_lt most_file_bytes size) sizes.now }
-{
-    sizes.iter().any(|size| *size > MOST_FILE_BYTES)
 }

@@ -6,13 +6,12 @@ use Rattle.damage_skip.proofs.BoundedWalks.{MaySkipEach}
 use Rattle.damage_skip.specs.Regions.{regions_in}
 use Rattle.damage_skip.specs.Walks.{piece_of, event_text}
 use Rattle.damage_skip.proofs.RegionsIn.{skipped_text-event}
-use Rattle.recover_command.proofs.RecoverSteps.{by_sink}
-use Rattle.recover_command.specs.RecoverProgress.{end_of_sink, end_of_walk, event_lines, GivesEvent}
+use Rattle.recover_command.proofs.RecoverSteps.{by_stream}
+use Rattle.recover_command.specs.RecoverProgress.{end_of_walk, event_lines, PrintsEvent}
 use Rattle.damage_skip.specs.declared.events.Event.{Event}
 use Rattle.damage_skip.specs.declared.events.WalkEnd.{WalkEnd}
 use Rattle.damage_skip.specs.declared.regions.Region.{Region}
 use Rattle.recover_command.specs.declared.recover_words.RecoverWords.{RecoverWords}
-use Rattle.recover_command.specs.declared.recovering.FailedSink.{FailedSink}
 use Rattle.command_frame.specs.declared.ending.Ending.{Ending}
 use Rattle.command_frame.specs.declared.status.Status.{Status}
 use Rattle.command_frame.specs.Endings.{IsAllowedEnd}
@@ -30,15 +29,15 @@ recover_walks words = record {
 }
 
 -- an event fails by a sink that takes what is printed or told
-pub step-allowed : (X : Type 0) (words : RecoverWords) (b c : Taken) (held held_then : List ℕ) (e : Event) (failed : FailedSink)
-    (result : Result Status (Ending Region)) (told : Option ℕ) → IsErr result → IsErrAnd result (λ made. made ≡ end_of_sink failed)
-    → MaySkipEach words.most (piece_of e ∷ []) → GivesEvent {X = X} (Err failed) (event_lines words e) (event_text e) b c held held_then
+pub step-allowed : (X : Type 0) (words : RecoverWords) (b c : Taken) (held held_then : List ℕ) (e : Event) (failed : Ending Region)
+    (result : Result Status (Ending Region)) (told : Option ℕ) → IsErr result → IsErrAnd result (λ made. made ≡ failed)
+    → MaySkipEach words.most (piece_of e ∷ []) → PrintsEvent {X = X} (Err failed) (event_lines words e) (event_text e) b c held held_then
     → IsSomeAnd told (λ size. IsInReach (size ∷ []))
     → IsAllowedEnd (recover_meaning words) result told
 step-allowed X words b c held held_then e failed (Ok x) told err is passed gives reach = absurd (cc err)
 step-allowed X words b c held held_then e failed (Err made) told err is passed gives reach =
     subst (λ (x : Ending Region). IsAllowedEnd {X = Status} (recover_meaning words) (Err x) told) (sym is)
-    (by_sink X (λ x. IsAllowedEnd {X = Status} (recover_meaning words) (Err x) told) failed (event_lines words e) (event_text e) b c held held_then gives
+    (by_stream X (λ x. IsAllowedEnd {X = Status} (recover_meaning words) (Err x) told) failed (event_lines words e) (event_text e) b c held held_then gives
     (λ _. (refl, reach))
     (λ gave.
     ((event_text e, (regions_in (piece_of e ∷ []), passed, sym (skipped_text-event [] e)), λ none. omega (arith, gave.1, ap length none)), reach)))

@@ -1,6 +1,8 @@
 -- How `show` gets on past damage: the events so far, one more, and how they stand to the answer.
 use Rattle.std.proofs.Common.{◌≡◌, ◌∙◌, ℕ, ◌-◌, ◌<◌, ◌≤◌, true, false, Option, None, Ok, Err, List, [], ◌∷◌, ◌++◌, length, take, refl, sym, ap, subst, inr}
-use Rattle.std.specs.List.{AllByRecursion, flat_map}
+use Rattle.std.specs.List.{AllByRecursion, enumerate_from, flat_map}
+use Rattle.record_io.proofs.Buffered.{TakesAndHolds-none}
+use Rattle.show_command.specs.ShowProgress.{record_lines}
 use Rattle.std.proofs.lemmas.List.{append-nil, append_assoc}
 use Rattle.std.proofs.lemmas.Grind.{flat_map-append}
 use Rattle.record_io.specs.Outside.{Takes, TakesShort}
@@ -8,24 +10,27 @@ use Rattle.record_io.specs.Buffers.{TakesAndHolds, GoOutOrAreHeld}
 use Rattle.record_io.specs.Puts.{Put, Out, Notes, Taken, taken_by, GoOut, BreaksOff, puts_to, bytes_to}
 use Rattle.record_io.proofs.Calls.{Takes-append, TakesShort-append}
 use Rattle.record_io.proofs.Puts.{GoOut-append, GoOut-notes, GoOut-out, GoOutOrAreHeld-none, BreaksOff-last, BreaksOff-longer, BreaksOff-behind, bytes_to-append, bytes_to-other, puts_to-append}
-use Rattle.damage_skip.specs.Pieces.{Skipped, Piece, IsPieceOf, AreEvents}
+use Rattle.chunk_header.specs.Chunks.{ChunkValue}
+use Rattle.chunk_header.specs.Views.{value_of_chunk}
+use Rattle.meta_chunk.specs.Laid.{end_of_chunk}
+use Rattle.damage_skip.proofs.KeptChunks.{kept_region}
+use Rattle.damage_skip.specs.Pieces.{Skipped, Piece, IsPieceOf, AreEvents, records_of}
 use Rattle.damage_skip.specs.Bounds.{may_skip, walked, refused_in, MaySkip}
-use Rattle.damage_skip.specs.Regions.{region_text, regions_in, IsWalkedTo, skipped_text, stopped_text}
+use Rattle.damage_skip.specs.Regions.{region_text, regions_in, IsWalkedTo, skipped_text, stopped_text, told_text}
 use Rattle.damage_skip.specs.Takings.{IsTakenUpTo}
 use Rattle.damage_skip.specs.Walks.{piece_of, GoesOn, event_text}
 use Rattle.damage_skip.proofs.BoundedWalks.{MaySkipEach, walked-behind, walked-all, refused-none, walked-to_refused, refused-there}
-use Rattle.damage_skip.proofs.RegionsIn.{regions_in-append, each_append, skipped_text-event}
+use Rattle.damage_skip.proofs.RegionsIn.{regions_in-append, each_append, kept_no_region, skipped_text-event}
 use Rattle.damage_skip.proofs.WalkedTo.{piece_at, walked-further, walked-on, rest_of, rest_from}
 use Rattle.recover_command.proofs.RecoverStreams.{events_notes}
 use Rattle.recover_command.proofs.WalkStatuses.{status-more, status-all, status-stopped}
-use Rattle.recover_command.specs.RecoverProgress.{end_of_sink, event_lines, status_after, GivesEvent, IsGivenTo}
+use Rattle.recover_command.specs.RecoverProgress.{event_lines, status_after, PrintsEvent, HasPrintedTo}
 use Rattle.recover_command.specs.WalkAnswers.{walk_status}
 use Rattle.damage_skip.specs.declared.events.Event.{Event}
 use Rattle.damage_skip.specs.declared.regions.Region.{Region}
 use Rattle.damage_skip.proofs.Tiles.{goes_on_whole}
 use lib.Chars.{codes}
 use Rattle.recover_command.specs.declared.recover_words.RecoverWords.{RecoverWords}
-use Rattle.recover_command.specs.declared.recovering.FailedSink.{FailedSink}
 use Rattle.command_frame.specs.declared.status.Status.{Status}
 use Rattle.command_frame.specs.declared.ending.Ending.{Ending}
 use Rattle.command_frame.specs.Answers.{Answer}
@@ -41,9 +46,8 @@ use Rattle.recover_command.proofs.RegionTexts.{PutsLines-regions}
 use Rattle.show_command.proofs.ShowSteps.{in_reach}
 use Rattle.damage_skip.specs.declared.events.Event.TheVariants as event
 use Rattle.command_frame.specs.declared.status.Status.TheVariants as status
-use Rattle.command_frame.specs.declared.ending.Cut.TheVariants as cut
+use Rattle.record_io.specs.declared.cut.Cut.TheVariants as cut
 use Rattle.command_frame.specs.declared.ending.Ending.TheVariants as end
-use Rattle.recover_command.specs.declared.recovering.FailedSink.TheVariants as sink
 
 -- what is put of events
 abbrev pub puts_of : RecoverWords → List Piece → List Put
@@ -96,10 +100,10 @@ lines-front words es rest puts parts =
     ∙ ap (λ (t : List ℕ). t ++ bytes_to Notes rest) (events_notes words.show.form es))
 
 -- a front of the answer was put
-pub given-front : (words : RecoverWords) (file : List ℕ) (place : ℕ) (before after : Taken) (held : List ℕ) (ended : Status)
-    → length file ≤ most_file_bytes → IsGivenTo words file place before after held ended
+pub printed-front : (words : RecoverWords) (file : List ℕ) (place : ℕ) (before after : Taken) (held : List ℕ) (ended : Status)
+    → length file ≤ most_file_bytes → HasPrintedTo words file place before after held ended
     → (answer : Answer) → OfFile (IsRecovered words) (file ∷ []) answer → HasPutFront before after held answer
-given-front words file place before after held ended short h answer is =
+printed-front words file place before after held ended short h answer is =
     let front = puts-front words file place h.events answer short h.walked is in
     record {
       part = puts_of words h.events;
@@ -110,20 +114,20 @@ given-front words file place before after held ended short h answer is =
     }
 
 -- which is all that was put so far
-pub given-so_far : (words : RecoverWords) (file : List ℕ) (place : ℕ) (before after : Taken) (held : List ℕ) (ended : Status) (start now : ℕ)
-    → IsGivenTo words file place before after held ended → IsTakenUpTo false file 0 place (now - start)
+pub printed-so_far : (words : RecoverWords) (file : List ℕ) (place : ℕ) (before after : Taken) (held : List ℕ) (ended : Status) (start now : ℕ)
+    → HasPrintedTo words file place before after held ended → IsTakenUpTo false file 0 place (now - start)
     → HasPutSoFar (IsRecoveredSoFar words start now file) before after held
-given-so_far words file place before after held ended start now h taken = record {
+printed-so_far words file place before after held ended start now h taken = record {
   part = puts_of words h.events;
   is = record { place = place; events = h.events; walked = h.walked; puts = refl; taken = taken };
   went = h.went;
 }
 
 -- all events were given
-pub given-whole : (words : RecoverWords) (file : List ℕ) (before after : Taken) (held : List ℕ) (ended : Status)
-    → length file ≤ most_file_bytes → IsGivenTo words file (length file) before after held ended
+pub printed-whole : (words : RecoverWords) (file : List ℕ) (before after : Taken) (held : List ℕ) (ended : Status)
+    → length file ≤ most_file_bytes → HasPrintedTo words file (length file) before after held ended
     → HasPut (IsRecovered words) file before after held [] ended
-given-whole words file before after held ended short h =
+printed-whole words file before after held ended short h =
     let whole : (answer_of words h.events).puts ≡ puts_of words h.events ++ [] =
     ap (λ (es : List Piece). puts_of words es ++ puts_to Notes (stopped_text (refused_in words.most h.events))) (walked-all words.most h.events h.walked.each)
     ∙ ap (λ (s : Option Region). puts_of words h.events ++ puts_to Notes (stopped_text s)) (refused-none words.most h.events h.walked.each) in
@@ -138,11 +142,11 @@ given-whole words file before after held ended short h =
     }
 
 -- or those before the one that is refused
-pub given-stopped : (words : RecoverWords) (file : List ℕ) (place : ℕ) (before after : Taken) (held : List ℕ) (ended : Status)
-    (region : Region) → length file ≤ most_file_bytes → IsGivenTo words file place before after held ended
+pub printed-stopped : (words : RecoverWords) (file : List ℕ) (place : ℕ) (before after : Taken) (held : List ℕ) (ended : Status)
+    (region : Region) → length file ≤ most_file_bytes → HasPrintedTo words file place before after held ended
     → region.begin ≡ place → place < length file → IsPieceOf false file place region.end (Skipped region.why) → may_skip words.most region ≡ false
     → HasPut (IsRecovered words) file before after held (region_text (codes "stopped") region) status.Stopped
-given-stopped words file place before after held ended region short h begin below is refused =
+printed-stopped words file place before after held ended region short h begin below is refused =
     let rest = rest_from false (MaySkip words.most) file place h.events region h.walked begin below is in
     let all : List Piece = h.events ++ piece_at region ∷ rest.0 in
     let last : List Put = puts_to Notes (region_text (codes "stopped") region) in
@@ -164,7 +168,10 @@ given-stopped words file place before after held ended region short h begin belo
 -- what one event more adds
 puts-event : (words : RecoverWords) (e : Event) → event_puts words.show.form (piece_of e) ≡ puts_to Out (event_lines words e) ++ puts_to Notes (event_text e)
 puts-event words (event.Records begin records chunk) = refl
-puts-event words (event.Kept begin chunk unread) = refl
+puts-event words (event.Kept begin chunk unread) =
+    let k : ChunkValue = value_of_chunk chunk in
+    ap (λ (r : Option Region). puts_to Out (event_lines words (event.Kept begin chunk unread)) ++ puts_to Notes (told_text r))
+    (kept_region begin (end_of_chunk begin k) k)
 puts-event words (event.Skipped region) = refl
 
 -- behind what is held
@@ -183,13 +190,17 @@ puts-on words es e passed held parts =
 pub status-event : (rs : List Region) (ended : Status) (e : Event) → ended ≡ walk_status rs None
     → status_after ended e ≡ walk_status (rs ++ regions_in (piece_of e ∷ [])) None
 status-event rs ended (event.Records begin records chunk) is = is ∙ sym (ap (λ (xs : List Region). walk_status xs None) (append-nil rs))
-status-event rs ended (event.Kept begin chunk unread) is = is ∙ sym (ap (λ (xs : List Region). walk_status xs None) (append-nil rs))
+status-event rs ended (event.Kept begin chunk unread) is =
+    is
+    ∙ sym (ap (λ (xs : List Region). walk_status (rs ++ xs) None) (kept_no_region begin chunk unread)
+    ∙ ap (λ (xs : List Region). walk_status xs None) (append-nil rs))
 status-event rs ended (event.Skipped region) is = sym (status-more rs region)
 
 -- an event that is no region, or one that may be skipped, is not refused
 pub event-passed : (most : Option ℕ) (e : Event) → ((region : Region) → e ≡ event.Skipped region → may_skip most region ≡ true) → MaySkipEach most (piece_of e ∷ [])
 event-passed most (event.Records begin records chunk) allowed = tt
-event-passed most (event.Kept begin chunk unread) allowed = tt
+event-passed most (event.Kept begin chunk unread) allowed =
+    subst (AllByRecursion (MaySkip most)) (sym (kept_no_region begin chunk unread)) tt
 event-passed most (event.Skipped region) allowed = (allowed region refl, tt)
 
 -- an event that was given leaves the status as it was, unless it is a region
@@ -199,10 +210,10 @@ after-ok ended (event.Kept begin chunk unread) is = (is, refl)
 after-ok ended (event.Skipped region) is = absurd (cc is)
 
 -- an event of records is given by its lines
-pub gives-lines : {X : Type 0} (x : X) (words : RecoverWords) (e : Event) (made b c notes : Option (List ℕ)) (held held_then : List ℕ) → event_text e ≡ []
+pub prints-lines : {X : Type 0} (x : X) (words : RecoverWords) (e : Event) (made b c notes : Option (List ℕ)) (held held_then : List ℕ) → event_text e ≡ []
     → TakesAndHolds b c (held ++ event_lines words e) held_then
-    → GivesEvent {X = X} (Ok x) (event_lines words e) (event_text e) (taken_by made b notes) (taken_by made c notes) held held_then
-gives-lines x words e made b c notes held held_then quiet h = record {
+    → PrintsEvent {X = X} (Ok x) (event_lines words e) (event_text e) (taken_by made b notes) (taken_by made c notes) held held_then
+prints-lines x words e made b c notes held held_then quiet h = record {
   passed = puts_to Out h.passed;
   parts = ap (λ (t : List ℕ). puts_to Out (held ++ event_lines words e) ++ puts_to Notes t) quiet
       ∙ append-nil (puts_to Out (held ++ event_lines words e))
@@ -211,8 +222,17 @@ gives-lines x words e made b c notes held held_then quiet h = record {
   went = GoOut-out made b c notes h.passed h.taken;
 }
 
+-- and a chunk that is kept and holds none by nothing
+pub prints-kept : {X : Type 0} (x : X) (words : RecoverWords) (e : Event) (made b notes : Option (List ℕ)) (held : List ℕ) → event_text e ≡ []
+    → records_of (piece_of e).what ≡ []
+    → PrintsEvent {X = X} (Ok x) (event_lines words e) (event_text e) (taken_by made b notes) (taken_by made b notes) held held
+prints-kept x words e made b notes held quiet none =
+    prints-lines x words e made b b notes held held quiet
+    (subst (λ (rs : List (List ℕ)). TakesAndHolds b b (held ++ record_lines words.show.form (enumerate_from (piece_of e).begin rs)) held)
+    (sym none) (TakesAndHolds-none b held))
+
 pub breaks-lines : (X : Type 0) (lines text : List ℕ) (made b c notes : Option (List ℕ)) (held held_then : List ℕ)
-    → TakesShort b c (held ++ lines) → GivesEvent {X = X} (Err sink.Out) lines text (taken_by made b notes) (taken_by made c notes) held held_then
+    → TakesShort b c (held ++ lines) → PrintsEvent {X = X} (Err (end.Cut cut.Out)) lines text (taken_by made b notes) (taken_by made c notes) held held_then
 breaks-lines X lines text made b c notes held held_then short =
     (short.0, short.1, GoOut-out made b c notes (take short.0 (held ++ lines)) short.2)
 
@@ -225,29 +245,30 @@ module _ (text : List ℕ) (made b c notes notes_then : Option (List ℕ)) (held
       (GoOut-out made b c notes (held ++ []) (subst (λ (hs : List ℕ). Takes b c hs) (sym (append-nil held)) out))
       (GoOut-notes made c notes notes_then last said)
 
-  pub gives-text : {X : Type 0} (x : X) (held_then : List ℕ) → held_then ≡ [] → Takes notes notes_then text
-      → GivesEvent {X = X} (Ok x) [] text (taken_by made b notes) (taken_by made c notes_then) held held_then
-  gives-text x held_then none said =
+  pub prints-text : {X : Type 0} (x : X) (held_then : List ℕ) → held_then ≡ [] → Takes notes notes_then text
+      → PrintsEvent {X = X} (Ok x) [] text (taken_by made b notes) (taken_by made c notes_then) held held_then
+  prints-text x held_then none said =
       subst (λ (hs : List ℕ). GoOutOrAreHeld (taken_by made b notes) (taken_by made c notes_then) Out (puts_to Out (held ++ []) ++ puts_to Notes text) hs) (sym none)
       (GoOutOrAreHeld-none (taken_by made b notes) (taken_by made c notes_then) Out (puts_to Out (held ++ []) ++ puts_to Notes text) (before-text text said))
 
   pub breaks-text : (X : Type 0) (held_then : List ℕ) → TakesShort notes notes_then text
-      → GivesEvent {X = X} (Err sink.Notes) [] text (taken_by made b notes) (taken_by made c notes_then) held held_then
+      → PrintsEvent {X = X} (Err (end.Cut cut.Notes)) [] text (taken_by made b notes) (taken_by made c notes_then) held held_then
   breaks-text X held_then short = (short.0, short.1, before-text (take short.0 text) short.2)
 
--- what holds of both sinks that may fail holds of the one by which an event did
-pub by_sink : (X : Type 0) (C : Ending Region → Type 0) (failed : FailedSink) (lines text : List ℕ) (before after : Taken) (held held_then : List ℕ)
-    → GivesEvent {X = X} (Err failed) lines text before after held held_then
-    → (GivesEvent {X = X} (Err sink.Out) lines text before after held held_then → C (end.Cut cut.Out))
-    → (GivesEvent {X = X} (Err sink.Notes) lines text before after held held_then → C (end.Cut cut.Notes))
-    → C (end_of_sink failed)
-by_sink X C sink.Out lines text before after held held_then gives out notes = out gives
-by_sink X C sink.Notes lines text before after held held_then gives out notes = notes gives
+-- what holds of both streams that may fail holds of the one by which an event did
+pub by_stream : (X : Type 0) (C : Ending Region → Type 0) (failed : Ending Region) (lines text : List ℕ) (before after : Taken) (held held_then : List ℕ)
+    → PrintsEvent {X = X} (Err failed) lines text before after held held_then
+    → (PrintsEvent {X = X} (Err (end.Cut cut.Out)) lines text before after held held_then → C (end.Cut cut.Out))
+    → (PrintsEvent {X = X} (Err (end.Cut cut.Notes)) lines text before after held held_then → C (end.Cut cut.Notes))
+    → C failed
+by_stream X C (end.Cut cut.Out) lines text before after held held_then prints out notes = out prints
+by_stream X C (end.Cut cut.Notes) lines text before after held held_then prints out notes = notes prints
+by_stream X C other lines text before after held held_then prints out notes = absurd prints
 
 -- no event more
-pub given-on : (words : RecoverWords) (file : List ℕ) (place next : ℕ) (before after : Taken) (held : List ℕ) (ended : Status)
-    → IsGivenTo words file place before after held ended → GoesOn false file place next [] → IsGivenTo words file next before after held ended
-given-on words file place next before after held ended h on = record {
+pub printed-on : (words : RecoverWords) (file : List ℕ) (place next : ℕ) (before after : Taken) (held : List ℕ) (ended : Status)
+    → HasPrintedTo words file place before after held ended → GoesOn false file place next [] → HasPrintedTo words file next before after held ended
+printed-on words file place next before after held ended h on = record {
   events = h.events;
   walked = walked-further false (MaySkip words.most) file place next h.events h.walked on;
   went = h.went;
@@ -255,11 +276,11 @@ given-on words file place next before after held ended h on = record {
 }
 
 -- one event more
-pub given-event : {X : Type 0} (words : RecoverWords) (file : List ℕ) (place next : ℕ) (a b c : Taken) (held held_then : List ℕ) (ended : Status)
-    (e : Event) (x : X) → IsGivenTo words file place a b held ended → GoesOn false file place next (piece_of e ∷ []) → MaySkipEach words.most (piece_of e ∷ [])
-    → GivesEvent {X = X} (Ok x) (event_lines words e) (event_text e) b c held held_then
-    → IsGivenTo words file next a c held_then (status_after ended e)
-given-event words file place next a b c held held_then ended e x h on passed gives = record {
+pub printed-event : {X : Type 0} (words : RecoverWords) (file : List ℕ) (place next : ℕ) (a b c : Taken) (held held_then : List ℕ) (ended : Status)
+    (e : Event) (x : X) → HasPrintedTo words file place a b held ended → GoesOn false file place next (piece_of e ∷ []) → MaySkipEach words.most (piece_of e ∷ [])
+    → PrintsEvent {X = X} (Ok x) (event_lines words e) (event_text e) b c held held_then
+    → HasPrintedTo words file next a c held_then (status_after ended e)
+printed-event words file place next a b c held held_then ended e x h on passed gives = record {
   events = h.events ++ piece_of e ∷ [];
   walked = walked-on false (MaySkip words.most) file place next h.events (piece_of e ∷ []) h.walked on passed;
   went = record {
@@ -275,9 +296,9 @@ given-event words file place next a b c held held_then ended e x h on passed giv
 
 -- standard output failed to take its lines
 pub event-unprinted : (X : Type 0) (words : RecoverWords) (file : List ℕ) (place next : ℕ) (a b c : Taken) (held held_then : List ℕ) (ended : Status)
-    (e : Event) → length file ≤ most_file_bytes → IsGivenTo words file place a b held ended → GoesOn false file place next (piece_of e ∷ [])
+    (e : Event) → length file ≤ most_file_bytes → HasPrintedTo words file place a b held ended → GoesOn false file place next (piece_of e ∷ [])
     → MaySkipEach words.most (piece_of e ∷ [])
-    → GivesEvent {X = X} (Err sink.Out) (event_lines words e) (event_text e) b c held held_then → held_then ≡ []
+    → PrintsEvent {X = X} (Err (end.Cut cut.Out)) (event_lines words e) (event_text e) b c held held_then → held_then ≡ []
     → (answer : Answer) → OfFile (IsRecovered words) (file ∷ []) answer → HasBrokenOff Out a c held_then answer
 event-unprinted X words file place next a b c held held_then ended e short h on passed (count, within, gives) none answer is =
     let more = puts-front words file next (h.events ++ piece_of e ∷ []) answer short
@@ -303,9 +324,9 @@ event-unprinted X words file place next a b c held held_then ended e short h on 
 
 -- notes failed to take its text
 pub event-untold : (X : Type 0) (words : RecoverWords) (file : List ℕ) (place next : ℕ) (a b c : Taken) (held held_then : List ℕ) (ended : Status)
-    (e : Event) → length file ≤ most_file_bytes → IsGivenTo words file place a b held ended → GoesOn false file place next (piece_of e ∷ [])
+    (e : Event) → length file ≤ most_file_bytes → HasPrintedTo words file place a b held ended → GoesOn false file place next (piece_of e ∷ [])
     → MaySkipEach words.most (piece_of e ∷ [])
-    → GivesEvent {X = X} (Err sink.Notes) (event_lines words e) (event_text e) b c held held_then
+    → PrintsEvent {X = X} (Err (end.Cut cut.Notes)) (event_lines words e) (event_text e) b c held held_then
     → (answer : Answer) → OfFile (IsRecovered words) (file ∷ []) answer → FailedToSay a c answer
 event-untold X words file place next a b c held held_then ended e short h on passed (count, within, gives) answer is =
     let more = puts-front words file next (h.events ++ piece_of e ∷ []) answer short

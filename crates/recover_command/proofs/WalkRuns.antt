@@ -25,7 +25,7 @@ use Rattle.recover_command.specs.WalkingEnds.{walk_ends, TellsOf}
 use Rattle.command_frame.proofs.FileEnds.{EndsBy, EndsWhole, HasSaid, MayEndInReach, runs-file}
 use Rattle.command_frame.proofs.FileRuns.{ReadsFile}
 use Rattle.command_frame.proofs.RunEnds.{Keeps}
-use Rattle.command_frame.specs.declared.ending.Cut.TheVariants as cut
+use Rattle.record_io.specs.declared.cut.Cut.TheVariants as cut
 use Rattle.command_frame.specs.declared.ending.Ending.TheVariants as end
 use Rattle.command_frame.specs.declared.sizes.SizeEnd.TheVariants as size
 use Rattle.command_frame.specs.declared.status.Status.TheVariants as status

@@ -4,7 +4,7 @@ use Rattle.std.specs.List.{flat_map}
 use Rattle.std.specs.Fmt.{digits}
 use Rattle.record_io.specs.Puts.{Put, Out, Notes, puts_to}
 use Rattle.chunk_header.specs.Chunks.{ChunkValue}
-use Rattle.damage_skip.specs.Pieces.{Given, LeftOut, Skipped, Piece}
+use Rattle.damage_skip.specs.Pieces.{Records, SignatureOrPadding, Skipped, Piece}
 use Rattle.recover_command.specs.RecoverCommand.{event_puts}
 use Rattle.damage_skip.specs.Bounds.{walked, refused_in}
 use Rattle.damage_skip.specs.Regions.{regions_in, stopped_text}
@@ -22,7 +22,7 @@ with_positions = record bare { positions = true }
 abbrev two : List Piece
 two =
     record { begin = 64; end = 108; what = Skipped why.HeaderHash }
-    ∷ record { begin = 108; end = 30109; what = LeftOut }
+    ∷ record { begin = 108; end = 30109; what = SignatureOrPadding }
     ∷ record { begin = 30109; end = 60154; what = Skipped why.DataHash }
     ∷ []
 
@@ -73,9 +73,9 @@ nothing_skipped = refl
 -- a region between two chunks of records is told between their lines
 region_between : (first second : ChunkValue)
     → flat_map (event_puts with_positions) (
-    record { begin = 64; end = 110; what = Given (codes "a" ∷ codes "b" ∷ []) first }
+    record { begin = 64; end = 110; what = Records (codes "a" ∷ codes "b" ∷ []) first }
     ∷ record { begin = 110; end = 154; what = Skipped why.HeaderHash }
-    ∷ record { begin = 154; end = 196; what = Given (codes "c" ∷ []) second }
+    ∷ record { begin = 154; end = 196; what = Records (codes "c" ∷ []) second }
     ∷ []
     )
     ≡ puts_to Out (codes "64 a\n65 b\n") ++ puts_to Notes (codes "skipped 110 154 HeaderHash\n") ++ puts_to Out (codes "154 c\n")

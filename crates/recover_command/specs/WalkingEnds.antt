@@ -13,7 +13,7 @@ use Rattle.damage_skip.specs.declared.regions.Region.{Region}
 use Rattle.command_frame.specs.declared.ending.Ending.{Ending}
 use Rattle.command_frame.specs.declared.status.Status.{Status}
 use Rattle.command_frame.specs.Endings.{Endings}
-use Rattle.command_frame.specs.declared.ending.Cut.TheVariants as cut
+use Rattle.record_io.specs.declared.cut.Cut.TheVariants as cut
 use Rattle.command_frame.specs.declared.ending.Ending.TheVariants as end
 use Rattle.command_frame.specs.declared.status.Status.TheVariants as status
 

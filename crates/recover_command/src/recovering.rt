@@ -1,18 +1,18 @@
-ghost use Rattle.std.specs.Prelude.{◌≡◌, ℕ, ◌-◌, ◌^◌, ◌≤◌, Option, Some, Ok, Err, List, [], ◌∷◌, false, IfOk, IfSome, OnErr, IsErrAnd};
+ghost use Rattle.std.specs.Prelude.{◌≡◌, ℕ, ◌-◌, Option, Ok, Err, List, [], ◌∷◌, false, IfOk, IfSome, OnErr, IsErrAnd};
 ghost use Rattle.record_io.specs.Outside.{Rose};
 ghost use Rattle.record_io.specs.Puts.{taken_by};
-ghost use Rattle.record_io.specs.Calls.{OnlyAsks, OnlyCounts};
+ghost use Rattle.record_io.specs.Calls.{HasSize, KeepsFile, OnlyAsks, OnlyCounts};
 ghost use Rattle.record_io.specs.Seen.{seen_stream, seen_file};
 ghost use Rattle.command_frame.specs.FileSizes.{HandsOut};
 ghost use Rattle.recover_command.specs.RecoverCommand.{IsRecovered, IsRecoveredSoFar, recover_meaning};
 ghost use Rattle.damage_skip.specs.Bounds.{may_skip, MaySkip};
 ghost use Rattle.damage_skip.specs.Takings.{IsTakenByWalk};
 ghost use Rattle.damage_skip.specs.Walks.{event_text};
-ghost use Rattle.recover_command.specs.RecoverProgress.{GivesEvent, HasPositions, end_of_walk, event_lines, status_after};
+ghost use Rattle.recover_command.specs.RecoverProgress.{CountStreams, IsPrintable, PrintsEvent, end_of_walk, event_lines, status_after};
 ghost use Rattle.command_frame.specs.Runs.{Runs};
 ghost use Rattle.command_frame.specs.RunObjects.{Seen};
 ghost use Rattle.command_frame.specs.PutSoFar.{HasPutSoFar};
-ghost use Rattle.command_frame.specs.Endings.{HasPutAtEnd, IsAllowedEnd, IsShort};
+ghost use Rattle.command_frame.specs.Endings.{HasPutAtEnd, IsAllowedEnd, IsShort, SpeaksIn};
 ghost use Rattle.recover_command.specs.WalkingEnds.{TellsOf, walk_ends};
 
 use crate::recover_words::RecoverWords;
@@ -22,27 +22,6 @@ use damage_skip::{Event, Policy, Region, WalkEnd, Walker, region_line};
 use record_io::{Failed, PutBuffer, Sink, Store};
 use show_command::{LINES, put_records};
 use std::alloc::Global;
-
-/// The sink that failed, which cut the work off.
-#[derive(Clone, Copy, Debug, PartialEq, Eq)]
-enum FailedSink {
-    Out,
-    Notes,
-}
-
-impl From<FailedSink> for Ending<Region> {
-    ghost use Rattle.std.specs.Prelude.{◌≡◌};
-    ghost use Rattle.recover_command.specs.RecoverProgress.{end_of_sink};
-
-    ghost from_gives = { λ sink ending. ending ≡ end_of_sink sink };
-
-    fn from(sink: FailedSink) -> Ending<Region> {
-        match sink {
-            FailedSink::Out => Ending::Cut(Cut::Out),
-            FailedSink::Notes => Ending::Cut(Cut::Notes),
-        }
-    }
-}
 
 /// Prints the records of a file past its damage, and says in notes what is skipped and why it ended before the file did.
 #[inline(never)]
@@ -57,9 +36,8 @@ pub fn recover<S: Store, O: Sink, E: Sink>(
         (record others { files = seen_file S.bytes S.told S.handed S.faults file.old ∷ []; out = seen_stream O.taken O.faults out.old; notes = seen_stream E.taken E.faults notes.old })
         (record others { files = seen_file S.bytes S.told S.handed S.faults file.new ∷ []; out = seen_stream O.taken O.faults out.new; notes = seen_stream E.taken E.faults notes.new })
         result }
-    ensures same_bytes { S.bytes file.new ≡ S.bytes file.old }
-    ensures same_name { S.name file.new ≡ S.name file.old }
-    ensures notes_kept { result ≡ Status.Ok → notes.new ≡ notes.old }
+    ensures file { KeepsFile S.bytes S.name file.old file.new }
+    ensures notes { SpeaksIn E.lent E.faults result notes.old notes.new }
 {
     let ended = recover_file(alloc, words, file, out, notes);
     end_walk(ended, notes)
@@ -86,8 +64,7 @@ fn recover_file<S: Store, O: Sink, E: Sink>(
         IsTakenByWalk false (MaySkip words.now.most) bytes (S.handed file.new - S.handed file.old)) }
     ensures same_bytes { S.bytes file.new ≡ S.bytes file.old }
     ensures file { OnlyCounts S.name S.faults (result ≡ Err (Ending.Cut Cut.File)) file.old file.new }
-    ensures out { OnlyCounts O.lent O.faults (result ≡ Err (Ending.Cut Cut.Out)) out.old out.new }
-    ensures notes { OnlyCounts E.lent E.faults (result ≡ Err (Ending.Cut Cut.Notes)) notes.old notes.new }
+    ensures streams { CountStreams O.lent O.faults E.lent E.faults result out.old out.new notes.old notes.new }
 {
     let size = size_of(file)?;
     let mut lines = PutBuffer::new();
@@ -108,8 +85,7 @@ fn print_events<S: Store, O: Sink, E: Sink>(
     out: &mut O,
     notes: &mut E,
 ) -> Result<Status, Ending<Region>>
-    requires told { S.told file.old ≡ Some size }
-    requires in_reach { size ≤ 2 ^ 60 }
+    requires sized { HasSize (S.told file.old) size }
     requires none_held { lines.old ≡ [] }
     ensures printed { (made : Option (List ℕ)) → IfSome (S.bytes file.old) (λ bytes. HasPutAtEnd walk_ends (IsRecovered words.now) result bytes
         (taken_by made (O.taken out.old) (E.taken notes.old)) (taken_by made (O.taken out.new) (E.taken notes.new)) lines.new) }
@@ -122,8 +98,7 @@ fn print_events<S: Store, O: Sink, E: Sink>(
     ensures handed_of { IfSome (S.bytes file.old) (λ bytes.
         IsTakenByWalk false (MaySkip words.now.most) bytes (S.handed file.new - S.handed file.old)) }
     ensures file { OnlyAsks S.bytes S.told S.name S.faults (result ≡ Err (Ending.Cut Cut.File)) file.old file.new }
-    ensures out { OnlyCounts O.lent O.faults (result ≡ Err (Ending.Cut Cut.Out)) out.old out.new }
-    ensures notes { OnlyCounts E.lent E.faults (result ≡ Err (Ending.Cut Cut.Notes)) notes.old notes.new }
+    ensures streams { CountStreams O.lent O.faults E.lent E.faults result out.old out.new notes.old notes.new }
 {
     let most = words.most;
     let policy = Policy::new(|region: &Region| may_skip(most, region));
@@ -157,21 +132,20 @@ fn print_event<O: Sink, E: Sink>(
     lines: &mut PutBuffer<LINES>,
     out: &mut O,
     notes: &mut E,
-) -> Result<Status, FailedSink>
-    requires { HasPositions event }
+) -> Result<Status, Ending<Region>>
+    requires { IsPrintable event }
     ensures status { IfOk result (λ ended. ended ≡ status_after status event) }
-    ensures given { (made : Option (List ℕ)) → GivesEvent result (event_lines words.now event) (event_text event)
+    ensures prints { (made : Option (List ℕ)) → PrintsEvent result (event_lines words.now event) (event_text event)
         (taken_by made (O.taken out.old) (E.taken notes.old)) (taken_by made (O.taken out.new) (E.taken notes.new)) lines.old lines.new }
     ensures emptied { OnErr result (lines.new ≡ []) }
     ensures quiet { event_text event ≡ [] → notes.new ≡ notes.old }
-    ensures out { OnlyCounts O.lent O.faults (result ≡ Err FailedSink.Out) out.old out.new }
-    ensures notes { OnlyCounts E.lent E.faults (result ≡ Err FailedSink.Notes) notes.old notes.new }
+    ensures streams { CountStreams O.lent O.faults E.lent E.faults result out.old out.new notes.old notes.new }
 {
     match event {
         Event::Records { begin, records, .. } => {
             match put_records(&words.show.form, begin, &records, lines, out) {
                 Ok(()) => Ok(status),
-                Err(Failed) => Err(FailedSink::Out),
+                Err(Failed) => Err(Ending::Cut(Cut::Out)),
             }
         }
         Event::Kept { .. } => Ok(status),
@@ -188,18 +162,17 @@ fn tell_region<O: Sink, E: Sink>(
     lines: &mut PutBuffer<LINES>,
     out: &mut O,
     notes: &mut E,
-) -> Result<(), FailedSink>
-    ensures given { (made : Option (List ℕ)) → GivesEvent result [] (event_text (Event.Skipped region.now))
+) -> Result<(), Ending<Region>>
+    ensures prints { (made : Option (List ℕ)) → PrintsEvent result [] (event_text (Event.Skipped region.now))
         (taken_by made (O.taken out.old) (E.taken notes.old)) (taken_by made (O.taken out.new) (E.taken notes.new)) lines.old lines.new }
     ensures emptied { lines.new ≡ [] }
-    ensures out { OnlyCounts O.lent O.faults (result ≡ Err FailedSink.Out) out.old out.new }
-    ensures notes { OnlyCounts E.lent E.faults (result ≡ Err FailedSink.Notes) notes.old notes.new }
+    ensures streams { CountStreams O.lent O.faults E.lent E.faults result out.old out.new notes.old notes.new }
 {
     if lines.flush(out).is_err() {
-        return Err(FailedSink::Out);
+        return Err(Ending::Cut(Cut::Out));
     }
     match region_line(notes, "skipped", region) {
         Ok(()) => Ok(()),
-        Err(Failed) => Err(FailedSink::Notes),
+        Err(Failed) => Err(Ending::Cut(Cut::Notes)),
     }
 }

@@ -9,7 +9,7 @@ use Rattle.riegeli_tool.specs.declared.command.Command.TheVariants.{Write}
 use Rattle.write_command.specs.declared.write_words.WriteWords.{WriteWords}
 use Rattle.command_frame.specs.Lines.{lines}
 use Rattle.write_command.specs.Input.{taken_from}
-use Rattle.write_command.specs.WriteWords.{line_words_of}
+use Rattle.riegeli_tool.specs.CommandWords.{line_words_of}
 use Rattle.riegeli_tool.specs.Commands.{command_of, accepted, names_of}
 use Rattle.riegeli_tool.specs.CommandAnswers.{usage_text, usage}
 use Rattle.write_command.specs.WriteCommand.{answer_to}

@@ -13,7 +13,7 @@ use Rattle.chunk_reader.specs.declared.reasons.Fault.{Fault}
 use Rattle.record_writer.specs.Feeds.{Rest}
 use Rattle.record_writer.specs.declared.feed.Stop.{Stop}
 use Rattle.record_writer.specs.declared.options.WriteOptions.{WriteOptions}
-use Rattle.record_append.specs.Appends.{GrowsBy, GrowsFrom, HoldsGrownInPart}
+use Rattle.record_append.specs.Appends.{HoldsAppended, GrowsFrom, HoldsGrownInPart}
 use Rattle.record_append.specs.Grown.{IsRefusedToGrow, RefusesFor, bytes_at}
 use Rattle.command_frame.specs.declared.ending.Ending.{Ending}
 use Rattle.command_frame.specs.declared.status.Status.{Status}
@@ -34,14 +34,14 @@ use Rattle.command_frame.proofs.RunEnds.{GaveButNotes, KeepsAtEnd, PutsLines-non
 use Rattle.show_command.specs.Readings.{refused_text}
 use Rattle.write_command.specs.Input.{most_input_taken}
 use Rattle.write_command.specs.WriteCommand.{stop_status, stop_text}
-use Rattle.riegeli_tool.specs.AppendCommand.{IsAppended, IsLeft, KeepsOld, MayBeLeft, append_meaning, grown_answer, grown_puts, grown_text, lines_taken}
+use Rattle.riegeli_tool.specs.AppendCommand.{IsAppended, IsLeft, KeepsByStatus, MayBeLeft, append_meaning, grown_answer, grown_puts, grown_text, lines_taken}
 use Rattle.riegeli_tool.specs.AppendingEnds.{HasAppended, HasTold, IsSizedBy, IsStopped, IsTold, KeepsOldAtEnd, appending_ends}
 use Rattle.riegeli_tool.specs.declared.append.Unappended.{Unappended}
 use Rattle.riegeli_tool.specs.declared.append.Unappended.TheVariants.{Refused, Stopped}
 use Rattle.riegeli_tool.specs.declared.append_words.AppendWords.{AppendWords}
 use Rattle.riegeli_tool.proofs.AppendAnswers.{grown_exists}
 use Rattle.record_writer.specs.declared.feed.Stop.TheVariants as stop
-use Rattle.command_frame.specs.declared.ending.Cut.TheVariants as cut
+use Rattle.record_io.specs.declared.cut.Cut.TheVariants as cut
 use Rattle.command_frame.specs.declared.ending.Ending.TheVariants as end
 use Rattle.command_frame.specs.declared.status.Status.TheVariants as status
 
@@ -51,7 +51,7 @@ grows words = record { files = refl; grown = refl; may_work = λ sizes within. w
 
 -- a file grown by records holds all of their bytes
 part-of-whole : (options : WriteOptions) (may_cut : Bool) (file : List ℕ) (records : List (List ℕ)) (held : Option (List ℕ))
-    → GrowsBy options may_cut file records held → HoldsGrownInPart options may_cut file records held
+    → HoldsAppended options may_cut file records held → HoldsGrownInPart options may_cut file records held
 part-of-whole options may_cut file records held (place, holds) =
     let all : List ℕ = bytes_at options place records in
     record {
@@ -65,7 +65,7 @@ part-of-whole options may_cut file records held (place, holds) =
 
 -- what is left of a file that was grown, and may be of one that was in part
 left-grown : (words : AppendWords) (rest : Rest) (file : List ℕ) (held : Option (List ℕ)) → length file ≤ most_file_bytes
-    → GrowsBy words.write.options words.cut file rest.records held → (bytes : List ℕ) × (held ≡ Some bytes) × IsLeft words rest file bytes
+    → HoldsAppended words.write.options words.cut file rest.records held → (bytes : List ℕ) × (held ≡ Some bytes) × IsLeft words rest file bytes
 left-grown words rest file held reach (place, holds) = (
   take place file ++ bytes_at words.write.options place rest.records,
   holds.grown,
@@ -129,14 +129,14 @@ module _ (words : AppendWords) (input input_then : SeenStream) (files : List See
   read_size P size holds exact r is =
       subst P (MatchOption-at_some _ (λ (file : List ℕ). size ≡ length file) r.grown (is.grown refl).0 exact) holds
 
-  whole : (ended : Status) → IsWhole ended → IfGrown (append_meaning words) Before After (append_meaning words).leaves → Keeps (KeepsOld words.cut ended)
+  whole : (ended : Status) → IsWhole ended → IfGrown (append_meaning words) Before After (append_meaning words).leaves → Keeps (KeepsByStatus words.cut ended)
       → KeepsAtEnd (append_meaning words) Before After ended
   whole ended is leaves keeps =
       keeps-whole (append_meaning words) (grows words) input input_then files made made grown grown_then out out_then notes notes_then
       ended is i (omega arith) g o n taken leaves keeps handed
 
   short : (ended : Status) → IsCutOff ended ⊎ (ended ≡ status.Notes) → (ended ≡ status.Out → IfGrown (append_meaning words) Before After (append_meaning words).leaves)
-      → IfGrown (append_meaning words) Before After (append_meaning words).may_leave → Keeps (KeepsOld words.cut ended)
+      → IfGrown (append_meaning words) Before After (append_meaning words).may_leave → Keeps (KeepsByStatus words.cut ended)
       → KeepsAtEnd (append_meaning words) Before After ended
   short ended is leaves may_leave keeps =
       keeps-cut_off (append_meaning words) (grows words) input input_then files made made grown grown_then out out_then notes notes_then
@@ -182,7 +182,7 @@ module _ (words : AppendWords) (input input_then : SeenStream) (files : List See
       → (answer : Answer) × (append_meaning words).answers r answer × GaveButNotes wanted Start Worked text answer)
       → IfGrown (append_meaning words) Before After (append_meaning words).leaves
       → IfGrown (append_meaning words) Before After (append_meaning words).may_leave
-      → Keeps (KeepsOld words.cut wanted) → Keeps (KeepsOld words.cut status.Notes) → Ended ended
+      → Keeps (KeepsByStatus words.cut wanted) → Keeps (KeepsByStatus words.cut status.Notes) → Ended ended
   said ended wanted text says is other cause may gave leaves may_leave keeps keeps_untold =
       ends-said (append_meaning words) Before After notes ended wanted [] text (Takes-nothing notes.bytes) (omega arith) says is other may gave
       cause (whole wanted is leaves keeps) (short status.Notes (inr refl) (λ e. absurd (cc e)) may_leave keeps_untold)
@@ -195,7 +195,7 @@ module _ (words : AppendWords) (input input_then : SeenStream) (files : List See
       → OfFile (IsAppended words (Lines r)) (r.grown ∷ []) (noted wanted text)
       × ((most_file_bytes < length r.grown) ⊎ ((fault : Fault) × IsRefusedToGrow words.cut r.grown fault))
       × (grown_then.bytes ≡ Some r.grown) × (out_then.bytes ≡ out.bytes))
-      → Keeps (KeepsOld words.cut wanted) → Keeps (KeepsOld words.cut status.Notes) → Ended ended
+      → Keeps (KeepsByStatus words.cut wanted) → Keeps (KeepsByStatus words.cut status.Notes) → Ended ended
   ungrown ended wanted text says is other cause may known keeps keeps_untold =
       said ended wanted text says is other cause may
       (λ r read.
@@ -214,9 +214,9 @@ module _ (words : AppendWords) (input input_then : SeenStream) (files : List See
       ungrown ended status.Limit limit_text says tt (λ e. cc e) tt
       (of_size (λ sizes. (append_meaning words).may_end sizes status.Limit limit_text) size (inl told) exact (inr (inr (long, refl, refl))))
       (λ r is. let (past, same, unprinted) = known r is in (inl (past, refl), inl past, same, unprinted))
-      (keeps-map (λ file held. held ≡ file) (KeepsOld words.cut status.Limit) size grown.bytes grown_then.bytes exact
+      (keeps-map (λ file held. held ≡ file) (KeepsByStatus words.cut status.Limit) size grown.bytes grown_then.bytes exact
       (λ file held is same. inl (subst (λ (k : ℕ). most_file_bytes < k) is long, same)) keeps)
-      (keeps-map (λ file held. held ≡ file) (KeepsOld words.cut status.Notes) size grown.bytes grown_then.bytes exact (λ file held is same. inl same) keeps)
+      (keeps-map (λ file held. held ≡ file) (KeepsByStatus words.cut status.Notes) size grown.bytes grown_then.bytes exact (λ file held is same. inl same) keeps)
 
   -- it is refused
   refused : (ended : Status) (fault : Fault)
@@ -232,12 +232,12 @@ module _ (words : AppendWords) (input input_then : SeenStream) (files : List See
       let (its, same, unprinted) = known r is in
       (inr (read_size (λ bytes. bytes ≤ most_file_bytes) size within exact r is, inl (fault, its, refl)), inr (fault, its), same, unprinted))
       keeps
-      (keeps-map (λ file held. held ≡ file) (KeepsOld words.cut status.Notes) size grown.bytes grown_then.bytes exact (λ file held is same. inl same) keeps)
+      (keeps-map (λ file held. held ≡ file) (KeepsByStatus words.cut status.Notes) size grown.bytes grown_then.bytes exact (λ file held is same. inl same) keeps)
 
   -- a stop followed some records
   stopped : (ended : Status) (s : Stop) (count : ℕ) → IsWhole (stop_status (Some s)) → stop_status (Some s) ≢ status.Ok
       → HasCause (stop_status (Some s)) (append_meaning words) Before After
-      → ((file held : List ℕ) → length file ≤ most_file_bytes → ((place : ℕ) × GrowsFrom words.cut file place held) → KeepsOld words.cut (stop_status (Some s)) file held)
+      → ((file held : List ℕ) → length file ≤ most_file_bytes → ((place : ℕ) × GrowsFrom words.cut file place held) → KeepsByStatus words.cut (stop_status (Some s)) file held)
       → HasTold grown.bytes grown_then.told (λ size. IsInReach (size ∷ []))
       → ((r : Read) → IsReadBy (append_meaning words) Before r
       → IsStopped words (Lines r) r.grown grown_then.bytes s count × (out_then.bytes ≡ out.bytes))
@@ -270,9 +270,9 @@ module _ (words : AppendWords) (input input_then : SeenStream) (files : List See
         read_size (λ bytes. bytes ≤ most_file_bytes) size within exact r read,
         part-of-whole words.write.options words.cut r.grown (Lines r).records grown_then.bytes stops.2,
       )))
-      (keeps-map (λ file held. (place : ℕ) × GrowsFrom words.cut file place held) (KeepsOld words.cut (stop_status (Some s))) size grown.bytes grown_then.bytes exact
+      (keeps-map (λ file held. (place : ℕ) × GrowsFrom words.cut file place held) (KeepsByStatus words.cut (stop_status (Some s))) size grown.bytes grown_then.bytes exact
       (λ file held is grows_from. then file held (subst (λ (k : ℕ). k ≤ most_file_bytes) is within) grows_from) keeps)
-      (keeps-map (λ file held. (place : ℕ) × GrowsFrom words.cut file place held) (KeepsOld words.cut status.Notes) size grown.bytes grown_then.bytes exact
+      (keeps-map (λ file held. (place : ℕ) × GrowsFrom words.cut file place held) (KeepsByStatus words.cut status.Notes) size grown.bytes grown_then.bytes exact
       (λ file held is grows_from. inr grows_from) keeps)
 
   -- by which it was
@@ -297,7 +297,7 @@ module _ (words : AppendWords) (input input_then : SeenStream) (files : List See
       → (ended ≡ status.Out → (r : Read) → IsReadBy (append_meaning words) Before r
       → (bytes : List ℕ) × (grown_then.bytes ≡ Some bytes) × IsLeft words (Lines r) r.grown bytes)
       → ((r : Read) → IsReadBy (append_meaning words) Before r → (bytes : List ℕ) × (grown_then.bytes ≡ Some bytes) × MayBeLeft words (Lines r) r.grown bytes)
-      → HasCause ended (append_meaning words) Before After → Keeps (KeepsOld words.cut ended)
+      → HasCause ended (append_meaning words) Before After → Keeps (KeepsByStatus words.cut ended)
       → TakesThen notes notes_then [] (fault_text ended) → Ended ended
   cut_off ended cuts within put whole_left left cause keeps says =
       ends-cut_off (append_meaning words) Before After ended [] cuts within refl says
@@ -316,7 +316,7 @@ module _ (words : AppendWords) (input input_then : SeenStream) (files : List See
       → ((grown_then.bytes ≡ Some r.grown)
       ⊎ ((length r.grown ≤ most_file_bytes) × HoldsGrownInPart words.write.options words.cut r.grown (Lines r).records grown_then.bytes))
       × (out_then.bytes ≡ out.bytes))
-      → HasCause ended (append_meaning words) Before After → Keeps (KeepsOld words.cut ended)
+      → HasCause ended (append_meaning words) Before After → Keeps (KeepsByStatus words.cut ended)
       → TakesThen notes notes_then [] (fault_text ended) → Ended ended
   unprinted_cut ended cuts other breaks within known cause keeps says =
       cut_off ended cuts within

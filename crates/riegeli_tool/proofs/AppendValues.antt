@@ -4,7 +4,7 @@ use Rattle.std.specs.Fmt.{digits}
 use Rattle.record_io.specs.Puts.{Out, Notes, puts_to}
 use Rattle.record_group.specs.declared.pad.Pad.TheVariants.{No, Both}
 use Rattle.record_writer.specs.declared.feed.Stop.TheVariants.{TooLong, BadLine}
-use Rattle.write_command.specs.WriteWords.{line_words_of}
+use Rattle.riegeli_tool.specs.CommandWords.{line_words_of}
 use Rattle.riegeli_tool.specs.AppendCommand.{appended_text, grown_puts}
 use Rattle.riegeli_tool.specs.Commands.{command_of, accepted, names_of}
 use Rattle.riegeli_tool.specs.declared.append_words.AppendWords.{AppendWords}

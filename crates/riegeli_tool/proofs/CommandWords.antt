@@ -3,7 +3,8 @@ use Rattle.std.proofs.Common.{◌≡◌, ◌≢◌, ℕ, false, Some, None, List
 use Rattle.std.proofs.lemmas.Bool.{false_from_ne_true}
 use Rattle.std.proofs.lemmas.Slice.Eq.{bytes_eq-Decides}
 use Rattle.std.specs.Str.{bytes_eq}
-use Rattle.riegeli_tool.specs.Commands.{command_named, command_of}
+use Rattle.riegeli_tool.specs.CommandWords.{command_named}
+use Rattle.riegeli_tool.specs.Commands.{command_of}
 
 -- a word that isn't this one
 other_word : (word known : List ℕ) → word ≢ known → bytes_eq word known ≡ false

@@ -12,7 +12,7 @@ use Rattle.meta_chunk.specs.Files.{signature, begin_of}
 use Rattle.meta_chunk.specs.Kinds.{IsSignature}
 use Rattle.chunk_reader.specs.declared.reasons.Why.TheVariants as why
 use Rattle.damage_skip.specs.Damage.{Intact, IsIntactFrom, IsNext, AreLostUpToABlock}
-use Rattle.damage_skip.specs.Pieces.{Given, LeftOut, Skipped, Piece}
+use Rattle.damage_skip.specs.Pieces.{Records, SignatureOrPadding, Skipped, Piece}
 use Rattle.command_frame.specs.declared.status.Status.TheVariants as status
 use Rattle.recover_command.specs.declared.recover_words.RecoverWords.{RecoverWords}
 use Rattle.riegeli_tool.specs.PastDamage.{recovered_as, IsAnswerPastDamage}
@@ -50,8 +50,8 @@ third_lost (suc (suc (suc (suc lost)))) before missed = absurd (omega arith)
 
 pieces_of_abc : List Piece
 pieces_of_abc =
-    record { begin = 0; end = 64; what = LeftOut }
-    ∷ record { begin = 64; end = 108; what = Given ((0x61 ∷ []) ∷ []) (of_byte 0x61) }
+    record { begin = 0; end = 64; what = SignatureOrPadding }
+    ∷ record { begin = 64; end = 108; what = Records ((0x61 ∷ []) ∷ []) (of_byte 0x61) }
     ∷ record { begin = 108; end = 196; what = Skipped why.HeaderHash }
     ∷ []
 

@@ -1,5 +1,5 @@
 -- Each file of bytes has an answer of each command that reads one.
-use Rattle.std.proofs.Common.{◌≡◌, ℕ, Bool, true, false, Option, Some, None, List, ◌++◌, length, refl, sym, ap, subst, arith, if◌then◌else◌}
+use Rattle.std.proofs.Common.{◌≡◌, ◌==◌, ℕ, Bool, true, false, Option, Some, None, List, ◌++◌, length, refl, sym, ap, subst, arith, if◌then◌else◌}
 use Rattle.std.specs.List.{AllByRecursion}
 use Rattle.std.proofs.lemmas.Bool.{eqb-true}
 use Rattle.record_values.specs.Bytes.{AreBytes}
@@ -19,10 +19,11 @@ use Rattle.recover_command.specs.RecoverCommand.{IsRecovered}
 use Rattle.show_command.specs.VerifyCommand.{IsVerified}
 use Rattle.riegeli_tool.specs.RepairCommand.{end_puts, IsRepaired}
 use Rattle.sample_command.specs.SampleCommand.{sample_answer}
-use Rattle.riegeli_tool.specs.Commands.{stores_of, takes, command_of, accepted_of, accepted}
+use Rattle.riegeli_tool.specs.Commands.{stores_of, command_of, accepted}
 use Rattle.riegeli_tool.specs.CommandLimits.{IsWithinLimits}
 use Rattle.riegeli_tool.specs.AnswersTo.{IsAnswerTo}
 use Rattle.command_frame.specs.Meanings.{Read}
+use Rattle.command_frame.specs.Options.{◌>>=◌}
 use Rattle.command_frame.proofs.OneAnswer.{of_file_exists}
 use Rattle.recover_command.proofs.OneRecovery.{recovered_exists}
 use Rattle.show_command.proofs.ReadingsExist.{shown_exists, verified_exists}
@@ -48,16 +49,17 @@ repaired_exists words file bytes =
     )
 
 -- an accepted command takes as many stores as are handed in
-kept : (command : Command) (count : ℕ) (known : Command) (same : Bool) → takes command count ≡ same
+kept : (command : Command) (count : ℕ) (known : Command) (same : Bool) → (stores_of command == count) ≡ same
     → (if same then Some command else None) ≡ Some known → stores_of known ≡ count
 kept command count known true same is =
     let one : command ≡ known = cc is in
     subst (λ (c : Command). stores_of c ≡ count) one (eqb-true (stores_of command) count same)
 kept command count known false same is = absurd (cc is)
 
-pub accepted-takes : (command : Option Command) (count : ℕ) (known : Command) → accepted_of command count ≡ Some known → stores_of known ≡ count
+pub accepted-takes : (command : Option Command) (count : ℕ) (known : Command)
+    → (command >>= λ c. if stores_of c == count then Some c else None) ≡ Some known → stores_of known ≡ count
 accepted-takes None count known is = absurd (cc is)
-accepted-takes (Some command) count known is = kept command count known (takes command count) refl is
+accepted-takes (Some command) count known is = kept command count known (stores_of command == count) refl is
 
 -- and has an answer
 command_answered : (command : Option Command) (r : Read)

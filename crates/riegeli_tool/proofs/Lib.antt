@@ -1,7 +1,6 @@
 pub mod AcceptedLimits
 pub mod AnswerStreams
 pub mod AppendAnswers
-pub mod AppendLimits
 pub mod AppendRuns
 pub mod AppendSteps
 mod AppendValues
@@ -16,6 +15,11 @@ pub mod RunsWith
 pub mod PastDamage
 pub mod ReadBack
 mod ReadWordValues
+mod ShowWordValues
+mod WriteWordValues
+mod SampleWordValues
+mod SeekWordValues
+mod RangesWordValues
 mod RecoverValues
 pub mod RepairSteps
 pub mod RepairEnds

@@ -8,7 +8,7 @@ use Rattle.chunk_reader.specs.declared.reasons.Why.{Why}
 use Rattle.damage_skip.specs.Bounds.{may_skip, MaySkip, walked, refused_in}
 use Rattle.damage_skip.specs.Damage.{Intact, IsDamaged, DamageLeaves, DamageLeavesEach, untouched}
 use Rattle.damage_skip.specs.DamagedWalks.{IsLeftRegion}
-use Rattle.damage_skip.specs.Pieces.{PieceKind, Given, Kept, LeftOut, Skipped, Piece, events_in, AreEvents}
+use Rattle.damage_skip.specs.Pieces.{PieceKind, Records, Kept, SignatureOrPadding, Skipped, Piece, events_in, AreEvents}
 use Rattle.damage_skip.specs.declared.regions.Region.{Region}
 use Rattle.damage_skip.proofs.BoundedWalks.{MaySkipEach, walked-all, refused-none, walked-to_refused, refused-there}
 use Rattle.damage_skip.proofs.Damaged.{pieces_left}
@@ -41,9 +41,9 @@ use Rattle.riegeli_tool.proofs.RunsWith.{runs-with}
 skippable : (most : Option ℕ) (begin end : ℕ) (w : PieceKind)
     → MaySkipEach most (events_in (record { begin = begin; end = end; what = w } ∷ []))
     ⊎ ((reason : Why) × (w ≡ Skipped reason) × (may_skip most (record { begin = begin; end = end; why = reason }) ≡ false))
-skippable most begin end (Given records c) = inl tt
+skippable most begin end (Records records c) = inl tt
 skippable most begin end (Kept c) = inl tt
-skippable most begin end LeftOut = inl tt
+skippable most begin end SignatureOrPadding = inl tt
 skippable most begin end (Skipped reason) =
     elim (cases_Bool (may_skip most (record { begin = begin; end = end; why = reason }))) [
       | inl allowed ↦ inl (allowed, tt)

@@ -162,10 +162,10 @@ module _ {F : Type 0} (g : Shared F (Bor Region × Unit {0}) Bool) (f : F) (word
       → (skipped : List Region) × AllByRecursion (MaySkip words.most) skipped × TakesShort n m (skipped_text skipped)
   told-front n m regions passed says = (regions, regions-may regions passed, says)
 
-  module _ (file : List ℕ) (short : length file ≤ most_file_bytes) (faults faults_then : ℕ) (a b o n m : Option (List ℕ)) where
+  module _ (file : List ℕ) (short : length file ≤ most_file_bytes) (faults faults_then taken : ℕ) (a b o n m : Option (List ℕ)) where
     -- what the sinks of the repair took, and what those of the command did when it ended
     abbrev Repaired_by : Result Repaired RepairEnd → Type 0
-    Repaired_by result = Repairs g f result faults faults_then (taken_by a None n) (taken_by b None m) file
+    Repaired_by result = Repairs g f result faults faults_then (taken_by a None n) (taken_by b None m) taken file
 
     abbrev Start : Taken
     Start = taken_by a o n
@@ -270,11 +270,11 @@ module _ {F : Type 0} (g : Shared F (Bor Region × Unit {0}) Bool) (f : F) (word
         → (part : List Put) → WentOutAtFault faults faults_then events part → GoOut (taken_by a None n) (taken_by b None m) part
         → (start now : ℕ) → IsTakenUpTo true file 0 place (now - start)
         → HasPutSoFar (IsRepairedSoFar words start now file) Start Then []
-    cut-so_far sound place events walk part went took start now taken =
+    cut-so_far sound place events walk part went took start now account =
         let same = all-first sound events part went in
         record {
           part = part;
-          is = record { place = place; events = events; walked = walked-to file place events walk; puts = same; taken = taken };
+          is = record { place = place; events = events; walked = walked-to file place events walk; puts = same; taken = account };
           went = GoOutOrAreHeld-none Start Then Out part
               (beside_out a b o n m part took (ap (bytes_to Out) same ∙ none_out-first events));
         }

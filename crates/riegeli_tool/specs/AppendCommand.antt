@@ -6,7 +6,7 @@ use Rattle.record_io.specs.Puts.{Put, Out, Notes, puts_to}
 use Rattle.chunk_reader.specs.declared.reasons.Fault.{Fault}
 use Rattle.record_writer.specs.Feeds.{Rest}
 use Rattle.record_writer.specs.declared.feed.Stop.{Stop}
-use Rattle.record_append.specs.Appends.{GrowsBy, GrowsFrom, HoldsGrownInPart, KeepsFront}
+use Rattle.record_append.specs.Appends.{HoldsAppended, GrowsFrom, HoldsGrownInPart, KeepsFront}
 use Rattle.record_append.specs.Grown.{IsKeptTo, IsRefusedToGrow, IsUnrefused, RefusesFor, grown}
 use Rattle.record_append.specs.declared.appends.Appended.{Appended}
 use Rattle.riegeli_tool.specs.declared.append_words.AppendWords.{AppendWords}
@@ -65,7 +65,7 @@ lines_taken words input = taken_from input words.write.hex (2 ^ 40)
 abbrev pub IsLeft : AppendWords → Rest → (file held : List ℕ) → Type 0
 IsLeft words rest file held =
     (((most_file_bytes < length file) ⊎ ((fault : Fault) × IsRefusedToGrow words.cut file fault)) × (held ≡ file))
-    ⊎ ((length file ≤ most_file_bytes) × GrowsBy words.write.options words.cut file rest.records (Some held))
+    ⊎ ((length file ≤ most_file_bytes) × HoldsAppended words.write.options words.cut file rest.records (Some held))
 
 -- what it may hold where the work was cut off: what it held or, where it isn't refused, what is kept of that and a front of what
 -- it grows by
@@ -75,15 +75,15 @@ MayBeLeft words rest file held =
 
 -- what the file keeps, by the status, whatever the input: all where it is too long or refused; up to the place to which it is kept
 -- where records were put behind that, also where standard output failed then; and one of these where the work was cut off before
-abbrev pub KeepsOld : Bool → Status → (file held : List ℕ) → Type 0
-KeepsOld cut status.Ok file held = (place : ℕ) × GrowsFrom cut file place held
-KeepsOld cut status.BadLine file held = (place : ℕ) × GrowsFrom cut file place held
-KeepsOld cut status.Out file held = (place : ℕ) × GrowsFrom cut file place held
-KeepsOld cut status.Refused file held = held ≡ file
-KeepsOld cut status.Limit file held =
+abbrev pub KeepsByStatus : Bool → Status → (file held : List ℕ) → Type 0
+KeepsByStatus cut status.Ok file held = (place : ℕ) × GrowsFrom cut file place held
+KeepsByStatus cut status.BadLine file held = (place : ℕ) × GrowsFrom cut file place held
+KeepsByStatus cut status.Out file held = (place : ℕ) × GrowsFrom cut file place held
+KeepsByStatus cut status.Refused file held = held ≡ file
+KeepsByStatus cut status.Limit file held =
     ((most_file_bytes < length file) × (held ≡ file))
     ⊎ ((length file ≤ most_file_bytes) × ((place : ℕ) × GrowsFrom cut file place held))
-KeepsOld cut other file held = KeepsFront cut file held
+KeepsByStatus cut other file held = KeepsFront cut file held
 
 -- how `append` may end by the size of the old file, whatever that holds and whatever the input: as `write` does, with a fault of the
 -- file for which it is refused, which has a byte then, or as it is too long
@@ -101,7 +101,7 @@ append_meaning words =
     (λ r answer. OfFile (IsAppended words (lines_taken words r.input)) (r.grown ∷ []) answer)) {
       leaves = λ r held. IsLeft words (lines_taken words r.input) r.grown held;
       may_leave = λ r held. MayBeLeft words (lines_taken words r.input) r.grown held;
-      keeps = KeepsOld words.cut;
+      keeps = KeepsByStatus words.cut;
       may_work = IsInReach;
       may_end = MayEndAppending words.cut;
       most_taken = most_input_taken;

@@ -3,7 +3,7 @@ use Rattle.std.specs.Prelude.{◌≡◌, ℕ, ◌<◌, ◌≤◌, ◌⊎◌, tru
 use Rattle.record_io.specs.Outside.{Takes, TakesShort}
 use Rattle.record_writer.specs.Feeds.{Rest}
 use Rattle.record_writer.specs.declared.feed.Stop.{Stop}
-use Rattle.record_append.specs.Appends.{GrowsBy, GrowsFrom, HoldsGrown, HoldsGrownInPart, KeepsFront}
+use Rattle.record_append.specs.Appends.{HoldsAppended, GrowsFrom, HoldsGrown, HoldsGrownInPart, KeepsFront}
 use Rattle.record_append.specs.Grown.{IsRefusedToGrow, RefusesFor}
 use Rattle.record_append.specs.declared.appends.AppendEnd.{AppendEnd}
 use Rattle.command_frame.specs.Endings.{Endings, MayBeCut}
@@ -18,7 +18,7 @@ use Rattle.riegeli_tool.specs.declared.append.Unappended.TheVariants.{Refused, S
 use Rattle.riegeli_tool.specs.declared.append_words.AppendWords.{AppendWords}
 use Rattle.record_append.specs.declared.appends.AppendEnd.TheVariants as append
 use Rattle.record_writer.specs.declared.feed.Stop.TheVariants as stop
-use Rattle.command_frame.specs.declared.ending.Cut.TheVariants as cut
+use Rattle.record_io.specs.declared.cut.Cut.TheVariants as cut
 use Rattle.command_frame.specs.declared.ending.Ending.TheVariants as end
 use Rattle.command_frame.specs.declared.status.Status.TheVariants as status
 
@@ -73,7 +73,7 @@ IsTold Prints words rest file held out out_then =
 abbrev pub IsStopped : AppendWords → Rest → (file : List ℕ) (held : Option (List ℕ)) → Stop → ℕ → Type 0
 IsStopped words rest file held stop count =
     (rest.stop ≡ Some stop) × (stop_text (length rest.records) (Some stop) ≡ stop_text count (Some stop))
-    × GrowsBy words.write.options words.cut file rest.records held
+    × HoldsAppended words.write.options words.cut file rest.records held
 
 -- what an old file holds of a feed's records and standard output took, by how the work ended
 abbrev pub HasAppended : {X : Type 0} → Result X (Ending Unappended) → AppendWords → Rest → (file : List ℕ) (held out out_then : Option (List ℕ)) → Type 0

@@ -8,8 +8,8 @@ use Rattle.riegeli_tool.specs.CommandAnswers.{meaning_of}
 use Rattle.riegeli_tool.specs.declared.command.Command.{Command}
 use Rattle.riegeli_tool.specs.PastDamage.{meaning_past_damage}
 
--- how a run of a command goes, and the same with its answers told past damage. The second says the first too, which is the one
--- to read
+-- how a run of a command goes, and the same with its answers told past damage. Read the first: the second follows from it,
+-- and adds something for `show --recover` and `repair` alone
 pub record RunsCommand (command : Option Command) (before after : Seen) (ended : Status) : Type 0 where
   pub runs : Runs (meaning_of command) before after ended
   pub damaged : Runs (meaning_past_damage command) before after ended

@@ -2,11 +2,10 @@ pub mod RepairCommand
 pub mod RepairingEnds
 pub mod CommandAnswers
 pub mod AnswersTo
-pub mod RepairWords
+pub mod CommandWords
 pub mod Commands
 pub mod CommandLimits
 pub mod PastDamage
 pub mod CommandRuns
-pub mod AppendWords
 pub mod AppendCommand
 pub mod AppendingEnds

@@ -1,9 +1,4 @@
-ghost use Rattle.std.specs.Prelude.{◌≡◌, map};
-ghost use Rattle.std.specs.String.{string_bytes};
-ghost use Rattle.riegeli_tool.specs.AppendWords.{append_words_of};
-
-use command_frame::value_given;
-use write_command::write_words::{WriteWords, line_words};
+use write_command::write_words::WriteWords;
 
 /// What the words of `append` say.
 #[derive(Clone, Copy)]
@@ -12,22 +7,4 @@ pub(crate) struct AppendWords {
     pub write: WriteWords,
     /// Whether all is cut off that stands behind the last whole chunk.
     pub cut: bool,
-}
-
-/// What the words of `append` say, if they are its options and one file behind its name.
-pub(crate) fn append_words(words: &[String]) -> Option<AppendWords>
-    ensures { result ≡ append_words_of (map string_bytes words.now) }
-{
-    let options = [
-        "--chunk=",
-        "--every=",
-        "--workers=",
-        "--pad=",
-        "--hex",
-        "--cut",
-    ];
-    Some(AppendWords {
-        write: line_words(&options, words)?,
-        cut: value_given("--cut", words).is_some(),
-    })
 }

@@ -1,5 +1,5 @@
-ghost use Rattle.std.specs.Prelude.{◌≡◌};
-ghost use Rattle.riegeli_tool.specs.Commands.{names_by, none_named, takes};
+ghost use Rattle.std.specs.Prelude.{◌≡◌, ◌==◌};
+ghost use Rattle.riegeli_tool.specs.Commands.{names_by, none_named, stores_of};
 
 use crate::append_words::AppendWords;
 use crate::repair_words::RepairWords;
@@ -9,7 +9,6 @@ use recover_command::recover_words::RecoverWords;
 use sample_command::sample_words::SampleWords;
 use seek_command::seek_words::SeekWords;
 use show_command::show_words::ShowWords;
-use show_command::verify_words::VerifyWords;
 use write_command::write_words::WriteWords;
 
 /// A command, with what its words say.
@@ -18,7 +17,8 @@ pub(crate) enum Command<'a> {
     Write(WriteWords),
     Show(ShowWords),
     Recover(RecoverWords),
-    Verify(VerifyWords),
+    /// Of the file at this place.
+    Verify(usize),
     Seek(SeekWords<'a>),
     Repair(RepairWords),
     Sample(SampleWords),
@@ -76,7 +76,7 @@ impl<'a> Command<'a> {
             Command::Write(words) => names.made = Some(words.file),
             Command::Show(words) => names.read(words.file),
             Command::Recover(words) => names.read(words.show.file),
-            Command::Verify(words) => names.read(words.file),
+            Command::Verify(file) => names.read(*file),
             Command::Seek(words) => names.read(words.file),
             Command::Repair(words) => {
                 names.read(words.from);
@@ -100,7 +100,7 @@ impl<'a> Command<'a> {
 
     /// Whether so many stores are those of the files that the command reads.
     pub(crate) fn takes(&self, count: usize) -> bool
-        ensures { result ≡ takes self.now count }
+        ensures { result ≡ (stores_of self.now == count) }
     {
         let names = self.names();
         names.count * names.times == count

@@ -4,7 +4,9 @@
 mod append;
 mod append_words;
 mod command;
+mod command_words;
 pub mod laws;
+mod options;
 mod program;
 mod repair;
 mod repair_words;

@@ -56,8 +56,8 @@ collect FROM... TO
 /// # Errors
 ///
 /// - `Usage` where the words are no command that reads so many files.
-/// - `Refused` where the file is not well formed, or not where `seek` reads it, or `append` may not cut it; of several files
-///   where one is not.
+/// - `Refused` where the file is not well formed, or for `show`, `ranges` and `collect` not readable; for `seek` where what it
+///   reads of it isn't; for `append` also where it may not be cut. Of several files, where one is refused.
 /// - `NotFound` where `seek` finds no record.
 /// - `Limit` where a line has more than 2^24 bytes, or 2^25 in the hexadecimal form, the input more than 2^40, the file more than
 ///   2^60, as the files of `join` have together with 131,072 bytes for each but the last, or that of `ranges` more than 2^28, or
@@ -86,8 +86,9 @@ pub fn run<
     out: &mut O,
     notes: &mut E,
 ) -> Status
-    // What the status tells and the objects show: the answer, or which of them failed and what went out before. Past damage the
-    // answer is told by the numbers of the undamaged file's chunks too, and so is that to the front of a file.
+    // What the status tells and the objects show: the answer, or which of them failed and what went out before; and, also where
+    // bytes aren't shown, what is read at most and what notes say. Past damage the answer is told by the numbers of the undamaged
+    // file's chunks too, and so is that to the front of a file.
     ensures runs { RunsCommand (accepted (map string_bytes words.now) (length files.old))
         (seen (seen_stream I.left I.faults input.old) (map (seen_file S.bytes S.told S.handed S.faults) files.old) (seen_stream M.taken M.faults made.old)
         (seen_file G.bytes G.told G.handed G.faults grown.old) (seen_stream O.taken O.faults out.old) (seen_stream E.taken E.faults notes.old))
@@ -102,6 +103,8 @@ pub fn run<
     // What isn't used stays as it is.
     ensures unused { LeavesUnused (meaning_of (accepted (map string_bytes words.now) (length files.old))).uses
         input.old input.new files.old files.new made.old made.new grown.old grown.new out.old out.new }
+
+    // Where all went well nothing is said.
     ensures notes_kept { result ≡ Status.Ok → notes.new ≡ notes.old }
 {
     // No command is inlined: each has buffers on the stack, and the frame here would hold those of all.

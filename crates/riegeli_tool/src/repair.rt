@@ -1,7 +1,7 @@
 ghost use Rattle.std.specs.Prelude.{◌≡◌, ◌-◌, true, None, Ok, Err, List, [], ◌∷◌, IfSome, IsErrAnd, length};
 ghost use Rattle.record_io.specs.Outside.{Rose};
 ghost use Rattle.record_io.specs.Puts.{taken_by};
-ghost use Rattle.record_io.specs.Calls.{OnlyCounts};
+ghost use Rattle.record_io.specs.Calls.{KeepsFile, OnlyCounts};
 ghost use Rattle.record_io.specs.Seen.{seen_stream, seen_file};
 ghost use Rattle.damage_skip.specs.Bounds.{MaySkip};
 ghost use Rattle.damage_skip.specs.Takings.{IsTakenByWalk};
@@ -12,7 +12,7 @@ ghost use Rattle.riegeli_tool.specs.RepairingEnds.{end_of_repair};
 ghost use Rattle.command_frame.specs.Runs.{Runs};
 ghost use Rattle.command_frame.specs.RunObjects.{Seen};
 ghost use Rattle.command_frame.specs.PutSoFar.{HasPutSoFar};
-ghost use Rattle.command_frame.specs.Endings.{HasPutAtEnd, IsAllowedEnd, IsShort};
+ghost use Rattle.command_frame.specs.Endings.{HasPutAtEnd, IsAllowedEnd, IsShort, SpeaksIn};
 ghost use Rattle.recover_command.specs.WalkAnswers.{walk_status};
 ghost use Rattle.recover_command.specs.WalkingEnds.{TellsOf, walk_ends};
 
@@ -39,9 +39,8 @@ pub(crate) fn repair<S: Store, M: Sink, O: Sink, E: Sink>(
         (record others { files = seen_file S.bytes S.told S.handed S.faults file.old ∷ []; made = seen_stream M.taken M.faults made.old; out = seen_stream O.taken O.faults out.old; notes = seen_stream E.taken E.faults notes.old })
         (record others { files = seen_file S.bytes S.told S.handed S.faults file.new ∷ []; made = seen_stream M.taken M.faults made.new; out = seen_stream O.taken O.faults out.new; notes = seen_stream E.taken E.faults notes.new })
         result }
-    ensures same_bytes { S.bytes file.new ≡ S.bytes file.old }
-    ensures same_name { S.name file.new ≡ S.name file.old }
-    ensures notes_kept { result ≡ Status.Ok → notes.new ≡ notes.old }
+    ensures file { KeepsFile S.bytes S.name file.old file.new }
+    ensures notes { SpeaksIn E.lent E.faults result notes.old notes.new }
 {
     let ended = repair_file(alloc, words, file, made, out, notes);
     end_walk(ended, notes)

@@ -1,20 +1,16 @@
 ghost use Rattle.std.specs.Prelude.{◌≡◌, IfSome, map};
 ghost use Rattle.std.specs.String.{string_bytes};
-ghost use Rattle.riegeli_tool.specs.Commands.{accepted, command_named, command_of, names_of, show_command_of, stores_of};
+ghost use Rattle.riegeli_tool.specs.CommandWords.{command_named};
+ghost use Rattle.riegeli_tool.specs.Commands.{accepted, command_of, names_of, stores_of};
 ghost use Rattle.riegeli_tool.specs.CommandLimits.{IsWithinLimits};
 
-use crate::append_words::append_words;
 use crate::command::{Command, Names};
-use crate::repair_words::repair_words;
-use join_command::collect_words::collect_words;
-use join_command::join_words::join_words;
-use record_ranges::ranges_words::ranges_words;
-use recover_command::recover_words::{goes_past_damage, recover_words};
-use sample_command::sample_words::sample_words;
-use seek_command::seek_words::seek_words;
-use show_command::show_words::show_words;
-use show_command::verify_words::verify_words;
-use write_command::write_words::write_words;
+use crate::command_words::{
+    append_command, ranges_command, repair_command, sample_command, seek_command, show_command,
+    verify_command, write_command,
+};
+use command_frame::files_words;
+use join_command::{MOST_COLLECTED, MOST_JOINED};
 
 /// The files that the words name. None for words that are no command. Own.
 pub fn names(words: &[String]) -> Names
@@ -38,28 +34,17 @@ fn command_named<'a>(name: &str, words: &'a [String]) -> Option<Command<'a>>
     ensures { result ≡ command_named name.now (map string_bytes words.now) }
 {
     match name {
-        "write" => Some(Command::Write(write_words(words)?)),
+        "write" => write_command(words),
         "show" => show_command(words),
-        "verify" => Some(Command::Verify(verify_words(words)?)),
-        "seek" => Some(Command::Seek(seek_words(words)?)),
-        "repair" => Some(Command::Repair(repair_words(words)?)),
-        "sample" => Some(Command::Sample(sample_words(words)?)),
-        "join" => Some(Command::Join(join_words(words)?)),
-        "ranges" => Some(Command::Ranges(ranges_words(words)?)),
-        "append" => Some(Command::Append(append_words(words)?)),
-        "collect" => Some(Command::Collect(collect_words(words)?)),
+        "verify" => verify_command(words),
+        "seek" => seek_command(words),
+        "repair" => repair_command(words),
+        "sample" => sample_command(words),
+        "join" => Some(Command::Join(files_words(words, MOST_JOINED)?)),
+        "ranges" => ranges_command(words),
+        "append" => append_command(words),
+        "collect" => Some(Command::Collect(files_words(words, MOST_COLLECTED)?)),
         _ => None,
-    }
-}
-
-/// The command that the words of `show` are.
-fn show_command<'a>(words: &'a [String]) -> Option<Command<'a>>
-    ensures { result ≡ show_command_of (map string_bytes words.now) }
-{
-    if goes_past_damage(words) {
-        Some(Command::Recover(recover_words(words)?))
-    } else {
-        Some(Command::Show(show_words(words)?))
     }
 }
 

@@ -1,5 +1,7 @@
 -- How a run of `sample` ends, by how its work ended.
 use Rattle.std.proofs.Common.{◌≡◌, ℕ, ◌<◌, Option, Err, List, [], ◌++◌, take, arith, refl, sym, subst, length}
+use Rattle.record_io.specs.declared.cut.Cut.{Cut}
+use Rattle.record_io.specs.declared.cut.Cut.TheVariants as cut
 use Rattle.record_io.specs.Outside.{Rose, Takes}
 use Rattle.record_io.specs.Puts.{Put, Made, Out, Notes, taken_by, GoOut, BreaksOff, puts_to, bytes_to}
 use Rattle.record_io.specs.Seen.{SeenStream, SeenFile}
@@ -16,9 +18,7 @@ use Rattle.command_frame.proofs.RunEnds.{Keeps, OfSizes-unread, PutsLines-none, 
 use Rattle.command_frame.proofs.TwoStreams.{bytes_to-neither}
 use Rattle.sample_command.specs.declared.sample_words.SampleWords.{SampleWords}
 use Rattle.sample_command.specs.SampleCommand.{sample_file, sample_summary, sample_answer, sample_meaning, IsSampledSoFar}
-use Rattle.sample_command.specs.declared.sampling.SampleCut.{SampleCut}
-use Rattle.sample_command.specs.SampleEnds.{TakeSample, cut_of}
-use Rattle.sample_command.specs.declared.sampling.SampleCut.TheVariants as cut
+use Rattle.sample_command.specs.SampleEnds.{TakeSample}
 use Rattle.command_frame.specs.declared.status.Status.TheVariants as status
 
 module _ (words : SampleWords) (input : SeenStream) (files : List SeenFile) (made made_then : SeenStream) (grown : SeenFile) (out out_then notes notes_then : SeenStream)
@@ -93,9 +93,9 @@ module _ (words : SampleWords) (input : SeenStream) (files : List SeenFile) (mad
       (GoOut-made made.bytes made_then.bytes out.bytes notes.bytes (take count (sample_file words)) took)
 
   -- the work was cut off
-  pub sample-cut_off : (X : Type 0) (how : SampleCut) → TakeSample {X = X} (Err how) words made.bytes made_then.bytes out.bytes out_then.bytes
+  pub sample-cut_off : (X : Type 0) (how : Cut) → TakeSample {X = X} (Err how) words made.bytes made_then.bytes out.bytes out_then.bytes
       → (how ≡ cut.Made → Rose made.faults made_then.faults) → (how ≡ cut.Out → Rose out.faults out_then.faults)
-      → TakesThen notes notes_then [] (fault_text (status_of (cut_of how))) → Ended (status_of (cut_of how))
+      → TakesThen notes notes_then [] (fault_text (status_of how)) → Ended (status_of how)
   sample-cut_off X cut.Made ((count, less, took), same) made_rose out_rose said =
       cut_off status.Made (front count) tt (broken count less) (λ short. absurd short) (refl, made_rose refl)
       (bytes_to-other Notes Made (take count (sample_file words)) refl) (front-went count took same) said
@@ -113,3 +113,7 @@ module _ (words : SampleWords) (input : SeenStream) (files : List SeenFile) (mad
       (GoOut-made made.bytes made_then.bytes out.bytes notes.bytes (sample_file words) whole)
       (GoOut-out made_then.bytes out.bytes out_then.bytes notes.bytes printed took))
       said
+  sample-cut_off X cut.Input took made_rose out_rose said = absurd took
+  sample-cut_off X cut.File took made_rose out_rose said = absurd took
+  sample-cut_off X cut.Grown took made_rose out_rose said = absurd took
+  sample-cut_off X cut.Notes took made_rose out_rose said = absurd took

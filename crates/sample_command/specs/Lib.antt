@@ -1,4 +1,3 @@
 pub mod Generator
 pub mod SampleCommand
 pub mod SampleEnds
-pub mod SampleWords

@@ -11,6 +11,10 @@ use Rattle.command_frame.specs.FileAnswers.{count_line}
 use Rattle.command_frame.specs.Meanings.{Meaning, meaning, none_used}
 use Rattle.command_frame.specs.declared.status.Status.TheVariants as status
 
+-- the most records of a sample
+abbrev pub most_records : ℕ
+most_records = 1000000
+
 -- the records
 abbrev pub sampled : SampleWords → List (List ℕ)
 sampled words = sample_of words.seed words.count

@@ -1,7 +1,7 @@
 ghost use Rattle.std.specs.Prelude.{◌≡◌, ◌≤◌, ◌*◌, Some, None};
 ghost use Rattle.record_writer.specs.Feeds.{Rest};
 ghost use Rattle.sample_command.specs.Generator.{drawn_from, sample_of};
-ghost use Rattle.sample_command.specs.SampleWords.{most_records};
+ghost use Rattle.sample_command.specs.SampleCommand.{most_records};
 
 use crate::generator::Generator;
 use record_io::Bytes;

@@ -4,9 +4,8 @@ ghost use Rattle.record_io.specs.Seen.{seen_stream};
 ghost use Rattle.record_writer.specs.OptionLimits.{AreInLimits};
 ghost use Rattle.command_frame.specs.Runs.{Runs};
 ghost use Rattle.command_frame.specs.RunObjects.{Seen};
-ghost use Rattle.sample_command.specs.SampleCommand.{sample_meaning};
-ghost use Rattle.sample_command.specs.SampleEnds.{TakeSample, cut_of};
-ghost use Rattle.sample_command.specs.SampleWords.{most_records};
+ghost use Rattle.sample_command.specs.SampleCommand.{most_records, sample_meaning};
+ghost use Rattle.sample_command.specs.SampleEnds.{TakeSample};
 
 use crate::sample_feed::SampleFeed;
 use crate::sample_words::SampleWords;
@@ -15,17 +14,6 @@ use record_io::{Failed, Sink};
 use record_writer::{WriteEnd, write_records};
 use std::alloc::Global;
 use std::thread::Threads;
-
-/// What cuts off the making of a sample. Own.
-#[derive(Clone, Copy, Debug, PartialEq, Eq)]
-enum SampleCut {
-    /// The made file failed.
-    Made,
-    /// Standard output failed.
-    Out,
-    /// There was not enough memory.
-    Memory,
-}
 
 /// Writes the file of the records of a seed and then prints how many records and bytes it has, or says in notes why it ended
 /// before that: the made file or standard output failed, or memory was short.
@@ -48,7 +36,7 @@ pub fn sample<R: Threads + Sync, M: Sink + Send, O: Sink, E: Sink>(
 {
     match make_sample(rt, alloc, words, made, out) {
         Ok(()) => Status::Ok,
-        Err(cut) => cut_off(notes, cut_of(cut)),
+        Err(cut) => cut_off(notes, cut),
     }
 }
 
@@ -59,35 +47,24 @@ fn make_sample<R: Threads + Sync, M: Sink + Send, O: Sink>(
     words: &SampleWords,
     made: &mut M,
     out: &mut O,
-) -> Result<(), SampleCut>
+) -> Result<(), Cut>
     requires in_limits { AreInLimits words.now.options }
     requires most { words.now.count ≤ most_records }
     ensures taken { TakeSample result words.now (M.taken made.old) (M.taken made.new) (O.taken out.old) (O.taken out.new) }
-    ensures made { OnlyCounts M.lent M.faults (result ≡ Err SampleCut.Made) made.old made.new }
-    ensures out { OnlyCounts O.lent O.faults (result ≡ Err SampleCut.Out) out.old out.new }
+    ensures made { OnlyCounts M.lent M.faults (result ≡ Err Cut.Made) made.old made.new }
+    ensures out { OnlyCounts O.lent O.faults (result ≡ Err Cut.Out) out.old out.new }
 {
     let mut records = SampleFeed::new(words.seed, words.count);
     let totals = match write_records(rt, alloc, &words.options, &mut records, made) {
         Ok(totals) => totals,
-        Err(WriteEnd::Made) => return Err(SampleCut::Made),
-        Err(WriteEnd::Memory) => return Err(SampleCut::Memory),
+        Err(WriteEnd::Made) => return Err(Cut::Made),
+        Err(WriteEnd::Memory) => return Err(Cut::Memory),
         // The records come from no input, and no stop follows them.
         Err(_) => unreachable!(),
     };
     let counts = [("records", totals.records), ("bytes", totals.bytes)];
     match put_counts(&counts, out) {
         Ok(()) => Ok(()),
-        Err(Failed) => Err(SampleCut::Out),
-    }
-}
-
-/// What cut off the command.
-fn cut_of(cut: SampleCut) -> Cut
-    ensures { result ≡ cut_of cut }
-{
-    match cut {
-        SampleCut::Made => Cut::Made,
-        SampleCut::Out => Cut::Out,
-        SampleCut::Memory => Cut::Memory,
+        Err(Failed) => Err(Cut::Out),
     }
 }

@@ -1,4 +1,3 @@
-pub mod SeekWords
 pub mod Searches
 pub mod SeekCommand
 pub mod SingleAnswers

@@ -19,7 +19,7 @@ impl<'a> Model for SearchKey<'a> {
 
 impl<'a> SearchKey<'a> {
     /// The key of a text.
-    pub(crate) fn new(text: &'a str) -> SearchKey<'a>
+    pub fn new(text: &'a str) -> SearchKey<'a>
         ensures { result ≡ text.now }
     {
         SearchKey { text }

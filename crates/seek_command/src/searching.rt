@@ -1,5 +1,5 @@
 ghost use Rattle.std.specs.Prelude.{◌≡◌, ◌≤◌, ◌^◌, Some, Err, IfOk, IfSome};
-ghost use Rattle.record_io.specs.Calls.{OnlyAsks};
+ghost use Rattle.record_io.specs.Calls.{HasSize, OnlyAsks};
 ghost use Rattle.chunk_reader.specs.declared.reasons.Fault.{Fault};
 ghost use Rattle.record_seek.specs.Steps.{placed_of};
 ghost use Rattle.seek_command.specs.Searches.{is_below, MayFind, IsKeyFault, MayGive, MayRefuse, TakesOf, TakesBySize};
@@ -19,8 +19,7 @@ pub(crate) fn search<S: Store>(
     file: &mut S,
     size: u64,
 ) -> Result<Option<Found>, ReadEnd>
-    requires told { S.told file.old ≡ Some size }
-    requires in_reach { size ≤ 2 ^ 60 }
+    requires { HasSize (S.told file.old) size }
     ensures gives { IfOk result (λ found. IfSome (S.bytes file.old) (λ bytes. MayGive by.now bytes (placed_of found))) }
     ensures refused { (fault : Fault) → result ≡ Err (ReadEnd.Refused fault) → IfSome (S.bytes file.old) (λ bytes. MayRefuse by.now bytes fault) }
     ensures handed { IfSome (S.bytes file.old) (λ bytes. TakesOf by.now bytes (S.handed file.old) (S.handed file.new)) }
@@ -40,8 +39,7 @@ fn find_key<S: Store>(
     size: u64,
     key: &SearchKey,
 ) -> Result<Option<Found>, ReadEnd>
-    requires told { S.told file.old ≡ Some size }
-    requires in_reach { size ≤ 2 ^ 60 }
+    requires { HasSize (S.told file.old) size }
     ensures found { IfOk result (λ found. IfSome (S.bytes file.old) (λ bytes. MayFind key.now bytes (placed_of found))) }
     ensures refused { (fault : Fault) → result ≡ Err (ReadEnd.Refused fault) → IfSome (S.bytes file.old) (λ bytes. IsKeyFault bytes fault) }
     ensures handed { IfSome (S.bytes file.old) (λ bytes. TakesOf (by.Key key.now) bytes (S.handed file.old) (S.handed file.new)) }

@@ -1,8 +1,8 @@
 ghost use Rattle.std.specs.Prelude.{◌≡◌, ◌≢◌, ◌+◌, ◌≤◌, ℕ, Option, Ok, Err, List, [], ◌∷◌, IfSome, IsErrAnd, OnErr};
 ghost use Rattle.record_io.specs.Puts.{taken_by};
-ghost use Rattle.record_io.specs.Calls.{OnlyCounts, PutsTo};
+ghost use Rattle.record_io.specs.Calls.{KeepsFile, OnlyCounts, PutsTo};
 ghost use Rattle.record_io.specs.Seen.{seen_stream, seen_file};
-ghost use Rattle.command_frame.specs.Endings.{HasPutAtEnd, IsAllowedEnd, IsShort, SaysEnd};
+ghost use Rattle.command_frame.specs.Endings.{HasPutAtEnd, EndsInNotes, IsAllowedEnd, IsShort};
 ghost use Rattle.command_frame.specs.FileSizes.{HandsOut};
 ghost use Rattle.command_frame.specs.Runs.{Runs};
 ghost use Rattle.command_frame.specs.RunObjects.{Seen};
@@ -44,8 +44,7 @@ pub fn show_found<S: Store, O: Sink, E: Sink>(
         (record others { files = seen_file S.bytes S.told S.handed S.faults file.old ∷ []; out = seen_stream O.taken O.faults out.old; notes = seen_stream E.taken E.faults notes.old })
         (record others { files = seen_file S.bytes S.told S.handed S.faults file.new ∷ []; out = seen_stream O.taken O.faults out.new; notes = seen_stream E.taken E.faults notes.new })
         result }
-    ensures same_bytes { S.bytes file.new ≡ S.bytes file.old }
-    ensures same_name { S.name file.new ≡ S.name file.old }
+    ensures file { KeepsFile S.bytes S.name file.old file.new }
     ensures notes_kept { result ≡ Status.Ok → notes.new ≡ notes.old }
 {
     let ended = print_found(alloc, words, file, out);
@@ -104,10 +103,7 @@ fn put_found<O: Sink>(hex: bool, found: &Found, out: &mut O) -> Result<(), Faile
 
 /// Says in notes why no record was printed.
 fn end_search<E: Sink>(ended: Result<(), Ending<Unfound>>, notes: &mut E) -> Status
-    ensures told { SaysEnd seek_ends ended result (seen_stream E.taken E.faults notes.old)
-        (seen_stream E.taken E.faults notes.new) }
-    ensures notes_kept { result ≡ Status.Ok → notes.new ≡ notes.old }
-    ensures notes { OnlyCounts E.lent E.faults ⊥ notes.old notes.new }
+    ensures notes { EndsInNotes E.taken E.lent E.faults seek_ends ended result notes.old notes.new }
 {
     match ended {
         Ok(()) => Status::Ok,

@@ -2,7 +2,6 @@ pub mod Digits
 pub mod LinePuts
 pub mod OneReading
 mod ReadTextValues
-mod ReadWordValues
 pub mod ReadingsExist
 pub mod ReadingRuns
 pub mod ShowSteps

@@ -21,7 +21,7 @@ use Rattle.show_command.specs.VerifyCommand.{IsVerified, IsVerifiedSoFar, verify
 use Rattle.command_frame.proofs.FileEnds.{EndsBy, EndsWhole, HasSaid, MayEndInReach, cut-allowed, runs-file}
 use Rattle.command_frame.proofs.FileRuns.{ReadsFile, reads_file}
 use Rattle.command_frame.proofs.RunEnds.{Keeps}
-use Rattle.command_frame.specs.declared.ending.Cut.TheVariants as cut
+use Rattle.record_io.specs.declared.cut.Cut.TheVariants as cut
 use Rattle.command_frame.specs.declared.ending.Ending.TheVariants as end
 use Rattle.command_frame.specs.declared.status.Status.TheVariants as status
 

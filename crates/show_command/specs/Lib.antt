@@ -3,6 +3,4 @@ pub mod RecordForms
 pub mod ReadingEnds
 pub mod ShowCommand
 pub mod ShowProgress
-pub mod ShowWords
 pub mod VerifyCommand
-pub mod VerifyWords

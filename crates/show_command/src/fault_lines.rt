@@ -1,10 +1,9 @@
 ghost use Rattle.std.specs.Prelude.{◌++◌, ◌∷◌, decimal};
 ghost use lib.Chars.{codes};
-ghost use Rattle.record_io.specs.Calls.{OnlyCounts, PutsThrough, PutsTo};
-ghost use Rattle.record_io.specs.Seen.{seen_stream};
+ghost use Rattle.record_io.specs.Calls.{PutsThrough, PutsTo};
 ghost use Rattle.chunk_reader.specs.Names.{name_of};
 ghost use Rattle.command_frame.specs.Answers.{line};
-ghost use Rattle.command_frame.specs.Endings.{SaysAtEnd};
+ghost use Rattle.command_frame.specs.Endings.{EndsWith};
 ghost use Rattle.show_command.specs.Readings.{file_text, refusal_line, refused_file_text, refused_text};
 
 use chunk_reader::Fault;
@@ -14,9 +13,8 @@ use record_io::{Failed, PutBuffer, Sink};
 
 /// Ends the work with the line of a fault of a file, which is refused.
 pub fn end_with_fault<E: Sink>(notes: &mut E, fault: &Fault) -> Status
-    ensures told { SaysAtEnd result Status.Refused (seen_stream E.taken E.faults notes.old)
-        (seen_stream E.taken E.faults notes.new) (refused_text fault.now) }
-    ensures notes { OnlyCounts E.lent E.faults ⊥ notes.old notes.new }
+    ensures notes { EndsWith E.taken E.lent E.faults result Status.Refused (refused_text fault.now)
+        notes.old notes.new }
 {
     match put_refusal(notes, None, fault) {
         Ok(()) => Status::Refused,
@@ -26,9 +24,8 @@ pub fn end_with_fault<E: Sink>(notes: &mut E, fault: &Fault) -> Status
 
 /// The same with a fault of one of several files, which is told by its number from 0.
 pub fn end_with_file_fault<E: Sink>(notes: &mut E, index: u64, fault: &Fault) -> Status
-    ensures told { SaysAtEnd result Status.Refused (seen_stream E.taken E.faults notes.old)
-        (seen_stream E.taken E.faults notes.new) (refused_file_text index fault.now) }
-    ensures notes { OnlyCounts E.lent E.faults ⊥ notes.old notes.new }
+    ensures notes { EndsWith E.taken E.lent E.faults result Status.Refused
+        (refused_file_text index fault.now) notes.old notes.new }
 {
     match put_refusal(notes, Some(index), fault) {
         Ok(()) => Status::Refused,

@@ -6,7 +6,6 @@ mod reading;
 mod record_lines;
 pub mod show_words;
 mod showing;
-pub mod verify_words;
 mod verifying;
 
 pub use fault_lines::{end_with_fault, end_with_file_fault};

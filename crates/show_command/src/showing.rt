@@ -2,7 +2,7 @@ ghost use Rattle.std.specs.Prelude.{◌≡◌, ◌+◌, ◌-◌, ◌^◌, ◌<�
 ghost use Rattle.std.specs.List.{enumerate_from};
 ghost use Rattle.record_io.specs.Outside.{Rose};
 ghost use Rattle.record_io.specs.Puts.{Taken, taken_by};
-ghost use Rattle.record_io.specs.Calls.{OnlyAsks, OnlyCounts, PutsThrough};
+ghost use Rattle.record_io.specs.Calls.{AsksUpTo, AsksWithin, HasSize, KeepsFile, OnlyCounts, PutsThrough};
 ghost use Rattle.record_io.specs.Seen.{seen_stream, seen_file};
 ghost use Rattle.chunk_reader.specs.Contents.{records_given};
 ghost use Rattle.chunk_reader.specs.Readers.{ReadsIn, ReadsOn};
@@ -38,8 +38,7 @@ pub fn show<S: Store, O: Sink, E: Sink>(
         (record others { files = seen_file S.bytes S.told S.handed S.faults file.old ∷ []; out = seen_stream O.taken O.faults out.old; notes = seen_stream E.taken E.faults notes.old })
         (record others { files = seen_file S.bytes S.told S.handed S.faults file.new ∷ []; out = seen_stream O.taken O.faults out.new; notes = seen_stream E.taken E.faults notes.new })
         result }
-    ensures same_bytes { S.bytes file.new ≡ S.bytes file.old }
-    ensures same_name { S.name file.new ≡ S.name file.old }
+    ensures file { KeepsFile S.bytes S.name file.old file.new }
     ensures notes_kept { result ≡ Status.Ok → notes.new ≡ notes.old }
 {
     let ended = print_file(alloc, words, file, out);
@@ -82,8 +81,7 @@ fn print_chunks<S: Store, O: Sink>(
     lines: &mut PutBuffer<LINES>,
     out: &mut O,
 ) -> Result<(), Ending<Fault>>
-    requires told { S.told file.old ≡ Some size }
-    requires in_reach { size ≤ 2 ^ 60 }
+    requires sized { HasSize (S.told file.old) size }
     requires none_held { lines.old ≡ [] }
     ensures printed { (made notes : Option (List ℕ)) → IfSome (S.bytes file.old) (λ bytes. HasPutAtEnd reading_ends (IsShown words.now) result bytes
         (taken_by made (O.taken out.old) notes) (taken_by made (O.taken out.new) notes) lines.new) }
@@ -91,8 +89,8 @@ fn print_chunks<S: Store, O: Sink>(
         → IfSome (S.bytes file.old) (λ bytes. HasPutSoFar (IsShownSoFar words.now (S.handed file.old) (S.handed file.new) bytes)
         (taken_by made (O.taken out.old) notes) (taken_by made (O.taken out.new) notes) lines.new) }
     ensures allowed { IsAllowedEnd (show_meaning words.now) result (S.told file.new) }
-    ensures handed { S.handed file.new ≤ S.handed file.old + size }
-    ensures file { OnlyAsks S.bytes S.told S.name S.faults (result ≡ Err (Ending.Cut Cut.File)) file.old file.new }
+    ensures file { AsksUpTo S.bytes S.told S.handed S.name S.faults (result ≡ Err (Ending.Cut Cut.File))
+        size file.old file.new }
     ensures out { OnlyCounts O.lent O.faults (result ≡ Err (Ending.Cut Cut.Out)) out.old out.new }
 {
     let mut reader = Reader::new(size, false);
@@ -116,12 +114,12 @@ fn print_next<S: Store, O: Sink>(
     ensures printed { (before : Taken) (made notes : Option (List ℕ)) → IfSome (S.bytes file.old) (λ bytes.
         IsPrinted words.now bytes reader.old.totals before (taken_by made (O.taken out.old) notes) lines.old
         → PrintsOn words.now result bytes reader.new.totals before (taken_by made (O.taken out.new) notes) lines.new) }
-    ensures handed_at_most { S.handed file.new + reader.old.totals.bytes ≤ S.handed file.old + reader.old.size }
     ensures read_to { IfSome (S.bytes file.old) (λ bytes.
         MayBeReadTo bytes reader.old.totals.bytes (reader.old.totals.bytes + (S.handed file.new - S.handed file.old))) }
     ensures unput { IsErrAnd result IsShort → PutsNothing lines.old lines.new out.old out.new }
     ensures allowed { IsAllowedEnd (show_meaning words.now) result (S.told file.new) }
-    ensures file { OnlyAsks S.bytes S.told S.name S.faults (result ≡ Err (Ending.Cut Cut.File)) file.old file.new }
+    ensures file { AsksWithin S.bytes S.told S.handed S.name S.faults (result ≡ Err (Ending.Cut Cut.File))
+        reader.old.totals.bytes reader.old.size file.old file.new }
     ensures out { OnlyCounts O.lent O.faults (result ≡ Err (Ending.Cut Cut.Out)) out.old out.new }
 {
     let judged = match reader.next(alloc, file) {

@@ -1,6 +1,6 @@
 ghost use Rattle.std.specs.Prelude.{◌≡◌, ℕ, Option, Err, List, [], ◌∷◌, IfSome, IsErrAnd};
 ghost use Rattle.record_io.specs.Puts.{taken_by};
-ghost use Rattle.record_io.specs.Calls.{OnlyCounts};
+ghost use Rattle.record_io.specs.Calls.{KeepsFile, OnlyCounts};
 ghost use Rattle.record_io.specs.Seen.{seen_stream, seen_file};
 ghost use Rattle.command_frame.specs.Endings.{HasPutAtEnd, IsAllowedEnd, IsShort};
 ghost use Rattle.command_frame.specs.FileAnswers.{report};
@@ -22,8 +22,7 @@ pub fn verify<S: Store, O: Sink, E: Sink>(file: &mut S, out: &mut O, notes: &mut
         (record others { files = seen_file S.bytes S.told S.handed S.faults file.old ∷ []; out = seen_stream O.taken O.faults out.old; notes = seen_stream E.taken E.faults notes.old })
         (record others { files = seen_file S.bytes S.told S.handed S.faults file.new ∷ []; out = seen_stream O.taken O.faults out.new; notes = seen_stream E.taken E.faults notes.new })
         result }
-    ensures same_bytes { S.bytes file.new ≡ S.bytes file.old }
-    ensures same_name { S.name file.new ≡ S.name file.old }
+    ensures file { KeepsFile S.bytes S.name file.old file.new }
     ensures notes_kept { result ≡ Status.Ok → notes.new ≡ notes.old }
 {
     let ended = report_file(file, out);

@@ -1,12 +1,11 @@
 -- What a feed of lines gave of its text, and what is left of it then.
-use Rattle.std.proofs.Common.{◌≡◌, ◌∙◌, ℕ, ◌+◌, ◌-◌, ◌<◌, ◌≤◌, ◌↔◌, Bool, true, false, not, IsTrue, List, [], ◌∷◌, ◌++◌, Option, Some, None, Result, Ok, Err, length, take, drop, option_map, unwrap_or, refl, sym, ap, subst, arith, length-append, length-drop, append_assoc, append-nil}
+use Rattle.std.proofs.Common.{◌≡◌, ◌∙◌, ℕ, ◌+◌, ◌-◌, ◌<◌, ◌≤◌, ◌↔◌, Bool, true, false, not, IsTrue, List, [], ◌∷◌, ◌++◌, Option, Some, None, Result, Ok, length, take, drop, option_map, unwrap_or, refl, sym, ap, subst, arith, length-append, length-drop, append_assoc, append-nil}
 use Rattle.std.specs.Option.{IfSome}
 use Rattle.std.proofs.lemmas.List.{take-append-drop, length-take-le, drop-drop}
 use Rattle.std.proofs.Math.Seq.{take-add}
 use Rattle.hex.specs.Hex.{decode_of}
-use Rattle.hex.specs.declared.error.FromHexError.{FromHexError}
 use Rattle.record_writer.specs.declared.feed.Stop.{Stop}
-use Rattle.record_writer.specs.declared.feed.Stop.TheVariants.{TooLong, InputTooLong, BadLine}
+use Rattle.record_writer.specs.declared.feed.Stop.TheVariants.{TooLong, InputTooLong}
 use Rattle.record_writer.specs.Feeds.{Rest, stop_alone}
 use Rattle.record_writer.specs.FeedSteps.{GivesRecord, nothing_left}
 use Rattle.command_frame.specs.OpenLines.{NoneEnds}
@@ -45,13 +44,6 @@ digits-record false before after line bytes digits short decoded gives = absurd 
 digits-record true None after line bytes digits short decoded gives = tt
 digits-record true (Some r) after line bytes digits short decoded gives =
     (gives.0, gives.1, gives.2 ∙ ap (λ b. taken_before b gives.0) (short-record true line short ∙ ap or_bad_line decoded))
-
-pub digits-refused : (hex : Bool) (before after : Option Rest) (line : List ℕ) (stop : Stop) → hex ≡ true → length line ≤ line_limit hex
-    → (stop ≡ BadLine) × ((e : FromHexError) × (decode_of line ≡ Err e)) → GivesLine hex before after line → IfSome before (λ r. r ≡ stop_alone stop)
-digits-refused false before after line stop digits short bad gives = absurd (cc digits)
-digits-refused true None after line stop digits short bad gives = tt
-digits-refused true (Some r) after line stop digits short bad gives =
-    gives.2 ∙ ap (λ b. taken_before b gives.0) (short-record true line short ∙ ap or_bad_line bad.1.1) ∙ ap stop_alone (sym bad.0)
 
 -- a line that runs where the limit is passed
 past-told : (hex : Bool) (bound : ℕ) (line : List ℕ) (left : Option (List ℕ)) → NoneEnds line → length line ≤ line_limit hex

@@ -4,6 +4,4 @@ pub mod Origins
 pub mod TakenRecords
 mod Values
 pub mod WriteEnds
-pub mod WriteLimits
-mod WriteValues
 pub mod WrittenLines

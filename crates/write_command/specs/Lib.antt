@@ -2,4 +2,3 @@ pub mod Input
 pub mod LastLines
 pub mod LineFeeds
 pub mod WriteCommand
-pub mod WriteWords

@@ -1,9 +1,12 @@
 -- Inside. What a feed of lines still gives. Own.
-use Rattle.std.specs.Prelude.{◌≡◌, ℕ, ◌+◌, ◌-◌, ◌<◌, Bool, Option, Some, IfSome, List, ◌∷◌, ◌++◌, length, take, drop, option_map}
+use Rattle.std.specs.Prelude.{◌≡◌, ℕ, ◌+◌, ◌-◌, ◌<◌, ◌≤◌, Bool, Option, Some, IfSome, Result, OnOk, List, [], ◌∷◌, ◌++◌, length, take, drop, option_map}
+use Rattle.record_io.specs.Outside.{Rose}
+use Rattle.record_io.specs.Seen.{SeenStream}
 use Rattle.record_writer.specs.Feeds.{Rest}
 use Rattle.record_writer.specs.FeedSteps.{Origin}
 use Rattle.command_frame.specs.OpenLines.{NoneEnds}
-use Rattle.write_command.specs.Input.{record_of_line, taken_before, taken_from}
+use Rattle.command_frame.specs.RunTakes.{TakesAtMost}
+use Rattle.write_command.specs.Input.{most_input_taken, record_of_line, taken_before, taken_from}
 
 -- the bytes that are held, and then those that the input has left, where it shows them
 abbrev pub text_of : List ℕ → Option (List ℕ) → Option (List ℕ)
@@ -28,6 +31,14 @@ pub record AsksNothing {F I : Type 0} (before after : F) (hex : F → Bool) (ask
 abbrev pub GivesLine : Bool → Option Rest → Option Rest → List ℕ → Type 0
 GivesLine hex before after line =
     IfSome before (λ r. (later : Rest) × (after ≡ Some later) × (r ≡ taken_before (record_of_line hex line) later))
+
+-- a call reads an input: all of it where it went well, and at most so many bytes in any case; and the input's count of faults never
+-- falls, and rises where the call says that the input failed
+pub record ReadsLines {X E : Type 0} (result : Result X E) (Fails : Type 0) (before after : SeenStream) : Type 0 where
+  pub to_end : OnOk result (IfSome before.bytes (λ _. after.bytes ≡ Some []))
+  pub taken : TakesAtMost most_input_taken before.bytes after.bytes
+  pub cause : Fails → Rose before.faults after.faults
+  pub never_falls : before.faults ≤ after.faults
 
 -- the first byte 10 stands behind so many others
 abbrev pub LineEndsAt : List ℕ → ℕ → Type 0

@@ -1,5 +1,6 @@
-ghost use Rattle.std.specs.Prelude.{◌≡◌, ◌^◌, ◌<◌, ◌≤◌, ◌↔◌, IsTrue, is_some, [], drop, length, IfOk, IfSome, OnErr};
-ghost use Rattle.record_io.specs.Outside.{Rose, Gives};
+ghost use Rattle.std.specs.Prelude.{◌≡◌, ◌<◌, ◌≤◌, ◌↔◌, IsTrue, is_some, [], drop, length, IfOk, IfSome, OnErr};
+ghost use Rattle.record_io.specs.Outside.{Gives};
+ghost use Rattle.record_io.specs.Seen.{Counts};
 
 use record_io::{Failed, Source};
 use std::marker::Model;
@@ -71,9 +72,7 @@ impl HeldInput {
         ensures at_end { IfOk result (λ n. IfSome (I.left input.old) (λ bytes. (n ≡ 0) ↔ (bytes ≡ []))) }
         ensures told { is_some (I.left input.new) ≡ is_some (I.left input.old) }
         ensures kept { OnErr result (self.new ≡ []) }
-        ensures cause { OnErr result (Rose (I.faults input.old) (I.faults input.new)) }
-        ensures never_falls { I.faults input.old ≤ I.faults input.new }
-        ensures small { I.faults input.new < 2 ^ 64 }
+        ensures counts { Counts result (I.faults input.old) (I.faults input.new) }
     {
         self.begin = 0;
         self.end = 0;

@@ -4,7 +4,7 @@ ghost use Rattle.command_frame.specs.OpenLines.{NoneEnds};
 ghost use Rattle.write_command.specs.Input.{line_limit, taken_from};
 ghost use Rattle.write_command.specs.LineFeeds.{AsksNothing, GivesLine, LineEndsAt, origin_of, text_of, rest_of};
 ghost use Rattle.record_writer.specs.Feeds.{stop_alone};
-ghost use Rattle.record_writer.specs.FeedSteps.{nothing_left};
+ghost use Rattle.record_writer.specs.FeedSteps.{IsAtEnd};
 ghost use Rattle.hex.specs.Hex.{decode_of};
 ghost use Rattle.hex.specs.declared.error.FromHexError.{FromHexError};
 
@@ -132,8 +132,9 @@ impl<'a, I: Source> LineFeed<'a, I> {
             (⟦<LineFeed<'a, I> as RecordFeed>⟧.rest self.new) line.new }
         ensures short { result ≡ Ok true → length line.new ≤ line_limit self.old.hex }
         ensures lowers { result ≡ Ok true → length self.new.held + self.new.asked + length line.new + 1 ≤ length self.old.held + self.old.asked }
-        ensures at_end { result ≡ Ok false → IfSome (⟦<LineFeed<'a, I> as RecordFeed>⟧.rest self.old) (λ r. r ≡ nothing_left) }
-        ensures end_kept { result ≡ Ok false → ⟦<LineFeed<'a, I> as RecordFeed>⟧.rest self.new ≡ ⟦<LineFeed<'a, I> as RecordFeed>⟧.rest self.old }
+        ensures at_end { result ≡ Ok false → IsAtEnd
+            (⟦<LineFeed<'a, I> as RecordFeed>⟧.rest self.old)
+            (⟦<LineFeed<'a, I> as RecordFeed>⟧.rest self.new) }
         ensures stop { (s : Stop) → result ≡ Err (FeedEnd.Stop s) → IfSome (⟦<LineFeed<'a, I> as RecordFeed>⟧.rest self.old) (λ r. r ≡ stop_alone s) }
         ensures never_rises { length self.new.held + self.new.asked ≤ length self.old.held + self.old.asked }
         ensures same_form { self.new.hex ≡ self.old.hex }
@@ -143,30 +144,33 @@ impl<'a, I: Source> LineFeed<'a, I> {
         line.clear();
         while self.refill()? {
             match self.grow(line)? {
-                Grown::Ended => {
+                LineState::Ended => {
                     self.room = line.len();
                     return Ok(true);
                 }
-                Grown::GoesOn => {}
-                Grown::TooLong => return Err(FeedEnd::Stop(Stop::TooLong)),
+                LineState::GoesOn => {}
+                LineState::TooLong => return Err(FeedEnd::Stop(Stop::TooLong)),
             }
         }
         Ok(!line.is_empty())
     }
 
     /// Moves bytes that are held to the end of a line, up to the next byte 10, unless the line would be too long.
-    fn grow(&mut self, line: &mut Bytes) -> Result<Grown, AllocError>
+    fn grow(&mut self, line: &mut Bytes) -> Result<LineState, AllocError>
         requires some { 0 < length self.old.held }
         requires asking { 0 < self.old.asked }
         requires short { length line.old ≤ line_limit self.old.hex }
-        ensures ended { result ≡ Ok Grown.Ended → (n : ℕ) × ((line.new ≡ line.old ++ take n self.old.held)
+        ensures ended { result ≡ Ok LineState.Ended → (n : ℕ) ×
+            ((line.new ≡ line.old ++ take n self.old.held)
             × (self.old.held ≡ take n self.old.held ++ 10 ∷ self.new.held) × NoneEnds (take n self.old.held)) }
-        ensures runs { result ≡ Ok Grown.GoesOn → (line.new ≡ line.old ++ self.old.held) × (self.new.held ≡ [])
+        ensures runs { result ≡ Ok LineState.GoesOn → (line.new ≡ line.old ++ self.old.held) ×
+            (self.new.held ≡ [])
             × NoneEnds self.old.held }
-        ensures long { result ≡ Ok Grown.TooLong → (n : ℕ) × (NoneEnds (take n self.old.held)
+        ensures long { result ≡ Ok LineState.TooLong → (n : ℕ) × (NoneEnds (take n self.old.held)
             × (n ≤ length self.old.held) × (line_limit self.old.hex < length line.old + n)) }
         ensures short { IfOk result (λ _. length line.new ≤ line_limit self.old.hex) }
-        ensures kept { (result ≡ Ok Grown.TooLong) ⊎ IsErr result → self.new.held ≡ self.old.held }
+        ensures kept { (result ≡ Ok LineState.TooLong) ⊎ IsErr result → self.new.held ≡
+            self.old.held }
         ensures asking { 0 < self.new.asked }
         ensures asks { AsksNothing self.old self.new (λ f. f.hex) (λ f. f.asked) (λ f. f.input.now) (λ f. f.input.ghost_name) }
     {
@@ -174,7 +178,7 @@ impl<'a, I: Source> LineFeed<'a, I> {
         let held = self.held.as_slice();
         let piece = &held[..end.unwrap_or(held.len())];
         if piece.len() > most_bytes(self.hex) - line.len() {
-            return Ok(Grown::TooLong);
+            return Ok(LineState::TooLong);
         }
         if end.is_none() {
             // Where there is no room for as much as the last line, each piece asks for its own.
@@ -185,16 +189,16 @@ impl<'a, I: Source> LineFeed<'a, I> {
         self.held.skip(used);
         self.seen = 0;
         Ok(if end.is_some() {
-            Grown::Ended
+            LineState::Ended
         } else {
-            Grown::GoesOn
+            LineState::GoesOn
         })
     }
 }
 
 /// What became of a line that was to get more bytes.
 #[derive(Clone, Copy, Debug)]
-enum Grown {
+enum LineState {
     /// It is at its end.
     Ended,
     /// It has all bytes that were held, and no end yet.

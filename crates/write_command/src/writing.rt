@@ -1,16 +1,15 @@
-ghost use Rattle.std.specs.Prelude.{◌≡◌, ◌^◌, ◌≤◌, Some, [], IfSome, OnOk, Err};
-ghost use Rattle.record_io.specs.Outside.{Rose};
+ghost use Rattle.std.specs.Prelude.{◌≡◌, ◌^◌, Some, IfSome, Err};
 ghost use Rattle.record_io.specs.Calls.{OnlyCounts};
 ghost use Rattle.record_io.specs.Seen.{seen_stream};
 ghost use Rattle.record_writer.specs.Written.{file_under};
 ghost use Rattle.record_writer.specs.OptionLimits.{AreInLimits};
 ghost use Rattle.record_writer.specs.WriteAnswers.{TellsWritten, TakesFile};
-ghost use Rattle.write_command.specs.Input.{most_input_taken, taken_from};
+ghost use Rattle.write_command.specs.Input.{taken_from};
+ghost use Rattle.write_command.specs.LineFeeds.{ReadsLines};
 ghost use Rattle.write_command.specs.WriteCommand.{stop_status, stop_text, write_meaning};
 ghost use Rattle.command_frame.specs.Runs.{Runs};
 ghost use Rattle.command_frame.specs.Endings.{SaysAtEnd};
 ghost use Rattle.command_frame.specs.RunObjects.{Seen};
-ghost use Rattle.command_frame.specs.RunTakes.{TakesAtMost};
 
 use crate::line_feed::LineFeed;
 use crate::write_words::WriteWords;
@@ -76,11 +75,10 @@ fn write_lines<R: Threads + Sync, I: Source, M: Sink + Send>(
     ensures answer { IfSome (I.left input.old) (λ bytes. TellsWritten result words.now.options (taken_from bytes words.now.hex (2 ^ 40))) }
     ensures made { IfSome (I.left input.old) (λ bytes. TakesFile result (M.taken made.old) (M.taken made.new)
         (file_under words.now.options (taken_from bytes words.now.hex (2 ^ 40)).records)) }
-    ensures read_to_end { OnOk result (IfSome (I.left input.old) (λ _. I.left input.new ≡ Some [])) }
-    ensures input_taken { TakesAtMost most_input_taken (I.left input.old) (I.left input.new) }
-    ensures input_cause { result ≡ Err WriteEnd.Input → Rose (I.faults input.old) (I.faults input.new) }
+    ensures input { ReadsLines result (result ≡ Err WriteEnd.Input)
+        (seen_stream I.left I.faults input.old)
+        (seen_stream I.left I.faults input.new) }
     ensures made_counts { OnlyCounts M.lent M.faults (result ≡ Err WriteEnd.Made) made.old made.new }
-    ensures input_count { I.faults input.old ≤ I.faults input.new }
 {
     let mut lines = LineFeed::new(alloc, input, words.hex, MOST_INPUT);
     write_records(rt, alloc, &words.options, &mut lines, made)

@@ -1,5 +1,4 @@
-use Rattle.std.proofs.Common.{None}
-use Rattle.record_io.proofs.ManyStores.{same_bytes, same_names}
+use Rattle.command_frame.proofs.AskedFiles.{keeps-asked}
 use Rattle.join_command.proofs.JoinRuns.{runs-joined}
 use Rattle.join_command.proofs.joining.join_files.Goals as goal
 
@@ -7,16 +6,11 @@ pub returns-clause-runs : goal.returns-clause-runs
 returns-clause-runs g c = λ others.
     let did = c.make_joined-ended.ensures in
     runs-joined g.S.Store.bytes g.S.Store.told g.S.Store.handed g.S.Store.name g.S.Store.faults c.args.files.now c.make_joined-ended.new.files
-    others.input _ _ others.grown _ _ _ _ c.make_joined-ended.result _ c.requires.some (λ file. g.met.S.Store.sized file) did.files
-    did.made.never_falls did.out.never_falls c.end_joining.ensures.notes.never_falls did.in_order did.handed did.sized did.joined
+    others.input _ _ others.grown _ _ _ _ c.make_joined-ended.result _ c.requires.many.0 (λ file. g.met.S.Store.sized file) did.files
+    did.made.never_falls did.out.never_falls c.end_joining.ensures.notes.never_falls did.joined
     c.end_joining.ensures.told did.made.cause did.out.cause
 
-pub returns-clause-same_bytes : goal.returns-clause-same_bytes
-returns-clause-same_bytes g c =
-    same_bytes g.S.Store.bytes (λ file. None) g.S.Store.name g.S.Store.faults c.args.files.now c.make_joined-ended.new.files
-    c.make_joined-ended.ensures.files.each
-
-pub returns-clause-same_names : goal.returns-clause-same_names
-returns-clause-same_names g c =
-    same_names g.S.Store.bytes (λ file. None) g.S.Store.name g.S.Store.faults c.args.files.now c.make_joined-ended.new.files
-    c.make_joined-ended.ensures.files.each
+pub returns-clause-files : goal.returns-clause-files
+returns-clause-files g c =
+    keeps-asked g.S.Store.bytes g.S.Store.told g.S.Store.handed g.S.Store.name g.S.Store.faults c.args.files.now c.make_joined-ended.new.files
+    c.make_joined-ended.ensures.files

@@ -1,7 +1,10 @@
-use Rattle.std.proofs.Common.{◌≡◌, ◌∙◌, ◌<◌, ℕ, length, ap, subst, sym}
+use Rattle.std.proofs.Common.{◌≡◌, ◌∙◌, ◌<◌, ℕ, Result, Err, length, ap, subst, sym}
 use Rattle.std.specs.List.{AllByRecursion}
+use Rattle.std.proofs.lemmas.Result.{err_from_is_err_and}
+use Rattle.record_io.specs.declared.cut.Cut.{Cut}
+use Rattle.join_command.specs.CollectingEnds.{PutsGathered}
 use Rattle.command_frame.specs.Writing.{default_chunk_size}
-use Rattle.join_command.proofs.CollectSteps.{put-unprinted, put-whole}
+use Rattle.join_command.proofs.CollectSteps.{put-failed, put-unprinted, put-whole}
 use Rattle.join_command.proofs.CollectedFiles.{places-many}
 use Rattle.join_command.proofs.writing.put_gathered.Goals as goal
 
@@ -14,9 +17,18 @@ put_places-requires-clause-placed g c =
 pub returns-in-Ok-put_places-clause-put : goal.returns-in-Ok-put_places-clause-put
 returns-in-Ok-put_places-clause-put g c =
     put-whole c.args.gathered.now c.records-records.result.now c.in-Ok.places _ _ _ _ c.records-records.ensures.value c.in-Ok.ensures
-    c.in-Ok-write_file.ensures.whole c.in-Ok-put_places.ensures.out.whole
+    c.in_ok-write_file.ensures.put c.in-Ok-put_places.ensures.out.whole
 
 pub returns-clause-put : goal.returns-clause-put
 returns-clause-put g c =
     put-unprinted c.args.gathered.now c.records-records.result.now c.in-Ok.places _ _ _ _ c.records-records.ensures.value c.in-Ok.ensures
-    c.in-Ok-write_file.ensures.whole c.in-Err.ensures.out.front
+    c.in_ok-write_file.ensures.put c.in-Err.ensures.out.front
+
+pub returns-in_err-write_file-clause-put : goal.returns-in_err-write_file-clause-put
+returns-in_err-write_file-clause-put g c =
+    let p = err_from_is_err_and c.from_residual.result c.from_residual.ensures.1 in
+    let P : Result (Unit {0}) Cut → Type 0 = λ r. PutsGathered r c.args.gathered.now (g.M.Sink.taken c.args.made.now) (g.M.Sink.taken c.write_file.new.made)
+    (g.O.Sink.taken c.args.out.now) (g.O.Sink.taken c.args.out.now) in
+    subst P (sym (p.1 ∙ ap Err p.2))
+    (put-failed (Unit {0}) (Unit {0}) c.in_err-write_file.field-0.0 c.args.gathered.now c.records-records.result.now _ _ _ c.records-records.ensures.value
+    c.in_err-write_file.ensures.put)

@@ -1,9 +1,10 @@
-use Rattle.std.proofs.Common.{◌≡◌, ◌∙◌, false, ℕ, Option, List, Ok, Err, Some, None, [], ◌∷◌, ap, sym, subst, refl, inl, inr, arith, rules}
+use Rattle.std.proofs.Common.{◌≡◌, ◌∙◌, false, true, ℕ, Option, List, Ok, Err, Some, None, [], ◌∷◌, ap, sym, subst, refl, inl, inr, arith, rules}
 use Rattle.record_io.proofs.Calls.{Takes-nothing}
 use Rattle.damage_skip.proofs.BoundedWalks.{MaySkipEach}
 use Rattle.damage_skip.specs.Walkers.{progress_of, test_of}
 use Rattle.damage_skip.specs.Bounds.{may_skip}
 use Rattle.damage_skip.specs.Walks.{StandsIn, piece_of, stop_of}
+use Rattle.damage_skip.proofs.WalkFronts.{front-stands}
 use Rattle.damage_skip.proofs.Takings.{taken-front, called-on, called-to}
 use Rattle.recover_command.proofs.RecoverSteps.{after-ok}
 use Rattle.damage_skip.specs.declared.events.WalkEnd.TheVariants.{Stopped}
@@ -11,23 +12,24 @@ use Rattle.damage_skip.specs.declared.regions.Region.{Region}
 use Rattle.command_frame.specs.declared.status.Status.{Status}
 use Rattle.command_frame.proofs.FileRuns.{told-in_reach}
 use Rattle.recover_command.proofs.RecoverRuns.{step-allowed, walk-allowed}
-use Rattle.recover_command.proofs.RecoverLoop.{bound-same, event-allowed, given-none, goes-same, step-by, step-done, step-ended, step-failed, step-given, step-not_short, step-said, step-passed, step-so_far, step-stood, step-told, step-untold, stop-refused, stop-same}
+use Rattle.recover_command.proofs.RecoverLoop.{bound-same, event-allowed, event-room, printed-none, goes-same, step-by, step-done, step-ended, step-failed, step-printed, step-not_short, step-said, step-passed, step-so_far, step-stood, step-told, step-untold, stop-refused, stop-same}
 use Rattle.show_command.proofs.ShowSteps.{exact_told, short_told}
 use Rattle.recover_command.proofs.recovering.print_events.Goals as goal
 use Rattle.recover_command.proofs.recovering.print_events.Goals.{After-print_event, In-Err}
 
 pub loop-event-init : goal.loop-event-init
 loop-event-init g c = record {
-  same_size = c.new-walker.ensures.size;
-  not_kept = c.new-walker.ensures.keep;
-  going = c.new-walker.ensures.going;
+  same_size = c.new-walker.ensures.begins.size_is;
+  not_kept = c.new-walker.ensures.begins.keep_is;
+  decodes = c.new-walker.ensures.begins.decodes_is;
+  going = c.new-walker.ensures.begins.going;
   same_test = refl;
   file = search rules;
-  stands = search rules;
-  given = λ made. given-none c.args.words.now _ _ _ _ c.new-walker.ensures.at_front c.requires.none_held;
+  stands = front-stands _ _ c.args.size false true _ c.new-walker.ensures.begins c.requires.sized;
+  printed = λ made. printed-none c.args.words.now _ _ _ _ c.new-walker.ensures.begins.at_front c.requires.none_held;
   told_of = ([], record { may = tt; says = Takes-nothing _ }, refl);
   kept = λ _. refl;
-  taken = taken-front _ false _ _ c.new-walker.ensures.at_front (omega arith);
+  taken = taken-front _ false _ _ c.new-walker.ensures.begins.at_front (omega arith);
   out = search rules;
   notes = search rules;
 }
@@ -52,7 +54,7 @@ pub returns-in-Err-clause-printed : goal.returns-in-Err-clause-printed
 returns-in-Err-clause-printed g c = λ made.
     step-ended c.args.words.now _ (progress_of c.loop-event.walker).place (progress_of c.next.new.self).place c.args.size (progress_of c.next.new.self).size
     _ _ _ c.loop-event.status c.in-Err.end _ c.end_of_walk.ensures
-    c.requires.in_reach (exact_told _ _ _ c.requires.told (g.met.S.Store.sized c.args.file.now)) (c.in-Err.ensures.goes_on.same_size ∙ c.loop-event.invariant.same_size) (c.loop-event.invariant.given made)
+    c.requires.sized.in_reach (exact_told _ _ _ c.requires.sized.is_told (g.met.S.Store.sized c.args.file.now)) (c.in-Err.ensures.goes_on.same_size ∙ c.loop-event.invariant.same_size) (c.loop-event.invariant.printed made)
     (goes-same _ _ _ _ _ (Err c.in-Err.end) (Err c.in-Err.end) c.loop-event.invariant.file.same_bytes c.loop-event.invariant.not_kept refl
     c.in-Err.ensures.goes_on.past)
     (λ region is. (
@@ -65,7 +67,7 @@ returns-in-Err-clause-printed g c = λ made.
 pub returns-in-Err-clause-so_far : goal.returns-in-Err-clause-so_far
 returns-in-Err-clause-so_far g c = λ short made.
     step-so_far c.args.words.now _ (progress_of c.loop-event.walker).place (progress_of c.next.new.self).place _ _ _ c.loop-event.status c.in-Err.end _ _
-    (c.loop-event.invariant.given made)
+    (c.loop-event.invariant.printed made)
     (goes-same _ _ _ _ _ (Err c.in-Err.end) (Err c.in-Err.end) c.loop-event.invariant.file.same_bytes c.loop-event.invariant.not_kept refl
     c.in-Err.ensures.goes_on.past)
     (called-to _ _ (progress_of c.loop-event.walker).keep false 0 (progress_of c.loop-event.walker).place (progress_of c.next.new.self).place
@@ -80,20 +82,21 @@ returns-in-Err-clause-said g c =
 pub returns-in-Err-clause-allowed : goal.returns-in-Err-clause-allowed
 returns-in-Err-clause-allowed g c =
     walk-allowed c.args.words.now c.in-Err.end _ _ c.end_of_walk.ensures
-    (told-in_reach _ _ (c.in-Err.ensures.store.same_told ∙ c.loop-event.invariant.file.same_told ∙ c.requires.told) c.requires.in_reach)
+    (told-in_reach _ _ (c.in-Err.ensures.store.same_told ∙ c.loop-event.invariant.file.same_told ∙ c.requires.sized.is_told) c.requires.sized.in_reach)
 
 pub returns-in_err-status-in-Ok-Some-clause-so_far : goal.returns-in_err-status-in-Ok-Some-clause-so_far
 returns-in_err-status-in-Ok-Some-clause-so_far g c = λ short.
-    absurd (step-not_short _ (step-by c.in_err-status-in-Ok-Some.field-0.0 c.from_residual.result c.from_residual.ensures.0 c.from_residual.ensures.1) short)
+    absurd (step-not_short _ (step-by Status c.in_err-status-in-Ok-Some.field-0.0 _ _ _ _ _ _ c.from_residual.result c.from_residual.ensures.0 c.from_residual.ensures.1
+    (c.in_err-status-in-Ok-Some.ensures.prints None)) short)
 
 pub returns-in_err-status-in-Ok-Some-clause-printed : goal.returns-in_err-status-in-Ok-Some-clause-printed
 returns-in_err-status-in-Ok-Some-clause-printed g c = λ made.
     step-failed Status c.args.words.now _ (progress_of c.loop-event.walker).place (progress_of c.next.new.self).place _ _ _ _ _ c.loop-event.status
     c.in-Ok-Some.event c.in_err-status-in-Ok-Some.field-0.0 c.from_residual.result c.from_residual.ensures.0 c.from_residual.ensures.1
-    (short_told _ _ c.requires.in_reach (exact_told _ _ _ c.requires.told (g.met.S.Store.sized c.args.file.now))) (c.loop-event.invariant.given made)
+    (short_told _ _ c.requires.sized.in_reach (exact_told _ _ _ c.requires.sized.is_told (g.met.S.Store.sized c.args.file.now))) (c.loop-event.invariant.printed made)
     (goes-same _ _ _ _ _ _ (Ok (Some c.in-Ok-Some.event)) c.loop-event.invariant.file.same_bytes c.loop-event.invariant.not_kept (ap Ok c.in-Ok-Some.field-0-is) c.in-Ok-Some.ensures.goes_on.past)
     (passed g (goal.at.returns-in_err-status-in-Ok-Some-clause-printed g c).After-print_event)
-    (c.in_err-status-in-Ok-Some.ensures.given made) c.in_err-status-in-Ok-Some.ensures.emptied
+    (c.in_err-status-in-Ok-Some.ensures.prints made) c.in_err-status-in-Ok-Some.ensures.emptied
 
 pub returns-in_err-status-in-Ok-Some-clause-said : goal.returns-in_err-status-in-Ok-Some-clause-said
 returns-in_err-status-in-Ok-Some-clause-said g c =
@@ -101,15 +104,15 @@ returns-in_err-status-in-Ok-Some-clause-said g c =
     c.in-Ok-Some.event c.in_err-status-in-Ok-Some.field-0.0 c.from_residual.result c.from_residual.ensures.0 c.from_residual.ensures.1
     c.loop-event.invariant.told_of
     (passed g (goal.at.returns-in_err-status-in-Ok-Some-clause-said g c).After-print_event)
-    (c.in_err-status-in-Ok-Some.ensures.given None)
+    (c.in_err-status-in-Ok-Some.ensures.prints None)
 
 pub returns-in_err-status-in-Ok-Some-clause-allowed : goal.returns-in_err-status-in-Ok-Some-clause-allowed
 returns-in_err-status-in-Ok-Some-clause-allowed g c =
     step-allowed Status c.args.words.now _ _ _ _ c.in-Ok-Some.event
     c.in_err-status-in-Ok-Some.field-0.0 c.from_residual.result _ c.from_residual.ensures.0 c.from_residual.ensures.1
     (passed g (goal.at.returns-in_err-status-in-Ok-Some-clause-allowed g c).After-print_event)
-    (c.in_err-status-in-Ok-Some.ensures.given None)
-    (told-in_reach _ _ (c.in-Ok-Some.ensures.store.same_told ∙ c.loop-event.invariant.file.same_told ∙ c.requires.told) c.requires.in_reach)
+    (c.in_err-status-in-Ok-Some.ensures.prints None)
+    (told-in_reach _ _ (c.in-Ok-Some.ensures.store.same_told ∙ c.loop-event.invariant.file.same_told ∙ c.requires.sized.is_told) c.requires.sized.in_reach)
 
 pub returns-in_err-status-in-Ok-Some-clause-file : goal.returns-in_err-status-in-Ok-Some-clause-file
 returns-in_err-status-in-Ok-Some-clause-file g c =
@@ -120,10 +123,17 @@ returns-in_err-status-in-Ok-Some-clause-file g c =
       same_told = asked.same_told ∙ kept.same_told;
       same_name = asked.same_name ∙ kept.same_name;
       cause = λ is.
-          elim (step-by c.in_err-status-in-Ok-Some.field-0.0 c.from_residual.result c.from_residual.ensures.0 c.from_residual.ensures.1) [ inl out ↦ absurd (cc (sym out ∙ is)) | inr notes ↦ absurd (cc (sym notes ∙ is)) ];
+          elim (step-by Status c.in_err-status-in-Ok-Some.field-0.0 _ _ _ _ _ _ c.from_residual.result c.from_residual.ensures.0 c.from_residual.ensures.1
+          (c.in_err-status-in-Ok-Some.ensures.prints None)) [ inl out ↦ absurd (cc (sym out ∙ is)) | inr notes ↦ absurd (cc (sym notes ∙ is)) ];
       never_falls = omega (arith, kept.never_falls, asked.never_falls);
       small = λ h. asked.small (kept.small h);
     }
+
+pub print_event-requires : goal.print_event-requires
+print_event-requires g c =
+    let e = c.in-Ok-Some.ensures.event c.in-Ok-Some.event (ap Ok c.in-Ok-Some.field-0-is) in
+    event-room _ _ (progress_of c.next.new.self).size c.in-Ok-Some.event e.bounds c.loop-event.invariant.decodes
+    (progress_of c.next.new.self).within c.in-Ok-Some.ensures.stands.in_reach
 
 pub loop-event-smaller : goal.loop-event-smaller
 loop-event-smaller g c =
@@ -136,19 +146,20 @@ loop-event-preserved g c =
     record {
       same_size = asked.goes_on.same_size ∙ c.loop-event.invariant.same_size;
       not_kept = asked.goes_on.same_keep ∙ c.loop-event.invariant.not_kept;
+      decodes = asked.goes_on.same_decodes ∙ c.loop-event.invariant.decodes;
       going = asked.goes_on.stopped ∙ ap (λ e. stop_of (Ok e)) c.in-Ok-Some.field-0-is;
       same_test = asked.same_test ∙ c.loop-event.invariant.same_test;
       file = search rules;
       stands = subst (λ (told : Option ℕ). StandsIn (g.S.Store.bytes c.next.new.store) told (progress_of c.next.new.self)) (sym asked.store.same_told)
           (subst (λ (b : Option (List ℕ)). StandsIn b (g.S.Store.told c.loop-event.file) (progress_of c.next.new.self)) (sym asked.store.same_bytes) asked.stands);
-      given = λ made.
-          step-given c.args.words.now _ (progress_of c.loop-event.walker).place (progress_of c.next.new.self).place _ _ _ _ _ c.loop-event.status
-          c.in-Ok-Some.event _ c.in_ok-status-in-Ok-Some.ensures.status (c.loop-event.invariant.given made)
+      printed = λ made.
+          step-printed c.args.words.now _ (progress_of c.loop-event.walker).place (progress_of c.next.new.self).place _ _ _ _ _ c.loop-event.status
+          c.in-Ok-Some.event _ c.in_ok-status-in-Ok-Some.ensures.status (c.loop-event.invariant.printed made)
           (goes-same _ _ _ _ _ _ (Ok (Some c.in-Ok-Some.event)) c.loop-event.invariant.file.same_bytes c.loop-event.invariant.not_kept (ap Ok c.in-Ok-Some.field-0-is) c.in-Ok-Some.ensures.goes_on.past)
-          (passed g (goal.at.loop-event-preserved g c).After-print_event) (c.in_ok-status-in-Ok-Some.ensures.given made);
+          (passed g (goal.at.loop-event-preserved g c).After-print_event) (c.in_ok-status-in-Ok-Some.ensures.prints made);
       told_of = step-told c.args.words.now _ _ _ _ _ c.loop-event.status c.in-Ok-Some.event _ c.in_ok-status-in-Ok-Some.ensures.status c.loop-event.invariant.told_of
           (passed g (goal.at.loop-event-preserved g c).After-print_event)
-          (c.in_ok-status-in-Ok-Some.ensures.given None);
+          (c.in_ok-status-in-Ok-Some.ensures.prints None);
       kept = λ is.
           let before = after-ok c.loop-event.status c.in-Ok-Some.event (sym c.in_ok-status-in-Ok-Some.ensures.status ∙ is) in
           c.in_ok-status-in-Ok-Some.ensures.quiet before.1 ∙ c.loop-event.invariant.kept before.0;
@@ -162,13 +173,13 @@ loop-event-preserved g c =
 pub returns-in-Ok-None-clause-printed : goal.returns-in-Ok-None-clause-printed
 returns-in-Ok-None-clause-printed g c = λ made.
     step-done c.args.words.now _ (progress_of c.loop-event.walker).place (progress_of c.next.new.self).place c.args.size _ _ _ c.loop-event.status
-    c.requires.in_reach (exact_told _ _ _ c.requires.told (g.met.S.Store.sized c.args.file.now)) (c.in-Ok-None.ensures.ended (ap Ok c.in-Ok-None.field-0-is) ∙ c.loop-event.invariant.same_size) (c.loop-event.invariant.given made)
+    c.requires.sized.in_reach (exact_told _ _ _ c.requires.sized.is_told (g.met.S.Store.sized c.args.file.now)) (c.in-Ok-None.ensures.ended (ap Ok c.in-Ok-None.field-0-is) ∙ c.loop-event.invariant.same_size) (c.loop-event.invariant.printed made)
     (goes-same _ _ _ _ _ _ (Ok None) c.loop-event.invariant.file.same_bytes c.loop-event.invariant.not_kept (ap Ok c.in-Ok-None.field-0-is) c.in-Ok-None.ensures.goes_on.past)
 
 pub returns-in-Err-clause-handed_of : goal.returns-in-Err-clause-handed_of
 returns-in-Err-clause-handed_of g c =
     step-stood c.args.words.now _ (progress_of c.loop-event.walker).place (progress_of c.next.new.self).place _ _ _ c.loop-event.status c.in-Err.end _
-    (c.loop-event.invariant.given None)
+    (c.loop-event.invariant.printed None)
     (goes-same _ _ _ _ _ (Err c.in-Err.end) (Err c.in-Err.end) c.loop-event.invariant.file.same_bytes c.loop-event.invariant.not_kept refl
     c.in-Err.ensures.goes_on.past)
     (called-to _ _ (progress_of c.loop-event.walker).keep false 0 (progress_of c.loop-event.walker).place (progress_of c.next.new.self).place
@@ -178,7 +189,7 @@ returns-in-Err-clause-handed_of g c =
 pub returns-in-Ok-None-clause-handed_of : goal.returns-in-Ok-None-clause-handed_of
 returns-in-Ok-None-clause-handed_of g c =
     step-passed c.args.words.now _ (progress_of c.loop-event.walker).place (progress_of c.next.new.self).place _ _ _ c.loop-event.status [] _ tt
-    (c.loop-event.invariant.given None)
+    (c.loop-event.invariant.printed None)
     (goes-same _ _ _ _ _ _ (Ok None) c.loop-event.invariant.file.same_bytes c.loop-event.invariant.not_kept (ap Ok c.in-Ok-None.field-0-is)
     c.in-Ok-None.ensures.goes_on.past)
     (called-on _ _ (progress_of c.loop-event.walker).keep false 0 (progress_of c.loop-event.walker).place (progress_of c.next.new.self).place _
@@ -190,7 +201,7 @@ returns-in_err-status-in-Ok-Some-clause-handed_of g c =
     step-passed c.args.words.now _ (progress_of c.loop-event.walker).place (progress_of c.next.new.self).place _ _ _ c.loop-event.status
     (piece_of c.in-Ok-Some.event ∷ []) _
     (passed g (goal.at.returns-in_err-status-in-Ok-Some-clause-handed_of g c).After-print_event)
-    (c.loop-event.invariant.given None)
+    (c.loop-event.invariant.printed None)
     (goes-same _ _ _ _ _ _ (Ok (Some c.in-Ok-Some.event)) c.loop-event.invariant.file.same_bytes c.loop-event.invariant.not_kept (ap Ok c.in-Ok-Some.field-0-is) c.in-Ok-Some.ensures.goes_on.past)
     (called-on _ _ (progress_of c.loop-event.walker).keep false 0 (progress_of c.loop-event.walker).place (progress_of c.next.new.self).place _
     (Some c.in-Ok-Some.event) _ _ _ c.loop-event.invariant.file.same_bytes c.loop-event.invariant.not_kept (ap Ok c.in-Ok-Some.field-0-is)

@@ -46,17 +46,17 @@ returns-in-Ok-clause-so_far g c = λ short sound made.
 
 pub returns-in-Err-clause-so_far : goal.returns-in-Err-clause-so_far
 returns-in-Err-clause-so_far g c = λ short sound.
-    absurd (sound (rose-behind _ _ _ c.print_events-walked.ensures.out.never_falls (c.in-Err.ensures.sink.counts.cause refl)))
+    absurd (sound (rose-behind _ _ _ c.print_events-walked.ensures.streams.out_counts.never_falls (c.in-Err.ensures.sink.counts.cause refl)))
 
 pub returns-in-Ok-clause-handed : goal.returns-in-Ok-clause-handed
 returns-in-Ok-clause-handed g c =
-    handed-work (recover_meaning c.args.words.now) _ c.in_ok-size.size _ _ (c.print_events-walked.ensures.file.same_told ∙ c.in_ok-size.ensures.told)
-    (c.in_ok-size.ensures.in_reach, tt)
+    handed-work (recover_meaning c.args.words.now) _ c.in_ok-size.size _ _ (c.print_events-walked.ensures.file.same_told ∙ c.in_ok-size.ensures.sized.is_told)
+    (c.in_ok-size.ensures.sized.in_reach, tt)
 
 pub returns-in-Err-clause-handed : goal.returns-in-Err-clause-handed
 returns-in-Err-clause-handed g c =
-    handed-work (recover_meaning c.args.words.now) _ c.in_ok-size.size _ _ (c.print_events-walked.ensures.file.same_told ∙ c.in_ok-size.ensures.told)
-    (c.in_ok-size.ensures.in_reach, tt)
+    handed-work (recover_meaning c.args.words.now) _ c.in_ok-size.size _ _ (c.print_events-walked.ensures.file.same_told ∙ c.in_ok-size.ensures.sized.is_told)
+    (c.in_ok-size.ensures.sized.in_reach, tt)
 
 pub returns-in_err-size-clause-handed_of : goal.returns-in_err-size-clause-handed_of
 returns-in_err-size-clause-handed_of g c =

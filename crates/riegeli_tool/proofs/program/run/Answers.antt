@@ -59,45 +59,45 @@ returns-in-Some-Repair-clause-runs g c =
 
 pub returns-in-Some-Show-clause-same_bytes : goal.returns-in-Some-Show-clause-same_bytes
 returns-in-Some-Show-clause-same_bytes g c =
-    map-set_same g.S.Store.bytes c.args.files.now 0 c.show.new.file c.index-files-0.result c.show.ensures.same_bytes
+    map-set_same g.S.Store.bytes c.args.files.now 0 c.show.new.file c.index-files-0.result c.show.ensures.file.same_bytes
 
 pub returns-in-Some-Show-clause-same_names : goal.returns-in-Some-Show-clause-same_names
 returns-in-Some-Show-clause-same_names g c =
-    map-set_same g.S.Store.name c.args.files.now 0 c.show.new.file c.index-files-0.result c.show.ensures.same_name
+    map-set_same g.S.Store.name c.args.files.now 0 c.show.new.file c.index-files-0.result c.show.ensures.file.same_name
 
 pub returns-in-Some-Recover-clause-same_bytes : goal.returns-in-Some-Recover-clause-same_bytes
 returns-in-Some-Recover-clause-same_bytes g c =
-    map-set_same g.S.Store.bytes c.args.files.now 0 c.recover.new.file c.index-files-0-in-Some-Recover.result c.recover.ensures.same_bytes
+    map-set_same g.S.Store.bytes c.args.files.now 0 c.recover.new.file c.index-files-0-in-Some-Recover.result c.recover.ensures.file.same_bytes
 
 pub returns-in-Some-Recover-clause-same_names : goal.returns-in-Some-Recover-clause-same_names
 returns-in-Some-Recover-clause-same_names g c =
-    map-set_same g.S.Store.name c.args.files.now 0 c.recover.new.file c.index-files-0-in-Some-Recover.result c.recover.ensures.same_name
+    map-set_same g.S.Store.name c.args.files.now 0 c.recover.new.file c.index-files-0-in-Some-Recover.result c.recover.ensures.file.same_name
 
 pub returns-in-Some-Verify-clause-same_bytes : goal.returns-in-Some-Verify-clause-same_bytes
 returns-in-Some-Verify-clause-same_bytes g c =
-    map-set_same g.S.Store.bytes c.args.files.now 0 c.verify.new.file c.index-files-0-in-Some-Verify.result c.verify.ensures.same_bytes
+    map-set_same g.S.Store.bytes c.args.files.now 0 c.verify.new.file c.index-files-0-in-Some-Verify.result c.verify.ensures.file.same_bytes
 
 pub returns-in-Some-Verify-clause-same_names : goal.returns-in-Some-Verify-clause-same_names
 returns-in-Some-Verify-clause-same_names g c =
-    map-set_same g.S.Store.name c.args.files.now 0 c.verify.new.file c.index-files-0-in-Some-Verify.result c.verify.ensures.same_name
+    map-set_same g.S.Store.name c.args.files.now 0 c.verify.new.file c.index-files-0-in-Some-Verify.result c.verify.ensures.file.same_name
 
 pub returns-in-Some-Seek-clause-same_bytes : goal.returns-in-Some-Seek-clause-same_bytes
 returns-in-Some-Seek-clause-same_bytes g c =
-    map-set_same g.S.Store.bytes c.args.files.now 0 c.show_found.new.file c.index-files-0-in-Some-Seek.result c.show_found.ensures.same_bytes
+    map-set_same g.S.Store.bytes c.args.files.now 0 c.show_found.new.file c.index-files-0-in-Some-Seek.result c.show_found.ensures.file.same_bytes
 
 pub returns-in-Some-Seek-clause-same_names : goal.returns-in-Some-Seek-clause-same_names
 returns-in-Some-Seek-clause-same_names g c =
-    map-set_same g.S.Store.name c.args.files.now 0 c.show_found.new.file c.index-files-0-in-Some-Seek.result c.show_found.ensures.same_name
+    map-set_same g.S.Store.name c.args.files.now 0 c.show_found.new.file c.index-files-0-in-Some-Seek.result c.show_found.ensures.file.same_name
 
 pub returns-in-Some-Repair-clause-same_bytes : goal.returns-in-Some-Repair-clause-same_bytes
 returns-in-Some-Repair-clause-same_bytes g c =
-    map-set_same g.S.Store.bytes c.args.files.now 0 c.repair.new.file c.index-files-0-in-Some-Repair.result c.repair.ensures.same_bytes
+    map-set_same g.S.Store.bytes c.args.files.now 0 c.repair.new.file c.index-files-0-in-Some-Repair.result c.repair.ensures.file.same_bytes
 
 pub returns-in-Some-Repair-clause-same_names : goal.returns-in-Some-Repair-clause-same_names
 returns-in-Some-Repair-clause-same_names g c =
-    map-set_same g.S.Store.name c.args.files.now 0 c.repair.new.file c.index-files-0-in-Some-Repair.result c.repair.ensures.same_name
+    map-set_same g.S.Store.name c.args.files.now 0 c.repair.new.file c.index-files-0-in-Some-Repair.result c.repair.ensures.file.same_name
 
 pub returns-in-None-clause-runs : goal.returns-in-None-clause-runs
 returns-in-None-clause-runs g c =
     runs-as _ _ _ _ _ (sym c.in-None.is ∙ c.accept.ensures.command)
-    (runs-usage (seen _ _ _ _ _ unseen) _ _ _ c.end.ensures.told c.end.ensures.notes.never_falls)
+    (runs-usage (seen _ _ _ _ _ unseen) _ _ _ c.end.ensures.notes.said c.end.ensures.notes.counts.never_falls)

@@ -19,8 +19,8 @@ returns-in_err-size-clause-walks g c =
 pub returns-in-Err-clause-walks : goal.returns-in-Err-clause-walks
 returns-in-Err-clause-walks g c =
     ended-walks _ c.new-policy.result.test c.args.words.now (λ region allowed is returned. search (rules, tests)) _ _ c.in_ok-size.ensures.same_bytes
-    (short_told _ _ c.in_ok-size.ensures.in_reach c.in_ok-size.ensures.exact)
-    c.in-Err.end _ _ _ _ _ _ _ _ c.end_of_repair.ensures c.in-Err.ensures.repairs
+    (short_told _ _ c.in_ok-size.ensures.sized.in_reach c.in_ok-size.ensures.exact)
+    c.in-Err.end _ _ _ _ _ _ _ _ _ c.end_of_repair.ensures c.in-Err.ensures.repairs
 
 pub returns-in_err-size-clause-so_far : goal.returns-in_err-size-clause-so_far
 returns-in_err-size-clause-so_far g c = λ short sound.
@@ -30,9 +30,9 @@ pub returns-in-Err-clause-so_far : goal.returns-in-Err-clause-so_far
 returns-in-Err-clause-so_far g c =
     rw (← c.in_ok-size.ensures.same_handed)
     (ended-so_far _ c.new-policy.result.test c.args.words.now (λ region allowed is returned. search (rules, tests)) _ _ c.in_ok-size.ensures.same_bytes
-    (short_told _ _ c.in_ok-size.ensures.in_reach c.in_ok-size.ensures.exact)
+    (short_told _ _ c.in_ok-size.ensures.sized.in_reach c.in_ok-size.ensures.exact)
     c.in-Err.end _ _ _ _ _ _ _ _ _ _ c.end_of_repair.ensures
-    c.in-Err.ensures.cut_short)
+    c.in-Err.ensures.repairs)
 
 pub returns-in-Err-clause-said : goal.returns-in-Err-clause-said
 returns-in-Err-clause-said g c =
@@ -44,13 +44,13 @@ pub returns-in-Err-clause-allowed : goal.returns-in-Err-clause-allowed
 returns-in-Err-clause-allowed g c =
     ended-allowed _ c.new-policy.result.test c.args.words.now (λ region allowed is returned. search (rules, tests))
     c.in-Err.end _ _ _ _ c.end_of_repair.ensures c.in-Err.ensures.skips
-    (told-in_reach _ _ (c.in-Err.ensures.store.same_told ∙ c.in_ok-size.ensures.told) c.in_ok-size.ensures.in_reach)
+    (told-in_reach _ _ (c.in-Err.ensures.store.same_told ∙ c.in_ok-size.ensures.sized.is_told) c.in_ok-size.ensures.sized.in_reach)
 
 pub returns-in-Ok-put_report-clause-walks : goal.returns-in-Ok-put_report-clause-walks
 returns-in-Ok-put_report-clause-walks g c =
     done-walks _ c.new-policy.result.test c.args.words.now (λ region allowed is returned. search (rules, tests)) _ _ c.in_ok-size.ensures.same_bytes
-    (short_told _ _ c.in_ok-size.ensures.in_reach c.in_ok-size.ensures.exact)
-    c.in-Ok.repaired _ _ _ _ _ _ _ _ _ c.in-Ok.ensures.repairs c.in-Ok-put_report.ensures.out.whole
+    (short_told _ _ c.in_ok-size.ensures.sized.in_reach c.in_ok-size.ensures.exact)
+    c.in-Ok.repaired _ _ _ _ _ _ _ _ _ _ c.in-Ok.ensures.repairs c.in-Ok-put_report.ensures.out.whole
     c.status_past.ensures.told
 
 pub returns-in-Ok-put_report-clause-said : goal.returns-in-Ok-put_report-clause-said
@@ -61,8 +61,8 @@ returns-in-Ok-put_report-clause-said g c =
 pub returns-in-Err-put_report-clause-walks : goal.returns-in-Err-put_report-clause-walks
 returns-in-Err-put_report-clause-walks g c =
     unreported-ends _ c.new-policy.result.test c.args.words.now (λ region allowed is returned. search (rules, tests)) _ _ c.in_ok-size.ensures.same_bytes
-    (short_told _ _ c.in_ok-size.ensures.in_reach c.in_ok-size.ensures.exact)
-    c.in-Ok.repaired _ _ _ _ _ _ _ _ c.in-Ok.ensures.repairs c.in-Err-put_report.ensures.out.front
+    (short_told _ _ c.in_ok-size.ensures.sized.in_reach c.in_ok-size.ensures.exact)
+    c.in-Ok.repaired _ _ _ _ _ _ _ _ _ c.in-Ok.ensures.repairs c.in-Err-put_report.ensures.out.front
 
 pub returns-in-Err-put_report-clause-said : goal.returns-in-Err-put_report-clause-said
 returns-in-Err-put_report-clause-said g c =
@@ -79,18 +79,18 @@ returns-in_err-size-clause-said g c =
 
 pub returns-in-Err-clause-handed : goal.returns-in-Err-clause-handed
 returns-in-Err-clause-handed g c =
-    handed-work (repair_meaning c.args.words.now) _ c.in_ok-size.size _ _ (c.in-Err.ensures.store.same_told ∙ c.in_ok-size.ensures.told)
-    (c.in_ok-size.ensures.in_reach, tt)
+    handed-work (repair_meaning c.args.words.now) _ c.in_ok-size.size _ _ (c.in-Err.ensures.store.same_told ∙ c.in_ok-size.ensures.sized.is_told)
+    (c.in_ok-size.ensures.sized.in_reach, tt)
 
 pub returns-in-Ok-put_report-clause-handed : goal.returns-in-Ok-put_report-clause-handed
 returns-in-Ok-put_report-clause-handed g c =
-    handed-work (repair_meaning c.args.words.now) _ c.in_ok-size.size _ _ (c.in-Ok.ensures.store.same_told ∙ c.in_ok-size.ensures.told)
-    (c.in_ok-size.ensures.in_reach, tt)
+    handed-work (repair_meaning c.args.words.now) _ c.in_ok-size.size _ _ (c.in-Ok.ensures.store.same_told ∙ c.in_ok-size.ensures.sized.is_told)
+    (c.in_ok-size.ensures.sized.in_reach, tt)
 
 pub returns-in-Err-put_report-clause-handed : goal.returns-in-Err-put_report-clause-handed
 returns-in-Err-put_report-clause-handed g c =
-    handed-work (repair_meaning c.args.words.now) _ c.in_ok-size.size _ _ (c.in-Ok.ensures.store.same_told ∙ c.in_ok-size.ensures.told)
-    (c.in_ok-size.ensures.in_reach, tt)
+    handed-work (repair_meaning c.args.words.now) _ c.in_ok-size.size _ _ (c.in-Ok.ensures.store.same_told ∙ c.in_ok-size.ensures.sized.is_told)
+    (c.in_ok-size.ensures.sized.in_reach, tt)
 
 pub returns-in_err-size-clause-handed_of : goal.returns-in_err-size-clause-handed_of
 returns-in_err-size-clause-handed_of g c =
@@ -98,15 +98,15 @@ returns-in_err-size-clause-handed_of g c =
 
 pub returns-in-Err-clause-handed_of : goal.returns-in-Err-clause-handed_of
 returns-in-Err-clause-handed_of g c =
-    repair-takes _ c.new-policy.result.test c.args.words.now (λ region allowed is returned. search (rules, tests)) _ _ _ _ _
-    c.in_ok-size.ensures.same_bytes c.in_ok-size.ensures.same_handed c.in-Err.ensures.takes
+    repair-takes _ c.new-policy.result.test c.args.words.now (λ region allowed is returned. search (rules, tests)) _ _ _ _ _ _ _ _ _ _
+    c.in_ok-size.ensures.same_bytes c.in_ok-size.ensures.same_handed c.in-Err.ensures.repairs
 
 pub returns-in-Ok-put_report-clause-handed_of : goal.returns-in-Ok-put_report-clause-handed_of
 returns-in-Ok-put_report-clause-handed_of g c =
-    repair-takes _ c.new-policy.result.test c.args.words.now (λ region allowed is returned. search (rules, tests)) _ _ _ _ _
-    c.in_ok-size.ensures.same_bytes c.in_ok-size.ensures.same_handed c.in-Ok.ensures.takes
+    repair-takes _ c.new-policy.result.test c.args.words.now (λ region allowed is returned. search (rules, tests)) _ _ _ _ _ _ _ _ _ _
+    c.in_ok-size.ensures.same_bytes c.in_ok-size.ensures.same_handed c.in-Ok.ensures.repairs
 
 pub returns-in-Err-put_report-clause-handed_of : goal.returns-in-Err-put_report-clause-handed_of
 returns-in-Err-put_report-clause-handed_of g c =
-    repair-takes _ c.new-policy.result.test c.args.words.now (λ region allowed is returned. search (rules, tests)) _ _ _ _ _
-    c.in_ok-size.ensures.same_bytes c.in_ok-size.ensures.same_handed c.in-Ok.ensures.takes
+    repair-takes _ c.new-policy.result.test c.args.words.now (λ region allowed is returned. search (rules, tests)) _ _ _ _ _ _ _ _ _ _
+    c.in_ok-size.ensures.same_bytes c.in_ok-size.ensures.same_handed c.in-Ok.ensures.repairs

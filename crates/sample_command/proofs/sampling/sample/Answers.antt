@@ -14,10 +14,10 @@ returns-in-Ok-clause-runs g c = λ others.
 
 pub returns-in-Err-clause-runs : goal.returns-in-Err-clause-runs
 returns-in-Err-clause-runs g c = λ others.
-    rw (c.cut_off.ensures.status, c.cut_of.ensures)
+    rw c.cut_off.ensures.status
     (sample-cut_off c.args.words.now others.input others.files _ _ others.grown _ _ _ _
     (keeps-unread (sample_meaning c.args.words.now) others.input others.input others.files _ _ others.grown _ _ _ _ refl (λ r. tt) (omega arith)
     c.in-Err.ensures.made.never_falls c.in-Err.ensures.out.never_falls c.cut_off.ensures.notes.never_falls
     (none-taken 0 others.input.bytes))
     (Unit {0}) c.in-Err.cut c.in-Err.ensures.taken (λ is. c.in-Err.ensures.made.cause (ap Err is)) (λ is. c.in-Err.ensures.out.cause (ap Err is))
-    (rw (← c.cut_of.ensures) c.cut_off.ensures.told))
+    c.cut_off.ensures.told)

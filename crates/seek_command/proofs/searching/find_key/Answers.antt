@@ -1,5 +1,7 @@
 use Rattle.std.proofs.Common.{◌≡◌, ℕ, List, IfOk, IfSome, ap, subst}
+use Rattle.chunk_reader.proofs.Rooms.{IsSized}
 use Rattle.record_seek.specs.Steps.{placed_of}
+use Rattle.record_seek.proofs.FoundByKey.{met-not_whole}
 use Rattle.seek_command.specs.Searches.{MayFind}
 use Rattle.seek_command.proofs.ByteOrder.{finds, refuses}
 use Rattle.seek_command.proofs.searching.find_key.Goals as goal
@@ -12,4 +14,9 @@ returns-clause-found g c =
     (finds _ _ c.new-test.result.test.0.now c.find.result _ did.found did.in_order did.apart did.met did.none (λ p answer. (λ h. h, λ h. h)))
 
 pub returns-clause-refused : goal.returns-clause-refused
-returns-clause-refused g c = λ fault is. refuses _ fault (c.find.ensures.refused fault is) (c.find.ensures.whole fault is)
+returns-clause-refused g c =
+    λ fault is.
+    let file = g.S.Store.bytes c.args.file.now in
+    let met = c.find.ensures.refused fault is in
+    refuses _ fault met
+    (met-not_whole _ c.args.size fault (subst (IsSized file) c.requires.is_told (g.met.S.Store.sized c.args.file.now)) c.requires.in_reach met)

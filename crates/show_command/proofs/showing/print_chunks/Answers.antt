@@ -16,7 +16,7 @@ loop-init g c = record {
   strict = c.new-reader.ensures.keep;
   within = omega (arith, ap (λ (t : Totals). t.bytes) c.new-reader.ensures.totals);
   file = search rules;
-  reads = reads-none _ _ c.args.size _ c.requires.told c.requires.in_reach c.new-reader.ensures.size c.new-reader.ensures.keep c.new-reader.ensures.at_front;
+  reads = reads-none _ _ c.args.size _ c.requires.sized.is_told c.requires.sized.in_reach c.new-reader.ensures.size c.new-reader.ensures.keep c.new-reader.ensures.at_front;
   printed = λ made notes. printed-none c.args.words.now _ _ _ _ c.new-reader.ensures.totals c.requires.none_held;
   handed = omega arith;
   out = search rules;
@@ -45,7 +45,7 @@ loop-preserved g c = record {
   strict = c.in_ok-print_next.ensures.goes_on.same_keep ∙ c.loop.invariant.strict;
   within = c.in_ok-print_next.ensures.goes_on.totals.within;
   file = search rules;
-  reads = reads-on _ _ _ _ c.loop.reader _ c.in_ok-print_next.ensures.file.same_bytes c.in_ok-print_next.ensures.file.same_told c.loop.invariant.reads
+  reads = reads-on _ _ _ _ c.loop.reader _ c.in_ok-print_next.ensures.file.asks.same_bytes c.in_ok-print_next.ensures.file.asks.same_told c.loop.invariant.reads
       c.in_ok-print_next.ensures.goes_on;
   printed = λ made notes. of_answer g (goal.at.loop-preserved g c).After-print_next (Ok true)
       (c.in_ok-print_next.was ∙ ap (λ (more : Bool). Ok more) c.if-branch.true) made notes;

@@ -45,10 +45,10 @@ returns-in-Err-clause-so_far g c = λ short sound.
 
 pub returns-in-Ok-clause-handed : goal.returns-in-Ok-clause-handed
 returns-in-Ok-clause-handed g c =
-    handed-work (show_meaning c.args.words.now) _ c.in_ok-size.size _ _ (c.print_chunks-printed.ensures.file.same_told ∙ c.in_ok-size.ensures.told)
-    (c.in_ok-size.ensures.in_reach, omega (arith, c.print_chunks-printed.ensures.handed, c.in_ok-size.ensures.same_handed))
+    handed-work (show_meaning c.args.words.now) _ c.in_ok-size.size _ _ (c.print_chunks-printed.ensures.file.asks.same_told ∙ c.in_ok-size.ensures.sized.is_told)
+    (c.in_ok-size.ensures.sized.in_reach, omega (arith, c.print_chunks-printed.ensures.file.handed, c.in_ok-size.ensures.same_handed))
 
 pub returns-in-Err-clause-handed : goal.returns-in-Err-clause-handed
 returns-in-Err-clause-handed g c =
-    handed-work (show_meaning c.args.words.now) _ c.in_ok-size.size _ _ (c.print_chunks-printed.ensures.file.same_told ∙ c.in_ok-size.ensures.told)
-    (c.in_ok-size.ensures.in_reach, omega (arith, c.print_chunks-printed.ensures.handed, c.in_ok-size.ensures.same_handed))
+    handed-work (show_meaning c.args.words.now) _ c.in_ok-size.size _ _ (c.print_chunks-printed.ensures.file.asks.same_told ∙ c.in_ok-size.ensures.sized.is_told)
+    (c.in_ok-size.ensures.sized.in_reach, omega (arith, c.print_chunks-printed.ensures.file.handed, c.in_ok-size.ensures.same_handed))

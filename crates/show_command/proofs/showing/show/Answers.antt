@@ -11,8 +11,8 @@ returns-clause-runs g c = λ others.
     let exact = still-sized _ _ _ did.same_bytes (g.met.S.Store.sized c.print_file-ended.new.file) in
     runs-reading (show_meaning words) (IsShown words) (IsShownSoFar words) (show_reads words) others.input others.made _ _ others.grown _ _ _ _
     (file-keeps (show_meaning words) (IsShown words) (IsShownSoFar words) (show_reads words).one others.input others.made others.made _ _ others.grown _ _ _ _
-    did.file.never_falls (omega arith) did.out.never_falls c.end_reading.ensures.notes.never_falls exact did.handed (λ r is. tt))
+    did.file.never_falls (omega arith) did.out.never_falls c.end_reading.ensures.notes.speaks.counts.never_falls exact did.handed (λ r is. tt))
     c.print_file-ended.result _ did.allowed exact
     (did.printed others.made.bytes (g.E.Sink.taken c.args.notes.now))
-    (λ short sound. did.so_far short sound others.made.bytes (g.E.Sink.taken c.args.notes.now)) c.end_reading.ensures.told
+    (λ short sound. did.so_far short sound others.made.bytes (g.E.Sink.taken c.args.notes.now)) c.end_reading.ensures.notes.said
     did.file.cause did.out.cause

@@ -11,9 +11,9 @@ returns-clause-runs g c = λ others.
     let exact = still-sized _ _ _ did.same_bytes (g.met.S.Store.sized c.report_file-ended.new.file) in
     runs-reading verify_meaning IsVerified IsVerifiedSoFar verify_reads others.input others.made _ _ others.grown _ _ _ _
     (file-keeps verify_meaning IsVerified IsVerifiedSoFar verify_reads.one others.input others.made others.made _ _ others.grown _ _ _ _
-    did.file.never_falls (omega arith) did.out.never_falls c.end_reading.ensures.notes.never_falls exact did.handed (λ r is. tt))
+    did.file.never_falls (omega arith) did.out.never_falls c.end_reading.ensures.notes.speaks.counts.never_falls exact did.handed (λ r is. tt))
     c.report_file-ended.result _ did.allowed exact
     (did.printed others.made.bytes (g.E.Sink.taken c.args.notes.now))
     (λ short sound. unprinted-so_far _ others.made.bytes _ _ (g.E.Sink.taken c.args.notes.now)
-    (ap g.O.Sink.taken (did.same_out short))) c.end_reading.ensures.told
+    (ap g.O.Sink.taken (did.same_out short))) c.end_reading.ensures.notes.said
     did.file.cause did.out.cause

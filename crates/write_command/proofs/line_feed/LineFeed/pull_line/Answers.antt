@@ -36,11 +36,8 @@ pub returns-clause-at_end : goal.returns-clause-at_end
 returns-clause-at_end g c = λ none.
     let e = c.in_ok-refill.ensures.at_end (ap Ok c.if-branch.false) in
     let empty = no_line c.loop-self.line _ c.is_empty.ensures none in
-    told-spent _ _ (at_end-spent _ _ _ _ _ _ _ _ empty c.loop-self.invariant.text c.in_ok-refill.ensures.text e.0 (c.refill.new.self.ended e.1 e.0))
-
-pub returns-clause-end_kept : goal.returns-clause-end_kept
-returns-clause-end_kept g c = λ none.
-    let e = c.in_ok-refill.ensures.at_end (ap Ok c.if-branch.false) in
-    let empty = no_line c.loop-self.line _ c.is_empty.ensures none in
-    rest-kept _ _ _ _ e.0 (c.refill.new.self.ended e.1 e.0)
-    ∙ sym (at_end-spent _ _ _ _ _ _ _ _ empty c.loop-self.invariant.text c.in_ok-refill.ensures.text e.0 (c.refill.new.self.ended e.1 e.0))
+    let spent = at_end-spent _ _ _ _ _ _ _ _ empty c.loop-self.invariant.text c.in_ok-refill.ensures.text e.0 (c.refill.new.self.ended e.1 e.0) in
+    record {
+      at_end = told-spent _ _ spent;
+      kept = rest-kept _ _ _ _ e.0 (c.refill.new.self.ended e.1 e.0) ∙ sym spent;
+    }

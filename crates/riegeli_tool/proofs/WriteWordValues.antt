@@ -2,16 +2,18 @@
 use Rattle.std.proofs.Common.{◌≡◌, ℕ, Bool, true, false, Option, Some, None, List, [], ◌∷◌, codes, refl}
 use Rattle.record_group.specs.declared.pad.Pad.{Pad}
 use Rattle.record_group.specs.declared.pad.Pad.TheVariants.{No, Both, Start, End}
-use Rattle.write_command.specs.declared.write_words.WriteWords.{WriteWords}
-use Rattle.write_command.specs.WriteWords.{line_words_of, write_words_of}
+use Rattle.riegeli_tool.specs.CommandWords.{line_words_of, write_command_of}
+use Rattle.riegeli_tool.specs.declared.command.Command.{Command}
+use Rattle.riegeli_tool.specs.declared.command.Command.TheVariants.{Write}
 
 -- what the words behind the name `write` say
-abbrev written : List (List ℕ) → Option WriteWords
-written words = write_words_of (codes "write" ∷ words)
+abbrev written : List (List ℕ) → Option Command
+written words = write_command_of (codes "write" ∷ words)
 
 -- that they say so much
-abbrev says : ℕ → Option ℕ → Pad → (hex : Bool) → (file : ℕ) → WriteWords
-says size every pad hex file = record { options = record { size = size; workers = 1; every = every; pad = pad }; hex = hex; file = file }
+abbrev says : ℕ → Option ℕ → Pad → (hex : Bool) → (file : ℕ) → Command
+says size every pad hex file =
+    Write (record { options = record { size = size; workers = 1; every = every; pad = pad }; hex = hex; file = file })
 
 file_alone : written (codes "F" ∷ []) ≡ Some (says 1048576 None No false 1)
 unfolding line_words_of
@@ -26,7 +28,7 @@ unfolding line_words_of
 every = refl
 
 workers : written (codes "--workers=16" ∷ codes "F" ∷ [])
-    ≡ Some (record { options = record { size = 1048576; workers = 16; every = None; pad = No }; hex = false; file = 2 })
+    ≡ Some (Write (record { options = record { size = 1048576; workers = 16; every = None; pad = No }; hex = false; file = 2 }))
 unfolding line_words_of
 workers = refl
 
