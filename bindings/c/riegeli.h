@@ -1,0 +1,114 @@
+/* Riegeli/records files: calls over memory. docs/LIBRARY.md is the manual.
+ *
+ * What the caller sees to, since nothing checks it: no pointer is null, not even with a length of 0; a length is that of
+ * what its pointer points to; what is written (structs, room) overlaps nothing else of the call; and no byte that is read
+ * changes while the call runs. Calls keep and free nothing of the caller's, and may run side by side. Nothing proves that
+ * this header says the same as the sources of the library.
+ */
+#ifndef RIEGELI_H
+#define RIEGELI_H
+
+#include <stddef.h>
+#include <stdint.h>
+
+#ifdef __cplusplus
+extern "C" {
+#endif
+
+/* Statuses. */
+#define RIEGELI_DONE 0u
+#define RIEGELI_FAULT 1u      /* a fault, or a region, which the call tells */
+#define RIEGELI_ARGUMENT 2u   /* a bad argument */
+#define RIEGELI_MEMORY 3u     /* malloc gave none */
+#define RIEGELI_ROOM 4u       /* too little room; the call tells how much it needs */
+#define RIEGELI_NOTHING 5u    /* nothing found */
+
+/* What riegeli_version answers for this header. */
+#define RIEGELI_VERSION 1u
+
+/* Why reading stops, or bytes are passed over. */
+enum riegeli_reason {
+    RIEGELI_NO_SIGNATURE = 1,
+    RIEGELI_SHORT = 2,
+    RIEGELI_HEADER_HASH = 3,
+    RIEGELI_TRUNCATED = 4,
+    RIEGELI_TOO_LARGE = 5,
+    RIEGELI_BLOCK_HEADER = 6,
+    RIEGELI_DATA_HASH = 7,
+    RIEGELI_CONTENTS = 8,
+    RIEGELI_COMPRESSED = 9,
+    RIEGELI_TRANSPOSED = 10,
+    RIEGELI_UNKNOWN_KIND = 11,
+    RIEGELI_CONTRADICTED = 12
+};
+
+/* What riegeli_chunk.what says. */
+enum riegeli_what {
+    RIEGELI_RECORDS = 1,
+    RIEGELI_PASSIVE = 2,
+    RIEGELI_UNREAD = 3
+};
+
+struct riegeli_fault {
+    uint64_t place;   /* the chunk's begin; of a wrong block header its block */
+    uint32_t why;     /* enum riegeli_reason */
+};
+
+struct riegeli_totals {
+    uint64_t chunks;
+    uint64_t records;
+    uint64_t bytes;
+    uint64_t unread;
+};
+
+struct riegeli_chunk {
+    uint64_t end;       /* where the next chunk begins */
+    uint64_t records;   /* record i has the position begin + i */
+    uint64_t bytes;     /* of all records together */
+    uint32_t what;      /* enum riegeli_what */
+};
+
+struct riegeli_found {
+    uint64_t position;
+    uint64_t begin;     /* of its chunk, in which it has the number position - begin */
+    uint64_t bytes;
+};
+
+struct riegeli_repaired {
+    uint64_t bytes;     /* of the repaired file */
+    uint64_t lines;     /* of the lines that tell its regions */
+};
+
+struct riegeli_region {
+    uint64_t begin;
+    uint64_t end;
+    uint32_t why;       /* enum riegeli_reason */
+};
+
+uint32_t riegeli_version(void);
+
+uint64_t riegeli_hash(const uint8_t *bytes, size_t count);
+
+uint32_t riegeli_verify(const uint8_t *file, size_t size, struct riegeli_totals *totals, struct riegeli_fault *fault);
+
+uint32_t riegeli_read_chunk(const uint8_t *file, size_t size, uint64_t at, struct riegeli_chunk *chunk,
+                            uint8_t *values, size_t values_room, uint64_t *ends, size_t ends_room,
+                            struct riegeli_fault *fault);
+
+uint32_t riegeli_split(const uint8_t *file, size_t size, uint64_t at, uint64_t *begin, struct riegeli_fault *fault);
+
+uint32_t riegeli_seek(const uint8_t *file, size_t size, uint64_t at, struct riegeli_found *found,
+                      uint8_t *value, size_t value_room, struct riegeli_fault *fault);
+
+uint32_t riegeli_find(const uint8_t *file, size_t size, const uint8_t *key, size_t key_size,
+                      struct riegeli_found *found, uint8_t *value, size_t value_room, struct riegeli_fault *fault);
+
+uint32_t riegeli_repair(const uint8_t *file, size_t size, uint64_t most, struct riegeli_repaired *repaired,
+                        uint8_t *room, size_t room_size, uint8_t *lines, size_t lines_size,
+                        struct riegeli_region *region);
+
+#ifdef __cplusplus
+}
+#endif
+
+#endif

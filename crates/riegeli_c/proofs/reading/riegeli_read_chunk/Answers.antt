@@ -1,0 +1,67 @@
+use Rattle.std.proofs.Common.{rules, ◌≡◌, ℕ, ◌^◌, ◌≤◌, ◌⊎◌, true, Err, List, length, refl, ap, inl, inr, arith}
+use Rattle.block_layout.specs.Layout.{IsBoundary}
+use Rattle.chunk_reader.specs.Contents.{IsJudgedIn, records_given}
+use Rattle.chunk_reader.specs.Faults.{IsVerdict}
+use Rattle.chunk_reader.specs.declared.reasons.Why.TheVariants.{NoSignature}
+use Rattle.riegeli_c.specs.Chunks.{IsBadPlace}
+use Rattle.riegeli_c.proofs.ChunkSteps.{chunk_told}
+use Rattle.riegeli_c.proofs.Told.{shown}
+use Rattle.riegeli_c.proofs.reading.riegeli_read_chunk.Goals as goal
+
+-- a place that may be asked for
+is_fine : (file : List ℕ) (place : ℕ) → length file ≤ 2 ^ 60 → place ≤ length file → IsBoundary place → ¬ IsBadPlace file place
+is_fine file place short within boundary (inl long) = omega (arith, short, long)
+is_fine file place short within boundary (inr (inl past)) = omega (arith, within, past)
+is_fine file place short within boundary (inr (inr apart)) = apart boundary
+
+-- a chunk that is told has no other status
+is_other : (status other : ℕ) → (status ≡ 0) ⊎ (status ≡ 4) → ¬ (other ≡ 0) → ¬ (other ≡ 4) → ¬ (status ≡ other)
+is_other status other (inl given) some most same = some (omega (arith, given, same))
+is_other status other (inr small) some most same = most (omega (arith, small, same))
+
+pub returns-then-not-begins_right-clause-refused :
+    goal.returns-then-not-begins_right-clause-refused
+returns-then-not-begins_right-clause-refused c = λ _.
+    let wrong = c.begins_right.ensures.wrong (search rules) in
+    (record { at = 0; why = NoSignature }, inl (wrong.0, wrong.1, refl), c.of.ensures.place, c.of.ensures.why)
+
+pub returns-in-Ok-clause-given : goal.returns-in-Ok-clause-given
+returns-in-Ok-clause-given c = λ is. (
+  records_given c.in-Ok.judged.what,
+  chunk_told c.args.file.now (length c.args.file.now) c.args.at c.give_chunk.new.chunk c.in-Ok.judged c.in-Ok.ensures.judged
+      (shown (λ file. IsJudgedIn true file c.args.at c.in-Ok.judged) c.args.file.now _ c.new-store.ensures.bytes c.in-Ok.ensures.sound)
+      c.give_chunk.ensures.told,
+  c.give_chunk.ensures.given is,
+)
+
+pub returns-in-Ok-clause-refused : goal.returns-in-Ok-clause-refused
+returns-in-Ok-clause-refused c = λ is. absurd (is_other c.give_chunk.result 1 c.give_chunk.ensures.status (λ e. omega (arith, e)) (λ e. omega (arith, e)) is)
+
+pub returns-in-Ok-clause-bad : goal.returns-in-Ok-clause-bad
+returns-in-Ok-clause-bad c = (
+  λ is. absurd (is_other c.give_chunk.result 2 c.give_chunk.ensures.status (λ e. omega (arith, e)) (λ e. omega (arith, e)) is),
+  λ bad.
+      absurd (is_fine c.args.file.now c.args.at (omega (arith, c.if-size-gt-MAX_SIZE.false)) (omega (arith, c.if-at-size.false))
+      (c.is_boundary.ensures.0 (search rules)) bad),
+)
+
+pub returns-in-Ok-clause-room : goal.returns-in-Ok-clause-room
+returns-in-Ok-clause-room c = λ is. (
+  records_given c.in-Ok.judged.what,
+  chunk_told c.args.file.now (length c.args.file.now) c.args.at c.give_chunk.new.chunk c.in-Ok.judged c.in-Ok.ensures.judged
+      (shown (λ file. IsJudgedIn true file c.args.at c.in-Ok.judged) c.args.file.now _ c.new-store.ensures.bytes c.in-Ok.ensures.sound)
+      c.give_chunk.ensures.told,
+  c.give_chunk.ensures.room is,
+)
+
+pub returns-in-Err-Refused-clause-refused : goal.returns-in-Err-Refused-clause-refused
+returns-in-Err-Refused-clause-refused c = λ _. (
+  c.in-Err-Refused.met,
+  inr (
+    c.begins_right.ensures.right (search rules),
+    shown (λ file. IsVerdict true file c.args.at c.in-Err-Refused.met) c.args.file.now _ c.new-store.ensures.bytes
+        (c.in-Err-Refused.ensures.refused c.in-Err-Refused.met (ap Err c.in-Err-Refused.field-0-is)),
+  ),
+  c.of-in-Err-Refused.ensures.place,
+  c.of-in-Err-Refused.ensures.why,
+)

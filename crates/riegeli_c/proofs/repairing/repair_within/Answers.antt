@@ -1,0 +1,17 @@
+use Rattle.std.proofs.Common.{rules, tests}
+use Rattle.riegeli_c.proofs.RepairSteps.{gives_whole, gives_to}
+use Rattle.riegeli_c.proofs.Told.{never_rises}
+use Rattle.riegeli_c.proofs.repairing.repair_within.Goals as goal
+
+pub returns-clause-whole : goal.returns-clause-whole
+returns-clause-whole g c =
+    gives_whole _ c.new-policy.result.test c.args.most (λ region answer is returned. search (rules, tests)) c.args.file.now c.requires.short _ _ _ _ _ _
+    c.repair.result _ _ c.new-store.ensures.bytes c.requires.made c.requires.notes c.repair.ensures.repairs
+
+pub returns-clause-stopped : goal.returns-clause-stopped
+returns-clause-stopped g c = λ region is.
+    gives_to _ c.new-policy.result.test c.args.most (λ region answer is returned. search (rules, tests)) c.args.file.now c.requires.short _ _ _ _ _ _
+    c.repair.result region _ _ c.new-store.ensures.bytes c.requires.made c.requires.notes is c.repair.ensures.repairs
+
+pub returns-clause-not_store : goal.returns-clause-not_store
+returns-clause-not_store g c = λ is. never_rises (c.repair.ensures.store.cause is)

@@ -1,0 +1,200 @@
+ghost use Rattle.std.specs.Prelude.{◌≡◌, ◌-◌, ◌^◌, ◌<◌, ◌≤◌, ◌⊎◌, ◌↔◌, ℕ, List, Some, None, IfOk, IfSome, Err, length, take};
+ghost use Rattle.record_io.specs.Calls.{OnlyAsks};
+ghost use Rattle.record_io.specs.Calls.{HasSize};
+ghost use Rattle.chunk_reader.specs.Holders.{IsHolderFault};
+ghost use Rattle.chunk_reader.specs.Searches.{SearchGives, IsSearchFault};
+ghost use Rattle.chunk_reader.specs.declared.reasons.Fault.{Fault};
+ghost use Rattle.record_seek.specs.Steps.{placed_of};
+ghost use Rattle.seek_command.specs.Searches.{is_below, MayFind, IsKeyFault};
+ghost use Rattle.riegeli_c.specs.Faults.{TellsFault};
+ghost use Rattle.riegeli_c.specs.Seeks.{HoldsFound, IsRecordOf, TellsSought, TellsFound, IsFindFault};
+
+use crate::faults::FaultAt;
+use crate::reading::MAX_SIZE;
+use chunk_reader::ReadEnd;
+use record_io::Store;
+use record_seek::{Found, HolderEnd, KeyTest, find, holder, seek};
+use slice_io::SliceStore;
+use std::alloc::Global;
+
+/// A record that was found.
+#[repr(C)]
+#[derive(Clone, Copy, Debug, Drop)]
+pub struct FoundAt {
+    /// Its position.
+    pub position: u64,
+    /// Where its chunk begins, in which it has the number position - begin.
+    pub begin: u64,
+    /// How many bytes it has.
+    pub bytes: u64,
+}
+
+/// Finds the first record at or past a position of a file: of the first chunk, from the one on that holds the position, that
+/// has a record there. Its bytes are given in `value`.
+///
+/// 0: `found` tells of it. 1: `fault` is the fault that the search met. 2: the file has more than 2^60 bytes. 3: there is too
+/// little memory. 4: there is too little room; `found` tells of it all the same, so that `bytes` bytes are needed. 5: there is
+/// none.
+#[unsafe(no_mangle)]
+pub extern "C" fn riegeli_seek(
+    alloc: Global,
+    file: &[u8],
+    at: u64,
+    found: &mut FoundAt,
+    value: &mut [u8],
+    fault: &mut FaultAt,
+) -> u32
+    ensures answers { result ≤ 5 }
+    ensures given { result ≡ 0 → (bytes : List ℕ) × TellsSought file.now at found.new bytes × (take (length bytes) value.new ≡ bytes) }
+    ensures refused { result ≡ 1 → TellsFault (IsSearchFault file.now at) fault.new }
+    ensures too_long { (result ≡ 2) ↔ (2 ^ 60 < length file.now) }
+    ensures room { result ≡ 4 → (bytes : List ℕ) × TellsSought file.now at found.new bytes × (length value.old < length bytes) }
+    ensures nothing { result ≡ 5 → SearchGives file.now at None }
+{
+    let size = file.len() as u64;
+    if size > MAX_SIZE {
+        return 2;
+    }
+    let mut store = SliceStore::new(file);
+    match seek(alloc, &mut store, size, at) {
+        Ok(Some(sought)) => give_found(&sought, chunk_of(file, at, &sought), found, value),
+        Ok(None) => 5,
+        Err(ReadEnd::Refused(met)) => {
+            *fault = FaultAt::of(&met);
+            1
+        }
+        Err(ReadEnd::Memory) => 3,
+        Err(ReadEnd::Store) => unreachable!(),
+    }
+}
+
+/// Tells a record that was found, and gives its bytes where there is room.
+fn give_found(sought: &Found, begin: u64, found: &mut FoundAt, value: &mut [u8]) -> u32
+    ensures status { (result ≡ 0) ⊎ (result ≡ 4) }
+    ensures position { found.new.position ≡ sought.now.position }
+    ensures begin { found.new.begin ≡ begin }
+    ensures size { found.new.bytes ≡ length sought.now.bytes }
+    ensures given { result ≡ 0 → take (length sought.now.bytes) value.new ≡ sought.now.bytes }
+    ensures room { result ≡ 4 → length value.old < length sought.now.bytes }
+{
+    let bytes = sought.bytes.as_slice();
+    *found = FoundAt {
+        position: sought.position,
+        begin,
+        bytes: bytes.len() as u64,
+    };
+    if value.len() < bytes.len() {
+        return 4;
+    }
+    value[..bytes.len()].copy_from_slice(bytes);
+    0
+}
+
+/// Where the chunk begins of a record that was found for a position: at the record, where that is past the position, and else it
+/// is the chunk that holds the position.
+fn chunk_of(file: &[u8], at: u64, sought: &Found) -> u64
+    requires short { length file.now ≤ 2 ^ 60 }
+    requires sought { SearchGives file.now at (Some (sought.now.position, sought.now.bytes)) }
+    ensures behind { result ≤ sought.now.position }
+    ensures stands { IsRecordOf file.now result (sought.now.position - result) sought.now.bytes }
+{
+    if at < sought.position {
+        return sought.position;
+    }
+    match holder(&mut SliceStore::new(file), file.len() as u64, at) {
+        Ok(Some(begin)) => begin,
+        Ok(None) => unreachable!(),
+        Err(HolderEnd::Refused(_)) => unreachable!(),
+        Err(HolderEnd::Store) => unreachable!(),
+    }
+}
+
+/// Finds a record of a file that isn't less than a key, as bytes are compared, where all that stand before it are: the first such
+/// one, where the records are in order. Its bytes are given in `value`.
+///
+/// 0: `found` tells of it. 1: `fault` is the fault that the search met, or why its chunk can't be told. 2: the file has more than
+/// 2^60 bytes. 3: there is too little memory. 4: there is too little room; `found` tells of it all the same, so that `bytes` bytes
+/// are needed. 5: there is none.
+#[unsafe(no_mangle)]
+pub extern "C" fn riegeli_find(
+    alloc: Global,
+    file: &[u8],
+    key: &[u8],
+    found: &mut FoundAt,
+    value: &mut [u8],
+    fault: &mut FaultAt,
+) -> u32
+    ensures answers { result ≤ 5 }
+    ensures given { result ≡ 0 → (bytes : List ℕ) × TellsFound file.now key.now found.new bytes × (take (length bytes) value.new ≡ bytes) }
+    ensures refused { result ≡ 1 → TellsFault (IsFindFault file.now key.now) fault.new }
+    ensures too_long { (result ≡ 2) ↔ (2 ^ 60 < length file.now) }
+    ensures room { result ≡ 4 → (bytes : List ℕ) × TellsFound file.now key.now found.new bytes × (length value.old < length bytes) }
+    ensures nothing { result ≡ 5 → MayFind key.now file.now None }
+{
+    let size = file.len() as u64;
+    if size > MAX_SIZE {
+        return 2;
+    }
+    let mut store = SliceStore::new(file);
+    match find_by_key(alloc, &mut store, size, key) {
+        Ok(Some(sought)) => tell_found(file, &sought, found, value, fault),
+        Ok(None) => 5,
+        Err(ReadEnd::Refused(met)) => {
+            *fault = FaultAt::of(&met);
+            1
+        }
+        Err(ReadEnd::Memory) => 3,
+        Err(ReadEnd::Store) => unreachable!(),
+    }
+}
+
+/// Tells a record that was found by its key with the chunk that holds its position, and gives its bytes where there is room.
+fn tell_found(
+    file: &[u8],
+    sought: &Found,
+    found: &mut FoundAt,
+    value: &mut [u8],
+    fault: &mut FaultAt,
+) -> u32
+    requires short { length file.now ≤ 2 ^ 60 }
+    requires below { sought.now.position < length file.now }
+    ensures status { (result ≡ 0) ⊎ (result ≡ 1) ⊎ (result ≡ 4) }
+    ensures told { (result ≡ 0) ⊎ (result ≡ 4) → HoldsFound file.now sought.now found.new }
+    ensures given { result ≡ 0 → take (length sought.now.bytes) value.new ≡ sought.now.bytes }
+    ensures room { result ≡ 4 → length value.old < length sought.now.bytes }
+    ensures refused { result ≡ 1 → TellsFault (IsHolderFault file.now sought.now.position) fault.new }
+{
+    match holder(
+        &mut SliceStore::new(file),
+        file.len() as u64,
+        sought.position,
+    ) {
+        Ok(Some(begin)) => give_found(sought, begin, found, value),
+        Ok(None) => unreachable!(),
+        Err(HolderEnd::Refused(met)) => {
+            *fault = FaultAt::of(&met);
+            1
+        }
+        Err(HolderEnd::Store) => unreachable!(),
+    }
+}
+
+/// A record of a file that isn't less than a key, behind one that is.
+fn find_by_key<S: Store>(
+    alloc: Global,
+    store: &mut S,
+    size: u64,
+    key: &[u8],
+) -> Result<Option<Found>, ReadEnd>
+    requires sized { HasSize (S.told store.old) size }
+    ensures found { IfOk result (λ found. IfSome (S.bytes store.old) (λ file. MayFind key.now file (placed_of found))) }
+    ensures refused { (fault : Fault) → result ≡ Err (ReadEnd.Refused fault) → IfSome (S.bytes store.old) (λ file. IsKeyFault file fault) }
+    ensures store { OnlyAsks S.bytes S.told S.name S.faults (result ≡ Err ReadEnd.Store) store.old store.new }
+{
+    let test = KeyTest::new(
+        |bytes: &[u8]| -> bool
+            ensures { result ≡ is_below key.entry.now bytes.now }
+        { bytes.cmp(key).is_lt() },
+    );
+    find(alloc, store, size, &test)
+}
