@@ -12,4 +12,4 @@ data_at-requires-clause-told g c =
     let header = c.in-Right-default-Some.header in
     let end = end_by c.args.at (value_of_header header) in
     let is : c.in-Right-default-Some.end ≡ end = c.in_ok-header.ensures.end header (Some c.in-Right-default-Some.end) (cc) in
-    told_end _ c.args.size (2 ^ 60) end (c.head_at.ensures.store.same_told ∙ c.requires.told) c.requires.in_reach (omega (arith, is, c.if-end-size.false))
+    told_end _ c.args.size (2 ^ 60) end (c.head_at.ensures.store.asks.same_told ∙ c.requires.told) c.requires.in_reach (omega (arith, is, c.if-end-size.false))
