@@ -33,8 +33,7 @@ pub can_be_read-halves : {S : Type 0} (told : S → Option ℕ) (size : ℕ) (sp
 can_be_read-halves told size spans low high answers x y stores front back of_spans of_answers of_stores m k h =
     let tells = all-front (λ s. told s ≡ Some size) stores front back of_stores h.are_told in
     let within = all-front (λ (span : Span). LiesWithin size span) spans low high of_spans h.within in
-    let many : length stores ≡ length front + length back = ap length of_stores ∙ length-append front back in
-    (
+    let many : length stores ≡ length front + length back = ap length of_stores ∙ length-append front back in (
       record { as_many_spans = m; as_many_answers = k; are_told = tells.0; within = within.0; in_reach = h.in_reach },
       record {
         as_many_spans = omega (arith, h.as_many_spans, ap length of_spans ∙ length-append low high, m, many);

@@ -69,7 +69,10 @@ fn print_file<R: Threads + Sync, S: Store + Send, O: Sink>(
     match size_by(sizes) {
         Ok(size) => print_sized(rt, alloc, size, parts, files, out),
         Err(SizesEnd::Limit) => Err(Ending::Limit),
-        Err(SizesEnd::Differ { first, other }) => Err(Ending::At(RangesStop::Differ { first, other })),
+        Err(SizesEnd::Differ { first, other }) => Err(Ending::At(RangesStop::Differ {
+            first,
+            other,
+        })),
     }
 }
 

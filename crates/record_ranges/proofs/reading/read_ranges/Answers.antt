@@ -30,7 +30,7 @@ read_into-requires-clause-within g c κs within =
 pub judged_parts-requires-clause-sized : goal.judged_parts-requires-clause-sized
 judged_parts-requires-clause-sized g c = record {
   is_told = first-told g.S.Store.bytes g.S.Store.told g.S.Store.name g.S.Store.faults c.args.size c.deref.result.now c.args.stores.now c.read_into.new.stores
-    c.read_into.new.answers.items c.index-stores-0.result c.read_into.ensures c.requires.sized.0 (omega (arith, c.requires.many.0));
+      c.read_into.new.answers.items c.index-stores-0.result c.read_into.ensures c.requires.sized.0 (omega (arith, c.requires.many.0));
   in_reach = omega (arith, c.requires.sized.1);
 }
 
