@@ -63,7 +63,7 @@ pub record WasCutOff (ended : Status) (before after : Seen) (answer : Answer) : 
   pub lines : PutsLines part answer.puts
   pub notes : TakesThen before.notes after.notes (bytes_to Notes part) (fault_text ended)
 
--- a command was cut short where it may have been, and then the line went out that tells what cut it off, or a front of it
+-- what went out is what the command may have put so far, and then the line that tells what cut it off, or a front of it
 pub record WentOutSoFar (m : Meaning) (ended : Status) (before after : Seen) (r : Read) : Type 0 where
   pub part : List Put
   pub found : m.may_have_put r (handed_by before.files) (handed_by after.files) part
@@ -77,7 +77,7 @@ pub record FailedToSay (before after : Taken) (answer : Answer) : Type 0 where
   pub broke : BreaksOff Notes part answer.puts
   pub went : GoOut before after part
 
--- what a run leaves that was cut short
+-- what a run leaves that was cut off or that notes failed; and, whatever its status, of a file that grows
 pub record RunIsCutShort (m : Meaning) (before after : Seen) (ended : Status) : Type 0 where
   -- where the work was cut off, or notes failed, a front of what an answer puts went out
   pub cut_off : IsCutOff ended → IfTold m before (WasCutOff ended before after)

@@ -65,8 +65,8 @@ MayEndBySizes past within Stops sizes ended text =
     (within sizes × (((ended ≡ status.Ok) × (text ≡ [])) ⊎ Stops ended text))
     ⊎ (past sizes × (ended ≡ status.Limit) × (text ≡ limit_text))
 
--- what a command means that reads one file and prints, of which these are the answers and what it may have put so far: it says
--- nothing before its end
+-- what a command means that reads one file and prints, of which these are the answers and what it may have put so far: it takes
+-- memory, and says nothing before its end. Each such command tells how it may end, and bounds what it takes of the file if it can
 abbrev pub file_meaning : (List ℕ → Answer → Type 0) → ((before after : ℕ) → List ℕ → List Put → Type 0) → Meaning
 file_meaning Answers SoFar =
     record (meaning (record none_used { files = true; out = true; memory = true }) (λ r answer. OfFile Answers r.files answer)) {

@@ -44,7 +44,7 @@ pub record Meaning : Type 1 where
   pub keeps : Status → (before after : List ℕ) → Type 0
   -- the sizes of its files by which it goes on to its work
   pub may_work : List ℕ → Type 0
-  -- how many bytes each of its files may have handed out before and after the work, by their sizes, and by what it reads
+  -- how much its files may hand out, by their counts of it before and after the work: by their sizes, and by what it reads
   pub may_take : (sizes before after : List ℕ) → Type 0
   pub may_take_of : Read → (before after : List ℕ) → Type 0
   -- the status that it may end with and what notes then say, by the sizes of its files, whatever it reads

@@ -11,11 +11,12 @@ use Rattle.command_frame.specs.declared.many_files.FilesWords.{FilesWords}
 abbrev pub is_file_word : List ℕ → Bool
 is_file_word word = not (length word == 0) && not (slice_index word 0 == 45)
 
--- whether an option has a value. Options are told by how they begin: a flag as `--hex`, and one with a value as `--chunk=`
+-- whether an option takes a value: its last byte is an equals sign, as of `--chunk=`. A flag, as `--hex`, takes none
 abbrev pub has_value : List ℕ → Bool
 has_value option = slice_index option (length option - 1) == 61
 
--- the value that a word gives an option: what stands behind the equals sign, and nothing for a flag. None for another word
+-- the value that a word gives an option: the bytes behind the equals sign, and the empty list for a flag, which the word then
+-- is. None where the word doesn't give this option
 abbrev pub value_in : List ℕ → List ℕ → Option (List ℕ)
 value_in option word =
     then_some (starts_with nat_eq word option && (has_value option || length word == length option)) (drop (length option) word)
@@ -67,27 +68,28 @@ file_of options words = if are_words_of options words then only (file_places wor
 abbrev pub is_same_at : List (List ℕ) → ℕ → ℕ → Bool
 is_same_at words place other = bytes_eq (get_or words place []) (get_or words other [])
 
--- how many words there may be of a command that reads several files and makes one: its name, 1 to so many files, and the made one
+-- whether there may be `count` words of a command that reads 1 to `most` files and makes one: its name, these, and the made one
 abbrev pub may_be_files : ℕ → ℕ → Bool
 may_be_files most count = nat_le 3 count && nat_le count (most + 2)
 
--- whether a word behind the command's name is the one at a later place
+-- whether the word at place `to` also stands at a place before it, behind the command's name
 abbrev pub is_read_too : List (List ℕ) → ℕ → Bool
 is_read_too words to = list_any (λ place. is_same_at words place to) (range_with_len 1 (to - 1))
 
--- what the words of such a command say: all name files, the last of them the made one, which is none of the others
+-- what the words of such a command say: all name files, the last of them the made one, whose word is none of the others
 unfoldable pub files_words_of : (most : ℕ) → List (List ℕ) → Option FilesWords
 files_words_of most words =
     if are_words_of [] words && may_be_files most (length words)
     then (if is_read_too words (length words - 1) then None else Some (record { count = length words - 2; to = length words - 1 }))
     else None
 
--- what a value that may be left out is read as: None where it is there and can't be read
+-- a value that may be left out: `Some None` where it is, `Some` of what is read where it stands there and can be read, and None
+-- where it can't
 abbrev pub optional_value : {X : Type 0} → (List ℕ → Option X) → Option (List ℕ) → Option (Option X)
 optional_value read None = Some None
 optional_value read (Some value) = option_map Some (read value)
 
--- the number of an option that may be left out: None where the option stands there without a number within these bounds
+-- the same of a number within these bounds
 abbrev pub number_given : (option : List ℕ) (least most : ℕ) → List (List ℕ) → Option (Option ℕ)
 number_given option least most words = optional_value (number_within least most) (value_given option words)
 

@@ -8,7 +8,7 @@ use Rattle.command_frame.specs.Meanings.{Meaning}
 use Rattle.command_frame.specs.RunReads.{IfTold, IfGrown}
 use Rattle.command_frame.specs.declared.status.Status.TheVariants as status
 
--- the statuses with which a run gives its whole answer: no fault, and no want of memory
+-- the statuses with which a run gives its whole answer: no object failed, and memory was not wanting
 abbrev pub IsWhole : Status → Type 0
 IsWhole status.Input = ⊥
 IsWhole status.File = ⊥
@@ -30,4 +30,5 @@ pub record RunAnswers (m : Meaning) (before after : Seen) (ended : Status) : Typ
   pub whole : IsWhole ended → IfTold m before (Gave ended before after)
   -- and a file that is grown is what it is to be, also where standard output failed: nothing is printed before
   pub grown : IsWhole ended ⊎ (ended ≡ status.Out) → IfGrown m before after m.leaves
+  -- where all went well, the input was read to its end
   pub read_to_end : ended ≡ status.Ok → m.uses.input ≡ true → IfSome before.input.bytes (λ _. after.input.bytes ≡ Some [])

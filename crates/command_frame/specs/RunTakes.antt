@@ -20,6 +20,7 @@ pub record RunTakes (m : Meaning) (before after : Seen) (ended : Status) : Type 
   pub handed : (handed_by after.files ≡ handed_by before.files)
       ⊎ ((m.uses.files ≡ true)
       × OfSizes m before after (λ sizes. m.may_work sizes × m.may_take sizes (handed_by before.files) (handed_by after.files)))
+  -- nor more than it may take by what it reads, where that is shown
   pub handed_of : IfRead m before (λ r. m.may_take_of r (handed_by before.files) (handed_by after.files))
   pub grown_handed : (after.grown.handed ≡ before.grown.handed) ⊎ ((m.uses.grown ≡ true) × OfSizes m before after m.may_work)
   -- in their order: behind a file that told no size none is asked

@@ -23,7 +23,7 @@ number_of status.Notes = 13
 number_of status.Differ = 14
 number_of status.Grown = 15
 
--- the line that tells a fault of an object or want of memory, and nothing for another status
+-- the line that tells a fault of an object but notes, or want of memory, and nothing for another status
 abbrev pub fault_text : Status → List ℕ
 fault_text status.Input = codes "input fault\n"
 fault_text status.File = codes "file fault\n"

@@ -9,7 +9,7 @@ use record_io::Cut;
 pub enum Status {
     /// The work was done.
     Ok,
-    /// A record file is not well formed.
+    /// A record file is not well formed, or not readable by the command.
     Refused,
     /// The words are no command.
     Usage,
