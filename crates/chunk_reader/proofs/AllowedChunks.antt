@@ -16,17 +16,17 @@ IsPassed false k = IsSimpleChunk k ⊎ IsSignature k ⊎ IsMetadata k ⊎ IsPadd
 IsPassed true k = (IsSimpleChunk k ⊎ IsSignature k ⊎ IsMetadata k ⊎ IsPadding k) ⊎ (IsTransposed k ⊎ IsCompressed k)
 
 -- with little enough data it is allowed
-pub IsAllowed-passed : (keep : Bool) (k : ChunkValue) → length k.«data» ≤ max_data_size → IsPassed keep k → IsAllowed keep k
+pub IsAllowed-passed : (unread_ok : Bool) (k : ChunkValue) → length k.«data» ≤ max_data_size → IsPassed unread_ok k → IsAllowed unread_ok k
 IsAllowed-passed false k small passed = (small, passed)
 IsAllowed-passed true k small (inl plain) = inl (small, plain)
 IsAllowed-passed true k small (inr unread) = inr (small, unread)
 
 -- what strict reading passes, reading by frames passes too
-pub IsAllowed-frame : (k : ChunkValue) → IsAllowed false k → IsAllowed true k
-IsAllowed-frame k plain = inl plain
+pub IsAllowed-unread_too : (k : ChunkValue) → IsAllowed false k → IsAllowed true k
+IsAllowed-unread_too k plain = inl plain
 
 -- an allowed chunk has little enough data
-pub allowed_small : (keep : Bool) (k : ChunkValue) → IsAllowed keep k → length k.«data» ≤ max_data_size
+pub allowed_small : (unread_ok : Bool) (k : ChunkValue) → IsAllowed unread_ok k → length k.«data» ≤ max_data_size
 allowed_small false k plain = plain.0
 allowed_small true k (inl plain) = plain.0
 allowed_small true k (inr unread) = unread.0
@@ -87,7 +87,7 @@ good_plain k (small, inr (inr (inl is))) = good_kind k metadata_kind is (λ same
 good_plain k (small, inr (inr (inr is))) = good_kind k padding_kind is (λ same. omega arith)
 
 -- so no allowed chunk has bad contents
-pub allowed_good : (keep : Bool) (k : ChunkValue) → IsAllowed keep k → ¬ HasBadContents k
+pub allowed_good : (unread_ok : Bool) (k : ChunkValue) → IsAllowed unread_ok k → ¬ HasBadContents k
 allowed_good false k plain = good_plain k plain
 allowed_good true k (inl plain) = good_plain k plain
 allowed_good true k (inr (small, inl transposed)) = good_transposed k transposed
@@ -100,7 +100,7 @@ named_plain k (small, inr (inl is)) no_name = no_name.signature is.0
 named_plain k (small, inr (inr (inl is))) no_name = no_name.metadata is.0
 named_plain k (small, inr (inr (inr is))) no_name = no_name.padding is.0
 
-pub allowed_named : (keep : Bool) (k : ChunkValue) → IsAllowed keep k → ¬ IsOfNoName k.kind
+pub allowed_named : (unread_ok : Bool) (k : ChunkValue) → IsAllowed unread_ok k → ¬ IsOfNoName k.kind
 allowed_named false k plain = named_plain k plain
 allowed_named true k (inl plain) = named_plain k plain
 allowed_named true k (inr (small, inl transposed)) = λ no_name. no_name.transposed transposed

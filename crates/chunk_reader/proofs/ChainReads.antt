@@ -57,41 +57,41 @@ unsigned_by_size (Some file) told size sized is small =
     λ begins. omega (arith, signed_length file begins)
 
 -- a file of which chunks were read begins with the signature; one of which none were, where that was seen
-pub signed_where_read : (keep : Bool) (bytes : Option (List ℕ)) (totals : Totals) → IfSome bytes (λ file. AreReadFrom keep file totals)
+pub signed_where_read : (unread_ok : Bool) (bytes : Option (List ℕ)) (totals : Totals) → IfSome bytes (λ file. AreReadFrom unread_ok file totals)
     → (totals.bytes ≡ 0 → IfSome bytes BeginsWithSignature) → IfSome bytes BeginsWithSignature
-signed_where_read keep None totals read seen = tt
-signed_where_read keep (Some file) totals ([], chain, same) seen = seen (no_chunks file totals.bytes chain)
-signed_where_read keep (Some file) totals (k ∷ ks, chain, same) seen = begins_signed k ks file totals.bytes chain
+signed_where_read unread_ok None totals read seen = tt
+signed_where_read unread_ok (Some file) totals ([], chain, same) seen = seen (no_chunks file totals.bytes chain)
+signed_where_read unread_ok (Some file) totals (k ∷ ks, chain, same) seen = begins_signed k ks file totals.bytes chain
 
 -- a verdict on the next chunk is the fault of the file
-pub fault_read : (keep : Bool) (bytes : Option (List ℕ)) (told : Option ℕ) (totals : Totals) (size : ℕ) (fault : Fault)
+pub fault_read : (unread_ok : Bool) (bytes : Option (List ℕ)) (told : Option ℕ) (totals : Totals) (size : ℕ) (fault : Fault)
     → IsSized bytes told → told ≡ Some size → totals.bytes < size
-    → IfSome bytes (λ file. AreReadFrom keep file totals) → IfSome bytes BeginsWithSignature
-    → IfSome bytes (λ file. IsVerdict keep file totals.bytes fault) → IfSome bytes (λ file. IsFault keep file fault)
-fault_read keep None told totals size fault sized is below read begins verdict = tt
-fault_read keep (Some file) told totals size fault sized is below (ks, chain, counts) begins verdict =
+    → IfSome bytes (λ file. AreReadFrom unread_ok file totals) → IfSome bytes BeginsWithSignature
+    → IfSome bytes (λ file. IsVerdict unread_ok file totals.bytes fault) → IfSome bytes (λ file. IsFault unread_ok file fault)
+fault_read unread_ok None told totals size fault sized is below read begins verdict = tt
+fault_read unread_ok (Some file) told totals size fault sized is below (ks, chain, counts) begins verdict =
     let same : size ≡ length file = subst (λ (o : Option ℕ). IfSome o (λ n. n ≡ length file)) is sized in
-    fault_here keep ks file totals.bytes fault begins chain (omega arith) verdict
+    fault_here unread_ok ks file totals.bytes fault begins chain (omega arith) verdict
 
 -- and no front of well-formed chunks reaches further than what was read
 abbrev pub ReachNoFurther : Bool → List ℕ → ℕ → Type 0
-ReachNoFurther keep file place = (others : List ChunkValue) (other : ℕ) → IsChainOf (IsAllowed keep) others file other → other ≤ place
+ReachNoFurther unread_ok file place = (others : List ChunkValue) (other : ℕ) → IsChainOf (IsAllowed unread_ok) others file other → other ≤ place
 
-pub no_further_refused : (keep : Bool) (bytes : Option (List ℕ)) (totals : Totals) (fault : Fault)
-    → IfSome bytes (λ file. AreReadFrom keep file totals) → IfSome bytes (λ file. IsVerdict keep file totals.bytes fault)
-    → IfSome bytes (λ file. ReachNoFurther keep file totals.bytes)
-no_further_refused keep None totals fault read verdict = tt
-no_further_refused keep (Some file) totals fault (ks, chain, counts) verdict =
-    (longest_where_refused keep ks file totals.bytes fault.why chain verdict.0).greatest
+pub no_further_refused : (unread_ok : Bool) (bytes : Option (List ℕ)) (totals : Totals) (fault : Fault)
+    → IfSome bytes (λ file. AreReadFrom unread_ok file totals) → IfSome bytes (λ file. IsVerdict unread_ok file totals.bytes fault)
+    → IfSome bytes (λ file. ReachNoFurther unread_ok file totals.bytes)
+no_further_refused unread_ok None totals fault read verdict = tt
+no_further_refused unread_ok (Some file) totals fault (ks, chain, counts) verdict =
+    (longest_where_refused unread_ok ks file totals.bytes fault.why chain verdict.0).greatest
 
-reach_nothing : (keep : Bool) (file : List ℕ) (place : ℕ) → ¬ BeginsWithSignature file → ReachNoFurther keep file place
-reach_nothing keep file place unsigned [] other chain = omega (arith, no_chunks file other chain)
-reach_nothing keep file place unsigned (k ∷ ks) other chain = absurd (unsigned (begins_signed k ks file other chain))
+reach_nothing : (unread_ok : Bool) (file : List ℕ) (place : ℕ) → ¬ BeginsWithSignature file → ReachNoFurther unread_ok file place
+reach_nothing unread_ok file place unsigned [] other chain = omega (arith, no_chunks file other chain)
+reach_nothing unread_ok file place unsigned (k ∷ ks) other chain = absurd (unsigned (begins_signed k ks file other chain))
 
-pub no_further_unsigned : (keep : Bool) (bytes : Option (List ℕ)) (place : ℕ) → IfSome bytes (λ file. ¬ BeginsWithSignature file)
-    → IfSome bytes (λ file. ReachNoFurther keep file place)
-no_further_unsigned keep None place unsigned = tt
-no_further_unsigned keep (Some file) place unsigned = reach_nothing keep file place unsigned
+pub no_further_unsigned : (unread_ok : Bool) (bytes : Option (List ℕ)) (place : ℕ) → IfSome bytes (λ file. ¬ BeginsWithSignature file)
+    → IfSome bytes (λ file. ReachNoFurther unread_ok file place)
+no_further_unsigned unread_ok None place unsigned = tt
+no_further_unsigned unread_ok (Some file) place unsigned = reach_nothing unread_ok file place unsigned
 
 -- a refusal is handed on with its fault
 pub refused_end : (end : VerifyEnd) (fault : Fault) → read.Refused fault ≡ read_end_of end → end ≡ verify.Refused fault
@@ -117,32 +117,32 @@ given_plain k plain =
       | inr read ↦ read
     ]
 
-pub left_unread : (keep : Bool) (k : ChunkValue) (what : What) → length k.«data» ≤ max_data_size → IsWhat keep k what
+pub left_unread : (unread_ok : Bool) (k : ChunkValue) (what : What) → length k.«data» ≤ max_data_size → IsWhat unread_ok k what
     → is_left what ≡ is_unread k
-left_unread keep k (Records records) small is = sym (given_plain k (small, inl (records, is)))
-left_unread keep k Passive small is = sym (given_plain k (small, inr is))
-left_unread keep k Unread small (framed, inl compressed) =
+left_unread unread_ok k (Records records) small is = sym (given_plain k (small, inl (records, is)))
+left_unread unread_ok k Passive small is = sym (given_plain k (small, inr is))
+left_unread unread_ok k Unread small (formed, inl compressed) =
     let unread : IsUnread k = (small, inr compressed) in sym ((is_unread-iff k (inr unread)).1 unread)
-left_unread keep k Unread small (framed, inr transposed) =
+left_unread unread_ok k Unread small (formed, inr transposed) =
     let unread : IsUnread k = (small, inl transposed) in sym ((is_unread-iff k (inr unread)).1 unread)
 
 -- and allowed
-what_passed : (keep : Bool) (k : ChunkValue) (what : What) → IsWhat keep k what → IsPassed keep k
+what_passed : (unread_ok : Bool) (k : ChunkValue) (what : What) → IsWhat unread_ok k what → IsPassed unread_ok k
 what_passed false k (Records records) is = inl (records, is)
 what_passed false k Passive is = inr is
-what_passed false k Unread (framed, is) = absurd (cc framed)
+what_passed false k Unread (formed, is) = absurd (cc formed)
 what_passed true k (Records records) is = inl (inl (records, is))
 what_passed true k Passive is = inl (inr is)
-what_passed true k Unread (framed, inl compressed) = inr (inr compressed)
-what_passed true k Unread (framed, inr transposed) = inr (inl transposed)
+what_passed true k Unread (formed, inl compressed) = inr (inr compressed)
+what_passed true k Unread (formed, inr transposed) = inr (inl transposed)
 
-pub allowed_given : (keep : Bool) (size place : ℕ) (j : Judged) → IsJudged keep size place j → IsAllowed keep (value_of_chunk j.chunk)
-allowed_given keep size place j h =
-    IsAllowed-passed keep (value_of_chunk j.chunk) h.small (what_passed keep (value_of_chunk j.chunk) j.what h.what)
+pub allowed_given : (unread_ok : Bool) (size place : ℕ) (j : Judged) → IsJudged unread_ok size place j → IsAllowed unread_ok (value_of_chunk j.chunk)
+allowed_given unread_ok size place j h =
+    IsAllowed-passed unread_ok (value_of_chunk j.chunk) h.small (what_passed unread_ok (value_of_chunk j.chunk) j.what h.what)
 
 -- a chunk takes up at least as many bytes as it holds records
-pub room_given : (keep : Bool) (size place : ℕ) (j : Judged) → IsJudged keep size place j → place + j.chunk.header.num_records ≤ j.end
-room_given keep size place j h =
+pub room_given : (unread_ok : Bool) (size place : ℕ) (j : Judged) → IsJudged unread_ok size place j → place + j.chunk.header.num_records ≤ j.end
+room_given unread_ok size place j h =
     omega (arith, h.end, chunk_end_of_past_records place (40 + length j.chunk.bytes) j.chunk.header.num_records)
 
 -- the first chunk ends behind a block header and its own header
@@ -175,10 +175,10 @@ end_signed zero end k signed after at = omega (arith, at, first_end k)
 end_signed (suc n) end k signed after at = omega (arith, signed (omega arith))
 
 -- totals stay in their bounds
-pub AreInBounds-totals_with_chunk : (keep : Bool) (size : ℕ) (totals : Totals) (j : Judged) (unread : Bool)
-    → AreInBounds size totals → IsJudged keep size totals.bytes j
+pub AreInBounds-totals_with_chunk : (unread_ok : Bool) (size : ℕ) (totals : Totals) (j : Judged) (unread : Bool)
+    → AreInBounds size totals → IsJudged unread_ok size totals.bytes j
     → AreInBounds size (totals_with_chunk totals j.end j.chunk.header.num_records unread)
-AreInBounds-totals_with_chunk keep size totals j unread t h =
+AreInBounds-totals_with_chunk unread_ok size totals j unread t h =
     let after : totals.bytes < j.end = h.after in
     let records : ℕ = j.chunk.header.num_records in
     record {
@@ -186,7 +186,7 @@ AreInBounds-totals_with_chunk keep size totals j unread t h =
       boundary = on_boundary j.end h.to_boundary;
       signed = λ some. end_signed totals.bytes j.end (value_of_chunk j.chunk) t.signed after h.end;
       chunks = omega (arith, t.chunks);
-      records = omega (arith, t.records, room_given keep size totals.bytes j h, counted_most unread records);
+      records = omega (arith, t.records, room_given unread_ok size totals.bytes j h, counted_most unread records);
       unread = omega (arith, t.unread, left_most unread);
     }
 
@@ -201,36 +201,36 @@ totals_given ks k totals end unread same left at =
     ∙ sym (totals_of-push ks k)
 
 -- the chunks go on by it
-chain_given : (keep : Bool) (size place : ℕ) (file : List ℕ) (j : Judged) (ks : List ChunkValue)
-    → BeginsWithSignature file → IsJudged keep size place j → IsJudgedIn keep file place j
-    → IsChainOf (IsAllowed keep) ks file place
-    → IsChainOf (IsAllowed keep) (ks ++ value_of_chunk j.chunk ∷ []) file j.end
-chain_given keep size place file j ks begins judged there chain =
-    let allowed : IsAllowed keep (chunk_at file place) = subst (IsAllowed keep) there.chunk (allowed_given keep size place j judged) in
-    subst (λ (k : ChunkValue). IsChainOf (IsAllowed keep) (ks ++ k ∷ []) file j.end) (sym there.chunk)
-    (subst (λ (e : ℕ). IsChainOf (IsAllowed keep) (ks ++ chunk_at file place ∷ []) file e) (sym there.end)
-    (chain_goes_on keep ks file place chain begins there.laid allowed))
+chain_given : (unread_ok : Bool) (size place : ℕ) (file : List ℕ) (j : Judged) (ks : List ChunkValue)
+    → BeginsWithSignature file → IsJudged unread_ok size place j → IsJudgedIn unread_ok file place j
+    → IsChainOf (IsAllowed unread_ok) ks file place
+    → IsChainOf (IsAllowed unread_ok) (ks ++ value_of_chunk j.chunk ∷ []) file j.end
+chain_given unread_ok size place file j ks begins judged there chain =
+    let allowed : IsAllowed unread_ok (chunk_at file place) = subst (IsAllowed unread_ok) there.chunk (allowed_given unread_ok size place j judged) in
+    subst (λ (k : ChunkValue). IsChainOf (IsAllowed unread_ok) (ks ++ k ∷ []) file j.end) (sym there.chunk)
+    (subst (λ (e : ℕ). IsChainOf (IsAllowed unread_ok) (ks ++ chunk_at file place ∷ []) file e) (sym there.end)
+    (chain_goes_on unread_ok ks file place chain begins there.laid allowed))
 
--- what a call on a chunk says is said of the reader, which has the same `keep`, size and place
-pub judged_shown : (keep now : Bool) (size told place here : ℕ) (j : Judged) → now ≡ keep → told ≡ size → here ≡ place
-    → IsJudged keep size place j → IsJudged now told here j
-judged_shown keep now size told place here j f s p h =
+-- what a call on a chunk says is said of the reader, which has the same `unread_ok`, size and place
+pub judged_shown : (unread_ok now : Bool) (size told place here : ℕ) (j : Judged) → now ≡ unread_ok → told ≡ size → here ≡ place
+    → IsJudged unread_ok size place j → IsJudged now told here j
+judged_shown unread_ok now size told place here j f s p h =
     subst (λ (b : Bool). IsJudged b told here j) (sym f)
-    (subst (λ (n : ℕ). IsJudged keep n here j) (sym s) (subst (λ (n : ℕ). IsJudged keep size n j) (sym p) h))
+    (subst (λ (n : ℕ). IsJudged unread_ok n here j) (sym s) (subst (λ (n : ℕ). IsJudged unread_ok size n j) (sym p) h))
 
-pub judged_in_shown : (keep now : Bool) (bytes held : Option (List ℕ)) (place here : ℕ) (j : Judged) → now ≡ keep → held ≡ bytes → here ≡ place
-    → IfSome held (λ file. IsJudgedIn keep file place j) → IfSome bytes (λ file. IsJudgedIn now file here j)
-judged_in_shown keep now bytes held place here j f same p h =
+pub judged_in_shown : (unread_ok now : Bool) (bytes held : Option (List ℕ)) (place here : ℕ) (j : Judged) → now ≡ unread_ok → held ≡ bytes → here ≡ place
+    → IfSome held (λ file. IsJudgedIn unread_ok file place j) → IfSome bytes (λ file. IsJudgedIn now file here j)
+judged_in_shown unread_ok now bytes held place here j f same p h =
     subst (λ (b : Bool). IfSome bytes (λ file. IsJudgedIn b file here j)) (sym f)
-    (subst (λ (o : Option (List ℕ)). IfSome o (λ file. IsJudgedIn keep file here j)) same
-    (subst (λ (n : ℕ). IfSome held (λ file. IsJudgedIn keep file n j)) (sym p) h))
+    (subst (λ (o : Option (List ℕ)). IfSome o (λ file. IsJudgedIn unread_ok file here j)) same
+    (subst (λ (n : ℕ). IfSome held (λ file. IsJudgedIn unread_ok file n j)) (sym p) h))
 
-pub verdict_shown : (keep now : Bool) (bytes held : Option (List ℕ)) (place here : ℕ) (fault : Fault) → now ≡ keep → held ≡ bytes → here ≡ place
-    → IfSome held (λ file. IsVerdict keep file place fault) → IfSome bytes (λ file. IsVerdict now file here fault)
-verdict_shown keep now bytes held place here fault f same p h =
+pub verdict_shown : (unread_ok now : Bool) (bytes held : Option (List ℕ)) (place here : ℕ) (fault : Fault) → now ≡ unread_ok → held ≡ bytes → here ≡ place
+    → IfSome held (λ file. IsVerdict unread_ok file place fault) → IfSome bytes (λ file. IsVerdict now file here fault)
+verdict_shown unread_ok now bytes held place here fault f same p h =
     subst (λ (b : Bool). IfSome bytes (λ file. IsVerdict b file here fault)) (sym f)
-    (subst (λ (o : Option (List ℕ)). IfSome o (λ file. IsVerdict keep file here fault)) same
-    (subst (λ (n : ℕ). IfSome held (λ file. IsVerdict keep file n fault)) (sym p) h))
+    (subst (λ (o : Option (List ℕ)). IfSome o (λ file. IsVerdict unread_ok file here fault)) same
+    (subst (λ (n : ℕ). IfSome held (λ file. IsVerdict unread_ok file n fault)) (sym p) h))
 
 pub loading_shown : (bytes held : Option (List ℕ)) (place here : ℕ) → held ≡ bytes → here ≡ place
     → IfSome held (λ file. NoneOf (Applies file place) loading_reasons) → IfSome bytes (λ file. NoneOf (Applies file here) loading_reasons)
@@ -261,27 +261,27 @@ read_to-chunk (Some file) at place before after here early whole =
 
 -- totals of the chunks before go on by a chunk that was given
 abbrev pub GoesOn : Bool → List ℕ → Totals → Totals → Judged → Type 0
-GoesOn keep file before after j =
-    (ks : List ChunkValue) → IsChainOf (IsAllowed keep) ks file before.bytes → before ≡ totals_of ks
-    → IsChainOf (IsAllowed keep) (ks ++ value_of_chunk j.chunk ∷ []) file after.bytes
+GoesOn unread_ok file before after j =
+    (ks : List ChunkValue) → IsChainOf (IsAllowed unread_ok) ks file before.bytes → before ≡ totals_of ks
+    → IsChainOf (IsAllowed unread_ok) (ks ++ value_of_chunk j.chunk ∷ []) file after.bytes
     × (after ≡ totals_of (ks ++ value_of_chunk j.chunk ∷ []))
 
-pub goes_on_given : (keep : Bool) (size : ℕ) (bytes : Option (List ℕ)) (before : Totals) (j : Judged) (unread : Bool)
-    → IfSome bytes BeginsWithSignature → IsJudged keep size before.bytes j
-    → IfSome bytes (λ file. IsJudgedIn keep file before.bytes j) → unread ≡ is_left j.what
-    → IfSome bytes (λ file. GoesOn keep file before (totals_with_chunk before j.end j.chunk.header.num_records unread) j)
-goes_on_given keep size None before j unread begins judged there left = tt
-goes_on_given keep size (Some file) before j unread begins judged there left =
+pub goes_on_given : (unread_ok : Bool) (size : ℕ) (bytes : Option (List ℕ)) (before : Totals) (j : Judged) (unread : Bool)
+    → IfSome bytes BeginsWithSignature → IsJudged unread_ok size before.bytes j
+    → IfSome bytes (λ file. IsJudgedIn unread_ok file before.bytes j) → unread ≡ is_left j.what
+    → IfSome bytes (λ file. GoesOn unread_ok file before (totals_with_chunk before j.end j.chunk.header.num_records unread) j)
+goes_on_given unread_ok size None before j unread begins judged there left = tt
+goes_on_given unread_ok size (Some file) before j unread begins judged there left =
     let k : ChunkValue = value_of_chunk j.chunk in
     λ ks chain same. (
-      chain_given keep size before.bytes file j ks begins judged there chain,
-      totals_given ks k before j.end unread same (left ∙ left_unread keep k j.what judged.small judged.what) judged.end,
+      chain_given unread_ok size before.bytes file j ks begins judged there chain,
+      totals_given ks k before j.end unread same (left ∙ left_unread unread_ok k j.what judged.small judged.what) judged.end,
     )
 
 -- so what was read is read on
-pub read_on : (keep : Bool) (bytes : Option (List ℕ)) (before after : Totals) (j : Judged)
-    → IfSome bytes (λ file. AreReadFrom keep file before) → IfSome bytes (λ file. GoesOn keep file before after j)
-    → IfSome bytes (λ file. AreReadFrom keep file after)
-read_on keep None before after j read on = tt
-read_on keep (Some file) before after j (ks, chain, same) on =
+pub read_on : (unread_ok : Bool) (bytes : Option (List ℕ)) (before after : Totals) (j : Judged)
+    → IfSome bytes (λ file. AreReadFrom unread_ok file before) → IfSome bytes (λ file. GoesOn unread_ok file before after j)
+    → IfSome bytes (λ file. AreReadFrom unread_ok file after)
+read_on unread_ok None before after j read on = tt
+read_on unread_ok (Some file) before after j (ks, chain, same) on =
     let longer = on ks chain same in (ks ++ value_of_chunk j.chunk ∷ [], longer.0, longer.1)

@@ -35,9 +35,9 @@ pub IsChainOf-nil : {P : ChunkValue → Type 0} (file : List ℕ) → IsChainOf 
 IsChainOf-nil file = record { signed = tt; each = tt; within = omega arith; laid = refl }
 
 -- the signature alone is a chain of a file that begins with it
-pub signature_chain : (keep : Bool) (file : List ℕ) → BeginsWithSignature file → IsChainOf (IsAllowed keep) (signature ∷ []) file 64
-signature_chain keep file begins =
-    IsChainOf-push [] signature file 0 64 (IsChainOf-nil file) refl (IsAllowed-signature keep) (signed_length file begins)
+pub signature_chain : (unread_ok : Bool) (file : List ℕ) → BeginsWithSignature file → IsChainOf (IsAllowed unread_ok) (signature ∷ []) file 64
+signature_chain unread_ok file begins =
+    IsChainOf-push [] signature file 0 64 (IsChainOf-nil file) refl (IsAllowed-signature unread_ok) (signed_length file begins)
     (IsLaid-signature file begins)
 
 -- in a file that begins with the signature, a chunk behind a chain makes a list that begins with it
@@ -47,11 +47,11 @@ signed_on [] file place h begins = ap (chunk_at file) (no_chunks file place h) �
 signed_on (k ∷ ks) file place h begins = h.signed
 
 -- the chain goes on by the chunk at its end, where that is laid and allowed
-pub chain_goes_on : (keep : Bool) (ks : List ChunkValue) (file : List ℕ) (place : ℕ)
-    → IsChainOf (IsAllowed keep) ks file place → BeginsWithSignature file
-    → IsLaid place (chunk_at file place) (slice_range file place (end_at file place)) → IsAllowed keep (chunk_at file place)
-    → IsChainOf (IsAllowed keep) (ks ++ chunk_at file place ∷ []) file (end_at file place)
-chain_goes_on keep ks file place h begins laid allowed =
+pub chain_goes_on : (unread_ok : Bool) (ks : List ChunkValue) (file : List ℕ) (place : ℕ)
+    → IsChainOf (IsAllowed unread_ok) ks file place → BeginsWithSignature file
+    → IsLaid place (chunk_at file place) (slice_range file place (end_at file place)) → IsAllowed unread_ok (chunk_at file place)
+    → IsChainOf (IsAllowed unread_ok) (ks ++ chunk_at file place ∷ []) file (end_at file place)
+chain_goes_on unread_ok ks file place h begins laid allowed =
     IsChainOf-push ks (chunk_at file place) file place (end_at file place) h (signed_on ks file place h begins) allowed
     (within-laid place (chunk_at file place) file (end_at file place) laid) laid
 
@@ -122,26 +122,26 @@ further_on P ks others file place other within laid h further =
     ]
 
 -- so where a reason applies at the end of a chain, no chain is longer
-pub no_longer : (keep : Bool) (ks : List ChunkValue) (file : List ℕ) (place : ℕ)
-    → IsChainOf (IsAllowed keep) ks file place → ¬ NoneOf (Applies file place) (strict_reasons keep)
-    → IsLongest (IsAllowed keep) ks file place
-no_longer keep ks file place h refused = record {
+pub no_longer : (unread_ok : Bool) (ks : List ChunkValue) (file : List ℕ) (place : ℕ)
+    → IsChainOf (IsAllowed unread_ok) ks file place → ¬ NoneOf (Applies file place) (strict_reasons unread_ok)
+    → IsLongest (IsAllowed unread_ok) ks file place
+no_longer unread_ok ks file place h refused = record {
   chain = h;
   greatest = λ others other longer.
       elim (cases_lt place other) [
         | inl further ↦
-            let next = further_on (IsAllowed keep) ks others file place other h.within h.laid longer further in
-            absurd (refused (no_reason keep place next.0 file next.1 next.3 next.2))
+            let next = further_on (IsAllowed unread_ok) ks others file place other h.within h.laid longer further in
+            absurd (refused (no_reason unread_ok place next.0 file next.1 next.3 next.2))
         | inr at_most ↦ at_most
       ];
 }
 
 -- where one of them is the first that does, not none of them does
-pub longest_where_refused : (keep : Bool) (ks : List ChunkValue) (file : List ℕ) (place : ℕ) (first : Why)
-    → IsChainOf (IsAllowed keep) ks file place → IsFirstOf (Applies file place) (strict_reasons keep) first
-    → IsLongest (IsAllowed keep) ks file place
-longest_where_refused keep ks file place first h refused =
-    no_longer keep ks file place h (λ none. none_is_first (Applies file place) (strict_reasons keep) first none refused)
+pub longest_where_refused : (unread_ok : Bool) (ks : List ChunkValue) (file : List ℕ) (place : ℕ) (first : Why)
+    → IsChainOf (IsAllowed unread_ok) ks file place → IsFirstOf (Applies file place) (strict_reasons unread_ok) first
+    → IsLongest (IsAllowed unread_ok) ks file place
+longest_where_refused unread_ok ks file place first h refused =
+    no_longer unread_ok ks file place h (λ none. none_is_first (Applies file place) (strict_reasons unread_ok) first none refused)
 
 -- a chain to the end of the file is the longest
 pub longest_where_whole : (P : ChunkValue → Type 0) (ks : List ChunkValue) (file : List ℕ) → IsChainOf P ks file (length file)

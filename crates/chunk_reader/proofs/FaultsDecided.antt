@@ -157,19 +157,19 @@ place_of file place why.BlockHeader (block, wrong) =
 place_of file place other applies = (place, refl)
 
 -- so a verdict is given of a place, or no reason applies there
-pub judged : (keep : Bool) (file : List ℕ) (place : ℕ)
-    → ((fault : Fault) × IsVerdict keep file place fault) ⊎ NoneOf (Applies file place) (strict_reasons keep)
-judged keep file place =
-    elim (first_or_none (Applies file place) (reason_decided file place) (strict_reasons keep)) [
+pub judged : (unread_ok : Bool) (file : List ℕ) (place : ℕ)
+    → ((fault : Fault) × IsVerdict unread_ok file place fault) ⊎ NoneOf (Applies file place) (strict_reasons unread_ok)
+judged unread_ok file place =
+    elim (first_or_none (Applies file place) (reason_decided file place) (strict_reasons unread_ok)) [
       | inl (first, is) ↦
-          let at = place_of file place first (first_applies (Applies file place) (strict_reasons keep) first is) in
+          let at = place_of file place first (first_applies (Applies file place) (strict_reasons unread_ok) first is) in
           inl (record { at = at.0; why = first }, (is, at.1))
       | inr none ↦ inr none
     ]
 
 -- a file without fault, or its fault
 abbrev IsEither : Bool → List ℕ → Type 0
-IsEither keep file = HasNoFault keep file ⊎ ((fault : Fault) × IsFault keep file fault)
+IsEither unread_ok file = HasNoFault unread_ok file ⊎ ((fault : Fault) × IsFault unread_ok file fault)
 
 -- a chain to the end of a file that begins with the signature has chunks
 some_chunks : (P : ChunkValue → Type 0) (ks : List ChunkValue) (file : List ℕ) → BeginsWithSignature file → IsChainOf P ks file (length file) → ks ≢ []
@@ -177,44 +177,44 @@ some_chunks P ks file begins h none =
     omega (arith, signed_length file begins, no_chunks file (length file) (subst (λ (xs : List ChunkValue). IsChainOf P xs file (length file)) none h))
 
 -- a chain to the end of the file
-judged_whole : (keep : Bool) (file : List ℕ) → BeginsWithSignature file → (ks : List ChunkValue) (place : ℕ) → length file ≤ place
-    → IsChainOf (IsAllowed keep) ks file place → IsEither keep file
-judged_whole keep file begins ks place far h =
+judged_whole : (unread_ok : Bool) (file : List ℕ) → BeginsWithSignature file → (ks : List ChunkValue) (place : ℕ) → length file ≤ place
+    → IsChainOf (IsAllowed unread_ok) ks file place → IsEither unread_ok file
+judged_whole unread_ok file begins ks place far h =
     let end : place ≡ length file = omega (arith, h.within) in
-    let whole : IsChainOf (IsAllowed keep) ks file (length file) = subst (λ (p : ℕ). IsChainOf (IsAllowed keep) ks file p) end h in
-    inl (ks, (some_chunks (IsAllowed keep) ks file begins whole, whole))
+    let whole : IsChainOf (IsAllowed unread_ok) ks file (length file) = subst (λ (p : ℕ). IsChainOf (IsAllowed unread_ok) ks file p) end h in
+    inl (ks, (some_chunks (IsAllowed unread_ok) ks file begins whole, whole))
 
 -- from the end of a chain the file is judged to its end
-judged_from : (keep : Bool) (file : List ℕ) → AreBytes file → BeginsWithSignature file
-    → (most : ℕ) (ks : List ChunkValue) (place : ℕ) → length file ≤ place + most → IsChainOf (IsAllowed keep) ks file place
-    → IsEither keep file
-judged_from keep file bytes begins zero ks place far h = judged_whole keep file begins ks place (omega arith) h
-judged_from keep file bytes begins (suc most) ks place far h =
+judged_from : (unread_ok : Bool) (file : List ℕ) → AreBytes file → BeginsWithSignature file
+    → (most : ℕ) (ks : List ChunkValue) (place : ℕ) → length file ≤ place + most → IsChainOf (IsAllowed unread_ok) ks file place
+    → IsEither unread_ok file
+judged_from unread_ok file bytes begins zero ks place far h = judged_whole unread_ok file begins ks place (omega arith) h
+judged_from unread_ok file bytes begins (suc most) ks place far h =
     elim (cases_lt place (length file)) [
-      | inr past ↦ judged_whole keep file begins ks place past h
-      | inl below ↦ elim (judged keep file place) [
+      | inr past ↦ judged_whole unread_ok file begins ks place past h
+      | inl below ↦ elim (judged unread_ok file place) [
         | inl (fault, verdict) ↦
-            inr (fault, inr (begins, (ks, place, longest_where_refused keep ks file place fault.why h verdict.0, below, verdict)))
+            inr (fault, inr (begins, (ks, place, longest_where_refused unread_ok ks file place fault.why h verdict.0, below, verdict)))
         | inr none ↦
-            judged_from keep file bytes begins most (ks ++ chunk_at file place ∷ []) (end_at file place)
+            judged_from unread_ok file bytes begins most (ks ++ chunk_at file place ∷ []) (end_at file place)
             (omega (arith, end_at_after file place))
-            (chain_goes_on keep ks file place h begins
-            (laid_where_none keep file place bytes none)
-            (allowed_where_none keep file place none))
+            (chain_goes_on unread_ok ks file place h begins
+            (laid_where_none unread_ok file place bytes none)
+            (allowed_where_none unread_ok file place none))
       ]
     ]
 
 -- so each file of bytes is
-pub file_judged : (keep : Bool) (file : List ℕ) → AreBytes file → IsEither keep file
-file_judged keep file bytes =
+pub file_judged : (unread_ok : Bool) (file : List ℕ) → AreBytes file → IsEither unread_ok file
+file_judged unread_ok file bytes =
     elim (lists_decided (take (length signature_bytes) file) signature_bytes) [
-      | inl begins ↦ judged_from keep file bytes begins (length file) [] 0 (omega arith) (IsChainOf-nil file)
+      | inl begins ↦ judged_from unread_ok file bytes begins (length file) [] 0 (omega arith) (IsChainOf-nil file)
       | inr differs ↦ inr (record { at = 0; why = why.NoSignature }, inl (differs, refl))
     ]
 
 -- and it has none exactly where it is well-formed chunks to its end
-pub faultless-iff : (keep : Bool) (file : List ℕ) → AreBytes file → (¬ ((fault : Fault) × IsFault keep file fault)) ↔ HasNoFault keep file
-faultless-iff keep file bytes = (
-  λ none. elim (file_judged keep file bytes) [ inl faultless ↦ faultless | inr faulty ↦ absurd (none faulty) ],
-  λ faultless. λ faulty. fault_or_none keep file faulty.0 faulty.1 faultless,
+pub faultless-iff : (unread_ok : Bool) (file : List ℕ) → AreBytes file → (¬ ((fault : Fault) × IsFault unread_ok file fault)) ↔ HasNoFault unread_ok file
+faultless-iff unread_ok file bytes = (
+  λ none. elim (file_judged unread_ok file bytes) [ inl faultless ↦ faultless | inr faulty ↦ absurd (none faulty) ],
+  λ faultless. λ faulty. fault_or_none unread_ok file faulty.0 faulty.1 faultless,
 )

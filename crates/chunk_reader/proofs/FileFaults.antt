@@ -37,9 +37,9 @@ same_fault a b at reason =
     ap (λ (x : ℕ). record { at = x; why = a.why }) at ∙ ap (λ (w : Why). record { at = b.at; why = w }) reason
 
 -- so the verdict on a chunk is one
-pub verdict_is_one : (keep : Bool) (file : List ℕ) (place : ℕ) (a b : Fault) → IsVerdict keep file place a → IsVerdict keep file place b → a ≡ b
-verdict_is_one keep file place a b (first, at) (also, there) =
-    let reason : a.why ≡ b.why = first_is_one (Applies file place) (strict_reasons keep) a.why b.why first also in
+pub verdict_is_one : (unread_ok : Bool) (file : List ℕ) (place : ℕ) (a b : Fault) → IsVerdict unread_ok file place a → IsVerdict unread_ok file place b → a ≡ b
+verdict_is_one unread_ok file place a b (first, at) (also, there) =
+    let reason : a.why ≡ b.why = first_is_one (Applies file place) (strict_reasons unread_ok) a.why b.why first also in
     same_fault a b
     (place_is_one file place b.why a.at b.at (subst (λ (w : Why). IsPlaceOf file place w a.at) reason at) there)
     reason
@@ -51,32 +51,32 @@ longest_is_one ks ls file place other h g =
     omega (arith, h.greatest ls other g.chain, g.greatest ks place h.chain)
 
 -- and so the fault of a file is
-pub fault_is_one : (keep : Bool) (file : List ℕ) (a b : Fault) → IsFault keep file a → IsFault keep file b → a ≡ b
-fault_is_one keep file a b (inl (unsigned, is)) (inl (too, also)) = is ∙ sym also
-fault_is_one keep file a b (inl (unsigned, is)) (inr (signed, rest)) = absurd (unsigned signed)
-fault_is_one keep file a b (inr (signed, rest)) (inl (unsigned, is)) = absurd (unsigned signed)
-fault_is_one keep file a b (inr (signed, (ks, place, longest, below, verdict))) (inr (too, (ls, other, also, under, judged))) =
+pub fault_is_one : (unread_ok : Bool) (file : List ℕ) (a b : Fault) → IsFault unread_ok file a → IsFault unread_ok file b → a ≡ b
+fault_is_one unread_ok file a b (inl (unsigned, is)) (inl (too, also)) = is ∙ sym also
+fault_is_one unread_ok file a b (inl (unsigned, is)) (inr (signed, rest)) = absurd (unsigned signed)
+fault_is_one unread_ok file a b (inr (signed, rest)) (inl (unsigned, is)) = absurd (unsigned signed)
+fault_is_one unread_ok file a b (inr (signed, (ks, place, longest, below, verdict))) (inr (too, (ls, other, also, under, judged))) =
     let same : other ≡ place = longest_is_one ls ks file other place also longest in
-    verdict_is_one keep file place a b verdict (subst (λ (p : ℕ). IsVerdict keep file p b) same judged)
+    verdict_is_one unread_ok file place a b verdict (subst (λ (p : ℕ). IsVerdict unread_ok file p b) same judged)
 
 -- a file without fault begins with the signature
-pub faultless_signed : (keep : Bool) (file : List ℕ) → HasNoFault keep file → BeginsWithSignature file
-faultless_signed keep file ([], (some, chain)) = absurd (some refl)
-faultless_signed keep file (k ∷ ks, (some, chain)) = begins_signed k ks file (length file) chain
+pub faultless_signed : (unread_ok : Bool) (file : List ℕ) → HasNoFault unread_ok file → BeginsWithSignature file
+faultless_signed unread_ok file ([], (some, chain)) = absurd (some refl)
+faultless_signed unread_ok file (k ∷ ks, (some, chain)) = begins_signed k ks file (length file) chain
 
 -- a file that has a fault isn't without
-pub fault_or_none : (keep : Bool) (file : List ℕ) (fault : Fault) → IsFault keep file fault → ¬ HasNoFault keep file
-fault_or_none keep file fault (inl (unsigned, is)) none = unsigned (faultless_signed keep file none)
-fault_or_none keep file fault (inr (signed, (ks, place, longest, below, verdict))) (ls, (some, chain)) =
+pub fault_or_none : (unread_ok : Bool) (file : List ℕ) (fault : Fault) → IsFault unread_ok file fault → ¬ HasNoFault unread_ok file
+fault_or_none unread_ok file fault (inl (unsigned, is)) none = unsigned (faultless_signed unread_ok file none)
+fault_or_none unread_ok file fault (inr (signed, (ks, place, longest, below, verdict))) (ls, (some, chain)) =
     omega (arith, below, longest.greatest ls (length file) chain)
 
 -- where a wrong block is the first reason, the file has the whole chunk
-whole_where_block : (keep : Bool) (file : List ℕ) (place : ℕ) → IsFirstOf (Applies file place) (strict_reasons keep) why.BlockHeader
+whole_where_block : (unread_ok : Bool) (file : List ℕ) (place : ℕ) → IsFirstOf (Applies file place) (strict_reasons unread_ok) why.BlockHeader
     → end_at file place ≤ length file
-whole_where_block keep file place (inl (short, is)) = absurd (cc is)
-whole_where_block keep file place (inr (not, inl (wrong, is))) = absurd (cc is)
-whole_where_block keep file place (inr (not, inr (nor, inl (cut, is)))) = absurd (cc is)
-whole_where_block keep file place (inr (not, inr (nor, inr (whole, later)))) = omega (arith, whole)
+whole_where_block unread_ok file place (inl (short, is)) = absurd (cc is)
+whole_where_block unread_ok file place (inr (not, inl (wrong, is))) = absurd (cc is)
+whole_where_block unread_ok file place (inr (not, inr (nor, inl (cut, is)))) = absurd (cc is)
+whole_where_block unread_ok file place (inr (not, inr (nor, inr (whole, later)))) = omega (arith, whole)
 
 -- a boundary of the file from a place on
 record IsPlaceFrom (file : List ℕ) (place at : ℕ) : Type 0 where
@@ -92,23 +92,23 @@ begin_from file place at boundary within is = record {
 }
 
 -- the place of a verdict is one
-verdict_from : (keep : Bool) (file : List ℕ) (place : ℕ) (w : Why) (at : ℕ) → IsBoundary place → place < length file
-    → IsFirstOf (Applies file place) (strict_reasons keep) w → IsPlaceOf file place w at → IsPlaceFrom file place at
-verdict_from keep file place why.BlockHeader at boundary within first (wrong, least) = record {
+verdict_from : (unread_ok : Bool) (file : List ℕ) (place : ℕ) (w : Why) (at : ℕ) → IsBoundary place → place < length file
+    → IsFirstOf (Applies file place) (strict_reasons unread_ok) w → IsPlaceOf file place w at → IsPlaceFrom file place at
+verdict_from unread_ok file place why.BlockHeader at boundary within first (wrong, least) = record {
   boundary = inl wrong.is_block;
   from = wrong.from;
-  within = omega (arith, wrong.below, whole_where_block keep file place first);
+  within = omega (arith, wrong.below, whole_where_block unread_ok file place first);
 }
-verdict_from keep file place other at boundary within first is = begin_from file place at boundary within is
+verdict_from unread_ok file place other at boundary within first is = begin_from file place at boundary within is
 
 -- so is the place of a file's fault; it is the file's end only where the file is empty
-pub fault_place : (keep : Bool) (file : List ℕ) (fault : Fault) → IsFault keep file fault
+pub fault_place : (unread_ok : Bool) (file : List ℕ) (fault : Fault) → IsFault unread_ok file fault
     → IsBoundary fault.at × (fault.at ≤ length file) × (BeginsWithSignature file → fault.at < length file)
-fault_place keep file fault (inl (unsigned, is)) =
+fault_place unread_ok file fault (inl (unsigned, is)) =
     let at : fault.at ≡ 0 = ap (λ (f : Fault). f.at) is in
     (subst IsBoundary (sym at) (inl refl), omega (arith, at), λ signed. absurd (unsigned signed))
-fault_place keep file fault (inr (signed, (ks, place, longest, below, verdict))) =
-    let h = verdict_from keep file place fault.why fault.at
+fault_place unread_ok file fault (inr (signed, (ks, place, longest, below, verdict))) =
+    let h = verdict_from unread_ok file place fault.why fault.at
     (chain_boundary ks file place longest.chain) below verdict.0 verdict.1 in
     let within : fault.at < length file = h.within in
     (h.boundary, omega arith, λ too. within)
@@ -119,16 +119,16 @@ never_first P w [] others is = is
 never_first P w (x ∷ reasons) others (inl (applies, same)) = others.0 same
 never_first P w (x ∷ reasons) others (inr (not, later)) = never_first P w reasons others.1 later
 
-not_strict : (keep : Bool) → AllByRecursion (λ x. why.NoSignature ≢ x) (strict_reasons keep)
+not_strict : (unread_ok : Bool) → AllByRecursion (λ x. why.NoSignature ≢ x) (strict_reasons unread_ok)
 not_strict false =
     (λ e. cc, (λ e. cc, (λ e. cc, (λ e. cc, (λ e. cc, (λ e. cc, (λ e. cc, (λ e. cc, (λ e. cc, (λ e. cc, tt))))))))))
 not_strict true = (λ e. cc, (λ e. cc, (λ e. cc, (λ e. cc, (λ e. cc, (λ e. cc, (λ e. cc, (λ e. cc, tt))))))))
 
-pub no_signature-iff : (keep : Bool) (file : List ℕ) (fault : Fault) → IsFault keep file fault
+pub no_signature-iff : (unread_ok : Bool) (file : List ℕ) (fault : Fault) → IsFault unread_ok file fault
     → (fault.why ≡ why.NoSignature) ↔ (¬ BeginsWithSignature file)
-no_signature-iff keep file fault (inl (unsigned, is)) = (λ same. unsigned, λ h. ap (λ (f : Fault). f.why) is)
-no_signature-iff keep file fault (inr (signed, (ks, place, longest, below, verdict))) = (
-  λ same. absurd (never_first (Applies file place) why.NoSignature (strict_reasons keep) (not_strict keep)
-      (subst (λ (w : Why). IsFirstOf (Applies file place) (strict_reasons keep) w) same verdict.0)),
+no_signature-iff unread_ok file fault (inl (unsigned, is)) = (λ same. unsigned, λ h. ap (λ (f : Fault). f.why) is)
+no_signature-iff unread_ok file fault (inr (signed, (ks, place, longest, below, verdict))) = (
+  λ same. absurd (never_first (Applies file place) why.NoSignature (strict_reasons unread_ok) (not_strict unread_ok)
+      (subst (λ (w : Why). IsFirstOf (Applies file place) (strict_reasons unread_ok) w) same verdict.0)),
   λ unsigned. absurd (unsigned signed),
 )

@@ -34,15 +34,15 @@ totals_of-signature : totals_of (signature ∷ []) ≡ signature_alone
 totals_of-signature = ap (λ (end : ℕ). let t : Totals = record { chunks = 1; records = 0; bytes = end; unread = 0 } in t) end_of_chunk-signature
 
 -- a file that begins with its bytes was read up to its end
-pub signature_read : (keep : Bool) (bytes : Option (List ℕ)) → IfSome bytes BeginsWithSignature
-    → IfSome bytes (λ file. AreReadFrom keep file signature_alone)
-signature_read keep None begins = tt
-signature_read keep (Some file) begins = (signature ∷ [], signature_chain keep file begins, sym totals_of-signature)
+pub signature_read : (unread_ok : Bool) (bytes : Option (List ℕ)) → IfSome bytes BeginsWithSignature
+    → IfSome bytes (λ file. AreReadFrom unread_ok file signature_alone)
+signature_read unread_ok None begins = tt
+signature_read unread_ok (Some file) begins = (signature ∷ [], signature_chain unread_ok file begins, sym totals_of-signature)
 
 -- the signature chunk is well formed at the front
-pub first_judged : (keep : Bool) (size : ℕ) (j : Judged) → 64 ≤ size → j.begin ≡ 0 → j.end ≡ 64 → j.what ≡ Passive
-    → value_of_chunk j.chunk ≡ signature → HasRightHash j.chunk → IsJudged keep size 0 j
-first_judged keep size j long begin end what chunk right =
+pub first_judged : (unread_ok : Bool) (size : ℕ) (j : Judged) → 64 ≤ size → j.begin ≡ 0 → j.end ≡ 64 → j.what ≡ Passive
+    → value_of_chunk j.chunk ≡ signature → HasRightHash j.chunk → IsJudged unread_ok size 0 j
+first_judged unread_ok size j long begin end what chunk right =
     let k = value_of_chunk j.chunk in
     record {
       begin = begin;
@@ -53,19 +53,19 @@ first_judged keep size j long begin end what chunk right =
       small = omega (arith, ap (λ (c : ChunkValue). length c.«data») chunk);
       right = right;
       sound = subst IsChunk (sym chunk) IsChunk-signature;
-      what = subst (IsWhat keep k) (sym what) (inl ((IsSignature-one k).1 chunk));
+      what = subst (IsWhat unread_ok k) (sym what) (inl ((IsSignature-one k).1 chunk));
     }
 
 -- and the first of a file that begins with its bytes
-pub first_judged_in : (keep : Bool) (bytes : Option (List ℕ)) (j : Judged) → IfSome bytes BeginsWithSignature
-    → value_of_chunk j.chunk ≡ signature → j.end ≡ 64 → IfSome bytes (λ file. IsJudgedIn keep file 0 j)
-first_judged_in keep None j begins chunk end = tt
-first_judged_in keep (Some file) j begins chunk end =
+pub first_judged_in : (unread_ok : Bool) (bytes : Option (List ℕ)) (j : Judged) → IfSome bytes BeginsWithSignature
+    → value_of_chunk j.chunk ≡ signature → j.end ≡ 64 → IfSome bytes (λ file. IsJudgedIn unread_ok file 0 j)
+first_judged_in unread_ok None j begins chunk end = tt
+first_judged_in unread_ok (Some file) j begins chunk end =
     let here : chunk_at file 0 ≡ signature = chunk_at-signature file begins in
     let ends : end_at file 0 ≡ 64 = end_at-signature file begins in
     record {
       chunk = chunk ∙ sym here;
       end = end ∙ sym ends;
       laid = rw (here, ends) (IsLaid-signature file begins);
-      none = no_reason-signature keep file begins;
+      none = no_reason-signature unread_ok file begins;
     }

@@ -2,9 +2,9 @@
 use Rattle.std.proofs.Common.{◌≡◌, ◌∙◌, ℕ, ◌<◌, true, Option, Some, None, IfSome, List, [], length, sym, ap, subst, inl, arith}
 use Rattle.record_values.specs.declared.file_totals.Totals.{Totals}
 use Rattle.chunk_header.specs.Chunks.{ChunkValue}
-use Rattle.meta_chunk.specs.Files.{totals_of, IsFramed, IsChainOf}
+use Rattle.meta_chunk.specs.Files.{totals_of, IsWellFormedChunk, IsChainOf}
 use Rattle.chunk_reader.specs.Faults.{IsFault, IsLongest, IsVerdict, BeginsWithSignature}
-use Rattle.chunk_reader.specs.Fronts.{IsFrontOf}
+use Rattle.chunk_reader.specs.LongestFronts.{IsFrontOf}
 use Rattle.chunk_reader.specs.Progress.{AreInBounds, AreReadFrom}
 use Rattle.chunk_reader.specs.declared.reasons.Fault.{Fault}
 use Rattle.chunk_reader.specs.declared.reasons.Why.TheVariants as why
@@ -35,7 +35,7 @@ front_unsigned (Some file) totals fault none (at, reason, unsigned) =
     let here : totals.bytes ≡ 0 = ap (λ (t : Totals). t.bytes) none in record {
       ks = [];
       longest = record {
-        chain = subst (IsChainOf IsFramed [] file) (sym here) (IsChainOf-nil file);
+        chain = subst (IsChainOf IsWellFormedChunk [] file) (sym here) (IsChainOf-nil file);
         greatest = no_further_unsigned true (Some file) totals.bytes unsigned;
       };
       totals = none;
@@ -66,15 +66,15 @@ front_whole None told totals size sized is at_end read begins = tt
 front_whole (Some file) told totals size sized is at_end (ks, chain, counts) begins =
     let same : size ≡ length file = subst (λ (o : Option ℕ). IfSome o (λ n. n ≡ length file)) is sized in
     let ends : totals.bytes ≡ length file = at_end ∙ same in
-    let whole : IsChainOf IsFramed ks file (length file) = subst (IsChainOf IsFramed ks file) ends chain in record {
+    let whole : IsChainOf IsWellFormedChunk ks file (length file) = subst (IsChainOf IsWellFormedChunk ks file) ends chain in record {
       ks = ks;
-      longest = subst (λ (n : ℕ). IsLongest IsFramed ks file n) (sym ends) (longest_where_whole IsFramed ks file whole);
+      longest = subst (λ (n : ℕ). IsLongest IsWellFormedChunk ks file n) (sym ends) (longest_where_whole IsWellFormedChunk ks file whole);
       totals = counts;
       fault = (
         λ none. omega (
           arith,
           signed_length file begins,
-          no_chunks file (length file) (subst (λ (xs : List ChunkValue). IsChainOf IsFramed xs file (length file)) none whole),
+          no_chunks file (length file) (subst (λ (xs : List ChunkValue). IsChainOf IsWellFormedChunk xs file (length file)) none whole),
         ),
         whole,
       );

@@ -8,7 +8,7 @@ use Rattle.block_layout.specs.BlockHeaders.{block_header, StandsAt}
 use Rattle.block_layout.proofs.Ends.{end_of_room}
 use Rattle.block_layout.proofs.Room.{boundary_past_block}
 use Rattle.chunk_header.specs.Chunks.{ChunkValue, HeaderValue}
-use Rattle.meta_chunk.specs.Files.{IsFrame, begin_of, LiesIn}
+use Rattle.meta_chunk.specs.Files.{IsWellFormed, begin_of, LiesIn}
 use Rattle.meta_chunk.specs.Laid.{IsLaid}
 use Rattle.meta_chunk.proofs.Begins.{begin_of-next, begin_of-past, begin_of-place, begin_of_rises, begin_of_boundary, holder_of, holder_one, IsLaid-in_file}
 use Rattle.chunk_reader.specs.Holders.{TellsBegin, ArePlacesBetween, IsHolder}
@@ -26,13 +26,13 @@ passed_below file place none =
       | inr past ↦ absurd (none.0 (omega (arith, past, end_of_room place 40)))
     ]
 
-module _ (ks : List ChunkValue) (file : List ℕ) (keep : IsFrame ks file) where
+module _ (ks : List ChunkValue) (file : List ℕ) (unread_ok : IsWellFormed ks file) where
   pub laid_at : (j : ℕ) (k : ChunkValue) → slice_get ks j ≡ Some k
       → IsLaid (begin_of ks j) k (slice_range file (begin_of ks j) (begin_of ks (j + 1)))
-  laid_at j k at = IsLaid-in_file ks file (length file) j k keep.1.within keep.1.laid at
+  laid_at j k at = IsLaid-in_file ks file (length file) j k unread_ok.1.within unread_ok.1.laid at
 
   pub last_end : begin_of ks (length ks) ≡ length file
-  last_end = begin_of-place ks file (length file) keep.1.within keep.1.laid
+  last_end = begin_of-place ks file (length file) unread_ok.1.within unread_ok.1.laid
 
   -- a chunk header tells where its chunk ends, and how many records that has
   pub told_end : (j : ℕ) (k : ChunkValue) → slice_get ks j ≡ Some k → end_at file (begin_of ks j) ≡ begin_of ks (j + 1)

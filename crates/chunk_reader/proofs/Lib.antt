@@ -9,7 +9,7 @@ pub mod NoReason
 pub mod SignedFiles
 pub mod ChainSteps
 pub mod FileFaults
-pub mod Frames
+pub mod WellFormedFiles
 pub mod NoReasonLaid
 pub mod WholeHeads
 pub mod Loads

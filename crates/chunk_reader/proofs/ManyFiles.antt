@@ -10,50 +10,50 @@ use Rattle.chunk_reader.proofs.FaultsDecided.{file_judged}
 use Rattle.chunk_reader.proofs.FileFaults.{fault_is_one, fault_or_none}
 
 -- of files without fault each has none
-none_at : (keep : Bool) (files : List (List ℕ)) (place : ℕ) (file : List ℕ) → HaveNoFault keep files
-    → slice_get files place ≡ Some file → HasNoFault keep file
-none_at keep [] place file h there = absurd cc
-none_at keep (f ∷ files) zero file h there = let is : f ≡ file = cc there in subst (HasNoFault keep) is h.0
-none_at keep (f ∷ files) (suc place) file h there = none_at keep files place file h.1 there
+none_at : (unread_ok : Bool) (files : List (List ℕ)) (place : ℕ) (file : List ℕ) → HaveNoFault unread_ok files
+    → slice_get files place ≡ Some file → HasNoFault unread_ok file
+none_at unread_ok [] place file h there = absurd cc
+none_at unread_ok (f ∷ files) zero file h there = let is : f ≡ file = cc there in subst (HasNoFault unread_ok) is h.0
+none_at unread_ok (f ∷ files) (suc place) file h there = none_at unread_ok files place file h.1 there
 
-none_before : (keep : Bool) (files : List (List ℕ)) (count place : ℕ) (file : List ℕ) → HaveNoFault keep (take count files)
-    → place < count → slice_get files place ≡ Some file → HasNoFault keep file
-none_before keep [] count place file h below there = absurd cc
-none_before keep (f ∷ files) zero place file h below there = absurd (omega (arith, below))
-none_before keep (f ∷ files) (suc count) zero file h below there = let is : f ≡ file = cc there in subst (HasNoFault keep) is h.0
-none_before keep (f ∷ files) (suc count) (suc place) file h below there =
-    none_before keep files count place file h.1 (omega (arith, below)) there
+none_before : (unread_ok : Bool) (files : List (List ℕ)) (count place : ℕ) (file : List ℕ) → HaveNoFault unread_ok (take count files)
+    → place < count → slice_get files place ≡ Some file → HasNoFault unread_ok file
+none_before unread_ok [] count place file h below there = absurd cc
+none_before unread_ok (f ∷ files) zero place file h below there = absurd (omega (arith, below))
+none_before unread_ok (f ∷ files) (suc count) zero file h below there = let is : f ≡ file = cc there in subst (HasNoFault unread_ok) is h.0
+none_before unread_ok (f ∷ files) (suc count) (suc place) file h below there =
+    none_before unread_ok files count place file h.1 (omega (arith, below)) there
 
 -- so none has a fault, or one is the first that has
-pub first_or_none : (keep : Bool) (files : List (List ℕ)) (index : ℕ) (fault : Fault) → IsFirstFault keep files index fault
-    → ¬ HaveNoFault keep files
-first_or_none keep files index fault first none =
-    fault_or_none keep first.file fault first.is_fault (none_at keep files index first.file none first.there)
+pub first_or_none : (unread_ok : Bool) (files : List (List ℕ)) (index : ℕ) (fault : Fault) → IsFirstFault unread_ok files index fault
+    → ¬ HaveNoFault unread_ok files
+first_or_none unread_ok files index fault first none =
+    fault_or_none unread_ok first.file fault first.is_fault (none_at unread_ok files index first.file none first.there)
 
 -- behind files without fault the first is not among them
-pub first_behind : (keep : Bool) (files : List (List ℕ)) (count index : ℕ) (fault : Fault) → HaveNoFault keep (take count files)
-    → IsFirstFault keep files index fault → count ≤ index
-first_behind keep files count index fault none first = elim (cases_lt index count) [
+pub first_behind : (unread_ok : Bool) (files : List (List ℕ)) (count index : ℕ) (fault : Fault) → HaveNoFault unread_ok (take count files)
+    → IsFirstFault unread_ok files index fault → count ≤ index
+first_behind unread_ok files count index fault none first = elim (cases_lt index count) [
   | inl below ↦
-      absurd (fault_or_none keep first.file fault first.is_fault (none_before keep files count index first.file none below first.there))
+      absurd (fault_or_none unread_ok first.file fault first.is_fault (none_before unread_ok files count index first.file none below first.there))
   | inr behind ↦ behind
 ]
 
 -- and it is one
-pub first_is_one : (keep : Bool) (files : List (List ℕ)) (a b : ℕ) (fault other : Fault)
-    → IsFirstFault keep files a fault → IsFirstFault keep files b other → (a ≡ b) × (fault ≡ other)
-first_is_one keep files a b fault other h g =
-    let same : a ≡ b = omega (arith, first_behind keep files a b other h.before g, first_behind keep files b a fault g.before h) in
+pub first_is_one : (unread_ok : Bool) (files : List (List ℕ)) (a b : ℕ) (fault other : Fault)
+    → IsFirstFault unread_ok files a fault → IsFirstFault unread_ok files b other → (a ≡ b) × (fault ≡ other)
+first_is_one unread_ok files a b fault other h g =
+    let same : a ≡ b = omega (arith, first_behind unread_ok files a b other h.before g, first_behind unread_ok files b a fault g.before h) in
     let there : slice_get files a ≡ Some g.file = ap (slice_get files) same ∙ g.there in
     let file : h.file ≡ g.file = cc in
-    (same, fault_is_one keep g.file fault other (subst (λ (f : List ℕ). IsFault keep f fault) file h.is_fault) g.is_fault)
+    (same, fault_is_one unread_ok g.file fault other (subst (λ (f : List ℕ). IsFault unread_ok f fault) file h.is_fault) g.is_fault)
 
 -- files of bytes are judged: one is the first with a fault, or none has one
-pub files_judged : (keep : Bool) (files : List (List ℕ)) → AllByRecursion AreBytes files
-    → HaveNoFault keep files ⊎ ((index : ℕ) × (fault : Fault) × IsFirstFault keep files index fault)
-files_judged keep [] bytes = inl bytes
-files_judged keep (file ∷ files) bytes = elim (file_judged keep file bytes.0) [
-  | inl none ↦ elim (files_judged keep files bytes.1) [
+pub files_judged : (unread_ok : Bool) (files : List (List ℕ)) → AllByRecursion AreBytes files
+    → HaveNoFault unread_ok files ⊎ ((index : ℕ) × (fault : Fault) × IsFirstFault unread_ok files index fault)
+files_judged unread_ok [] bytes = inl bytes
+files_judged unread_ok (file ∷ files) bytes = elim (file_judged unread_ok file bytes.0) [
+  | inl none ↦ elim (files_judged unread_ok files bytes.1) [
     | inl others ↦ inl (none, others)
     | inr first ↦ inr (
       suc first.0,
@@ -70,8 +70,8 @@ files_judged keep (file ∷ files) bytes = elim (file_judged keep file bytes.0) 
 ]
 
 -- of files up to one without fault, the first has none
-pub first_without : (keep : Bool) (files : List (List ℕ)) (count : ℕ) (file : List ℕ) → slice_get files count ≡ Some file
-    → HasNoFault keep file → HaveNoFault keep (take count files) → HaveNoFault keep (take 1 files)
-first_without keep [] count file there none before = absurd cc
-first_without keep (f ∷ files) zero file there none before = let is : file ≡ f = cc in (subst (HasNoFault keep) is none, tt)
-first_without keep (f ∷ files) (suc count) file there none before = (before.0, tt)
+pub first_without : (unread_ok : Bool) (files : List (List ℕ)) (count : ℕ) (file : List ℕ) → slice_get files count ≡ Some file
+    → HasNoFault unread_ok file → HaveNoFault unread_ok (take count files) → HaveNoFault unread_ok (take 1 files)
+first_without unread_ok [] count file there none before = absurd cc
+first_without unread_ok (f ∷ files) zero file there none before = let is : file ≡ f = cc in (subst (HasNoFault unread_ok) is none, tt)
+first_without unread_ok (f ∷ files) (suc count) file there none before = (before.0, tt)

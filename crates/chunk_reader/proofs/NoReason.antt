@@ -73,19 +73,19 @@ not_at : (P : ChunkValue → Type 0) (begin : ℕ) (k : ChunkValue) (file : List
 not_at P begin k file end h false_of_k true_there = false_of_k (subst P (chunk_at-laid begin k file end h) true_there)
 
 -- its content is allowed
-pub not_too_large : (keep : Bool) (begin : ℕ) (k : ChunkValue) (file : List ℕ) (end : ℕ) → IsLaid begin k (slice_range file begin end) → IsAllowed keep k
+pub not_too_large : (unread_ok : Bool) (begin : ℕ) (k : ChunkValue) (file : List ℕ) (end : ℕ) → IsLaid begin k (slice_range file begin end) → IsAllowed unread_ok k
     → ¬ Applies file begin why.TooLarge
-not_too_large keep begin k file end h allowed large =
-    omega (arith, large, allowed_small keep k allowed, ap (λ (v : HeaderValue). v.data_size) (header_at-laid begin k file end h))
+not_too_large unread_ok begin k file end h allowed large =
+    omega (arith, large, allowed_small unread_ok k allowed, ap (λ (v : HeaderValue). v.data_size) (header_at-laid begin k file end h))
 
-pub not_contents : (keep : Bool) (begin : ℕ) (k : ChunkValue) (file : List ℕ) (end : ℕ) → IsLaid begin k (slice_range file begin end) → IsAllowed keep k
+pub not_contents : (unread_ok : Bool) (begin : ℕ) (k : ChunkValue) (file : List ℕ) (end : ℕ) → IsLaid begin k (slice_range file begin end) → IsAllowed unread_ok k
     → ¬ Applies file begin why.Contents
-not_contents keep begin k file end h allowed = not_at HasBadContents begin k file end h (allowed_good keep k allowed)
+not_contents unread_ok begin k file end h allowed = not_at HasBadContents begin k file end h (allowed_good unread_ok k allowed)
 
-pub not_unknown_kind : (keep : Bool) (begin : ℕ) (k : ChunkValue) (file : List ℕ) (end : ℕ) → IsLaid begin k (slice_range file begin end) → IsAllowed keep k
+pub not_unknown_kind : (unread_ok : Bool) (begin : ℕ) (k : ChunkValue) (file : List ℕ) (end : ℕ) → IsLaid begin k (slice_range file begin end) → IsAllowed unread_ok k
     → ¬ Applies file begin why.UnknownKind
-not_unknown_kind keep begin k file end h allowed =
-    not_at (λ (c : ChunkValue). IsOfNoName c.kind) begin k file end h (allowed_named keep k allowed)
+not_unknown_kind unread_ok begin k file end h allowed =
+    not_at (λ (c : ChunkValue). IsOfNoName c.kind) begin k file end h (allowed_named unread_ok k allowed)
 
 pub not_compressed : (begin : ℕ) (k : ChunkValue) (file : List ℕ) (end : ℕ) → IsLaid begin k (slice_range file begin end) → IsPlain k
     → ¬ Applies file begin why.Compressed
@@ -96,8 +96,8 @@ pub not_transposed : (begin : ℕ) (k : ChunkValue) (file : List ℕ) (end : ℕ
 not_transposed begin k file end h plain = not_at IsTransposed begin k file end h (λ is. plain_read k plain (inl is))
 
 -- so no reason applies to its content, and none to it
-pub no_content_reason : (keep : Bool) (begin : ℕ) (k : ChunkValue) (file : List ℕ) (end : ℕ)
-    → IsLaid begin k (slice_range file begin end) → IsAllowed keep k → NoneOf (Applies file begin) (content_reasons keep)
+pub no_content_reason : (unread_ok : Bool) (begin : ℕ) (k : ChunkValue) (file : List ℕ) (end : ℕ)
+    → IsLaid begin k (slice_range file begin end) → IsAllowed unread_ok k → NoneOf (Applies file begin) (content_reasons unread_ok)
 no_content_reason false begin k file end h allowed = (
   not_data_hash begin k file end h,
   (
@@ -113,17 +113,17 @@ no_content_reason true begin k file end h allowed = (
   (not_contents true begin k file end h allowed, (not_unknown_kind true begin k file end h allowed, tt)),
 )
 
-pub no_reason : (keep : Bool) (begin : ℕ) (k : ChunkValue) (file : List ℕ) (end : ℕ)
-    → IsLaid begin k (slice_range file begin end) → IsAllowed keep k → NoneOf (Applies file begin) (strict_reasons keep)
-no_reason keep begin k file end h allowed = (
+pub no_reason : (unread_ok : Bool) (begin : ℕ) (k : ChunkValue) (file : List ℕ) (end : ℕ)
+    → IsLaid begin k (slice_range file begin end) → IsAllowed unread_ok k → NoneOf (Applies file begin) (strict_reasons unread_ok)
+no_reason unread_ok begin k file end h allowed = (
   not_short begin k file end h,
   (
     not_header_hash begin k file end h,
     (
       not_truncated begin k file end h,
       (
-        not_too_large keep begin k file end h allowed,
-        (not_block_header begin k file end h, no_content_reason keep begin k file end h allowed),
+        not_too_large unread_ok begin k file end h allowed,
+        (not_block_header begin k file end h, no_content_reason unread_ok begin k file end h allowed),
       ),
     ),
   ),

@@ -46,7 +46,7 @@ headers_right file place none block is_block from below =
     none (block, record { is_block = is_block; from = from; below = below; differs = differ }))
 
 -- each list of reasons has that of the data's hash
-hash_right : (keep : Bool) (file : List ℕ) (place : ℕ) → NoneOf (Applies file place) (content_reasons keep)
+hash_right : (unread_ok : Bool) (file : List ℕ) (place : ℕ) → NoneOf (Applies file place) (content_reasons unread_ok)
     → riegeli_hash (chunk_at file place).«data» ≡ (header_at file place).data_hash
 hash_right false file place none = numbers_equal (riegeli_hash (chunk_at file place).«data») (header_at file place).data_hash none.0
 hash_right true file place none = numbers_equal (riegeli_hash (chunk_at file place).«data») (header_at file place).data_hash none.0
@@ -56,9 +56,9 @@ at_most : (a b : ℕ) → ¬ (a < b) → b ≤ a
 at_most a b not = omega arith
 
 -- so a chunk that no reason refuses is laid
-pub laid_where_none : (keep : Bool) (file : List ℕ) (place : ℕ) → AreBytes file → NoneOf (Applies file place) (strict_reasons keep)
+pub laid_where_none : (unread_ok : Bool) (file : List ℕ) (place : ℕ) → AreBytes file → NoneOf (Applies file place) (strict_reasons unread_ok)
     → IsLaid place (chunk_at file place) (slice_range file place (end_at file place))
-laid_where_none keep file place bytes (short, (header, (cut, (large, (blocks, content))))) =
+laid_where_none unread_ok file place bytes (short, (header, (cut, (large, (blocks, content))))) =
     let h = header_of_right (header_bytes_at file place) (AreBytes-usable_bytes_at file place 40 bytes)
     (right_header (header_bytes_at file place) header) in
     IsLaid-right file place h.0 (record {
@@ -66,7 +66,7 @@ laid_where_none keep file place bytes (short, (header, (cut, (large, (blocks, co
       header = h.2;
       whole = at_most (length file) (end_at file place) cut;
       bytes = AreBytes-data_at file place (header_at file place).data_size bytes;
-      hash = hash_right keep file place content;
+      hash = hash_right unread_ok file place content;
       blocks = headers_right file place blocks;
     })
 
@@ -147,7 +147,7 @@ content_of k good named =
     ]
 
 -- and it is allowed
-pub content_where_none : (keep : Bool) (file : List ℕ) (place : ℕ) → NoneOf (Applies file place) (content_reasons keep) → IsPassed keep (chunk_at file place)
+pub content_where_none : (unread_ok : Bool) (file : List ℕ) (place : ℕ) → NoneOf (Applies file place) (content_reasons unread_ok) → IsPassed unread_ok (chunk_at file place)
 content_where_none false file place (hash, (contents, (compressed, (transposed, (named, end))))) =
     elim (content_of (chunk_at file place) contents named) [
       | inl plain ↦ plain
@@ -157,10 +157,10 @@ content_where_none false file place (hash, (contents, (compressed, (transposed, 
 content_where_none true file place (hash, (contents, (named, end))) =
     content_of (chunk_at file place) contents named
 
-pub allowed_where_none : (keep : Bool) (file : List ℕ) (place : ℕ) → NoneOf (Applies file place) (strict_reasons keep) → IsAllowed keep (chunk_at file place)
-allowed_where_none keep file place (short, (header, (cut, (large, (blocks, content))))) =
+pub allowed_where_none : (unread_ok : Bool) (file : List ℕ) (place : ℕ) → NoneOf (Applies file place) (strict_reasons unread_ok) → IsAllowed unread_ok (chunk_at file place)
+allowed_where_none unread_ok file place (short, (header, (cut, (large, (blocks, content))))) =
     let whole : end_at file place ≤ length file = at_most (length file) (end_at file place) cut in
     let small : (header_at file place).data_size ≤ max_data_size = at_most max_data_size (header_at file place).data_size large in
-    IsAllowed-passed keep (chunk_at file place)
+    IsAllowed-passed unread_ok (chunk_at file place)
     (subst (λ (n : ℕ). n ≤ max_data_size) (sym (length-data file place whole)) small)
-    (content_where_none keep file place content)
+    (content_where_none unread_ok file place content)

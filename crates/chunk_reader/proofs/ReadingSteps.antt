@@ -27,48 +27,48 @@ use Rattle.chunk_reader.proofs.ChainSteps.{bytes-chain, totals_of-push, chain_go
 use Rattle.chunk_reader.proofs.FileFaults.{longest_is_one}
 
 -- a verdict behind a chain is the file's fault
-pub fault_here : (keep : Bool) (ks : List ChunkValue) (file : List ℕ) (place : ℕ) (fault : Fault)
-    → BeginsWithSignature file → IsChainOf (IsAllowed keep) ks file place → place < length file → IsVerdict keep file place fault
-    → IsFault keep file fault
-fault_here keep ks file place fault begins h below verdict =
-    inr (begins, (ks, place, longest_where_refused keep ks file place fault.why h verdict.0, below, verdict))
+pub fault_here : (unread_ok : Bool) (ks : List ChunkValue) (file : List ℕ) (place : ℕ) (fault : Fault)
+    → BeginsWithSignature file → IsChainOf (IsAllowed unread_ok) ks file place → place < length file → IsVerdict unread_ok file place fault
+    → IsFault unread_ok file fault
+fault_here unread_ok ks file place fault begins h below verdict =
+    inr (begins, (ks, place, longest_where_refused unread_ok ks file place fault.why h verdict.0, below, verdict))
 
 -- and the file's fault is the verdict behind the longest chain
-pub verdict_here : (keep : Bool) (ks : List ChunkValue) (file : List ℕ) (place : ℕ) (fault : Fault)
-    → BeginsWithSignature file → IsLongest (IsAllowed keep) ks file place → IsFault keep file fault → IsVerdict keep file place fault
-verdict_here keep ks file place fault begins h (inl (unsigned, is)) = absurd (unsigned begins)
-verdict_here keep ks file place fault begins h (inr (signed, (ls, other, longest, below, verdict))) =
-    subst (λ (p : ℕ). IsVerdict keep file p fault) (longest_is_one ls ks file other place longest h) verdict
+pub verdict_here : (unread_ok : Bool) (ks : List ChunkValue) (file : List ℕ) (place : ℕ) (fault : Fault)
+    → BeginsWithSignature file → IsLongest (IsAllowed unread_ok) ks file place → IsFault unread_ok file fault → IsVerdict unread_ok file place fault
+verdict_here unread_ok ks file place fault begins h (inl (unsigned, is)) = absurd (unsigned begins)
+verdict_here unread_ok ks file place fault begins h (inr (signed, (ls, other, longest, below, verdict))) =
+    subst (λ (p : ℕ). IsVerdict unread_ok file p fault) (longest_is_one ls ks file other place longest h) verdict
 
 -- a file that doesn't begin with the signature has this fault
-pub fault_unsigned : (keep : Bool) (file : List ℕ) → ¬ BeginsWithSignature file → IsFault keep file (record { at = 0; why = why.NoSignature })
-fault_unsigned keep file unsigned = inl (unsigned, refl)
+pub fault_unsigned : (unread_ok : Bool) (file : List ℕ) → ¬ BeginsWithSignature file → IsFault unread_ok file (record { at = 0; why = why.NoSignature })
+fault_unsigned unread_ok file unsigned = inl (unsigned, refl)
 
 -- where a chain of chunks reaches further, no reason applies behind the shorter one
-pub no_reason_before : (keep : Bool) (ks others : List ChunkValue) (file : List ℕ) (place other : ℕ)
-    → IsChainOf (IsAllowed keep) ks file place → IsChainOf (IsAllowed keep) others file other → place < other
-    → NoneOf (Applies file place) (strict_reasons keep)
-no_reason_before keep ks others file place other h longer below =
-    let next = further_on (IsAllowed keep) ks others file place other h.within h.laid longer below in
-    no_reason keep place next.0 file next.1 next.3 next.2
+pub no_reason_before : (unread_ok : Bool) (ks others : List ChunkValue) (file : List ℕ) (place other : ℕ)
+    → IsChainOf (IsAllowed unread_ok) ks file place → IsChainOf (IsAllowed unread_ok) others file other → place < other
+    → NoneOf (Applies file place) (strict_reasons unread_ok)
+no_reason_before unread_ok ks others file place other h longer below =
+    let next = further_on (IsAllowed unread_ok) ks others file place other h.within h.laid longer below in
+    no_reason unread_ok place next.0 file next.1 next.3 next.2
 
 -- so none does in a file without fault, up to its end
-pub no_reason_without_fault : (keep : Bool) (ks : List ChunkValue) (file : List ℕ) (place : ℕ)
-    → HasNoFault keep file → IsChainOf (IsAllowed keep) ks file place → place < length file
-    → NoneOf (Applies file place) (strict_reasons keep)
-no_reason_without_fault keep ks file place (others, (some, whole)) h below =
-    no_reason_before keep ks others file place (length file) h whole below
+pub no_reason_without_fault : (unread_ok : Bool) (ks : List ChunkValue) (file : List ℕ) (place : ℕ)
+    → HasNoFault unread_ok file → IsChainOf (IsAllowed unread_ok) ks file place → place < length file
+    → NoneOf (Applies file place) (strict_reasons unread_ok)
+no_reason_without_fault unread_ok ks file place (others, (some, whole)) h below =
+    no_reason_before unread_ok ks others file place (length file) h whole below
 
 -- a chain to the end of the file shows that it has none
-pub no_fault_here : (keep : Bool) (ks : List ChunkValue) (file : List ℕ)
-    → BeginsWithSignature file → IsChainOf (IsAllowed keep) ks file (length file) → HasNoFault keep file
-no_fault_here keep ks file begins h = (
+pub no_fault_here : (unread_ok : Bool) (ks : List ChunkValue) (file : List ℕ)
+    → BeginsWithSignature file → IsChainOf (IsAllowed unread_ok) ks file (length file) → HasNoFault unread_ok file
+no_fault_here unread_ok ks file begins h = (
   ks,
   (
     λ none. omega (
       arith,
       signed_length file begins,
-      no_chunks file (length file) (subst (λ (xs : List ChunkValue). IsChainOf (IsAllowed keep) xs file (length file)) none h),
+      no_chunks file (length file) (subst (λ (xs : List ChunkValue). IsChainOf (IsAllowed unread_ok) xs file (length file)) none h),
     ),
     h,
   ),
@@ -97,24 +97,24 @@ totals-le ks =
     (omega (arith, counts.0), omega (arith, counts.1), count_by-le-length is_unread ks)
 
 -- a file with chunks up to a place behind its front begins as files do
-pub begins_here : (keep : Bool) (ks : List ChunkValue) (file : List ℕ) (place : ℕ)
-    → IsChainOf (IsAllowed keep) ks file place → 0 < place → BeginsWithSignature file
-begins_here keep [] file place h some = absurd (omega (arith, no_chunks file place h))
-begins_here keep (k ∷ ks) file place h some = begins_signed k ks file place h
+pub begins_here : (unread_ok : Bool) (ks : List ChunkValue) (file : List ℕ) (place : ℕ)
+    → IsChainOf (IsAllowed unread_ok) ks file place → 0 < place → BeginsWithSignature file
+begins_here unread_ok [] file place h some = absurd (omega (arith, no_chunks file place h))
+begins_here unread_ok (k ∷ ks) file place h some = begins_signed k ks file place h
 
 -- the chain with the chunk behind it, which no reason refuses, and what is counted of it
-pub next_read : (keep : Bool) (ks : List ChunkValue) (file : List ℕ) (place end : ℕ) (k : ChunkValue) (unread : Bool)
-    → BeginsWithSignature file → IsChainOf (IsAllowed keep) ks file place
+pub next_read : (unread_ok : Bool) (ks : List ChunkValue) (file : List ℕ) (place end : ℕ) (k : ChunkValue) (unread : Bool)
+    → BeginsWithSignature file → IsChainOf (IsAllowed unread_ok) ks file place
     → k ≡ chunk_at file place → end ≡ end_at file place
     → IsLaid place (chunk_at file place) (slice_range file place (end_at file place))
-    → NoneOf (Applies file place) (strict_reasons keep) → unread ≡ is_unread k
-    → IsChainOf (IsAllowed keep) (ks ++ k ∷ []) file end
+    → NoneOf (Applies file place) (strict_reasons unread_ok) → unread ≡ is_unread k
+    → IsChainOf (IsAllowed unread_ok) (ks ++ k ∷ []) file end
     × (totals_with_chunk (totals_of ks) end k.num_records unread ≡ totals_of (ks ++ k ∷ []))
-next_read keep ks file place end k unread begins h chunk_is end_is laid none tested =
-    let longer : IsChainOf (IsAllowed keep) (ks ++ k ∷ []) file end =
-    subst (λ (e : ℕ). IsChainOf (IsAllowed keep) (ks ++ k ∷ []) file e) (sym end_is)
-    (subst (λ (c : ChunkValue). IsChainOf (IsAllowed keep) (ks ++ c ∷ []) file (end_at file place)) (sym chunk_is)
-    (chain_goes_on keep ks file place h begins laid (allowed_where_none keep file place none))) in
+next_read unread_ok ks file place end k unread begins h chunk_is end_is laid none tested =
+    let longer : IsChainOf (IsAllowed unread_ok) (ks ++ k ∷ []) file end =
+    subst (λ (e : ℕ). IsChainOf (IsAllowed unread_ok) (ks ++ k ∷ []) file e) (sym end_is)
+    (subst (λ (c : ChunkValue). IsChainOf (IsAllowed unread_ok) (ks ++ c ∷ []) file (end_at file place)) (sym chunk_is)
+    (chain_goes_on unread_ok ks file place h begins laid (allowed_where_none unread_ok file place none))) in
     let ends : end_of_chunk (totals_of ks).bytes k ≡ end =
     ap (λ (c : ChunkValue). end_of_chunk (totals_of ks).bytes c) chunk_is
     ∙ ap (λ (p : ℕ). end_of_chunk p (chunk_at file place)) (bytes-chain ks file place h)

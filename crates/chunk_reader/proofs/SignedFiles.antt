@@ -12,7 +12,7 @@ use Rattle.chunk_reader.specs.Places.{end_at, chunk_at}
 use Rattle.chunk_reader.specs.Reasons.{Applies, NoneOf, strict_reasons}
 use Rattle.chunk_reader.specs.Faults.{IsAllowed, BeginsWithSignature}
 use Rattle.chunk_reader.proofs.LaidAt.{end_at-laid, chunk_at-laid}
-use Rattle.chunk_reader.proofs.AllowedChunks.{IsAllowed-frame}
+use Rattle.chunk_reader.proofs.AllowedChunks.{IsAllowed-unread_too}
 use Rattle.chunk_reader.proofs.NoReason.{no_reason}
 
 -- the signature can be held, and is a plain chunk
@@ -38,9 +38,9 @@ IsPlain-signature = (
   )),
 )
 
-pub IsAllowed-signature : (keep : Bool) → IsAllowed keep signature
+pub IsAllowed-signature : (unread_ok : Bool) → IsAllowed unread_ok signature
 IsAllowed-signature false = IsPlain-signature
-IsAllowed-signature true = IsAllowed-frame signature IsPlain-signature
+IsAllowed-signature true = IsAllowed-unread_too signature IsPlain-signature
 
 -- it ends 64 bytes behind the file's begin
 pub end_of_chunk-signature : end_of_chunk 0 signature ≡ 64
@@ -65,9 +65,9 @@ pub end_at-signature : (file : List ℕ) → BeginsWithSignature file → end_at
 end_at-signature file begins = end_at-laid 0 signature file 64 (IsLaid-signature file begins) ∙ end_of_chunk-signature
 
 -- and no reason applies to it
-pub no_reason-signature : (keep : Bool) (file : List ℕ) → BeginsWithSignature file → NoneOf (Applies file 0) (strict_reasons keep)
-no_reason-signature keep file begins =
-    no_reason keep 0 signature file 64 (IsLaid-signature file begins) (IsAllowed-signature keep)
+pub no_reason-signature : (unread_ok : Bool) (file : List ℕ) → BeginsWithSignature file → NoneOf (Applies file 0) (strict_reasons unread_ok)
+no_reason-signature unread_ok file begins =
+    no_reason unread_ok 0 signature file 64 (IsLaid-signature file begins) (IsAllowed-signature unread_ok)
 
 -- such a file has at least its bytes
 pub signed_length : (file : List ℕ) → BeginsWithSignature file → 64 ≤ length file

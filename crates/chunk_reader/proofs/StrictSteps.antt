@@ -22,11 +22,11 @@ use Rattle.chunk_reader.proofs.Rooms.{IsSized}
 use Rattle.chunk_reader.proofs.Verdicts.{verdict_loading, verdict_block, verdict_content, value_of-at, end_by-at, hash_of-at, none_at, laid_at}
 
 -- a reason by which its data isn't read is the verdict
-pub refused_early : (bytes : Option (List ℕ)) (keep : Bool) (at : ℕ) (fault : Fault) → fault.at ≡ at
+pub refused_early : (bytes : Option (List ℕ)) (unread_ok : Bool) (at : ℕ) (fault : Fault) → fault.at ≡ at
     → IfSome bytes (λ file. IsFirstOf (Applies file at) loading_reasons fault.why)
-    → IfSome bytes (λ file. IsVerdict keep file at fault)
-refused_early None keep at fault place first = tt
-refused_early (Some file) keep at fault place first = verdict_loading keep file at fault first place
+    → IfSome bytes (λ file. IsVerdict unread_ok file at fault)
+refused_early None unread_ok at fault place first = tt
+refused_early (Some file) unread_ok at fault place first = verdict_loading unread_ok file at fault first place
 
 -- no more is handed out than the chunk's header has
 pub handed_early : (bytes : Option (List ℕ)) (at before after : ℕ) → after ≤ before + 40
@@ -35,14 +35,14 @@ handed_early None at before after h = tt
 handed_early (Some file) at before after h = λ _. omega (arith, end_at_after file at)
 
 -- a wrong block is the verdict
-pub refused_block : (bytes now : Option (List ℕ)) (keep : Bool) (at end : ℕ) (h : Header) (fault : Fault) → now ≡ bytes
+pub refused_block : (bytes now : Option (List ℕ)) (unread_ok : Bool) (at end : ℕ) (h : Header) (fault : Fault) → now ≡ bytes
     → IsFoundHead loading_reasons bytes at h end → fault.why ≡ why.BlockHeader
     → IfSome now (λ file. IsFirstWrong file at end at end fault.at)
-    → IfSome bytes (λ file. IsVerdict keep file at fault)
-refused_block None now keep at end h fault same found is wrong = tt
-refused_block (Some file) now keep at end h fault same found is wrong =
+    → IfSome bytes (λ file. IsVerdict unread_ok file at fault)
+refused_block None now unread_ok at end h fault same found is wrong = tt
+refused_block (Some file) now unread_ok at end h fault same found is wrong =
     let P : Option (List ℕ) → Type 0 = λ o. IfSome o (λ bytes. IsFirstWrong bytes at end at end fault.at) in
-    verdict_block keep file at end fault found.none (found.ends ∙ end_by-at file at h found.fits found.header) (subst P same wrong) is
+    verdict_block unread_ok file at end fault found.none (found.ends ∙ end_by-at file at h found.fits found.header) (subst P same wrong) is
 
 -- what is known of a chunk whose data is read, and of its blocks
 pub record IsLoaded (bytes : Option (List ℕ)) (at end : ℕ) (c : Chunk) : Type 0 where
@@ -57,18 +57,18 @@ right_at : (file : List ℕ) (at end : ℕ) → end ≡ end_at file at → HaveH
 right_at file at end same right = subst (λ e. HaveHeadersOf file at e at e) same right
 
 -- a reason of its content is the verdict
-pub refused_content : (bytes : Option (List ℕ)) (keep : Bool) (at end : ℕ) (c : Chunk) (w : Why) (fault : Fault) → IsLoaded bytes at end c
+pub refused_content : (bytes : Option (List ℕ)) (unread_ok : Bool) (at end : ℕ) (c : Chunk) (w : Why) (fault : Fault) → IsLoaded bytes at end c
     → record { at = at; why = w } ≡ fault
-    → IsFirstOf (ContentApplies c.header.data_hash (value_of_chunk c)) (content_reasons keep) w
-    → IfSome bytes (λ file. IsVerdict keep file at fault)
-refused_content None keep at end c w fault loaded is first = tt
-refused_content (Some file) keep at end c w fault loaded is first =
+    → IsFirstOf (ContentApplies c.header.data_hash (value_of_chunk c)) (content_reasons unread_ok) w
+    → IfSome bytes (λ file. IsVerdict unread_ok file at fault)
+refused_content None unread_ok at end c w fault loaded is first = tt
+refused_content (Some file) unread_ok at end c w fault loaded is first =
     let h = c.header in
     let found = loaded.found in
     let same_end : end ≡ end_at file at = found.ends ∙ end_by-at file at h found.fits found.header in
-    let P : Fault → Type 0 = λ f. IsVerdict keep file at f in
+    let P : Fault → Type 0 = λ f. IsVerdict unread_ok file at f in
     subst P is (
-    verdict_content keep file at h.data_hash (value_of_chunk c) (record { at = at; why = w }) found.none
+    verdict_content unread_ok file at h.data_hash (value_of_chunk c) (record { at = at; why = w }) found.none
     (right_at file at end same_end loaded.right) (hash_of-at file at h found.fits found.header)
     (value_of-at file at h c.bytes found.fits found.header loaded.given) first refl)
 
@@ -91,7 +91,7 @@ early w (inr (inr (inr (inr none)))) = absurd none
 pub late_block : (w : Why) → w ≡ why.BlockHeader → ¬ IsOneOf loading_reasons w
 late_block w is one = subst IsEarly is (early w one)
 
-late : (P : Why → Type 0) (keep : Bool) (w : Why) → IsFirstOf P (content_reasons keep) w → ¬ IsEarly w
+late : (P : Why → Type 0) (unread_ok : Bool) (w : Why) → IsFirstOf P (content_reasons unread_ok) w → ¬ IsEarly w
 late P true w (inl h) e = subst IsEarly h.1 e
 late P true w (inr (a, inl h)) e = subst IsEarly h.1 e
 late P true w (inr (a, inr (b, inl h))) e = subst IsEarly h.1 e
@@ -103,25 +103,25 @@ late P false w (inr (a, inr (b, inr (c, inl h)))) e = subst IsEarly h.1 e
 late P false w (inr (a, inr (b, inr (c, inr (d, inl h))))) e = subst IsEarly h.1 e
 late P false w (inr (a, inr (b, inr (c, inr (d, inr (none, end)))))) e = end
 
-pub late_content : (P : Why → Type 0) (keep : Bool) (w : Why) → IsFirstOf P (content_reasons keep) w → ¬ IsOneOf loading_reasons w
-late_content P keep w first one = late P keep w first (early w one)
+pub late_content : (P : Why → Type 0) (unread_ok : Bool) (w : Why) → IsFirstOf P (content_reasons unread_ok) w → ¬ IsOneOf loading_reasons w
+late_content P unread_ok w first one = late P unread_ok w first (early w one)
 
 -- numbers that aren't different are the same
 hash_same : (a b : ℕ) → ¬ (a ≢ b) → b ≡ a
 hash_same a b same = elim (cases_eq a b) [ inl is ↦ sym is | inr other ↦ absurd (same other) ]
 
 -- where no reason of its content applies, the hash of its data is right
-pub right_hash : (keep : Bool) (c : Chunk) → NoneOf (ContentApplies c.header.data_hash (value_of_chunk c)) (content_reasons keep) → HasRightHash c
+pub right_hash : (unread_ok : Bool) (c : Chunk) → NoneOf (ContentApplies c.header.data_hash (value_of_chunk c)) (content_reasons unread_ok) → HasRightHash c
 right_hash true c none = hash_same (riegeli_hash c.bytes) c.header.data_hash none.0
 right_hash false c none = hash_same (riegeli_hash c.bytes) c.header.data_hash none.0
 
 -- and the chunk is judged
-pub judged_in : (bytes : Option (List ℕ)) (keep : Bool) (size at end : ℕ) (c : Chunk) (j : Judged) → IsSized bytes (Some size)
+pub judged_in : (bytes : Option (List ℕ)) (unread_ok : Bool) (size at end : ℕ) (c : Chunk) (j : Judged) → IsSized bytes (Some size)
     → IsLoaded bytes at end c → end ≤ size → j.end ≡ end → j.chunk ≡ c
-    → NoneOf (ContentApplies c.header.data_hash (value_of_chunk c)) (content_reasons keep)
-    → IfSome bytes (λ file. IsJudgedIn keep file at j)
-judged_in None keep size at end c j sized loaded within is_end is_chunk none = tt
-judged_in (Some file) keep size at end c j sized loaded within is_end is_chunk none =
+    → NoneOf (ContentApplies c.header.data_hash (value_of_chunk c)) (content_reasons unread_ok)
+    → IfSome bytes (λ file. IsJudgedIn unread_ok file at j)
+judged_in None unread_ok size at end c j sized loaded within is_end is_chunk none = tt
+judged_in (Some file) unread_ok size at end c j sized loaded within is_end is_chunk none =
     let h = c.header in
     let found = loaded.found in
     let same_end : end ≡ end_at file at = found.ends ∙ end_by-at file at h found.fits found.header in
@@ -129,8 +129,8 @@ judged_in (Some file) keep size at end c j sized loaded within is_end is_chunk n
     record {
       chunk = ap value_of_chunk is_chunk ∙ value_of-at file at h c.bytes found.fits found.header loaded.given;
       end = is_end ∙ same_end;
-      laid = laid_at file at h c.bytes found.fits found.header loaded.given loaded.sound (omega (arith, same_end, within)) right (right_hash keep c none);
-      none = none_at keep file at h c.bytes found.fits found.header loaded.given found.none right none;
+      laid = laid_at file at h c.bytes found.fits found.header loaded.given loaded.sound (omega (arith, same_end, within)) right (right_hash unread_ok c none);
+      none = none_at unread_ok file at h c.bytes found.fits found.header loaded.given found.none right none;
     }
 
 -- no more was handed out than the chunk has bytes

@@ -19,7 +19,7 @@ use Rattle.chunk_reader.specs.Places.{header_bytes_at, header_at, end_by, end_at
 use Rattle.chunk_reader.specs.Reasons.{HasBadContents, ContentApplies, IsWrongBlock, Applies, NoneOf, IsFirstOf, content_reasons, unpassed_reasons}
 use Rattle.chunk_reader.specs.Holders.{TellsBegin, ArePlacesBetween, IsOnWay, IsHolder, IsHolderFault}
 use Rattle.chunk_reader.specs.Pieces.{TellsUnread}
-use Rattle.chunk_reader.specs.Searches.{MayAnswerAt, AnswersAt, HasRecordsAt, SearchGives, IsSearchFault}
+use Rattle.chunk_reader.specs.PositionSearches.{MayAnswerAt, AnswersAt, HasRecordsAt, SearchGives, IsSearchFault}
 use Rattle.chunk_reader.specs.SearchBounds.{length_of_chunk, chunks_without_records, greatest_length_from, digit_count_of_blocks, position_bound, key_bound}
 use Rattle.chunk_reader.specs.Faults.{BeginsWithSignature, HasNoFault, IsFault}
 use Rattle.chunk_reader.specs.declared.reasons.Fault.{Fault}
@@ -191,7 +191,7 @@ compressed_content hash (inr (simple, inl none)) = omega (arith, ap length none)
 compressed_content hash (inr (simple, inr (plain, none))) = omega (arith, same_Some 0x62 0 plain)
 
 -- where the hash is wrong and the contents are too, the hash is told
-hash_before_contents : (keep : Bool) → IsFirstOf (ContentApplies 0 empty) (content_reasons keep) why.DataHash
+hash_before_contents : (unread_ok : Bool) → IsFirstOf (ContentApplies 0 empty) (content_reasons unread_ok) why.DataHash
 unfolding empty hash_of finished after_remainder after_packets finishing_round updated mixed multiplied zipped reset lanes_of remainder_packet
 hash_before_contents false = inl (λ same. omega (arith, same), refl)
 hash_before_contents true = inl (λ same. omega (arith, same), refl)

@@ -49,25 +49,25 @@ begin_of_first P file place at (w ∷ reasons) first each (inr (not, later)) her
     begin_of_first P file place at reasons first each.1 later here
 
 -- a reason by which a chunk is refused before its data is read is its verdict
-pub verdict_loading : (keep : Bool) (file : List ℕ) (place : ℕ) (fault : Fault)
-    → IsFirstOf (Applies file place) loading_reasons fault.why → fault.at ≡ place → IsVerdict keep file place fault
-verdict_loading keep file place fault first here = (
-  first_in_front (Applies file place) loading_reasons (why.BlockHeader ∷ content_reasons keep) fault.why first,
+pub verdict_loading : (unread_ok : Bool) (file : List ℕ) (place : ℕ) (fault : Fault)
+    → IsFirstOf (Applies file place) loading_reasons fault.why → fault.at ≡ place → IsVerdict unread_ok file place fault
+verdict_loading unread_ok file place fault first here = (
+  first_in_front (Applies file place) loading_reasons (why.BlockHeader ∷ content_reasons unread_ok) fault.why first,
   begin_of_first (Applies file place) file place fault.at loading_reasons fault.why
       ((λ e. e), ((λ e. e), ((λ e. e), ((λ e. e), tt)))) first here,
 )
 
 -- so is the first wrong block, where none of these applies
-pub verdict_block : (keep : Bool) (file : List ℕ) (place end : ℕ) (fault : Fault)
+pub verdict_block : (unread_ok : Bool) (file : List ℕ) (place end : ℕ) (fault : Fault)
     → NoneOf (Applies file place) loading_reasons → end ≡ end_at file place
     → IsFirstWrong file place end place end fault.at → fault.why ≡ why.BlockHeader
-    → IsVerdict keep file place fault
-verdict_block keep file place end fault none is wrong reason =
+    → IsVerdict unread_ok file place fault
+verdict_block unread_ok file place end fault none is wrong reason =
     let there : IsFirstWrong file place (end_at file place) place (end_at file place) fault.at =
     subst (λ (e : ℕ). IsFirstWrong file place e place e fault.at) is wrong in
     let block : IsWrongBlock file place fault.at =
     record { is_block = there.is_block; from = there.from_place; below = there.below; differs = there.differs } in (
-      first_behind (Applies file place) loading_reasons (why.BlockHeader ∷ content_reasons keep) fault.why none
+      first_behind (Applies file place) loading_reasons (why.BlockHeader ∷ content_reasons unread_ok) fault.why none
           (inl ((fault.at, block), reason)),
       subst (λ (w : Why). IsPlaceOf file place w fault.at) (sym reason) (
         block,
@@ -85,62 +85,62 @@ pub no_wrong_block : (file : List ℕ) (place : ℕ) → HaveHeadersOf file plac
 no_wrong_block file place blocks (block, wrong) = wrong.differs (blocks block wrong.is_block wrong.from wrong.below)
 
 -- the reasons of content are judged over the chunk at the place
-content_first : (keep : Bool) (file : List ℕ) (place : ℕ) (first : Why)
-    → IsFirstOf (ContentApplies (header_at file place).data_hash (chunk_at file place)) (content_reasons keep) first
-    → IsFirstOf (Applies file place) (content_reasons keep) first
+content_first : (unread_ok : Bool) (file : List ℕ) (place : ℕ) (first : Why)
+    → IsFirstOf (ContentApplies (header_at file place).data_hash (chunk_at file place)) (content_reasons unread_ok) first
+    → IsFirstOf (Applies file place) (content_reasons unread_ok) first
 content_first false file place first is = is
 content_first true file place first is = is
 
-pub content_none : (keep : Bool) (file : List ℕ) (place : ℕ)
-    → NoneOf (ContentApplies (header_at file place).data_hash (chunk_at file place)) (content_reasons keep)
-    → NoneOf (Applies file place) (content_reasons keep)
+pub content_none : (unread_ok : Bool) (file : List ℕ) (place : ℕ)
+    → NoneOf (ContentApplies (header_at file place).data_hash (chunk_at file place)) (content_reasons unread_ok)
+    → NoneOf (Applies file place) (content_reasons unread_ok)
 content_none false file place none = none
 content_none true file place none = none
 
 -- their fault is at the chunk's begin
-content_begin : (keep : Bool) (file : List ℕ) (place at : ℕ) → AllByRecursion (λ w. at ≡ place → IsPlaceOf file place w at) (content_reasons keep)
+content_begin : (unread_ok : Bool) (file : List ℕ) (place at : ℕ) → AllByRecursion (λ w. at ≡ place → IsPlaceOf file place w at) (content_reasons unread_ok)
 content_begin false file place at = ((λ e. e), ((λ e. e), ((λ e. e), ((λ e. e), ((λ e. e), tt)))))
 content_begin true file place at = ((λ e. e), ((λ e. e), ((λ e. e), tt)))
 
 -- so a reason of the content is the verdict, where the header and the blocks are right
-pub verdict_content : (keep : Bool) (file : List ℕ) (place hash : ℕ) (k : ChunkValue) (fault : Fault)
+pub verdict_content : (unread_ok : Bool) (file : List ℕ) (place hash : ℕ) (k : ChunkValue) (fault : Fault)
     → NoneOf (Applies file place) loading_reasons → HaveHeadersOf file place (end_at file place) place (end_at file place)
     → hash ≡ (header_at file place).data_hash → k ≡ chunk_at file place
-    → IsFirstOf (ContentApplies hash k) (content_reasons keep) fault.why → fault.at ≡ place
-    → IsVerdict keep file place fault
-verdict_content keep file place hash k fault none blocks hash_is chunk_is first here =
-    let there : IsFirstOf (Applies file place) (content_reasons keep) fault.why =
-    content_first keep file place fault.why
-    (subst (λ (c : ChunkValue). IsFirstOf (ContentApplies (header_at file place).data_hash c) (content_reasons keep) fault.why) chunk_is
-    (subst (λ (h : ℕ). IsFirstOf (ContentApplies h k) (content_reasons keep) fault.why) hash_is first)) in (
-      first_behind (Applies file place) loading_reasons (why.BlockHeader ∷ content_reasons keep) fault.why none
+    → IsFirstOf (ContentApplies hash k) (content_reasons unread_ok) fault.why → fault.at ≡ place
+    → IsVerdict unread_ok file place fault
+verdict_content unread_ok file place hash k fault none blocks hash_is chunk_is first here =
+    let there : IsFirstOf (Applies file place) (content_reasons unread_ok) fault.why =
+    content_first unread_ok file place fault.why
+    (subst (λ (c : ChunkValue). IsFirstOf (ContentApplies (header_at file place).data_hash c) (content_reasons unread_ok) fault.why) chunk_is
+    (subst (λ (h : ℕ). IsFirstOf (ContentApplies h k) (content_reasons unread_ok) fault.why) hash_is first)) in (
+      first_behind (Applies file place) loading_reasons (why.BlockHeader ∷ content_reasons unread_ok) fault.why none
           (inr (no_wrong_block file place blocks, there)),
-      begin_of_first (Applies file place) file place fault.at (content_reasons keep) fault.why (content_begin keep file place fault.at) there here,
+      begin_of_first (Applies file place) file place fault.at (content_reasons unread_ok) fault.why (content_begin unread_ok file place fault.at) there here,
     )
 
 -- in a frame the reasons are the same but for those that name what isn't read
-pub first_framed : (P : Why → Type 0) (first : Why) → first ≢ why.Compressed → first ≢ why.Transposed
+pub first_with_unread : (P : Why → Type 0) (first : Why) → first ≢ why.Compressed → first ≢ why.Transposed
     → IsFirstOf P (content_reasons false) first → IsFirstOf P (content_reasons true) first
-first_framed P first c t (inl hash) = inl hash
-first_framed P first c t (inr (a, inl contents)) = inr (a, inl contents)
-first_framed P first c t (inr (a, inr (b, inl (compressed, is)))) = absurd (c is)
-first_framed P first c t (inr (a, inr (b, inr (d, inl (transposed, is))))) = absurd (t is)
-first_framed P first c t (inr (a, inr (b, inr (d, inr (e, inl unknown))))) = inr (a, inr (b, inl unknown))
-first_framed P first c t (inr (a, inr (b, inr (d, inr (e, inr never))))) = absurd never.1
+first_with_unread P first c t (inl hash) = inl hash
+first_with_unread P first c t (inr (a, inl contents)) = inr (a, inl contents)
+first_with_unread P first c t (inr (a, inr (b, inl (compressed, is)))) = absurd (c is)
+first_with_unread P first c t (inr (a, inr (b, inr (d, inl (transposed, is))))) = absurd (t is)
+first_with_unread P first c t (inr (a, inr (b, inr (d, inr (e, inl unknown))))) = inr (a, inr (b, inl unknown))
+first_with_unread P first c t (inr (a, inr (b, inr (d, inr (e, inr never))))) = absurd never.1
 
 -- and a chunk that is refused by one of those is left unread in a frame: no other reason applies
-pub none_framed : (hash : ℕ) (k : ChunkValue) (first : Why) → (first ≡ why.Compressed) ⊎ (first ≡ why.Transposed)
+pub none_with_unread : (hash : ℕ) (k : ChunkValue) (first : Why) → (first ≡ why.Compressed) ⊎ (first ≡ why.Transposed)
     → IsFirstOf (ContentApplies hash k) (content_reasons false) first
     → NoneOf (ContentApplies hash k) (content_reasons true) × (IsCompressed k ⊎ IsTransposed k)
-none_framed hash k first unread (inl (differs, is)) = absurd (elim unread [ inl c ↦ cc (c, is) | inr t ↦ cc (t, is) ])
-none_framed hash k first unread (inr (a, inl (contents, is))) = absurd (elim unread [ inl c ↦ cc (c, is) | inr t ↦ cc (t, is) ])
-none_framed hash k first unread (inr (a, inr (b, inl (compressed, is)))) =
+none_with_unread hash k first unread (inl (differs, is)) = absurd (elim unread [ inl c ↦ cc (c, is) | inr t ↦ cc (t, is) ])
+none_with_unread hash k first unread (inr (a, inl (contents, is))) = absurd (elim unread [ inl c ↦ cc (c, is) | inr t ↦ cc (t, is) ])
+none_with_unread hash k first unread (inr (a, inr (b, inl (compressed, is)))) =
     ((a, (b, ((λ no_name. no_name.simple compressed.0), tt))), inl compressed)
-none_framed hash k first unread (inr (a, inr (b, inr (d, inl (transposed, is))))) =
+none_with_unread hash k first unread (inr (a, inr (b, inr (d, inl (transposed, is))))) =
     ((a, (b, ((λ no_name. no_name.transposed transposed), tt))), inr transposed)
-none_framed hash k first unread (inr (a, inr (b, inr (d, inr (e, inl (unknown, is)))))) =
+none_with_unread hash k first unread (inr (a, inr (b, inr (d, inr (e, inl (unknown, is)))))) =
     absurd (elim unread [ inl c ↦ cc (c, is) | inr t ↦ cc (t, is) ])
-none_framed hash k first unread (inr (a, inr (b, inr (d, inr (e, inr never))))) = absurd never.1
+none_with_unread hash k first unread (inr (a, inr (b, inr (d, inr (e, inr never))))) = absurd never.1
 
 -- what no reason refuses strictly, none refuses in a frame
 pub none_strict : (P : Why → Type 0) → NoneOf P (content_reasons false) → NoneOf P (content_reasons true)
@@ -168,17 +168,17 @@ pub hash_of-at : (file : List ℕ) (place : ℕ) (h : Header) → IsHeader h →
 hash_of-at file place h sound same = ap (λ (v : HeaderValue). v.data_hash) (sym (header_at-header file place h sound same))
 
 -- where the header, the blocks and the content are right, no reason applies
-pub none_at : (keep : Bool) (file : List ℕ) (place : ℕ) (h : Header) (bytes : List ℕ) → IsHeader h
+pub none_at : (unread_ok : Bool) (file : List ℕ) (place : ℕ) (h : Header) (bytes : List ℕ) → IsHeader h
     → header_bytes_at file place ≡ bytes_of_header h → bytes ≡ data_at file place h.data_size
     → NoneOf (Applies file place) loading_reasons → HaveHeadersOf file place (end_at file place) place (end_at file place)
-    → NoneOf (ContentApplies h.data_hash (value_of h bytes)) (content_reasons keep)
-    → NoneOf (Applies file place) (strict_reasons keep)
-none_at keep file place h bytes sound same given none blocks content =
-    none_behind (Applies file place) loading_reasons (why.BlockHeader ∷ content_reasons keep) none (
+    → NoneOf (ContentApplies h.data_hash (value_of h bytes)) (content_reasons unread_ok)
+    → NoneOf (Applies file place) (strict_reasons unread_ok)
+none_at unread_ok file place h bytes sound same given none blocks content =
+    none_behind (Applies file place) loading_reasons (why.BlockHeader ∷ content_reasons unread_ok) none (
       no_wrong_block file place blocks,
-      content_none keep file place
-          (subst (λ (c : ChunkValue). NoneOf (ContentApplies (header_at file place).data_hash c) (content_reasons keep)) (value_of-at file place h bytes sound same given)
-          (subst (λ (x : ℕ). NoneOf (ContentApplies x (value_of h bytes)) (content_reasons keep)) (hash_of-at file place h sound same) content)),
+      content_none unread_ok file place
+          (subst (λ (c : ChunkValue). NoneOf (ContentApplies (header_at file place).data_hash c) (content_reasons unread_ok)) (value_of-at file place h bytes sound same given)
+          (subst (λ (x : ℕ). NoneOf (ContentApplies x (value_of h bytes)) (content_reasons unread_ok)) (hash_of-at file place h sound same) content)),
     )
 
 -- and the chunk is laid

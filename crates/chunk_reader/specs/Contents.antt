@@ -28,16 +28,17 @@ IsContent k (content.Records records) = IsSimple k records
 
 -- the same in short, where other chunks are left unread if these are kept
 abbrev pub IsWhat : Bool → ChunkValue → What → Type 0
-IsWhat keep k (Records records) = IsSimple k records
-IsWhat keep k Passive = IsSignature k ⊎ IsMetadata k ⊎ IsPadding k
-IsWhat keep k Unread = (keep ≡ true) × (IsCompressed k ⊎ IsTransposed k)
+IsWhat unread_ok k (Records records) = IsSimple k records
+IsWhat unread_ok k Passive = IsSignature k ⊎ IsMetadata k ⊎ IsPadding k
+IsWhat unread_ok k Unread = (unread_ok ≡ true) × (IsCompressed k ⊎ IsTransposed k)
 
 -- the content of a chunk is refused exactly by the first reason that applies to it, unless memory is wanting first
-pub record JudgesContent {X : Type 0} (keep : Bool) (chunk : Chunk) (result : Result X ContentEnd) : Type 0 where
+pub record JudgesContent {X : Type 0} (unread_ok : Bool) (chunk : Chunk)
+    (result : Result X ContentEnd) : Type 0 where
   pub sound : IfOk result
-      (λ _. NoneOf (ContentApplies chunk.header.data_hash (value_of_chunk chunk)) (content_reasons keep))
+      (λ _. NoneOf (ContentApplies chunk.header.data_hash (value_of_chunk chunk)) (content_reasons unread_ok))
   pub refused : (why : Why) → result ≡ Err (Fault why)
-      → IsFirstOf (ContentApplies chunk.header.data_hash (value_of_chunk chunk)) (content_reasons keep) why
+      → IsFirstOf (ContentApplies chunk.header.data_hash (value_of_chunk chunk)) (content_reasons unread_ok) why
 
 -- the records that are given of it: none where it isn't a chunk of records
 abbrev pub records_given : What → List (List ℕ)
@@ -45,7 +46,7 @@ records_given (Records records) = records
 records_given other = []
 
 -- a chunk given from a place of a file of so many bytes
-pub record IsJudged (keep : Bool) (size place : ℕ) (j : Judged) : Type 0 where
+pub record IsJudged (unread_ok : Bool) (size place : ℕ) (j : Judged) : Type 0 where
   pub begin : j.begin ≡ place
   pub end : j.end ≡ end_of_chunk place (value_of_chunk j.chunk)
   pub to_boundary : IsBoundary j.end
@@ -54,11 +55,11 @@ pub record IsJudged (keep : Bool) (size place : ℕ) (j : Judged) : Type 0 where
   pub small : length j.chunk.bytes ≤ max_data_size
   pub right : HasRightHash j.chunk
   pub sound : IsChunk (value_of_chunk j.chunk)
-  pub what : IsWhat keep (value_of_chunk j.chunk) j.what
+  pub what : IsWhat unread_ok (value_of_chunk j.chunk) j.what
 
 -- it is the chunk at a place of a file, which is laid there, and which no reason refuses
-pub record IsJudgedIn (keep : Bool) (file : List ℕ) (place : ℕ) (j : Judged) : Type 0 where
+pub record IsJudgedIn (unread_ok : Bool) (file : List ℕ) (place : ℕ) (j : Judged) : Type 0 where
   pub chunk : value_of_chunk j.chunk ≡ chunk_at file place
   pub end : j.end ≡ end_at file place
   pub laid : IsLaid place (chunk_at file place) (slice_range file place (end_at file place))
-  pub none : NoneOf (Applies file place) (strict_reasons keep)
+  pub none : NoneOf (Applies file place) (strict_reasons unread_ok)

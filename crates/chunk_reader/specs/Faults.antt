@@ -3,7 +3,7 @@
 use Rattle.std.specs.Prelude.{◌≡◌, ℕ, ◌<◌, ◌≤◌, Bool, true, false, ◌⊎◌, Some, List, length, slice_get, take}
 use Rattle.std.specs.List.{AllByRecursion}
 use Rattle.chunk_header.specs.Chunks.{ChunkValue}
-use Rattle.meta_chunk.specs.Files.{signature_bytes, IsPlain, IsFramed, IsChainOf, IsFileOf}
+use Rattle.meta_chunk.specs.Files.{signature_bytes, IsPlain, IsWellFormedChunk, IsChainOf, IsFileOf}
 use Rattle.chunk_reader.specs.Reasons.{IsWrongBlock, Applies, IsFirstOf, strict_reasons}
 use Rattle.chunk_reader.specs.declared.reasons.Why.{Why}
 use Rattle.chunk_reader.specs.declared.reasons.Why.TheVariants as why
@@ -12,7 +12,7 @@ use Rattle.chunk_reader.specs.declared.reasons.Fault.{Fault}
 -- the chunks that reading passes: those that are read, and to keep, which a true here and below stands for, unread ones too
 abbrev pub IsAllowed : Bool → ChunkValue → Type 0
 IsAllowed false = IsPlain
-IsAllowed true = IsFramed
+IsAllowed true = IsWellFormedChunk
 
 -- the place of a fault: the first wrong block, or else the chunk's begin
 abbrev pub IsPlaceOf : List ℕ → ℕ → Why → ℕ → Type 0
@@ -22,8 +22,9 @@ IsPlaceOf file place other at = at ≡ place
 
 -- the strict verdict on the chunk at a place is this fault
 abbrev pub IsVerdict : Bool → List ℕ → ℕ → Fault → Type 0
-IsVerdict keep file place fault =
-    IsFirstOf (Applies file place) (strict_reasons keep) fault.why × IsPlaceOf file place fault.why fault.at
+IsVerdict unread_ok file place fault =
+    IsFirstOf (Applies file place) (strict_reasons unread_ok) fault.why
+    × IsPlaceOf file place fault.why fault.at
 
 -- the chunks are the longest front of the file in which each meets P, and end at the place
 pub record IsLongest (P : ChunkValue → Type 0) (ks : List ChunkValue) (file : List ℕ) (place : ℕ) : Type 0 where
@@ -36,23 +37,25 @@ BeginsWithSignature file = take (length signature_bytes) file ≡ signature_byte
 
 -- the file has no fault: it is well-formed chunks from its front to its end
 abbrev pub HasNoFault : Bool → List ℕ → Type 0
-HasNoFault keep file = (ks : List ChunkValue) × IsFileOf (IsAllowed keep) ks file
+HasNoFault unread_ok file = (ks : List ChunkValue) × IsFileOf (IsAllowed unread_ok) ks file
 
 -- the fault of a file that has one: that it doesn't begin as files do, or else the verdict where its longest front of
 -- well-formed chunks ends
 abbrev pub IsFault : Bool → List ℕ → Fault → Type 0
-IsFault keep file fault =
+IsFault unread_ok file fault =
     ((¬ BeginsWithSignature file) × (fault ≡ record { at = 0; why = why.NoSignature }))
-    ⊎ (BeginsWithSignature file × ((ks : List ChunkValue) × (place : ℕ) × IsLongest (IsAllowed keep) ks file place
-    × (place < length file) × IsVerdict keep file place fault))
+    ⊎ (BeginsWithSignature file
+    × ((ks : List ChunkValue) × (place : ℕ) × IsLongest (IsAllowed unread_ok) ks file place
+    × (place < length file) × IsVerdict unread_ok file place fault))
 
 -- none of the files has a fault, with compressed and transposed chunks refused or, to keep, left unread
 abbrev pub HaveNoFault : Bool → List (List ℕ) → Type 0
-HaveNoFault keep files = AllByRecursion (HasNoFault keep) files
+HaveNoFault unread_ok files = AllByRecursion (HasNoFault unread_ok) files
 
 -- of the files that have a fault this is the first, by its number from 0, and this is its fault
-pub record IsFirstFault (keep : Bool) (files : List (List ℕ)) (index : ℕ) (fault : Fault) : Type 0 where
-  pub before : HaveNoFault keep (take index files)
+pub record IsFirstFault (unread_ok : Bool) (files : List (List ℕ)) (index : ℕ)
+    (fault : Fault) : Type 0 where
+  pub before : HaveNoFault unread_ok (take index files)
   pub file : List ℕ
   pub there : slice_get files index ≡ Some file
-  pub is_fault : IsFault keep file fault
+  pub is_fault : IsFault unread_ok file fault

@@ -6,7 +6,7 @@ pub mod BlockJudges
 pub mod Reasons
 pub mod Heads
 pub mod Faults
-pub mod Fronts
+pub mod LongestFronts
 pub mod HeldData
 pub mod Contents
 pub mod Progress
@@ -15,6 +15,6 @@ pub mod Ends
 pub mod Pieces
 pub mod Names
 pub mod Holders
-pub mod Searches
+pub mod PositionSearches
 pub mod SearchBounds
 pub mod HolderBounds

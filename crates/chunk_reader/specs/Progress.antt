@@ -9,7 +9,7 @@ use Rattle.chunk_reader.specs.Faults.{IsAllowed}
 -- a reader of a file of so many bytes, and the totals of the chunks that it gave
 pub record ReaderValue : Type 0 where
   pub size : ℕ
-  pub keep : Bool
+  pub unread_ok : Bool
   pub totals : Totals
 
 -- the totals with one chunk more, which ends at a place
@@ -32,5 +32,6 @@ pub record AreInBounds (size : ℕ) (totals : Totals) : Type 0 where
 
 -- the totals are those of the chunks at the front of a file, up to where they end
 abbrev pub AreReadFrom : Bool → List ℕ → Totals → Type 0
-AreReadFrom keep file totals =
-    (ks : List ChunkValue) × IsChainOf (IsAllowed keep) ks file totals.bytes × (totals ≡ totals_of ks)
+AreReadFrom unread_ok file totals =
+    (ks : List ChunkValue) × IsChainOf (IsAllowed unread_ok) ks file totals.bytes
+    × (totals ≡ totals_of ks)

@@ -16,21 +16,23 @@ use Rattle.chunk_reader.specs.declared.reasons.ReadEnd.{ReadEnd}
 pub record ReadsIn (file : Option (List ℕ)) (told : Option ℕ) (at : ReaderValue) : Type 0 where
   pub size : told ≡ Some at.size
   pub in_reach : at.size ≤ 2 ^ 60
-  pub read : IfSome file (λ bytes. AreReadFrom at.keep bytes at.totals)
+  pub read : IfSome file (λ bytes. AreReadFrom at.unread_ok bytes at.totals)
 
 -- a reader went on in its file
 pub record ReadsOn (file : Option (List ℕ)) (before after : ReaderValue) : Type 0 where
   pub same_size : after.size ≡ before.size
-  pub same_keep : after.keep ≡ before.keep
+  pub same_unread_ok : after.unread_ok ≡ before.unread_ok
   pub totals : AreInBounds after.size after.totals
-  pub read : IfSome file (λ bytes. AreReadFrom after.keep bytes after.totals)
+  pub read : IfSome file (λ bytes. AreReadFrom after.unread_ok bytes after.totals)
 
 -- the chunk is the next one: well formed where the reader stood, and one more behind all that were given
 pub record IsNextChunk (file : Option (List ℕ)) (before after : ReaderValue) (j : Judged) : Type 0 where
-  pub judged : IsJudged before.keep before.size before.totals.bytes j
+  pub judged : IsJudged before.unread_ok before.size before.totals.bytes j
   pub moved : after.totals.bytes ≡ j.end
-  pub given : IfSome file (λ bytes. (ks : List ChunkValue) → IsChainOf (IsAllowed before.keep) ks bytes before.totals.bytes → before.totals ≡ totals_of ks
-      → IsChainOf (IsAllowed before.keep) (ks ++ value_of_chunk j.chunk ∷ []) bytes after.totals.bytes
+  pub given : IfSome file (λ bytes. (ks : List ChunkValue)
+      → IsChainOf (IsAllowed before.unread_ok) ks bytes before.totals.bytes
+      → before.totals ≡ totals_of ks
+      → IsChainOf (IsAllowed before.unread_ok) (ks ++ value_of_chunk j.chunk ∷ []) bytes after.totals.bytes
       × (after.totals ≡ totals_of (ks ++ value_of_chunk j.chunk ∷ [])))
 
 -- a reader stands at the end of its file, which is the chunks that were given
@@ -38,12 +40,15 @@ pub record IsReadWhole (file : Option (List ℕ)) (at : ReaderValue) : Type 0 wh
   pub at_end : at.totals.bytes ≡ at.size
   pub signed : 64 ≤ at.size
   pub boundary : IsBoundary at.size
-  pub whole : IfSome file (λ bytes. (ks : List ChunkValue) → IsChainOf (IsAllowed at.keep) ks bytes at.totals.bytes → IsFileOf (IsAllowed at.keep) ks bytes)
+  pub whole : IfSome file (λ bytes. (ks : List ChunkValue)
+      → IsChainOf (IsAllowed at.unread_ok) ks bytes at.totals.bytes
+      → IsFileOf (IsAllowed at.unread_ok) ks bytes)
 
 -- the fault is that of the file, and all chunks before it were given
 pub record IsFaultBehind (file : Option (List ℕ)) (at : ReaderValue) (fault : Fault) : Type 0 where
-  pub is_fault : IfSome file (λ bytes. IsFault at.keep bytes fault)
-  pub all_given : IfSome file (λ bytes. (ks : List ChunkValue) (place : ℕ) → IsChainOf (IsAllowed at.keep) ks bytes place → place ≤ at.totals.bytes)
+  pub is_fault : IfSome file (λ bytes. IsFault at.unread_ok bytes fault)
+  pub all_given : IfSome file (λ bytes. (ks : List ChunkValue) (place : ℕ)
+      → IsChainOf (IsAllowed at.unread_ok) ks bytes place → place ≤ at.totals.bytes)
 
 -- at a place of a file that begins as files do is a chunk whose header is right, which lies in the file and whose data isn't too
 -- large

@@ -71,5 +71,5 @@ content_reasons true = why.DataHash ∷ why.Contents ∷ why.UnknownKind ∷ []
 
 -- all reasons of strict reading, in order
 abbrev pub strict_reasons : Bool → List Why
-strict_reasons keep =
-    why.Short ∷ why.HeaderHash ∷ why.Truncated ∷ why.TooLarge ∷ why.BlockHeader ∷ content_reasons keep
+strict_reasons unread_ok =
+    why.Short ∷ why.HeaderHash ∷ why.Truncated ∷ why.TooLarge ∷ why.BlockHeader ∷ content_reasons unread_ok

@@ -22,7 +22,7 @@ use std::marker::Model;
 #[derive(Debug, Drop)]
 pub struct Reader {
     size: u64,
-    keep: bool,
+    unread_ok: bool,
     totals: Totals,
 }
 
@@ -32,23 +32,23 @@ impl Model for Reader {
 
     ghost Value = { ReaderValue };
 
-    ghost view = { λ r. record { size = r.size; keep = r.keep; totals = r.totals } };
+    ghost view = { λ r. record { size = r.size; unread_ok = r.unread_ok; totals = r.totals } };
 
     ghost invariant = { λ r. AreInBounds r.size r.totals };
 }
 
 impl Reader {
-    /// A reader of a file of so many bytes, at its front. With `keep`, compressed and transposed chunks are left unread in
+    /// A reader of a file of so many bytes, at its front. With `unread_ok`, compressed and transposed chunks are left unread in
     /// place of being refused.
-    pub fn new(size: u64, keep: bool) -> Reader
+    pub fn new(size: u64, unread_ok: bool) -> Reader
         ensures size { result.size ≡ size }
-        ensures keep { result.keep ≡ keep }
+        ensures unread_ok { result.unread_ok ≡ unread_ok }
         ensures totals { result.totals ≡ record { chunks = 0; records = 0; bytes = 0; unread = 0 } }
-        ensures at_front { (file : List ℕ) → AreReadFrom keep file result.totals }
+        ensures at_front { (file : List ℕ) → AreReadFrom unread_ok file result.totals }
     {
         Reader {
             size,
-            keep,
+            unread_ok,
             totals: NO_CHUNKS,
         }
     }
@@ -95,7 +95,7 @@ impl Reader {
         let judged = if self.at() == 0 {
             first_chunk(alloc, store, self.size)?
         } else if self.at() < self.size {
-            strict_at(alloc, store, self.size, self.at(), self.keep)?
+            strict_at(alloc, store, self.size, self.at(), self.unread_ok)?
         } else {
             return Ok(None);
         };
@@ -109,8 +109,9 @@ impl Reader {
 /// The chunk that each file begins with, where a file of so many bytes begins with its bytes.
 fn first_chunk<S: Store>(alloc: Global, store: &mut S, size: u64) -> Result<Judged, VerifyEnd>
     requires told { S.told store.old ≡ Some size }
-    ensures judged { IfOk result (λ judged. (keep : Bool) → IsJudged keep size 0 judged) }
-    ensures sound { IfOk result (λ judged. (keep : Bool) → IfSome (S.bytes store.old) (λ file. IsJudgedIn keep file 0 judged)) }
+    ensures judged { IfOk result (λ judged. (unread_ok : Bool) → IsJudged unread_ok size 0 judged) }
+    ensures sound { IfOk result (λ judged. (unread_ok : Bool)
+        → IfSome (S.bytes store.old) (λ file. IsJudgedIn unread_ok file 0 judged)) }
     ensures signed { OnOk result (IfSome (S.bytes store.old) BeginsWithSignature) }
     ensures refused { (fault : Fault) → result ≡ Err (VerifyEnd.Refused fault) → (fault.at ≡ 0) × (fault.why ≡ Why.NoSignature)
         × IfSome (S.bytes store.old) (λ file. ¬ BeginsWithSignature file) }

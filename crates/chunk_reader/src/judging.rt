@@ -114,7 +114,7 @@ pub fn data_at<S: Store>(
 }
 
 /// Judges the chunk at a place of a file of `size` bytes, which were told, at most 2^60. The place is a boundary below
-/// `size`. With `keep`, compressed and transposed chunks are left unread in place of being refused. No more bytes are handed
+/// `size`. With `unread_ok`, compressed and transposed chunks are left unread in place of being refused. No more bytes are handed
 /// out than the chunk has, and its data is held.
 ///
 /// Riegeli/records file format specification, "Chunk". Own: the reasons and their order.
@@ -129,13 +129,13 @@ pub fn strict_at<S: Store>(
     store: &mut S,
     size: u64,
     at: u64,
-    keep: bool,
+    unread_ok: bool,
 ) -> Result<Judged, ReadEnd>
     requires place { MayBeginAt (S.told store.old) size at }
-    ensures judged { IfOk result (λ judged. IsJudged keep size at judged) }
-    ensures sound { IfOk result (λ judged. IfSome (S.bytes store.old) (λ file. IsJudgedIn keep file at judged)) }
+    ensures judged { IfOk result (λ judged. IsJudged unread_ok size at judged) }
+    ensures sound { IfOk result (λ judged. IfSome (S.bytes store.old) (λ file. IsJudgedIn unread_ok file at judged)) }
     ensures refused { (fault : Fault) → result ≡ Err (ReadEnd.Refused fault)
-        → IfSome (S.bytes store.old) (λ file. IsVerdict keep file at fault) }
+        → IfSome (S.bytes store.old) (λ file. IsVerdict unread_ok file at fault) }
     ensures early { IfSome (S.bytes store.old) (λ file. NoneOf (Applies file at) unpassed_reasons
         ⊎ (S.handed store.new ≤ S.handed store.old + 64)) }
     ensures handed { IfSome (S.bytes store.old) (λ file. NoneOf (Applies file at) unpassed_reasons
@@ -149,7 +149,7 @@ pub fn strict_at<S: Store>(
 {
     let (header, end) = whole_head_at(store, size, at)?;
     let (chunk, right) = read_chunk(alloc, store, at, end, header)?;
-    match what_of(alloc, &chunk, right, keep) {
+    match what_of(alloc, &chunk, right, unread_ok) {
         Ok(what) => Ok(Judged {
             begin: at,
             end,
@@ -161,17 +161,17 @@ pub fn strict_at<S: Store>(
     }
 }
 
-/// What a chunk holds of which it is known whether its header has the data's hash. With `keep`, compressed and transposed chunks
+/// What a chunk holds of which it is known whether its header has the data's hash. With `unread_ok`, compressed and transposed chunks
 /// are left unread in place of being refused.
-fn what_of(alloc: Global, chunk: &Chunk, right: bool, keep: bool) -> Result<What, ContentEnd>
+fn what_of(alloc: Global, chunk: &Chunk, right: bool, unread_ok: bool) -> Result<What, ContentEnd>
     requires { IsTrue right ↔ HasRightHash chunk.now }
-    ensures what { IfOk result (λ what. IsWhat keep (value_of_chunk chunk.now) what) }
-    ensures judged { JudgesContent keep chunk.now result }
+    ensures what { IfOk result (λ what. IsWhat unread_ok (value_of_chunk chunk.now) what) }
+    ensures judged { JudgesContent unread_ok chunk.now result }
 {
     match content_under(alloc, chunk, right) {
         Ok(Content::Records(records)) => Ok(What::Records(records)),
         Ok(_) => Ok(What::Passive),
-        Err(ContentEnd::Fault(Why::Compressed | Why::Transposed)) if keep => Ok(What::Unread),
+        Err(ContentEnd::Fault(Why::Compressed | Why::Transposed)) if unread_ok => Ok(What::Unread),
         Err(end) => Err(end),
     }
 }

@@ -2,10 +2,10 @@ ghost use Rattle.std.specs.Prelude.{◌≡◌, ◌+◌, ◌≤◌, ◌⊎◌, Li
 ghost use Rattle.record_io.specs.Calls.{AsksUpTo, AsksWithin, HasSize};
 ghost use Rattle.block_layout.specs.Layout.{chunk_header_size, IsBoundary, end_of};
 ghost use Rattle.chunk_header.specs.Chunks.{ChunkValue};
-ghost use Rattle.meta_chunk.specs.Files.{totals_of, IsFrame};
+ghost use Rattle.meta_chunk.specs.Files.{totals_of, IsWellFormed};
 ghost use Rattle.chunk_reader.specs.Pieces.{IsVerifiedIn};
 ghost use Rattle.chunk_reader.specs.Faults.{IsFault, IsVerdict};
-ghost use Rattle.chunk_reader.specs.Fronts.{IsFrontOf};
+ghost use Rattle.chunk_reader.specs.LongestFronts.{IsFrontOf};
 ghost use Rattle.chunk_reader.specs.Progress.{AreInBounds};
 ghost use Rattle.chunk_reader.specs.Sizes.{MayBeginAt};
 ghost use Rattle.chunk_reader.specs.declared.reasons.Fault.{Fault};
@@ -39,7 +39,7 @@ pub struct Front {
 pub fn verify<S: Store>(store: &mut S, size: u64) -> Result<Totals, VerifyEnd>
     requires sized { HasSize (S.told store.old) size }
     ensures whole { IfOk result (λ totals. IfSome (S.bytes store.old) (λ file.
-        (ks : List ChunkValue) × IsFrame ks file × (totals ≡ totals_of ks))) }
+        (ks : List ChunkValue) × IsWellFormed ks file × (totals ≡ totals_of ks))) }
     ensures totals { IfOk result (λ totals. AreInBounds size totals × (totals.bytes ≡ size) × (64 ≤ size)) }
     ensures refused { (fault : Fault) → result ≡ Err (VerifyEnd.Refused fault)
         → IfSome (S.bytes store.old) (λ file. IsFault true file fault) }

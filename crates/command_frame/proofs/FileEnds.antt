@@ -13,16 +13,16 @@ use Rattle.command_frame.specs.declared.ending.Ending.{Ending}
 use Rattle.command_frame.specs.declared.sizes.SizeEnd.{SizeEnd}
 use Rattle.command_frame.specs.declared.status.Status.{Status}
 use Rattle.command_frame.specs.Answers.{Answer}
-use Rattle.command_frame.specs.Endings.{Endings, status_of, end_of_size, cut_unprinted, MayBeCut, IsAllowedEnd, IsShort, HasPutToCut, HasPutEarly, HasPutAtEnd, SaysEnd, SaysAtEnd}
+use Rattle.command_frame.specs.Endings.{Endings, status_of, end_of_size, cut_unprinted, MayBeCut, IsAllowedEnd, CutsReadingOff, HasPutToCut, HasPutEarly, HasPutAtEnd, SaysEnd, SaysAtEnd}
 use Rattle.command_frame.specs.FileAnswers.{OfFile, IsInReach, IsTooLong, limit_text}
 use Rattle.command_frame.specs.FileSizes.{IsUnsized}
 use Rattle.command_frame.specs.Meanings.{Meaning}
 use Rattle.command_frame.specs.Statuses.{fault_text}
 use Rattle.command_frame.specs.Runs.{Runs}
 use Rattle.command_frame.specs.RunObjects.{Seen, seen, HadNoSinkFault}
-use Rattle.command_frame.specs.RunReads.{IfTold, OfSizes}
+use Rattle.command_frame.specs.RunReads.{IfAnswered, OfSizes}
 use Rattle.command_frame.specs.RunAnswers.{IsWhole}
-use Rattle.command_frame.specs.CutShortRuns.{IsCutOff, IsCutShort, TakesThen, Breaks, PutsLines, WasCutOff, FailedToSay}
+use Rattle.command_frame.specs.RunLeaves.{IsCutOff, IsReadingCutOff, TakesThen, Breaks, PutsLines, WasCutOff, FailedToSay}
 use Rattle.command_frame.specs.RunCauses.{HasCause}
 use Rattle.command_frame.specs.PutSoFar.{HasPut, HasPutSoFar, HasPutFront}
 use Rattle.command_frame.proofs.OneAnswer.{of_file_exists}
@@ -177,7 +177,7 @@ module _ (m : Meaning) (P : List ℕ → Answer → Type 0) (Q : (before after :
   -- what follows from the bytes of the file, and from the size that it told
   if_told : (R : Answer → Type 0)
       → ((bytes : List ℕ) → AreBytes bytes → file.bytes ≡ Some bytes → (answer : Answer) × OfFile P (bytes ∷ []) answer × R answer)
-      → IfTold m Before R
+      → IfAnswered m Before R
   if_told R known = told-answer m P Q reads input made made_then file file_then grown out out_then notes notes_then R known
 
   abbrev Exact : Type 0
@@ -191,7 +191,7 @@ module _ (m : Meaning) (P : List ℕ → Answer → Type 0) (Q : (before after :
 
   -- all of an answer was put but its last text
   gave : (last : List ℕ) (ended : Status) → IfSome file.bytes (λ bytes. HasPut P bytes Start Worked [] last ended)
-      → IfTold m Before (GaveButNotes ended Start Worked last)
+      → IfAnswered m Before (GaveButNotes ended Start Worked last)
   gave last ended put =
       if_told (GaveButNotes ended Start Worked last) (λ bytes are told.
       let h = MatchOption-at_some _ (λ (b : List ℕ). HasPut P b Start Worked [] last ended) bytes told put in
@@ -232,7 +232,7 @@ module _ (m : Meaning) (P : List ℕ → Answer → Type 0) (Q : (before after :
       → Ended status.Notes
   untold wanted text front may put same rose =
       runs-notes m Before After wanted text may (subst (λ (s : SeenStream). TakesShort notes.bytes s.bytes text) (sym same) front)
-      (subst (λ (s : SeenStream). IfTold m Before (FailedToSay Start (taken_by made_then.bytes out_then.bytes s.bytes))) (sym same)
+      (subst (λ (s : SeenStream). IfAnswered m Before (FailedToSay Start (taken_by made_then.bytes out_then.bytes s.bytes))) (sym same)
       (if_told (FailedToSay Start Worked) (λ bytes are told.
       let h = MatchOption-at_some _
       (λ (b : List ℕ). AreBytes b → (answer : Answer) × OfFile P (b ∷ []) answer × HasPutToCut cut.Notes Start Worked [] answer) bytes told put are in
@@ -253,7 +253,7 @@ module _ (m : Meaning) (P : List ℕ → Answer → Type 0) (Q : (before after :
 
   -- the work was cut off
   cut_off : (why : Cut) (ended : Status) → why ≢ cut.Notes → IsCutOff (status_of why) → (status_of why ≢ status.File → OfSizes m Before After m.may_work)
-      → (text : List ℕ) × Takes notes.bytes mid.bytes text × m.may_say text → PutToCut why → (IsCutShort (status_of why) → PutSoFar)
+      → (text : List ℕ) × Takes notes.bytes mid.bytes text × m.may_say text → PutToCut why → (IsReadingCutOff (status_of why) → PutSoFar)
       → notes.faults ≤ mid.faults → (ended ≡ status_of why) × TakesThen mid notes_then [] (fault_text (status_of why))
       → HasCause (status_of why) m Before After
       → Ended ended
@@ -273,7 +273,7 @@ module _ (m : Meaning) (P : List ℕ → Answer → Type 0) (Q : (before after :
   pub runs-file : {X W : Type 0} (ends : Endings X W) → EndsBy m ends → (result : Result X (Ending W)) (ended : Status)
       → IsAllowedEnd m result file_then.told → Exact
       → IfSome file.bytes (λ bytes. HasPutAtEnd ends P result bytes Start Worked [])
-      → (IsErrAnd result IsShort → PutSoFar)
+      → (IsErrAnd result CutsReadingOff → PutSoFar)
       → HasSaid m ends result notes.bytes mid.bytes → SaysEnd ends result ended mid notes_then → notes.faults ≤ mid.faults
       → (result ≡ Err (end.Cut cut.File) → Rose file.faults file_then.faults)
       → (result ≡ Err (end.Cut cut.Made) → Rose made.faults made_then.faults)

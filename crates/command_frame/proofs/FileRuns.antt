@@ -13,8 +13,8 @@ use Rattle.command_frame.specs.FileSizes.{HandsOut}
 use Rattle.command_frame.specs.Meanings.{Uses, Meaning, Read}
 use Rattle.command_frame.specs.Statuses.{fault_text}
 use Rattle.command_frame.specs.RunObjects.{Seen, seen}
-use Rattle.command_frame.specs.RunReads.{IfRead, IfTold, OfSizes}
-use Rattle.command_frame.specs.CutShortRuns.{TakesThen, WentOutSoFar}
+use Rattle.command_frame.specs.RunReads.{IfRead, IfAnswered, OfSizes}
+use Rattle.command_frame.specs.RunLeaves.{TakesThen, WentOutSoFar}
 use Rattle.command_frame.specs.PutSoFar.{HasPutSoFar}
 use Rattle.command_frame.proofs.RunEnds.{Keeps, none-taken, went-so_far}
 
@@ -109,7 +109,7 @@ module _ (m : Meaning) (P : List ℕ → Answer → Type 0) (Q : (before after :
   -- what follows from the bytes of the file
   pub told-answer : (R : Answer → Type 0)
       → ((bytes : List ℕ) → AreBytes bytes → file.bytes ≡ Some bytes → (answer : Answer) × OfFile P (bytes ∷ []) answer × R answer)
-      → IfTold m Asked R
+      → IfAnswered m Asked R
   told-answer R known = λ r is.
       let told = is.files reads.files in
       let one = one_told file.bytes r.files told.0 in

@@ -9,7 +9,7 @@ use Rattle.command_frame.specs.Meanings.{Meaning, Read}
 use Rattle.command_frame.specs.RunObjects.{Seen, seen, handed_by}
 use Rattle.command_frame.specs.RunReads.{IfGrown, OfSizes}
 use Rattle.command_frame.specs.RunAnswers.{IsWhole}
-use Rattle.command_frame.specs.CutShortRuns.{IsCutOff}
+use Rattle.command_frame.specs.RunLeaves.{IsCutOff}
 use Rattle.command_frame.specs.RunTakes.{TakesAtMost}
 use Rattle.command_frame.proofs.RunEnds.{KeepsGrown, KeepsAtEnd, whole-cut_off}
 use Rattle.command_frame.specs.declared.status.Status.TheVariants as status

@@ -20,8 +20,8 @@ use Rattle.command_frame.specs.Meanings.{Uses, Meaning, Read, meaning}
 use Rattle.command_frame.specs.Statuses.{fault_text}
 use Rattle.command_frame.specs.Runs.{Runs}
 use Rattle.command_frame.specs.RunObjects.{Seen, seen, OneRose}
-use Rattle.command_frame.specs.RunReads.{IfTold, OfSizes}
-use Rattle.command_frame.specs.CutShortRuns.{IsCutOff, IsCutShort, TakesThen, Breaks, WasCutOff}
+use Rattle.command_frame.specs.RunReads.{IfAnswered, OfSizes}
+use Rattle.command_frame.specs.RunLeaves.{IsCutOff, IsReadingCutOff, TakesThen, Breaks, WasCutOff}
 use Rattle.command_frame.specs.RunCauses.{HasCause}
 use Rattle.command_frame.proofs.FileEnds.{EndsWhole}
 use Rattle.command_frame.proofs.ManyFiles.{bytes_of, told_by, exact_shown, keeps-files, one_rose}
@@ -95,7 +95,7 @@ pub record WentToCut (P : Answer → Type 0) (Q : List Put → Type 0) (ended : 
   pub breaks : Breaks ended part answer.puts
   pub quiet : bytes_to Notes part ≡ []
   pub went : GoOut before after part
-  pub so_far : IsCutShort ended → Q part
+  pub so_far : IsReadingCutOff ended → Q part
 
 -- what went out of an answer by how the work ended
 abbrev pub WentAtEnd : {X W : Type 0} → Endings X W → (P : Answer → Type 0) → (Q : List Put → Type 0) → Result X (Ending W) → (before after : Taken) → Type 0
@@ -171,7 +171,7 @@ module _ (m : Meaning) (S : List (List ℕ) → Type 0) (P : List (List ℕ) →
   of_files : (R : List ℕ → Type 0) (all : List (List ℕ)) → bytes_of files ≡ map Some all → Told R → R (map length all)
   of_files R all same told = subst R (exact all told.0 same told.1) told.2
 
-  if_told : (R : Answer → Type 0) → IfFiles (λ all. (answer : Answer) × P all answer × R answer) → IfTold m Before R
+  if_told : (R : Answer → Type 0) → IfFiles (λ all. (answer : Answer) × P all answer × R answer) → IfAnswered m Before R
   if_told R known = λ r is.
       let told = is.files reads.files in
       let found = known r.files told.0 told.1 (reads.supposed r is.supposed) in

@@ -5,7 +5,7 @@ use Rattle.record_io.specs.Outside.{Rose, Takes, TakesShort}
 use Rattle.record_io.specs.Buffers.{TakesAndHolds}
 use Rattle.record_io.proofs.Calls.{Takes-append, TakesShort-append}
 use Rattle.record_io.proofs.Buffered.{TakesAndHolds-append, TakesShort-behind}
-use Rattle.command_frame.specs.CutShortRuns.{TakesThen}
+use Rattle.command_frame.specs.RunLeaves.{TakesThen}
 
 -- a line that was put, or of which a front was put
 pub TakesThen-put : {X E : Type 0} (put : Result X E) (a b : Option (List ℕ)) (m n : ℕ) (last : List ℕ)

@@ -9,7 +9,7 @@ use Rattle.record_io.proofs.Puts.{GoOut-nothing, GoOutOrAreHeld-none, GoOut-none
 use Rattle.command_frame.specs.declared.status.Status.{Status}
 use Rattle.command_frame.specs.Answers.{Answer, noted}
 use Rattle.command_frame.specs.FileAnswers.{OfFile}
-use Rattle.command_frame.specs.CutShortRuns.{FailedToSay, PutsLines}
+use Rattle.command_frame.specs.RunLeaves.{FailedToSay, PutsLines}
 use Rattle.command_frame.specs.PutSoFar.{HasPut, HasPutSoFar, HasPutFront, HasBrokenOff}
 use Rattle.command_frame.proofs.RunEnds.{GaveButNotes, PutsLines-none}
 

@@ -13,8 +13,8 @@ use Rattle.command_frame.specs.Meanings.{Meaning, Read}
 use Rattle.command_frame.specs.Runs.{Runs}
 use Rattle.command_frame.specs.RunObjects.{Seen, seen, HadNoSinkFault, handed_by, taken_in, NoneFell}
 use Rattle.command_frame.specs.RunAnswers.{IsWhole, Gave}
-use Rattle.command_frame.specs.CutShortRuns.{IsCutOff, IsCutShort, TakesThen, Breaks, PutsLines, WasCutOff, WentOutSoFar, FailedToSay}
-use Rattle.command_frame.specs.RunReads.{IfRead, IfTold, OfSizes, IfGrown}
+use Rattle.command_frame.specs.RunLeaves.{IsCutOff, IsReadingCutOff, TakesThen, Breaks, PutsLines, WasCutOff, WentOutSoFar, FailedToSay}
+use Rattle.command_frame.specs.RunReads.{IfRead, IfAnswered, OfSizes, IfGrown}
 use Rattle.command_frame.specs.Endings.{SaysAtEnd}
 use Rattle.command_frame.specs.RunCauses.{HasCause}
 use Rattle.command_frame.specs.RunTakes.{TakesAtMost}
@@ -124,17 +124,17 @@ whole-cut_off status.Notes whole cut = whole
 whole-cut_off other whole cut = cut
 
 -- nor whole and cut short
-whole-cut_short : (ended : Status) → IsWhole ended → IsCutShort ended → ⊥
-whole-cut_short status.Input whole short = whole
-whole-cut_short status.File whole short = whole
-whole-cut_short status.Grown whole short = whole
-whole-cut_short status.Memory whole short = whole
-whole-cut_short other whole short = short
+whole-reading_cut_off : (ended : Status) → IsWhole ended → IsReadingCutOff ended → ⊥
+whole-reading_cut_off status.Input whole short = whole
+whole-reading_cut_off status.File whole short = whole
+whole-reading_cut_off status.Grown whole short = whole
+whole-reading_cut_off status.Memory whole short = whole
+whole-reading_cut_off other whole short = short
 
 -- the work was done, and notes took what there was to say
 pub ends-whole : (m : Meaning) (before after : Seen) (ended : Status) (text : List ℕ)
     → IsWhole ended → OfSizes m before after (λ sizes. m.may_end sizes ended text) → Takes before.notes.bytes after.notes.bytes text
-    → IfTold m before (Gave ended before after)
+    → IfAnswered m before (Gave ended before after)
     → (ended ≡ status.Ok → m.uses.input ≡ true → IfSome before.input.bytes (λ _. after.input.bytes ≡ Some []))
     → HasCause ended m before after → KeepsAtEnd m before after ended
     → Runs m before after ended
@@ -148,12 +148,12 @@ ends-whole m before after ended text whole may_end said gave read cause keeps = 
     cause = cause;
     counts = keeps.counts;
   };
-  cut_short = record {
+  leaves = record {
     cut_off = λ cut. absurd (whole-cut_off ended whole cut);
     failed_to_say = λ e. absurd (subst IsWhole e whole);
     grown_cut = keeps.grown.may_leave;
     grown_kept = keeps.grown.keeps;
-    so_far = λ short. absurd (whole-cut_short ended whole short);
+    so_far = λ short. absurd (whole-reading_cut_off ended whole short);
   };
   takes = record {
     in_reach = λ cut. absurd (whole-cut_off ended whole cut);
@@ -175,7 +175,7 @@ ends-whole m before after ended text whole may_end said gave read cause keeps = 
 -- notes failed to take what there was to say at the end
 pub ends-notes : (m : Meaning) (before after : Seen) (wanted : Status) (text : List ℕ)
     → OfSizes m before after (λ sizes. m.may_end sizes wanted text) → TakesShort before.notes.bytes after.notes.bytes text
-    → IfTold m before (FailedToSay (taken_in before) (taken_in after))
+    → IfAnswered m before (FailedToSay (taken_in before) (taken_in after))
     → Rose before.notes.faults after.notes.faults → KeepsAtEnd m before after status.Notes
     → Runs m before after status.Notes
 ends-notes m before after wanted text may_end said failed rose keeps = record {
@@ -188,7 +188,7 @@ ends-notes m before after wanted text may_end said failed rose keeps = record {
     cause = rose;
     counts = keeps.counts;
   };
-  cut_short = record {
+  leaves = record {
     cut_off = λ cut. absurd cut;
     failed_to_say = λ _. failed;
     grown_cut = keeps.grown.may_leave;
@@ -216,8 +216,8 @@ ends-notes m before after wanted text may_end said failed rose keeps = record {
 pub ends-cut_off : (m : Meaning) (before after : Seen) (ended : Status) (text : List ℕ)
     → IsCutOff ended → (ended ≢ status.File → ended ≢ status.Grown → OfSizes m before after m.may_work)
     → m.may_say text → TakesThen before.notes after.notes text (fault_text ended)
-    → IfTold m before (WasCutOff ended before after)
-    → (IsCutShort ended → HadNoSinkFault m.uses before after → IfRead m before (WentOutSoFar m ended before after))
+    → IfAnswered m before (WasCutOff ended before after)
+    → (IsReadingCutOff ended → HadNoSinkFault m.uses before after → IfRead m before (WentOutSoFar m ended before after))
     → HasCause ended m before after → KeepsAtEnd m before after ended
     → Runs m before after ended
 ends-cut_off m before after ended text cut within may_say said was so_far cause keeps = record {
@@ -230,7 +230,7 @@ ends-cut_off m before after ended text cut within may_say said was so_far cause 
     cause = cause;
     counts = keeps.counts;
   };
-  cut_short = record {
+  leaves = record {
     cut_off = λ _. was;
     failed_to_say = λ e. absurd (subst IsCutOff e cut);
     grown_cut = keeps.grown.may_leave;
@@ -255,7 +255,7 @@ ends-cut_off m before after ended text cut within may_say said was so_far cause 
 -- where no file is grown, one record of what is kept serves every end
 pub runs-whole : (m : Meaning) (before after : Seen) (ended : Status) (text : List ℕ)
     → IsWhole ended → OfSizes m before after (λ sizes. m.may_end sizes ended text) → Takes before.notes.bytes after.notes.bytes text
-    → IfTold m before (Gave ended before after)
+    → IfAnswered m before (Gave ended before after)
     → (ended ≡ status.Ok → m.uses.input ≡ true → IfSome before.input.bytes (λ _. after.input.bytes ≡ Some []))
     → HasCause ended m before after → Keeps m before after
     → Runs m before after ended
@@ -264,7 +264,7 @@ runs-whole m before after ended text whole may_end said gave read cause keeps =
 
 pub runs-notes : (m : Meaning) (before after : Seen) (wanted : Status) (text : List ℕ)
     → OfSizes m before after (λ sizes. m.may_end sizes wanted text) → TakesShort before.notes.bytes after.notes.bytes text
-    → IfTold m before (FailedToSay (taken_in before) (taken_in after))
+    → IfAnswered m before (FailedToSay (taken_in before) (taken_in after))
     → Rose before.notes.faults after.notes.faults → Keeps m before after
     → Runs m before after status.Notes
 runs-notes m before after wanted text may_end said failed rose keeps =
@@ -273,8 +273,8 @@ runs-notes m before after wanted text may_end said failed rose keeps =
 pub runs-cut_off : (m : Meaning) (before after : Seen) (ended : Status) (text : List ℕ)
     → IsCutOff ended → (ended ≢ status.File → OfSizes m before after m.may_work)
     → m.may_say text → TakesThen before.notes after.notes text (fault_text ended)
-    → IfTold m before (WasCutOff ended before after)
-    → (IsCutShort ended → HadNoSinkFault m.uses before after → IfRead m before (WentOutSoFar m ended before after))
+    → IfAnswered m before (WasCutOff ended before after)
+    → (IsReadingCutOff ended → HadNoSinkFault m.uses before after → IfRead m before (WentOutSoFar m ended before after))
     → HasCause ended m before after → Keeps m before after
     → Runs m before after ended
 runs-cut_off m before after ended text cut within may_say said was so_far cause keeps =
@@ -364,7 +364,7 @@ pub ends-said : (m : Meaning) (before after : Seen) (mid : SeenStream) (ended wa
     → Takes before.notes.bytes mid.bytes earlier → before.notes.faults ≤ mid.faults
     → SaysAtEnd ended wanted mid after.notes text
     → IsWhole wanted → wanted ≢ status.Ok → OfSizes m before after (λ sizes. m.may_end sizes wanted (earlier ++ text))
-    → IfTold m before (GaveButNotes wanted (taken_in before) (taken_but_end after mid) text)
+    → IfAnswered m before (GaveButNotes wanted (taken_in before) (taken_but_end after mid) text)
     → HasCause wanted m before after
     → KeepsAtEnd m before after wanted → KeepsAtEnd m before after status.Notes
     → Runs m before after ended
@@ -388,7 +388,7 @@ pub runs-said : (m : Meaning) (before after : Seen) (mid : SeenStream) (ended wa
     → Takes before.notes.bytes mid.bytes earlier → before.notes.faults ≤ mid.faults
     → SaysAtEnd ended wanted mid after.notes text
     → IsWhole wanted → wanted ≢ status.Ok → OfSizes m before after (λ sizes. m.may_end sizes wanted (earlier ++ text))
-    → IfTold m before (GaveButNotes wanted (taken_in before) (taken_but_end after mid) text)
+    → IfAnswered m before (GaveButNotes wanted (taken_in before) (taken_but_end after mid) text)
     → HasCause wanted m before after → Keeps m before after
     → Runs m before after ended
 runs-said m before after mid ended wanted earlier text took less says whole not_ok may_end gave cause keeps =

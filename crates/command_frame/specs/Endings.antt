@@ -13,7 +13,7 @@ use Rattle.command_frame.specs.Answers.{Answer}
 use Rattle.command_frame.specs.FileAnswers.{OfFile, IsInReach, IsTooLong, limit_text}
 use Rattle.command_frame.specs.Meanings.{Meaning}
 use Rattle.command_frame.specs.Statuses.{fault_text}
-use Rattle.command_frame.specs.CutShortRuns.{IsCutShort, TakesThen, FailedToSay}
+use Rattle.command_frame.specs.RunLeaves.{IsReadingCutOff, TakesThen, FailedToSay}
 use Rattle.command_frame.specs.PutSoFar.{HasBrokenOff, HasPut, HasPutFront}
 use Rattle.record_io.specs.declared.cut.Cut.TheVariants as cut
 use Rattle.command_frame.specs.declared.ending.Ending.TheVariants as end
@@ -81,9 +81,9 @@ IsAllowedEndOfMany m past stops (Err (end.Cut cut.File)) told = m.uses.files ≡
 IsAllowedEndOfMany m past stops (Err (end.Cut cut)) told = MayBeCut m cut × HaveTold told m.may_work
 
 -- the ends by a fault of what is read or want of memory
-abbrev pub IsShort : {W : Type 0} → Ending W → Type 0
-IsShort (end.Cut cut) = IsCutShort (status_of cut)
-IsShort other = ⊥
+abbrev pub CutsReadingOff : {W : Type 0} → Ending W → Type 0
+CutsReadingOff (end.Cut cut) = IsReadingCutOff (status_of cut)
+CutsReadingOff other = ⊥
 
 -- what went out of an answer when the work was cut off so: a front, up to a byte that goes to the sink that failed
 abbrev pub HasPutToCut : Cut → (before after : Taken) → List ℕ → Answer → Type 0

@@ -17,7 +17,7 @@ pub mod RunObjects
 pub mod RunCauses
 pub mod RunAnswers
 pub mod NoFaults
-pub mod CutShortRuns
+pub mod RunLeaves
 pub mod PutSoFar
 pub mod Endings
 pub mod AskedFiles

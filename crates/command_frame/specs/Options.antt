@@ -61,8 +61,8 @@ only_two (x ∷ y ∷ []) = Some (x, y)
 only_two xs = None
 
 -- the place of the file of a command that has these options and one file
-abbrev pub file_of : (options words : List (List ℕ)) → Option ℕ
-file_of options words = if are_words_of options words then only (file_places words) else None
+abbrev pub file_place : (options words : List (List ℕ)) → Option ℕ
+file_place options words = if are_words_of options words then only (file_places words) else None
 
 -- whether the words at two places are the same
 abbrev pub is_same_at : List (List ℕ) → ℕ → ℕ → Bool

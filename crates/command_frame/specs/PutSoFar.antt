@@ -5,7 +5,7 @@ use Rattle.record_io.specs.Buffers.{GoOutOrAreHeld}
 use Rattle.command_frame.specs.declared.status.Status.{Status}
 use Rattle.command_frame.specs.Answers.{Answer}
 use Rattle.command_frame.specs.FileAnswers.{OfFile}
-use Rattle.command_frame.specs.CutShortRuns.{PutsLines}
+use Rattle.command_frame.specs.RunLeaves.{PutsLines}
 
 -- all that an answer to a file puts but a last text in notes went out, or is held for standard output; it ends with a status
 pub record HasPut (P : List ℕ → Answer → Type 0) (file : List ℕ) (before after : Taken) (held last : List ℕ) (ended : Status) : Type 0 where

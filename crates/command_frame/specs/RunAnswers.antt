@@ -5,7 +5,7 @@ use Rattle.command_frame.specs.declared.status.Status.{Status}
 use Rattle.command_frame.specs.Answers.{Answer}
 use Rattle.command_frame.specs.RunObjects.{Seen, taken_in}
 use Rattle.command_frame.specs.Meanings.{Meaning}
-use Rattle.command_frame.specs.RunReads.{IfTold, IfGrown}
+use Rattle.command_frame.specs.RunReads.{IfAnswered, IfGrown}
 use Rattle.command_frame.specs.declared.status.Status.TheVariants as status
 
 -- the statuses with which a run gives its whole answer: no object failed, and memory was not wanting
@@ -27,7 +27,7 @@ pub record Gave (ended : Status) (before after : Seen) (answer : Answer) : Type 
 -- what a run answers that nothing cut off
 pub record RunAnswers (m : Meaning) (before after : Seen) (ended : Status) : Type 0 where
   -- unless a fault or want of memory ended the work, the status and all that went out are an answer's
-  pub whole : IsWhole ended → IfTold m before (Gave ended before after)
+  pub whole : IsWhole ended → IfAnswered m before (Gave ended before after)
   -- and a file that is grown is what it is to be, also where standard output failed: nothing is printed before
   pub grown : IsWhole ended ⊎ (ended ≡ status.Out) → IfGrown m before after m.leaves
   -- where all went well, the input was read to its end

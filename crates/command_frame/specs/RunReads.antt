@@ -18,8 +18,8 @@ abbrev pub IfRead : Meaning → Seen → (Read → Type 0) → Type 0
 IfRead m before P = (r : Read) → IsReadBy m before r → P r
 
 -- P holds of an answer to the command, where what it reads shows its bytes
-abbrev pub IfTold : Meaning → Seen → (Answer → Type 0) → Type 0
-IfTold m before P = IfRead m before (λ r. (answer : Answer) × m.answers r answer × P answer)
+abbrev pub IfAnswered : Meaning → Seen → (Answer → Type 0) → Type 0
+IfAnswered m before P = IfRead m before (λ r. (answer : Answer) × m.answers r answer × P answer)
 
 -- P holds of the sizes of the files that a command reads or grows: they have told these, and their bytes, where all of them
 -- show theirs, are so many. Where it uses no files the sizes are any

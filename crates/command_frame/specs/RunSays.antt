@@ -6,7 +6,7 @@ use Rattle.command_frame.specs.Statuses.{fault_text}
 use Rattle.command_frame.specs.Meanings.{Meaning}
 use Rattle.command_frame.specs.RunObjects.{Seen}
 use Rattle.command_frame.specs.RunAnswers.{IsWhole}
-use Rattle.command_frame.specs.CutShortRuns.{IsCutOff, TakesThen}
+use Rattle.command_frame.specs.RunLeaves.{IsCutOff, TakesThen}
 use Rattle.command_frame.specs.RunReads.{OfSizes}
 use Rattle.command_frame.specs.declared.status.Status.TheVariants as status
 

@@ -4,7 +4,7 @@ use Rattle.record_io.specs.Seen.{SeenFile}
 use Rattle.command_frame.specs.declared.status.Status.{Status}
 use Rattle.command_frame.specs.Meanings.{Meaning}
 use Rattle.command_frame.specs.RunObjects.{Seen, handed_by}
-use Rattle.command_frame.specs.CutShortRuns.{IsCutOff}
+use Rattle.command_frame.specs.RunLeaves.{IsCutOff}
 use Rattle.command_frame.specs.RunReads.{IfRead, OfSizes}
 use Rattle.command_frame.specs.declared.status.Status.TheVariants as status
 

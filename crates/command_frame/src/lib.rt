@@ -14,7 +14,7 @@ pub use ending::{Ending, unprinted};
 pub use many_files::{FilesWords, files_words};
 pub use notes::{LINE, cut_off, end, end_too_long, end_with_number};
 pub use options::{
-    are_words_of, file_of, has_flag, is_same_at, number_given, two_files, value_given,
+    are_words_of, file_place, has_flag, is_same_at, number_given, two_files, value_given,
 };
 pub use record_io::Cut;
 pub use reports::{put_counts, put_report};

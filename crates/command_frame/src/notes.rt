@@ -4,7 +4,7 @@ ghost use Rattle.record_io.specs.Seen.{seen_stream};
 ghost use Rattle.command_frame.specs.Answers.{line};
 ghost use Rattle.command_frame.specs.Endings.{EndsWith, status_of};
 ghost use Rattle.command_frame.specs.FileAnswers.{limit_text};
-ghost use Rattle.command_frame.specs.CutShortRuns.{TakesThen};
+ghost use Rattle.command_frame.specs.RunLeaves.{TakesThen};
 ghost use Rattle.command_frame.specs.Statuses.{fault_text};
 
 use crate::status::Status;

@@ -13,7 +13,7 @@ ghost use Rattle.command_frame.specs.Options.{
   is_file_at,
   file_places,
   only_two,
-  file_of,
+  file_place,
   is_same_at,
   number_given,
 };
@@ -102,8 +102,8 @@ pub fn number_given(option: &str, words: &[String], least: u64, most: u64) -> Op
 }
 
 /// The place of the file among the words, where these are of a command that has these options and one file.
-pub fn file_of(options: &[&str], words: &[String]) -> Option<usize>
-    ensures { result ≡ file_of (map (λ option. option.now) options.now) (map string_bytes words.now) }
+pub fn file_place(options: &[&str], words: &[String]) -> Option<usize>
+    ensures { result ≡ file_place (map (λ option. option.now) options.now) (map string_bytes words.now) }
 {
     if !are_words_of(options, words) {
         return None;

@@ -10,7 +10,7 @@ use Rattle.block_layout.proofs.BlockHeaders.{IsRightBlockHeader-block_header}
 use Rattle.block_layout.proofs.Room.{boundary_past_block}
 use Rattle.chunk_header.specs.Chunks.{ChunkValue, HeaderValue, IsRightChunkHeader, header_in}
 use Rattle.meta_chunk.specs.Laid.{IsLaid}
-use Rattle.meta_chunk.specs.Files.{IsFramed, begin_of, LiesIn}
+use Rattle.meta_chunk.specs.Files.{IsWellFormedChunk, begin_of, LiesIn}
 use Rattle.meta_chunk.proofs.OneChunk.{same_chunk}
 use Rattle.meta_chunk.proofs.Begins.{begin_of-next, begin_of-place, begin_of_rises, begin_of_rises_by, begin_of_boundary, holder_one, IsLaid-in_file}
 use Rattle.chunk_reader.specs.Places.{header_bytes_at, header_at, end_by, end_at, data_at, chunk_at, HasHeaderOf}
@@ -44,22 +44,22 @@ landing_on size place b begin end low high within on =
     cond-false (nat_lt place (b - (b - begin))) _ _ (le-ltb place (b - (b - begin)) (omega arith)) ∙ to
 
 -- the first of the reasons that speak of content
-first_of_content : (keep : Bool) (P : Why → Type 0) → P why.DataHash → IsFirstOf P (content_reasons keep) why.DataHash
+first_of_content : (unread_ok : Bool) (P : Why → Type 0) → P why.DataHash → IsFirstOf P (content_reasons unread_ok) why.DataHash
 first_of_content false P applies = inl (applies, refl)
 first_of_content true P applies = inl (applies, refl)
 
 -- chunk j of an undamaged file, and the damaged one
-module _ (keep : Bool) (ks : List ChunkValue) (file damaged : List ℕ) (intact : Intact) (d : IsDamaged ks file damaged intact)
+module _ (unread_ok : Bool) (ks : List ChunkValue) (file damaged : List ℕ) (intact : Intact) (d : IsDamaged ks file damaged intact)
     (reach : length file ≤ 2 ^ 60) where
   laid_at : (j : ℕ) (k : ChunkValue) → slice_get ks j ≡ Some k
       → IsLaid (begin_of ks j) k (slice_range file (begin_of ks j) (begin_of ks (j + 1)))
-  laid_at j k at = IsLaid-in_file ks file (length file) j k d.frame.1.within d.frame.1.laid at
+  laid_at j k at = IsLaid-in_file ks file (length file) j k d.well_formed.1.within d.well_formed.1.laid at
 
-  framed_at : (j : ℕ) (k : ChunkValue) → slice_get ks j ≡ Some k → IsFramed k
-  framed_at j k at = each_at IsFramed ks j k d.frame.1.each at
+  well_formed_at : (j : ℕ) (k : ChunkValue) → slice_get ks j ≡ Some k → IsWellFormedChunk k
+  well_formed_at j k at = each_at IsWellFormedChunk ks j k d.well_formed.1.each at
 
   last_end : begin_of ks (length ks) ≡ length file
-  last_end = begin_of-place ks file (length file) d.frame.1.within d.frame.1.laid
+  last_end = begin_of-place ks file (length file) d.well_formed.1.within d.well_formed.1.laid
 
   end_within : (j : ℕ) → j ≤ length ks → begin_of ks j ≤ length file
   end_within j inside = omega (arith, begin_of_rises ks j (length ks) inside, last_end)
@@ -172,7 +172,7 @@ module _ (keep : Bool) (ks : List ChunkValue) (file damaged : List ℕ) (intact 
   -- what is left of it, with the piece that is
   IsLeftPiece : (j : ℕ) (k : ChunkValue) (to : ℕ) (what : PieceKind) → Type 0
   IsLeftPiece j k to what =
-      IsPieceOf keep damaged (begin_of ks j) to what × DamageLeaves keep (intact.header j) (intact.«data» j) k what
+      IsPieceOf unread_ok damaged (begin_of ks j) to what × DamageLeaves unread_ok (intact.header j) (intact.«data» j) k what
 
   -- a chunk whose header has changed
   broken_piece : (j : ℕ) (k : ChunkValue) (next : ℕ) → slice_get ks j ≡ Some k → intact.header j ≡ false → IsNext ks intact j next
@@ -181,7 +181,7 @@ module _ (keep : Bool) (ks : List ChunkValue) (file damaged : List ℕ) (intact 
   broken_piece j k next at broken step =
       let inside : j < length ks = slice_get_within ks j k at in (
         (inr (long_enough j k at, inl (d.header_shows j inside broken, refl)), resync_next j next inside broken step),
-        subst (λ (h : Bool). DamageLeaves keep h (intact.«data» j) k (Skipped why.HeaderHash)) (sym broken) refl,
+        subst (λ (h : Bool). DamageLeaves unread_ok h (intact.«data» j) k (Skipped why.HeaderHash)) (sym broken) refl,
       )
 
   -- one whose header is intact
@@ -212,7 +212,7 @@ module _ (keep : Bool) (ks : List ChunkValue) (file damaged : List ℕ) (intact 
         same_header b against.stands.is_block below (intact_block b p n against.stands)
         ∙ file_header j k b at against.stands.is_block against.from (omega (arith, against.below, same_end)) in
         let near : end_at file (begin_of ks j) < begin_of ks j + 2 ^ 64 =
-        end_in_reach true (begin_of ks j) k file (begin_of ks (j + 1)) (laid_at j k at) (framed_at j k at) in
+        end_in_reach true (begin_of ks j) k file (begin_of ks (j + 1)) (laid_at j k at) (well_formed_at j k at) in
         agrees damaged (begin_of ks j) (end_at damaged (begin_of ks j)) b p n against.from against.below
         (omega (arith, near, same_end, file_end j k at))
         (subst (λ (e : ℕ). HasHeaderOf damaged (begin_of ks j) e b) (sym same_end) has) against
@@ -222,15 +222,15 @@ module _ (keep : Bool) (ks : List ChunkValue) (file damaged : List ℕ) (intact 
         omega (arith, cut, same_end, d.same_length, end_within (j + 1) (omega (arith, slice_get_within ks j k at)))
 
     small_data : ¬ Applies damaged (begin_of ks j) why.TooLarge
-    small_data large = omega (arith, large, same_size, allowed_small true k (framed_at j k at))
+    small_data large = omega (arith, large, same_size, allowed_small true k (well_formed_at j k at))
 
     -- the reasons before those of content
     behind_those : (P : Why → Type 0) (w : Why) → ¬ P why.Short → ¬ P why.HeaderHash → ¬ P why.Contradicted → ¬ P why.Truncated → ¬ P why.TooLarge
-        → IsFirstOf P (content_reasons keep) w → IsFirstOf P (walk_reasons keep) w
+        → IsFirstOf P (content_reasons unread_ok) w → IsFirstOf P (walk_reasons unread_ok) w
     behind_those P w a b c e f first = inr (a, inr (b, inr (c, inr (e, inr (f, first)))))
 
-    first_there : (w : Why) → IsFirstOf (SkipsFor damaged (begin_of ks j)) (content_reasons keep) w
-        → IsFirstOf (SkipsFor damaged (begin_of ks j)) (walk_reasons keep) w
+    first_there : (w : Why) → IsFirstOf (SkipsFor damaged (begin_of ks j)) (content_reasons unread_ok) w
+        → IsFirstOf (SkipsFor damaged (begin_of ks j)) (walk_reasons unread_ok) w
     first_there w first =
         behind_those (SkipsFor damaged (begin_of ks j)) w (long_enough j k at) right_header not_against in_file small_data first
 
@@ -243,9 +243,9 @@ module _ (keep : Bool) (ks : List ChunkValue) (file damaged : List ℕ) (intact 
     changed_piece : intact.«data» j ≡ false → IsLeftPiece j k (begin_of ks (j + 1)) (Skipped why.DataHash)
     unfolding IsLeftPiece
     changed_piece changed = (
-      (first_there why.DataHash (first_of_content keep (SkipsFor damaged (begin_of ks j)) (changed_data changed)), sym same_end),
-      subst (λ (h : Bool). DamageLeaves keep h (intact.«data» j) k (Skipped why.DataHash)) (sym whole)
-          (subst (λ (x : Bool). DamageLeaves keep true x k (Skipped why.DataHash)) (sym changed) refl),
+      (first_there why.DataHash (first_of_content unread_ok (SkipsFor damaged (begin_of ks j)) (changed_data changed)), sym same_end),
+      subst (λ (h : Bool). DamageLeaves unread_ok h (intact.«data» j) k (Skipped why.DataHash)) (sym whole)
+          (subst (λ (x : Bool). DamageLeaves unread_ok true x k (Skipped why.DataHash)) (sym changed) refl),
     )
 
     -- its data is intact: it is the chunk
@@ -257,17 +257,17 @@ module _ (keep : Bool) (ks : List ChunkValue) (file damaged : List ℕ) (intact 
         (ap (λ (v : HeaderValue). v.decoded_size) same_fields)
         (ap (data_at damaged (begin_of ks j)) same_size ∙ (d.«data» j k at).0 kept)
 
-    left_where_kept : intact.«data» j ≡ true → (what : PieceKind) → DamageLeaves keep true true k what
-        → DamageLeaves keep (intact.header j) (intact.«data» j) k what
+    left_where_kept : intact.«data» j ≡ true → (what : PieceKind) → DamageLeaves unread_ok true true k what
+        → DamageLeaves unread_ok (intact.header j) (intact.«data» j) k what
     left_where_kept kept what left =
-        subst (λ (h : Bool). DamageLeaves keep h (intact.«data» j) k what) (sym whole)
-        (subst (λ (x : Bool). DamageLeaves keep true x k what) (sym kept) left)
+        subst (λ (h : Bool). DamageLeaves unread_ok h (intact.«data» j) k what) (sym whole)
+        (subst (λ (x : Bool). DamageLeaves unread_ok true x k what) (sym kept) left)
 
     kept_piece : intact.«data» j ≡ true → (what : PieceKind) × IsLeftPiece j k (begin_of ks (j + 1)) what
     unfolding IsLeftPiece
     kept_piece kept =
         let same : chunk_at damaged (begin_of ks j) ≡ k = same_data kept in
-        let piece = intact_piece keep damaged (begin_of ks j) k (framed_at j k at) (record {
+        let piece = intact_piece unread_ok damaged (begin_of ks j) k (well_formed_at j k at) (record {
           long = long_enough j k at;
           header = right_header;
           agrees = not_against;
@@ -278,7 +278,7 @@ module _ (keep : Bool) (ks : List ChunkValue) (file damaged : List ℕ) (intact 
         }) in (
           piece.0,
           (
-            subst (λ (e : ℕ). IsPieceOf keep damaged (begin_of ks j) e piece.0) same_end piece.1,
+            subst (λ (e : ℕ). IsPieceOf unread_ok damaged (begin_of ks j) e piece.0) same_end piece.1,
             left_where_kept kept piece.0 piece.2,
           ),
         )
@@ -298,16 +298,16 @@ module _ (keep : Bool) (ks : List ChunkValue) (file damaged : List ℕ) (intact 
       ]
 
   -- and so are all pieces from there on, which end where a chunk begins
-  pub tiles_left : (j from to : ℕ) (pieces : List Piece) → j ≤ length ks → from ≡ begin_of ks j → AreTiles keep damaged from to pieces
-      → (n : ℕ) × (n ≤ length ks) × (to ≡ begin_of ks n) × DamageLeavesEach keep ks intact j n pieces
+  pub tiles_left : (j from to : ℕ) (pieces : List Piece) → j ≤ length ks → from ≡ begin_of ks j → AreTiles unread_ok damaged from to pieces
+      → (n : ℕ) × (n ≤ length ks) × (to ≡ begin_of ks n) × DamageLeavesEach unread_ok ks intact j n pieces
   unfolding IsLeftPiece
   tiles_left j from to [] inside begin h = (j, inside, sym h ∙ begin, refl)
   tiles_left j from to (p ∷ pieces) inside begin (at_begin, below, is, rest) =
       elim (slice_get_cases ks j).1 [
         | inl (k, within, at, same) ↦
             let left = left_at j k at in
-            let one = piece_one keep damaged from p.end (begin_of ks left.0) p.what left.1 is
-            (subst (λ (x : ℕ). IsPieceOf keep damaged x (begin_of ks left.0) left.1) (sym begin) left.3.0) in
+            let one = piece_one unread_ok damaged from p.end (begin_of ks left.0) p.what left.1 is
+            (subst (λ (x : ℕ). IsPieceOf unread_ok damaged x (begin_of ks left.0) left.1) (sym begin) left.3.0) in
             let past = next_past ks intact j left.0 within left.2 in
             let behind = tiles_left left.0 p.end to pieces past.1 one.0 rest in (
               behind.0,
@@ -320,7 +320,7 @@ module _ (keep : Bool) (ks : List ChunkValue) (file damaged : List ℕ) (intact 
                 left.2,
                 at_begin ∙ begin,
                 one.0,
-                subst (λ (w : PieceKind). DamageLeaves keep (intact.header j) (intact.«data» j) k w) (sym one.1) left.3.1,
+                subst (λ (w : PieceKind). DamageLeaves unread_ok (intact.header j) (intact.«data» j) k w) (sym one.1) left.3.1,
                 behind.3,
               ),
             )
@@ -330,22 +330,22 @@ module _ (keep : Bool) (ks : List ChunkValue) (file damaged : List ℕ) (intact 
       ]
 
   -- what is left is pieces of the damaged file
-  left_tiles : (j n : ℕ) (pieces : List Piece) → DamageLeavesEach keep ks intact j n pieces
-      → AreTiles keep damaged (begin_of ks j) (begin_of ks n) pieces
+  left_tiles : (j n : ℕ) (pieces : List Piece) → DamageLeavesEach unread_ok ks intact j n pieces
+      → AreTiles unread_ok damaged (begin_of ks j) (begin_of ks n) pieces
   unfolding IsLeftPiece
   left_tiles j n [] same = ap (begin_of ks) same
   left_tiles j n (p ∷ pieces) (k, next, at, step, begin, end, what, rest) =
       let within : j < length ks = slice_get_within ks j k at in
       let left = left_at j k at in
       let same : left.0 ≡ next = next_one ks intact j left.0 next left.2 step in
-      let one : left.1 ≡ p.what = left_as_one keep (intact.header j) (intact.«data» j) k left.1 p.what left.3.1 what in
+      let one : left.1 ≡ p.what = left_as_one unread_ok (intact.header j) (intact.«data» j) k left.1 p.what left.3.1 what in
       let to : begin_of ks left.0 ≡ p.end = ap (begin_of ks) same ∙ sym end in
-      let is : IsPieceOf keep damaged (begin_of ks j) p.end p.what =
-      subst (λ (e : ℕ). IsPieceOf keep damaged (begin_of ks j) e p.what) to
-      (subst (IsPieceOf keep damaged (begin_of ks j) (begin_of ks left.0)) one left.3.0) in
+      let is : IsPieceOf unread_ok damaged (begin_of ks j) p.end p.what =
+      subst (λ (e : ℕ). IsPieceOf unread_ok damaged (begin_of ks j) e p.what) to
+      (subst (IsPieceOf unread_ok damaged (begin_of ks j) (begin_of ks left.0)) one left.3.0) in
       let below : begin_of ks j < length damaged =
       omega (arith, d.same_length, begin_of_rises_by ks j within, end_within (j + 1) (omega arith)) in
-      (begin, below, is, subst (λ (x : ℕ). AreTiles keep damaged x (begin_of ks n) pieces) (sym end) (left_tiles next n pieces rest))
+      (begin, below, is, subst (λ (x : ℕ). AreTiles unread_ok damaged x (begin_of ks n) pieces) (sym end) (left_tiles next n pieces rest))
 
   -- two chunks that begin at one place are one
   begin_one : (i j : ℕ) → i ≤ length ks → j ≤ length ks → begin_of ks i ≡ begin_of ks j → i ≡ j
@@ -357,24 +357,24 @@ module _ (keep : Bool) (ks : List ChunkValue) (file damaged : List ℕ) (intact 
       ]
 
   -- so the pieces up to a chunk are what is left up to it
-  pub front_left : (n : ℕ) (pieces : List Piece) → n ≤ length ks → AreTiles keep damaged 0 (begin_of ks n) pieces
-      → DamageLeavesEach keep ks intact 0 n pieces
+  pub front_left : (n : ℕ) (pieces : List Piece) → n ≤ length ks → AreTiles unread_ok damaged 0 (begin_of ks n) pieces
+      → DamageLeavesEach unread_ok ks intact 0 n pieces
   front_left n pieces inside h =
       let left = tiles_left 0 0 (begin_of ks n) pieces (omega arith) refl h in
-      subst (λ (m : ℕ). DamageLeavesEach keep ks intact 0 m pieces) (begin_one left.0 n left.1 inside (sym left.2)) left.3
+      subst (λ (m : ℕ). DamageLeavesEach unread_ok ks intact 0 m pieces) (begin_one left.0 n left.1 inside (sym left.2)) left.3
 
-  pub left_front : (n : ℕ) (pieces : List Piece) → DamageLeavesEach keep ks intact 0 n pieces → AreTiles keep damaged 0 (begin_of ks n) pieces
+  pub left_front : (n : ℕ) (pieces : List Piece) → DamageLeavesEach unread_ok ks intact 0 n pieces → AreTiles unread_ok damaged 0 (begin_of ks n) pieces
   left_front n pieces h = left_tiles 0 n pieces h
 
   file_ends : length damaged ≡ begin_of ks (length ks)
   file_ends = d.same_length ∙ sym last_end
 
-  pub pieces_left : (pieces : List Piece) → ArePieces keep damaged pieces → DamageLeavesEach keep ks intact 0 (length ks) pieces
+  pub pieces_left : (pieces : List Piece) → ArePieces unread_ok damaged pieces → DamageLeavesEach unread_ok ks intact 0 (length ks) pieces
   pieces_left pieces h =
-      front_left (length ks) pieces (omega arith) (subst (λ (e : ℕ). AreTiles keep damaged 0 e pieces) file_ends h)
+      front_left (length ks) pieces (omega arith) (subst (λ (e : ℕ). AreTiles unread_ok damaged 0 e pieces) file_ends h)
 
-  pub left_pieces : (pieces : List Piece) → DamageLeavesEach keep ks intact 0 (length ks) pieces → ArePieces keep damaged pieces
-  left_pieces pieces h = subst (λ (e : ℕ). AreTiles keep damaged 0 e pieces) (sym file_ends) (left_front (length ks) pieces h)
+  pub left_pieces : (pieces : List Piece) → DamageLeavesEach unread_ok ks intact 0 (length ks) pieces → ArePieces unread_ok damaged pieces
+  left_pieces pieces h = subst (λ (e : ℕ). AreTiles unread_ok damaged 0 e pieces) (sym file_ends) (left_front (length ks) pieces h)
 
   -- a chunk that begins at the file's end is none
   pub number_of_end : (n : ℕ) → n ≤ length ks → length damaged ≡ begin_of ks n → n ≡ length ks

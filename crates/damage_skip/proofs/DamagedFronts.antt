@@ -12,7 +12,7 @@ use Rattle.block_layout.proofs.Room.{boundary_past_block}
 use Rattle.block_layout.proofs.Ends.{end_of_mono}
 use Rattle.block_layout.proofs.ChunkEnds.{chunk_end_of_past_bytes}
 use Rattle.chunk_header.specs.Chunks.{ChunkValue, IsRightChunkHeader}
-use Rattle.meta_chunk.specs.Files.{IsFramed, IsChainOf, IsFrame, begin_of, end_of_chunks}
+use Rattle.meta_chunk.specs.Files.{IsWellFormedChunk, IsChainOf, IsWellFormed, begin_of, end_of_chunks}
 use Rattle.meta_chunk.proofs.Begins.{begin_of-next, begin_of-within, begin_of_rises, begin_of_boundary}
 use Rattle.chunk_reader.specs.Places.{header_bytes_at, data_at}
 use Rattle.chunk_reader.specs.declared.reasons.Why.TheVariants as why
@@ -32,11 +32,11 @@ slice_get-take (x ∷ xs) (suc n) zero inside = refl
 slice_get-take (x ∷ xs) (suc n) (suc i) inside = slice_get-take xs n i (omega arith)
 
 -- what is found is settled
-found_settled : (keep : Bool) (size end : ℕ) (k : ChunkValue) (what : PieceKind) → IsFoundAs keep k what → IsSettled size end what
-found_settled keep size end k (Records records c) found = tt
-found_settled keep size end k (Kept c) found = tt
-found_settled keep size end k SignatureOrPadding found = tt
-found_settled keep size end k (Skipped w) found = absurd found
+found_settled : (unread_ok : Bool) (size end : ℕ) (k : ChunkValue) (what : PieceKind) → IsFoundAs unread_ok k what → IsSettled size end what
+found_settled unread_ok size end k (Records records c) found = tt
+found_settled unread_ok size end k (Kept c) found = tt
+found_settled unread_ok size end k SignatureOrPadding found = tt
+found_settled unread_ok size end k (Skipped w) found = absurd found
 
 -- the first n chunks of a file
 module _ (ks : List ChunkValue) (n : ℕ) (few : n ≤ length ks) where
@@ -95,54 +95,54 @@ module _ (ks : List ChunkValue) (n : ℕ) (few : n ≤ length ks) where
   next_front intact j next before inside (inr (broken, inr (none, is))) = absurd (omega arith)
 
   -- and so is what damage leaves, where that is settled
-  next_kept : (keep : Bool) (intact : Intact) (j next : ℕ) (k : ChunkValue) (what : PieceKind) → j < n
-      → IsSettled (begin_of ks n) (begin_of ks next) what → DamageLeaves keep (intact.header j) (intact.«data» j) k what
+  next_kept : (unread_ok : Bool) (intact : Intact) (j next : ℕ) (k : ChunkValue) (what : PieceKind) → j < n
+      → IsSettled (begin_of ks n) (begin_of ks next) what → DamageLeaves unread_ok (intact.header j) (intact.«data» j) k what
       → IsNext ks intact j next → IsNext (take n ks) intact j next
-  next_kept keep intact j next k what before settled left (inl (whole, is)) = inl (whole, is)
-  next_kept keep intact j next k what before settled left (inr (broken, rest)) =
-      let is : what ≡ Skipped why.HeaderHash = subst (λ (h : Bool). DamageLeaves keep h (intact.«data» j) k what) broken left in
+  next_kept unread_ok intact j next k what before settled left (inl (whole, is)) = inl (whole, is)
+  next_kept unread_ok intact j next k what before settled left (inr (broken, rest)) =
+      let is : what ≡ Skipped why.HeaderHash = subst (λ (h : Bool). DamageLeaves unread_ok h (intact.«data» j) k what) broken left in
       let short : begin_of ks next < begin_of ks n = subst (IsSettled (begin_of ks n) (begin_of ks next)) is settled in
       elim (cases_lt next n) [
         | inl inside ↦ next_front intact j next before inside (inr (broken, rest))
         | inr behind ↦ absurd (omega (arith, short, begin_of_rises ks n next behind))
       ]
 
-  pub left_in_front : (keep : Bool) (intact : Intact) (j i : ℕ) (pieces : List Piece) → j ≤ n → i ≤ n
+  pub left_in_front : (unread_ok : Bool) (intact : Intact) (j i : ℕ) (pieces : List Piece) → j ≤ n → i ≤ n
       → AllByRecursion (λ p. IsSettled (begin_of ks n) p.end p.what) pieces
-      → DamageLeavesEach keep ks intact j i pieces → DamageLeavesEach keep (take n ks) intact j i pieces
-  left_in_front keep intact j i [] low inside settled h = h
-  left_in_front keep intact j i (p ∷ pieces) low inside settled (k, next, at, step, begin, end, what, rest) =
-      let before : j < i = left_past keep ks intact j i p pieces (k, next, at, step, begin, end, what, rest) in
+      → DamageLeavesEach unread_ok ks intact j i pieces → DamageLeavesEach unread_ok (take n ks) intact j i pieces
+  left_in_front unread_ok intact j i [] low inside settled h = h
+  left_in_front unread_ok intact j i (p ∷ pieces) low inside settled (k, next, at, step, begin, end, what, rest) =
+      let before : j < i = left_past unread_ok ks intact j i p pieces (k, next, at, step, begin, end, what, rest) in
       let past : (j < next) × (next ≤ length ks) = next_past ks intact j next (slice_get_within ks j k at) step in
-      let on : next ≤ i = (left_to keep ks intact next i pieces past.1 rest).0 in (
+      let on : next ≤ i = (left_to unread_ok ks intact next i pieces past.1 rest).0 in (
         k,
         next,
         same_chunk_at j (omega arith) ∙ at,
-        next_kept keep intact j next k p.what (omega arith) (subst (λ (e : ℕ). IsSettled (begin_of ks n) e p.what) end settled.0) what step,
+        next_kept unread_ok intact j next k p.what (omega arith) (subst (λ (e : ℕ). IsSettled (begin_of ks n) e p.what) end settled.0) what step,
         begin ∙ sym (same_begin j low),
         end ∙ sym (same_begin next (omega arith)),
         what,
-        left_in_front keep intact next i pieces (omega arith) inside settled.1 rest,
+        left_in_front unread_ok intact next i pieces (omega arith) inside settled.1 rest,
       )
 
 -- what is left before a place is settled where the file goes on behind it
-left_settled : (keep header «data» : Bool) (size end : ℕ) (k : ChunkValue) (what : PieceKind) → end < size → DamageLeaves keep header «data» k what
+left_settled : (unread_ok header «data» : Bool) (size end : ℕ) (k : ChunkValue) (what : PieceKind) → end < size → DamageLeaves unread_ok header «data» k what
     → IsSettled size end what
-left_settled keep false d size end k what before left = subst (IsSettled size end) (sym left) before
-left_settled keep true false size end k what before left = subst (IsSettled size end) (sym left) tt
+left_settled unread_ok false d size end k what before left = subst (IsSettled size end) (sym left) before
+left_settled unread_ok true false size end k what before left = subst (IsSettled size end) (sym left) tt
 left_settled true true true size end k what before left = found_settled true size end k what left
 left_settled false true true size end k what before (inl found) = found_settled false size end k what found
 left_settled false true true size end k what before (inr (inl (compressed, is))) = subst (IsSettled size end) (sym is) tt
 left_settled false true true size end k what before (inr (inr (transposed, is))) = subst (IsSettled size end) (sym is) tt
 
-pub each_left_settled : (keep : Bool) (ks : List ChunkValue) (intact : Intact) (size j i : ℕ) (pieces : List Piece) → begin_of ks i < size
-    → DamageLeavesEach keep ks intact j i pieces → AllByRecursion (λ p. IsSettled size p.end p.what) pieces
-each_left_settled keep ks intact size j i [] short h = tt
-each_left_settled keep ks intact size j i (p ∷ pieces) short (k, next, at, step, begin, end, what, rest) =
+pub each_left_settled : (unread_ok : Bool) (ks : List ChunkValue) (intact : Intact) (size j i : ℕ) (pieces : List Piece) → begin_of ks i < size
+    → DamageLeavesEach unread_ok ks intact j i pieces → AllByRecursion (λ p. IsSettled size p.end p.what) pieces
+each_left_settled unread_ok ks intact size j i [] short h = tt
+each_left_settled unread_ok ks intact size j i (p ∷ pieces) short (k, next, at, step, begin, end, what, rest) =
     let past : (j < next) × (next ≤ length ks) = next_past ks intact j next (slice_get_within ks j k at) step in
-    let on : next ≤ i = (left_to keep ks intact next i pieces past.1 rest).0 in
+    let on : next ≤ i = (left_to unread_ok ks intact next i pieces past.1 rest).0 in
     let before : p.end < size = omega (arith, end, begin_of_rises ks next i on) in
-    (left_settled keep (intact.header j) (intact.«data» j) size p.end k p.what before what, each_left_settled keep ks intact size next i pieces short rest)
+    (left_settled unread_ok (intact.header j) (intact.«data» j) size p.end k p.what before what, each_left_settled unread_ok ks intact size next i pieces short rest)
 
 -- the front of a damaged file, up to a chunk
 module _ (ks : List ChunkValue) (file damaged : List ℕ) (intact : Intact) (d : IsDamaged ks file damaged intact) (n : ℕ) (few : n ≤ length ks) where
@@ -150,7 +150,7 @@ module _ (ks : List ChunkValue) (file damaged : List ℕ) (intact : Intact) (d :
   m = begin_of ks n
 
   within : m ≤ length file
-  within = begin_of-within ks file (length file) n d.frame.1.within d.frame.1.laid
+  within = begin_of-within ks file (length file) n d.well_formed.1.within d.well_formed.1.laid
 
   within_too : m ≤ length damaged
   within_too = omega (arith, within, d.same_length)
@@ -206,16 +206,16 @@ module _ (ks : List ChunkValue) (file damaged : List ℕ) (intact : Intact) (d :
   block_inside b below = omega (arith, length-take-le m file within)
 
   -- it is a frame
-  front_frame : 0 < n → IsFrame (take n ks) (take m file)
-  front_frame some = (
+  front_well_formed : 0 < n → IsWellFormed (take n ks) (take m file)
+  front_well_formed some = (
     (λ none. omega (arith, ap length none, count ks n few)),
-    subst (IsChainOf IsFramed (take n ks) (take m file)) (sym (length-take-le m file within))
-        (cut_chain true ks file d.frame n m (omega arith) within),
+    subst (IsChainOf IsWellFormedChunk (take n ks) (take m file)) (sym (length-take-le m file within))
+        (cut_chain true ks file d.well_formed n m (omega arith) within),
   )
 
   pub front_damaged : 0 < n → IsDamaged (take n ks) (take m file) (take m damaged) intact
   front_damaged some = record {
-    frame = front_frame some;
+    well_formed = front_well_formed some;
     same_length = length-take-le m damaged within_too ∙ sym (length-take-le m file within);
     header = λ j inside.
         let before : j < n = number_inside j inside in
@@ -246,17 +246,17 @@ module _ (ks : List ChunkValue) (file damaged : List ℕ) (intact : Intact) (d :
   }
 
   -- so a file that begins with it has the pieces that it leaves and that are settled in it
-  pub front_tiles_left : (keep : Bool) (other : List ℕ) (i : ℕ) (pieces : List Piece) → length file ≤ 2 ^ 60 → i ≤ n
-      → take m other ≡ take m damaged → DamageLeavesEach keep ks intact 0 i pieces
-      → AllByRecursion (λ p. IsSettled m p.end p.what) pieces → AreTiles keep other 0 (begin_of ks i) pieces
-  front_tiles_left keep other i [] reach inside same left settled = ap (begin_of ks) left
-  front_tiles_left keep other i (p ∷ pieces) reach inside same left settled =
-      let some : 0 < i = left_past keep ks intact 0 i p pieces left in
+  pub front_tiles_left : (unread_ok : Bool) (other : List ℕ) (i : ℕ) (pieces : List Piece) → length file ≤ 2 ^ 60 → i ≤ n
+      → take m other ≡ take m damaged → DamageLeavesEach unread_ok ks intact 0 i pieces
+      → AllByRecursion (λ p. IsSettled m p.end p.what) pieces → AreTiles unread_ok other 0 (begin_of ks i) pieces
+  front_tiles_left unread_ok other i [] reach inside same left settled = ap (begin_of ks) left
+  front_tiles_left unread_ok other i (p ∷ pieces) reach inside same left settled =
+      let some : 0 < i = left_past unread_ok ks intact 0 i p pieces left in
       let few_bytes : length (take m file) ≤ 2 ^ 60 = omega (arith, length-take-le m file within, within) in
-      let front : AreTiles keep (take m damaged) 0 (begin_of (take n ks) i) (p ∷ pieces) =
-      left_front keep (take n ks) (take m file) (take m damaged) intact (front_damaged (omega arith)) few_bytes i (p ∷ pieces)
-      (left_in_front ks n few keep intact 0 i (p ∷ pieces) (omega arith) inside settled left) in
+      let front : AreTiles unread_ok (take m damaged) 0 (begin_of (take n ks) i) (p ∷ pieces) =
+      left_front unread_ok (take n ks) (take m file) (take m damaged) intact (front_damaged (omega arith)) few_bytes i (p ∷ pieces)
+      (left_in_front ks n few unread_ok intact 0 i (p ∷ pieces) (omega arith) inside settled left) in
       let long : m ≤ length other = omega (arith, ap length same, length-take-le m damaged within_too, length-take m other) in
-      tiles_kept other m long keep 0 (begin_of ks i) (p ∷ pieces) settled
-      (subst (λ (f : List ℕ). AreTiles keep f 0 (begin_of ks i) (p ∷ pieces)) (sym same)
-      (subst (λ (e : ℕ). AreTiles keep (take m damaged) 0 e (p ∷ pieces)) (same_begin ks n few i inside) front))
+      tiles_kept other m long unread_ok 0 (begin_of ks i) (p ∷ pieces) settled
+      (subst (λ (f : List ℕ). AreTiles unread_ok f 0 (begin_of ks i) (p ∷ pieces)) (sym same)
+      (subst (λ (e : ℕ). AreTiles unread_ok (take m damaged) 0 e (p ∷ pieces)) (same_begin ks n few i inside) front))

@@ -20,35 +20,35 @@ use Rattle.damage_skip.proofs.Damaged.{tiles_left, resync_next, number_of_end}
 use Rattle.damage_skip.proofs.Reached.{next_of, reached_on, left_numbers}
 use Rattle.damage_skip.proofs.Untouched.{lost_up_to_a_block}
 
-module _ (keep : Bool) (ks : List ChunkValue) (file damaged : List ℕ) (intact : Intact) (d : IsDamaged ks file damaged intact)
+module _ (unread_ok : Bool) (ks : List ChunkValue) (file damaged : List ℕ) (intact : Intact) (d : IsDamaged ks file damaged intact)
     (reach : length file ≤ 2 ^ 60) where
   -- a place that is met is reached
-  met_number : (place : ℕ) → IsMet keep damaged place → (n : ℕ) × (n ≤ length ks) × IsReachedAt ks intact place n
+  met_number : (place : ℕ) → IsMet unread_ok damaged place → (n : ℕ) × (n ≤ length ks) × IsReachedAt ks intact place n
   met_number place (pieces, h) =
-      let left = tiles_left keep ks file damaged intact d reach 0 0 place pieces (omega arith) refl h in
-      let numbers = left_numbers keep ks intact 0 left.0 pieces left.3 in
+      let left = tiles_left unread_ok ks file damaged intact d reach 0 0 place pieces (omega arith) refl h in
+      let numbers = left_numbers unread_ok ks intact 0 left.0 pieces left.3 in
       (left.0, left.1, record { numbers = numbers.0; reached = numbers.1; begins = left.2 })
 
-  pub met_reached : (place : ℕ) → IsMet keep damaged place → (n : ℕ) × IsReachedAt ks intact place n
+  pub met_reached : (place : ℕ) → IsMet unread_ok damaged place → (n : ℕ) × IsReachedAt ks intact place n
   met_reached place h = let number = met_number place h in (number.0, number.2)
 
   -- a region at which a walk stopped is what is left of the chunk there
-  pub left_region : (place n : ℕ) (stopped : Option Region) → n ≤ length ks → place ≡ begin_of ks n → IsStoppedAt keep damaged place stopped
-      → IfSome stopped (IsLeftRegion keep ks intact n)
+  pub left_region : (place n : ℕ) (stopped : Option Region) → n ≤ length ks → place ≡ begin_of ks n → IsStoppedAt unread_ok damaged place stopped
+      → IfSome stopped (IsLeftRegion unread_ok ks intact n)
   left_region place n None inside begins h = tt
   left_region place n (Some region) inside begins (begin, below, is) =
       let piece : Piece = record { begin = region.begin; end = region.end; what = Skipped region.why } in
-      let left = tiles_left keep ks file damaged intact d reach n place region.end (piece ∷ []) inside begins (begin, below, is, refl) in
+      let left = tiles_left unread_ok ks file damaged intact d reach n place region.end (piece ∷ []) inside begins (begin, below, is, refl) in
       (left.0, left.3)
 
   -- so a call goes from chunk to chunk
-  walks_past : (before after : Progress) (result : Result (Option Event) WalkEnd) → before.keep ≡ keep → IsMet keep damaged before.place
-      → GoesOn keep damaged before.place after.place (events_of result) → (result ≡ Ok None → after.place ≡ length damaged)
-      → IsStoppedAt keep damaged after.place (stop_of result) → WalksPastDamage ks intact before after result
+  walks_past : (before after : Progress) (result : Result (Option Event) WalkEnd) → before.unread_ok ≡ unread_ok → IsMet unread_ok damaged before.place
+      → GoesOn unread_ok damaged before.place after.place (events_of result) → (result ≡ Ok None → after.place ≡ length damaged)
+      → IsStoppedAt unread_ok damaged after.place (stop_of result) → WalksPastDamage ks intact before after result
   walks_past before after result keeps met (pieces, on, are) ended stopped =
       let number = met_number before.place met in
-      let left = tiles_left keep ks file damaged intact d reach number.0 before.place after.place pieces number.1 number.2.begins on in
-      let numbers = left_numbers keep ks intact number.0 left.0 pieces left.3 in
+      let left = tiles_left unread_ok ks file damaged intact d reach number.0 before.place after.place pieces number.1 number.2.begins on in
+      let numbers = left_numbers unread_ok ks intact number.0 left.0 pieces left.3 in
       let reached : AreReached ks intact 0 left.0 (number.2.numbers ++ numbers.0) =
       reached_on ks intact 0 number.0 left.0 number.2.numbers numbers.0 number.2.reached numbers.1 in
       record {
@@ -63,7 +63,7 @@ module _ (keep : Bool) (ks : List ChunkValue) (file damaged : List ℕ) (intact 
         pieces = pieces;
         left = subst (λ (k : Bool). DamageLeavesEach k ks intact number.0 left.0 pieces) (sym keeps) left.3;
         events = are;
-        ended = λ end. number_of_end keep ks file damaged intact d reach left.0 left.1 (sym (ended end) ∙ left.2);
+        ended = λ end. number_of_end unread_ok ks file damaged intact d reach left.0 left.1 (sym (ended end) ∙ left.2);
         stopped = subst (λ (k : Bool). IfSome (stop_of result) (IsLeftRegion k ks intact left.0)) (sym keeps)
             (left_region after.place left.0 (stop_of result) left.1 left.2 stopped);
         lost = lost_up_to_a_block ks intact left.0 (number.2.numbers ++ numbers.0) reached;
@@ -79,22 +79,22 @@ pub call_past : (bytes : Option (List ℕ)) (told told_then : Option ℕ) (befor
 call_past None told told_then before after result sized stands stands_then on ended = tt
 call_past (Some damaged) told told_then before after result sized stands stands_then on ended =
     λ ks file intact reach d.
-    walks_past before.keep ks file damaged intact d reach before after result refl stands.met on.past (λ end. ended end ∙ sized)
-    (subst (λ (k : Bool). IsStoppedAt k damaged after.place (stop_of result)) on.same_keep
-    (subst (IsStoppedAt after.keep damaged after.place) on.stopped stands_then.stopped_there))
+    walks_past before.unread_ok ks file damaged intact d reach before after result refl stands.met on.past (λ end. ended end ∙ sized)
+    (subst (λ (k : Bool). IsStoppedAt k damaged after.place (stop_of result)) on.same_unread_ok
+    (subst (IsStoppedAt after.unread_ok damaged after.place) on.stopped stands_then.stopped_there))
 
 -- a call that went on to a place and gave nothing there, for want of the store or of memory
 pub cut_on : (bytes : Option (List ℕ)) (before after : Progress) (end : LoadEnd) → WalksOn bytes before after (Ok None)
     → WalksOn bytes before after (Err (walk_end_of end))
 cut_on bytes before after load.Store on =
-    record { same_size = on.same_size; same_keep = on.same_keep; same_decodes = on.same_decodes; rises = on.rises; past = on.past; stopped = on.stopped }
+    record { same_size = on.same_size; same_unread_ok = on.same_unread_ok; same_decodes = on.same_decodes; rises = on.rises; past = on.past; stopped = on.stopped }
 cut_on bytes before after load.Memory on =
-    record { same_size = on.same_size; same_keep = on.same_keep; same_decodes = on.same_decodes; rises = on.rises; past = on.past; stopped = on.stopped }
+    record { same_size = on.same_size; same_unread_ok = on.same_unread_ok; same_decodes = on.same_decodes; rises = on.rises; past = on.past; stopped = on.stopped }
 
 -- one that stays
-pub stays_told : (bytes : Option (List ℕ)) (keep : Bool) (place : ℕ) → IfSome bytes (λ file. GoesOn keep file place place [])
-stays_told None keep place = tt
-stays_told (Some file) keep place = ([], refl, refl)
+pub stays_told : (bytes : Option (List ℕ)) (unread_ok : Bool) (place : ℕ) → IfSome bytes (λ file. GoesOn unread_ok file place place [])
+stays_told None unread_ok place = tt
+stays_told (Some file) unread_ok place = ([], refl, refl)
 
 -- where a chunk header has changed, reading goes on at the chunk that is reached next
 resync_past_damage : (damaged : List ℕ) (place to : ℕ) → IsResync damaged place to → LeadsPastDamage damaged place to

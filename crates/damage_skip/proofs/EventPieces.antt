@@ -65,13 +65,13 @@ unfolding AreRising
 rising_one true from p es is h = (omega (arith, is), subst (λ (x : ℕ). AreRising (x + 1) es) (sym is) h)
 rising_one false from p es is h = rising_before from (from + 1) es (omega arith) h
 
-rising_events : (keep : Bool) (file : List ℕ) (from to : ℕ) (ps : List Piece) → AreTiles keep file from to ps → AreRising from (events_in ps)
+rising_events : (unread_ok : Bool) (file : List ℕ) (from to : ℕ) (ps : List Piece) → AreTiles unread_ok file from to ps → AreRising from (events_in ps)
 unfolding AreRising
-rising_events keep file from to [] h = tt
-rising_events keep file from to (p ∷ ps) (begin, below, is, rest) =
+rising_events unread_ok file from to [] h = tt
+rising_events unread_ok file from to (p ∷ ps) (begin, below, is, rest) =
     rising_one (is_event p.what) from p (events_in ps) begin
-    (rising_before (from + 1) p.end (events_in ps) (omega (arith, (piece_past keep file from p.end p.what below is).past))
-    (rising_events keep file p.end to ps rest))
+    (rising_before (from + 1) p.end (events_in ps) (omega (arith, (piece_past unread_ok file from p.end p.what below is).past))
+    (rising_events unread_ok file p.end to ps rest))
 
 begins : List Piece → List ℕ
 begins pieces = map (λ p. p.begin) pieces
@@ -84,9 +84,9 @@ rising_next from (e ∷ []) i h within = absurd (omega arith)
 rising_next from (e ∷ f ∷ es) zero (at, rest) within = omega (arith, rest.0)
 rising_next from (e ∷ f ∷ es) (suc i) (at, rest) within = rising_next (e.begin + 1) (f ∷ es) i rest (omega arith)
 
-pub events_rise : (keep : Bool) (file : List ℕ) (from to : ℕ) (ps : List Piece) → AreTiles keep file from to ps
+pub events_rise : (unread_ok : Bool) (file : List ℕ) (from to : ℕ) (ps : List Piece) → AreTiles unread_ok file from to ps
     → IsStrictlyIncreasing (map (λ p. p.begin) (events_in ps))
 unfolding begins
-events_rise keep file from to ps h i within =
+events_rise unread_ok file from to ps h i within =
     subst (λ (n : ℕ). get_or (begins (events_in ps)) i 0 < get_or (begins (events_in ps)) n 0) (sym (add-one i))
-    (rising_next from (events_in ps) i (rising_events keep file from to ps h) (omega arith))
+    (rising_next from (events_in ps) i (rising_events unread_ok file from to ps h) (omega arith))

@@ -5,7 +5,7 @@ use Rattle.chunk_header.specs.Chunks.{ChunkValue}
 use Rattle.chunk_header.specs.SimpleChunks.{IsCompressed}
 use Rattle.chunk_header.specs.Kinds.{IsOfNoName}
 use Rattle.meta_chunk.specs.Laid.{IsLaid, end_of_chunk}
-use Rattle.meta_chunk.specs.Files.{IsTransposed, IsFramed}
+use Rattle.meta_chunk.specs.Files.{IsTransposed, IsWellFormedChunk}
 use Rattle.chunk_reader.specs.Places.{end_at, chunk_at}
 use Rattle.chunk_reader.specs.Reasons.{HasBadContents, Applies, NoneOf, IsFirstOf, content_reasons}
 use Rattle.chunk_reader.specs.declared.reasons.Why.{Why}
@@ -20,18 +20,18 @@ use Rattle.damage_skip.proofs.Reached.{compressed_or_transposed}
 
 -- a chunk that is read or left unread is found, or one of its names is the first reason
 IsNamed : Bool → (Why → Type 0) → ChunkValue → Why → Type 0
-IsNamed keep P k w = IsFirstOf P (content_reasons keep) w × DamageLeaves keep true true k (Skipped w)
+IsNamed unread_ok P k w = IsFirstOf P (content_reasons unread_ok) w × DamageLeaves unread_ok true true k (Skipped w)
 
 IsReadOrNamed : Bool → (Why → Type 0) → ChunkValue → Type 0
-IsReadOrNamed keep P k =
-    (NoneOf P (content_reasons keep) × ((what : PieceKind) × IsFoundAs keep k what × DamageLeaves keep true true k what))
-    ⊎ (IsNamed keep P k why.Compressed ⊎ IsNamed keep P k why.Transposed)
+IsReadOrNamed unread_ok P k =
+    (NoneOf P (content_reasons unread_ok) × ((what : PieceKind) × IsFoundAs unread_ok k what × DamageLeaves unread_ok true true k what))
+    ⊎ (IsNamed unread_ok P k why.Compressed ⊎ IsNamed unread_ok P k why.Transposed)
 
-read_or_named : (keep : Bool) (P : Why → Type 0) (k : ChunkValue) → IsFramed k → ¬ P why.DataHash → ¬ P why.Contents → ¬ P why.UnknownKind
-    → (P why.Compressed ↔ IsCompressed k) → (P why.Transposed ↔ IsTransposed k) → IsReadOrNamed keep P k
+read_or_named : (unread_ok : Bool) (P : Why → Type 0) (k : ChunkValue) → IsWellFormedChunk k → ¬ P why.DataHash → ¬ P why.Contents → ¬ P why.UnknownKind
+    → (P why.Compressed ↔ IsCompressed k) → (P why.Transposed ↔ IsTransposed k) → IsReadOrNamed unread_ok P k
 unfolding IsReadOrNamed IsNamed
-read_or_named true P k framed hash good named c t =
-    let found = found_of true k (elim framed [ inl plain ↦ inl plain.1 | inr unread ↦ inr unread.1 ]) in
+read_or_named true P k formed hash good named c t =
+    let found = found_of true k (elim formed [ inl plain ↦ inl plain.1 | inr unread ↦ inr unread.1 ]) in
     inl ((hash, (good, (named, tt))), (found.0, found.1, found.1))
 read_or_named false P k (inl plain) hash good named c t =
     let found = found_of false k plain.1 in
@@ -64,22 +64,22 @@ pub record IsIntactAt (file : List ℕ) (place : ℕ) (k : ChunkValue) : Type 0 
   pub chunk : chunk_at file place ≡ k
 
 -- what piece it is
-pub intact_piece : (keep : Bool) (file : List ℕ) (place : ℕ) (k : ChunkValue) → IsFramed k → IsIntactAt file place k
-    → (what : PieceKind) × IsPieceOf keep file place (end_at file place) what × DamageLeaves keep true true k what
+pub intact_piece : (unread_ok : Bool) (file : List ℕ) (place : ℕ) (k : ChunkValue) → IsWellFormedChunk k → IsIntactAt file place k
+    → (what : PieceKind) × IsPieceOf unread_ok file place (end_at file place) what × DamageLeaves unread_ok true true k what
 unfolding IsReadOrNamed IsNamed
-intact_piece keep file place k framed h =
+intact_piece unread_ok file place k formed h =
     let there : ChunkValue = chunk_at file place in
-    let good : ¬ Applies file place why.Contents = λ bad. allowed_good true k framed (subst HasBadContents h.chunk bad) in
+    let good : ¬ Applies file place why.Contents = λ bad. allowed_good true k formed (subst HasBadContents h.chunk bad) in
     let named : ¬ Applies file place why.UnknownKind =
-    λ none. allowed_named true k framed (subst (λ (c : ChunkValue). IsOfNoName c.kind) h.chunk none) in
-    elim (read_or_named keep (SkipsFor file place) k framed h.hash good named
+    λ none. allowed_named true k formed (subst (λ (c : ChunkValue). IsOfNoName c.kind) h.chunk none) in
+    elim (read_or_named unread_ok (SkipsFor file place) k formed h.hash good named
     (same_for IsCompressed there k h.chunk) (same_for IsTransposed there k h.chunk)) [
       | inl (none, (what, found, left)) ↦ (
         what,
-        piece_whole keep file place (end_at file place) what (
+        piece_whole unread_ok file place (end_at file place) what (
           (h.long, (h.header, (h.agrees, (h.whole, (h.small, none))))),
           refl,
-          subst (λ (c : ChunkValue). IsFoundAs keep c what) (sym h.chunk) found,
+          subst (λ (c : ChunkValue). IsFoundAs unread_ok c what) (sym h.chunk) found,
         ),
         left,
       )
@@ -96,11 +96,11 @@ intact_piece keep file place k framed h =
     ]
 
 -- one that is laid is intact
-pub laid_piece : (keep : Bool) (file : List ℕ) (place : ℕ) (k : ChunkValue) (end : ℕ) → IsFramed k → IsLaid place k (slice_range file place end)
-    → (what : PieceKind) × IsPieceOf keep file place (end_of_chunk place k) what × DamageLeaves keep true true k what
-laid_piece keep file place k end framed laid =
-    let none = none_passes_over true place k file end laid framed in
-    let piece = intact_piece keep file place k framed (record {
+pub laid_piece : (unread_ok : Bool) (file : List ℕ) (place : ℕ) (k : ChunkValue) (end : ℕ) → IsWellFormedChunk k → IsLaid place k (slice_range file place end)
+    → (what : PieceKind) × IsPieceOf unread_ok file place (end_of_chunk place k) what × DamageLeaves unread_ok true true k what
+laid_piece unread_ok file place k end formed laid =
+    let none = none_passes_over true place k file end laid formed in
+    let piece = intact_piece unread_ok file place k formed (record {
       long = none.0;
       header = none.1.0;
       agrees = none.1.1.0;
@@ -109,4 +109,4 @@ laid_piece keep file place k end framed laid =
       hash = none.1.1.1.1.1.0;
       chunk = chunk_at-laid place k file end laid;
     }) in
-    (piece.0, subst (λ (e : ℕ). IsPieceOf keep file place e piece.0) (end_at-laid place k file end laid) piece.1, piece.2)
+    (piece.0, subst (λ (e : ℕ). IsPieceOf unread_ok file place e piece.0) (end_at-laid place k file end laid) piece.1, piece.2)

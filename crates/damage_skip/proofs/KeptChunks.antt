@@ -47,19 +47,19 @@ pub kept_none : (k : ChunkValue) → (¬ IsSimpleChunk k) → records_of (kept_a
 kept_none k none = none_by k (records_decided k) none
 
 -- and is what a chunk is found as that is kept, or holds records
-found_by : (keep : Bool) (k : ChunkValue) (d : IsDecided (IsSimpleChunk k)) → IsFoundAs keep k (Kept k) → IsFoundAs keep k (kept_by k d)
-found_by keep k (inl (records, simple)) found = (simple, refl)
-found_by keep k (inr none) found = found
+found_by : (unread_ok : Bool) (k : ChunkValue) (d : IsDecided (IsSimpleChunk k)) → IsFoundAs unread_ok k (Kept k) → IsFoundAs unread_ok k (kept_by k d)
+found_by unread_ok k (inl (records, simple)) found = (simple, refl)
+found_by unread_ok k (inr none) found = found
 
-pub kept_found : (keep : Bool) (k : ChunkValue) → IsFoundAs keep k (Kept k) → IsFoundAs keep k (kept_as k)
-kept_found keep k found = found_by keep k (records_decided k) found
+pub kept_found : (unread_ok : Bool) (k : ChunkValue) → IsFoundAs unread_ok k (Kept k) → IsFoundAs unread_ok k (kept_as k)
+kept_found unread_ok k found = found_by unread_ok k (records_decided k) found
 
-simple_by : (keep : Bool) (k : ChunkValue) (d : IsDecided (IsSimpleChunk k)) → IsSimpleChunk k → IsFoundAs keep k (kept_by k d)
-simple_by keep k (inl (records, simple)) holds = (simple, refl)
-simple_by keep k (inr none) holds = absurd (none holds)
+simple_by : (unread_ok : Bool) (k : ChunkValue) (d : IsDecided (IsSimpleChunk k)) → IsSimpleChunk k → IsFoundAs unread_ok k (kept_by k d)
+simple_by unread_ok k (inl (records, simple)) holds = (simple, refl)
+simple_by unread_ok k (inr none) holds = absurd (none holds)
 
-pub simple_found : (keep : Bool) (k : ChunkValue) → IsSimpleChunk k → IsFoundAs keep k (kept_as k)
-simple_found keep k holds = simple_by keep k (records_decided k) holds
+pub simple_found : (unread_ok : Bool) (k : ChunkValue) → IsSimpleChunk k → IsFoundAs unread_ok k (kept_as k)
+simple_found unread_ok k holds = simple_by unread_ok k (records_decided k) holds
 
 -- a simple chunk that holds records has no bad contents
 good_simple : (k : ChunkValue) → IsSimpleChunk k → ¬ HasBadContents k
@@ -72,8 +72,8 @@ good_simple k (records, simple) (inr (kind, inl none)) = omega (arith, ap length
 good_simple k (records, simple) (inr (kind, inr (zero_first, no_records))) = no_records (records, simple)
 
 -- and under the right hash no reason passes over it
-none_of-simple : (keep : Bool) (hash : ℕ) (k : ChunkValue) → hash ≡ riegeli_hash k.«data» → IsSimpleChunk k
-    → NoneOf (ContentApplies hash k) (content_reasons keep)
+none_of-simple : (unread_ok : Bool) (hash : ℕ) (k : ChunkValue) → hash ≡ riegeli_hash k.«data» → IsSimpleChunk k
+    → NoneOf (ContentApplies hash k) (content_reasons unread_ok)
 none_of-simple true hash k right holds =
     (λ wrong. wrong (sym right), (good_simple k holds, (λ other. other.simple holds.1.kind, tt)))
 none_of-simple false hash k right holds = (
@@ -92,14 +92,14 @@ pub judged-kept : (walk : Progress) (chunk : Chunk) → HasRightHash chunk → w
     → IsReadAs walk chunk (what.Kept chunk false)
 judged-kept walk chunk right judges holds =
     let k : ChunkValue = value_of_chunk chunk in
-    (none_of-simple walk.keep chunk.header.data_hash k right holds, simple_found walk.keep k holds, (refl, inr (judges, holds)))
+    (none_of-simple walk.unread_ok chunk.header.data_hash k right holds, simple_found walk.unread_ok k holds, (refl, inr (judges, holds)))
 
 -- and one whose contents are bad is passed over
-first_of-bad : (keep : Bool) (hash : ℕ) (k : ChunkValue) → hash ≡ riegeli_hash k.«data» → HasBadContents k
-    → IsFirstOf (ContentApplies hash k) (content_reasons keep) why.Contents
+first_of-bad : (unread_ok : Bool) (hash : ℕ) (k : ChunkValue) → hash ≡ riegeli_hash k.«data» → HasBadContents k
+    → IsFirstOf (ContentApplies hash k) (content_reasons unread_ok) why.Contents
 first_of-bad true hash k right bad = inr (λ wrong. wrong (sym right), inl (bad, refl))
 first_of-bad false hash k right bad = inr (λ wrong. wrong (sym right), inl (bad, refl))
 
 pub judged-bad : (walk : Progress) (chunk : Chunk) → HasRightHash chunk → HasBadContents (value_of_chunk chunk)
     → IsReadAs walk chunk (what.Skipped why.Contents)
-judged-bad walk chunk right bad = first_of-bad walk.keep chunk.header.data_hash (value_of_chunk chunk) right bad
+judged-bad walk chunk right bad = first_of-bad walk.unread_ok chunk.header.data_hash (value_of_chunk chunk) right bad

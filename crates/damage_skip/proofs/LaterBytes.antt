@@ -217,7 +217,7 @@ module _ (file : List ℕ) (m : ℕ) (within : m ≤ length file) where
         (λ h. omega (arith, h, ap (λ (v : HeaderValue). v.data_size) fields_kept)),
       )
 
-      reasons_same : (keep : Bool) → AllByRecursion (λ w. SkipsFor (take m file) begin w ↔ SkipsFor file begin w) (walk_reasons keep)
+      reasons_same : (unread_ok : Bool) → AllByRecursion (λ w. SkipsFor (take m file) begin w ↔ SkipsFor file begin w) (walk_reasons unread_ok)
       reasons_same false = (
         short_same,
         (
@@ -267,82 +267,82 @@ module _ (file : List ℕ) (m : ℕ) (within : m ≤ length file) where
       omega (arith, end_of_mono begin 40 (40 + v.data_size) (omega arith), chunk_end_of_past_bytes begin (40 + v.data_size) v.num_records)
 
   -- what is passed over in the front is passed over in the file, where that is settled
-  skip_kept : (keep : Bool) (begin end : ℕ) (w : Why) → IsSettled m end (Skipped w)
-      → IsFirstOf (SkipsFor (take m file) begin) (walk_reasons keep) w → SkipsTo (take m file) begin w end
-      → IsFirstOf (SkipsFor file begin) (walk_reasons keep) w × SkipsTo file begin w end
-  skip_kept keep begin end why.Short settled first to = absurd settled
-  skip_kept keep begin end why.Truncated settled first to = absurd settled
-  skip_kept keep begin end why.HeaderHash settled (inl (short, is)) to = absurd (cc is)
-  skip_kept keep begin end why.HeaderHash settled (inr (long, rest)) to =
+  skip_kept : (unread_ok : Bool) (begin end : ℕ) (w : Why) → IsSettled m end (Skipped w)
+      → IsFirstOf (SkipsFor (take m file) begin) (walk_reasons unread_ok) w → SkipsTo (take m file) begin w end
+      → IsFirstOf (SkipsFor file begin) (walk_reasons unread_ok) w × SkipsTo file begin w end
+  skip_kept unread_ok begin end why.Short settled first to = absurd settled
+  skip_kept unread_ok begin end why.Truncated settled first to = absurd settled
+  skip_kept unread_ok begin end why.HeaderHash settled (inl (short, is)) to = absurd (cc is)
+  skip_kept unread_ok begin end why.HeaderHash settled (inr (long, rest)) to =
       let fits : end_of begin 40 ≤ m = long_where begin long in
       let wrong : SkipsFor (take m file) begin why.HeaderHash =
-      first_applies (SkipsFor (take m file) begin) (walk_reasons keep) why.HeaderHash (inr (long, rest)) in
+      first_applies (SkipsFor (take m file) begin) (walk_reasons unread_ok) why.HeaderHash (inr (long, rest)) in
       (inr (not_short begin fits, inl (wrong_kept begin fits wrong, refl)), resync_kept begin end settled to)
-  skip_kept keep begin end why.Contradicted settled (inl (short, is)) to = absurd (cc is)
-  skip_kept keep begin end why.Contradicted settled (inr (long, inl (wrong, is))) to = absurd (cc is)
-  skip_kept keep begin end why.Contradicted settled (inr (long, inr (right, rest))) (b, p, n, first, is) =
+  skip_kept unread_ok begin end why.Contradicted settled (inl (short, is)) to = absurd (cc is)
+  skip_kept unread_ok begin end why.Contradicted settled (inr (long, inl (wrong, is))) to = absurd (cc is)
+  skip_kept unread_ok begin end why.Contradicted settled (inr (long, inr (right, rest))) (b, p, n, first, is) =
       let fits : end_of begin 40 ≤ m = long_where begin long in
       let there = first_against begin fits b p n first in (
         inr (not_short begin fits, inr (right_kept begin fits right, inl ((b, p, n, there.holds), refl))),
         (b, p, n, there, landing_kept m (length file) begin b p n end within settled (is ∙ ap (λ (s : ℕ). landing s begin b p n) front_length)),
       )
-  skip_kept keep begin end other settled first to =
+  skip_kept unread_ok begin end other settled first to =
       let whole : end_at (take m file) begin ≤ m =
-      omega (arith, front_length, whole_later keep (take m file) begin other (λ e. cc) (λ e. cc) (λ e. cc) (λ e. cc) first) in
+      omega (arith, front_length, whole_later unread_ok (take m file) begin other (λ e. cc) (λ e. cc) (λ e. cc) (λ e. cc) first) in
       let fits : end_of begin 40 ≤ m = long_where_whole begin whole in (
-        first_same (SkipsFor (take m file) begin) (SkipsFor file begin) (walk_reasons keep) other (reasons_same begin fits whole keep) first,
+        first_same (SkipsFor (take m file) begin) (SkipsFor file begin) (walk_reasons unread_ok) other (reasons_same begin fits whole unread_ok) first,
         to ∙ end_kept begin fits,
       )
 
   -- a chunk that is found in the front is found in the file
-  found_kept : (keep : Bool) (begin end : ℕ) (what : PieceKind) → IsWhole keep (take m file) begin end what → IsPieceOf keep file begin end what
-  found_kept keep begin end what (none, is, found) =
+  found_kept : (unread_ok : Bool) (begin end : ℕ) (what : PieceKind) → IsWhole unread_ok (take m file) begin end what → IsPieceOf unread_ok file begin end what
+  found_kept unread_ok begin end what (none, is, found) =
       let whole : end_at (take m file) begin ≤ m = omega (arith, front_length, none.1.1.1.0) in
       let fits : end_of begin 40 ≤ m = long_where_whole begin whole in
-      piece_whole keep file begin end what (
-        none_same (SkipsFor (take m file) begin) (SkipsFor file begin) (walk_reasons keep) (reasons_same begin fits whole keep) none,
+      piece_whole unread_ok file begin end what (
+        none_same (SkipsFor (take m file) begin) (SkipsFor file begin) (walk_reasons unread_ok) (reasons_same begin fits whole unread_ok) none,
         is ∙ end_kept begin fits,
-        subst (λ (k : ChunkValue). IsFoundAs keep k what) (chunk_kept begin fits whole) found,
+        subst (λ (k : ChunkValue). IsFoundAs unread_ok k what) (chunk_kept begin fits whole) found,
       )
 
   -- so a settled piece of the front is a piece of the file
-  piece_kept : (keep : Bool) (begin end : ℕ) (what : PieceKind) → IsSettled m end what → IsPieceOf keep (take m file) begin end what
-      → IsPieceOf keep file begin end what
-  piece_kept keep begin end (Skipped w) settled (first, to) = skip_kept keep begin end w settled first to
-  piece_kept keep begin end (Records records k) settled h = found_kept keep begin end (Records records k) h
-  piece_kept keep begin end (Kept k) settled h = found_kept keep begin end (Kept k) h
-  piece_kept keep begin end SignatureOrPadding settled h = found_kept keep begin end SignatureOrPadding h
+  piece_kept : (unread_ok : Bool) (begin end : ℕ) (what : PieceKind) → IsSettled m end what → IsPieceOf unread_ok (take m file) begin end what
+      → IsPieceOf unread_ok file begin end what
+  piece_kept unread_ok begin end (Skipped w) settled (first, to) = skip_kept unread_ok begin end w settled first to
+  piece_kept unread_ok begin end (Records records k) settled h = found_kept unread_ok begin end (Records records k) h
+  piece_kept unread_ok begin end (Kept k) settled h = found_kept unread_ok begin end (Kept k) h
+  piece_kept unread_ok begin end SignatureOrPadding settled h = found_kept unread_ok begin end SignatureOrPadding h
 
   -- and so are settled pieces
-  pub tiles_kept : (keep : Bool) (from to : ℕ) (pieces : List Piece) → AllByRecursion (λ p. IsSettled m p.end p.what) pieces
-      → AreTiles keep (take m file) from to pieces → AreTiles keep file from to pieces
-  tiles_kept keep from to [] settled h = h
-  tiles_kept keep from to (p ∷ pieces) settled (begin, below, is, rest) = (
+  pub tiles_kept : (unread_ok : Bool) (from to : ℕ) (pieces : List Piece) → AllByRecursion (λ p. IsSettled m p.end p.what) pieces
+      → AreTiles unread_ok (take m file) from to pieces → AreTiles unread_ok file from to pieces
+  tiles_kept unread_ok from to [] settled h = h
+  tiles_kept unread_ok from to (p ∷ pieces) settled (begin, below, is, rest) = (
     begin,
     omega (arith, below, front_length),
-    piece_kept keep from p.end p.what settled.0 is,
-    tiles_kept keep p.end to pieces settled.1 rest,
+    piece_kept unread_ok from p.end p.what settled.0 is,
+    tiles_kept unread_ok p.end to pieces settled.1 rest,
   )
 
   -- where a header fits behind them they are settled
-  settled_before : (keep : Bool) (begin end to : ℕ) (what : PieceKind) → end_of to 40 ≤ m → begin < to → end ≤ to
-      → IsPieceOf keep (take m file) begin end what → IsSettled m end what
-  settled_before keep begin end to (Skipped why.Short) room before inside (first, on) =
-      let short = first_applies (SkipsFor (take m file) begin) (walk_reasons keep) why.Short first in
+  settled_before : (unread_ok : Bool) (begin end to : ℕ) (what : PieceKind) → end_of to 40 ≤ m → begin < to → end ≤ to
+      → IsPieceOf unread_ok (take m file) begin end what → IsSettled m end what
+  settled_before unread_ok begin end to (Skipped why.Short) room before inside (first, on) =
+      let short = first_applies (SkipsFor (take m file) begin) (walk_reasons unread_ok) why.Short first in
       omega (arith, short, front_length, end_of_rises begin to 40 (omega arith))
-  settled_before keep begin end to (Skipped why.Truncated) room before inside (first, on) =
+  settled_before unread_ok begin end to (Skipped why.Truncated) room before inside (first, on) =
       omega (arith, on, front_length, end_of_above to 40 (omega arith))
-  settled_before keep begin end to (Skipped why.HeaderHash) room before inside h = omega (arith, end_of_above to 40 (omega arith))
-  settled_before keep begin end to (Skipped why.Contradicted) room before inside h = omega (arith, end_of_above to 40 (omega arith))
-  settled_before keep begin end to other room before inside h = tt
+  settled_before unread_ok begin end to (Skipped why.HeaderHash) room before inside h = omega (arith, end_of_above to 40 (omega arith))
+  settled_before unread_ok begin end to (Skipped why.Contradicted) room before inside h = omega (arith, end_of_above to 40 (omega arith))
+  settled_before unread_ok begin end to other room before inside h = tt
 
-  all_settled : (keep : Bool) (from to : ℕ) (pieces : List Piece) → end_of to 40 ≤ m → AreTiles keep (take m file) from to pieces
+  all_settled : (unread_ok : Bool) (from to : ℕ) (pieces : List Piece) → end_of to 40 ≤ m → AreTiles unread_ok (take m file) from to pieces
       → AllByRecursion (λ p. IsSettled m p.end p.what) pieces
-  all_settled keep from to [] room h = tt
-  all_settled keep from to (p ∷ pieces) room (begin, below, is, rest) =
-      let past = piece_past keep (take m file) from p.end p.what below is in
-      let behind = tiles_within keep (take m file) p.end to pieces past.within rest in
-      (settled_before keep from p.end to p.what room (omega (arith, past.past)) behind.0 is, all_settled keep p.end to pieces room rest)
+  all_settled unread_ok from to [] room h = tt
+  all_settled unread_ok from to (p ∷ pieces) room (begin, below, is, rest) =
+      let past = piece_past unread_ok (take m file) from p.end p.what below is in
+      let behind = tiles_within unread_ok (take m file) p.end to pieces past.within rest in
+      (settled_before unread_ok from p.end to p.what room (omega (arith, past.past)) behind.0 is, all_settled unread_ok p.end to pieces room rest)
 
 -- bytes behind a file leave its settled pieces alone
 front_of_both : (file more : List ℕ) → take (length file) (file ++ more) ≡ file
@@ -351,15 +351,15 @@ front_of_both file more = take_at file more (length file) refl
 within_both : (file more : List ℕ) → length file ≤ length (file ++ more)
 within_both file more = omega (arith, length-append file more)
 
-pub tiles_left_alone : (keep : Bool) (file more : List ℕ) (from to : ℕ) (pieces : List Piece)
-    → AreTiles keep file from to pieces → AllByRecursion (λ p. IsSettled (length file) p.end p.what) pieces
-    → AreTiles keep (file ++ more) from to pieces
-tiles_left_alone keep file more from to pieces h settled =
-    tiles_kept (file ++ more) (length file) (within_both file more) keep from to pieces settled
-    (subst (λ (f : List ℕ). AreTiles keep f from to pieces) (sym (front_of_both file more)) h)
+pub tiles_left_alone : (unread_ok : Bool) (file more : List ℕ) (from to : ℕ) (pieces : List Piece)
+    → AreTiles unread_ok file from to pieces → AllByRecursion (λ p. IsSettled (length file) p.end p.what) pieces
+    → AreTiles unread_ok (file ++ more) from to pieces
+tiles_left_alone unread_ok file more from to pieces h settled =
+    tiles_kept (file ++ more) (length file) (within_both file more) unread_ok from to pieces settled
+    (subst (λ (f : List ℕ). AreTiles unread_ok f from to pieces) (sym (front_of_both file more)) h)
 
-pub tiles_settled : (keep : Bool) (file : List ℕ) (from to : ℕ) (pieces : List Piece) → AreTiles keep file from to pieces
+pub tiles_settled : (unread_ok : Bool) (file : List ℕ) (from to : ℕ) (pieces : List Piece) → AreTiles unread_ok file from to pieces
     → end_of to 40 ≤ length file → AllByRecursion (λ p. IsSettled (length file) p.end p.what) pieces
-tiles_settled keep file from to pieces h room =
-    all_settled file (length file) (omega arith) keep from to pieces room
-    (subst (λ (f : List ℕ). AreTiles keep f from to pieces) (sym (take_all (length file) file (omega arith))) h)
+tiles_settled unread_ok file from to pieces h room =
+    all_settled file (length file) (omega arith) unread_ok from to pieces room
+    (subst (λ (f : List ℕ). AreTiles unread_ok f from to pieces) (sym (take_all (length file) file (omega arith))) h)

@@ -60,37 +60,37 @@ end_past file place whole = record {
 }
 
 -- a reason behind the first four is the first only of a chunk that the file has whole
-pub whole_later : (keep : Bool) (file : List ℕ) (place : ℕ) (w : Why) → w ≢ why.Short → w ≢ why.HeaderHash → w ≢ why.Contradicted → w ≢ why.Truncated
-    → IsFirstOf (SkipsFor file place) (walk_reasons keep) w → end_at file place ≤ length file
-whole_later keep file place w short header against cut (inl (applies, is)) = absurd (short is)
-whole_later keep file place w short header against cut (inr (not, inl (applies, is))) = absurd (header is)
-whole_later keep file place w short header against cut (inr (not, inr (nor, inl (applies, is)))) = absurd (against is)
-whole_later keep file place w short header against cut (inr (not, inr (nor, inr (also, inl (applies, is))))) = absurd (cut is)
-whole_later keep file place w short header against cut (inr (not, inr (nor, inr (also, inr (whole, later))))) = omega (arith, whole)
+pub whole_later : (unread_ok : Bool) (file : List ℕ) (place : ℕ) (w : Why) → w ≢ why.Short → w ≢ why.HeaderHash → w ≢ why.Contradicted → w ≢ why.Truncated
+    → IsFirstOf (SkipsFor file place) (walk_reasons unread_ok) w → end_at file place ≤ length file
+whole_later unread_ok file place w short header against cut (inl (applies, is)) = absurd (short is)
+whole_later unread_ok file place w short header against cut (inr (not, inl (applies, is))) = absurd (header is)
+whole_later unread_ok file place w short header against cut (inr (not, inr (nor, inl (applies, is)))) = absurd (against is)
+whole_later unread_ok file place w short header against cut (inr (not, inr (nor, inr (also, inl (applies, is))))) = absurd (cut is)
+whole_later unread_ok file place w short header against cut (inr (not, inr (nor, inr (also, inr (whole, later))))) = omega (arith, whole)
 
 -- it is past the place that is passed over
-pub skips_past : (keep : Bool) (file : List ℕ) (place : ℕ) (w : Why) (to : ℕ) → place < length file
-    → IsFirstOf (SkipsFor file place) (walk_reasons keep) w → SkipsTo file place w to → IsOnward (length file) place to
-skips_past keep file place why.Short to below first h = resync_past file place to below h
-skips_past keep file place why.HeaderHash to below first h = resync_past file place to below h
-skips_past keep file place why.Contradicted to below first (b, p, n, against, is) =
+pub skips_past : (unread_ok : Bool) (file : List ℕ) (place : ℕ) (w : Why) (to : ℕ) → place < length file
+    → IsFirstOf (SkipsFor file place) (walk_reasons unread_ok) w → SkipsTo file place w to → IsOnward (length file) place to
+skips_past unread_ok file place why.Short to below first h = resync_past file place to below h
+skips_past unread_ok file place why.HeaderHash to below first h = resync_past file place to below h
+skips_past unread_ok file place why.Contradicted to below first (b, p, n, against, is) =
     subst (IsOnward (length file) place) (sym is)
     (onward-landing (length file) place b p n against.holds.stands.sane against.holds.from
     (omega (arith, stands_within file b p n against.holds.stands)))
-skips_past keep file place why.Truncated to below first is =
+skips_past unread_ok file place why.Truncated to below first is =
     record { past = omega (arith, is); within = omega (arith, is); boundary = inr is }
-skips_past keep file place other to below first is =
+skips_past unread_ok file place other to below first is =
     subst (IsOnward (length file) place) (sym is)
-    (end_past file place (whole_later keep file place other (λ e. cc) (λ e. cc) (λ e. cc) (λ e. cc) first))
+    (end_past file place (whole_later unread_ok file place other (λ e. cc) (λ e. cc) (λ e. cc) (λ e. cc) first))
 
 -- a chunk of records is none that is kept, nor one that is left out
-pub given_or_kept : (keep : Bool) (k : ChunkValue) (records : List (List ℕ)) → IsSimple k records
-    → (IsMetadata k ⊎ ((keep ≡ true) × (IsCompressed k ⊎ IsTransposed k))) → ⊥
-given_or_kept keep k records simple (inl metadata) =
+pub given_or_kept : (unread_ok : Bool) (k : ChunkValue) (records : List (List ℕ)) → IsSimple k records
+    → (IsMetadata k ⊎ ((unread_ok ≡ true) × (IsCompressed k ⊎ IsTransposed k))) → ⊥
+given_or_kept unread_ok k records simple (inl metadata) =
     let r : k.kind ≡ 0x72 = simple.kind in let m : k.kind ≡ 0x6d = metadata.0 in omega arith
-given_or_kept keep k records simple (inr (kept, inl compressed)) =
+given_or_kept unread_ok k records simple (inr (kept, inl compressed)) =
     compressed.2 (ap (λ (xs : List ℕ). get_or xs 0 0) simple.«data»)
-given_or_kept keep k records simple (inr (kept, inr transposed)) =
+given_or_kept unread_ok k records simple (inr (kept, inr transposed)) =
     let r : k.kind ≡ 0x72 = simple.kind in let t : k.kind ≡ 0x74 = transposed in omega arith
 
 kind_left_out : (k : ChunkValue) → (IsSignature k ⊎ IsPadding k) → (k.kind ≡ 0x73) ⊎ (k.kind ≡ 0x70)
@@ -102,113 +102,113 @@ given_or_left_out k records simple left_out =
     let r : k.kind ≡ 0x72 = simple.kind in elim (kind_left_out k left_out) [ inl s ↦ omega arith | inr p ↦ omega arith ]
 
 -- nor is one that is kept left out
-kind_kept : (keep : Bool) (k : ChunkValue) → (IsMetadata k ⊎ ((keep ≡ true) × (IsCompressed k ⊎ IsTransposed k)))
+kind_kept : (unread_ok : Bool) (k : ChunkValue) → (IsMetadata k ⊎ ((unread_ok ≡ true) × (IsCompressed k ⊎ IsTransposed k)))
     → (k.kind ≡ 0x6d) ⊎ (k.kind ≡ 0x72) ⊎ (k.kind ≡ 0x74)
-kind_kept keep k (inl is) = inl is.0
-kind_kept keep k (inr (kept, inl compressed)) = inr (inl compressed.0)
-kind_kept keep k (inr (kept, inr transposed)) = inr (inr transposed)
+kind_kept unread_ok k (inl is) = inl is.0
+kind_kept unread_ok k (inr (kept, inl compressed)) = inr (inl compressed.0)
+kind_kept unread_ok k (inr (kept, inr transposed)) = inr (inr transposed)
 
-kept_or_left_out : (keep : Bool) (k : ChunkValue) → (IsMetadata k ⊎ ((keep ≡ true) × (IsCompressed k ⊎ IsTransposed k)))
+kept_or_left_out : (unread_ok : Bool) (k : ChunkValue) → (IsMetadata k ⊎ ((unread_ok ≡ true) × (IsCompressed k ⊎ IsTransposed k)))
     → (IsSignature k ⊎ IsPadding k) → ⊥
-kept_or_left_out keep k kept left_out =
-    elim (kind_kept keep k kept) [
+kept_or_left_out unread_ok k kept left_out =
+    elim (kind_kept unread_ok k kept) [
       | inl m ↦ elim (kind_left_out k left_out) [ inl s ↦ omega arith | inr p ↦ omega arith ]
       | inr (inl r) ↦ elim (kind_left_out k left_out) [ inl s ↦ omega arith | inr p ↦ omega arith ]
       | inr (inr t) ↦ elim (kind_left_out k left_out) [ inl s ↦ omega arith | inr p ↦ omega arith ]
     ]
 
 -- what an intact chunk is found as is one
-pub found_one : (keep : Bool) (k : ChunkValue) (a b : PieceKind) → IsFoundAs keep k a → IsFoundAs keep k b → a ≡ b
-found_one keep k (Records records c) (Records others d) (simple, is) (also, there) =
+pub found_one : (unread_ok : Bool) (k : ChunkValue) (a b : PieceKind) → IsFoundAs unread_ok k a → IsFoundAs unread_ok k b → a ≡ b
+found_one unread_ok k (Records records c) (Records others d) (simple, is) (also, there) =
     ap (λ (xs : List (List ℕ)). Records xs c) (records_are_one k records others simple also) ∙ ap (Records others) (is ∙ sym there)
-found_one keep k (Records records c) (Kept d) (simple, is) (kept, there) = absurd (given_or_kept keep k records simple kept)
-found_one keep k (Records records c) SignatureOrPadding (simple, is) left_out = absurd (given_or_left_out k records simple left_out)
-found_one keep k (Kept c) (Records records d) (kept, is) (simple, there) = absurd (given_or_kept keep k records simple kept)
-found_one keep k (Kept c) (Kept d) (kept, is) (also, there) = ap Kept (is ∙ sym there)
-found_one keep k (Kept c) SignatureOrPadding (kept, is) left_out = absurd (kept_or_left_out keep k kept left_out)
-found_one keep k SignatureOrPadding (Records records d) left_out (simple, there) = absurd (given_or_left_out k records simple left_out)
-found_one keep k SignatureOrPadding (Kept d) left_out (kept, there) = absurd (kept_or_left_out keep k kept left_out)
-found_one keep k SignatureOrPadding SignatureOrPadding left_out also = refl
-found_one keep k (Skipped w) b h g = absurd h
-found_one keep k a (Skipped w) h g = absurd g
+found_one unread_ok k (Records records c) (Kept d) (simple, is) (kept, there) = absurd (given_or_kept unread_ok k records simple kept)
+found_one unread_ok k (Records records c) SignatureOrPadding (simple, is) left_out = absurd (given_or_left_out k records simple left_out)
+found_one unread_ok k (Kept c) (Records records d) (kept, is) (simple, there) = absurd (given_or_kept unread_ok k records simple kept)
+found_one unread_ok k (Kept c) (Kept d) (kept, is) (also, there) = ap Kept (is ∙ sym there)
+found_one unread_ok k (Kept c) SignatureOrPadding (kept, is) left_out = absurd (kept_or_left_out unread_ok k kept left_out)
+found_one unread_ok k SignatureOrPadding (Records records d) left_out (simple, there) = absurd (given_or_left_out k records simple left_out)
+found_one unread_ok k SignatureOrPadding (Kept d) left_out (kept, there) = absurd (kept_or_left_out unread_ok k kept left_out)
+found_one unread_ok k SignatureOrPadding SignatureOrPadding left_out also = refl
+found_one unread_ok k (Skipped w) b h g = absurd h
+found_one unread_ok k a (Skipped w) h g = absurd g
 
 -- a piece is passed over for the first reason that applies, or a chunk to which none does
 abbrev pub IsSkip : Bool → List ℕ → (begin end : ℕ) → PieceKind → Type 0
-IsSkip keep file begin end what =
-    (w : Why) × (what ≡ Skipped w) × IsFirstOf (SkipsFor file begin) (walk_reasons keep) w × SkipsTo file begin w end
+IsSkip unread_ok file begin end what =
+    (w : Why) × (what ≡ Skipped w) × IsFirstOf (SkipsFor file begin) (walk_reasons unread_ok) w × SkipsTo file begin w end
 
 abbrev pub IsWhole : Bool → List ℕ → (begin end : ℕ) → PieceKind → Type 0
-IsWhole keep file begin end what =
-    NoneOf (SkipsFor file begin) (walk_reasons keep) × (end ≡ end_at file begin) × IsFoundAs keep (chunk_at file begin) what
+IsWhole unread_ok file begin end what =
+    NoneOf (SkipsFor file begin) (walk_reasons unread_ok) × (end ≡ end_at file begin) × IsFoundAs unread_ok (chunk_at file begin) what
 
-pub piece_cases : (keep : Bool) (file : List ℕ) (begin end : ℕ) (what : PieceKind) → IsPieceOf keep file begin end what
-    → IsSkip keep file begin end what ⊎ IsWhole keep file begin end what
-piece_cases keep file begin end (Records records c) h = inr h
-piece_cases keep file begin end (Kept c) h = inr h
-piece_cases keep file begin end SignatureOrPadding h = inr h
-piece_cases keep file begin end (Skipped w) (first, to) = inl (w, refl, first, to)
+pub piece_cases : (unread_ok : Bool) (file : List ℕ) (begin end : ℕ) (what : PieceKind) → IsPieceOf unread_ok file begin end what
+    → IsSkip unread_ok file begin end what ⊎ IsWhole unread_ok file begin end what
+piece_cases unread_ok file begin end (Records records c) h = inr h
+piece_cases unread_ok file begin end (Kept c) h = inr h
+piece_cases unread_ok file begin end SignatureOrPadding h = inr h
+piece_cases unread_ok file begin end (Skipped w) (first, to) = inl (w, refl, first, to)
 
-pub piece_whole : (keep : Bool) (file : List ℕ) (begin end : ℕ) (what : PieceKind) → IsWhole keep file begin end what
-    → IsPieceOf keep file begin end what
-piece_whole keep file begin end (Records records c) h = h
-piece_whole keep file begin end (Kept c) h = h
-piece_whole keep file begin end SignatureOrPadding h = h
-piece_whole keep file begin end (Skipped w) h = absurd h.2
+pub piece_whole : (unread_ok : Bool) (file : List ℕ) (begin end : ℕ) (what : PieceKind) → IsWhole unread_ok file begin end what
+    → IsPieceOf unread_ok file begin end what
+piece_whole unread_ok file begin end (Records records c) h = h
+piece_whole unread_ok file begin end (Kept c) h = h
+piece_whole unread_ok file begin end SignatureOrPadding h = h
+piece_whole unread_ok file begin end (Skipped w) h = absurd h.2
 
 -- so at a place one piece begins at most
-pub piece_one : (keep : Bool) (file : List ℕ) (begin end other : ℕ) (what that : PieceKind)
-    → IsPieceOf keep file begin end what → IsPieceOf keep file begin other that → (end ≡ other) × (what ≡ that)
-piece_one keep file begin end other what that h g =
-    let reasons = walk_reasons keep in
-    elim (piece_cases keep file begin end what h) [
-      | inl (w, is, first, to) ↦ elim (piece_cases keep file begin other that g) [
+pub piece_one : (unread_ok : Bool) (file : List ℕ) (begin end other : ℕ) (what that : PieceKind)
+    → IsPieceOf unread_ok file begin end what → IsPieceOf unread_ok file begin other that → (end ≡ other) × (what ≡ that)
+piece_one unread_ok file begin end other what that h g =
+    let reasons = walk_reasons unread_ok in
+    elim (piece_cases unread_ok file begin end what h) [
+      | inl (w, is, first, to) ↦ elim (piece_cases unread_ok file begin other that g) [
         | inl (v, there, also, at) ↦
             let same : w ≡ v = first_is_one (SkipsFor file begin) reasons w v first also in
             (skips_one file begin v end other (subst (λ (x : Why). SkipsTo file begin x end) same to) at, is ∙ ap Skipped same ∙ sym there)
         | inr whole ↦ absurd (none_is_first (SkipsFor file begin) reasons w whole.0 first)
       ]
-      | inr whole ↦ elim (piece_cases keep file begin other that g) [
+      | inr whole ↦ elim (piece_cases unread_ok file begin other that g) [
         | inl (v, there, also, at) ↦ absurd (none_is_first (SkipsFor file begin) reasons v whole.0 also)
         | inr other_whole ↦
-            (whole.1 ∙ sym other_whole.1, found_one keep (chunk_at file begin) what that whole.2 other_whole.2)
+            (whole.1 ∙ sym other_whole.1, found_one unread_ok (chunk_at file begin) what that whole.2 other_whole.2)
       ]
     ]
 
 -- it ends past the place
-pub piece_past : (keep : Bool) (file : List ℕ) (begin end : ℕ) (what : PieceKind) → begin < length file
-    → IsPieceOf keep file begin end what → IsOnward (length file) begin end
-piece_past keep file begin end what below h =
-    elim (piece_cases keep file begin end what h) [
-      | inl (w, is, first, to) ↦ skips_past keep file begin w end below first to
+pub piece_past : (unread_ok : Bool) (file : List ℕ) (begin end : ℕ) (what : PieceKind) → begin < length file
+    → IsPieceOf unread_ok file begin end what → IsOnward (length file) begin end
+piece_past unread_ok file begin end what below h =
+    elim (piece_cases unread_ok file begin end what h) [
+      | inl (w, is, first, to) ↦ skips_past unread_ok file begin w end below first to
       | inr whole ↦ subst (IsOnward (length file) begin) (sym whole.1) (end_past file begin (omega (arith, whole.0.1.1.1.0)))
     ]
 
 -- where no reason passes over a chunk, it is found
-found_plain : (keep : Bool) (k : ChunkValue) → IsPassed false k → (what : PieceKind) × IsFoundAs keep k what
-found_plain keep k (inl (records, simple)) = (Records records k, (simple, refl))
-found_plain keep k (inr (inl s)) = (SignatureOrPadding, inl s)
-found_plain keep k (inr (inr (inl m))) = (Kept k, (inl m, refl))
-found_plain keep k (inr (inr (inr p))) = (SignatureOrPadding, inr p)
+found_plain : (unread_ok : Bool) (k : ChunkValue) → IsPassed false k → (what : PieceKind) × IsFoundAs unread_ok k what
+found_plain unread_ok k (inl (records, simple)) = (Records records k, (simple, refl))
+found_plain unread_ok k (inr (inl s)) = (SignatureOrPadding, inl s)
+found_plain unread_ok k (inr (inr (inl m))) = (Kept k, (inl m, refl))
+found_plain unread_ok k (inr (inr (inr p))) = (SignatureOrPadding, inr p)
 
-pub found_of : (keep : Bool) (k : ChunkValue) → IsPassed keep k → (what : PieceKind) × IsFoundAs keep k what
+pub found_of : (unread_ok : Bool) (k : ChunkValue) → IsPassed unread_ok k → (what : PieceKind) × IsFoundAs unread_ok k what
 found_of false k plain = found_plain false k plain
 found_of true k (inl plain) = found_plain true k plain
 found_of true k (inr (inl t)) = (Kept k, (inr (refl, inr t), refl))
 found_of true k (inr (inr c)) = (Kept k, (inr (refl, inl c), refl))
 
-content_passed : (keep : Bool) (file : List ℕ) (place : ℕ) → NoneOf (SkipsFor file place) (content_reasons keep)
-    → IsPassed keep (chunk_at file place)
+content_passed : (unread_ok : Bool) (file : List ℕ) (place : ℕ) → NoneOf (SkipsFor file place) (content_reasons unread_ok)
+    → IsPassed unread_ok (chunk_at file place)
 content_passed false file place none = content_where_none false file place none
 content_passed true file place none = content_where_none true file place none
 
 -- so at each place a piece begins
-pub piece_of_place : (keep : Bool) (file : List ℕ) (place : ℕ) → (end : ℕ) × (what : PieceKind) × IsPieceOf keep file place end what
-piece_of_place keep file place =
-    elim (first_or_none (SkipsFor file place) (passes_decided file place) (walk_reasons keep)) [
+pub piece_of_place : (unread_ok : Bool) (file : List ℕ) (place : ℕ) → (end : ℕ) × (what : PieceKind) × IsPieceOf unread_ok file place end what
+piece_of_place unread_ok file place =
+    elim (first_or_none (SkipsFor file place) (passes_decided file place) (walk_reasons unread_ok)) [
       | inl (w, first) ↦
-          let to = skips_of file place w (first_applies (SkipsFor file place) (walk_reasons keep) w first) in
+          let to = skips_of file place w (first_applies (SkipsFor file place) (walk_reasons unread_ok) w first) in
           (to.0, Skipped w, (first, to.1))
       | inr none ↦
-          let found = found_of keep (chunk_at file place) (content_passed keep file place none.1.1.1.1.1) in
-          (end_at file place, found.0, piece_whole keep file place (end_at file place) found.0 (none, refl, found.1))
+          let found = found_of unread_ok (chunk_at file place) (content_passed unread_ok file place none.1.1.1.1.1) in
+          (end_at file place, found.0, piece_whole unread_ok file place (end_at file place) found.0 (none, refl, found.1))
     ]

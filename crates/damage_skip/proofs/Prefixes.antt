@@ -10,7 +10,7 @@ use Rattle.block_layout.proofs.Ends.{end_of_after}
 use Rattle.block_layout.proofs.UsableBytes.{usable_bytes_at-to_end}
 use Rattle.chunk_header.specs.Chunks.{ChunkValue, IsRightChunkHeader, header_in}
 use Rattle.meta_chunk.specs.Laid.{IsLaid}
-use Rattle.meta_chunk.specs.Files.{IsFramed, AreLaid, IsChainOf, IsFrame, begin_of}
+use Rattle.meta_chunk.specs.Files.{IsWellFormedChunk, AreLaid, IsChainOf, IsWellFormed, begin_of}
 use Rattle.meta_chunk.proofs.Begins.{begin_of-next, begin_of-place, begin_of-within, begin_of_rises_by, IsLaid-in_file}
 use Rattle.meta_chunk.proofs.Chains.{IsChainOf-take}
 use Rattle.chunk_reader.specs.Places.{header_bytes_at, end_by, end_at}
@@ -31,7 +31,7 @@ use Rattle.damage_skip.proofs.Reached.{left_as_one}
 use Rattle.damage_skip.proofs.IntactChunks.{laid_piece}
 
 -- chunks laid at the front of a file
-module _ (keep : Bool) (ls : List ChunkValue) (file : List ℕ) (to : ℕ) (chain : IsChainOf IsFramed ls file to) where
+module _ (unread_ok : Bool) (ls : List ChunkValue) (file : List ℕ) (to : ℕ) (chain : IsChainOf IsWellFormedChunk ls file to) where
   chain_end : begin_of ls (length ls) ≡ to
   chain_end = begin_of-place ls file to chain.within chain.laid
 
@@ -41,16 +41,16 @@ module _ (keep : Bool) (ls : List ChunkValue) (file : List ℕ) (to : ℕ) (chai
 
   -- the piece at each
   chain_piece : (j : ℕ) (k : ChunkValue) → slice_get ls j ≡ Some k
-      → (what : PieceKind) × IsPieceOf keep file (begin_of ls j) (begin_of ls (j + 1)) what × DamageLeaves keep true true k what
+      → (what : PieceKind) × IsPieceOf unread_ok file (begin_of ls j) (begin_of ls (j + 1)) what × DamageLeaves unread_ok true true k what
   chain_piece j k at =
-      let piece = laid_piece keep file (begin_of ls j) k (begin_of ls (j + 1)) (each_at IsFramed ls j k chain.each at)
+      let piece = laid_piece unread_ok file (begin_of ls j) k (begin_of ls (j + 1)) (each_at IsWellFormedChunk ls j k chain.each at)
       (IsLaid-in_file ls file to j k chain.within chain.laid at) in (
         piece.0,
-        subst (λ (e : ℕ). IsPieceOf keep file (begin_of ls j) e piece.0) (sym (begin_of-next ls j k at)) piece.1,
+        subst (λ (e : ℕ). IsPieceOf unread_ok file (begin_of ls j) e piece.0) (sym (begin_of-next ls j k at)) piece.1,
         piece.2,
       )
 
-  tiles_of_chain : (most j : ℕ) → length ls ≤ j + most → j ≤ length ls → (pieces : List Piece) × AreTiles keep file (begin_of ls j) to pieces
+  tiles_of_chain : (most j : ℕ) → length ls ≤ j + most → j ≤ length ls → (pieces : List Piece) × AreTiles unread_ok file (begin_of ls j) to pieces
   tiles_of_chain zero j far inside =
       let last : j ≡ length ls = omega arith in
       ([], ap (begin_of ls) last ∙ chain_end)
@@ -67,24 +67,24 @@ module _ (keep : Bool) (ls : List ChunkValue) (file : List ℕ) (to : ℕ) (chai
       ]
 
 -- in two files that begin with the same chunks these are the same pieces
-same_tiles : (keep : Bool) (ls : List ChunkValue) (file other : List ℕ) (to : ℕ) → IsChainOf IsFramed ls file to → IsChainOf IsFramed ls other to
-    → (j from : ℕ) (pieces : List Piece) → j ≤ length ls → from ≡ begin_of ls j → AreTiles keep file from to pieces
-    → AreTiles keep other from to pieces
-same_tiles keep ls file other to chain also j from [] inside begin h = h
-same_tiles keep ls file other to chain also j from (p ∷ pieces) inside begin (at_begin, below, is, rest) =
+same_tiles : (unread_ok : Bool) (ls : List ChunkValue) (file other : List ℕ) (to : ℕ) → IsChainOf IsWellFormedChunk ls file to → IsChainOf IsWellFormedChunk ls other to
+    → (j from : ℕ) (pieces : List Piece) → j ≤ length ls → from ≡ begin_of ls j → AreTiles unread_ok file from to pieces
+    → AreTiles unread_ok other from to pieces
+same_tiles unread_ok ls file other to chain also j from [] inside begin h = h
+same_tiles unread_ok ls file other to chain also j from (p ∷ pieces) inside begin (at_begin, below, is, rest) =
     elim (slice_get_cases ls j).1 [
       | inl (k, within, at, same) ↦
-          let here = chain_piece keep ls file to chain j k at in
-          let there = chain_piece keep ls other to also j k at in
-          let one = piece_one keep file from p.end (begin_of ls (j + 1)) p.what here.0 is
-          (subst (λ (x : ℕ). IsPieceOf keep file x (begin_of ls (j + 1)) here.0) (sym begin) here.1) in
-          let what : there.0 ≡ p.what = left_as_one keep true true k there.0 here.0 there.2 here.2 ∙ sym one.1 in (
+          let here = chain_piece unread_ok ls file to chain j k at in
+          let there = chain_piece unread_ok ls other to also j k at in
+          let one = piece_one unread_ok file from p.end (begin_of ls (j + 1)) p.what here.0 is
+          (subst (λ (x : ℕ). IsPieceOf unread_ok file x (begin_of ls (j + 1)) here.0) (sym begin) here.1) in
+          let what : there.0 ≡ p.what = left_as_one unread_ok true true k there.0 here.0 there.2 here.2 ∙ sym one.1 in (
             at_begin,
-            omega (arith, begin, chain_below keep ls other to also j within),
-            subst (λ (x : ℕ). IsPieceOf keep other x p.end p.what) (sym begin)
-                (subst (λ (e : ℕ). IsPieceOf keep other (begin_of ls j) e p.what) (sym one.0)
-                (subst (IsPieceOf keep other (begin_of ls j) (begin_of ls (j + 1))) what there.1)),
-            same_tiles keep ls file other to chain also (j + 1) p.end pieces (omega arith) one.0 rest,
+            omega (arith, begin, chain_below unread_ok ls other to also j within),
+            subst (λ (x : ℕ). IsPieceOf unread_ok other x p.end p.what) (sym begin)
+                (subst (λ (e : ℕ). IsPieceOf unread_ok other (begin_of ls j) e p.what) (sym one.0)
+                (subst (IsPieceOf unread_ok other (begin_of ls j) (begin_of ls (j + 1))) what there.1)),
+            same_tiles unread_ok ls file other to chain also (j + 1) p.end pieces (omega arith) one.0 rest,
           )
       | inr (past, none) ↦
           let last : j ≡ length ls = omega arith in
@@ -92,8 +92,8 @@ same_tiles keep ls file other to chain also j from (p ∷ pieces) inside begin (
             arith,
             begin,
             ap (begin_of ls) last,
-            chain_end keep ls file to chain,
-            tiles_past keep file from to p pieces (at_begin, below, is, rest),
+            chain_end unread_ok ls file to chain,
+            tiles_past unread_ok file from to p pieces (at_begin, below, is, rest),
           ))
     ]
 
@@ -118,8 +118,8 @@ header_in_front file m place within fits =
     ∙ sym (usable_bytes_at-to_end file place 40 (omega arith))
 
 -- a chunk of a file of chunks that is cut at a place within it
-module _ (keep : Bool) (file : List ℕ) (begin : ℕ) (k : ChunkValue) (end m : ℕ) (laid : IsLaid begin k (slice_range file begin end))
-    (framed : IsFramed k) (within : m ≤ length file) (after : begin < m) (before : m < end_at file begin) where
+module _ (unread_ok : Bool) (file : List ℕ) (begin : ℕ) (k : ChunkValue) (end m : ℕ) (laid : IsLaid begin k (slice_range file begin end))
+    (formed : IsWellFormedChunk k) (within : m ≤ length file) (after : begin < m) (before : m < end_at file begin) where
   cut_length : length (take m file) ≡ m
   cut_length = length-take-le m file within
 
@@ -128,7 +128,7 @@ module _ (keep : Bool) (file : List ℕ) (begin : ℕ) (k : ChunkValue) (end m :
       → (b < m) × (b - previous ≡ begin) × (b + next ≡ end_at file begin)
   cut_says b previous next h from =
       let inside : b + 24 ≤ m = omega (arith, stands_within (take m file) b previous next h, cut_length) in
-      let own = says_own file begin (end_at file begin) b previous next from (omega arith) (end_in_reach true begin k file end laid framed)
+      let own = says_own file begin (end_at file begin) b previous next from (omega arith) (end_in_reach true begin k file end laid formed)
       (headers-laid begin k file end laid b h.is_block from (omega arith)) (stands_in_front file m b previous next h) in
       (omega arith, own.0, own.1)
 
@@ -142,7 +142,7 @@ module _ (keep : Bool) (file : List ℕ) (begin : ℕ) (k : ChunkValue) (end m :
       is ∙ cond-false (nat_lt begin (b - p)) _ _ (le-ltb begin (b - p) (omega arith)) ∙ far
   cut_resync to (inr (none, is)) = is ∙ cut_length
 
-  short_piece : m < end_of begin 40 → IsPieceOf keep (take m file) begin m (Skipped why.Short)
+  short_piece : m < end_of begin 40 → IsPieceOf unread_ok (take m file) begin m (Skipped why.Short)
   short_piece short =
       let on = resync_of (take m file) begin in (
         inl (omega (arith, short, cut_length), refl),
@@ -161,7 +161,7 @@ module _ (keep : Bool) (file : List ℕ) (begin : ℕ) (k : ChunkValue) (end m :
         let says = cut_says b p n against.stands against.from in
         elim against.differs [ inl other ↦ other says.1 | inr other ↦ other (says.2 ∙ sym cut_end) ]
 
-    long_piece : IsPieceOf keep (take m file) begin m (Skipped why.Truncated)
+    long_piece : IsPieceOf unread_ok (take m file) begin m (Skipped why.Truncated)
     long_piece = (
       inr (
         (λ short. omega (arith, short, cut_length)),
@@ -173,7 +173,7 @@ module _ (keep : Bool) (file : List ℕ) (begin : ℕ) (k : ChunkValue) (end m :
       sym cut_length,
     )
 
-  pub cut_piece : (w : Why) × ((w ≡ why.Short) ⊎ (w ≡ why.Truncated)) × IsPieceOf keep (take m file) begin m (Skipped w)
+  pub cut_piece : (w : Why) × ((w ≡ why.Short) ⊎ (w ≡ why.Truncated)) × IsPieceOf unread_ok (take m file) begin m (Skipped w)
   cut_piece =
       elim (cases_lt m (end_of begin 40)) [
         | inl short ↦ (why.Short, inl refl, short_piece short)
@@ -181,11 +181,11 @@ module _ (keep : Bool) (file : List ℕ) (begin : ℕ) (k : ChunkValue) (end m :
       ]
 
 -- the front of a file of chunks
-module _ (keep : Bool) (ks : List ChunkValue) (file : List ℕ) (frame : IsFrame ks file) where
-  front_chain : (n : ℕ) → IsChainOf IsFramed (take n ks) file (begin_of ks n)
-  front_chain n = IsChainOf-take n ks file (length file) frame.1
+module _ (unread_ok : Bool) (ks : List ChunkValue) (file : List ℕ) (well_formed : IsWellFormed ks file) where
+  front_chain : (n : ℕ) → IsChainOf IsWellFormedChunk (take n ks) file (begin_of ks n)
+  front_chain n = IsChainOf-take n ks file (length file) well_formed.1
 
-  pub cut_chain : (n m : ℕ) → begin_of ks n ≤ m → m ≤ length file → IsChainOf IsFramed (take n ks) (take m file) (begin_of ks n)
+  pub cut_chain : (n m : ℕ) → begin_of ks n ≤ m → m ≤ length file → IsChainOf IsWellFormedChunk (take n ks) (take m file) (begin_of ks n)
   cut_chain n m few within =
       let chain = front_chain n in
       record {
@@ -195,40 +195,40 @@ module _ (keep : Bool) (ks : List ChunkValue) (file : List ℕ) (frame : IsFrame
         laid = subst (AreLaid 0 (take n ks)) (sym (take-take (begin_of ks n) m file few)) chain.laid;
       }
 
-  pub front_tiles : (n : ℕ) → (pieces : List Piece) × AreTiles keep file 0 (begin_of ks n) pieces
-  front_tiles n = tiles_of_chain keep (take n ks) file (begin_of ks n) (front_chain n) (length (take n ks)) 0 (omega arith) (omega arith)
+  pub front_tiles : (n : ℕ) → (pieces : List Piece) × AreTiles unread_ok file 0 (begin_of ks n) pieces
+  front_tiles n = tiles_of_chain unread_ok (take n ks) file (begin_of ks n) (front_chain n) (length (take n ks)) 0 (omega arith) (omega arith)
 
-  cut_tiles : (n m : ℕ) (front : List Piece) → begin_of ks n ≤ m → m ≤ length file → AreTiles keep file 0 (begin_of ks n) front
-      → AreTiles keep (take m file) 0 (begin_of ks n) front
+  cut_tiles : (n m : ℕ) (front : List Piece) → begin_of ks n ≤ m → m ≤ length file → AreTiles unread_ok file 0 (begin_of ks n) front
+      → AreTiles unread_ok (take m file) 0 (begin_of ks n) front
   cut_tiles n m front few within h =
-      same_tiles keep (take n ks) file (take m file) (begin_of ks n) (front_chain n) (cut_chain n m few within) 0 0 front (omega arith) refl h
+      same_tiles unread_ok (take n ks) file (take m file) (begin_of ks n) (front_chain n) (cut_chain n m few within) 0 0 front (omega arith) refl h
 
   -- cut where a chunk begins, or at the end
-  pub cut_between : (n : ℕ) (front : List Piece) → AreTiles keep file 0 (begin_of ks n) front → ArePieces keep (take (begin_of ks n) file) front
+  pub cut_between : (n : ℕ) (front : List Piece) → AreTiles unread_ok file 0 (begin_of ks n) front → ArePieces unread_ok (take (begin_of ks n) file) front
   cut_between n front h =
-      let within : begin_of ks n ≤ length file = begin_of-within ks file (length file) n frame.1.within frame.1.laid in
-      subst (λ (x : ℕ). AreTiles keep (take (begin_of ks n) file) 0 x front) (sym (length-take-le (begin_of ks n) file within))
+      let within : begin_of ks n ≤ length file = begin_of-within ks file (length file) n well_formed.1.within well_formed.1.laid in
+      subst (λ (x : ℕ). AreTiles unread_ok (take (begin_of ks n) file) 0 x front) (sym (length-take-le (begin_of ks n) file within))
       (cut_tiles n (begin_of ks n) front (omega arith) within h)
 
   -- cut within a chunk
   pub cut_within : (n m : ℕ) (front : List Piece) → n < length ks → begin_of ks n < m → m < begin_of ks (n + 1)
-      → AreTiles keep file 0 (begin_of ks n) front
+      → AreTiles unread_ok file 0 (begin_of ks n) front
       → (w : Why) × ((w ≡ why.Short) ⊎ (w ≡ why.Truncated))
-      × ArePieces keep (take m file) (front ++ record { begin = begin_of ks n; end = m; what = Skipped w } ∷ [])
+      × ArePieces unread_ok (take m file) (front ++ record { begin = begin_of ks n; end = m; what = Skipped w } ∷ [])
   cut_within n m front inside after before h =
       elim (slice_get_cases ks n).1 [
         | inl (k, below, at, same) ↦
             let within : m ≤ length file =
-            omega (arith, begin_of-within ks file (length file) (n + 1) frame.1.within frame.1.laid) in
-            let laid = IsLaid-in_file ks file (length file) n k frame.1.within frame.1.laid at in
+            omega (arith, begin_of-within ks file (length file) (n + 1) well_formed.1.within well_formed.1.laid) in
+            let laid = IsLaid-in_file ks file (length file) n k well_formed.1.within well_formed.1.laid at in
             let end : end_at file (begin_of ks n) ≡ begin_of ks (n + 1) =
             end_at-laid (begin_of ks n) k file (begin_of ks (n + 1)) laid ∙ sym (begin_of-next ks n k at) in
             let cut : length (take m file) ≡ m = length-take-le m file within in
-            let piece = cut_piece keep file (begin_of ks n) k (begin_of ks (n + 1)) m laid (each_at IsFramed ks n k frame.1.each at) within after
+            let piece = cut_piece unread_ok file (begin_of ks n) k (begin_of ks (n + 1)) m laid (each_at IsWellFormedChunk ks n k well_formed.1.each at) within after
             (omega (arith, end)) in (
               piece.0,
               piece.1,
-              tiles_append keep (take m file) 0 (begin_of ks n) (length (take m file)) front
+              tiles_append unread_ok (take m file) 0 (begin_of ks n) (length (take m file)) front
                   (record { begin = begin_of ks n; end = m; what = Skipped piece.0 } ∷ [])
                   (cut_tiles n m front (omega arith) within h)
                   (refl, omega (arith, cut), piece.2, sym cut),

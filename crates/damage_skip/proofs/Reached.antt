@@ -8,7 +8,7 @@ use Rattle.block_layout.specs.Layout.{IsBlock}
 use Rattle.chunk_header.specs.Chunks.{ChunkValue}
 use Rattle.chunk_header.specs.SimpleChunks.{IsCompressed}
 use Rattle.chunk_header.proofs.Decided.{IsDecided, both, same_decided, less_decided, at_most_decided, equal_decided, some_below_decided}
-use Rattle.meta_chunk.specs.Files.{IsTransposed, IsFramed, begin_of, LiesIn}
+use Rattle.meta_chunk.specs.Files.{IsTransposed, IsWellFormedChunk, begin_of, LiesIn}
 use Rattle.meta_chunk.proofs.Begins.{holder_of, holder_one}
 use Rattle.chunk_reader.proofs.ChainSteps.{each_at}
 use Rattle.chunk_reader.proofs.FaultsDecided.{least_below}
@@ -153,9 +153,9 @@ compressed_or_transposed k compressed transposed =
     let r : k.kind ≡ 0x72 = compressed.0 in let t : k.kind ≡ 0x74 = transposed in omega arith
 
 -- what is left of a chunk is one
-pub left_as_one : (keep header «data» : Bool) (k : ChunkValue) (a b : PieceKind) → DamageLeaves keep header «data» k a → DamageLeaves keep header «data» k b → a ≡ b
-left_as_one keep false d k a b h g = h ∙ sym g
-left_as_one keep true false k a b h g = h ∙ sym g
+pub left_as_one : (unread_ok header «data» : Bool) (k : ChunkValue) (a b : PieceKind) → DamageLeaves unread_ok header «data» k a → DamageLeaves unread_ok header «data» k b → a ≡ b
+left_as_one unread_ok false d k a b h g = h ∙ sym g
+left_as_one unread_ok true false k a b h g = h ∙ sym g
 left_as_one true true true k a b h g = found_one true k a b h g
 left_as_one false true true k a b (inl h) (inl g) = found_one false k a b h g
 left_as_one false true true k a b (inl h) (inr (inl (c, g))) = absurd (unread_or_found k a (inl c) h)
@@ -168,9 +168,9 @@ left_as_one false true true k a b (inr (inr (t, h))) (inr (inl (c, g))) = absurd
 left_as_one false true true k a b (inr (inr (t, h))) (inr (inr (u, g))) = h ∙ sym g
 
 -- and there is such, where the chunk is read or left unread
-left_as_of : (keep header «data» : Bool) (k : ChunkValue) → IsFramed k → (what : PieceKind) × DamageLeaves keep header «data» k what
-left_as_of keep false d k framed = (Skipped why.HeaderHash, refl)
-left_as_of keep true false k framed = (Skipped why.DataHash, refl)
+left_as_of : (unread_ok header «data» : Bool) (k : ChunkValue) → IsWellFormedChunk k → (what : PieceKind) × DamageLeaves unread_ok header «data» k what
+left_as_of unread_ok false d k formed = (Skipped why.HeaderHash, refl)
+left_as_of unread_ok true false k formed = (Skipped why.DataHash, refl)
 left_as_of true true true k (inl plain) = found_of true k (inl plain.1)
 left_as_of true true true k (inr unread) = found_of true k (inr unread.1)
 left_as_of false true true k (inl plain) =
@@ -179,77 +179,77 @@ left_as_of false true true k (inr (small, inl t)) = (Skipped why.Transposed, inr
 left_as_of false true true k (inr (small, inr c)) = (Skipped why.Compressed, inr (inl (c, refl)))
 
 -- the pieces that are left are those of chunks that are reached
-pub left_numbers : (keep : Bool) (ks : List ChunkValue) (intact : Intact) (j to : ℕ) (pieces : List Piece) → DamageLeavesEach keep ks intact j to pieces
+pub left_numbers : (unread_ok : Bool) (ks : List ChunkValue) (intact : Intact) (j to : ℕ) (pieces : List Piece) → DamageLeavesEach unread_ok ks intact j to pieces
     → (is : List ℕ) × AreReached ks intact j to is
-left_numbers keep ks intact j to [] h = ([], h)
-left_numbers keep ks intact j to (p ∷ pieces) (k, next, at, step, begin, end, what, rest) =
-    let behind = left_numbers keep ks intact next to pieces rest in
+left_numbers unread_ok ks intact j to [] h = ([], h)
+left_numbers unread_ok ks intact j to (p ∷ pieces) (k, next, at, step, begin, end, what, rest) =
+    let behind = left_numbers unread_ok ks intact next to pieces rest in
     (j ∷ behind.0, (refl, slice_get_within ks j k at, (next, step, behind.1)))
 
 -- which rise
-pub left_to : (keep : Bool) (ks : List ChunkValue) (intact : Intact) (j to : ℕ) (pieces : List Piece) → j ≤ length ks
-    → DamageLeavesEach keep ks intact j to pieces → (j ≤ to) × (to ≤ length ks)
-left_to keep ks intact j to pieces inside h =
-    let numbers = left_numbers keep ks intact j to pieces h in
+pub left_to : (unread_ok : Bool) (ks : List ChunkValue) (intact : Intact) (j to : ℕ) (pieces : List Piece) → j ≤ length ks
+    → DamageLeavesEach unread_ok ks intact j to pieces → (j ≤ to) × (to ≤ length ks)
+left_to unread_ok ks intact j to pieces inside h =
+    let numbers = left_numbers unread_ok ks intact j to pieces h in
     reached_to ks intact j to numbers.0 inside numbers.1
 
-pub left_past : (keep : Bool) (ks : List ChunkValue) (intact : Intact) (j to : ℕ) (p : Piece) (pieces : List Piece)
-    → DamageLeavesEach keep ks intact j to (p ∷ pieces) → j < to
-left_past keep ks intact j to p pieces (k, next, at, step, begin, end, what, rest) =
+pub left_past : (unread_ok : Bool) (ks : List ChunkValue) (intact : Intact) (j to : ℕ) (p : Piece) (pieces : List Piece)
+    → DamageLeavesEach unread_ok ks intact j to (p ∷ pieces) → j < to
+left_past unread_ok ks intact j to p pieces (k, next, at, step, begin, end, what, rest) =
     let past : (j < next) × (next ≤ length ks) = next_past ks intact j next (slice_get_within ks j k at) step in
-    omega (arith, past.0, (left_to keep ks intact next to pieces past.1 rest).0)
+    omega (arith, past.0, (left_to unread_ok ks intact next to pieces past.1 rest).0)
 
 -- so they are one list
-pub left_one : (keep : Bool) (ks : List ChunkValue) (intact : Intact) (j to : ℕ) (ps qs : List Piece)
-    → DamageLeavesEach keep ks intact j to ps → DamageLeavesEach keep ks intact j to qs → ps ≡ qs
-left_one keep ks intact j to [] [] h g = refl
-left_one keep ks intact j to [] (q ∷ qs) h g = absurd (omega (arith, h, left_past keep ks intact j to q qs g))
-left_one keep ks intact j to (p ∷ ps) [] h g = absurd (omega (arith, g, left_past keep ks intact j to p ps h))
-left_one keep ks intact j to (p ∷ ps) (q ∷ qs) (k, next, at, step, begin, end, what, rest) (l, other, there, also, from, here, that, on) =
+pub left_one : (unread_ok : Bool) (ks : List ChunkValue) (intact : Intact) (j to : ℕ) (ps qs : List Piece)
+    → DamageLeavesEach unread_ok ks intact j to ps → DamageLeavesEach unread_ok ks intact j to qs → ps ≡ qs
+left_one unread_ok ks intact j to [] [] h g = refl
+left_one unread_ok ks intact j to [] (q ∷ qs) h g = absurd (omega (arith, h, left_past unread_ok ks intact j to q qs g))
+left_one unread_ok ks intact j to (p ∷ ps) [] h g = absurd (omega (arith, g, left_past unread_ok ks intact j to p ps h))
+left_one unread_ok ks intact j to (p ∷ ps) (q ∷ qs) (k, next, at, step, begin, end, what, rest) (l, other, there, also, from, here, that, on) =
     let chunk : l ≡ k = same_Some l k (sym there ∙ at) in
     let same : other ≡ next = next_one ks intact j other next also step in
-    let left : DamageLeaves keep (intact.header j) (intact.«data» j) k q.what =
-    subst (λ (x : ChunkValue). DamageLeaves keep (intact.header j) (intact.«data» j) x q.what) chunk that in
+    let left : DamageLeaves unread_ok (intact.header j) (intact.«data» j) k q.what =
+    subst (λ (x : ChunkValue). DamageLeaves unread_ok (intact.header j) (intact.«data» j) x q.what) chunk that in
     ap (λ (x : Piece). x ∷ ps)
     (same_piece p q (begin ∙ sym from) (end ∙ ap (begin_of ks) (sym same) ∙ sym here)
-    (left_as_one keep (intact.header j) (intact.«data» j) k p.what q.what what left))
+    (left_as_one unread_ok (intact.header j) (intact.«data» j) k p.what q.what what left))
     ∙ ap (λ (xs : List Piece). q ∷ xs)
-    (left_one keep ks intact next to ps qs rest (subst (λ (n : ℕ). DamageLeavesEach keep ks intact n to qs) same on))
+    (left_one unread_ok ks intact next to ps qs rest (subst (λ (n : ℕ). DamageLeavesEach unread_ok ks intact n to qs) same on))
 
 -- some behind others are left
-pub left_on : (keep : Bool) (ks : List ChunkValue) (intact : Intact) (j middle to : ℕ) (ps qs : List Piece) → DamageLeavesEach keep ks intact j middle ps
-    → DamageLeavesEach keep ks intact middle to qs → DamageLeavesEach keep ks intact j to (ps ++ qs)
-left_on keep ks intact j middle to [] qs same g = subst (λ (n : ℕ). DamageLeavesEach keep ks intact n to qs) (sym same) g
-left_on keep ks intact j middle to (p ∷ ps) qs (k, next, at, step, begin, end, what, rest) g =
-    (k, next, at, step, begin, end, what, left_on keep ks intact next middle to ps qs rest g)
+pub left_on : (unread_ok : Bool) (ks : List ChunkValue) (intact : Intact) (j middle to : ℕ) (ps qs : List Piece) → DamageLeavesEach unread_ok ks intact j middle ps
+    → DamageLeavesEach unread_ok ks intact middle to qs → DamageLeavesEach unread_ok ks intact j to (ps ++ qs)
+left_on unread_ok ks intact j middle to [] qs same g = subst (λ (n : ℕ). DamageLeavesEach unread_ok ks intact n to qs) (sym same) g
+left_on unread_ok ks intact j middle to (p ∷ ps) qs (k, next, at, step, begin, end, what, rest) g =
+    (k, next, at, step, begin, end, what, left_on unread_ok ks intact next middle to ps qs rest g)
 
-left_from : (keep : Bool) (ks : List ChunkValue) (intact : Intact) (most j : ℕ) → AllByRecursion IsFramed ks
-    → length ks ≤ j + most → j ≤ length ks → (pieces : List Piece) × DamageLeavesEach keep ks intact j (length ks) pieces
-left_from keep ks intact zero j framed far inside = ([], omega arith)
-left_from keep ks intact (suc most) j framed far inside =
+left_from : (unread_ok : Bool) (ks : List ChunkValue) (intact : Intact) (most j : ℕ) → AllByRecursion IsWellFormedChunk ks
+    → length ks ≤ j + most → j ≤ length ks → (pieces : List Piece) × DamageLeavesEach unread_ok ks intact j (length ks) pieces
+left_from unread_ok ks intact zero j formed far inside = ([], omega arith)
+left_from unread_ok ks intact (suc most) j formed far inside =
     elim (slice_get_cases ks j).1 [
       | inl (k, below, at, same) ↦
           let next = next_of ks intact j in
           let past = next_past ks intact j next.0 below next.1 in
-          let rest = left_from keep ks intact most next.0 framed (omega (arith, past.0)) past.1 in
-          let what = left_as_of keep (intact.header j) (intact.«data» j) k (each_at IsFramed ks j k framed at) in
+          let rest = left_from unread_ok ks intact most next.0 formed (omega (arith, past.0)) past.1 in
+          let what = left_as_of unread_ok (intact.header j) (intact.«data» j) k (each_at IsWellFormedChunk ks j k formed at) in
           let piece : Piece = record { begin = begin_of ks j; end = begin_of ks next.0; what = what.0 } in
           (piece ∷ rest.0, (k, next.0, at, next.1, refl, refl, what.1, rest.1))
       | inr (end, none) ↦ ([], omega arith)
     ]
 
-pub left_of : (keep : Bool) (ks : List ChunkValue) (intact : Intact) (j : ℕ) → AllByRecursion IsFramed ks → j ≤ length ks
-    → (pieces : List Piece) × DamageLeavesEach keep ks intact j (length ks) pieces
-left_of keep ks intact j framed inside = left_from keep ks intact (length ks) j framed (omega arith) inside
+pub left_of : (unread_ok : Bool) (ks : List ChunkValue) (intact : Intact) (j : ℕ) → AllByRecursion IsWellFormedChunk ks → j ≤ length ks
+    → (pieces : List Piece) × DamageLeavesEach unread_ok ks intact j (length ks) pieces
+left_of unread_ok ks intact j formed inside = left_from unread_ok ks intact (length ks) j formed (omega arith) inside
 
 -- they begin where the chunks do that are reached
-pub left_begins : (keep : Bool) (ks : List ChunkValue) (intact : Intact) (j to : ℕ) (pieces : List Piece) (is : List ℕ)
-    → DamageLeavesEach keep ks intact j to pieces → AreReached ks intact j to is → map (λ p. p.begin) pieces ≡ map (begin_of ks) is
-left_begins keep ks intact j to [] [] h g = refl
-left_begins keep ks intact j to [] (i ∷ is) h g = absurd (omega (arith, h, reached_past ks intact j to i is g))
-left_begins keep ks intact j to (p ∷ pieces) [] h g = absurd (omega (arith, g, left_past keep ks intact j to p pieces h))
-left_begins keep ks intact j to (p ∷ pieces) (i ∷ is) (k, next, at, step, begin, end, what, rest) (there, below, (other, also, on)) =
+pub left_begins : (unread_ok : Bool) (ks : List ChunkValue) (intact : Intact) (j to : ℕ) (pieces : List Piece) (is : List ℕ)
+    → DamageLeavesEach unread_ok ks intact j to pieces → AreReached ks intact j to is → map (λ p. p.begin) pieces ≡ map (begin_of ks) is
+left_begins unread_ok ks intact j to [] [] h g = refl
+left_begins unread_ok ks intact j to [] (i ∷ is) h g = absurd (omega (arith, h, reached_past ks intact j to i is g))
+left_begins unread_ok ks intact j to (p ∷ pieces) [] h g = absurd (omega (arith, g, left_past unread_ok ks intact j to p pieces h))
+left_begins unread_ok ks intact j to (p ∷ pieces) (i ∷ is) (k, next, at, step, begin, end, what, rest) (there, below, (other, also, on)) =
     let same : other ≡ next = next_one ks intact j other next also step in
     ap (λ (n : ℕ). n ∷ map (λ (q : Piece). q.begin) pieces) (begin ∙ ap (begin_of ks) (sym there))
     ∙ ap (λ (ns : List ℕ). begin_of ks i ∷ ns)
-    (left_begins keep ks intact next to pieces is rest (subst (λ (n : ℕ). AreReached ks intact n to is) same on))
+    (left_begins unread_ok ks intact next to pieces is rest (subst (λ (n : ℕ). AreReached ks intact n to is) same on))

@@ -329,54 +329,54 @@ account_joined file (piece ∷ front) rest taken more all few (here, at, h) behi
     (here, at, account_joined file front rest (taken - here) more (all - here) (omega (arith, few)) h behind)
 
 -- nothing is taken of no pieces
-pub taken-none : (keep : Bool) (file : List ℕ) (place taken : ℕ) → taken ≤ 0 → IsTakenFrom keep file place place taken
-taken-none keep file place taken none = ([], refl, none)
+pub taken-none : (unread_ok : Bool) (file : List ℕ) (place taken : ℕ) → taken ≤ 0 → IsTakenFrom unread_ok file place place taken
+taken-none unread_ok file place taken none = ([], refl, none)
 
-pub taken-start : (bytes : Option (List ℕ)) (keep : Bool) (place taken : ℕ) → taken ≤ 0 → IfSome bytes (λ file. IsTakenFrom keep file place place taken)
-taken-start None keep place taken none = tt
-taken-start (Some file) keep place taken none = taken-none keep file place taken none
+pub taken-start : (bytes : Option (List ℕ)) (unread_ok : Bool) (place taken : ℕ) → taken ≤ 0 → IfSome bytes (λ file. IsTakenFrom unread_ok file place place taken)
+taken-start None unread_ok place taken none = tt
+taken-start (Some file) unread_ok place taken none = taken-none unread_ok file place taken none
 
-pub taken-joined : (keep : Bool) (file : List ℕ) (from middle to taken more all : ℕ) → all ≤ taken + more
-    → IsTakenFrom keep file from middle taken → IsTakenFrom keep file middle to more → IsTakenFrom keep file from to all
-taken-joined keep file from middle to taken more all few (front, tiles, h) (rest, behind, g) =
-    (front ++ rest, tiles_joined keep file from middle to front rest tiles behind, account_joined file front rest taken more all few h g)
+pub taken-joined : (unread_ok : Bool) (file : List ℕ) (from middle to taken more all : ℕ) → all ≤ taken + more
+    → IsTakenFrom unread_ok file from middle taken → IsTakenFrom unread_ok file middle to more → IsTakenFrom unread_ok file from to all
+taken-joined unread_ok file from middle to taken more all few (front, tiles, h) (rest, behind, g) =
+    (front ++ rest, tiles_joined unread_ok file from middle to front rest tiles behind, account_joined file front rest taken more all few h g)
 
-pub up_to-joined : (keep : Bool) (file : List ℕ) (from middle to taken more all : ℕ) → all ≤ taken + more
-    → IsTakenFrom keep file from middle taken → IsTakenUpTo keep file middle to more → IsTakenUpTo keep file from to all
-up_to-joined keep file from middle to taken more all few h (passed, behind, at) = (
+pub up_to-joined : (unread_ok : Bool) (file : List ℕ) (from middle to taken more all : ℕ) → all ≤ taken + more
+    → IsTakenFrom unread_ok file from middle taken → IsTakenUpTo unread_ok file middle to more → IsTakenUpTo unread_ok file from to all
+up_to-joined unread_ok file from middle to taken more all few h (passed, behind, at) = (
   taken + passed,
-  taken-joined keep file from middle to taken passed (taken + passed) (omega arith) h behind,
+  taken-joined unread_ok file from middle to taken passed (taken + passed) (omega arith) h behind,
   may_take_less file to (all - (taken + passed)) (more - passed) (omega (arith, few)) at,
 )
 
 -- a walk that stands still
-pub taken-still : (bytes : Option (List ℕ)) (keep : Bool) (size place taken : ℕ) → IsSized bytes (Some size) → place ≤ size → taken ≤ 0
-    → IfSome bytes (λ file. IsTakenUpTo keep file place place taken)
-taken-still None keep size place taken sized within none = tt
-taken-still (Some file) keep size place taken sized within none =
-    (0, taken-none keep file place 0 (omega arith), may_take_head file place (taken - 0) (omega (arith, sized, within, none)) (omega (arith, none)))
+pub taken-still : (bytes : Option (List ℕ)) (unread_ok : Bool) (size place taken : ℕ) → IsSized bytes (Some size) → place ≤ size → taken ≤ 0
+    → IfSome bytes (λ file. IsTakenUpTo unread_ok file place place taken)
+taken-still None unread_ok size place taken sized within none = tt
+taken-still (Some file) unread_ok size place taken sized within none =
+    (0, taken-none unread_ok file place 0 (omega arith), may_take_head file place (taken - 0) (omega (arith, sized, within, none)) (omega (arith, none)))
 
 -- or goes on past a piece
-pub taken-past : (bytes now : Option (List ℕ)) (keep kept : Bool) (size from at : ℕ) (piece : NextPiece) (start middle after : ℕ)
-    → now ≡ bytes → kept ≡ keep → IsSized bytes (Some size) → at < size
-    → IfSome bytes (λ file. IsTakenFrom keep file from at (middle - start)) → IfSome now (IsPieceThere kept at piece)
-    → IfSome now (λ file. MayTakeFor file at (after - middle)) → IfSome bytes (λ file. IsTakenFrom keep file from piece.end (after - start))
-taken-past None now keep kept size from at piece start middle after same same_keep sized below on there takes = tt
-taken-past (Some file) None keep kept size from at piece start middle after same same_keep sized below on there takes = absurd (cc same)
-taken-past (Some file) (Some other) keep kept size from at piece start middle after same same_keep sized below on there takes =
+pub taken-past : (bytes now : Option (List ℕ)) (unread_ok kept : Bool) (size from at : ℕ) (piece : NextPiece) (start middle after : ℕ)
+    → now ≡ bytes → kept ≡ unread_ok → IsSized bytes (Some size) → at < size
+    → IfSome bytes (λ file. IsTakenFrom unread_ok file from at (middle - start)) → IfSome now (IsPieceThere kept at piece)
+    → IfSome now (λ file. MayTakeFor file at (after - middle)) → IfSome bytes (λ file. IsTakenFrom unread_ok file from piece.end (after - start))
+taken-past None now unread_ok kept size from at piece start middle after same same_unread_ok sized below on there takes = tt
+taken-past (Some file) None unread_ok kept size from at piece start middle after same same_unread_ok sized below on there takes = absurd (cc same)
+taken-past (Some file) (Some other) unread_ok kept size from at piece start middle after same same_unread_ok sized below on there takes =
     let is : other ≡ file = cc same in
-    let here : IsPieceThere keep at piece file = subst (λ (k : Bool). IsPieceThere k at piece file) same_keep (subst (IsPieceThere kept at piece) is there) in
+    let here : IsPieceThere unread_ok at piece file = subst (λ (k : Bool). IsPieceThere k at piece file) same_unread_ok (subst (IsPieceThere kept at piece) is there) in
     let may : MayTakeFor file at (after - middle) = subst (λ (f : List ℕ). MayTakeFor f at (after - middle)) is takes in
-    taken-joined keep file from at piece.end (middle - start) (after - middle) (after - start) (omega arith) on
+    taken-joined unread_ok file from at piece.end (middle - start) (after - middle) (after - start) (omega arith) on
     (piece_value at piece ∷ [], (refl, omega (arith, sized, below), here, refl), (after - middle, may, omega arith))
 
 -- or stops at one
-pub taken-to : (bytes now : Option (List ℕ)) (keep : Bool) (from at start middle after : ℕ) → now ≡ bytes
-    → IfSome bytes (λ file. IsTakenFrom keep file from at (middle - start)) → IfSome now (λ file. MayTakeAt file at (after - middle))
-    → IfSome bytes (λ file. IsTakenUpTo keep file from at (after - start))
-taken-to None now keep from at start middle after same on takes = tt
-taken-to (Some file) None keep from at start middle after same on takes = absurd (cc same)
-taken-to (Some file) (Some other) keep from at start middle after same on takes = (
+pub taken-to : (bytes now : Option (List ℕ)) (unread_ok : Bool) (from at start middle after : ℕ) → now ≡ bytes
+    → IfSome bytes (λ file. IsTakenFrom unread_ok file from at (middle - start)) → IfSome now (λ file. MayTakeAt file at (after - middle))
+    → IfSome bytes (λ file. IsTakenUpTo unread_ok file from at (after - start))
+taken-to None now unread_ok from at start middle after same on takes = tt
+taken-to (Some file) None unread_ok from at start middle after same on takes = absurd (cc same)
+taken-to (Some file) (Some other) unread_ok from at start middle after same on takes = (
   middle - start,
   on,
   may_take_less file at ((after - start) - (middle - start)) (after - middle) (omega arith)
@@ -384,43 +384,43 @@ taken-to (Some file) (Some other) keep from at start middle after same on takes 
 )
 
 -- a call of a walk with an event or at the file's end
-pub called-on : (told bytes : Option (List ℕ)) (keep kept : Bool) (from place next : ℕ) (result : Result (Option Event) WalkEnd) (event : Option Event)
-    (start middle after : ℕ) → told ≡ bytes → keep ≡ kept → result ≡ Ok event
+pub called-on : (told bytes : Option (List ℕ)) (unread_ok kept : Bool) (from place next : ℕ) (result : Result (Option Event) WalkEnd) (event : Option Event)
+    (start middle after : ℕ) → told ≡ bytes → unread_ok ≡ kept → result ≡ Ok event
     → IfSome bytes (λ file. IsTakenFrom kept file from place (middle - start))
-    → IfSome told (λ file. TakesByCall keep file place next result (after - middle))
+    → IfSome told (λ file. TakesByCall unread_ok file place next result (after - middle))
     → IfSome bytes (λ file. IsTakenFrom kept file from next (after - start))
-called-on told None keep kept from place next result event start middle after same same_keep is on takes = tt
-called-on None (Some file) keep kept from place next result event start middle after same same_keep is on takes = absurd (cc same)
-called-on (Some other) (Some file) keep kept from place next result event start middle after same same_keep is on takes =
-    let call : TakesByCall keep other place next (Ok event) (after - middle) =
-    subst (λ (r : Result (Option Event) WalkEnd). TakesByCall keep other place next r (after - middle)) is takes in
+called-on told None unread_ok kept from place next result event start middle after same same_unread_ok is on takes = tt
+called-on None (Some file) unread_ok kept from place next result event start middle after same same_unread_ok is on takes = absurd (cc same)
+called-on (Some other) (Some file) unread_ok kept from place next result event start middle after same same_unread_ok is on takes =
+    let call : TakesByCall unread_ok other place next (Ok event) (after - middle) =
+    subst (λ (r : Result (Option Event) WalkEnd). TakesByCall unread_ok other place next r (after - middle)) is takes in
     let here : IsTakenFrom kept file place next (after - middle) =
-    subst (λ (k : Bool). IsTakenFrom k file place next (after - middle)) same_keep
-    (subst (λ (f : List ℕ). IsTakenFrom keep f place next (after - middle)) (cc same) call) in
+    subst (λ (k : Bool). IsTakenFrom k file place next (after - middle)) same_unread_ok
+    (subst (λ (f : List ℕ). IsTakenFrom unread_ok f place next (after - middle)) (cc same) call) in
     taken-joined kept file from place next (middle - start) (after - middle) (after - start) (omega arith) on here
 
 -- and one without
-pub called-to : (told bytes : Option (List ℕ)) (keep kept : Bool) (from place next : ℕ) (result : Result (Option Event) WalkEnd) (why : WalkEnd)
-    (start middle after : ℕ) → told ≡ bytes → keep ≡ kept → result ≡ Err why
+pub called-to : (told bytes : Option (List ℕ)) (unread_ok kept : Bool) (from place next : ℕ) (result : Result (Option Event) WalkEnd) (why : WalkEnd)
+    (start middle after : ℕ) → told ≡ bytes → unread_ok ≡ kept → result ≡ Err why
     → IfSome bytes (λ file. IsTakenFrom kept file from place (middle - start))
-    → IfSome told (λ file. TakesByCall keep file place next result (after - middle))
+    → IfSome told (λ file. TakesByCall unread_ok file place next result (after - middle))
     → IfSome bytes (λ file. IsTakenUpTo kept file from next (after - start))
-called-to told None keep kept from place next result why start middle after same same_keep is on takes = tt
-called-to None (Some file) keep kept from place next result why start middle after same same_keep is on takes = absurd (cc same)
-called-to (Some other) (Some file) keep kept from place next result why start middle after same same_keep is on takes =
-    let call : TakesByCall keep other place next (Err why) (after - middle) =
-    subst (λ (r : Result (Option Event) WalkEnd). TakesByCall keep other place next r (after - middle)) is takes in
+called-to told None unread_ok kept from place next result why start middle after same same_unread_ok is on takes = tt
+called-to None (Some file) unread_ok kept from place next result why start middle after same same_unread_ok is on takes = absurd (cc same)
+called-to (Some other) (Some file) unread_ok kept from place next result why start middle after same same_unread_ok is on takes =
+    let call : TakesByCall unread_ok other place next (Err why) (after - middle) =
+    subst (λ (r : Result (Option Event) WalkEnd). TakesByCall unread_ok other place next r (after - middle)) is takes in
     let here : IsTakenUpTo kept file place next (after - middle) =
-    subst (λ (k : Bool). IsTakenUpTo k file place next (after - middle)) same_keep
-    (subst (λ (f : List ℕ). IsTakenUpTo keep f place next (after - middle)) (cc same) call) in
+    subst (λ (k : Bool). IsTakenUpTo k file place next (after - middle)) same_unread_ok
+    (subst (λ (f : List ℕ). IsTakenUpTo unread_ok f place next (after - middle)) (cc same) call) in
     up_to-joined kept file from place next (middle - start) (after - middle) (after - start) (omega arith) on here
 
 -- before the first call nothing was taken
-pub taken-front : (bytes : Option (List ℕ)) (keep : Bool) (place taken : ℕ) → place ≡ 0 → taken ≤ 0
-    → IfSome bytes (λ file. IsTakenFrom keep file 0 place taken)
-taken-front bytes keep place taken front none =
-    subst (λ (p : ℕ). IfSome bytes (λ file. IsTakenFrom keep file p place taken)) front (taken-start bytes keep place taken none)
+pub taken-front : (bytes : Option (List ℕ)) (unread_ok : Bool) (place taken : ℕ) → place ≡ 0 → taken ≤ 0
+    → IfSome bytes (λ file. IsTakenFrom unread_ok file 0 place taken)
+taken-front bytes unread_ok place taken front none =
+    subst (λ (p : ℕ). IfSome bytes (λ file. IsTakenFrom unread_ok file p place taken)) front (taken-start bytes unread_ok place taken none)
 
-pub up_to-none : (keep : Bool) (file : List ℕ) (taken : ℕ) → taken ≤ 0 → IsTakenUpTo keep file 0 0 taken
-up_to-none keep file taken none =
-    (0, taken-none keep file 0 0 (omega arith), may_take_head file 0 (taken - 0) (omega (arith, none)) (omega (arith, none)))
+pub up_to-none : (unread_ok : Bool) (file : List ℕ) (taken : ℕ) → taken ≤ 0 → IsTakenUpTo unread_ok file 0 0 taken
+up_to-none unread_ok file taken none =
+    (0, taken-none unread_ok file 0 0 (omega arith), may_take_head file 0 (taken - 0) (omega (arith, none)) (omega (arith, none)))

@@ -17,7 +17,7 @@ use Rattle.damage_skip.proofs.Damaged.{pieces_left}
 use Rattle.damage_skip.proofs.Reached.{reached_to, reached_past, left_past, next_one}
 
 -- what an untouched chunk gives it holds
-left_holds : (keep : Bool) (k : ChunkValue) (what : PieceKind) → DamageLeaves keep true true k what → Holds k (records_of what)
+left_holds : (unread_ok : Bool) (k : ChunkValue) (what : PieceKind) → DamageLeaves unread_ok true true k what → Holds k (records_of what)
 left_holds true k what left = found_holds true k what left
 left_holds false k what (inl found) = found_holds false k what found
 left_holds false k what (inr (inl (compressed, is))) =
@@ -26,11 +26,11 @@ left_holds false k what (inr (inr (transposed, is))) =
     inr (λ has. given_or_kept true k has.0 has.1 (inr (refl, inr transposed)), ap records_of is)
 
 -- one that was touched gives nothing
-touched_gives : (keep header «data» : Bool) (k : ChunkValue) (what : PieceKind) → header && «data» ≡ false → DamageLeaves keep header «data» k what
+touched_gives : (unread_ok header «data» : Bool) (k : ChunkValue) (what : PieceKind) → header && «data» ≡ false → DamageLeaves unread_ok header «data» k what
     → records_of what ≡ []
-touched_gives keep false d k what touched left = ap records_of left
-touched_gives keep true false k what touched left = ap records_of left
-touched_gives keep true true k what touched left = cc touched
+touched_gives unread_ok false d k what touched left = ap records_of left
+touched_gives unread_ok true false k what touched left = ap records_of left
+touched_gives unread_ok true true k what touched left = cc touched
 
 one_chunk : (k : ChunkValue) (records : List (List ℕ)) → Holds k records → AreRecordsOf (k ∷ []) records
 one_chunk k records holds = (records ∷ [], (holds, refl), sym (append-nil records))
@@ -48,38 +48,38 @@ both_true true true h = (refl, refl)
 both_true true false h = cc
 both_true false b h = cc
 
-pub left_records : (keep : Bool) (ks : List ChunkValue) (intact : Intact) (j to : ℕ) (pieces : List Piece) (is : List ℕ)
-    → DamageLeavesEach keep ks intact j to pieces → AreReached ks intact j to is → AreRecordsOf (untouched ks intact is) (records_in pieces)
-left_records keep ks intact j to [] [] h g = ([], refl, refl)
-left_records keep ks intact j to [] (i ∷ is) h g = absurd (omega (arith, h, reached_past ks intact j to i is g))
-left_records keep ks intact j to (p ∷ pieces) [] h g = absurd (omega (arith, g, left_past keep ks intact j to p pieces h))
-left_records keep ks intact j to (p ∷ pieces) (i ∷ is) (k, next, at, step, begin, end, what, rest) (there, below, (other, also, on)) =
+pub left_records : (unread_ok : Bool) (ks : List ChunkValue) (intact : Intact) (j to : ℕ) (pieces : List Piece) (is : List ℕ)
+    → DamageLeavesEach unread_ok ks intact j to pieces → AreReached ks intact j to is → AreRecordsOf (untouched ks intact is) (records_in pieces)
+left_records unread_ok ks intact j to [] [] h g = ([], refl, refl)
+left_records unread_ok ks intact j to [] (i ∷ is) h g = absurd (omega (arith, h, reached_past ks intact j to i is g))
+left_records unread_ok ks intact j to (p ∷ pieces) [] h g = absurd (omega (arith, g, left_past unread_ok ks intact j to p pieces h))
+left_records unread_ok ks intact j to (p ∷ pieces) (i ∷ is) (k, next, at, step, begin, end, what, rest) (there, below, (other, also, on)) =
     let same : other ≡ next = next_one ks intact j other next also step in
     let behind : AreRecordsOf (untouched ks intact is) (records_in pieces) =
-    left_records keep ks intact next to pieces is rest (subst (λ (n : ℕ). AreReached ks intact n to is) same on) in
+    left_records unread_ok ks intact next to pieces is rest (subst (λ (n : ℕ). AreReached ks intact n to is) same on) in
     subst (λ (n : ℕ). AreRecordsOf (untouched ks intact (n ∷ is)) (records_in (p ∷ pieces))) (sym there)
     (elim (cases_Bool (intact.header j && intact.«data» j)) [
       | inl whole ↦
           let flags = both_true (intact.header j) (intact.«data» j) whole in
-          let left : DamageLeaves keep true true k p.what =
-          subst (λ (b : Bool). DamageLeaves keep true b k p.what) flags.1
-          (subst (λ (b : Bool). DamageLeaves keep b (intact.«data» j) k p.what) flags.0 what) in
+          let left : DamageLeaves unread_ok true true k p.what =
+          subst (λ (b : Bool). DamageLeaves unread_ok true b k p.what) flags.1
+          (subst (λ (b : Bool). DamageLeaves unread_ok b (intact.«data» j) k p.what) flags.0 what) in
           subst (λ (xs : List ChunkValue). AreRecordsOf xs (records_in (p ∷ pieces))) (sym (untouched-cons ks intact j is k whole at))
           (AreRecordsOf-append (k ∷ []) (untouched ks intact is) (records_of p.what) (records_in pieces)
-          (one_chunk k (records_of p.what) (left_holds keep k p.what left)) behind)
+          (one_chunk k (records_of p.what) (left_holds unread_ok k p.what left)) behind)
       | inr touched ↦
-          let none : records_of p.what ≡ [] = touched_gives keep (intact.header j) (intact.«data» j) k p.what touched what in
+          let none : records_of p.what ≡ [] = touched_gives unread_ok (intact.header j) (intact.«data» j) k p.what touched what in
           subst (λ (xs : List ChunkValue). AreRecordsOf xs (records_in (p ∷ pieces))) (sym (touched-cons ks intact j is touched))
           (subst (AreRecordsOf (untouched ks intact is)) (ap (λ (xs : List (List ℕ)). xs ++ records_in pieces) (sym none)) behind)
     ])
 
 -- so do the events of a damaged file
-pub events_left : (keep : Bool) (ks : List ChunkValue) (file damaged : List ℕ) (intact : Intact) (is : List ℕ) (events : List Piece)
-    → length file ≤ 2 ^ 60 → IsDamaged ks file damaged intact → AreReached ks intact 0 (length ks) is → AreEvents keep damaged events
+pub events_left : (unread_ok : Bool) (ks : List ChunkValue) (file damaged : List ℕ) (intact : Intact) (is : List ℕ) (events : List Piece)
+    → length file ≤ 2 ^ 60 → IsDamaged ks file damaged intact → AreReached ks intact 0 (length ks) is → AreEvents unread_ok damaged events
     → AreRecordsOf (untouched ks intact is) (records_in events)
-events_left keep ks file damaged intact is events reach d reached (pieces, h, are) =
+events_left unread_ok ks file damaged intact is events reach d reached (pieces, h, are) =
     subst (AreRecordsOf (untouched ks intact is)) (sym (records_in_events pieces) ∙ ap records_in are)
-    (left_records keep ks intact 0 (length ks) pieces is (pieces_left keep ks file damaged intact d reach pieces h) reached)
+    (left_records unread_ok ks intact 0 (length ks) pieces is (pieces_left unread_ok ks file damaged intact d reach pieces h) reached)
 
 -- a chunk that is passed over lies before each intact block header from the begin of the one before it with a broken header on
 IsLost : List ChunkValue → Intact → ℕ → ℕ → Type 0

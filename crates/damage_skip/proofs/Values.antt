@@ -12,7 +12,7 @@ use Rattle.chunk_header.specs.Chunks.{ChunkValue, IsRightChunkHeader}
 use Rattle.chunk_header.specs.SimpleChunks.{simple_chunk, IsSimple}
 use Rattle.chunk_header.proofs.SimpleChunks.{IsSimple-simple_chunk}
 use Rattle.meta_chunk.specs.Kinds.{IsSignature}
-use Rattle.meta_chunk.specs.Files.{signature, IsFramed, IsChainOf, IsFrame, begin_of, LiesIn}
+use Rattle.meta_chunk.specs.Files.{signature, IsWellFormedChunk, IsChainOf, IsWellFormed, begin_of, LiesIn}
 use Rattle.meta_chunk.proofs.Chains.{IsChainOf-push}
 use Rattle.meta_chunk.proofs.LaidChunks.{IsLaid-laid}
 use Rattle.meta_chunk.specs.Laid.{IsLaid, laid_bytes}
@@ -25,7 +25,7 @@ use Rattle.chunk_reader.specs.declared.reasons.Why.{Why}
 use Rattle.chunk_reader.specs.declared.reasons.Why.TheVariants as why
 use Rattle.damage_skip.specs.Resyncs.{landing, IsResync, Contradicts}
 use Rattle.damage_skip.specs.Damage.{Intact, IsNext, IsDamaged, IsIntactFrom, AreReached, DamageLeavesEach, AreLostUpToABlock}
-use Rattle.damage_skip.specs.Fronts.{IsCutAt}
+use Rattle.damage_skip.specs.FrontPieces.{IsCutAt}
 use Rattle.damage_skip.specs.Takings.{MayTakeAt, MayTakeFor}
 use Rattle.damage_skip.specs.Pieces.{PieceKind, Records, SignatureOrPadding, Skipped, Piece, SkipsFor, walk_reasons, events_in, records_in}
 use Rattle.damage_skip.specs.FilePieces.{ArePieces, placed_in}
@@ -91,9 +91,9 @@ unfolding first_header
 first_leads = inl (0, 0, 64, record { holds = record { stands = first_stands; from = lit≤ tt }; first = λ b p n h. omega arith }, refl)
 
 -- so these bytes are passed over, as they are too few
-first_piece : (keep : Bool) → ArePieces keep first_header (record { begin = 0; end = 24; what = Skipped why.Short } ∷ [])
+first_piece : (unread_ok : Bool) → ArePieces unread_ok first_header (record { begin = 0; end = 24; what = Skipped why.Short } ∷ [])
 unfolding first_header end_of
-first_piece keep = (refl, lit≤ tt, (inl (lit≤ tt, refl), first_leads), refl)
+first_piece unread_ok = (refl, lit≤ tt, (inl (lit≤ tt, refl), first_leads), refl)
 
 -- it contradicts a chunk that has another end
 other_end : Contradicts first_header 0 112 0 0 64
@@ -132,14 +132,14 @@ header_says_another_end = record {
   differs = inr (λ same. omega (arith, same));
 }
 
-contradicted_before_cut : (keep : Bool) → IsFirstOf (SkipsFor cut_chunk 0) (walk_reasons keep) why.Contradicted
+contradicted_before_cut : (unread_ok : Bool) → IsFirstOf (SkipsFor cut_chunk 0) (walk_reasons unread_ok) why.Contradicted
 unfolding cut_chunk first_header usable_bytes end_of hash_of finished after_remainder after_packets finishing_round updated mixed multiplied zipped reset lanes_of remainder_packet
-contradicted_before_cut keep =
+contradicted_before_cut unread_ok =
     inr (λ short. omega (arith, short), inr (λ wrong. wrong (refl, refl), inl ((0, 0, 64, header_says_another_end), refl)))
 
 -- an empty file has no pieces
-no_pieces : (keep : Bool) → ArePieces keep [] []
-no_pieces keep = refl
+no_pieces : (unread_ok : Bool) → ArePieces unread_ok [] []
+no_pieces unread_ok = refl
 
 -- records of pieces, with their positions
 two : List ℕ → List ℕ → Piece
@@ -541,9 +541,9 @@ three_laid = IsLaid-laid 64 three_chunk (record {
   bytes = (lit< tt, (lit< tt, (lit< tt, (lit< tt, (lit< tt, (lit< tt, (lit< tt, (lit< tt, tt))))))));
 })
 
-three_is_framed : IsFramed three_chunk
+three_is_well_formed_chunk : IsWellFormedChunk three_chunk
 unfolding three_chunk shortest
-three_is_framed = inl (
+three_is_well_formed_chunk = inl (
   lit≤ tt,
   inl (
     (0x61 ∷ []) ∷ (0x62 ∷ 0x63 ∷ []) ∷ [] ∷ [],
@@ -551,13 +551,13 @@ three_is_framed = inl (
   ),
 )
 
-three_is_a_frame : IsFrame two_chunks three
+three_is_well_formed : IsWellFormed two_chunks three
 unfolding two_chunks
-three_is_a_frame = (
+three_is_well_formed = (
   (λ same. cc),
-  subst (λ (n : ℕ). IsChainOf IsFramed (signature ∷ three_chunk ∷ []) three n) (sym length_of_three)
+  subst (λ (n : ℕ). IsChainOf IsWellFormedChunk (signature ∷ three_chunk ∷ []) three n) (sym length_of_three)
       (IsChainOf-push (signature ∷ []) three_chunk three 64 112
-      (signature_chain true three three_begins) refl three_is_framed
+      (signature_chain true three three_begins) refl three_is_well_formed_chunk
       (omega (arith, length_of_three)) three_laid),
 )
 
@@ -621,7 +621,7 @@ module _ (damaged : List ℕ) (intact : Intact) (h : IsChanged damaged intact) w
   changed_is_damaged : IsDamaged two_chunks three damaged intact
   unfolding two_chunks
   changed_is_damaged = record {
-    frame = three_is_a_frame;
+    well_formed = three_is_well_formed;
     same_length = h.same_length ∙ sym length_of_three;
     header = λ j below. intact_same (intact.header j) _ _ (header_told j below);
     «data» = λ j k at. intact_same (intact.«data» j) _ _ (data_told j k at);

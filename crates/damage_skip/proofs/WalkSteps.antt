@@ -19,35 +19,35 @@ use Rattle.damage_skip.specs.declared.regions.Region.{Region}
 use Rattle.damage_skip.proofs.KeptChunks.{kept_event}
 
 -- pieces behind pieces
-pub tiles_joined : (keep : Bool) (file : List ℕ) (from middle to : ℕ) (front rest : List Piece) → AreTiles keep file from middle front
-    → AreTiles keep file middle to rest → AreTiles keep file from to (front ++ rest)
-tiles_joined keep file from middle to [] rest same behind = subst (λ (p : ℕ). AreTiles keep file p to rest) (sym same) behind
-tiles_joined keep file from middle to (piece ∷ front) rest h behind =
-    (h.0, h.1, h.2, tiles_joined keep file piece.end middle to front rest h.3 behind)
+pub tiles_joined : (unread_ok : Bool) (file : List ℕ) (from middle to : ℕ) (front rest : List Piece) → AreTiles unread_ok file from middle front
+    → AreTiles unread_ok file middle to rest → AreTiles unread_ok file from to (front ++ rest)
+tiles_joined unread_ok file from middle to [] rest same behind = subst (λ (p : ℕ). AreTiles unread_ok file p to rest) (sym same) behind
+tiles_joined unread_ok file from middle to (piece ∷ front) rest h behind =
+    (h.0, h.1, h.2, tiles_joined unread_ok file piece.end middle to front rest h.3 behind)
 
 -- the events of both
 events_joined : (front rest : List Piece) → events_in (front ++ rest) ≡ events_in front ++ events_in rest
 events_joined front rest = filter-append (λ (piece : Piece). is_event piece.what) front rest
 
 -- where it has come is met
-pub met_on : (bytes : Option (List ℕ)) (keep kept : Bool) (from to : ℕ) (events : List Piece) → kept ≡ keep
-    → IfSome bytes (λ file. IsMet keep file from) → IfSome bytes (λ file. GoesOn keep file from to events)
+pub met_on : (bytes : Option (List ℕ)) (unread_ok kept : Bool) (from to : ℕ) (events : List Piece) → kept ≡ unread_ok
+    → IfSome bytes (λ file. IsMet unread_ok file from) → IfSome bytes (λ file. GoesOn unread_ok file from to events)
     → IfSome bytes (λ file. IsMet kept file to)
-met_on None keep kept from to events same met on = tt
-met_on (Some file) keep kept from to events same (front, tiles) (rest, more, are) =
-    subst (λ (k : Bool). IsMet k file to) (sym same) (front ++ rest, tiles_joined keep file 0 from to front rest tiles more)
+met_on None unread_ok kept from to events same met on = tt
+met_on (Some file) unread_ok kept from to events same (front, tiles) (rest, more, are) =
+    subst (λ (k : Bool). IsMet k file to) (sym same) (front ++ rest, tiles_joined unread_ok file 0 from to front rest tiles more)
 
 -- the piece that begins at a place, as the definition has it
 abbrev pub piece_value : ℕ → NextPiece → Piece
 piece_value at piece = record { begin = at; end = piece.end; what = value_of_found piece.what }
 
 -- one piece more
-one_more : (keep : Bool) (file : List ℕ) (from at : ℕ) (piece : NextPiece) (events : List Piece) → GoesOn keep file from at []
-    → at < length file → IsPieceThere keep at piece file → events_in (piece_value at piece ∷ []) ≡ events
-    → GoesOn keep file from piece.end events
-one_more keep file from at piece events (front, tiles, none) below there are = (
+one_more : (unread_ok : Bool) (file : List ℕ) (from at : ℕ) (piece : NextPiece) (events : List Piece) → GoesOn unread_ok file from at []
+    → at < length file → IsPieceThere unread_ok at piece file → events_in (piece_value at piece ∷ []) ≡ events
+    → GoesOn unread_ok file from piece.end events
+one_more unread_ok file from at piece events (front, tiles, none) below there are = (
   front ++ piece_value at piece ∷ [],
-  tiles_joined keep file from at piece.end front (piece_value at piece ∷ []) tiles (refl, below, there, refl),
+  tiles_joined unread_ok file from at piece.end front (piece_value at piece ∷ []) tiles (refl, below, there, refl),
   events_joined front (piece_value at piece ∷ []) ∙ ap (λ (xs : List Piece). xs ++ events_in (piece_value at piece ∷ [])) none ∙ are,
 )
 
@@ -72,15 +72,15 @@ told_of decodes at end (what.Skipped why) o is intact =
     subst (λ (x : Option Event). events_in (record { begin = at; end = end; what = Skipped why } ∷ []) ≡ events_told x) is refl
 
 -- so the walk goes on past it
-pub passes : (bytes now : Option (List ℕ)) (keep kept : Bool) (size from at : ℕ) (decodes : Bool) (piece : NextPiece) (o : Option Event) → now ≡ bytes → kept ≡ keep
-    → IsSized bytes (Some size) → at < size → IfSome bytes (λ file. GoesOn keep file from at []) → IfSome now (IsPieceThere kept at piece)
-    → HasIntact decodes at piece.end piece.what → event_of at piece ≡ o → IfSome bytes (λ file. GoesOn keep file from piece.end (events_told o))
-passes None now keep kept size from at decodes piece o same same_keep sized below on there intact told = tt
-passes (Some file) None keep kept size from at decodes piece o same same_keep sized below on there intact told = cc
-passes (Some file) (Some other) keep kept size from at decodes piece o same same_keep sized below on there intact told =
+pub passes : (bytes now : Option (List ℕ)) (unread_ok kept : Bool) (size from at : ℕ) (decodes : Bool) (piece : NextPiece) (o : Option Event) → now ≡ bytes → kept ≡ unread_ok
+    → IsSized bytes (Some size) → at < size → IfSome bytes (λ file. GoesOn unread_ok file from at []) → IfSome now (IsPieceThere kept at piece)
+    → HasIntact decodes at piece.end piece.what → event_of at piece ≡ o → IfSome bytes (λ file. GoesOn unread_ok file from piece.end (events_told o))
+passes None now unread_ok kept size from at decodes piece o same same_unread_ok sized below on there intact told = tt
+passes (Some file) None unread_ok kept size from at decodes piece o same same_unread_ok sized below on there intact told = cc
+passes (Some file) (Some other) unread_ok kept size from at decodes piece o same same_unread_ok sized below on there intact told =
     let is : other ≡ file = cc in
-    let here : IsPieceThere keep at piece file = subst (λ (k : Bool). IsPieceThere k at piece file) same_keep (subst (IsPieceThere kept at piece) is there) in
-    one_more keep file from at piece (events_told o) on (omega (arith, sized, below)) here (told_of decodes at piece.end piece.what o told intact)
+    let here : IsPieceThere unread_ok at piece file = subst (λ (k : Bool). IsPieceThere k at piece file) same_unread_ok (subst (IsPieceThere kept at piece) is there) in
+    one_more unread_ok file from at piece (events_told o) on (omega (arith, sized, below)) here (told_of decodes at piece.end piece.what o told intact)
 
 -- where there was no memory to walk on, there was none to load a chunk
 pub memory_before : (end : LoadEnd) → walk.Memory ≡ walk_end_of end → end ≡ load.Memory
@@ -88,13 +88,13 @@ memory_before load.Memory same = refl
 memory_before load.Store same = cc
 
 -- a region that stops the walk is the piece at its place
-pub stops_there : (bytes now : Option (List ℕ)) (keep kept : Bool) (size place : ℕ) (piece : NextPiece) (region : Region) → now ≡ bytes → kept ≡ keep
+pub stops_there : (bytes now : Option (List ℕ)) (unread_ok kept : Bool) (size place : ℕ) (piece : NextPiece) (region : Region) → now ≡ bytes → kept ≡ unread_ok
     → IsSized bytes (Some size) → place < size → IfSome now (IsPieceThere kept place piece) → region.begin ≡ place → region.end ≡ piece.end
-    → piece.what ≡ what.Skipped region.why → IfSome bytes (λ file. IsStoppedAt keep file place (Some region))
-stops_there None now keep kept size place piece region same same_keep sized below there begins ends is = tt
-stops_there (Some file) None keep kept size place piece region same same_keep sized below there begins ends is = cc
-stops_there (Some file) (Some other) keep kept size place piece region same same_keep sized below there begins ends is =
+    → piece.what ≡ what.Skipped region.why → IfSome bytes (λ file. IsStoppedAt unread_ok file place (Some region))
+stops_there None now unread_ok kept size place piece region same same_unread_ok sized below there begins ends is = tt
+stops_there (Some file) None unread_ok kept size place piece region same same_unread_ok sized below there begins ends is = cc
+stops_there (Some file) (Some other) unread_ok kept size place piece region same same_unread_ok sized below there begins ends is =
     let is_file : other ≡ file = cc in
-    let here : IsPieceThere keep place piece file = subst (λ (k : Bool). IsPieceThere k place piece file) same_keep (subst (IsPieceThere kept place piece) is_file there) in
-    let skipped : IsPieceOf keep file place piece.end (Skipped region.why) = subst (λ (w : Found). IsPieceOf keep file place piece.end (value_of_found w)) is here in
-    (begins, omega (arith, sized, below), subst (λ (e : ℕ). IsPieceOf keep file place e (Skipped region.why)) (sym ends) skipped)
+    let here : IsPieceThere unread_ok place piece file = subst (λ (k : Bool). IsPieceThere k place piece file) same_unread_ok (subst (IsPieceThere kept place piece) is_file there) in
+    let skipped : IsPieceOf unread_ok file place piece.end (Skipped region.why) = subst (λ (w : Found). IsPieceOf unread_ok file place piece.end (value_of_found w)) is here in
+    (begins, omega (arith, sized, below), subst (λ (e : ℕ). IsPieceOf unread_ok file place e (Skipped region.why)) (sym ends) skipped)

@@ -6,7 +6,7 @@ use Rattle.block_layout.specs.Layout.{block_header_size, IsBlock}
 use Rattle.block_layout.specs.BlockHeaders.{IsRightBlockHeader}
 use Rattle.chunk_header.specs.Chunks.{ChunkValue, IsRightChunkHeader}
 use Rattle.chunk_header.specs.SimpleChunks.{IsCompressed}
-use Rattle.meta_chunk.specs.Files.{IsTransposed, IsFrame, begin_of, LiesIn}
+use Rattle.meta_chunk.specs.Files.{IsTransposed, IsWellFormed, begin_of, LiesIn}
 use Rattle.chunk_reader.specs.Places.{header_bytes_at, data_at}
 use Rattle.chunk_reader.specs.declared.reasons.Why.TheVariants as why
 use Rattle.damage_skip.specs.Pieces.{PieceKind, Skipped, Piece, IsFoundAs}
@@ -20,7 +20,7 @@ pub record Intact : Type 0 where
 -- a file of chunks that are read or left unread, and another of the same length in which so much of it is intact. Where a
 -- header, the data behind an intact header or a block header has changed, its hash shows that. Padding is free
 pub record IsDamaged (ks : List ChunkValue) (file damaged : List ℕ) (intact : Intact) : Type 0 where
-  pub frame : IsFrame ks file
+  pub well_formed : IsWellFormed ks file
   pub same_length : length damaged ≡ length file
   pub header : (j : ℕ) → j < length ks
       → (intact.header j ≡ true) ↔ (header_bytes_at damaged (begin_of ks j) ≡ header_bytes_at file (begin_of ks j))
@@ -64,8 +64,8 @@ AreReached ks intact j to (i ∷ is) =
 
 -- what damage leaves of a chunk that is reached
 abbrev pub DamageLeaves : Bool → (header «data» : Bool) → ChunkValue → PieceKind → Type 0
-DamageLeaves keep false «data» k what = what ≡ Skipped why.HeaderHash
-DamageLeaves keep true false k what = what ≡ Skipped why.DataHash
+DamageLeaves unread_ok false «data» k what = what ≡ Skipped why.HeaderHash
+DamageLeaves unread_ok true false k what = what ≡ Skipped why.DataHash
 DamageLeaves true true true k what = IsFoundAs true k what
 DamageLeaves false true true k what =
     IsFoundAs false k what
@@ -75,12 +75,12 @@ DamageLeaves false true true k what =
 -- the pieces that it leaves of a file from chunk j on, before one that is reached behind it or before the end: one for each
 -- chunk that is reached, up to the next one
 abbrev pub DamageLeavesEach : Bool → List ChunkValue → Intact → (j to : ℕ) → List Piece → Type 0
-DamageLeavesEach keep ks intact j to [] = j ≡ to
-DamageLeavesEach keep ks intact j to (piece ∷ pieces) =
+DamageLeavesEach unread_ok ks intact j to [] = j ≡ to
+DamageLeavesEach unread_ok ks intact j to (piece ∷ pieces) =
     (k : ChunkValue) × (next : ℕ) × (slice_get ks j ≡ Some k) × IsNext ks intact j next
     × (piece.begin ≡ begin_of ks j) × (piece.end ≡ begin_of ks next)
-    × DamageLeaves keep (intact.header j) (intact.«data» j) k piece.what
-    × DamageLeavesEach keep ks intact next to pieces
+    × DamageLeaves unread_ok (intact.header j) (intact.«data» j) k piece.what
+    × DamageLeavesEach unread_ok ks intact next to pieces
 
 -- of the chunks of these numbers those whose header and data are intact
 abbrev pub untouched : List ChunkValue → Intact → List ℕ → List ChunkValue

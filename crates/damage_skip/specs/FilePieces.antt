@@ -8,7 +8,7 @@ use Rattle.chunk_reader.specs.declared.reasons.Why.TheVariants as why
 
 -- the pieces of a file
 abbrev pub ArePieces : Bool → List ℕ → List Piece → Type 0
-ArePieces keep file pieces = AreTiles keep file 0 (length file) pieces
+ArePieces unread_ok file pieces = AreTiles unread_ok file 0 (length file) pieces
 
 -- the records that pieces give, each with its position: its chunk's begin, and its number in the chunk
 abbrev pub placed_in : List Piece → List (ℕ × List ℕ)
@@ -16,11 +16,11 @@ placed_in pieces = flat_map (λ piece. enumerate_from piece.begin (records_of pi
 
 -- the pieces are these chunks, laid one after another from a place on, and each was found intact
 abbrev pub AreFound : Bool → ℕ → List ChunkValue → List Piece → Type 0
-AreFound keep place [] pieces = pieces ≡ []
-AreFound keep place (k ∷ ks) [] = ⊥
-AreFound keep place (k ∷ ks) (piece ∷ pieces) =
-    (piece.begin ≡ place) × (piece.end ≡ end_of_chunk place k) × IsFoundAs keep k piece.what
-    × AreFound keep (end_of_chunk place k) ks pieces
+AreFound unread_ok place [] pieces = pieces ≡ []
+AreFound unread_ok place (k ∷ ks) [] = ⊥
+AreFound unread_ok place (k ∷ ks) (piece ∷ pieces) =
+    (piece.begin ≡ place) × (piece.end ≡ end_of_chunk place k) × IsFoundAs unread_ok k piece.what
+    × AreFound unread_ok (end_of_chunk place k) ks pieces
 
 -- a piece that ends here stays one whatever stands behind so many bytes of the file: it isn't cut off, and where a block header
 -- leads to its end, that lies before theirs

@@ -8,7 +8,7 @@ pub mod Walks
 pub mod Walkers
 pub mod Steps
 pub mod Damage
-pub mod Fronts
+pub mod FrontPieces
 pub mod FilePieces
 pub mod DamagedWalks
 pub mod Takings

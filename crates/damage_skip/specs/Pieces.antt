@@ -34,8 +34,8 @@ SkipsFor file place other = Applies file place other
 
 -- these reasons, in their order. Where unread chunks are kept, those fall away that only name them
 abbrev pub walk_reasons : Bool → List Why
-walk_reasons keep =
-    why.Short ∷ why.HeaderHash ∷ why.Contradicted ∷ why.Truncated ∷ why.TooLarge ∷ content_reasons keep
+walk_reasons unread_ok =
+    why.Short ∷ why.HeaderHash ∷ why.Contradicted ∷ why.Truncated ∷ why.TooLarge ∷ content_reasons unread_ok
 
 -- where the bytes end that are passed over from a place for a reason
 abbrev pub SkipsTo : List ℕ → ℕ → Why → ℕ → Type 0
@@ -49,26 +49,26 @@ SkipsTo file place other to = to ≡ end_at file place
 
 -- what a chunk is that no reason passes over
 abbrev pub IsFoundAs : Bool → ChunkValue → PieceKind → Type 0
-IsFoundAs keep k (Records records chunk) = IsSimple k records × (chunk ≡ k)
-IsFoundAs keep k (Kept chunk) =
-    (IsMetadata k ⊎ ((keep ≡ true) × (IsCompressed k ⊎ IsTransposed k))) × (chunk ≡ k)
-IsFoundAs keep k SignatureOrPadding = IsSignature k ⊎ IsPadding k
-IsFoundAs keep k (Skipped why) = ⊥
+IsFoundAs unread_ok k (Records records chunk) = IsSimple k records × (chunk ≡ k)
+IsFoundAs unread_ok k (Kept chunk) =
+    (IsMetadata k ⊎ ((unread_ok ≡ true) × (IsCompressed k ⊎ IsTransposed k))) × (chunk ≡ k)
+IsFoundAs unread_ok k SignatureOrPadding = IsSignature k ⊎ IsPadding k
+IsFoundAs unread_ok k (Skipped why) = ⊥
 
 -- what the piece is that begins at a place of a file, and where it ends
 abbrev pub IsPieceOf : Bool → List ℕ → (begin end : ℕ) → PieceKind → Type 0
-IsPieceOf keep file begin end (Skipped why) =
-    IsFirstOf (SkipsFor file begin) (walk_reasons keep) why × SkipsTo file begin why end
-IsPieceOf keep file begin end what =
-    NoneOf (SkipsFor file begin) (walk_reasons keep) × (end ≡ end_at file begin)
-    × IsFoundAs keep (chunk_at file begin) what
+IsPieceOf unread_ok file begin end (Skipped why) =
+    IsFirstOf (SkipsFor file begin) (walk_reasons unread_ok) why × SkipsTo file begin why end
+IsPieceOf unread_ok file begin end what =
+    NoneOf (SkipsFor file begin) (walk_reasons unread_ok) × (end ≡ end_at file begin)
+    × IsFoundAs unread_ok (chunk_at file begin) what
 
 -- the pieces of a file from a place up to another, each of which begins where the one before ends
 abbrev pub AreTiles : Bool → List ℕ → (from to : ℕ) → List Piece → Type 0
-AreTiles keep file from to [] = from ≡ to
-AreTiles keep file from to (piece ∷ pieces) =
-    (piece.begin ≡ from) × (from < length file) × IsPieceOf keep file from piece.end piece.what
-    × AreTiles keep file piece.end to pieces
+AreTiles unread_ok file from to [] = from ≡ to
+AreTiles unread_ok file from to (piece ∷ pieces) =
+    (piece.begin ≡ from) × (from < length file) × IsPieceOf unread_ok file from piece.end piece.what
+    × AreTiles unread_ok file piece.end to pieces
 
 -- whether a piece is an event: given, kept or skipped
 abbrev pub is_event : PieceKind → Bool
@@ -81,12 +81,12 @@ events_in pieces = filter (λ piece. is_event piece.what) pieces
 
 -- the file was walked from a place up to another, and these are the events between
 abbrev pub GoesOn : Bool → List ℕ → (from to : ℕ) → List Piece → Type 0
-GoesOn keep file from to events =
-    (pieces : List Piece) × AreTiles keep file from to pieces × (events_in pieces ≡ events)
+GoesOn unread_ok file from to events =
+    (pieces : List Piece) × AreTiles unread_ok file from to pieces × (events_in pieces ≡ events)
 
 -- the events of a file, in order
 abbrev pub AreEvents : Bool → List ℕ → List Piece → Type 0
-AreEvents keep file events = GoesOn keep file 0 (length file) events
+AreEvents unread_ok file events = GoesOn unread_ok file 0 (length file) events
 
 -- the records that a piece gives
 abbrev pub records_of : PieceKind → List (List ℕ)

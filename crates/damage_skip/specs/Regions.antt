@@ -42,6 +42,7 @@ abbrev pub walk_text : List Region → Option Region → List ℕ
 walk_text skipped stopped = skipped_text skipped ++ stopped_text stopped
 
 -- the events of the front of a file up to a place, of which each region is one that P holds of
-pub record IsWalkedTo (keep : Bool) (P : Region → Type 0) (file : List ℕ) (place : ℕ) (events : List Piece) : Type 0 where
-  pub walked : GoesOn keep file 0 place events
+pub record IsWalkedTo (unread_ok : Bool) (P : Region → Type 0) (file : List ℕ) (place : ℕ)
+    (events : List Piece) : Type 0 where
+  pub walked : GoesOn unread_ok file 0 place events
   pub each : AllByRecursion P (regions_in events)

@@ -104,7 +104,8 @@ value_of_found (what.Skipped why) = pieces.Skipped why
 
 -- a piece is the one at a place of a file
 abbrev pub IsPieceThere : Bool → ℕ → NextPiece → List ℕ → Type 0
-IsPieceThere keep at piece file = pieces.IsPieceOf keep file at piece.end (value_of_found piece.what)
+IsPieceThere unread_ok at piece file =
+    pieces.IsPieceOf unread_ok file at piece.end (value_of_found piece.what)
 
 -- a chunk that is kept is one that is left unread, or metadata, or one of records where these aren't decoded
 abbrev pub IsKeptAs : (decodes : Bool) → ChunkValue → (unread : Bool) → Type 0
@@ -134,10 +135,11 @@ HasIntact decodes begin end other = ⊤
 -- what a chunk is that was read: the first reason of its content to pass over it, or what it holds
 abbrev pub IsReadAs : Progress → Chunk → Found → Type 0
 IsReadAs walk chunk (what.Skipped why) =
-    IsFirstOf (ContentApplies chunk.header.data_hash (value_of_chunk chunk)) (content_reasons walk.keep) why
+    IsFirstOf (ContentApplies chunk.header.data_hash (value_of_chunk chunk)) (content_reasons walk.unread_ok) why
 IsReadAs walk chunk other =
-    NoneOf (ContentApplies chunk.header.data_hash (value_of_chunk chunk)) (content_reasons walk.keep)
-    × pieces.IsFoundAs walk.keep (value_of_chunk chunk) (value_of_found other) × HasChunk walk.decodes chunk other
+    NoneOf (ContentApplies chunk.header.data_hash (value_of_chunk chunk)) (content_reasons walk.unread_ok)
+    × pieces.IsFoundAs walk.unread_ok (value_of_chunk chunk) (value_of_found other)
+    × HasChunk walk.decodes chunk other
 
 -- a piece up to a place for a reason, or where a block before it leads that tells of another chunk
 abbrev pub IsUnloaded : List ℕ → (begin end to : ℕ) → Why → NextPiece → Type 0

@@ -59,17 +59,19 @@ AccountFor file (piece ∷ pieces) taken = (here : ℕ) × MayTakeFor file piece
 
 -- the pieces of a file from a place up to another account for so many bytes
 abbrev pub IsTakenFrom : Bool → List ℕ → (from to taken : ℕ) → Type 0
-IsTakenFrom keep file from to taken = (pieces : List Piece) × AreTiles keep file from to pieces × AccountFor file pieces taken
+IsTakenFrom unread_ok file from to taken =
+    (pieces : List Piece) × AreTiles unread_ok file from to pieces × AccountFor file pieces taken
 
 -- these and what may be taken at the place where they end do
 abbrev pub IsTakenUpTo : Bool → List ℕ → (from to taken : ℕ) → Type 0
-IsTakenUpTo keep file from to taken =
-    (passed : ℕ) × IsTakenFrom keep file from to passed × MayTakeAt file to (taken - passed)
+IsTakenUpTo unread_ok file from to taken =
+    (passed : ℕ) × IsTakenFrom unread_ok file from to passed × MayTakeAt file to (taken - passed)
 
 -- so many bytes are taken by a walk up to some place, past regions of which P holds: the pieces up to there account for them, and
 -- the one there
-pub record IsTakenByWalk (keep : Bool) (P : Region → Type 0) (file : List ℕ) (taken : ℕ) : Type 0 where
+pub record IsTakenByWalk (unread_ok : Bool) (P : Region → Type 0) (file : List ℕ)
+    (taken : ℕ) : Type 0 where
   pub place : ℕ
   pub events : List Piece
-  pub walked : IsWalkedTo keep P file place events
-  pub account : IsTakenUpTo keep file 0 place taken
+  pub walked : IsWalkedTo unread_ok P file place events
+  pub account : IsTakenUpTo unread_ok file 0 place taken

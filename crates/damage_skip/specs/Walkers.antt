@@ -15,7 +15,7 @@ test_of walker = walker.policy.test
 pub record IsJudging {F : Type 0} (before after : Walker F) : Type 0 where
   pub judges : after.progress.decodes ≡ false
   pub same_size : after.progress.size ≡ before.progress.size
-  pub same_keep : after.progress.keep ≡ before.progress.keep
+  pub same_unread_ok : after.progress.unread_ok ≡ before.progress.unread_ok
   pub same_place : after.progress.place ≡ before.progress.place
   pub same_stopped : after.progress.stopped ≡ before.progress.stopped
   pub same_policy : after.policy ≡ before.policy

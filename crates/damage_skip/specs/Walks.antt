@@ -45,18 +45,19 @@ event_text other = []
 
 -- the place is the begin of a piece of the file, or its end
 abbrev pub IsMet : Bool → List ℕ → ℕ → Type 0
-IsMet keep file place = (pieces : List Piece) × AreTiles keep file 0 place pieces
+IsMet unread_ok file place = (pieces : List Piece) × AreTiles unread_ok file 0 place pieces
 
 -- what a walk has stopped at, if it has, is the piece at its place
 abbrev pub IsStoppedAt : Bool → List ℕ → ℕ → Option Region → Type 0
-IsStoppedAt keep file place stopped =
+IsStoppedAt unread_ok file place stopped =
     IfSome stopped
-    (λ region. (region.begin ≡ place) × (place < length file) × IsPieceOf keep file place region.end (Skipped region.why))
+    (λ region. (region.begin ≡ place) × (place < length file)
+    × IsPieceOf unread_ok file place region.end (Skipped region.why))
 
 -- a walk is at the front of a file of so many bytes
-pub record IsAtFront (size : ℕ) (keep decodes : Bool) (at : Progress) : Type 0 where
+pub record IsAtFront (size : ℕ) (unread_ok decodes : Bool) (at : Progress) : Type 0 where
   pub size_is : at.size ≡ size
-  pub keep_is : at.keep ≡ keep
+  pub unread_ok_is : at.unread_ok ≡ unread_ok
   pub decodes_is : at.decodes ≡ decodes
   pub at_front : at.place ≡ 0
   pub going : at.stopped ≡ None
@@ -65,8 +66,8 @@ pub record IsAtFront (size : ℕ) (keep decodes : Bool) (at : Progress) : Type 0
 pub record StandsIn (file : Option (List ℕ)) (told : Option ℕ) (at : Progress) : Type 0 where
   pub size : told ≡ Some at.size
   pub in_reach : at.size ≤ 2 ^ 60
-  pub met : IfSome file (λ bytes. IsMet at.keep bytes at.place)
-  pub stopped_there : IfSome file (λ bytes. IsStoppedAt at.keep bytes at.place at.stopped)
+  pub met : IfSome file (λ bytes. IsMet at.unread_ok bytes at.place)
+  pub stopped_there : IfSome file (λ bytes. IsStoppedAt at.unread_ok bytes at.place at.stopped)
 
 -- and may go on there, past regions that a test allows
 pub record MayGoOn {F : Type 0} (test : Shared F (Bor Region × Unit {0}) Bool) (f : F) (file : Option (List ℕ)) (told : Option ℕ) (at : Progress) : Type 0 where
@@ -126,10 +127,10 @@ stop_of other = None
 -- a walk went on in its file, past these events, and stops where the call does
 pub record WalksOn (file : Option (List ℕ)) (before after : Progress) (result : Result (Option Event) WalkEnd) : Type 0 where
   pub same_size : after.size ≡ before.size
-  pub same_keep : after.keep ≡ before.keep
+  pub same_unread_ok : after.unread_ok ≡ before.unread_ok
   pub same_decodes : after.decodes ≡ before.decodes
   pub rises : before.place ≤ after.place
-  pub past : IfSome file (λ bytes. GoesOn before.keep bytes before.place after.place (events_of result))
+  pub past : IfSome file (λ bytes. GoesOn before.unread_ok bytes before.place after.place (events_of result))
   pub stopped : after.stopped ≡ stop_of result
 
 -- the region that a piece is at a place, where a test refuses it, or none where the test allows it or the piece is none
@@ -142,5 +143,5 @@ Refuses test f place piece (Some region) =
 -- what a call of a walk takes from a place up to another: with an event or the file's end what it passed, and else also at the
 -- place where it stands
 abbrev pub TakesByCall : Bool → List ℕ → (from to : ℕ) → Result (Option Event) WalkEnd → (taken : ℕ) → Type 0
-TakesByCall keep file from to (Ok _) taken = IsTakenFrom keep file from to taken
-TakesByCall keep file from to (Err _) taken = IsTakenUpTo keep file from to taken
+TakesByCall unread_ok file from to (Ok _) taken = IsTakenFrom unread_ok file from to taken
+TakesByCall unread_ok file from to (Err _) taken = IsTakenUpTo unread_ok file from to taken

@@ -54,7 +54,7 @@ pub(crate) fn piece_at<S: Store>(
 ) -> Result<NextPiece, LoadEnd>
     requires place { MayBeginAt (S.told store.old) walk.size walk.place }
     ensures piece { IfOk result (IsPieceFrom walk) }
-    ensures sound { IfOk result (λ piece. IfSome (S.bytes store.old) (IsPieceThere walk.keep walk.place piece)) }
+    ensures sound { IfOk result (λ piece. IfSome (S.bytes store.old) (IsPieceThere walk.unread_ok walk.place piece)) }
     ensures memory { result ≡ Err LoadEnd.Memory
         → IfSome (S.bytes store.old) (λ file. NoneOf (Applies file walk.place) loading_reasons) }
     ensures takes { IfSome (S.bytes store.old) (λ file.
@@ -81,7 +81,7 @@ fn headed_piece<S: Store>(
     requires end { IsEndOf end (end_by walk.place (value_of_header header)) }
     requires head { IfSome (S.bytes store.old) (λ file. IsHead file walk.place (Head.Right header end)) }
     ensures piece { IfOk result (IsPieceFrom walk) }
-    ensures sound { IfOk result (λ piece. IfSome (S.bytes store.old) (IsPieceThere walk.keep walk.place piece)) }
+    ensures sound { IfOk result (λ piece. IfSome (S.bytes store.old) (IsPieceThere walk.unread_ok walk.place piece)) }
     ensures memory { result ≡ Err LoadEnd.Memory
         → IfSome (S.bytes store.old) (λ file. NoneOf (Applies file walk.place) loading_reasons) }
     ensures takes { IfSome (S.bytes store.old) (λ file.
@@ -106,7 +106,7 @@ fn chunk_piece<S: Store>(
     requires fits { IsHeader header }
     requires head { IfSome (S.bytes store.old) (λ file. IsHead file walk.place (Head.Right header (Some end))) }
     ensures piece { IfOk result (IsPieceFrom walk) }
-    ensures sound { IfOk result (λ piece. IfSome (S.bytes store.old) (IsPieceThere walk.keep walk.place piece)) }
+    ensures sound { IfOk result (λ piece. IfSome (S.bytes store.old) (IsPieceThere walk.unread_ok walk.place piece)) }
     ensures memory { result ≡ Err LoadEnd.Memory
         → IfSome (S.bytes store.old) (λ file. NoneOf (Applies file walk.place) loading_reasons) }
     ensures takes { IfSome (S.bytes store.old) (λ file.
@@ -182,7 +182,7 @@ fn decoded_as(alloc: Global, chunk: Chunk, right: bool, walk: Progress) -> Resul
         Ok(Content::Records(records)) => Ok(Found::Records(records, chunk)),
         Ok(Content::Metadata) => Ok(Found::Kept(chunk, false)),
         Ok(Content::Signature | Content::Padding) => Ok(Found::SignatureOrPadding),
-        Err(ContentEnd::Fault(Why::Compressed | Why::Transposed)) if walk.keep => {
+        Err(ContentEnd::Fault(Why::Compressed | Why::Transposed)) if walk.unread_ok => {
             Ok(Found::Kept(chunk, true))
         }
         Err(ContentEnd::Fault(why)) => Ok(Found::Skipped(why)),

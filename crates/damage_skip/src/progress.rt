@@ -9,7 +9,7 @@ pub struct Progress {
     /// How many bytes the file has.
     pub size: u64,
     /// Whether compressed and transposed chunks are kept.
-    pub keep: bool,
+    pub unread_ok: bool,
     /// Whether records are decoded, or simple chunks only judged and kept.
     pub decodes: bool,
     /// Where the next piece of the file begins: a boundary, or the file's end.

@@ -25,16 +25,16 @@ pub struct Walker<F> {
 }
 
 impl<F: Fn(&Region) -> bool + Drop> Walker<F> {
-    /// A walk of a file of so many bytes, from its front. With `keep`, compressed and transposed chunks are given in place of
+    /// A walk of a file of so many bytes, from its front. With `unread_ok`, compressed and transposed chunks are given in place of
     /// being passed over.
-    pub fn new(size: u64, keep: bool, policy: Policy<F>) -> Walker<F>
-        ensures begins { IsAtFront size keep true (progress_of result) }
+    pub fn new(size: u64, unread_ok: bool, policy: Policy<F>) -> Walker<F>
+        ensures begins { IsAtFront size unread_ok true (progress_of result) }
         ensures test { test_of result ≡ policy.test }
     {
         Walker {
             progress: Progress {
                 size,
-                keep,
+                unread_ok,
                 decodes: true,
                 place: 0,
                 stopped: None,
@@ -85,7 +85,7 @@ impl<F: Fn(&Region) -> bool + Drop> Walker<F> {
             → (result ≡ Err (WalkEnd.Stopped region)) × (self.new ≡ self.old) × (store.new ≡ store.old) }
         ensures memory { result ≡ Err WalkEnd.Memory
             → IfSome (S.bytes store.old) (λ file. NoneOf (Applies file (progress_of self.new).place) loading_reasons) }
-        ensures takes { IfSome (S.bytes store.old) (λ file. TakesByCall (progress_of self.old).keep file
+        ensures takes { IfSome (S.bytes store.old) (λ file. TakesByCall (progress_of self.old).unread_ok file
             (progress_of self.old).place (progress_of self.new).place result (S.handed store.new - S.handed store.old)) }
         ensures store { OnlyAsks S.bytes S.told S.name S.faults (result ≡ Err WalkEnd.Store) store.old store.new }
     {

@@ -4,10 +4,10 @@ use Rattle.std.specs.List.{AllByRecursion, flat_map, sum_by}
 use Rattle.std.proofs.lemmas.Bool.{cases_lt}
 use Rattle.record_values.specs.Bytes.{AreBytes}
 use Rattle.chunk_header.specs.Chunks.{ChunkValue}
-use Rattle.meta_chunk.specs.Files.{AreRecordsOf, IsFile}
-use Rattle.meta_chunk.proofs.Held.{HoldEach-framed}
+use Rattle.meta_chunk.specs.Files.{AreRecordsOf, IsReadable}
+use Rattle.meta_chunk.proofs.Held.{HoldEach-well_formed}
 use Rattle.chunk_reader.specs.Faults.{HasNoFault, HaveNoFault}
-use Rattle.chunk_reader.proofs.Frames.{frame_of_plain}
+use Rattle.chunk_reader.proofs.WellFormedFiles.{well_formed_of_plain}
 use Rattle.chunk_reader.proofs.ManyFiles.{files_judged}
 use Rattle.simple_chunk.specs.Costs.{cost_of}
 use Rattle.record_collect.specs.Gatherings.{AreGatheredOf, AreRecordsOfEach, IsTooMuch, GatheredValue}
@@ -27,9 +27,9 @@ pub is_whole : (files : List (List ℕ)) (made : GatheredValue) → AreEachInRea
 is_whole files made reach gathered = inr (reach, inl (record { made = made; gathered = gathered; is = refl }))
 
 -- the records of a file without fault
-records_of_file : (file : List ℕ) → HasNoFault false file → (records : List (List ℕ)) × ((ks : List ChunkValue) × IsFile ks file × AreRecordsOf ks records)
+records_of_file : (file : List ℕ) → HasNoFault false file → (records : List (List ℕ)) × ((ks : List ChunkValue) × IsReadable ks file × AreRecordsOf ks records)
 records_of_file file (ks, is) =
-    let held = HoldEach-framed ks (frame_of_plain ks file (length file) is.1).each in
+    let held = HoldEach-well_formed ks (well_formed_of_plain ks file (length file) is.1).each in
     (flat_map (λ list. list) held.0, (ks, is, (held.0, held.1, refl)))
 
 pub records_of_files : (files : List (List ℕ)) → HaveNoFault false files → (lists : List (List (List ℕ))) × AreRecordsOfEach files lists

@@ -16,7 +16,7 @@ use Rattle.command_frame.specs.Endings.{SaysEnd}
 use Rattle.command_frame.specs.FileAnswers.{limit_text}
 use Rattle.command_frame.specs.Runs.{Runs}
 use Rattle.command_frame.specs.RunObjects.{seen}
-use Rattle.command_frame.specs.CutShortRuns.{Breaks}
+use Rattle.command_frame.specs.RunLeaves.{Breaks}
 use Rattle.command_frame.proofs.FileEnds.{EndsWhole}
 use Rattle.command_frame.proofs.AskedFiles.{runs-asked}
 use Rattle.command_frame.proofs.ManyFilesEnds.{MayEndBy, EndsBySizes, ReadsFiles, WentAtEnd, WentButNotes, WentToCut, reads_files, went_none, went_noted, went_whole}

@@ -11,7 +11,7 @@ use Rattle.record_collect.specs.declared.gathering.GatherEnd.{GatherEnd}
 use Rattle.command_frame.specs.declared.ending.Ending.{Ending}
 use Rattle.command_frame.specs.Endings.{HaveTold, IsAllowedEndOfMany}
 use Rattle.join_command.specs.CollectCommand.{collect_meaning, collected_file, collected_lines, files_lines}
-use Rattle.join_command.specs.CollectingEnds.{AreEachInReach, IsOneTooLong, PutsGathered, TakeCollected, TakesFile, end_of_gather}
+use Rattle.join_command.specs.CollectingEnds.{AreEachInReach, IsOneTooLong, PutsGathered, TakeCollected, TakesAllOrFront, end_of_gather}
 use Rattle.join_command.specs.declared.stops.Uncollected.{Uncollected}
 use Rattle.record_collect.specs.declared.gathering.GatherEnd.TheVariants as gather
 use Rattle.record_io.specs.declared.cut.Cut.TheVariants as cut
@@ -73,7 +73,7 @@ put-unprinted value records places made made_then out out_then same are took pri
 
 -- where the file wasn't written to its end, no line was put
 pub put-failed : (X Y : Type 0) (why : Cut) (value : GatheredValue) (records : List (List ℕ)) (made made_then out : Option (List ℕ)) → records ≡ value.records
-    → TakesFile {X = X} (Err why) (collected_file records) made made_then → PutsGathered {X = Y} (Err why) value made made_then out out
+    → TakesAllOrFront {X = X} (Err why) (collected_file records) made made_then → PutsGathered {X = Y} (Err why) value made made_then out out
 put-failed X Y cut.Input value records made made_then out same took = absurd took
 put-failed X Y cut.File value records made made_then out same took = absurd took
 put-failed X Y cut.Made value records made made_then out same took =

@@ -7,7 +7,7 @@ use Rattle.record_io.specs.Puts.{Made, Out, Notes, puts_to}
 use Rattle.chunk_header.specs.Chunks.{ChunkValue}
 use Rattle.meta_chunk.specs.Files.{totals_of}
 use Rattle.chunk_reader.specs.declared.reasons.Fault.{Fault}
-use Rattle.chunk_reader.proofs.Frames.{frame_is_one}
+use Rattle.chunk_reader.proofs.WellFormedFiles.{well_formed_is_one}
 use Rattle.record_join.specs.Joined.{joined, joined_at_most}
 use Rattle.chunk_reader.proofs.ManyFiles.{files_judged, first_is_one, first_or_none}
 use Rattle.record_join.proofs.JoinedFiles.{joined-no_fault}
@@ -34,7 +34,7 @@ join_exists files some bytes = elim (cases_lt most_file_bytes (joined_at_most (m
   | inr reach ↦ elim (files_judged true files bytes) [
     | inl none ↦
         let whole = joined-no_fault files some none in
-        (whole_answer files whole.0, inr (reach, inl (record { without_fault = none; chunks = whole.0; frame = whole.1; is = refl })))
+        (whole_answer files whole.0, inr (reach, inl (record { without_fault = none; chunks = whole.0; well_formed = whole.1; is = refl })))
     | inr (index, fault, first) ↦
         (refused_answer files index fault, inr (reach, inr (record { index = index; fault = fault; first = first; is = refl })))
   ]
@@ -42,7 +42,7 @@ join_exists files some bytes = elim (cases_lt most_file_bytes (joined_at_most (m
 
 judged-one : (files : List (List ℕ)) (a b : Answer) → AreJoinedIn files a ⊎ AreJoinedToFaultIn files a → AreJoinedIn files b ⊎ AreJoinedToFaultIn files b → a ≡ b
 judged-one files a b (inl h) (inl g) =
-    h.is ∙ ap (λ (ks : List ChunkValue). whole_answer files ks) (frame_is_one h.chunks g.chunks (joined files) h.frame g.frame) ∙ sym g.is
+    h.is ∙ ap (λ (ks : List ChunkValue). whole_answer files ks) (well_formed_is_one h.chunks g.chunks (joined files) h.well_formed g.well_formed) ∙ sym g.is
 judged-one files a b (inl h) (inr g) = absurd (first_or_none true files g.index g.fault g.first h.without_fault)
 judged-one files a b (inr h) (inl g) = absurd (first_or_none true files h.index h.fault h.first g.without_fault)
 judged-one files a b (inr h) (inr g) =

@@ -21,7 +21,7 @@ use Rattle.command_frame.specs.Endings.{SaysEnd}
 use Rattle.command_frame.specs.FileAnswers.{limit_text, report}
 use Rattle.command_frame.specs.Runs.{Runs}
 use Rattle.command_frame.specs.RunObjects.{seen}
-use Rattle.command_frame.specs.CutShortRuns.{Breaks}
+use Rattle.command_frame.specs.RunLeaves.{Breaks}
 use Rattle.command_frame.proofs.AskedFiles.{runs-asked}
 use Rattle.command_frame.proofs.ManyFilesEnds.{MayEndBy, EndsBySizes, ReadsFiles, WentAtEnd, WentToCut, reads_files, some_told, went_none, went_noted, went_whole}
 use Rattle.command_frame.proofs.TwoStreams.{GoOut-both, GoOut-first, GoOut-neither, bytes_to-neither}
@@ -65,7 +65,7 @@ front_put P Within made made_then counted all bytes some reach front = elim (fil
         front = all;
         are = inl (none, refl);
         answer = whole_answer all whole.0;
-        is = inr (reach, inl (record { without_fault = none; chunks = whole.0; frame = whole.1; is = refl }));
+        is = inr (reach, inl (record { without_fault = none; chunks = whole.0; well_formed = whole.1; is = refl }));
         rest = puts_to Out (report (totals_of whole.0));
         parts = refl;
         count = count.0;
@@ -120,9 +120,9 @@ module _ (all : List (List ℕ)) (made made_then out out_then notes : Option (Li
   went-join : {X : Type 0} (result : Result X (Ending Refusal)) → AllByRecursion AreBytes all → all ≢ []
       → MayEndBy join_meaning AreTooLong (λ _. AreTogetherInReach) result (map length all) → TakeJoined result all made made_then out out_then
       → WentAtEnd joining_ends (IsJoinAnswer all) (IsJoinedSoFar all) result (taken_by made out notes) (taken_by made_then out_then notes)
-  went-join (Ok x) bytes some reach (none, chunks, frame, whole, printed) =
+  went-join (Ok x) bytes some reach (none, chunks, well_formed, whole, printed) =
       went_whole (IsJoinAnswer all) (whole_answer all chunks) (taken_by made out notes) (taken_by made_then out_then notes)
-      (inr (reach, inl (record { without_fault = none; chunks = chunks; frame = frame; is = refl })))
+      (inr (reach, inl (record { without_fault = none; chunks = chunks; well_formed = well_formed; is = refl })))
       (GoOut-both made made_then out out_then notes (joined all) (report (totals_of chunks)) whole printed)
   went-join (Err end.Limit) bytes some long (same, unprinted) =
       went_noted (IsJoinAnswer all) status.Limit limit_text (taken_by made out notes) (taken_by made_then out_then notes) (inl (long, refl))
@@ -155,11 +155,11 @@ module _ (all : List (List ℕ)) (made made_then out out_then notes : Option (Li
       (subst (λ (ps : List Put). BreaksOff Made part ps) (sym h.parts)
       (BreaksOff-longer Made part (puts_to Made (joined h.front)) h.rest (BreaksOff-last Made [] (joined h.front) h.count h.within)))
       unprinted
-  went-join (Err (end.Cut cut.Out)) bytes some (used, reach) (none, chunks, frame, whole, printed) =
+  went-join (Err (end.Cut cut.Out)) bytes some (used, reach) (none, chunks, well_formed, whole, printed) =
       let last : List ℕ = take printed.0 (report (totals_of chunks)) in
       record {
         answer = whole_answer all chunks;
-        is = inr (reach, inl (record { without_fault = none; chunks = chunks; frame = frame; is = refl }));
+        is = inr (reach, inl (record { without_fault = none; chunks = chunks; well_formed = well_formed; is = refl }));
         part = puts_to Made (joined all) ++ puts_to Out last;
         breaks = BreaksOff-last Out (puts_to Made (joined all)) (report (totals_of chunks)) printed.0 printed.1;
         quiet = bytes_to-neither Notes Made Out (joined all) last refl refl;

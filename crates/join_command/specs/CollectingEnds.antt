@@ -48,11 +48,12 @@ collecting_ends = record { done = λ _. status.Ok; text = uncollected_text; stat
 
 -- what the made file took of bytes that are written to it, by what cut that off: a front and not all where it failed, and a front
 -- where memory was wanting
-abbrev pub TakesFile : {X : Type 0} → Result X Cut → List ℕ → (made made_then : Option (List ℕ)) → Type 0
-TakesFile (Ok x) file made made_then = Takes made made_then file
-TakesFile (Err cut.Made) file made made_then = TakesShort made made_then file
-TakesFile (Err cut.Memory) file made made_then = TakesFront made made_then file
-TakesFile (Err other) file made made_then = ⊥
+abbrev pub TakesAllOrFront : {X : Type 0} → Result X Cut → List ℕ
+    → (made made_then : Option (List ℕ)) → Type 0
+TakesAllOrFront (Ok x) file made made_then = Takes made made_then file
+TakesAllOrFront (Err cut.Made) file made made_then = TakesShort made made_then file
+TakesAllOrFront (Err cut.Memory) file made made_then = TakesFront made made_then file
+TakesAllOrFront (Err other) file made made_then = ⊥
 
 -- what it and standard output took of gathered records: the file, and the lines of where each record stands; where standard output
 -- failed, a front of the lines and not all; and else no lines
@@ -62,7 +63,7 @@ PutsGathered (Ok x) all made made_then out out_then =
 PutsGathered (Err cut.Out) all made made_then out out_then =
     Takes made made_then (collected_file all.records) × TakesShort out out_then (collected_lines all)
 PutsGathered {X} (Err cut) all made made_then out out_then =
-    TakesFile {X = X} (Err cut) (collected_file all.records) made made_then × (out_then ≡ out)
+    TakesAllOrFront {X = X} (Err cut) (collected_file all.records) made made_then × (out_then ≡ out)
 
 -- the records of files were gathered, and this was put of them
 abbrev pub AreGatheredAndPut : {X : Type 0} → Result X Cut → List (List ℕ) → (made made_then out out_then : Option (List ℕ)) → Type 0

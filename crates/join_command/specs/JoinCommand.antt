@@ -2,7 +2,7 @@
 use Rattle.std.specs.Prelude.{◌≡◌, ℕ, ◌+◌, ◌*◌, ◌≤◌, ◌⊎◌, true, Some, List, ◌++◌, length, map, slice_get, take}
 use Rattle.record_io.specs.Puts.{Put, Made, Out, Notes, puts_to}
 use Rattle.chunk_header.specs.Chunks.{ChunkValue}
-use Rattle.meta_chunk.specs.Files.{totals_of, IsFrame}
+use Rattle.meta_chunk.specs.Files.{totals_of, IsWellFormed}
 use Rattle.chunk_reader.specs.Faults.{HaveNoFault, IsFirstFault}
 use Rattle.chunk_reader.specs.declared.reasons.Fault.{Fault}
 use Rattle.record_join.specs.Joined.{joined, joined_at_most}
@@ -20,7 +20,7 @@ AreTogetherInReach sizes = joined_at_most sizes ≤ most_file_bytes
 pub record AreJoinedIn (files : List (List ℕ)) (answer : Answer) : Type 0 where
   pub without_fault : HaveNoFault true files
   pub chunks : List ChunkValue
-  pub frame : IsFrame chunks (joined files)
+  pub well_formed : IsWellFormed chunks (joined files)
   pub is : answer ≡ record { puts = puts_to Made (joined files) ++ puts_to Out (report (totals_of chunks)); status = status.Ok }
 
 -- one is the first with a fault: what those before it make, and the line of that

@@ -2,7 +2,7 @@
 use Rattle.std.specs.Prelude.{◌≡◌, ℕ, ◌⊎◌, true, Option, Result, Ok, Err, List, length, map}
 use Rattle.record_io.specs.Outside.{Takes, TakesShort}
 use Rattle.chunk_header.specs.Chunks.{ChunkValue}
-use Rattle.meta_chunk.specs.Files.{totals_of, IsFrame}
+use Rattle.meta_chunk.specs.Files.{totals_of, IsWellFormed}
 use Rattle.chunk_reader.specs.Faults.{HaveNoFault}
 use Rattle.record_join.specs.Joined.{joined}
 use Rattle.record_join.specs.Joins.{AreJoinedUpTo, IsFrontJoined, IsShortJoined}
@@ -39,7 +39,7 @@ joining_ends = record {
 -- all files were joined, and this of the report was printed
 abbrev pub AreReported : ((before after : Option (List ℕ)) → List ℕ → Type 0) → List (List ℕ) → (made made_then out out_then : Option (List ℕ)) → Type 0
 AreReported Prints files made made_then out out_then =
-    HaveNoFault true files × (chunks : List ChunkValue) × IsFrame chunks (joined files)
+    HaveNoFault true files × (chunks : List ChunkValue) × IsWellFormed chunks (joined files)
     × Takes made made_then (joined files) × Prints out out_then (report (totals_of chunks))
 
 -- what the made file and standard output took of files, by how it ended: nothing, unless it is said here

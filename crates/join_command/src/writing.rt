@@ -4,7 +4,7 @@ ghost use Rattle.record_io.specs.Calls.{OnlyCounts};
 ghost use Rattle.simple_chunk.specs.Costs.{cost_of};
 ghost use Rattle.record_collect.specs.Limits.{limit};
 ghost use Rattle.join_command.specs.CollectCommand.{collected_file};
-ghost use Rattle.join_command.specs.CollectingEnds.{PutsGathered, TakesFile};
+ghost use Rattle.join_command.specs.CollectingEnds.{PutsGathered, TakesAllOrFront};
 
 use crate::place_lines::put_places;
 use command_frame::DEFAULT_CHUNK_SIZE;
@@ -49,7 +49,7 @@ fn write_file<R: Threads + Sync, M: Sink + Send>(
     made: &mut M,
 ) -> Result<(), Cut>
     requires bounds { AllByRecursion (λ r. length r ≤ 2 ^ 24) records.now × (cost_of records.now ≤ limit) }
-    ensures put { TakesFile result (collected_file records.now) (M.taken made.old) (M.taken made.new) }
+    ensures put { TakesAllOrFront result (collected_file records.now) (M.taken made.old) (M.taken made.new) }
     ensures made { OnlyCounts M.lent M.faults (result ≡ Err Cut.Made) made.old made.new }
 {
     let options = WriteOptions {

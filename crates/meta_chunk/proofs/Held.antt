@@ -8,7 +8,7 @@ use Rattle.chunk_header.specs.Kinds.{simple_kind}
 use Rattle.chunk_header.specs.SimpleChunks.{IsSimpleChunk}
 use Rattle.chunk_header.proofs.OneList.{records_are_one}
 use Rattle.meta_chunk.specs.Kinds.{IsSignature}
-use Rattle.meta_chunk.specs.Files.{signature, IsPlain, IsUnread, IsFramed, Holds, HoldEach, AreRecordsOf}
+use Rattle.meta_chunk.specs.Files.{signature, IsPlain, IsUnread, IsWellFormedChunk, Holds, HoldEach, AreRecordsOf}
 use Rattle.meta_chunk.proofs.OneChunk.{same_chunk}
 
 -- the signature has the kind and keeps its rule
@@ -61,20 +61,20 @@ compressed : (k : ChunkValue) → get_or k.«data» 0 0 ≢ 0 → ¬ IsSimpleChu
 compressed k some (records, simple) = some (ap (λ (xs : List ℕ). get_or xs 0 0) simple.«data»)
 
 -- a chunk that is read or left unread holds a list of records
-Holds-framed : (k : ChunkValue) → IsFramed k → (records : List (List ℕ)) × Holds k records
-Holds-framed k (inl (small, inl (records, simple))) = (records, inl simple)
-Holds-framed k (inl (small, inr (inl is))) = ([], inr (no_records k 0x73 is.0 (λ same. omega arith), refl))
-Holds-framed k (inl (small, inr (inr (inl is)))) = ([], inr (no_records k 0x6d is.0 (λ same. omega arith), refl))
-Holds-framed k (inl (small, inr (inr (inr is)))) = ([], inr (no_records k 0x70 is.0 (λ same. omega arith), refl))
-Holds-framed k (inr (small, inl is)) = ([], inr (no_records k 0x74 is (λ same. omega arith), refl))
-Holds-framed k (inr (small, inr (is, some, other))) = ([], inr (compressed k other, refl))
+Holds-well_formed : (k : ChunkValue) → IsWellFormedChunk k → (records : List (List ℕ)) × Holds k records
+Holds-well_formed k (inl (small, inl (records, simple))) = (records, inl simple)
+Holds-well_formed k (inl (small, inr (inl is))) = ([], inr (no_records k 0x73 is.0 (λ same. omega arith), refl))
+Holds-well_formed k (inl (small, inr (inr (inl is)))) = ([], inr (no_records k 0x6d is.0 (λ same. omega arith), refl))
+Holds-well_formed k (inl (small, inr (inr (inr is)))) = ([], inr (no_records k 0x70 is.0 (λ same. omega arith), refl))
+Holds-well_formed k (inr (small, inl is)) = ([], inr (no_records k 0x74 is (λ same. omega arith), refl))
+Holds-well_formed k (inr (small, inr (is, some, other))) = ([], inr (compressed k other, refl))
 
 -- so do such chunks each
-pub HoldEach-framed : (ks : List ChunkValue) → AllByRecursion IsFramed ks → (lists : List (List (List ℕ))) × HoldEach ks lists
-HoldEach-framed [] h = ([], refl)
-HoldEach-framed (k ∷ ks) h =
-    let here = Holds-framed k h.0 in
-    let rest = HoldEach-framed ks h.1 in
+pub HoldEach-well_formed : (ks : List ChunkValue) → AllByRecursion IsWellFormedChunk ks → (lists : List (List (List ℕ))) × HoldEach ks lists
+HoldEach-well_formed [] h = ([], refl)
+HoldEach-well_formed (k ∷ ks) h =
+    let here = Holds-well_formed k h.0 in
+    let rest = HoldEach-well_formed ks h.1 in
     (here.0 ∷ rest.0, (here.1, rest.1))
 
 -- an unread chunk has no records

@@ -13,7 +13,7 @@ use Rattle.block_layout.proofs.ChunkEnds.{chunk_end_of_boundary, chunk_end_of-fe
 use Rattle.chunk_header.specs.Chunks.{ChunkValue, chunk_bytes}
 use Rattle.chunk_header.proofs.Lengths.{length-chunk_bytes}
 use Rattle.meta_chunk.specs.Laid.{IsLaid, end_of_chunk, laid}
-use Rattle.meta_chunk.specs.Files.{IsPlain, IsFile, AreLaid, laid_each}
+use Rattle.meta_chunk.specs.Files.{IsPlain, IsReadable, AreLaid, laid_each}
 use Rattle.meta_chunk.proofs.LaidChunks.{end-IsLaid, IsLaid-usable, end-laid, laid-usable, laid-header}
 
 -- a chunk that has no padding
@@ -120,7 +120,7 @@ plain_are_few [] h = tt
 plain_are_few (k ∷ ks) h = (IsPlain-few k h.0, plain_are_few ks h.1)
 
 -- so of such chunks there is one file, that of the laying with zero padding
-pub IsFile-plain : (ks : List ChunkValue) (file : List ℕ) → IsFile ks file → file ≡ laid_each 0 ks
-IsFile-plain ks file h =
+pub IsReadable-plain : (ks : List ChunkValue) (file : List ℕ) → IsReadable ks file → file ≡ laid_each 0 ks
+IsReadable-plain ks file h =
     sym (take_all (length file) file (omega arith))
     ∙ AreLaid-is 0 ks (take (length file) file) (inl refl) (plain_are_few ks h.1.each) h.1.laid

@@ -7,7 +7,7 @@ use Rattle.std.proofs.lemmas.List.{length-append, get_or_past}
 use Rattle.std.proofs.lemmas.List.Sums.{sum_by-cons}
 use Rattle.chunk_header.specs.Chunks.{ChunkValue}
 use Rattle.chunk_header.specs.SimpleChunks.{IsCompressed}
-use Rattle.meta_chunk.specs.Files.{IsPlain, IsTransposed, IsUnread, IsFramed, Holds, HoldEach, AreRecordsOf, is_unread, totals_of}
+use Rattle.meta_chunk.specs.Files.{IsPlain, IsTransposed, IsUnread, IsWellFormedChunk, Holds, HoldEach, AreRecordsOf, is_unread, totals_of}
 use Rattle.meta_chunk.proofs.Held.{plain_or_unread, Holds-counted, unread_records}
 
 -- what the test says of a chunk
@@ -40,13 +40,13 @@ plain_tested k plain =
       | inr failed ↦ failed
     ]
 
-pub is_unread-iff : (k : ChunkValue) → IsFramed k → IsTrue (is_unread k) ↔ IsUnread k
+pub is_unread-iff : (k : ChunkValue) → IsWellFormedChunk k → IsTrue (is_unread k) ↔ IsUnread k
 is_unread-iff k (inl plain) =
     (λ passed. absurd (both_ways (is_unread k) (plain_tested k plain) passed), λ unread. absurd (plain_or_unread k plain unread))
 is_unread-iff k (inr unread) = (λ passed. unread, λ unread. passes k unread.1)
 
 -- a chunk holds as many records as are counted of it
-Holds-counted_of : (k : ChunkValue) (records : List (List ℕ)) → IsFramed k → Holds k records
+Holds-counted_of : (k : ChunkValue) (records : List (List ℕ)) → IsWellFormedChunk k → Holds k records
     → (if is_unread k then 0 else k.num_records) ≡ length records
 Holds-counted_of k records (inl plain) held =
     cond-false (is_unread k) 0 k.num_records (plain_tested k plain) ∙ sym (Holds-counted k records plain held)
@@ -55,7 +55,7 @@ Holds-counted_of k records (inr unread) (inr (none, nothing)) =
     cond-true (is_unread k) 0 k.num_records (passes k unread.1) ∙ sym (ap length nothing)
 
 -- so chunks do
-HoldEach-counted : (ks : List ChunkValue) (lists : List (List (List ℕ))) → AllByRecursion IsFramed ks → HoldEach ks lists
+HoldEach-counted : (ks : List ChunkValue) (lists : List (List (List ℕ))) → AllByRecursion IsWellFormedChunk ks → HoldEach ks lists
     → (totals_of ks).records ≡ length (flat_map (λ held. held) lists)
 HoldEach-counted [] lists h g = ap (λ (xs : List (List (List ℕ))). length (flat_map (λ held. held) xs)) (sym g)
 HoldEach-counted (k ∷ ks) [] h g = elim g [ ]
@@ -66,6 +66,6 @@ HoldEach-counted (k ∷ ks) (records ∷ lists) h g =
     ∙ ap (λ (n : ℕ). length records + n) (HoldEach-counted ks lists h.1 g.1)
     ∙ sym (length-append records (flat_map (λ (held : List (List ℕ)). held) lists))
 
-pub AreRecordsOf-counted : (ks : List ChunkValue) (records : List (List ℕ)) → AllByRecursion IsFramed ks → AreRecordsOf ks records
+pub AreRecordsOf-counted : (ks : List ChunkValue) (records : List (List ℕ)) → AllByRecursion IsWellFormedChunk ks → AreRecordsOf ks records
     → (totals_of ks).records ≡ length records
 AreRecordsOf-counted ks records h (lists, g, joined) = HoldEach-counted ks lists h g ∙ ap length (sym joined)

@@ -35,8 +35,8 @@ abbrev pub IsUnread : ChunkValue → Type 0
 IsUnread k = (length k.«data» ≤ max_data_size) × (IsTransposed k ⊎ IsCompressed k)
 
 -- a chunk that is read or left unread
-abbrev pub IsFramed : ChunkValue → Type 0
-IsFramed k = IsPlain k ⊎ IsUnread k
+abbrev pub IsWellFormedChunk : ChunkValue → Type 0
+IsWellFormedChunk k = IsPlain k ⊎ IsUnread k
 
 -- the bytes are those of the chunks, each laid where the one before ends
 abbrev pub AreLaid : ℕ → List ChunkValue → List ℕ → Type 0
@@ -61,12 +61,12 @@ abbrev pub IsFileOf : (ChunkValue → Type 0) → List ChunkValue → List ℕ �
 IsFileOf P ks file = (ks ≢ []) × IsChainOf P ks file (length file)
 
 -- plain chunks alone
-abbrev pub IsFile : List ChunkValue → List ℕ → Type 0
-IsFile = IsFileOf IsPlain
+abbrev pub IsReadable : List ChunkValue → List ℕ → Type 0
+IsReadable = IsFileOf IsPlain
 
 -- plain and unread chunks
-abbrev pub IsFrame : List ChunkValue → List ℕ → Type 0
-IsFrame = IsFileOf IsFramed
+abbrev pub IsWellFormed : List ChunkValue → List ℕ → Type 0
+IsWellFormed = IsFileOf IsWellFormedChunk
 
 -- the records that a chunk holds: a simple chunk its own, and every other chunk none
 abbrev pub Holds : ChunkValue → List (List ℕ) → Type 0

@@ -6,8 +6,8 @@ ghost use Rattle.std.specs.Prelude.{◌≡◌, IsTrue, ℕ, ◌+◌, ◌-◌, �
 ghost use Rattle.block_layout.specs.BlockHeaders.{block_header};
 ghost use Rattle.block_layout.specs.Layout.{block_size, block_header_size, chunk_header_size, IsBlock, IsBoundary, usable_bytes, usable_bytes_at};
 ghost use Rattle.chunk_header.specs.Chunks.{ChunkValue, IsChunk, header_size, header_bytes, chunk_bytes};
-ghost use Rattle.meta_chunk.specs.Files.{is_unread, totals_of, signature, signature_bytes, IsPlain, IsUnread, IsFramed, Holds, HoldEach, AreRecordsOf, ArePlaced, AreLaid, IsFile, begin_of, end_of_chunks, laid_each};
-ghost use Rattle.meta_chunk.specs.Chains.{IsChain, IsFrameChain};
+ghost use Rattle.meta_chunk.specs.Files.{is_unread, totals_of, signature, signature_bytes, IsPlain, IsUnread, IsWellFormedChunk, Holds, HoldEach, AreRecordsOf, ArePlaced, AreLaid, IsReadable, begin_of, end_of_chunks, laid_each};
+ghost use Rattle.meta_chunk.specs.Chains.{IsReadableChain, IsWellFormedChain};
 ghost use Rattle.meta_chunk.specs.Kinds.{IsSignature, IsPadding};
 ghost use Rattle.meta_chunk.specs.Laid.{IsLaid, end_of_chunk, laid};
 ghost use Rattle.meta_chunk.specs.PaddingSizes.{padding, padding_size_of, padding_at};
@@ -44,7 +44,8 @@ pub fn laid_without_padding_is_one()
         → IsLaid begin k bytes
         → bytes ≡ laid begin k }
     ensures plain { (k : ChunkValue) → IsPlain k → k.num_records ≤ chunk_header_size + length k.«data» }
-    ensures file { (ks : List ChunkValue) (file : List ℕ) → IsFile ks file → file ≡ laid_each 0 ks }
+    ensures file { (ks : List ChunkValue) (file : List ℕ) → IsReadable ks file
+        → file ≡ laid_each 0 ks }
 {}
 
 /// The bytes of chunks one after another, with zero padding, are bytes of those chunks. Own.
@@ -147,11 +148,11 @@ pub fn chains_are_one()
         → place ≤ length file → AreLaid 0 ks (take place file)
         → AreLaid 0 (take n ks) (take (begin_of ks n) file) }
     ensures chain { (n : ℕ) (ks : List ChunkValue) (file : List ℕ) (place : ℕ)
-        → IsChain ks file place → IsChain (take n ks) file (begin_of ks n) }
-    ensures frame_chain { (n : ℕ) (ks : List ChunkValue) (file : List ℕ) (place : ℕ)
-        → IsFrameChain ks file place → IsFrameChain (take n ks) file (begin_of ks n) }
-    ensures framed { (ks : List ChunkValue) (file : List ℕ) (place : ℕ)
-        → IsChain ks file place → IsFrameChain ks file place }
+        → IsReadableChain ks file place → IsReadableChain (take n ks) file (begin_of ks n) }
+    ensures well_formed_chain { (n : ℕ) (ks : List ChunkValue) (file : List ℕ) (place : ℕ)
+        → IsWellFormedChain ks file place → IsWellFormedChain (take n ks) file (begin_of ks n) }
+    ensures well_formed { (ks : List ChunkValue) (file : List ℕ) (place : ℕ)
+        → IsReadableChain ks file place → IsWellFormedChain ks file place }
     ensures more { (ks more : List ChunkValue) (file : List ℕ) (place further : ℕ)
         → place ≤ further → further ≤ length file
         → AreLaid 0 ks (take place file) → AreLaid place more (slice_range file place further)
@@ -188,7 +189,7 @@ pub fn padding_ends_at_a_block()
 pub fn records_of_chunks_are_one()
     ensures apart { (k : ChunkValue) → IsUnread k → ¬ IsPlain k }
     ensures held { (ks : List ChunkValue)
-        → AllByRecursion IsFramed ks → (lists : List (List (List ℕ))) × HoldEach ks lists }
+        → AllByRecursion IsWellFormedChunk ks → (lists : List (List (List ℕ))) × HoldEach ks lists }
     ensures one_each { (ks : List ChunkValue) (a b : List (List (List ℕ)))
         → HoldEach ks a → HoldEach ks b → a ≡ b }
     ensures one { (ks : List ChunkValue) (a b : List (List ℕ))
@@ -214,9 +215,10 @@ pub fn positions_rise()
 /// The totals of plain and unread chunks count those that are unread, the records that they hold, and the bytes up
 /// to where they end. Own.
 pub fn totals_are_counted()
-    ensures unread { (k : ChunkValue) → IsFramed k → IsTrue (is_unread k) ↔ IsUnread k }
+    ensures unread { (k : ChunkValue) → IsWellFormedChunk k → IsTrue (is_unread k) ↔ IsUnread k }
     ensures records { (ks : List ChunkValue) (records : List (List ℕ))
-        → AllByRecursion IsFramed ks → AreRecordsOf ks records → (totals_of ks).records ≡ length records }
+        → AllByRecursion IsWellFormedChunk ks → AreRecordsOf ks records
+        → (totals_of ks).records ≡ length records }
     ensures bytes { (ks : List ChunkValue) (file : List ℕ) (place : ℕ)
         → place ≤ length file → AreLaid 0 ks (take place file) → (totals_of ks).bytes ≡ place }
 {}

@@ -10,7 +10,7 @@ use Rattle.block_layout.specs.Layout.{IsBlock, IsBoundary}
 use Rattle.record_values.specs.declared.file_totals.Totals.{Totals}
 use Rattle.chunk_header.specs.Chunks.{ChunkValue}
 use Rattle.chunk_header.specs.SimpleChunks.{IsSimpleChunk}
-use Rattle.meta_chunk.specs.Files.{is_unread, totals_of, AreLaid, AreRecordsOf, BeginsSigned, IsFileOf, IsFrame, IsPlain, end_of_chunks}
+use Rattle.meta_chunk.specs.Files.{is_unread, totals_of, AreLaid, AreRecordsOf, BeginsSigned, IsFileOf, IsWellFormed, IsPlain, end_of_chunks}
 use Rattle.meta_chunk.specs.Kinds.{IsPadding}
 use Rattle.meta_chunk.specs.PaddingSizes.{padding_at}
 use Rattle.meta_chunk.proofs.Begins.{end_of_chunks_boundary}
@@ -137,7 +137,7 @@ same_totals t u chunks records bytes unread =
     ∙ ap (λ (n : ℕ). record { chunks = u.chunks; records = u.records; bytes = n; unread = t.unread }) bytes
     ∙ ap (λ (n : ℕ). record { chunks = u.chunks; records = u.records; bytes = u.bytes; unread = n }) unread
 
-pub totals-joined : (ks more : List ChunkValue) (file : List ℕ) → IsFrame ks file
+pub totals-joined : (ks more : List ChunkValue) (file : List ℕ) → IsWellFormed ks file
     → totals_of (ks ++ padding_at (length file) ++ more) ≡ record {
       chunks = (totals_of ks).chunks + length (padding_at (length file)) + (totals_of more).chunks;
       records = (totals_of ks).records + (totals_of more).records;

@@ -8,7 +8,7 @@ ghost use Rattle.chunk_header.specs.Views.{HasRightHash, IsHeaderOf, value_of_ch
 ghost use Rattle.chunk_header.specs.declared.Chunk.{Chunk};
 ghost use Rattle.chunk_header.specs.declared.Header.{Header};
 ghost use Rattle.meta_chunk.specs.Laid.{IsLaid, end_of_chunk, laid};
-ghost use Rattle.meta_chunk.specs.Files.{totals_of, AreLaid, AreRecordsOf, IsFile, IsFrame, end_of_chunks, laid_each};
+ghost use Rattle.meta_chunk.specs.Files.{totals_of, AreLaid, AreRecordsOf, IsReadable, IsWellFormed, end_of_chunks, laid_each};
 ghost use Rattle.meta_chunk.specs.PaddingSizes.{padding_at};
 ghost use Rattle.ordered_writer.specs.Reorders.{CanHold, CanHoldEach, HasEachFrom, Reordering, coming, count_held, held_at, moved_on, room_of, with_each, with_held};
 ghost use Rattle.ordered_writer.specs.Writers.{laid_as, laid_with};
@@ -52,21 +52,22 @@ pub fn laying_moves_by_blocks()
 /// A file of chunks, the padding at its end, and another file behind that are one file, of the chunks of both and the
 /// padding between them. It has the records of both, and its totals are those of both with the padding chunk. Own.
 pub fn files_are_joined_at_blocks()
-    ensures boundary { (ks : List ChunkValue) (file : List ℕ) → IsFrame ks file → IsBoundary (length file) }
-    ensures frame { (ks more : List ChunkValue) (file other : List ℕ)
-        → IsFrame ks file → IsFrame more other
-        → IsFrame (ks ++ padding_at (length file) ++ more) (file ++ padding_bytes (length file) ++ other) }
+    ensures boundary { (ks : List ChunkValue) (file : List ℕ) → IsWellFormed ks file
+        → IsBoundary (length file) }
+    ensures well_formed { (ks more : List ChunkValue) (file other : List ℕ)
+        → IsWellFormed ks file → IsWellFormed more other
+        → IsWellFormed (ks ++ padding_at (length file) ++ more) (file ++ padding_bytes (length file) ++ other) }
     ensures file { (ks more : List ChunkValue) (file other : List ℕ)
-        → IsFile ks file → IsFile more other
-        → IsFile (ks ++ padding_at (length file) ++ more) (file ++ padding_bytes (length file) ++ other) }
+        → IsReadable ks file → IsReadable more other
+        → IsReadable (ks ++ padding_at (length file) ++ more) (file ++ padding_bytes (length file) ++ other) }
     ensures size { (ks : List ChunkValue) (file other : List ℕ)
-        → IsFrame ks file
+        → IsWellFormed ks file
         → length (file ++ padding_bytes (length file) ++ other) ≡ end_of_chunks (length file) (padding_at (length file)) + length other }
     ensures records { (ks more : List ChunkValue) (a b : List (List ℕ)) (place : ℕ)
         → IsBoundary place → AreRecordsOf ks a → AreRecordsOf more b
         → AreRecordsOf (ks ++ padding_at place ++ more) (a ++ b) }
     ensures totals { (ks more : List ChunkValue) (file : List ℕ)
-        → IsFrame ks file
+        → IsWellFormed ks file
         → totals_of (ks ++ padding_at (length file) ++ more) ≡ record {
           chunks = (totals_of ks).chunks + length (padding_at (length file)) + (totals_of more).chunks;
           records = (totals_of ks).records + (totals_of more).records;

@@ -4,7 +4,7 @@ use Rattle.std.proofs.lemmas.List.{length-take-le, take_all}
 use Rattle.std.proofs.lemmas.List.Elements.{All-append, All-from_recursion, All-weaker, recursion_from_All}
 use Rattle.record_values.specs.Bytes.{AreBytes}
 use Rattle.chunk_header.specs.Chunks.{ChunkValue}
-use Rattle.meta_chunk.specs.Files.{AreLaid, AreRecordsOf, IsChainOf, IsFrame, IsFramed, IsPlain, end_of_chunks}
+use Rattle.meta_chunk.specs.Files.{AreLaid, AreRecordsOf, IsChainOf, IsWellFormed, IsWellFormedChunk, IsPlain, end_of_chunks}
 use Rattle.meta_chunk.specs.Laid.{end_of_chunk}
 use Rattle.meta_chunk.proofs.Chains.{IsChainOf-weaker}
 use Rattle.meta_chunk.proofs.Held.{AreRecordsOf-append}
@@ -12,7 +12,7 @@ use Rattle.meta_chunk.proofs.Joins.{AreLaid-append, end-AreLaid, end_of_chunks_p
 use Rattle.meta_chunk.proofs.LaidChunks.{end_of_chunk_after}
 use Rattle.record_group.specs.Groups.{file_of}
 use Rattle.record_group.specs.Records.{AreRecords}
-use Rattle.record_group.proofs.RecordFiles.{AreLaid-record_chunks, AreRecordsOf-chunks_of, AreRecordsOf-record_chunks, IsFile-file_of, IsPlain-record_chunks}
+use Rattle.record_group.proofs.RecordFiles.{AreLaid-record_chunks, AreRecordsOf-chunks_of, AreRecordsOf-record_chunks, IsReadable-file_of, IsPlain-record_chunks}
 use Rattle.chunk_reader.specs.Faults.{BeginsWithSignature, HasNoFault, IsFault}
 use Rattle.chunk_reader.specs.declared.reasons.Fault.{Fault}
 use Rattle.chunk_reader.proofs.ChainReads.{no_further_unsigned}
@@ -28,8 +28,8 @@ pub kept_once : (file : List ℕ) (a b : ℕ) → IsKeptTo file a → IsKeptTo f
 kept_once file a b (ks, longest) (ls, also) = longest_is_one ks ls file a b longest also
 
 -- a well-formed file is kept whole, and an empty one or another without chunks at its front up to 0
-pub kept_whole : (ks : List ChunkValue) (file : List ℕ) → IsFrame ks file → IsKeptTo file (length file)
-kept_whole ks file h = (ks, longest_where_whole IsFramed ks file h.1)
+pub kept_whole : (ks : List ChunkValue) (file : List ℕ) → IsWellFormed ks file → IsKeptTo file (length file)
+kept_whole ks file h = (ks, longest_where_whole IsWellFormedChunk ks file h.1)
 
 kept_nowhere : (file : List ℕ) → ¬ BeginsWithSignature file → IsKeptTo file 0
 kept_nowhere file unsigned =
@@ -44,7 +44,7 @@ pub kept_somewhere : (file : List ℕ) → AreBytes file → (place : ℕ) × Is
 kept_somewhere file bytes = kept_by file (file_judged true file bytes)
 
 -- neither is refused
-pub taken_whole : (cut : Bool) (ks : List ChunkValue) (file : List ℕ) → IsFrame ks file → IsUnrefused cut file
+pub taken_whole : (cut : Bool) (ks : List ChunkValue) (file : List ℕ) → IsWellFormed ks file → IsUnrefused cut file
 taken_whole cut ks file h = λ fault refused. fault_or_none true file fault refused.is_fault (ks, h)
 
 pub empty_taken : (cut : Bool) → IsKeptTo [] 0 × IsUnrefused cut []
@@ -68,8 +68,8 @@ nothing_kept cut (b ∷ rest) bytes taken kept = absurd (nothing_by cut b rest (
 
 -- chunks up to a place, and those of records laid behind them
 behind_chain : (options : WriteOptions) (file : List ℕ) (place : ℕ) (k : ChunkValue) (ks : List ChunkValue) (records : List (List ℕ))
-    → options.size ≤ 2 ^ 24 → AreRecords records → IsChainOf IsFramed (k ∷ ks) file place
-    → IsFrame ((k ∷ ks) ++ tail_chunks options place records) (take place file ++ tail_under options place records)
+    → options.size ≤ 2 ^ 24 → AreRecords records → IsChainOf IsWellFormedChunk (k ∷ ks) file place
+    → IsWellFormed ((k ∷ ks) ++ tail_chunks options place records) (take place file ++ tail_under options place records)
 behind_chain options file place k ks records small each h =
     let old : List ChunkValue = k ∷ ks in
     let tail : List ChunkValue = tail_chunks options place records in
@@ -82,9 +82,9 @@ behind_chain options file place k ks records small each h =
       λ none. absurd cc,
       record {
         signed = h.signed;
-        each = recursion_from_All IsFramed (old ++ tail)
-            (All-append IsFramed old tail (All-from_recursion IsFramed old h.each)
-            (All-weaker IsPlain IsFramed (λ x is. inl is) tail (All-from_recursion IsPlain tail plain)));
+        each = recursion_from_All IsWellFormedChunk (old ++ tail)
+            (All-append IsWellFormedChunk old tail (All-from_recursion IsWellFormedChunk old h.each)
+            (All-weaker IsPlain IsWellFormedChunk (λ x is. inl is) tail (All-from_recursion IsPlain tail plain)));
         within = omega arith;
         laid = subst (AreLaid 0 (old ++ tail)) (sym (take_all (length whole) whole (omega arith)))
             (AreLaid-append 0 old tail (take place file) back h.laid (subst (λ (p : ℕ). AreLaid p tail back) end laid));
@@ -92,7 +92,7 @@ behind_chain options file place k ks records small each h =
     )
 
 -- no chunk ends at 0
-none_at_front : (file : List ℕ) (k : ChunkValue) (ks : List ChunkValue) → IsChainOf IsFramed (k ∷ ks) file 0 → ⊥
+none_at_front : (file : List ℕ) (k : ChunkValue) (ks : List ChunkValue) → IsChainOf IsWellFormedChunk (k ∷ ks) file 0 → ⊥
 none_at_front file k ks h =
     omega (
       arith,
@@ -103,29 +103,29 @@ none_at_front file k ks h =
     )
 
 first_file : (options : WriteOptions) (records : List (List ℕ)) → options.size ≤ 2 ^ 24 → AreRecords records
-    → IsFrame (chunks_at options 0 records) (bytes_at options 0 records)
+    → IsWellFormed (chunks_at options 0 records) (bytes_at options 0 records)
 unfolding file_of
 first_file options records small each =
-    let is = IsFile-file_of records options.size options.every options.pad each small in
+    let is = IsReadable-file_of records options.size options.every options.pad each small in
     (is.0, IsChainOf-weaker (λ k plain. inl plain) is.1)
 
-pub grown_frame : (options : WriteOptions) (file : List ℕ) (place : ℕ) (ks : List ChunkValue) (records : List (List ℕ))
-    → options.size ≤ 2 ^ 24 → AreRecords records → IsChainOf IsFramed ks file place
-    → IsFrame (ks ++ chunks_at options place records) (grown options file place records)
-grown_frame options file zero [] records small each h = first_file options records small each
-grown_frame options file zero (k ∷ ks) records small each h = absurd (none_at_front file k ks h)
-grown_frame options file (suc n) [] records small each h = absurd (omega (arith, no_chunks file (suc n) h))
-grown_frame options file (suc n) (k ∷ ks) records small each h = behind_chain options file (suc n) k ks records small each h
+pub grown_well_formed : (options : WriteOptions) (file : List ℕ) (place : ℕ) (ks : List ChunkValue) (records : List (List ℕ))
+    → options.size ≤ 2 ^ 24 → AreRecords records → IsChainOf IsWellFormedChunk ks file place
+    → IsWellFormed (ks ++ chunks_at options place records) (grown options file place records)
+grown_well_formed options file zero [] records small each h = first_file options records small each
+grown_well_formed options file zero (k ∷ ks) records small each h = absurd (none_at_front file k ks h)
+grown_well_formed options file (suc n) [] records small each h = absurd (omega (arith, no_chunks file (suc n) h))
+grown_well_formed options file (suc n) (k ∷ ks) records small each h = behind_chain options file (suc n) k ks records small each h
 
 -- and their records
 records_laid : (options : WriteOptions) (file : List ℕ) (place : ℕ) (ks : List ChunkValue) (records : List (List ℕ))
-    → options.size ≤ 2 ^ 24 → AreRecords records → IsChainOf IsFramed ks file place → AreRecordsOf (chunks_at options place records) records
+    → options.size ≤ 2 ^ 24 → AreRecords records → IsChainOf IsWellFormedChunk ks file place → AreRecordsOf (chunks_at options place records) records
 records_laid options file zero ks records small each h = AreRecordsOf-chunks_of records options.size options.every options.pad each small
 records_laid options file (suc n) ks records small each h =
     AreRecordsOf-record_chunks (suc n) records options.size options.every options.pad (chain_boundary ks file (suc n) h) each small
 
 pub grown_records : (options : WriteOptions) (file : List ℕ) (place : ℕ) (ks : List ChunkValue) (old records : List (List ℕ))
-    → options.size ≤ 2 ^ 24 → AreRecords records → IsChainOf IsFramed ks file place → AreRecordsOf ks old
+    → options.size ≤ 2 ^ 24 → AreRecords records → IsChainOf IsWellFormedChunk ks file place → AreRecordsOf ks old
     → AreRecordsOf (ks ++ chunks_at options place records) (old ++ records)
 grown_records options file place ks old records small each h held =
     AreRecordsOf-append ks (chunks_at options place records) old records held (records_laid options file place ks records small each h)

@@ -2,9 +2,9 @@
 use Rattle.std.proofs.Common.{◌≡◌, ◌≢◌, ◌∙◌, ℕ, ◌<◌, ◌≤◌, Bool, true, Option, Some, None, IfSome, Result, Err, ◌⊎◌, List, [], ◌∷◌, length, refl, ap, subst, inl, inr, arith}
 use Rattle.std.specs.Prelude.{MatchOption}
 use Rattle.chunk_header.specs.Chunks.{ChunkValue}
-use Rattle.meta_chunk.specs.Files.{IsFrame}
+use Rattle.meta_chunk.specs.Files.{IsWellFormed}
 use Rattle.chunk_reader.specs.Faults.{IsFault}
-use Rattle.chunk_reader.specs.Fronts.{IsFrontOf}
+use Rattle.chunk_reader.specs.LongestFronts.{IsFrontOf}
 use Rattle.chunk_reader.specs.declared.reasons.Fault.{Fault}
 use Rattle.chunk_reader.specs.declared.reasons.VerifyEnd.{VerifyEnd}
 use Rattle.chunk_reader.specs.declared.reasons.VerifyEnd.TheVariants as verify
@@ -27,9 +27,9 @@ some_bytes (b ∷ bytes) some = omega arith
 
 -- a file is taken whose fault, if it has one, refuses it only where it is empty
 taken_by : (cut : Bool) (file : List ℕ) (ks : List ChunkValue) (fault : Option Fault)
-    → MatchOption fault (IsFrame ks file) (IsFault true file)
+    → MatchOption fault (IsWellFormed ks file) (IsFault true file)
     → IfSome fault (λ own. 0 < length file → ¬ RefusesFor cut own.why) → IsUnrefused cut file
-taken_by cut file ks None frame none = λ fault refused. fault_or_none true file fault refused.is_fault (ks, frame)
+taken_by cut file ks None well_formed none = λ fault refused. fault_or_none true file fault refused.is_fault (ks, well_formed)
 taken_by cut file ks (Some own) is none =
     λ fault refused.
     none (some_bytes file refused.some)
@@ -65,7 +65,7 @@ pub refused_front : (cut : Bool) (bytes : Option (List ℕ)) (size : ℕ) (front
 refused_front cut None size front fault sized is (own, some, reason) = tt
 refused_front cut (Some file) size front fault sized is (own, some, reason) = record {
   some = λ none. omega (arith, sized, ap length none);
-  is_fault = subst (λ (o : Option Fault). MatchOption o (IsFrame is.ks file) (IsFault true file)) own is.fault;
+  is_fault = subst (λ (o : Option Fault). MatchOption o (IsWellFormed is.ks file) (IsFault true file)) own is.fault;
   reason = reason;
 }
 

@@ -3,8 +3,8 @@
 ghost use Rattle.std.specs.Prelude.{◌≡◌, ℕ, ◌^◌, ◌≤◌, Bool, List, [], ◌++◌, length};
 ghost use Rattle.record_values.specs.Bytes.{AreBytes};
 ghost use Rattle.chunk_header.specs.Chunks.{ChunkValue};
-ghost use Rattle.meta_chunk.specs.Files.{AreRecordsOf, IsFrame};
-ghost use Rattle.meta_chunk.specs.Chains.{IsFrameChain};
+ghost use Rattle.meta_chunk.specs.Files.{AreRecordsOf, IsWellFormed};
+ghost use Rattle.meta_chunk.specs.Chains.{IsWellFormedChain};
 ghost use Rattle.record_group.specs.Records.{AreRecords};
 ghost use Rattle.record_writer.specs.declared.options.WriteOptions.{WriteOptions};
 ghost use Rattle.record_append.specs.Grown.{IsKeptTo, IsUnrefused, chunks_at, grown};
@@ -14,8 +14,10 @@ ghost use Rattle.record_append.specs.Grown.{IsKeptTo, IsUnrefused, chunks_at, gr
 pub fn old_files_are_kept_up_to_one_place()
     ensures one { (file : List ℕ) (a b : ℕ) → IsKeptTo file a → IsKeptTo file b → a ≡ b }
     ensures some { (file : List ℕ) → AreBytes file → (place : ℕ) × IsKeptTo file place }
-    ensures whole { (ks : List ChunkValue) (file : List ℕ) → IsFrame ks file → IsKeptTo file (length file) }
-    ensures taken { (cut : Bool) (ks : List ChunkValue) (file : List ℕ) → IsFrame ks file → IsUnrefused cut file }
+    ensures whole { (ks : List ChunkValue) (file : List ℕ) → IsWellFormed ks file
+        → IsKeptTo file (length file) }
+    ensures taken { (cut : Bool) (ks : List ChunkValue) (file : List ℕ) → IsWellFormed ks file
+        → IsUnrefused cut file }
     ensures empty { (cut : Bool) → IsKeptTo [] 0 × IsUnrefused cut [] }
     ensures nothing { (cut : Bool) (file : List ℕ) → AreBytes file → IsUnrefused cut file → IsKeptTo file 0 → file ≡ [] }
 {}
@@ -23,10 +25,12 @@ pub fn old_files_are_kept_up_to_one_place()
 /// A grown file is one of the chunks that are kept of the old one and then those of the records, and holds the records of these
 /// and then the new ones. Own.
 pub fn grown_files_are_of_old_and_new_chunks()
-    ensures frame { (options : WriteOptions) (file : List ℕ) (place : ℕ) (ks : List ChunkValue) (records : List (List ℕ))
-        → options.size ≤ 2 ^ 24 → AreRecords records → IsFrameChain ks file place
-        → IsFrame (ks ++ chunks_at options place records) (grown options file place records) }
+    ensures well_formed { (options : WriteOptions) (file : List ℕ) (place : ℕ)
+        (ks : List ChunkValue) (records : List (List ℕ))
+        → options.size ≤ 2 ^ 24 → AreRecords records → IsWellFormedChain ks file place
+        → IsWellFormed (ks ++ chunks_at options place records) (grown options file place records) }
     ensures records { (options : WriteOptions) (file : List ℕ) (place : ℕ) (ks : List ChunkValue) (old records : List (List ℕ))
-        → options.size ≤ 2 ^ 24 → AreRecords records → IsFrameChain ks file place → AreRecordsOf ks old
+        → options.size ≤ 2 ^ 24 → AreRecords records → IsWellFormedChain ks file place
+        → AreRecordsOf ks old
         → AreRecordsOf (ks ++ chunks_at options place records) (old ++ records) }
 {}

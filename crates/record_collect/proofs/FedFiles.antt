@@ -38,40 +38,40 @@ taken-fresh (Some file) totals pass none fresh =
 
 -- one chunk more
 pub taken-more : (bytes : Option (List ℕ)) (before after : ReaderValue) (j : Judged) (held : List (List ℕ)) (part more : Coverage) (old new : PassValue)
-    → before.keep ≡ false → IsNextChunk bytes before after j → Holds (value_of_chunk j.chunk) held → TakesOn part old more new held
+    → before.unread_ok ≡ false → IsNextChunk bytes before after j → Holds (value_of_chunk j.chunk) held → TakesOn part old more new held
     → IfSome bytes (λ file. IsTakenSoFar file before.totals part old → IsTakenSoFar file after.totals more new)
 taken-more None before after j held part more old new strict h holds takes = tt
 taken-more (Some file) before after j held part more old new strict h holds takes =
     λ s.
     let k : ChunkValue = value_of_chunk j.chunk in
-    let chain = subst (λ (keep : Bool). IsChainOf (IsAllowed keep) s.chunks file before.totals.bytes) (sym strict) s.chain in
+    let chain = subst (λ (unread_ok : Bool). IsChainOf (IsAllowed unread_ok) s.chunks file before.totals.bytes) (sym strict) s.chain in
     let on = h.given s.chunks chain s.counted in
     record {
       chunks = s.chunks ++ k ∷ [];
       records = s.records ++ held;
-      chain = subst (λ (keep : Bool). IsChainOf (IsAllowed keep) (s.chunks ++ k ∷ []) file after.totals.bytes) strict on.0;
+      chain = subst (λ (unread_ok : Bool). IsChainOf (IsAllowed unread_ok) (s.chunks ++ k ∷ []) file after.totals.bytes) strict on.0;
       counted = on.1;
       are = AreRecordsOf-append s.chunks (k ∷ []) s.records held s.are (records_of_one k held holds);
       has = takes.behind s.records s.has;
     }
 
 -- and the whole file
-pub taken-whole : (bytes now : Option (List ℕ)) (at : ReaderValue) (part : Coverage) (pass : PassValue) → now ≡ bytes → at.keep ≡ false → IsReadWhole now at
+pub taken-whole : (bytes now : Option (List ℕ)) (at : ReaderValue) (part : Coverage) (pass : PassValue) → now ≡ bytes → at.unread_ok ≡ false → IsReadWhole now at
     → IfSome bytes (λ file. IsTakenSoFar file at.totals part pass) → IfSome bytes (λ file. IsTakenOf file part pass)
 taken-whole None now at part pass same strict h s = tt
 taken-whole (Some file) now at part pass same strict h s =
     let whole = (subst (λ (b : Option (List ℕ)). IsReadWhole b at) same h).whole in
-    let chain = subst (λ (keep : Bool). IsChainOf (IsAllowed keep) s.chunks file at.totals.bytes) (sym strict) s.chain in
+    let chain = subst (λ (unread_ok : Bool). IsChainOf (IsAllowed unread_ok) s.chunks file at.totals.bytes) (sym strict) s.chain in
     record {
       chunks = s.chunks;
       records = s.records;
-      is_file = subst (λ (keep : Bool). IsFileOf (IsAllowed keep) s.chunks file) strict (whole s.chunks chain);
+      is_file = subst (λ (unread_ok : Bool). IsFileOf (IsAllowed unread_ok) s.chunks file) strict (whole s.chunks chain);
       are = s.are;
       has = s.has;
     }
 
 -- a fault that the reader tells is that of the file
-pub refused-file : (bytes : Option (List ℕ)) (at : ReaderValue) (fault : Fault) → at.keep ≡ false → IsFaultBehind bytes at fault
+pub refused-file : (bytes : Option (List ℕ)) (at : ReaderValue) (fault : Fault) → at.unread_ok ≡ false → IsFaultBehind bytes at fault
     → IfSome bytes (λ file. IsFault false file fault)
 refused-file None at fault strict h = tt
-refused-file (Some file) at fault strict h = subst (λ (keep : Bool). IsFault keep file fault) strict h.is_fault
+refused-file (Some file) at fault strict h = subst (λ (unread_ok : Bool). IsFault unread_ok file fault) strict h.is_fault

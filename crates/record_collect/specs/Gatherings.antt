@@ -5,7 +5,7 @@ use Rattle.std.specs.List.Sorted.{IsStrictlyIncreasing}
 use Rattle.chunk_header.specs.Chunks.{ChunkValue}
 use Rattle.simple_chunk.specs.Costs.{cost_of}
 use Rattle.number_shares.specs.Once.{HasEachBelow}
-use Rattle.meta_chunk.specs.Files.{IsFile, AreRecordsOf}
+use Rattle.meta_chunk.specs.Files.{IsReadable, AreRecordsOf}
 use Rattle.record_collect.specs.Limits.{limit}
 
 -- the records in one list, and for each pass the numbers at which its records stand there
@@ -31,7 +31,9 @@ pub record AreWoven (lists : List (List (List ℕ))) (records : List (List ℕ))
 
 -- these are the records of each file, which has no fault
 abbrev pub AreRecordsOfEach : List (List ℕ) → List (List (List ℕ)) → Type 0
-AreRecordsOfEach files lists = AllZip (λ file list. (ks : List ChunkValue) × IsFile ks file × AreRecordsOf ks list) files lists
+AreRecordsOfEach files lists =
+    AllZip (λ file list. (ks : List ChunkValue) × IsReadable ks file
+    × AreRecordsOf ks list) files lists
 
 -- the files have no fault, and their records are woven into one list, of bounded records and cost
 pub record AreGatheredOf (files : List (List ℕ)) (made : GatheredValue) : Type 0 where

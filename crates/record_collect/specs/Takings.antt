@@ -5,8 +5,8 @@ use Rattle.record_values.specs.declared.file_totals.Totals.{Totals}
 use Rattle.record_io.specs.Calls.{OnlyAsks}
 use Rattle.record_io.specs.ManyStores.{AreTold}
 use Rattle.chunk_header.specs.Chunks.{ChunkValue}
-use Rattle.meta_chunk.specs.Files.{totals_of, IsFile, AreRecordsOf}
-use Rattle.meta_chunk.specs.Chains.{IsChain}
+use Rattle.meta_chunk.specs.Files.{totals_of, IsReadable, AreRecordsOf}
+use Rattle.meta_chunk.specs.Chains.{IsReadableChain}
 use Rattle.simple_chunk.specs.Costs.{cost}
 use Rattle.chunk_reader.specs.Faults.{IsFault}
 use Rattle.chunk_reader.specs.declared.reasons.Fault.{Fault}
@@ -35,7 +35,7 @@ pub record TakesOn (before : Coverage) (old : PassValue) (after : Coverage) (new
 pub record IsTakenSoFar (file : List ℕ) (totals : Totals) (part : Coverage) (pass : PassValue) : Type 0 where
   pub chunks : List ChunkValue
   pub records : List (List ℕ)
-  pub chain : IsChain chunks file totals.bytes
+  pub chain : IsReadableChain chunks file totals.bytes
   pub counted : totals ≡ totals_of chunks
   pub are : AreRecordsOf chunks records
   pub has : HasAccepted part pass records
@@ -44,7 +44,7 @@ pub record IsTakenSoFar (file : List ℕ) (totals : Totals) (part : Coverage) (p
 pub record IsTakenOf (file : List ℕ) (part : Coverage) (pass : PassValue) : Type 0 where
   pub chunks : List ChunkValue
   pub records : List (List ℕ)
-  pub is_file : IsFile chunks file
+  pub is_file : IsReadable chunks file
   pub are : AreRecordsOf chunks records
   pub has : HasAccepted part pass records
 

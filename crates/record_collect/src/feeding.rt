@@ -55,7 +55,7 @@ fn feed_next<S: Store>(
     pass: &mut Pass,
     part: &mut Coverage,
 ) -> Result<bool, ReadEnd>
-    requires strict { reader.old.keep ≡ false }
+    requires strict { reader.old.unread_ok ≡ false }
     requires reads { ReadsIn (S.bytes store.old) (S.told store.old) reader.old }
     requires belongs { BelongsTo collector.now pass.old }
     ensures goes_on { ReadsOn (S.bytes store.old) reader.old reader.new }

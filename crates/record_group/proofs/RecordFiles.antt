@@ -15,10 +15,10 @@ use Rattle.chunk_header.proofs.SimpleChunks.{length-sizes_of, length-simple_data
 use Rattle.simple_chunk.proofs.CostLemmas.{cost_of-is}
 use Rattle.meta_chunk.specs.Kinds.{IsPadding}
 use Rattle.meta_chunk.specs.Laid.{end_of_chunk}
-use Rattle.meta_chunk.specs.Files.{signature, IsPlain, AreLaid, IsFile, Holds, HoldEach, AreRecordsOf, end_of_chunks, laid_each}
+use Rattle.meta_chunk.specs.Files.{signature, IsPlain, AreLaid, IsReadable, Holds, HoldEach, AreRecordsOf, end_of_chunks, laid_each}
 use Rattle.meta_chunk.specs.PaddingSizes.{padding_at}
 use Rattle.meta_chunk.proofs.LaidChunks.{AreLaid-laid_each}
-use Rattle.meta_chunk.proofs.OneLaying.{HasFewRecords, plain_are_few, AreLaid-is, IsFile-plain}
+use Rattle.meta_chunk.proofs.OneLaying.{HasFewRecords, plain_are_few, AreLaid-is, IsReadable-plain}
 use Rattle.meta_chunk.proofs.Begins.{end_of_chunks_boundary}
 use Rattle.meta_chunk.proofs.Held.{IsSignature-one, HoldEach-append}
 use Rattle.meta_chunk.proofs.PaddingLemmas.{padding_at_are_padding, padding_at_are_plain, padding_at_are_chunks}
@@ -214,9 +214,9 @@ AreLaid-file_of records size every pad each small =
     AreLaid-laid_each 0 (chunks_of records size every pad)
     (IsChunk-signature, IsChunk-record_chunks _ records size every pad (chunk_end_of_boundary 0 40 0) each small)
 
-pub IsFile-file_of : (records : List (List ℕ)) (size : ℕ) (every : Option ℕ) (pad : Pad) → AreRecords records → size ≤ 2 ^ 24
-    → IsFile (chunks_of records size every pad) (file_of records size every pad)
-IsFile-file_of records size every pad each small = (
+pub IsReadable-file_of : (records : List (List ℕ)) (size : ℕ) (every : Option ℕ) (pad : Pad) → AreRecords records → size ≤ 2 ^ 24
+    → IsReadable (chunks_of records size every pad) (file_of records size every pad)
+IsReadable-file_of records size every pad each small = (
   λ e. cc,
   record {
     signed = refl;
@@ -229,7 +229,7 @@ IsFile-file_of records size every pad each small = (
 )
 
 -- and no other file is a file of these chunks
-pub file_of-is : (records : List (List ℕ)) (size : ℕ) (every : Option ℕ) (pad : Pad) (file : List ℕ) → IsFile (chunks_of records size every pad) file
+pub file_of-is : (records : List (List ℕ)) (size : ℕ) (every : Option ℕ) (pad : Pad) (file : List ℕ) → IsReadable (chunks_of records size every pad) file
     → file ≡ file_of records size every pad
 unfolding file_of
-file_of-is records size every pad file h = IsFile-plain (chunks_of records size every pad) file h
+file_of-is records size every pad file h = IsReadable-plain (chunks_of records size every pad) file h

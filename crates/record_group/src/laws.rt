@@ -3,7 +3,7 @@
 ghost use Rattle.std.specs.List.{AllByRecursion, flat_map};
 ghost use Rattle.std.specs.Prelude.{◌≡◌, ℕ, ◌+◌, ◌^◌, ◌≤◌, true, Option, List, [], ◌∷◌, ◌++◌, length};
 ghost use Rattle.block_layout.specs.Layout.{IsBlock, IsBoundary};
-ghost use Rattle.meta_chunk.specs.Files.{AreLaid, AreRecordsOf, HoldEach, IsFile, IsPlain, end_of_chunks, laid_each, signature, signature_bytes};
+ghost use Rattle.meta_chunk.specs.Files.{AreLaid, AreRecordsOf, HoldEach, IsReadable, IsPlain, end_of_chunks, laid_each, signature, signature_bytes};
 ghost use Rattle.meta_chunk.specs.Laid.{end_of_chunk};
 ghost use Rattle.record_group.specs.declared.pad.Pad.{Pad};
 ghost use Rattle.record_group.specs.Groups.{chunks_of, file_of, front_padding, groups, pads_end, pads_start, record_chunks};
@@ -37,9 +37,11 @@ pub fn pushes_give_the_groups()
 /// group's chunk that group. Own.
 pub fn file_of_is_a_file()
     ensures file { (records : List (List ℕ)) (size : ℕ) (every : Option ℕ) (pad : Pad)
-        → AreRecords records → size ≤ 2 ^ 24 → IsFile (chunks_of records size every pad) (file_of records size every pad) }
+        → AreRecords records → size ≤ 2 ^ 24
+        → IsReadable (chunks_of records size every pad) (file_of records size every pad) }
     ensures one { (records : List (List ℕ)) (size : ℕ) (every : Option ℕ) (pad : Pad) (file : List ℕ)
-        → IsFile (chunks_of records size every pad) file → file ≡ file_of records size every pad }
+        → IsReadable (chunks_of records size every pad) file
+        → file ≡ file_of records size every pad }
     ensures lists { (records : List (List ℕ)) (size : ℕ) (every : Option ℕ) (pad : Pad)
         → AreRecords records → size ≤ 2 ^ 24 → HoldEach (chunks_of records size every pad) ([] ∷ lists_held (end_of_chunk 0 signature) records size every pad) }
     ensures records { (records : List (List ℕ)) (size : ℕ) (every : Option ℕ) (pad : Pad)

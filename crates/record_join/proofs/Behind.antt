@@ -7,7 +7,7 @@ use Rattle.record_io.proofs.Calls.{Takes-append, TakesFront-append, TakesShort-a
 use Rattle.block_layout.specs.Layout.{IsBlock, IsBoundary}
 use Rattle.block_layout.specs.NextPlaces.{IsOnBoundary}
 use Rattle.chunk_header.specs.Chunks.{ChunkValue}
-use Rattle.meta_chunk.specs.Files.{totals_of, IsFrame, end_of_chunks}
+use Rattle.meta_chunk.specs.Files.{totals_of, IsWellFormed, end_of_chunks}
 use Rattle.meta_chunk.specs.PaddingSizes.{padding_at}
 use Rattle.meta_chunk.proofs.Joins.{end_of_chunks_past}
 use Rattle.meta_chunk.proofs.PaddingLemmas.{IsBlock-padding_at, padding_at-block, padding_at-inside}
@@ -59,7 +59,7 @@ bounds_behind before file most begin count h g block past = record {
 
 -- a file that was judged to be well-formed chunks of these totals
 abbrev pub HasTotals : Option (List ℕ) → Totals → Type 0
-HasTotals bytes totals = IfSome bytes (λ file. (ks : List ChunkValue) × IsFrame ks file × (totals ≡ totals_of ks))
+HasTotals bytes totals = IfSome bytes (λ file. (ks : List ChunkValue) × IsWellFormed ks file × (totals ≡ totals_of ks))
 
 -- of a file that is refused nothing was put
 pub refused_behind : (bytes taken : Option (List ℕ)) (index : ℕ) (front : Totals) (fault : Fault) → IfSome bytes (λ file. IsFault true file fault)

@@ -6,7 +6,7 @@ use Rattle.std.proofs.lemmas.List.{append-nil, append_assoc}
 use Rattle.std.proofs.lemmas.List.Sums.{sum_by-cons}
 use Rattle.block_layout.specs.Layout.{IsBlock, IsBoundary}
 use Rattle.chunk_header.specs.Chunks.{ChunkValue}
-use Rattle.meta_chunk.specs.Files.{AreRecordsOf, IsFileOf, IsFramed, IsPlain, end_of_chunks, laid_each}
+use Rattle.meta_chunk.specs.Files.{AreRecordsOf, IsFileOf, IsWellFormedChunk, IsPlain, end_of_chunks, laid_each}
 use Rattle.meta_chunk.specs.PaddingSizes.{padding_at}
 use Rattle.meta_chunk.proofs.Begins.{end_of_chunks_boundary}
 use Rattle.meta_chunk.proofs.PaddingLemmas.{IsBlock-padding_at, padding_at_near}
@@ -76,7 +76,7 @@ joined-IsFileOf {P} plain (ks ∷ ls ∷ lists) (f ∷ g ∷ files) some h =
     (IsFileOf-joined ks more f other plain h.0 behind)
 
 -- each file has its chunks
-pub chunks_of_each : (files : List (List ℕ)) → HaveNoFault true files → (lists : List (List ChunkValue)) × AllZip (IsFileOf IsFramed) lists files
+pub chunks_of_each : (files : List (List ℕ)) → HaveNoFault true files → (lists : List (List ChunkValue)) × AllZip (IsFileOf IsWellFormedChunk) lists files
 chunks_of_each [] h = ([], h)
 chunks_of_each (file ∷ files) h = let rest = chunks_of_each files h.1 in (h.0.0 ∷ rest.0, (h.0.1, rest.1))
 

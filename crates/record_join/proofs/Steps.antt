@@ -11,7 +11,7 @@ use Rattle.record_io.specs.Outside.{Takes, TakesShort}
 use Rattle.record_io.specs.Calls.{TakesFront}
 use Rattle.record_io.proofs.Calls.{Takes-append, Takes-nothing, TakesFront-append, TakesFront-longer, TakesFront-whole, TakesShort-append, TakesShort-longer}
 use Rattle.chunk_header.specs.Chunks.{ChunkValue}
-use Rattle.meta_chunk.specs.Files.{totals_of, IsFrame, end_of_chunks}
+use Rattle.meta_chunk.specs.Files.{totals_of, IsWellFormed, end_of_chunks}
 use Rattle.meta_chunk.specs.PaddingSizes.{padding_at}
 use Rattle.meta_chunk.proofs.PaddingLemmas.{padding_at-block, padding_at_near}
 use Rattle.ordered_writer.specs.Padding.{padding_bytes}
@@ -31,7 +31,7 @@ use Rattle.record_join.proofs.JoinedFiles.{boundaries, joined-more}
 abbrev pub AreCounted : List (List ℕ) → Totals → Type 0
 AreCounted files totals =
     ((files ≡ []) × (totals ≡ totals_of []))
-    ⊎ ((ks : List ChunkValue) × IsFrame ks (joined files) × (totals ≡ totals_of ks))
+    ⊎ ((ks : List ChunkValue) × IsWellFormed ks (joined files) × (totals ≡ totals_of ks))
 
 -- so many files were joined
 pub record JoinedSoFar (files : List (List ℕ)) (count : ℕ) (totals : Totals) (before after : Option (List ℕ)) : Type 0 where
@@ -86,11 +86,11 @@ module _ (files : List (List ℕ)) (file : List ℕ) (totals then : Totals) (wit
       let alone : file ≡ joined (files ++ file ∷ []) = ap (λ (fs : List (List ℕ)). joined (fs ++ file ∷ [])) (sym none) in
       inr (
         more.0,
-        subst (IsFrame more.0) alone more.1,
+        subst (IsWellFormed more.0) alone more.1,
         more.2 ∙ ap (λ (t : Totals). totals_joined t (totals_of more.0)) zero ∙ totals_joined-none (totals_of more.0),
       )
 
-  counted_behind : (ls : List ChunkValue) → IsFrame ls (joined files) → totals ≡ totals_of ls → AreCounted (files ++ file ∷ []) then
+  counted_behind : (ls : List ChunkValue) → IsWellFormed ls (joined files) → totals ≡ totals_of ls → AreCounted (files ++ file ∷ []) then
   counted_behind ls h is =
       let place : ℕ = length (joined files) in
       let of_all : joined (files ++ file ∷ []) ≡ joined files ++ padding_bytes place ++ file = joined-more files file (boundaries files without_fault) in
@@ -102,7 +102,7 @@ module _ (files : List (List ℕ)) (file : List ℕ) (totals then : Totals) (wit
       } in
       inr (
         ls ++ padding_at place ++ more.0,
-        subst (IsFrame (ls ++ padding_at place ++ more.0)) (sym of_all) (IsFileOf-joined ls more.0 (joined files) file (λ k plain. inl plain) h more.1),
+        subst (IsWellFormed (ls ++ padding_at place ++ more.0)) (sym of_all) (IsFileOf-joined ls more.0 (joined files) file (λ k plain. inl plain) h more.1),
         more.2 ∙ ap (at totals) bytes ∙ ap (λ (t : Totals). at t place) is ∙ sym (totals-joined ls more.0 (joined files) h),
       )
 
@@ -145,7 +145,7 @@ AreJoined-all files count totals before after some all kept =
       | inr of ↦ record {
         without_fault = subst (HaveNoFault true) is kept.without_fault;
         chunks = of.0;
-        frame = of.1;
+        well_formed = of.1;
         totals = of.2;
         took = subst (λ (fs : List (List ℕ)). Takes before after (joined fs)) is kept.took;
       }

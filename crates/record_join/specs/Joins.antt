@@ -5,7 +5,7 @@ use Rattle.record_io.specs.Outside.{Takes, TakesShort}
 use Rattle.record_io.specs.Calls.{TakesFront}
 use Rattle.record_io.specs.ManyStores.{AreTold}
 use Rattle.chunk_header.specs.Chunks.{ChunkValue}
-use Rattle.meta_chunk.specs.Files.{totals_of, IsFrame, end_of_chunks}
+use Rattle.meta_chunk.specs.Files.{totals_of, IsWellFormed, end_of_chunks}
 use Rattle.meta_chunk.specs.PaddingSizes.{padding_at}
 use Rattle.ordered_writer.specs.Padding.{padding_bytes}
 use Rattle.chunk_reader.specs.Faults.{HasNoFault, HaveNoFault, IsFault, IsFirstFault}
@@ -32,13 +32,13 @@ totals_joined before file = record {
 -- one more file is well-formed chunks, and these are the totals with it behind those before
 abbrev pub AreTotalsWith : Totals → List ℕ → Totals → Type 0
 AreTotalsWith before file totals =
-    (ks : List ChunkValue) × IsFrame ks file × (totals ≡ totals_joined before (totals_of ks))
+    (ks : List ChunkValue) × IsWellFormed ks file × (totals ≡ totals_joined before (totals_of ks))
 
 -- none of the files has a fault, all were put one after another, and these are the totals of what they make
 pub record AreJoined (files : List (List ℕ)) (counted : Totals) (before after : Option (List ℕ)) : Type 0 where
   pub without_fault : HaveNoFault true files
   pub chunks : List ChunkValue
-  pub frame : IsFrame chunks (joined files)
+  pub well_formed : IsWellFormed chunks (joined files)
   pub totals : counted ≡ totals_of chunks
   pub took : Takes before after (joined files)
 

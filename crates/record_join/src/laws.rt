@@ -4,7 +4,7 @@ ghost use Rattle.std.specs.List.{AllByRecursion, AllZip, flat_map};
 ghost use Rattle.std.specs.Prelude.{◌≡◌, ◌≢◌, ◌⊎◌, ℕ, ◌≤◌, true, List, [], ◌∷◌, ◌++◌, length, map};
 ghost use Rattle.record_values.specs.Bytes.{AreBytes};
 ghost use Rattle.chunk_header.specs.Chunks.{ChunkValue};
-ghost use Rattle.meta_chunk.specs.Files.{AreRecordsOf, IsFile, IsFrame};
+ghost use Rattle.meta_chunk.specs.Files.{AreRecordsOf, IsReadable, IsWellFormed};
 ghost use Rattle.ordered_writer.specs.Padding.{padding_bytes};
 ghost use Rattle.chunk_reader.specs.Faults.{HasNoFault, HaveNoFault, IsFirstFault};
 ghost use Rattle.chunk_reader.specs.declared.reasons.Fault.{Fault};
@@ -14,13 +14,16 @@ ghost use Rattle.record_join.specs.Joins.{joined_chunks};
 /// Files of chunks one after another are one file of the chunks of all and the padding between them, and its records are those
 /// of all, in order. Where no file has a fault the one that they make has none, and so many bytes at most. Own.
 pub fn joined_files_are_one_file()
-    ensures frame { (lists : List (List ChunkValue)) (files : List (List ℕ))
-        → files ≢ [] → AllZip IsFrame lists files → IsFrame (joined_chunks lists) (joined files) }
+    ensures well_formed { (lists : List (List ChunkValue)) (files : List (List ℕ))
+        → files ≢ [] → AllZip IsWellFormed lists files
+        → IsWellFormed (joined_chunks lists) (joined files) }
     ensures file { (lists : List (List ChunkValue)) (files : List (List ℕ))
-        → files ≢ [] → AllZip IsFile lists files → IsFile (joined_chunks lists) (joined files) }
+        → files ≢ [] → AllZip IsReadable lists files
+        → IsReadable (joined_chunks lists) (joined files) }
     ensures records { (lists : List (List ChunkValue)) (records : List (List (List ℕ)))
         → AllZip AreRecordsOf lists records → AreRecordsOf (joined_chunks lists) (flat_map (λ held. held) records) }
-    ensures chunks { (files : List (List ℕ)) → HaveNoFault true files → (lists : List (List ChunkValue)) × AllZip IsFrame lists files }
+    ensures chunks { (files : List (List ℕ)) → HaveNoFault true files
+        → (lists : List (List ChunkValue)) × AllZip IsWellFormed lists files }
     ensures no_fault { (files : List (List ℕ)) → files ≢ [] → HaveNoFault true files → HasNoFault true (joined files) }
     ensures size { (files : List (List ℕ)) → HaveNoFault true files → length (joined files) ≤ joined_at_most (map length files) }
 {}

@@ -7,7 +7,7 @@ use Rattle.std.proofs.lemmas.List.{append-nil, length-take-le}
 use Rattle.block_layout.proofs.ChunkEnds.{chunk_end_of_past_records}
 use Rattle.chunk_header.specs.Chunks.{ChunkValue}
 use Rattle.meta_chunk.specs.Laid.{end_of_chunk}
-use Rattle.meta_chunk.specs.Files.{IsFile, Holds, HoldEach, ArePlaced, end_of_chunks, placed_from}
+use Rattle.meta_chunk.specs.Files.{IsReadable, Holds, HoldEach, ArePlaced, end_of_chunks, placed_from}
 use Rattle.meta_chunk.proofs.Placed.{ArePlaced-below, ArePlaced-one}
 use Rattle.meta_chunk.proofs.Chains.{AreLaid-one}
 use Rattle.meta_chunk.proofs.Joins.{end-AreLaid}
@@ -124,12 +124,12 @@ whole_part size (p ∷ placed) h =
     taken_in 0 size p placed (inside 0 size p (omega arith) h.0) ∙ ap (λ (xs : List (List ℕ)). p.1 ∷ xs) (whole_part size placed h.1)
 
 -- the chunks of a file end where it does
-end_of_file : (ks : List ChunkValue) (file : List ℕ) → IsFile ks file → end_of_chunks 0 ks ≡ length file
+end_of_file : (ks : List ChunkValue) (file : List ℕ) → IsReadable ks file → end_of_chunks 0 ks ≡ length file
 end_of_file ks file is =
     omega (arith, end-AreLaid 0 ks (take (length file) file) is.1.laid, length-take-le (length file) file (omega arith))
 
 -- and with those of a file
-pub all_records : (ks : List ChunkValue) (file cuts : List ℕ) (placed : List (ℕ × List ℕ)) → IsFile ks file → ArePlaced ks placed
+pub all_records : (ks : List ChunkValue) (file cuts : List ℕ) (placed : List (ℕ × List ℕ)) → IsReadable ks file → ArePlaced ks placed
     → RiseUpTo (length file) 0 cuts → flat_map (λ part. part) (ranges (length file) cuts placed) ≡ map (λ p. p.1) placed
 all_records ks file cuts placed is (lists, held, are) rise =
     let end : end_of_chunks 0 ks ≡ length file = end_of_file ks file is in

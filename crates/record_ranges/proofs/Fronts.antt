@@ -4,7 +4,7 @@ use Rattle.std.specs.List.{AllZip, enumerate_from}
 use Rattle.record_values.specs.declared.file_totals.Totals.{Totals}
 use Rattle.chunk_header.specs.Chunks.{ChunkValue}
 use Rattle.chunk_header.specs.Views.{value_of_chunk}
-use Rattle.meta_chunk.specs.Files.{IsChainOf, IsFile, Holds, HoldEach, placed_from}
+use Rattle.meta_chunk.specs.Files.{IsChainOf, IsReadable, Holds, HoldEach, placed_from}
 use Rattle.meta_chunk.proofs.Chains.{AreLaid-one}
 use Rattle.meta_chunk.proofs.Held.{HoldEach-append, HoldEach-one}
 use Rattle.chunk_reader.specs.Faults.{IsAllowed, BeginsWithSignature, IsFault}
@@ -22,7 +22,7 @@ use Rattle.record_ranges.specs.Stretches.{IsReadFromFront, IsReadSoFar, AreReadO
 use Rattle.record_ranges.proofs.Runs.{between-chunk}
 
 -- one chunk more
-pub so_far-more : (bytes : Option (List ℕ)) (span : Span) (before after : ReaderValue) (j : Judged) (held old new : List (List ℕ)) → before.keep ≡ false
+pub so_far-more : (bytes : Option (List ℕ)) (span : Span) (before after : ReaderValue) (j : Judged) (held old new : List (List ℕ)) → before.unread_ok ≡ false
     → IsNextChunk bytes before after j → Holds (value_of_chunk j.chunk) held
     → new ≡ old ++ records_between span.from span.to (enumerate_from j.begin held)
     → IfSome bytes (λ file. IsReadSoFar file span before.totals old → IsReadSoFar file span after.totals new)
@@ -30,12 +30,12 @@ so_far-more None span before after j held old new strict h holds records = tt
 so_far-more (Some file) span before after j held old new strict h holds records =
     λ s.
     let k : ChunkValue = value_of_chunk j.chunk in
-    let chain = subst (λ (keep : Bool). IsChainOf (IsAllowed keep) s.chunks file before.totals.bytes) (sym strict) s.chain in
+    let chain = subst (λ (unread_ok : Bool). IsChainOf (IsAllowed unread_ok) s.chunks file before.totals.bytes) (sym strict) s.chain in
     let on = h.given s.chunks chain s.counted in
     record {
       chunks = s.chunks ++ k ∷ [];
       lists = s.lists ++ held ∷ [];
-      chain = subst (λ (keep : Bool). IsChainOf (IsAllowed keep) (s.chunks ++ k ∷ []) file after.totals.bytes) strict on.0;
+      chain = subst (λ (unread_ok : Bool). IsChainOf (IsAllowed unread_ok) (s.chunks ++ k ∷ []) file after.totals.bytes) strict on.0;
       counted = on.1;
       held = HoldEach-append s.chunks (k ∷ []) s.lists (held ∷ []) s.held (holds, refl);
       are =
@@ -48,7 +48,7 @@ signed-first : (bytes : Option (List ℕ)) (before after : ReaderValue) (j : Jud
     → IsNextChunk bytes before after j → IfSome bytes BeginsWithSignature
 signed-first None before after j none h = tt
 signed-first (Some file) before after j none h =
-    let chain = subst (λ (t : Totals). IsChainOf (IsAllowed before.keep) [] file t.bytes) (sym none) (IsChainOf-nil file) in
+    let chain = subst (λ (t : Totals). IsChainOf (IsAllowed before.unread_ok) [] file t.bytes) (sym none) (IsChainOf-nil file) in
     let on = h.given [] chain none in
     begins_signed (value_of_chunk j.chunk) [] file after.totals.bytes on.0
 
@@ -66,13 +66,13 @@ signed-next bytes before after result (Some j) is none chunk ended = signed-firs
 signed-next bytes before after result None is none chunk ended = signed-whole bytes before none (ended is).1
 
 -- a fault that the reader tells is that of the file
-pub refused-front : (bytes : Option (List ℕ)) (at : ReaderValue) (fault : Fault) → at.keep ≡ false → IsFaultBehind bytes at fault
+pub refused-front : (bytes : Option (List ℕ)) (at : ReaderValue) (fault : Fault) → at.unread_ok ≡ false → IsFaultBehind bytes at fault
     → IfSome bytes (λ file. IsFault false file fault)
 refused-front None at fault strict h = tt
-refused-front (Some file) at fault strict h = subst (λ (keep : Bool). IsFault keep file fault) strict h.is_fault
+refused-front (Some file) at fault strict h = subst (λ (unread_ok : Bool). IsFault unread_ok file fault) strict h.is_fault
 
 -- parts of one file, which has one list of chunks
-same_file : (file : List ℕ) (ks : List ChunkValue) (lists : List (List (List ℕ))) (span : Span) (part : Stretch) → IsFile ks file → HoldEach ks lists
+same_file : (file : List ℕ) (ks : List ChunkValue) (lists : List (List (List ℕ))) (span : Span) (part : Stretch) → IsReadable ks file → HoldEach ks lists
     → IsReadFromFront file span part → part.records ≡ records_between span.from span.to (placed_from 0 ks lists)
 same_file file ks lists span part is held h =
     let same : h.chunks ≡ ks = AreLaid-one h.chunks ks file (length file) (omega arith) h.is_file.1.laid is.1.laid in
@@ -81,7 +81,7 @@ same_file file ks lists span part is held h =
     ∙ ap (λ (zs : List ChunkValue). records_between span.from span.to (placed_from 0 zs h.lists)) same
     ∙ ap (λ (zs : List (List (List ℕ))). records_between span.from span.to (placed_from 0 ks zs)) (HoldEach-one ks h.lists lists each held)
 
-same_files : (file : List ℕ) (ks : List ChunkValue) (lists : List (List (List ℕ))) (spans : List Span) (parts : List Stretch) → IsFile ks file → HoldEach ks lists
+same_files : (file : List ℕ) (ks : List ChunkValue) (lists : List (List (List ℕ))) (spans : List Span) (parts : List Stretch) → IsReadable ks file → HoldEach ks lists
     → AllZip (IsReadFromFront file) spans parts
     → AllZip (λ span s. s.records ≡ records_between span.from span.to (placed_from 0 ks lists)) spans parts
 same_files file ks lists [] [] is held h = tt

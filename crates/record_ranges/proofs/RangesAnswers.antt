@@ -6,12 +6,12 @@ use Rattle.record_values.specs.Bytes.{AreBytes}
 use Rattle.record_io.specs.Puts.{Out, puts_to}
 use Rattle.chunk_header.specs.Chunks.{ChunkValue}
 use Rattle.meta_chunk.specs.Files.{ArePlaced, placed_from}
-use Rattle.meta_chunk.proofs.Held.{HoldEach-framed}
+use Rattle.meta_chunk.proofs.Held.{HoldEach-well_formed}
 use Rattle.meta_chunk.proofs.Placed.{ArePlaced-one}
 use Rattle.chunk_reader.specs.Faults.{HasNoFault}
 use Rattle.chunk_reader.specs.declared.reasons.Fault.{Fault}
 use Rattle.chunk_reader.proofs.FileFaults.{fault_is_one, fault_or_none}
-use Rattle.chunk_reader.proofs.Frames.{chain_is_one, frame_of_plain}
+use Rattle.chunk_reader.proofs.WellFormedFiles.{chain_is_one, well_formed_of_plain}
 use Rattle.chunk_reader.proofs.FaultsDecided.{file_judged}
 use Rattle.command_frame.specs.Answers.{Answer, noted}
 use Rattle.command_frame.specs.FileAnswers.{limit_text}
@@ -32,7 +32,7 @@ first_of_all (other ∷ files) file some all = ap Some all.0
 -- a file without fault has lines
 text_of : (file : List ℕ) → HasNoFault false file → (text : List ℕ) × IsTextOfFile file text
 text_of file (ks, is) =
-    let held = HoldEach-framed ks (frame_of_plain ks file (length file) is.1).each in
+    let held = HoldEach-well_formed ks (well_formed_of_plain ks file (length file) is.1).each in
     let placed : List (ℕ × List ℕ) = placed_from 0 ks held.0 in
     (flat_map (record_line bare) placed, record { chunks = ks; placed = placed; is_file = is; records = (held.0, held.1, refl); lines = refl })
 

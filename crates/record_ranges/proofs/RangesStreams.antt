@@ -9,7 +9,7 @@ use Rattle.meta_chunk.specs.Files.{IsPlain, IsChainOf, ArePlaced}
 use Rattle.meta_chunk.proofs.Placed.{ArePlaced-one}
 use Rattle.chunk_reader.specs.Faults.{HasNoFault}
 use Rattle.chunk_reader.proofs.FileFaults.{fault_is_one, fault_or_none}
-use Rattle.chunk_reader.proofs.Frames.{chain_is_one}
+use Rattle.chunk_reader.proofs.WellFormedFiles.{chain_is_one}
 use Rattle.command_frame.specs.Answers.{Answer, noted}
 use Rattle.command_frame.specs.declared.status.Status.{Status}
 use Rattle.command_frame.specs.FileAnswers.{limit_text}

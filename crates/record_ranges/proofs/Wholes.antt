@@ -4,7 +4,7 @@ use Rattle.std.specs.List.{AllByRecursion, AllZip, enumerate_from}
 use Rattle.std.proofs.lemmas.List.{append-nil, take-append-drop, map-append}
 use Rattle.chunk_header.specs.Chunks.{ChunkValue}
 use Rattle.meta_chunk.specs.Laid.{end_of_chunk}
-use Rattle.meta_chunk.specs.Files.{IsFile, AreLaid, BeginsSigned, HoldEach, end_of_chunks, placed_from}
+use Rattle.meta_chunk.specs.Files.{IsReadable, AreLaid, BeginsSigned, HoldEach, end_of_chunks, placed_from}
 use Rattle.meta_chunk.proofs.Held.{HoldEach-one}
 use Rattle.meta_chunk.proofs.LaidChunks.{end_of_chunk_after}
 use Rattle.meta_chunk.proofs.Placed.{ArePlaced-below}
@@ -136,7 +136,7 @@ some_chunks : (file : List ℕ) (all : List ChunkValue) → BeginsWithSignature 
 some_chunks file all begins end = λ none. omega (arith, signed_length file begins, end, ap (end_of_chunks 0) none)
 
 whole_file : (file : List ℕ) (all : List ChunkValue) (lists : List (List (List ℕ))) → BeginsWithSignature file
-    → AreChunksBetween file 0 (length file) all lists → IsFile all file
+    → AreChunksBetween file 0 (length file) all lists → IsReadable all file
 whole_file file all lists begins h =
     let laid = from_front file (length file) all lists h in (
       some_chunks file all begins h.end,

@@ -2,7 +2,7 @@
 use Rattle.std.specs.Prelude.{◌≡◌, ℕ, zero, suc, ◌-◌, ◌*◌, ◌/◌, ◌<◌, ◌≤◌, ◌&&◌, nat_lt, nat_le, filter, map, List, [], ◌∷◌, length}
 use Rattle.std.specs.List.{range_with_len}
 use Rattle.chunk_header.specs.Chunks.{ChunkValue}
-use Rattle.meta_chunk.specs.Files.{IsFile, ArePlaced}
+use Rattle.meta_chunk.specs.Files.{IsReadable, ArePlaced}
 
 -- cuts rise or stay equal from a place on, and none passes the size
 abbrev pub RiseUpTo : (size from : ℕ) → List ℕ → Type 0
@@ -37,6 +37,6 @@ LiesInPart size from (cut ∷ cuts) position (suc number) = LiesInPart size cut 
 pub record AreRangesOf (file cuts : List ℕ) (parts : List (List (List ℕ))) : Type 0 where
   pub chunks : List ChunkValue
   pub placed : List (ℕ × List ℕ)
-  pub is_file : IsFile chunks file
+  pub is_file : IsReadable chunks file
   pub are_placed : ArePlaced chunks placed
   pub are_ranges : parts ≡ ranges (length file) cuts placed

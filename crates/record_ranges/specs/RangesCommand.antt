@@ -4,7 +4,7 @@ use Rattle.std.specs.List.{AllByRecursion, find, flat_map}
 use lib.Chars.{codes}
 use Rattle.record_io.specs.Puts.{Out, puts_to}
 use Rattle.chunk_header.specs.Chunks.{ChunkValue}
-use Rattle.meta_chunk.specs.Files.{IsFile, ArePlaced}
+use Rattle.meta_chunk.specs.Files.{IsReadable, ArePlaced}
 use Rattle.chunk_reader.specs.Faults.{IsFault}
 use Rattle.chunk_reader.specs.declared.reasons.Fault.{Fault}
 use Rattle.command_frame.specs.Answers.{Answer, line, noted}
@@ -40,7 +40,7 @@ differ_text first other = line (codes "size " ++ decimal first ++ 32 ∷ decimal
 pub record IsTextOfFile (file text : List ℕ) : Type 0 where
   pub chunks : List ChunkValue
   pub placed : List (ℕ × List ℕ)
-  pub is_file : IsFile chunks file
+  pub is_file : IsReadable chunks file
   pub records : ArePlaced chunks placed
   pub lines : text ≡ flat_map (record_line bare) placed
 

@@ -4,8 +4,8 @@ use Rattle.std.specs.List.{AllByRecursion, AllZip, enumerate_from}
 use Rattle.record_values.specs.declared.file_totals.Totals.{Totals}
 use Rattle.chunk_header.specs.Chunks.{ChunkValue}
 use Rattle.chunk_header.specs.Views.{value_of_chunk}
-use Rattle.meta_chunk.specs.Files.{totals_of, Holds, IsPlain, IsFile, ArePlaced, AreLaid, HoldEach, end_of_chunks, placed_from}
-use Rattle.meta_chunk.specs.Chains.{IsChain}
+use Rattle.meta_chunk.specs.Files.{totals_of, Holds, IsPlain, IsReadable, ArePlaced, AreLaid, HoldEach, end_of_chunks, placed_from}
+use Rattle.meta_chunk.specs.Chains.{IsReadableChain}
 use Rattle.chunk_reader.specs.declared.judging.Judged.{Judged}
 use Rattle.record_ranges.specs.declared.stretches.Span.{Span}
 use Rattle.record_ranges.specs.declared.stretches.Stretch.{Stretch}
@@ -70,7 +70,7 @@ LiesWithin size span = (span.from ≤ span.to) × (span.to ≤ size)
 pub record IsReadFromFront (file : List ℕ) (span : Span) (s : Stretch) : Type 0 where
   pub chunks : List ChunkValue
   pub lists : List (List (List ℕ))
-  pub is_file : IsFile chunks file
+  pub is_file : IsReadable chunks file
   pub held : HoldEach chunks lists
   pub records : s.records ≡ records_between span.from span.to (placed_from 0 chunks lists)
 
@@ -78,7 +78,7 @@ pub record IsReadFromFront (file : List ℕ) (span : Span) (s : Stretch) : Type 
 pub record IsReadSoFar (file : List ℕ) (span : Span) (totals : Totals) (records : List (List ℕ)) : Type 0 where
   pub chunks : List ChunkValue
   pub lists : List (List (List ℕ))
-  pub chain : IsChain chunks file totals.bytes
+  pub chain : IsReadableChain chunks file totals.bytes
   pub counted : totals ≡ totals_of chunks
   pub held : HoldEach chunks lists
   pub are : records ≡ records_between span.from span.to (placed_from 0 chunks lists)
@@ -87,7 +87,7 @@ pub record IsReadSoFar (file : List ℕ) (span : Span) (totals : Totals) (record
 pub record AreReadOf (file : List ℕ) (size : ℕ) (spans : List Span) (parts : List Stretch) : Type 0 where
   pub chunks : List ChunkValue
   pub placed : List (ℕ × List ℕ)
-  pub is_file : IsFile chunks file
+  pub is_file : IsReadable chunks file
   pub are_placed : ArePlaced chunks placed
   pub sized : size ≡ length file
   pub each : AllZip (λ span s. s.records ≡ records_between span.from span.to placed) spans parts

@@ -76,7 +76,7 @@ fn take_next<S: Store>(
     span: Span,
     part: &mut Stretch,
 ) -> Result<bool, ReadEnd>
-    requires strict { reader.old.keep ≡ false }
+    requires strict { reader.old.unread_ok ≡ false }
     requires reads { ReadsIn (S.bytes store.old) (S.told store.old) reader.old }
     ensures goes_on { ReadsOn (S.bytes store.old) reader.old reader.new }
     ensures moved { result ≡ Ok true → reader.old.totals.bytes < reader.new.totals.bytes }

@@ -3,14 +3,14 @@
 ghost use Rattle.std.specs.List.{flat_map};
 ghost use Rattle.std.specs.Prelude.{◌≡◌, ℕ, ◌+◌, ◌<◌, ◌≤◌, List, Some, length, map, slice_get};
 ghost use Rattle.chunk_header.specs.Chunks.{ChunkValue};
-ghost use Rattle.meta_chunk.specs.Files.{IsFile, ArePlaced};
+ghost use Rattle.meta_chunk.specs.Files.{IsReadable, ArePlaced};
 ghost use Rattle.record_ranges.specs.Ranges.{RiseUpTo, LiesInPart, even_cuts, ranges, AreRangesOf};
 
 /// The parts of a file have all its records, in order: joined, they are the records that one thread reads. There is one part
 /// more than cuts. Own.
 pub fn parts_have_all_records()
     ensures joined { (ks : List ChunkValue) (file cuts : List ℕ) (placed : List (ℕ × List ℕ))
-        → IsFile ks file → ArePlaced ks placed → RiseUpTo (length file) 0 cuts
+        → IsReadable ks file → ArePlaced ks placed → RiseUpTo (length file) 0 cuts
         → flat_map (λ part. part) (ranges (length file) cuts placed) ≡ map (λ p. p.1) placed }
     ensures count { (size : ℕ) (cuts : List ℕ) (placed : List (ℕ × List ℕ))
         → length (ranges size cuts placed) ≡ length cuts + 1 }

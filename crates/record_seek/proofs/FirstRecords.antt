@@ -7,12 +7,12 @@ use Rattle.std.proofs.lemmas.Option.{same_Some, slice_get_within}
 use Rattle.block_layout.proofs.ChunkEnds.{chunk_end_of_past_records}
 use Rattle.chunk_header.specs.Chunks.{ChunkValue}
 use Rattle.chunk_header.specs.SimpleChunks.{IsSimple}
-use Rattle.meta_chunk.specs.Files.{IsFrame, Holds, HoldEach, ArePlaced, begin_of, end_of_chunks, placed_from, LiesIn}
+use Rattle.meta_chunk.specs.Files.{IsWellFormed, Holds, HoldEach, ArePlaced, begin_of, end_of_chunks, placed_from, LiesIn}
 use Rattle.meta_chunk.specs.Laid.{end_of_chunk}
 use Rattle.meta_chunk.proofs.Begins.{begin_of-next, begin_of_rises, begin_of_rises_by}
 use Rattle.chunk_reader.specs.Holders.{ArePlacesBetween}
 use Rattle.chunk_reader.specs.Places.{header_at, chunk_at}
-use Rattle.chunk_reader.specs.Searches.{MayAnswerAt, SearchComesTo, AnswersAt, IsSought, SearchGives}
+use Rattle.chunk_reader.specs.PositionSearches.{MayAnswerAt, SearchComesTo, AnswersAt, IsSought, SearchGives}
 use Rattle.chunk_reader.proofs.HeadersTell.{laid_at, last_end, told_end, told_records, passes, passed_below, stands_below, places_are, places_of, lies_of, holder_there}
 use Rattle.chunk_reader.proofs.LaidAt.{chunk_at-laid}
 use Rattle.record_seek.specs.Found.{MayAnswer, IsAnswering}
@@ -77,15 +77,15 @@ pub held_number : (k : ChunkValue) (records : List (List ℕ)) (n : ℕ) (r : Li
 held_number k records n r (inl simple) stands = omega (arith, simple.num_records, slice_get_within records n r stands)
 held_number k records n r (inr (none, nothing)) stands = omega (arith, ap length nothing, slice_get_within records n r stands)
 
-module _ (ks : List ChunkValue) (file : List ℕ) (frame : IsFrame ks file) (reach : length file ≤ 2 ^ 60) (position : ℕ) where
+module _ (ks : List ChunkValue) (file : List ℕ) (well_formed : IsWellFormed ks file) (reach : length file ≤ 2 ^ 60) (position : ℕ) where
   -- the record that is found is the first
   pub first_record : (placed : List (ℕ × List ℕ)) (found : ℕ × List ℕ) → position < length file → ArePlaced ks placed
       → IsSought file position found → IsFirstAt placed position (Some found)
   first_record placed found below (lists, each, is) sought =
-      let holder = lies_of ks file frame position below in
-      let (j, k, there, answers) = answering_of ks file frame reach position holder.0 holder.1 sought.place sought.answers in
+      let holder = lies_of ks file well_formed position below in
+      let (j, k, there, answers) = answering_of ks file well_formed reach position holder.0 holder.1 sought.place sought.answers in
       let same : chunk_at file sought.place ≡ k =
-      ap (chunk_at file) there ∙ chunk_at-laid (begin_of ks j) k file (begin_of ks (j + 1)) (laid_at ks file frame j k answers.may.stands) in
+      ap (chunk_at file) there ∙ chunk_at-laid (begin_of ks j) k file (begin_of ks (j + 1)) (laid_at ks file well_formed j k answers.may.stands) in
       let simple : IsSimple k sought.records = subst (λ (c : ChunkValue). IsSimple c sought.records) same sought.holds.holds in
       let number : ℕ = position - sought.place in
       let index : ℕ = records_before lists j + number in
@@ -127,7 +127,7 @@ module _ (ks : List ChunkValue) (file : List ℕ) (frame : IsFrame ks file) (rea
   pub none_answers : SearchGives file position None → (i : ℕ) (k : ChunkValue) → ¬ MayAnswer ks position i k
   none_answers (inl past) i k may =
       let within : begin_of ks (i + 1) ≤ length file =
-      omega (arith, begin_of_rises ks (i + 1) (length ks) (omega (arith, slice_get_within ks i k may.stands)), last_end ks file frame) in
+      omega (arith, begin_of_rises ks (i + 1) (length ks) (omega (arith, slice_get_within ks i k may.stands)), last_end ks file well_formed) in
       omega (
         arith,
         may.has.1,
@@ -137,15 +137,15 @@ module _ (ks : List ChunkValue) (file : List ℕ) (frame : IsFrame ks file) (rea
         chunk_end_of_past_records (begin_of ks i) (40 + length k.«data») k.num_records,
       )
   none_answers (inr searched) i k may =
-      let holder = lies_of ks file frame position searched.holds.on_way.below in
-      let way = searched_to ks file frame reach position holder.0 holder.1 (length file) searched in
-      let there = places_are ks file frame way.0 holder.0 (length file) (omega (arith, holder.1.number)) way.1 in
-      let past : holder.0 + length way.0 ≤ i = none_passed ks file frame position holder.0 holder.1 way.0 (length file) way.1 way.2 i k may in
+      let holder = lies_of ks file well_formed position searched.holds.on_way.below in
+      let way = searched_to ks file well_formed reach position holder.0 holder.1 (length file) searched in
+      let there = places_are ks file well_formed way.0 holder.0 (length file) (omega (arith, holder.1.number)) way.1 in
+      let past : holder.0 + length way.0 ≤ i = none_passed ks file well_formed position holder.0 holder.1 way.0 (length file) way.1 way.2 i k may in
       let stands : i < length ks = slice_get_within ks i k may.stands in
       let rises : begin_of ks (holder.0 + length way.0) ≤ begin_of ks i = begin_of_rises ks (holder.0 + length way.0) i past in
       let more : begin_of ks i + 40 ≤ begin_of ks (i + 1) = begin_of_rises_by ks i stands in
       let end : begin_of ks (i + 1) ≤ begin_of ks (length ks) = begin_of_rises ks (i + 1) (length ks) (omega (arith, stands)) in
-      omega (arith, there.1, rises, more, end, last_end ks file frame)
+      omega (arith, there.1, rises, more, end, last_end ks file well_formed)
 
   -- chunks that don't answer are passed
   all_passed : (places : List ℕ) (n to : ℕ) → n ≤ length ks → ArePlacesBetween file (begin_of ks n) to places
@@ -153,15 +153,15 @@ module _ (ks : List ChunkValue) (file : List ℕ) (frame : IsFrame ks file) (rea
       → AllByRecursion (λ passed. ¬ MayAnswerAt file position passed) places
   all_passed [] n to inside between none = tt
   all_passed (place ∷ places) n to inside (same, passed, rest) none =
-      let chunk = stands_below ks file frame n (passed_below file (begin_of ks n) passed) in
+      let chunk = stands_below ks file well_formed n (passed_below file (begin_of ks n) passed) in
       let count : (header_at file place).num_records ≡ chunk.0.num_records =
-      ap (λ (p : ℕ). (header_at file p).num_records) same ∙ told_records ks file frame n chunk.0 chunk.1 in (
+      ap (λ (p : ℕ). (header_at file p).num_records) same ∙ told_records ks file well_formed n chunk.0 chunk.1 in (
         (λ may. none n chunk.0 (omega arith) (omega arith) (record {
           stands = chunk.1;
           has = (omega (arith, count, may.0), omega (arith, count, same, may.1));
         })),
         all_passed places (n + 1) to (omega (arith, slice_get_within ks n chunk.0 chunk.1))
-            (subst (λ (p : ℕ). ArePlacesBetween file p to places) (told_end ks file frame n chunk.0 chunk.1) rest)
+            (subst (λ (p : ℕ). ArePlacesBetween file p to places) (told_end ks file well_formed n chunk.0 chunk.1) rest)
             (λ i k from below. none i k (omega (arith, from)) (omega (arith, below))),
       )
 
@@ -178,13 +178,13 @@ module _ (ks : List ChunkValue) (file : List ℕ) (frame : IsFrame ks file) (rea
   searched_up_to : (h n : ℕ) → LiesIn ks position h → h + n ≤ length ks
       → ((i : ℕ) (k : ChunkValue) → i < h + n → ¬ MayAnswer ks position i k) → SearchComesTo file position (begin_of ks (h + n))
   searched_up_to h n lies inside none =
-      let places = places_of ks file frame n h inside in
-      let count = places_are ks file frame places.0 h (begin_of ks (h + n)) (omega (arith, inside)) places.1 in
+      let places = places_of ks file well_formed n h inside in
+      let count = places_are ks file well_formed places.0 h (begin_of ks (h + n)) (omega (arith, inside)) places.1 in
       let same : h + length places.0 ≤ h + n = same_begin (h + length places.0) (h + n) count.0 inside (sym count.1) in
       record {
         holder = begin_of ks h;
         places = places.0;
-        holds = holder_there ks file frame position h reach lies;
+        holds = holder_there ks file well_formed position h reach lies;
         between = places.1;
         none = all_passed places.0 h (begin_of ks (h + n)) (omega (arith, inside)) places.1
             (λ i k from below. none i k (omega (arith, below, same)));
@@ -194,9 +194,9 @@ module _ (ks : List ChunkValue) (file : List ℕ) (frame : IsFrame ks file) (rea
   nothing_is_given none =
       elim (cases_lt position (length file)) [
         | inl below ↦
-            let holder = lies_of ks file frame position below in
+            let holder = lies_of ks file well_formed position below in
             let all : holder.0 + (length ks - holder.0) ≡ length ks = omega (arith, holder.1.number) in
-            let end : begin_of ks (holder.0 + (length ks - holder.0)) ≡ length file = ap (begin_of ks) all ∙ last_end ks file frame in
+            let end : begin_of ks (holder.0 + (length ks - holder.0)) ≡ length file = ap (begin_of ks) all ∙ last_end ks file well_formed in
             inr (subst (SearchComesTo file position) end
             (searched_up_to holder.0 (length ks - holder.0) holder.1 (omega (arith, all)) (λ i k before. none i k)))
         | inr past ↦ inl past
@@ -207,7 +207,7 @@ module _ (ks : List ChunkValue) (file : List ℕ) (frame : IsFrame ks file) (rea
   answering_there j k answers =
       let stands : j < length ks = slice_get_within ks j k answers.may.stands in
       let end : begin_of ks (j + 1) ≤ length file =
-      omega (arith, begin_of_rises ks (j + 1) (length ks) (omega (arith, stands)), last_end ks file frame) in
+      omega (arith, begin_of_rises ks (j + 1) (length ks) (omega (arith, stands)), last_end ks file well_formed) in
       let below : position < length file =
       omega (
         arith,
@@ -216,14 +216,14 @@ module _ (ks : List ChunkValue) (file : List ℕ) (frame : IsFrame ks file) (rea
         begin_of-next ks j k answers.may.stands,
         chunk_end_of_past_records (begin_of ks j) (40 + length k.«data») k.num_records,
       ) in
-      let holder = lies_of ks file frame position below in
-      let from : holder.0 ≤ j = not_before ks file frame position holder.0 holder.1 j k answers.may in
+      let holder = lies_of ks file well_formed position below in
+      let from : holder.0 ≤ j = not_before ks file well_formed position holder.0 holder.1 j k answers.may in
       let all : holder.0 + (j - holder.0) ≡ j = omega (arith, from) in
-      let count : (header_at file (begin_of ks j)).num_records ≡ k.num_records = told_records ks file frame j k answers.may.stands in
+      let count : (header_at file (begin_of ks j)).num_records ≡ k.num_records = told_records ks file well_formed j k answers.may.stands in
       record {
         searched = subst (λ (i : ℕ). SearchComesTo file position (begin_of ks i)) all
             (searched_up_to holder.0 (j - holder.0) holder.1 (omega (arith, all, stands))
             (λ i other before may. absurd (omega (arith, before, all, answers.first i other may))));
-        whole = passes ks file frame j k answers.may.stands;
+        whole = passes ks file well_formed j k answers.may.stands;
         has = (omega (arith, count, answers.may.has.0), omega (arith, count, answers.may.has.1));
       }

@@ -6,14 +6,14 @@ use Rattle.std.proofs.lemmas.Bool.{cases_lt}
 use Rattle.std.proofs.lemmas.List.{length-append, nil_from_length}
 use Rattle.std.proofs.lemmas.Option.{same_Some, slice_get_within}
 use Rattle.chunk_header.specs.Chunks.{ChunkValue}
-use Rattle.meta_chunk.specs.Files.{IsPlain, IsFrame, IsFile, HoldEach, ArePlaced, begin_of, placed_from}
+use Rattle.meta_chunk.specs.Files.{IsPlain, IsWellFormed, IsReadable, HoldEach, ArePlaced, begin_of, placed_from}
 use Rattle.meta_chunk.proofs.Begins.{begin_of_rises, begin_of_rises_by}
 use Rattle.chunk_reader.specs.Holders.{ArePlacesBetween}
 use Rattle.chunk_reader.specs.Places.{header_at}
-use Rattle.chunk_reader.specs.Searches.{HasRecordsAt}
+use Rattle.chunk_reader.specs.PositionSearches.{HasRecordsAt}
 use Rattle.chunk_reader.specs.declared.reasons.Fault.{Fault}
 use Rattle.chunk_reader.proofs.Blocks.{stands_within}
-use Rattle.chunk_reader.proofs.Frames.{file_of_frame}
+use Rattle.chunk_reader.proofs.WellFormedFiles.{readable_of_well_formed}
 use Rattle.chunk_reader.proofs.HeadersTell.{passed_below, last_end, stands_below, told_end, told_records, told_is, places_are, lies_of}
 use Rattle.chunk_reader.proofs.Rooms.{IsSized}
 use Rattle.record_seek.specs.Found.{IsKeyFound, BytesStandBefore, OnlyFrontStandsBefore}
@@ -35,7 +35,7 @@ IsLow Before placed i = (i ≡ 0) ⊎ ((r : ℕ × List ℕ) × (slice_get place
 abbrev pub IsBehind : (Before : List ℕ → Type 0) → List (ℕ × List ℕ) → ℕ → Type 0
 IsBehind Before placed i = (last : ℕ × List ℕ) × (slice_get placed (i - 1) ≡ Some last) × Before last.1
 
-module _ (Before : List ℕ → Type 0) (ks : List ChunkValue) (file : List ℕ) (frame : IsFrame ks file) (plain : AllByRecursion IsPlain ks) (lists : List (List (List ℕ))) (each : HoldEach ks lists) where
+module _ (Before : List ℕ → Type 0) (ks : List ChunkValue) (file : List ℕ) (well_formed : IsWellFormed ks file) (plain : AllByRecursion IsPlain ks) (lists : List (List (List ℕ))) (each : HoldEach ks lists) where
   -- chunks without records hold none
   none_more : (places : List ℕ) (h to : ℕ) → ArePlacesBetween file (begin_of ks h) to places → HaveNoRecords file places
       → records_before lists (h + length places) ≡ records_before lists h
@@ -43,12 +43,12 @@ module _ (Before : List ℕ → Type 0) (ks : List ChunkValue) (file : List ℕ)
       let index : h + length {A = ℕ} [] ≡ h = omega arith in
       ap (records_before lists) index
   none_more (place ∷ places) h to (same, passed, rest) none =
-      let k = stands_below ks file frame h (passed_below file (begin_of ks h) passed) in
+      let k = stands_below ks file well_formed h (passed_below file (begin_of ks h) passed) in
       let count : (header_at file place).num_records ≡ k.0.num_records =
-      ap (λ (p : ℕ). (header_at file p).num_records) same ∙ told_records ks file frame h k.0 k.1 in
+      ap (λ (p : ℕ). (header_at file p).num_records) same ∙ told_records ks file well_formed h k.0 k.1 in
       let next : records_before lists (h + 1) ≡ records_before lists h + k.0.num_records = records_before_next ks lists h k.0 plain each k.1 in
       let on : records_before lists (h + 1 + length places) ≡ records_before lists (h + 1) =
-      none_more places (h + 1) to (subst (λ (p : ℕ). ArePlacesBetween file p to places) (told_end ks file frame h k.0 k.1) rest) none.1 in
+      none_more places (h + 1) to (subst (λ (p : ℕ). ArePlacesBetween file p to places) (told_end ks file well_formed h k.0 k.1) rest) none.1 in
       let index : h + length (place ∷ places) ≡ h + 1 + length places = omega arith in
       ap (records_before lists) index ∙ omega (arith, on, next, count, none.0)
 
@@ -57,7 +57,7 @@ module _ (Before : List ℕ → Type 0) (ks : List ChunkValue) (file : List ℕ)
       → HasRecordsAt file place records → slice_get records number ≡ Some r
       → slice_get (placed_from 0 ks lists) (records_before lists j + number) ≡ Some (place + number, r)
   record_stands j place number records r is below holds stands =
-      let (k, at, simple) = holds_there ks file frame j place records is below holds in
+      let (k, at, simple) = holds_there ks file well_formed j place records is below holds in
       placed-stands 0 ks lists j k records number r each at simple stands
       ∙ ap (λ (p : ℕ). Some (p + number, r)) (sym is)
 
@@ -66,18 +66,18 @@ module _ (Before : List ℕ → Type 0) (ks : List ChunkValue) (file : List ℕ)
       → (place ≡ begin_of ks (h + length front)) × (place < length file) × ArePlacesBetween file (begin_of ks (h + length front + 1)) to rest
   place_at [] h place to rest (same, passed, behind) =
       let below : begin_of ks h < length file = passed_below file (begin_of ks h) passed in
-      let k = stands_below ks file frame h below in
+      let k = stands_below ks file well_formed h below in
       let index : h ≡ h + length {A = ℕ} [] = omega arith in (
         same ∙ ap (begin_of ks) index,
         omega (arith, same, below),
-        subst (λ (p : ℕ). ArePlacesBetween file p to rest) (told_end ks file frame h k.0 k.1 ∙ ap (λ (i : ℕ). begin_of ks (i + 1)) index) behind,
+        subst (λ (p : ℕ). ArePlacesBetween file p to rest) (told_end ks file well_formed h k.0 k.1 ∙ ap (λ (i : ℕ). begin_of ks (i + 1)) index) behind,
       )
   place_at (p ∷ front) h place to rest (same, passed, behind) =
-      let k = stands_below ks file frame h (passed_below file (begin_of ks h) passed) in
+      let k = stands_below ks file well_formed h (passed_below file (begin_of ks h) passed) in
       let index : h + 1 + length front ≡ h + length (p ∷ front) = omega arith in
       subst (λ (i : ℕ). (place ≡ begin_of ks i) × (place < length file) × ArePlacesBetween file (begin_of ks (i + 1)) to rest) index
       (place_at front (h + 1) place to rest
-      (subst (λ (q : ℕ). ArePlacesBetween file q to (front ++ place ∷ rest)) (told_end ks file frame h k.0 k.1) behind))
+      (subst (λ (q : ℕ). ArePlacesBetween file q to (front ++ place ∷ rest)) (told_end ks file well_formed h k.0 k.1) behind))
 
   -- a last record that stands before is right before the next
   end_behind : (h to : ℕ) (places : List ℕ) → ArePlacesBetween file (begin_of ks h) to places → EndBefore Before file places
@@ -85,7 +85,7 @@ module _ (Before : List ℕ → Type 0) (ks : List ChunkValue) (file : List ℕ)
   end_behind h to places between end =
       let e : ℕ = h + length end.front in
       let at = place_at end.front h end.place to end.rest (subst (ArePlacesBetween file (begin_of ks h) to) end.parts between) in
-      let (k, there, simple) = holds_there ks file frame e end.place end.records at.0 at.1 end.holds in
+      let (k, there, simple) = holds_there ks file well_formed e end.place end.records at.0 at.1 end.holds in
       let next : records_before lists (e + 1) ≡ records_before lists e + k.num_records = records_before_next ks lists e k plain each there in
       let on : records_before lists (e + 1 + length end.rest) ≡ records_before lists (e + 1) = none_more end.rest (e + 1) to at.2 end.none_behind in
       let count : e + 1 + length end.rest ≡ h + length places =
@@ -105,7 +105,7 @@ module _ (Before : List ℕ → Type 0) (ks : List ChunkValue) (file : List ℕ)
       → (j : ℕ) × (to ≡ begin_of ks j)
       × ((records_before lists j ≡ records_before lists h) ⊎ IsBehind Before (placed_from 0 ks lists) (records_before lists j))
   read_to h to inside read =
-      let there = places_are ks file frame read.places h to inside read.between in (
+      let there = places_are ks file well_formed read.places h to inside read.between in (
         h + length read.places,
         there.1,
         elim read.last [
@@ -118,7 +118,7 @@ module _ (Before : List ℕ → Type 0) (ks : List ChunkValue) (file : List ℕ)
   first_low : (h : ℕ) (bytes : List ℕ) → h ≤ length ks → IsFirstFrom file (begin_of ks h) bytes → Before bytes
       → IsLow Before (placed_from 0 ks lists) (records_before lists h)
   first_low h bytes inside first before =
-      let there = places_are ks file frame first.places h first.place inside first.between in
+      let there = places_are ks file well_formed first.places h first.place inside first.between in
       let j : ℕ = h + length first.places in
       let index : records_before lists j + 0 ≡ records_before lists h =
       omega (arith, none_more first.places h first.place first.between first.none_before) in
@@ -137,9 +137,9 @@ module _ (Before : List ℕ → Type 0) (ks : List ChunkValue) (file : List ℕ)
   begins_low low begin reach (inr (other, also, (bytes, is_first, stands))) (inr (past, told)) =
       let (previous, next, there, is) = told in
       let block : ℕ = low * 65536 in
-      let holder = lies_of ks file frame block (omega (arith, stands_within file block previous next there)) in
-      let begins : begin ≡ begin_of ks holder.0 = told_is ks file frame block begin holder.0 reach there.is_block holder.1 told in
-      let same : other ≡ begin_of ks holder.0 = told_is ks file frame block other holder.0 reach there.is_block holder.1 also in
+      let holder = lies_of ks file well_formed block (omega (arith, stands_within file block previous next there)) in
+      let begins : begin ≡ begin_of ks holder.0 = told_is ks file well_formed block begin holder.0 reach there.is_block holder.1 told in
+      let same : other ≡ begin_of ks holder.0 = told_is ks file well_formed block other holder.0 reach there.is_block holder.1 also in
       let inside : holder.0 ≤ length ks = omega (arith, holder.1.number) in (
         holder.0,
         begins,
@@ -199,7 +199,7 @@ module _ (Before : List ℕ → Type 0) (ks : List ChunkValue) (file : List ℕ)
       let past : length ks ≤ j =
       elim (cases_lt j (length ks)) [
         | inl less ↦
-            absurd (omega (arith, is, begin_of_rises_by ks j less, begin_of_rises ks (j + 1) (length ks) (omega (arith, less)), last_end ks file frame))
+            absurd (omega (arith, is, begin_of_rises_by ks j less, begin_of_rises ks (j + 1) (length ks) (omega (arith, less)), last_end ks file well_formed))
         | inr past ↦ past
       ] in
       let all : length (placed_from 0 ks lists) ≡ records_before lists j = length-placed 0 ks lists j each past in
@@ -224,7 +224,7 @@ module _ (Before : List ℕ → Type 0) (ks : List ChunkValue) (file : List ℕ)
 -- what is found among a file's records
 abbrev IsFoundIn : (Before : List ℕ → Type 0) → Option Found → List ℕ → Type 0
 IsFoundIn Before found file =
-    (ks : List ChunkValue) (placed : List (ℕ × List ℕ)) → IsFile ks file → ArePlaced ks placed
+    (ks : List ChunkValue) (placed : List (ℕ × List ℕ)) → IsReadable ks file → ArePlaced ks placed
     → IsKeyFound (BytesStandBefore Before) placed (placed_of found)
 
 found_in : (Before : List ℕ → Type 0) (bytes now then : Option (List ℕ)) (size low begin : ℕ) (found : Option Found) → now ≡ bytes → then ≡ bytes
@@ -235,9 +235,9 @@ found_in Before (Some file) now then size low begin found same also sized reach 
     let start : IsBeginFrom low begin file = same_told (IsBeginFrom low begin) (Some file) now same from in
     let on : IsReadOn Before file begin found = same_told (λ f. IsReadOn Before f begin found) (Some file) then also read in
     λ ks placed whole are.
-    let (frame, plain) = (file_of_frame ks file).1 whole in
+    let (well_formed, plain) = (readable_of_well_formed ks file).1 whole in
     subst (λ (xs : List (ℕ × List ℕ)). IsKeyFound (BytesStandBefore Before) xs (placed_of found)) (sym are.2)
-    (key_found Before ks file frame plain are.0 are.1 low begin found (omega (arith, sized, reach)) before start on)
+    (key_found Before ks file well_formed plain are.0 are.1 low begin found (omega (arith, sized, reach)) before start on)
 
 pub found-in : {E : Type 0} (Before : List ℕ → Type 0) (bytes now then : Option (List ℕ)) (size low begin : ℕ) (result : Result (Option Found) E)
     → now ≡ bytes → then ≡ bytes → IsSized bytes (Some size) → size ≤ 2 ^ 60 → IfSome bytes (BeginsBefore Before low)
@@ -250,7 +250,7 @@ found-in Before bytes now then size low begin (Err end) same also sized reach be
 -- where only a front of them stands before, it is the first behind that
 pub in-order : {E : Type 0} (Before : List ℕ → Type 0) (bytes : Option (List ℕ)) (result : Result (Option Found) E)
     → IfOk result (λ found. IfSome bytes (IsFoundIn Before found))
-    → IfOk result (λ found. IfSome bytes (λ file. (ks : List ChunkValue) (placed : List (ℕ × List ℕ)) (count : ℕ) → IsFile ks file → ArePlaced ks placed
+    → IfOk result (λ found. IfSome bytes (λ file. (ks : List ChunkValue) (placed : List (ℕ × List ℕ)) (count : ℕ) → IsReadable ks file → ArePlaced ks placed
     → OnlyFrontStandsBefore (BytesStandBefore Before) placed count → placed_of found ≡ slice_get placed count))
 in-order Before bytes (Err end) found = tt
 in-order Before None (Ok found) is = tt
@@ -259,7 +259,7 @@ in-order Before (Some file) (Ok found) is =
 
 -- and a fault is met in a file with a fault alone
 pub met-not_whole : (bytes : Option (List ℕ)) (size : ℕ) (fault : Fault) → IsSized bytes (Some size) → size ≤ 2 ^ 60
-    → IfSome bytes (λ file. IsMetFault file fault) → IfSome bytes (λ file. (ks : List ChunkValue) → ¬ IsFile ks file)
+    → IfSome bytes (λ file. IsMetFault file fault) → IfSome bytes (λ file. (ks : List ChunkValue) → ¬ IsReadable ks file)
 met-not_whole None size fault sized reach met = tt
 met-not_whole (Some file) size fault sized reach met =
-    λ ks whole. no_met_fault ks file fault ((file_of_frame ks file).1 whole).0 whole (omega (arith, sized, reach)) met
+    λ ks whole. no_met_fault ks file fault ((readable_of_well_formed ks file).1 whole).0 whole (omega (arith, sized, reach)) met

@@ -5,7 +5,7 @@ use Rattle.std.proofs.lemmas.List.{nil_from_length}
 use Rattle.std.proofs.lemmas.Option.{slice_get_cases}
 use Rattle.block_layout.specs.Layout.{blocks_below}
 use Rattle.chunk_header.specs.Chunks.{ChunkValue}
-use Rattle.meta_chunk.specs.Files.{IsFrame, begin_of, LiesIn, signature}
+use Rattle.meta_chunk.specs.Files.{IsWellFormed, begin_of, LiesIn, signature}
 use Rattle.meta_chunk.proofs.Begins.{begin_of-past, begin_of_rises, begin_of_rises_by}
 use Rattle.chunk_reader.specs.Holders.{TellsBegin, ArePlacesBetween}
 use Rattle.chunk_reader.specs.Places.{header_at}
@@ -37,7 +37,7 @@ pub record EndsBehind (Before : List ℕ → Type 0) (ks : List ChunkValue) (pla
   pub begins : begin_of ks n ≤ place
   pub holds : (n ≡ length ks) ⊎ (place < begin_of ks (n + 1))
 
-module _ (ks : List ChunkValue) (file : List ℕ) (frame : IsFrame ks file) where
+module _ (ks : List ChunkValue) (file : List ℕ) (well_formed : IsWellFormed ks file) where
   -- chunks without records cost their headers
   empties_cost : (places : List ℕ) (h to : ℕ) → ArePlacesBetween file (begin_of ks h) to places → HaveNoRecords file places
       → reading_cost ks (h + length places) ≤ reading_cost ks h + 40 * length places
@@ -45,12 +45,12 @@ module _ (ks : List ChunkValue) (file : List ℕ) (frame : IsFrame ks file) wher
       let index : h + length {A = ℕ} [] ≡ h = omega arith in
       omega (arith, ap (reading_cost ks) index)
   empties_cost (place ∷ places) h to (same, passed, rest) none =
-      let k = stands_below ks file frame h (passed_below file (begin_of ks h) passed) in
+      let k = stands_below ks file well_formed h (passed_below file (begin_of ks h) passed) in
       let count : k.0.num_records ≡ 0 =
-      sym (ap (λ (p : ℕ). (header_at file p).num_records) same ∙ told_records ks file frame h k.0 k.1) ∙ none.0 in
+      sym (ap (λ (p : ℕ). (header_at file p).num_records) same ∙ told_records ks file well_formed h k.0 k.1) ∙ none.0 in
       let one : cost_of_chunk k.0.num_records (length_of_chunk ks h) ≡ 40 = ap (λ (n : ℕ). cost_of_chunk n (length_of_chunk ks h)) count in
       let index : h + length (place ∷ places) ≡ h + 1 + length places = omega arith in
-      let on = empties_cost places (h + 1) to (subst (λ (p : ℕ). ArePlacesBetween file p to places) (told_end ks file frame h k.0 k.1) rest) none.1 in
+      let on = empties_cost places (h + 1) to (subst (λ (p : ℕ). ArePlacesBetween file p to places) (told_end ks file well_formed h k.0 k.1) rest) none.1 in
       omega (arith, ap (reading_cost ks) index, on, cost_next ks h k.0 k.1, one)
 
   -- chunks between two cost their headers and bytes
@@ -89,9 +89,9 @@ module _ (ks : List ChunkValue) (file : List ℕ) (frame : IsFrame ks file) wher
   ends_behind : (Before : List ℕ → Type 0) (place h : ℕ) → LiesIn ks place h → FirstNotBefore Before file (begin_of ks h) → EndsBehind Before ks place
   ends_behind Before place h lies (inl (bytes, first, apart)) =
       let inside : h ≤ length ks = omega (arith, lies.number) in
-      let there = places_are ks file frame first.places h first.place inside first.between in
-      let (k, at, simple) = holds_there ks file frame (h + length first.places) first.place first.records there.1 (passed_below file first.place first.whole) first.holds in
-      let few = empties_within ks file frame first.places h first.place first.between first.none_before in
+      let there = places_are ks file well_formed first.places h first.place inside first.between in
+      let (k, at, simple) = holds_there ks file well_formed (h + length first.places) first.place first.records there.1 (passed_below file first.place first.whole) first.holds in
+      let few = empties_within ks file well_formed first.places h first.place first.between first.none_before in
       record {
         n = h;
         to = h + length first.places;
@@ -104,13 +104,13 @@ module _ (ks : List ChunkValue) (file : List ℕ) (frame : IsFrame ks file) wher
       }
   ends_behind Before place h lies (inr (places, between, none)) =
       let inside : h ≤ length ks = omega (arith, lies.number) in
-      let there = places_are ks file frame places h (length file) inside between in
-      let few = empties_within ks file frame places h (length file) between none in
+      let there = places_are ks file well_formed places h (length file) inside between in
+      let few = empties_within ks file well_formed places h (length file) between none in
       let j : ℕ = h + length places in
       let end : j ≡ length ks =
       elim (cases_lt j (length ks)) [
         | inl less ↦
-            absurd (omega (arith, there.1, begin_of_rises_by ks j less, begin_of_rises ks (j + 1) (length ks) (omega (arith, less)), last_end ks file frame))
+            absurd (omega (arith, there.1, begin_of_rises_by ks j less, begin_of_rises ks (j + 1) (length ks) (omega (arith, less)), last_end ks file well_formed))
         | inr past ↦ omega (arith, past, there.0)
       ] in
       record {
@@ -166,27 +166,27 @@ module _ (ks : List ChunkValue) (file : List ℕ) (frame : IsFrame ks file) wher
   begin_lies reach low begin (inl (first, front)) =
       let below : 0 < length file =
       elim (cases_lt 0 (length ks)) [
-        | inl some ↦ omega (arith, begin_of_rises_by ks 0 some, begin_of_rises ks (0 + 1) (length ks) (omega (arith, some)), last_end ks file frame)
-        | inr none ↦ absurd (frame.0 (nil_from_length ks (omega (arith, none))))
+        | inl some ↦ omega (arith, begin_of_rises_by ks 0 some, begin_of_rises ks (0 + 1) (length ks) (omega (arith, some)), last_end ks file well_formed)
+        | inr none ↦ absurd (well_formed.0 (nil_from_length ks (omega (arith, none))))
       ] in
-      let holder = lies_of ks file frame (low * 65536) (omega (arith, first, below)) in
+      let holder = lies_of ks file well_formed (low * 65536) (omega (arith, first, below)) in
       (holder.0, omega (arith, front, first, holder.1.begins), holder.1)
   begin_lies reach low begin (inr (some, told)) =
       let (previous, next, stands, is) = told in
-      let holder = lies_of ks file frame (low * 65536) (omega (arith, stands_within file (low * 65536) previous next stands)) in
-      (holder.0, told_is ks file frame (low * 65536) begin holder.0 reach stands.is_block holder.1 told, holder.1)
+      let holder = lies_of ks file well_formed (low * 65536) (omega (arith, stands_within file (low * 65536) previous next stands)) in
+      (holder.0, told_is ks file well_formed (low * 65536) begin holder.0 reach stands.is_block holder.1 told, holder.1)
 
 -- the search goes on between two blocks, and the turns that are left are paid
 abbrev pub IsHalved : (Before : List ℕ → Type 0) → (size low high spent now : ℕ) → List ℕ → Type 0
 IsHalved Before size low high spent now file =
-    (ks : List ChunkValue) → IsFrame ks file
+    (ks : List ChunkValue) → IsWellFormed ks file
     → EndsBehind Before ks (high * 65536) × AreTurnsPaid (high - low) now (turn_cost ks) (spent + digit_count_of_blocks size * turn_cost ks)
 
 pub halved-begun : (Before : List ℕ → Type 0) (bytes : Option (List ℕ)) (size high spent : ℕ) → IsSized bytes (Some size)
     → high ≡ (size + 65535) / 65536 → IfSome bytes (IsHalved Before size 0 high spent spent)
 halved-begun Before None size high spent sized is = tt
 halved-begun Before (Some file) size high spent sized is =
-    λ ks frame. (
+    λ ks well_formed. (
       record {
         n = length ks;
         to = length ks;
@@ -194,7 +194,7 @@ halved-begun Before (Some file) size high spent sized is =
         within = omega arith;
         ends = inl refl;
         cost = omega arith;
-        begins = omega (arith, last_end ks file frame, sized, is);
+        begins = omega (arith, last_end ks file well_formed, sized, is);
         holds = inl refl;
       },
       record { turns = digit_count_of_blocks size; narrow = omega (arith, digits_above (blocks_below size), is); paid = omega arith },
@@ -206,9 +206,9 @@ pub halved-up : (Before : List ℕ → Type 0) (bytes bytes_now : Option (List �
 halved-up Before None bytes_now size low high spent now then same halved wide takes = tt
 halved-up Before (Some file) bytes_now size low high spent now then same halved wide takes =
     let more : BlockTakes now then file = same_told (BlockTakes now then) (Some file) bytes_now same takes in
-    λ ks frame.
-    let (e, paid) = halved ks frame in
-    (e, after_turn _ _ _ _ _ _ paid wide (omega (arith, wide)) (omega (arith, more ks frame)))
+    λ ks well_formed.
+    let (e, paid) = halved ks well_formed in
+    (e, after_turn _ _ _ _ _ _ paid wide (omega (arith, wide)) (omega (arith, more ks well_formed)))
 
 pub halved-down : (Before : List ℕ → Type 0) (bytes bytes_now : Option (List ℕ)) (size low high spent now then : ℕ) → bytes_now ≡ bytes
     → IsSized bytes (Some size) → size ≤ 2 ^ 60 → IfSome bytes (IsHalved Before size low high spent now) → 1 < high - low
@@ -222,25 +222,25 @@ halved-down Before (Some file) bytes_now size low high spent now then same sized
     let (begin, told, first) =
     same_told (λ f. (b : ℕ) × TellsBegin f block b × FirstNotBefore Before f b) (Some file) bytes_now same looked in
     let (previous, next, stands, is) = told in
-    λ ks frame.
-    let (e, paid) = halved ks frame in
-    let holder = lies_of ks file frame block (omega (arith, stands_within file block previous next stands)) in
-    let begins = told_is ks file frame block begin holder.0 (omega (arith, sized, reach)) stands.is_block holder.1 told in (
-      ends_behind ks file frame Before block holder.0 holder.1 (subst (FirstNotBefore Before file) begins first),
-      after_turn _ _ _ _ _ _ paid wide (omega (arith, wide)) (omega (arith, more ks frame)),
+    λ ks well_formed.
+    let (e, paid) = halved ks well_formed in
+    let holder = lies_of ks file well_formed block (omega (arith, stands_within file block previous next stands)) in
+    let begins = told_is ks file well_formed block begin holder.0 (omega (arith, sized, reach)) stands.is_block holder.1 told in (
+      ends_behind ks file well_formed Before block holder.0 holder.1 (subst (FirstNotBefore Before file) begins first),
+      after_turn _ _ _ _ _ _ paid wide (omega (arith, wide)) (omega (arith, more ks well_formed)),
     )
 
 -- so much a search takes
 abbrev pub KeyTakes : (spent now : ℕ) → List ℕ → Type 0
-KeyTakes spent now file = (ks : List ChunkValue) → IsFrame ks file → now ≤ spent + key_bound ks
+KeyTakes spent now file = (ks : List ChunkValue) → IsWellFormed ks file → now ≤ spent + key_bound ks
 
 -- a turn more at the end
-turn_more : (ks : List ChunkValue) (file : List ℕ) (size width spent now then : ℕ) → IsFrame ks file → size ≡ length file
+turn_more : (ks : List ChunkValue) (file : List ℕ) (size width spent now then : ℕ) → IsWellFormed ks file → size ≡ length file
     → AreTurnsPaid width now (turn_cost ks) (spent + digit_count_of_blocks size * turn_cost ks) → then ≤ now + turn_cost ks
     → then ≤ spent + key_bound ks
-turn_more ks file size width spent now then frame sized paid more =
+turn_more ks file size width spent now then well_formed sized paid more =
     let d : ℕ = digit_count_of_blocks (begin_of ks (length ks)) in
-    let same : digit_count_of_blocks size ≡ d = ap digit_count_of_blocks (sized ∙ sym (last_end ks file frame)) in
+    let same : digit_count_of_blocks size ≡ d = ap digit_count_of_blocks (sized ∙ sym (last_end ks file well_formed)) in
     let all : (d + 2) * turn_cost ks ≡ d * turn_cost ks + turn_cost ks + turn_cost ks = grind arith in
     let one : digit_count_of_blocks size * turn_cost ks ≡ d * turn_cost ks = ap (λ (n : ℕ). n * turn_cost ks) same in
     omega (arith, paid.paid, more, all, one)
@@ -251,13 +251,13 @@ pub takes-look : (Before : List ℕ → Type 0) (bytes bytes_now : Option (List 
 takes-look Before None bytes_now size low high spent now then same sized halved takes = tt
 takes-look Before (Some file) bytes_now size low high spent now then same sized halved takes =
     let more : BlockTakes now then file = same_told (BlockTakes now then) (Some file) bytes_now same takes in
-    λ ks frame. turn_more ks file size (high - low) spent now then frame sized (halved ks frame).1 (omega (arith, more ks frame))
+    λ ks well_formed. turn_more ks file size (high - low) spent now then well_formed sized (halved ks well_formed).1 (omega (arith, more ks well_formed))
 
 pub takes-begin : (Before : List ℕ → Type 0) (bytes : Option (List ℕ)) (size low high spent now then : ℕ) → IsSized bytes (Some size)
     → IfSome bytes (IsHalved Before size low high spent now) → then ≤ now + 24 → IfSome bytes (KeyTakes spent then)
 takes-begin Before None size low high spent now then sized halved more = tt
 takes-begin Before (Some file) size low high spent now then sized halved more =
-    λ ks frame. turn_more ks file size (high - low) spent now then frame sized (halved ks frame).1 (omega (arith, more))
+    λ ks well_formed. turn_more ks file size (high - low) spent now then well_formed sized (halved ks well_formed).1 (omega (arith, more))
 
 pub takes-reading : (Before : List ℕ → Type 0) (bytes bytes_now bytes_then : Option (List ℕ)) (size low high begin spent now then last : ℕ) → bytes_now ≡ bytes
     → bytes_then ≡ bytes → IsSized bytes (Some size) → size ≤ 2 ^ 60 → IfSome bytes (IsHalved Before size low high spent now) → low ≤ high
@@ -267,8 +267,8 @@ takes-reading Before None bytes_now bytes_then size low high begin spent now the
 takes-reading Before (Some file) bytes_now bytes_then size low high begin spent now then last same also sized reach halved order near from more read =
     let start : IsBeginFrom low begin file = same_told (IsBeginFrom low begin) (Some file) bytes_now same from in
     let takes : ReadingTakes Before begin then last file = same_told (ReadingTakes Before begin then last) (Some file) bytes_then also read in
-    λ ks frame.
-    let (e, paid) = halved ks frame in
-    let (h, is, lies) = begin_lies ks file frame (omega (arith, sized, reach)) low begin start in
-    let (inside, cost) = read_near ks file frame Before low high h lies order near e in
-    turn_more ks file size (high - low) spent now last frame sized paid (omega (arith, takes ks h e.to frame is inside e.ends, cost, more))
+    λ ks well_formed.
+    let (e, paid) = halved ks well_formed in
+    let (h, is, lies) = begin_lies ks file well_formed (omega (arith, sized, reach)) low begin start in
+    let (inside, cost) = read_near ks file well_formed Before low high h lies order near e in
+    turn_more ks file size (high - low) spent now last well_formed sized paid (omega (arith, takes ks h e.to well_formed is inside e.ends, cost, more))

@@ -10,7 +10,7 @@ use Rattle.meta_chunk.specs.Files.{IsPlain}
 use Rattle.chunk_reader.specs.Holders.{IsOnWay, IsHolder, IsHolderFault}
 use Rattle.chunk_reader.specs.Places.{header_at, end_at, chunk_at}
 use Rattle.chunk_reader.specs.Reasons.{Applies, NoneOf, unpassed_reasons, strict_reasons}
-use Rattle.chunk_reader.specs.Searches.{MayAnswerAt, SearchComesTo, AnswersAt, IsSought, SearchGives, IsSearchFault}
+use Rattle.chunk_reader.specs.PositionSearches.{MayAnswerAt, SearchComesTo, AnswersAt, IsSought, SearchGives, IsSearchFault}
 use Rattle.chunk_reader.specs.declared.reasons.Fault.{Fault}
 use Rattle.chunk_reader.specs.declared.reasons.Why.TheVariants as why
 use Rattle.chunk_reader.proofs.Blocks.{stands_decided}

@@ -5,7 +5,7 @@ use Rattle.std.proofs.lemmas.List.{drop_more}
 use Rattle.std.proofs.lemmas.List.Sums.{sum_by-cons}
 use Rattle.std.proofs.lemmas.Option.{same_Some, slice_get_within, get_or_from_slice_get}
 use Rattle.chunk_header.specs.Chunks.{ChunkValue}
-use Rattle.meta_chunk.specs.Files.{IsFrame, begin_of, end_of_chunks}
+use Rattle.meta_chunk.specs.Files.{IsWellFormed, begin_of, end_of_chunks}
 use Rattle.meta_chunk.specs.Laid.{end_of_chunk}
 use Rattle.meta_chunk.proofs.Begins.{begin_of-next}
 use Rattle.chunk_reader.specs.Holders.{TellsBegin, ArePlacesBetween}
@@ -53,29 +53,29 @@ pub longest : (ks : List ChunkValue) (j : ℕ) (k : ChunkValue) → slice_get ks
     → begin_of ks (j + 1) ≤ begin_of ks j + greatest_length_from 0 ks
 longest ks j k at = omega (arith, begin_of-next ks j k at, longest_from 0 ks j k at)
 
-module _ (ks : List ChunkValue) (file : List ℕ) (frame : IsFrame ks file) where
+module _ (ks : List ChunkValue) (file : List ℕ) (well_formed : IsWellFormed ks file) where
   -- chunks that have no records are some of those without
   pub empties_within : (places : List ℕ) (h to : ℕ) → ArePlacesBetween file (begin_of ks h) to places → HaveNoRecords file places
       → length places ≤ chunks_without_records (drop h ks)
   empties_within [] h to same none = omega arith
   empties_within (place ∷ places) h to (same, passed, rest) none =
-      let k = stands_below ks file frame h (passed_below file (begin_of ks h) passed) in
+      let k = stands_below ks file well_formed h (passed_below file (begin_of ks h) passed) in
       let count : (header_at file place).num_records ≡ k.0.num_records =
-      ap (λ (p : ℕ). (header_at file p).num_records) same ∙ told_records ks file frame h k.0 k.1 in
+      ap (λ (p : ℕ). (header_at file p).num_records) same ∙ told_records ks file well_formed h k.0 k.1 in
       let more : chunks_without_records (drop h ks) ≡ 1 + chunks_without_records (drop (h + 1) ks) =
       ap chunks_without_records (drop_one ks h k.0 k.1) ∙ without_more k.0 (drop (h + 1) ks) (sym count ∙ none.0) in
       let on = empties_within places (h + 1) to
-      (subst (λ (p : ℕ). ArePlacesBetween file p to places) (told_end ks file frame h k.0 k.1) rest) none.1 in
+      (subst (λ (p : ℕ). ArePlacesBetween file p to places) (told_end ks file well_formed h k.0 k.1) rest) none.1 in
       omega (arith, more, on)
 
   -- the chunk at the place behind them is no longer than the longest
   end_near : (places : List ℕ) (h place : ℕ) → h ≤ length ks → ArePlacesBetween file (begin_of ks h) place places
       → NoneOf (Applies file place) unpassed_reasons → end_at file place ≤ place + greatest_length_from 0 ks
   end_near places h place inside between none =
-      let there = places_are ks file frame places h place inside between in
+      let there = places_are ks file well_formed places h place inside between in
       let j : ℕ = h + length places in
-      let k = stands_below ks file frame j (omega (arith, there.1, passed_below file place none)) in
-      let end : end_at file place ≡ begin_of ks (j + 1) = ap (end_at file) there.1 ∙ told_end ks file frame j k.0 k.1 in
+      let k = stands_below ks file well_formed j (omega (arith, there.1, passed_below file place none)) in
+      let end : end_at file place ≡ begin_of ks (j + 1) = ap (end_at file) there.1 ∙ told_end ks file well_formed j k.0 k.1 in
       omega (arith, end, there.1, longest ks j k.0 k.1)
 
   -- so much a look takes
@@ -91,11 +91,11 @@ module _ (ks : List ChunkValue) (file : List ℕ) (frame : IsFrame ks file) wher
 
 -- with the header of the block that tells where to look
 abbrev pub BlockTakes : (spent now : ℕ) → List ℕ → Type 0
-BlockTakes spent now file = (ks : List ChunkValue) → IsFrame ks file → now ≤ spent + (24 + look_bound ks)
+BlockTakes spent now file = (ks : List ChunkValue) → IsWellFormed ks file → now ≤ spent + (24 + look_bound ks)
 
 pub block-takes : (bytes : Option (List ℕ)) (spent now : ℕ) → now ≤ spent + 24 → IfSome bytes (BlockTakes spent now)
 block-takes None spent now more = tt
-block-takes (Some file) spent now more = λ ks frame. omega (arith, more)
+block-takes (Some file) spent now more = λ ks well_formed. omega (arith, more)
 
 pub told-takes : (bytes bytes_now : Option (List ℕ)) (size block begin spent now then : ℕ) → bytes_now ≡ bytes → IsSized bytes (Some size)
     → size ≤ 2 ^ 60 → IfSome bytes (λ file. TellsBegin file block begin) → now ≤ spent + 24 → IfSome bytes_now (IsPaidOn begin now then)
@@ -104,7 +104,7 @@ told-takes None bytes_now size block begin spent now then same sized reach told 
 told-takes (Some file) bytes_now size block begin spent now then same sized reach told more look =
     let on : IsPaidOn begin now then file = same_told (IsPaidOn begin now then) (Some file) bytes_now same look in
     let (previous, next, stands, is) = told in
-    λ ks frame.
-    let holder = lies_of ks file frame block (omega (arith, stands_within file block previous next stands)) in
-    let begins = told_is ks file frame block begin holder.0 (omega (arith, sized, reach)) stands.is_block holder.1 told in
-    omega (arith, more, look_takes ks file frame holder.0 begin now then begins (omega (arith, holder.1.number)) on)
+    λ ks well_formed.
+    let holder = lies_of ks file well_formed block (omega (arith, stands_within file block previous next stands)) in
+    let begins = told_is ks file well_formed block begin holder.0 (omega (arith, sized, reach)) stands.is_block holder.1 told in
+    omega (arith, more, look_takes ks file well_formed holder.0 begin now then begins (omega (arith, holder.1.number)) on)

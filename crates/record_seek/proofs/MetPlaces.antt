@@ -4,7 +4,7 @@ use Rattle.std.proofs.lemmas.Bool.{cases_lt}
 use Rattle.block_layout.specs.Layout.{IsBoundary}
 use Rattle.block_layout.proofs.ChunkEnds.{chunk_end_of_boundary}
 use Rattle.chunk_header.specs.Chunks.{ChunkValue}
-use Rattle.meta_chunk.specs.Files.{IsPlain, IsFrame, IsFile, begin_of}
+use Rattle.meta_chunk.specs.Files.{IsPlain, IsWellFormed, IsReadable, begin_of}
 use Rattle.chunk_reader.specs.Places.{header_at, end_at}
 use Rattle.chunk_reader.specs.Reasons.{Applies, IsFirstOf, strict_reasons}
 use Rattle.chunk_reader.specs.declared.reasons.Fault.{Fault}
@@ -32,28 +32,28 @@ met_within {file} (met.behind {place = place} here none) =
     ]
 
 -- in a file of chunks it is where one begins, or where the last one ends
-pub met_begin : (ks : List ChunkValue) {file : List ℕ} {place : ℕ} → IsFrame ks file → length file ≤ 2 ^ 60 → IsMetBySearch file place
+pub met_begin : (ks : List ChunkValue) {file : List ℕ} {place : ℕ} → IsWellFormed ks file → length file ≤ 2 ^ 60 → IsMetBySearch file place
     → (j : ℕ) × (place ≡ begin_of ks j)
-met_begin ks frame reach met.front = (0, refl)
-met_begin ks {file} frame reach (met.told {block = block} {place = place} (previous, next, stands, is)) =
-    let holder = lies_of ks file frame block (omega (arith, stands_within file block previous next stands)) in
-    (holder.0, told_is ks file frame block place holder.0 reach stands.is_block holder.1 (previous, next, stands, is))
-met_begin ks {file} frame reach (met.behind {place = place} here none) =
-    let (j, is) = met_begin ks frame reach here in
-    let k = stands_below ks file frame j (omega (arith, is, passed_below file place none)) in
-    (j + 1, ap (end_at file) is ∙ told_end ks file frame j k.0 k.1)
+met_begin ks well_formed reach met.front = (0, refl)
+met_begin ks {file} well_formed reach (met.told {block = block} {place = place} (previous, next, stands, is)) =
+    let holder = lies_of ks file well_formed block (omega (arith, stands_within file block previous next stands)) in
+    (holder.0, told_is ks file well_formed block place holder.0 reach stands.is_block holder.1 (previous, next, stands, is))
+met_begin ks {file} well_formed reach (met.behind {place = place} here none) =
+    let (j, is) = met_begin ks well_formed reach here in
+    let k = stands_below ks file well_formed j (omega (arith, is, passed_below file place none)) in
+    (j + 1, ap (end_at file) is ∙ told_end ks file well_formed j k.0 k.1)
 
 -- so no fault is met in a file without fault
-pub no_met_fault : (ks : List ChunkValue) (file : List ℕ) (fault : Fault) → IsFrame ks file → IsFile ks file → length file ≤ 2 ^ 60
+pub no_met_fault : (ks : List ChunkValue) (file : List ℕ) (fault : Fault) → IsWellFormed ks file → IsReadable ks file → length file ≤ 2 ^ 60
     → ¬ IsMetFault file fault
-no_met_fault ks file fault frame plain reach (inl (block, refused)) =
-    let holder = lies_of ks file frame block refused.below in
-    let (previous, next, stands, is) = tells ks file frame block holder.0 reach refused.is_block holder.1 in
+no_met_fault ks file fault well_formed plain reach (inl (block, refused)) =
+    let holder = lies_of ks file well_formed block refused.below in
+    let (previous, next, stands, is) = tells ks file well_formed block holder.0 reach refused.is_block holder.1 in
     absurd (refused.unread previous next stands)
-no_met_fault ks file fault frame plain reach (inr (place, here, below, verdict)) =
-    let (j, is) = met_begin ks frame reach here in
-    let k = stands_below ks file frame j (omega (arith, is, below)) in
-    let none = no_reason false (begin_of ks j) k.0 file (begin_of ks (j + 1)) (laid_at ks file frame j k.0 k.1)
+no_met_fault ks file fault well_formed plain reach (inr (place, here, below, verdict)) =
+    let (j, is) = met_begin ks well_formed reach here in
+    let k = stands_below ks file well_formed j (omega (arith, is, below)) in
+    let none = no_reason false (begin_of ks j) k.0 file (begin_of ks (j + 1)) (laid_at ks file well_formed j k.0 k.1)
     (each_at IsPlain ks j k.0 plain.1.each k.1) in
     absurd (none_is_first (Applies file (begin_of ks j)) (strict_reasons false) fault.why none
     (subst (λ (p : ℕ). IsFirstOf (Applies file p) (strict_reasons false) fault.why) is verdict.0))

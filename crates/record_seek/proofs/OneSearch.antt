@@ -8,7 +8,7 @@ use Rattle.chunk_reader.specs.Faults.{IsVerdict}
 use Rattle.chunk_reader.specs.Holders.{ArePlacesBetween, IsHolderFault}
 use Rattle.chunk_reader.specs.Places.{chunk_at}
 use Rattle.chunk_reader.specs.Reasons.{Applies, NoneOf, strict_reasons}
-use Rattle.chunk_reader.specs.Searches.{MayAnswerAt, SearchComesTo, AnswersAt, IsSought, SearchGives, IsSearchFault}
+use Rattle.chunk_reader.specs.PositionSearches.{MayAnswerAt, SearchComesTo, AnswersAt, IsSought, SearchGives, IsSearchFault}
 use Rattle.chunk_reader.specs.declared.reasons.Fault.{Fault}
 use Rattle.chunk_reader.proofs.FileFaults.{verdict_is_one}
 use Rattle.chunk_reader.proofs.HeadersTell.{passed_below}

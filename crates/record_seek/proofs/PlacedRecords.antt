@@ -7,11 +7,11 @@ use Rattle.std.proofs.lemmas.Option.{same_Some}
 use Rattle.chunk_header.specs.Chunks.{ChunkValue}
 use Rattle.chunk_header.specs.SimpleChunks.{IsSimple}
 use Rattle.chunk_header.proofs.OneList.{records_are_one}
-use Rattle.meta_chunk.specs.Files.{IsPlain, IsFrame, HoldEach, begin_of, end_of_chunks, placed_from}
+use Rattle.meta_chunk.specs.Files.{IsPlain, IsWellFormed, HoldEach, begin_of, end_of_chunks, placed_from}
 use Rattle.meta_chunk.specs.Laid.{end_of_chunk}
 use Rattle.meta_chunk.proofs.Held.{Holds-counted}
 use Rattle.chunk_reader.specs.Places.{chunk_at}
-use Rattle.chunk_reader.specs.Searches.{HasRecordsAt}
+use Rattle.chunk_reader.specs.PositionSearches.{HasRecordsAt}
 use Rattle.chunk_reader.proofs.HeadersTell.{laid_at, stands_below}
 use Rattle.chunk_reader.proofs.LaidAt.{chunk_at-laid}
 
@@ -110,10 +110,10 @@ pub records_before_next : (ks : List ChunkValue) (lists : List (List (List ℕ))
 records_before_next ks lists j k plain each at = rw (add-one j) (before_next ks lists j k plain each at)
 
 -- the chunk at a place holds the records that it has there
-pub holds_there : (ks : List ChunkValue) (file : List ℕ) (frame : IsFrame ks file) (j place : ℕ) (records : List (List ℕ)) → place ≡ begin_of ks j → place < length file → HasRecordsAt file place records
+pub holds_there : (ks : List ChunkValue) (file : List ℕ) (well_formed : IsWellFormed ks file) (j place : ℕ) (records : List (List ℕ)) → place ≡ begin_of ks j → place < length file → HasRecordsAt file place records
     → (k : ChunkValue) × (slice_get ks j ≡ Some k) × IsSimple k records
-holds_there ks file frame j place records is below holds =
-    let k = stands_below ks file frame j (omega (arith, is, below)) in
+holds_there ks file well_formed j place records is below holds =
+    let k = stands_below ks file well_formed j (omega (arith, is, below)) in
     let same : chunk_at file place ≡ k.0 =
-    ap (chunk_at file) is ∙ chunk_at-laid (begin_of ks j) k.0 file (begin_of ks (j + 1)) (laid_at ks file frame j k.0 k.1) in
+    ap (chunk_at file) is ∙ chunk_at-laid (begin_of ks j) k.0 file (begin_of ks (j + 1)) (laid_at ks file well_formed j k.0 k.1) in
     (k.0, k.1, subst (λ (c : ChunkValue). IsSimple c records) same holds.holds)

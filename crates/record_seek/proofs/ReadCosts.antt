@@ -6,7 +6,7 @@ use Rattle.std.proofs.lemmas.Option.{same_Some, slice_get_within, get_or_from_sl
 use Rattle.chunk_header.specs.Chunks.{ChunkValue}
 use Rattle.chunk_header.specs.SimpleChunks.{IsSimple}
 use Rattle.chunk_header.proofs.OneList.{records_are_one}
-use Rattle.meta_chunk.specs.Files.{IsFrame, begin_of, signature}
+use Rattle.meta_chunk.specs.Files.{IsWellFormed, begin_of, signature}
 use Rattle.meta_chunk.proofs.Begins.{begin_of_rises_by}
 use Rattle.chunk_reader.specs.Holders.{ArePlacesBetween}
 use Rattle.chunk_reader.specs.Places.{header_at, end_at, chunk_at}
@@ -57,17 +57,17 @@ cost_rises ks i (suc j) order =
 -- reading comes from one place to another, no further than where it ends, and pays what the chunks between cost
 abbrev pub IsPaidRead : (Before : List ℕ → Type 0) → (begin place spent now : ℕ) → List ℕ → Type 0
 IsPaidRead Before begin place spent now file =
-    (ks : List ChunkValue) (h to : ℕ) → IsFrame ks file → begin ≡ begin_of ks h → h ≤ to → EndsReading Before ks to
+    (ks : List ChunkValue) (h to : ℕ) → IsWellFormed ks file → begin ≡ begin_of ks h → h ≤ to → EndsReading Before ks to
     → (j : ℕ) × (place ≡ begin_of ks j) × (j ≤ to) × (now + reading_cost ks h ≤ spent + reading_cost ks j)
 
 abbrev pub ReadingTakes : (Before : List ℕ → Type 0) → (begin spent now : ℕ) → List ℕ → Type 0
 ReadingTakes Before begin spent now file =
-    (ks : List ChunkValue) (h to : ℕ) → IsFrame ks file → begin ≡ begin_of ks h → h ≤ to → EndsReading Before ks to
+    (ks : List ChunkValue) (h to : ℕ) → IsWellFormed ks file → begin ≡ begin_of ks h → h ≤ to → EndsReading Before ks to
     → now + reading_cost ks h ≤ spent + reading_cost ks (to + 1)
 
 pub paid_read-begun : (Before : List ℕ → Type 0) (bytes : Option (List ℕ)) (begin spent : ℕ) → IfSome bytes (IsPaidRead Before begin begin spent spent)
 paid_read-begun Before None begin spent = tt
-paid_read-begun Before (Some file) begin spent = λ ks h to frame is inside ends. (h, is, inside, omega arith)
+paid_read-begun Before (Some file) begin spent = λ ks h to well_formed is inside ends. (h, is, inside, omega arith)
 
 -- it isn't where reading ends
 not_end : (Before : List ℕ → Type 0) (ks : List ChunkValue) (j to : ℕ) (k : ChunkValue) → slice_get ks j ≡ Some k → j ≤ to → EndsReading Before ks to
@@ -88,14 +88,14 @@ module _ (Before : List ℕ → Type 0) (file : List ℕ) (begin place : ℕ) (c
       → ((size : ℕ) → end_at file place ≡ place + size → then ≤ now + cost_of_chunk chunk.num_records size)
       → IsPaidRead Before begin chunk.end spent then file
   next_read then all takes =
-      λ ks h to frame is inside ends.
-      let (j, at, order, cost) = paid ks h to frame is inside ends in
-      let k = stands_below ks file frame j (omega (arith, at, passed_below file place here.none)) in
+      λ ks h to well_formed is inside ends.
+      let (j, at, order, cost) = paid ks h to well_formed is inside ends in
+      let k = stands_below ks file well_formed j (omega (arith, at, passed_below file place here.none)) in
       let there : chunk_at file place ≡ k.0 =
-      ap (chunk_at file) at ∙ chunk_at-laid (begin_of ks j) k.0 file (begin_of ks (j + 1)) (laid_at ks file frame j k.0 k.1) in
-      let end : end_at file place ≡ begin_of ks (j + 1) = ap (end_at file) at ∙ told_end ks file frame j k.0 k.1 in
+      ap (chunk_at file) at ∙ chunk_at-laid (begin_of ks j) k.0 file (begin_of ks (j + 1)) (laid_at ks file well_formed j k.0 k.1) in
+      let end : end_at file place ≡ begin_of ks (j + 1) = ap (end_at file) at ∙ told_end ks file well_formed j k.0 k.1 in
       let count : chunk.num_records ≡ k.0.num_records =
-      here.num_records ∙ ap (λ (p : ℕ). (header_at file p).num_records) at ∙ told_records ks file frame j k.0 k.1 in
+      here.num_records ∙ ap (λ (p : ℕ). (header_at file p).num_records) at ∙ told_records ks file well_formed j k.0 k.1 in
       let rises = begin_of_rises_by ks j (slice_get_within ks j k.0 k.1) in
       let size : end_at file place ≡ place + length_of_chunk ks j = omega (arith, end, at, rises) in
       let same : cost_of_chunk chunk.num_records (length_of_chunk ks j) ≡ cost_of_chunk k.0.num_records (length_of_chunk ks j) =
@@ -110,12 +110,12 @@ module _ (Before : List ℕ → Type 0) (file : List ℕ) (begin place : ℕ) (c
   last_read : (then : ℕ) → ((size : ℕ) → end_at file place ≡ place + size → then ≤ now + cost_of_chunk chunk.num_records size)
       → ReadingTakes Before begin spent then file
   last_read then takes =
-      λ ks h to frame is inside ends.
-      let (j, at, order, cost) = paid ks h to frame is inside ends in
-      let k = stands_below ks file frame j (omega (arith, at, passed_below file place here.none)) in
-      let end : end_at file place ≡ begin_of ks (j + 1) = ap (end_at file) at ∙ told_end ks file frame j k.0 k.1 in
+      λ ks h to well_formed is inside ends.
+      let (j, at, order, cost) = paid ks h to well_formed is inside ends in
+      let k = stands_below ks file well_formed j (omega (arith, at, passed_below file place here.none)) in
+      let end : end_at file place ≡ begin_of ks (j + 1) = ap (end_at file) at ∙ told_end ks file well_formed j k.0 k.1 in
       let count : chunk.num_records ≡ k.0.num_records =
-      here.num_records ∙ ap (λ (p : ℕ). (header_at file p).num_records) at ∙ told_records ks file frame j k.0 k.1 in
+      here.num_records ∙ ap (λ (p : ℕ). (header_at file p).num_records) at ∙ told_records ks file well_formed j k.0 k.1 in
       let rises = begin_of_rises_by ks j (slice_get_within ks j k.0 k.1) in
       let size : end_at file place ≡ place + length_of_chunk ks j = omega (arith, end, at, rises) in
       let same : cost_of_chunk chunk.num_records (length_of_chunk ks j) ≡ cost_of_chunk k.0.num_records (length_of_chunk ks j) =
@@ -134,8 +134,8 @@ paid_empties : (Before : List ℕ → Type 0) (file : List ℕ) (begin place to 
     → ArePlacesBetween file place to places → HaveNoRecords file places → then ≤ now + 40 * length places
     → IsPaidRead Before begin to spent then file
 paid_empties Before file begin place to spent now then [] paid same none more =
-    λ ks h last frame is inside ends.
-    let (j, at, order, cost) = paid ks h last frame is inside ends in
+    λ ks h last well_formed is inside ends.
+    let (j, at, order, cost) = paid ks h last well_formed is inside ends in
     (j, sym same ∙ at, order, omega (arith, cost, more))
 paid_empties Before file begin place to spent now then (p ∷ places) paid (same, passed, rest) none more =
     let few : (header_at file place).num_records ≡ 0 = ap (λ (q : ℕ). (header_at file q).num_records) (sym same) ∙ none.0 in
@@ -180,8 +180,8 @@ reading-on Before (Some file) bytes_now begin place spent now then same paid mor
     paid_empties Before file begin place on.place spent now (now + 40 * length on.places) on.places paid on.between on.none_before (omega arith) in
     elim on.paid [
       | inl header ↦
-          λ ks h to frame is inside ends.
-          let (j, at, order, cost) = come ks h to frame is inside ends in
+          λ ks h to well_formed is inside ends.
+          let (j, at, order, cost) = come ks h to well_formed is inside ends in
           omega (
             arith,
             cost,

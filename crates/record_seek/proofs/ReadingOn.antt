@@ -8,7 +8,7 @@ use Rattle.chunk_reader.specs.Faults.{IsVerdict}
 use Rattle.chunk_reader.specs.Holders.{ArePlacesBetween}
 use Rattle.chunk_reader.specs.Places.{header_at, end_at, chunk_at}
 use Rattle.chunk_reader.specs.Reasons.{Applies, NoneOf, IsFirstOf, unpassed_reasons, loading_reasons}
-use Rattle.chunk_reader.specs.Searches.{HasRecordsAt}
+use Rattle.chunk_reader.specs.PositionSearches.{HasRecordsAt}
 use Rattle.chunk_reader.specs.declared.reasons.Fault.{Fault}
 use Rattle.chunk_reader.proofs.Rooms.{IsSized}
 use Rattle.record_seek.specs.Met.{HaveNoRecords}

@@ -7,7 +7,7 @@ use Rattle.chunk_header.specs.SimpleChunks.{IsSimple}
 use Rattle.chunk_header.proofs.OneList.{records_are_one}
 use Rattle.chunk_reader.specs.Holders.{ArePlacesBetween}
 use Rattle.chunk_reader.specs.Places.{header_at, chunk_at}
-use Rattle.chunk_reader.specs.Searches.{HasRecordsAt}
+use Rattle.chunk_reader.specs.PositionSearches.{HasRecordsAt}
 use Rattle.chunk_reader.proofs.HeadersTell.{passed_below}
 use Rattle.record_seek.specs.Met.{IsMetRecord, LeadsWithoutRecords, LeadsPastAll}
 use Rattle.record_seek.specs.Steps.{AreReadTo, IsReadRecord, IsFirstFrom}

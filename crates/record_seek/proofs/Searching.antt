@@ -5,13 +5,13 @@ use Rattle.std.proofs.lemmas.Bool.{cases_lt}
 use Rattle.std.proofs.lemmas.List.{length-append}
 use Rattle.std.proofs.lemmas.Option.{slice_get_within}
 use Rattle.chunk_header.specs.Chunks.{ChunkValue}
-use Rattle.meta_chunk.specs.Files.{IsFrame, begin_of, LiesIn}
+use Rattle.meta_chunk.specs.Files.{IsWellFormed, begin_of, LiesIn}
 use Rattle.meta_chunk.proofs.Begins.{begin_of-next, begin_of_rises}
 use Rattle.block_layout.proofs.ChunkEnds.{chunk_end_of_past_records}
 use Rattle.chunk_reader.specs.Holders.{ArePlacesBetween, IsHolder}
 use Rattle.chunk_reader.specs.Places.{header_at}
 use Rattle.chunk_reader.specs.Reasons.{Applies, IsFirstOf, unpassed_reasons}
-use Rattle.chunk_reader.specs.Searches.{HasRecordFrom, MayAnswerAt, SearchComesTo, AnswersAt}
+use Rattle.chunk_reader.specs.PositionSearches.{HasRecordFrom, MayAnswerAt, SearchComesTo, AnswersAt}
 use Rattle.chunk_reader.specs.declared.reasons.Fault.{Fault}
 use Rattle.chunk_reader.proofs.HeadersTell.{passed_below, stands_below, told_end, told_records, places_are, holder_is}
 use Rattle.chunk_reader.proofs.Rooms.{IsSized}
@@ -93,7 +93,7 @@ search-refused (Some file) now_bytes size at begin place spent now fault same be
     )
 
 -- in a file of chunks
-module _ (ks : List ChunkValue) (file : List ℕ) (keep : IsFrame ks file) (at h : ℕ) (lies : LiesIn ks at h) where
+module _ (ks : List ChunkValue) (file : List ℕ) (well_formed : IsWellFormed ks file) (at h : ℕ) (lies : LiesIn ks at h) where
   -- no chunk before the holder answers
   pub not_before : (i : ℕ) (k : ChunkValue) → MayAnswer ks at i k → h ≤ i
   not_before i k may =
@@ -118,17 +118,17 @@ module _ (ks : List ChunkValue) (file : List ℕ) (keep : IsFrame ks file) (at h
       let count : n + length {A = ℕ} [] ≡ n = omega arith in
       omega (arith, from, below, count)
   none_at (place ∷ places) n to inside (same, passed, rest) none i k from below may =
-      let chunk = stands_below ks file keep n (passed_below file (begin_of ks n) passed) in
+      let chunk = stands_below ks file well_formed n (passed_below file (begin_of ks n) passed) in
       elim (cases_lt n i) [
         | inl behind ↦
             none_at places (n + 1) to (omega (arith, slice_get_within ks n chunk.0 chunk.1))
-            (subst (λ (p : ℕ). ArePlacesBetween file p to places) (told_end ks file keep n chunk.0 chunk.1) rest) none.1 i k
+            (subst (λ (p : ℕ). ArePlacesBetween file p to places) (told_end ks file well_formed n chunk.0 chunk.1) rest) none.1 i k
             (omega (arith, behind)) (omega (arith, below)) may
         | inr not ↦
             let one : i ≡ n = omega (arith, from, not) in
             let there : place ≡ begin_of ks i = same ∙ ap (begin_of ks) (sym one) in
             let count : (header_at file place).num_records ≡ k.num_records =
-            ap (λ (p : ℕ). (header_at file p).num_records) there ∙ told_records ks file keep i k may.stands in
+            ap (λ (p : ℕ). (header_at file p).num_records) there ∙ told_records ks file well_formed i k may.stands in
             absurd (none.0 (omega (arith, count, may.has.0), omega (arith, count, there, may.has.1)))
       ]
 
@@ -147,43 +147,43 @@ module _ (ks : List ChunkValue) (file : List ℕ) (keep : IsFrame ks file) (at h
       → AllByRecursion (λ passed. ¬ MayAnswerAt file at passed) places → IsAnsweringNumber ks at j → h + length places ≤ j
   search_within places to j between none (inl (k, answers)) = none_passed places to between none j k answers.may
   search_within places to j between none (inr (end, nothing)) =
-      omega (arith, end, (places_are ks file keep places h to (omega (arith, lies.number)) between).0)
+      omega (arith, end, (places_are ks file well_formed places h to (omega (arith, lies.number)) between).0)
 
 -- what it took
 pub search-paid : (bytes : Option (List ℕ)) (at begin place spent now then : ℕ) → then ≤ now + 40
     → IfSome bytes (IsSearchTo at begin place spent now)
-    → IfSome bytes (λ file. (ks : List ChunkValue) (h j : ℕ) → IsFrame ks file → LiesIn ks at h → begin ≡ begin_of ks h
+    → IfSome bytes (λ file. (ks : List ChunkValue) (h j : ℕ) → IsWellFormed ks file → LiesIn ks at h → begin ≡ begin_of ks h
     → IsAnsweringNumber ks at j → then ≤ spent + 40 * (j + 1 - h))
 search-paid None at begin place spent now then more search = tt
 search-paid (Some file) at begin place spent now then more search =
-    λ ks h j keep lies is answers.
+    λ ks h j well_formed lies is answers.
     let between = subst (λ (p : ℕ). ArePlacesBetween file p place search.places) is search.between in
-    let within = search_within ks file keep at h lies search.places place j between search.none answers in
+    let within = search_within ks file well_formed at h lies search.places place j between search.none answers in
     omega (arith, within, search.paid, more)
 
 -- in a file of chunks, the chunk that answers is the one of that number
-module _ (ks : List ChunkValue) (file : List ℕ) (keep : IsFrame ks file) (reach : length file ≤ 2 ^ 60) (at h : ℕ) (lies : LiesIn ks at h) where
+module _ (ks : List ChunkValue) (file : List ℕ) (well_formed : IsWellFormed ks file) (reach : length file ≤ 2 ^ 60) (at h : ℕ) (lies : LiesIn ks at h) where
   -- where a search has come to
   pub searched_to : (place : ℕ) → SearchComesTo file at place → (places : List ℕ) × ArePlacesBetween file (begin_of ks h) place places
       × AllByRecursion (λ passed. ¬ MayAnswerAt file at passed) places
   searched_to place search =
-      let is : search.holder ≡ begin_of ks h = holder_is ks file keep at search.holder h reach lies search.holds in
+      let is : search.holder ≡ begin_of ks h = holder_is ks file well_formed at search.holder h reach lies search.holds in
       (search.places, subst (λ (p : ℕ). ArePlacesBetween file p place search.places) is search.between, search.none)
 
   pub answering_of : (place : ℕ) → AnswersAt file at place → (j : ℕ) × (k : ChunkValue) × (place ≡ begin_of ks j) × IsAnswering ks at j k
   answering_of place answers =
       let way = searched_to place answers.searched in
-      let there = places_are ks file keep way.0 h place (omega (arith, lies.number)) way.1 in
+      let there = places_are ks file well_formed way.0 h place (omega (arith, lies.number)) way.1 in
       let i : ℕ = h + length way.0 in
       let is : place ≡ begin_of ks i = there.1 in
-      let k = stands_below ks file keep i (omega (arith, is, passed_below file place answers.whole)) in
+      let k = stands_below ks file well_formed i (omega (arith, is, passed_below file place answers.whole)) in
       let count : (header_at file place).num_records ≡ k.0.num_records =
-      ap (λ (p : ℕ). (header_at file p).num_records) is ∙ told_records ks file keep i k.0 k.1 in
+      ap (λ (p : ℕ). (header_at file p).num_records) is ∙ told_records ks file well_formed i k.0 k.1 in
       let may : MayAnswer ks at i k.0 = record {
         stands = k.1;
         has = (omega (arith, count, answers.has.0), omega (arith, count, is, answers.has.1));
       } in
-      (i, k.0, is, record { may = may; first = λ n other has. none_passed ks file keep at h lies way.0 place way.1 way.2 n other has })
+      (i, k.0, is, record { may = may; first = λ n other has. none_passed ks file well_formed at h lies way.0 place way.1 way.2 n other has })
 
   pub answers_is : (place j : ℕ) → AnswersAt file at place → IsAnsweringNumber ks at j → place ≡ begin_of ks j
   answers_is place j answers (inl (k, is)) =

@@ -2,14 +2,14 @@
 use Rattle.std.proofs.Common.{◌≡◌, ◌∙◌, ℕ, ◌+◌, ◌-◌, ◌*◌, ◌^◌, ◌<◌, ◌≤◌, false, Option, Some, None, IfSome, List, [], length, refl, sym, ap, subst, inl, inr, arith}
 use Rattle.std.specs.Prelude.{slice_get}
 use Rattle.chunk_header.specs.Chunks.{ChunkValue}
-use Rattle.meta_chunk.specs.Files.{IsFrame, begin_of, LiesIn}
+use Rattle.meta_chunk.specs.Files.{IsWellFormed, begin_of, LiesIn}
 use Rattle.meta_chunk.proofs.Begins.{begin_of_rises}
 use Rattle.chunk_reader.specs.Faults.{IsVerdict}
 use Rattle.chunk_reader.specs.Holders.{IsHolder, IsHolderFault}
 use Rattle.chunk_reader.specs.Places.{end_at}
 use Rattle.chunk_reader.specs.Reasons.{Applies, NoneOf, unpassed_reasons, loading_reasons}
 use Rattle.chunk_reader.specs.SearchBounds.{position_bound}
-use Rattle.chunk_reader.specs.Searches.{HasRecordsAt, SearchComesTo, AnswersAt, SearchGives, IsSearchFault}
+use Rattle.chunk_reader.specs.PositionSearches.{HasRecordsAt, SearchComesTo, AnswersAt, SearchGives, IsSearchFault}
 use Rattle.chunk_reader.specs.declared.reasons.Fault.{Fault}
 use Rattle.chunk_reader.specs.declared.reasons.ReadEnd.TheVariants as read
 use Rattle.chunk_reader.proofs.HeadersTell.{stands_below, passed_below, told_end, holder_is}
@@ -118,26 +118,26 @@ memory-in (Some file) now at place held same answer begin there = (
 
 -- so much a search takes of a file of chunks: to find the holder, and the chunk that answers
 abbrev pub HoldersTake : (spent now : ℕ) → List ℕ → Type 0
-HoldersTake spent now file = (ks : List ChunkValue) → IsFrame ks file → now ≤ spent + 65640
+HoldersTake spent now file = (ks : List ChunkValue) → IsWellFormed ks file → now ≤ spent + 65640
 
 abbrev pub HeadersTake : (at begin now then : ℕ) → List ℕ → Type 0
 HeadersTake at begin now then file =
-    (ks : List ChunkValue) (h j : ℕ) → IsFrame ks file → LiesIn ks at h → begin ≡ begin_of ks h → IsAnsweringNumber ks at j
+    (ks : List ChunkValue) (h j : ℕ) → IsWellFormed ks file → LiesIn ks at h → begin ≡ begin_of ks h → IsAnsweringNumber ks at j
     → then ≤ now + 40 * (j + 1 - h)
 
 abbrev pub SearchTakes : (at spent now : ℕ) → List ℕ → Type 0
 SearchTakes at spent now file =
-    (ks : List ChunkValue) (h j : ℕ) → IsFrame ks file → LiesIn ks at h → IsAnsweringNumber ks at j
+    (ks : List ChunkValue) (h j : ℕ) → IsWellFormed ks file → LiesIn ks at h → IsAnsweringNumber ks at j
     → now ≤ spent + position_bound ks h j
 
 -- the holder is no further than the chunk that answers
-holder_first : (ks : List ChunkValue) (file : List ℕ) → IsFrame ks file → (at h j : ℕ) → LiesIn ks at h → IsAnsweringNumber ks at j → h ≤ j
-holder_first ks file keep at h j lies answering =
-    omega (arith, search_within ks file keep at h lies [] (begin_of ks h) j refl tt answering)
+holder_first : (ks : List ChunkValue) (file : List ℕ) → IsWellFormed ks file → (at h j : ℕ) → LiesIn ks at h → IsAnsweringNumber ks at j → h ≤ j
+holder_first ks file well_formed at h j lies answering =
+    omega (arith, search_within ks file well_formed at h lies [] (begin_of ks h) j refl tt answering)
 
 pub takes-holder : (bytes : Option (List ℕ)) (at spent now : ℕ) → IfSome bytes (HoldersTake spent now) → IfSome bytes (SearchTakes at spent now)
 takes-holder None at spent now holder = tt
-takes-holder (Some file) at spent now holder = λ ks h j keep lies answering. omega (arith, holder ks keep)
+takes-holder (Some file) at spent now holder = λ ks h j well_formed lies answering. omega (arith, holder ks well_formed)
 
 pub takes-headers : (bytes bytes_now : Option (List ℕ)) (size at begin spent now then : ℕ) → bytes_now ≡ bytes → IsSized bytes (Some size)
     → size ≤ 2 ^ 60 → IfSome bytes (λ file. IsHolder file at begin) → IfSome bytes (HoldersTake spent now)
@@ -145,9 +145,9 @@ pub takes-headers : (bytes bytes_now : Option (List ℕ)) (size at begin spent n
 takes-headers None bytes_now size at begin spent now then same sized reach holds holder headers = tt
 takes-headers (Some file) bytes_now size at begin spent now then same sized reach holds holder headers =
     let more = same_told (HeadersTake at begin now then) (Some file) bytes_now same headers in
-    λ ks h j keep lies answering.
-    let is : begin ≡ begin_of ks h = holder_is ks file keep at begin h (omega (arith, sized, reach)) lies holds in
-    omega (arith, holder ks keep, more ks h j keep lies is answering, holder_first ks file keep at h j lies answering)
+    λ ks h j well_formed lies answering.
+    let is : begin ≡ begin_of ks h = holder_is ks file well_formed at begin h (omega (arith, sized, reach)) lies holds in
+    omega (arith, holder ks well_formed, more ks h j well_formed lies is answering, holder_first ks file well_formed at h j lies answering)
 
 -- and that chunk itself
 pub takes-record : (bytes bytes_now bytes_then : Option (List ℕ)) (size at begin place spent now then last : ℕ) → bytes_now ≡ bytes → bytes_then ≡ bytes
@@ -159,18 +159,18 @@ takes-record None bytes_now bytes_then size at begin place spent now then last s
 takes-record (Some file) bytes_now bytes_then size at begin place spent now then last same also sized reach holds holder headers answer chunk =
     let more = same_told (HeadersTake at begin now then) (Some file) bytes_now same headers in
     let whole = same_told (λ f. NoneOf (Applies f place) unpassed_reasons → last + place ≤ then + end_at f place) (Some file) bytes_then also chunk in
-    λ ks h j keep lies answering.
+    λ ks h j well_formed lies answering.
     let limit : length file ≤ 2 ^ 60 = omega (arith, sized, reach) in
-    let is : begin ≡ begin_of ks h = holder_is ks file keep at begin h limit lies holds in
-    let there : place ≡ begin_of ks j = answers_is ks file keep limit at h lies place j answer answering in
-    let k = stands_below ks file keep j (omega (arith, there, passed_below file place answer.whole)) in
-    let end : end_at file place ≡ begin_of ks (j + 1) = ap (end_at file) there ∙ told_end ks file keep j k.0 k.1 in
+    let is : begin ≡ begin_of ks h = holder_is ks file well_formed at begin h limit lies holds in
+    let there : place ≡ begin_of ks j = answers_is ks file well_formed limit at h lies place j answer answering in
+    let k = stands_below ks file well_formed j (omega (arith, there, passed_below file place answer.whole)) in
+    let end : end_at file place ≡ begin_of ks (j + 1) = ap (end_at file) there ∙ told_end ks file well_formed j k.0 k.1 in
     let rises : begin_of ks j ≤ begin_of ks (j + 1) = begin_of_rises ks j (j + 1) (omega arith) in
     omega (
       arith,
-      holder ks keep,
-      more ks h j keep lies is answering,
-      holder_first ks file keep at h j lies answering,
+      holder ks well_formed,
+      more ks h j well_formed lies is answering,
+      holder_first ks file well_formed at h j lies answering,
       whole answer.whole,
       there,
       end,

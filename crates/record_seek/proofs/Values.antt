@@ -12,7 +12,7 @@ use Rattle.chunk_reader.specs.Faults.{BeginsWithSignature}
 use Rattle.chunk_reader.specs.Holders.{ArePlacesBetween}
 use Rattle.chunk_reader.specs.Places.{end_at}
 use Rattle.chunk_reader.specs.Reasons.{Applies, NoneOf, unpassed_reasons}
-use Rattle.chunk_reader.specs.Searches.{HasRecordsAt}
+use Rattle.chunk_reader.specs.PositionSearches.{HasRecordsAt}
 use Rattle.chunk_reader.proofs.SignedFiles.{chunk_at-signature, no_reason-signature, end_at-signature}
 use Rattle.record_seek.specs.Found.{MayAnswer, IsAnswering, IsKeyFound, BytesStandBefore, OnlyFrontStandsBefore}
 use Rattle.record_seek.specs.FirstRecords.{IsFirstAt}

@@ -3,7 +3,7 @@ use Rattle.std.proofs.Common.{◌≡◌, ◌∙◌, ℕ, ◌+◌, ◌*◌, ◌^�
 use Rattle.std.proofs.lemmas.Bool.{cases_lt}
 use Rattle.block_layout.specs.Layout.{block_of}
 use Rattle.chunk_header.specs.Chunks.{ChunkValue}
-use Rattle.meta_chunk.specs.Files.{IsFrame, begin_of}
+use Rattle.meta_chunk.specs.Files.{IsWellFormed, begin_of}
 use Rattle.chunk_reader.specs.Holders.{TellsBegin, ArePlacesBetween, IsOnWay, IsHolder}
 use Rattle.chunk_reader.specs.Places.{end_at}
 use Rattle.chunk_reader.specs.Reasons.{Applies, NoneOf, IsFirstOf, unpassed_reasons}
@@ -96,12 +96,12 @@ pub record IsPaidTo (block begin place spent now : ℕ) : Type 0 where
 -- in a file of chunks
 abbrev pub IsPaid : (at begin place spent now : ℕ) → List ℕ → Type 0
 IsPaid at begin place spent now file =
-    (ks : List ChunkValue) → IsFrame ks file → TellsBegin file (block_of at) begin → IsPaidTo (block_of at) begin place spent now
+    (ks : List ChunkValue) → IsWellFormed ks file → TellsBegin file (block_of at) begin → IsPaidTo (block_of at) begin place spent now
 
 pub paid-begun : (bytes : Option (List ℕ)) (at begin spent : ℕ) → IfSome bytes (IsPaid at begin begin spent spent)
 paid-begun None at begin spent = tt
 paid-begun (Some file) at begin spent =
-    λ ks keep told. record { from = omega arith; first = λ same. omega arith; onward = λ past. absurd (omega (arith, past)) }
+    λ ks well_formed told. record { from = omega arith; first = λ same. omega arith; onward = λ past. absurd (omega (arith, past)) }
 
 pub paid-on : (bytes now_bytes : Option (List ℕ)) (size at begin place : ℕ) (chunk : Passed) (spent now then : ℕ) → now_bytes ≡ bytes
     → IsSized bytes (Some size) → size ≤ 2 ^ 60 → at < size → IfSome now_bytes (λ file. IsPassedAt file place chunk)
@@ -110,8 +110,8 @@ pub paid-on : (bytes now_bytes : Option (List ℕ)) (size at begin place : ℕ) 
 paid-on None now_bytes size at begin place chunk spent now then same sized reach below passed past more paid = tt
 paid-on (Some file) now_bytes size at begin place chunk spent now then same sized reach below passed past more paid =
     let here : IsPassedAt file place chunk = same_told (λ f. IsPassedAt f place chunk) (Some file) now_bytes same passed in
-    λ ks keep told.
-    let before = paid ks keep told in
+    λ ks well_formed told.
+    let before = paid ks well_formed told in
     record {
       from = omega (arith, before.from, past);
       first = λ not. absurd (omega (arith, not, before.from, past));
@@ -121,22 +121,22 @@ paid-on (Some file) now_bytes size at begin place chunk spent now then same size
             (omega (arith, on.0, past), omega (arith, on.1, past, more))
         | inr front ↦
             let b : ℕ = block_of at in
-            let holder = lies_of ks file keep b (omega (arith, below, sized)) in
-            let is : begin ≡ begin_of ks holder.0 = told_is ks file keep b begin holder.0 (omega (arith, reach, sized)) (omega arith) holder.1 told in
+            let holder = lies_of ks file well_formed b (omega (arith, below, sized)) in
+            let is : begin ≡ begin_of ks holder.0 = told_is ks file well_formed b begin holder.0 (omega (arith, reach, sized)) (omega arith) holder.1 told in
             let at_begin : place ≡ begin_of ks holder.0 = omega (arith, front, before.from, is) in
-            let k = stands_below ks file keep holder.0 (omega (arith, holder.1.begins, below, sized)) in
-            let end : chunk.end ≡ begin_of ks (holder.0 + 1) = here.end ∙ ap (end_at file) at_begin ∙ told_end ks file keep holder.0 k.0 k.1 in
+            let k = stands_below ks file well_formed holder.0 (omega (arith, holder.1.begins, below, sized)) in
+            let end : chunk.end ≡ begin_of ks (holder.0 + 1) = here.end ∙ ap (end_at file) at_begin ∙ told_end ks file well_formed holder.0 k.0 k.1 in
             (omega (arith, end, holder.1.ends), omega (arith, more, before.first front, end, holder.1.ends))
       ];
     }
 
 pub paid-all : (bytes : Option (List ℕ)) (at begin place spent now then : ℕ) → place ≤ at → then ≤ now + 40
     → IfSome bytes (IsPaid at begin place spent now)
-    → IfSome bytes (λ file. (ks : List ChunkValue) → IsFrame ks file → TellsBegin file (block_of at) begin → then ≤ spent + (2 * 40 + 65536))
+    → IfSome bytes (λ file. (ks : List ChunkValue) → IsWellFormed ks file → TellsBegin file (block_of at) begin → then ≤ spent + (2 * 40 + 65536))
 paid-all None at begin place spent now then before more paid = tt
 paid-all (Some file) at begin place spent now then before more paid =
-    λ ks keep told.
-    let all = paid ks keep told in
+    λ ks well_formed told.
+    let all = paid ks well_formed told in
     elim (cases_lt begin place) [
       | inl behind ↦ omega (arith, (all.onward behind).1, before, more)
       | inr front ↦ omega (arith, all.first front, more)

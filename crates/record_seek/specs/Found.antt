@@ -2,7 +2,7 @@
 use Rattle.std.specs.Prelude.{◌≡◌, ℕ, ◌-◌, ◌<◌, ◌≤◌, ◌⊎◌, Option, Some, None, List, [], length, slice_get}
 use Rattle.chunk_header.specs.Chunks.{ChunkValue}
 use Rattle.meta_chunk.specs.Files.{begin_of}
-use Rattle.chunk_reader.specs.Searches.{HasRecordFrom}
+use Rattle.chunk_reader.specs.PositionSearches.{HasRecordFrom}
 
 -- the chunk of this number has a record at or past a position
 pub record MayAnswer (ks : List ChunkValue) (position j : ℕ) (k : ChunkValue) : Type 0 where

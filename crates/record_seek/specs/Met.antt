@@ -6,7 +6,7 @@ use Rattle.chunk_reader.specs.Holders.{TellsBegin, IsBlockFault, ArePlacesBetwee
 use Rattle.chunk_reader.specs.Faults.{IsVerdict}
 use Rattle.chunk_reader.specs.Places.{header_at, end_at}
 use Rattle.chunk_reader.specs.Reasons.{Applies, NoneOf, unpassed_reasons}
-use Rattle.chunk_reader.specs.Searches.{HasRecordsAt}
+use Rattle.chunk_reader.specs.PositionSearches.{HasRecordsAt}
 use Rattle.chunk_reader.specs.declared.reasons.Fault.{Fault}
 
 -- the file's front is met; so is the begin of a chunk that a right and sane block header tells, and the end of a chunk at a

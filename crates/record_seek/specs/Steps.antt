@@ -10,7 +10,7 @@ use Rattle.chunk_reader.specs.Holders.{ArePlacesBetween}
 use Rattle.chunk_reader.specs.Places.{header_at, end_at, chunk_at}
 use Rattle.chunk_reader.specs.Reasons.{Applies, NoneOf, unpassed_reasons, loading_reasons, strict_reasons}
 use Rattle.chunk_reader.specs.SearchBounds.{length_of_chunk, chunks_without_records, greatest_length_from}
-use Rattle.chunk_reader.specs.Searches.{HasRecordsAt, SearchComesTo, AnswersAt}
+use Rattle.chunk_reader.specs.PositionSearches.{HasRecordsAt, SearchComesTo, AnswersAt}
 use Rattle.chunk_reader.specs.declared.reasons.Fault.{Fault}
 use Rattle.record_seek.specs.Met.{HaveNoRecords, IsMetBySearch}
 use Rattle.record_seek.specs.declared.chunk_records.Found.{Found}
@@ -56,7 +56,7 @@ pub record AreChunkRecords (chunk : ChunkRecords) : Type 0 where
 -- such a chunk stands at a place or behind it, in a file of so many bytes
 pub record AreRecordsFrom (from size : ℕ) (chunk : ChunkRecords) : Type 0 where
   pub of_chunk : AreChunkRecords chunk
-  pub onward : from ≤ chunk.begin
+  pub begins : from ≤ chunk.begin
   pub within : chunk.end ≤ size
 
 -- the chunk of a file there has no fault, and these are its records

@@ -1,6 +1,6 @@
 ghost use Rattle.std.specs.Prelude.{◌≡◌, ℕ, ◌+◌, ◌*◌, ◌/◌, ◌<◌, ◌≤◌, ◌⊎◌, true, false, List, Some, None, Ok, IfOk, IfSome, Err, length, slice_get};
 ghost use Rattle.chunk_header.specs.Chunks.{ChunkValue};
-ghost use Rattle.meta_chunk.specs.Files.{IsFile, IsFrame, ArePlaced, begin_of};
+ghost use Rattle.meta_chunk.specs.Files.{IsReadable, IsWellFormed, ArePlaced, begin_of};
 ghost use Rattle.record_io.specs.Calls.{AsksUpTo, HasSize, OnlyAsks};
 ghost use Rattle.block_layout.specs.Layout.{block_size, block_header_size};
 ghost use Rattle.chunk_reader.specs.Holders.{TellsBegin, IsBlockFault};
@@ -42,9 +42,11 @@ pub fn find<S: Store, F: Fn(&[u8]) -> bool + Drop>(
     requires sized { HasSize (S.told store.old) size }
     requires test { IsKeyTest F.Fn test.now.test }
     ensures found { IfOk result (λ found. IfSome (S.bytes store.old) (λ file. (ks : List ChunkValue) (placed : List (ℕ × List ℕ))
-        → IsFile ks file → ArePlaced ks placed → IsKeyFound (BytesStandBefore (StandsBefore F.Fn test.now.test)) placed (placed_of found))) }
+        → IsReadable ks file → ArePlaced ks placed
+        → IsKeyFound (BytesStandBefore (StandsBefore F.Fn test.now.test)) placed (placed_of found))) }
     ensures in_order { IfOk result (λ found. IfSome (S.bytes store.old) (λ file. (ks : List ChunkValue) (placed : List (ℕ × List ℕ)) (count : ℕ)
-        → IsFile ks file → ArePlaced ks placed → OnlyFrontStandsBefore (BytesStandBefore (StandsBefore F.Fn test.now.test)) placed count
+        → IsReadable ks file → ArePlaced ks placed
+        → OnlyFrontStandsBefore (BytesStandBefore (StandsBefore F.Fn test.now.test)) placed count
         → placed_of found ≡ slice_get placed count)) }
     ensures apart { IfOk result (λ found. IfSome found (λ f. ¬ StandsBefore F.Fn test.now.test f.bytes)) }
     ensures met { (found : Found) → result ≡ Ok (Some found)
@@ -55,7 +57,7 @@ pub fn find<S: Store, F: Fn(&[u8]) -> bool + Drop>(
     ensures refused { (fault : Fault) → result ≡ Err (ReadEnd.Refused fault)
         → IfSome (S.bytes store.old) (λ file. IsMetFault file fault) }
     ensures handed { IfSome (S.bytes store.old) (λ file. (ks : List ChunkValue)
-        → IsFrame ks file → S.handed store.new ≤ S.handed store.old + key_bound ks) }
+        → IsWellFormed ks file → S.handed store.new ≤ S.handed store.old + key_bound ks) }
     ensures memory { result ≡ Err ReadEnd.Memory → IfSome (S.bytes store.old) LoadsMetChunk }
     ensures store { OnlyAsks S.bytes S.told S.name S.faults (result ≡ Err ReadEnd.Store) store.old store.new }
 {
@@ -109,7 +111,8 @@ fn stands_before<S: Store, F: Fn(&[u8]) -> bool + Drop>(
     ensures refused { (fault : Fault) → result ≡ Err (ReadEnd.Refused fault)
         → IfSome (S.bytes store.old) (λ file. IsMetFault file fault) }
     ensures handed { IfSome (S.bytes store.old) (λ file. (ks : List ChunkValue)
-        → IsFrame ks file → S.handed store.new ≤ S.handed store.old + (block_header_size + look_bound ks)) }
+        → IsWellFormed ks file
+        → S.handed store.new ≤ S.handed store.old + (block_header_size + look_bound ks)) }
     ensures memory { result ≡ Err ReadEnd.Memory → IfSome (S.bytes store.old) LoadsMetChunk }
     ensures store { OnlyAsks S.bytes S.told S.name S.faults (result ≡ Err ReadEnd.Store) store.old store.new }
 {
@@ -165,7 +168,8 @@ fn read_on<S: Store, F: Fn(&[u8]) -> bool + Drop>(
     ensures refused { (fault : Fault) → result ≡ Err (ReadEnd.Refused fault)
         → IfSome (S.bytes store.old) (λ file. IsFaultOn file begin fault) }
     ensures handed { IfSome (S.bytes store.old) (λ file. (ks : List ChunkValue) (h to : ℕ)
-        → IsFrame ks file → begin ≡ begin_of ks h → h ≤ to → EndsReading (StandsBefore F.Fn test.now.test) ks to
+        → IsWellFormed ks file → begin ≡ begin_of ks h → h ≤ to
+        → EndsReading (StandsBefore F.Fn test.now.test) ks to
         → S.handed store.new + reading_cost ks h ≤ S.handed store.old + reading_cost ks (to + 1)) }
     ensures memory { result ≡ Err ReadEnd.Memory → IfSome (S.bytes store.old) (λ file. LoadsOn file begin) }
     ensures store { OnlyAsks S.bytes S.told S.name S.faults (result ≡ Err ReadEnd.Store) store.old store.new }

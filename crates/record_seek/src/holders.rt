@@ -2,7 +2,7 @@ ghost use Rattle.std.specs.Prelude.{◌≡◌, ℕ, ◌+◌, ◌*◌, ◌<◌, �
 ghost use Rattle.record_io.specs.Calls.{OnlyAsks, HasSize};
 ghost use Rattle.block_layout.specs.Layout.{block_size, chunk_header_size, block_of, IsBoundary};
 ghost use Rattle.chunk_header.specs.Chunks.{ChunkValue};
-ghost use Rattle.meta_chunk.specs.Files.{IsFrame};
+ghost use Rattle.meta_chunk.specs.Files.{IsWellFormed};
 ghost use Rattle.chunk_reader.specs.Holders.{TellsBegin, IsOnWay, IsHolder, IsHolderFault};
 ghost use Rattle.chunk_reader.specs.Reasons.{Applies, IsFirstOf, unpassed_reasons};
 ghost use Rattle.chunk_reader.specs.HolderBounds.{holder_bound};
@@ -69,7 +69,7 @@ pub fn holder<S: Store>(store: &mut S, size: u64, at: u64) -> Result<Option<u64>
     ensures refused { (fault : Fault) → result ≡ Err (HolderEnd.Refused fault)
         → IfSome (S.bytes store.old) (λ file. IsHolderFault file at fault) }
     ensures handed { IfSome (S.bytes store.old) (λ file. (ks : List ChunkValue)
-        → IsFrame ks file → S.handed store.new ≤ S.handed store.old + holder_bound) }
+        → IsWellFormed ks file → S.handed store.new ≤ S.handed store.old + holder_bound) }
     ensures handed_past { size ≤ at → S.handed store.new ≡ S.handed store.old }
     ensures store { OnlyAsks S.bytes S.told S.name S.faults (result ≡ Err HolderEnd.Store) store.old store.new }
 {
@@ -99,7 +99,7 @@ fn holder_from<S: Store>(store: &mut S, size: u64, at: u64, begin: u64) -> Resul
         → IfSome (S.bytes store.old) (λ file. TellsBegin file (block_of at) begin
         → IsOnWay file at fault.at × IsFirstOf (Applies file fault.at) unpassed_reasons fault.why) }
     ensures handed { IfSome (S.bytes store.old) (λ file. (ks : List ChunkValue)
-        → IsFrame ks file → TellsBegin file (block_of at) begin
+        → IsWellFormed ks file → TellsBegin file (block_of at) begin
         → S.handed store.new ≤ S.handed store.old + (2 * chunk_header_size + block_size)) }
     ensures store { OnlyAsks S.bytes S.told S.name S.faults (result ≡ Err VerifyEnd.Store) store.old store.new }
 {

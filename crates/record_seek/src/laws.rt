@@ -4,9 +4,9 @@ ghost use Rattle.std.specs.Prelude.{◌≡◌, ◌⊎◌, ◌↔◌, ℕ, ◌^�
 ghost use Rattle.block_layout.specs.Layout.{IsBoundary};
 ghost use Rattle.chunk_header.specs.Chunks.{ChunkValue};
 ghost use Rattle.chunk_header.specs.SimpleChunks.{IsCompressed};
-ghost use Rattle.meta_chunk.specs.Files.{IsPlain, IsUnread, IsTransposed, IsFile, IsFrame, ArePlaced, begin_of};
+ghost use Rattle.meta_chunk.specs.Files.{IsPlain, IsUnread, IsTransposed, IsReadable, IsWellFormed, ArePlaced, begin_of};
 ghost use Rattle.chunk_reader.specs.Holders.{IsHolder, IsHolderFault};
-ghost use Rattle.chunk_reader.specs.Searches.{AnswersAt, SearchGives, IsSearchFault};
+ghost use Rattle.chunk_reader.specs.PositionSearches.{AnswersAt, SearchGives, IsSearchFault};
 ghost use Rattle.chunk_reader.specs.declared.reasons.Fault.{Fault};
 ghost use Rattle.chunk_reader.specs.declared.reasons.Why.TheVariants as why;
 ghost use Rattle.record_seek.specs.Found.{MayAnswer, IsAnswering, IsKeyFound, OnlyFrontStandsBefore};
@@ -17,18 +17,21 @@ ghost use Rattle.record_seek.specs.Met.{IsMetBySearch, IsMetFault};
 /// read gives the first record at or past the position; it gives nothing exactly where no chunk answers. Own.
 pub fn positions_find_their_records()
     ensures answers { (ks : List ChunkValue) (file : List ℕ) (position place : ℕ)
-        → IsFrame ks file → length file ≤ 2 ^ 60 → position < length file → AnswersAt file position place
+        → IsWellFormed ks file → length file ≤ 2 ^ 60 → position < length file
+        → AnswersAt file position place
         → (j : ℕ) × (k : ChunkValue) × (place ≡ begin_of ks j) × IsAnswering ks position j k }
     ensures answering { (ks : List ChunkValue) (file : List ℕ) (position j : ℕ) (k : ChunkValue)
-        → IsFrame ks file → length file ≤ 2 ^ 60 → IsAnswering ks position j k → AnswersAt file position (begin_of ks j) }
+        → IsWellFormed ks file → length file ≤ 2 ^ 60 → IsAnswering ks position j k
+        → AnswersAt file position (begin_of ks j) }
     ensures nothing { (ks : List ChunkValue) (file : List ℕ) (position : ℕ)
-        → IsFrame ks file → length file ≤ 2 ^ 60
+        → IsWellFormed ks file → length file ≤ 2 ^ 60
         → SearchGives file position None ↔ ((j : ℕ) (k : ChunkValue) → ¬ MayAnswer ks position j k) }
     ensures first { (ks : List ChunkValue) (file : List ℕ) (position : ℕ) (placed : List (ℕ × List ℕ)) (found : ℕ × List ℕ)
-        → IsFrame ks file → length file ≤ 2 ^ 60 → ArePlaced ks placed
+        → IsWellFormed ks file → length file ≤ 2 ^ 60 → ArePlaced ks placed
         → SearchGives file position (Some found) → IsFirstAt placed position (Some found) }
     ensures read { (ks : List ChunkValue) (file : List ℕ) (position j : ℕ) (k : ChunkValue) (placed : List (ℕ × List ℕ))
-        → IsFrame ks file → length file ≤ 2 ^ 60 → ArePlaced ks placed → IsAnswering ks position j k → IsPlain k
+        → IsWellFormed ks file → length file ≤ 2 ^ 60 → ArePlaced ks placed
+        → IsAnswering ks position j k → IsPlain k
         → (found : ℕ × List ℕ) × IsFirstAt placed position (Some found) × SearchGives file position (Some found) }
 {}
 
@@ -36,13 +39,15 @@ pub fn positions_find_their_records()
 /// left unread: at its begin, by its name. Own.
 pub fn unread_chunks_that_answer_are_refused()
     ensures compressed { (ks : List ChunkValue) (file : List ℕ) (position j : ℕ) (k : ChunkValue)
-        → IsFrame ks file → length file ≤ 2 ^ 60 → IsAnswering ks position j k → IsUnread k → IsCompressed k
+        → IsWellFormed ks file → length file ≤ 2 ^ 60 → IsAnswering ks position j k → IsUnread k
+        → IsCompressed k
         → IsSearchFault file position (record { at = begin_of ks j; why = why.Compressed }) }
     ensures transposed { (ks : List ChunkValue) (file : List ℕ) (position j : ℕ) (k : ChunkValue)
-        → IsFrame ks file → length file ≤ 2 ^ 60 → IsAnswering ks position j k → IsUnread k → IsTransposed k
+        → IsWellFormed ks file → length file ≤ 2 ^ 60 → IsAnswering ks position j k → IsUnread k
+        → IsTransposed k
         → IsSearchFault file position (record { at = begin_of ks j; why = why.Transposed }) }
     ensures no_other { (ks : List ChunkValue) (file : List ℕ) (position : ℕ) (fault : Fault)
-        → IsFrame ks file → length file ≤ 2 ^ 60 → IsSearchFault file position fault
+        → IsWellFormed ks file → length file ≤ 2 ^ 60 → IsSearchFault file position fault
         → (j : ℕ) × (k : ChunkValue) × IsAnswering ks position j k × IsUnread k }
 {}
 
@@ -78,9 +83,10 @@ pub fn a_search_by_position_has_one_answer()
 pub fn met_places_are_boundaries()
     ensures boundary { (file : List ℕ) (place : ℕ) → IsMetBySearch file place → IsBoundary place × (place ≤ length file) }
     ensures begins { (ks : List ChunkValue) (file : List ℕ) (place : ℕ)
-        → IsFrame ks file → length file ≤ 2 ^ 60 → IsMetBySearch file place → (j : ℕ) × (place ≡ begin_of ks j) }
+        → IsWellFormed ks file → length file ≤ 2 ^ 60 → IsMetBySearch file place
+        → (j : ℕ) × (place ≡ begin_of ks j) }
     ensures no_fault { (ks : List ChunkValue) (file : List ℕ) (fault : Fault)
-        → IsFile ks file → length file ≤ 2 ^ 60 → ¬ IsMetFault file fault }
+        → IsReadable ks file → length file ≤ 2 ^ 60 → ¬ IsMetFault file fault }
 {}
 
 /// Where a test tells of a front of records with their positions alone that they stand before, a search by key may find the first

@@ -2,10 +2,10 @@ ghost use Rattle.std.specs.Prelude.{◌≡◌, ℕ, ◌+◌, ◌-◌, ◌*◌, �
 ghost use Rattle.record_io.specs.Calls.{OnlyAsks, HasSize};
 ghost use Rattle.block_layout.specs.Layout.{chunk_header_size};
 ghost use Rattle.chunk_header.specs.Chunks.{ChunkValue};
-ghost use Rattle.meta_chunk.specs.Files.{IsFrame, begin_of, LiesIn};
+ghost use Rattle.meta_chunk.specs.Files.{IsWellFormed, begin_of, LiesIn};
 ghost use Rattle.chunk_reader.specs.Holders.{IsHolder};
 ghost use Rattle.chunk_reader.specs.Reasons.{Applies, NoneOf, IsFirstOf, unpassed_reasons, loading_reasons};
-ghost use Rattle.chunk_reader.specs.Searches.{HasRecordFrom, SearchComesTo, AnswersAt, SearchGives, IsSearchFault};
+ghost use Rattle.chunk_reader.specs.PositionSearches.{HasRecordFrom, SearchComesTo, AnswersAt, SearchGives, IsSearchFault};
 ghost use Rattle.chunk_reader.specs.SearchBounds.{position_bound};
 ghost use Rattle.chunk_reader.specs.Sizes.{MayBeginAt};
 ghost use Rattle.chunk_reader.specs.declared.reasons.Fault.{Fault};
@@ -40,7 +40,7 @@ pub fn seek<S: Store>(
     ensures refused { (fault : Fault) → result ≡ Err (ReadEnd.Refused fault)
         → IfSome (S.bytes store.old) (λ file. IsSearchFault file at fault) }
     ensures handed { IfSome (S.bytes store.old) (λ file. (ks : List ChunkValue) (h j : ℕ)
-        → IsFrame ks file → LiesIn ks at h → IsAnsweringNumber ks at j
+        → IsWellFormed ks file → LiesIn ks at h → IsAnsweringNumber ks at j
         → S.handed store.new ≤ S.handed store.old + position_bound ks h j) }
     ensures handed_past { size ≤ at → S.handed store.new ≡ S.handed store.old }
     ensures memory { result ≡ Err ReadEnd.Memory → IfSome (S.bytes store.old) (λ file. (place : ℕ)
@@ -71,7 +71,7 @@ fn answering_from<S: Store>(
         → IfSome (S.bytes store.old) (λ file. IsHolder file at begin
         → SearchComesTo file at fault.at × (fault.at < size) × IsFirstOf (Applies file fault.at) unpassed_reasons fault.why) }
     ensures handed { IfSome (S.bytes store.old) (λ file. (ks : List ChunkValue) (h j : ℕ)
-        → IsFrame ks file → LiesIn ks at h → begin ≡ begin_of ks h → IsAnsweringNumber ks at j
+        → IsWellFormed ks file → LiesIn ks at h → begin ≡ begin_of ks h → IsAnsweringNumber ks at j
         → S.handed store.new ≤ S.handed store.old + chunk_header_size * (j + 1 - h)) }
     ensures store { OnlyAsks S.bytes S.told S.name S.faults (result ≡ Err VerifyEnd.Store) store.old store.new }
 {

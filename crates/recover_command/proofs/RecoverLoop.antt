@@ -34,7 +34,7 @@ use Rattle.command_frame.specs.Answers.{Answer}
 use Rattle.command_frame.specs.FileAnswers.{OfFile, most_file_bytes}
 use Rattle.recover_command.specs.RecoverCommand.{IsRecovered, IsRecoveredSoFar}
 use Rattle.command_frame.specs.PutSoFar.{HasPut, HasPutSoFar, HasPutFront}
-use Rattle.command_frame.specs.Endings.{IsShort, HasPutToCut, HasPutAtEnd}
+use Rattle.command_frame.specs.Endings.{CutsReadingOff, HasPutToCut, HasPutAtEnd}
 use Rattle.recover_command.specs.WalkingEnds.{walk_ends, IsBound, HasToldOf, TellsOf}
 use Rattle.command_frame.proofs.FileEnds.{some-answer}
 use Rattle.recover_command.proofs.OneRecovery.{recovered_exists}
@@ -68,16 +68,16 @@ recovered-none words before after same f = record {
 }
 
 -- what is told of the same bytes
-pub goes-same : (a b : Option (List ℕ)) (keep : Bool) (place next : ℕ) (result known : Result (Option Event) WalkEnd) → a ≡ b → keep ≡ false → result ≡ known
-    → IfSome a (λ f. GoesOn keep f place next (events_of result)) → IfSome b (λ f. GoesOn false f place next (events_of known))
-goes-same a b keep place next result known same not_kept is h =
+pub goes-same : (a b : Option (List ℕ)) (unread_ok : Bool) (place next : ℕ) (result known : Result (Option Event) WalkEnd) → a ≡ b → unread_ok ≡ false → result ≡ known
+    → IfSome a (λ f. GoesOn unread_ok f place next (events_of result)) → IfSome b (λ f. GoesOn false f place next (events_of known))
+goes-same a b unread_ok place next result known same not_kept is h =
     subst (λ (r : Result (Option Event) WalkEnd). IfSome b (λ f. GoesOn false f place next (events_of r))) is
     (subst (λ (x : Option (List ℕ)). IfSome x (λ f. GoesOn false f place next (events_of result))) same
     (subst (λ (k : Bool). IfSome a (λ f. GoesOn k f place next (events_of result))) not_kept h))
 
-pub stop-same : (a b : Option (List ℕ)) (keep keep_then : Bool) (next : ℕ) (stopped : Option Region) (region : Region) → a ≡ b → keep_then ≡ keep → keep ≡ false → stopped ≡ Some region
-    → IfSome a (λ f. IsStoppedAt keep_then f next stopped) → IfSome b (λ f. IsStoppedAt false f next (Some region))
-stop-same a b keep keep_then next stopped region same kept not_kept is h =
+pub stop-same : (a b : Option (List ℕ)) (unread_ok unread_ok_then : Bool) (next : ℕ) (stopped : Option Region) (region : Region) → a ≡ b → unread_ok_then ≡ unread_ok → unread_ok ≡ false → stopped ≡ Some region
+    → IfSome a (λ f. IsStoppedAt unread_ok_then f next stopped) → IfSome b (λ f. IsStoppedAt false f next (Some region))
+stop-same a b unread_ok unread_ok_then next stopped region same kept not_kept is h =
     subst (λ (s : Option Region). IfSome b (λ f. IsStoppedAt false f next s)) is
     (subst (λ (x : Option (List ℕ)). IfSome x (λ f. IsStoppedAt false f next stopped)) same
     (subst (λ (k : Bool). IfSome a (λ f. IsStoppedAt k f next stopped)) (kept ∙ not_kept) h))
@@ -187,9 +187,9 @@ step-by X failed lines text b c held held_then (Err why) err is gives =
     (by_stream X IsByStream failed lines text b c held held_then gives (λ gave. inl refl) (λ gave. inr refl))
 
 -- and not by what is read
-pub step-not_short : (result : Result Status (Ending Region)) → (result ≡ Err (end.Cut cut.Out)) ⊎ (result ≡ Err (end.Cut cut.Notes)) → ¬ IsErrAnd result IsShort
-step-not_short result (inl out) short = subst (λ (r : Result Status (Ending Region)). IsErrAnd r IsShort) out short
-step-not_short result (inr notes) short = subst (λ (r : Result Status (Ending Region)). IsErrAnd r IsShort) notes short
+pub step-not_reading_cut_off : (result : Result Status (Ending Region)) → (result ≡ Err (end.Cut cut.Out)) ⊎ (result ≡ Err (end.Cut cut.Notes)) → ¬ IsErrAnd result CutsReadingOff
+step-not_reading_cut_off result (inl out) short = subst (λ (r : Result Status (Ending Region)). IsErrAnd r CutsReadingOff) out short
+step-not_reading_cut_off result (inr notes) short = subst (λ (r : Result Status (Ending Region)). IsErrAnd r CutsReadingOff) notes short
 
 -- the walk ended before the file
 pub step-ended : (words : RecoverWords) (bytes : Option (List ℕ)) (place next size size_then : ℕ) (a b : Taken) (held : List ℕ) (ended : Status)

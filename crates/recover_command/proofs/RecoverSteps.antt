@@ -37,7 +37,7 @@ use Rattle.command_frame.specs.Answers.{Answer}
 use Rattle.command_frame.specs.FileAnswers.{most_file_bytes, OfFile}
 use Rattle.command_frame.specs.PutSoFar.{HasPut, HasPutSoFar, HasPutFront, HasBrokenOff}
 use Rattle.recover_command.specs.RecoverCommand.{event_puts, IsRecovered, IsRecoveredSoFar}
-use Rattle.command_frame.specs.CutShortRuns.{FailedToSay, PutsLines}
+use Rattle.command_frame.specs.RunLeaves.{FailedToSay, PutsLines}
 use Rattle.recover_command.specs.WalkingEnds.{HasToldOf}
 use Rattle.command_frame.proofs.TwoStreams.{bytes_to-second}
 use Rattle.recover_command.proofs.OneRecovery.{one_recovered}

@@ -12,7 +12,7 @@ use Rattle.damage_skip.specs.declared.regions.Region.{Region}
 use Rattle.command_frame.specs.Answers.{line}
 use Rattle.command_frame.specs.Lines.{ends_line, lines}
 use Rattle.command_frame.specs.OpenLines.{NoneEnds}
-use Rattle.command_frame.specs.CutShortRuns.{PutsLines, first_lines}
+use Rattle.command_frame.specs.RunLeaves.{PutsLines, first_lines}
 use Rattle.command_frame.proofs.Lines.{lines-first, NoneEnds-append, NoneEnds-cons}
 use Rattle.chunk_reader.specs.declared.reasons.Why.TheVariants as why
 

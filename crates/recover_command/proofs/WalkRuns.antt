@@ -12,7 +12,7 @@ use Rattle.command_frame.specs.declared.ending.Ending.{Ending}
 use Rattle.command_frame.specs.declared.sizes.SizeEnd.{SizeEnd}
 use Rattle.command_frame.specs.declared.status.Status.{Status}
 use Rattle.command_frame.specs.Answers.{Answer}
-use Rattle.command_frame.specs.Endings.{end_of_size, IsAllowedEnd, IsShort, HasPutAtEnd, SaysEnd}
+use Rattle.command_frame.specs.Endings.{end_of_size, IsAllowedEnd, CutsReadingOff, HasPutAtEnd, SaysEnd}
 use Rattle.command_frame.specs.FileSizes.{IsUnsized}
 use Rattle.damage_skip.specs.Bounds.{may_skip, MaySkip}
 use Rattle.damage_skip.specs.Regions.{skipped_text, walk_text}
@@ -113,7 +113,7 @@ module _ (m : Meaning) (P : List ℕ → Answer → Type 0) (Q : (before after :
         → IsAllowedEnd m result file_then.told
         → IfSome file.bytes (λ bytes. IfSome file_then.told (λ size. size ≡ length bytes))
         → IfSome file.bytes (λ bytes. HasPutAtEnd walk_ends P result bytes Start Walked [])
-        → (IsErrAnd result IsShort → HadNoSinkFault m.uses Before After → IfSome file.bytes (λ bytes. HasPutSoFar (Q file.handed file_then.handed bytes) Start Walked []))
+        → (IsErrAnd result CutsReadingOff → HadNoSinkFault m.uses Before After → IfSome file.bytes (λ bytes. HasPutSoFar (Q file.handed file_then.handed bytes) Start Walked []))
         → TellsOf most result notes.bytes mid.bytes → SaysEnd walk_ends result ended mid notes_then → notes.faults ≤ mid.faults
         → (result ≡ Err (end.Cut cut.File) → Rose file.faults file_then.faults)
         → (result ≡ Err (end.Cut cut.Made) → Rose made.faults made_then.faults)

@@ -17,8 +17,9 @@ walk_status (region ∷ skipped) None = status.Skipped
 
 -- how many bytes of the file may be handed out, by its bytes: those that a walk past regions that may be skipped takes
 abbrev pub MayTakeWalk : Bool → Option ℕ → (files : List (List ℕ)) → (before after : List ℕ) → Type 0
-MayTakeWalk keep most (file ∷ []) (before ∷ []) (after ∷ []) = IsTakenByWalk keep (MaySkip most) file (after - before)
-MayTakeWalk keep most files before after = ⊥
+MayTakeWalk unread_ok most (file ∷ []) (before ∷ []) (after ∷ []) =
+    IsTakenByWalk unread_ok (MaySkip most) file (after - before)
+MayTakeWalk unread_ok most files before after = ⊥
 
 -- what a walk may say before its end, whatever the file holds
 abbrev pub MaySayWalk : Option ℕ → List ℕ → Type 0

@@ -12,7 +12,7 @@ ghost use Rattle.recover_command.specs.RecoverProgress.{CountStreams, IsPrintabl
 ghost use Rattle.command_frame.specs.Runs.{Runs};
 ghost use Rattle.command_frame.specs.RunObjects.{Seen};
 ghost use Rattle.command_frame.specs.PutSoFar.{HasPutSoFar};
-ghost use Rattle.command_frame.specs.Endings.{HasPutAtEnd, IsAllowedEnd, IsShort, SpeaksIn};
+ghost use Rattle.command_frame.specs.Endings.{HasPutAtEnd, IsAllowedEnd, CutsReadingOff, SpeaksIn};
 ghost use Rattle.recover_command.specs.WalkingEnds.{TellsOf, walk_ends};
 
 use crate::recover_words::RecoverWords;
@@ -53,7 +53,8 @@ fn recover_file<S: Store, O: Sink, E: Sink>(
 ) -> Result<Status, Ending<Region>>
     ensures printed { (made : Option (List ℕ)) → IfSome (S.bytes file.old) (λ bytes. HasPutAtEnd walk_ends (IsRecovered words.now) result bytes
         (taken_by made (O.taken out.old) (E.taken notes.old)) (taken_by made (O.taken out.new) (E.taken notes.new)) []) }
-    ensures so_far { IsErrAnd result IsShort → ¬ Rose (O.faults out.old) (O.faults out.new) → (made : Option (List ℕ))
+    ensures so_far { IsErrAnd result CutsReadingOff → ¬ Rose (O.faults out.old) (O.faults out.new)
+        → (made : Option (List ℕ))
         → IfSome (S.bytes file.old) (λ bytes. HasPutSoFar (IsRecoveredSoFar words.now (S.handed file.old) (S.handed file.new) bytes)
         (taken_by made (O.taken out.old) (E.taken notes.old)) (taken_by made (O.taken out.new) (E.taken notes.new)) []) }
     ensures said { TellsOf words.now.most result (E.taken notes.old) (E.taken notes.new) }
@@ -89,7 +90,7 @@ fn print_events<S: Store, O: Sink, E: Sink>(
     requires none_held { lines.old ≡ [] }
     ensures printed { (made : Option (List ℕ)) → IfSome (S.bytes file.old) (λ bytes. HasPutAtEnd walk_ends (IsRecovered words.now) result bytes
         (taken_by made (O.taken out.old) (E.taken notes.old)) (taken_by made (O.taken out.new) (E.taken notes.new)) lines.new) }
-    ensures so_far { IsErrAnd result IsShort → (made : Option (List ℕ))
+    ensures so_far { IsErrAnd result CutsReadingOff → (made : Option (List ℕ))
         → IfSome (S.bytes file.old) (λ bytes. HasPutSoFar (IsRecoveredSoFar words.now (S.handed file.old) (S.handed file.new) bytes)
         (taken_by made (O.taken out.old) (E.taken notes.old)) (taken_by made (O.taken out.new) (E.taken notes.new)) lines.new) }
     ensures said { TellsOf words.now.most result (E.taken notes.old) (E.taken notes.new) }

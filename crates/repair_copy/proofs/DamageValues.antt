@@ -11,7 +11,7 @@ use Rattle.block_layout.specs.Layout.{end_of, chunk_end_of}
 use Rattle.chunk_header.specs.Chunks.{ChunkValue}
 use Rattle.chunk_header.specs.SimpleChunks.{simple_chunk, IsSimple}
 use Rattle.chunk_header.proofs.SimpleChunks.{IsSimple-simple_chunk}
-use Rattle.meta_chunk.specs.Files.{signature, AreLaid, IsFrame, begin_of, laid_each}
+use Rattle.meta_chunk.specs.Files.{signature, AreLaid, IsWellFormed, begin_of, laid_each}
 use Rattle.meta_chunk.specs.Kinds.{IsSignature}
 use Rattle.meta_chunk.proofs.LaidChunks.{AreLaid-laid_each}
 use Rattle.chunk_reader.proofs.SignedFiles.{IsChunk-signature, IsAllowed-signature}
@@ -101,9 +101,9 @@ are_left = (
 kept : List ChunkValue
 kept = signature ∷ of_byte 0x61 ∷ []
 
-kept_is_a_frame : IsFrame kept (laid_each 0 kept)
+kept_is_well_formed : IsWellFormed kept (laid_each 0 kept)
 unfolding kept of_byte shortest
-kept_is_a_frame =
+kept_is_well_formed =
     let bytes = laid_each 0 kept in (
       λ none. cc none,
       record {
@@ -152,5 +152,5 @@ abc_repaired test f faults faults_then allows = record {
     notes = ap Some (sym (notes_in-repair (given ∷ skipped ∷ [])));
   };
   made = refl;
-  frame = kept_is_a_frame;
+  well_formed = kept_is_well_formed;
 }

@@ -24,7 +24,7 @@ use Rattle.repair_copy.specs.declared.repairs.Repaired.{Repaired}
 use Rattle.repair_copy.specs.declared.repairs.RepairEnd.{RepairEnd}
 use Rattle.repair_copy.specs.declared.repairs.RepairEnd.TheVariants as end
 use Rattle.repair_copy.proofs.EventChunks.{chunks_in_events, relaid_events}
-use Rattle.repair_copy.proofs.LeftChunks.{left_chunks, frame_kept}
+use Rattle.repair_copy.proofs.LeftChunks.{left_chunks, well_formed_kept}
 use Rattle.repair_copy.proofs.RepairPuts.{made_in-repair}
 
 module _ {F : Type 0} (test : Shared F (Bor Region × Unit {0}) Bool) (f : F) (ks : List ChunkValue) (file damaged : List ℕ) (intact : Intact)
@@ -72,7 +72,7 @@ damage_repaired test f result faults faults_then before after taken damaged h ks
     let left = tiles_left true ks file damaged intact d reach 0 0 h.place pieces (omega arith) refl h.walked.walked.1 in
     let numbers = left_numbers true ks intact 0 left.0 pieces left.3 in
     let kept : List ChunkValue = kept_of ks intact numbers.0 in
-    let chunks : chunks_in pieces ≡ kept = left_chunks true ks intact d.frame.1.each 0 left.0 pieces numbers.0 left.3 numbers.1 in
+    let chunks : chunks_in pieces ≡ kept = left_chunks true ks intact d.well_formed.1.each 0 left.0 pieces numbers.0 left.3 numbers.1 in
     let same : chunks_in h.events ≡ kept = sym (ap chunks_in are) ∙ chunks_in_events pieces ∙ chunks in
     let laid : relaid pieces ≡ laid_each 0 (signature ∷ kept) = ap (λ (xs : List ChunkValue). laid_each 0 (signature ∷ xs)) chunks in
     record {
@@ -88,5 +88,5 @@ damage_repaired test f result faults faults_then before after taken damaged h ks
       went = subst (λ (es : List Piece). WentOut result faults faults_then es h.part) (sym are) h.went;
       took = h.took;
       made = makes_of result faults faults_then before after h.events h.part kept (sym (ap relaid are) ∙ relaid_events pieces ∙ laid) h.went h.took;
-      frame = frame_kept true ks file intact numbers.0 d.frame;
+      well_formed = well_formed_kept true ks file intact numbers.0 d.well_formed;
     }

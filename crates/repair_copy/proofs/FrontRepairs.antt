@@ -6,10 +6,10 @@ use Rattle.std.proofs.lemmas.List.{append-nil}
 use denote.Ref.{Bor}
 use Rattle.record_io.specs.Puts.{Put, Taken, GoOut}
 use Rattle.chunk_header.specs.Chunks.{ChunkValue}
-use Rattle.meta_chunk.specs.Files.{totals_of, signature, IsFramed, IsChainOf, IsFrame, begin_of, laid_each}
+use Rattle.meta_chunk.specs.Files.{totals_of, signature, IsWellFormedChunk, IsChainOf, IsWellFormed, begin_of, laid_each}
 use Rattle.meta_chunk.proofs.Chains.{IsChainOf-take}
 use Rattle.chunk_reader.specs.declared.reasons.Why.{Why}
-use Rattle.damage_skip.specs.Fronts.{IsCutAt, AreFrontPieces}
+use Rattle.damage_skip.specs.FrontPieces.{IsCutAt, AreFrontPieces}
 use Rattle.damage_skip.specs.Pieces.{Piece, Skipped, AreTiles, GoesOn, events_in}
 use Rattle.damage_skip.specs.FilePieces.{ArePieces, AreFound}
 use Rattle.damage_skip.specs.Regions.{regions_in}
@@ -84,24 +84,24 @@ cut_events ks count m cut (inl (at, is)) = ap events_in is ∙ sym is
 cut_events ks count m cut (inr (inside, after, before, reason, which, is)) = ap events_in is ∙ sym is
 
 -- the pieces of the chunks that a front has whole
-module _ (ks : List ChunkValue) (file : List ℕ) (frame : IsFrame ks file) (count : ℕ) (front : List Piece)
+module _ (ks : List ChunkValue) (file : List ℕ) (well_formed : IsWellFormed ks file) (count : ℕ) (front : List Piece)
     (whole : AreTiles true file 0 (begin_of ks count) front) where
   front_found : AreFound true 0 (take count ks) front
   front_found =
-      let chain : IsChainOf IsFramed (take count ks) file (begin_of ks count) = IsChainOf-take count ks file (length file) frame.1 in
+      let chain : IsChainOf IsWellFormedChunk (take count ks) file (begin_of ks count) = IsChainOf-take count ks file (length file) well_formed.1 in
       tiles_found true (take (begin_of ks count) file) 0 (take count ks) front (omega arith) chain.each chain.laid
-      (cut_between true ks file frame count front whole)
+      (cut_between true ks file well_formed count front whole)
 
   front_kept : chunks_in front ≡ copied true (take count ks)
   front_kept =
-      let chain : IsChainOf IsFramed (take count ks) file (begin_of ks count) = IsChainOf-take count ks file (length file) frame.1 in
+      let chain : IsChainOf IsWellFormedChunk (take count ks) file (begin_of ks count) = IsChainOf-take count ks file (length file) well_formed.1 in
       found_chunks true 0 (take count ks) front chain.each front_found
 
   front_not_skipped : AllByRecursion NotSkipped (events_in front)
   front_not_skipped = each_event NotSkipped front (none_skipped true 0 (take count ks) front front_found)
 
 module _ {F : Type 0} (test : Shared F (Bor Region × Unit {0}) Bool) (f : F) (ks : List ChunkValue) (file bytes : List ℕ) (m : ℕ)
-    (frame : IsFrame ks file) (pieces : List Piece) (apart : AreFrontPieces true ks file m pieces) where
+    (well_formed : IsWellFormed ks file) (pieces : List Piece) (apart : AreFrontPieces true ks file m pieces) where
   kept : List ChunkValue
   kept = copied true (take apart.count ks)
 
@@ -116,14 +116,14 @@ module _ {F : Type 0} (test : Shared F (Bor Region × Unit {0}) Bool) (f : F) (k
       chunks_in_events pieces ∙ ap chunks_in apart.are ∙ chunks_in-append apart.front apart.cut
       ∙ ap (λ (xs : List ChunkValue). chunks_in apart.front ++ xs) (cut_chunks ks apart.count m apart.cut apart.cut_there)
       ∙ append-nil (chunks_in apart.front)
-      ∙ front_kept ks file frame apart.count apart.front apart.whole
+      ∙ front_kept ks file well_formed apart.count apart.front apart.whole
 
   all_regions : length (regions_in (events_in pieces)) ≡ length apart.cut
   all_regions =
       ap (λ (es : List Piece). length (regions_in es)) events_apart
       ∙ ap length (regions_in-append (events_in apart.front) apart.cut)
       ∙ ap (λ (rs : List Region). length (rs ++ regions_in apart.cut))
-      (none_told (events_in apart.front) (front_not_skipped ks file frame apart.count apart.front apart.whole))
+      (none_told (events_in apart.front) (front_not_skipped ks file well_formed apart.count apart.front apart.whole))
       ∙ cut_regions ks apart.count m apart.cut apart.cut_there
 
   -- the events that were passed have their chunks, where the others have none
@@ -149,7 +149,7 @@ module _ {F : Type 0} (test : Shared F (Bor Region × Unit {0}) Bool) (f : F) (k
       let first = region_first true bytes place ps region on (h.begin, h.below, h.piece) in
       let from_region : left ≡ piece_at region ∷ events_in first.0 = sym rest ∙ ap events_in first.1 in
       let last = region_last (events_in apart.front) apart.cut events (events_in first.0) region
-      (front_not_skipped ks file frame apart.count apart.front apart.whole) (cut_few ks apart.count m apart.cut apart.cut_there)
+      (front_not_skipped ks file well_formed apart.count apart.front apart.whole) (cut_few ks apart.count m apart.cut apart.cut_there)
       (sym events_apart ∙ are ∙ ap (λ (es : List Piece). events ++ es) from_region) in
       (from_region ∙ last.0, last.1, h.refused)
   answers_front (Err end.Store) place events left are on h = tt
@@ -175,15 +175,15 @@ module _ {F : Type 0} (test : Shared F (Bor Region × Unit {0}) Bool) (f : F) (k
 
 front_repaired : {F : Type 0} (test : Shared F (Bor Region × Unit {0}) Bool) (f : F) (result : Result Repaired RepairEnd) (faults faults_then : ℕ)
     (before after : Taken) (taken : ℕ) (bytes : List ℕ) → Repairs test f result faults faults_then before after taken bytes
-    → (ks : List ChunkValue) (file : List ℕ) (m : ℕ) → IsFrame ks file → m ≤ length file → bytes ≡ take m file
+    → (ks : List ChunkValue) (file : List ℕ) (m : ℕ) → IsWellFormed ks file → m ≤ length file → bytes ≡ take m file
     → RepairsFront test f result faults faults_then before after ks file m
 unfolding kept
-front_repaired test f result faults faults_then before after taken bytes h ks file m frame within is =
-    let front = front_pieces true ks file m frame within in
+front_repaired test f result faults faults_then before after taken bytes h ks file m well_formed within is =
+    let front = front_pieces true ks file m well_formed within in
     let whole : ArePieces true bytes front.0 = subst (λ (b : List ℕ). ArePieces true b front.0) (sym is) front.2 in
     let left = goes_on_front true bytes h.place h.events (events_in front.0) h.walked.walked (front.0, whole, refl) in
     let answer : AnswersFront test f (copied true (take front.1.count ks)) front.1.cut left.0 result =
-    answers_front test f ks file bytes m frame front.0 front.1 result h.place h.events left.0 left.1 left.2 h.answer in
+    answers_front test f ks file bytes m well_formed front.0 front.1 result h.place h.events left.0 left.1 left.2 h.answer in
     record {
       pieces = front.0;
       apart = front.1;
@@ -195,7 +195,7 @@ front_repaired test f result faults faults_then before after taken bytes h ks fi
       part = h.part;
       went = h.went;
       took = h.took;
-      made = makes_front test f ks file bytes m frame front.0 front.1 result faults faults_then before after h.events left.0 h.part left.1 answer h.went h.took;
+      made = makes_front test f ks file bytes m well_formed front.0 front.1 result faults faults_then before after h.events left.0 h.part left.1 answer h.went h.took;
     }
 
 -- where the file shows its bytes, also where that is a damaged one

@@ -56,22 +56,22 @@ pub place_moved : (begin place : ℕ) (k : ChunkValue) → place ≤ 64 + 2 * be
 place_moved begin place k small = omega (arith, end_of_chunk_moved begin place k, end_of_chunk_after begin k)
 
 -- the chunk of a whole piece is the one at its place, if it has one
-one_or_none : (file : List ℕ) (keep : Bool) (place : ℕ) (what : PieceKind) → IsFoundAs keep (chunk_at file place) what
+one_or_none : (file : List ℕ) (unread_ok : Bool) (place : ℕ) (what : PieceKind) → IsFoundAs unread_ok (chunk_at file place) what
     → (chunk_in what ≡ chunk_at file place ∷ []) ⊎ (chunk_in what ≡ [])
-one_or_none file keep place (Records records c) found = inl (ap (λ (x : ChunkValue). x ∷ []) found.1)
-one_or_none file keep place (Kept c) found = inl (ap (λ (x : ChunkValue). x ∷ []) found.1)
-one_or_none file keep place SignatureOrPadding found = inr refl
-one_or_none file keep place (Skipped w) found = inr refl
+one_or_none file unread_ok place (Records records c) found = inl (ap (λ (x : ChunkValue). x ∷ []) found.1)
+one_or_none file unread_ok place (Kept c) found = inl (ap (λ (x : ChunkValue). x ∷ []) found.1)
+one_or_none file unread_ok place SignatureOrPadding found = inr refl
+one_or_none file unread_ok place (Skipped w) found = inr refl
 
 -- so a piece moves the place where the next chunk is laid by at most twice its size
-piece_moved : (keep : Bool) (file : List ℕ) (begin end place : ℕ) (what : PieceKind) → begin < length file
-    → place ≤ 64 + 2 * begin → IsPieceOf keep file begin end what → end_of_chunks place (chunk_in what) ≤ 64 + 2 * end
-piece_moved keep file begin end place what below small is =
-    let stays : end_of_chunks place [] ≤ 64 + 2 * end = omega (arith, (piece_past keep file begin end what below is).past) in
+piece_moved : (unread_ok : Bool) (file : List ℕ) (begin end place : ℕ) (what : PieceKind) → begin < length file
+    → place ≤ 64 + 2 * begin → IsPieceOf unread_ok file begin end what → end_of_chunks place (chunk_in what) ≤ 64 + 2 * end
+piece_moved unread_ok file begin end place what below small is =
+    let stays : end_of_chunks place [] ≤ 64 + 2 * end = omega (arith, (piece_past unread_ok file begin end what below is).past) in
     let bounded : (ks : List ChunkValue) → Type 0 = λ ks. end_of_chunks place ks ≤ 64 + 2 * end in
-    elim (piece_cases keep file begin end what is) [
+    elim (piece_cases unread_ok file begin end what is) [
       | inl (w, skipped, first, to) ↦ subst bounded (sym (ap chunk_in skipped)) stays
-      | inr (none, to, found) ↦ elim (one_or_none file keep begin what found) [
+      | inr (none, to, found) ↦ elim (one_or_none file unread_ok begin what found) [
         | inl one ↦
             let fits : end_at file begin ≤ length file = omega (arith, none.1.1.1.0) in
             let moved : end_of_chunk place (chunk_at file begin) ≤ 64 + 2 * end_of_chunk begin (chunk_at file begin) =
@@ -81,24 +81,24 @@ piece_moved keep file begin end place what below small is =
       ]
     ]
 
-tiles_moved : (keep : Bool) (file : List ℕ) (from to place : ℕ) (pieces : List Piece)
-    → place ≤ 64 + 2 * from → AreTiles keep file from to pieces → end_of_chunks place (chunks_in pieces) ≤ 64 + 2 * to
-tiles_moved keep file from to place [] small h = omega (arith, h)
-tiles_moved keep file from to place (p ∷ pieces) small (begin, below, is, rest) =
+tiles_moved : (unread_ok : Bool) (file : List ℕ) (from to place : ℕ) (pieces : List Piece)
+    → place ≤ 64 + 2 * from → AreTiles unread_ok file from to pieces → end_of_chunks place (chunks_in pieces) ≤ 64 + 2 * to
+tiles_moved unread_ok file from to place [] small h = omega (arith, h)
+tiles_moved unread_ok file from to place (p ∷ pieces) small (begin, below, is, rest) =
     omega (
       arith,
       end_of_chunks-append place (chunk_in p.what) (chunks_in pieces),
-      tiles_moved keep file p.end to (end_of_chunks place (chunk_in p.what)) pieces
-          (piece_moved keep file from p.end place p.what below small is) rest,
+      tiles_moved unread_ok file p.end to (end_of_chunks place (chunk_in p.what)) pieces
+          (piece_moved unread_ok file from p.end place p.what below small is) rest,
     )
 
 -- and the file of pieces has at most twice as many bytes, behind the signature
-pub relaid_small : (keep : Bool) (file : List ℕ) (place : ℕ) (pieces : List Piece) → AreTiles keep file 0 place pieces
+pub relaid_small : (unread_ok : Bool) (file : List ℕ) (place : ℕ) (pieces : List Piece) → AreTiles unread_ok file 0 place pieces
     → length (relaid pieces) ≤ 64 + 2 * place
-relaid_small keep file place pieces h =
+relaid_small unread_ok file place pieces h =
     omega (
       arith,
       end-laid_each 0 (signature ∷ chunks_in pieces),
       ap (λ (x : ℕ). end_of_chunks x (chunks_in pieces)) end_of_chunk-signature,
-      tiles_moved keep file 0 place 64 pieces (omega arith) h,
+      tiles_moved unread_ok file 0 place 64 pieces (omega arith) h,
     )

@@ -20,60 +20,60 @@ use Rattle.record_group.specs.declared.pad.Pad.{Pad}
 use Rattle.record_group.specs.declared.pad.Pad.TheVariants.{No}
 use Rattle.record_group.specs.Groups.{groups, pads_start, pads_end, padding_if, front_padding, front_chunks, end_padding, record_chunks, chunks_of, file_of}
 use Rattle.record_group.specs.Records.{AreRecords}
-use Rattle.record_group.proofs.RecordFiles.{IsFile-file_of}
+use Rattle.record_group.proofs.RecordFiles.{IsReadable-file_of}
 use Rattle.repair_copy.specs.RelaidFiles.{relaid}
 use Rattle.repair_copy.specs.CopiedChunks.{is_copied, copied}
 use Rattle.repair_copy.proofs.Copied.{left_out_stays, copied_all, copied_none}
 use Rattle.repair_copy.proofs.RelaidFiles.{whole_chunks}
 
 -- no padding is copied
-each_padding : (keep : Bool) (ks : List ChunkValue) → AllByRecursion IsPadding ks → AllByRecursion (λ k. is_copied keep k ≡ false) ks
-each_padding keep [] h = tt
-each_padding keep (k ∷ ks) h = (left_out_stays keep k (inr h.0), each_padding keep ks h.1)
+each_padding : (unread_ok : Bool) (ks : List ChunkValue) → AllByRecursion IsPadding ks → AllByRecursion (λ k. is_copied unread_ok k ≡ false) ks
+each_padding unread_ok [] h = tt
+each_padding unread_ok (k ∷ ks) h = (left_out_stays unread_ok k (inr h.0), each_padding unread_ok ks h.1)
 
-padding_stays : (keep wanted : Bool) (place : ℕ) → IsBoundary place → copied keep (padding_if wanted place) ≡ []
-padding_stays keep true place boundary = copied_none keep (padding_at place) (each_padding keep (padding_at place) (padding_at_are_padding place boundary))
-padding_stays keep false place boundary = refl
+padding_stays : (unread_ok wanted : Bool) (place : ℕ) → IsBoundary place → copied unread_ok (padding_if wanted place) ≡ []
+padding_stays unread_ok true place boundary = copied_none unread_ok (padding_at place) (each_padding unread_ok (padding_at place) (padding_at_are_padding place boundary))
+padding_stays unread_ok false place boundary = refl
 
 -- and each group's chunk is
-simple_copied : (keep : Bool) (group : List (List ℕ)) → is_copied keep (simple_chunk group) ≡ true
+simple_copied : (unread_ok : Bool) (group : List (List ℕ)) → is_copied unread_ok (simple_chunk group) ≡ true
 simple_copied true group = refl
 simple_copied false group = refl
 
-groups_copied : (keep : Bool) (gs : List (List (List ℕ))) → AllByRecursion (λ k. is_copied keep k ≡ true) (map simple_chunk gs)
-groups_copied keep [] = tt
-groups_copied keep (group ∷ gs) = (simple_copied keep group, groups_copied keep gs)
+groups_copied : (unread_ok : Bool) (gs : List (List (List ℕ))) → AllByRecursion (λ k. is_copied unread_ok k ≡ true) (map simple_chunk gs)
+groups_copied unread_ok [] = tt
+groups_copied unread_ok (group ∷ gs) = (simple_copied unread_ok group, groups_copied unread_ok gs)
 
 -- so of the chunks of records those of the groups are
-record_chunks_copied : (keep : Bool) (place : ℕ) (records : List (List ℕ)) (size : ℕ) (every : Option ℕ) (pad : Pad) → IsBoundary place
-    → copied keep (record_chunks place records size every pad) ≡ map simple_chunk (groups records size every)
-record_chunks_copied keep place records size every pad boundary =
+record_chunks_copied : (unread_ok : Bool) (place : ℕ) (records : List (List ℕ)) (size : ℕ) (every : Option ℕ) (pad : Pad) → IsBoundary place
+    → copied unread_ok (record_chunks place records size every pad) ≡ map simple_chunk (groups records size every)
+record_chunks_copied unread_ok place records size every pad boundary =
     let gs : List ChunkValue = map simple_chunk (groups records size every) in
     let start : List ChunkValue = front_padding place pad in
     let end : List ChunkValue = end_padding place records size every pad in
     let front : List ChunkValue = front_chunks place records size every pad in
-    filter-append (is_copied keep) front end
-    ∙ ap (λ (xs : List ChunkValue). copied keep front ++ xs)
-    (padding_stays keep (pads_end pad) (end_of_chunks place front) (end_of_chunks_boundary place front boundary))
-    ∙ append-nil (copied keep front)
-    ∙ filter-append (is_copied keep) start gs
-    ∙ ap (λ (xs : List ChunkValue). xs ++ copied keep gs) (padding_stays keep (pads_start pad) place boundary)
-    ∙ copied_all keep gs (groups_copied keep (groups records size every))
+    filter-append (is_copied unread_ok) front end
+    ∙ ap (λ (xs : List ChunkValue). copied unread_ok front ++ xs)
+    (padding_stays unread_ok (pads_end pad) (end_of_chunks place front) (end_of_chunks_boundary place front boundary))
+    ∙ append-nil (copied unread_ok front)
+    ∙ filter-append (is_copied unread_ok) start gs
+    ∙ ap (λ (xs : List ChunkValue). xs ++ copied unread_ok gs) (padding_stays unread_ok (pads_start pad) place boundary)
+    ∙ copied_all unread_ok gs (groups_copied unread_ok (groups records size every))
 
 -- which are all chunks of records where no padding is wanted
 record_chunks-no : (place : ℕ) (records : List (List ℕ)) (size : ℕ) (every : Option ℕ)
     → record_chunks place records size every No ≡ map simple_chunk (groups records size every)
 record_chunks-no place records size every = append-nil (map simple_chunk (groups records size every))
 
-pub padding_out : (keep : Bool) (records : List (List ℕ)) (size : ℕ) (every : Option ℕ) (pad : Pad) (pieces : List Piece)
-    → AreRecords records → size ≤ 2 ^ 24 → ArePieces keep (file_of records size every pad) pieces
+pub padding_out : (unread_ok : Bool) (records : List (List ℕ)) (size : ℕ) (every : Option ℕ) (pad : Pad) (pieces : List Piece)
+    → AreRecords records → size ≤ 2 ^ 24 → ArePieces unread_ok (file_of records size every pad) pieces
     → relaid pieces ≡ file_of records size every No
 unfolding file_of
-padding_out keep records size every pad pieces each small h =
+padding_out unread_ok records size every pad pieces each small h =
     let place : ℕ = end_of_chunk 0 signature in
-    let whole = file_of_plain keep (chunks_of records size every pad) (file_of records size every pad)
-    (IsFile-file_of records size every pad each small) in
+    let whole = file_of_plain unread_ok (chunks_of records size every pad) (file_of records size every pad)
+    (IsReadable-file_of records size every pad each small) in
     ap (λ (ks : List ChunkValue). laid_each 0 (signature ∷ ks))
-    (whole_chunks keep (chunks_of records size every pad) (file_of records size every pad) pieces whole h
-    ∙ record_chunks_copied keep place records size every pad (chunk_end_of_boundary 0 40 0)
+    (whole_chunks unread_ok (chunks_of records size every pad) (file_of records size every pad) pieces whole h
+    ∙ record_chunks_copied unread_ok place records size every pad (chunk_end_of_boundary 0 40 0)
     ∙ sym (record_chunks-no place records size every))

@@ -82,7 +82,7 @@ AreBytes-laid_each place (k ∷ ks) h =
     AreBytes-append (laid place k) (laid_each (end_of_chunk place k) ks) (AreBytes-laid place k h.0)
     (AreBytes-laid_each (end_of_chunk place k) ks h.1)
 
-pub AreBytes-relaid : (keep : Bool) (file : List ℕ) (place : ℕ) (pieces : List Piece) → AreBytes file → AreTiles keep file 0 place pieces
+pub AreBytes-relaid : (unread_ok : Bool) (file : List ℕ) (place : ℕ) (pieces : List Piece) → AreBytes file → AreTiles unread_ok file 0 place pieces
     → AreBytes (relaid pieces)
-AreBytes-relaid keep file place pieces bytes h =
-    AreBytes-laid_each 0 (signature ∷ chunks_in pieces) (IsChunk-signature, tiles_sound keep file bytes 0 place pieces h)
+AreBytes-relaid unread_ok file place pieces bytes h =
+    AreBytes-laid_each 0 (signature ∷ chunks_in pieces) (IsChunk-signature, tiles_sound unread_ok file bytes 0 place pieces h)

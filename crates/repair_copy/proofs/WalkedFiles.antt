@@ -65,15 +65,15 @@ module _ {F : Type 0} (test : Shared F (Bor Region × Unit {0}) Bool) (f : F) wh
   walk_ended (Some file) place s before a ended taken h end account =
       record { place = place; events = h.events; walked = h.walked; copies = (h.copies, end); account = account }
 
-  module _ (bytes now : Option (List ℕ)) (keep : Bool) (place to : ℕ) (same : now ≡ bytes) (keeps : keep ≡ true) where
-    goes_on : (events : List Piece) → IfSome now (λ file. GoesOn keep file place to events) → IfSome bytes (λ file. GoesOn true file place to events)
+  module _ (bytes now : Option (List ℕ)) (unread_ok : Bool) (place to : ℕ) (same : now ≡ bytes) (keeps : unread_ok ≡ true) where
+    goes_on : (events : List Piece) → IfSome now (λ file. GoesOn unread_ok file place to events) → IfSome bytes (λ file. GoesOn true file place to events)
     goes_on events h =
         same_told (λ file. GoesOn true file place to events) bytes now same
         (subst (λ (k : Bool). IfSome now (λ file. GoesOn k file place to events)) keeps h)
 
     -- the walk has come to where it ends
     pub walked_to_end : (s : Copied) (before now_taken : Taken) → IfSome bytes (HasWalked test f place s before now_taken)
-        → IfSome now (λ file. GoesOn keep file place to []) → IfSome bytes (HasWalked test f to s before now_taken)
+        → IfSome now (λ file. GoesOn unread_ok file place to []) → IfSome bytes (HasWalked test f to s before now_taken)
     walked_to_end s before now_taken h on = both bytes h (goes_on [] on) where
       both : (o : Option (List ℕ)) → IfSome o (HasWalked test f place s before now_taken) → IfSome o (λ file. GoesOn true file place to [])
           → IfSome o (HasWalked test f to s before now_taken)
@@ -82,7 +82,7 @@ module _ {F : Type 0} (test : Shared F (Bor Region × Unit {0}) Bool) (f : F) wh
 
     -- an event was copied
     pub walked_next : (s t : Copied) (before now_taken then : Taken) (e : Piece) → IfSome bytes (HasWalked test f place s before now_taken)
-        → IfSome now (λ file. GoesOn keep file place to (e ∷ [])) → AllByRecursion (IsAllowedRegion test f) (regions_in (e ∷ []))
+        → IfSome now (λ file. GoesOn unread_ok file place to (e ∷ [])) → AllByRecursion (IsAllowedRegion test f) (regions_in (e ∷ []))
         → ((b : Taken) (events : List Piece) → HasCopied b now_taken s events → HasBegun b then t (events ++ e ∷ []))
         → IfSome bytes (HasWalked test f to t before then)
     walked_next s t before now_taken then e h on pass copies = both bytes h (goes_on (e ∷ []) on) where
@@ -99,7 +99,7 @@ module _ {F : Type 0} (test : Shared F (Bor Region × Unit {0}) Bool) (f : F) wh
     pub cut_within : (s t : Copied) (before now_taken then : Taken) (e : Piece) (end : RepairEnd) (result : Result (Option WalkEnd) RepairEnd) (taken : ℕ)
         → result ≡ Err end
         → IfSome bytes (HasWalked test f place s before now_taken)
-        → IfSome now (λ file. GoesOn keep file place to (e ∷ [])) → AllByRecursion (IsAllowedRegion test f) (regions_in (e ∷ []))
+        → IfSome now (λ file. GoesOn unread_ok file place to (e ∷ [])) → AllByRecursion (IsAllowedRegion test f) (regions_in (e ∷ []))
         → ((b : Taken) (events : List Piece) → HasCopied b now_taken s events → HasCopiedFront end b then (events ++ e ∷ []))
         → IfSome bytes (λ file. IsTakenFrom true file 0 to taken)
         → IfSome bytes (CopiesWalk test f result t before then taken)
@@ -125,7 +125,7 @@ module _ {F : Type 0} (test : Shared F (Bor Region × Unit {0}) Bool) (f : F) wh
 
     -- or at a region
     pub ends_at_region : (size : ℕ) (region : Region) → IsSized now (Some size) → IsStop size to region
-        → IfSome now (λ file. IsStoppedAt keep file to (Some region)) → FnReturnsAt test f region false
+        → IfSome now (λ file. IsStoppedAt unread_ok file to (Some region)) → FnReturnsAt test f region false
         → IfSome bytes (λ file. EndsAt test f file to (Some region))
     ends_at_region size region sized stop stopped refused =
         same_told (λ file. EndsAt test f file to (Some region)) bytes now same

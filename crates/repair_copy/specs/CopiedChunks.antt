@@ -8,9 +8,9 @@ use Rattle.meta_chunk.specs.Files.{is_unread}
 -- whether an intact chunk is copied: simple, metadata and transposed chunks are, of which those that are left unread only
 -- where these are kept; signatures and padding are not
 abbrev pub is_copied : Bool → ChunkValue → Bool
-is_copied keep k =
-    ((k.kind == simple_kind) || (k.kind == metadata_kind) || (k.kind == transposed_kind)) && (keep || not (is_unread k))
+is_copied unread_ok k =
+    ((k.kind == simple_kind) || (k.kind == metadata_kind) || (k.kind == transposed_kind)) && (unread_ok || not (is_unread k))
 
 -- of some chunks those that are copied
 abbrev pub copied : Bool → List ChunkValue → List ChunkValue
-copied keep ks = filter (is_copied keep) ks
+copied unread_ok ks = filter (is_copied unread_ok) ks

@@ -6,7 +6,7 @@ use denote.Ref.{Bor}
 use Rattle.record_io.specs.Outside.{Takes}
 use Rattle.record_io.specs.Puts.{Put, Taken, GoOut}
 use Rattle.chunk_header.specs.Chunks.{ChunkValue}
-use Rattle.meta_chunk.specs.Files.{totals_of, signature, IsFrame, laid_each}
+use Rattle.meta_chunk.specs.Files.{totals_of, signature, IsWellFormed, laid_each}
 use Rattle.damage_skip.specs.Damage.{Intact, AreReached, AreLostUpToABlock, DamageLeavesEach, untouched}
 use Rattle.damage_skip.specs.DamagedWalks.{IsLeftRegion}
 use Rattle.damage_skip.specs.Pieces.{Piece, events_in}
@@ -56,4 +56,4 @@ pub record RepairsDamage {F : Type 0} (test : Shared F (Bor Region × Unit {0}) 
   pub went : WentOut result faults faults_then (events_in pieces) part
   pub took : GoOut before after part
   pub made : MakesOf result before after (kept_of ks intact numbers)
-  pub frame : IsFrame (signature ∷ kept_of ks intact numbers) (laid_each 0 (signature ∷ kept_of ks intact numbers))
+  pub well_formed : IsWellFormed (signature ∷ kept_of ks intact numbers) (laid_each 0 (signature ∷ kept_of ks intact numbers))

@@ -6,7 +6,7 @@ use denote.Ref.{Bor}
 use Rattle.record_io.specs.Puts.{Put, Taken, GoOut}
 use Rattle.chunk_header.specs.Chunks.{ChunkValue}
 use Rattle.meta_chunk.specs.Files.{totals_of, signature}
-use Rattle.damage_skip.specs.Fronts.{AreFrontPieces}
+use Rattle.damage_skip.specs.FrontPieces.{AreFrontPieces}
 use Rattle.damage_skip.specs.Pieces.{Piece, Skipped, events_in}
 use Rattle.damage_skip.specs.Policies.{IsAllowedRegion}
 use Rattle.damage_skip.specs.Regions.{regions_in}

@@ -4,7 +4,7 @@ use Rattle.std.specs.Fn.{Shared}
 use denote.Ref.{Bor}
 use Rattle.record_io.specs.Puts.{Taken}
 use Rattle.chunk_header.specs.Chunks.{ChunkValue}
-use Rattle.meta_chunk.specs.Files.{IsFrame}
+use Rattle.meta_chunk.specs.Files.{IsWellFormed}
 use Rattle.damage_skip.specs.Damage.{Intact, IsDamaged}
 use Rattle.damage_skip.specs.declared.regions.Region.{Region}
 use Rattle.repair_copy.specs.DamagedRepairs.{RepairsDamage}
@@ -18,5 +18,6 @@ pub record RepairsKnown {F : Type 0} (test : Shared F (Bor Region × Unit {0}) B
     (faults faults_then : ℕ) (before after : Taken) (shown : List ℕ) : Type 0 where
   pub damaged : (ks : List ChunkValue) (file : List ℕ) (intact : Intact) → length file ≤ 2 ^ 60 → IsDamaged ks file shown intact
       → RepairsDamage test f result faults faults_then before after ks intact
-  pub cut : (ks : List ChunkValue) (file : List ℕ) (m : ℕ) → IsFrame ks file → m ≤ length file → shown ≡ take m file
+  pub cut : (ks : List ChunkValue) (file : List ℕ) (m : ℕ) → IsWellFormed ks file
+      → m ≤ length file → shown ≡ take m file
       → RepairsFront test f result faults faults_then before after ks file m

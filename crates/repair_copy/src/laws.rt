@@ -7,7 +7,7 @@ ghost use Rattle.record_io.specs.Puts.{Put, Made, Out, Notes, BreaksOff, bytes_t
 ghost use Rattle.block_layout.specs.Layout.{block_header_size};
 ghost use Rattle.chunk_header.specs.Chunks.{ChunkValue};
 ghost use Rattle.meta_chunk.specs.Kinds.{IsSignature, IsPadding};
-ghost use Rattle.meta_chunk.specs.Files.{signature, end_of_chunks, IsFramed, IsFileOf, IsFile, IsFrame, AreRecordsOf, laid_each};
+ghost use Rattle.meta_chunk.specs.Files.{signature, end_of_chunks, IsWellFormedChunk, IsFileOf, IsReadable, IsWellFormed, AreRecordsOf, laid_each};
 ghost use Rattle.meta_chunk.specs.Laid.{end_of_chunk};
 ghost use Rattle.record_group.specs.declared.pad.Pad.{Pad};
 ghost use Rattle.record_group.specs.declared.pad.Pad.TheVariants.{No};
@@ -52,23 +52,26 @@ pub fn each_stream_takes_its_part()
 /// The chunks of a file's pieces up to a place, laid anew, are a frame of bytes, behind the signature; where unread ones
 /// aren't kept, they are a file of plain chunks. So it has no fault, whatever its length, and its records are those of the
 /// pieces. It is the same with events. Own.
-pub fn relaid_files_are_frames()
-    ensures file { (keep : Bool) (file : List ℕ) (place : ℕ) (pieces : List Piece)
-        → AreBytes file → AreTiles keep file 0 place pieces
-        → IsFileOf (IsAllowed keep) (signature ∷ chunks_in pieces) (relaid pieces) }
-    ensures frame { (keep : Bool) (file : List ℕ) (place : ℕ) (pieces : List Piece)
-        → AreBytes file → AreTiles keep file 0 place pieces → IsFrame (signature ∷ chunks_in pieces) (relaid pieces) }
+pub fn relaid_files_are_well_formed()
+    ensures file { (unread_ok : Bool) (file : List ℕ) (place : ℕ) (pieces : List Piece)
+        → AreBytes file → AreTiles unread_ok file 0 place pieces
+        → IsFileOf (IsAllowed unread_ok) (signature ∷ chunks_in pieces) (relaid pieces) }
+    ensures well_formed { (unread_ok : Bool) (file : List ℕ) (place : ℕ) (pieces : List Piece)
+        → AreBytes file → AreTiles unread_ok file 0 place pieces
+        → IsWellFormed (signature ∷ chunks_in pieces) (relaid pieces) }
     ensures plain { (file : List ℕ) (place : ℕ) (pieces : List Piece)
-        → AreBytes file → AreTiles false file 0 place pieces → IsFile (signature ∷ chunks_in pieces) (relaid pieces) }
-    ensures bytes { (keep : Bool) (file : List ℕ) (place : ℕ) (pieces : List Piece)
-        → AreBytes file → AreTiles keep file 0 place pieces → AreBytes (relaid pieces) }
-    ensures no_fault { (keep : Bool) (file : List ℕ) (place : ℕ) (pieces : List Piece)
-        → AreBytes file → AreTiles keep file 0 place pieces → HasNoFault true (relaid pieces) }
-    ensures records { (keep : Bool) (file : List ℕ) (place : ℕ) (pieces : List Piece)
-        → AreTiles keep file 0 place pieces → AreRecordsOf (signature ∷ chunks_in pieces) (records_in pieces) }
-    ensures events { (keep : Bool) (file : List ℕ) (place : ℕ) (events : List Piece)
-        → AreBytes file → GoesOn keep file 0 place events
-        → IsFrame (signature ∷ chunks_in events) (relaid events)
+        → AreBytes file → AreTiles false file 0 place pieces
+        → IsReadable (signature ∷ chunks_in pieces) (relaid pieces) }
+    ensures bytes { (unread_ok : Bool) (file : List ℕ) (place : ℕ) (pieces : List Piece)
+        → AreBytes file → AreTiles unread_ok file 0 place pieces → AreBytes (relaid pieces) }
+    ensures no_fault { (unread_ok : Bool) (file : List ℕ) (place : ℕ) (pieces : List Piece)
+        → AreBytes file → AreTiles unread_ok file 0 place pieces → HasNoFault true (relaid pieces) }
+    ensures records { (unread_ok : Bool) (file : List ℕ) (place : ℕ) (pieces : List Piece)
+        → AreTiles unread_ok file 0 place pieces
+        → AreRecordsOf (signature ∷ chunks_in pieces) (records_in pieces) }
+    ensures events { (unread_ok : Bool) (file : List ℕ) (place : ℕ) (events : List Piece)
+        → AreBytes file → GoesOn unread_ok file 0 place events
+        → IsWellFormed (signature ∷ chunks_in events) (relaid events)
         × AreRecordsOf (signature ∷ chunks_in events) (records_in events) }
 {}
 
@@ -79,34 +82,40 @@ pub fn relaid_files_grow_little()
         → end_of_chunk place k - place ≤ end_of_chunk begin k - begin + block_header_size }
     ensures more { (begin place : ℕ) (k : ChunkValue)
         → place ≤ 64 + 2 * begin → end_of_chunk place k ≤ 64 + 2 * end_of_chunk begin k }
-    ensures file { (keep : Bool) (file : List ℕ) (place : ℕ) (pieces : List Piece)
-        → AreTiles keep file 0 place pieces → length (relaid pieces) ≤ 64 + 2 * place }
+    ensures file { (unread_ok : Bool) (file : List ℕ) (place : ℕ) (pieces : List Piece)
+        → AreTiles unread_ok file 0 place pieces → length (relaid pieces) ≤ 64 + 2 * place }
 {}
 
 /// Of a file without fault all chunks are copied but signatures and padding. So where no chunk behind the signature is
 /// either, a file of plain chunks is its own repair, and the repair of a frame is its chunks laid with zero padding. Own.
 pub fn whole_files_are_their_own_repair()
-    ensures chunks { (keep : Bool) (ks : List ChunkValue) (file : List ℕ) (pieces : List Piece)
-        → IsFileOf (IsAllowed keep) ks file → ArePieces keep file pieces → chunks_in pieces ≡ copied keep ks }
-    ensures plain { (keep : Bool) (ks : List ChunkValue) (file : List ℕ) (pieces : List Piece)
-        → IsFile (signature ∷ ks) file → AllByRecursion (λ k. ¬ (IsSignature k ⊎ IsPadding k)) ks
-        → ArePieces keep file pieces → relaid pieces ≡ file }
-    ensures frame { (ks : List ChunkValue) (file : List ℕ) (pieces : List Piece)
-        → IsFrame (signature ∷ ks) file → AllByRecursion (λ k. ¬ (IsSignature k ⊎ IsPadding k)) ks
+    ensures chunks { (unread_ok : Bool) (ks : List ChunkValue) (file : List ℕ) (pieces : List Piece)
+        → IsFileOf (IsAllowed unread_ok) ks file → ArePieces unread_ok file pieces
+        → chunks_in pieces ≡ copied unread_ok ks }
+    ensures plain { (unread_ok : Bool) (ks : List ChunkValue) (file : List ℕ) (pieces : List Piece)
+        → IsReadable (signature ∷ ks) file
+        → AllByRecursion (λ k. ¬ (IsSignature k ⊎ IsPadding k)) ks
+        → ArePieces unread_ok file pieces → relaid pieces ≡ file }
+    ensures well_formed { (ks : List ChunkValue) (file : List ℕ) (pieces : List Piece)
+        → IsWellFormed (signature ∷ ks) file
+        → AllByRecursion (λ k. ¬ (IsSignature k ⊎ IsPadding k)) ks
         → ArePieces true file pieces → relaid pieces ≡ laid_each 0 (signature ∷ ks) }
 {}
 
 /// The repair of a file of records is the file of these records without padding. Own.
 pub fn repair_takes_padding_out()
-    ensures { (keep : Bool) (records : List (List ℕ)) (size : ℕ) (every : Option ℕ) (pad : Pad) (pieces : List Piece)
-        → AreRecords records → size ≤ 2 ^ 24 → ArePieces keep (file_of records size every pad) pieces
+    ensures { (unread_ok : Bool) (records : List (List ℕ)) (size : ℕ) (every : Option ℕ)
+        (pad : Pad) (pieces : List Piece)
+        → AreRecords records → size ≤ 2 ^ 24
+        → ArePieces unread_ok (file_of records size every pad) pieces
         → relaid pieces ≡ file_of records size every No }
 {}
 
 /// A file that was repaired, whole or up to a place, is its own repair. Own.
 pub fn repaired_files_stay()
-    ensures { (keep : Bool) (file : List ℕ) (place : ℕ) (pieces others : List Piece)
-        → AreBytes file → AreTiles keep file 0 place pieces → ArePieces keep (relaid pieces) others
+    ensures { (unread_ok : Bool) (file : List ℕ) (place : ℕ) (pieces others : List Piece)
+        → AreBytes file → AreTiles unread_ok file 0 place pieces
+        → ArePieces unread_ok (relaid pieces) others
         → relaid others ≡ relaid pieces }
 {}
 
@@ -114,16 +123,22 @@ pub fn repaired_files_stay()
 /// they are kept the unread ones, that are reached and untouched, in order. Up to a chunk it has those of them that are
 /// reached before it. Own.
 pub fn what_damage_leaves_is_repaired()
-    ensures left { (keep : Bool) (ks : List ChunkValue) (intact : Intact) (j to : ℕ) (pieces : List Piece) (is : List ℕ)
-        → AllByRecursion IsFramed ks → DamageLeavesEach keep ks intact j to pieces → AreReached ks intact j to is
-        → chunks_in pieces ≡ copied keep (untouched ks intact is) }
-    ensures whole { (keep : Bool) (ks : List ChunkValue) (file damaged : List ℕ) (intact : Intact) (is : List ℕ)
+    ensures left { (unread_ok : Bool) (ks : List ChunkValue) (intact : Intact) (j to : ℕ)
+        (pieces : List Piece) (is : List ℕ)
+        → AllByRecursion IsWellFormedChunk ks → DamageLeavesEach unread_ok ks intact j to pieces
+        → AreReached ks intact j to is
+        → chunks_in pieces ≡ copied unread_ok (untouched ks intact is) }
+    ensures whole { (unread_ok : Bool) (ks : List ChunkValue) (file damaged : List ℕ)
+        (intact : Intact) (is : List ℕ)
         (pieces : List Piece)
         → length file ≤ 2 ^ 60 → IsDamaged ks file damaged intact → AreReached ks intact 0 (length ks) is
-        → ArePieces keep damaged pieces → chunks_in pieces ≡ copied keep (untouched ks intact is) }
-    ensures frame { (keep : Bool) (ks : List ChunkValue) (file : List ℕ) (intact : Intact) (to : ℕ) (pieces : List Piece) (is : List ℕ)
-        → IsFrame ks file → DamageLeavesEach keep ks intact 0 to pieces → AreReached ks intact 0 to is
-        → IsFrame (signature ∷ copied keep (untouched ks intact is)) (relaid pieces) }
+        → ArePieces unread_ok damaged pieces
+        → chunks_in pieces ≡ copied unread_ok (untouched ks intact is) }
+    ensures well_formed { (unread_ok : Bool) (ks : List ChunkValue) (file : List ℕ)
+        (intact : Intact) (to : ℕ) (pieces : List Piece) (is : List ℕ)
+        → IsWellFormed ks file → DamageLeavesEach unread_ok ks intact 0 to pieces
+        → AreReached ks intact 0 to is
+        → IsWellFormed (signature ∷ copied unread_ok (untouched ks intact is)) (relaid pieces) }
 {}
 
 /// Under a policy a file has one list of events up to where its walk ends: at the file's end, or at the first region that

@@ -6,7 +6,7 @@ use Rattle.std.proofs.lemmas.Option.{slice_get_within}
 use Rattle.block_layout.proofs.ChunkEnds.{chunk_end_of_past_records}
 use Rattle.chunk_reader.specs.Holders.{ArePlacesBetween, IsHolder, IsHolderFault}
 use Rattle.chunk_reader.specs.Places.{header_at, end_at}
-use Rattle.chunk_reader.specs.Searches.{HasRecordsAt, SearchGives}
+use Rattle.chunk_reader.specs.PositionSearches.{HasRecordsAt, SearchGives}
 use Rattle.chunk_reader.specs.declared.reasons.Fault.{Fault}
 use Rattle.chunk_reader.proofs.PassedChunks.{end_at_after}
 use Rattle.record_seek.specs.Met.{IsMetRecord}

@@ -1,6 +1,6 @@
 -- Inside. Records that are found, as they are told to C. Own.
 use Rattle.std.specs.Prelude.{◌≡◌, ℕ, ◌-◌, ◌≤◌, ◌⊎◌, Some, List, length, slice_get}
-use Rattle.chunk_reader.specs.Searches.{HasRecordsAt, SearchGives}
+use Rattle.chunk_reader.specs.PositionSearches.{HasRecordsAt, SearchGives}
 use Rattle.chunk_reader.specs.Holders.{IsHolder, IsHolderFault}
 use Rattle.chunk_reader.specs.declared.reasons.Fault.{Fault}
 use Rattle.seek_command.specs.Searches.{MayFind, IsKeyFault}

@@ -1,7 +1,7 @@
 ghost use Rattle.std.specs.List.{concat};
 ghost use Rattle.std.specs.Prelude.{◌≡◌, ℕ, ◌+◌, ◌^◌, ◌<◌, ◌≤◌, ◌⊎◌, ◌↔◌, true, false, IsTrue, IfOk, Err, List, [], length, take};
 ghost use Rattle.chunk_header.specs.Chunks.{ChunkValue};
-ghost use Rattle.meta_chunk.specs.Files.{totals_of, IsFrame};
+ghost use Rattle.meta_chunk.specs.Files.{totals_of, IsWellFormed};
 ghost use Rattle.chunk_reader.specs.Faults.{BeginsWithSignature, IsAllowed, IsFault, IsLongest};
 ghost use Rattle.chunk_reader.specs.declared.reasons.Fault.{Fault};
 ghost use Rattle.chunk_reader.specs.Contents.{records_given};
@@ -57,12 +57,15 @@ pub struct ChunkTold {
 #[unsafe(no_mangle)]
 pub extern "C" fn riegeli_verify(file: &[u8], totals: &mut FileTotals, fault: &mut FaultAt) -> u32
     ensures answers { result ≤ 2 }
-    ensures whole { result ≡ 0 → (ks : List ChunkValue) × IsFrame ks file.now × (totals_told totals.new ≡ totals_of ks) }
+    ensures whole { result ≡ 0
+        → (ks : List ChunkValue) × IsWellFormed ks file.now
+        × (totals_told totals.new ≡ totals_of ks) }
     ensures refused { result ≡ 1 → TellsFault (IsFault true file.now) fault.new }
     ensures front { result ≡ 1 → (ks : List ChunkValue) × (place : ℕ)
         × IsLongest (IsAllowed true) ks file.now place × (totals_told totals.new ≡ totals_of ks) }
     ensures too_long { (result ≡ 2) ↔ (2 ^ 60 < length file.now) }
-    ensures exact { (ks : List ChunkValue) → IsFrame ks file.now → length file.now ≤ 2 ^ 60 → result ≡ 0 }
+    ensures exact { (ks : List ChunkValue) → IsWellFormed ks file.now → length file.now ≤ 2 ^ 60
+        → result ≡ 0 }
 {
     let size = file.len() as u64;
     if size > MAX_SIZE {

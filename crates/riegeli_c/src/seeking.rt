@@ -2,7 +2,7 @@ ghost use Rattle.std.specs.Prelude.{◌≡◌, ◌-◌, ◌^◌, ◌<◌, ◌≤
 ghost use Rattle.record_io.specs.Calls.{OnlyAsks};
 ghost use Rattle.record_io.specs.Calls.{HasSize};
 ghost use Rattle.chunk_reader.specs.Holders.{IsHolderFault};
-ghost use Rattle.chunk_reader.specs.Searches.{SearchGives, IsSearchFault};
+ghost use Rattle.chunk_reader.specs.PositionSearches.{SearchGives, IsSearchFault};
 ghost use Rattle.chunk_reader.specs.declared.reasons.Fault.{Fault};
 ghost use Rattle.record_seek.specs.Steps.{placed_of};
 ghost use Rattle.seek_command.specs.Searches.{is_below, MayFind, IsKeyFault};

@@ -1,6 +1,6 @@
 ghost use Rattle.std.specs.Prelude.{◌≡◌, ◌^◌, ◌<◌, ◌≤◌, ◌⊎◌, ◌↔◌, ℕ, List, length, Some, None, Ok, Err, IfSome};
 ghost use Rattle.chunk_header.specs.Chunks.{ChunkValue};
-ghost use Rattle.meta_chunk.specs.Files.{IsFrame};
+ghost use Rattle.meta_chunk.specs.Files.{IsWellFormed};
 ghost use Rattle.record_io.specs.Calls.{OnlyAsks};
 ghost use Rattle.record_io.specs.Calls.{HasSize};
 ghost use Rattle.chunk_reader.specs.Holders.{IsHolderFault};
@@ -28,7 +28,8 @@ pub extern "C" fn riegeli_split(file: &[u8], at: u64, begin: &mut u64, fault: &m
     ensures too_long { (result ≡ 2) ↔ (2 ^ 60 < length file.now) }
     ensures at_end { result ≡ 5 → (begin.new ≡ length file.now) × ((length file.now ≤ at) ⊎ IsSplit file.now at begin.new) }
     ensures answers { (result ≡ 0) ⊎ (result ≡ 1) ⊎ (result ≡ 2) ⊎ (result ≡ 5) }
-    ensures whole { (ks : List ChunkValue) → IsFrame ks file.now → length file.now ≤ 2 ^ 60 → IsFirstBegin ks at begin.new }
+    ensures whole { (ks : List ChunkValue) → IsWellFormed ks file.now → length file.now ≤ 2 ^ 60
+        → IsFirstBegin ks at begin.new }
 {
     let size = file.len() as u64;
     if size > MAX_SIZE {

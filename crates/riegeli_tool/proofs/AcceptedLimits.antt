@@ -6,7 +6,7 @@ use Rattle.record_writer.specs.OptionLimits.{AreInLimits}
 use Rattle.write_command.specs.declared.write_words.WriteWords.{WriteWords}
 use Rattle.sample_command.specs.SampleCommand.{most_records}
 use Rattle.command_frame.specs.Numbers.{number_within}
-use Rattle.command_frame.specs.Options.{value_given, has_flag, are_words_of, file_places, only_two, file_of, is_same_at, optional_value, number_given, files_words_of, ◌>>=◌}
+use Rattle.command_frame.specs.Options.{value_given, has_flag, are_words_of, file_places, only_two, file_place, is_same_at, optional_value, number_given, files_words_of, ◌>>=◌}
 use Rattle.command_frame.specs.Writing.{default_chunk_size}
 use Rattle.command_frame.proofs.WithinBounds.{IsWithin, and_then_some, number_within-bounds, optional_value-within, unwrap_or-within}
 use Rattle.command_frame.proofs.FilesLimits.{files_words_of-within}
@@ -59,7 +59,7 @@ options_of-within words =
 line_words_of-within : (options words : List (List ℕ)) → IfSome (line_words_of options words) (λ w. AreInLimits w.options)
 unfolding line_words_of
 line_words_of-within options words =
-    bind (λ (w : WriteWords). AreInLimits w.options) (file_of options words) _ (λ file named.
+    bind (λ (w : WriteWords). AreInLimits w.options) (file_place options words) _ (λ file named.
     bind (λ (w : WriteWords). AreInLimits w.options) (options_of words) _ (λ how are. of AreInLimits (options_of words) how (options_of-within words) are))
 
 append-within : (words : List (List ℕ)) → IfSome (append_command_of words) IsWithinLimits
@@ -71,21 +71,21 @@ append-within words =
 recover-within : (words : List (List ℕ)) → IfSome (recover_command_of words) IsWithinLimits
 unfolding recover_command_of
 recover-within words =
-    bind IsWithinLimits (file_of (codes "--recover" ∷ codes "--most=" ∷ codes "--hex" ∷ codes "--positions" ∷ []) words) _ (λ file named. bind IsWithinLimits (number_given (codes "--most=") 0 (2 ^ 62) words) _ (λ most bounded. tt))
+    bind IsWithinLimits (file_place (codes "--recover" ∷ codes "--most=" ∷ codes "--hex" ∷ codes "--positions" ∷ []) words) _ (λ file named. bind IsWithinLimits (number_given (codes "--most=") 0 (2 ^ 62) words) _ (λ most bounded. tt))
 
 show-within : (words : List (List ℕ)) → IfSome (show_command_of words) IsWithinLimits
 unfolding show_command_of
 show-within words =
-    either IsWithinLimits (has_flag (codes "--recover") words) _ _ (recover-within words) (mapped IsWithinLimits (file_of (codes "--hex" ∷ codes "--positions" ∷ []) words) _ (λ file named. tt))
+    either IsWithinLimits (has_flag (codes "--recover") words) _ _ (recover-within words) (mapped IsWithinLimits (file_place (codes "--hex" ∷ codes "--positions" ∷ []) words) _ (λ file named. tt))
 
 verify-within : (words : List (List ℕ)) → IfSome (verify_command_of words) IsWithinLimits
 unfolding verify_command_of
-verify-within words = mapped IsWithinLimits (file_of [] words) _ (λ file named. tt)
+verify-within words = mapped IsWithinLimits (file_place [] words) _ (λ file named. tt)
 
 seek-within : (words : List (List ℕ)) → IfSome (seek_command_of words) IsWithinLimits
 unfolding seek_command_of
 seek-within words =
-    bind IsWithinLimits (file_of (codes "--at=" ∷ codes "--key=" ∷ codes "--hex" ∷ []) words) _ (λ file named.
+    bind IsWithinLimits (file_place (codes "--at=" ∷ codes "--key=" ∷ codes "--hex" ∷ []) words) _ (λ file named.
     bind IsWithinLimits (number_given (codes "--at=") 0 (2 ^ 64 - 1) words) _ (λ position given.
     bind IsWithinLimits (one_sought position (value_given (codes "--key=") words)) _ (λ by is. tt)))
 
@@ -100,7 +100,7 @@ repair-within words =
 sample-within : (words : List (List ℕ)) → IfSome (sample_command_of words) IsWithinLimits
 unfolding sample_command_of
 sample-within words =
-    bind IsWithinLimits (file_of (codes "--seed=" ∷ codes "--records=" ∷ codes "--chunk=" ∷ codes "--workers=" ∷ []) words) _ (λ file named.
+    bind IsWithinLimits (file_place (codes "--seed=" ∷ codes "--records=" ∷ codes "--chunk=" ∷ codes "--workers=" ∷ []) words) _ (λ file named.
     bind IsWithinLimits (options_of words) _ (λ how are.
     bind IsWithinLimits (value_given (codes "--seed=") words >>= number_within 0 (2 ^ 64 - 1)) _ (λ seed given.
     bind IsWithinLimits (value_given (codes "--records=") words >>= number_within 0 most_records) _ (λ count counted.
@@ -110,7 +110,7 @@ sample-within words =
 ranges-within : (words : List (List ℕ)) → IfSome (ranges_command_of words) IsWithinLimits
 unfolding ranges_command_of
 ranges-within words =
-    bind IsWithinLimits (file_of (codes "--parts=" ∷ []) words) _ (λ file named.
+    bind IsWithinLimits (file_place (codes "--parts=" ∷ []) words) _ (λ file named.
     bind IsWithinLimits (value_given (codes "--parts=") words >>= number_within 1 16) _ (λ parts given.
     let read = and_then_some (value_given (codes "--parts=") words) (number_within 1 16) parts given in
     let bounds = number_within-bounds 1 16 read.0 parts read.2 in

@@ -15,7 +15,7 @@ use Rattle.riegeli_tool.specs.CommandAnswers.{usage_text, usage}
 use Rattle.write_command.specs.WriteCommand.{answer_to}
 use Rattle.riegeli_tool.specs.AnswersTo.{IsAnswerTo}
 use Rattle.command_frame.specs.Unseen.{reads}
-use Rattle.command_frame.specs.CutShortRuns.{first_lines}
+use Rattle.command_frame.specs.RunLeaves.{first_lines}
 use Rattle.command_frame.specs.declared.status.Status.TheVariants as status
 
 -- what the words `write F` say

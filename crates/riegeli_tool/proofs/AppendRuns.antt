@@ -26,7 +26,7 @@ use Rattle.command_frame.specs.Runs.{Runs}
 use Rattle.command_frame.specs.RunObjects.{Seen, seen}
 use Rattle.command_frame.specs.RunReads.{IsReadBy, IfGrown, OfSizes}
 use Rattle.command_frame.specs.RunAnswers.{IsWhole}
-use Rattle.command_frame.specs.CutShortRuns.{IsCutOff, IsCutShort, TakesThen, Breaks}
+use Rattle.command_frame.specs.RunLeaves.{IsCutOff, IsReadingCutOff, TakesThen, Breaks}
 use Rattle.command_frame.specs.RunCauses.{HasCause}
 use Rattle.command_frame.specs.RunTakes.{TakesAtMost}
 use Rattle.command_frame.proofs.GrownRuns.{GrowsFile, grown-size, keeps-cut_off, keeps-whole}
@@ -293,7 +293,7 @@ module _ (words : AppendWords) (input input_then : SeenStream) (files : List See
   cut_off : (ended : Status) → IsCutOff ended
       → (ended ≢ status.File → ended ≢ status.Grown → OfSizes (append_meaning words) Before After IsInReach)
       → ((r : Read) → IsReadBy (append_meaning words) Before r → (answer : Answer) × (append_meaning words).answers r answer
-      × (part : List Put) × Breaks ended part answer.puts × (bytes_to Notes part ≡ []) × GoOut Start Worked part × (IsCutShort ended → part ≡ []))
+      × (part : List Put) × Breaks ended part answer.puts × (bytes_to Notes part ≡ []) × GoOut Start Worked part × (IsReadingCutOff ended → part ≡ []))
       → (ended ≡ status.Out → (r : Read) → IsReadBy (append_meaning words) Before r
       → (bytes : List ℕ) × (grown_then.bytes ≡ Some bytes) × IsLeft words (Lines r) r.grown bytes)
       → ((r : Read) → IsReadBy (append_meaning words) Before r → (bytes : List ℕ) × (grown_then.bytes ≡ Some bytes) × MayBeLeft words (Lines r) r.grown bytes)

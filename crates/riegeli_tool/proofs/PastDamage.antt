@@ -3,7 +3,7 @@ use Rattle.std.proofs.Common.{◌≡◌, ◌∙◌, ◌⊎◌, ℕ, ◌^◌, ◌
 use Rattle.std.specs.Prelude.{MatchOption}
 use Rattle.std.proofs.lemmas.Bool.{cases_Bool}
 use Rattle.chunk_header.specs.Chunks.{ChunkValue}
-use Rattle.meta_chunk.specs.Files.{IsFrame, AreRecordsOf}
+use Rattle.meta_chunk.specs.Files.{IsWellFormed, AreRecordsOf}
 use Rattle.chunk_reader.specs.declared.reasons.Why.{Why}
 use Rattle.damage_skip.specs.Bounds.{may_skip, MaySkip, walked, refused_in}
 use Rattle.damage_skip.specs.Damage.{Intact, IsDamaged, DamageLeaves, DamageLeavesEach, untouched}
@@ -50,12 +50,12 @@ skippable most begin end (Skipped reason) =
       | inr refused ↦ inr (reason, refl, refused)
     ]
 
-module _ (keep : Bool) (most : Option ℕ) (ks : List ChunkValue) (intact : Intact) where
+module _ (unread_ok : Bool) (most : Option ℕ) (ks : List ChunkValue) (intact : Intact) where
   -- where a walk of what damage leaves ends: at the file's end, or at a region that may not be skipped
   EndsSo : (to : ℕ) (events front : List Piece) → Type 0
   EndsSo to events front =
       ((to ≡ length ks) × (events ≡ front))
-      ⊎ ((region : Region) × (behind : List Piece) × IsLeftRegion keep ks intact to region × (may_skip most region ≡ false)
+      ⊎ ((region : Region) × (behind : List Piece) × IsLeftRegion unread_ok ks intact to region × (may_skip most region ≡ false)
       × (events ≡ front ++ piece_at region ∷ behind))
 
   ends_behind : (to : ℕ) (first events front : List Piece) → EndsSo to events front → EndsSo to (first ++ events) (first ++ front)
@@ -67,10 +67,10 @@ module _ (keep : Bool) (most : Option ℕ) (ks : List ChunkValue) (intact : Inta
   -- so the first pieces are passed
   FrontOf : (j : ℕ) (pieces : List Piece) → Type 0
   FrontOf j pieces =
-      (to : ℕ) × (front : List Piece) × DamageLeavesEach keep ks intact j to front × MaySkipEach most (events_in front)
+      (to : ℕ) × (front : List Piece) × DamageLeavesEach unread_ok ks intact j to front × MaySkipEach most (events_in front)
       × EndsSo to (events_in pieces) (events_in front)
 
-  front_of : (j : ℕ) (pieces : List Piece) → DamageLeavesEach keep ks intact j (length ks) pieces → FrontOf j pieces
+  front_of : (j : ℕ) (pieces : List Piece) → DamageLeavesEach unread_ok ks intact j (length ks) pieces → FrontOf j pieces
   unfolding FrontOf EndsSo
   front_of j [] same = (j, [], refl, tt, inl (same, refl))
   front_of j (p ∷ pieces) (k, next, at, step, begin, end, what, rest) =
@@ -92,19 +92,19 @@ module _ (keep : Bool) (most : Option ℕ) (ks : List ChunkValue) (intact : Inta
         | inr (reason, is, refused) ↦
             let region : Region = record { begin = p.begin; end = p.end; why = reason } in
             let it : p ≡ piece_at region = same_piece p (piece_at region) refl refl is in
-            let left : DamageLeaves keep (intact.header j) (intact.«data» j) k (Skipped reason) =
-            subst (λ (w : PieceKind). DamageLeaves keep (intact.header j) (intact.«data» j) k w) is what in
+            let left : DamageLeaves unread_ok (intact.header j) (intact.«data» j) k (Skipped reason) =
+            subst (λ (w : PieceKind). DamageLeaves unread_ok (intact.header j) (intact.«data» j) k w) is what in
             (j, [], refl, tt, inr (region, events_in pieces, (next, (k, next, at, step, begin, end, left, refl)), refused, ap (λ (q : Piece). events_in (q ∷ pieces)) it))
       ]
 
   -- the answer to a damaged file
   module _ (answer_as : List Piece → Option Region → Answer) (answer : Answer) (file damaged : List ℕ) (reach : length file ≤ 2 ^ 60)
       (d : IsDamaged ks file damaged intact) (events : List Piece) (is : answer ≡ answer_as (walked most events) (refused_in most events)) where
-    answer_up_to : (to : ℕ) (front : List Piece) (stopped : Option Region) → DamageLeavesEach keep ks intact 0 to front → MaySkipEach most (events_in front)
-        → MatchOption stopped (to ≡ length ks) (λ region. IsLeftRegion keep ks intact to region × (may_skip most region ≡ false))
-        → walked most events ≡ events_in front → refused_in most events ≡ stopped → IsAnswerPastDamage keep most answer_as ks intact answer
+    answer_up_to : (to : ℕ) (front : List Piece) (stopped : Option Region) → DamageLeavesEach unread_ok ks intact 0 to front → MaySkipEach most (events_in front)
+        → MatchOption stopped (to ≡ length ks) (λ region. IsLeftRegion unread_ok ks intact to region × (may_skip most region ≡ false))
+        → walked most events ≡ events_in front → refused_in most events ≡ stopped → IsAnswerPastDamage unread_ok most answer_as ks intact answer
     answer_up_to to front stopped left skips ends walk stop =
-        let numbers = left_numbers keep ks intact 0 to front left in
+        let numbers = left_numbers unread_ok ks intact 0 to front left in
         record {
           to = to;
           numbers = numbers.0;
@@ -116,18 +116,18 @@ module _ (keep : Bool) (most : Option ℕ) (ks : List ChunkValue) (intact : Inta
           ends = ends;
           answers = is ∙ ap (λ (es : List Piece). answer_as es (refused_in most events)) walk ∙ ap (answer_as (events_in front)) stop;
           records = subst (AreRecordsOf (untouched ks intact numbers.0)) (sym (records_in_events front))
-              (left_records keep ks intact 0 to front numbers.0 left numbers.1);
-          chunks = chunks_in_events front ∙ left_chunks keep ks intact d.frame.1.each 0 to front numbers.0 left numbers.1;
+              (left_records unread_ok ks intact 0 to front numbers.0 left numbers.1);
+          chunks = chunks_in_events front ∙ left_chunks unread_ok ks intact d.well_formed.1.each 0 to front numbers.0 left numbers.1;
           lost = lost_up_to_a_block ks intact to numbers.0 numbers.1;
         }
 
-    answer_past : AreEvents keep damaged events → IsAnswerPastDamage keep most answer_as ks intact answer
+    answer_past : AreEvents unread_ok damaged events → IsAnswerPastDamage unread_ok most answer_as ks intact answer
     unfolding FrontOf EndsSo
     answer_past (pieces, h, are) =
-        let found : FrontOf 0 pieces = front_of 0 pieces (pieces_left keep ks file damaged intact d reach pieces h) in
+        let found : FrontOf 0 pieces = front_of 0 pieces (pieces_left unread_ok ks file damaged intact d reach pieces h) in
         by_end found.0 found.1 found.2 found.3 (subst (λ (es : List Piece). EndsSo found.0 es (events_in found.1)) are found.4) where
-          by_end : (to : ℕ) (front : List Piece) → DamageLeavesEach keep ks intact 0 to front → MaySkipEach most (events_in front)
-              → EndsSo to events (events_in front) → IsAnswerPastDamage keep most answer_as ks intact answer
+          by_end : (to : ℕ) (front : List Piece) → DamageLeavesEach unread_ok ks intact 0 to front → MaySkipEach most (events_in front)
+              → EndsSo to events (events_in front) → IsAnswerPastDamage unread_ok most answer_as ks intact answer
           by_end to front left skips (inl (end, same)) =
               answer_up_to to front None left skips end (ap (walked most) same ∙ walked-all most (events_in front) skips)
               (ap (refused_in most) same ∙ refused-none most (events_in front) skips)
@@ -137,27 +137,27 @@ module _ (keep : Bool) (most : Option ℕ) (ks : List ChunkValue) (intact : Inta
               (ap (refused_in most) same ∙ refused-there most (events_in front) behind region skips refused)
 
 -- the answer to the front of a file
-module _ (keep : Bool) (most : Option ℕ) (answer_as : List Piece → Option Region → Answer) (answer : Answer) (ks : List ChunkValue) (file bytes : List ℕ) (m : ℕ)
-    (frame : IsFrame ks file) (within : m ≤ length file) (cut_off : bytes ≡ take m file) (events : List Piece) (are : AreEvents keep bytes events)
+module _ (unread_ok : Bool) (most : Option ℕ) (answer_as : List Piece → Option Region → Answer) (answer : Answer) (ks : List ChunkValue) (file bytes : List ℕ) (m : ℕ)
+    (well_formed : IsWellFormed ks file) (within : m ≤ length file) (cut_off : bytes ≡ take m file) (events : List Piece) (are : AreEvents unread_ok bytes events)
     (is : answer ≡ answer_as (walked most events) (refused_in most events)) where
-  answer_to_front : IsAnswerToFront keep most answer_as ks file m answer
+  answer_to_front : IsAnswerToFront unread_ok most answer_as ks file m answer
   answer_to_front =
-      let front = front_pieces keep ks file m frame within in
+      let front = front_pieces unread_ok ks file m well_formed within in
       record {
         pieces = front.0;
         apart = front.1;
         answers = is ∙ ap (λ (es : List Piece). answer_as (walked most es) (refused_in most es))
-            (events_one keep bytes events (events_in front.0) are
-            (subst (λ (b : List ℕ). AreEvents keep b (events_in front.0)) (sym cut_off) (front.0, front.2, refl)));
+            (events_one unread_ok bytes events (events_in front.0) are
+            (subst (λ (b : List ℕ). AreEvents unread_ok b (events_in front.0)) (sym cut_off) (front.0, front.2, refl)));
       }
 
 -- so an answer that tells of the events of a file is so told
-told_so : (keep : Bool) (most : Option ℕ) (answer_as : List Piece → Option Region → Answer) (bytes : List ℕ) (answer : Answer) (events : List Piece)
-    → length bytes ≤ 2 ^ 60 → AreEvents keep bytes events → answer ≡ answer_as (walked most events) (refused_in most events)
-    → IsToldSo keep most answer_as bytes answer
-told_so keep most answer_as bytes answer events reach are is = record {
-  damaged = λ ks file intact d. answer_past keep most ks intact answer_as answer file bytes (omega (arith, reach, d.same_length)) d events is are;
-  front = λ ks file m frame within cut. answer_to_front keep most answer_as answer ks file bytes m frame within cut events are is;
+told_so : (unread_ok : Bool) (most : Option ℕ) (answer_as : List Piece → Option Region → Answer) (bytes : List ℕ) (answer : Answer) (events : List Piece)
+    → length bytes ≤ 2 ^ 60 → AreEvents unread_ok bytes events → answer ≡ answer_as (walked most events) (refused_in most events)
+    → IsToldSo unread_ok most answer_as bytes answer
+told_so unread_ok most answer_as bytes answer events reach are is = record {
+  damaged = λ ks file intact d. answer_past unread_ok most ks intact answer_as answer file bytes (omega (arith, reach, d.same_length)) d events is are;
+  front = λ ks file m well_formed within cut. answer_to_front unread_ok most answer_as answer ks file bytes m well_formed within cut events are is;
 }
 
 -- and that of a file that isn't too long is the one of its events

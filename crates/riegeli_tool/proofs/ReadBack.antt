@@ -10,11 +10,11 @@ use Rattle.meta_chunk.proofs.Held.{AreRecordsOf-one}
 use Rattle.meta_chunk.proofs.Placed.{AreRecordsOf-placed, ArePlaced-rise}
 use Rattle.chunk_reader.specs.Faults.{HasNoFault}
 use Rattle.chunk_reader.proofs.FileFaults.{fault_or_none}
-use Rattle.chunk_reader.proofs.Frames.{chain_is_one}
+use Rattle.chunk_reader.proofs.WellFormedFiles.{chain_is_one}
 use Rattle.record_group.specs.declared.pad.Pad.{Pad}
 use Rattle.record_group.specs.Groups.{chunks_of, file_of}
 use Rattle.record_group.specs.Records.{AreRecords}
-use Rattle.record_group.proofs.RecordFiles.{IsFile-file_of, AreRecordsOf-chunks_of}
+use Rattle.record_group.proofs.RecordFiles.{IsReadable-file_of, AreRecordsOf-chunks_of}
 use Rattle.record_writer.specs.declared.feed.Stop.{Stop}
 use Rattle.record_writer.specs.declared.feed.Stop.TheVariants.{TooLong, InputTooLong, BadLine}
 use Rattle.record_writer.specs.OptionLimits.{AreInLimits}
@@ -47,7 +47,7 @@ pub written-records : (records : List (List ℕ)) (size : ℕ) (every : Option �
 written-records records size every pad each small ks chain =
     let file : List ℕ = file_of records size every pad in
     let own : List ChunkValue = chunks_of records size every pad in
-    let same : own ≡ ks = chain_is_one own ks file (length file) (IsFile-file_of records size every pad each small).1 chain in
+    let same : own ≡ ks = chain_is_one own ks file (length file) (IsReadable-file_of records size every pad each small).1 chain in
     subst (λ (xs : List ChunkValue). AreRecordsOf xs records) same (AreRecordsOf-chunks_of records size every pad each small)
 
 -- and with their positions, which rise
@@ -65,7 +65,7 @@ written-placed records size every pad each small ks placed chain are = (
 pub written-faultless : (records : List (List ℕ)) (size : ℕ) (every : Option ℕ) (pad : Pad) → AreRecords records → size ≤ 2 ^ 24
     → HasNoFault false (file_of records size every pad)
 written-faultless records size every pad each small =
-    (chunks_of records size every pad, IsFile-file_of records size every pad each small)
+    (chunks_of records size every pad, IsReadable-file_of records size every pad each small)
 
 -- and nothing is said
 faultless-end : (file said : List ℕ) (answer : Answer) → HasNoFault false file → EndsReading file said answer → (said ≡ []) × (answer.status ≡ status.Ok)

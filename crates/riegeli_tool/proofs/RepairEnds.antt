@@ -26,7 +26,7 @@ use Rattle.riegeli_tool.specs.RepairCommand.{IsRepaired, IsRepairedSoFar, repair
 use Rattle.riegeli_tool.specs.RepairingEnds.{end_of_repair}
 use Rattle.recover_command.specs.WalkAnswers.{walk_status}
 use Rattle.command_frame.specs.PutSoFar.{HasPut, HasPutSoFar}
-use Rattle.command_frame.specs.Endings.{IsAllowedEnd, IsShort, HasPutToCut, HasPutAtEnd}
+use Rattle.command_frame.specs.Endings.{IsAllowedEnd, CutsReadingOff, HasPutToCut, HasPutAtEnd}
 use Rattle.recover_command.specs.WalkingEnds.{walk_ends, IsBound, TellsOf}
 use Rattle.command_frame.proofs.FileEnds.{some-answer}
 use Rattle.command_frame.proofs.FileRuns.{reads_file}
@@ -82,7 +82,7 @@ module _ {F : Type 0} (g : Shared F (Bor Region × Unit {0}) Bool) (f : F) (word
       (λ answer is. (refl, untold-walked g f words bound file short x y taken a b o n m h.place h.events h.walked h.part h.took answer is h.went))
 
   -- what is read failed, or memory was wanting
-  went_short : (e : RepairEnd) (x y : ℕ) (events : List Piece) (part : List Put) → IsShort (end_of_repair e) → WentOut (Err e) x y events part
+  went_short : (e : RepairEnd) (x y : ℕ) (events : List Piece) (part : List Put) → CutsReadingOff (end_of_repair e) → WentOut (Err e) x y events part
       → WentOutAtFault x y events part
   went_short (repair.Stopped region) x y events part short went = absurd short
   went_short repair.Store x y events part short went = went
@@ -115,7 +115,7 @@ module _ {F : Type 0} (g : Shared F (Bor Region × Unit {0}) Bool) (f : F) (word
     pub ended-so_far : (e : RepairEnd) (why : Ending Region) (x y start now : ℕ) (a b o n m : Option (List ℕ))
         → why ≡ end_of_repair e
         → IfSome told (Repairs g f (Err e) x y (taken_by a None n) (taken_by b None m) (now - start))
-        → IsShort why → ¬ Rose x y
+        → CutsReadingOff why → ¬ Rose x y
         → IfSome bytes (λ file. HasPutSoFar (IsRepairedSoFar words start now file) (taken_by a o n) (taken_by b o m) [])
     ended-so_far e why x y start now a b o n m is repairs ends sound = both bytes same short where
       both : (bs : Option (List ℕ)) → told ≡ bs → IfSome bs (λ file. length file ≤ most_file_bytes)
@@ -124,7 +124,7 @@ module _ {F : Type 0} (g : Shared F (Bor Region × Unit {0}) Bool) (f : F) (word
       both (Some file) same few =
           let h = MatchOption-at_some _ (Repairs g f (Err e) x y (taken_by a None n) (taken_by b None m) (now - start)) file same repairs in
           cut-so_far g f words bound file few x y (now - start) a b o n m sound h.place h.events h.walked h.part
-          (went_short e x y h.events h.part (subst (IsShort {W = Region}) is ends) h.went) h.took start now h.account
+          (went_short e x y h.events h.part (subst (CutsReadingOff {W = Region}) is ends) h.went) h.took start now h.account
 
     -- the file was repaired, and the report printed
     pub done-walks : (repaired : Repaired) (x y taken : ℕ) (a b o p n m : Option (List ℕ)) (ended : Status)

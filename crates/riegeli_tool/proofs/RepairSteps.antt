@@ -37,7 +37,7 @@ use Rattle.command_frame.specs.Answers.{Answer}
 use Rattle.command_frame.specs.FileAnswers.{OfFile, most_file_bytes, report}
 use Rattle.riegeli_tool.specs.RepairCommand.{end_puts, first_puts, IsRepaired, IsRepairedSoFar}
 use Rattle.command_frame.specs.PutSoFar.{HasPut, HasPutSoFar, HasPutFront, HasBrokenOff}
-use Rattle.command_frame.specs.CutShortRuns.{FailedToSay, PutsLines}
+use Rattle.command_frame.specs.RunLeaves.{FailedToSay, PutsLines}
 use Rattle.recover_command.specs.WalkingEnds.{IsBound, HasToldOf}
 use Rattle.command_frame.proofs.OneAnswer.{same_answer}
 use Rattle.riegeli_tool.proofs.CommandLaws.{one_repaired}

@@ -6,8 +6,8 @@ use Rattle.command_frame.specs.Meanings.{Meaning, Read}
 use Rattle.command_frame.specs.declared.status.Status.TheVariants as status
 use Rattle.command_frame.specs.Runs.{Runs}
 use Rattle.command_frame.specs.RunObjects.{Seen}
-use Rattle.command_frame.specs.RunReads.{IsReadBy, IfTold, OfSizes}
-use Rattle.command_frame.specs.CutShortRuns.{WentOutSoFar}
+use Rattle.command_frame.specs.RunReads.{IsReadBy, IfAnswered, OfSizes}
+use Rattle.command_frame.specs.RunLeaves.{WentOutSoFar}
 use Rattle.command_frame.specs.RunCauses.{HasCause}
 
 module _ (m : Meaning) (answers : Read → Answer → Type 0) (so : (r : Read) (a : Answer) → m.answers r a → answers r a) (before after : Seen) where
@@ -17,7 +17,7 @@ module _ (m : Meaning) (answers : Read → Answer → Type 0) (so : (r : Read) (
   read_by : (r : Read) → IsReadBy with_answers before r → IsReadBy m before r
   read_by r is = record { input = is.input; files = is.files; grown = is.grown; supposed = is.supposed }
 
-  told_so : (P : Answer → Type 0) → IfTold m before P → IfTold with_answers before P
+  told_so : (P : Answer → Type 0) → IfAnswered m before P → IfAnswered with_answers before P
   told_so P h r is = let told = h r (read_by r is) in (told.0, so r told.0 told.1, told.2)
 
   sizes_so : (P : List ℕ → Type 0) → OfSizes m before after P → OfSizes with_answers before after P
@@ -49,12 +49,12 @@ module _ (m : Meaning) (answers : Read → Answer → Type 0) (so : (r : Read) (
       cause = cause_so ended ran.has_cause.cause;
       counts = ran.has_cause.counts;
     };
-    cut_short = record {
-      cut_off = λ cut. told_so _ (ran.cut_short.cut_off cut);
-      failed_to_say = λ failed. told_so _ (ran.cut_short.failed_to_say failed);
-      grown_cut = λ cut uses r is. ran.cut_short.grown_cut cut uses r (read_by r is);
-      grown_kept = ran.cut_short.grown_kept;
-      so_far = λ cut sound r is. so_far_so ended r (ran.cut_short.so_far cut sound r (read_by r is));
+    leaves = record {
+      cut_off = λ cut. told_so _ (ran.leaves.cut_off cut);
+      failed_to_say = λ failed. told_so _ (ran.leaves.failed_to_say failed);
+      grown_cut = λ cut uses r is. ran.leaves.grown_cut cut uses r (read_by r is);
+      grown_kept = ran.leaves.grown_kept;
+      so_far = λ cut sound r is. so_far_so ended r (ran.leaves.so_far cut sound r (read_by r is));
     };
     takes = record {
       in_reach = λ cut file grown. sizes_so _ (ran.takes.in_reach cut file grown);

@@ -13,7 +13,7 @@ use Rattle.sample_command.specs.SampleCommand.{most_records}
 use Rattle.riegeli_tool.specs.declared.command.Command.{Command}
 use Rattle.riegeli_tool.specs.declared.command.Command.TheVariants.{Write, Show, Recover, Verify, Seek, Repair, Sample, Join, Ranges, Append, Collect}
 use Rattle.command_frame.specs.Numbers.{number_within}
-use Rattle.command_frame.specs.Options.{value_given, has_flag, are_words_of, file_places, only_two, file_of, is_same_at, optional_value, number_given, files_words_of, ◌>>=◌}
+use Rattle.command_frame.specs.Options.{value_given, has_flag, are_words_of, file_places, only_two, file_place, is_same_at, optional_value, number_given, files_words_of, ◌>>=◌}
 use Rattle.command_frame.specs.Writing.{default_chunk_size}
 
 -- where padding stands, by its name
@@ -41,7 +41,7 @@ line_options = codes "--chunk=" ∷ codes "--every=" ∷ codes "--workers=" ∷ 
 -- what the words of a command that reads lines say. It has these options; those beyond `line_options` it reads itself
 unfoldable pub line_words_of : (options words : List (List ℕ)) → Option WriteWords
 line_words_of options words = do
-  file ← file_of options words
+  file ← file_place options words
   how ← options_of words
   Some (record { options = how; hex = has_flag (codes "--hex") words; file = file })
 
@@ -67,17 +67,17 @@ most_of words = number_given (codes "--most=") 0 (2 ^ 62) words
 -- `show` that goes past damage
 unfoldable pub recover_command_of : List (List ℕ) → Option Command
 recover_command_of words = do
-  file ← file_of (codes "--recover" ∷ codes "--most=" ∷ codes "--hex" ∷ codes "--positions" ∷ []) words
+  file ← file_place (codes "--recover" ∷ codes "--most=" ∷ codes "--hex" ∷ codes "--positions" ∷ []) words
   most ← most_of words
   Some (Recover (record { show = shown file words; most = most }))
 
 unfoldable pub show_command_of : List (List ℕ) → Option Command
 show_command_of words =
     if has_flag (codes "--recover") words then recover_command_of words
-    else option_map (λ file. Show (shown file words)) (file_of (codes "--hex" ∷ codes "--positions" ∷ []) words)
+    else option_map (λ file. Show (shown file words)) (file_place (codes "--hex" ∷ codes "--positions" ∷ []) words)
 
 unfoldable pub verify_command_of : List (List ℕ) → Option Command
-verify_command_of words = option_map Verify (file_of [] words)
+verify_command_of words = option_map Verify (file_place [] words)
 
 -- what is looked for: a position or a key, and not both
 abbrev pub one_sought : (position : Option ℕ) → (key : Option (List ℕ)) → Option By
@@ -87,7 +87,7 @@ one_sought position key = None
 
 unfoldable pub seek_command_of : List (List ℕ) → Option Command
 seek_command_of words = do
-  file ← file_of (codes "--at=" ∷ codes "--key=" ∷ codes "--hex" ∷ []) words
+  file ← file_place (codes "--at=" ∷ codes "--key=" ∷ codes "--hex" ∷ []) words
   position ← number_given (codes "--at=") 0 (2 ^ 64 - 1) words
   by ← one_sought position (value_given (codes "--key=") words)
   Some (Seek (record { by = by; hex = has_flag (codes "--hex") words; file = file }))
@@ -105,7 +105,7 @@ repair_command_of words =
 -- `--seed` and `--records` have to be given
 unfoldable pub sample_command_of : List (List ℕ) → Option Command
 sample_command_of words = do
-  file ← file_of (codes "--seed=" ∷ codes "--records=" ∷ codes "--chunk=" ∷ codes "--workers=" ∷ []) words
+  file ← file_place (codes "--seed=" ∷ codes "--records=" ∷ codes "--chunk=" ∷ codes "--workers=" ∷ []) words
   how ← options_of words
   seed ← value_given (codes "--seed=") words >>= number_within 0 (2 ^ 64 - 1)
   count ← value_given (codes "--records=") words >>= number_within 0 most_records
@@ -114,7 +114,7 @@ sample_command_of words = do
 -- `--parts` has to be given
 unfoldable pub ranges_command_of : List (List ℕ) → Option Command
 ranges_command_of words = do
-  file ← file_of (codes "--parts=" ∷ []) words
+  file ← file_place (codes "--parts=" ∷ []) words
   parts ← value_given (codes "--parts=") words >>= number_within 1 16
   Some (Ranges (record { parts = parts; file = file }))
 

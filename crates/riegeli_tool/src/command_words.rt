@@ -19,7 +19,7 @@ use crate::command::Command;
 use crate::options::{most, one_sought, shown, write_options};
 use crate::repair_words::RepairWords;
 use command_frame::{
-    are_words_of, file_of, has_flag, is_same_at, number_given, two_files, value_given,
+    are_words_of, file_place, has_flag, is_same_at, number_given, two_files, value_given,
 };
 use record_ranges::ranges_words::{MOST_PARTS, RangesWords};
 use recover_command::recover_words::RecoverWords;
@@ -56,7 +56,7 @@ pub(crate) fn append_command<'a>(words: &'a [String]) -> Option<Command<'a>>
 fn line_words(options: &[&str], words: &[String]) -> Option<WriteWords>
     ensures { result ≡ line_words_of (map (λ option. option.now) options.now) (map string_bytes words.now) }
 {
-    let file = file_of(options, words)?;
+    let file = file_place(options, words)?;
     Some(WriteWords {
         options: write_options(words)?,
         hex: has_flag("--hex", words),
@@ -71,7 +71,7 @@ pub(crate) fn show_command<'a>(words: &'a [String]) -> Option<Command<'a>>
     if has_flag("--recover", words) {
         return recover_command(words);
     }
-    let file = file_of(&["--hex", "--positions"], words)?;
+    let file = file_place(&["--hex", "--positions"], words)?;
     Some(Command::Show(shown(file, words)))
 }
 
@@ -80,7 +80,7 @@ pub(crate) fn show_command<'a>(words: &'a [String]) -> Option<Command<'a>>
 fn recover_command<'a>(words: &'a [String]) -> Option<Command<'a>>
     ensures { result ≡ recover_command_of (map string_bytes words.now) }
 {
-    let file = file_of(&["--recover", "--most=", "--hex", "--positions"], words)?;
+    let file = file_place(&["--recover", "--most=", "--hex", "--positions"], words)?;
     Some(Command::Recover(RecoverWords {
         most: most(words)?,
         show: shown(file, words),
@@ -91,14 +91,14 @@ fn recover_command<'a>(words: &'a [String]) -> Option<Command<'a>>
 pub(crate) fn verify_command<'a>(words: &'a [String]) -> Option<Command<'a>>
     ensures { result ≡ verify_command_of (map string_bytes words.now) }
 {
-    Some(Command::Verify(file_of(&[], words)?))
+    Some(Command::Verify(file_place(&[], words)?))
 }
 
 #[tactic(auto, unfolding(crate::specs::CommandWords::seek_command_of))]
 pub(crate) fn seek_command<'a>(words: &'a [String]) -> Option<Command<'a>>
     ensures { result ≡ seek_command_of (map string_bytes words.now) }
 {
-    let file = file_of(&["--at=", "--key=", "--hex"], words)?;
+    let file = file_place(&["--at=", "--key=", "--hex"], words)?;
     let position = number_given("--at=", words, 0, u64::MAX)?;
     Some(Command::Seek(SeekWords {
         by: one_sought(position, value_given("--key=", words))?,
@@ -126,7 +126,7 @@ pub(crate) fn repair_command<'a>(words: &'a [String]) -> Option<Command<'a>>
 pub(crate) fn sample_command<'a>(words: &'a [String]) -> Option<Command<'a>>
     ensures { result ≡ sample_command_of (map string_bytes words.now) }
 {
-    let file = file_of(&["--seed=", "--records=", "--chunk=", "--workers="], words)?;
+    let file = file_place(&["--seed=", "--records=", "--chunk=", "--workers="], words)?;
     Some(Command::Sample(SampleWords {
         options: write_options(words)?,
         seed: number_given("--seed=", words, 0, u64::MAX)??,
@@ -139,7 +139,7 @@ pub(crate) fn sample_command<'a>(words: &'a [String]) -> Option<Command<'a>>
 pub(crate) fn ranges_command<'a>(words: &'a [String]) -> Option<Command<'a>>
     ensures { result ≡ ranges_command_of (map string_bytes words.now) }
 {
-    let file = file_of(&["--parts="], words)?;
+    let file = file_place(&["--parts="], words)?;
     let parts = number_given("--parts=", words, 1, MOST_PARTS as u64)??;
     Some(Command::Ranges(RangesWords {
         parts: parts as u32,

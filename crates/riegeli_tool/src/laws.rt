@@ -5,8 +5,8 @@ ghost use Rattle.std.specs.List.Sorted.{IsStrictlyIncreasing};
 ghost use Rattle.std.specs.Prelude.{◌≡◌, ◌≢◌, ◌^◌, ◌≤◌, ◌⊎◌, ◌∷◌, ◌++◌, if◌then◌else◌, is_some, true, false, Option, None, List, [], ℕ, length, map, slice_get, take};
 ghost use Rattle.chunk_header.specs.Chunks.{ChunkValue};
 ghost use Rattle.chunk_reader.specs.Faults.{HasNoFault};
-ghost use Rattle.meta_chunk.specs.Files.{totals_of, IsFile, IsFrame, AreRecordsOf, ArePlaced};
-ghost use Rattle.meta_chunk.specs.Chains.{IsFrameChain};
+ghost use Rattle.meta_chunk.specs.Files.{totals_of, IsReadable, IsWellFormed, AreRecordsOf, ArePlaced};
+ghost use Rattle.meta_chunk.specs.Chains.{IsWellFormedChain};
 ghost use Rattle.record_join.specs.Joined.{joined};
 ghost use Rattle.show_command.specs.Readings.{refused_file_text};
 ghost use Rattle.join_command.specs.CollectCommand.{AreCollectedIn, IsCollectAnswer, collected_file, collected_lines};
@@ -39,7 +39,7 @@ ghost use Rattle.riegeli_tool.specs.AppendCommand.{IsAppended, IsLeft, grown_ans
 ghost use Rattle.riegeli_tool.specs.RepairCommand.{end_puts, IsRepaired};
 ghost use Rattle.command_frame.specs.Runs.{Runs};
 ghost use Rattle.command_frame.specs.NoFaults.{HadNoFault};
-ghost use Rattle.command_frame.specs.RunReads.{IfTold};
+ghost use Rattle.command_frame.specs.RunReads.{IfAnswered};
 ghost use Rattle.command_frame.specs.RunAnswers.{IsWhole};
 ghost use Rattle.command_frame.specs.RunObjects.{Seen};
 ghost use Rattle.sample_command.specs.SampleCommand.{sampled, sample_answer, sample_file, sample_summary};
@@ -80,7 +80,8 @@ pub fn no_fault_without_a_cause()
         → IsWhole ended ⊎ (ended ≡ status.Memory) }
     ensures answers { (command : Option Command) (before after : Seen) (ended : Status)
         → Runs (meaning_of command) before after ended → HadNoFault (meaning_of command).uses before after
-        → IfTold (meaning_of command) before (λ answer. (ended ≡ answer.status) ⊎ (ended ≡ status.Memory)) }
+        → IfAnswered (meaning_of command) before (λ answer. (ended ≡ answer.status)
+        ⊎ (ended ≡ status.Memory)) }
 {}
 
 /// Words that are no command end with the usage text, or with a fault of notes. Own.
@@ -192,10 +193,11 @@ pub fn recovering_shows_files_without_fault()
 /// is no such record it says so. Own.
 pub fn seek_finds_records_of_files_without_fault()
     ensures position { (words : SeekWords) (position : ℕ) (ks : List ChunkValue) (file : List ℕ) (placed : List (ℕ × List ℕ)) (answer : Answer)
-        → words.by ≡ At position → IsFile ks file → length file ≤ 2 ^ 60 → ArePlaced ks placed → IsSeekAnswer words file answer
+        → words.by ≡ At position → IsReadable ks file → length file ≤ 2 ^ 60 → ArePlaced ks placed
+        → IsSeekAnswer words file answer
         → (found : Option (ℕ × List ℕ)) × IsFirstAt placed position found × (answer ≡ found_answer words.hex found) }
     ensures key { (words : SeekWords) (key : List ℕ) (ks : List ChunkValue) (file : List ℕ) (placed : List (ℕ × List ℕ)) (count : ℕ) (answer : Answer)
-        → words.by ≡ Key key → IsFile ks file → length file ≤ 2 ^ 60 → ArePlaced ks placed
+        → words.by ≡ Key key → IsReadable ks file → length file ≤ 2 ^ 60 → ArePlaced ks placed
         → OnlyFrontStandsBefore (BytesStandBefore (IsBelow key)) placed count → IsSeekAnswer words file answer
         → answer ≡ found_answer words.hex (slice_get placed count) }
 {}
@@ -206,9 +208,10 @@ pub fn read_back(records: &Records, options: &WriteOptions)
     requires short { AllByRecursion (λ bytes. length bytes ≤ 2 ^ 24) records.now }
     requires size { options.now.size ≤ 2 ^ 24 }
     ensures faultless { HasNoFault false (file_under options.now records.now) }
-    ensures records { (ks : List ChunkValue) → IsFile ks (file_under options.now records.now) → AreRecordsOf ks records.now }
+    ensures records { (ks : List ChunkValue) → IsReadable ks (file_under options.now records.now)
+        → AreRecordsOf ks records.now }
     ensures placed { (ks : List ChunkValue) (placed : List (ℕ × List ℕ))
-        → IsFile ks (file_under options.now records.now) → ArePlaced ks placed
+        → IsReadable ks (file_under options.now records.now) → ArePlaced ks placed
         → (map (λ p. p.1) placed ≡ records.now) × IsStrictlyIncreasing (map (λ p. p.0) placed) }
 {
     let _values = records.values();
@@ -234,7 +237,8 @@ pub fn show_prints_what_was_written()
 pub fn samples_read_back()
     ensures faultless { (words : SampleWords) → AreInLimits words.options → HasNoFault false (sample_file words) }
     ensures records { (words : SampleWords) (ks : List ChunkValue)
-        → AreInLimits words.options → IsFile ks (sample_file words) → AreRecordsOf ks (sampled words) }
+        → AreInLimits words.options → IsReadable ks (sample_file words)
+        → AreRecordsOf ks (sampled words) }
 {}
 
 /// What `append` leaves of a file that isn't refused reads back: it has the records of the chunks that are kept of that, and then
@@ -242,12 +246,16 @@ pub fn samples_read_back()
 pub fn grown_files_read_back()
     ensures kept { (words : AppendWords) (input file held : List ℕ) (place : ℕ) (ks : List ChunkValue) (old : List (List ℕ))
         → AreInLimits words.write.options → AreBytes input → length file ≤ most_file_bytes → IsUnrefused words.cut file
-        → IsFrameChain ks file place → IsKeptTo file place → AreRecordsOf ks old → IsLeft words (lines_taken words input) file held
-        → (new : List ChunkValue) × IsFrame (ks ++ new) held × AreRecordsOf (ks ++ new) (old ++ (lines_taken words input).records) }
-    ensures faultless { (words : AppendWords) (input file held : List ℕ) (ks : List ChunkValue) (old : List (List ℕ))
-        → AreInLimits words.write.options → AreBytes input → length file ≤ most_file_bytes → IsFile ks file → AreRecordsOf ks old
+        → IsWellFormedChain ks file place → IsKeptTo file place → AreRecordsOf ks old
         → IsLeft words (lines_taken words input) file held
-        → (new : List ChunkValue) × IsFile (ks ++ new) held × AreRecordsOf (ks ++ new) (old ++ (lines_taken words input).records) }
+        → (new : List ChunkValue) × IsWellFormed (ks ++ new) held
+        × AreRecordsOf (ks ++ new) (old ++ (lines_taken words input).records) }
+    ensures faultless { (words : AppendWords) (input file held : List ℕ) (ks : List ChunkValue) (old : List (List ℕ))
+        → AreInLimits words.write.options → AreBytes input → length file ≤ most_file_bytes
+        → IsReadable ks file → AreRecordsOf ks old
+        → IsLeft words (lines_taken words input) file held
+        → (new : List ChunkValue) × IsReadable (ks ++ new) held
+        × AreRecordsOf (ks ++ new) (old ++ (lines_taken words input).records) }
 {}
 
 /// Records that `show` prints in the hexadecimal form, without positions, are those that `write` takes of the text in that form,

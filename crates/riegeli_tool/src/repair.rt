@@ -12,7 +12,7 @@ ghost use Rattle.riegeli_tool.specs.RepairingEnds.{end_of_repair};
 ghost use Rattle.command_frame.specs.Runs.{Runs};
 ghost use Rattle.command_frame.specs.RunObjects.{Seen};
 ghost use Rattle.command_frame.specs.PutSoFar.{HasPutSoFar};
-ghost use Rattle.command_frame.specs.Endings.{HasPutAtEnd, IsAllowedEnd, IsShort, SpeaksIn};
+ghost use Rattle.command_frame.specs.Endings.{HasPutAtEnd, IsAllowedEnd, CutsReadingOff, SpeaksIn};
 ghost use Rattle.recover_command.specs.WalkAnswers.{walk_status};
 ghost use Rattle.recover_command.specs.WalkingEnds.{TellsOf, walk_ends};
 
@@ -58,7 +58,7 @@ fn repair_file<S: Store, M: Sink, O: Sink, E: Sink>(
 ) -> Result<Status, Ending<Region>>
     ensures walks { IfSome (S.bytes file.old) (λ bytes. HasPutAtEnd walk_ends (IsRepaired words.now) result bytes
         (taken_by (M.taken made.old) (O.taken out.old) (E.taken notes.old)) (taken_by (M.taken made.new) (O.taken out.new) (E.taken notes.new)) []) }
-    ensures so_far { IsErrAnd result IsShort → ¬ Rose (M.faults made.old) (M.faults made.new)
+    ensures so_far { IsErrAnd result CutsReadingOff → ¬ Rose (M.faults made.old) (M.faults made.new)
         → IfSome (S.bytes file.old) (λ bytes. HasPutSoFar (IsRepairedSoFar words.now (S.handed file.old) (S.handed file.new) bytes)
         (taken_by (M.taken made.old) (O.taken out.old) (E.taken notes.old)) (taken_by (M.taken made.new) (O.taken out.new) (E.taken notes.new)) []) }
     ensures said { TellsOf words.now.most result (E.taken notes.old) (E.taken notes.new) }

@@ -3,12 +3,12 @@ use Rattle.std.proofs.Common.{◌≡◌, ◌∙◌, ℕ, ◌≤◌, ◌^◌, Opt
 use Rattle.std.specs.Option.{IfSome}
 use Rattle.std.specs.List.{AllByRecursion}
 use Rattle.chunk_header.specs.Chunks.{ChunkValue}
-use Rattle.meta_chunk.specs.Files.{totals_of, IsPlain, IsFramed}
+use Rattle.meta_chunk.specs.Files.{totals_of, IsPlain, IsWellFormedChunk}
 use Rattle.meta_chunk.proofs.Joins.{end-laid_each}
 use Rattle.meta_chunk.proofs.Totals.{AreRecordsOf-counted}
 use Rattle.record_group.specs.Groups.{file_of}
 use Rattle.record_group.specs.Records.{AreRecords}
-use Rattle.record_group.proofs.RecordFiles.{IsFile-file_of, AreRecordsOf-chunks_of}
+use Rattle.record_group.proofs.RecordFiles.{IsReadable-file_of, AreRecordsOf-chunks_of}
 use Rattle.record_values.specs.declared.file_totals.Totals.{Totals}
 use Rattle.record_writer.specs.declared.options.WriteOptions.{WriteOptions}
 use Rattle.record_writer.specs.Feeds.{Rest}
@@ -20,9 +20,9 @@ use Rattle.sample_command.specs.SampleCommand.{sampled, sample_file, summary, sa
 use Rattle.sample_command.proofs.Drawings.{sample_of-records}
 
 -- plain chunks are those of a frame
-plain_framed : (ks : List ChunkValue) → AllByRecursion IsPlain ks → AllByRecursion IsFramed ks
-plain_framed [] h = tt
-plain_framed (k ∷ ks) h = (inl h.0, plain_framed ks h.1)
+plain_well_formed : (ks : List ChunkValue) → AllByRecursion IsPlain ks → AllByRecursion IsWellFormedChunk ks
+plain_well_formed [] h = tt
+plain_well_formed (k ∷ ks) h = (inl h.0, plain_well_formed ks h.1)
 
 -- the totals of a written file count its records and its bytes
 pub totals-written : (options : WriteOptions) (records : List (List ℕ)) (totals : Totals) → AreRecords records → options.size ≤ 2 ^ 24
@@ -31,9 +31,9 @@ pub totals-written : (options : WriteOptions) (records : List (List ℕ)) (total
 unfolding file_of
 totals-written options records totals each small is =
     let ks : List ChunkValue = chunks_under options records in
-    let file = IsFile-file_of records options.size options.every options.pad each small in (
+    let file = IsReadable-file_of records options.size options.every options.pad each small in (
       ap (λ (t : Totals). t.records) is
-          ∙ AreRecordsOf-counted ks records (plain_framed ks file.1.each) (AreRecordsOf-chunks_of records options.size options.every options.pad each small),
+          ∙ AreRecordsOf-counted ks records (plain_well_formed ks file.1.each) (AreRecordsOf-chunks_of records options.size options.every options.pad each small),
       ap (λ (t : Totals). t.bytes) is ∙ omega (arith, end-laid_each 0 ks),
     )
 

@@ -12,7 +12,7 @@ use Rattle.command_frame.specs.Endings.{status_of}
 use Rattle.command_frame.specs.Statuses.{fault_text}
 use Rattle.command_frame.specs.Runs.{Runs}
 use Rattle.command_frame.specs.RunObjects.{Seen, seen}
-use Rattle.command_frame.specs.CutShortRuns.{IsCutOff, IsCutShort, Breaks, TakesThen}
+use Rattle.command_frame.specs.RunLeaves.{IsCutOff, IsReadingCutOff, Breaks, TakesThen}
 use Rattle.command_frame.specs.RunCauses.{HasCause}
 use Rattle.command_frame.proofs.RunEnds.{Keeps, OfSizes-unread, PutsLines-none, was-cut_off, went-so_far, runs-whole, runs-cut_off}
 use Rattle.command_frame.proofs.TwoStreams.{bytes_to-neither}
@@ -60,7 +60,7 @@ module _ (words : SampleWords) (input : SeenStream) (files : List SeenFile) (mad
 
   -- a front of what is put went out, and then a fault or want of memory was told
   cut_off : (ended : Status) (part : List Put) → IsCutOff ended → Breaks ended part (sample_answer words).puts
-      → (IsCutShort ended → IsSampledSoFar words part) → HasCause ended (sample_meaning words) Before After
+      → (IsReadingCutOff ended → IsSampledSoFar words part) → HasCause ended (sample_meaning words) Before After
       → bytes_to Notes part ≡ [] → Went part → TakesThen notes notes_then [] (fault_text ended) → Ended ended
   cut_off ended part cut breaks so_far cause none went said =
       runs-cut_off (sample_meaning words) Before After ended [] cut

@@ -3,7 +3,7 @@ use Rattle.std.proofs.Common.{◌≡◌, ◌∙◌, ◌↔◌, ◌⊎◌, ℕ, B
 use Rattle.std.specs.Prelude.{slice_get}
 use Rattle.std.specs.Fn.{Shared}
 use Rattle.chunk_header.specs.Chunks.{ChunkValue}
-use Rattle.meta_chunk.specs.Files.{IsFile, ArePlaced}
+use Rattle.meta_chunk.specs.Files.{IsReadable, ArePlaced}
 use Rattle.chunk_reader.specs.declared.reasons.Fault.{Fault}
 use Rattle.chunk_reader.specs.declared.reasons.ReadEnd.{ReadEnd}
 use Rattle.record_seek.specs.Found.{IsKeyFound, BytesStandBefore, OnlyFrontStandsBefore}
@@ -20,12 +20,12 @@ Compares g f key = (p : Bor (List ℕ)) (answer : Bool) → g.post f (p, tt) ans
 -- what a search by key finds that asks a function
 abbrev IsFoundBy : {F : Type 0} → Shared F (Bor (List ℕ) × Unit {0}) Bool → F → Option Found → List ℕ → Type 0
 IsFoundBy g f found file =
-    (ks : List ChunkValue) (placed : List (ℕ × List ℕ)) → IsFile ks file → ArePlaced ks placed
+    (ks : List ChunkValue) (placed : List (ℕ × List ℕ)) → IsReadable ks file → ArePlaced ks placed
     → IsKeyFound (BytesStandBefore (StandsBefore g f)) placed (placed_of found)
 
 abbrev IsFirstBy : {F : Type 0} → Shared F (Bor (List ℕ) × Unit {0}) Bool → F → Option Found → List ℕ → Type 0
 IsFirstBy g f found file =
-    (ks : List ChunkValue) (placed : List (ℕ × List ℕ)) (count : ℕ) → IsFile ks file → ArePlaced ks placed
+    (ks : List ChunkValue) (placed : List (ℕ × List ℕ)) (count : ℕ) → IsReadable ks file → ArePlaced ks placed
     → OnlyFrontStandsBefore (BytesStandBefore (StandsBefore g f)) placed count → placed_of found ≡ slice_get placed count
 
 module _ {F : Type 0} (g : Shared F (Bor (List ℕ) × Unit {0}) Bool) (f : F) (key : List ℕ) (compares : Compares g f key) where
@@ -116,6 +116,6 @@ finds g f key (Ok (Some x)) (Some file) found first apart met none compares = re
 
 -- and with what fault it is refused
 pub refuses : (bytes : Option (List ℕ)) (fault : Fault) → IfSome bytes (λ file. IsMetFault file fault)
-    → IfSome bytes (λ file. (ks : List ChunkValue) → ¬ IsFile ks file) → IfSome bytes (λ file. IsKeyFault file fault)
+    → IfSome bytes (λ file. (ks : List ChunkValue) → ¬ IsReadable ks file) → IfSome bytes (λ file. IsKeyFault file fault)
 refuses None fault met not_whole = tt
 refuses (Some file) fault met not_whole = record { met = met; not_whole = not_whole }

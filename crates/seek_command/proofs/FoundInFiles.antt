@@ -4,12 +4,12 @@ use Rattle.std.specs.Prelude.{slice_get}
 use Rattle.std.proofs.lemmas.Bool.{cases_lt}
 use Rattle.block_layout.specs.Layout.{block_of}
 use Rattle.chunk_header.specs.Chunks.{ChunkValue}
-use Rattle.meta_chunk.specs.Files.{IsFile, IsFrame, ArePlaced}
+use Rattle.meta_chunk.specs.Files.{IsReadable, IsWellFormed, ArePlaced}
 use Rattle.chunk_reader.specs.Holders.{ArePlacesBetween}
 use Rattle.chunk_reader.specs.Places.{end_at}
-use Rattle.chunk_reader.specs.Searches.{SearchGives, IsSearchFault}
+use Rattle.chunk_reader.specs.PositionSearches.{SearchGives, IsSearchFault}
 use Rattle.chunk_reader.specs.declared.reasons.Fault.{Fault}
-use Rattle.chunk_reader.proofs.Frames.{file_of_frame}
+use Rattle.chunk_reader.proofs.WellFormedFiles.{readable_of_well_formed}
 use Rattle.chunk_reader.proofs.HeadersTell.{passed_below}
 use Rattle.record_seek.specs.Found.{BytesStandBefore, OnlyFrontStandsBefore}
 use Rattle.record_seek.specs.FirstRecords.{IsFirstAt}
@@ -64,26 +64,26 @@ search_met file position fault (inr (inr (place, answers, verdict))) =
       verdict = verdict;
     })
 
-module _ (ks : List ChunkValue) (file : List ℕ) (whole : IsFile ks file) (reach : length file ≤ 2 ^ 60) where
-  frame : IsFrame ks file
-  frame = ((file_of_frame ks file).1 whole).0
+module _ (ks : List ChunkValue) (file : List ℕ) (whole : IsReadable ks file) (reach : length file ≤ 2 ^ 60) where
+  well_formed : IsWellFormed ks file
+  well_formed = ((readable_of_well_formed ks file).1 whole).0
 
   -- so in such a file a search for a position has none
   no_search_fault : (position : ℕ) (fault : Fault) → ¬ IsSearchFault file position fault
-  no_search_fault position fault refused = no_met_fault ks file fault frame whole reach (search_met file position fault refused)
+  no_search_fault position fault refused = no_met_fault ks file fault well_formed whole reach (search_met file position fault refused)
 
   -- and gives the first record there
   first_given : (position : ℕ) (placed : List (ℕ × List ℕ)) (found : Option (ℕ × List ℕ)) → ArePlaced ks placed
       → SearchGives file position found → IsFirstAt placed position found
   first_given position placed (Some found) are sought =
-      first_record ks file frame reach position placed found sought.answers.searched.holds.on_way.below are sought
+      first_record ks file well_formed reach position placed found sought.answers.searched.holds.on_way.below are sought
   first_given position placed None (lists, each, is) gives = λ i other stands.
       elim (cases_lt other.0 position) [
         | inl before ↦ before
         | inr past ↦
             let of = placed-of 0 ks lists i other each (ap (λ (xs : List (ℕ × List ℕ)). slice_get xs i) (sym is) ∙ stands) in
             let less : of.number < of.k.num_records = held_number of.k of.records of.number other.1 of.holds of.stands in
-            absurd (none_answers ks file frame reach position gives of.chunk of.k
+            absurd (none_answers ks file well_formed reach position gives of.chunk of.k
             (record { stands = of.at; has = (omega (arith, less), omega (arith, past, of.position, less)) }))
       ]
 

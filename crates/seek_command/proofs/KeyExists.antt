@@ -4,14 +4,14 @@ use Rattle.std.specs.Prelude.{slice_get}
 use Rattle.std.proofs.lemmas.Bool.{cases_lt}
 use Rattle.std.proofs.lemmas.Option.{same_Some}
 use Rattle.chunk_header.specs.Chunks.{ChunkValue}
-use Rattle.meta_chunk.specs.Files.{IsPlain, IsFile, ArePlaced, begin_of}
+use Rattle.meta_chunk.specs.Files.{IsPlain, IsReadable, ArePlaced, begin_of}
 use Rattle.chunk_reader.specs.Places.{header_at, end_at, chunk_at}
 use Rattle.chunk_reader.specs.Reasons.{Applies, NoneOf, IsFirstOf, unpassed_reasons, strict_reasons}
-use Rattle.chunk_reader.specs.Searches.{HasRecordsAt}
+use Rattle.chunk_reader.specs.PositionSearches.{HasRecordsAt}
 use Rattle.chunk_reader.specs.declared.reasons.Fault.{Fault}
 use Rattle.chunk_reader.proofs.ChainSteps.{each_at}
 use Rattle.chunk_reader.proofs.FaultsDecided.{judged}
-use Rattle.chunk_reader.proofs.Frames.{file_of_frame}
+use Rattle.chunk_reader.proofs.WellFormedFiles.{readable_of_well_formed}
 use Rattle.chunk_reader.proofs.HeadersTell.{laid_at, places_are, stands_below}
 use Rattle.chunk_reader.proofs.NoReason.{no_reason, none_is_first}
 use Rattle.chunk_reader.proofs.NoReasonLaid.{allowed_where_none}
@@ -135,15 +135,15 @@ module _ (key file : List ℕ) where
 
   -- what is read so may be found
   among : (found : Option Found) → IsReadOn (IsBelow key) file 0 found → (ks : List ChunkValue) (placed : List (ℕ × List ℕ))
-      → IsFile ks file → ArePlaced ks placed → IsKeyFound (BytesStandBefore (IsBelow key)) placed (placed_of found)
+      → IsReadable ks file → ArePlaced ks placed → IsKeyFound (BytesStandBefore (IsBelow key)) placed (placed_of found)
   among None read ks placed whole are =
-      let (frame, plain) = (file_of_frame ks file).1 whole in
+      let (well_formed, plain) = (readable_of_well_formed ks file).1 whole in
       subst (λ (xs : List (ℕ × List ℕ)). IsKeyFound (BytesStandBefore (IsBelow key)) xs None) (sym are.2)
-      (none_found (IsBelow key) ks file frame plain are.0 are.1 0 (omega arith) (inl (none_before_first are.0)) read)
+      (none_found (IsBelow key) ks file well_formed plain are.0 are.1 0 (omega arith) (inl (none_before_first are.0)) read)
   among (Some found) read ks placed whole are =
-      let (frame, plain) = (file_of_frame ks file).1 whole in
+      let (well_formed, plain) = (readable_of_well_formed ks file).1 whole in
       subst (λ (xs : List (ℕ × List ℕ)). IsKeyFound (BytesStandBefore (IsBelow key)) xs (Some (found.position, found.bytes))) (sym are.2)
-      (record_found (IsBelow key) ks file frame plain are.0 are.1 0 found (omega arith) (inl (none_before_first are.0)) read)
+      (record_found (IsBelow key) ks file well_formed plain are.0 are.1 0 found (omega arith) (inl (none_before_first are.0)) read)
 
   may_find : (found : Option Found) → IsReadOn (IsBelow key) file 0 found → MayFind key file (placed_of found)
   may_find None read = record {
@@ -164,13 +164,13 @@ module _ (key file : List ℕ) where
   }
 
   -- and no file without fault has a fault on the way
-  whole_not : (fault : Fault) → IsFaultOn file 0 fault → (ks : List ChunkValue) → ¬ IsFile ks file
+  whole_not : (fault : Fault) → IsFaultOn file 0 fault → (ks : List ChunkValue) → ¬ IsReadable ks file
   whole_not fault on ks whole =
-      let (frame, plain) = (file_of_frame ks file).1 whole in
+      let (well_formed, plain) = (readable_of_well_formed ks file).1 whole in
       let j : ℕ = 0 + length on.places in
-      let there = places_are ks file frame on.places 0 on.place (omega arith) on.between in
-      let k = stands_below ks file frame j (omega (arith, there.1, on.below)) in
-      let none = no_reason false (begin_of ks j) k.0 file (begin_of ks (j + 1)) (laid_at ks file frame j k.0 k.1)
+      let there = places_are ks file well_formed on.places 0 on.place (omega arith) on.between in
+      let k = stands_below ks file well_formed j (omega (arith, there.1, on.below)) in
+      let none = no_reason false (begin_of ks j) k.0 file (begin_of ks (j + 1)) (laid_at ks file well_formed j k.0 k.1)
       (each_at IsPlain ks j k.0 whole.1.each k.1) in
       none_is_first (Applies file (begin_of ks j)) (strict_reasons false) fault.why none
       (subst (λ (p : ℕ). IsFirstOf (Applies file p) (strict_reasons false) fault.why) there.1 on.verdict.0)

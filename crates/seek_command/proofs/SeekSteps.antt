@@ -68,8 +68,8 @@ module _ (words : SeekWords) (told bytes : Option (List ℕ)) (taken : Taken) (s
 
 -- where no byte was handed out, few were
 takes_none : (by : By) (file : List ℕ) (before after : ℕ) → after ≡ before → TakesOf by file before after
-takes_none (At position) file before after same = λ ks h j frame lies answering. omega (arith, same)
-takes_none (Key key) file before after same = λ ks frame. omega (arith, same)
+takes_none (At position) file before after same = λ ks h j well_formed lies answering. omega (arith, same)
+takes_none (Key key) file before after same = λ ks well_formed. omega (arith, same)
 
 pub takes-none : (by : By) (bytes : Option (List ℕ)) (before after : ℕ) → after ≡ before → IfSome bytes (λ file. TakesOf by file before after)
 takes-none by None before after same = tt

@@ -2,7 +2,7 @@ ghost use Rattle.std.specs.Prelude.{◌≡◌, ◌≢◌, ◌+◌, ◌≤◌, �
 ghost use Rattle.record_io.specs.Puts.{taken_by};
 ghost use Rattle.record_io.specs.Calls.{KeepsFile, OnlyCounts, PutsTo};
 ghost use Rattle.record_io.specs.Seen.{seen_stream, seen_file};
-ghost use Rattle.command_frame.specs.Endings.{HasPutAtEnd, EndsInNotes, IsAllowedEnd, IsShort};
+ghost use Rattle.command_frame.specs.Endings.{HasPutAtEnd, EndsInNotes, IsAllowedEnd, CutsReadingOff};
 ghost use Rattle.command_frame.specs.FileSizes.{HandsOut};
 ghost use Rattle.command_frame.specs.Runs.{Runs};
 ghost use Rattle.command_frame.specs.RunObjects.{Seen};
@@ -60,7 +60,7 @@ fn print_found<S: Store, O: Sink>(
 ) -> Result<(), Ending<Unfound>>
     ensures printed { (made notes : Option (List ℕ)) → IfSome (S.bytes file.old) (λ bytes. HasPutAtEnd seek_ends (IsSeekAnswer words.now) result bytes
         (taken_by made (O.taken out.old) notes) (taken_by made (O.taken out.new) notes) []) }
-    ensures same_out { IsErrAnd result IsShort → out.new ≡ out.old }
+    ensures same_out { IsErrAnd result CutsReadingOff → out.new ≡ out.old }
     ensures allowed { IsAllowedEnd (seek_meaning words.now) result (S.told file.new) }
     ensures handed { HandsOut (seek_meaning words.now) (S.told file.new) (S.handed file.old) (S.handed file.new) }
     ensures handed_of { IfSome (S.bytes file.old) (λ bytes. TakesOf words.now.by bytes (S.handed file.old) (S.handed file.new)) }

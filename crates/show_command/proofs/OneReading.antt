@@ -8,7 +8,7 @@ use Rattle.meta_chunk.proofs.Placed.{ArePlaced-one}
 use Rattle.chunk_reader.specs.Faults.{HasNoFault, IsFault}
 use Rattle.chunk_reader.specs.declared.reasons.Fault.{Fault}
 use Rattle.chunk_reader.proofs.FileFaults.{longest_is_one, fault_is_one, fault_or_none}
-use Rattle.chunk_reader.proofs.Frames.{frame_is_one, chain_is_one}
+use Rattle.chunk_reader.proofs.WellFormedFiles.{well_formed_is_one, chain_is_one}
 use Rattle.show_command.specs.declared.show_words.ShowWords.{ShowWords}
 use Rattle.command_frame.specs.Answers.{Answer, noted}
 use Rattle.show_command.specs.Readings.{refused_text, record_line}
@@ -49,11 +49,11 @@ one_shown words file a b h g =
 
 -- so has `verify`
 pub one_verified : (file : List ℕ) (a b : Answer) → IsVerified file a → IsVerified file b → a ≡ b
-one_verified file a b (inl (ks, keep, is)) (inl (ls, other, also)) =
+one_verified file a b (inl (ks, well_formed, is)) (inl (ls, other, also)) =
     is
-    ∙ ap (λ (xs : List ChunkValue). record { puts = puts_to Out (report (totals_of xs)); status = status.Ok }) (frame_is_one ks ls file keep other)
+    ∙ ap (λ (xs : List ChunkValue). record { puts = puts_to Out (report (totals_of xs)); status = status.Ok }) (well_formed_is_one ks ls file well_formed other)
     ∙ sym also
-one_verified file a b (inl (ks, keep, is)) (inr (fault, faulty, also)) = absurd (fault_or_none true file fault faulty (ks, keep))
-one_verified file a b (inr (fault, faulty, is)) (inl (ks, keep, also)) = absurd (fault_or_none true file fault faulty (ks, keep))
+one_verified file a b (inl (ks, well_formed, is)) (inr (fault, faulty, also)) = absurd (fault_or_none true file fault faulty (ks, well_formed))
+one_verified file a b (inr (fault, faulty, is)) (inl (ks, well_formed, also)) = absurd (fault_or_none true file fault faulty (ks, well_formed))
 one_verified file a b (inr (fault, faulty, is)) (inr (other, too, also)) =
     is ∙ ap (λ (f : Fault). noted status.Refused (refused_text f)) (fault_is_one true file fault other faulty too) ∙ sym also

@@ -9,7 +9,7 @@ use Rattle.show_command.specs.declared.show_words.ShowWords.{ShowWords}
 use Rattle.command_frame.specs.declared.ending.Ending.{Ending}
 use Rattle.command_frame.specs.declared.status.Status.{Status}
 use Rattle.command_frame.specs.Answers.{Answer}
-use Rattle.command_frame.specs.Endings.{Endings, IsAllowedEnd, IsShort, HasPutAtEnd, SaysEnd}
+use Rattle.command_frame.specs.Endings.{Endings, IsAllowedEnd, CutsReadingOff, HasPutAtEnd, SaysEnd}
 use Rattle.command_frame.specs.Meanings.{Meaning}
 use Rattle.command_frame.specs.Runs.{Runs}
 use Rattle.command_frame.specs.RunObjects.{seen}
@@ -88,7 +88,7 @@ module _ {X W : Type 0} {ends : Endings X W} (m : Meaning) (P : List ℕ → Ans
   pub runs-reading : (result : Result X (Ending W)) (ended : Status)
       → IsAllowedEnd m result file_then.told → IfSome file.bytes (λ bytes. IfSome file_then.told (λ size. size ≡ length bytes))
       → IfSome file.bytes (λ bytes. HasPutAtEnd ends P result bytes Start Read [])
-      → (IsErrAnd result IsShort → ¬ Rose out.faults out_then.faults → IfSome file.bytes (λ bytes. HasPutSoFar (Q file.handed file_then.handed bytes) Start Read []))
+      → (IsErrAnd result CutsReadingOff → ¬ Rose out.faults out_then.faults → IfSome file.bytes (λ bytes. HasPutSoFar (Q file.handed file_then.handed bytes) Start Read []))
       → SaysEnd ends result ended notes notes_then
       → (result ≡ Err (end.Cut cut.File) → Rose file.faults file_then.faults)
       → (result ≡ Err (end.Cut cut.Out) → Rose out.faults out_then.faults)

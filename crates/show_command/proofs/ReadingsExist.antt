@@ -5,13 +5,13 @@ use Rattle.record_values.specs.Bytes.{AreBytes}
 use Rattle.record_io.specs.Puts.{Out, Notes, puts_to}
 use Rattle.chunk_header.specs.Chunks.{ChunkValue}
 use Rattle.meta_chunk.specs.Files.{totals_of, IsPlain, IsChainOf, ArePlaced, placed_from}
-use Rattle.meta_chunk.proofs.Held.{HoldEach-framed}
+use Rattle.meta_chunk.proofs.Held.{HoldEach-well_formed}
 use Rattle.chunk_reader.specs.Faults.{IsLongest, BeginsWithSignature, HasNoFault, IsFault}
 use Rattle.chunk_reader.specs.declared.reasons.Fault.{Fault}
 use Rattle.chunk_reader.proofs.SignedFiles.{begins_signed}
 use Rattle.chunk_reader.proofs.ChainSteps.{no_chunks, IsChainOf-nil, longest_where_whole}
 use Rattle.chunk_reader.proofs.FaultsDecided.{file_judged}
-use Rattle.chunk_reader.proofs.Frames.{frame_of_plain}
+use Rattle.chunk_reader.proofs.WellFormedFiles.{well_formed_of_plain}
 use Rattle.show_command.specs.declared.show_words.ShowWords.{ShowWords}
 use Rattle.command_frame.specs.Answers.{Answer, noted}
 use Rattle.show_command.specs.Readings.{refused_text, record_line}
@@ -36,7 +36,7 @@ longest_of file (inr (fault, inr (signed, (ks, place, longest, below, verdict)))
 -- and the chunks of a front have placed records
 placed_of : (ks : List ChunkValue) (file : List ℕ) (place : ℕ) → IsChainOf IsPlain ks file place → (placed : List (ℕ × List ℕ)) × ArePlaced ks placed
 placed_of ks file place h =
-    let held = HoldEach-framed ks (frame_of_plain ks file place h).each in
+    let held = HoldEach-well_formed ks (well_formed_of_plain ks file place h).each in
     (placed_from 0 ks held.0, (held.0, held.1, refl))
 
 -- so `show` has an answer
@@ -79,7 +79,7 @@ shown_exists words file bytes =
 pub verified_exists : (file : List ℕ) → AreBytes file → (answer : Answer) × IsVerified file answer
 verified_exists file bytes =
     elim (file_judged true file bytes) [
-      | inl (ks, frame) ↦
-          (record { puts = puts_to Out (report (totals_of ks)); status = status.Ok }, inl (ks, frame, refl))
+      | inl (ks, well_formed) ↦
+          (record { puts = puts_to Out (report (totals_of ks)); status = status.Ok }, inl (ks, well_formed, refl))
       | inr (fault, is) ↦ (noted status.Refused (refused_text fault), inr (fault, is, refl))
     ]

@@ -337,9 +337,9 @@ printed-refused words file totals before after held fault short is greatest (tex
     }
 
 -- the reader refused the file
-pub read-refused : (words : ShowWords) (keep : Bool) (bytes : Option (List ℕ)) (totals : Totals) (before out : Taken) (held : List ℕ) (fault : Fault)
-    → keep ≡ false → IfSome bytes (λ f. length f ≤ most_file_bytes) → IfSome bytes (λ f. IsFault keep f fault)
-    → IfSome bytes (λ f. (ks : List ChunkValue) (place : ℕ) → IsChainOf (IsAllowed keep) ks f place → place ≤ totals.bytes)
+pub read-refused : (words : ShowWords) (unread_ok : Bool) (bytes : Option (List ℕ)) (totals : Totals) (before out : Taken) (held : List ℕ) (fault : Fault)
+    → unread_ok ≡ false → IfSome bytes (λ f. length f ≤ most_file_bytes) → IfSome bytes (λ f. IsFault unread_ok f fault)
+    → IfSome bytes (λ f. (ks : List ChunkValue) (place : ℕ) → IsChainOf (IsAllowed unread_ok) ks f place → place ≤ totals.bytes)
     → IfSome bytes (λ f. IsPrinted words f totals before out held → HasPut (IsShown words) f before out held (refused_text fault) status.Refused)
 read-refused words true bytes totals before out held fault strict short refused given = absurd (cc strict)
 read-refused words false None totals before out held fault strict short refused given = tt
@@ -365,9 +365,9 @@ short_told None size short exact = tt
 short_told (Some f) size short exact = omega (arith, short, exact)
 
 -- it has no further chunk
-pub read-through : (words : ShowWords) (keep : Bool) (bytes : Option (List ℕ)) (totals : Totals) (before out : Taken) (held : List ℕ) (size : ℕ)
-    → keep ≡ false → size ≤ most_file_bytes → IfSome bytes (λ f. size ≡ length f) → totals.bytes ≡ size
-    → IfSome bytes (λ f. (ks : List ChunkValue) → IsChainOf (IsAllowed keep) ks f totals.bytes → IsFileOf (IsAllowed keep) ks f)
+pub read-through : (words : ShowWords) (unread_ok : Bool) (bytes : Option (List ℕ)) (totals : Totals) (before out : Taken) (held : List ℕ) (size : ℕ)
+    → unread_ok ≡ false → size ≤ most_file_bytes → IfSome bytes (λ f. size ≡ length f) → totals.bytes ≡ size
+    → IfSome bytes (λ f. (ks : List ChunkValue) → IsChainOf (IsAllowed unread_ok) ks f totals.bytes → IsFileOf (IsAllowed unread_ok) ks f)
     → IfSome bytes (λ f. IsPrinted words f totals before out held → HasPut (IsShown words) f before out held [] status.Ok)
 read-through words true bytes totals before out held size strict short exact end whole = absurd (cc strict)
 read-through words false None totals before out held size strict short exact end whole = tt
@@ -375,17 +375,17 @@ read-through words false (Some f) totals before out held size strict short exact
     printed-whole words f totals before out held (omega (arith, short, exact)) (end ∙ exact) whole h
 
 -- a chunk was read: it is given, and what it holds is known
-pub record IsNext (keep : Bool) (bytes : Option (List ℕ)) (totals then : Totals) (size : ℕ) (j : Judged) : Type 0 where
-  pub strict : keep ≡ false
+pub record IsNext (unread_ok : Bool) (bytes : Option (List ℕ)) (totals then : Totals) (size : ℕ) (j : Judged) : Type 0 where
+  pub strict : unread_ok ≡ false
   pub short : IfSome bytes (λ f. length f ≤ most_file_bytes)
-  pub judged : IsJudged keep size totals.bytes j
-  pub given : IfSome bytes (λ f. (ks : List ChunkValue) → IsChainOf (IsAllowed keep) ks f totals.bytes → totals ≡ totals_of ks
-      → IsChainOf (IsAllowed keep) (ks ++ value_of_chunk j.chunk ∷ []) f then.bytes × (then ≡ totals_of (ks ++ value_of_chunk j.chunk ∷ [])))
+  pub judged : IsJudged unread_ok size totals.bytes j
+  pub given : IfSome bytes (λ f. (ks : List ChunkValue) → IsChainOf (IsAllowed unread_ok) ks f totals.bytes → totals ≡ totals_of ks
+      → IsChainOf (IsAllowed unread_ok) (ks ++ value_of_chunk j.chunk ∷ []) f then.bytes × (then ≡ totals_of (ks ++ value_of_chunk j.chunk ∷ [])))
 
 -- and its lines went out, or are held
-pub next-printed : (words : ShowWords) (keep : Bool) (bytes : Option (List ℕ)) (totals then : Totals) (size : ℕ) (j : Judged)
+pub next-printed : (words : ShowWords) (unread_ok : Bool) (bytes : Option (List ℕ)) (totals then : Totals) (size : ℕ) (j : Judged)
     (before : Taken) (made out out_then notes : Option (List ℕ)) (held held_then : List ℕ)
-    → IsNext keep bytes totals then size j
+    → IsNext unread_ok bytes totals then size j
     → TakesAndHolds out out_then (held ++ record_lines words.form (enumerate_from j.begin (records_given j.what))) held_then
     → IfSome bytes (λ f. IsPrinted words f totals before (taken_by made out notes) held → IsPrinted words f then before (taken_by made out_then notes) held_then)
 next-printed words true bytes totals then size j before made out out_then notes held held_then next whole = absurd (cc next.strict)
@@ -395,9 +395,9 @@ next-printed words false (Some f) totals then size j before made out out_then no
     (what_holds (value_of_chunk j.chunk) j.what next.judged.what) next.judged.begin whole
 
 -- or they failed to
-pub next-failed : (words : ShowWords) (keep : Bool) (bytes : Option (List ℕ)) (totals then : Totals) (size : ℕ) (j : Judged)
+pub next-failed : (words : ShowWords) (unread_ok : Bool) (bytes : Option (List ℕ)) (totals then : Totals) (size : ℕ) (j : Judged)
     (before : Taken) (made out out_then notes : Option (List ℕ)) (held held_then : List ℕ)
-    → IsNext keep bytes totals then size j
+    → IsNext unread_ok bytes totals then size j
     → TakesShort out out_then (held ++ record_lines words.form (enumerate_from j.begin (records_given j.what))) → held_then ≡ []
     → IfSome bytes (λ f. IsPrinted words f totals before (taken_by made out notes) held
     → AreBytes f → (answer : Answer) × OfFile (IsShown words) (f ∷ []) answer × HasBrokenOff Out before (taken_by made out_then notes) held_then answer)
@@ -443,11 +443,11 @@ printed-ended words (Some f) then before after held why ended (Err made) same er
 
 -- what holds of each file holds of the one that is shown
 pub reads-none : (bytes : Option (List ℕ)) (told : Option ℕ) (size : ℕ) (at : ReaderValue) → told ≡ Some size → size ≤ 2 ^ 60 → at.size ≡ size
-    → at.keep ≡ false → ((f : List ℕ) → AreReadFrom false f at.totals) → ReadsIn bytes told at
+    → at.unread_ok ≡ false → ((f : List ℕ) → AreReadFrom false f at.totals) → ReadsIn bytes told at
 reads-none bytes told size at is reach same strict each = record {
   size = is ∙ ap Some (sym same);
   in_reach = omega (arith, reach, same);
-  read = subst (λ (keep : Bool). IfSome bytes (λ f. AreReadFrom keep f at.totals)) (sym strict) (of_any bytes);
+  read = subst (λ (unread_ok : Bool). IfSome bytes (λ f. AreReadFrom unread_ok f at.totals)) (sym strict) (of_any bytes);
 } where
   of_any : (bytes : Option (List ℕ)) → IfSome bytes (λ f. AreReadFrom false f at.totals)
   of_any None = tt
@@ -459,5 +459,5 @@ pub reads-on : (bytes now : Option (List ℕ)) (told told_now : Option ℕ) (bef
 reads-on bytes now told told_now before after same same_told h on = record {
   size = same_told ∙ h.size ∙ ap Some (sym on.same_size);
   in_reach = omega (arith, h.in_reach, on.same_size);
-  read = subst (λ (b : Option (List ℕ)). IfSome b (λ f. AreReadFrom after.keep f after.totals)) (sym same) on.read;
+  read = subst (λ (b : Option (List ℕ)). IfSome b (λ f. AreReadFrom after.unread_ok f after.totals)) (sym same) on.read;
 }

@@ -5,7 +5,7 @@ use Rattle.record_io.specs.Puts.{Put, Out, Notes, Taken, taken_by, puts_to}
 use Rattle.record_io.proofs.Puts.{GoOut-nothing, bytes_to-other}
 use Rattle.record_values.specs.declared.file_totals.Totals.{Totals}
 use Rattle.chunk_header.specs.Chunks.{ChunkValue}
-use Rattle.meta_chunk.specs.Files.{totals_of, IsFrame}
+use Rattle.meta_chunk.specs.Files.{totals_of, IsWellFormed}
 use Rattle.chunk_reader.specs.Faults.{IsFault}
 use Rattle.chunk_reader.specs.declared.reasons.Fault.{Fault}
 use Rattle.command_frame.specs.Answers.{Answer}
@@ -40,11 +40,11 @@ unprinted-so_far bytes made b c notes same =
 -- the report of a file that was judged is its answer
 pub verified-held : (told bytes : Option (List ℕ)) (taken : Taken) (totals : Totals)
     → told ≡ bytes → IfSome bytes (λ f. length f ≤ most_file_bytes)
-    → IfSome told (λ f. (ks : List ChunkValue) × IsFrame ks f × (totals ≡ totals_of ks))
+    → IfSome told (λ f. (ks : List ChunkValue) × IsWellFormed ks f × (totals ≡ totals_of ks))
     → IfSome bytes (λ f. HasPut IsVerified f taken taken (report totals) [] status.Ok)
 verified-held told None taken totals same short whole = tt
 verified-held told (Some f) taken totals same short whole =
-    let h = MatchOption-at_some _ (λ (b : List ℕ). (ks : List ChunkValue) × IsFrame ks b × (totals ≡ totals_of ks)) f same whole in
+    let h = MatchOption-at_some _ (λ (b : List ℕ). (ks : List ChunkValue) × IsWellFormed ks b × (totals ≡ totals_of ks)) f same whole in
     let puts : List Put = puts_to Out (report totals) in
     record {
       answer = judged_answer totals;

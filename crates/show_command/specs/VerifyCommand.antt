@@ -2,7 +2,7 @@
 use Rattle.std.specs.Prelude.{◌≡◌, ℕ, ◌⊎◌, true, List, []}
 use Rattle.record_io.specs.Puts.{Out, puts_to, Put}
 use Rattle.chunk_header.specs.Chunks.{ChunkValue}
-use Rattle.meta_chunk.specs.Files.{totals_of, IsFrame}
+use Rattle.meta_chunk.specs.Files.{totals_of, IsWellFormed}
 use Rattle.chunk_reader.specs.Faults.{IsFault}
 use Rattle.chunk_reader.specs.declared.reasons.Fault.{Fault}
 use Rattle.command_frame.specs.Answers.{Answer, noted}
@@ -14,7 +14,7 @@ use Rattle.command_frame.specs.declared.status.Status.TheVariants as status
 -- the answer to a file: the report of its chunks, where it is well-formed chunks to its end, or else its fault
 abbrev pub IsVerified : List ℕ → Answer → Type 0
 IsVerified file answer =
-    ((ks : List ChunkValue) × IsFrame ks file
+    ((ks : List ChunkValue) × IsWellFormed ks file
     × (answer ≡ record { puts = puts_to Out (report (totals_of ks)); status = status.Ok }))
     ⊎ ((fault : Fault) × IsFault true file fault × (answer ≡ noted status.Refused (refused_text fault)))
 

@@ -7,7 +7,7 @@ ghost use Rattle.record_io.specs.Seen.{seen_stream, seen_file};
 ghost use Rattle.chunk_reader.specs.Contents.{records_given};
 ghost use Rattle.chunk_reader.specs.Readers.{ReadsIn, ReadsOn};
 ghost use Rattle.chunk_reader.specs.SearchBounds.{MayBeReadTo};
-ghost use Rattle.command_frame.specs.Endings.{HasPutAtEnd, IsAllowedEnd, IsShort};
+ghost use Rattle.command_frame.specs.Endings.{HasPutAtEnd, IsAllowedEnd, CutsReadingOff};
 ghost use Rattle.command_frame.specs.FileSizes.{HandsOut};
 ghost use Rattle.show_command.specs.ReadingEnds.{reading_ends};
 ghost use Rattle.show_command.specs.ShowCommand.{IsShown, IsShownSoFar, show_meaning};
@@ -54,7 +54,8 @@ fn print_file<S: Store, O: Sink>(
 ) -> Result<(), Ending<Fault>>
     ensures printed { (made notes : Option (List ℕ)) → IfSome (S.bytes file.old) (λ bytes. HasPutAtEnd reading_ends (IsShown words.now) result bytes
         (taken_by made (O.taken out.old) notes) (taken_by made (O.taken out.new) notes) []) }
-    ensures so_far { IsErrAnd result IsShort → ¬ Rose (O.faults out.old) (O.faults out.new) → (made notes : Option (List ℕ))
+    ensures so_far { IsErrAnd result CutsReadingOff → ¬ Rose (O.faults out.old) (O.faults out.new)
+        → (made notes : Option (List ℕ))
         → IfSome (S.bytes file.old) (λ bytes. HasPutSoFar (IsShownSoFar words.now (S.handed file.old) (S.handed file.new) bytes)
         (taken_by made (O.taken out.old) notes) (taken_by made (O.taken out.new) notes) []) }
     ensures allowed { IsAllowedEnd (show_meaning words.now) result (S.told file.new) }
@@ -85,7 +86,7 @@ fn print_chunks<S: Store, O: Sink>(
     requires none_held { lines.old ≡ [] }
     ensures printed { (made notes : Option (List ℕ)) → IfSome (S.bytes file.old) (λ bytes. HasPutAtEnd reading_ends (IsShown words.now) result bytes
         (taken_by made (O.taken out.old) notes) (taken_by made (O.taken out.new) notes) lines.new) }
-    ensures so_far { IsErrAnd result IsShort → (made notes : Option (List ℕ))
+    ensures so_far { IsErrAnd result CutsReadingOff → (made notes : Option (List ℕ))
         → IfSome (S.bytes file.old) (λ bytes. HasPutSoFar (IsShownSoFar words.now (S.handed file.old) (S.handed file.new) bytes)
         (taken_by made (O.taken out.old) notes) (taken_by made (O.taken out.new) notes) lines.new) }
     ensures allowed { IsAllowedEnd (show_meaning words.now) result (S.told file.new) }
@@ -107,7 +108,7 @@ fn print_next<S: Store, O: Sink>(
     lines: &mut PutBuffer<LINES>,
     out: &mut O,
 ) -> Result<bool, Ending<Fault>>
-    requires strict { reader.old.keep ≡ false }
+    requires strict { reader.old.unread_ok ≡ false }
     requires reads { ReadsIn (S.bytes file.old) (S.told file.old) reader.old }
     ensures goes_on { ReadsOn (S.bytes file.old) reader.old reader.new }
     ensures moved { result ≡ Ok true → MovesOn reader.old.totals.bytes reader.new.totals.bytes (S.handed file.old) (S.handed file.new) }
@@ -116,7 +117,8 @@ fn print_next<S: Store, O: Sink>(
         → PrintsOn words.now result bytes reader.new.totals before (taken_by made (O.taken out.new) notes) lines.new) }
     ensures read_to { IfSome (S.bytes file.old) (λ bytes.
         MayBeReadTo bytes reader.old.totals.bytes (reader.old.totals.bytes + (S.handed file.new - S.handed file.old))) }
-    ensures unput { IsErrAnd result IsShort → PutsNothing lines.old lines.new out.old out.new }
+    ensures unput { IsErrAnd result CutsReadingOff
+        → PutsNothing lines.old lines.new out.old out.new }
     ensures allowed { IsAllowedEnd (show_meaning words.now) result (S.told file.new) }
     ensures file { AsksWithin S.bytes S.told S.handed S.name S.faults (result ≡ Err (Ending.Cut Cut.File))
         reader.old.totals.bytes reader.old.size file.old file.new }

@@ -2,7 +2,7 @@ ghost use Rattle.std.specs.Prelude.{◌≡◌, ℕ, Option, Err, List, [], ◌�
 ghost use Rattle.record_io.specs.Puts.{taken_by};
 ghost use Rattle.record_io.specs.Calls.{KeepsFile, OnlyCounts};
 ghost use Rattle.record_io.specs.Seen.{seen_stream, seen_file};
-ghost use Rattle.command_frame.specs.Endings.{HasPutAtEnd, IsAllowedEnd, IsShort};
+ghost use Rattle.command_frame.specs.Endings.{HasPutAtEnd, IsAllowedEnd, CutsReadingOff};
 ghost use Rattle.command_frame.specs.FileAnswers.{report};
 ghost use Rattle.command_frame.specs.FileSizes.{HandsOut};
 ghost use Rattle.show_command.specs.ReadingEnds.{reading_ends};
@@ -33,7 +33,7 @@ pub fn verify<S: Store, O: Sink, E: Sink>(file: &mut S, out: &mut O, notes: &mut
 fn report_file<S: Store, O: Sink>(file: &mut S, out: &mut O) -> Result<(), Ending<Fault>>
     ensures printed { (made notes : Option (List ℕ)) → IfSome (S.bytes file.old) (λ bytes. HasPutAtEnd reading_ends IsVerified result bytes
         (taken_by made (O.taken out.old) notes) (taken_by made (O.taken out.new) notes) []) }
-    ensures same_out { IsErrAnd result IsShort → out.new ≡ out.old }
+    ensures same_out { IsErrAnd result CutsReadingOff → out.new ≡ out.old }
     ensures allowed { IsAllowedEnd verify_meaning result (S.told file.new) }
     ensures handed { HandsOut verify_meaning (S.told file.new) (S.handed file.old) (S.handed file.new) }
     ensures same_bytes { S.bytes file.new ≡ S.bytes file.old }

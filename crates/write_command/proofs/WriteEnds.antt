@@ -22,7 +22,7 @@ use Rattle.write_command.specs.WriteCommand.{write_meaning, stop_text, stop_stat
 use Rattle.command_frame.specs.Runs.{Runs}
 use Rattle.command_frame.specs.RunObjects.{Seen, seen}
 use Rattle.command_frame.specs.RunAnswers.{IsWhole}
-use Rattle.command_frame.specs.CutShortRuns.{IsCutOff, Breaks, TakesThen}
+use Rattle.command_frame.specs.RunLeaves.{IsCutOff, Breaks, TakesThen}
 use Rattle.command_frame.specs.Endings.{SaysAtEnd}
 use Rattle.command_frame.specs.RunCauses.{HasCause}
 use Rattle.command_frame.proofs.RunEnds.{GaveButNotes, Keeps, OfSizes-unread, PutsLines-none, gave-said, was-cut_off, went-so_far, runs-whole, runs-said, runs-cut_off}

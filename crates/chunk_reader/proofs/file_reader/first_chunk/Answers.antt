@@ -11,9 +11,9 @@ is_signature g c = search rules
 pub returns-clause-judged : goal.returns-clause-judged
 returns-clause-judged g c =
     let is = is_signature g (goal.at.returns-clause-judged g c).After-new-2 in
-    λ keep. first_judged keep c.args.size _ c.in_ok-check_signature.ensures.long refl refl refl is c.new-2.ensures.right
+    λ unread_ok. first_judged unread_ok c.args.size _ c.in_ok-check_signature.ensures.long refl refl refl is c.new-2.ensures.right
 
 pub returns-clause-sound : goal.returns-clause-sound
 returns-clause-sound g c =
     let is = is_signature g (goal.at.returns-clause-sound g c).After-new-2 in
-    λ keep. first_judged_in keep _ _ c.in_ok-check_signature.ensures.signed is refl
+    λ unread_ok. first_judged_in unread_ok _ _ c.in_ok-check_signature.ensures.signed is refl

@@ -30,7 +30,7 @@ pub returns-in_err-header-clause-refused : goal.returns-in_err-header-clause-ref
 returns-in_err-header-clause-refused g c =
     λ fault e.
     let r = c.in_err-header.ensures.refused fault (ap Err (refused_before c.in_err-header.field-0.0 fault (rw e at c.from_residual.ensures.1))) in
-    refused_early _ c.args.keep c.args.at fault r.0 r.1
+    refused_early _ c.args.unread_ok c.args.at fault r.0 r.1
 
 pub returns-in_err-header-clause-handed : goal.returns-in_err-header-clause-handed
 returns-in_err-header-clause-handed g c = handed_early _ c.args.at _ _ c.in_err-header.ensures.store.handed
@@ -39,7 +39,7 @@ pub returns-in_err-chunk-clause-refused : goal.returns-in_err-chunk-clause-refus
 returns-in_err-chunk-clause-refused g c =
     λ fault e.
     let wrong = c.in_err-chunk.ensures.wrong fault (ap Err (sym (rw e at c.from_residual-in_err-chunk.ensures.1))) in
-    refused_block _ _ c.args.keep c.args.at c.in_ok-header.end c.in_ok-header.header fault c.in_ok-header.ensures.store.asks.same_bytes c.in_ok-header.ensures.found wrong.0 wrong.1
+    refused_block _ _ c.args.unread_ok c.args.at c.in_ok-header.end c.in_ok-header.header fault c.in_ok-header.ensures.store.asks.same_bytes c.in_ok-header.ensures.found wrong.0 wrong.1
 
 pub returns-in-Ok-clause-judged : goal.returns-in-Ok-clause-judged
 returns-in-Ok-clause-judged g c =
@@ -57,7 +57,7 @@ returns-in-Ok-clause-judged g c =
       after = omega (arith, end, chunk_end_of_above c.args.at (40 + length c.in_ok-chunk.chunk.bytes) k.num_records (omega arith));
       within = c.in_ok-header.ensures.within;
       small = omega (arith, size, c.in_ok-header.ensures.small);
-      right = right_hash c.args.keep c.in_ok-chunk.chunk c.in-Ok.ensures.judged.sound;
+      right = right_hash c.args.unread_ok c.in_ok-chunk.chunk c.in-Ok.ensures.judged.sound;
       sound = c.in_ok-chunk.ensures.sound;
       what = c.in-Ok.ensures.what;
     }
@@ -67,7 +67,7 @@ returns-in-Ok-clause-sound g c =
     let header = c.in_ok-header.ensures.found in
     let sized : IsSized (g.S.Store.bytes c.args.store.now) (Some c.args.size) =
     subst (IsSized (g.S.Store.bytes c.args.store.now)) c.requires.place.sized.is_told (g.met.S.Store.sized c.args.store.now) in
-    judged_in _ c.args.keep c.args.size c.args.at c.in_ok-header.end c.in_ok-chunk.chunk _ sized
+    judged_in _ c.args.unread_ok c.args.size c.args.at c.in_ok-header.end c.in_ok-chunk.chunk _ sized
     (loaded g (goal.at.returns-in-Ok-clause-sound g c).In_ok-chunk header) c.in_ok-header.ensures.within refl refl c.in-Ok.ensures.judged.sound
 
 pub returns-in-Ok-clause-handed : goal.returns-in-Ok-clause-handed
@@ -80,7 +80,7 @@ pub returns-in-Err-Fault-clause-refused : goal.returns-in-Err-Fault-clause-refus
 returns-in-Err-Fault-clause-refused g c =
     λ fault e.
     let header = c.in_ok-header.ensures.found in
-    refused_content _ c.args.keep c.args.at c.in_ok-header.end c.in_ok-chunk.chunk c.in-Err-Fault.why fault
+    refused_content _ c.args.unread_ok c.args.at c.in_ok-header.end c.in_ok-chunk.chunk c.in-Err-Fault.why fault
     (loaded g (goal.at.returns-in-Err-Fault-clause-refused g c).In_ok-chunk header) (cc)
     (c.in-Err-Fault.ensures.judged.refused c.in-Err-Fault.why (cc))
 
@@ -95,5 +95,5 @@ returns-in-Err-Fault-clause-early_refused g c =
     λ fault e one.
     let here : Fault = record { at = c.args.at; why = c.in-Err-Fault.why } in
     let same : here ≡ fault = cc in
-    absurd (late_content _ c.args.keep c.in-Err-Fault.why (c.in-Err-Fault.ensures.judged.refused c.in-Err-Fault.why (cc))
+    absurd (late_content _ c.args.unread_ok c.in-Err-Fault.why (c.in-Err-Fault.ensures.judged.refused c.in-Err-Fault.why (cc))
     (subst (IsOneOf loading_reasons) (ap (λ (f : Fault). f.why) (sym same)) one))

@@ -1,5 +1,5 @@
-use Rattle.chunk_reader.proofs.Frames.{frame_is_one, file_is_one}
+use Rattle.chunk_reader.proofs.WellFormedFiles.{well_formed_is_one, file_is_one}
 use Rattle.chunk_reader.proofs.laws.files_and_their_chunks_are_one.Goals as goal
 
 pub returns : goal.returns
-returns c = record { chunks = frame_is_one; file = file_is_one }
+returns c = record { chunks = well_formed_is_one; file = file_is_one }

@@ -5,5 +5,5 @@ pub returns : goal.returns
 returns c = record {
   chunk = λ file begins. (chunk_at-signature file begins, end_at-signature file begins);
   none = no_reason-signature;
-  begins = λ keep k ks file place h. begins_signed k ks file place h;
+  begins = λ unread_ok k ks file place h. begins_signed k ks file place h;
 }

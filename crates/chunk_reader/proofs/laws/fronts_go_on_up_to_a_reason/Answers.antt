@@ -5,9 +5,9 @@ use Rattle.chunk_reader.proofs.laws.fronts_go_on_up_to_a_reason.Goals as goal
 
 pub returns : goal.returns
 returns c = record {
-  none = λ keep file. IsChainOf-nil file;
-  goes_on = λ keep ks file place bytes begins h none.
-      chain_goes_on keep ks file place h begins (laid_where_none keep file place bytes none) (allowed_where_none keep file place none);
+  none = λ unread_ok file. IsChainOf-nil file;
+  goes_on = λ unread_ok ks file place bytes begins h none.
+      chain_goes_on unread_ok ks file place h begins (laid_where_none unread_ok file place bytes none) (allowed_where_none unread_ok file place none);
   longest = longest_where_refused;
   totals = totals_of-push;
   counts = totals-le;

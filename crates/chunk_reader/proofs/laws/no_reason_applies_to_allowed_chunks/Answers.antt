@@ -4,7 +4,7 @@ use Rattle.chunk_reader.proofs.laws.no_reason_applies_to_allowed_chunks.Goals as
 
 pub returns : goal.returns
 returns c = record {
-  none = λ keep file place end k h allowed. no_reason keep place k file end h allowed;
+  none = λ unread_ok file place end k h allowed. no_reason unread_ok place k file end h allowed;
   laid = laid_where_none;
   allowed = allowed_where_none;
 }

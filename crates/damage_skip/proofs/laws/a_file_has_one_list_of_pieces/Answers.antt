@@ -7,7 +7,7 @@ returns c = record {
   one = tiles_one;
   front = tiles_front;
   to_end = tiles_to_end;
-  pieces = λ keep file. tiles_to_end keep file 0 (omega arith);
+  pieces = λ unread_ok file. tiles_to_end unread_ok file 0 (omega arith);
   one_events = events_one;
   events = events_of;
 }

@@ -5,14 +5,14 @@ use Rattle.damage_skip.proofs.laws.damaged_files_come_apart_as_told.Goals as goa
 
 pub returns : goal.returns
 returns c = record {
-  pieces = λ keep ks file damaged intact pieces reach d. (
-    pieces_left keep ks file damaged intact d reach pieces,
-    left_pieces keep ks file damaged intact d reach pieces,
+  pieces = λ unread_ok ks file damaged intact pieces reach d. (
+    pieces_left unread_ok ks file damaged intact d reach pieces,
+    left_pieces unread_ok ks file damaged intact d reach pieces,
   );
-  front = λ keep ks file damaged intact n pieces reach d inside. (
-    front_left keep ks file damaged intact d reach n pieces inside,
-    left_front keep ks file damaged intact d reach n pieces,
+  front = λ unread_ok ks file damaged intact n pieces reach d inside. (
+    front_left unread_ok ks file damaged intact d reach n pieces inside,
+    left_front unread_ok ks file damaged intact d reach n pieces,
   );
-  places = λ keep ks file damaged intact place reach d. met_reached keep ks file damaged intact d reach place;
+  places = λ unread_ok ks file damaged intact place reach d. met_reached unread_ok ks file damaged intact d reach place;
   records = events_left;
 }

@@ -3,7 +3,7 @@ use Rattle.damage_skip.proofs.laws.fronts_of_files_lose_one_chunk.Goals as goal
 
 pub returns : goal.returns
 returns c = record {
-  front = λ keep ks file n frame. front_tiles keep ks file frame n;
-  between = λ keep ks file n front frame h. cut_between keep ks file frame n front h;
-  within = λ keep ks file n m front frame inside after before h. cut_within keep ks file frame n m front inside after before h;
+  front = λ unread_ok ks file n well_formed. front_tiles unread_ok ks file well_formed n;
+  between = λ unread_ok ks file n front well_formed h. cut_between unread_ok ks file well_formed n front h;
+  within = λ unread_ok ks file n m front well_formed inside after before h. cut_within unread_ok ks file well_formed n m front inside after before h;
 }

@@ -10,10 +10,10 @@ returns c = record {
   events = events-append;
   boundary = pieces_at_boundaries;
   within = pieces_within;
-  rise = λ keep file pieces h. tiles_rise keep file 0 (length file) pieces h;
-  last = λ keep file pieces piece h. tiles_last keep file 0 (length file) pieces piece h;
-  holder = λ keep file pieces position h below. tiles_hold keep file 0 (length file) position pieces h (omega arith) below;
+  rise = λ unread_ok file pieces h. tiles_rise unread_ok file 0 (length file) pieces h;
+  last = λ unread_ok file pieces piece h. tiles_last unread_ok file 0 (length file) pieces piece h;
+  holder = λ unread_ok file pieces position h below. tiles_hold unread_ok file 0 (length file) position pieces h (omega arith) below;
   events_hold = events_hold;
   events_are = events_are;
-  events_rise = λ keep file pieces h. events_rise keep file 0 (length file) pieces h;
+  events_rise = λ unread_ok file pieces h. events_rise unread_ok file 0 (length file) pieces h;
 }

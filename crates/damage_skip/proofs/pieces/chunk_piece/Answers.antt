@@ -14,7 +14,7 @@ pub returns-then-header-gt-MAX_DATA_SIZE-clause-sound : goal.returns-then-header
 returns-then-header-gt-MAX_DATA_SIZE-clause-sound g c =
     let sized : IsSized (g.S.Store.bytes c.args.store.now) (Some c.args.walk.size) =
     subst (IsSized (g.S.Store.bytes c.args.store.now)) c.requires.within.sized.is_told (g.met.S.Store.sized c.args.store.now) in
-    too_large_piece _ c.args.walk.keep c.args.walk.size c.args.walk.place c.args.end c.args.header c.in_ok-unloaded_piece.field-0 sized
+    too_large_piece _ c.args.walk.unread_ok c.args.walk.size c.args.walk.place c.args.end c.args.header c.in_ok-unloaded_piece.field-0 sized
     c.requires.fits c.requires.head c.requires.within.is_end c.requires.within.within c.if-header-gt-MAX_DATA_SIZE.true
     (c.in_ok-unloaded_piece.ensures.unloaded c.args.end refl)
 
@@ -43,7 +43,7 @@ returns-in-Contradicted-clause-sound g c =
     let leads =
     subst (λ (l : Loaded). IfSome (g.S.Store.bytes c.args.store.now) (λ file. IsLoadIn file begin c.args.end c.args.header l)) c.in-Contradicted.is
     c.in_ok-chunk.ensures.sound in
-    contradicted_piece _ c.args.walk.keep begin c.args.end c.in-Contradicted.landing c.args.header c.skipped.result c.requires.fits c.requires.head
+    contradicted_piece _ c.args.walk.unread_ok begin c.args.end c.in-Contradicted.landing c.args.header c.skipped.result c.requires.fits c.requires.head
     c.requires.within.is_end c.skipped.ensures leads
 
 pub returns-in_err-unloaded_piece-clause-takes : goal.returns-in_err-unloaded_piece-clause-takes

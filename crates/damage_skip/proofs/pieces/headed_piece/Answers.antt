@@ -31,7 +31,7 @@ pub returns-in_ok-unloaded_piece-in_default-clause-sound : goal.returns-in_ok-un
 returns-in_ok-unloaded_piece-in_default-clause-sound g c =
     let sized : IsSized (g.S.Store.bytes c.args.store.now) (Some c.args.walk.size) =
     subst (IsSized (g.S.Store.bytes c.args.store.now)) c.requires.place.sized.is_told (g.met.S.Store.sized c.args.store.now) in
-    truncated_piece _ c.args.walk.keep c.args.walk.size c.args.walk.place c.args.header c.in_ok-unloaded_piece-in_default.field-0 sized c.requires.fits
+    truncated_piece _ c.args.walk.unread_ok c.args.walk.size c.args.walk.place c.args.header c.in_ok-unloaded_piece-in_default.field-0 sized c.requires.fits
     c.requires.head
     (cut_off g (goal.at.returns-in_ok-unloaded_piece-in_default-clause-sound g c).In_default)
     (c.in_ok-unloaded_piece-in_default.ensures.unloaded (end_by c.args.walk.place (value_of_header c.args.header))

@@ -5,8 +5,8 @@ use Rattle.ordered_writer.proofs.laws.files_are_joined_at_blocks.Goals as goal
 pub returns-clause-boundary : goal.returns-clause-boundary
 returns-clause-boundary c = λ ks file h. IsBoundary-file ks file h
 
-pub returns-clause-frame : goal.returns-clause-frame
-returns-clause-frame c = λ ks more file other h g. IsFileOf-joined ks more file other (λ k plain. inl plain) h g
+pub returns-clause-well_formed : goal.returns-clause-well_formed
+returns-clause-well_formed c = λ ks more file other h g. IsFileOf-joined ks more file other (λ k plain. inl plain) h g
 
 pub returns-clause-file : goal.returns-clause-file
 returns-clause-file c = λ ks more file other h g. IsFileOf-joined ks more file other (λ k plain. plain) h g

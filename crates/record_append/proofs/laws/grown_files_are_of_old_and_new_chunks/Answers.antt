@@ -1,5 +1,5 @@
-use Rattle.record_append.proofs.GrownFiles.{grown_frame, grown_records}
+use Rattle.record_append.proofs.GrownFiles.{grown_well_formed, grown_records}
 use Rattle.record_append.proofs.laws.grown_files_are_of_old_and_new_chunks.Goals as goal
 
 pub returns : goal.returns
-returns c = record { frame = grown_frame; records = grown_records }
+returns c = record { well_formed = grown_well_formed; records = grown_records }

@@ -8,7 +8,7 @@ use Rattle.record_collect.proofs.feeding.feed_file.Given as goal
 abbrev pub invariant-loop : goal.invariant-loop
 invariant-loop g l = record {
   same_size : l.reader.size ≡ l.size;
-  strict : l.reader.keep ≡ false;
+  strict : l.reader.unread_ok ≡ false;
   within : l.reader.totals.bytes ≤ l.reader.size;
   reads : ReadsIn (g.S.Store.bytes l.store) (g.S.Store.told l.store) l.reader;
   belongs : BelongsTo l.collector l.pass;

@@ -4,7 +4,7 @@ use Rattle.record_join.proofs.laws.joined_files_are_one_file.Goals as goal
 
 pub returns : goal.returns
 returns c = record {
-  frame = λ lists files some h. joined-IsFileOf (λ k plain. inl plain) lists files some h;
+  well_formed = λ lists files some h. joined-IsFileOf (λ k plain. inl plain) lists files some h;
   file = λ lists files some h. joined-IsFileOf (λ k plain. plain) lists files some h;
   records = joined-records;
   chunks = chunks_of_each;

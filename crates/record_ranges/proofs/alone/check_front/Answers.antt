@@ -5,7 +5,7 @@ use Rattle.record_ranges.proofs.alone.check_front.Goals as goal
 pub returns-in_err-next-clause-answered : goal.returns-in_err-next-clause-answered
 returns-in_err-next-clause-answered g c = record {
   refused = λ fault e.
-      refused-front _ _ fault c.new-reader.ensures.keep
+      refused-front _ _ fault c.new-reader.ensures.unread_ok
       (c.in_err-next.ensures.refused fault (ap Err (sym (rw e at c.from_residual.ensures.1))));
   asks = search rules;
 }

@@ -7,7 +7,7 @@ use Rattle.record_ranges.proofs.alone.read_from_front.Given as goal
 abbrev pub invariant-loop-part : goal.invariant-loop-part
 invariant-loop-part g l = record {
   same_size : l.reader.size ≡ l.size;
-  strict : l.reader.keep ≡ false;
+  strict : l.reader.unread_ok ≡ false;
   within : l.reader.totals.bytes ≤ l.reader.size;
   reads : ReadsIn (g.S.Store.bytes l.store) (g.S.Store.told l.store) l.reader;
   read : IfSome (g.S.Store.bytes l.fn.store) (λ file. IsReadSoFar file l.span l.reader.totals l.part.records);

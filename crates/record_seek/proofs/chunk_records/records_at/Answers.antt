@@ -7,7 +7,7 @@ returns-clause-chunk g c =
     let judged = c.in_ok-judged.ensures.judged in
     record {
       of_chunk = records-of c.args.size c.args.place c.in_ok-judged.judged _ c.requires.place.sized.in_reach judged refl refl c.records_found.ensures;
-      onward = omega (arith, judged.begin);
+      begins = omega (arith, judged.begin);
       within = judged.within;
     }
 

@@ -68,7 +68,7 @@ loop-place-preserved g c =
     let given = c.in_ok-passed.ensures in
     record {
       boundary = given.bounds.boundary;
-      onward = omega (arith, given.bounds.past, kept.onward);
+      advanced = omega (arith, given.bounds.past, kept.advanced);
       within = given.bounds.within;
       empty = empty-on _ _ c.args.from c.loop-place.place c.in_ok-passed.passed _ _ _ kept.asks.same_bytes kept.empty given.passed
           c.if-passed-gt0.false given.store.handed;

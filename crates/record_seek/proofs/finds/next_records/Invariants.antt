@@ -7,7 +7,7 @@ use Rattle.record_seek.proofs.finds.next_records.Given as goal
 abbrev pub invariant-loop-place : goal.invariant-loop-place
 invariant-loop-place g l = record {
   boundary : IsBoundary l.place;
-  onward : l.from ≤ l.place;
+  advanced : l.from ≤ l.place;
   within : l.place ≤ l.size;
   empty : IfSome (g.S.Store.bytes l.fn.store) (λ file. IsEmptyTo file l.from l.place (g.S.Store.handed l.fn.store) (g.S.Store.handed l.store));
   asks : OnlyAsks g.S.Store.bytes g.S.Store.told g.S.Store.name g.S.Store.faults ⊥ l.fn.store l.store;

@@ -76,7 +76,7 @@ pub loop-chunk-smaller : goal.loop-chunk-smaller
 loop-chunk-smaller g c =
     let given = c.in_ok-chunk.ensures in
     let chunk = some_at (AreRecordsFrom c.loop-chunk.place c.args.size) _ c.in-Some.chunk given.chunk c.in-Some.is in
-    omega (arith, chunk.of_chunk.after, chunk.onward, chunk.within)
+    omega (arith, chunk.of_chunk.after, chunk.begins, chunk.within)
 
 pub returns-clause-read : goal.returns-clause-read
 returns-clause-read g c =

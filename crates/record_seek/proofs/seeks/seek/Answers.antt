@@ -2,7 +2,7 @@ use Rattle.std.proofs.Common.{◌∙◌, ℕ, ◌+◌, ◌<◌, ◌≤◌, Some,
 use Rattle.chunk_reader.specs.Holders.{IsHolder}
 use Rattle.chunk_reader.specs.Places.{end_at}
 use Rattle.chunk_reader.specs.Reasons.{Applies, NoneOf, unpassed_reasons}
-use Rattle.chunk_reader.specs.Searches.{AnswersAt}
+use Rattle.chunk_reader.specs.PositionSearches.{AnswersAt}
 use Rattle.chunk_reader.proofs.Loads as loads
 use Rattle.chunk_reader.proofs.Rooms.{IsSized}
 use Rattle.record_seek.proofs.Seeking.{refused_before, refused-holder, refused-search, answers, refused-answer, gives-answer, gives-nothing, memory-for, memory-in, SearchTakes, takes-headers, takes-record}

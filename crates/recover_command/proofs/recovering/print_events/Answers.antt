@@ -12,7 +12,7 @@ use Rattle.damage_skip.specs.declared.regions.Region.{Region}
 use Rattle.command_frame.specs.declared.status.Status.{Status}
 use Rattle.command_frame.proofs.FileRuns.{told-in_reach}
 use Rattle.recover_command.proofs.RecoverRuns.{step-allowed, walk-allowed}
-use Rattle.recover_command.proofs.RecoverLoop.{bound-same, event-allowed, event-room, printed-none, goes-same, step-by, step-done, step-ended, step-failed, step-printed, step-not_short, step-said, step-passed, step-so_far, step-stood, step-told, step-untold, stop-refused, stop-same}
+use Rattle.recover_command.proofs.RecoverLoop.{bound-same, event-allowed, event-room, printed-none, goes-same, step-by, step-done, step-ended, step-failed, step-printed, step-not_reading_cut_off, step-said, step-passed, step-so_far, step-stood, step-told, step-untold, stop-refused, stop-same}
 use Rattle.show_command.proofs.ShowSteps.{exact_told, short_told}
 use Rattle.recover_command.proofs.recovering.print_events.Goals as goal
 use Rattle.recover_command.proofs.recovering.print_events.Goals.{After-print_event, In-Err}
@@ -20,7 +20,7 @@ use Rattle.recover_command.proofs.recovering.print_events.Goals.{After-print_eve
 pub loop-event-init : goal.loop-event-init
 loop-event-init g c = record {
   same_size = c.new-walker.ensures.begins.size_is;
-  not_kept = c.new-walker.ensures.begins.keep_is;
+  not_kept = c.new-walker.ensures.begins.unread_ok_is;
   decodes = c.new-walker.ensures.begins.decodes_is;
   going = c.new-walker.ensures.begins.going;
   same_test = refl;
@@ -60,7 +60,7 @@ returns-in-Err-clause-printed g c = λ made.
     (λ region is. (
       (c.in-Err.ensures.refused region (ap Err is) c.loop-event.invariant.going).stop,
       refused g (goal.at.returns-in-Err-clause-printed g c).In-Err region is,
-      stop-same _ _ _ _ _ _ region c.loop-event.invariant.file.same_bytes c.in-Err.ensures.goes_on.same_keep c.loop-event.invariant.not_kept
+      stop-same _ _ _ _ _ _ region c.loop-event.invariant.file.same_bytes c.in-Err.ensures.goes_on.same_unread_ok c.loop-event.invariant.not_kept
           (c.in-Err.ensures.goes_on.stopped ∙ ap (λ e. stop_of (Err e)) is) c.in-Err.ensures.stands.stopped_there,
     ))
 
@@ -70,7 +70,7 @@ returns-in-Err-clause-so_far g c = λ short made.
     (c.loop-event.invariant.printed made)
     (goes-same _ _ _ _ _ (Err c.in-Err.end) (Err c.in-Err.end) c.loop-event.invariant.file.same_bytes c.loop-event.invariant.not_kept refl
     c.in-Err.ensures.goes_on.past)
-    (called-to _ _ (progress_of c.loop-event.walker).keep false 0 (progress_of c.loop-event.walker).place (progress_of c.next.new.self).place
+    (called-to _ _ (progress_of c.loop-event.walker).unread_ok false 0 (progress_of c.loop-event.walker).place (progress_of c.next.new.self).place
     (Err c.in-Err.end) c.in-Err.end _ _ _ c.loop-event.invariant.file.same_bytes c.loop-event.invariant.not_kept refl c.loop-event.invariant.taken
     c.in-Err.ensures.takes)
 
@@ -86,7 +86,7 @@ returns-in-Err-clause-allowed g c =
 
 pub returns-in_err-status-in-Ok-Some-clause-so_far : goal.returns-in_err-status-in-Ok-Some-clause-so_far
 returns-in_err-status-in-Ok-Some-clause-so_far g c = λ short.
-    absurd (step-not_short _ (step-by Status c.in_err-status-in-Ok-Some.field-0.0 _ _ _ _ _ _ c.from_residual.result c.from_residual.ensures.0 c.from_residual.ensures.1
+    absurd (step-not_reading_cut_off _ (step-by Status c.in_err-status-in-Ok-Some.field-0.0 _ _ _ _ _ _ c.from_residual.result c.from_residual.ensures.0 c.from_residual.ensures.1
     (c.in_err-status-in-Ok-Some.ensures.prints None)) short)
 
 pub returns-in_err-status-in-Ok-Some-clause-printed : goal.returns-in_err-status-in-Ok-Some-clause-printed
@@ -145,7 +145,7 @@ loop-event-preserved g c =
     let asked = c.in-Ok-Some.ensures in
     record {
       same_size = asked.goes_on.same_size ∙ c.loop-event.invariant.same_size;
-      not_kept = asked.goes_on.same_keep ∙ c.loop-event.invariant.not_kept;
+      not_kept = asked.goes_on.same_unread_ok ∙ c.loop-event.invariant.not_kept;
       decodes = asked.goes_on.same_decodes ∙ c.loop-event.invariant.decodes;
       going = asked.goes_on.stopped ∙ ap (λ e. stop_of (Ok e)) c.in-Ok-Some.field-0-is;
       same_test = asked.same_test ∙ c.loop-event.invariant.same_test;
@@ -163,7 +163,7 @@ loop-event-preserved g c =
       kept = λ is.
           let before = after-ok c.loop-event.status c.in-Ok-Some.event (sym c.in_ok-status-in-Ok-Some.ensures.status ∙ is) in
           c.in_ok-status-in-Ok-Some.ensures.quiet before.1 ∙ c.loop-event.invariant.kept before.0;
-      taken = called-on _ _ (progress_of c.loop-event.walker).keep false 0 (progress_of c.loop-event.walker).place (progress_of c.next.new.self).place _
+      taken = called-on _ _ (progress_of c.loop-event.walker).unread_ok false 0 (progress_of c.loop-event.walker).place (progress_of c.next.new.self).place _
           (Some c.in-Ok-Some.event) _ _ _ c.loop-event.invariant.file.same_bytes c.loop-event.invariant.not_kept (ap Ok c.in-Ok-Some.field-0-is)
           c.loop-event.invariant.taken asked.takes;
       out = search rules;
@@ -182,7 +182,7 @@ returns-in-Err-clause-handed_of g c =
     (c.loop-event.invariant.printed None)
     (goes-same _ _ _ _ _ (Err c.in-Err.end) (Err c.in-Err.end) c.loop-event.invariant.file.same_bytes c.loop-event.invariant.not_kept refl
     c.in-Err.ensures.goes_on.past)
-    (called-to _ _ (progress_of c.loop-event.walker).keep false 0 (progress_of c.loop-event.walker).place (progress_of c.next.new.self).place
+    (called-to _ _ (progress_of c.loop-event.walker).unread_ok false 0 (progress_of c.loop-event.walker).place (progress_of c.next.new.self).place
     (Err c.in-Err.end) c.in-Err.end _ _ _ c.loop-event.invariant.file.same_bytes c.loop-event.invariant.not_kept refl c.loop-event.invariant.taken
     c.in-Err.ensures.takes)
 
@@ -192,7 +192,7 @@ returns-in-Ok-None-clause-handed_of g c =
     (c.loop-event.invariant.printed None)
     (goes-same _ _ _ _ _ _ (Ok None) c.loop-event.invariant.file.same_bytes c.loop-event.invariant.not_kept (ap Ok c.in-Ok-None.field-0-is)
     c.in-Ok-None.ensures.goes_on.past)
-    (called-on _ _ (progress_of c.loop-event.walker).keep false 0 (progress_of c.loop-event.walker).place (progress_of c.next.new.self).place _
+    (called-on _ _ (progress_of c.loop-event.walker).unread_ok false 0 (progress_of c.loop-event.walker).place (progress_of c.next.new.self).place _
     None _ _ _ c.loop-event.invariant.file.same_bytes c.loop-event.invariant.not_kept (ap Ok c.in-Ok-None.field-0-is)
     c.loop-event.invariant.taken c.in-Ok-None.ensures.takes)
 
@@ -203,6 +203,6 @@ returns-in_err-status-in-Ok-Some-clause-handed_of g c =
     (passed g (goal.at.returns-in_err-status-in-Ok-Some-clause-handed_of g c).After-print_event)
     (c.loop-event.invariant.printed None)
     (goes-same _ _ _ _ _ _ (Ok (Some c.in-Ok-Some.event)) c.loop-event.invariant.file.same_bytes c.loop-event.invariant.not_kept (ap Ok c.in-Ok-Some.field-0-is) c.in-Ok-Some.ensures.goes_on.past)
-    (called-on _ _ (progress_of c.loop-event.walker).keep false 0 (progress_of c.loop-event.walker).place (progress_of c.next.new.self).place _
+    (called-on _ _ (progress_of c.loop-event.walker).unread_ok false 0 (progress_of c.loop-event.walker).place (progress_of c.next.new.self).place _
     (Some c.in-Ok-Some.event) _ _ _ c.loop-event.invariant.file.same_bytes c.loop-event.invariant.not_kept (ap Ok c.in-Ok-Some.field-0-is)
     c.loop-event.invariant.taken c.in-Ok-Some.ensures.takes)

@@ -14,7 +14,7 @@ use Rattle.recover_command.proofs.recovering.print_events.Given as goal
 abbrev pub invariant-loop-event : goal.invariant-loop-event
 invariant-loop-event g l = record {
   same_size : (progress_of l.walker).size ≡ l.fn.size;
-  not_kept : (progress_of l.walker).keep ≡ false;
+  not_kept : (progress_of l.walker).unread_ok ≡ false;
   decodes : (progress_of l.walker).decodes ≡ true;
   going : (progress_of l.walker).stopped ≡ None;
   same_test : test_of l.walker ≡ test_of l.initial.walker;

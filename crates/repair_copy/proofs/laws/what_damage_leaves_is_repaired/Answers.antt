@@ -1,9 +1,9 @@
-use Rattle.repair_copy.proofs.LeftChunks.{left_chunks, chunks_left, frame_left}
+use Rattle.repair_copy.proofs.LeftChunks.{left_chunks, chunks_left, well_formed_left}
 use Rattle.repair_copy.proofs.laws.what_damage_leaves_is_repaired.Goals as goal
 
 pub returns : goal.returns
 returns c = record {
-  left = λ keep ks intact j to pieces is framed. left_chunks keep ks intact framed j to pieces is;
+  left = λ unread_ok ks intact j to pieces is formed. left_chunks unread_ok ks intact formed j to pieces is;
   whole = chunks_left;
-  frame = frame_left;
+  well_formed = well_formed_left;
 }

@@ -6,5 +6,5 @@ pub returns : goal.returns
 returns c = record {
   chunks = whole_chunks;
   plain = whole_plain;
-  frame = λ ks file pieces whole active h. whole_zero true ks file pieces whole active h;
+  well_formed = λ ks file pieces whole active h. whole_zero true ks file pieces whole active h;
 }

@@ -44,7 +44,7 @@ loop-event-init g c =
     let front = front-judging c.args.size true c.new.result c.judging-walker.result c.new.ensures.begins c.judging-walker.ensures in
     record {
       same_size = front.size_is;
-      keeps = front.keep_is;
+      keeps = front.unread_ok_is;
       going_on = front.going;
       same_test = judging-test _ _ c.judging-walker.ensures ∙ c.new.ensures.test;
       stands = front-stands _ _ c.args.size true false _ front c.requires.sized;
@@ -73,11 +73,11 @@ returns-in_err-put-in-Ok-Some-clause-copies g c =
     let at = (goal.at.returns-in_err-put-in-Ok-Some-clause-copies g c).In-Ok-Some in
     let kept = c.loop-event.invariant in
     let p = err_from_is_err_and c.from_residual.result c.from_residual.ensures.1 in
-    cut_within g.F.Fn c.args.policy.test _ _ c.loop-event.walker.progress.keep c.loop-event.walker.progress.place c.next.new.self.progress.place kept.store.same_bytes kept.keeps
+    cut_within g.F.Fn c.args.policy.test _ _ c.loop-event.walker.progress.unread_ok c.loop-event.walker.progress.place c.next.new.self.progress.place kept.store.same_bytes kept.keeps
     c.loop-event.copied _ _ _ _ (piece_of c.in-Ok-Some.event) c.in_err-put-in-Ok-Some.field-0.0 c.from_residual.result _ (p.1 ∙ ap Err p.2) kept.copied (on g at).past
     (allowed g at)
     c.in_err-put-in-Ok-Some.ensures.copies
-    (called-on _ _ c.loop-event.walker.progress.keep true 0 c.loop-event.walker.progress.place c.next.new.self.progress.place _
+    (called-on _ _ c.loop-event.walker.progress.unread_ok true 0 c.loop-event.walker.progress.place c.next.new.self.progress.place _
     (Some c.in-Ok-Some.event) _ _ _ kept.store.same_bytes kept.keeps (ap Ok c.in-Ok-Some.field-0-is) kept.taken c.in-Ok-Some.ensures.takes)
 
 pub returns-in_err-put-in-Ok-Some-clause-skips : goal.returns-in_err-put-in-Ok-Some-clause-skips
@@ -97,7 +97,7 @@ copied : (g : _) (c : In_ok-put-in-Ok-Some g)
     (taken_by (g.M.Sink.taken c.put.new.made) None (g.E.Sink.taken c.put.new.notes)))
 copied g c on allowed =
     let kept = c.loop-event.invariant in
-    walked_next _ _ _ _ c.loop-event.walker.progress.keep c.loop-event.walker.progress.place c.next.new.self.progress.place kept.store.same_bytes kept.keeps
+    walked_next _ _ _ _ c.loop-event.walker.progress.unread_ok c.loop-event.walker.progress.place c.next.new.self.progress.place kept.store.same_bytes kept.keeps
     c.loop-event.copied c.put.new.self _ _ _ (piece_of c.in-Ok-Some.event) kept.copied on.past
     allowed c.in_ok-put-in-Ok-Some.ensures.copies
 
@@ -139,7 +139,7 @@ preserved : (g : _) (c : In_ok-put-in-Ok-Some g)
     → AllByRecursion (IsAllowedRegion g.F.Fn c.args.policy.test) (regions_of c.in-Ok-Some.event)
     → record {
       same_size : c.next.new.self.progress.size ≡ c.args.size;
-      keeps : c.next.new.self.progress.keep ≡ true;
+      keeps : c.next.new.self.progress.unread_ok ≡ true;
       going_on : c.next.new.self.progress.stopped ≡ None;
       same_test : c.next.new.self.policy.test ≡ c.args.policy.test;
       stands : StandsIn (g.S.Store.bytes c.next.new.store) (g.S.Store.told c.next.new.store) c.next.new.self.progress;
@@ -163,7 +163,7 @@ preserved g c given on passed =
     let e = c.in-Ok-Some.ensures in
     record {
       same_size = e.goes_on.same_size ∙ kept.same_size;
-      keeps = e.goes_on.same_keep ∙ kept.keeps;
+      keeps = e.goes_on.same_unread_ok ∙ kept.keeps;
       going_on = on.stopped;
       same_test = e.same_test ∙ kept.same_test;
       stands = subst (λ (told : Option ℕ). StandsIn (g.S.Store.bytes c.next.new.store) told c.next.new.self.progress) (sym e.store.same_told)
@@ -176,7 +176,7 @@ preserved g c given on passed =
       small = small g c given.bounds;
       few = few g c given.bounds;
       store = search rules;
-      taken = called-on _ _ c.loop-event.walker.progress.keep true 0 c.loop-event.walker.progress.place c.next.new.self.progress.place _
+      taken = called-on _ _ c.loop-event.walker.progress.unread_ok true 0 c.loop-event.walker.progress.place c.next.new.self.progress.place _
           (Some c.in-Ok-Some.event) _ _ _ kept.store.same_bytes kept.keeps (ap Ok c.in-Ok-Some.field-0-is) kept.taken e.takes;
       made = search rules;
       notes = search rules;
@@ -199,14 +199,14 @@ loop-event-preserved g c =
 
 -- where the walk has come to without a further event
 ended : (g : _) (c : After-next g)
-    → IfSome (g.S.Store.bytes c.loop-event.store) (λ file. GoesOn c.loop-event.walker.progress.keep file c.loop-event.walker.progress.place
+    → IfSome (g.S.Store.bytes c.loop-event.store) (λ file. GoesOn c.loop-event.walker.progress.unread_ok file c.loop-event.walker.progress.place
     c.next.new.self.progress.place [])
     → IfSome (g.S.Store.bytes c.args.store.now) (HasWalked g.F.Fn c.args.policy.test c.next.new.self.progress.place c.loop-event.copied
     (taken_by (g.M.Sink.taken c.args.made.now) None (g.E.Sink.taken c.args.notes.now))
     (taken_by (g.M.Sink.taken c.loop-event.made) None (g.E.Sink.taken c.loop-event.notes)))
 ended g c none =
     let kept = c.loop-event.invariant in
-    walked_to_end _ _ _ _ c.loop-event.walker.progress.keep c.loop-event.walker.progress.place c.next.new.self.progress.place kept.store.same_bytes kept.keeps
+    walked_to_end _ _ _ _ c.loop-event.walker.progress.unread_ok c.loop-event.walker.progress.place c.next.new.self.progress.place kept.store.same_bytes kept.keeps
     c.loop-event.copied _ _ kept.copied none
 
 -- what the store shows has as many bytes as was told
@@ -220,10 +220,10 @@ returns-in-Ok-None-clause-copies g c =
     let kept = c.loop-event.invariant in
     walk_ended g.F.Fn c.args.policy.test _ c.next.new.self.progress.place c.loop-event.copied _ _ None _
     (ended g at (rw c.in-Ok-None.field-0-is at c.in-Ok-None.ensures.goes_on).past)
-    (ends_at_end g.F.Fn c.args.policy.test _ _ c.loop-event.walker.progress.keep c.loop-event.walker.progress.place c.next.new.self.progress.place kept.store.same_bytes kept.keeps
+    (ends_at_end g.F.Fn c.args.policy.test _ _ c.loop-event.walker.progress.unread_ok c.loop-event.walker.progress.place c.next.new.self.progress.place kept.store.same_bytes kept.keeps
     c.loop-event.walker.progress.size (sized g at) (c.in-Ok-None.ensures.ended (ap Ok c.in-Ok-None.field-0-is)))
     (taken-passed _ c.next.new.self.progress.place _
-    (called-on _ _ c.loop-event.walker.progress.keep true 0 c.loop-event.walker.progress.place c.next.new.self.progress.place _ None _ _ _
+    (called-on _ _ c.loop-event.walker.progress.unread_ok true 0 c.loop-event.walker.progress.place c.next.new.self.progress.place _ None _ _ _
     kept.store.same_bytes kept.keeps (ap Ok c.in-Ok-None.field-0-is) kept.taken c.in-Ok-None.ensures.takes))
 
 -- where the walk stops, at a region that the test can refuse
@@ -239,11 +239,11 @@ there g c sized region is =
     let kept = c.loop-event.invariant in
     let e = c.in-Err.ensures in
     let stop = refused g c region is in
-    ends_at_region g.F.Fn c.args.policy.test _ _ c.next.new.self.progress.keep c.loop-event.walker.progress.place c.next.new.self.progress.place kept.store.same_bytes
-    (e.goes_on.same_keep ∙ kept.keeps) c.loop-event.walker.progress.size region sized
+    ends_at_region g.F.Fn c.args.policy.test _ _ c.next.new.self.progress.unread_ok c.loop-event.walker.progress.place c.next.new.self.progress.place kept.store.same_bytes
+    (e.goes_on.same_unread_ok ∙ kept.keeps) c.loop-event.walker.progress.size region sized
     (subst (λ (size : ℕ). IsStop size c.next.new.self.progress.place region) e.goes_on.same_size stop.stop)
     (subst (λ (stopped : Option Region). IfSome (g.S.Store.bytes c.loop-event.store) (λ file.
-    IsStoppedAt c.next.new.self.progress.keep file c.next.new.self.progress.place stopped))
+    IsStoppedAt c.next.new.self.progress.unread_ok file c.next.new.self.progress.place stopped))
     (e.goes_on.stopped ∙ ap stop_of (ap Err is)) e.stands.stopped_there)
     stop.refused
 
@@ -253,9 +253,9 @@ returns-in-Err-clause-copies g c =
     let kept = c.loop-event.invariant in
     walk_ended g.F.Fn c.args.policy.test _ c.next.new.self.progress.place c.loop-event.copied _ _ (Some c.in-Err.end) _
     (ended g at.After-next c.in-Err.ensures.goes_on.past)
-    (ends_with g.F.Fn c.args.policy.test _ _ c.loop-event.walker.progress.keep c.loop-event.walker.progress.place c.next.new.self.progress.place kept.store.same_bytes kept.keeps
+    (ends_with g.F.Fn c.args.policy.test _ _ c.loop-event.walker.progress.unread_ok c.loop-event.walker.progress.place c.next.new.self.progress.place kept.store.same_bytes kept.keeps
     c.in-Err.end (λ is. c.in-Err.ensures.memory (ap Err is)) (there g at.In-Err (sized g at.After-next)))
-    (called-to _ _ c.loop-event.walker.progress.keep true 0 c.loop-event.walker.progress.place c.next.new.self.progress.place _ c.in-Err.end _ _ _
+    (called-to _ _ c.loop-event.walker.progress.unread_ok true 0 c.loop-event.walker.progress.place c.next.new.self.progress.place _ c.in-Err.end _ _ _
     kept.store.same_bytes kept.keeps refl kept.taken c.in-Err.ensures.takes)
 
 pub returns-in-Err-clause-stop : goal.returns-in-Err-clause-stop

@@ -10,7 +10,7 @@ use Rattle.repair_copy.proofs.repairs.copy_walk.Given as goal
 abbrev pub invariant-loop-event : goal.invariant-loop-event
 invariant-loop-event g l = record {
   same_size : l.walker.progress.size ≡ l.fn.size;
-  keeps : l.walker.progress.keep ≡ true;
+  keeps : l.walker.progress.unread_ok ≡ true;
   going_on : l.walker.progress.stopped ≡ None;
   same_test : l.walker.policy.test ≡ l.fn.policy.test;
   stands : StandsIn (g.S.Store.bytes l.store) (g.S.Store.told l.store) l.walker.progress;

@@ -1,8 +1,8 @@
 use Rattle.std.proofs.Common.{◌≡◌, ℕ, true, Some, List, subst}
 use Rattle.std.specs.Prelude.{MatchOption, Option}
-use Rattle.meta_chunk.specs.Files.{IsFrame}
+use Rattle.meta_chunk.specs.Files.{IsWellFormed}
 use Rattle.chunk_reader.specs.Faults.{IsFault}
-use Rattle.chunk_reader.specs.Fronts.{IsFrontOf}
+use Rattle.chunk_reader.specs.LongestFronts.{IsFrontOf}
 use Rattle.chunk_reader.specs.declared.reasons.Fault.{Fault}
 use Rattle.chunk_reader.specs.declared.verifying.Front.{Front}
 use Rattle.chunk_reader.proofs.FileFaults.{fault_or_none}
@@ -12,7 +12,7 @@ use Rattle.riegeli_c.proofs.reading.riegeli_verify.Goals as goal
 -- the fault of a front that ends at one
 fault_of : (file : List ℕ) (front : Front) (fault : Fault) → IsFrontOf file front → front.fault ≡ Some fault → IsFault true file fault
 fault_of file front fault is same =
-    subst (λ (o : Option Fault). MatchOption o (IsFrame is.ks file) (IsFault true file)) same is.fault
+    subst (λ (o : Option Fault). MatchOption o (IsWellFormed is.ks file) (IsFault true file)) same is.fault
 
 pub returns-in-Some-clause-refused : goal.returns-in-Some-clause-refused
 returns-in-Some-clause-refused c = λ _. (

@@ -1,5 +1,5 @@
 use Rattle.std.proofs.Common.{Err, ap}
-use Rattle.chunk_reader.specs.Searches.{IsSearchFault}
+use Rattle.chunk_reader.specs.PositionSearches.{IsSearchFault}
 use Rattle.riegeli_c.proofs.Told.{shown}
 use Rattle.riegeli_c.proofs.seeking.riegeli_seek.Goals as goal
 

@@ -3,7 +3,7 @@ use Rattle.record_io.specs.Puts.{taken_by}
 use Rattle.record_values.specs.declared.file_totals.Totals.{Totals}
 use Rattle.chunk_reader.specs.declared.reasons.Fault.{Fault}
 use Rattle.command_frame.specs.declared.ending.Ending.{Ending}
-use Rattle.command_frame.specs.Endings.{IsShort}
+use Rattle.command_frame.specs.Endings.{CutsReadingOff}
 use Rattle.show_command.specs.ShowProgress.{PrintsOn}
 use Rattle.command_frame.proofs.PutSoFar.{IsErrAnd-same}
 use Rattle.show_command.proofs.ShowSteps.{reads-none, reads-on, printed-none, printed-on, printed-ended, printed-so_far}
@@ -13,10 +13,10 @@ use Rattle.show_command.proofs.showing.print_chunks.Goals.{After-print_next}
 pub loop-init : goal.loop-init
 loop-init g c = record {
   same_size = c.new-reader.ensures.size;
-  strict = c.new-reader.ensures.keep;
+  strict = c.new-reader.ensures.unread_ok;
   within = omega (arith, ap (λ (t : Totals). t.bytes) c.new-reader.ensures.totals);
   file = search rules;
-  reads = reads-none _ _ c.args.size _ c.requires.sized.is_told c.requires.sized.in_reach c.new-reader.ensures.size c.new-reader.ensures.keep c.new-reader.ensures.at_front;
+  reads = reads-none _ _ c.args.size _ c.requires.sized.is_told c.requires.sized.in_reach c.new-reader.ensures.size c.new-reader.ensures.unread_ok c.new-reader.ensures.at_front;
   printed = λ made notes. printed-none c.args.words.now _ _ _ _ c.new-reader.ensures.totals c.requires.none_held;
   handed = omega arith;
   out = search rules;
@@ -42,7 +42,7 @@ of_answer g c known is made notes =
 pub loop-preserved : goal.loop-preserved
 loop-preserved g c = record {
   same_size = c.in_ok-print_next.ensures.goes_on.same_size ∙ c.loop.invariant.same_size;
-  strict = c.in_ok-print_next.ensures.goes_on.same_keep ∙ c.loop.invariant.strict;
+  strict = c.in_ok-print_next.ensures.goes_on.same_unread_ok ∙ c.loop.invariant.strict;
   within = c.in_ok-print_next.ensures.goes_on.totals.within;
   file = search rules;
   reads = reads-on _ _ _ _ c.loop.reader _ c.in_ok-print_next.ensures.file.asks.same_bytes c.in_ok-print_next.ensures.file.asks.same_told c.loop.invariant.reads
@@ -66,7 +66,7 @@ returns-in_err-print_next-clause-printed g c = λ made notes.
 
 pub returns-in_err-print_next-clause-so_far : goal.returns-in_err-print_next-clause-so_far
 returns-in_err-print_next-clause-so_far g c = λ short made notes.
-    let passed = IsErrAnd-same IsShort _ c.from_residual.result c.from_residual.ensures.1 short in
+    let passed = IsErrAnd-same CutsReadingOff _ c.from_residual.result c.from_residual.ensures.1 short in
     printed-so_far c.args.words.now _ _ c.loop.reader.totals _ made _ _ notes _ _ _ _ _ c.loop.invariant.file.same_bytes
     (ap g.O.Sink.taken (c.in_err-print_next.ensures.unput passed).same_out) (c.in_err-print_next.ensures.unput passed).same_lines c.loop.invariant.handed
     c.in_err-print_next.ensures.read_to (c.loop.invariant.printed made notes)

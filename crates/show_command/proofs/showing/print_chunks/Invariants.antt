@@ -8,7 +8,7 @@ use Rattle.show_command.proofs.showing.print_chunks.Given as goal
 abbrev pub invariant-loop : goal.invariant-loop
 invariant-loop g l = record {
   same_size : l.reader.size ≡ l.fn.size;
-  strict : l.reader.keep ≡ false;
+  strict : l.reader.unread_ok ≡ false;
   within : l.reader.totals.bytes ≤ l.reader.size;
   file : OnlyAsks g.S.Store.bytes g.S.Store.told g.S.Store.name g.S.Store.faults ⊥ l.fn.file l.file;
   reads : ReadsIn (g.S.Store.bytes l.file) (g.S.Store.told l.file) l.reader;

@@ -22,7 +22,7 @@ stands g c =
     record {
       size = search rules;
       in_reach = search rules;
-      met = met_on _ from.keep c.loop-self.self.progress.keep from.place c.loop-self.self.progress.place [] kept.on.same_keep c.requires.may.stands.met kept.on.past;
+      met = met_on _ from.unread_ok c.loop-self.self.progress.unread_ok from.place c.loop-self.self.progress.place [] kept.on.same_unread_ok c.requires.may.stands.met kept.on.past;
       stopped_there = search rules;
     }
 
@@ -38,21 +38,21 @@ sized g c =
 -- past the piece there, with what is told of it
 past : (g : _) (c : After-event g) (told : Option Event) → c.event.result ≡ told
     → IfSome (g.S.Store.bytes c.args.store.now) (λ file.
-    GoesOn c.args.self.now.progress.keep file c.args.self.now.progress.place c.in_ok-piece.piece.end (events_told told))
+    GoesOn c.args.self.now.progress.unread_ok file c.args.self.now.progress.place c.in_ok-piece.piece.end (events_told told))
 past g c told is =
     let from = c.args.self.now.progress in
     let at = c.loop-self.self.progress in
     let kept = c.loop-self.invariant in
     let sized : IsSized (g.S.Store.bytes c.args.store.now) (Some from.size) =
     subst (IsSized (g.S.Store.bytes c.args.store.now)) c.requires.may.stands.size (g.met.S.Store.sized c.args.store.now) in
-    subst (λ (o : Option Event). IfSome (g.S.Store.bytes c.args.store.now) (λ file. GoesOn from.keep file from.place c.in_ok-piece.piece.end (events_told o))) is
-    (passes _ _ from.keep at.keep from.size from.place at.place at.decodes c.in_ok-piece.piece c.event.result kept.asks.same_bytes kept.on.same_keep sized
+    subst (λ (o : Option Event). IfSome (g.S.Store.bytes c.args.store.now) (λ file. GoesOn from.unread_ok file from.place c.in_ok-piece.piece.end (events_told o))) is
+    (passes _ _ from.unread_ok at.unread_ok from.size from.place at.place at.decodes c.in_ok-piece.piece c.event.result kept.asks.same_bytes kept.on.same_unread_ok sized
     (omega (arith, c.loop-self-test.true, kept.on.same_size)) kept.on.past c.in_ok-piece.ensures.sound c.in_ok-piece.ensures.piece.intact
     (sym {b = event_of at.place c.in_ok-piece.piece} c.event.ensures))
 
 -- what was taken past the piece there
 taken : (g : _) (c : In_ok-piece g) → IfSome (g.S.Store.bytes c.args.store.now) (λ file.
-    IsTakenFrom c.args.self.now.progress.keep file c.args.self.now.progress.place c.in_ok-piece.piece.end
+    IsTakenFrom c.args.self.now.progress.unread_ok file c.args.self.now.progress.place c.in_ok-piece.piece.end
     (g.S.Store.handed c.piece_at.new.store - g.S.Store.handed c.args.store.now))
 taken g c =
     let from = c.args.self.now.progress in
@@ -60,7 +60,7 @@ taken g c =
     let kept = c.loop-self.invariant in
     let sized : IsSized (g.S.Store.bytes c.args.store.now) (Some from.size) =
     subst (IsSized (g.S.Store.bytes c.args.store.now)) c.requires.may.stands.size (g.met.S.Store.sized c.args.store.now) in
-    taken-past _ _ from.keep at.keep from.size from.place at.place c.in_ok-piece.piece _ _ _ kept.asks.same_bytes kept.on.same_keep sized
+    taken-past _ _ from.unread_ok at.unread_ok from.size from.place at.place c.in_ok-piece.piece _ _ _ kept.asks.same_bytes kept.on.same_unread_ok sized
     (omega (arith, c.loop-self-test.true, kept.on.same_size)) kept.taken c.in_ok-piece.ensures.sound c.in_ok-piece.ensures.takes
 
 pub returns-in_err-piece-clause-stands : goal.returns-in_err-piece-clause-stands
@@ -83,7 +83,7 @@ returns-in-Some-refused-clause-stands g c =
       size = before.size;
       in_reach = before.in_reach;
       met = before.met;
-      stopped_there = stops_there _ _ at.keep at.keep at.size at.place c.in_ok-piece.piece c.in-Some-refused.region c.loop-self.invariant.asks.same_bytes refl
+      stopped_there = stops_there _ _ at.unread_ok at.unread_ok at.size at.place c.in_ok-piece.piece c.in-Some-refused.region c.loop-self.invariant.asks.same_bytes refl
           (sized g here.At-loop-self) c.loop-self-test.true c.in_ok-piece.ensures.sound stop.0 stop.1 stop.2;
     }
 
@@ -91,7 +91,7 @@ pub returns-in-Some-event-clause-goes_on : goal.returns-in-Some-event-clause-goe
 returns-in-Some-event-clause-goes_on g c =
     record {
       same_size = search rules;
-      same_keep = search rules;
+      same_unread_ok = search rules;
       same_decodes = search rules;
       rises = search rules;
       past = past g (goal.at.returns-in-Some-event-clause-goes_on g c).After-event (Some c.in-Some-event.event) c.in-Some-event.is;
@@ -106,8 +106,8 @@ returns-in-Some-event-clause-stands g c =
     record {
       size = before.size;
       in_reach = before.in_reach;
-      met = met_on _ from.keep c.loop-self.self.progress.keep from.place c.in_ok-piece.piece.end (piece_of c.in-Some-event.event ∷ [])
-          c.loop-self.invariant.on.same_keep c.requires.may.stands.met (past g at.After-event (Some c.in-Some-event.event) c.in-Some-event.is);
+      met = met_on _ from.unread_ok c.loop-self.self.progress.unread_ok from.place c.in_ok-piece.piece.end (piece_of c.in-Some-event.event ∷ [])
+          c.loop-self.invariant.on.same_unread_ok c.requires.may.stands.met (past g at.After-event (Some c.in-Some-event.event) c.in-Some-event.is);
       stopped_there = search rules;
     }
 
@@ -118,7 +118,7 @@ loop-self-preserved g c =
     record {
       on = record {
         same_size = kept.on.same_size;
-        same_keep = kept.on.same_keep;
+        same_unread_ok = kept.on.same_unread_ok;
         same_decodes = kept.on.same_decodes;
         rises = omega (arith, kept.on.rises, given.piece.onward.past);
         past = past g (goal.at.loop-self-preserved g c).After-event None (cc);
@@ -139,10 +139,10 @@ returns-in-Some-clause-remains g c =
     subst (IsSized (g.S.Store.bytes c.args.store.now)) c.requires.may.stands.size (g.met.S.Store.sized c.args.store.now) in
     in_remains _ _ _ at at _ sized c.requires.may.stands c.requires.may.stands (record {
       same_size = refl;
-      same_keep = refl;
+      same_unread_ok = refl;
       same_decodes = refl;
       rises = omega arith;
-      past = stays_told _ at.keep at.place;
+      past = stays_told _ at.unread_ok at.place;
       stopped = search rules;
     })
     (λ none. cc)
@@ -159,7 +159,7 @@ returns-in-Some-refused-clause-remains g c =
     let on = c.loop-self.invariant.on in
     in_remains _ _ _ c.args.self.now.progress _ _ (sized_before g (goal.at.returns-in-Some-refused-clause-remains g c).At-loop-self)
     c.requires.may.stands (returns-in-Some-refused-clause-stands g c)
-    (record { same_size = on.same_size; same_keep = on.same_keep; same_decodes = on.same_decodes; rises = on.rises; past = on.past; stopped = refl }) (λ none. cc)
+    (record { same_size = on.same_size; same_unread_ok = on.same_unread_ok; same_decodes = on.same_decodes; rises = on.rises; past = on.past; stopped = refl }) (λ none. cc)
 
 pub returns-in-Some-event-clause-remains : goal.returns-in-Some-event-clause-remains
 returns-in-Some-event-clause-remains g c =
@@ -176,10 +176,10 @@ pub loop-self-init : goal.loop-self-init
 loop-self-init g c =
     let at = c.args.self.now.progress in
     record {
-      on = record { same_size = refl; same_keep = refl; same_decodes = refl; rises = omega arith; past = stays_told _ at.keep at.place; stopped = first_of (search rules, grind (arith, common_steps)) };
+      on = record { same_size = refl; same_unread_ok = refl; same_decodes = refl; rises = omega arith; past = stays_told _ at.unread_ok at.place; stopped = first_of (search rules, grind (arith, common_steps)) };
       same_policy = first_of (search rules, grind (arith, common_steps));
       asks = first_of (search rules, grind (arith, common_steps));
-      taken = taken-start _ at.keep at.place _ (omega arith);
+      taken = taken-start _ at.unread_ok at.place _ (omega arith);
     }
 
 pub returns-in-Some-clause-takes : goal.returns-in-Some-clause-takes
@@ -187,7 +187,7 @@ returns-in-Some-clause-takes g c =
     let at = c.args.self.now.progress in
     let sized : IsSized (g.S.Store.bytes c.args.store.now) (Some at.size) =
     subst (IsSized (g.S.Store.bytes c.args.store.now)) c.requires.may.stands.size (g.met.S.Store.sized c.args.store.now) in
-    taken-still _ at.keep at.size at.place _ sized at.within (omega arith)
+    taken-still _ at.unread_ok at.size at.place _ sized at.within (omega arith)
 
 pub returns-in_err-piece-clause-takes : goal.returns-in_err-piece-clause-takes
 returns-in_err-piece-clause-takes g c =
@@ -195,15 +195,15 @@ returns-in_err-piece-clause-takes g c =
     let from = c.args.self.now.progress in
     let at = c.loop-self.self.progress in
     subst (λ (r : Result (Option Event) WalkEnd). IfSome (g.S.Store.bytes c.args.store.now) (λ file.
-    TakesByCall from.keep file from.place at.place r (g.S.Store.handed c.piece_at.new.store - g.S.Store.handed c.args.store.now))) (sym p.1)
-    (taken-to _ _ from.keep from.place at.place _ _ _ c.loop-self.invariant.asks.same_bytes c.loop-self.invariant.taken
+    TakesByCall from.unread_ok file from.place at.place r (g.S.Store.handed c.piece_at.new.store - g.S.Store.handed c.args.store.now))) (sym p.1)
+    (taken-to _ _ from.unread_ok from.place at.place _ _ _ c.loop-self.invariant.asks.same_bytes c.loop-self.invariant.taken
     c.in_err-piece.ensures.takes)
 
 pub returns-in-Some-refused-clause-takes : goal.returns-in-Some-refused-clause-takes
 returns-in-Some-refused-clause-takes g c =
     let from = c.args.self.now.progress in
     let at = c.loop-self.self.progress in
-    taken-to _ _ from.keep from.place at.place _ _ _ c.loop-self.invariant.asks.same_bytes c.loop-self.invariant.taken
+    taken-to _ _ from.unread_ok from.place at.place _ _ _ c.loop-self.invariant.asks.same_bytes c.loop-self.invariant.taken
     (taken_at _ at.place _ c.in_ok-piece.ensures.takes)
 
 pub returns-in-Some-event-clause-takes : goal.returns-in-Some-event-clause-takes

@@ -10,7 +10,7 @@ invariant-loop-self g l = record {
   same_policy : l.self.policy ≡ l.fn.self.policy;
   asks : OnlyAsks g.S.Store.bytes g.S.Store.told g.S.Store.name g.S.Store.faults ⊥ l.fn.store l.store;
   taken : IfSome (g.S.Store.bytes l.fn.store) (λ file.
-      IsTakenFrom l.fn.self.progress.keep file l.fn.self.progress.place l.self.progress.place (g.S.Store.handed l.store - g.S.Store.handed l.fn.store));
+      IsTakenFrom l.fn.self.progress.unread_ok file l.fn.self.progress.place l.self.progress.place (g.S.Store.handed l.store - g.S.Store.handed l.fn.store));
 }
 
 abbrev pub decreases-loop-self : goal.decreases-loop-self

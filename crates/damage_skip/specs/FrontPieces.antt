@@ -15,10 +15,11 @@ IsCutAt ks count m cut =
     × (cut ≡ record { begin = begin_of ks count; end = m; what = Skipped reason } ∷ []))
 
 -- the pieces of the front of a file of chunks up to a place: those of the chunks that it has whole, and of the one that is cut
-pub record AreFrontPieces (keep : Bool) (ks : List ChunkValue) (file : List ℕ) (m : ℕ) (pieces : List Piece) : Type 0 where
+pub record AreFrontPieces (unread_ok : Bool) (ks : List ChunkValue) (file : List ℕ)
+    (m : ℕ) (pieces : List Piece) : Type 0 where
   pub count : ℕ
   pub front : List Piece
-  pub whole : AreTiles keep file 0 (begin_of ks count) front
+  pub whole : AreTiles unread_ok file 0 (begin_of ks count) front
   pub cut : List Piece
   pub cut_there : IsCutAt ks count m cut
   pub are : pieces ≡ front ++ cut

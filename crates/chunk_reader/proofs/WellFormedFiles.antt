@@ -6,11 +6,11 @@ use Rattle.std.proofs.lemmas.Option.{none-some}
 use Rattle.chunk_header.specs.Chunks.{ChunkValue}
 use Rattle.chunk_header.specs.SimpleChunks.{IsCompressed}
 use Rattle.meta_chunk.specs.Laid.{IsLaid}
-use Rattle.meta_chunk.specs.Files.{IsPlain, IsFramed, IsUnread, IsTransposed, IsChainOf, IsFile, IsFrame, begin_of}
+use Rattle.meta_chunk.specs.Files.{IsPlain, IsWellFormedChunk, IsUnread, IsTransposed, IsChainOf, IsReadable, IsWellFormed, begin_of}
 use Rattle.meta_chunk.proofs.LaidChunks.{end_of_chunk_after}
 use Rattle.meta_chunk.proofs.Begins.{IsLaid-in_file}
 use Rattle.meta_chunk.proofs.Chains.{IsChainOf-take, IsChainOf-weaker, AreLaid-one}
-use Rattle.meta_chunk.proofs.OneLaying.{IsFile-plain}
+use Rattle.meta_chunk.proofs.OneLaying.{IsReadable-plain}
 use Rattle.chunk_reader.specs.Places.{chunk_at}
 use Rattle.chunk_reader.specs.Reasons.{Applies, IsFirstOf, strict_reasons}
 use Rattle.chunk_reader.specs.Faults.{IsVerdict, IsLongest, BeginsWithSignature, IsFault}
@@ -24,26 +24,26 @@ use Rattle.chunk_reader.proofs.ChainSteps.{longest_where_refused}
 use Rattle.chunk_reader.proofs.FileFaults.{longest_is_one}
 
 -- a chain of plain chunks is one of a frame, and a chain of a frame in which all are plain is one of plain chunks
-pub plain_of_frame : (ks : List ChunkValue) (file : List ℕ) (place : ℕ) → IsChainOf IsFramed ks file place → AllByRecursion IsPlain ks
+pub plain_of_well_formed : (ks : List ChunkValue) (file : List ℕ) (place : ℕ) → IsChainOf IsWellFormedChunk ks file place → AllByRecursion IsPlain ks
     → IsChainOf IsPlain ks file place
-plain_of_frame ks file place h plain = record { signed = h.signed; each = plain; within = h.within; laid = h.laid }
+plain_of_well_formed ks file place h plain = record { signed = h.signed; each = plain; within = h.within; laid = h.laid }
 
-pub frame_of_plain : (ks : List ChunkValue) (file : List ℕ) (place : ℕ) → IsChainOf IsPlain ks file place → IsChainOf IsFramed ks file place
-frame_of_plain ks file place h = IsChainOf-weaker (λ k plain. inl plain) h
+pub well_formed_of_plain : (ks : List ChunkValue) (file : List ℕ) (place : ℕ) → IsChainOf IsPlain ks file place → IsChainOf IsWellFormedChunk ks file place
+well_formed_of_plain ks file place h = IsChainOf-weaker (λ k plain. inl plain) h
 
-pub file_of_frame : (ks : List ChunkValue) (file : List ℕ) → (IsFrame ks file × AllByRecursion IsPlain ks) ↔ IsFile ks file
-file_of_frame ks file = (
-  λ h. (h.0.0, plain_of_frame ks file (length file) h.0.1 h.1),
-  λ h. ((h.0, frame_of_plain ks file (length file) h.1), h.1.each),
+pub readable_of_well_formed : (ks : List ChunkValue) (file : List ℕ) → (IsWellFormed ks file × AllByRecursion IsPlain ks) ↔ IsReadable ks file
+readable_of_well_formed ks file = (
+  λ h. (h.0.0, plain_of_well_formed ks file (length file) h.0.1 h.1),
+  λ h. ((h.0, well_formed_of_plain ks file (length file) h.1), h.1.each),
 )
 
 -- a file of frames has one list of chunks
-pub frame_is_one : (ks ls : List ChunkValue) (file : List ℕ) → IsFrame ks file → IsFrame ls file → ks ≡ ls
-frame_is_one ks ls file h g = AreLaid-one ks ls file (length file) h.1.within h.1.laid g.1.laid
+pub well_formed_is_one : (ks ls : List ChunkValue) (file : List ℕ) → IsWellFormed ks file → IsWellFormed ls file → ks ≡ ls
+well_formed_is_one ks ls file h g = AreLaid-one ks ls file (length file) h.1.within h.1.laid g.1.laid
 
 -- and plain chunks have one file
-pub file_is_one : (ks : List ChunkValue) (a b : List ℕ) → IsFile ks a → IsFile ks b → a ≡ b
-file_is_one ks a b h g = IsFile-plain ks a h ∙ sym (IsFile-plain ks b g)
+pub file_is_one : (ks : List ChunkValue) (a b : List ℕ) → IsReadable ks a → IsReadable ks b → a ≡ b
+file_is_one ks a b h g = IsReadable-plain ks a h ∙ sym (IsReadable-plain ks b g)
 
 -- chains up to one place have the same chunks
 pub chain_is_one : {P : ChunkValue → Type 0} (ks ls : List ChunkValue) (file : List ℕ) (place : ℕ)
@@ -51,11 +51,11 @@ pub chain_is_one : {P : ChunkValue → Type 0} (ks ls : List ChunkValue) (file :
 chain_is_one ks ls file place h g = AreLaid-one ks ls file place h.within h.laid g.laid
 
 -- a longest chain of frames in which all are plain is a longest chain of plain chunks
-pub longest_plain : (ks : List ChunkValue) (file : List ℕ) (place : ℕ) → IsLongest IsFramed ks file place → AllByRecursion IsPlain ks
+pub longest_plain : (ks : List ChunkValue) (file : List ℕ) (place : ℕ) → IsLongest IsWellFormedChunk ks file place → AllByRecursion IsPlain ks
     → IsLongest IsPlain ks file place
 longest_plain ks file place h plain = record {
-  chain = plain_of_frame ks file place h.chain plain;
-  greatest = λ others other longer. h.greatest others other (frame_of_plain others file other longer);
+  chain = plain_of_well_formed ks file place h.chain plain;
+  greatest = λ others other longer. h.greatest others other (well_formed_of_plain others file other longer);
 }
 
 -- a chunk of no name is neither compressed nor transposed
@@ -101,7 +101,7 @@ verdict_strict file place fault (first, at) =
 
 -- and where all chunks before the fault of a file by frames are plain, it is the file's fault in strict reading
 pub fault_strict : (ks : List ChunkValue) (file : List ℕ) (place : ℕ) (fault : Fault)
-    → IsFault true file fault → IsLongest IsFramed ks file place → AllByRecursion IsPlain ks → IsFault false file fault
+    → IsFault true file fault → IsLongest IsWellFormedChunk ks file place → AllByRecursion IsPlain ks → IsFault false file fault
 fault_strict ks file place fault (inl unsigned) h plain = inl unsigned
 fault_strict ks file place fault (inr (signed, (ls, other, longest, below, verdict))) h plain =
     let same : other ≡ place = longest_is_one ls ks file other place longest h in
@@ -122,7 +122,7 @@ kinds_differ k transposed simple = omega arith
 
 -- a file with a chunk at its front begins as files do
 signed_chain : (ks : List ChunkValue) (file : List ℕ) (place j : ℕ) (k : ChunkValue)
-    → IsChainOf IsFramed ks file place → slice_get ks j ≡ Some k → BeginsWithSignature file
+    → IsChainOf IsWellFormedChunk ks file place → slice_get ks j ≡ Some k → BeginsWithSignature file
 signed_chain [] file place j k h at = absurd (none-some k at)
 signed_chain (x ∷ ks) file place j k h at = begins_signed x ks file place h
 
@@ -170,7 +170,7 @@ verdict_transposed begin k file end laid unread transposed =
 
 -- a chunk behind plain ones on which the strict verdict is a fault at its begin: that is the file's fault
 fault_behind : (ks : List ChunkValue) (file : List ℕ) (place j : ℕ) (k : ChunkValue) (w : Why)
-    → IsChainOf IsFramed ks file place → slice_get ks j ≡ Some k → AllByRecursion IsPlain (take j ks)
+    → IsChainOf IsWellFormedChunk ks file place → slice_get ks j ≡ Some k → AllByRecursion IsPlain (take j ks)
     → IsVerdict false file (begin_of ks j) (record { at = begin_of ks j; why = w })
     → IsFault false file (record { at = begin_of ks j; why = w })
 fault_behind ks file place j k w h at plain verdict =
@@ -178,7 +178,7 @@ fault_behind ks file place j k w h at plain verdict =
     let end : ℕ = begin_of ks (j + 1) in
     let laid : IsLaid begin k (slice_range file begin end) = IsLaid-in_file ks file place j k h.within h.laid at in
     let front : IsChainOf IsPlain (take j ks) file begin =
-    plain_of_frame (take j ks) file begin (IsChainOf-take j ks file place h) plain in
+    plain_of_well_formed (take j ks) file begin (IsChainOf-take j ks file place h) plain in
     inr (
       signed_chain ks file place j k h at,
       (
@@ -192,7 +192,7 @@ fault_behind ks file place j k w h at plain verdict =
 
 -- so it is with the first chunk of a frame that is left unread
 pub fault_compressed : (ks : List ChunkValue) (file : List ℕ) (place j : ℕ) (k : ChunkValue)
-    → IsChainOf IsFramed ks file place → slice_get ks j ≡ Some k → AllByRecursion IsPlain (take j ks)
+    → IsChainOf IsWellFormedChunk ks file place → slice_get ks j ≡ Some k → AllByRecursion IsPlain (take j ks)
     → IsUnread k → IsCompressed k
     → IsFault false file (record { at = begin_of ks j; why = why.Compressed })
 fault_compressed ks file place j k h at plain unread compressed =
@@ -201,7 +201,7 @@ fault_compressed ks file place j k h at plain unread compressed =
     (verdict_compressed (begin_of ks j) k file (begin_of ks (j + 1)) laid unread compressed)
 
 pub fault_transposed : (ks : List ChunkValue) (file : List ℕ) (place j : ℕ) (k : ChunkValue)
-    → IsChainOf IsFramed ks file place → slice_get ks j ≡ Some k → AllByRecursion IsPlain (take j ks)
+    → IsChainOf IsWellFormedChunk ks file place → slice_get ks j ≡ Some k → AllByRecursion IsPlain (take j ks)
     → IsUnread k → IsTransposed k
     → IsFault false file (record { at = begin_of ks j; why = why.Transposed })
 fault_transposed ks file place j k h at plain unread transposed =

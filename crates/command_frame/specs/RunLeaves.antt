@@ -10,7 +10,7 @@ use Rattle.command_frame.specs.Answers.{Answer, line}
 use Rattle.command_frame.specs.Statuses.{fault_text}
 use Rattle.command_frame.specs.RunObjects.{Seen, handed_by, HadNoSinkFault, taken_in}
 use Rattle.command_frame.specs.Meanings.{Read, Meaning}
-use Rattle.command_frame.specs.RunReads.{IfRead, IfTold, IfGrown}
+use Rattle.command_frame.specs.RunReads.{IfRead, IfAnswered, IfGrown}
 use Rattle.command_frame.specs.declared.status.Status.TheVariants as status
 
 -- the statuses that tell a fault of an object other than notes, or want of memory
@@ -24,12 +24,12 @@ IsCutOff status.Memory = Unit {0}
 IsCutOff other = ⊥
 
 -- the statuses that tell a fault of what is read, or want of memory
-abbrev pub IsCutShort : Status → Type 0
-IsCutShort status.Input = Unit {0}
-IsCutShort status.File = Unit {0}
-IsCutShort status.Grown = Unit {0}
-IsCutShort status.Memory = Unit {0}
-IsCutShort other = ⊥
+abbrev pub IsReadingCutOff : Status → Type 0
+IsReadingCutOff status.Input = Unit {0}
+IsReadingCutOff status.File = Unit {0}
+IsReadingCutOff status.Grown = Unit {0}
+IsReadingCutOff status.Memory = Unit {0}
+IsReadingCutOff other = ⊥
 
 -- the first lines of a text
 abbrev pub first_lines : ℕ → List ℕ → List ℕ
@@ -78,12 +78,14 @@ pub record FailedToSay (before after : Taken) (answer : Answer) : Type 0 where
   pub went : GoOut before after part
 
 -- what a run leaves that was cut off or that notes failed; and, whatever its status, of a file that grows
-pub record RunIsCutShort (m : Meaning) (before after : Seen) (ended : Status) : Type 0 where
+pub record RunLeaves (m : Meaning) (before after : Seen) (ended : Status) : Type 0 where
   -- where the work was cut off, or notes failed, a front of what an answer puts went out
-  pub cut_off : IsCutOff ended → IfTold m before (WasCutOff ended before after)
-  pub failed_to_say : ended ≡ status.Notes → IfTold m before (FailedToSay (taken_in before) (taken_in after))
+  pub cut_off : IsCutOff ended → IfAnswered m before (WasCutOff ended before after)
+  pub failed_to_say : ended ≡ status.Notes
+      → IfAnswered m before (FailedToSay (taken_in before) (taken_in after))
   pub grown_cut : IsCutOff ended ⊎ (ended ≡ status.Notes) → IfGrown m before after m.may_leave
   pub grown_kept : m.uses.grown ≡ true → IfSome before.grown.bytes (λ held. IsSomeAnd after.grown.bytes (λ holds. m.keeps ended held holds))
   -- where what is read failed or memory was wanting, and no sink of the work failed too, what went out ends where a command
   -- may be cut short, as behind a whole chunk of a file that is shown
-  pub so_far : IsCutShort ended → HadNoSinkFault m.uses before after → IfRead m before (WentOutSoFar m ended before after)
+  pub so_far : IsReadingCutOff ended → HadNoSinkFault m.uses before after
+      → IfRead m before (WentOutSoFar m ended before after)
