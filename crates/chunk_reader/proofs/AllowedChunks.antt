@@ -21,7 +21,7 @@ IsAllowed-passed false k small passed = (small, passed)
 IsAllowed-passed true k small (inl plain) = inl (small, plain)
 IsAllowed-passed true k small (inr unread) = inr (small, unread)
 
--- what strict reading passes, reading by frames passes too
+-- what strict reading passes, reading that lets unread chunks through passes too
 pub IsAllowed-unread_too : (k : ChunkValue) → IsAllowed false k → IsAllowed true k
 IsAllowed-unread_too k plain = inl plain
 

@@ -118,7 +118,7 @@ verdict_content unread_ok file place hash k fault none blocks hash_is chunk_is f
       begin_of_first (Applies file place) file place fault.at (content_reasons unread_ok) fault.why (content_begin unread_ok file place fault.at) there here,
     )
 
--- in a frame the reasons are the same but for those that name what isn't read
+-- where unread chunks are let through the reasons are the same but for those that name them
 pub first_with_unread : (P : Why → Type 0) (first : Why) → first ≢ why.Compressed → first ≢ why.Transposed
     → IsFirstOf P (content_reasons false) first → IsFirstOf P (content_reasons true) first
 first_with_unread P first c t (inl hash) = inl hash
@@ -128,7 +128,7 @@ first_with_unread P first c t (inr (a, inr (b, inr (d, inl (transposed, is))))) 
 first_with_unread P first c t (inr (a, inr (b, inr (d, inr (e, inl unknown))))) = inr (a, inr (b, inl unknown))
 first_with_unread P first c t (inr (a, inr (b, inr (d, inr (e, inr never))))) = absurd never.1
 
--- and a chunk that is refused by one of those is left unread in a frame: no other reason applies
+-- and a chunk that is refused by one of those is let through: no other reason applies
 pub none_with_unread : (hash : ℕ) (k : ChunkValue) (first : Why) → (first ≡ why.Compressed) ⊎ (first ≡ why.Transposed)
     → IsFirstOf (ContentApplies hash k) (content_reasons false) first
     → NoneOf (ContentApplies hash k) (content_reasons true) × (IsCompressed k ⊎ IsTransposed k)
@@ -142,7 +142,7 @@ none_with_unread hash k first unread (inr (a, inr (b, inr (d, inr (e, inl (unkno
     absurd (elim unread [ inl c ↦ cc (c, is) | inr t ↦ cc (t, is) ])
 none_with_unread hash k first unread (inr (a, inr (b, inr (d, inr (e, inr never))))) = absurd never.1
 
--- what no reason refuses strictly, none refuses in a frame
+-- what no reason refuses strictly, none refuses where unread chunks are let through
 pub none_strict : (P : Why → Type 0) → NoneOf P (content_reasons false) → NoneOf P (content_reasons true)
 none_strict P (hash, (contents, (compressed, (transposed, (unknown, end))))) = (hash, (contents, (unknown, end)))
 

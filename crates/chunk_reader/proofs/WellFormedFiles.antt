@@ -1,4 +1,4 @@
--- Strict reading, and reading by frames, which passes what is left unread.
+-- Strict reading, and reading that lets unread chunks through.
 use Rattle.std.proofs.Common.{◌≡◌, ◌∙◌, ◌↔◌, ℕ, ◌+◌, ◌<◌, true, false, List, [], ◌∷◌, Some, length, take, refl, sym, subst, inl, inr, arith}
 use Rattle.std.specs.Prelude.{slice_get, slice_range}
 use Rattle.std.specs.List.{AllByRecursion}
@@ -23,7 +23,7 @@ use Rattle.chunk_reader.proofs.SignedFiles.{begins_signed}
 use Rattle.chunk_reader.proofs.ChainSteps.{longest_where_refused}
 use Rattle.chunk_reader.proofs.FileFaults.{longest_is_one}
 
--- a chain of plain chunks is one of a frame, and a chain of a frame in which all are plain is one of plain chunks
+-- a readable chain is well formed, and a well-formed one in which all chunks are plain is readable
 pub plain_of_well_formed : (ks : List ChunkValue) (file : List ℕ) (place : ℕ) → IsChainOf IsWellFormedChunk ks file place → AllByRecursion IsPlain ks
     → IsChainOf IsPlain ks file place
 plain_of_well_formed ks file place h plain = record { signed = h.signed; each = plain; within = h.within; laid = h.laid }
@@ -37,7 +37,7 @@ readable_of_well_formed ks file = (
   λ h. ((h.0, well_formed_of_plain ks file (length file) h.1), h.1.each),
 )
 
--- a file of frames has one list of chunks
+-- a well-formed file has one list of chunks
 pub well_formed_is_one : (ks ls : List ChunkValue) (file : List ℕ) → IsWellFormed ks file → IsWellFormed ls file → ks ≡ ls
 well_formed_is_one ks ls file h g = AreLaid-one ks ls file (length file) h.1.within h.1.laid g.1.laid
 
@@ -50,7 +50,7 @@ pub chain_is_one : {P : ChunkValue → Type 0} (ks ls : List ChunkValue) (file :
     → IsChainOf P ks file place → IsChainOf P ls file place → ks ≡ ls
 chain_is_one ks ls file place h g = AreLaid-one ks ls file place h.within h.laid g.laid
 
--- a longest chain of frames in which all are plain is a longest chain of plain chunks
+-- a longest well-formed chain in which all chunks are plain is a longest readable one
 pub longest_plain : (ks : List ChunkValue) (file : List ℕ) (place : ℕ) → IsLongest IsWellFormedChunk ks file place → AllByRecursion IsPlain ks
     → IsLongest IsPlain ks file place
 longest_plain ks file place h plain = record {
@@ -94,12 +94,13 @@ first_strict P w c t (inr (a, inr (b, inr (d, inr (e, inr (f, inr (g, inr (i, in
     )
 first_strict P w c t (inr (a, inr (b, inr (d, inr (e, inr (f, inr (g, inr (i, inr (j, never))))))))) = absurd never
 
--- so a verdict by frames is the strict one
+-- so a verdict that lets unread chunks through is the strict one
 pub verdict_strict : (file : List ℕ) (place : ℕ) (fault : Fault) → IsVerdict true file place fault → IsVerdict false file place fault
 verdict_strict file place fault (first, at) =
     (first_strict (Applies file place) fault.why (λ both. both.0.simple both.1.0) (λ both. both.0.transposed both.1) first, at)
 
--- and where all chunks before the fault of a file by frames are plain, it is the file's fault in strict reading
+-- and where all chunks before the fault of a file that isn't well formed are plain, it is the
+-- file's fault in strict reading
 pub fault_strict : (ks : List ChunkValue) (file : List ℕ) (place : ℕ) (fault : Fault)
     → IsFault true file fault → IsLongest IsWellFormedChunk ks file place → AllByRecursion IsPlain ks → IsFault false file fault
 fault_strict ks file place fault (inl unsigned) h plain = inl unsigned
@@ -190,7 +191,7 @@ fault_behind ks file place j k w h at plain verdict =
       ),
     )
 
--- so it is with the first chunk of a frame that is left unread
+-- so it is with the first chunk of a well-formed file that is left unread
 pub fault_compressed : (ks : List ChunkValue) (file : List ℕ) (place j : ℕ) (k : ChunkValue)
     → IsChainOf IsWellFormedChunk ks file place → slice_get ks j ≡ Some k → AllByRecursion IsPlain (take j ks)
     → IsUnread k → IsCompressed k

@@ -26,8 +26,8 @@ IsContent k content.Metadata = IsMetadata k
 IsContent k content.Padding = IsPadding k
 IsContent k (content.Records records) = IsSimple k records
 
--- the same in short, where other chunks are left unread if these are kept
-abbrev pub IsWhat : Bool → ChunkValue → What → Type 0
+-- the same in short, where other chunks are left unread if these are let through
+abbrev pub IsWhat : (unread_ok : Bool) → ChunkValue → What → Type 0
 IsWhat unread_ok k (Records records) = IsSimple k records
 IsWhat unread_ok k Passive = IsSignature k ⊎ IsMetadata k ⊎ IsPadding k
 IsWhat unread_ok k Unread = (unread_ok ≡ true) × (IsCompressed k ⊎ IsTransposed k)

@@ -9,8 +9,8 @@ use Rattle.chunk_reader.specs.declared.reasons.Why.{Why}
 use Rattle.chunk_reader.specs.declared.reasons.Why.TheVariants as why
 use Rattle.chunk_reader.specs.declared.reasons.Fault.{Fault}
 
--- the chunks that reading passes: those that are read, and to keep, which a true here and below stands for, unread ones too
-abbrev pub IsAllowed : Bool → ChunkValue → Type 0
+-- a chunk of a file that has to be readable (false, here and below), or only well formed (true)
+abbrev pub IsAllowed : (unread_ok : Bool) → ChunkValue → Type 0
 IsAllowed false = IsPlain
 IsAllowed true = IsWellFormedChunk
 
@@ -21,7 +21,7 @@ IsPlaceOf file place why.BlockHeader at =
 IsPlaceOf file place other at = at ≡ place
 
 -- the strict verdict on the chunk at a place is this fault
-abbrev pub IsVerdict : Bool → List ℕ → ℕ → Fault → Type 0
+abbrev pub IsVerdict : (unread_ok : Bool) → List ℕ → ℕ → Fault → Type 0
 IsVerdict unread_ok file place fault =
     IsFirstOf (Applies file place) (strict_reasons unread_ok) fault.why
     × IsPlaceOf file place fault.why fault.at
@@ -36,20 +36,20 @@ abbrev pub BeginsWithSignature : List ℕ → Type 0
 BeginsWithSignature file = take (length signature_bytes) file ≡ signature_bytes
 
 -- the file has no fault: it is well-formed chunks from its front to its end
-abbrev pub HasNoFault : Bool → List ℕ → Type 0
+abbrev pub HasNoFault : (unread_ok : Bool) → List ℕ → Type 0
 HasNoFault unread_ok file = (ks : List ChunkValue) × IsFileOf (IsAllowed unread_ok) ks file
 
 -- the fault of a file that has one: that it doesn't begin as files do, or else the verdict where its longest front of
 -- well-formed chunks ends
-abbrev pub IsFault : Bool → List ℕ → Fault → Type 0
+abbrev pub IsFault : (unread_ok : Bool) → List ℕ → Fault → Type 0
 IsFault unread_ok file fault =
     ((¬ BeginsWithSignature file) × (fault ≡ record { at = 0; why = why.NoSignature }))
     ⊎ (BeginsWithSignature file
     × ((ks : List ChunkValue) × (place : ℕ) × IsLongest (IsAllowed unread_ok) ks file place
     × (place < length file) × IsVerdict unread_ok file place fault))
 
--- none of the files has a fault, with compressed and transposed chunks refused or, to keep, left unread
-abbrev pub HaveNoFault : Bool → List (List ℕ) → Type 0
+-- none of the files has a fault
+abbrev pub HaveNoFault : (unread_ok : Bool) → List (List ℕ) → Type 0
 HaveNoFault unread_ok files = AllByRecursion (HasNoFault unread_ok) files
 
 -- of the files that have a fault this is the first, by its number from 0, and this is its fault

@@ -31,7 +31,7 @@ pub record AreInBounds (size : ℕ) (totals : Totals) : Type 0 where
   pub unread : totals.unread ≤ totals.bytes
 
 -- the totals are those of the chunks at the front of a file, up to where they end
-abbrev pub AreReadFrom : Bool → List ℕ → Totals → Type 0
+abbrev pub AreReadFrom : (unread_ok : Bool) → List ℕ → Totals → Type 0
 AreReadFrom unread_ok file totals =
     (ks : List ChunkValue) × IsChainOf (IsAllowed unread_ok) ks file totals.bytes
     × (totals ≡ totals_of ks)

@@ -64,12 +64,12 @@ unpassed_reasons = why.Short ∷ why.HeaderHash ∷ why.Truncated ∷ []
 abbrev pub loading_reasons : List Why
 loading_reasons = why.Short ∷ why.HeaderHash ∷ why.Truncated ∷ why.TooLarge ∷ []
 
--- the reasons by which a chunk's content is refused. Where unread chunks are kept, those fall away that only name them
-abbrev pub content_reasons : Bool → List Why
+-- the reasons by which a chunk's content is refused: where unread ones are let through, fewer
+abbrev pub content_reasons : (unread_ok : Bool) → List Why
 content_reasons false = why.DataHash ∷ why.Contents ∷ why.Compressed ∷ why.Transposed ∷ why.UnknownKind ∷ []
 content_reasons true = why.DataHash ∷ why.Contents ∷ why.UnknownKind ∷ []
 
 -- all reasons of strict reading, in order
-abbrev pub strict_reasons : Bool → List Why
+abbrev pub strict_reasons : (unread_ok : Bool) → List Why
 strict_reasons unread_ok =
     why.Short ∷ why.HeaderHash ∷ why.Truncated ∷ why.TooLarge ∷ why.BlockHeader ∷ content_reasons unread_ok

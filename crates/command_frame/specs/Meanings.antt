@@ -32,7 +32,8 @@ pub record Meaning : Type 1 where
   -- what has to hold of what it reads for its answers to be told, as that all stores of one file show the same bytes, once
   -- their sizes let it go on to its work
   pub supposes : Read → Type 0
-  -- its answers to what it reads
+  -- its answers to what it reads: laws of riegeli_tool say of which commands there is always one
+  -- (`file_answers_exist`) and never another (`answers_are_one`)
   pub answers : Read → Answer → Type 0
   -- what it may have put where it can't read on or has no memory, as of a file that is shown that of some whole chunks, by how
   -- many bytes its files had handed out before and after the work

@@ -1,4 +1,4 @@
--- Promise. What a run leaves that was cut short. Own.
+-- Promise. What a run leaves that was cut off, or that notes failed. Own.
 use Rattle.std.specs.Prelude.{◌≡◌, ℕ, ◌⊎◌, true, IfSome, IsSomeAnd, List, ◌++◌, take}
 use Rattle.std.specs.List.{flat_map}
 use Rattle.record_io.specs.Outside.{Rose, Takes}
@@ -85,7 +85,7 @@ pub record RunLeaves (m : Meaning) (before after : Seen) (ended : Status) : Type
       → IfAnswered m before (FailedToSay (taken_in before) (taken_in after))
   pub grown_cut : IsCutOff ended ⊎ (ended ≡ status.Notes) → IfGrown m before after m.may_leave
   pub grown_kept : m.uses.grown ≡ true → IfSome before.grown.bytes (λ held. IsSomeAnd after.grown.bytes (λ holds. m.keeps ended held holds))
-  -- where what is read failed or memory was wanting, and no sink of the work failed too, what went out ends where a command
-  -- may be cut short, as behind a whole chunk of a file that is shown
+  -- where reading was cut off, and no sink of the work failed too, what went out ends where the
+  -- command may break off, as behind a whole chunk; where one did, it is a front as `cut_off` says
   pub so_far : IsReadingCutOff ended → HadNoSinkFault m.uses before after
       → IfRead m before (WentOutSoFar m ended before after)

@@ -13,11 +13,11 @@ pub record IsReadBy (m : Meaning) (before : Seen) (r : Read) : Type 0 where
   pub grown : m.uses.grown ≡ true → (before.grown.bytes ≡ Some r.grown) × AreBytes r.grown
   pub supposed : m.supposes r
 
--- P holds of what a command reads, where that shows its bytes
+-- P holds of what a command reads, where that shows its bytes; where not, this says nothing
 abbrev pub IfRead : Meaning → Seen → (Read → Type 0) → Type 0
 IfRead m before P = (r : Read) → IsReadBy m before r → P r
 
--- P holds of an answer to the command, where what it reads shows its bytes
+-- there is an answer to the command of which P holds, where what it reads shows its bytes
 abbrev pub IfAnswered : Meaning → Seen → (Answer → Type 0) → Type 0
 IfAnswered m before P = IfRead m before (λ r. (answer : Answer) × m.answers r answer × P answer)
 

@@ -14,6 +14,7 @@ use Rattle.command_frame.specs.declared.status.Status.TheVariants as status
 pub record RunSays (m : Meaning) (before after : Seen) (ended : Status) : Type 0 where
   pub end_said : IsWhole ended
       → OfSizes m before after (λ sizes. (text : List ℕ) × m.may_end sizes ended text × Takes before.notes.bytes after.notes.bytes text)
+  -- also where notes failed too: then they took a front of the line of the status
   pub cut_off_said : IsCutOff ended → (text : List ℕ) × m.may_say text × TakesThen before.notes after.notes text (fault_text ended)
   pub front_said : ended ≡ status.Notes
       → OfSizes m before after (λ sizes.

@@ -205,7 +205,7 @@ module _ (ks : List ChunkValue) (file damaged : List ℕ) (intact : Intact) (d :
   block_inside : (b : ℕ) → b < length (take m file) → b < m
   block_inside b below = omega (arith, length-take-le m file within)
 
-  -- it is a frame
+  -- it is a well-formed file
   front_well_formed : 0 < n → IsWellFormed (take n ks) (take m file)
   front_well_formed some = (
     (λ none. omega (arith, ap length none, count ks n few)),

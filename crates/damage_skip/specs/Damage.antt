@@ -63,7 +63,7 @@ AreReached ks intact j to (i ∷ is) =
     (i ≡ j) × (j < length ks) × ((next : ℕ) × IsNext ks intact j next × AreReached ks intact next to is)
 
 -- what damage leaves of a chunk that is reached
-abbrev pub DamageLeaves : Bool → (header «data» : Bool) → ChunkValue → PieceKind → Type 0
+abbrev pub DamageLeaves : (unread_ok header «data» : Bool) → ChunkValue → PieceKind → Type 0
 DamageLeaves unread_ok false «data» k what = what ≡ Skipped why.HeaderHash
 DamageLeaves unread_ok true false k what = what ≡ Skipped why.DataHash
 DamageLeaves true true true k what = IsFoundAs true k what

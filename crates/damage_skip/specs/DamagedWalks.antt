@@ -18,7 +18,7 @@ pub record IsReachedAt (ks : List ChunkValue) (intact : Intact) (place number : 
   pub begins : place ≡ begin_of ks number
 
 -- a region is what damage leaves of the chunk of this number: it ends where the chunk begins that is reached next
-abbrev pub IsLeftRegion : Bool → List ChunkValue → Intact → ℕ → Region → Type 0
+abbrev pub IsLeftRegion : (unread_ok : Bool) → List ChunkValue → Intact → ℕ → Region → Type 0
 IsLeftRegion unread_ok ks intact number region =
     (next : ℕ)
     × DamageLeavesEach unread_ok ks intact number next

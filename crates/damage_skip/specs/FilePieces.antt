@@ -7,7 +7,7 @@ use Rattle.damage_skip.specs.Pieces.{PieceKind, Piece, Skipped, AreTiles, record
 use Rattle.chunk_reader.specs.declared.reasons.Why.TheVariants as why
 
 -- the pieces of a file
-abbrev pub ArePieces : Bool → List ℕ → List Piece → Type 0
+abbrev pub ArePieces : (unread_ok : Bool) → List ℕ → List Piece → Type 0
 ArePieces unread_ok file pieces = AreTiles unread_ok file 0 (length file) pieces
 
 -- the records that pieces give, each with its position: its chunk's begin, and its number in the chunk
@@ -15,7 +15,7 @@ abbrev pub placed_in : List Piece → List (ℕ × List ℕ)
 placed_in pieces = flat_map (λ piece. enumerate_from piece.begin (records_of piece.what)) pieces
 
 -- the pieces are these chunks, laid one after another from a place on, and each was found intact
-abbrev pub AreFound : Bool → ℕ → List ChunkValue → List Piece → Type 0
+abbrev pub AreFound : (unread_ok : Bool) → ℕ → List ChunkValue → List Piece → Type 0
 AreFound unread_ok place [] pieces = pieces ≡ []
 AreFound unread_ok place (k ∷ ks) [] = ⊥
 AreFound unread_ok place (k ∷ ks) (piece ∷ pieces) =

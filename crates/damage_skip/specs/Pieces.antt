@@ -32,8 +32,8 @@ SkipsFor file place why.Contradicted =
     (block previous next : ℕ) × Contradicts file place (end_at file place) block previous next
 SkipsFor file place other = Applies file place other
 
--- these reasons, in their order. Where unread chunks are kept, those fall away that only name them
-abbrev pub walk_reasons : Bool → List Why
+-- these reasons, in their order: where unread chunks are let through, fewer
+abbrev pub walk_reasons : (unread_ok : Bool) → List Why
 walk_reasons unread_ok =
     why.Short ∷ why.HeaderHash ∷ why.Contradicted ∷ why.Truncated ∷ why.TooLarge ∷ content_reasons unread_ok
 
@@ -48,7 +48,7 @@ SkipsTo file place why.Truncated to = to ≡ length file
 SkipsTo file place other to = to ≡ end_at file place
 
 -- what a chunk is that no reason passes over
-abbrev pub IsFoundAs : Bool → ChunkValue → PieceKind → Type 0
+abbrev pub IsFoundAs : (unread_ok : Bool) → ChunkValue → PieceKind → Type 0
 IsFoundAs unread_ok k (Records records chunk) = IsSimple k records × (chunk ≡ k)
 IsFoundAs unread_ok k (Kept chunk) =
     (IsMetadata k ⊎ ((unread_ok ≡ true) × (IsCompressed k ⊎ IsTransposed k))) × (chunk ≡ k)
@@ -56,7 +56,7 @@ IsFoundAs unread_ok k SignatureOrPadding = IsSignature k ⊎ IsPadding k
 IsFoundAs unread_ok k (Skipped why) = ⊥
 
 -- what the piece is that begins at a place of a file, and where it ends
-abbrev pub IsPieceOf : Bool → List ℕ → (begin end : ℕ) → PieceKind → Type 0
+abbrev pub IsPieceOf : (unread_ok : Bool) → List ℕ → (begin end : ℕ) → PieceKind → Type 0
 IsPieceOf unread_ok file begin end (Skipped why) =
     IsFirstOf (SkipsFor file begin) (walk_reasons unread_ok) why × SkipsTo file begin why end
 IsPieceOf unread_ok file begin end what =
@@ -64,7 +64,7 @@ IsPieceOf unread_ok file begin end what =
     × IsFoundAs unread_ok (chunk_at file begin) what
 
 -- the pieces of a file from a place up to another, each of which begins where the one before ends
-abbrev pub AreTiles : Bool → List ℕ → (from to : ℕ) → List Piece → Type 0
+abbrev pub AreTiles : (unread_ok : Bool) → List ℕ → (from to : ℕ) → List Piece → Type 0
 AreTiles unread_ok file from to [] = from ≡ to
 AreTiles unread_ok file from to (piece ∷ pieces) =
     (piece.begin ≡ from) × (from < length file) × IsPieceOf unread_ok file from piece.end piece.what
@@ -80,12 +80,12 @@ abbrev pub events_in : List Piece → List Piece
 events_in pieces = filter (λ piece. is_event piece.what) pieces
 
 -- the file was walked from a place up to another, and these are the events between
-abbrev pub GoesOn : Bool → List ℕ → (from to : ℕ) → List Piece → Type 0
+abbrev pub GoesOn : (unread_ok : Bool) → List ℕ → (from to : ℕ) → List Piece → Type 0
 GoesOn unread_ok file from to events =
     (pieces : List Piece) × AreTiles unread_ok file from to pieces × (events_in pieces ≡ events)
 
 -- the events of a file, in order
-abbrev pub AreEvents : Bool → List ℕ → List Piece → Type 0
+abbrev pub AreEvents : (unread_ok : Bool) → List ℕ → List Piece → Type 0
 AreEvents unread_ok file events = GoesOn unread_ok file 0 (length file) events
 
 -- the records that a piece gives

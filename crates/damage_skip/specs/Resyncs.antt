@@ -27,8 +27,7 @@ IsResync file place to =
     × (to ≡ landing (length file) place block previous next))
     ⊎ (((block previous next : ℕ) → ¬ StandsFrom file place block previous next) × (to ≡ length file))
 
--- at a block within a chunk from a begin to an end stands a header that is right and sane, and says another begin or
--- another end
+-- at a block within a chunk stands a right and sane header that says another begin or another end
 pub record Contradicts (file : List ℕ) (begin end block previous next : ℕ) : Type 0 where
   pub stands : StandsAt file block previous next
   pub from : begin ≤ block

@@ -103,7 +103,7 @@ value_of_found what.SignatureOrPadding = pieces.SignatureOrPadding
 value_of_found (what.Skipped why) = pieces.Skipped why
 
 -- a piece is the one at a place of a file
-abbrev pub IsPieceThere : Bool → ℕ → NextPiece → List ℕ → Type 0
+abbrev pub IsPieceThere : (unread_ok : Bool) → ℕ → NextPiece → List ℕ → Type 0
 IsPieceThere unread_ok at piece file =
     pieces.IsPieceOf unread_ok file at piece.end (value_of_found piece.what)
 

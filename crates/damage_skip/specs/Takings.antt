@@ -1,5 +1,4 @@
--- Promise. How many bytes of a file a walk takes: what the pieces account for that it passes, and the one that it
--- stands at. Own.
+-- Promise. How many bytes of a file a walk takes, by the pieces that it passes and stands at. Own.
 use Rattle.std.specs.Prelude.{ℕ, ◌+◌, ◌-◌, ◌*◌, ◌≤◌, ◌⊎◌, min, max, Bool, List, [], ◌∷◌, length}
 use Rattle.block_layout.specs.Layout.{block_header_size, chunk_header_size, blocks_below, end_of}
 use Rattle.chunk_reader.specs.Places.{end_at}
@@ -58,12 +57,12 @@ AccountFor file [] taken = taken ≤ 0
 AccountFor file (piece ∷ pieces) taken = (here : ℕ) × MayTakeFor file piece.begin here × AccountFor file pieces (taken - here)
 
 -- the pieces of a file from a place up to another account for so many bytes
-abbrev pub IsTakenFrom : Bool → List ℕ → (from to taken : ℕ) → Type 0
+abbrev pub IsTakenFrom : (unread_ok : Bool) → List ℕ → (from to taken : ℕ) → Type 0
 IsTakenFrom unread_ok file from to taken =
     (pieces : List Piece) × AreTiles unread_ok file from to pieces × AccountFor file pieces taken
 
 -- these and what may be taken at the place where they end do
-abbrev pub IsTakenUpTo : Bool → List ℕ → (from to taken : ℕ) → Type 0
+abbrev pub IsTakenUpTo : (unread_ok : Bool) → List ℕ → (from to taken : ℕ) → Type 0
 IsTakenUpTo unread_ok file from to taken =
     (passed : ℕ) × IsTakenFrom unread_ok file from to passed × MayTakeAt file to (taken - passed)
 

@@ -44,11 +44,11 @@ event_text (event.Skipped region) = region_text (codes "skipped") region
 event_text other = []
 
 -- the place is the begin of a piece of the file, or its end
-abbrev pub IsMet : Bool → List ℕ → ℕ → Type 0
+abbrev pub IsMet : (unread_ok : Bool) → List ℕ → ℕ → Type 0
 IsMet unread_ok file place = (pieces : List Piece) × AreTiles unread_ok file 0 place pieces
 
 -- what a walk has stopped at, if it has, is the piece at its place
-abbrev pub IsStoppedAt : Bool → List ℕ → ℕ → Option Region → Type 0
+abbrev pub IsStoppedAt : (unread_ok : Bool) → List ℕ → ℕ → Option Region → Type 0
 IsStoppedAt unread_ok file place stopped =
     IfSome stopped
     (λ region. (region.begin ≡ place) × (place < length file)

@@ -123,9 +123,9 @@ pub fn walks_go_on()
         × GoesOn unread_ok file place (length file) rest }
 {}
 
-/// A file without fault is walked chunk by chunk, and each is found intact: a file of plain chunks whether or not unread
-/// ones are kept, and a frame where they are. So nothing of it is skipped, and its events give its records, with their
-/// positions. Own.
+/// A file without fault is walked chunk by chunk, and each is found intact: a readable file whether
+/// or not unread chunks are let through, and a well-formed one where they are. So nothing of it is
+/// skipped, and its events give its records, with their positions. Own.
 pub fn files_without_fault_are_walked_whole()
     ensures plain { (unread_ok : Bool) (ks : List ChunkValue) (file : List ℕ)
         → IsReadable ks file → IsFileOf (IsAllowed unread_ok) ks file }

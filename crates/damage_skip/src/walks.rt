@@ -25,8 +25,8 @@ pub struct Walker<F> {
 }
 
 impl<F: Fn(&Region) -> bool + Drop> Walker<F> {
-    /// A walk of a file of so many bytes, from its front. With `unread_ok`, compressed and transposed chunks are given in place of
-    /// being passed over.
+    /// A walk of a file of so many bytes, from its front. With `unread_ok`, compressed and
+    /// transposed chunks are given in place of being passed over.
     pub fn new(size: u64, unread_ok: bool, policy: Policy<F>) -> Walker<F>
         ensures begins { IsAtFront size unread_ok true (progress_of result) }
         ensures test { test_of result ≡ policy.test }

@@ -30,7 +30,7 @@ IsPlain k = (length k.«data» ≤ max_data_size) × (IsSimpleChunk k ⊎ IsSign
 abbrev pub IsTransposed : ChunkValue → Type 0
 IsTransposed k = k.kind ≡ transposed_kind
 
--- a chunk whose content is left unread
+-- a chunk that is left unread: its bytes are read and hashed, but not what is packed in them
 abbrev pub IsUnread : ChunkValue → Type 0
 IsUnread k = (length k.«data» ≤ max_data_size) × (IsTransposed k ⊎ IsCompressed k)
 
@@ -60,11 +60,11 @@ pub record IsChainOf (P : ChunkValue → Type 0) (ks : List ChunkValue) (file : 
 abbrev pub IsFileOf : (ChunkValue → Type 0) → List ChunkValue → List ℕ → Type 0
 IsFileOf P ks file = (ks ≢ []) × IsChainOf P ks file (length file)
 
--- plain chunks alone
+-- the file is readable: plain chunks alone
 abbrev pub IsReadable : List ChunkValue → List ℕ → Type 0
 IsReadable = IsFileOf IsPlain
 
--- plain and unread chunks
+-- the file is well formed: plain and unread chunks
 abbrev pub IsWellFormed : List ChunkValue → List ℕ → Type 0
 IsWellFormed = IsFileOf IsWellFormedChunk
 

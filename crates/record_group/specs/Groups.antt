@@ -60,8 +60,7 @@ front_chunks place records size every pad = front_padding place pad ++ map simpl
 abbrev pub end_padding : ℕ → List (List ℕ) → ℕ → Option ℕ → Pad → List ChunkValue
 end_padding place records size every pad = padding_if (pads_end pad) (end_of_chunks place (front_chunks place records size every pad))
 
--- the chunks of records from a place on: the padding before them, a simple chunk for each group, and the padding
--- behind them
+-- the chunks of records from a place on: padding, a simple chunk for each group, and padding
 abbrev pub record_chunks : ℕ → List (List ℕ) → ℕ → Option ℕ → Pad → List ChunkValue
 record_chunks place records size every pad =
     front_chunks place records size every pad ++ end_padding place records size every pad

@@ -1,5 +1,4 @@
--- Promise. The places of a file that a search by key may come to, and what it may answer there of a file with a fault.
--- Own.
+-- Promise. Where a search by key may come to, and what it may answer of a file with a fault. Own.
 use Rattle.std.specs.Prelude.{◌≡◌, ℕ, ◌+◌, ◌-◌, ◌<◌, ◌⊎◌, false, Some, List, ◌∷◌, ◌++◌, length, slice_get}
 use Rattle.std.specs.List.{AllByRecursion}
 use Rattle.chunk_reader.specs.Holders.{TellsBegin, IsBlockFault, ArePlacesBetween}

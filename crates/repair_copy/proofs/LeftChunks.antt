@@ -118,7 +118,7 @@ module _ (P : ChunkValue → Type 0) (unread_ok : Bool) (ks : List ChunkValue) (
   each_kept : (numbers : List ℕ) → AllByRecursion P (copied unread_ok (untouched ks intact numbers))
   each_kept numbers = each_copied (untouched ks intact numbers) (each_untouched numbers)
 
--- so these are a frame behind the signature
+-- so these make a well-formed file behind the signature
 pub well_formed_kept : (unread_ok : Bool) (ks : List ChunkValue) (file : List ℕ) (intact : Intact) (numbers : List ℕ) → IsWellFormed ks file
     → IsWellFormed (signature ∷ copied unread_ok (untouched ks intact numbers)) (laid_each 0 (signature ∷ copied unread_ok (untouched ks intact numbers)))
 well_formed_kept unread_ok ks file intact numbers well_formed =

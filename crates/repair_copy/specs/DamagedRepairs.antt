@@ -39,9 +39,9 @@ MakesOf (Ok repaired) before after ks = Takes before.made after.made (laid_each 
 MakesOf (Err (end.Stopped region)) before after ks = Takes before.made after.made (laid_each 0 (signature ∷ ks))
 MakesOf (Err other) before after ks = ⊤
 
--- of a damaged file the chunks before this number were passed, to its end or to a region that is refused: the untouched ones of
--- those reached are copied, which are a frame, the regions among what damage leaves of these are told, and the others are lost up
--- to a block
+-- of a damaged file the chunks before this number were passed, to its end or to a region that is
+-- refused: the untouched ones of those reached are copied, which make a well-formed file, the
+-- regions among what damage leaves of these are told, and the others are lost up to a block
 pub record RepairsDamage {F : Type 0} (test : Shared F (Bor Region × Unit {0}) Bool) (f : F) (result : Result Repaired RepairEnd)
     (faults faults_then : ℕ) (before after : Taken) (ks : List ChunkValue) (intact : Intact) : Type 0 where
   pub to : ℕ

@@ -1,5 +1,4 @@
--- Promise. What a repair of a damaged file puts, in its order: chunks to the file that is made, and lines to notes.
--- Own.
+-- Promise. What a repair puts, in its order: chunks to the made file, and lines to notes. Own.
 use Rattle.std.specs.Prelude.{ℕ, List, [], ◌∷◌, ◌++◌}
 use Rattle.std.specs.List.{flat_map}
 use Rattle.record_io.specs.Puts.{Put, Made, Notes, puts_to}

@@ -49,9 +49,9 @@ pub fn each_stream_takes_its_part()
         → (front behind : List Piece) × (events ≡ front ++ behind) × (bytes_to Notes part ≡ skipped_text (regions_in front)) }
 {}
 
-/// The chunks of a file's pieces up to a place, laid anew, are a frame of bytes, behind the signature; where unread ones
-/// aren't kept, they are a file of plain chunks. So it has no fault, whatever its length, and its records are those of the
-/// pieces. It is the same with events. Own.
+/// The chunks of a file's pieces up to a place, laid anew behind the signature, make a well-formed
+/// file of bytes, and a readable one where unread ones aren't let through. So it has no fault,
+/// whatever its length, and its records are those of the pieces. It is the same with events. Own.
 pub fn relaid_files_are_well_formed()
     ensures file { (unread_ok : Bool) (file : List ℕ) (place : ℕ) (pieces : List Piece)
         → AreBytes file → AreTiles unread_ok file 0 place pieces
@@ -86,8 +86,9 @@ pub fn relaid_files_grow_little()
         → AreTiles unread_ok file 0 place pieces → length (relaid pieces) ≤ 64 + 2 * place }
 {}
 
-/// Of a file without fault all chunks are copied but signatures and padding. So where no chunk behind the signature is
-/// either, a file of plain chunks is its own repair, and the repair of a frame is its chunks laid with zero padding. Own.
+/// Of a file without fault all chunks are copied but signatures and padding. So where no chunk
+/// behind the signature is either, a readable file is its own repair, and that of a well-formed one
+/// is its chunks laid with zero padding. Own.
 pub fn whole_files_are_their_own_repair()
     ensures chunks { (unread_ok : Bool) (ks : List ChunkValue) (file : List ℕ) (pieces : List Piece)
         → IsFileOf (IsAllowed unread_ok) ks file → ArePieces unread_ok file pieces

@@ -19,7 +19,7 @@ use Rattle.sample_command.specs.declared.sample_words.SampleWords.{SampleWords}
 use Rattle.sample_command.specs.SampleCommand.{sampled, sample_file, summary, sample_summary}
 use Rattle.sample_command.proofs.Drawings.{sample_of-records}
 
--- plain chunks are those of a frame
+-- plain chunks are those of a well-formed file
 plain_well_formed : (ks : List ChunkValue) → AllByRecursion IsPlain ks → AllByRecursion IsWellFormedChunk ks
 plain_well_formed [] h = tt
 plain_well_formed (k ∷ ks) h = (inl h.0, plain_well_formed ks h.1)
