@@ -8,6 +8,7 @@ use Rattle.chunk_header.specs.Chunks.{ChunkValue}
 use Rattle.meta_chunk.specs.Files.{totals_of, IsPlain, IsChainOf, ArePlaced}
 use Rattle.chunk_reader.specs.declared.reasons.Fault.{Fault}
 use Rattle.command_frame.specs.declared.ending.Ending.{Ending}
+use Rattle.command_frame.specs.Answers.{line}
 use Rattle.command_frame.specs.Endings.{HasPutAtEnd}
 use Rattle.show_command.specs.declared.show_words.RecordForm.{RecordForm}
 use Rattle.show_command.specs.declared.show_words.ShowWords.{ShowWords}
@@ -18,6 +19,10 @@ use Rattle.show_command.specs.ShowCommand.{IsShown}
 -- the lines of records with their positions
 abbrev pub record_lines : RecordForm → List (ℕ × List ℕ) → List ℕ
 record_lines form placed = flat_map (record_line form) placed
+
+-- the lines of records as they are
+abbrev pub plain_lines : List (List ℕ) → List ℕ
+plain_lines records = flat_map line records
 
 -- the text is the lines of the records of the chunks at a file's front, of which these are the totals
 pub record IsTextOf (words : ShowWords) (file : List ℕ) (totals : Totals) (text : List ℕ) : Type 0 where

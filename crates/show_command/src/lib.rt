@@ -2,6 +2,7 @@
 #![tactic(auto)]
 
 mod fault_lines;
+mod plain_lines;
 mod reading;
 mod record_lines;
 pub mod show_words;

@@ -5,6 +5,7 @@ ghost use Rattle.hex.specs.Hex.{encode_lower};
 ghost use Rattle.show_command.specs.Readings.{bytes_text, position_text, record_line};
 ghost use Rattle.show_command.specs.ShowProgress.{record_lines};
 
+use crate::plain_lines::put_plain;
 use crate::show_words::RecordForm;
 use itoa::Buffer;
 use record_io::{Failed, PutBuffer, Sink};
@@ -15,6 +16,15 @@ pub const LINES: usize = 1 << 16;
 
 /// How many bytes are turned to digits at once.
 const PIECE: usize = 512;
+
+/// Records as they are, and nothing before them.
+pub(crate) const BARE: RecordForm = RecordForm {
+    positions: false,
+    hex: false,
+};
+
+/// Of so many records the lines are laid by pages.
+const MANY: usize = 256;
 
 /// Puts a line for each record of a chunk that begins at a place.
 pub fn put_records<O: Sink>(
@@ -27,6 +37,9 @@ pub fn put_records<O: Sink>(
     requires { begin + length records.now < 2 ^ 64 }
     ensures out { PutsThrough O.taken O.lent O.faults result lines.old lines.new (record_lines form.now (enumerate_from begin records.now)) out.old out.new }
 {
+    if !form.positions && !form.hex && records.len() >= MANY {
+        return put_plain(records, lines, out);
+    }
     for number in 0..records.len() {
         put_record(form, begin + number as u64, records.get(number), lines, out)?;
     }

@@ -5,7 +5,7 @@ use Rattle.std.proofs.lemmas.Option.{get_or_from_slice_get}
 use Rattle.record_io.specs.Buffers.{TakesAndHolds}
 use Rattle.show_command.specs.Readings.{record_line}
 use Rattle.show_command.specs.ShowProgress.{record_lines}
-use Rattle.show_command.proofs.LinePuts.{lines-next, lines-failed}
+use Rattle.show_command.proofs.LinePuts.{lines-next, lines-failed, plain-record_lines}
 use Rattle.record_io.proofs.Calls.{OnErr-any}
 use Rattle.show_command.proofs.record_lines.put_records.Goals as goal
 
@@ -14,6 +14,11 @@ numbered : (begin : ℕ) (records : List (List ℕ)) (i : ℕ) (bytes : List ℕ
     → get_or (enumerate_from begin records) i (begin + i, bytes) ≡ (begin + i, bytes)
 numbered begin records i bytes within is =
     get_or-enumerate_from begin records i (begin + i, bytes) within ∙ ap (λ (b : List ℕ). (begin + i, b)) is
+
+pub returns-then-len-ge-MANY : goal.returns-then-len-ge-MANY
+returns-then-len-ge-MANY g c = record {
+  out = rw (plain-record_lines c.args.form.now c.args.begin c.args.records.now (search rules) (search rules)) c.put_plain.ensures.out;
+}
 
 pub returns-in_err-put_record : goal.returns-in_err-put_record
 returns-in_err-put_record g c = record {
