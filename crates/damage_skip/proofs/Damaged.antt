@@ -27,7 +27,7 @@ use Rattle.damage_skip.specs.Pieces.{PieceKind, Skipped, Piece, SkipsFor, walk_r
 use Rattle.damage_skip.specs.FilePieces.{ArePieces}
 use Rattle.damage_skip.specs.Damage.{Intact, IsDamaged, IsIntactFrom, IsNext, DamageLeaves, DamageLeavesEach}
 use Rattle.damage_skip.proofs.OnePiece.{piece_one}
-use Rattle.damage_skip.proofs.Found.{agrees, end_in_reach}
+use Rattle.damage_skip.proofs.FoundPieces.{agrees, end_in_reach}
 use Rattle.damage_skip.proofs.IntactChunks.{intact_piece}
 use Rattle.damage_skip.proofs.Reached.{next_past, next_of, next_one, left_as_one}
 

@@ -12,7 +12,7 @@ use Rattle.chunk_reader.specs.declared.reasons.Why.{Why}
 use Rattle.damage_skip.specs.Pieces.{PieceKind, Records, Kept, SignatureOrPadding, Skipped, Piece, IsFoundAs, is_event, events_in, AreEvents, records_of, records_in}
 use Rattle.damage_skip.specs.FilePieces.{placed_in, AreFound}
 use Rattle.damage_skip.proofs.OnePiece.{given_or_kept, given_or_left_out}
-use Rattle.damage_skip.proofs.Found.{pieces_found}
+use Rattle.damage_skip.proofs.FoundPieces.{pieces_found}
 
 -- what is found intact isn't skipped
 found_not_skipped : (unread_ok : Bool) (k : ChunkValue) (what : PieceKind) → IsFoundAs unread_ok k what → (w : Why) → what ≢ Skipped w

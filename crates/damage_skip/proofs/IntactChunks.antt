@@ -15,7 +15,7 @@ use Rattle.chunk_reader.proofs.LaidAt.{chunk_at-laid, end_at-laid}
 use Rattle.damage_skip.specs.Pieces.{PieceKind, Skipped, SkipsFor, IsFoundAs, IsPieceOf}
 use Rattle.damage_skip.specs.Damage.{DamageLeaves}
 use Rattle.damage_skip.proofs.OnePiece.{found_of, piece_whole}
-use Rattle.damage_skip.proofs.Found.{none_passes_over}
+use Rattle.damage_skip.proofs.FoundPieces.{none_passes_over}
 use Rattle.damage_skip.proofs.Reached.{compressed_or_transposed}
 
 -- a chunk that is read or left unread is found, or one of its names is the first reason

@@ -2,7 +2,7 @@ pub mod PlacesFurtherOn
 pub mod OnePiece
 pub mod Tiles
 pub mod EventPieces
-pub mod Found
+pub mod FoundPieces
 pub mod FoundRecords
 pub mod Reached
 pub mod IntactChunks

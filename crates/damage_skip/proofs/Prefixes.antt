@@ -26,7 +26,7 @@ use Rattle.damage_skip.specs.Damage.{DamageLeaves}
 use Rattle.damage_skip.proofs.PlacesFurtherOn.{resync_of}
 use Rattle.damage_skip.proofs.OnePiece.{piece_one}
 use Rattle.damage_skip.proofs.Tiles.{tiles_past, tiles_append}
-use Rattle.damage_skip.proofs.Found.{says_own, end_in_reach}
+use Rattle.damage_skip.proofs.FoundPieces.{says_own, end_in_reach}
 use Rattle.damage_skip.proofs.Reached.{left_as_one}
 use Rattle.damage_skip.proofs.IntactChunks.{laid_piece}
 

@@ -13,6 +13,7 @@ mod resyncs;
 mod walks;
 
 pub use events::{Event, WalkEnd};
+pub use pieces::{Found, NextPiece, piece_at};
 pub use policies::Policy;
 pub use progress::Progress;
 pub use regions::{Region, region_line};

@@ -24,18 +24,18 @@ use record_io::{Failed, Store};
 use simple_chunk::{Checker, Records, SimpleFault};
 use std::alloc::{AllocError, Global};
 
-/// The piece of a file that begins where a walk is.
+/// The piece of a file that begins where a walk is. Own.
 #[derive(Debug, Drop)]
-pub(crate) struct NextPiece {
+pub struct NextPiece {
     /// Where it ends.
     pub end: u64,
     /// What it is.
     pub what: Found,
 }
 
-/// What a piece is.
+/// What a piece is. Own.
 #[derive(Debug, Drop)]
-pub(crate) enum Found {
+pub enum Found {
     /// A chunk of records.
     Records(Records, Chunk),
     /// A chunk that is kept, and whether it is left unread.
@@ -47,7 +47,12 @@ pub(crate) enum Found {
 }
 
 /// The piece that begins where a walk is.
-pub(crate) fn piece_at<S: Store>(
+///
+/// # Errors
+///
+/// `Store` only where the store failed. `Memory` only where a chunk is at hand whose header is right, which lies in the file and
+/// whose data isn't too large.
+pub fn piece_at<S: Store>(
     alloc: Global,
     store: &mut S,
     walk: Progress,

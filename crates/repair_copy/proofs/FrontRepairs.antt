@@ -14,7 +14,7 @@ use Rattle.damage_skip.specs.Pieces.{Piece, Skipped, AreTiles, GoesOn, events_in
 use Rattle.damage_skip.specs.FilePieces.{ArePieces, AreFound}
 use Rattle.damage_skip.specs.Regions.{regions_in}
 use Rattle.damage_skip.specs.declared.regions.Region.{Region}
-use Rattle.damage_skip.proofs.Found.{tiles_found}
+use Rattle.damage_skip.proofs.FoundPieces.{tiles_found}
 use Rattle.damage_skip.proofs.FoundRecords.{none_skipped, each_event}
 use Rattle.damage_skip.proofs.FrontWalks.{front_pieces, none_behind, region_first}
 use Rattle.damage_skip.proofs.Prefixes.{cut_between}

@@ -15,7 +15,7 @@ use Rattle.meta_chunk.proofs.Begins.{end_of_chunks_boundary}
 use Rattle.meta_chunk.proofs.PaddingLemmas.{padding_at_are_padding}
 use Rattle.damage_skip.specs.Pieces.{Piece}
 use Rattle.damage_skip.specs.FilePieces.{ArePieces}
-use Rattle.damage_skip.proofs.Found.{file_of_plain}
+use Rattle.damage_skip.proofs.FoundPieces.{file_of_plain}
 use Rattle.record_group.specs.declared.pad.Pad.{Pad}
 use Rattle.record_group.specs.declared.pad.Pad.TheVariants.{No}
 use Rattle.record_group.specs.Groups.{groups, pads_start, pads_end, padding_if, front_padding, front_chunks, end_padding, record_chunks, chunks_of, file_of}

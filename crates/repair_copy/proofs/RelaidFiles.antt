@@ -23,7 +23,7 @@ use Rattle.damage_skip.specs.Pieces.{PieceKind, Records, Kept, SignatureOrPaddin
 use Rattle.damage_skip.specs.FilePieces.{ArePieces}
 use Rattle.damage_skip.specs.Walks.{GoesOn}
 use Rattle.damage_skip.proofs.OnePiece.{piece_cases}
-use Rattle.damage_skip.proofs.Found.{file_of_plain, pieces_found}
+use Rattle.damage_skip.proofs.FoundPieces.{file_of_plain, pieces_found}
 use Rattle.damage_skip.proofs.FoundRecords.{found_holds, records_in_events}
 use Rattle.repair_copy.specs.RepairPuts.{chunk_in, chunks_in}
 use Rattle.repair_copy.specs.RelaidFiles.{relaid}
