@@ -42,11 +42,12 @@ enum riegeli_reason {
     RIEGELI_CONTRADICTED = 12
 };
 
-/* What riegeli_chunk.what says. */
+/* What riegeli_chunk.what says, and riegeli_piece.what. */
 enum riegeli_what {
     RIEGELI_RECORDS = 1,
     RIEGELI_PASSIVE = 2,
-    RIEGELI_UNREAD = 3
+    RIEGELI_UNREAD = 3,
+    RIEGELI_REGION = 4    /* of a piece alone */
 };
 
 struct riegeli_fault {
@@ -85,6 +86,15 @@ struct riegeli_region {
     uint32_t why;       /* enum riegeli_reason */
 };
 
+struct riegeli_piece {
+    uint64_t begin;
+    uint64_t end;       /* where the next piece begins */
+    uint64_t records;   /* record i has the position begin + i */
+    uint64_t bytes;     /* of all records together */
+    uint32_t what;      /* enum riegeli_what */
+    uint32_t why;       /* of a region, enum riegeli_reason; else 0 */
+};
+
 uint32_t riegeli_version(void);
 
 uint64_t riegeli_hash(const uint8_t *bytes, size_t count);
@@ -94,6 +104,9 @@ uint32_t riegeli_verify(const uint8_t *file, size_t size, struct riegeli_totals 
 uint32_t riegeli_read_chunk(const uint8_t *file, size_t size, uint64_t at, struct riegeli_chunk *chunk,
                             uint8_t *values, size_t values_room, uint64_t *ends, size_t ends_room,
                             struct riegeli_fault *fault);
+
+uint32_t riegeli_recover(const uint8_t *file, size_t size, uint64_t at, struct riegeli_piece *piece,
+                         uint8_t *values, size_t values_room, uint64_t *ends, size_t ends_room);
 
 uint32_t riegeli_split(const uint8_t *file, size_t size, uint64_t at, uint64_t *begin, struct riegeli_fault *fault);
 

@@ -4,3 +4,6 @@ pub mod SplitSteps
 pub mod RecordEnds
 pub mod SeekSteps
 pub mod RepairSteps
+pub mod RecoverSteps
+pub mod ToldPieces
+pub mod UnkeptPieces

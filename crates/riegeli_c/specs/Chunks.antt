@@ -42,3 +42,8 @@ pub record AreGiven (records : List (List ℕ)) (values ends : List ℕ) : Type 
 -- there is too little room for records
 abbrev pub IsTooSmall : List (List ℕ) → (values ends : List ℕ) → Type 0
 IsTooSmall records values ends = (length values < length (concat records)) ⊎ (length ends < length records)
+
+-- the status by which records are given: 0 where there is room for them and 4 where there is too little, or 3 for want of memory
+abbrev pub IsStatusFor : List (List ℕ) → (values ends : List ℕ) → (status : ℕ) → Type 0
+IsStatusFor records values ends status =
+    ((status ≡ 0) × (¬ IsTooSmall records values ends)) ⊎ ((status ≡ 4) × IsTooSmall records values ends) ⊎ (status ≡ 3)

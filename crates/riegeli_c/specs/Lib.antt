@@ -6,3 +6,5 @@ pub mod Totals
 pub mod Splits
 pub mod Seeks
 pub mod Repairs
+pub mod Recovers
+pub mod Finding

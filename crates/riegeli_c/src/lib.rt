@@ -4,7 +4,9 @@
 #![tactic(auto)]
 
 mod faults;
+pub mod laws;
 mod reading;
+mod recovering;
 mod repairing;
 mod seeking;
 mod splitting;
@@ -12,6 +14,7 @@ mod versions;
 
 pub use faults::FaultAt;
 pub use reading::{ChunkTold, FileTotals, riegeli_read_chunk, riegeli_verify};
+pub use recovering::{PieceTold, riegeli_recover};
 pub use repairing::{RegionTold, RepairTold, riegeli_repair};
 pub use seeking::{FoundAt, riegeli_find, riegeli_seek};
 pub use splitting::riegeli_split;

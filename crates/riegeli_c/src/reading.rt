@@ -200,8 +200,9 @@ fn what_number(what: &What) -> u32
 }
 
 /// Puts records into room, where that is enough, and answers whether it is.
-fn put_records(records: &Records, values: &mut [u8], ends: &mut [u64]) -> bool
+pub(crate) fn put_records(records: &Records, values: &mut [u8], ends: &mut [u64]) -> bool
     ensures given { result ≡ true → AreGiven records.now values.new ends.new }
+    ensures fits { result ≡ true → ¬ IsTooSmall records.now values.old ends.old }
     ensures room { result ≡ false → IsTooSmall records.now values.old ends.old }
 {
     let bytes = records.values();
