@@ -1,0 +1,415 @@
+"""Tests of the module `riegeli`, of what no clause of the library says."""
+import gc
+import hashlib
+import os
+import pickle
+import random
+import struct
+import subprocess
+import sys
+import tempfile
+import threading
+import unittest
+import warnings
+from pathlib import Path
+
+sys.path.insert(0, str(Path(__file__).resolve().parent))
+import riegeli  # noqa: E402
+from riegeli import Fault, Reader, Reason, Region, Writer  # noqa: E402
+
+LETTERS = [b"a", b"b", b"c"]
+
+
+def chunk(kind, data, records=0, decoded=0):
+    """A chunk that lies in one block, with right hashes."""
+    rest = struct.pack("<QQ", len(data), riegeli.hash(data)) + kind + records.to_bytes(7, "little") + struct.pack("<Q", decoded)
+    return struct.pack("<Q", riegeli.hash(rest)) + rest + data
+
+
+class Case(unittest.TestCase):
+    def setUp(self):
+        folder = tempfile.TemporaryDirectory()
+        self.addCleanup(folder.cleanup)
+        self.folder = Path(folder.name)
+        self.path = self.folder / "x.riegeli"
+
+    def written(self, records, path=None, **options):
+        with Writer(path or self.path, **options) as writer:
+            writer.write_all(records)
+        return path or self.path
+
+    def changed(self, place, path=None):
+        """The file with another byte at a place."""
+        path = path or self.path
+        data = bytearray(path.read_bytes())
+        data[place] ^= 0xFF
+        path.write_bytes(data)
+        return path
+
+    def refused(self, place, reason):
+        outer = self
+
+        class Context:
+            def __enter__(self):
+                return self
+
+            def __exit__(self, kind, error, _):
+                outer.assertIs(kind, Fault, error)
+                outer.assertEqual((error.place, error.reason), (place, reason))
+                return True
+
+        return Context()
+
+
+class Reading(Case):
+    def test_records_positions_and_chunks(self):
+        self.written(LETTERS + [b"", b"de"], every=2)
+        with Reader(self.path) as reader:
+            self.assertEqual(list(reader), LETTERS + [b"", b"de"])
+            self.assertEqual(list(reader), LETTERS + [b"", b"de"])
+            positions, records = zip(*reader.items())
+            self.assertEqual((positions[:3], records), ((64, 65, 110), (b"a", b"b", b"c", b"", b"de")))
+            first, second, third = reader.chunks()
+            self.assertEqual((first.begin, first.end, first.values, list(first.ends)), (64, 110, b"ab", [1, 2]))
+            self.assertEqual((second[0], second[1], second[-1], second[-2], len(second)), (b"c", b"", b"", b"c", 2))
+            self.assertEqual(list(third.items()), [(third.begin, b"de")])
+            self.assertIn(b"c", second)
+            with self.assertRaises(IndexError):
+                second[2]
+            self.assertEqual(list(pickle.loads(pickle.dumps(second))), [b"c", b""])
+            self.assertEqual(reader.verify(), (4, 5, self.path.stat().st_size, 0))
+            self.assertEqual(riegeli.verify(self.path).records, 5)
+
+    def test_a_file_in_memory(self):
+        data = self.written(LETTERS).read_bytes()
+        for it in data, bytearray(data), memoryview(data), memoryview(bytearray(b"x" + data))[1:]:
+            with Reader.over(it) as reader:
+                self.assertEqual(list(reader), LETTERS)
+                self.assertEqual(reader.at(65), (65, b"b", 64))
+
+    def test_empty_files_and_lists(self):
+        self.path.write_bytes(b"")
+        for reader in Reader(self.path), Reader.over(b""), Reader.over(bytearray()):
+            with reader:
+                self.assertEqual(reader.size, 0)
+                for call in reader.verify, lambda: list(reader), lambda: list(reader.chunks()):
+                    with self.refused(0, Reason.NoSignature):
+                        call()
+                self.assertEqual((list(reader.recover()), reader.at(0), reader.find(b""), reader.split(0)), ([], None, None, 0))
+        self.written([])
+        with Reader(self.path) as reader:
+            self.assertEqual((list(reader), reader.size, reader.at(0), reader.find(b"a")), ([], 64, None, None))
+
+    def test_a_fault_comes_behind_the_records_before_it(self):
+        self.written(LETTERS, chunk=1)
+        self.changed(116)
+        with Reader(self.path) as reader:
+            records = iter(reader)
+            self.assertEqual(next(records), b"a")
+            with self.refused(108, Reason.HeaderHash):
+                next(records)
+            with self.refused(108, Reason.HeaderHash):
+                reader.verify()
+        fault = pickle.loads(pickle.dumps(Fault(108, 3)))
+        self.assertEqual((str(fault), fault.reason), ("refused 108 HeaderHash", Reason.HeaderHash))
+
+    def test_chunks_that_are_not_read(self):
+        front = self.written([b"a"]).read_bytes()
+        for kind, data, reason in (b"r", b"b\0\0", Reason.Compressed), (b"t", b"b\0\0", Reason.Transposed):
+            for padding in 0, 65536 - 108 - 40, 65536 - 108 - 40 - 24:
+                file = front + chunk(b"p", bytes(padding)) if padding else front
+                if padding == 65536 - 108 - 40 - 24:
+                    # The header's first 24 bytes stand before a block header.
+                    whole, place = chunk(kind, data, 1), len(file)
+                    between = struct.pack("<QQ", 24, len(whole))
+                    file += whole[:24] + struct.pack("<Q", riegeli.hash(between)) + between + whole[24:]
+                elif padding:
+                    whole, place = chunk(kind, data, 1), len(file)
+                    between = struct.pack("<QQ", 0, 24 + len(whole))
+                    file += struct.pack("<Q", riegeli.hash(between)) + between + whole
+                else:
+                    place = len(file)
+                    file += chunk(kind, data, 1)
+                with self.subTest(reason=reason, padding=padding), Reader.over(file) as reader:
+                    self.assertEqual(reader.verify().unread, 1)
+                    with self.refused(place, reason):
+                        list(reader)
+                    self.assertEqual(list(reader.recover()), [b"a", Region(place, len(file), reason)])
+
+    def test_searches(self):
+        records = [b"%06d" % i for i in range(0, 60000, 2)]
+        self.written(records, chunk=1000)
+        with Reader(self.path) as reader:
+            items = list(reader.items())
+            for i in random.Random(1).sample(range(len(items)), 100):
+                found = reader.at(items[i][0])
+                self.assertEqual(found[:2], items[i])
+                self.assertIn(found[:2], reader.items(found.begin))
+                self.assertEqual(reader.find(records[i])[:2], items[i])
+                self.assertEqual(reader.find(b"%06d" % (2 * i - 1))[:2], items[i])
+            self.assertEqual(reader.find(b"1"), None)
+            self.assertEqual(reader.at(2**64 - 1), None)
+            self.assertEqual(reader.find(bytearray(b""))[:2], items[0])
+            for number in -1, 2**64:
+                for call in reader.at, reader.split, lambda it: next(reader.chunks(it)):
+                    with self.assertRaises(ValueError):
+                        call(number)
+
+    def test_a_long_record_is_found(self):
+        self.written([b"a", b"b" * 100000])
+        with Reader(self.path) as reader:
+            self.assertEqual(reader.find(b"b").record, b"b" * 100000)
+
+    def test_parts(self):
+        draw = random.Random(2)
+        records = [draw.randbytes(draw.randrange(300)) for _ in range(5000)]
+        self.written(records, chunk=3000, pad="both")
+        with Reader(self.path) as reader:
+            for step in 1000, 65536, 70001, reader.size, 2 * reader.size:
+                places = [reader.split(at) for at in range(0, reader.size, step)] + [reader.size]
+                parts = [list(reader.records(*part)) for part in zip(places, places[1:])]
+                self.assertEqual(sum(parts, []), records)
+            self.assertEqual(reader.split(reader.size), reader.size)
+            with self.assertRaisesRegex(ValueError, "no chunk begins at 66000: the one at 65536"):
+                list(reader.records(0, 66000))
+            with self.assertRaisesRegex(ValueError, "no chunk can begin at 3"):
+                list(reader.records(3))
+
+    def test_what_cannot_be_opened(self):
+        for path in self.folder / "none", self.folder:
+            with self.assertRaises((OSError, ValueError)):
+                Reader(path)
+        os.mkfifo(self.folder / "pipe")
+        with self.assertRaisesRegex(ValueError, "no regular file"):
+            Reader(self.folder / "pipe")
+
+    def test_after_close(self):
+        reader = Reader(self.written(LETTERS, every=1))
+        records = iter(reader)
+        self.assertEqual(next(records), b"a")
+        reader.close()
+        reader.close()
+        for call in (
+            lambda: next(records), lambda: list(reader), reader.verify, lambda: reader.at(0), lambda: reader.find(b""),
+            lambda: reader.split(0), lambda: list(reader.recover()), lambda: reader.repair(self.folder / "y"), reader.__enter__,
+        ):
+            with self.assertRaisesRegex(ValueError, "closed"):
+                call()
+        self.assertEqual(os.listdir(self.folder), ["x.riegeli"])
+
+    def test_a_sparse_file_of_64_gigabytes(self):
+        self.written(LETTERS)
+        os.truncate(self.path, 1 << 36)
+        with Reader(self.path) as reader:
+            with self.refused(112, Reason.HeaderHash):
+                reader.verify()
+            self.assertEqual(reader.at(0).record, b"a")
+
+    def test_threads(self):
+        records = [b"%d" % i for i in range(50000)]
+        self.written(records, chunk=5000)
+        wanted, wrong = hashlib.sha256(b"\n".join(records)).digest(), []
+
+        def read(reader):
+            for _ in range(3):
+                if hashlib.sha256(b"\n".join(reader)).digest() != wanted or reader.verify().records != len(records):
+                    wrong.append(reader)
+
+        with Reader(self.path) as reader:
+            threads = [threading.Thread(target=read, args=[reader]) for _ in range(8)]
+            for thread in threads:
+                thread.start()
+            for thread in threads:
+                thread.join()
+        self.assertEqual(wrong, [])
+
+    def test_close_while_others_read(self):
+        self.written([bytes(1000)] * 20000)
+        for _ in range(20):
+            reader, ended = Reader(self.path), []
+
+            def read():
+                try:
+                    while True:
+                        reader.verify()
+                except ValueError as error:
+                    ended.append(str(error))
+
+            threads = [threading.Thread(target=read) for _ in range(4)]
+            for thread in threads:
+                thread.start()
+            reader.close()
+            for thread in threads:
+                thread.join()
+            self.assertEqual(ended, ["the reader is closed"] * 4)
+
+
+class Damage(Case):
+    def test_recover(self):
+        self.written(LETTERS, chunk=1)
+        self.changed(151)
+        with Reader(self.path) as reader:
+            region = Region(108, 152, Reason.DataHash)
+            self.assertEqual(list(reader.recover()), [b"a", region, b"c"])
+            first, told, second = reader.recover_chunks()
+            self.assertEqual((list(first.items()), told, list(second.items())), ([(64, b"a")], region, [(152, b"c")]))
+
+    def test_repair(self):
+        self.written(LETTERS, chunk=1)
+        self.changed(151)
+        to = self.folder / "y.riegeli"
+        to.write_bytes(b"old")
+        repaired = riegeli.repair(self.path, to)
+        self.assertEqual(repaired, (152, [Region(108, 152, Reason.DataHash)]))
+        with Reader(to) as reader:
+            self.assertEqual((list(reader), reader.size), ([b"a", b"c"], 152))
+        with self.assertRaises(riegeli.Stopped) as stopped:
+            riegeli.repair(self.path, to, most=43)
+        self.assertEqual((str(stopped.exception), to.stat().st_size), ("stopped 108 152 DataHash", 108))
+        self.assertEqual(riegeli.repair(self.path, to, most=44).bytes, 152)
+        self.assertEqual(sorted(os.listdir(self.folder)), ["x.riegeli", "y.riegeli"])
+        with self.assertRaisesRegex(ValueError, "is the file that is read"):
+            riegeli.repair(self.path, os.path.join(self.folder, ".", "x.riegeli"))
+
+    def test_a_repair_of_many_regions(self):
+        self.written([b"%d" % i for i in range(5000)], chunk=1)
+        data = bytearray(self.path.read_bytes())
+        with Reader.over(bytes(data)) as reader:
+            places = [chunk.end - 1 for chunk in reader.chunks()][::2]
+        for place in places:
+            data[place] ^= 1
+        self.path.write_bytes(data)
+        self.assertEqual(len(riegeli.repair(self.path, self.folder / "y").regions), len(places))
+        with Reader(self.folder / "y") as reader:
+            self.assertEqual(list(reader), [b"%d" % i for i in range(1, 5000, 2)])
+
+    def test_a_repair_that_fails_leaves_nothing(self):
+        self.written(LETTERS)
+        with self.assertRaises(OSError):
+            riegeli.repair(self.path, self.folder / "none" / "y")
+        os.mkdir(self.folder / "y")
+        with self.assertRaises(OSError):
+            riegeli.repair(self.path, self.folder / "y")
+        self.assertEqual(sorted(os.listdir(self.folder)), ["x.riegeli", "y"])
+
+
+class Writing(Case):
+    def test_chunks_are_laid_as_records_come(self):
+        draw = random.Random(3)
+        records = [draw.randbytes(draw.randrange(5000)) for _ in range(3000)]
+        self.written(records)
+        self.assertGreater(self.path.stat().st_size, 7 << 20)
+        with Writer(self.folder / "y") as writer:
+            for record in records:
+                writer.write(record)
+            self.assertGreater((self.folder / "y").stat().st_size, 3 << 20)
+        self.assertEqual((self.folder / "y").read_bytes(), self.path.read_bytes())
+        with Reader(self.path) as reader:
+            self.assertEqual(list(reader), records)
+
+    def test_long_records(self):
+        records = [b"a" * (1 << 24), b"b", b"c" * (1 << 24), b""]
+        self.written(records, chunk=100)
+        with Reader(self.path) as reader:
+            self.assertEqual(list(reader), records)
+        with Writer(self.path) as writer:
+            with self.assertRaisesRegex(ValueError, "at most 16777216 bytes"):
+                writer.write(bytes((1 << 24) + 1))
+            writer.write(b"a")
+        self.assertEqual(riegeli.verify(self.path).records, 1)
+
+    def test_padding(self):
+        for pad, size in (None, 108), ("start", 65536 + 24 + 44), ("end", 65536), ("both", 131072):
+            self.written([b"a"], pad=pad)
+            self.assertEqual((pad, self.path.stat().st_size), (pad, size))
+            with Reader(self.path) as reader:
+                self.assertEqual(list(reader), [b"a"])
+
+    def test_wrong_words(self):
+        for options in {"chunk": 0}, {"chunk": (1 << 24) + 1}, {"every": 0}, {"every": (1 << 24) + 1}, {"pad": "none"}:
+            with self.assertRaises(ValueError):
+                Writer(self.path, **options)
+        self.assertFalse(self.path.exists())
+        with Writer(self.path) as writer:
+            for record in "text", 3, None, [b"a"]:
+                with self.assertRaises(TypeError):
+                    writer.write(record)
+            for record in bytearray(b"a"), memoryview(b"b"):
+                writer.write(record)
+        with Reader(self.path) as reader:
+            self.assertEqual(list(reader), [b"a", b"b"])
+
+    def test_an_error_within_keeps_what_was_written(self):
+        with self.assertRaises(KeyError):
+            with Writer(self.path) as writer:
+                writer.write(b"a")
+                raise KeyError
+        with Reader(self.path) as reader:
+            self.assertEqual(list(reader), [b"a"])
+
+    def test_after_close(self):
+        writer = Writer(self.path)
+        writer.close()
+        writer.close()
+        for call in lambda: writer.write(b"a"), lambda: writer.write_all([b"a"]), writer.__enter__:
+            with self.assertRaisesRegex(ValueError, "closed"):
+                call()
+
+    def test_a_writer_that_was_not_closed_warns(self):
+        with warnings.catch_warnings(record=True) as caught:
+            warnings.simplefilter("default")
+            Writer(self.path).write(b"a")
+            gc.collect()
+        self.assertEqual(len(caught), 1)
+        self.assertRegex(str(caught[0].message), "x.riegeli.* was not closed: 1 records are not in it")
+        # Also without a filter, and at the end of the process.
+        program = f"import riegeli; it = riegeli.Writer({str(self.path)!r}); it.write(b'a')"
+        environment = {**os.environ, "PYTHONPATH": str(Path(riegeli.__file__).parent)}
+        done = subprocess.run([sys.executable, "-c", program], env=environment, stderr=subprocess.PIPE)
+        self.assertIn(b"was not closed: 1 records are not in it", done.stderr)
+
+    def test_a_full_disk(self):
+        with self.assertRaises(OSError):
+            with Writer("/dev/full") as writer:
+                writer.write_all([bytes(1 << 20)] * 10)
+        with self.assertRaises(OSError):
+            self.written(LETTERS, "/dev/full")
+        writer = Writer("/dev/full")
+        with self.assertRaises(OSError):
+            writer.write_all([bytes(1 << 20)] * 10)
+        for call in lambda: writer.write(b"a"), writer.close:
+            with self.assertRaisesRegex(ValueError, "isn't whole"):
+                call()
+        writer.close()
+
+    def test_several_threads_write(self):
+        with Writer(self.path, chunk=1000) as writer:
+            records = [[b"%d %d" % (i, k) + bytes(100) for k in range(20000)] for i in range(4)]
+            threads = [threading.Thread(target=writer.write_all, args=[it]) for it in records]
+            for thread in threads:
+                thread.start()
+            for thread in threads:
+                thread.join()
+        with Reader(self.path) as reader:
+            read = list(reader)
+        for i in range(4):
+            self.assertEqual([it for it in read if it.startswith(b"%d " % i)], records[i])
+        self.assertEqual(len(read), 80000)
+
+
+class Module(unittest.TestCase):
+    def test_the_manual_reads(self):
+        done = subprocess.run(
+            [sys.executable, "-m", "pydoc", "riegeli"], cwd=Path(riegeli.__file__).parent, stdout=subprocess.PIPE, check=True
+        )
+        for word in b"class Reader", b"class Writer", b"class Fault", b"verify(path", b"HighwayHash-64":
+            self.assertIn(word, done.stdout)
+
+    def test_a_library_that_is_not_there_is_told(self):
+        environment = {**os.environ, "RIEGELI_LIBRARY": "/none", "PYTHONPATH": str(Path(riegeli.__file__).parent)}
+        done = subprocess.run([sys.executable, "-c", "import riegeli"], env=environment, stderr=subprocess.PIPE)
+        self.assertIn(b"ImportError: riegeli: the library could not be loaded", done.stderr)
+
+
+if __name__ == "__main__":
+    unittest.main()

@@ -1,0 +1,130 @@
+"""Tests of the module `riegeli_dask`: with a cluster of processes, some of which are killed."""
+import os
+import sys
+import tempfile
+import threading
+import time
+import unittest
+from pathlib import Path
+
+sys.path.insert(0, str(Path(__file__).resolve().parent))
+import dask  # noqa: E402
+import dask.bag  # noqa: E402
+import riegeli  # noqa: E402
+import riegeli_dask  # noqa: E402
+from dask.distributed import Client, LocalCluster  # noqa: E402
+
+
+def slowly(record):
+    """The record, a little later for some, so that workers are killed in between."""
+    if record.endswith(b"000"):
+        time.sleep(0.01)
+    return record
+
+
+class Case(unittest.TestCase):
+    def setUp(self):
+        folder = tempfile.TemporaryDirectory()
+        self.addCleanup(folder.cleanup)
+        self.folder = Path(folder.name)
+
+    def written(self, name, records, **options):
+        with riegeli.Writer(self.folder / name, **options) as writer:
+            writer.write_all(records)
+        return self.folder / name
+
+
+class Alone(Case):
+    """With the scheduler of threads, which needs no cluster."""
+
+    def setUp(self):
+        super().setUp()
+        dask.config.set(scheduler="threads")
+
+    def test_parts_have_each_record_once(self):
+        records = [b"%d" % i * (i % 50) for i in range(20000)]
+        path = self.written("x", records, chunk=3000)
+        size = path.stat().st_size
+        for part_bytes in 5000, 65536, 100_001, size, 2 * size:
+            bag = riegeli_dask.read(path, part_bytes)
+            self.assertEqual(bag.npartitions, -(-size // part_bytes))
+            self.assertEqual(bag.compute(), records)
+
+    def test_several_files_and_none(self):
+        paths = [self.written(name, [name.encode(), b""]) for name in "abc"] + [self.written("none", [])]
+        self.assertEqual(riegeli_dask.read(paths).compute(), [b"a", b"", b"b", b"", b"c", b""])
+
+    def test_a_fault_is_raised(self):
+        path = self.written("x", [bytes(1000)] * 1000, chunk=5000)
+        data = bytearray(path.read_bytes())
+        data[500_000] ^= 1
+        path.write_bytes(data)
+        with self.assertRaises(riegeli.Fault) as caught:
+            riegeli_dask.read(path, 100_000).compute()
+        with self.assertRaises(riegeli.Fault) as wanted:
+            riegeli.verify(path)
+        self.assertEqual(str(caught.exception), str(wanted.exception))
+        (self.folder / "empty").touch()
+        with self.assertRaises(riegeli.Fault):
+            riegeli_dask.read(self.folder / "empty").compute()
+
+    def test_a_file_that_grew_is_refused(self):
+        bag = riegeli_dask.read(self.written("x", [b"a"]))
+        self.written("x", [b"a", b"b"])
+        with self.assertRaisesRegex(ValueError, "had 108 bytes when the bag was made"):
+            bag.compute()
+
+    def test_write(self):
+        records = [b"%d" % i for i in range(1000)]
+        paths = riegeli_dask.write(dask.bag.from_sequence(records, npartitions=12), self.folder / "made", every=7)
+        self.assertEqual(sorted(paths), paths)
+        self.assertEqual([Path(path).name for path in paths][:2], ["part-00.riegeli", "part-01.riegeli"])
+        self.assertEqual(sorted(os.listdir(self.folder / "made")), [Path(path).name for path in paths])
+        for path in paths:
+            self.assertEqual(os.path.getsize(path) % 65536, 0)
+        self.assertEqual(riegeli_dask.read(paths).compute(), records)
+        with self.assertRaises(FileExistsError):
+            riegeli_dask.write(dask.bag.from_sequence(records), self.folder / "made")
+
+
+class Cluster(Case):
+    """With four processes on this machine, of which some are killed while they work."""
+
+    def test_killed_workers(self):
+        # TRY_MEGABYTES=1024 is a try with a large file.
+        count = int(os.environ.get("TRY_MEGABYTES", 32)) << 20
+        records = [b"%012d" % i + bytes(86) for i in range(count // 100)]
+        path = self.written("x", records)
+        part = -(-path.stat().st_size // 16)
+        dask.config.set({"distributed.scheduler.allowed-failures": 100})
+        with LocalCluster(n_workers=4, threads_per_worker=1, dashboard_address=None) as cluster, Client(cluster) as client:
+            dask.config.set(scheduler=client.get)
+            bag = riegeli_dask.read(path, part)
+            self.assertEqual(bag.npartitions, 16)
+            made, killed, stop = [], [], threading.Event()
+
+            def kill():
+                while not stop.wait(0.5) and len(killed) < 3:
+                    process = next(iter(cluster.workers.values())).process.process
+                    if process is not None and process.pid:
+                        os.kill(process.pid, 9)
+                        killed.append(process.pid)
+
+            killer = threading.Thread(target=kill)
+            killer.start()
+            try:
+                made += riegeli_dask.write(bag.map(slowly), self.folder / "made")
+            finally:
+                stop.set()
+                killer.join()
+        self.assertGreater(len(killed), 0)
+        self.assertEqual(len(made), 16)
+        self.assertEqual(len(os.listdir(self.folder / "made")), 16)
+        read = (record for name in made for record in riegeli.Reader(name))
+        for record, wanted in zip(read, records):
+            self.assertEqual(record, wanted)
+        self.assertEqual(sum(riegeli.verify(name).records for name in made), len(records))
+
+
+if __name__ == "__main__":
+    unittest.main()

@@ -1,0 +1,120 @@
+use crate::{error_of, sys, Error};
+use std::io::Write;
+
+/// Whether padding is laid, so that the first chunk of records begins at a block, and the file ends at one.
+#[derive(Clone, Copy, Debug, Default, PartialEq, Eq)]
+pub enum Pad {
+    #[default]
+    None,
+    Start,
+    End,
+    Both,
+}
+
+/// How records are put into chunks.
+#[derive(Clone, Copy, Debug, PartialEq, Eq)]
+pub struct Options {
+    /// The records of a chunk cost at most so many bytes together, where a record costs its bytes and 8 more.
+    pub chunk: u64,
+    /// A chunk has at most so many records.
+    pub every: Option<u64>,
+    pub pad: Pad,
+}
+
+impl Default for Options {
+    fn default() -> Options {
+        Options {
+            chunk: 1 << 20,
+            every: None,
+            pad: Pad::None,
+        }
+    }
+}
+
+/// Writes a record file as records come. Those of chunks that aren't full yet are held until `finish`, which has to be called.
+#[derive(Debug)]
+#[must_use = "`finish` has to be called"]
+pub struct Writer<W: Write> {
+    to: W,
+    options: sys::Options,
+    /// The records that wait: their bytes, and where each ends.
+    values: Vec<u8>,
+    ends: Vec<u64>,
+    at: u64,
+    room: Vec<u8>,
+}
+
+impl<W: Write> Writer<W> {
+    pub fn new(to: W, options: Options) -> Writer<W> {
+        Writer {
+            to,
+            options: sys::Options {
+                chunk: options.chunk,
+                every: options.every.unwrap_or(0),
+                pad: options.pad as u32,
+            },
+            values: Vec::new(),
+            ends: Vec::new(),
+            at: 0,
+            room: Vec::new(),
+        }
+    }
+
+    /// Puts a record of at most 2^24 bytes behind those before. After an error the file isn't whole.
+    pub fn write(&mut self, record: &[u8]) -> Result<(), Error> {
+        self.values.extend_from_slice(record);
+        self.ends.push(self.values.len() as u64);
+        let cost = self.values.len() as u64 + 8 * self.ends.len() as u64;
+        if cost > self.options.chunk.saturating_mul(4).max(1 << 20) {
+            self.put(false)?;
+        }
+        Ok(())
+    }
+
+    /// Writes what was held, and gives back what is written to.
+    pub fn finish(mut self) -> Result<W, Error> {
+        self.put(true)?;
+        self.to.flush()?;
+        Ok(self.to)
+    }
+
+    /// Lays the chunks that are full, or at last all, and writes them.
+    fn put(&mut self, last: bool) -> Result<(), Error> {
+        let mut written = sys::Written::default();
+        loop {
+            // SAFETY: each pointer is that of a slice with its length, or of a struct of this call alone.
+            let status = unsafe {
+                sys::riegeli_write(
+                    self.values.as_ptr(),
+                    self.values.len(),
+                    self.ends.as_ptr(),
+                    self.ends.len(),
+                    &self.options,
+                    self.at,
+                    last.into(),
+                    &mut written,
+                    self.room.as_mut_ptr(),
+                    self.room.len(),
+                )
+            };
+            match status {
+                sys::DONE => break,
+                sys::ROOM => self.room.resize((written.end - self.at) as usize, 0),
+                _ => return Err(error_of(status, &sys::Fault::default())),
+            }
+        }
+        let size = (written.end - self.at) as usize;
+        self.to.write_all(&self.room[..size])?;
+        self.at = written.end;
+        let laid = written.records as usize;
+        let bytes = if laid == 0 { 0 } else { self.ends[laid - 1] };
+        self.values.drain(..bytes as usize);
+        self.ends.drain(..laid);
+        self.ends.iter_mut().for_each(|end| *end -= bytes);
+        if size > 0 {
+            // Padding at the start is laid once.
+            self.options.pad &= !(Pad::Start as u32);
+        }
+        Ok(())
+    }
+}
