@@ -10,6 +10,7 @@ done anew, as where a worker was killed, gives the same records and makes the sa
 """
 from __future__ import annotations
 
+import glob
 import os
 import uuid
 from collections.abc import Iterable, Sequence
@@ -51,7 +52,13 @@ def write(bag: dask.bag.Bag, folder: str | os.PathLike[str], chunk: int = 1 << 2
     parts = bag.to_delayed()
     digits = len(str(len(parts)))
     paths = [os.path.join(folder, f"part-{i:0{digits}}.riegeli") for i in range(len(parts))]
-    return list(dask.compute(*[dask.delayed(_made)(part, path, chunk, every) for part, path in zip(parts, paths)]))
+    unfinished = os.path.join(folder, f".{uuid.uuid4().hex}")
+    try:
+        return list(dask.compute(*[dask.delayed(_made)(*it, unfinished, chunk, every) for it in zip(parts, paths)]))
+    finally:
+        # What workers left that were killed.
+        for path in glob.glob(f"{glob.escape(unfinished)}-*"):
+            os.unlink(path)
 
 
 def _part(path: str, size: int, at: int, part_bytes: int) -> list[bytes]:
@@ -61,15 +68,10 @@ def _part(path: str, size: int, at: int, part_bytes: int) -> list[bytes]:
         return list(reader.records(reader.split(at), reader.split(at + part_bytes)))
 
 
-def _made(records: Iterable[bytes], path: str, chunk: int, every: int | None) -> str:
+def _made(records: Iterable[bytes], path: str, unfinished: str, chunk: int, every: int | None) -> str:
     """Makes a file, which takes its place whole: another worker may make the same one."""
-    new = f"{os.path.dirname(path)}/.{uuid.uuid4().hex}"
-    try:
-        with riegeli.Writer(new, chunk, every, pad="both") as writer:
-            writer.write_all(records)
-        os.replace(new, path)
-    except BaseException:
-        if os.path.exists(new):
-            os.unlink(new)
-        raise
+    new = f"{unfinished}-{uuid.uuid4().hex}"
+    with riegeli.Writer(new, chunk, every, pad="both") as writer:
+        writer.write_all(records)
+    os.replace(new, path)
     return path

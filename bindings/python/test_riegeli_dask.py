@@ -1,5 +1,6 @@
 """Tests of the module `riegeli_dask`: with a cluster of processes, some of which are killed."""
 import os
+import signal
 import sys
 import tempfile
 import threading
@@ -88,7 +89,7 @@ class Alone(Case):
 
 
 class Cluster(Case):
-    """With four processes on this machine, of which some are killed while they work."""
+    """With four processes on this machine, of which two are killed while they work."""
 
     def test_killed_workers(self):
         # TRY_MEGABYTES=1024 is a try with a large file.
@@ -101,25 +102,21 @@ class Cluster(Case):
             dask.config.set(scheduler=client.get)
             bag = riegeli_dask.read(path, part)
             self.assertEqual(bag.npartitions, 16)
-            made, killed, stop = [], [], threading.Event()
+            killed = []
 
             def kill():
-                while not stop.wait(0.5) and len(killed) < 3:
-                    process = next(iter(cluster.workers.values())).process.process
-                    if process is not None and process.pid:
-                        os.kill(process.pid, 9)
-                        killed.append(process.pid)
+                """Kills two of the four workers: one once two files are made, and another one once six are."""
+                for process, files in zip(sorted(client.run(os.getpid).values()), (2, 6)):
+                    while len(list(self.folder.glob("made/part-*"))) < files:
+                        time.sleep(0.01)
+                    os.kill(process, signal.SIGKILL)
+                    killed.append(process)
 
-            killer = threading.Thread(target=kill)
+            killer = threading.Thread(target=kill, daemon=True)
             killer.start()
-            try:
-                made += riegeli_dask.write(bag.map(slowly), self.folder / "made")
-            finally:
-                stop.set()
-                killer.join()
-        self.assertGreater(len(killed), 0)
-        self.assertEqual(len(made), 16)
-        self.assertEqual(len(os.listdir(self.folder / "made")), 16)
+            made = riegeli_dask.write(bag.map(slowly), self.folder / "made")
+        self.assertEqual((len(killed), len(made)), (2, 16))
+        self.assertEqual(sorted(os.listdir(self.folder / "made")), [os.path.basename(name) for name in made])
         read = (record for name in made for record in riegeli.Reader(name))
         for record, wanted in zip(read, records):
             self.assertEqual(record, wanted)
