@@ -1,7 +1,4 @@
-ghost use Rattle.std.specs.Prelude.{◌≡◌};
-ghost use Rattle.record_io.specs.Calls.{OnlyCounts};
-ghost use Rattle.record_io.specs.Seen.{seen_stream};
-ghost use Rattle.command_frame.specs.Endings.{SaysEnd};
+ghost use Rattle.command_frame.specs.Endings.{EndsInNotes};
 ghost use Rattle.join_command.specs.JoiningEnds.{joining_ends};
 
 use chunk_reader::Fault;
@@ -20,10 +17,7 @@ pub(crate) struct Refusal {
 
 /// Says in notes why the work ended before it was done.
 pub(crate) fn end_joining<E: Sink>(ended: Result<(), Ending<Refusal>>, notes: &mut E) -> Status
-    ensures told { SaysEnd joining_ends ended result (seen_stream E.taken E.faults notes.old)
-        (seen_stream E.taken E.faults notes.new) }
-    ensures notes_kept { result ≡ Status.Ok → notes.new ≡ notes.old }
-    ensures notes { OnlyCounts E.lent E.faults ⊥ notes.old notes.new }
+    ensures notes { EndsInNotes E.taken E.lent E.faults joining_ends ended result notes.old notes.new }
 {
     match ended {
         Ok(()) => Status::Ok,

@@ -1,7 +1,6 @@
-ghost use Rattle.std.specs.Prelude.{◌≡◌};
 ghost use Rattle.record_io.specs.Calls.{OnlyCounts};
 ghost use Rattle.record_io.specs.Seen.{seen_stream};
-ghost use Rattle.command_frame.specs.Endings.{SaysEnd, SaysAtEnd};
+ghost use Rattle.command_frame.specs.Endings.{EndsInNotes, SaysAtEnd};
 ghost use Rattle.join_command.specs.CollectingEnds.{collecting_ends, uncollected_status, uncollected_text};
 
 use chunk_reader::Fault;
@@ -28,10 +27,7 @@ pub(crate) fn end_collecting<E: Sink>(
     ended: Result<(), Ending<Uncollected>>,
     notes: &mut E,
 ) -> Status
-    ensures told { SaysEnd collecting_ends ended result (seen_stream E.taken E.faults notes.old)
-        (seen_stream E.taken E.faults notes.new) }
-    ensures notes_kept { result ≡ Status.Ok → notes.new ≡ notes.old }
-    ensures notes { OnlyCounts E.lent E.faults ⊥ notes.old notes.new }
+    ensures notes { EndsInNotes E.taken E.lent E.faults collecting_ends ended result notes.old notes.new }
 {
     match ended {
         Ok(()) => Status::Ok,

@@ -2,7 +2,7 @@ ghost use lib.Chars.{codes};
 ghost use Rattle.std.specs.Prelude.{◌≡◌, ◌-◌, ◌≤◌};
 ghost use Rattle.record_io.specs.Calls.{OnlyCounts};
 ghost use Rattle.record_io.specs.Seen.{seen_stream};
-ghost use Rattle.command_frame.specs.Endings.{SaysEnd, SaysAtEnd, SpeaksIn};
+ghost use Rattle.command_frame.specs.Endings.{EndsInNotes, SaysAtEnd};
 ghost use Rattle.recover_command.specs.WalkingEnds.{walk_ends};
 ghost use Rattle.damage_skip.specs.Bounds.{may_skip};
 ghost use Rattle.damage_skip.specs.Regions.{region_text};
@@ -24,9 +24,7 @@ pub fn may_skip(most: Option<u64>, region: &Region) -> bool
 
 /// Says in notes why a walk ended, where it did before the file.
 pub fn end_walk<E: Sink>(ended: Result<Status, Ending<Region>>, notes: &mut E) -> Status
-    ensures told { SaysEnd walk_ends ended result (seen_stream E.taken E.faults notes.old)
-        (seen_stream E.taken E.faults notes.new) }
-    ensures notes { SpeaksIn E.lent E.faults result notes.old notes.new }
+    ensures notes { EndsInNotes E.taken E.lent E.faults walk_ends ended result notes.old notes.new }
 {
     match ended {
         Ok(status) => status,

@@ -1,5 +1,4 @@
-ghost use Rattle.std.specs.Prelude.{◌≡◌, ◌<◌, ◌≤◌, ◌⊎◌, Some, Ok, Err, [], ◌∷◌, IfErr, IfOk, IfSome, IsSomeAnd, OnOk, length};
-ghost use Rattle.record_io.specs.Outside.{Rose};
+ghost use Rattle.std.specs.Prelude.{◌≡◌, ◌<◌, ◌≤◌, ◌⊎◌, Some, Ok, Err, [], ◌∷◌, IfErr, IfOk, IfSome, IsSomeAnd, length};
 ghost use Rattle.record_io.specs.Calls.{OnlyCounts, PutsTo};
 ghost use Rattle.record_io.specs.Seen.{seen_file, seen_stream};
 ghost use Rattle.chunk_reader.specs.declared.reasons.Fault.{Fault};
@@ -7,13 +6,12 @@ ghost use Rattle.record_append.specs.AppendAnswers.{AnswersGrown, KeepsBy};
 ghost use Rattle.record_append.specs.Devices.{CountsFaults};
 ghost use Rattle.record_append.specs.Grown.{IsRefusedToGrow, RefusesFor};
 ghost use Rattle.record_writer.specs.OptionLimits.{AreInLimits};
-ghost use Rattle.command_frame.specs.Endings.{SaysEnd};
+ghost use Rattle.command_frame.specs.Endings.{EndsInNotes};
 ghost use Rattle.command_frame.specs.FileAnswers.{IsInReach, most_file_bytes};
 ghost use Rattle.command_frame.specs.FileSizes.{IsUnsized};
 ghost use Rattle.command_frame.specs.Runs.{Runs};
 ghost use Rattle.command_frame.specs.RunObjects.{Seen};
-ghost use Rattle.command_frame.specs.RunTakes.{TakesAtMost};
-ghost use Rattle.write_command.specs.Input.{most_input_taken};
+ghost use Rattle.write_command.specs.LineFeeds.{ReadsLines};
 ghost use Rattle.riegeli_tool.specs.AppendCommand.{append_meaning, appended_text, lines_taken};
 ghost use Rattle.riegeli_tool.specs.AppendingEnds.{HasAppended, HasTold, IsSizedBy, KeepsOldAtEnd, appending_ends, end_of_append};
 
@@ -75,10 +73,9 @@ fn append_lines<R: Threads + Sync, I: Source, G: Device + Send, O: Sink>(
     ensures kept { IfSome (G.bytes grown.old) (λ file. IsSomeAnd (G.bytes grown.new) (λ held. KeepsOldAtEnd result words.now.cut file held)) }
     ensures sized { IsSizedBy result words.now (G.bytes grown.old) (G.told grown.new) }
     ensures handed { (G.handed grown.new ≡ G.handed grown.old) ⊎ HasTold (G.bytes grown.old) (G.told grown.new) (λ size. IsInReach (size ∷ [])) }
-    ensures read_to_end { OnOk result (IfSome (I.left input.old) (λ _. I.left input.new ≡ Some [])) }
-    ensures input_taken { TakesAtMost most_input_taken (I.left input.old) (I.left input.new) }
-    ensures input_cause { result ≡ Err (Ending.Cut Cut.Input) → Rose (I.faults input.old) (I.faults input.new) }
-    ensures input_count { I.faults input.old ≤ I.faults input.new }
+    ensures input { ReadsLines result (result ≡ Err (Ending.Cut Cut.Input))
+        (seen_stream I.left I.faults input.old)
+        (seen_stream I.left I.faults input.new) }
     ensures grown { CountsFaults G.faults (result ≡ Err (Ending.Cut Cut.Grown)) grown.old grown.new }
     ensures out { OnlyCounts O.lent O.faults (result ≡ Err (Ending.Cut Cut.Out)) out.old out.new }
 {
@@ -130,10 +127,9 @@ fn grow<R: Threads + Sync, I: Source, G: Device + Send>(
         × IfSome (G.bytes grown.old) (λ file. IsRefusedToGrow words.now.cut file fault) }
     ensures still_told { IfSome (G.told grown.new) (λ told. told ≡ size) }
     ensures kept { IfSome (G.bytes grown.old) (λ file. IsSomeAnd (G.bytes grown.new) (λ held. KeepsBy result words.now.cut file held)) }
-    ensures read_to_end { OnOk result (IfSome (I.left input.old) (λ _. I.left input.new ≡ Some [])) }
-    ensures input_taken { TakesAtMost most_input_taken (I.left input.old) (I.left input.new) }
-    ensures input_cause { result ≡ Err AppendEnd.Input → Rose (I.faults input.old) (I.faults input.new) }
-    ensures input_count { I.faults input.old ≤ I.faults input.new }
+    ensures input { ReadsLines result (result ≡ Err AppendEnd.Input)
+        (seen_stream I.left I.faults input.old)
+        (seen_stream I.left I.faults input.new) }
     ensures grown { CountsFaults G.faults (result ≡ Err AppendEnd.Device) grown.old grown.new }
 {
     let mut lines = LineFeed::new(alloc, input, words.write.hex, MOST_INPUT);
@@ -171,10 +167,7 @@ fn put_appended<O: Sink>(appended: &Appended, out: &mut O) -> Result<(), Failed>
 
 /// Says in notes why the work ended before it was done.
 fn end_appending<E: Sink>(ended: Result<(), Ending<Unappended>>, notes: &mut E) -> Status
-    ensures told { SaysEnd appending_ends ended result (seen_stream E.taken E.faults notes.old)
-        (seen_stream E.taken E.faults notes.new) }
-    ensures notes_kept { result ≡ Status.Ok → notes.new ≡ notes.old }
-    ensures notes { OnlyCounts E.lent E.faults ⊥ notes.old notes.new }
+    ensures notes { EndsInNotes E.taken E.lent E.faults appending_ends ended result notes.old notes.new }
 {
     match ended {
         Ok(()) => Status::Ok,

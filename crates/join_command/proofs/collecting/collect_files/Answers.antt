@@ -9,8 +9,8 @@ returns-clause-runs g c = λ others.
     let here = g.met.S.Store g.world.𝓛 g.world.𝓜 g.world.𝓡 ((λ s x. x), (λ x. x), (λ x. x), λ x. x) in
     runs-collected g.S.Store.bytes g.S.Store.told g.S.Store.handed g.S.Store.name g.S.Store.faults c.args.files.now c.make_collected-ended.new.files
     others.input _ _ others.grown _ _ _ _ c.make_collected-ended.result _ (λ file. here.sized file) did.files
-    did.made.never_falls did.out.never_falls c.end_collecting.ensures.notes.never_falls did.collected
-    c.end_collecting.ensures.told did.made.cause did.out.cause
+    did.made.never_falls did.out.never_falls c.end_collecting.ensures.notes.speaks.counts.never_falls did.collected
+    c.end_collecting.ensures.notes.said did.made.cause did.out.cause
 
 pub returns-clause-files : goal.returns-clause-files
 returns-clause-files g c =

@@ -21,16 +21,16 @@ returns-clause-refused g c = λ fault is.
     let refused = c.append.ensures.refuses.refused fault is in
     ((c.append.ensures.refuses.untouched fault is).1 ∙ c.requires.told, refused.0, refused.1, refused.2)
 
-pub returns-clause-read_to_end : goal.returns-clause-read_to_end
-returns-clause-read_to_end g c =
-    let feed = c.append.new.feed in
-    read-spent c.append.result (g.I.Source.left c.args.input.now) _ _ _ (lines_taken c.args.words.now)
-    c.append.ensures.read_to_end c.new-lines.ensures.rest
-    (λ spent. let all : g.I.Source.left feed.input.now ≡ Some [] = input-spent feed.hex (length feed.held + feed.asked) feed.held _ spent in search rules)
-
-pub returns-clause-input_taken : goal.returns-clause-input_taken
-returns-clause-input_taken g c =
+pub returns-clause-input : goal.returns-clause-input
+returns-clause-input g c =
     let feed = c.append.new.feed in
     let taken : TakesAtMost most_input_taken (g.I.Source.left c.args.input.now) (g.I.Source.left feed.input.now) =
     taken-at_most _ _ most_input_taken feed.asked _ _ (c.append.ensures.feed.same_lent ∙ c.new-lines.ensures.origin) in
-    search rules
+    record {
+      to_end = read-spent c.append.result (g.I.Source.left c.args.input.now) _ _ _ (lines_taken c.args.words.now)
+          c.append.ensures.read_to_end c.new-lines.ensures.rest
+          (λ spent. let all : g.I.Source.left feed.input.now ≡ Some [] = input-spent feed.hex (length feed.held + feed.asked) feed.held _ spent in search rules);
+      taken = search rules;
+      cause = search rules;
+      never_falls = search rules;
+    }

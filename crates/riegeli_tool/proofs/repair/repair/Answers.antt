@@ -13,9 +13,9 @@ returns-clause-runs g c = λ others.
     let exact = still-sized _ _ _ did.same_bytes (g.met.S.Store.sized c.repair_file-ended.new.file) in
     runs-walking (repair_meaning words) (IsRepaired words) (IsRepairedSoFar words) words.most (repair_walks words) others.input _ _ _ _ others.grown _ _ _ _ _
     (file-keeps (repair_meaning words) (IsRepaired words) (IsRepairedSoFar words) (repair_walks words).one others.input _ _ _ _ others.grown _ _ _ _
-    did.file.never_falls did.made.never_falls did.out.never_falls (omega (arith, did.notes.never_falls, c.end_walk.ensures.notes.counts.never_falls)) exact did.handed
+    did.file.never_falls did.made.never_falls did.out.never_falls (omega (arith, did.notes.never_falls, c.end_walk.ensures.notes.speaks.counts.never_falls)) exact did.handed
     (told-files (repair_meaning words) others.input _ _ others.grown _ _
     (λ files. MayTakeWalk true words.most files (g.S.Store.handed c.args.file.now ∷ []) (g.S.Store.handed c.repair_file-ended.new.file ∷ [])) refl did.handed_of))
     c.repair_file-ended.result _ did.allowed exact
-    did.walks (λ short sound. did.so_far short (sound.made refl)) did.said c.end_walk.ensures.told did.notes.never_falls
+    did.walks (λ short sound. did.so_far short (sound.made refl)) did.said c.end_walk.ensures.notes.said did.notes.never_falls
     did.file.cause did.made.cause did.out.cause did.notes.cause
