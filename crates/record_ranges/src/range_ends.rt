@@ -1,7 +1,7 @@
 ghost use Rattle.std.specs.Prelude.{◌≡◌};
 ghost use Rattle.record_io.specs.Calls.{OnlyCounts, PutsTo};
 ghost use Rattle.record_io.specs.Seen.{seen_stream};
-ghost use Rattle.command_frame.specs.Endings.{SaysEnd, SaysAtEnd};
+ghost use Rattle.command_frame.specs.Endings.{EndsInNotes, SaysAtEnd};
 ghost use Rattle.record_ranges.specs.RangesCommand.{differ_text};
 ghost use Rattle.record_ranges.specs.RangesEnds.{end_of_read, range_ends};
 
@@ -33,10 +33,7 @@ pub(crate) fn end_of_read(end: ReadEnd) -> Ending<RangesStop>
 
 /// Says in notes why the work ended before it was done.
 pub(crate) fn end_ranges<E: Sink>(ended: Result<(), Ending<RangesStop>>, notes: &mut E) -> Status
-    ensures told { SaysEnd range_ends ended result (seen_stream E.taken E.faults notes.old)
-        (seen_stream E.taken E.faults notes.new) }
-    ensures notes_kept { result ≡ Status.Ok → notes.new ≡ notes.old }
-    ensures notes { OnlyCounts E.lent E.faults ⊥ notes.old notes.new }
+    ensures notes { EndsInNotes E.taken E.lent E.faults range_ends ended result notes.old notes.new }
 {
     match ended {
         Ok(()) => Status::Ok,

@@ -10,8 +10,8 @@ returns-clause-runs g c = λ others.
     let here = g.met.S.Store g.world.𝓛 g.world.𝓜 g.world.𝓡 ((λ s x. x), (λ x. x), (λ x. x), λ x. x) in
     runs-read g.S.Store.bytes g.S.Store.told g.S.Store.handed g.S.Store.name g.S.Store.faults c.args.files.now c.print_file-ended.new.files
     others.input others.made others.grown _ _ _ _ c.print_file-ended.result _ (omega (arith, c.requires.parts.0, c.requires.parts.1))
-    (λ file. here.sized file) did.files did.out.never_falls c.end_ranges.ensures.notes.never_falls
-    did.prints.of_file did.prints.only_whole c.end_ranges.ensures.told did.out.cause
+    (λ file. here.sized file) did.files did.out.never_falls c.end_ranges.ensures.notes.speaks.counts.never_falls
+    did.prints.of_file did.prints.only_whole c.end_ranges.ensures.notes.said did.out.cause
 
 pub returns-clause-files : goal.returns-clause-files
 returns-clause-files g c =
