@@ -7,9 +7,9 @@ use crate::record_lines::{BARE, LINES, put_record};
 use record_io::{Failed, PutBuffer, Sink};
 use simple_chunk::Records;
 
-/// How many bytes of lines are laid one behind another before they are put. It is more than a quarter of `LINES`, so a
-/// full page is not copied again.
-const PAGE: usize = 1 << 15;
+/// How many bytes of lines are laid one behind another before they are put. Such a page is not copied again, since it is
+/// more than a quarter of `LINES`.
+const PAGE: usize = 1 << 16;
 
 /// Puts a line for each record, as it is, by whole pages.
 pub(crate) fn put_plain<O: Sink>(
