@@ -6,6 +6,7 @@ use Rattle.std.proofs.lemmas.Bool.{cond-true, cond-false, and_from, and_left, an
 use Rattle.std.proofs.lemmas.List.{map-append, append_assoc, append-nil}
 use Rattle.std.proofs.lemmas.List.Elements.{filter-append}
 use Rattle.record_ranges.specs.Ranges.{records_between}
+use Rattle.record_ranges.specs.Stretches.{Adds}
 
 -- the position of a record
 abbrev pub position : ℕ × List ℕ → ℕ
@@ -73,28 +74,32 @@ enumerate-more : (n i : ℕ) (rs : List (List ℕ)) (r : List ℕ) → slice_get
 enumerate-more n i rs r at =
     subst (λ (m : ℕ). enumerate_from n (take m rs) ≡ enumerate_from n (take i rs) ++ (n + i, r) ∷ []) (sym (add-one i)) (enumerate_next n i rs r at)
 
--- so what lies there of one more
-pub between-more : (from to n i : ℕ) (rs old now new : List (List ℕ)) (r : List ℕ) → slice_get rs i ≡ Some r
-    → now ≡ old ++ records_between from to (enumerate_from n (take i rs)) → new ≡ now ++ records_between from to ((n + i, r) ∷ [])
-    → new ≡ old ++ records_between from to (enumerate_from n (take (i + 1) rs))
-between-more from to n i rs old now new r at so_far is =
-    is
-    ∙ ap (λ (xs : List (List ℕ)). xs ++ records_between from to ((n + i, r) ∷ [])) so_far
-    ∙ append_assoc old (records_between from to (enumerate_from n (take i rs))) (records_between from to ((n + i, r) ∷ []))
-    ∙ ap (λ (xs : List (List ℕ)). old ++ xs) (sym (between-append from to (enumerate_from n (take i rs)) ((n + i, r) ∷ []))
-    ∙ ap (records_between from to) (sym (enumerate-more n i rs r at)))
+module _ {K : Type 0} (kept_as : List (List ℕ) → K) where
+  -- so one more is kept of those that lie there
+  pub between-more : (from to n i : ℕ) (rs : List (List ℕ)) (old now new : K) (r : List ℕ) → slice_get rs i ≡ Some r
+      → Adds kept_as old now (records_between from to (enumerate_from n (take i rs))) → Adds kept_as now new (records_between from to ((n + i, r) ∷ []))
+      → Adds kept_as old new (records_between from to (enumerate_from n (take (i + 1) rs)))
+  between-more from to n i rs old now new r at so_far adds =
+      λ kept is.
+      let before : List (List ℕ) = records_between from to (enumerate_from n (take i rs)) in
+      adds (kept ++ before) (so_far kept is)
+      ∙ ap kept_as (append_assoc kept before (records_between from to ((n + i, r) ∷ [])))
+      ∙ ap (λ (xs : List (List ℕ)). kept_as (kept ++ xs)) (sym (between-append from to (enumerate_from n (take i rs)) ((n + i, r) ∷ []))
+      ∙ ap (records_between from to) (sym (enumerate-more n i rs r at)))
 
--- one that lies there goes to the others, and another doesn't
-pub taken-one : (from to position : ℕ) (r : List ℕ) (old new : List (List ℕ)) → from ≤ position → position < to → new ≡ old ++ r ∷ []
-    → new ≡ old ++ records_between from to ((position, r) ∷ [])
-taken-one from to position r old new low high is = is ∙ ap (λ (xs : List (List ℕ)). old ++ xs) (sym (between-one from to position r low high))
+  -- one that lies there is kept, and another isn't
+  pub taken-one : (from to position : ℕ) (r : List ℕ) (old new : K) → from ≤ position → position < to → Adds kept_as old new (r ∷ [])
+      → Adds kept_as old new (records_between from to ((position, r) ∷ []))
+  taken-one from to position r old new low high adds = subst (Adds kept_as old new) (sym (between-one from to position r low high)) adds
 
-pub left-before : (from to position : ℕ) (r : List ℕ) (old : List (List ℕ)) → position < from → old ≡ old ++ records_between from to ((position, r) ∷ [])
-left-before from to position r old low =
-    sym (append-nil old) ∙ ap (λ (xs : List (List ℕ)). old ++ xs) (sym (between-none from to position r (inl low)))
+  -- nothing more is kept
+  pub adds-none : (old : K) → Adds kept_as old old []
+  adds-none old = λ kept is. is ∙ ap kept_as (sym (append-nil kept))
 
-pub left-past : (from to position : ℕ) (r : List ℕ) (old : List (List ℕ)) → to ≤ position → old ≡ old ++ records_between from to ((position, r) ∷ [])
-left-past from to position r old high =
-    sym (append-nil old) ∙ ap (λ (xs : List (List ℕ)). old ++ xs) (sym (between-none from to position r (inr high)))
+  pub left-before : (from to position : ℕ) (r : List ℕ) (old : K) → position < from → Adds kept_as old old (records_between from to ((position, r) ∷ []))
+  left-before from to position r old low = subst (Adds kept_as old old) (sym (between-none from to position r (inl low))) (adds-none old)
 
-pub ruleset part_steps = (taken-one, left-before, left-past)
+  pub left-past : (from to position : ℕ) (r : List ℕ) (old : K) → to ≤ position → Adds kept_as old old (records_between from to ((position, r) ∷ []))
+  left-past from to position r old high = subst (Adds kept_as old old) (sym (between-none from to position r (inr high))) (adds-none old)
+
+pub ruleset part_steps = (adds-none, taken-one, left-before, left-past)

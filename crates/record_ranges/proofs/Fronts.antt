@@ -18,16 +18,16 @@ use Rattle.chunk_reader.proofs.SignedFiles.{begins_signed}
 use Rattle.record_ranges.specs.declared.stretches.Span.{Span}
 use Rattle.record_ranges.specs.declared.stretches.Stretch.{Stretch}
 use Rattle.record_ranges.specs.Ranges.{records_between}
-use Rattle.record_ranges.specs.Stretches.{IsReadFromFront, IsReadSoFar, AreReadOf}
-use Rattle.record_ranges.proofs.Runs.{between-chunk}
+use Rattle.record_ranges.specs.Stretches.{Adds, IsReadFromFront, IsReadSoFar, AreReadOf}
+use Rattle.record_ranges.proofs.Runs.{kept-chunk}
 
 -- one chunk more
-pub so_far-more : (bytes : Option (List ℕ)) (span : Span) (before after : ReaderValue) (j : Judged) (held old new : List (List ℕ)) → before.unread_ok ≡ false
+pub so_far-more : {K : Type 0} (kept_as : List (List ℕ) → K) (bytes : Option (List ℕ)) (span : Span) (before after : ReaderValue) (j : Judged) (held : List (List ℕ)) (old new : K) → before.unread_ok ≡ false
     → IsNextChunk bytes before after j → Holds (value_of_chunk j.chunk) held
-    → new ≡ old ++ records_between span.from span.to (enumerate_from j.begin held)
-    → IfSome bytes (λ file. IsReadSoFar file span before.totals old → IsReadSoFar file span after.totals new)
-so_far-more None span before after j held old new strict h holds records = tt
-so_far-more (Some file) span before after j held old new strict h holds records =
+    → Adds kept_as old new (records_between span.from span.to (enumerate_from j.begin held))
+    → IfSome bytes (λ file. IsReadSoFar kept_as file span before.totals old → IsReadSoFar kept_as file span after.totals new)
+so_far-more kept_as None span before after j held old new strict h holds adds = tt
+so_far-more kept_as (Some file) span before after j held old new strict h holds adds =
     λ s.
     let k : ChunkValue = value_of_chunk j.chunk in
     let chain = subst (λ (unread_ok : Bool). IsChainOf (IsAllowed unread_ok) s.chunks file before.totals.bytes) (sym strict) s.chain in
@@ -39,8 +39,8 @@ so_far-more (Some file) span before after j held old new strict h holds records 
       counted = on.1;
       held = HoldEach-append s.chunks (k ∷ []) s.lists (held ∷ []) s.held (holds, refl);
       are =
-          between-chunk span.from span.to 0 before.totals.bytes s.chunks k s.lists held old new s.held (bytes-chain s.chunks file before.totals.bytes s.chain)
-          s.are (records ∙ ap (λ (p : ℕ). old ++ records_between span.from span.to (enumerate_from p held)) h.judged.begin);
+          kept-chunk kept_as span.from span.to 0 before.totals.bytes j.begin s.chunks k s.lists held old new s.held
+          (bytes-chain s.chunks file before.totals.bytes s.chain) h.judged.begin s.are adds;
     }
 
 -- the first chunk shows that the file begins as files do
@@ -72,29 +72,30 @@ refused-front None at fault strict h = tt
 refused-front (Some file) at fault strict h = subst (λ (unread_ok : Bool). IsFault unread_ok file fault) strict h.is_fault
 
 -- parts of one file, which has one list of chunks
-same_file : (file : List ℕ) (ks : List ChunkValue) (lists : List (List (List ℕ))) (span : Span) (part : Stretch) → IsReadable ks file → HoldEach ks lists
-    → IsReadFromFront file span part → part.records ≡ records_between span.from span.to (placed_from 0 ks lists)
-same_file file ks lists span part is held h =
+same_file : {K : Type 0} (kept_as : List (List ℕ) → K) (file : List ℕ) (ks : List ChunkValue) (lists : List (List (List ℕ))) (span : Span) (part : Stretch K)
+    → IsReadable ks file → HoldEach ks lists → IsReadFromFront kept_as file span part
+    → part.kept ≡ kept_as (records_between span.from span.to (placed_from 0 ks lists))
+same_file kept_as file ks lists span part is held h =
     let same : h.chunks ≡ ks = AreLaid-one h.chunks ks file (length file) (omega arith) h.is_file.1.laid is.1.laid in
     let each : HoldEach ks h.lists = subst (λ (zs : List ChunkValue). HoldEach zs h.lists) same h.held in
-    h.records
-    ∙ ap (λ (zs : List ChunkValue). records_between span.from span.to (placed_from 0 zs h.lists)) same
-    ∙ ap (λ (zs : List (List (List ℕ))). records_between span.from span.to (placed_from 0 ks zs)) (HoldEach-one ks h.lists lists each held)
+    h.kept
+    ∙ ap (λ (zs : List ChunkValue). kept_as (records_between span.from span.to (placed_from 0 zs h.lists))) same
+    ∙ ap (λ (zs : List (List (List ℕ))). kept_as (records_between span.from span.to (placed_from 0 ks zs))) (HoldEach-one ks h.lists lists each held)
 
-same_files : (file : List ℕ) (ks : List ChunkValue) (lists : List (List (List ℕ))) (spans : List Span) (parts : List Stretch) → IsReadable ks file → HoldEach ks lists
-    → AllZip (IsReadFromFront file) spans parts
-    → AllZip (λ span s. s.records ≡ records_between span.from span.to (placed_from 0 ks lists)) spans parts
-same_files file ks lists [] [] is held h = tt
-same_files file ks lists [] (s ∷ parts) is held h = absurd h
-same_files file ks lists (p ∷ spans) [] is held h = absurd h
-same_files file ks lists (p ∷ spans) (s ∷ parts) is held h =
-    (same_file file ks lists p s is held h.0, same_files file ks lists spans parts is held h.1)
+same_files : {K : Type 0} (kept_as : List (List ℕ) → K) (file : List ℕ) (ks : List ChunkValue) (lists : List (List (List ℕ))) (spans : List Span) (parts : List (Stretch K))
+    → IsReadable ks file → HoldEach ks lists → AllZip (IsReadFromFront kept_as file) spans parts
+    → AllZip (λ span s. s.kept ≡ kept_as (records_between span.from span.to (placed_from 0 ks lists))) spans parts
+same_files kept_as file ks lists [] [] is held h = tt
+same_files kept_as file ks lists [] (s ∷ parts) is held h = absurd h
+same_files kept_as file ks lists (p ∷ spans) [] is held h = absurd h
+same_files kept_as file ks lists (p ∷ spans) (s ∷ parts) is held h =
+    (same_file kept_as file ks lists p s is held h.0, same_files kept_as file ks lists spans parts is held h.1)
 
-pub parts_read : (file : List ℕ) (size : ℕ) (spans : List Span) (parts : List Stretch) → size ≡ length file → 0 < length spans → AllZip (IsReadFromFront file) spans parts
-    → AreReadOf file size spans parts
-parts_read file size [] parts is some h = absurd (omega (arith, some))
-parts_read file size (p ∷ spans) [] is some h = absurd h
-parts_read file size (p ∷ spans) (s ∷ parts) is some h =
+pub parts_read : {K : Type 0} (kept_as : List (List ℕ) → K) (file : List ℕ) (size : ℕ) (spans : List Span) (parts : List (Stretch K)) → size ≡ length file → 0 < length spans
+    → AllZip (IsReadFromFront kept_as file) spans parts → AreReadOf kept_as file size spans parts
+parts_read kept_as file size [] parts is some h = absurd (omega (arith, some))
+parts_read kept_as file size (p ∷ spans) [] is some h = absurd h
+parts_read kept_as file size (p ∷ spans) (s ∷ parts) is some h =
     let first = h.0 in
     record {
       chunks = first.chunks;
@@ -102,5 +103,5 @@ parts_read file size (p ∷ spans) (s ∷ parts) is some h =
       is_file = first.is_file;
       are_placed = (first.lists, first.held, refl);
       sized = is;
-      each = same_files file first.chunks first.lists (p ∷ spans) (s ∷ parts) first.is_file first.held h;
+      each = same_files kept_as file first.chunks first.lists (p ∷ spans) (s ∷ parts) first.is_file first.held h;
     }

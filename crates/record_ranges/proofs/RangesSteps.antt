@@ -1,5 +1,5 @@
 -- How the work of `ranges` ends, step by step: its stores are asked their sizes, then the file is read, then it is printed.
-use Rattle.std.proofs.Common.{◌≡◌, ◌∙◌, ℕ, false, Option, Some, Result, Ok, Err, List, [], ◌∷◌, map, sym, subst, refl}
+use Rattle.std.proofs.Common.{◌≡◌, ◌∙◌, ℕ, false, Option, Some, Result, Ok, Err, List, [], ◌∷◌, Vec, Global, map, sym, subst, refl}
 use Rattle.std.specs.List.{AllByRecursion}
 use Rattle.std.specs.Result.{IfOk}
 use Rattle.chunk_reader.specs.Faults.{IsFault}
@@ -8,8 +8,9 @@ use Rattle.chunk_reader.specs.declared.reasons.ReadEnd.{ReadEnd}
 use Rattle.command_frame.specs.Endings.{HaveTold, IsAllowedEndOfMany}
 use Rattle.command_frame.specs.declared.ending.Ending.{Ending}
 use Rattle.record_ranges.specs.RangesCommand.{IsTextOfFile, MayBeRead, ranges_meaning}
-use Rattle.record_ranges.specs.RangesEnds.{IsOnePast, PrintsOnlyWhole, IsReadIn, PrintsFile, StopsBy, all_lines, end_of_read}
+use Rattle.record_ranges.specs.RangesEnds.{IsOnePast, PrintsOnlyWhole, IsReadIn, PrintsFile, StopsBy, all_texts, end_of_read}
 use Rattle.record_ranges.specs.declared.range_ends.RangesStop.{RangesStop}
+use Rattle.record_ranges.specs.declared.stretches.Stretch.{Stretch}
 use Rattle.chunk_reader.specs.declared.reasons.ReadEnd.TheVariants as read
 use Rattle.record_io.specs.declared.cut.Cut.TheVariants as cut
 use Rattle.command_frame.specs.declared.ending.Ending.TheVariants as end
@@ -25,8 +26,8 @@ still_one bytes (a ∷ before) (b ∷ after) file same one =
     (first ∙ one.0, still_one bytes before after file others one.1)
 
 -- what is known of a file by how it was read
-pub read-in : (result : Result (List (List (List ℕ))) ReadEnd) (file : List ℕ) (P : List (List (List ℕ)) → Type 0) → IfOk result P
-    → ((parts : List (List (List ℕ))) → P parts → IsTextOfFile file (all_lines parts))
+pub read-in : (result : Result (Vec (Stretch (List ℕ)) Global) ReadEnd) (file : List ℕ) (P : Vec (Stretch (List ℕ)) Global → Type 0) → IfOk result P
+    → ((parts : Vec (Stretch (List ℕ)) Global) → P parts → IsTextOfFile file (all_texts parts.items))
     → ((fault : Fault) → result ≡ Err (read.Refused fault) → IsFault false file fault) → IsReadIn result file
 read-in (Ok parts) file P holds text refused = text parts holds
 read-in (Err (read.Refused fault)) file P holds text refused = refused fault refl

@@ -1,5 +1,5 @@
 -- Chunks from one place of a file to another, and their records with the positions.
-use Rattle.std.proofs.Common.{◌≡◌, ◌∙◌, ℕ, ◌+◌, ◌-◌, ◌≤◌, Option, Result, Some, None, Ok, Err, false, IfOk, IfSome, List, [], ◌∷◌, ◌++◌, take, drop, refl, sym, ap, subst, arith}
+use Rattle.std.proofs.Common.{◌≡◌, ◌∙◌, ℕ, ◌+◌, ◌-◌, ◌≤◌, Option, Some, None, false, IfSome, List, [], ◌∷◌, ◌++◌, take, drop, refl, sym, ap, subst, arith}
 use Rattle.std.specs.Prelude.{slice_range}
 use Rattle.std.specs.List.{AllByRecursion, enumerate_from}
 use Rattle.std.proofs.lemmas.List.{append-nil, append_assoc}
@@ -13,13 +13,12 @@ use Rattle.meta_chunk.proofs.Joins.{AreLaid-append, end_of_chunks-append, end_of
 use Rattle.chunk_reader.specs.Contents.{IsJudged, IsJudgedIn}
 use Rattle.chunk_reader.specs.Places.{chunk_at}
 use Rattle.chunk_reader.specs.declared.judging.Judged.{Judged}
-use Rattle.chunk_reader.specs.declared.reasons.ReadEnd.{ReadEnd}
 use Rattle.chunk_reader.proofs.Rooms.{IsSized}
 use Rattle.chunk_reader.proofs.NoReasonLaid.{allowed_where_none}
 use Rattle.record_ranges.specs.declared.stretches.Span.{Span}
 use Rattle.record_ranges.specs.declared.stretches.Stretch.{Stretch}
 use Rattle.record_ranges.specs.Ranges.{records_between}
-use Rattle.record_ranges.specs.Stretches.{stretch_at, AreChunksBetween, IsJudgedStretch, IsStretchOf, LiesWithin}
+use Rattle.record_ranges.specs.Stretches.{stretch_at, Adds, AreChunksBetween, IsJudgedStretch, IsStretchOf, LiesWithin}
 use Rattle.record_ranges.proofs.Between.{between-append}
 
 -- two lists of which each meets P
@@ -87,83 +86,97 @@ placed-append place (k ∷ ks) ls (records ∷ x) y h =
     ∙ sym (append_assoc (enumerate_from place records) (placed_from (end_of_chunk place k) ks x) (placed_from (end_of_chunks (end_of_chunk place k) ks) ls y))
 
 -- and what lies between two places of the records of one chunk more
-pub between-chunk : (from to place end : ℕ) (ks : List ChunkValue) (k : ChunkValue) (x : List (List (List ℕ))) (held old now : List (List ℕ)) → HoldEach ks x
-    → end_of_chunks place ks ≡ end → old ≡ records_between from to (placed_from place ks x)
-    → now ≡ old ++ records_between from to (enumerate_from end held)
-    → now ≡ records_between from to (placed_from place (ks ++ k ∷ []) (x ++ held ∷ []))
-between-chunk from to place end ks k x held old now h is before then =
-    then
-    ∙ ap (λ (xs : List (List ℕ)). xs ++ records_between from to (enumerate_from end held)) before
-    ∙ sym (between-append from to (placed_from place ks x) (enumerate_from end held))
+between-chunk : (from to place end : ℕ) (ks : List ChunkValue) (k : ChunkValue) (x : List (List (List ℕ))) (held : List (List ℕ)) → HoldEach ks x
+    → end_of_chunks place ks ≡ end
+    → records_between from to (placed_from place ks x) ++ records_between from to (enumerate_from end held)
+    ≡ records_between from to (placed_from place (ks ++ k ∷ []) (x ++ held ∷ []))
+between-chunk from to place end ks k x held h is =
+    sym (between-append from to (placed_from place ks x) (enumerate_from end held))
     ∙ ap (records_between from to) (ap (λ (ps : List (ℕ × List ℕ)). placed_from place ks x ++ ps)
     (ap (λ (p : ℕ). enumerate_from p held) (sym is) ∙ sym (append-nil (enumerate_from (end_of_chunks place ks) held)))
     ∙ sym (placed-append place ks (k ∷ []) x (held ∷ []) h))
 
--- a stretch of no chunks
-pub stretch-none : (file : List ℕ) (span : Span) (s : Stretch) → s.last ≡ s.begin → s.end ≡ s.begin → s.records ≡ [] → IsJudgedStretch file span s
-stretch-none file span s last end none = record {
-  chunks = [];
-  lists = [];
-  to_last = ([], [], subst (λ (p : ℕ). AreChunksBetween file s.begin p [] []) (sym last) (run-none file s.begin));
-  to_end = subst (λ (p : ℕ). AreChunksBetween file s.begin p [] []) (sym end) (run-none file s.begin);
-  records = none;
-}
+-- so what keeps the others keeps those of one chunk more, which begins at a place
+pub kept-chunk : {K : Type 0} (kept_as : List (List ℕ) → K) (from to place end at : ℕ) (ks : List ChunkValue) (k : ChunkValue) (x : List (List (List ℕ)))
+    (held : List (List ℕ)) (old new : K) → HoldEach ks x → end_of_chunks place ks ≡ end → at ≡ end → old ≡ kept_as (records_between from to (placed_from place ks x))
+    → Adds kept_as old new (records_between from to (enumerate_from at held))
+    → new ≡ kept_as (records_between from to (placed_from place (ks ++ k ∷ []) (x ++ held ∷ [])))
+kept-chunk kept_as from to place end at ks k x held old new h is there before adds =
+    adds (records_between from to (placed_from place ks x)) before
+    ∙ ap (λ (p : ℕ). kept_as (records_between from to (placed_from place ks x) ++ records_between from to (enumerate_from p held))) there
+    ∙ ap kept_as (between-chunk from to place end ks k x held h is)
 
--- and of one chunk more
-pub stretch-more : (file : List ℕ) (size : ℕ) (span : Span) (old new : Stretch) (j : Judged) (held : List (List ℕ)) → IsJudged false size old.end j
-    → IsJudgedIn false file old.end j → new.begin ≡ old.begin → new.last ≡ j.begin → new.end ≡ j.end → Holds (value_of_chunk j.chunk) held
-    → new.records ≡ old.records ++ records_between span.from span.to (enumerate_from j.begin held)
-    → IsJudgedStretch file span old → IsJudgedStretch file span new
-stretch-more file size span old new j held h g begin last end holds records s = record {
-  chunks = s.chunks ++ value_of_chunk j.chunk ∷ [];
-  lists = s.lists ++ held ∷ [];
-  to_last = (
-    s.chunks,
-    s.lists,
-    subst (λ (p : ℕ). AreChunksBetween file new.begin p s.chunks s.lists) (sym (last ∙ h.begin))
-        (subst (λ (p : ℕ). AreChunksBetween file p old.end s.chunks s.lists) (sym begin) s.to_end),
-  );
-  to_end =
-      subst (λ (p : ℕ). AreChunksBetween file new.begin p (s.chunks ++ value_of_chunk j.chunk ∷ []) (s.lists ++ held ∷ [])) (sym end)
-      (subst (λ (p : ℕ). AreChunksBetween file p j.end (s.chunks ++ value_of_chunk j.chunk ∷ []) (s.lists ++ held ∷ [])) (sym begin)
-      (run-append file old.begin old.end j.end s.chunks (value_of_chunk j.chunk ∷ []) s.lists (held ∷ []) s.to_end
-      (run-judged file size old.end j held h g holds)));
-  records =
-      between-chunk span.from span.to old.begin old.end s.chunks (value_of_chunk j.chunk) s.lists held old.records new.records s.to_end.held s.to_end.end
-      s.records (records ∙ ap (λ (p : ℕ). old.records ++ records_between span.from span.to (enumerate_from p held)) h.begin)
-      ∙ ap (λ (p : ℕ). records_between span.from span.to (placed_from p (s.chunks ++ value_of_chunk j.chunk ∷ []) (s.lists ++ held ∷ []))) (sym begin);
-}
+module _ {K : Type 0} (kept_as : List (List ℕ) → K) where
+  -- a stretch of no chunks
+  stretch-none : (file : List ℕ) (span : Span) (place : ℕ) → IsJudgedStretch kept_as file span (stretch_at kept_as place)
+  stretch-none file span place = record {
+    chunks = [];
+    lists = [];
+    to_last = ([], [], run-none file place);
+    to_end = run-none file place;
+    kept = refl;
+  }
 
--- the same of a file whose bytes need not be shown
-pub stretch-goes_on : (bytes : Option (List ℕ)) (size : ℕ) (span : Span) (old new : Stretch) (j : Judged) (held : List (List ℕ)) → IsJudged false size old.end j
-    → IfSome bytes (λ file. IsJudgedIn false file old.end j) → new.begin ≡ old.begin → new.last ≡ j.begin → new.end ≡ j.end → Holds (value_of_chunk j.chunk) held
-    → new.records ≡ old.records ++ records_between span.from span.to (enumerate_from j.begin held)
-    → IfSome bytes (λ file. IsJudgedStretch file span old → IsJudgedStretch file span new)
-stretch-goes_on None size span old new j held h g begin last end holds records = tt
-stretch-goes_on (Some file) size span old new j held h g begin last end holds records =
-    stretch-more file size span old new j held h g begin last end holds records
+  pub stretch-begun : (bytes : Option (List ℕ)) (span : Span) (place : ℕ) (s : Stretch K) → s ≡ stretch_at kept_as place
+      → IfSome bytes (λ file. IsJudgedStretch kept_as file span s)
+  stretch-begun None span place s is = tt
+  stretch-begun (Some file) span place s is = subst (IsJudgedStretch kept_as file span) (sym is) (stretch-none file span place)
 
--- a stretch from a chunk that holds the first position of a part on, up to the part's end or past that
-pub stretch-whole : (bytes : Option (List ℕ)) (size begin : ℕ) (span : Span) (s : Stretch) → IsSized bytes (Some size)
-    → begin ≤ span.from → s.begin ≡ begin → span.to ≤ s.end → s.end ≤ size
-    → IfSome bytes (λ file. IsJudgedStretch file span s) → IfSome bytes (λ file. IsStretchOf file span s)
-stretch-whole None size begin span s sized before from past within judged = tt
-stretch-whole (Some file) size begin span s sized before from past within judged = record {
-  judged = judged;
-  before = omega (arith, from, before);
-  past = past;
-  within = omega (arith, within, sized);
-}
+  -- and of one chunk more
+  stretch-more : (file : List ℕ) (size : ℕ) (span : Span) (old new : Stretch K) (j : Judged) (held : List (List ℕ)) → IsJudged false size old.end j
+      → IsJudgedIn false file old.end j → new.begin ≡ old.begin → new.last ≡ j.begin → new.end ≡ j.end → Holds (value_of_chunk j.chunk) held
+      → Adds kept_as old.kept new.kept (records_between span.from span.to (enumerate_from j.begin held))
+      → IsJudgedStretch kept_as file span old → IsJudgedStretch kept_as file span new
+  stretch-more file size span old new j held h g begin last end holds adds s = record {
+    chunks = s.chunks ++ value_of_chunk j.chunk ∷ [];
+    lists = s.lists ++ held ∷ [];
+    to_last = (
+      s.chunks,
+      s.lists,
+      subst (λ (p : ℕ). AreChunksBetween file new.begin p s.chunks s.lists) (sym (last ∙ h.begin))
+          (subst (λ (p : ℕ). AreChunksBetween file p old.end s.chunks s.lists) (sym begin) s.to_end),
+    );
+    to_end =
+        subst (λ (p : ℕ). AreChunksBetween file new.begin p (s.chunks ++ value_of_chunk j.chunk ∷ []) (s.lists ++ held ∷ [])) (sym end)
+        (subst (λ (p : ℕ). AreChunksBetween file p j.end (s.chunks ++ value_of_chunk j.chunk ∷ []) (s.lists ++ held ∷ [])) (sym begin)
+        (run-append file old.begin old.end j.end s.chunks (value_of_chunk j.chunk ∷ []) s.lists (held ∷ []) s.to_end
+        (run-judged file size old.end j held h g holds)));
+    kept =
+        kept-chunk kept_as span.from span.to old.begin old.end j.begin s.chunks (value_of_chunk j.chunk) s.lists held old.kept new.kept s.to_end.held s.to_end.end
+        h.begin s.kept adds
+        ∙ ap (λ (p : ℕ). kept_as (records_between span.from span.to (placed_from p (s.chunks ++ value_of_chunk j.chunk ∷ []) (s.lists ++ held ∷ [])))) (sym begin);
+  }
 
--- or of no chunks at the file's end
-pub stretch-at_end : (bytes : Option (List ℕ)) (size : ℕ) (span : Span) (s : Stretch) → IsSized bytes (Some size) → LiesWithin size span → size ≤ span.from
-    → s ≡ stretch_at size → IfSome bytes (λ file. IsStretchOf file span s)
-stretch-at_end None size span s sized lies past is = tt
-stretch-at_end (Some file) size span s sized lies past is =
-    subst (IsStretchOf file span) (sym is)
-    (record {
-      judged = stretch-none file span (stretch_at size) refl refl refl;
-      before = omega (arith, past);
-      past = omega (arith, lies.1, past);
-      within = omega (arith, sized);
-    })
+  -- the same of a file whose bytes need not be shown
+  pub stretch-goes_on : (bytes : Option (List ℕ)) (size : ℕ) (span : Span) (old new : Stretch K) (j : Judged) (held : List (List ℕ)) → IsJudged false size old.end j
+      → IfSome bytes (λ file. IsJudgedIn false file old.end j) → new.begin ≡ old.begin → new.last ≡ j.begin → new.end ≡ j.end → Holds (value_of_chunk j.chunk) held
+      → Adds kept_as old.kept new.kept (records_between span.from span.to (enumerate_from j.begin held))
+      → IfSome bytes (λ file. IsJudgedStretch kept_as file span old → IsJudgedStretch kept_as file span new)
+  stretch-goes_on None size span old new j held h g begin last end holds adds = tt
+  stretch-goes_on (Some file) size span old new j held h g begin last end holds adds =
+      stretch-more file size span old new j held h g begin last end holds adds
+
+  -- a stretch from a chunk that holds the first position of a part on, up to the part's end or past that
+  pub stretch-whole : (bytes : Option (List ℕ)) (size begin : ℕ) (span : Span) (s : Stretch K) → IsSized bytes (Some size)
+      → begin ≤ span.from → s.begin ≡ begin → span.to ≤ s.end → s.end ≤ size
+      → IfSome bytes (λ file. IsJudgedStretch kept_as file span s) → IfSome bytes (λ file. IsStretchOf kept_as file span s)
+  stretch-whole None size begin span s sized before from past within judged = tt
+  stretch-whole (Some file) size begin span s sized before from past within judged = record {
+    judged = judged;
+    before = omega (arith, from, before);
+    past = past;
+    within = omega (arith, within, sized);
+  }
+
+  -- or of no chunks at the file's end
+  pub stretch-at_end : (bytes : Option (List ℕ)) (size : ℕ) (span : Span) (s : Stretch K) → IsSized bytes (Some size) → LiesWithin size span → size ≤ span.from
+      → s ≡ stretch_at kept_as size → IfSome bytes (λ file. IsStretchOf kept_as file span s)
+  stretch-at_end None size span s sized lies past is = tt
+  stretch-at_end (Some file) size span s sized lies past is =
+      subst (IsStretchOf kept_as file span) (sym is)
+      (record {
+        judged = stretch-none file span size;
+        before = omega (arith, past);
+        past = omega (arith, lies.1, past);
+        within = omega (arith, sized);
+      })

@@ -1,5 +1,5 @@
 -- What threads were answered for halves of the parts, put together, and what it says of the stores.
-use Rattle.std.proofs.Common.{◌≡◌, ◌∙◌, ◌⊎◌, ℕ, ◌+◌, ◌^◌, ◌<◌, ◌≤◌, Option, Result, List, [], ◌∷◌, ◌++◌, Some, Ok, Err, All, IfOk, IfSome, inl, inr, map, take, set, length, refl, sym, ap, subst, arith, length-append}
+use Rattle.std.proofs.Common.{◌≡◌, ◌∙◌, ◌⊎◌, ℕ, ◌+◌, ◌<◌, Option, Result, List, [], ◌∷◌, ◌++◌, Some, Ok, Err, All, IfOk, IfSome, inl, inr, map, take, set, length, refl, sym, ap, subst, arith, length-append}
 use Rattle.std.specs.Prelude.{slice_index_or}
 use Rattle.std.specs.List.{AllByRecursion, AllZip}
 use Rattle.std.proofs.Math.Seq.{take-append_seam}
@@ -26,7 +26,7 @@ all-front {X} P xs a c is all =
     halves (x ∷ a) all = (let rest = halves a all.1 in ((all.0, rest.0), rest.1))
 
 -- so each half of the stores can be read where all can
-pub can_be_read-halves : {S : Type 0} (told : S → Option ℕ) (size : ℕ) (spans low high : List Span) (answers x y : List (Result Stretch ReadEnd))
+pub can_be_read-halves : {S X : Type 0} (told : S → Option ℕ) (size : ℕ) (spans low high : List Span) (answers x y : List X)
     (stores front back : List S) → spans ≡ low ++ high → answers ≡ x ++ y → stores ≡ front ++ back
     → length low ≡ length front → length x ≡ length front → CanBeRead told size spans answers stores
     → CanBeRead told size low x front × CanBeRead told size high y back
@@ -44,11 +44,11 @@ can_be_read-halves told size spans low high answers x y stores front back of_spa
       },
     )
 
-module _ {S L : Type 0} (bytes : S → Option (List ℕ)) (told : S → Option ℕ) (name : S → L) (faults : S → ℕ) where
-  abbrev Answered : List Span → List S → List S → List (Result Stretch ReadEnd) → Type 0
-  Answered = AreAnswered bytes told name faults
+module _ {S L K : Type 0} (kept_as : List (List ℕ) → K) (bytes : S → Option (List ℕ)) (told : S → Option ℕ) (name : S → L) (faults : S → ℕ) where
+  abbrev Answered : List Span → List S → List S → List (Result (Stretch K) ReadEnd) → Type 0
+  Answered = AreAnswered kept_as bytes told name faults
 
-  answered_append : (p q : List Span) (a b c d : List S) (x y : List (Result Stretch ReadEnd))
+  answered_append : (p q : List Span) (a b c d : List S) (x y : List (Result (Stretch K) ReadEnd))
       → Answered p a b x → Answered q c d y → Answered (p ++ q) (a ++ c) (b ++ d) (x ++ y)
   answered_append [] q [] [] c d [] y h k = k
   answered_append [] q [] [] c d (r ∷ x) y h k = absurd h
@@ -59,10 +59,10 @@ module _ {S L : Type 0} (bytes : S → Option (List ℕ)) (told : S → Option �
   answered_append (e ∷ p) q (s ∷ a) (t ∷ b) c d [] y h k = absurd h
   answered_append (e ∷ p) q (s ∷ a) (t ∷ b) c d (r ∷ x) y h k = (h.0, answered_append p q a b c d x y h.1 k)
 
-  pub answered_halves : (spans p q : List Span) (before after a b c d : List S) (answers x y : List (Result Stretch ReadEnd))
+  pub answered_halves : (spans p q : List Span) (before after a b c d : List S) (answers x y : List (Result (Stretch K) ReadEnd))
       → spans ≡ p ++ q → before ≡ a ++ c → after ≡ b ++ d → answers ≡ x ++ y
-      → AreAnswered bytes told name faults p a b x → AreAnswered bytes told name faults q c d y
-      → AreAnswered bytes told name faults spans before after answers
+      → AreAnswered kept_as bytes told name faults p a b x → AreAnswered kept_as bytes told name faults q c d y
+      → AreAnswered kept_as bytes told name faults spans before after answers
   answered_halves spans p q before after a b c d answers x y cut is then put h k =
       subst (λ (ps : List Span). Answered ps before after answers) (sym cut)
       (subst (λ (ss : List S). Answered (p ++ q) ss after answers) (sym is)
@@ -71,8 +71,8 @@ module _ {S L : Type 0} (bytes : S → Option (List ℕ)) (told : S → Option �
       (answered_append p q a b c d x y h k))))
 
   -- where all stores show the same bytes, each gave chunks of these
-  pub all_in : (file : List ℕ) (spans : List Span) (before after : List S) (answers : List (Result Stretch ReadEnd))
-      → AllByRecursion (λ s. bytes s ≡ Some file) before → AreAnswered bytes told name faults spans before after answers → AreReadIn file spans answers
+  pub all_in : (file : List ℕ) (spans : List Span) (before after : List S) (answers : List (Result (Stretch K) ReadEnd))
+      → AllByRecursion (λ s. bytes s ≡ Some file) before → AreAnswered kept_as bytes told name faults spans before after answers → AreReadIn kept_as file spans answers
   all_in file [] [] [] [] same h = tt
   all_in file [] [] [] (a ∷ answers) same h = absurd h
   all_in file [] [] (t ∷ after) answers same h = absurd h
@@ -81,11 +81,11 @@ module _ {S L : Type 0} (bytes : S → Option (List ℕ)) (told : S → Option �
   all_in file (p ∷ spans) (s ∷ before) [] answers same h = absurd h
   all_in file (p ∷ spans) (s ∷ before) (t ∷ after) [] same h = absurd h
   all_in file (p ∷ spans) (s ∷ before) (t ∷ after) (a ∷ answers) same h =
-      (subst (λ (o : Option (List ℕ)). IfOk a (λ r. IfSome o (λ f. IsStretchOf f p r))) same.0 h.0.stretch, all_in file spans before after answers same.1 h.1)
+      (subst (λ (o : Option (List ℕ)). IfOk a (λ r. IfSome o (λ f. IsStretchOf kept_as f p r))) same.0 h.0.stretch, all_in file spans before after answers same.1 h.1)
 
   -- the stores were only asked
-  pub each_asked : (spans : List Span) (before after : List S) (answers : List (Result Stretch ReadEnd))
-      → AreAnswered bytes told name faults spans before after answers → AllZip (OnlyAsks bytes told name faults ⊥) before after
+  pub each_asked : (spans : List Span) (before after : List S) (answers : List (Result (Stretch K) ReadEnd))
+      → AreAnswered kept_as bytes told name faults spans before after answers → AllZip (OnlyAsks bytes told name faults ⊥) before after
   each_asked [] [] [] answers h = tt
   each_asked [] [] (t ∷ after) answers h = absurd h
   each_asked [] (s ∷ before) after answers h = absurd h
@@ -95,8 +95,8 @@ module _ {S L : Type 0} (bytes : S → Option (List ℕ)) (told : S → Option �
   each_asked (p ∷ spans) (s ∷ before) (t ∷ after) (a ∷ answers) h =
       (asks_whatever bytes told name faults s t h.0.asks, each_asked spans before after answers h.1)
 
-  rose_at : (spans : List Span) (before after : List S) (x y : List (Result Stretch ReadEnd))
-      → AreAnswered bytes told name faults spans before after (x ++ Err Store ∷ y) → AnyRose faults before after
+  rose_at : (spans : List Span) (before after : List S) (x y : List (Result (Stretch K) ReadEnd))
+      → AreAnswered kept_as bytes told name faults spans before after (x ++ Err Store ∷ y) → AnyRose faults before after
   rose_at [] [] [] [] y h = absurd h
   rose_at [] [] [] (a ∷ x) y h = absurd h
   rose_at [] [] (t ∷ after) x y h = absurd h
@@ -107,14 +107,14 @@ module _ {S L : Type 0} (bytes : S → Option (List ℕ)) (told : S → Option �
   rose_at (p ∷ spans) (s ∷ before) (t ∷ after) (a ∷ x) y h = inr (rose_at spans before after x y h.1)
 
   -- and where one answered that it failed, a count rose
-  pub rose : (spans : List Span) (before after : List S) (answers : List (Result Stretch ReadEnd))
-      → AreAnswered bytes told name faults spans before after answers → IsAmong (Err Store) answers → AnyRose faults before after
+  pub rose : (spans : List Span) (before after : List S) (answers : List (Result (Stretch K) ReadEnd))
+      → AreAnswered kept_as bytes told name faults spans before after answers → IsAmong (Err Store) answers → AnyRose faults before after
   rose spans before after answers h (x, y, is) =
-      rose_at spans before after x y (subst (AreAnswered bytes told name faults spans before after) is h)
+      rose_at spans before after x y (subst (AreAnswered kept_as bytes told name faults spans before after) is h)
 
   -- what the first store tells stays
-  pub first-told : (size : ℕ) (spans : List Span) (before after : List S) (answers : List (Result Stretch ReadEnd)) (d : S)
-      → AreAnswered bytes told name faults spans before after answers → All (λ s. told s ≡ Some size) before → 0 < length before
+  pub first-told : (size : ℕ) (spans : List Span) (before after : List S) (answers : List (Result (Stretch K) ReadEnd)) (d : S)
+      → AreAnswered kept_as bytes told name faults spans before after answers → All (λ s. told s ≡ Some size) before → 0 < length before
       → told (slice_index_or after 0 d) ≡ Some size
   first-told size spans [] after answers d h all some = absurd (omega (arith, some))
   first-told size [] (s ∷ before) after answers d h all some = absurd h
@@ -122,8 +122,8 @@ module _ {S L : Type 0} (bytes : S → Option (List ℕ)) (told : S → Option �
   first-told size (p ∷ spans) (s ∷ before) (t ∷ after) [] d h all some = absurd h
   first-told size (p ∷ spans) (s ∷ before) (t ∷ after) (a ∷ answers) d h all some = h.0.asks.same_told ∙ all 0 s (omega (arith, some))
 
-  pub first-bytes : (file : List ℕ) (spans : List Span) (before after : List S) (answers : List (Result Stretch ReadEnd)) (d : S)
-      → AreAnswered bytes told name faults spans before after answers → AllByRecursion (λ s. bytes s ≡ Some file) before → 0 < length before
+  pub first-bytes : (file : List ℕ) (spans : List Span) (before after : List S) (answers : List (Result (Stretch K) ReadEnd)) (d : S)
+      → AreAnswered kept_as bytes told name faults spans before after answers → AllByRecursion (λ s. bytes s ≡ Some file) before → 0 < length before
       → bytes (slice_index_or after 0 d) ≡ Some file
   first-bytes file spans [] after answers d h all some = absurd (omega (arith, some))
   first-bytes file [] (s ∷ before) after answers d h all some = absurd h
@@ -132,8 +132,8 @@ module _ {S L : Type 0} (bytes : S → Option (List ℕ)) (told : S → Option �
   first-bytes file (p ∷ spans) (s ∷ before) (t ∷ after) (a ∷ answers) d h all some = h.0.asks.same_bytes ∙ all.0
 
   -- and the first is asked once more
-  pub asked_again : {F : Type 0} (spans : List Span) (before after : List S) (answers : List (Result Stretch ReadEnd)) (d t : S)
-      → 0 < length before → AreAnswered bytes told name faults spans before after answers
+  pub asked_again : {F : Type 0} (spans : List Span) (before after : List S) (answers : List (Result (Stretch K) ReadEnd)) (d t : S)
+      → 0 < length before → AreAnswered kept_as bytes told name faults spans before after answers
       → OnlyAsks bytes told name faults ⊥ (slice_index_or after 0 d) t
       → (F → IsAmong (Err Store) answers ⊎ Rose (faults (slice_index_or after 0 d)) (faults t))
       → AreOnlyAsked bytes told name faults F before (set after 0 t)
@@ -157,9 +157,9 @@ pub written : {X : Type 0} (n : ℕ) (xs ys : List X) → length xs ≡ n → ta
 written n xs ys is = subst (λ (n : ℕ). take n (xs ++ ys) ≡ xs) is (take-append_seam xs ys)
 
 -- where all answers gave something
-pub given_in : (file : List ℕ) (spans : List Span) (parts : List Stretch) → AreReadIn file spans (map (λ (s : Stretch). Ok s) parts)
-    → AllZip (IsStretchOf file) spans parts
-given_in file [] [] h = tt
-given_in file [] (s ∷ parts) h = absurd h
-given_in file (p ∷ spans) [] h = absurd h
-given_in file (p ∷ spans) (s ∷ parts) h = (h.0, given_in file spans parts h.1)
+pub given_in : {K : Type 0} (kept_as : List (List ℕ) → K) (file : List ℕ) (spans : List Span) (parts : List (Stretch K))
+    → AreReadIn kept_as file spans (map (λ (s : Stretch K). Ok s) parts) → AllZip (IsStretchOf kept_as file) spans parts
+given_in kept_as file [] [] h = tt
+given_in kept_as file [] (s ∷ parts) h = absurd h
+given_in kept_as file (p ∷ spans) [] h = absurd h
+given_in kept_as file (p ∷ spans) (s ∷ parts) h = (h.0, given_in kept_as file spans parts h.1)

@@ -55,9 +55,9 @@ from_front file place ks x h =
     subst (λ (n : ℕ). AreLaid 0 ks (take n file)) same h.laid
 
 -- what lies in a part of all records of a file's chunks lies there of those of a stretch of them
-module _ (file : List ℕ) (all : List ChunkValue) (lists : List (List (List ℕ))) (whole : AreChunksBetween file 0 (length file) all lists) where
-  pub part_of : (span : Span) (s : Stretch) → AreJudgedBetween file 0 s.begin → IsStretchOf file span s
-      → s.records ≡ records_between span.from span.to (placed_from 0 all lists)
+module _ {K : Type 0} (kept_as : List (List ℕ) → K) (file : List ℕ) (all : List ChunkValue) (lists : List (List (List ℕ))) (whole : AreChunksBetween file 0 (length file) all lists) where
+  pub part_of : (span : Span) (s : Stretch K) → AreJudgedBetween file 0 s.begin → IsStretchOf kept_as file span s
+      → s.kept ≡ kept_as (records_between span.from span.to (placed_from 0 all lists))
   part_of span s (ks, x, front) h =
       let ls : List ChunkValue = h.judged.chunks in
       let y : List (List (List ℕ)) = h.judged.lists in
@@ -84,46 +84,46 @@ module _ (file : List ℕ) (all : List ChunkValue) (lists : List (List (List ℕ
       let behind : records_between span.from span.to (placed_from s.end more w) ≡ [] =
       between-past span.from span.to (placed_from s.end more w) (from_there span.to s.end more w h.past) in
       let B : List (ℕ × List ℕ) → List (List ℕ) = records_between span.from span.to in
-      h.judged.records
-      ∙ sym (append-nil (B (placed_from s.begin ls y)))
+      h.judged.kept
+      ∙ ap kept_as (sym (append-nil (B (placed_from s.begin ls y)))
       ∙ ap (λ (xs : List (List ℕ)). B (placed_from s.begin ls y) ++ xs) (sym behind)
       ∙ ap (λ (xs : List (List ℕ)). (xs ++ B (placed_from s.begin ls y)) ++ B (placed_from s.end more w)) (sym before)
       ∙ ap (λ (xs : List (List ℕ)). xs ++ B (placed_from s.end more w)) (sym (between-append span.from span.to (placed_from 0 ks x) (placed_from s.begin ls y)))
       ∙ sym (between-append span.from span.to (placed_from 0 ks x ++ placed_from s.begin ls y) (placed_from s.end more w))
-      ∙ ap B (sym split)
+      ∙ ap B (sym split))
 
 -- where parts meet, chunks lead from the front of the file to the begin of each, and to the end
-abbrev AreReached : List ℕ → List Span → List Stretch → Type 0
-AreReached file spans parts = AllZip (λ span s. AreJudgedBetween file 0 s.begin × IsStretchOf file span s) spans parts
+abbrev AreReached : {K : Type 0} → (List (List ℕ) → K) → List ℕ → List Span → List (Stretch K) → Type 0
+AreReached kept_as file spans parts = AllZip (λ span s. AreJudgedBetween file 0 s.begin × IsStretchOf kept_as file span s) spans parts
 
 joins : (file : List ℕ) (a b c : ℕ) → AreJudgedBetween file a b → AreJudgedBetween file b c → AreJudgedBetween file a c
 joins file a b c (ks, x, h) (ls, y, g) = (ks ++ ls, x ++ y, run-append file a b c ks ls x y h g)
 
-reached : (file : List ℕ) (size last end : ℕ) (spans : List Span) (parts : List Stretch) → AllZip (IsStretchOf file) spans parts
+reached : {K : Type 0} (kept_as : List (List ℕ) → K) (file : List ℕ) (size last end : ℕ) (spans : List Span) (parts : List (Stretch K)) → AllZip (IsStretchOf kept_as file) spans parts
     → MeetUpTo size last end parts → AreJudgedBetween file 0 last → AreJudgedBetween file 0 end
-    → AreReached file spans parts × AreJudgedBetween file 0 size
-reached file size last end [] [] h meet to_last to_end = (tt, subst (AreJudgedBetween file 0) meet to_end)
-reached file size last end [] (s ∷ parts) h meet to_last to_end = absurd h
-reached file size last end (span ∷ spans) [] h meet to_last to_end = absurd h
-reached file size last end (span ∷ spans) (s ∷ parts) h meet to_last to_end =
+    → AreReached kept_as file spans parts × AreJudgedBetween file 0 size
+reached kept_as file size last end [] [] h meet to_last to_end = (tt, subst (AreJudgedBetween file 0) meet to_end)
+reached kept_as file size last end [] (s ∷ parts) h meet to_last to_end = absurd h
+reached kept_as file size last end (span ∷ spans) [] h meet to_last to_end = absurd h
+reached kept_as file size last end (span ∷ spans) (s ∷ parts) h meet to_last to_end =
     let to_begin : AreJudgedBetween file 0 s.begin = elim meet.0 [
       | inl is ↦ subst (AreJudgedBetween file 0) (sym is) to_last
       | inr is ↦ subst (AreJudgedBetween file 0) (sym is) to_end
     ] in
     let judged = h.0.judged in
-    let rest = reached file size s.last s.end spans parts h.1 meet.1 (joins file 0 s.begin s.last to_begin judged.to_last)
+    let rest = reached kept_as file size s.last s.end spans parts h.1 meet.1 (joins file 0 s.begin s.last to_begin judged.to_last)
     (joins file 0 s.begin s.end to_begin (judged.chunks, judged.lists, judged.to_end)) in
     (((to_begin, h.0), rest.0), rest.1)
 
 -- so each has its records of all
-each_part : (file : List ℕ) (all : List ChunkValue) (lists : List (List (List ℕ))) (spans : List Span) (parts : List Stretch)
-    → AreChunksBetween file 0 (length file) all lists → AreReached file spans parts
-    → AllZip (λ span s. s.records ≡ records_between span.from span.to (placed_from 0 all lists)) spans parts
-each_part file all lists [] [] whole h = tt
-each_part file all lists [] (s ∷ parts) whole h = absurd h
-each_part file all lists (span ∷ spans) [] whole h = absurd h
-each_part file all lists (span ∷ spans) (s ∷ parts) whole h =
-    (part_of file all lists whole span s h.0.0 h.0.1, each_part file all lists spans parts whole h.1)
+each_part : {K : Type 0} (kept_as : List (List ℕ) → K) (file : List ℕ) (all : List ChunkValue) (lists : List (List (List ℕ))) (spans : List Span) (parts : List (Stretch K))
+    → AreChunksBetween file 0 (length file) all lists → AreReached kept_as file spans parts
+    → AllZip (λ span s. s.kept ≡ kept_as (records_between span.from span.to (placed_from 0 all lists))) spans parts
+each_part kept_as file all lists [] [] whole h = tt
+each_part kept_as file all lists [] (s ∷ parts) whole h = absurd h
+each_part kept_as file all lists (span ∷ spans) [] whole h = absurd h
+each_part kept_as file all lists (span ∷ spans) (s ∷ parts) whole h =
+    (part_of kept_as file all lists whole span s h.0.0 h.0.1, each_part kept_as file all lists spans parts whole h.1)
 
 -- chunks of a file that begins as files do begin with the signature
 signed : (file : List ℕ) (all : List ChunkValue) → BeginsWithSignature file → AreLaid 0 all (take (length file) file) → BeginsSigned all
@@ -144,11 +144,11 @@ whole_file file all lists begins h =
     )
 
 -- parts that meet from the front of a file, which begins as files do, to its end
-pub parts_meet : (file : List ℕ) (size : ℕ) (spans : List Span) (parts : List Stretch) → size ≡ length file → BeginsWithSignature file
-    → AllZip (IsStretchOf file) spans parts → MeetUpTo size 0 0 parts → AreReadOf file size spans parts
-parts_meet file size spans parts is begins h meet =
+pub parts_meet : {K : Type 0} (kept_as : List (List ℕ) → K) (file : List ℕ) (size : ℕ) (spans : List Span) (parts : List (Stretch K)) → size ≡ length file → BeginsWithSignature file
+    → AllZip (IsStretchOf kept_as file) spans parts → MeetUpTo size 0 0 parts → AreReadOf kept_as file size spans parts
+parts_meet kept_as file size spans parts is begins h meet =
     let none : AreJudgedBetween file 0 0 = ([], [], run-none file 0) in
-    let all = reached file size 0 0 spans parts h meet none none in
+    let all = reached kept_as file size 0 0 spans parts h meet none none in
     let (ks, lists, run) = subst (AreJudgedBetween file 0) is all.1 in
     record {
       chunks = ks;
@@ -156,5 +156,5 @@ parts_meet file size spans parts is begins h meet =
       is_file = whole_file file ks lists begins run;
       are_placed = (lists, run.held, refl);
       sized = is;
-      each = each_part file ks lists spans parts run all.0;
+      each = each_part kept_as file ks lists spans parts run all.0;
     }

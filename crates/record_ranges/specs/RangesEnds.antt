@@ -1,5 +1,6 @@
 -- Inside. How the work of `ranges` ends. Own.
-use Rattle.std.specs.Prelude.{◌≡◌, ℕ, false, Option, Result, Ok, Err, List, length, map}
+use Rattle.std.specs.Prelude.{◌≡◌, ℕ, false, Option, Result, Ok, Err, List, Vec, length, map}
+use Rattle.std.specs.Global.{Global}
 use Rattle.std.specs.List.{flat_map}
 use Rattle.record_io.specs.Outside.{Takes, TakesShort}
 use Rattle.chunk_reader.specs.Faults.{IsFault}
@@ -13,6 +14,7 @@ use Rattle.show_command.specs.Readings.{refused_text}
 use Rattle.record_ranges.specs.RangesCommand.{AreAlike, Differ, IsTextOfFile, MayBeRead, differ_text, most_range_bytes}
 use Rattle.record_ranges.specs.Reads.{IfAllTellSame}
 use Rattle.record_ranges.specs.declared.file_sizes.SizesEnd.{SizesEnd}
+use Rattle.record_ranges.specs.declared.stretches.Stretch.{Stretch}
 use Rattle.record_ranges.specs.declared.range_ends.RangesStop.{RangesStop}
 use Rattle.chunk_reader.specs.declared.reasons.ReadEnd.TheVariants as read
 use Rattle.record_io.specs.declared.cut.Cut.TheVariants as cut
@@ -59,12 +61,13 @@ StopsBy (stop.Differ first other) sizes = AreWithin most_range_bytes sizes × Di
 abbrev pub part_lines : List (List ℕ) → List ℕ
 part_lines records = flat_map line records
 
-abbrev pub all_lines : List (List (List ℕ)) → List ℕ
-all_lines parts = flat_map part_lines parts
+-- the texts that stretches keep, one after another
+abbrev pub all_texts : List (Stretch (List ℕ)) → List ℕ
+all_texts parts = flat_map (λ s. s.kept) parts
 
 -- what a file that was read, by how that ended, is
-abbrev pub IsReadIn : Result (List (List (List ℕ))) ReadEnd → List ℕ → Type 0
-IsReadIn (Ok parts) file = IsTextOfFile file (all_lines parts)
+abbrev pub IsReadIn : Result (Vec (Stretch (List ℕ)) Global) ReadEnd → List ℕ → Type 0
+IsReadIn (Ok parts) file = IsTextOfFile file (all_texts parts.items)
 IsReadIn (Err (read.Refused fault)) file = IsFault false file fault
 IsReadIn (Err other) file = Unit {0}
 

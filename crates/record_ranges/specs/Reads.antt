@@ -19,11 +19,12 @@ abbrev pub IsAmong : {X : Type 0} → X → List X → Type 0
 IsAmong {X} x xs = (before : List X) × (after : List X) × (xs ≡ before ++ x ∷ after)
 
 -- where an answer gave the chunks of a part, they are chunks of the file
-abbrev pub AreReadIn : List ℕ → List Span → List (Result Stretch ReadEnd) → Type 0
-AreReadIn file spans answers = AllZip (λ span answer. IfOk answer (λ s. IsStretchOf file span s)) spans answers
+abbrev pub AreReadIn : {K : Type 0} → (List (List ℕ) → K) → List ℕ → List Span → List (Result (Stretch K) ReadEnd) → Type 0
+AreReadIn kept_as file spans answers =
+    AllZip (λ span answer. IfOk answer (λ s. IsStretchOf kept_as file span s)) spans answers
 
 -- stores that told the size of one file can be read, each for the part of its number, and answered there
-pub record CanBeRead {S : Type 0} (told : S → Option ℕ) (size : ℕ) (spans : List Span) (answers : List (Result Stretch ReadEnd)) (stores : List S) : Type 0 where
+pub record CanBeRead {S X : Type 0} (told : S → Option ℕ) (size : ℕ) (spans : List Span) (answers : List X) (stores : List S) : Type 0 where
   pub as_many_spans : length spans ≡ length stores
   pub as_many_answers : length answers ≡ length stores
   pub are_told : All (λ s. told s ≡ Some size) stores
@@ -36,13 +37,15 @@ module _ {S L : Type 0} (bytes : S → Option (List ℕ)) (told : S → Option �
     pub refused : (fault : Fault) → answer ≡ Err (Refused fault) → IfSome (bytes before) (λ file. IsFault false file fault)
     pub asks : OnlyAsks bytes told name faults (answer ≡ Err Store) before after
 
+module _ {S L K : Type 0} (kept_as : List (List ℕ) → K) (bytes : S → Option (List ℕ)) (told : S
+    → Option ℕ) (name : S → L) (faults : S → ℕ) where
   -- one store was asked for a part, and answered so
-  pub record IsAnswered (span : Span) (before after : S) (answer : Result Stretch ReadEnd) : Type 0 where
-    pub stretch : IfOk answer (λ s. IfSome (bytes before) (λ file. IsStretchOf file span s))
+  pub record IsAnswered (span : Span) (before after : S) (answer : Result (Stretch K) ReadEnd) : Type 0 where
+    pub stretch : IfOk answer (λ s. IfSome (bytes before) (λ file. IsStretchOf kept_as file span s))
     pub asks : OnlyAsks bytes told name faults (answer ≡ Err Store) before after
 
   -- each store was asked for the part of its number, and answered so
-  abbrev pub AreAnswered : List Span → List S → List S → List (Result Stretch ReadEnd) → Type 0
+  abbrev pub AreAnswered : List Span → List S → List S → List (Result (Stretch K) ReadEnd) → Type 0
   AreAnswered [] [] [] [] = Unit {0}
   AreAnswered [] [] [] (a ∷ answers) = ⊥
   AreAnswered [] [] (t ∷ after) answers = ⊥

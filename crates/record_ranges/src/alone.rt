@@ -6,6 +6,7 @@ ghost use Rattle.chunk_reader.specs.Readers.{ReadsIn, ReadsOn, IsReadWhole};
 ghost use Rattle.record_ranges.specs.Reads.{ReadsStrictly};
 ghost use Rattle.record_ranges.specs.Stretches.{IsReadFromFront, IsReadSoFar};
 
+use crate::keepers::Keeper;
 use crate::stretches::{Span, Stretch};
 use chunk_reader::{ReadEnd, Reader};
 use record_io::Store;
@@ -31,14 +32,14 @@ pub(crate) fn check_front<S: Store>(alloc: Global, store: &mut S, size: u64) -> 
 /// # Errors
 ///
 /// `Refused` only with the fault of the file. `Store` only where the store failed.
-pub(crate) fn read_alone<S: Store>(
+pub(crate) fn read_alone<S: Store, K: Keeper>(
     alloc: Global,
     store: &mut S,
     size: u64,
     spans: &[Span],
-) -> Result<Vec<Stretch>, ReadEnd>
+) -> Result<Vec<Stretch<K>>, ReadEnd>
     requires sized { HasSize (S.told store.old) size }
-    ensures read { IfOk result (λ parts. IfSome (S.bytes store.old) (λ file. AllZip (IsReadFromFront file) spans.now parts.items)) }
+    ensures read { IfOk result (λ parts. IfSome (S.bytes store.old) (λ file. AllZip (IsReadFromFront K.kept_as file) spans.now parts.items)) }
     ensures answered { ReadsStrictly S.bytes S.told S.name S.faults result store.old store.new }
 {
     let mut parts = Vec::new(alloc);
@@ -52,14 +53,14 @@ pub(crate) fn read_alone<S: Store>(
 }
 
 /// Reads a whole file of `size` bytes for the records of one part.
-fn read_from_front<S: Store>(
+fn read_from_front<S: Store, K: Keeper>(
     alloc: Global,
     store: &mut S,
     size: u64,
     span: Span,
-) -> Result<Stretch, ReadEnd>
+) -> Result<Stretch<K>, ReadEnd>
     requires sized { HasSize (S.told store.old) size }
-    ensures read { IfOk result (λ part. IfSome (S.bytes store.old) (λ file. IsReadFromFront file span part)) }
+    ensures read { IfOk result (λ part. IfSome (S.bytes store.old) (λ file. IsReadFromFront K.kept_as file span part)) }
     ensures answered { ReadsStrictly S.bytes S.told S.name S.faults result store.old store.new }
 {
     let mut reader = Reader::new(size, false);
@@ -69,19 +70,19 @@ fn read_from_front<S: Store>(
 }
 
 /// Takes of the next chunk the records of a part, and answers whether there was one.
-fn take_next<S: Store>(
+fn take_next<S: Store, K: Keeper>(
     alloc: Global,
     store: &mut S,
     reader: &mut Reader,
     span: Span,
-    part: &mut Stretch,
+    part: &mut Stretch<K>,
 ) -> Result<bool, ReadEnd>
     requires strict { reader.old.unread_ok ≡ false }
     requires reads { ReadsIn (S.bytes store.old) (S.told store.old) reader.old }
     ensures goes_on { ReadsOn (S.bytes store.old) reader.old reader.new }
     ensures moved { result ≡ Ok true → reader.old.totals.bytes < reader.new.totals.bytes }
     ensures read { result ≡ Ok true → IfSome (S.bytes store.old) (λ file.
-        IsReadSoFar file span reader.old.totals part.old.records → IsReadSoFar file span reader.new.totals part.new.records) }
+        IsReadSoFar K.kept_as file span reader.old.totals part.old.kept → IsReadSoFar K.kept_as file span reader.new.totals part.new.kept) }
     ensures ended { result ≡ Ok false → (part.new ≡ part.old) × (reader.new ≡ reader.old) × IsReadWhole (S.bytes store.old) reader.old }
     ensures answered { ReadsStrictly S.bytes S.told S.name S.faults result store.old store.new }
 {

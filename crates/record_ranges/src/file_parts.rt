@@ -7,7 +7,7 @@ use std::marker::Model;
 /// The parts of a file, in order, which contracts see as the list of their records. Own.
 #[derive(Debug, Drop)]
 pub struct Parts {
-    pub(crate) stretches: Vec<Stretch>,
+    pub(crate) stretches: Vec<Stretch<Records>>,
 }
 
 impl Model for Parts {
@@ -15,7 +15,7 @@ impl Model for Parts {
 
     ghost Value = { List (List (List ℕ)) };
 
-    ghost view = { λ p. map (λ s. s.records) p.stretches.items };
+    ghost view = { λ p. map (λ s. s.kept) p.stretches.items };
 }
 
 impl Parts {
@@ -31,6 +31,6 @@ impl Parts {
         requires { i < length self.now }
         ensures { slice_get self.now i ≡ Some result.now }
     {
-        &self.stretches[i].records
+        &self.stretches[i].kept
     }
 }

@@ -6,6 +6,7 @@ mod alone;
 mod cut_places;
 mod file_parts;
 mod file_sizes;
+mod keepers;
 pub mod laws;
 mod meeting;
 mod part_lines;

@@ -8,10 +8,10 @@ use chunk_reader::ReadEnd;
 use std::alloc::Global;
 
 /// What all answers give, or the first that gives nothing.
-pub(crate) fn all_read(
+pub(crate) fn all_read<K: Drop>(
     alloc: Global,
-    answers: Vec<Result<Stretch, ReadEnd>>,
-) -> Result<Vec<Stretch>, ReadEnd>
+    answers: Vec<Result<Stretch<K>, ReadEnd>>,
+) -> Result<Vec<Stretch<K>>, ReadEnd>
     ensures all { IfOk result (λ read. answers.items ≡ map (λ s. Ok s) read.items) }
     ensures some { (end : ReadEnd) → result ≡ Err end → (end ≡ ReadEnd.Memory) ⊎ IsAmong (Err end) answers.items }
 {
@@ -31,7 +31,7 @@ pub(crate) fn all_read(
 
 /// Whether the parts of a file of `size` bytes meet from its front to its end: whether each begins where the part before it
 /// ends, or where the last chunk of that begins.
-pub(crate) fn meet(stretches: &[Stretch], size: u64) -> bool
+pub(crate) fn meet<K>(stretches: &[Stretch<K>], size: u64) -> bool
     ensures { IsTrue result → MeetUpTo size 0 0 stretches.now }
 {
     let mut last = 0;

@@ -2,22 +2,24 @@ ghost use Rattle.std.specs.Prelude.{◌≡◌, ◌≤◌, IfOk, Ok, Err, length,
 ghost use Rattle.record_io.specs.Calls.{OnlyCounts};
 ghost use Rattle.record_io.specs.ManyStores.{AreOnlyAsked};
 ghost use Rattle.record_io.specs.Seen.{seen_stream, seen_file};
-ghost use Rattle.record_ranges.specs.Ranges.{AreRangesOf, even_cuts};
+ghost use Rattle.record_ranges.specs.Ranges.{even_cuts};
 ghost use Rattle.record_ranges.specs.Reads.{IfAllTellSame};
 ghost use Rattle.command_frame.specs.AskedFiles.{AsksFiles, KeepsFiles};
 ghost use Rattle.command_frame.specs.Endings.{IsAllowedEndOfMany};
 ghost use Rattle.command_frame.specs.Runs.{Runs};
 ghost use Rattle.command_frame.specs.RunObjects.{Seen};
 ghost use Rattle.record_ranges.specs.RangesCommand.{ranges_meaning};
-ghost use Rattle.record_ranges.specs.RangesEnds.{AreOfOneFile, IsOnePast, IsReadIn, PrintsOne, StopsBy, end_of_read};
+ghost use Rattle.record_ranges.specs.Stretches.{AreRangesIn};
+ghost use Rattle.record_ranges.specs.RangesEnds.{AreOfOneFile, IsOnePast, IsReadIn, PrintsOne, StopsBy, end_of_read, part_lines};
 
 use crate::cut_places::Cuts;
-use crate::file_parts::Parts;
 use crate::file_sizes::{SizesEnd, size_by};
+use crate::keepers::Lines;
 use crate::part_lines::put_parts;
 use crate::range_ends::{RangesStop, end_of_read, end_ranges};
 use crate::ranges_words::{MOST_PARTS, RangesWords};
-use crate::reading::read_ranges;
+use crate::reading::read_stretches;
+use crate::stretches::Stretch;
 use chunk_reader::ReadEnd;
 use command_frame::{Cut, Ending, Status, ask_sizes};
 use record_io::{Failed, Sink, Store};
@@ -102,22 +104,22 @@ fn print_sized<R: Threads + Sync, S: Store + Send, O: Sink>(
     }
 }
 
-/// Reads a file of so many bytes in so many parts that are alike.
+/// Reads a file of so many bytes in so many parts that are alike, and keeps their lines.
 fn read_parts<R: Threads + Sync, S: Store + Send>(
     rt: &R,
     alloc: Global,
     size: u64,
     parts: u32,
     files: &mut [S],
-) -> Result<Parts, ReadEnd>
+) -> Result<Vec<Stretch<Lines>>, ReadEnd>
     requires parts { (length files.old ≡ parts) × (1 ≤ parts) × (parts ≤ 16) }
     requires one { AreOfOneFile S.bytes S.told size files.old }
     ensures read { IfAllTellSame S.bytes files.old (IsReadIn result) }
-    ensures even { IfOk result (λ read. IfAllTellSame S.bytes files.old (λ file. AreRangesOf file (even_cuts size parts) read)) }
+    ensures even { IfOk result (λ read. IfAllTellSame S.bytes files.old (λ file. AreRangesIn part_lines file (even_cuts size parts) read.items)) }
     ensures files { AreOnlyAsked S.bytes S.told S.name S.faults (result ≡ Err ReadEnd.Store) files.old files.new }
 {
     let Ok(cuts) = Cuts::even(alloc, size, parts) else {
         return Err(ReadEnd::Memory);
     };
-    read_ranges(rt, alloc, files, size, &cuts)
+    read_stretches::<R, S, Lines>(rt, alloc, files, size, &cuts)
 }

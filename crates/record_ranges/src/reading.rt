@@ -6,16 +6,18 @@ ghost use Rattle.chunk_reader.specs.Faults.{IsFault};
 ghost use Rattle.chunk_reader.specs.declared.reasons.Fault.{Fault};
 ghost use Rattle.record_ranges.specs.Ranges.{RiseUpTo, AreRangesOf};
 ghost use Rattle.record_ranges.specs.Reads.{IfAllTellSame, IsAmong, AreReadIn};
-ghost use Rattle.record_ranges.specs.Stretches.{AreReadOf};
+ghost use Rattle.record_ranges.specs.Stretches.{AreRangesIn, AreReadOf};
 
 use crate::alone::{check_front, read_alone};
 use crate::cut_places::Cuts;
 use crate::file_parts::Parts;
+use crate::keepers::Keeper;
 use crate::meeting::{all_read, meet};
 use crate::slots::{Setup, read_into};
 use crate::stretches::{Span, Stretch};
 use chunk_reader::ReadEnd;
 use record_io::Store;
+use simple_chunk::Records;
 use std::alloc::{AllocError, Global};
 use std::thread::Threads;
 
@@ -46,6 +48,28 @@ pub fn read_ranges<R: Threads + Sync, S: Store + Send>(
         → (result ≡ Err (ReadEnd.Refused fault)) ⊎ (result ≡ Err ReadEnd.Store) ⊎ (result ≡ Err ReadEnd.Memory)) }
     ensures stores { AreOnlyAsked S.bytes S.told S.name S.faults (result ≡ Err ReadEnd.Store) stores.old stores.new }
 {
+    match read_stretches::<R, S, Records>(rt, alloc, stores, size, cuts) {
+        Ok(stretches) => Ok(Parts { stretches }),
+        Err(end) => Err(end),
+    }
+}
+
+/// The same, and the records of each part are kept in `K`.
+pub(crate) fn read_stretches<R: Threads + Sync, S: Store + Send, K: Keeper + Send>(
+    rt: &R,
+    alloc: Global,
+    stores: &mut [S],
+    size: u64,
+    cuts: &Cuts,
+) -> Result<Vec<Stretch<K>>, ReadEnd>
+    requires many { (length stores.old ≡ length cuts.now + 1) × (length stores.old ≤ 16) }
+    requires sized { All (λ s. S.told s ≡ Some size) stores.old × (size ≤ 2 ^ 28) }
+    requires rise { RiseUpTo size 0 cuts.now }
+    ensures ranges { IfOk result (λ parts. IfAllTellSame S.bytes stores.old (λ file. AreRangesIn K.kept_as file cuts.now parts.items)) }
+    ensures refused { (fault : Fault) → result ≡ Err (ReadEnd.Refused fault)
+        → IfAllTellSame S.bytes stores.old (λ file. IsFault false file fault) }
+    ensures stores { AreOnlyAsked S.bytes S.told S.name S.faults (result ≡ Err ReadEnd.Store) stores.old stores.new }
+{
     let Ok(spans) = cuts.spans(alloc, size) else {
         return Err(ReadEnd::Memory);
     };
@@ -54,14 +78,14 @@ pub fn read_ranges<R: Threads + Sync, S: Store + Send>(
     };
     let setup = Setup { alloc, size };
     read_into(rt, &setup, &spans, &mut answers, stores);
-    match judged_parts(alloc, &mut stores[0], size, &spans, answers) {
-        Ok(stretches) => Ok(Parts { stretches }),
-        Err(end) => Err(end),
-    }
+    judged_parts(alloc, &mut stores[0], size, &spans, answers)
 }
 
 /// So many places for answers.
-fn unanswered(alloc: Global, count: usize) -> Result<Vec<Result<Stretch, ReadEnd>>, AllocError>
+fn unanswered<K: Drop>(
+    alloc: Global,
+    count: usize,
+) -> Result<Vec<Result<Stretch<K>, ReadEnd>>, AllocError>
     ensures { IfOk result (λ answers. vec_len answers ≡ count) }
 {
     let mut answers = Vec::with_capacity(alloc, count)?;
@@ -73,17 +97,17 @@ fn unanswered(alloc: Global, count: usize) -> Result<Vec<Result<Stretch, ReadEnd
 
 /// The parts that were read, where they meet and the file begins as files do. Where they don't meet, or one was refused, they
 /// are read anew from one store.
-fn judged_parts<S: Store>(
+fn judged_parts<S: Store, K: Keeper>(
     alloc: Global,
     store: &mut S,
     size: u64,
     spans: &[Span],
-    answers: Vec<Result<Stretch, ReadEnd>>,
-) -> Result<Vec<Stretch>, ReadEnd>
+    answers: Vec<Result<Stretch<K>, ReadEnd>>,
+) -> Result<Vec<Stretch<K>>, ReadEnd>
     requires sized { HasSize (S.told store.old) size }
     requires some { 0 < length spans.now }
     ensures parts { IfOk result (λ parts. IfSome (S.bytes store.old) (λ file.
-        AreReadIn file spans.now answers.items → AreReadOf file size spans.now parts.items)) }
+        AreReadIn K.kept_as file spans.now answers.items → AreReadOf K.kept_as file size spans.now parts.items)) }
     ensures refused { (fault : Fault) → result ≡ Err (ReadEnd.Refused fault)
         → IfSome (S.bytes store.old) (λ file. IsFault false file fault) }
     ensures cause { result ≡ Err ReadEnd.Store

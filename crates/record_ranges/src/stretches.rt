@@ -1,12 +1,13 @@
-ghost use Rattle.std.specs.Prelude.{◌≡◌, ℕ, ◌+◌, ◌^◌, ◌<◌, ◌≤◌, ◌++◌, false, [], ◌∷◌, IfSome, OnOk, Err, length};
+ghost use Rattle.std.specs.Prelude.{◌≡◌, ℕ, ◌+◌, ◌^◌, ◌<◌, ◌≤◌, false, [], ◌∷◌, IfSome, OnOk, Err, length};
 ghost use Rattle.std.specs.List.{enumerate_from};
 ghost use Rattle.record_io.specs.Calls.{HasSize, OnlyAsks};
 ghost use Rattle.block_layout.specs.Layout.{IsBoundary};
 ghost use Rattle.chunk_reader.specs.Contents.{IsJudged};
 ghost use Rattle.record_ranges.specs.Ranges.{records_between};
 ghost use Rattle.record_ranges.specs.Reads.{IsAnswered};
-ghost use Rattle.record_ranges.specs.Stretches.{IsJudgedStretch, LiesWithin, TakesChunk, stretch_at};
+ghost use Rattle.record_ranges.specs.Stretches.{Adds, IsJudgedStretch, LiesWithin, TakesChunk, stretch_at};
 
+use crate::keepers::Keeper;
 use chunk_reader::{Judged, ReadEnd, What, strict_at};
 use record_io::Store;
 use record_seek::holder;
@@ -22,48 +23,48 @@ pub(crate) struct Span {
     pub to: u64,
 }
 
-/// What was read for a part of a file: chunks one after another, and of their records those of the part.
+/// What was read for a part of a file: chunks one after another, and of their records those of the part, kept in `K`.
 #[derive(Debug, Drop)]
-pub(crate) struct Stretch {
+pub(crate) struct Stretch<K> {
     /// Where the first chunk begins.
     pub begin: u64,
     /// Where the last chunk begins, or the end where there is none.
     pub last: u64,
     /// Where the last chunk ends.
     pub end: u64,
-    /// The records of the part.
-    pub records: Records,
+    /// What the records of the part are kept in.
+    pub kept: K,
 }
 
-impl Stretch {
+impl<K: Keeper> Stretch<K> {
     /// No chunks yet, at a place.
-    pub(crate) fn at(alloc: Global, place: u64) -> Stretch
-        ensures { result ≡ stretch_at place }
+    pub(crate) fn at(alloc: Global, place: u64) -> Stretch<K>
+        ensures { result ≡ stretch_at K.kept_as place }
     {
         Stretch {
             begin: place,
             last: place,
             end: place,
-            records: Records::new(alloc),
+            kept: K::none(alloc),
         }
     }
 
-    /// Takes room for the bytes of all records of a part that is whole, so that none is moved as more come.
+    /// Takes room for all records of a part.
     fn make_room(&mut self, span: Span) -> Result<(), AllocError>
         requires { span.from ≤ span.to }
         ensures { self.new ≡ self.old }
     {
-        self.records.reserve((span.to - span.from) as usize, 0)
+        self.kept.make_room((span.to - span.from) as usize)
     }
 
     /// Goes on by a chunk that was judged, which is the next one.
     pub(crate) fn take(&mut self, judged: &Judged, span: Span) -> Result<(), AllocError>
         requires judged { (size place : ℕ) × (size ≤ 2 ^ 60) × IsJudged false size place judged.now }
         ensures begin { self.new.begin ≡ self.old.begin }
-        ensures taken { OnOk result (TakesChunk judged.now span self.old self.new) }
+        ensures taken { OnOk result (TakesChunk K.kept_as judged.now span self.old self.new) }
     {
         if let What::Records(held) = &judged.what {
-            take_records(held, judged.begin, span, &mut self.records)?;
+            take_records(held, judged.begin, span, &mut self.kept)?;
         }
         self.last = judged.begin;
         self.end = judged.end;
@@ -71,34 +72,34 @@ impl Stretch {
     }
 }
 
-/// Takes the records of a part from those of a chunk that begins at a place.
-fn take_records(
+/// Keeps the records of a part of those of a chunk that begins at a place.
+fn take_records<K: Keeper>(
     held: &Records,
     begin: u64,
     span: Span,
-    records: &mut Records,
+    kept: &mut K,
 ) -> Result<(), AllocError>
     requires { begin + length held.now < 2 ^ 64 }
-    ensures { OnOk result (records.new ≡ records.old ++ records_between span.from span.to (enumerate_from begin held.now)) }
+    ensures { OnOk result (Adds K.kept_as kept.old kept.new (records_between span.from span.to (enumerate_from begin held.now))) }
 {
     for number in 0..held.len() {
-        take_record(held.get(number), begin + number as u64, span, records)?;
+        take_record(held.get(number), begin + number as u64, span, kept)?;
     }
     Ok(())
 }
 
-/// Takes the record at a position where it is one of a part.
+/// Keeps the record at a position where it is one of a part.
 #[tactic(auto, using(crate::proofs::Between::part_steps))]
-fn take_record(
+fn take_record<K: Keeper>(
     bytes: &[u8],
     position: u64,
     span: Span,
-    records: &mut Records,
+    kept: &mut K,
 ) -> Result<(), AllocError>
-    ensures { OnOk result (records.new ≡ records.old ++ records_between span.from span.to ((position, bytes.now) ∷ [])) }
+    ensures { OnOk result (Adds K.kept_as kept.old kept.new (records_between span.from span.to ((position, bytes.now) ∷ []))) }
 {
     if span.from <= position && position < span.to {
-        records.push(bytes)?;
+        kept.add(bytes)?;
     }
     Ok(())
 }
@@ -109,15 +110,15 @@ fn take_record(
 /// # Errors
 ///
 /// `Refused` where no chunk is found to hold that position, or one of the chunks is refused. `Store` only where the store failed.
-pub(crate) fn read_stretch<S: Store>(
+pub(crate) fn read_stretch<S: Store, K: Keeper>(
     alloc: Global,
     store: &mut S,
     size: u64,
     span: Span,
-) -> Result<Stretch, ReadEnd>
+) -> Result<Stretch<K>, ReadEnd>
     requires sized { HasSize (S.told store.old) size }
     requires within { LiesWithin size span }
-    ensures { IsAnswered S.bytes S.told S.name S.faults span store.old store.new result }
+    ensures { IsAnswered K.kept_as S.bytes S.told S.name S.faults span store.old store.new result }
 {
     match holder(store, size, span.from)? {
         Some(begin) => read_on(alloc, store, size, begin, span),
@@ -126,17 +127,17 @@ pub(crate) fn read_stretch<S: Store>(
 }
 
 /// Reads a part of a file from the chunk on that begins at a place.
-fn read_on<S: Store>(
+fn read_on<S: Store, K: Keeper>(
     alloc: Global,
     store: &mut S,
     size: u64,
     begin: u64,
     span: Span,
-) -> Result<Stretch, ReadEnd>
+) -> Result<Stretch<K>, ReadEnd>
     requires sized { HasSize (S.told store.old) size }
     requires within { LiesWithin size span }
     requires from { IsBoundary begin × (begin ≤ span.from) }
-    ensures { IsAnswered S.bytes S.told S.name S.faults span store.old store.new result }
+    ensures { IsAnswered K.kept_as S.bytes S.told S.name S.faults span store.old store.new result }
 {
     let mut stretch = Stretch::at(alloc, begin);
     stretch.make_room(span)?;
@@ -147,12 +148,12 @@ fn read_on<S: Store>(
 }
 
 /// Reads the next chunk of a part, which is judged strictly.
-fn read_next<S: Store>(
+fn read_next<S: Store, K: Keeper>(
     alloc: Global,
     store: &mut S,
     size: u64,
     span: Span,
-    stretch: &mut Stretch,
+    stretch: &mut Stretch<K>,
 ) -> Result<(), ReadEnd>
     requires sized { HasSize (S.told store.old) size }
     requires from { IsBoundary stretch.old.end × (stretch.old.end < size) }
@@ -160,7 +161,7 @@ fn read_next<S: Store>(
     ensures moved { OnOk result (IsBoundary stretch.new.end
         × (stretch.old.end < stretch.new.end) × (stretch.new.end ≤ size)) }
     ensures judged { OnOk result (IfSome (S.bytes store.old) (λ file.
-        IsJudgedStretch file span stretch.old → IsJudgedStretch file span stretch.new)) }
+        IsJudgedStretch K.kept_as file span stretch.old → IsJudgedStretch K.kept_as file span stretch.new)) }
     ensures store { OnlyAsks S.bytes S.told S.name S.faults (result ≡ Err ReadEnd.Store) store.old store.new }
 {
     let judged = strict_at(alloc, store, size, stretch.end, false)?;

@@ -3,7 +3,7 @@ use Rattle.std.specs.Vec.{vec_capacity}
 use Rattle.record_ranges.proofs.reading.unanswered.Given as goal
 
 abbrev pub invariant-loop : goal.invariant-loop
-invariant-loop l = record {
+invariant-loop g l = record {
   counted : vec_len l.answers ≡ l.counter;
   room : vec_capacity l.answers ≡ l.count;
 }
