@@ -610,10 +610,10 @@ class _lent:
     """Lends the memory of an object: where it is, and how many bytes it has. It stays there as long as it is lent."""
 
     def __init__(self, data: object) -> None:
-        self._view = _View()
-        _get_buffer(data, self._view, 0)
+        self._data, self._view = data, _View()
 
     def __enter__(self) -> tuple[int, int]:
+        _get_buffer(self._data, self._view, 0)
         return self._view.buf, self._view.len
 
     def __exit__(self, *_: object) -> None:

@@ -197,6 +197,14 @@ class Reading(Case):
                 call()
         self.assertEqual(os.listdir(self.folder), ["x.riegeli"])
 
+    def test_nothing_stays_mapped(self):
+        self.written(LETTERS)
+        for _ in range(3):
+            with Reader(self.path) as reader:
+                self.assertEqual(list(reader), LETTERS)
+                self.assertIn(str(self.path), Path("/proc/self/maps").read_text())
+            self.assertNotIn(str(self.path), Path("/proc/self/maps").read_text())
+
     def test_a_sparse_file_of_64_gigabytes(self):
         self.written(LETTERS)
         os.truncate(self.path, 1 << 36)
