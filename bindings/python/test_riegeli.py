@@ -20,6 +20,10 @@ from riegeli import Fault, Reader, Reason, Region, Writer  # noqa: E402
 LETTERS = [b"a", b"b", b"c"]
 
 
+def drawn_bytes(draw, count):
+    return draw.getrandbits(8 * count + 1).to_bytes(count + 1, "little")[:count]
+
+
 def chunk(kind, data, records=0, decoded=0):
     """A chunk that lies in one block, with right hashes."""
     rest = struct.pack("<QQ", len(data), riegeli.hash(data)) + kind + records.to_bytes(7, "little") + struct.pack("<Q", decoded)
@@ -162,7 +166,7 @@ class Reading(Case):
 
     def test_parts(self):
         draw = random.Random(2)
-        records = [draw.randbytes(draw.randrange(300)) for _ in range(5000)]
+        records = [drawn_bytes(draw, draw.randrange(300)) for _ in range(5000)]
         self.written(records, chunk=3000, pad="both")
         with Reader(self.path) as reader:
             for step in 1000, 65536, 70001, reader.size, 2 * reader.size:
@@ -304,7 +308,7 @@ class Damage(Case):
 class Writing(Case):
     def test_chunks_are_laid_as_records_come(self):
         draw = random.Random(3)
-        records = [draw.randbytes(draw.randrange(5000)) for _ in range(3000)]
+        records = [drawn_bytes(draw, draw.randrange(5000)) for _ in range(3000)]
         self.written(records)
         self.assertGreater(self.path.stat().st_size, 7 << 20)
         with Writer(self.folder / "y") as writer:
