@@ -3,6 +3,7 @@ pub mod ChunkSteps
 pub mod SplitSteps
 pub mod RecordEnds
 pub mod SeekSteps
+pub mod RepairRoom
 pub mod RepairSteps
 pub mod RecoverSteps
 pub mod ToldPieces

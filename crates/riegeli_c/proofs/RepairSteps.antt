@@ -23,8 +23,9 @@ use Rattle.repair_copy.specs.declared.repairs.Repaired.{Repaired}
 use Rattle.repair_copy.specs.declared.repairs.RepairEnd.{RepairEnd}
 use Rattle.repair_copy.specs.declared.repairs.RepairEnd.TheVariants as repair
 use Rattle.repair_copy.proofs.RepairPuts.{made_in-repair, notes_in-repair}
+use Rattle.riegeli_c.proofs.RepairRoom.{made_less, lines_less}
 use Rattle.riegeli_c.proofs.Told.{shown}
-use Rattle.riegeli_c.specs.Repairs.{TakesRepair, MeasuresRepair}
+use Rattle.riegeli_c.specs.Repairs.{TakesRepair, MeasuresRepair, TakesLess, told_lines}
 use Rattle.riegeli_c.specs.declared.repairing.RepairTold.{RepairTold}
 
 -- a function answers of a region whether it has no more than so many bytes
@@ -79,6 +80,15 @@ module _ {F : Type 0} (g : Shared F (Bor Region × Unit {0}) Bool) (f : F) (most
         lines_of = lines_are h.events h.part (h.went, h.took) ∙ ap (λ (es : List Piece). Some (skipped_text (regions_in es))) (sym all);
       }
 
+  -- a sink that failed took less
+  failed_made : Repairs g f (Err repair.Made) faults faults_then (taken_by (Some []) None (Some [])) (taken_by made None lines) handed file
+      → TakesLess relaid file most made
+  failed_made h = made_less file most h.place h.events h.part made (walked_so h.place h.events h.walked) h.went h.took.made
+
+  failed_notes : Repairs g f (Err repair.Notes) faults faults_then (taken_by (Some []) None (Some [])) (taken_by made None lines) handed file
+      → TakesLess told_lines file most lines
+  failed_notes h = lines_less file most h.place h.events h.part lines (walked_so h.place h.events h.walked) h.went h.took.notes
+
   -- so is what any repair gives whose sinks had taken nothing
   abbrev pub RepairsAs : Result Repaired RepairEnd → (taken told : Option (List ℕ)) → Type 0
   RepairsAs result taken told = Repairs g f result faults faults_then (taken_by taken None told) (taken_by made None lines) handed file
@@ -104,6 +114,24 @@ module _ {F : Type 0} (g : Shared F (Bor Region × Unit {0}) Bool) (f : F) (most
   gives_to bytes result region taken told lent none also is h =
       repaired_to region
       (from_none (Err (repair.Stopped region)) taken told none also
+      (subst (λ (r : Result Repaired RepairEnd). RepairsAs r taken told) is
+      (shown (λ (x : List ℕ). Repairs g f result faults faults_then (taken_by taken None told) (taken_by made None lines) handed x) file bytes lent h)))
+
+  pub gives_made : (bytes : Option (List ℕ)) (result : Result Repaired RepairEnd) (taken told : Option (List ℕ)) → bytes ≡ Some file → taken ≡ Some [] → told ≡ Some []
+      → result ≡ Err repair.Made → IfSome bytes (Repairs g f result faults faults_then (taken_by taken None told) (taken_by made None lines) handed)
+      → TakesLess relaid file most made
+  gives_made bytes result taken told lent none also is h =
+      failed_made
+      (from_none (Err repair.Made) taken told none also
+      (subst (λ (r : Result Repaired RepairEnd). RepairsAs r taken told) is
+      (shown (λ (x : List ℕ). Repairs g f result faults faults_then (taken_by taken None told) (taken_by made None lines) handed x) file bytes lent h)))
+
+  pub gives_notes : (bytes : Option (List ℕ)) (result : Result Repaired RepairEnd) (taken told : Option (List ℕ)) → bytes ≡ Some file → taken ≡ Some [] → told ≡ Some []
+      → result ≡ Err repair.Notes → IfSome bytes (Repairs g f result faults faults_then (taken_by taken None told) (taken_by made None lines) handed)
+      → TakesLess told_lines file most lines
+  gives_notes bytes result taken told lent none also is h =
+      failed_notes
+      (from_none (Err repair.Notes) taken told none also
       (subst (λ (r : Result Repaired RepairEnd). RepairsAs r taken told) is
       (shown (λ (x : List ℕ). Repairs g f result faults faults_then (taken_by taken None told) (taken_by made None lines) handed x) file bytes lent h)))
 

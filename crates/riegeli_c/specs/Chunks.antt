@@ -6,6 +6,7 @@ use Rattle.chunk_header.specs.Chunks.{ChunkValue}
 use Rattle.chunk_header.specs.SimpleChunks.{IsSimple, IsCompressed}
 use Rattle.meta_chunk.specs.Kinds.{IsSignature, IsMetadata, IsPadding}
 use Rattle.meta_chunk.specs.Files.{IsTransposed}
+use Rattle.chunk_reader.specs.Faults.{BeginsWithSignature}
 use Rattle.chunk_reader.specs.Places.{end_at, chunk_at}
 use Rattle.chunk_reader.specs.Reasons.{Applies, NoneOf, strict_reasons}
 use Rattle.riegeli_c.specs.declared.reading.ChunkTold.{ChunkTold}
@@ -28,6 +29,14 @@ pub record IsChunkTold (file : List ℕ) (place : ℕ) (told : ChunkTold) (recor
   pub what : IsToldAs (chunk_at file place) told.what records
   pub count : told.records ≡ length records
   pub bytes : told.bytes ≡ length (concat records)
+
+-- the chunk at a place of a file that may be asked for has no fault, at 0 behind what files begin with, and these records
+pub record HasChunkWith (file : List ℕ) (place : ℕ) (records : List (List ℕ)) : Type 0 where
+  pub fine : ¬ IsBadPlace file place
+  pub signed : place ≡ 0 → BeginsWithSignature file
+  pub without_fault : NoneOf (Applies file place) (strict_reasons true)
+  pub what : ℕ
+  pub told_as : IsToldAs (chunk_at file place) what records
 
 -- where records end that lie one behind another from a place on
 abbrev pub ends_from : ℕ → List (List ℕ) → List ℕ

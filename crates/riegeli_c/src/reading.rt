@@ -1,11 +1,11 @@
 ghost use Rattle.std.specs.List.{concat};
-ghost use Rattle.std.specs.Prelude.{◌≡◌, ℕ, ◌+◌, ◌^◌, ◌<◌, ◌≤◌, ◌⊎◌, ◌↔◌, true, false, IsTrue, IfOk, Err, List, [], length, take};
+ghost use Rattle.std.specs.Prelude.{◌≡◌, ◌≢◌, ℕ, ◌+◌, ◌^◌, ◌<◌, ◌≤◌, ◌⊎◌, ◌↔◌, true, false, IsTrue, IfOk, Err, List, [], length, take};
 ghost use Rattle.chunk_header.specs.Chunks.{ChunkValue};
 ghost use Rattle.meta_chunk.specs.Files.{totals_of, IsWellFormed};
 ghost use Rattle.chunk_reader.specs.Faults.{BeginsWithSignature, IsAllowed, IsFault, IsLongest};
 ghost use Rattle.chunk_reader.specs.declared.reasons.Fault.{Fault};
 ghost use Rattle.chunk_reader.specs.Contents.{records_given};
-ghost use Rattle.riegeli_c.specs.Chunks.{IsBadPlace, IsChunkTold, AreGiven, IsTooSmall, ends_from};
+ghost use Rattle.riegeli_c.specs.Chunks.{IsBadPlace, IsChunkTold, HasChunkWith, AreGiven, IsTooSmall, IsStatusFor, ends_from};
 ghost use Rattle.riegeli_c.specs.Judging.{TellsJudged, what_number};
 ghost use Rattle.riegeli_c.specs.Faults.{TellsFault, IsFaultThere};
 ghost use Rattle.riegeli_c.specs.Totals.{totals_told};
@@ -120,7 +120,8 @@ pub extern "C" fn riegeli_read_chunk(
     ensures bad { (result ≡ 2) ↔ IsBadPlace file.now at }
     ensures room { result ≡ 4 → (records : List (List ℕ))
         × IsChunkTold file.now at chunk.new records × IsTooSmall records values.old ends.old }
-    ensures at_end { result ≡ 5 → at ≡ length file.now }
+    ensures at_end { (result ≡ 5) ↔ ((at ≢ 0) × (at ≡ length file.now) × (¬ IsBadPlace file.now at)) }
+    ensures exact { (records : List (List ℕ)) → HasChunkWith file.now at records → IsStatusFor records values.old ends.old result }
 {
     let size = file.len() as u64;
     if size > MAX_SIZE || at > size || !is_boundary(at) {
@@ -168,6 +169,7 @@ fn give_chunk(judged: &Judged, chunk: &mut ChunkTold, values: &mut [u8], ends: &
     ensures status { (result ≡ 0) ⊎ (result ≡ 4) }
     ensures told { TellsJudged judged.now chunk.new }
     ensures given { result ≡ 0 → AreGiven (records_given judged.now.what) values.new ends.new }
+    ensures fits { result ≡ 0 → ¬ IsTooSmall (records_given judged.now.what) values.old ends.old }
     ensures room { result ≡ 4 → IsTooSmall (records_given judged.now.what) values.old ends.old }
 {
     *chunk = ChunkTold {

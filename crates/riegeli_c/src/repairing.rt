@@ -2,8 +2,9 @@ ghost use Rattle.std.specs.Prelude.{◌≡◌, ◌^◌, ◌<◌, ◌≤◌, ◌�
 ghost use Rattle.record_io.specs.Calls.{OnlyCounts};
 ghost use Rattle.damage_skip.specs.Bounds.{may_skip};
 ghost use Rattle.damage_skip.specs.declared.regions.Region.{Region};
+ghost use Rattle.repair_copy.specs.RelaidFiles.{relaid};
 ghost use Rattle.riegeli_c.specs.Reasons.{reason_number};
-ghost use Rattle.riegeli_c.specs.Repairs.{GivesRepair, StopsRepair, TakesRepair, MeasuresRepair};
+ghost use Rattle.riegeli_c.specs.Repairs.{GivesRepair, StopsRepair, TakesRepair, MeasuresRepair, TakesLess, ExceedsRoom, told_lines};
 
 use crate::faults::reason_number;
 use crate::reading::MAX_SIZE;
@@ -59,6 +60,7 @@ pub extern "C" fn riegeli_repair(
     ensures stopped { result ≡ 1 → StopsRepair file.now most region.new repaired.new room.new lines.new }
     ensures too_long { (result ≡ 2) ↔ (2 ^ 60 < length file.now) }
     ensures room { result ≡ 4 → MeasuresRepair file.now repaired.new }
+    ensures too_small { result ≡ 4 → ExceedsRoom file.now most (length room.old) (length lines.old) }
 {
     if file.len() as u64 > MAX_SIZE {
         return 2;
@@ -102,6 +104,8 @@ fn repair_within<M: Sink, E: Sink>(
     ensures whole { OnOk result (TakesRepair file.now most None (M.taken made.new) (E.taken notes.new)) }
     ensures stopped { (region : Region) → result ≡ Err (RepairEnd.Stopped region)
         → TakesRepair file.now most (Some region) (M.taken made.new) (E.taken notes.new) }
+    ensures made_less { result ≡ Err RepairEnd.Made → TakesLess relaid file.now most (M.taken made.new) }
+    ensures notes_less { result ≡ Err RepairEnd.Notes → TakesLess told_lines file.now most (E.taken notes.new) }
     ensures not_store { ¬ (result ≡ Err RepairEnd.Store) }
     ensures made { OnlyCounts M.lent M.faults (result ≡ Err RepairEnd.Made) made.old made.new }
     ensures notes { OnlyCounts E.lent E.faults (result ≡ Err RepairEnd.Notes) notes.old notes.new }

@@ -4,7 +4,9 @@ use Rattle.chunk_reader.specs.Contents.{IsJudgedIn, records_given}
 use Rattle.chunk_reader.specs.Faults.{IsVerdict}
 use Rattle.chunk_reader.specs.declared.reasons.Why.TheVariants.{NoSignature}
 use Rattle.riegeli_c.specs.Chunks.{IsBadPlace}
-use Rattle.riegeli_c.proofs.ChunkSteps.{chunk_told}
+use Rattle.chunk_reader.specs.Reasons.{Applies, strict_reasons}
+use Rattle.chunk_reader.proofs.NoReason.{none_is_first}
+use Rattle.riegeli_c.proofs.ChunkSteps.{chunk_told, chunk_status, signed_is_long, none_at_end}
 use Rattle.riegeli_c.proofs.Told.{shown}
 use Rattle.riegeli_c.proofs.reading.riegeli_read_chunk.Goals as goal
 
@@ -65,3 +67,35 @@ returns-in-Err-Refused-clause-refused c = λ _. (
   c.of-in-Err-Refused.ensures.place,
   c.of-in-Err-Refused.ensures.why,
 )
+
+pub returns-in-Ok-clause-at_end : goal.returns-in-Ok-clause-at_end
+returns-in-Ok-clause-at_end c = (
+  λ is. absurd (is_other c.give_chunk.result 5 c.give_chunk.ensures.status (λ e. omega (arith, e)) (λ e. omega (arith, e)) is),
+  λ end. absurd (c.if-at-size-2.false end.1),
+)
+
+pub returns-in-Ok-clause-exact : goal.returns-in-Ok-clause-exact
+returns-in-Ok-clause-exact c = λ records has.
+    chunk_status c.args.file.now (length c.args.file.now) c.args.at c.in-Ok.judged records c.args.values.now c.args.ends.now c.give_chunk.result
+    c.in-Ok.ensures.judged (shown (λ file. IsJudgedIn true file c.args.at c.in-Ok.judged) c.args.file.now _ c.new-store.ensures.bytes c.in-Ok.ensures.sound)
+    has c.give_chunk.ensures.status c.give_chunk.ensures.fits c.give_chunk.ensures.room
+
+pub returns-in-Err-Refused-clause-exact : goal.returns-in-Err-Refused-clause-exact
+returns-in-Err-Refused-clause-exact c = λ records has.
+    absurd (none_is_first (Applies c.args.file.now c.args.at) (strict_reasons true) c.in-Err-Refused.met.why has.without_fault
+    (shown (λ file. IsVerdict true file c.args.at c.in-Err-Refused.met) c.args.file.now _ c.new-store.ensures.bytes
+    (c.in-Err-Refused.ensures.refused c.in-Err-Refused.met (ap Err c.in-Err-Refused.field-0-is))).0)
+
+pub returns-then-at-size-2-clause-at_end : goal.returns-then-at-size-2-clause-at_end
+returns-then-at-size-2-clause-at_end c = (
+  λ _. (
+    λ zero. omega (arith, zero, c.if-at-size-2.true, signed_is_long c.args.file.now (c.begins_right.ensures.right (search rules) zero)),
+    omega (arith, c.if-at-size-2.true),
+    is_fine c.args.file.now c.args.at (omega (arith, c.if-size-gt-MAX_SIZE.false)) (omega (arith, c.if-at-size.false))
+        (c.is_boundary.ensures.0 (search rules)),
+  ),
+  λ _. refl,
+)
+
+pub returns-then-at-size-2-clause-exact : goal.returns-then-at-size-2-clause-exact
+returns-then-at-size-2-clause-exact c = λ records has. absurd (none_at_end c.args.file.now c.args.at records has (omega (arith, c.if-at-size-2.true)))
