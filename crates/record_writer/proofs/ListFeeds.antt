@@ -1,11 +1,12 @@
--- What a feed of a list of records has left.
-use Rattle.std.proofs.Common.{◌≡◌, ◌∙◌, ℕ, ◌+◌, ◌^◌, ◌≤◌, Some, List, [], ◌∷◌, All, length, drop, ap, subst, arith}
-use Rattle.std.specs.List.{slice_get}
+-- What a feed of lists of records has left.
+use Rattle.std.proofs.Common.{◌≡◌, ◌∙◌, ℕ, zero, suc, ◌+◌, ◌^◌, ◌≤◌, Some, List, [], ◌∷◌, ◌++◌, All, length, drop, refl, ap, subst, arith}
+use Rattle.std.specs.List.{AllByRecursion, flat_map, slice_get}
+use Rattle.std.proofs.lemmas.List.Elements.{All-from_recursion, recursion_from_All}
 use Rattle.std.proofs.lemmas.List.{at_drop_more}
 use Rattle.std.proofs.lemmas.List.Sums.{sum_by-cons}
 use Rattle.std.proofs.lemmas.Option.{get_or_from_slice_get, slice_get_within}
 use Rattle.simple_chunk.specs.Costs.{cost, cost_of}
-use Rattle.record_writer.specs.FeedSteps.{feed_bound}
+use Rattle.record_writer.specs.FeedSteps.{feed_bound, left_of}
 
 -- the bound of a list of records is no more than they cost
 pub feed_bound-cost : (records : List (List ℕ)) → feed_bound records ≤ cost_of records
@@ -26,3 +27,27 @@ short_next records i next short at =
 -- one record more lowers the bound by its length and 1
 pub feed_bound-next : (r : List ℕ) (records : List (List ℕ)) → feed_bound (r ∷ records) ≡ length r + 1 + feed_bound records
 feed_bound-next r records = omega (arith, sum_by-cons length r records)
+
+-- past all records of the first list, those of the others are left
+pub left_behind : (list : List (List ℕ)) (lists : List (List (List ℕ))) (at : ℕ) → length list ≤ at → at ≤ length list → left_of (list ∷ lists) at ≡ left_of lists 0
+left_behind [] lists zero over within = refl
+left_behind [] lists (suc at) over within = absurd (omega arith)
+left_behind (r ∷ list) lists zero over within = absurd (omega arith)
+left_behind (r ∷ list) lists (suc at) over within = left_behind list lists at (omega arith) (omega arith)
+
+-- a record of the first list is one of all
+pub in_first : (list : List (List ℕ)) (lists : List (List (List ℕ))) (i : ℕ) (r : List ℕ) → slice_get list i ≡ Some r
+    → slice_get (flat_map (λ (l : List (List ℕ)). l) (list ∷ lists)) i ≡ Some r
+in_first [] lists i r at = absurd cc
+in_first (x ∷ list) lists zero r at = at
+in_first (x ∷ list) lists (suc i) r at = in_first list lists i r at
+
+-- what holds of all records holds of those of the others
+pub all_behind : (P : List ℕ → Type 0) (list : List (List ℕ)) (lists : List (List (List ℕ))) → All P (flat_map (λ (l : List (List ℕ)). l) (list ∷ lists))
+    → All P (flat_map (λ (l : List (List ℕ)). l) lists)
+all_behind P list lists all = All-from_recursion P (flat_map (λ (l : List (List ℕ)). l) lists)
+    (back list (recursion_from_All P (flat_map (λ (l : List (List ℕ)). l) (list ∷ lists)) all))
+  where
+    back : (xs : List (List ℕ)) → AllByRecursion P (xs ++ flat_map (λ (l : List (List ℕ)). l) lists) → AllByRecursion P (flat_map (λ (l : List (List ℕ)). l) lists)
+    back [] h = h
+    back (x ∷ xs) h = back xs h.1

@@ -1,6 +1,6 @@
 -- Inside. What a feed of records reads, and how it hands on the next record. Own.
-use Rattle.std.specs.Prelude.{◌≡◌, ℕ, ◌+◌, ◌^◌, ◌≤◌, Bool, Option, Some, None, IfSome, List, [], ◌∷◌, length}
-use Rattle.std.specs.List.{sum_by}
+use Rattle.std.specs.Prelude.{◌≡◌, ℕ, ◌+◌, ◌^◌, ◌≤◌, Bool, Option, Some, None, IfSome, List, [], ◌∷◌, drop, length}
+use Rattle.std.specs.List.{flat_map, sum_by}
 use Rattle.record_group.specs.Groupings.{Grouping, IsPush}
 use Rattle.record_writer.specs.Feeds.{Rest}
 
@@ -27,6 +27,15 @@ feed_bound records = sum_by length records + length records
 abbrev pub GivesRecord : Option Rest → Option Rest → List ℕ → Type 0
 GivesRecord before after record_bytes =
     IfSome before (λ r. (later : Rest) × (after ≡ Some later) × (r ≡ record later { records = record_bytes ∷ later.records }))
+
+-- what is left of the records of lists, one list behind another, past so many
+abbrev pub left_of : List (List (List ℕ)) → ℕ → List (List ℕ)
+left_of lists at = drop at (flat_map (λ list. list) lists)
+
+-- how many records the first of lists has
+abbrev pub first_length : List (List (List ℕ)) → ℕ
+first_length [] = 0
+first_length (list ∷ lists) = length list
 
 -- a feed gave its next record, of 2^24 bytes or fewer
 pub record GivesNext (before after : Option Rest) (old_bound new_bound : ℕ) (record_bytes : List ℕ) : Type 0 where
